@@ -1,0 +1,48 @@
+//! The registers of a process, and what may come of one instruction.
+
+/// The registers of a process on the one processor core.
+#[derive(Clone, Copy, Debug, PartialEq, Eq)]
+pub struct Hart {
+    /// The registers x0 to x31. x0 is always 0.
+    pub regs: [u32; 32],
+    /// The address of the next instruction.
+    pub pc: u32,
+}
+
+impl Hart {
+    /// All registers zero, as at a number that is free.
+    pub const ZERO: Hart = Hart {
+        regs: [0; 32],
+        pc: 0,
+    };
+}
+
+/// Why a process was trapped.
+#[derive(Clone, Copy, Debug, PartialEq, Eq)]
+pub enum Cause {
+    /// The pc isn't a multiple of 4, or its word isn't in RAM.
+    Fetch,
+    /// The word is no instruction.
+    Illegal,
+    /// The instruction is `EBREAK`.
+    Break,
+    /// A taken transfer goes to an address that isn't a multiple of 4.
+    Target,
+    /// A load reads from an address that isn't a multiple of its width, or outside RAM.
+    Load,
+    /// A store writes to an address that isn't a multiple of its width, or outside RAM.
+    Store,
+}
+
+/// What came of one instruction.
+#[derive(Clone, Copy, Debug, PartialEq, Eq)]
+pub enum Outcome {
+    /// It was carried out.
+    Went,
+    /// It was `ECALL`, and the pc is behind it.
+    Call,
+    /// The pc was the return address of a process's first function, so the process exits.
+    Exit,
+    /// It was trapped, and nothing was changed.
+    Trap(Cause),
+}
