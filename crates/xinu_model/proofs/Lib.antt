@@ -1,0 +1,11 @@
+pub mod Boots
+pub mod Calls
+pub mod Counts
+pub mod Deaths
+pub mod Events
+pub mod Heaps
+pub mod Moves
+pub mod Orders
+pub mod Put
+pub mod Runs
+pub mod Starts

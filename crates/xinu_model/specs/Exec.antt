@@ -1,0 +1,29 @@
+-- One step of a process.
+use Rattle.std.specs.Prelude.{ℕ, ◌==◌, if◌then◌else◌, List, Option, None, Some}
+use Rattle.xinu_base.specs.declared.Hart.{Hart}
+use Rattle.xinu_base.specs.declared.Outcome.TheVariants.{Exit, Trap}
+use Rattle.xinu_base.specs.declared.Cause.TheVariants.{Fetch, Illegal}
+use Rattle.xinu_model.specs.Instructions.{Row, row_of, fields}
+pub use Rattle.xinu_model.specs.Effects.{Executed}
+use Rattle.xinu_model.specs.Effects.{stops, effect}
+use Rattle.xinu_model.specs.Memory.{may_access, number_at}
+
+-- the address at which a process's first function returns
+abbrev pub exit_address : ℕ
+exit_address = 0xFFFFFFFC
+
+-- what the word of this row does
+abbrev pub obeyed : Option Row → ℕ → Hart → List ℕ → Executed
+obeyed None word h memory = stops h memory (Trap Illegal)
+obeyed (Some row) word h memory = effect row.name (fields row.form word) h memory
+
+-- what a word does
+abbrev pub perform : ℕ → Hart → List ℕ → Executed
+perform word h memory = obeyed (row_of word) word h memory
+
+-- one step of a process, from its registers, its pc and RAM
+unfoldable pub exec : Hart → List ℕ → Executed
+exec h memory =
+    if h.pc == exit_address then stops h memory Exit
+    else (if may_access h.pc 4 then perform (number_at memory h.pc 4) h memory
+    else stops h memory (Trap Fetch))
