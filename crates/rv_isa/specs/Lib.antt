@@ -1,0 +1,3 @@
+pub mod RowFields
+pub mod Table
+pub mod Words
