@@ -1,0 +1,34 @@
+-- What the calls of a host do to the outside.
+use Rattle.std.specs.Prelude.{ℕ, Bool, ◌≡◌, ◌+◌, ◌-◌, ◌^◌, ◌≤◌, min, take, List, [], ◌∷◌, Result, IsErrOf, OnOk, OnErr, if◌then◌else◌}
+use Rattle.host_port.specs.declared.host.Channel.{Channel}
+use Rattle.host_port.specs.declared.host.HostFault.{HostFault}
+use Rattle.host_port.specs.declared.host.HostFault.TheVariants.{Failed}
+use Rattle.host_port.specs.Outside.{Outside, Asked, appended, made_empty, asked_also, counted}
+
+-- the count of faults rose, or it stands at its greatest value
+abbrev pub Rose : ℕ → ℕ → Type 0
+Rose before after = min (before + 1) (2 ^ 64 - 1) ≤ after
+
+-- The count of faults didn't fall, and the answer is `Failed` only where it rose.
+pub record HasCause {T : Type 0} (before after : ℕ) (result : Result T HostFault) : Type 0 where
+  pub later : before ≤ after
+  pub failed : IsErrOf result Failed → Rose before after
+
+-- All of the bytes were emitted on the channel at `Ok`, and a prefix of them at a refusal; but for the count of faults nothing
+-- else was changed.
+pub record Emits {T : Type 0} (old new : Outside) (channel : Channel) (bytes : List ℕ) (result : Result T HostFault) : Type 0 where
+  pub whole : OnOk result (new ≡ counted (appended old channel bytes) new.faults)
+  pub part : (n : ℕ) × (new ≡ counted (appended old channel (take n bytes)) new.faults)
+
+-- The call was asked, where memory was wanted perhaps not; but for the count of faults nothing else was changed.
+pub record Asks {T : Type 0} (old new : Outside) (call : Asked) (result : Result T HostFault) : Type 0 where
+  pub ok : OnOk result (new ≡ counted (asked_also old (call ∷ [])) new.faults)
+  pub failed : IsErrOf result Failed → new ≡ counted (asked_also old (call ∷ [])) new.faults
+  pub part : (n : ℕ) × (new ≡ counted (asked_also old (take n (call ∷ []))) new.faults)
+
+-- The call was asked, where memory was wanted perhaps not, and the channel was made empty, at a refusal perhaps not; but for the
+-- count of faults nothing else was changed.
+pub record Names {T : Type 0} (old new : Outside) (channel : Channel) (call : Asked) (result : Result T HostFault) : Type 0 where
+  pub ok : OnOk result (new ≡ counted (asked_also (made_empty old channel) (call ∷ [])) new.faults)
+  pub failed : IsErrOf result Failed → (is_made_empty : Bool) × (new ≡ counted (asked_also (if is_made_empty then made_empty old channel else old) (call ∷ [])) new.faults)
+  pub refused : OnErr result ((n : ℕ) × (is_made_empty : Bool) × (new ≡ counted (asked_also (if is_made_empty then made_empty old channel else old) (take n (call ∷ []))) new.faults))

@@ -1,0 +1,95 @@
+-- The outside of the machine as a value: the files, what was emitted on each channel, the calls that were asked, the faults.
+use Rattle.std.specs.Prelude.{ℕ, ◌≡◌, ◌≢◌, List, [], ◌++◌, Option, Some, None}
+use Rattle.host_port.specs.declared.host.Channel.{Channel}
+use Rattle.host_port.specs.declared.host.Channel.TheVariants.{Out, Fault, Disk0, Disk1, Image}
+
+-- a call that named a file: of `name_out` with its channel, of `fetch` with none
+pub record Asked : Type 0 where
+  pub name : List ℕ
+  pub channel : Option Channel
+
+-- A host: the bytes of its files, the bytes on each channel and the calls that were asked, each where the host tells them, and
+-- how many faults there were.
+pub record Outside : Type 0 where
+  pub file : List ℕ → Option (List ℕ)
+  pub out : Option (List ℕ)
+  pub fault : Option (List ℕ)
+  pub disk0 : Option (List ℕ)
+  pub disk1 : Option (List ℕ)
+  pub image : Option (List ℕ)
+  pub asked : Option (List Asked)
+  pub faults : ℕ
+
+-- the call of `fetch` that names this file
+abbrev pub fetching : List ℕ → Asked
+fetching name = record { name = name; channel = None }
+
+-- the call of `name_out` that names this file for the channel
+abbrev pub naming : Channel → List ℕ → Asked
+naming channel name = record { name = name; channel = Some channel }
+
+-- what is told, with more behind it
+abbrev pub grown : {T : Type 0} → Option (List T) → List T → Option (List T)
+grown None more = None
+grown (Some before) more = Some (before ++ more)
+
+-- what is told, with nothing left of it
+abbrev pub emptied : {T : Type 0} → Option (List T) → Option (List T)
+emptied None = None
+emptied (Some before) = Some []
+
+-- what was emitted on the channel
+abbrev pub sent_on : Outside → Channel → Option (List ℕ)
+sent_on h Out = h.out
+sent_on h Fault = h.fault
+sent_on h Disk0 = h.disk0
+sent_on h Disk1 = h.disk1
+sent_on h Image = h.image
+
+-- these bytes were emitted on the channel, and nothing else was changed
+abbrev pub appended : Outside → Channel → List ℕ → Outside
+appended h Out bytes = record h { out = grown h.out bytes }
+appended h Fault bytes = record h { fault = grown h.fault bytes }
+appended h Disk0 bytes = record h { disk0 = grown h.disk0 bytes }
+appended h Disk1 bytes = record h { disk1 = grown h.disk1 bytes }
+appended h Image bytes = record h { image = grown h.image bytes }
+
+-- the channel was made empty, and nothing else was changed
+abbrev pub made_empty : Outside → Channel → Outside
+made_empty h Out = record h { out = emptied h.out }
+made_empty h Fault = record h { fault = emptied h.fault }
+made_empty h Disk0 = record h { disk0 = emptied h.disk0 }
+made_empty h Disk1 = record h { disk1 = emptied h.disk1 }
+made_empty h Image = record h { image = emptied h.image }
+
+-- these calls were asked, and nothing else was changed
+abbrev pub asked_also : Outside → List Asked → Outside
+asked_also h calls = record h { asked = grown h.asked calls }
+
+-- the count of faults stands at this number, and nothing else was changed
+abbrev pub counted : Outside → ℕ → Outside
+counted h n = record h { faults = n }
+
+-- The file of this name holds these bytes, every other file is as it was, and nothing else was changed.
+pub record AddsFile (old new : Outside) (name bytes : List ℕ) : Type 0 where
+  pub holds : new.file name ≡ Some bytes
+  pub others : (other : List ℕ) → other ≢ name → new.file other ≡ old.file other
+  pub rest : new ≡ record old { file = new.file }
+
+-- Nothing was changed.
+pub record Stays (old new : Outside) : Type 0 where
+  pub files : (name : List ℕ) → new.file name ≡ old.file name
+  pub rest : new ≡ record old { file = new.file }
+
+-- a host that tells nothing but the count of its faults
+abbrev pub untold : ℕ → Outside
+untold faults = record {
+  file = λ name. None;
+  out = None;
+  fault = None;
+  disk0 = None;
+  disk1 = None;
+  image = None;
+  asked = None;
+  faults = faults;
+}

@@ -1,0 +1,41 @@
+-- What the host in memory that never fails shows of the outside.
+use Rattle.std.specs.Prelude.{ℕ, List, [], Option, Some, map, unwrap_or}
+use Rattle.std.specs.Option.{option_map}
+use Rattle.std.specs.BTreeMap.{get_by_text}
+use Rattle.host_port.specs.declared.quiet.QuietMemoryHost.{QuietMemoryHost}
+use Rattle.host_port.specs.Outside.{Outside}
+use Rattle.host_port.specs.Asking.{asked_of}
+
+-- the bytes of the file that was added under this name
+abbrev pub added : QuietMemoryHost → List ℕ → Option (List ℕ)
+added h name = option_map (λ v. v.items) (get_by_text h.files name)
+
+-- the host: every name is a file, empty until it is added, and there are no faults
+abbrev pub quiet_view : QuietMemoryHost → Outside
+quiet_view h = record {
+  file = λ name. Some (unwrap_or (added h name) []);
+  out = Some h.out.items;
+  fault = Some h.fault.items;
+  disk0 = Some h.disk0.items;
+  disk1 = Some h.disk1.items;
+  image = Some h.image.items;
+  asked = Some (map asked_of h.asked.items);
+  faults = 0;
+}
+
+-- the host, where a name that wasn't added is not told
+abbrev pub held : QuietMemoryHost → Outside
+held h = record (quiet_view h) { file = added h }
+
+-- a host with no files, on which nothing was sent and of which nothing was asked
+abbrev pub quiet_empty : Outside
+quiet_empty = record {
+  file = λ name. Some [];
+  out = Some [];
+  fault = Some [];
+  disk0 = Some [];
+  disk1 = Some [];
+  image = Some [];
+  asked = Some [];
+  faults = 0;
+}
