@@ -1,0 +1,15 @@
+pub mod Insertions
+pub mod Orders
+pub mod Deltas
+pub mod Places
+pub mod Paths
+pub mod Writes
+pub mod Chains
+pub mod Changes
+pub mod Keys
+pub mod Fresh
+pub mod Tables
+pub mod Walks
+pub mod Linked
+pub mod DeltaTables
+pub mod Laws

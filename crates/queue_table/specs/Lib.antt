@@ -1,0 +1,5 @@
+pub mod Lists
+pub mod Entries
+pub mod Writes
+pub mod Walks
+pub mod Table
