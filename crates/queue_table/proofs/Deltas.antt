@@ -97,14 +97,14 @@ pub delta_insert-walked : (pre post : List Entry) (p : ℕ) (d left : ℤ) → K
 unfolding delays
 delta_insert-walked pre post p d left h le e f =
     let s : ℤ = pos 0 +ℤ key_sum pre in
-    let D1 : List Entry = delays_from (pos 0) pre in
-    let D2 : List Entry = delays_from s post in
+    let ahead : List Entry = delays_from (pos 0) pre in
+    let behind : List Entry = delays_from s post in
     let e' : s +ℤ left ≡ d = omega (arith, ints, e) in
-    let whole : delays_from (pos 0) (pre ++ post) ≡ D1 ++ D2 = delays_from-append (pos 0) pre post in
-    let target : delay_insert p d (delays_from (pos 0) (pre ++ post)) ≡ D1 ++ (p, d) ∷ D2 = ap (delay_insert p d) whole
-    ∙ delay_insert-split D1 D2 p d (early (pos 0) d pre (KeysAtLeast-left (pos 0) pre post h) (omega (arith, ints, e, le))) (rest_late s left d post (KeysAtLeast-right (pos 0) pre post h) f e') in
-    let made : delays_from (pos 0) (pre ++ (p, left) ∷ first_raised (neg_ℤ left) post) ≡ D1 ++ (p, d) ∷ D2 =
-    delays_from-append (pos 0) pre ((p, left) ∷ first_raised (neg_ℤ left) post) ∙ ap (λ l. D1 ++ l) (entry_is p _ _ _ _ e' (rest_shifted s left post)) in
+    let whole : delays_from (pos 0) (pre ++ post) ≡ ahead ++ behind = delays_from-append (pos 0) pre post in
+    let target : delay_insert p d (delays_from (pos 0) (pre ++ post)) ≡ ahead ++ (p, d) ∷ behind = ap (delay_insert p d) whole
+    ∙ delay_insert-split ahead behind p d (early (pos 0) d pre (KeysAtLeast-left (pos 0) pre post h) (omega (arith, ints, e, le))) (rest_late s left d post (KeysAtLeast-right (pos 0) pre post h) f e') in
+    let made : delays_from (pos 0) (pre ++ (p, left) ∷ first_raised (neg_ℤ left) post) ≡ ahead ++ (p, d) ∷ behind =
+    delays_from-append (pos 0) pre ((p, left) ∷ first_raised (neg_ℤ left) post) ∙ ap (λ l. ahead ++ l) (entry_is p _ _ _ _ e' (rest_shifted s left post)) in
     sym (ap differences (target ∙ sym made) ∙ differences-delays (pre ++ (p, left) ∷ first_raised (neg_ℤ left) post))
 
 -- a list and its delays have the same processes, counted from any start
@@ -159,11 +159,11 @@ pub delta_without-cut : (pre : List Entry) (p : ℕ) (k : ℤ) (post : List Entr
 unfolding delays
 delta_without-cut pre p k post a b =
     let s : ℤ = pos 0 +ℤ key_sum pre in
-    let D1 : List Entry = delays_from (pos 0) pre in
-    let D2 : List Entry = delays_from (s +ℤ k) post in
-    let target : without p (delays_from (pos 0) (pre ++ (p, k) ∷ post)) ≡ D1 ++ D2 =
-    ap (without p) (delays_from-append (pos 0) pre ((p, k) ∷ post)) ∙ without-split p D1 (s +ℤ k) D2 (is_in-delays_from p (pos 0) pre ∙ a) (is_in-delays_from p (s +ℤ k) post ∙ b) in
-    let made : delays_from (pos 0) (pre ++ first_raised k post) ≡ D1 ++ D2 = delays_from-append (pos 0) pre (first_raised k post) ∙ ap (λ l. D1 ++ l) (raised_shift s k post) in
+    let ahead : List Entry = delays_from (pos 0) pre in
+    let behind : List Entry = delays_from (s +ℤ k) post in
+    let target : without p (delays_from (pos 0) (pre ++ (p, k) ∷ post)) ≡ ahead ++ behind =
+    ap (without p) (delays_from-append (pos 0) pre ((p, k) ∷ post)) ∙ without-split p ahead (s +ℤ k) behind (is_in-delays_from p (pos 0) pre ∙ a) (is_in-delays_from p (s +ℤ k) post ∙ b) in
+    let made : delays_from (pos 0) (pre ++ first_raised k post) ≡ ahead ++ behind = delays_from-append (pos 0) pre (first_raised k post) ∙ ap (λ l. ahead ++ l) (raised_shift s k post) in
     sym (ap differences (target ∙ sym made) ∙ differences-delays (pre ++ first_raised k post))
 
 -- delays that count from one less are each less by one
