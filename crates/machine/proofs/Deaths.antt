@@ -1,0 +1,27 @@
+-- The death of the image's process.
+use Rattle.std.proofs.Common.{◌≡◌, ℕ, ◌+◌, ◌-◌, ◌*◌, ◌%◌, ◌≤◌, true, List, [], ◌∷◌, Some, refl, arith, ℤ}
+use Rattle.std.specs.Prelude.{replicate}
+use Rattle.xinu_base.specs.declared.lines.TranscriptLine.{TranscriptLine}
+use Rattle.xinu_base.specs.declared.lines.TranscriptLine.TheVariants as line
+use Rattle.xinu_base.specs.declared.registers.Hart.{Hart}
+use Rattle.machine.specs.Kernels.{heap_with, running, ended}
+use Rattle.xinu_model.specs.Calls.{exit}
+use Rattle.xinu_model.specs.Heap.{cells_for, freestk}
+use Rattle.xinu_model.specs.Machine.{finished}
+use Rattle.xinu_model.proofs.Heaps.{freestk_some}
+
+-- a stack of whole cells has as many as its bytes ask for
+whole_cells : (k : ℕ) → cells_for (8 * k) ≡ k
+whole_cells k = omega arith
+
+-- The stack goes back to the heap.
+pub stack_back : (low free taken : ℕ) → low % 8 ≡ 0 → 1 ≤ taken
+    → freestk (low + 8 * (free + taken) - 4) (8 * taken) (heap_with low free taken) ≡ Some (record { low = low; cells = replicate (free + taken) true })
+stack_back low free taken aligned some =
+    freestk_some (8 * taken) low free taken (omega arith) aligned (whole_cells taken)
+
+-- The image's process leaves the null process alone, which is current, holds its number and has its stack's cells back.
+pub death : (priority : ℤ) (hart : Hart) (memory : List ℕ) (low free taken : ℕ) (why : TranscriptLine) → low % 8 ≡ 0 → 1 ≤ taken
+    → finished 1 (why ∷ []) (exit (running priority hart memory low free taken)) ≡ record { lines = why ∷ line.Run 0 ∷ []; state = ended memory low (free + taken) }
+death priority hart memory low free taken why aligned some =
+    rw (stack_back low free taken aligned some) refl

@@ -1,0 +1,106 @@
+//! Boot: RAM holds the image, the heap gives its stack, and its process runs.
+
+ghost use Rattle.std.specs.Prelude.{◌≡◌, ◌+◌, ◌*◌, ◌≤◌, ◌≤ℤ◌, pos, true, false, length, map, Some, IfOk};
+ghost use Rattle.std.specs.List.{list_all};
+ghost use Rattle.machine.specs.Images.{first_of, lies_in_ram, loaded_of, part_of};
+ghost use Rattle.xinu_model.specs.Boot as model;
+ghost use Rattle.xinu_model.specs.Heap as heap;
+ghost use Rattle.xinu_model.specs.Memory.{ram_size, zeros};
+
+use crate::images::{Image, Part};
+use crate::kernel::Kernel;
+use crate::room::{cells_for, end_of, stack_cells};
+use crate::running::Machine;
+use rv_hart::{Hart, Ram};
+use std::alloc::Global;
+use xinu_base::NoMemory;
+
+/// Why a machine wasn't booted.
+#[derive(Clone, Copy, Debug, PartialEq, Eq)]
+pub enum BootFault {
+    /// There was no memory for its RAM.
+    NoMemory,
+}
+
+/// How many cells of eight bytes RAM has.
+const RAM_CELLS: u64 = 131_072;
+
+impl Machine {
+    /// A machine that holds the image and is about to run its process (book, chapter 22).
+    ///
+    /// There is exactly one image. Its parts lie in RAM, its priority is at least 1, and the heap behind it has room for its stack.
+    pub fn boot(alloc: Global, images: &[Image<'_>]) -> Result<Machine, BootFault>
+        requires one { length images.now ≡ 1 }
+        requires lies { list_all lies_in_ram (first_of images.now).parts ≡ true }
+        requires priority { pos 1 ≤ℤ (first_of images.now).priority }
+        requires room { 8 * heap.cells_for (model.end_of (first_of images.now).parts) + model.stack_size (first_of images.now).stack ≤ ram_size }
+        ensures state { IfOk result (λ m. model.boot (first_of images.now) ≡ Some m.state) }
+        ensures events { IfOk result (λ m. m.events ≡ 0) }
+        ensures over { IfOk result (λ m. m.over ≡ false) }
+    {
+        match Ram::new(alloc) {
+            Ok(ram) => Ok(first_machine(&images[0], ram)),
+            Err(NoMemory) => Err(BootFault::NoMemory),
+        }
+    }
+}
+
+// The machine of an image over RAM that is zero.
+fn first_machine(image: &Image<'_>, ram: Ram) -> Machine
+    requires zero { ram ≡ zeros }
+    requires lies { list_all lies_in_ram (loaded_of image.now).parts ≡ true }
+    requires priority { pos 1 ≤ℤ image.now.priority }
+    requires room { 8 * heap.cells_for (model.end_of (loaded_of image.now).parts) + model.stack_size image.now.stack ≤ ram_size }
+    ensures state { model.boot (loaded_of image.now) ≡ Some result.state }
+    ensures events { result.events ≡ 0 }
+    ensures over { result.over ≡ false }
+{
+    Machine {
+        kernel: first_kernel(image, ram),
+        events: 0,
+        has_ended: false,
+    }
+}
+
+// The kernel of an image over RAM that is zero.
+fn first_kernel(image: &Image<'_>, mut ram: Ram) -> Kernel
+    requires zero { ram ≡ zeros }
+    requires lies { list_all lies_in_ram (loaded_of image.now).parts ≡ true }
+    requires priority { pos 1 ≤ℤ image.now.priority }
+    requires room { 8 * heap.cells_for (model.end_of (loaded_of image.now).parts) + model.stack_size image.now.stack ≤ ram_size }
+    ensures { model.boot (loaded_of image.now) ≡ Some result }
+{
+    let parts = image.parts.as_slice();
+    load(&mut ram, parts);
+    let below = cells_for(end_of(parts));
+    let taken = stack_cells(image.stack);
+    Kernel {
+        is_alive: true,
+        priority: image.priority,
+        hart: first_hart(image.entry),
+        ram,
+        low: (8 * below) as u32,
+        free: (RAM_CELLS - below - taken) as u32,
+        taken: taken as u32,
+    }
+}
+
+// Puts the bytes of the parts in their places.
+fn load(ram: &mut Ram, parts: &[Part<'_>])
+    requires { list_all lies_in_ram (map part_of parts.now) ≡ true }
+    ensures { ram.new ≡ model.with_parts (map part_of parts.now) ram.old }
+{
+    for part in parts {
+        let _ = ram.copy_in(part.place, part.bytes);
+    }
+}
+
+// The registers with which the image's process begins, on a stack that ends with RAM.
+fn first_hart(entry: u32) -> Hart
+    ensures { result ≡ model.new_hart entry 1048572 0 0 }
+{
+    let mut regs = [0; 32];
+    regs[1] = 0xffff_fffc;
+    regs[2] = 1_048_560;
+    Hart { regs, pc: entry }
+}

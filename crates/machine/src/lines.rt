@@ -1,0 +1,223 @@
+//! The lines of a transcript as text.
+
+ghost use Rattle.std.specs.Prelude.{◌≡◌, ◌+◌, ◌*◌, ◌++◌, ◌≤◌, ◌^◌, ◌<◌, [], ◌∷◌, codes, length, map, take};
+ghost use Rattle.std.specs.Fmt.{decimal, signed_decimal};
+ghost use Rattle.host_port.specs.LineText.{blanked};
+ghost use Rattle.xinu_base.specs.declared.lines.TranscriptLine.TheVariants as variant;
+ghost use Rattle.xinu_model.specs.Text as model;
+ghost use Rattle.xinu_model.specs.Words as words;
+
+use host_port::Line;
+use xinu_base::{Call, Cause, End, Pid, State, TranscriptLine, call_args, call_name, is_built};
+
+/// The text of a line, with its line feed.
+pub(crate) fn render(line: &TranscriptLine) -> Line
+    ensures { result ≡ model.line_text line.now }
+{
+    let mut text = Line::new();
+    put_words(&mut text, line);
+    text.end();
+    text
+}
+
+// Appends the words of a line.
+fn put_words(text: &mut Line, line: &TranscriptLine)
+    requires { text.old ≡ [] }
+    ensures put { text.new ≡ model.with_words [] (model.words_of line.now) }
+    ensures size { length text.new ≤ 150 }
+{
+    match line {
+        TranscriptLine::Call(p, call) => put_call(text, *p, call),
+        TranscriptLine::Trap(p, cause) => {
+            text.word("trap");
+            put_process(text, *p);
+            text.word(cause_word(*cause));
+        }
+        TranscriptLine::Return(p, value) => {
+            text.word("ret");
+            put_process(text, *p);
+            text.number(i64::from(*value));
+        }
+        TranscriptLine::Run(p) => {
+            text.word("run");
+            put_process(text, *p);
+        }
+        TranscriptLine::Now(ticks, quantum) => {
+            text.word("now");
+            text.number(i64::from(*ticks));
+            text.number(i64::from(*quantum));
+        }
+        TranscriptLine::Process {
+            process,
+            state,
+            priority,
+            parent,
+            message,
+            name,
+        } => {
+            put_entry(text, *process, *state, *priority, *parent);
+            put_message(text, *message);
+            put_name(text, name);
+        }
+        TranscriptLine::Ready(p, key) => {
+            text.word("ready");
+            put_process(text, *p);
+            text.number(i64::from(*key));
+        }
+        TranscriptLine::Free(address, bytes) => {
+            text.word("free");
+            text.number(i64::from(*address));
+            text.number(i64::from(*bytes));
+        }
+        TranscriptLine::Console => text.word("console cooked 0 0 0 0 run"),
+        TranscriptLine::Disk0 => text.word("disk0 0"),
+        TranscriptLine::Disk1 => text.word("disk1 clean"),
+        TranscriptLine::End(end) => {
+            text.word("end");
+            text.word(end_word(*end));
+        }
+    }
+}
+
+// Appends the words of a call.
+fn put_call(text: &mut Line, p: Pid, call: &Call)
+    requires { text.old ≡ [] }
+    ensures put { text.new ≡ model.with_words [] (model.words_of (variant.Call p call.now)) }
+    ensures size { length text.new ≤ 150 }
+{
+    text.word("call");
+    put_process(text, p);
+    if is_built(call.number) {
+        text.word(call_name(call.number));
+        put_arguments(text, &call.args[..call_args(call.number)]);
+    } else {
+        text.word("unknown");
+        put_word(text, call.number);
+    }
+}
+
+// Appends the arguments of a call as signed numbers.
+fn put_arguments(text: &mut Line, args: &[u32])
+    requires few { length args.now ≤ 6 }
+    requires fits { length text.old ≤ 60 }
+    ensures put { text.new ≡ model.with_words text.old (map model.signed_word args.now) }
+    ensures size { length text.new ≤ length text.old + 72 }
+{
+    for arg in args {
+        put_word(text, *arg);
+    }
+}
+
+// Appends the first words of an entry of the process table.
+fn put_entry(text: &mut Line, p: Pid, state: State, priority: i16, parent: Pid)
+    requires { text.old ≡ [] }
+    ensures put { text.new ≡ model.with_words [] (codes "proc" ∷ decimal p ∷ model.state_word state ∷ signed_decimal priority ∷ decimal parent ∷ []) }
+    ensures size { length text.new ≤ 60 }
+{
+    text.word("proc");
+    put_process(text, p);
+    text.word(state_word(state));
+    text.number(i64::from(priority));
+    put_process(text, parent);
+}
+
+// Appends the message that a process holds, or a hyphen.
+fn put_message(text: &mut Line, message: Option<u32>)
+    requires { length text.old ≤ 100 }
+    ensures put { text.new ≡ blanked text.old ++ model.message_word message }
+    ensures size { length text.new ≤ length text.old + 12 }
+{
+    match message {
+        Some(message) => put_word(text, message),
+        None => text.word("-"),
+    }
+}
+
+// Appends the name of a process in hexadecimal digits, or a hyphen.
+fn put_name(text: &mut Line, name: &[u8; 15])
+    requires { length text.old ≤ 110 }
+    ensures put { text.new ≡ blanked text.old ++ model.name_word name.now }
+    ensures size { length text.new ≤ length text.old + 31 }
+{
+    let name = before_zero(name);
+    if name.is_empty() {
+        text.word("-");
+    } else {
+        text.word("");
+        text.hex(name);
+    }
+}
+
+// The bytes before the first zero.
+fn before_zero(bytes: &[u8]) -> &[u8]
+    ensures front { result.now ≡ model.before_zero bytes.now }
+    ensures short { length result.now ≤ length bytes.now }
+{
+    let mut end = 0;
+    for b in bytes {
+        if *b == 0 {
+            break;
+        }
+        end += 1;
+    }
+    &bytes[..end]
+}
+
+// Appends the number of a process.
+fn put_process(text: &mut Line, p: Pid)
+    requires { length text.old ≤ 100 }
+    ensures put { text.new ≡ blanked text.old ++ decimal p }
+    ensures size { length text.new ≤ length text.old + 12 }
+{
+    text.number(p.index() as i64);
+}
+
+// Appends a word as a signed number.
+fn put_word(text: &mut Line, word: u32)
+    requires { length text.old ≤ 139 }
+    ensures put { text.new ≡ blanked text.old ++ model.signed_word word }
+    ensures size { length text.new ≤ length text.old + 12 }
+{
+    text.number(i64::from(word.cast_signed()));
+}
+
+fn cause_word(cause: Cause) -> &'static str
+    ensures word { result.now ≡ model.cause_word cause }
+    ensures short { length result.now ≤ 7 }
+{
+    match cause {
+        Cause::Fetch => "fetch",
+        Cause::Illegal => "illegal",
+        Cause::Break => "break",
+        Cause::Target => "target",
+        Cause::Load => "load",
+        Cause::Store => "store",
+    }
+}
+
+fn end_word(end: End) -> &'static str
+    ensures word { result.now ≡ model.end_word end }
+    ensures short { length result.now ≤ 8 }
+{
+    match end {
+        End::Schedule => "schedule",
+        End::Done => "done",
+        End::Panic => "panic",
+    }
+}
+
+fn state_word(state: State) -> &'static str
+    ensures word { result.now ≡ model.state_word state }
+    ensures short { length result.now ≤ 7 }
+{
+    match state {
+        State::Free => "free",
+        State::Current => "current",
+        State::Ready => "ready",
+        State::Receiving => "receive",
+        State::Sleeping => "sleep",
+        State::Suspended => "suspend",
+        State::Waiting => "wait",
+        State::Timed => "timed",
+    }
+}

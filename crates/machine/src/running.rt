@@ -1,0 +1,97 @@
+//! The machine: its kernel, and how many events it took.
+
+ghost use Rattle.std.specs.Prelude.{◌≡◌, ◌≢◌, ◌+◌, ◌∷◌, [], ◌<◌, ◌↔◌, true, false};
+ghost use Rattle.host_port.specs.Printing.{Prints};
+ghost use Rattle.machine.specs.Printed.{EventPrints};
+ghost use Rattle.xinu_base.specs.declared.lines.TranscriptLine.TheVariants as line;
+ghost use Rattle.xinu_model.specs.Runs.{is_over};
+ghost use Rattle.xinu_model.specs.Text.{shown, tables_of};
+
+use crate::kernel::Kernel;
+use crate::printing::print_lines;
+use host_port::{Host, Printer};
+use std::marker::Model;
+use xinu_base::{Event, TranscriptLine};
+
+/// What an event means for the run.
+#[derive(Clone, Copy, Debug, PartialEq, Eq)]
+pub enum Go {
+    /// The run goes on.
+    Goes,
+    /// The last process but the null process died in this event.
+    Done,
+    /// The kernel panicked in this event.
+    Panic,
+}
+
+/// A machine that was booted. A clause sees its state, how many events it took, and whether one of them ended the run.
+#[derive(Drop)]
+pub struct Machine {
+    pub(crate) kernel: Kernel,
+    pub(crate) events: u64,
+    pub(crate) has_ended: bool,
+}
+
+impl Model for Machine {
+    ghost use Rattle.std.specs.Prelude.{◌≡◌};
+    ghost use Rattle.machine.specs.Printed.{Booted};
+    ghost use Rattle.xinu_model.specs.Runs.{is_over};
+
+    ghost Value = { Booted };
+
+    ghost view = { λ m. record { state = m.kernel; events = m.events; over = m.has_ended } };
+
+    ghost invariant = { λ m. is_over m.kernel ≡ m.has_ended };
+}
+
+impl Machine {
+    /// Prints the line of the process that runs first.
+    pub fn start<H: Host>(&self, out: &mut Printer, host: &mut H)
+        ensures { Prints out.old out.new (H.view host.old) (H.view host.new) (shown out.old.plain (line.Run self.now.state.tables.current ∷ [])) }
+    {
+        print_lines(&[TranscriptLine::Run(self.kernel.current())], out, host);
+    }
+
+    /// Takes one event and prints its lines.
+    ///
+    /// `Done` comes exactly where the last process but the null process died in this event. An event that the machine doesn't have
+    /// yet changes and prints nothing.
+    pub fn event<H: Host>(&mut self, e: Event, out: &mut Printer, host: &mut H) -> Go
+        requires goes_on { self.old.over ≡ false }
+        requires few { self.old.events < 1000000000 }
+        ensures happens { EventPrints self.old.state e self.new.state out.old out.new (H.view host.old) (H.view host.new) }
+        ensures lived { is_over self.old.state ≡ false }
+        ensures done { (result ≡ Go.Done) ↔ (is_over self.new.state ≡ true) }
+        ensures panic { result ≢ Go.Panic }
+        ensures counted { self.new.events ≡ self.old.events + 1 }
+        ensures goes { result ≡ Go.Goes → self.new.over ≡ false }
+        ensures over { result ≡ Go.Done → self.new.over ≡ true }
+    {
+        self.events += 1;
+        happen(&mut self.kernel, e, out, host);
+        if self.kernel.is_alive() {
+            Go::Goes
+        } else {
+            self.has_ended = true;
+            Go::Done
+        }
+    }
+
+    /// Prints the tables.
+    pub fn dump<H: Host>(&self, out: &mut Printer, host: &mut H)
+        ensures { Prints out.old out.new (H.view host.old) (H.view host.new) (shown out.old.plain (tables_of self.now.state)) }
+    {
+        print_lines(self.kernel.table_lines().as_slice(), out, host);
+    }
+}
+
+// Takes one event and prints its lines. Where nothing is printed no list of lines is made.
+fn happen<H: Host>(kernel: &mut Kernel, e: Event, out: &mut Printer, host: &mut H)
+    ensures { EventPrints kernel.old e kernel.new out.old out.new (H.view host.old) (H.view host.new) }
+{
+    if let Event::Step = e {
+        if let Some(lines) = kernel.step() {
+            print_lines(lines.as_slice(), out, host);
+        }
+    }
+}
