@@ -1,0 +1,62 @@
+#!/usr/bin/env python3
+"""Times `xinu_run run` and the plain C interpreter on two loops, side by side in one run.
+
+usage: bench/run.py [STEPS]        (200000000 steps where none are given)
+
+It builds both programs, writes the images of bench/images.py and prints for each loop and program the seconds of processor time, the
+steps per second and the greatest memory in use. The last line of each loop is the ratio of their speeds. No part of the gate."""
+import os
+import subprocess
+import sys
+import tempfile
+import time
+
+BENCH = os.path.dirname(os.path.abspath(__file__))
+CRATE = os.path.join(BENCH, "..", "crates", "xinu_run")
+DATA = ["run", "--schedule", "data/four_steps.txt", "data/getpid_and_exit.xim"]
+
+
+def timed(words, stdin):
+    """The processor seconds and the greatest memory in kilobytes of a program."""
+    with open(stdin, "rb") as source, open(os.devnull, "wb") as sink:
+        process = subprocess.Popen(words, stdin=source, stdout=sink)
+        memory, ended = 0, 0
+        while not ended:
+            time.sleep(0.05)
+            memory = max(memory, greatest_memory(process.pid))
+            ended, status, usage = os.wait4(process.pid, os.WNOHANG)
+    if status != 0:
+        sys.exit(f"{words[0]} ended with status {status}")
+    return usage.ru_utime + usage.ru_stime, memory
+
+
+def greatest_memory(pid):
+    """The greatest memory in kilobytes that a program has had so far."""
+    with open(f"/proc/{pid}/status") as status:
+        lines = [line.split() for line in status if line.startswith("VmHWM")]
+    return int(lines[0][1]) if lines else 0
+
+
+def main():
+    steps = int(sys.argv[1]) if len(sys.argv) > 1 else 200_000_000
+    subprocess.run(["rt", "run", "--", *DATA], cwd=CRATE, check=True, stdout=subprocess.DEVNULL)
+    with tempfile.TemporaryDirectory() as folder:
+        plain = os.path.join(folder, "interpreter")
+        subprocess.run(["cc", "-O2", "-o", plain, os.path.join(BENCH, "interpreter.c")], check=True)
+        subprocess.run([sys.executable, os.path.join(BENCH, "images.py"), folder], check=True)
+        schedule = os.path.join(folder, "schedule")
+        with open(schedule, "w") as file:
+            file.write(f"step {steps}\n")
+        for loop in ("jal", "mixed"):
+            image = os.path.join(folder, loop + ".img")
+            proved = [os.path.join(CRATE, "out", "xinu_run"), "run", "--schedule", schedule, image]
+            speeds = []
+            for name, words in (("xinu_run", proved), ("plain C", [plain, str(steps)])):
+                seconds, memory = timed(words, image)
+                speeds.append(steps / seconds)
+                print(f"{loop:6} {name:9} {seconds:7.2f} s {steps / seconds / 1e6:7.1f} million steps/s {memory:7} KB")
+            print(f"{loop:6} ratio     {speeds[0] / speeds[1]:7.2f}")
+
+
+if __name__ == "__main__":
+    main()

@@ -1,0 +1,28 @@
+use Rattle.std.proofs.Common.{rules, ◌≡◌}
+use Rattle.machine.specs.declared.running.Go.TheVariants.{Goes, Done}
+use Rattle.xinu_run.proofs.SoFar.{so_far_start, so_far_event, so_far_done, so_far_end, not_over}
+use Rattle.xinu_run.proofs.runs.take_events.Goals as goal
+
+pub loop-e-init : goal.loop-e-init
+loop-e-init g c = record {
+  running = c.requires.over;
+  few = c.requires.few;
+  so_far = so_far_start c.args.machine.now.state c.args.schedule.now c.args.out.now (g.H.Host.view c.args.host.now);
+}
+
+pub loop-e-preserved : goal.loop-e-preserved
+loop-e-preserved g c = record {
+  running = search rules;
+  few = search rules;
+  so_far = so_far_event c.args.machine.now.state c.args.schedule.now c.loop-e.machine.state c.in-Some.e c.next_event.new.self c.loop-e.schedule c.event.new.self.state _ _ _ _ _ _
+      c.in-Some.ensures.next c.loop-e.invariant.so_far c.event.ensures.happens (not_over _ (λ over. let differ : Goes ≡ Done = c.in-Goes.ensures.done.1 over in cc));
+}
+
+pub returns-in-Done : goal.returns-in-Done
+returns-in-Done g c =
+    so_far_done c.args.machine.now.state c.args.schedule.now c.loop-e.machine.state c.in-Some.e c.next_event.new.self c.loop-e.schedule c.event.new.self.state _ _ _ _ _ _
+    c.in-Some.ensures.next c.loop-e.invariant.so_far c.event.ensures.happens (search rules)
+
+pub returns : goal.returns
+returns g c =
+    so_far_end c.args.machine.now.state c.args.schedule.now c.loop-e.machine.state c.loop-e.schedule _ _ _ _ c.in_default.ensures.next.0 c.loop-e.invariant.so_far

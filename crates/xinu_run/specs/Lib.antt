@@ -1,0 +1,5 @@
+pub mod Commanded
+pub mod Headers
+pub mod HostRefusals
+pub mod Refusals
+pub mod Transcripts

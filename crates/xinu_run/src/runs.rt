@@ -1,0 +1,87 @@
+//! The run of an image through the events of a schedule.
+
+ghost use Rattle.std.specs.Prelude.{◌≡◌, ◌+◌, ◌*◌, ◌≤◌, ◌≤ℤ◌, pos, true, false, length, IfOk, ◌∷◌, []};
+ghost use Rattle.std.specs.List.{list_all};
+ghost use Rattle.host_port.specs.HostCalls.{HasCause};
+ghost use Rattle.host_port.specs.Printing.{Prints};
+ghost use Rattle.machine.specs.Images.{lies_in_ram, loaded_of};
+ghost use Rattle.xinu_base.specs.declared.lines.TranscriptLine.TheVariants as line;
+ghost use Rattle.xinu_model.specs.Boot.{end_of, stack_size};
+ghost use Rattle.xinu_model.specs.Heap.{cells_for};
+ghost use Rattle.xinu_model.specs.Memory.{ram_size};
+ghost use Rattle.xinu_model.specs.Text.{shown};
+ghost use Rattle.xinu_run.specs.Transcripts.{RunPrints, RanImage, RunsImage};
+
+use crate::schedules::Schedule;
+use host_port::{Host, HostFault, Line, Printer};
+use machine::{BootFault, Go, Image, Machine};
+use std::alloc::Global;
+use std::slice;
+use xinu_base::End;
+
+/// Runs an image through the events of a schedule, and answers the machine as the run left it.
+pub(crate) fn run_image<H: Host>(
+    alloc: Global,
+    image: &Image<'_>,
+    schedule: Schedule,
+    host: &mut H,
+) -> Result<Machine, HostFault>
+    requires lies { list_all lies_in_ram (loaded_of image.now).parts ≡ true }
+    requires priority { pos 1 ≤ℤ image.now.priority }
+    requires room { 8 * cells_for (end_of (loaded_of image.now).parts) + stack_size image.now.stack ≤ ram_size }
+    requires few { length schedule ≤ 1000000000 }
+    ensures runs { RunsImage (loaded_of image.now) schedule (H.view host.old) (H.view host.new) }
+    ensures ok { IfOk result (λ m. RanImage (loaded_of image.now) schedule m.state (H.view host.old) (H.view host.new)) }
+    ensures cause { HasCause (H.view host.old).faults (H.view host.new).faults result }
+{
+    let mut machine = match Machine::boot(alloc, slice::from_ref(image)) {
+        Ok(machine) => machine,
+        Err(BootFault::NoMemory) => return Err(HostFault::NoMemory),
+    };
+    let mut schedule = schedule;
+    let mut out = Printer::new(false);
+    machine.start(&mut out, host);
+    let end = take_events(&mut machine, &mut schedule, &mut out, host);
+    machine.dump(&mut out, host);
+    print_end(end, &mut out, host);
+    match out.failed() {
+        None => Ok(machine),
+        Some(fault) => Err(fault),
+    }
+}
+
+// Takes the events up to the end of the run.
+fn take_events<H: Host>(
+    machine: &mut Machine,
+    schedule: &mut Schedule,
+    out: &mut Printer,
+    host: &mut H,
+) -> End
+    requires over { machine.old.over ≡ false }
+    requires few { machine.old.events + length schedule.old ≤ 1000000000 }
+    ensures { RunPrints machine.old.state schedule.old machine.new.state result out.old out.new (H.view host.old) (H.view host.new) }
+{
+    while let Some(e) = schedule.next_event() {
+        match machine.event(e, out, host) {
+            Go::Goes => {}
+            Go::Done => return End::Done,
+            Go::Panic => return End::Panic,
+        }
+    }
+    End::Schedule
+}
+
+// Prints the last line.
+fn print_end<H: Host>(end: End, out: &mut Printer, host: &mut H)
+    ensures { Prints out.old out.new (H.view host.old) (H.view host.new) (shown out.old.plain (line.End end ∷ [])) }
+{
+    let mut line = Line::new();
+    line.word("end");
+    line.word(match end {
+        End::Schedule => "schedule",
+        End::Done => "done",
+        End::Panic => "panic",
+    });
+    line.end();
+    out.line(host, &line);
+}
