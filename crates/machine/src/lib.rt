@@ -16,3 +16,4 @@ pub use boot::BootFault;
 pub use images::{Image, Part};
 pub use room::has_room;
 pub use running::{Go, Machine};
+pub use xinu_base::Event;

@@ -30,7 +30,10 @@ fn main(rt: HostRuntime) -> ExitCode {
         Ok(words) => words,
         // Words that are no text are no command.
         Err(error) if error.kind() == ErrorKind::InvalidData => Vec::new(alloc),
-        Err(_) => return ExitCode::from(7),
+        Err(_) => {
+            let _ = rt.eprintln("xinu: no memory");
+            return ExitCode::from(7);
+        }
     };
     let mut last = None;
     let status = xinu(alloc, words.as_slice(), &mut RealHost::new(rt), &mut last);

@@ -30,6 +30,12 @@ const LOOP: [u8; 32] = [
     0, 0, 0, 0, 20, 0, 0, 0, 0, 16, 0, 0, // the entry, the priority and the stack
     0x6f, 0x00, 0x00, 0x00,
 ];
+/// The same with a byte behind it.
+const TOO_LONG: [u8; 33] = [
+    b'X', b'I', b'M', b'G', 1, 0, 0, 0, 0, 0, 0, 0, 4, 0, 0, 0, // up to the length
+    0, 0, 0, 0, 20, 0, 0, 0, 0, 16, 0, 0, // the entry, the priority and the stack
+    0x6f, 0x00, 0x00, 0x00, 0x00,
+];
 /// `beq x0, x0, 2`: a branch to an address that isn't a multiple of 4.
 const ODD_BRANCH: [u8; 32] = [
     b'X', b'I', b'M', b'G', 1, 0, 0, 0, 0, 0, 0, 0, 4, 0, 0, 0, // up to the length
@@ -112,7 +118,7 @@ fn bad_input_is_refused(rt: HostRuntime) -> Result<(), Fail> {
     let usage = "xinu: usage\n";
     let bad_image = "xinu: image 1 fault 0\n";
     let bad_schedule = "xinu: schedule line 0\n";
-    let rows: [([&str; 4], &str, &[u8], u8, &str); 13] = [
+    let rows: [([&str; 4], &str, &[u8], u8, &str); 14] = [
         (["run", "s", "--schedule", "i"], "step 4", &LOOP, 2, usage),
         (["run", "--schedule", "", "i"], "step 4", &LOOP, 2, usage),
         (["run", "--schedule", "s", "-x"], "step 4", &LOOP, 2, usage),
@@ -124,6 +130,7 @@ fn bad_input_is_refused(rt: HostRuntime) -> Result<(), Fail> {
         (good, "step 0", &NO_PRIORITY, 5, bad_schedule),
         (good, "step 4", &GETPID_AND_EXIT[..27], 4, bad_image),
         (good, "step 4", &LOOP[..31], 4, bad_image),
+        (good, "step 4", &TOO_LONG, 4, bad_image),
         (good, "step 4", &NO_PRIORITY, 4, bad_image),
         (good, "step 4", &ODD_PLACE, 4, bad_image),
     ];
