@@ -18,7 +18,7 @@ use xinu_base::{Event, TranscriptLine};
 pub enum Go {
     /// The run goes on.
     Goes,
-    /// The last process but the null process died in this event.
+    /// This event killed the only process beside the null process.
     Done,
     /// The kernel panicked in this event.
     Panic,
@@ -54,7 +54,7 @@ impl Machine {
 
     /// Takes one event and prints its lines.
     ///
-    /// `Done` comes exactly where the last process but the null process died in this event. An event that the machine doesn't have
+    /// `Done` comes exactly where this event killed the only process beside the null process. An event that the machine doesn't have
     /// yet changes and prints nothing.
     pub fn event<H: Host>(&mut self, e: Event, out: &mut Printer, host: &mut H) -> Go
         requires goes_on { self.old.over ≡ false }

@@ -12,8 +12,8 @@ const EXIT_ADDRESS: u32 = 0xffff_fffc;
 
 /// Carries out one step of a process with these registers and this pc (RISC-V unprivileged manual, chapter on the RV32I base).
 ///
-/// `Exit` comes where the pc is 0xfffffffc, and `Trap(Fetch)` where it isn't a multiple of 4 or its word isn't in RAM; both change
-/// nothing. Else the word is carried out: `Trap(Illegal)` where it is no instruction, `Call` for `ECALL`, whose pc is then behind it.
+/// `Exit` comes where the pc is 0xfffffffc, `Trap(Fetch)` where it is no multiple of 4 or RAM has no word there; both change nothing. Else
+/// the word is carried out: `Trap(Illegal)` where it is no instruction, `Call` for `ECALL`, whose pc is then behind it.
 #[inline]
 #[tactic(auto, unfolding(xinu_model::specs::Exec::exec))]
 pub fn step(hart: &mut Hart, ram: &mut Ram) -> Outcome

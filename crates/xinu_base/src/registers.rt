@@ -20,7 +20,7 @@ impl Hart {
 /// Why a process was trapped.
 #[derive(Clone, Copy, Debug, PartialEq, Eq)]
 pub enum Cause {
-    /// The pc isn't a multiple of 4, or its word isn't in RAM.
+    /// The pc is no multiple of 4, or RAM has no word there.
     Fetch,
     /// The word is no instruction.
     Illegal,
