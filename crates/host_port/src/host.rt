@@ -63,10 +63,10 @@ pub trait Host {
     ///
     /// # Errors
     /// `Failed` where the file can't be read, only where the count of faults rose; `NoMemory`.
-    fn fetch(&mut self, alloc: Global, name: &str, max: usize) -> Result<Vec<u8>, HostFault>
-        ensures bytes { IfOk result (λ v. MatchOption ((view self.old).file name.now) ⊤ (λ bytes. v.items ≡ take (max + 1) bytes)) }
+    fn fetch(&mut self, alloc: Global, path: &str, max: usize) -> Result<Vec<u8>, HostFault>
+        ensures bytes { IfOk result (λ v. MatchOption ((view self.old).file path.now) ⊤ (λ bytes. v.items ≡ take (max + 1) bytes)) }
         ensures bound { IfOk result (λ v. vec_len v ≤ max + 1) }
-        ensures asked { Asks (view self.old) (view self.new) (fetching name.now) result }
+        ensures asked { Asks (view self.old) (view self.new) (fetching path.now) result }
         ensures cause { HasCause (view self.old).faults (view self.new).faults result }
         ensures count { (view self.new).faults < 2 ^ 64 };
 
@@ -74,10 +74,10 @@ pub trait Host {
     ///
     /// # Errors
     /// `Failed` where the file can't be made, only where the count of faults rose; `NoMemory`. The channel may be empty then.
-    fn name_out(&mut self, channel: Channel, name: &str) -> Result<(), HostFault>
+    fn name_out(&mut self, channel: Channel, path: &str) -> Result<(), HostFault>
         requires not_out { channel ≢ Channel.Out }
         requires not_fault { channel ≢ Channel.Fault }
-        ensures named { Names (view self.old) (view self.new) channel (naming channel name.now) result }
+        ensures named { Names (view self.old) (view self.new) channel (naming channel path.now) result }
         ensures cause { HasCause (view self.old).faults (view self.new).faults result }
         ensures count { (view self.new).faults < 2 ^ 64 };
 

@@ -98,35 +98,35 @@ impl Host for MemoryHost {
 
     ghost view = { memory_view };
 
-    fn fetch(&mut self, alloc: Global, name: &str, max: usize) -> Result<Vec<u8>, HostFault>
-        ensures bytes { IfOk result (λ v. MatchOption ((memory_view self.old).file name.now) ⊤ (λ bytes. v.items ≡ take (max + 1) bytes)) }
+    fn fetch(&mut self, alloc: Global, path: &str, max: usize) -> Result<Vec<u8>, HostFault>
+        ensures bytes { IfOk result (λ v. MatchOption ((memory_view self.old).file path.now) ⊤ (λ bytes. v.items ≡ take (max + 1) bytes)) }
         ensures bound { IfOk result (λ v. vec_len v ≤ max + 1) }
-        ensures asked { Asks (memory_view self.old) (memory_view self.new) (fetching name.now) result }
+        ensures asked { Asks (memory_view self.old) (memory_view self.new) (fetching path.now) result }
         ensures cause { HasCause (memory_view self.old).faults (memory_view self.new).faults result }
         ensures count { (memory_view self.new).faults < 2 ^ 64 }
-        ensures counts { CountsCall self.old self.new (fetch_fails self.old name.now) result }
+        ensures counts { CountsCall self.old self.new (fetch_fails self.old path.now) result }
     {
-        if self.count_call() || !self.quiet.has_file(name) {
-            self.quiet.ask(name, None)?;
+        if self.count_call() || !self.quiet.has_file(path) {
+            self.quiet.ask(path, None)?;
             return Err(self.fail());
         }
-        self.quiet.fetch(alloc, name, max)
+        self.quiet.fetch(alloc, path, max)
     }
 
-    fn name_out(&mut self, channel: Channel, name: &str) -> Result<(), HostFault>
+    fn name_out(&mut self, channel: Channel, path: &str) -> Result<(), HostFault>
         requires not_out { channel ≢ Channel.Out }
         requires not_fault { channel ≢ Channel.Fault }
-        ensures named { Names (memory_view self.old) (memory_view self.new) channel (naming channel name.now) result }
+        ensures named { Names (memory_view self.old) (memory_view self.new) channel (naming channel path.now) result }
         ensures cause { HasCause (memory_view self.old).faults (memory_view self.new).faults result }
         ensures count { (memory_view self.new).faults < 2 ^ 64 }
         ensures counts { CountsCall self.old self.new (fails_next self.old) result }
         ensures kept { fails_next self.old ≡ true → sent_on (memory_view self.new) channel ≡ sent_on (memory_view self.old) channel }
     {
         if self.count_call() {
-            self.quiet.ask(name, Some(channel))?;
+            self.quiet.ask(path, Some(channel))?;
             return Err(self.fail());
         }
-        self.quiet.name_out(channel, name)
+        self.quiet.name_out(channel, path)
     }
 
     fn emit(&mut self, channel: Channel, bytes: &[u8]) -> Result<(), HostFault>

@@ -109,27 +109,27 @@ impl Host for QuietMemoryHost {
 
     ghost view = { quiet_view };
 
-    fn fetch(&mut self, alloc: Global, name: &str, max: usize) -> Result<Vec<u8>, HostFault>
-        ensures bytes { IfOk result (λ v. MatchOption ((quiet_view self.old).file name.now) ⊤ (λ bytes. v.items ≡ take (max + 1) bytes)) }
+    fn fetch(&mut self, alloc: Global, path: &str, max: usize) -> Result<Vec<u8>, HostFault>
+        ensures bytes { IfOk result (λ v. MatchOption ((quiet_view self.old).file path.now) ⊤ (λ bytes. v.items ≡ take (max + 1) bytes)) }
         ensures bound { IfOk result (λ v. vec_len v ≤ max + 1) }
-        ensures asked { Asks (quiet_view self.old) (quiet_view self.new) (fetching name.now) result }
+        ensures asked { Asks (quiet_view self.old) (quiet_view self.new) (fetching path.now) result }
         ensures cause { HasCause (quiet_view self.old).faults (quiet_view self.new).faults result }
         ensures count { (quiet_view self.new).faults < 2 ^ 64 }
         ensures files { self.new.files ≡ self.old.files }
     {
-        self.ask(name, None)?;
-        Ok(first_bytes(alloc, self.bytes_of(name), max)?)
+        self.ask(path, None)?;
+        Ok(first_bytes(alloc, self.bytes_of(path), max)?)
     }
 
-    fn name_out(&mut self, channel: Channel, name: &str) -> Result<(), HostFault>
+    fn name_out(&mut self, channel: Channel, path: &str) -> Result<(), HostFault>
         requires not_out { channel ≢ Channel.Out }
         requires not_fault { channel ≢ Channel.Fault }
-        ensures named { Names (quiet_view self.old) (quiet_view self.new) channel (naming channel name.now) result }
+        ensures named { Names (quiet_view self.old) (quiet_view self.new) channel (naming channel path.now) result }
         ensures cause { HasCause (quiet_view self.old).faults (quiet_view self.new).faults result }
         ensures count { (quiet_view self.new).faults < 2 ^ 64 }
         ensures files { self.new.files ≡ self.old.files }
     {
-        self.ask(name, Some(channel))?;
+        self.ask(path, Some(channel))?;
         match channel {
             Channel::Disk0 => self.disk0.clear(),
             Channel::Disk1 => self.disk1.clear(),

@@ -57,16 +57,16 @@ impl<R: Runtime> Host for RealHost<R> {
 
     ghost view = { λ h. untold h.faults };
 
-    fn fetch(&mut self, alloc: Global, name: &str, max: usize) -> Result<Vec<u8>, HostFault> {
-        let fetched = match fs::open(&self.rt, name) {
+    fn fetch(&mut self, alloc: Global, path: &str, max: usize) -> Result<Vec<u8>, HostFault> {
+        let fetched = match fs::open(&self.rt, path) {
             Ok(mut file) => read_front(&mut file, alloc, max),
             Err(_) => Err(HostFault::Failed),
         };
         self.count(fetched)
     }
 
-    fn name_out(&mut self, channel: Channel, name: &str) -> Result<(), HostFault> {
-        let (file, made) = match fs::create(&self.rt, name) {
+    fn name_out(&mut self, channel: Channel, path: &str) -> Result<(), HostFault> {
+        let (file, made) = match fs::create(&self.rt, path) {
             Ok(file) => (Some(file), Ok(())),
             Err(_) => (None, Err(HostFault::Failed)),
         };

@@ -56,10 +56,10 @@ impl Machine {
     ///
     /// `Done` comes exactly where this event killed the only process beside the null process. An event that the machine doesn't have
     /// yet changes and prints nothing.
-    pub fn event<H: Host>(&mut self, e: Event, out: &mut Printer, host: &mut H) -> Go
+    pub fn event<H: Host>(&mut self, event: Event, out: &mut Printer, host: &mut H) -> Go
         requires goes_on { self.old.over ≡ false }
         requires few { self.old.events < 1000000000 }
-        ensures happens { EventPrints self.old.state e self.new.state out.old out.new (H.view host.old) (H.view host.new) }
+        ensures happens { EventPrints self.old.state event self.new.state out.old out.new (H.view host.old) (H.view host.new) }
         ensures lived { is_over self.old.state ≡ false }
         ensures done { (result ≡ Go.Done) ↔ (is_over self.new.state ≡ true) }
         ensures panic { result ≢ Go.Panic }
@@ -68,7 +68,7 @@ impl Machine {
         ensures over { result ≡ Go.Done → self.new.over ≡ true }
     {
         self.events += 1;
-        happen(&mut self.kernel, e, out, host);
+        happen(&mut self.kernel, event, out, host);
         if self.kernel.is_alive() {
             Go::Goes
         } else {
