@@ -1,0 +1,9 @@
+pub mod Table
+pub mod Views
+pub mod Rows
+pub mod Uses
+pub mod Turns
+pub mod Law
+pub mod Values
+pub mod Program
+pub mod Parse

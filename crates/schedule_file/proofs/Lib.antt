@@ -1,0 +1,9 @@
+pub mod SearchLemmas
+pub mod LineLemmas
+pub mod WordLemmas
+pub mod DigitLemmas
+pub mod PlaceLemmas
+pub mod RoundLemmas
+pub mod RunLemmas
+pub mod TypedLemmas
+pub mod ReadingLemmas

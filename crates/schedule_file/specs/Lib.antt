@@ -1,0 +1,5 @@
+pub mod Lines
+pub mod Numbers
+pub mod LineKinds
+pub mod ScheduleFiles
+pub mod Runs
