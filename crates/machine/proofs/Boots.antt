@@ -1,20 +1,23 @@
 -- The parts of an image, one after another, and the state in which the machine starts.
-use Rattle.std.proofs.Common.{◌≡◌, ℕ, suc, ◌+◌, ◌-◌, ◌*◌, ◌<◌, ◌≤◌, true, List, ◌∷◌, length, map, drop, get_or, Some, refl, sym, ap, ◌∙◌, arith, drop-cons, add-one, pos, ◌≤ℤ◌}
+use Rattle.std.proofs.Common.{◌≡◌, ℕ, suc, ◌+◌, ◌-◌, ◌*◌, ◌<◌, ◌≤◌, true, List, [], ◌∷◌, length, map, drop, get_or, refl, sym, ap, ◌∙◌, arith, drop-cons, add-one, pos, ◌≤ℤ◌}
 use Rattle.std.specs.Prelude.{replicate, slice_set}
 use Rattle.std.specs.List.{list_all}
 use Rattle.std.proofs.lemmas.Bool.{and_parts}
 use Rattle.std.proofs.lemmas.Bool.Decides.{nat_tests}
-use Rattle.machine.specs.Images.{lies_in_ram, loaded_of, part_of}
+use Rattle.image_loader.specs.Images.{loaded_of}
+use Rattle.image_loader.specs.Parts.{lies_in_ram, part_of}
 use Rattle.machine.specs.Kernels.{heap_with, running, other_processes, other_messages, other_harts}
-use Rattle.machine.specs.declared.images.Image.{Image}
-use Rattle.machine.specs.declared.images.Part.{Part}
-use Rattle.xinu_model.specs.Boot.{Loaded, LoadedPart, boot, booted, end_of, image_process, new_hart, stack_size, with_parts}
+use Rattle.image_loader.specs.declared.images.Image.{Image}
+use Rattle.image_loader.specs.declared.parts.Part.{Part}
+use Rattle.xinu_model.specs.Boot.{Loaded, LoadedPart, boot, Boots, end_of, image_process, with_parts}
 use Rattle.xinu_model.specs.Heap.{cells_for}
 use Rattle.xinu_model.specs.Machine.{Xinu, no_hart}
 use Rattle.xinu_base.specs.declared.registers.Hart.{Hart}
+use Rattle.xinu_model.specs.Ports.{first_ports}
+use Rattle.xinu_model.specs.ProcessCalls.{new_hart, stack_size}
 use Rattle.xinu_model.specs.Tables.{Tables}
 use Rattle.xinu_model.specs.Memory.{in_ram, ram_size, with_bytes, zeros}
-use Rattle.xinu_model.proofs.Boots.{boot_with, booted_tables, first_stack, stack_cells, started}
+use Rattle.xinu_model.proofs.Boots.{boot_with, booted, booted_tables, first_stack, stack_cells, started}
 
 -- the element at k stands in front of those behind it
 pub drop_next : {A : Type 0} (l : List A) (k : ℕ) (x : A) → k < length l → x ≡ get_or l k x → drop k l ≡ x ∷ drop (k + 1) l
@@ -41,10 +44,13 @@ bytes_lie part lies = grind (arith, nat_tests)
 -- the state of the machine at its start, by where its heap begins, its stack's cells, its top and its size
 abbrev pub starting : Loaded → ℕ → ℕ → ℕ → ℕ → ℕ → Xinu
 starting image low free taken top size = record {
-  tables = started (record (image_process image (record { top = top; heap = heap_with low free taken })) { stack_size = size });
+  tables = started (record (image_process 1 image top) { stack_size = size });
   harts = no_hart ∷ new_hart image.entry (ram_size - 4) 0 0 ∷ other_harts;
   memory = with_parts image.parts zeros;
   heap = heap_with low free taken;
+  pools = [];
+  ports = first_ports;
+  next_port = 0;
 }
 
 -- the registers of the machine at its start
@@ -57,23 +63,23 @@ boot_starting : (image : Loaded) (free : ℕ) → pos 1 ≤ℤ image.priority
     → booted image (first_stack image free) ≡ starting image (8 * cells_for (end_of image.parts)) free (cells_for (stack_size image.stack)) (ram_size - 4) (stack_size image.stack)
 boot_starting image free priority =
     let stack = first_stack image free in
-    ap (λ (t : Tables). record { tables = t; harts = slice_set (replicate 64 no_hart) 1 (new_hart image.entry (ram_size - 4) 0 0); memory = with_parts image.parts zeros; heap = stack.heap }) (booted_tables image stack priority)
-    ∙ ap (λ (h : List Hart). record { tables = started (image_process image stack); harts = h; memory = with_parts image.parts zeros; heap = stack.heap }) (first_harts (new_hart image.entry (ram_size - 4) 0 0))
+    ap (λ (t : Tables). record { tables = t; harts = slice_set (replicate 64 no_hart) 1 (new_hart image.entry (ram_size - 4) 0 0); memory = with_parts image.parts zeros; heap = stack.heap; pools = []; ports = first_ports; next_port = 0 }) (booted_tables image stack priority)
+    ∙ ap (λ (h : List Hart). record { tables = started (image_process 1 image stack.top); harts = h; memory = with_parts image.parts zeros; heap = stack.heap; pools = []; ports = first_ports; next_port = 0 }) (first_harts (new_hart image.entry (ram_size - 4) 0 0))
 
 -- which is the state in which the image's process runs
-starting_runs : (image : Loaded) (low free taken : ℕ) → starting image low free taken (low + 8 * (free + taken) - 4) (8 * taken) ≡ running image.priority (new_hart image.entry (ram_size - 4) 0 0) (with_parts image.parts zeros) low free taken
+starting_runs : (image : Loaded) (low free taken : ℕ) → starting image low free taken (low + 8 * (free + taken) - 4) (8 * taken) ≡ running image.priority (new_hart image.entry (ram_size - 4) 0 0) (with_parts image.parts zeros) low free taken 0 2
 unfolding other_processes other_messages
 starting_runs image low free taken = refl
 
 -- The machine starts with the image's process running.
 pub boot_running : (image : Loaded) (low free taken : ℕ) → pos 1 ≤ℤ image.priority → 8 * cells_for (end_of image.parts) ≡ low → cells_for (stack_size image.stack) ≡ taken → low + 8 * (free + taken) ≡ ram_size
-    → boot image ≡ Some (running image.priority (new_hart image.entry (ram_size - 4) 0 0) (with_parts image.parts zeros) low free taken)
+    → boot (image ∷ []) ≡ Boots (running image.priority (new_hart image.entry (ram_size - 4) 0 0) (with_parts image.parts zeros) low free taken 0 2)
 boot_running image low free taken priority low_is taken_is fill =
     let size : 8 * cells_for (stack_size image.stack) ≡ stack_size image.stack = (stack_cells image.stack).1 in
     let fills : 8 * cells_for (end_of image.parts) + 8 * (free + cells_for (stack_size image.stack)) ≡ ram_size =
     ap (λ (l : ℕ). l + 8 * (free + cells_for (stack_size image.stack))) low_is ∙ ap (λ (k : ℕ). low + 8 * (free + k)) taken_is ∙ fill in
     boot_with image free fills
-    ∙ ap (λ (s : Xinu). Some s) (boot_starting image free priority
+    ∙ ap (λ (s : Xinu). Boots s) (boot_starting image free priority
     ∙ ap (λ (l : ℕ). starting image l free (cells_for (stack_size image.stack)) (ram_size - 4) (stack_size image.stack)) low_is
     ∙ ap (λ (k : ℕ). starting image low free k (ram_size - 4) (stack_size image.stack)) taken_is
     ∙ ap (λ (n : ℕ). starting image low free taken (n - 4) (stack_size image.stack)) (sym fill)
@@ -91,3 +97,9 @@ cells_fit image parts end below taken parts_are end_is below_is taken_is room =
 -- a stack has as many cells as fill it
 pub cells_of_stack : (size taken : ℕ) → 8 * taken ≡ size → cells_for size ≡ taken
 cells_of_stack size taken is = omega arith
+
+-- The one image of a list.
+pub only_image : (images : List Image) (image : Image) → length images ≡ 1 → image ≡ get_or images 0 image → map loaded_of images ≡ loaded_of image ∷ []
+only_image [] image one is = absurd (omega arith)
+only_image (first ∷ []) image one is = ap (λ (i : Image). loaded_of i ∷ []) (sym is)
+only_image (first ∷ second ∷ images) image one is = absurd (omega arith)

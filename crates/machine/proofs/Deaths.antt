@@ -1,13 +1,14 @@
 -- The death of the image's process.
-use Rattle.std.proofs.Common.{◌≡◌, ℕ, ◌+◌, ◌-◌, ◌*◌, ◌%◌, ◌≤◌, true, List, [], ◌∷◌, Some, refl, arith, ℤ}
+use Rattle.std.proofs.Common.{◌≡◌, ℕ, ◌+◌, ◌-◌, ◌*◌, ◌%◌, ◌≤◌, true, List, [], ◌∷◌, Some, false, refl, arith, ℤ}
 use Rattle.std.specs.Prelude.{replicate}
 use Rattle.xinu_base.specs.declared.lines.TranscriptLine.{TranscriptLine}
 use Rattle.xinu_base.specs.declared.lines.TranscriptLine.TheVariants as line
 use Rattle.xinu_base.specs.declared.registers.Hart.{Hart}
 use Rattle.machine.specs.Kernels.{heap_with, running, ended}
-use Rattle.xinu_model.specs.Calls.{exit}
+use Rattle.xinu_model.specs.Boot.{first_semaphores}
 use Rattle.xinu_model.specs.Heap.{cells_for, freestk}
 use Rattle.xinu_model.specs.Machine.{finished}
+use Rattle.xinu_model.specs.ProcessCalls.{exit}
 use Rattle.xinu_model.proofs.Heaps.{freestk_some}
 
 -- a stack of whole cells has as many as its bytes ask for
@@ -21,7 +22,8 @@ stack_back low free taken aligned some =
     freestk_some (8 * taken) low free taken (omega arith) aligned (whole_cells taken)
 
 -- The image's process leaves the null process alone, which is current, holds its number and has its stack's cells back.
-pub death : (priority : ℤ) (hart : Hart) (memory : List ℕ) (low free taken : ℕ) (why : TranscriptLine) → low % 8 ≡ 0 → 1 ≤ taken
-    → finished 1 (why ∷ []) (exit (running priority hart memory low free taken)) ≡ record { lines = why ∷ line.Run 0 ∷ []; state = ended memory low (free + taken) }
-death priority hart memory low free taken why aligned some =
+pub death : (priority : ℤ) (hart : Hart) (memory : List ℕ) (low free taken ticks quantum : ℕ) (why : TranscriptLine) → low % 8 ≡ 0 → 1 ≤ taken
+    → finished 1 (why ∷ []) (exit (running priority hart memory low free taken ticks quantum)) ≡ record { lines = why ∷ line.Run 0 ∷ []; state = ended memory low (free + taken) ticks 2; panics = false }
+unfolding first_semaphores
+death priority hart memory low free taken ticks quantum why aligned some =
     rw (stack_back low free taken aligned some) refl

@@ -1,8 +1,8 @@
 -- The end of an image, part by part.
 use Rattle.std.proofs.Common.{◌≡◌, ℕ, ◌+◌, ◌<◌, List, [], ◌∷◌, ◌++◌, length, get_or, map, take, max, refl, arith}
 use Rattle.std.proofs.lemmas.List.{map-append, take_more}
-use Rattle.machine.specs.Images.{part_of}
-use Rattle.machine.specs.declared.images.Part.{Part}
+use Rattle.image_loader.specs.Parts.{part_of}
+use Rattle.image_loader.specs.declared.parts.Part.{Part}
 use Rattle.xinu_model.specs.Boot.{LoadedPart, end_of}
 
 -- with one more part the end is the greater of both

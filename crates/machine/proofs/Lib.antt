@@ -1,7 +1,9 @@
 pub mod Boots
 pub mod Deaths
 pub mod Ends
+pub mod Happenings
 pub mod Printings
 pub mod Steps
 pub mod Tables
 pub mod Texts
+pub mod Ticks

@@ -1,9 +1,9 @@
 -- The text of a line while it grows.
 use Rattle.std.proofs.Common.{◌≡◌, ℕ, ◌+◌, ◌*◌, ◌<◌, List, [], ◌∷◌, ◌++◌, length, map, take, get_or, refl, sym, ap, ◌∙◌, append_assoc, append-nil, arith}
-use Rattle.std.proofs.lemmas.Grind.{common_steps}
+use Rattle.std.proofs.lemmas.List.{map-append, take_more}
 use Rattle.host_port.specs.LineText.{blanked}
 use Rattle.xinu_base.specs.Hexadecimal.{hex_of}
-use Rattle.xinu_model.specs.Text.{with_word, with_words, or_hyphen, signed_word}
+use Rattle.xinu_model.specs.Text.{with_word, with_words, or_hyphen}
 
 -- A word behind a blank is a word of the line.
 pub with_word-blanked : (line word : List ℕ) → blanked line ++ word ≡ with_word line word
@@ -15,21 +15,17 @@ pub with_words-append : (line : List ℕ) (first second : List (List ℕ)) → w
 with_words-append line [] second = refl
 with_words-append line (word ∷ first) second = with_words-append (with_word line word) first second
 
--- the words of arguments and one more
-words_push : (args : List ℕ) (arg : ℕ) → map signed_word (args ++ arg ∷ []) ≡ map signed_word args ++ signed_word arg ∷ []
-words_push [] arg = refl
-words_push (a ∷ args) arg = ap (λ (ws : List (List ℕ)). signed_word a ∷ ws) (words_push args arg)
-
--- One more argument stands behind the words so far.
-pub one_argument : (text line : List ℕ) (args : List ℕ) (k arg : ℕ) → k < length args → arg ≡ get_or args k 0
-    → text ≡ with_words line (map signed_word (take k args))
-    → blanked text ++ signed_word arg ≡ with_words line (map signed_word (take (k + 1) args))
-one_argument text line args k arg within is so_far =
-    let more : take (k + 1) args ≡ take k args ++ arg ∷ [] = grind (arith, common_steps) in
-    with_word-blanked text (signed_word arg)
-    ∙ ap (λ (t : List ℕ). with_word t (signed_word arg)) so_far
-    ∙ sym (with_words-append line (map signed_word (take k args)) (signed_word arg ∷ []))
-    ∙ sym (ap (λ (ws : List (List ℕ)). with_words line ws) (ap (λ (l : List ℕ). map signed_word l) more ∙ words_push (take k args) arg))
+-- One more number stands behind the words so far.
+pub one_more : {A : Type 0} (shown : A → List ℕ) (text line : List ℕ) (numbers : List A) (k : ℕ) (n d : A) → k < length numbers → n ≡ get_or numbers k d
+    → text ≡ with_words line (map shown (take k numbers))
+    → blanked text ++ shown n ≡ with_words line (map shown (take (k + 1) numbers))
+one_more {A} shown text line numbers k n d within is so_far =
+    let more : take (k + 1) numbers ≡ take k numbers ++ n ∷ [] =
+    take_more numbers k d within ∙ ap (λ (x : A). take k numbers ++ x ∷ []) (sym is) in
+    with_word-blanked text (shown n)
+    ∙ ap (λ (t : List ℕ). with_word t (shown n)) so_far
+    ∙ sym (with_words-append line (map shown (take k numbers)) (shown n ∷ []))
+    ∙ sym (ap (λ (ws : List (List ℕ)). with_words line ws) (ap (map shown) more ∙ map-append shown (take k numbers) (n ∷ [])))
 
 -- A name's digits are no hyphen.
 pub named : (line name : List ℕ) → 0 < length name → (blanked line ++ []) ++ hex_of name ≡ blanked line ++ or_hyphen (hex_of name)

@@ -4,10 +4,11 @@ use Rattle.xinu_base.specs.declared.processes.Process.{Process}
 use Rattle.xinu_base.specs.declared.processes.State.TheVariants.{Current, Ready}
 use Rattle.xinu_base.specs.declared.processes.Rest.TheVariants.{Nothing}
 use Rattle.xinu_base.specs.declared.registers.Hart.{Hart}
-use Rattle.xinu_model.specs.Boot.{null_process}
+use Rattle.xinu_model.specs.Boot.{null_process, first_semaphores}
 use Rattle.xinu_model.specs.Heap.{Heap}
 use Rattle.xinu_model.specs.Machine.{Xinu, no_hart}
 use Rattle.xinu_model.specs.Moves.{in_state}
+use Rattle.xinu_model.specs.Ports.{first_ports}
 use Rattle.xinu_model.specs.Tables.{no_process}
 
 -- the entries of the process table behind the image's process
@@ -39,33 +40,47 @@ running_process priority low free taken = record {
 }
 
 -- the image's process runs
-abbrev pub running : ℤ → Hart → List ℕ → ℕ → ℕ → ℕ → Xinu
-running priority hart memory low free taken = record {
+abbrev pub running : ℤ → Hart → List ℕ → ℕ → ℕ → ℕ → ℕ → ℕ → Xinu
+running priority hart memory low free taken ticks quantum = record {
   tables = record {
     processes = in_state Ready null_process ∷ running_process priority low free taken ∷ other_processes;
     messages = None ∷ None ∷ other_messages;
     current = 1;
-    quantum = 2;
+    quantum = quantum;
     ready = (0, pos 0) ∷ [];
-    ticks = 0;
+    semaphores = first_semaphores;
+    sleepers = [];
+    ticks = ticks;
+    last_process = 1;
+    last_semaphore = 3;
   };
   harts = no_hart ∷ hart ∷ other_harts;
   memory = memory;
   heap = heap_with low free taken;
+  pools = [];
+  ports = first_ports;
+  next_port = 0;
 }
 
 -- the image's process is dead
-abbrev pub ended : List ℕ → ℕ → ℕ → Xinu
-ended memory low free = record {
+abbrev pub ended : List ℕ → ℕ → ℕ → ℕ → ℕ → Xinu
+ended memory low free ticks quantum = record {
   tables = record {
     processes = null_process ∷ no_process ∷ other_processes;
     messages = Some 1 ∷ None ∷ other_messages;
     current = 0;
-    quantum = 2;
+    quantum = quantum;
     ready = [];
-    ticks = 0;
+    semaphores = first_semaphores;
+    sleepers = [];
+    ticks = ticks;
+    last_process = 1;
+    last_semaphore = 3;
   };
   harts = no_hart ∷ no_hart ∷ other_harts;
   memory = memory;
   heap = record { low = low; cells = replicate free true };
+  pools = [];
+  ports = first_ports;
+  next_port = 0;
 }

@@ -15,13 +15,13 @@ abbrev pub device_lines : List TranscriptLine
 device_lines = line.Console ∷ line.Disk0 ∷ line.Disk1 ∷ []
 
 -- the lines while the image's process runs
-abbrev pub running_lines : ℤ → ℕ → ℕ → List TranscriptLine
-running_lines priority low free =
-    line.Now 0 2 ∷ line.Process 0 Ready (pos 0) 0 None null_process.name
+abbrev pub running_lines : ℕ → ℕ → ℤ → ℕ → ℕ → List TranscriptLine
+running_lines ticks quantum priority low free =
+    line.Now ticks quantum ∷ line.Process 0 Ready (pos 0) 0 None null_process.name
     ∷ line.Process 1 Current priority 0 None (running_process priority 0 0 0).name
     ∷ line.Ready 0 (pos 0) ∷ free_lines low free ++ device_lines
 
 -- the lines once it is dead
-abbrev pub ended_lines : ℕ → ℕ → List TranscriptLine
-ended_lines low cells =
-    line.Now 0 2 ∷ line.Process 0 Current (pos 0) 0 (Some 1) null_process.name ∷ free_lines low cells ++ device_lines
+abbrev pub ended_lines : ℕ → ℕ → ℕ → ℕ → List TranscriptLine
+ended_lines ticks quantum low cells =
+    line.Now ticks quantum ∷ line.Process 0 Current (pos 0) 0 (Some 1) null_process.name ∷ free_lines low cells ++ device_lines

@@ -1,16 +1,19 @@
 //! Boot: RAM holds the image, the heap gives its stack, and its process runs.
 
-ghost use Rattle.std.specs.Prelude.{◌≡◌, ◌+◌, ◌*◌, ◌≤◌, ◌≤ℤ◌, pos, true, false, length, map, Some, IfOk};
+ghost use Rattle.std.specs.Prelude.{◌≡◌, ◌+◌, ◌*◌, ◌≤◌, ◌≤ℤ◌, ◌∷◌, [], pos, true, false, length, map};
 ghost use Rattle.std.specs.List.{list_all};
-ghost use Rattle.machine.specs.Images.{first_of, lies_in_ram, loaded_of, part_of};
+ghost use Rattle.image_loader.specs.Images.{loaded_of};
+ghost use Rattle.image_loader.specs.Parts.{lies_in_ram, part_of};
+ghost use Rattle.machine.specs.Starts.{Starts};
 ghost use Rattle.xinu_model.specs.Boot as model;
 ghost use Rattle.xinu_model.specs.Heap as heap;
 ghost use Rattle.xinu_model.specs.Memory.{ram_size, zeros};
+ghost use Rattle.xinu_model.specs.ProcessCalls as calls;
 
-use crate::images::{Image, Part};
-use crate::kernel::Kernel;
-use crate::room::{cells_for, end_of, stack_cells};
+use crate::kernel::{Kernel, QUANTUM};
+use crate::room::{cells_for, end_of, has_room, stack_cells};
 use crate::running::Machine;
+use image_loader::{Image, Part};
 use rv_hart::{Hart, Ram};
 use std::alloc::Global;
 use xinu_base::NoMemory;
@@ -18,6 +21,8 @@ use xinu_base::NoMemory;
 /// Why a machine wasn't booted.
 #[derive(Clone, Copy, Debug, PartialEq, Eq)]
 pub enum BootFault {
+    /// The heap has no room for the stack of the image with this number, counted from 1.
+    NoRoom(u8),
     /// There was no memory for its RAM.
     NoMemory,
 }
@@ -28,18 +33,20 @@ const RAM_CELLS: u64 = 131_072;
 impl Machine {
     /// A machine that holds the image and is about to run its process (book, chapter 22).
     ///
-    /// There is exactly one image. Its parts lie in RAM, its priority is at least 1, and the heap behind it has room for its stack.
+    /// There is exactly one image.
+    ///
+    /// # Errors
+    /// `NoRoom(1)` exactly where the heap behind the image has no room for the stack of its process; `NoMemory`.
     pub fn boot(alloc: Global, images: &[Image<'_>]) -> Result<Machine, BootFault>
         requires one { length images.now ≡ 1 }
-        requires lies { list_all lies_in_ram (first_of images.now).parts ≡ true }
-        requires priority { pos 1 ≤ℤ (first_of images.now).priority }
-        requires room { 8 * heap.cells_for (model.end_of (first_of images.now).parts) + model.stack_size (first_of images.now).stack ≤ ram_size }
-        ensures state { IfOk result (λ m. model.boot (first_of images.now) ≡ Some m.state) }
-        ensures events { IfOk result (λ m. m.events ≡ 0) }
-        ensures over { IfOk result (λ m. m.over ≡ false) }
+        ensures starts { Starts (map loaded_of images.now) result }
     {
+        let image = &images[0];
+        if !has_room(image) {
+            return Err(BootFault::NoRoom(1));
+        }
         match Ram::new(alloc) {
-            Ok(ram) => Ok(first_machine(&images[0], ram)),
+            Ok(ram) => Ok(first_machine(image, ram)),
             Err(NoMemory) => Err(BootFault::NoMemory),
         }
     }
@@ -48,10 +55,8 @@ impl Machine {
 // The machine of an image over RAM that is zero.
 fn first_machine(image: &Image<'_>, ram: Ram) -> Machine
     requires zero { ram ≡ zeros }
-    requires lies { list_all lies_in_ram (loaded_of image.now).parts ≡ true }
-    requires priority { pos 1 ≤ℤ image.now.priority }
-    requires room { 8 * heap.cells_for (model.end_of (loaded_of image.now).parts) + model.stack_size image.now.stack ≤ ram_size }
-    ensures state { model.boot (loaded_of image.now) ≡ Some result.state }
+    requires room { 8 * heap.cells_for (model.end_of (loaded_of image.now).parts) + calls.stack_size image.now.stack ≤ ram_size }
+    ensures state { model.boot (loaded_of image.now ∷ []) ≡ model.Boots result.state }
     ensures events { result.events ≡ 0 }
     ensures over { result.over ≡ false }
 {
@@ -65,10 +70,8 @@ fn first_machine(image: &Image<'_>, ram: Ram) -> Machine
 // The kernel of an image over RAM that is zero.
 fn first_kernel(image: &Image<'_>, mut ram: Ram) -> Kernel
     requires zero { ram ≡ zeros }
-    requires lies { list_all lies_in_ram (loaded_of image.now).parts ≡ true }
-    requires priority { pos 1 ≤ℤ image.now.priority }
-    requires room { 8 * heap.cells_for (model.end_of (loaded_of image.now).parts) + model.stack_size image.now.stack ≤ ram_size }
-    ensures { model.boot (loaded_of image.now) ≡ Some result }
+    requires room { 8 * heap.cells_for (model.end_of (loaded_of image.now).parts) + calls.stack_size image.now.stack ≤ ram_size }
+    ensures { model.boot (loaded_of image.now ∷ []) ≡ model.Boots result }
 {
     let parts = image.parts.as_slice();
     load(&mut ram, parts);
@@ -82,6 +85,8 @@ fn first_kernel(image: &Image<'_>, mut ram: Ram) -> Kernel
         low: (8 * below) as u32,
         free: (RAM_CELLS - below - taken) as u32,
         taken: taken as u32,
+        ticks: 0,
+        quantum: QUANTUM,
     }
 }
 
@@ -97,7 +102,7 @@ fn load(ram: &mut Ram, parts: &[Part<'_>])
 
 // The registers with which the image's process begins, on a stack that ends with RAM.
 fn first_hart(entry: u32) -> Hart
-    ensures { result ≡ model.new_hart entry 1048572 0 0 }
+    ensures { result ≡ calls.new_hart entry 1048572 0 0 }
 {
     let mut regs = [0; 32];
     regs[1] = 0xffff_fffc;

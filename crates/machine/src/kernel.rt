@@ -2,12 +2,13 @@
 //!
 //! Below it stands the processor core with its RAM. The heap's cells are those that are free and, behind them, the stack's.
 
-ghost use Rattle.std.specs.Prelude.{◌≡◌, ◌*◌, ◌+◌, ◌^◌, ◌<◌, ◌≤◌, ◌++◌, ◌∷◌, ◌==◌, [], None, if◌then◌else◌, pos, negsuc, not, IfNone, IfSome};
+ghost use Rattle.std.specs.Prelude.{◌≡◌, ◌*◌, ◌+◌, ◌^◌, ◌<◌, ◌≤◌, ◌++◌, ◌∷◌, ◌==◌, [], None, if◌then◌else◌, pos, negsuc, false, not, IfNone, IfSome};
 ghost use Rattle.arrayvec.specs.ArrayVec.{array_vec_len};
 ghost use Rattle.machine.specs.Kernels as kernels;
 ghost use Rattle.machine.specs.TableLines as tables;
 ghost use Rattle.xinu_base.specs.declared.lines.TranscriptLine.TheVariants as line;
 ghost use Rattle.xinu_model.specs.Boot as model;
+ghost use Rattle.xinu_model.specs.ClockCalls.{ticked};
 ghost use Rattle.xinu_model.specs.Events.{call_of, stepped};
 ghost use Rattle.xinu_model.specs.Runs.{is_over};
 ghost use Rattle.xinu_model.specs.Text.{tables_of};
@@ -22,6 +23,9 @@ pub(crate) type EventLines = ArrayVec<TranscriptLine, 3>;
 
 /// The lines of the tables: the clock, two processes, a ready one, a free block and three devices.
 pub(crate) type TableLines = ArrayVec<TranscriptLine, 8>;
+
+/// The ticks that a process runs before the others have their turn.
+pub(crate) const QUANTUM: u8 = 2;
 
 /// The state of the machine. A clause sees the abstract machine's.
 #[derive(Drop)]
@@ -40,6 +44,10 @@ pub(crate) struct Kernel {
     pub(crate) free: u32,
     /// How many cells behind these its stack has.
     pub(crate) taken: u32,
+    /// The ticks so far.
+    pub(crate) ticks: u32,
+    /// The ticks that are left of the quantum.
+    pub(crate) quantum: u8,
 }
 
 impl Model for Kernel {
@@ -78,16 +86,31 @@ impl Kernel {
         ensures { result.items ≡ tables_of self.now }
     {
         if self.is_alive {
-            running_lines(self.priority, self.low, self.free)
+            running_lines(self.ticks, self.quantum, self.priority, self.low, self.free)
         } else {
-            ended_lines(self.low, self.free + self.taken)
+            ended_lines(self.ticks, self.quantum, self.low, self.free + self.taken)
         }
+    }
+
+    /// A tick of the clock.
+    pub(crate) fn tick(&mut self)
+        requires { self.old.tables.ticks < 1000000000 }
+        ensures tick { ticked self.old ≡ record { lines = []; state = self.new; panics = false } }
+        ensures ticks { self.new.tables.ticks ≡ self.old.tables.ticks + 1 }
+    {
+        self.ticks += 1;
+        self.quantum = if self.quantum > 1 {
+            self.quantum - 1
+        } else {
+            QUANTUM
+        };
     }
 
     /// A step of the current process. None where nothing is to be printed.
     pub(crate) fn step(&mut self) -> Option<EventLines>
-        ensures quiet { IfNone result (stepped self.old ≡ record { lines = []; state = self.new }) }
-        ensures lines { IfSome result (λ lines. stepped self.old ≡ record { lines = lines.items; state = self.new }) }
+        ensures quiet { IfNone result (stepped self.old ≡ record { lines = []; state = self.new; panics = false }) }
+        ensures lines { IfSome result (λ lines. stepped self.old ≡ record { lines = lines.items; state = self.new; panics = false }) }
+        ensures ticks { self.new.tables.ticks ≡ self.old.tables.ticks }
     {
         if !self.is_alive {
             return None;
@@ -98,8 +121,7 @@ impl Kernel {
                 let call = asked(&self.hart);
                 let line = TranscriptLine::Call(image_process(), call);
                 if call.number == 9 {
-                    self.is_alive = false;
-                    return Some(death_lines(line));
+                    return Some(bury(&mut self.is_alive, &mut self.quantum, line));
                 }
                 let value = answer(call.number);
                 self.hart.regs[10] = value.cast_unsigned();
@@ -108,13 +130,17 @@ impl Kernel {
             Outcome::Exit => {
                 let mut call = asked(&self.hart);
                 call.number = 9;
-                self.is_alive = false;
-                Some(death_lines(TranscriptLine::Call(image_process(), call)))
+                Some(bury(
+                    &mut self.is_alive,
+                    &mut self.quantum,
+                    TranscriptLine::Call(image_process(), call),
+                ))
             }
-            Outcome::Trap(cause) => {
-                self.is_alive = false;
-                Some(death_lines(TranscriptLine::Trap(image_process(), cause)))
-            }
+            Outcome::Trap(cause) => Some(bury(
+                &mut self.is_alive,
+                &mut self.quantum,
+                TranscriptLine::Trap(image_process(), cause),
+            )),
         }
     }
 }
@@ -137,10 +163,14 @@ fn answer(number: u32) -> i32
     if number == 1 { 1 } else { -1 }
 }
 
-// The lines of a death: why the image's process died, and that the null process runs.
-fn death_lines(why: TranscriptLine) -> EventLines
-    ensures { result.items ≡ why ∷ line.Run 0 ∷ [] }
+// The death of the image's process, by its lines: why it died, and that the null process runs, with a fresh quantum.
+fn bury(is_alive: &mut bool, quantum: &mut u8, why: TranscriptLine) -> EventLines
+    ensures lines { result.items ≡ why ∷ line.Run 0 ∷ [] }
+    ensures dead { is_alive.new ≡ false }
+    ensures fresh { quantum.new ≡ 2 }
 {
+    *is_alive = false;
+    *quantum = QUANTUM;
     let mut lines = EventLines::new();
     lines.push(why);
     lines.push(TranscriptLine::Run(Pid::default()));
@@ -158,12 +188,12 @@ fn reply_lines(call: TranscriptLine, value: i32) -> EventLines
 }
 
 // The lines of the tables while the image's process runs.
-fn running_lines(priority: i16, low: u32, free: u32) -> TableLines
+fn running_lines(ticks: u32, quantum: u8, priority: i16, low: u32, free: u32) -> TableLines
     requires { 8 * free < 2 ^ 32 }
-    ensures { result.items ≡ tables.running_lines priority low free }
+    ensures { result.items ≡ tables.running_lines ticks quantum priority low free }
 {
     let mut lines = TableLines::new();
-    lines.push(TranscriptLine::Now(0, 2));
+    lines.push(TranscriptLine::Now(ticks, quantum));
     lines.push(null_line(State::Ready, None));
     lines.push(image_line(priority));
     lines.push(TranscriptLine::Ready(Pid::default(), 0));
@@ -173,12 +203,12 @@ fn running_lines(priority: i16, low: u32, free: u32) -> TableLines
 }
 
 // The lines of the tables once it is dead.
-fn ended_lines(low: u32, cells: u32) -> TableLines
+fn ended_lines(ticks: u32, quantum: u8, low: u32, cells: u32) -> TableLines
     requires { 8 * cells < 2 ^ 32 }
-    ensures { result.items ≡ tables.ended_lines low cells }
+    ensures { result.items ≡ tables.ended_lines ticks quantum low cells }
 {
     let mut lines = TableLines::new();
-    lines.push(TranscriptLine::Now(0, 2));
+    lines.push(TranscriptLine::Now(ticks, quantum));
     lines.push(null_line(State::Current, Some(1)));
     put_free(&mut lines, low, cells);
     put_devices(&mut lines);

@@ -5,7 +5,6 @@
 #![tactic(auto)]
 
 mod boot;
-mod images;
 mod kernel;
 mod lines;
 mod printing;
@@ -13,7 +12,5 @@ mod room;
 mod running;
 
 pub use boot::BootFault;
-pub use images::{Image, Part};
-pub use room::has_room;
 pub use running::{Go, Machine};
 pub use xinu_base::Event;

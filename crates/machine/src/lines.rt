@@ -1,14 +1,18 @@
 //! The lines of a transcript as text.
 
-ghost use Rattle.std.specs.Prelude.{◌≡◌, ◌+◌, ◌*◌, ◌++◌, ◌≤◌, ◌^◌, ◌<◌, [], ◌∷◌, codes, length, map, take};
+ghost use Rattle.std.specs.Prelude.{◌≡◌, ◌+◌, ◌*◌, ◌++◌, ◌≤◌, ◌^◌, ◌<◌, [], ◌∷◌, codes, length, map, take, pos};
 ghost use Rattle.std.specs.Fmt.{decimal, signed_decimal};
 ghost use Rattle.host_port.specs.LineText.{blanked};
 ghost use Rattle.xinu_base.specs.declared.lines.TranscriptLine.TheVariants as variant;
+ghost use Rattle.xinu_model.specs.ProcessCalls as processes;
 ghost use Rattle.xinu_model.specs.Text as model;
 ghost use Rattle.xinu_model.specs.Words as words;
 
 use host_port::Line;
-use xinu_base::{Call, Cause, End, Pid, State, TranscriptLine, call_args, call_name, is_built};
+use xinu_base::{
+    Call, Cause, End, FileMoment, Pid, PoolId, State, TranscriptLine, call_args, call_name,
+    is_built,
+};
 
 /// The text of a line, with its line feed.
 pub(crate) fn render(line: &TranscriptLine) -> Line
@@ -28,24 +32,16 @@ fn put_words(text: &mut Line, line: &TranscriptLine)
 {
     match line {
         TranscriptLine::Call(p, call) => put_call(text, *p, call),
-        TranscriptLine::Trap(p, cause) => {
-            text.word("trap");
-            put_process(text, *p);
-            text.word(cause_word(*cause));
-        }
-        TranscriptLine::Return(p, value) => {
-            text.word("ret");
-            put_process(text, *p);
-            text.number(i64::from(*value));
-        }
-        TranscriptLine::Run(p) => {
-            text.word("run");
-            put_process(text, *p);
-        }
+        TranscriptLine::Trap(p, cause) => put_state(text, "trap", *p, cause_word(*cause)),
+        TranscriptLine::File(p, moment) => put_state(text, "file", *p, moment_word(*moment)),
+        TranscriptLine::Return(p, value) => put_numbers(
+            text,
+            "ret",
+            &[number(*p), i64::from(*value)],
+        ),
+        TranscriptLine::Run(p) => put_numbers(text, "run", &[number(*p)]),
         TranscriptLine::Now(ticks, quantum) => {
-            text.word("now");
-            text.number(i64::from(*ticks));
-            text.number(i64::from(*quantum));
+            put_numbers(text, "now", &[i64::from(*ticks), i64::from(*quantum)]);
         }
         TranscriptLine::Process {
             process,
@@ -59,15 +55,41 @@ fn put_words(text: &mut Line, line: &TranscriptLine)
             put_message(text, *message);
             put_name(text, name);
         }
-        TranscriptLine::Ready(p, key) => {
-            text.word("ready");
-            put_process(text, *p);
-            text.number(i64::from(*key));
+        TranscriptLine::Ready(p, key) => put_numbers(text, "ready", &[number(*p), i64::from(*key)]),
+        TranscriptLine::Semaphore(s, count) => {
+            put_numbers(text, "sem", &[s.index() as i64, i64::from(*count)]);
+        }
+        TranscriptLine::Waiter(s, p) => put_numbers(text, "wait", &[s.index() as i64, number(*p)]),
+        TranscriptLine::Sleeper(p, wake) => {
+            put_numbers(text, "sleep", &[number(*p), i64::from(*wake)]);
         }
         TranscriptLine::Free(address, bytes) => {
-            text.word("free");
-            text.number(i64::from(*address));
-            text.number(i64::from(*bytes));
+            put_numbers(text, "free", &[i64::from(*address), i64::from(*bytes)]);
+        }
+        TranscriptLine::Pool {
+            pool,
+            size,
+            free,
+            held,
+        } => put_pool(text, *pool, *size, *free, *held),
+        TranscriptLine::Buffer(pool, address) => {
+            put_numbers(text, "buf", &[pool.index() as i64, i64::from(*address)]);
+        }
+        TranscriptLine::Port {
+            port,
+            seq,
+            messages,
+        } => put_numbers(
+            text,
+            "port",
+            &[port.index() as i64, i64::from(*seq), i64::from(*messages)],
+        ),
+        TranscriptLine::Node(port, message) => {
+            put_numbers(
+                text,
+                "node",
+                &[port.index() as i64, i64::from(message.cast_signed())],
+            );
         }
         TranscriptLine::Console => text.word("console cooked 0 0 0 0 run"),
         TranscriptLine::Disk0 => text.word("disk0 0"),
@@ -77,6 +99,58 @@ fn put_words(text: &mut Line, line: &TranscriptLine)
             text.word(end_word(*end));
         }
     }
+}
+
+// Appends a word and numbers.
+fn put_numbers(text: &mut Line, word: &str, numbers: &[i64])
+    requires empty { text.old ≡ [] }
+    requires short { length word.now ≤ 5 }
+    requires few { length numbers.now ≤ 4 }
+    ensures put { text.new ≡ model.with_words [] (word.now ∷ map signed_decimal numbers.now) }
+    ensures size { length text.new ≤ 150 }
+{
+    text.word(word);
+    for number in numbers {
+        text.number(*number);
+    }
+}
+
+// Appends a word, the number of a process, and a word that says what became of it.
+fn put_state(text: &mut Line, word: &str, p: Pid, what: &str)
+    requires empty { text.old ≡ [] }
+    requires short { length word.now ≤ 5 }
+    requires small { length what.now ≤ 10 }
+    ensures put { text.new ≡ model.with_words [] (word.now ∷ decimal p ∷ what.now ∷ []) }
+    ensures size { length text.new ≤ 150 }
+{
+    text.word(word);
+    put_process(text, p);
+    text.word(what);
+}
+
+// Appends the words of a pool.
+fn put_pool(text: &mut Line, pool: PoolId, size: u32, free: u32, held: u32)
+    requires { text.old ≡ [] }
+    ensures put { text.new ≡ model.with_words [] (model.words_of (variant.Pool pool size free held)) }
+    ensures size { length text.new ≤ 150 }
+{
+    put_numbers(
+        text,
+        "pool",
+        &[
+            pool.index() as i64,
+            i64::from(size),
+            i64::from(free),
+            i64::from(held),
+        ],
+    );
+}
+
+// The number of a process.
+fn number(p: Pid) -> i64
+    ensures { result ≡ pos p }
+{
+    p.index() as i64
 }
 
 // Appends the words of a call.
@@ -150,7 +224,7 @@ fn put_name(text: &mut Line, name: &[u8; 15])
 
 // The bytes before the first zero.
 fn before_zero(bytes: &[u8]) -> &[u8]
-    ensures front { result.now ≡ model.before_zero bytes.now }
+    ensures front { result.now ≡ processes.before_zero bytes.now }
     ensures short { length result.now ≤ length bytes.now }
 {
     let mut end = 0;
@@ -192,6 +266,17 @@ fn cause_word(cause: Cause) -> &'static str
         Cause::Target => "target",
         Cause::Load => "load",
         Cause::Store => "store",
+    }
+}
+
+fn moment_word(moment: FileMoment) -> &'static str
+    ensures word { result.now ≡ model.moment_word moment }
+    ensures short { length result.now ≤ 4 }
+{
+    match moment {
+        FileMoment::Turn => "turn",
+        FileMoment::Finished => "done",
+        FileMoment::Next => "next",
     }
 }
 

@@ -1,12 +1,14 @@
 //! The room of an image in RAM: its end, the heap behind it and the stack of its process.
 
 ghost use Rattle.std.specs.Prelude.{◌≡◌, ◌≤◌, ◌<◌, ◌^◌, ◌+◌, ◌*◌, nat_le, map};
-ghost use Rattle.machine.specs.Images.{loaded_of, part_of};
+ghost use Rattle.image_loader.specs.Images.{loaded_of};
+ghost use Rattle.image_loader.specs.Parts.{part_of};
 ghost use Rattle.xinu_model.specs.Boot as boot;
 ghost use Rattle.xinu_model.specs.Heap as heap;
 ghost use Rattle.xinu_model.specs.Memory.{ram_size};
+ghost use Rattle.xinu_model.specs.ProcessCalls as calls;
 
-use crate::images::{Image, Part};
+use image_loader::{Image, Part};
 
 /// The fewest bytes of a stack.
 const SMALLEST_STACK: u32 = 400;
@@ -14,15 +16,15 @@ const SMALLEST_STACK: u32 = 400;
 const RAM_SIZE: u64 = 1_048_576;
 
 /// Whether the heap behind an image has room for the stack of its process.
-pub fn has_room(image: &Image<'_>) -> bool
-    ensures room { result ≡ nat_le (8 * heap.cells_for (boot.end_of (loaded_of image.now).parts) + boot.stack_size image.now.stack) ram_size }
+pub(crate) fn has_room(image: &Image<'_>) -> bool
+    ensures room { result ≡ nat_le (8 * heap.cells_for (boot.end_of (loaded_of image.now).parts) + calls.stack_size image.now.stack) ram_size }
 {
     8 * cells_for(end_of(image.parts.as_slice())) + 8 * stack_cells(image.stack) <= RAM_SIZE
 }
 
 /// How many cells the stack has that an image asks for.
 pub(crate) fn stack_cells(wanted: u32) -> u64
-    ensures cells { 8 * result ≡ boot.stack_size wanted }
+    ensures cells { 8 * result ≡ calls.stack_size wanted }
     ensures some { 1 ≤ result }
     ensures few { result ≤ 2 ^ 30 }
 {

@@ -1,10 +1,12 @@
 //! The machine: its kernel, and how many events it took.
 
-ghost use Rattle.std.specs.Prelude.{◌≡◌, ◌≢◌, ◌+◌, ◌∷◌, [], ◌<◌, ◌↔◌, true, false};
+ghost use Rattle.std.specs.Prelude.{◌≡◌, ◌+◌, ◌∷◌, [], ◌<◌, ◌≤◌, false, is_some};
 ghost use Rattle.host_port.specs.Printing.{Prints};
+ghost use Rattle.machine.specs.RunEnds.{end_of_go};
 ghost use Rattle.machine.specs.Printed.{EventPrints};
 ghost use Rattle.xinu_base.specs.declared.lines.TranscriptLine.TheVariants as line;
-ghost use Rattle.xinu_model.specs.Runs.{is_over};
+ghost use Rattle.xinu_model.specs.Events.{panics_in};
+ghost use Rattle.xinu_model.specs.Runs.{end_with, is_over};
 ghost use Rattle.xinu_model.specs.Text.{shown, tables_of};
 
 use crate::kernel::Kernel;
@@ -33,7 +35,7 @@ pub struct Machine {
 }
 
 impl Model for Machine {
-    ghost use Rattle.std.specs.Prelude.{◌≡◌};
+    ghost use Rattle.std.specs.Prelude.{◌≡◌, ◌≤◌};
     ghost use Rattle.machine.specs.Printed.{Booted};
     ghost use Rattle.xinu_model.specs.Runs.{is_over};
 
@@ -41,7 +43,7 @@ impl Model for Machine {
 
     ghost view = { λ m. record { state = m.kernel; events = m.events; over = m.has_ended } };
 
-    ghost invariant = { λ m. is_over m.kernel ≡ m.has_ended };
+    ghost invariant = { λ m. (is_over m.kernel ≡ m.has_ended) × (m.kernel.tables.ticks ≤ m.events) };
 }
 
 impl Machine {
@@ -54,18 +56,16 @@ impl Machine {
 
     /// Takes one event and prints its lines.
     ///
-    /// `Done` comes exactly where this event killed the only process beside the null process. An event that the machine doesn't have
-    /// yet changes and prints nothing.
+    /// `Done` comes exactly where this event killed the only process beside the null process, `Panic` where the kernel panicked in it. An
+    /// event that the machine doesn't have yet changes and prints nothing.
     pub fn event<H: Host>(&mut self, event: Event, out: &mut Printer, host: &mut H) -> Go
         requires goes_on { self.old.over ≡ false }
         requires few { self.old.events < 1000000000 }
         ensures happens { EventPrints self.old.state event self.new.state out.old out.new (H.view host.old) (H.view host.new) }
         ensures lived { is_over self.old.state ≡ false }
-        ensures done { (result ≡ Go.Done) ↔ (is_over self.new.state ≡ true) }
-        ensures panic { result ≢ Go.Panic }
+        ensures goes { end_of_go result ≡ end_with (panics_in self.old.state event) (is_over self.new.state) }
         ensures counted { self.new.events ≡ self.old.events + 1 }
-        ensures goes { result ≡ Go.Goes → self.new.over ≡ false }
-        ensures over { result ≡ Go.Done → self.new.over ≡ true }
+        ensures over { self.new.over ≡ is_some (end_of_go result) }
     {
         self.events += 1;
         happen(&mut self.kernel, event, out, host);
@@ -85,13 +85,21 @@ impl Machine {
     }
 }
 
-// Takes one event and prints its lines. Where nothing is printed no list of lines is made.
-fn happen<H: Host>(kernel: &mut Kernel, e: Event, out: &mut Printer, host: &mut H)
-    ensures { EventPrints kernel.old e kernel.new out.old out.new (H.view host.old) (H.view host.new) }
+// Takes one event and prints its lines. Where a step prints nothing no list of lines is made.
+fn happen<H: Host>(kernel: &mut Kernel, event: Event, out: &mut Printer, host: &mut H)
+    requires few { kernel.old.tables.ticks < 1000000000 }
+    ensures happens { EventPrints kernel.old event kernel.new out.old out.new (H.view host.old) (H.view host.new) }
+    ensures calm { panics_in kernel.old event ≡ false }
+    ensures ticks { kernel.new.tables.ticks ≤ kernel.old.tables.ticks + 1 }
 {
-    if let Event::Step = e {
-        if let Some(lines) = kernel.step() {
-            print_lines(lines.as_slice(), out, host);
+    match event {
+        Event::Step => {
+            if let Some(lines) = kernel.step() {
+                print_lines(lines.as_slice(), out, host);
+            }
         }
+        Event::Tick => kernel.tick(),
+        Event::Dump => print_lines(kernel.table_lines().as_slice(), out, host),
+        _ => {}
     }
 }

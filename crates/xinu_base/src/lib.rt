@@ -10,13 +10,15 @@ mod lines;
 mod numbers;
 mod processes;
 mod registers;
+mod semaphores;
 
 pub use calls::{Call, Next, call_args, call_name, is_built};
 pub use events::{End, Event};
-pub use lines::TranscriptLine;
+pub use lines::{FileMoment, TranscriptLine};
 pub use numbers::{Dev, Pid, PoolId, Port, Sem};
 pub use processes::{PortTicket, Process, Rest, Span, State};
 pub use registers::{Cause, Hart, Outcome};
+pub use semaphores::Owner;
 
 /// The answer of a call that found no memory.
 #[derive(Clone, Copy, Debug, PartialEq, Eq)]

@@ -2,9 +2,20 @@
 
 use crate::calls::Call;
 use crate::events::End;
-use crate::numbers::Pid;
+use crate::numbers::{Pid, PoolId, Port, Sem};
 use crate::processes::State;
 use crate::registers::Cause;
+
+/// What becomes of a file call at a completion of its disk, or when it is made.
+#[derive(Clone, Copy, Debug, PartialEq, Eq)]
+pub enum FileMoment {
+    /// It is still the first, and not done.
+    Turn,
+    /// It took effect: when it was made, or at a completion at whose start it was the first.
+    Finished,
+    /// It took effect at the completion at which it became the first.
+    Next,
+}
 
 /// One line of a transcript.
 #[derive(Clone, Copy, Debug, PartialEq, Eq)]
@@ -13,6 +24,8 @@ pub enum TranscriptLine {
     Call(Pid, Call),
     /// A process was trapped.
     Trap(Pid, Cause),
+    /// What became of a file call; the process is 0 where its caller was killed.
+    File(Pid, FileMoment),
     /// A process got a reply.
     Return(Pid, i32),
     /// Another process became current.
@@ -36,8 +49,38 @@ pub enum TranscriptLine {
     },
     /// A process in the ready list, with its key.
     Ready(Pid, i16),
+    /// A semaphore, with its count: its tokens, or the number of its waiters as a negative number.
+    Semaphore(Sem, i32),
+    /// A process that waits on a semaphore.
+    Waiter(Sem, Pid),
+    /// A process among the sleepers, with the tick at which it wakes.
+    Sleeper(Pid, u32),
     /// A free block of the heap: its address and its size in bytes.
     Free(u32, u32),
+    /// A buffer pool.
+    Pool {
+        /// The number of the pool.
+        pool: PoolId,
+        /// The size of its buffers in bytes.
+        size: u32,
+        /// How many of them are free.
+        free: u32,
+        /// How many are held.
+        held: u32,
+    },
+    /// A free buffer of a pool, by its address.
+    Buffer(PoolId, u32),
+    /// A port in use.
+    Port {
+        /// The number of the port.
+        port: Port,
+        /// Its sequence number.
+        seq: u32,
+        /// How many messages it holds.
+        messages: u32,
+    },
+    /// A message that a port holds.
+    Node(Port, u32),
     /// The console.
     Console,
     /// The raw disk.

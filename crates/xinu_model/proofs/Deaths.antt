@@ -1,67 +1,119 @@
--- A message that is sent and the death of a process keep what holds of the tables at each moment.
-use Rattle.std.proofs.Common.{◌≡◌, ◌≢◌, ℕ, ◌<◌, true, length, refl, ap, ◌∙◌, Option, Some, None}
-use Rattle.std.specs.Prelude.{slice_set}
+-- A message that is sent and the death of a process keep what holds of the tables.
+use Rattle.std.proofs.Common.{◌≡◌, ◌≢◌, ℕ, ◌<◌, true, false, length, refl, ap, ◌∙◌, Option, Some, None, rules}
+use Rattle.std.specs.Prelude.{slice_set, not, is_some}
 use Rattle.std.proofs.Math.ListN.{length-set}
-use Rattle.std.proofs.lemmas.Bool.{cond_both}
+use Rattle.std.proofs.lemmas.Bool.{cond_both, and_parts, not-true}
+use Rattle.xinu_base.specs.declared.processes.Rest.{Rest}
+use Rattle.xinu_base.specs.declared.processes.Rest.TheVariants as rest
 use Rattle.xinu_base.specs.declared.processes.State.{State}
-use Rattle.xinu_base.specs.declared.processes.State.TheVariants.{Free, Ready}
-use Rattle.xinu_model.specs.Calls.{listens, can_get, delivered, sent, killed}
-use Rattle.xinu_model.specs.Machine.{no_hart, Doing, with_tables}
+use Rattle.xinu_base.specs.declared.processes.State.TheVariants.{Free, Current, Ready, Receiving, Sleeping, Suspended, Waiting, Timed}
+use Rattle.xinu_model.specs.Machine.{Xinu, no_hart, Doing, with_tables}
+use Rattle.xinu_model.specs.MessageCalls.{listens, can_get, delivered, sent}
 use Rattle.xinu_model.specs.Moves.{in_state}
-use Rattle.xinu_model.specs.Sound.{IsOpen}
-use Rattle.xinu_model.specs.Tables.{no_process, Tables, process_at, state_at, put, Nowhere, InReady}
-use Rattle.xinu_model.proofs.Moves.{can_put_ready}
-use Rattle.xinu_model.proofs.Put.{CanPut, open_put}
+use Rattle.xinu_model.specs.ProcessCalls.{killed}
+use Rattle.xinu_model.specs.Sound.{HoldsFor, FitsMessage, IsOpen, IsSoundTables}
+use Rattle.xinu_model.specs.Tables.{no_process, Tables, process_at, state_at, message_at, is_free, put, Nowhere, InReady}
+use Rattle.xinu_model.proofs.Changes.{open_message}
+use Rattle.xinu_model.proofs.Moves.{can_put_ready, idle_differs, sound_put}
+use Rattle.xinu_model.proofs.Put.{within_table, CanPut, open_put}
 
--- who waits for a message isn't free
-pub listens_alive : (s : State) → listens s ≡ true → s ≢ Free
-listens_alive s h e = let f = ap listens e in cc
+-- and doesn't run
+pub listens_idle : (s : State) → listens s ≡ true → s ≢ Current
+listens_idle s h e = let f = ap listens e in cc
 
--- a message changes nothing else
-pub open_message : (t : Tables) (q : ℕ) (m : Option ℕ) → IsOpen t → IsOpen (record t { messages = slice_set t.messages q m })
-open_message t q m o = record {
-  processes = o.processes;
-  messages = length-set t.messages q m ∙ o.messages;
-  ready = o.ready;
-  one_current = o.one_current;
-  null = o.null;
-  falling = o.falling;
-}
+-- who passes the test of a free number is free
+pub free_of : (s : State) → is_free s ≡ true → s ≡ Free
+free_of Free h = refl
+free_of Ready h = cc
+free_of Current h = cc
+free_of Suspended h = cc
+free_of Receiving h = cc
+free_of Sleeping h = cc
+free_of Waiting h = cc
+free_of Timed h = cc
 
--- A message is delivered.
-pub open_delivered : (p message : ℕ) (d : Doing) → IsOpen d.state.tables → IsOpen (delivered p message d).state.tables
-open_delivered p message d o =
+-- who doesn't isn't
+pub not_free : (s : State) → is_free s ≡ false → s ≢ Free
+not_free s h e = let f = ap is_free e in cc
+
+-- who can get a message isn't free
+pub can_get_alive : (t : Tables) (p : ℕ) → can_get p t ≡ true → state_at t p ≢ Free
+can_get_alive t p h = not_free (state_at t p) (not-true (is_free (state_at t p)) (and_parts (not (is_free (state_at t p))) (not (is_some (message_at t p))) h).0)
+
+-- a message is held where a call is to answer one
+pub holds_some : (left : Rest) (m : ℕ) → HoldsFor left (Some m)
+holds_some rest.Receive m = search rules
+holds_some _ m = tt
+
+-- any message fits where none is waited for
+pub fits_some : (s : State) (left : Rest) (m : ℕ) (old : Option ℕ) → listens s ≡ false → FitsMessage s left old → FitsMessage s left (Some m)
+fits_some Receiving left m old h f = cc
+fits_some Timed left m old h f = cc
+fits_some Sleeping left m old h f = f
+fits_some Free left m old h f = holds_some left m
+fits_some Current left m old h f = holds_some left m
+fits_some Ready left m old h f = holds_some left m
+fits_some Suspended left m old h f = holds_some left m
+fits_some Waiting left m old h f = holds_some left m
+
+-- what holds of both forms of a delivery holds of it
+by_delivery : (p message : ℕ) (d : Doing) (P : Doing → Type 0)
+    → (listens (state_at d.state.tables p) ≡ true → P (record (with_tables (put p (in_state Ready (process_at d.state.tables p)) (Some message) InReady d.state.tables) d) { owes_resched = true }))
+    → (listens (state_at d.state.tables p) ≡ false → P (with_tables (record d.state.tables { messages = slice_set d.state.tables.messages p (Some message) }) d))
+    → P (delivered p message d)
+by_delivery p message d P woken kept =
     let t = d.state.tables in
-    let x = in_state Ready (process_at t p) in
     cond_both (listens (state_at t p))
-    (record (with_tables (put p x (Some message) InReady t) d) { owes_resched = true })
-    (with_tables (record t { messages = slice_set t.messages p (Some message) }) d)
-    (λ e. IsOpen e.state.tables)
-    (λ b. open_put t p x (Some message) InReady o (can_put_ready t p x o (listens_alive (state_at t p) b) refl))
-    (λ _. open_message t p (Some message) o)
+    (record (with_tables (put p (in_state Ready (process_at t p)) (Some message) InReady t) d) { owes_resched = true })
+    (with_tables (record t { messages = slice_set t.messages p (Some message) }) d) P woken kept
+
+-- A message is delivered to a process that isn't free.
+pub open_delivered : (p message : ℕ) (d : Doing) → IsOpen d.state.tables → state_at d.state.tables p ≢ Free → IsOpen (delivered p message d).state.tables
+open_delivered p message d o alive =
+    let t = d.state.tables in
+    by_delivery p message d (λ e. IsOpen e.state.tables)
+    (λ b. open_put t p (in_state Ready (process_at t p)) (Some message) InReady o (can_put_ready t p (Some message) o alive (holds_some (process_at t p).rest message)))
+    (λ b. open_message t p (Some message) o (within_table t p o.processes alive) (fits_some (state_at t p) (process_at t p).rest message (message_at t p) b (o.slots p)))
+
+-- The current process goes on after that.
+pub sound_delivered : (p message : ℕ) (d : Doing) → IsSoundTables d.state.tables → state_at d.state.tables p ≢ Free → IsSoundTables (delivered p message d).state.tables
+sound_delivered p message d k alive =
+    let t = d.state.tables in
+    by_delivery p message d (λ e. IsSoundTables e.state.tables)
+    (λ b. sound_put t p (in_state Ready (process_at t p)) (Some message) InReady k (idle_differs t p t.current (listens_idle (state_at t p) b) k.runs)
+    (can_put_ready t p (Some message) k.inside alive (holds_some (process_at t p).rest message)))
+    (λ b. record {
+      inside = open_message t p (Some message) k.inside (within_table t p k.inside.processes alive) (fits_some (state_at t p) (process_at t p).rest message (message_at t p) b (k.inside.slots p));
+      runs = k.runs;
+    })
 
 -- A message is sent, or refused.
 pub open_sent : (p message : ℕ) (d : Doing) → IsOpen d.state.tables → IsOpen (sent p message d).state.tables
 open_sent p message d o =
-    cond_both (can_get p d.state.tables) (delivered p message d) d (λ e. IsOpen e.state.tables) (λ _. open_delivered p message d o) (λ _. o)
+    cond_both (can_get p d.state.tables) (delivered p message d) d (λ e. IsOpen e.state.tables) (λ b. open_delivered p message d o (can_get_alive d.state.tables p b)) (λ _. o)
 
--- a message that is delivered changes no registers
-harts_delivered : (p message : ℕ) (d : Doing) → (delivered p message d).state.harts ≡ d.state.harts
-harts_delivered p message d =
-    let t = d.state.tables in
-    cond_both (listens (state_at t p))
-    (record (with_tables (put p (in_state Ready (process_at t p)) (Some message) InReady t) d) { owes_resched = true })
-    (with_tables (record t { messages = slice_set t.messages p (Some message) }) d)
-    (λ e. e.state.harts ≡ d.state.harts) (λ _. refl) (λ _. refl)
+-- The current process goes on after that.
+pub sound_sent : (p message : ℕ) (d : Doing) → IsSoundTables d.state.tables → IsSoundTables (sent p message d).state.tables
+sound_sent p message d k =
+    cond_both (can_get p d.state.tables) (delivered p message d) d (λ e. IsSoundTables e.state.tables) (λ b. sound_delivered p message d k (can_get_alive d.state.tables p b)) (λ _. k)
 
--- nor does one that is sent
-pub harts_sent : (p message : ℕ) (d : Doing) → (sent p message d).state.harts ≡ d.state.harts
-harts_sent p message d =
-    cond_both (can_get p d.state.tables) (delivered p message d) d (λ e. e.state.harts ≡ d.state.harts) (λ _. harts_delivered p message d) (λ _. refl)
+-- a delivery changes the tables alone, and not who is current
+pub record ChangesTables (d e : Doing) : Type 0 where
+  pub state : e.state ≡ record d.state { tables = e.state.tables }
+  pub current : e.state.tables.current ≡ d.state.tables.current
+
+-- A message changes the tables alone.
+pub delivered_changes : (p message : ℕ) (d : Doing) → ChangesTables d (delivered p message d)
+delivered_changes p message d = by_delivery p message d (ChangesTables d) (λ _. record { state = refl; current = refl }) (λ _. record { state = refl; current = refl })
+
+-- and so does one that is sent or refused
+pub sent_changes : (p message : ℕ) (d : Doing) → ChangesTables d (sent p message d)
+sent_changes p message d =
+    cond_both (can_get p d.state.tables) (delivered p message d) d (ChangesTables d) (λ _. delivered_changes p message d) (λ _. record { state = refl; current = refl })
 
 -- a process that isn't the null process can be taken out
-pub can_put_free : (t : Tables) (p : ℕ) → p < 64 → p ≢ 0 → CanPut t p no_process Nowhere
-can_put_free t p w n = record { within = w; place_of = refl; if_current = λ e. cc; if_null = λ e. absurd (n e) }
+pub can_put_free : (t : Tables) (p : ℕ) → p < 64 → p ≢ 0 → CanPut t p no_process None Nowhere
+can_put_free t p w n = record { within = w; place_of = (refl, refl, refl); if_current = λ e. cc; if_null = λ e. absurd (n e); fits = tt; slot = tt }
 
 -- A process that isn't the null process dies.
 pub open_killed : (p : ℕ) (d : Doing) → IsOpen d.state.tables → p < 64 → p ≢ 0 → IsOpen (killed p d).state.tables
@@ -69,8 +121,15 @@ open_killed p d o w n =
     let told = sent (process_at d.state.tables p).parent p d in
     open_put told.state.tables p no_process None Nowhere (open_sent (process_at d.state.tables p).parent p d o) (can_put_free told.state.tables p w n)
 
+-- Where it isn't the current one, this one goes on.
+pub sound_killed : (p : ℕ) (d : Doing) → IsSoundTables d.state.tables → p < 64 → p ≢ 0 → p ≢ d.state.tables.current → IsSoundTables (killed p d).state.tables
+sound_killed p d k w n other =
+    let parent = (process_at d.state.tables p).parent in
+    let told = sent parent p d in
+    sound_put told.state.tables p no_process None Nowhere (sound_sent parent p d k) (λ e. other (e ∙ (sent_changes parent p d).current)) (can_put_free told.state.tables p w n)
+
 -- Each number keeps its registers where a process dies.
 pub harts_killed : (p : ℕ) (d : Doing) → length (killed p d).state.harts ≡ length d.state.harts
 harts_killed p d =
     let parent = (process_at d.state.tables p).parent in
-    length-set (sent parent p d).state.harts p no_hart ∙ ap length (harts_sent parent p d)
+    length-set (sent parent p d).state.harts p no_hart ∙ ap (λ (s : Xinu). length s.harts) (sent_changes parent p d).state

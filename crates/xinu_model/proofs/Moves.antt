@@ -1,13 +1,16 @@
 -- Waking and rescheduling keep what holds of the tables; a resched makes the current process run.
-use Rattle.std.proofs.Common.{◌≡◌, ◌≢◌, ℕ, ◌<◌, true, false, List, [], ◌∷◌, refl, sym, ap, subst, ◌∙◌, arith, ℤ, inl, inr, ⊎_elim}
+use Rattle.std.proofs.Common.{◌≡◌, ◌≢◌, ◌⊎◌, ℕ, ◌<◌, true, false, List, [], ◌∷◌, refl, sym, ap, subst, ◌∙◌, arith, ℤ, inl, inr, ⊎_elim, Option}
 use Rattle.std.specs.Prelude.{int_lt}
+use Rattle.std.specs.List.{AllByRecursion}
 use Rattle.std.proofs.lemmas.Bool.{cond_both, true≢false, and_parts}
 use Rattle.xinu_base.specs.declared.processes.Process.{Process}
+use Rattle.xinu_base.specs.declared.processes.Rest.{Rest}
+use Rattle.xinu_base.specs.declared.processes.Rest.TheVariants.{Nothing}
 use Rattle.xinu_base.specs.declared.processes.State.{State}
 use Rattle.xinu_base.specs.declared.processes.State.TheVariants.{Free, Current, Ready, Receiving, Sleeping, Suspended, Waiting, Timed}
 use Rattle.xinu_model.specs.Moves.{is_current, in_state, wake, run, run_first, make_room, stays, resched}
-use Rattle.xinu_model.specs.Sound.{entries_of, ready_places, IsOpen, IsSoundTables}
-use Rattle.xinu_model.specs.Tables.{Tables, process_at, state_at, message_at, Nowhere, InReady}
+use Rattle.xinu_model.specs.Sound.{entries_of, ready_places, waiting_places, sleeping_places, HoldsFor, FitsMessage, IsOpen, IsSoundTables}
+use Rattle.xinu_model.specs.Tables.{Tables, process_at, state_at, message_at, Place, Nowhere, InReady, put}
 use Rattle.xinu_model.proofs.Counts.{first_has_entry}
 use Rattle.xinu_model.proofs.Put.{by_number, within_table, state_put_same, state_put_other, CanPut, open_put}
 
@@ -22,6 +25,28 @@ ready_of Suspended h = absurd (omega arith)
 ready_of Waiting h = absurd (omega arith)
 ready_of Timed h = absurd (omega arith)
 
+-- who is among the waiters waits
+pub waiting_of : (s : State) → 0 < waiting_places s → s ≡ Waiting
+waiting_of Waiting h = refl
+waiting_of Free h = absurd (omega arith)
+waiting_of Current h = absurd (omega arith)
+waiting_of Receiving h = absurd (omega arith)
+waiting_of Sleeping h = absurd (omega arith)
+waiting_of Suspended h = absurd (omega arith)
+waiting_of Ready h = absurd (omega arith)
+waiting_of Timed h = absurd (omega arith)
+
+-- who is among the sleepers sleeps, or waits for a message for some time
+pub sleeping_of : (s : State) → 0 < sleeping_places s → (s ≡ Sleeping) ⊎ (s ≡ Timed)
+sleeping_of Sleeping h = inl refl
+sleeping_of Timed h = inr refl
+sleeping_of Free h = absurd (omega arith)
+sleeping_of Current h = absurd (omega arith)
+sleeping_of Receiving h = absurd (omega arith)
+sleeping_of Waiting h = absurd (omega arith)
+sleeping_of Suspended h = absurd (omega arith)
+sleeping_of Ready h = absurd (omega arith)
+
 -- who passes the test of running is in state current
 pub current_of : (s : State) → is_current s ≡ true → s ≡ Current
 current_of Current h = refl
@@ -33,18 +58,102 @@ current_of Suspended h = cc
 current_of Waiting h = cc
 current_of Timed h = cc
 
--- a process that isn't free may become ready
-pub can_put_ready : (t : Tables) (q : ℕ) (x : Process) → IsOpen t → state_at t q ≢ Free → x.state ≡ Ready → CanPut t q x InReady
-can_put_ready t q x o alive e = record {
+-- who doesn't wait for a message without end holds one where its call is to answer it
+pub holds_of : (s : State) (r : Rest) (m : Option ℕ) → FitsMessage s r m → s ≢ Receiving → HoldsFor r m
+holds_of Receiving r m h n = absurd (n refl)
+holds_of Timed r m h n = subst (λ k. HoldsFor k m) (sym h.0) tt
+holds_of Sleeping r m h n = subst (λ k. HoldsFor k m) (sym h) tt
+holds_of Free r m h n = h
+holds_of Current r m h n = h
+holds_of Ready r m h n = h
+holds_of Suspended r m h n = h
+holds_of Waiting r m h n = h
+
+-- the same of a process of the tables
+pub holds_at : (t : Tables) (p : ℕ) → IsOpen t → state_at t p ≢ Receiving → HoldsFor (process_at t p).rest (message_at t p)
+holds_at t p o n = holds_of (state_at t p) (process_at t p).rest (message_at t p) (o.slots p) n
+
+-- the null process has nothing left to do
+pub null_rest_at : (t : Tables) (q : ℕ) → IsOpen t → q ≡ 0 → (process_at t q).rest ≡ Nothing
+null_rest_at t q o e = subst (λ k. (process_at t k).rest ≡ Nothing) (sym e) o.null_rest
+
+-- a process that isn't free may become ready, with a message that its call may find
+pub can_put_ready : (t : Tables) (q : ℕ) (m : Option ℕ) → IsOpen t → state_at t q ≢ Free → HoldsFor (process_at t q).rest m → CanPut t q (in_state Ready (process_at t q)) m InReady
+can_put_ready t q m o alive holds = record {
   within = within_table t q o.processes alive;
-  place_of = ap ready_places e;
-  if_current = λ f. cc;
-  if_null = λ _. inr e;
+  place_of = (refl, refl, refl);
+  if_current = λ e. cc;
+  if_null = λ e. (inr refl, null_rest_at t q o e);
+  fits = tt;
+  slot = holds;
 }
 
--- A process that isn't free is woken.
-pub open_wake : (t : Tables) (q : ℕ) → IsOpen t → state_at t q ≢ Free → IsOpen (wake q t)
-open_wake t q o alive = open_put t q (in_state Ready (process_at t q)) (message_at t q) InReady o (can_put_ready t q (in_state Ready (process_at t q)) o alive refl)
+-- What lets process q be woken: it is alive, doesn't run, and doesn't wait for a message without end.
+pub record CanWake (t : Tables) (q : ℕ) : Type 0 where
+  pub alive : state_at t q ≢ Free
+  pub idle : state_at t q ≢ Current
+  pub holds : HoldsFor (process_at t q).rest (message_at t q)
+
+-- A process that may be woken is woken.
+pub open_wake : (t : Tables) (q : ℕ) → IsOpen t → CanWake t q → IsOpen (wake q t)
+open_wake t q o c = open_put t q (in_state Ready (process_at t q)) (message_at t q) InReady o (can_put_ready t q (message_at t q) o c.alive c.holds)
+
+-- no process but the one that moves changes its state
+pub runs_put : (t : Tables) (p c : ℕ) (x : Process) (m : Option ℕ) (place : Place) → p ≢ c → state_at t c ≡ Current → state_at (put p x m place t) c ≡ Current
+runs_put t p c x m place n e = state_put_other t c p x m place (λ f. n (sym f)) ∙ e
+
+-- A process that isn't the current one moves, and the current one goes on.
+pub sound_put : (t : Tables) (q : ℕ) (x : Process) (m : Option ℕ) (place : Place) → IsSoundTables t → q ≢ t.current → CanPut t q x m place → IsSoundTables (put q x m place t)
+sound_put t q x m place k n c = record { inside = open_put t q x m place k.inside c; runs = runs_put t q t.current x m place n k.runs }
+
+-- a process that doesn't run isn't one that runs
+pub idle_differs : (t : Tables) (p c : ℕ) → state_at t p ≢ Current → state_at t c ≡ Current → p ≢ c
+idle_differs t p c n e f = n (subst (λ k. state_at t k ≡ Current) (sym f) e)
+
+-- A process that may be woken is woken, and the current one goes on.
+pub sound_wake : (t : Tables) (q : ℕ) → IsSoundTables t → CanWake t q → IsSoundTables (wake q t)
+sound_wake t q k c =
+    sound_put t q (in_state Ready (process_at t q)) (message_at t q) InReady k (idle_differs t q t.current c.idle k.runs) (can_put_ready t q (message_at t q) k.inside c.alive c.holds)
+
+-- Another number may be the current one, with another quantum, tick and last numbers, where no other process runs and the sleepers wake later.
+pub open_numbers : (t : Tables) (current quantum ticks last_process last_semaphore : ℕ) → IsOpen t
+    → ((p : ℕ) → state_at t p ≡ Current → p ≡ current) → AllByRecursion (λ e. ticks < e.1) t.sleepers
+    → IsOpen (record t { current = current; quantum = quantum; ticks = ticks; last_process = last_process; last_semaphore = last_semaphore })
+open_numbers t current quantum ticks last_process last_semaphore o one later = record {
+  processes = o.processes;
+  messages = o.messages;
+  semaphores = o.semaphores;
+  ready = o.ready;
+  waiting = o.waiting;
+  sleeping = o.sleeping;
+  one_current = one;
+  null = o.null;
+  null_rest = o.null_rest;
+  falling = o.falling;
+  rising = o.rising;
+  later = later;
+  one_kind = o.one_kind;
+  rests = o.rests;
+  slots = o.slots;
+  devices = o.devices;
+  no_devices = o.no_devices;
+}
+
+-- the quantum may be any
+pub open_quantum : (t : Tables) (quantum : ℕ) → IsOpen t → IsOpen (record t { quantum = quantum })
+open_quantum t quantum o = open_numbers t t.current quantum t.ticks t.last_process t.last_semaphore o o.one_current o.later
+
+-- and so may the last numbers given
+pub open_last_process : (t : Tables) (n : ℕ) → IsOpen t → IsOpen (record t { last_process = n })
+open_last_process t n o = open_numbers t t.current t.quantum t.ticks n t.last_semaphore o o.one_current o.later
+
+-- that of semaphores too
+pub open_last_semaphore : (t : Tables) (n : ℕ) → IsOpen t → IsOpen (record t { last_semaphore = n })
+open_last_semaphore t n o = open_numbers t t.current t.quantum t.ticks t.last_process n o o.one_current o.later
+
+-- and the ticks, where all sleepers wake later
+pub open_ticks : (t : Tables) (n : ℕ) → IsOpen t → AllByRecursion (λ e. n < e.1) t.sleepers → IsOpen (record t { ticks = n })
+open_ticks t n o later = open_numbers t t.current t.quantum n t.last_process t.last_semaphore o o.one_current later
 
 -- No process is in state current.
 abbrev pub NoneRuns : Tables → Type 0
@@ -52,14 +161,7 @@ NoneRuns t = (p : ℕ) → state_at t p ≢ Current
 
 -- where no process is in state current, any number may be the current one, with any quantum
 pub open_current : (t : Tables) (c k : ℕ) → IsOpen t → NoneRuns t → IsOpen (record t { current = c; quantum = k })
-open_current t c k o none = record {
-  processes = o.processes;
-  messages = o.messages;
-  ready = o.ready;
-  one_current = λ p e. absurd (none p e);
-  null = o.null;
-  falling = o.falling;
-}
+open_current t c k o none = open_numbers t c k t.ticks t.last_process t.last_semaphore o (λ p e. absurd (none p e)) o.later
 
 -- where the current process runs and is woken, none runs
 none_runs_woken : (t : Tables) → IsOpen t → state_at t t.current ≢ Free → NoneRuns (wake t.current t)
@@ -81,12 +183,9 @@ room_made t o =
     cond_both (is_current (state_at t c)) (wake c t) t (λ u. IsOpen u × NoneRuns u)
     (λ b. let e = current_of (state_at t c) b in
     let alive : state_at t c ≢ Free = λ f. cc in
-    (open_wake t c o alive, none_runs_woken t o alive))
+    let holds = holds_at t c o (λ f. cc) in
+    (open_put t c (in_state Ready (process_at t c)) (message_at t c) InReady o (can_put_ready t c (message_at t c) o alive holds), none_runs_woken t o alive))
     (λ b. (o, none_runs_idle t o b))
-
--- The null process is in the ready list where it doesn't run.
-pub null_ready : (t : Tables) → IsOpen t → state_at t 0 ≢ Current → entries_of 0 t.ready ≡ 1
-null_ready t o n = ⊎_elim (λ (e : state_at t 0 ≡ Current). absurd (n e)) (λ (e : state_at t 0 ≡ Ready). o.ready 0 ∙ ap ready_places e) o.null
 
 -- with an empty ready list the null process is in state current
 empty_runs : (t : Tables) → IsOpen t → [] ≡ t.ready → state_at t t.current ≡ Current
@@ -107,10 +206,15 @@ sound_run t q o none e =
     let w = within_table t q o.processes alive in
     let x = in_state Current (process_at t q) in
     let u = record t { current = q; quantum = 2 } in
-    record {
-      inside = open_put u q x (message_at t q) Nowhere (open_current t q 2 o none) (record { within = w; place_of = refl; if_current = λ _. refl; if_null = λ _. inl refl });
-      runs = state_put_same u q x (message_at t q) Nowhere o.processes w;
-    }
+    let c : CanPut u q x (message_at t q) Nowhere = record {
+      within = w;
+      place_of = (refl, refl, refl);
+      if_current = λ _. refl;
+      if_null = λ f. (inl refl, null_rest_at t q o f);
+      fits = tt;
+      slot = holds_at t q o (λ f. cc);
+    } in
+    record { inside = open_put u q x (message_at t q) Nowhere (open_current t q 2 o none) c; runs = state_put_same u q x (message_at t q) Nowhere o.processes w }
 
 -- Where none runs, the first of the ready list is run.
 pub sound_run_first : (l : List (ℕ × ℤ)) (t : Tables) → IsOpen t → NoneRuns t → l ≡ t.ready → IsSoundTables (run_first l t)

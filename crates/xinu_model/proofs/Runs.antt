@@ -1,36 +1,49 @@
--- Each run keeps the state sound, and there is one through each list of events.
-use Rattle.std.proofs.Common.{◌≡◌, Bool, true, false, List, [], ◌∷◌, ◌++◌, refl, sym, subst, inl, inr, ⊎_elim}
+-- There is a run through each list of events, and what each event keeps each run keeps.
+use Rattle.std.proofs.Common.{◌≡◌, List, [], ◌∷◌, ◌++◌, Option, Some, None, refl, sym, subst}
 use Rattle.xinu_base.specs.declared.events.End.{End}
-use Rattle.xinu_base.specs.declared.events.End.TheVariants.{Schedule, Done}
+use Rattle.xinu_base.specs.declared.events.End.TheVariants.{Schedule}
 use Rattle.xinu_base.specs.declared.events.Event.{Event}
 use Rattle.xinu_base.specs.declared.lines.TranscriptLine.{TranscriptLine}
-use Rattle.xinu_model.specs.Events.{effect_of, Happens}
+use Rattle.xinu_model.specs.Events.{effect_of, panics_in, Happens}
 use Rattle.xinu_model.specs.Machine.{Xinu}
-use Rattle.xinu_model.specs.Runs.{is_over, RunsTo}
-use Rattle.xinu_model.specs.Sound.{IsSound}
-use Rattle.xinu_model.proofs.Events.{sound_happens, least_happens}
+use Rattle.xinu_model.specs.Runs.{is_over, end_with, Follows, RunsTo}
+use Rattle.xinu_model.proofs.Outcomes.{least_happens}
 
--- Each run keeps the state sound.
-pub sound_run : (events : List Event) (old : Xinu) (lines : List TranscriptLine) (new : Xinu) (end : End) → IsSound old → RunsTo old events lines new end → IsSound new
-sound_run [] old lines new end k r = subst IsSound (sym r.1) k
-sound_run (e ∷ events) old lines new end k r =
-    let mid = sound_happens old e r.1 r.0 k r.2 in
-    ⊎_elim (λ (over : (is_over r.0 ≡ true) × (lines ≡ r.1) × (new ≡ r.0) × (end ≡ Done)). subst IsSound (sym over.2) mid)
-    (λ (on : (is_over r.0 ≡ false) × ((rest : List TranscriptLine) × RunsTo r.0 events rest new end × (lines ≡ r.1 ++ rest))). sound_run events r.0 on.1.0 new end mid on.1.1) r.3
+-- a property of states that each event keeps
+abbrev pub IsKept : (Xinu → Type 0) → Type 0
+IsKept P = (old : Xinu) (e : Event) (lines : List TranscriptLine) (new : Xinu) → P old → Happens old e lines new → P new
+
+-- what follows an event keeps it, where the rest of the run does
+follows_keep : (P : Xinu → Type 0) (how : Option End) (events : List Event) (first lines : List TranscriptLine) (mid new : Xinu) (end : End)
+    → ((rest : List TranscriptLine) → RunsTo mid events rest new end → P new) → P mid
+    → Follows how (λ rest. RunsTo mid events rest new end) first lines mid new end → P new
+follows_keep P (Some how) events first lines mid new end rest k f = subst P (sym f.1) k
+follows_keep P None events first lines mid new end rest k f = rest f.0 f.1
+
+-- What each event keeps each run keeps.
+pub runs_keep : (P : Xinu → Type 0) → IsKept P → (events : List Event) (old : Xinu) (lines : List TranscriptLine) (new : Xinu) (end : End) → P old → RunsTo old events lines new end → P new
+runs_keep P kept [] old lines new end k r = subst P (sym r.1) k
+runs_keep P kept (e ∷ events) old lines new end k r =
+    let mid = kept old e r.1 r.0 k r.2 in
+    follows_keep P (end_with (panics_in old e) (is_over r.0)) events r.1 lines r.0 new end (λ rest run. runs_keep P kept events r.0 rest new end mid run) mid r.3
 
 -- that there is a run through these events
 abbrev pub SomeRun : Xinu → List Event → Type 0
 SomeRun old events = (lines : List TranscriptLine) × (new : Xinu) × (end : End) × RunsTo old events lines new end
 
--- a first event, and a run through the others unless it is over
-run_from : (old mid : Xinu) (e : Event) (events : List Event) (first : List TranscriptLine) (over : Bool)
-    → is_over mid ≡ over → Happens old e first mid → SomeRun mid events → SomeRun old (e ∷ events)
-run_from old mid e events first true b h rest = (first, mid, Done, (mid, first, h, inl (b, refl, refl, refl)))
-run_from old mid e events first false b h rest = (first ++ rest.0, rest.1, rest.2, (mid, first, h, inr (b, (rest.0, rest.3, refl))))
+-- a first event, and a run through the others unless it ended the run
+run_from : (old mid : Xinu) (e : Event) (events : List Event) (first : List TranscriptLine) (how : Option End)
+    → end_with (panics_in old e) (is_over mid) ≡ how → Happens old e first mid → SomeRun mid events → SomeRun old (e ∷ events)
+run_from old mid e events first (Some how) is h rest =
+    let P : Option End → Type 0 = λ o. Follows o (λ more. RunsTo mid events more mid how) first first mid mid how in
+    (first, mid, how, (mid, first, h, subst P (sym is) (refl, refl, refl)))
+run_from old mid e events first None is h rest =
+    let P : Option End → Type 0 = λ o. Follows o (λ more. RunsTo mid events more rest.1 rest.2) first (first ++ rest.0) mid rest.1 rest.2 in
+    (first ++ rest.0, rest.1, rest.2, (mid, first, h, subst P (sym is) (rest.0, rest.3, refl)))
 
 -- There is a run through each list of events.
 pub some_run : (events : List Event) (old : Xinu) → SomeRun old events
 some_run [] old = ([], old, Schedule, (refl, refl, refl))
 some_run (e ∷ events) old =
     let mid = (effect_of old e 0).state in
-    run_from old mid e events (effect_of old e 0).lines (is_over mid) refl (least_happens old e) (some_run events mid)
+    run_from old mid e events (effect_of old e 0).lines (end_with (panics_in old e) (is_over mid)) refl (least_happens old e) (some_run events mid)

@@ -1,14 +1,16 @@
--- What is loaded, and the state in which the machine starts.
-use Rattle.std.specs.Prelude.{ℕ, ◌+◌, ◌-◌, ◌*◌, ◌/◌, ◌%◌, max, List, [], ◌∷◌, ◌++◌, length, replicate, slice_set, true, Option, None, option_map, codes, ℤ}
+-- What is loaded, and the state in which the machine starts (book, chapter 22).
+use Rattle.std.specs.Prelude.{ℕ, ◌+◌, ◌-◌, ◌*◌, ◌/◌, max, Bool, true, if◌then◌else◌, List, [], ◌∷◌, ◌++◌, length, replicate, Option, None, Some, codes, ℤ}
+use Rattle.std.specs.List.{list_any}
 use Rattle.xinu_base.specs.declared.processes.Process.{Process}
-use Rattle.xinu_base.specs.declared.processes.State.TheVariants.{Current, Suspended}
-use Rattle.xinu_base.specs.declared.processes.Rest.TheVariants.{Nothing}
-use Rattle.xinu_base.specs.declared.registers.Hart.{Hart}
+use Rattle.xinu_base.specs.declared.processes.State.TheVariants.{Current}
+use Rattle.xinu_base.specs.declared.semaphores.Owner.TheVariants.{Device}
 use Rattle.xinu_model.specs.Heap.{Heap, cells_for, Stack, getstk}
 use Rattle.xinu_model.specs.Machine.{Xinu, no_hart}
-use Rattle.xinu_model.specs.Memory.{ram_size, with_bytes, zeros}
+use Rattle.xinu_model.specs.Memory.{ram_size, with_bytes, zeros, ranges_meet}
 use Rattle.xinu_model.specs.Moves.{resched, wake}
-use Rattle.xinu_model.specs.Tables.{no_process, Tables, put, Nowhere}
+use Rattle.xinu_model.specs.Ports.{first_ports}
+use Rattle.xinu_model.specs.ProcessCalls.{stack_size, new_hart, new_process, make_process}
+use Rattle.xinu_model.specs.Tables.{Semaphore, no_process, no_semaphore, Tables}
 
 -- a part of an image: where it lies, its bytes, and how many addresses it takes
 pub record LoadedPart : Type 0 where
@@ -28,23 +30,57 @@ abbrev pub with_parts : List LoadedPart → List ℕ → List ℕ
 with_parts [] memory = memory
 with_parts (part ∷ parts) memory = with_parts parts (with_bytes memory part.place (length part.bytes) part.bytes)
 
+-- the images put in their places, one after another
+abbrev pub with_images : List Loaded → List ℕ → List ℕ
+with_images [] memory = memory
+with_images (image ∷ images) memory = with_images images (with_parts image.parts memory)
+
 -- the end of an image: the greatest address behind one of its parts
 abbrev pub end_of : List LoadedPart → ℕ
 end_of [] = 0
 end_of (part ∷ parts) = max (part.place + part.size) (end_of parts)
 
--- the heap goes from the lowest multiple of 8 that isn't below the end of the image to the end of RAM
-abbrev pub fresh_heap : Loaded → Heap
-fresh_heap image =
-    let low = 8 * cells_for (end_of image.parts) in record { low = low; cells = replicate ((ram_size - low) / 8) true }
+-- the greatest end of some images
+abbrev pub end_of_all : List Loaded → ℕ
+end_of_all [] = 0
+end_of_all (image ∷ images) = max (end_of image.parts) (end_of_all images)
 
--- the size of a stack: at least 400 bytes, and a multiple of 8
-abbrev pub stack_size : ℕ → ℕ
-stack_size wanted = 8 * cells_for (max 400 wanted)
+-- whether two parts share an address
+abbrev pub parts_meet : LoadedPart → LoadedPart → Bool
+parts_meet a b = ranges_meet a.place a.size b.place b.size
+
+-- whether two images overlap: a part of one shares an address with a part of the other
+abbrev pub overlap : Loaded → Loaded → Bool
+overlap a b = list_any (λ x. list_any (parts_meet x) b.parts) a.parts
+
+-- the number of the first of these images that overlaps an earlier one; the first of them has number i
+abbrev pub first_overlap : ℕ → List Loaded → List Loaded → Option ℕ
+first_overlap i earlier [] = None
+first_overlap i earlier (image ∷ images) =
+    if list_any (overlap image) earlier then Some i else first_overlap (i + 1) (image ∷ earlier) images
+
+-- the heap from the lowest multiple of 8 that isn't below an address to the end of RAM, all of it free
+abbrev pub heap_behind : ℕ → Heap
+heap_behind end =
+    let low = 8 * cells_for end in record { low = low; cells = replicate ((ram_size - low) / 8) true }
+
+-- the heap at the start: what lies behind every image
+abbrev pub fresh_heap : List Loaded → Heap
+fresh_heap images = heap_behind (end_of_all images)
 
 -- the null process
 abbrev pub null_process : Process
 null_process = record no_process { state = Current; name = codes "prnull" ++ replicate 9 0 }
+
+-- a semaphore of the kernel's, with so many tokens
+abbrev pub device_semaphore : ℕ → Semaphore
+device_semaphore tokens = record { owner = Some Device; tokens = tokens; waiters = [] }
+
+-- The semaphores at the start: four are the kernel's, for console input, console output, the callers of the raw disk and those of
+-- the file system.
+unfoldable pub first_semaphores : List Semaphore
+first_semaphores =
+    device_semaphore 0 ∷ device_semaphore 64 ∷ device_semaphore 0 ∷ device_semaphore 0 ∷ replicate 124 no_semaphore
 
 -- the tables before any other process is made
 abbrev pub null_tables : Tables
@@ -54,37 +90,74 @@ null_tables = record {
   current = 0;
   quantum = 2;
   ready = [];
+  semaphores = first_semaphores;
+  sleepers = [];
   ticks = 0;
+  last_process = 0;
+  last_semaphore = 3;
 }
 
--- the first process of the image
-abbrev pub image_process : Loaded → Stack → Process
-image_process image stack = record {
-  state = Suspended;
-  priority = image.priority;
-  parent = 0;
-  name = codes "image1" ++ replicate 9 0;
-  stack = stack.top;
-  stack_size = stack_size image.stack;
-  rest = Nothing;
+-- the machine with the images in RAM, before their processes are made
+abbrev pub loaded : List Loaded → Xinu
+loaded images = record {
+  tables = null_tables;
+  harts = replicate 64 no_hart;
+  memory = with_images images zeros;
+  heap = fresh_heap images;
+  pools = [];
+  ports = first_ports;
+  next_port = 0;
 }
 
--- the registers of a new process: x1 is the address whose execution exits, x2 the top of the stack at a multiple of 16
-abbrev pub new_hart : ℕ → ℕ → ℕ → ℕ → Hart
-new_hart entry top x y = record {
-  regs = 0 ∷ 4294967292 ∷ (top - top % 16) ∷ replicate 7 0 ++ x ∷ y ∷ replicate 20 0;
-  pc = entry;
-}
+-- the name of the first process of image i
+abbrev pub image_name : ℕ → List ℕ
+image_name i = codes "image" ++ (48 + i) ∷ replicate 9 0
 
--- the machine with the image's process on its stack
-abbrev pub booted : Loaded → Stack → Xinu
-booted image stack = record {
-  tables = resched (wake 1 (put 1 (image_process image stack) None Nowhere null_tables));
-  harts = slice_set (replicate 64 no_hart) 1 (new_hart image.entry stack.top 0 0);
-  memory = with_parts image.parts zeros;
-  heap = stack.heap;
-}
+-- the first process of image i
+abbrev pub image_process : ℕ → Loaded → ℕ → Process
+image_process i image top = new_process (image_name i) image.priority 0 top (stack_size image.stack)
 
--- The state in which the machine starts; None where the heap has no stack for the image.
-abbrev pub boot : Loaded → Option Xinu
-boot image = option_map (booted image) (getstk (stack_size image.stack) (fresh_heap image))
+-- the first process of image i is made on a stack
+abbrev pub with_image : ℕ → Loaded → Stack → Xinu → Xinu
+with_image i image stack s = make_process i (image_process i image stack.top) (new_hart image.entry stack.top 0 0) stack s
+
+-- the processes of the images become ready in order; the first of them has number i
+abbrev pub all_ready : ℕ → List Loaded → Tables → Tables
+all_ready i [] t = t
+all_ready i (image ∷ images) t = all_ready (i + 1) images (wake i t)
+
+-- How the machine starts: in a state, or not, since an image overlaps an earlier one or the heap has no stack for it.
+pub data Start : Type 0 where
+  Boots : (state : Xinu) → Start
+  Overlaps : (image : ℕ) → Start
+  NoRoom : (image : ℕ) → Start
+
+-- what follows a start so far
+abbrev pub and_then : Start → (Xinu → Start) → Start
+and_then (Boots s) next = next s
+and_then (Overlaps i) next = Overlaps i
+and_then (NoRoom i) next = NoRoom i
+
+-- the first process of image i is made, where a stack is found
+abbrev pub where_stack : Option Stack → ℕ → Loaded → Xinu → Start
+where_stack None i image s = NoRoom i
+where_stack (Some stack) i image s = Boots (with_image i image stack s)
+
+-- the processes of these images are made in order, the first of which has number i
+abbrev pub all_made : ℕ → List Loaded → Xinu → Start
+all_made i [] s = Boots s
+all_made i (image ∷ images) s =
+    and_then (where_stack (getstk (stack_size image.stack) s.heap) i image s) (λ x. all_made (i + 1) images x)
+
+-- the processes of the images are woken, with one resched
+abbrev pub all_woken : List Loaded → Xinu → Xinu
+all_woken images s = record s { tables = resched (all_ready 1 images s.tables) }
+
+-- where no image overlaps an earlier one the processes are made
+abbrev pub unless_overlap : Option ℕ → List Loaded → Start
+unless_overlap (Some i) images = Overlaps i
+unless_overlap None images = and_then (all_made 1 images (loaded images)) (λ s. Boots (all_woken images s))
+
+-- The start of the machine with some images, which are numbered from 1 on.
+abbrev pub boot : List Loaded → Start
+boot images = unless_overlap (first_overlap 1 [] images) images

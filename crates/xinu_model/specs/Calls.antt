@@ -1,77 +1,88 @@
--- The calls, a row each, and the death of a process (book, chapters 5 to 8).
-use Rattle.std.specs.Prelude.{ℕ, ◌==◌, Bool, true, false, not, if◌then◌else◌, ◌&&◌, List, [], ◌∷◌, slice_set, Some, None, is_some, unwrap_or, pos}
+-- The table of calls, and what is left of those that waited (book, chapters 4 to 13 and the appendix on system calls).
+use Rattle.std.specs.Prelude.{ℕ, ◌%◌, ◌==◌, if◌then◌else◌, List, [], ◌∷◌, slice_index, ℤ}
+use Rattle.std.specs.Int.{w16, cast_signed}
 use Rattle.xinu_base.specs.Calls.{is_built}
-use Rattle.xinu_base.specs.declared.processes.Process.{Process}
-use Rattle.xinu_base.specs.declared.processes.State.{State}
-use Rattle.xinu_base.specs.declared.processes.State.TheVariants.{Free, Ready, Receiving, Timed}
-use Rattle.xinu_model.specs.Heap.{freestk}
-use Rattle.xinu_model.specs.Machine.{Xinu, no_hart, Gone, Doing, Handled, begun, with_tables, returns, refused}
-use Rattle.xinu_model.specs.Moves.{in_state}
-use Rattle.xinu_model.specs.Tables.{no_process, Tables, process_at, state_at, message_at, put, Nowhere, InReady}
+use Rattle.xinu_base.specs.declared.processes.Rest.{Rest}
+use Rattle.xinu_base.specs.declared.processes.Rest.TheVariants as rest
+use Rattle.xinu_model.specs.ClockCalls.{sleep, sleepms, clktime, gives_way}
+use Rattle.xinu_model.specs.Machine.{Xinu, Silent, Handled, begun, refused}
+use Rattle.xinu_model.specs.MemoryCalls.{getmem, freemem, getstk, freestk}
+use Rattle.xinu_model.specs.MessageCalls.{send, receive, recvclr, recvtime, go_on_receive}
+use Rattle.xinu_model.specs.PoolCalls.{mkbufpool, getbuf, freebuf, go_on_getbuf}
+use Rattle.xinu_model.specs.PortCalls.{ptcreate, ptdelete, ptreset, ptsend, ptrecv, go_on_ptsend, go_on_ptrecv}
+use Rattle.xinu_model.specs.ProcessCalls.{getpid, create, resume, suspend, kill, chprio, getprio, exit, go_on_suspend}
+use Rattle.xinu_model.specs.SemaphoreCalls.{semcreate, semdelete, semreset, semcount, wait, signal, signaln}
+use Rattle.xinu_model.specs.Words.{signed}
 
--- whether a number of this state has no process
-abbrev pub is_free : State → Bool
-is_free Free = true
-is_free _ = false
-
--- whether a process of this state waits for a message
-abbrev pub listens : State → Bool
-listens Receiving = true
-listens Timed = true
-listens _ = false
-
--- whether p can be sent a message: it lives and holds none
-abbrev pub can_get : ℕ → Tables → Bool
-can_get p t = not (is_free (state_at t p)) && not (is_some (message_at t p))
-
--- p holds a message, and becomes ready where it waits for one
-abbrev pub delivered : ℕ → ℕ → Doing → Doing
-delivered p message d =
-    let t = d.state.tables in
-    if listens (state_at t p) then (record (with_tables (put p (in_state Ready (process_at t p)) (Some message) InReady t) d) { owes_resched = true })
-    else with_tables (record t { messages = slice_set t.messages p (Some message) }) d
-
--- p is sent a message; a refusal is ignored
-abbrev pub sent : ℕ → ℕ → Doing → Doing
-sent p message d = if can_get p d.state.tables then delivered p message d else d
-
--- p is dead: its stack is free, and so is its number
-abbrev pub buried : ℕ → Process → Doing → Doing
-buried p x d =
-    record d {
-      state = record d.state {
-        tables = put p no_process None Nowhere d.state.tables;
-        harts = slice_set d.state.harts p no_hart;
-        heap = unwrap_or (freestk x.stack x.stack_size d.state.heap) d.state.heap;
-      };
-    }
-
--- p dies: its parent is sent its number, and it is buried
-abbrev pub killed : ℕ → Doing → Doing
-killed p d =
-    let x = process_at d.state.tables p in buried p x (sent x.parent p d)
-
--- the number of the caller
-abbrev pub getpid : Xinu → Handled
-getpid s = returns (begun s) (pos s.tables.current)
-
--- the death of the caller
-abbrev pub exit : Xinu → Handled
-exit s = record { doing = killed s.tables.current (begun s); answer = Gone }
-
--- a call: its number, and what it does
+-- A call: its number, and what it does with its arguments, which go by their place from 0 on.
 pub record CallEffect : Type 0 where
   pub number : ℕ
-  pub effect : Xinu → Handled
+  pub effect : (ℕ → ℕ) → Xinu → Handled
+
+abbrev pub row : ℕ → ((ℕ → ℕ) → Xinu → Handled) → CallEffect
+row number effect = record { number = number; effect = effect }
+
+-- a priority: the low 16 bits of a word, with their sign
+abbrev pub half : ℕ → ℤ
+half n = cast_signed w16 (n % 65536)
 
 -- the table of calls
-abbrev pub effects : List CallEffect
-effects = (record { number = 1; effect = getpid }) ∷ (record { number = 9; effect = exit }) ∷ []
+unfoldable pub effects : List CallEffect
+effects =
+    row 1 (λ a s. getpid s) ∷
+    row 2 (λ a s. create (a 0) (a 1) (half (a 2)) (a 3) (a 4) (a 5) s) ∷
+    row 3 (λ a s. resume (a 0) s) ∷
+    row 4 (λ a s. suspend (a 0) s) ∷
+    row 5 (λ a s. kill (a 0) s) ∷
+    row 6 (λ a s. gives_way s) ∷
+    row 7 (λ a s. chprio (a 0) (half (a 1)) s) ∷
+    row 8 (λ a s. getprio (a 0) s) ∷
+    row 9 (λ a s. exit s) ∷
+    row 10 (λ a s. getmem (a 0) s) ∷
+    row 11 (λ a s. freemem (a 0) (a 1) s) ∷
+    row 12 (λ a s. getstk (a 0) s) ∷
+    row 13 (λ a s. freestk (a 0) (a 1) s) ∷
+    row 14 (λ a s. semcreate (signed (a 0)) s) ∷
+    row 15 (λ a s. semdelete (a 0) s) ∷
+    row 16 (λ a s. semreset (a 0) (signed (a 1)) s) ∷
+    row 17 (λ a s. semcount (a 0) s) ∷
+    row 18 (λ a s. wait (a 0) s) ∷
+    row 19 (λ a s. signal (a 0) s) ∷
+    row 20 (λ a s. signaln (a 0) (signed (a 1)) s) ∷
+    row 21 (λ a s. send (a 0) (a 1) s) ∷
+    row 22 (λ a s. receive s) ∷
+    row 23 (λ a s. recvclr s) ∷
+    row 24 (λ a s. recvtime (signed (a 0)) s) ∷
+    row 25 (λ a s. sleep (signed (a 0)) s) ∷
+    row 26 (λ a s. sleepms (signed (a 0)) s) ∷
+    row 27 (λ a s. clktime s) ∷
+    row 28 (λ a s. mkbufpool (a 0) (a 1) s) ∷
+    row 29 (λ a s. getbuf (a 0) s) ∷
+    row 30 (λ a s. freebuf (a 0) s) ∷
+    row 31 (λ a s. ptcreate (signed (a 0)) s) ∷
+    row 32 (λ a s. ptdelete (a 0) (a 1) s) ∷
+    row 33 (λ a s. ptreset (a 0) (a 1) s) ∷
+    row 34 (λ a s. ptsend (a 0) (a 1) s) ∷
+    row 35 (λ a s. ptrecv (a 0) s) ∷
+    []
 
 -- what the call of this number does; a number without a call is refused
-abbrev pub effect_in : List CallEffect → ℕ → Xinu → Handled
-effect_in [] number s = refused s
-effect_in (call ∷ calls) number s = if number == call.number then call.effect s else effect_in calls number s
+abbrev pub effect_in : List CallEffect → ℕ → (ℕ → ℕ) → Xinu → Handled
+effect_in [] number a s = refused s
+effect_in (call ∷ calls) number a s =
+    if number == call.number then call.effect a s else effect_in calls number a s
 
-abbrev pub called : ℕ → Xinu → Handled
-called number s = if is_built number then effect_in effects number s else refused s
+-- what a call does with its arguments; a number whose call isn't built is refused
+abbrev pub called : ℕ → List ℕ → Xinu → Handled
+called number args s =
+    if is_built number then effect_in effects number (slice_index args) s else refused s
+
+-- What the first step of a process does that waited, once it is current again, by what is left of its call.
+abbrev pub continued : Rest → Xinu → Handled
+continued rest.Receive s = go_on_receive s
+continued rest.Timed s = go_on_receive s
+continued rest.SelfSuspend s = go_on_suspend s
+continued (rest.GetBuf i) s = go_on_getbuf i s
+continued (rest.PtSend ticket message) s = go_on_ptsend ticket message s
+continued (rest.PtRecv ticket) s = go_on_ptrecv ticket s
+continued _ s = record { doing = begun s; answer = Silent }

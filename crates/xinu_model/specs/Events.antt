@@ -1,16 +1,22 @@
--- The events: what each may print, and which state it may leave.
-use Rattle.std.specs.Prelude.{◌≡◌, ℕ, ◌==◌, Bool, false, if◌then◌else◌, List, [], ◌∷◌, drop, take, slice_index, slice_set}
+-- The events: what each may print, and which state it may leave. Interrupts come between instructions (book, chapter 12).
+use Rattle.std.specs.Prelude.{◌≡◌, ℕ, ◌==◌, Bool, true, false, if◌then◌else◌, List, [], ◌∷◌, drop, take, slice_index, slice_set}
 use Rattle.xinu_base.specs.declared.calls.Call.{Call}
 use Rattle.xinu_base.specs.declared.events.Event.{Event}
-use Rattle.xinu_base.specs.declared.events.Event.TheVariants.{Step}
+use Rattle.xinu_base.specs.declared.events.Event.TheVariants.{Step, Tick, Dump}
 use Rattle.xinu_base.specs.declared.lines.TranscriptLine.{TranscriptLine}
 use Rattle.xinu_base.specs.declared.lines.TranscriptLine.TheVariants as line
+use Rattle.xinu_base.specs.declared.processes.Rest.{Rest}
+use Rattle.xinu_base.specs.declared.processes.Rest.TheVariants.{Nothing}
 use Rattle.xinu_base.specs.declared.registers.Hart.{Hart}
 use Rattle.xinu_base.specs.declared.registers.Outcome.{Outcome}
 use Rattle.xinu_base.specs.declared.registers.Outcome.TheVariants as outcome
-use Rattle.xinu_model.specs.Calls.{called, exit}
+use Rattle.xinu_model.specs.Calls.{called, continued}
+use Rattle.xinu_model.specs.ClockCalls.{ticked}
 use Rattle.xinu_model.specs.Exec.{Executed, exec}
-use Rattle.xinu_model.specs.Machine.{Xinu, current_hart, Effect, finished}
+use Rattle.xinu_model.specs.Machine.{Xinu, current_hart, Effect, nothing_happens, finished}
+use Rattle.xinu_model.specs.ProcessCalls.{exit}
+use Rattle.xinu_model.specs.Tables.{process_at}
+use Rattle.xinu_model.specs.Text.{tables_of}
 
 -- the call that a process's registers ask for
 abbrev pub call_of : Hart → Call
@@ -31,23 +37,37 @@ with_executed did s =
 
 -- what comes of an instruction, in the state that it left
 abbrev pub reacted : Outcome → Xinu → Effect
-reacted outcome.Went s = record { lines = []; state = s }
+reacted outcome.Went s = nothing_happens s
 reacted outcome.Call s =
-    let call = call_of (current_hart s) in finished s.tables.current (call_line s call ∷ []) (called call.number s)
+    let call = call_of (current_hart s) in finished s.tables.current (call_line s call ∷ []) (called call.number call.args s)
 reacted outcome.Exit s = finished s.tables.current (call_line s (exit_call (current_hart s)) ∷ []) (exit s)
 reacted (outcome.Trap cause) s = finished s.tables.current (line.Trap s.tables.current cause ∷ []) (exit s)
 
--- a machine step: nothing where the null process is current
+-- one instruction of the current process
+abbrev pub obeyed : Xinu → Effect
+obeyed s = let did = exec (current_hart s) s.memory in reacted did.outcome (with_executed did s)
+
+-- whether nothing is left of a call
+abbrev pub is_done : Rest → Bool
+is_done Nothing = true
+is_done _ = false
+
+-- A machine step: nothing where the null process is current; else what is left of the call that the current process waits in; else
+-- an instruction.
 abbrev pub stepped : Xinu → Effect
 stepped s =
-    if s.tables.current == 0 then (record { lines = []; state = s })
-    else (let did = exec (current_hart s) s.memory in reacted did.outcome (with_executed did s))
+    let rest = (process_at s.tables s.tables.current).rest in
+    if s.tables.current == 0 then nothing_happens s
+    else (if is_done rest then obeyed s
+    else finished s.tables.current [] (continued rest s))
 
 -- What an event prints and leaves, where this many file calls take effect in it. An event that the machine doesn't
 -- have yet does nothing.
 abbrev pub effect_of : Xinu → Event → ℕ → Effect
 effect_of s Step choice = stepped s
-effect_of s _ choice = record { lines = []; state = s }
+effect_of s Tick choice = ticked s
+effect_of s Dump choice = record { lines = tables_of s; state = s; panics = false }
+effect_of s _ choice = nothing_happens s
 
 -- whether something is chosen in an event
 abbrev pub chooses : Xinu → Event → Bool
@@ -57,8 +77,12 @@ chooses s e = false
 abbrev pub MayChoose : Xinu → Event → ℕ → Type 0
 MayChoose s e choice = choice ≡ 0
 
+-- whether the kernel panics in an event
+abbrev pub panics_in : Xinu → Event → Bool
+panics_in s e = (effect_of s e 0).panics
+
 -- From old, the event may print these lines and go on to new.
 pub record Happens (old : Xinu) (e : Event) (lines : List TranscriptLine) (new : Xinu) : Type 0 where
   pub choice : ℕ
   pub allowed : MayChoose old e choice
-  pub effect : effect_of old e choice ≡ record { lines = lines; state = new }
+  pub effect : effect_of old e choice ≡ record { lines = lines; state = new; panics = panics_in old e }

@@ -1,4 +1,4 @@
--- One step of a process.
+-- One step of a process (RISC-V unprivileged manual, chapter "RV32I Base Integer Instruction Set").
 use Rattle.std.specs.Prelude.{ℕ, ◌==◌, if◌then◌else◌, List, Option, None, Some}
 use Rattle.xinu_base.specs.declared.Hart.{Hart}
 use Rattle.xinu_base.specs.declared.Outcome.TheVariants.{Exit, Trap}

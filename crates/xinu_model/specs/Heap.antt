@@ -1,5 +1,5 @@
 -- The heap and the stacks: cells of eight bytes, each free or taken (book, chapter 9).
-use Rattle.std.specs.Prelude.{ℕ, zero, suc, ◌+◌, ◌-◌, ◌*◌, ◌/◌, ◌%◌, ◌==◌, nat_lt, Bool, true, false, not, if◌then◌else◌, ◌&&◌, ◌||◌, List, [], ◌∷◌, ◌++◌, replicate, take, drop, Option, Some, None}
+use Rattle.std.specs.Prelude.{ℕ, zero, suc, ◌+◌, ◌-◌, ◌*◌, ◌/◌, ◌%◌, ◌==◌, nat_lt, Bool, true, false, not, if◌then◌else◌, ◌&&◌, ◌||◌, List, [], ◌∷◌, ◌++◌, replicate, take, drop, Option, Some, None, option_map}
 
 -- Cell i holds the eight bytes from low + 8 * i on; true says that it is free.
 pub record Heap : Type 0 where
@@ -27,9 +27,29 @@ abbrev pub highest_free : ℕ → List Bool → Option ℕ
 highest_free k [] = None
 highest_free k (c ∷ cells) = or_here k (c ∷ cells) (highest_free k cells)
 
+-- the least start of k free cells in a row
+abbrev pub lowest_free : ℕ → List Bool → Option ℕ
+lowest_free k [] = None
+lowest_free k (c ∷ cells) = if begins_with true k (c ∷ cells) then Some 0 else option_map suc (lowest_free k cells)
+
 -- the k cells from start on are of this kind now
 abbrev pub marked : Bool → ℕ → ℕ → List Bool → List Bool
 marked kind start k cells = take start cells ++ replicate k kind ++ drop (start + k) cells
+
+-- memory that was granted: its lowest address, and the heap without it
+pub record Grant : Type 0 where
+  pub address : ℕ
+  pub heap : Heap
+
+-- the k cells from start on, granted
+abbrev pub grant_at : Heap → ℕ → Option ℕ → Option Grant
+grant_at h k None = None
+grant_at h k (Some start) =
+    Some (record { address = h.low + 8 * start; heap = record h { cells = marked false start k h.cells } })
+
+-- n bytes, from the lowest cells that are free
+abbrev pub getmem : ℕ → Heap → Option Grant
+getmem n h = if n == 0 then None else grant_at h (cells_for n) (lowest_free (cells_for n) h.cells)
 
 -- a stack: the address of its highest word, and the heap without it
 pub record Stack : Type 0 where

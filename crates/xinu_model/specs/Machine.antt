@@ -1,19 +1,28 @@
--- The whole state of the machine, and what is under way inside an event.
-use Rattle.std.specs.Prelude.{ℕ, ◌==◌, Bool, true, false, if◌then◌else◌, ◌||◌, List, [], ◌∷◌, ◌++◌, map, replicate, slice_index_or, slice_set, ℤ, negsuc}
+-- The whole state of the machine, and what is under way inside an event (book, chapters 5, 6 and 12: rescheduling is deferred to its end).
+use Rattle.std.specs.Prelude.{ℕ, ◌==◌, Bool, true, false, if◌then◌else◌, ◌||◌, List, [], ◌∷◌, ◌++◌, map, replicate, slice_index_or, slice_set, Option, ℤ, pos, negsuc}
+use Rattle.xinu_base.specs.declared.processes.Rest.{Rest}
+use Rattle.xinu_base.specs.declared.processes.Rest.TheVariants.{Nothing}
+use Rattle.xinu_base.specs.declared.processes.State.{State}
 use Rattle.xinu_base.specs.declared.registers.Hart.{Hart}
 use Rattle.xinu_base.specs.declared.lines.TranscriptLine.{TranscriptLine}
 use Rattle.xinu_base.specs.declared.lines.TranscriptLine.TheVariants.{Return, Run}
 use Rattle.xinu_model.specs.Heap.{Heap}
-use Rattle.xinu_model.specs.Moves.{resched}
-use Rattle.xinu_model.specs.Tables.{Tables}
+use Rattle.xinu_model.specs.Moves.{resched, wake}
+use Rattle.xinu_model.specs.Pools.{Pool}
+use Rattle.xinu_model.specs.Ports.{Port}
+use Rattle.xinu_model.specs.Tables.{Tables, process_at, message_at, Place, Nowhere, put}
 use Rattle.xinu_model.specs.Words.{word}
 
--- The tables, the registers of each process by number, RAM and the heap.
+-- The tables, the registers of each process by number, RAM, the heap, the pools in the order in which they were made, the
+-- ports by number, and the port at which the next search begins.
 pub record Xinu : Type 0 where
   pub tables : Tables
   pub harts : List Hart
   pub memory : List ℕ
   pub heap : Heap
+  pub pools : List Pool
+  pub ports : List Port
+  pub next_port : ℕ
 
 -- the registers at a free number
 abbrev pub no_hart : Hart
@@ -23,10 +32,13 @@ no_hart = record { regs = replicate 32 0; pc = 0 }
 abbrev pub current_hart : Xinu → Hart
 current_hart s = slice_index_or s.harts s.tables.current no_hart
 
--- how a call goes: its caller gets a reply, or is gone
+-- How a call goes: its caller gets a reply, waits, or is gone; or the kernel panics. Where there was no call nothing is answered.
 pub data Answer : Type 0 where
   Returns : (value : ℤ) → Answer
+  Waits : Answer
   Gone : Answer
+  Panics : Answer
+  Silent : Answer
 
 -- The state inside an event, the replies to released processes so far, and whether a resched is owed.
 pub record Doing : Type 0 where
@@ -47,6 +59,25 @@ begun s = record { state = s; released = []; owes_resched = false }
 abbrev pub with_tables : Tables → Doing → Doing
 with_tables t d = record d { state = record d.state { tables = t } }
 
+-- p becomes ready, and a resched is owed
+abbrev pub awaken : ℕ → Doing → Doing
+awaken p d = record (with_tables (wake p d.state.tables) d) { owes_resched = true }
+
+-- A process of which nothing is left of its call is answered when it is released. The others go on by themselves.
+abbrev pub reply_at_release : ℕ → Rest → List (ℕ × ℤ)
+reply_at_release p Nothing = (p, pos 0) ∷ []
+reply_at_release p _ = []
+
+-- p, which waited or slept, becomes ready
+abbrev pub release : ℕ → Doing → Doing
+release p d =
+    record (awaken p d) { released = d.released ++ reply_at_release p (process_at d.state.tables p).rest }
+
+-- these processes become ready, one after another
+abbrev pub release_all : List ℕ → Doing → Doing
+release_all [] d = d
+release_all (p ∷ ps) d = release_all ps (release p d)
+
 -- the caller gets a reply
 abbrev pub returns : Doing → ℤ → Handled
 returns d value = record { doing = d; answer = Returns value }
@@ -55,15 +86,34 @@ returns d value = record { doing = d; answer = Returns value }
 abbrev pub refused : Xinu → Handled
 refused s = returns (begun s) (negsuc 0)
 
--- whether the caller is gone
-abbrev pub is_gone : Answer → Bool
-is_gone (Returns value) = false
-is_gone Gone = true
+-- the caller goes to a place in another state, with this left of its call
+abbrev pub blocked : State → Rest → Place → Xinu → Handled
+blocked state rest place s =
+    let t = s.tables in
+    let x = process_at t t.current in
+    record {
+      doing = with_tables (put t.current (record x { state = state; rest = rest }) (message_at t t.current) place t) (begun s);
+      answer = Waits;
+    }
 
--- the one resched of an event, where one is owed or the caller is gone
+-- the caller goes on with this message in its slot, and nothing is left of its call
+abbrev pub goes_on : Option ℕ → Xinu → Xinu
+goes_on message s =
+    let t = s.tables in
+    record s { tables = put t.current (record (process_at t t.current) { rest = Nothing }) message Nowhere t }
+
+-- whether the caller runs no longer
+abbrev pub is_off : Answer → Bool
+is_off Waits = true
+is_off Gone = true
+is_off (Returns value) = false
+is_off Panics = false
+is_off Silent = false
+
+-- the one resched of an event, where one is owed or the caller runs no longer
 abbrev pub closed : Handled → Tables
 closed handled =
-    if handled.doing.owes_resched || is_gone handled.answer then resched handled.doing.state.tables else handled.doing.state.tables
+    if handled.doing.owes_resched || is_off handled.answer then resched handled.doing.state.tables else handled.doing.state.tables
 
 -- a reply in register a0 of a process
 abbrev pub with_reply : List Hart → ℕ × ℤ → List Hart
@@ -79,7 +129,10 @@ with_replies (reply ∷ replies) harts = with_replies replies (with_reply harts 
 -- the replies of released processes, and then the caller's
 abbrev pub and_callers : Answer → ℕ → List (ℕ × ℤ) → List (ℕ × ℤ)
 and_callers (Returns value) caller replies = replies ++ (caller, value) ∷ []
+and_callers Waits caller replies = replies
 and_callers Gone caller replies = replies
+and_callers Panics caller replies = replies
+and_callers Silent caller replies = replies
 
 abbrev pub replies_of : Handled → List (ℕ × ℤ)
 replies_of handled = and_callers handled.answer handled.doing.state.tables.current handled.doing.released
@@ -92,16 +145,33 @@ return_line reply = Return reply.0 reply.1
 abbrev pub switched : ℕ → ℕ → List TranscriptLine
 switched was is = if was == is then [] else Run is ∷ []
 
--- what an event prints, and the state after it
+-- what an event prints, the state after it, and whether the kernel panicked
 pub record Effect : Type 0 where
   pub lines : List TranscriptLine
   pub state : Xinu
+  pub panics : Bool
+
+-- an event that changes and prints nothing
+abbrev pub nothing_happens : Xinu → Effect
+nothing_happens s = record { lines = []; state = s; panics = false }
+
+-- whether an answer is a panic
+abbrev pub is_panic : Answer → Bool
+is_panic Panics = true
+is_panic (Returns value) = false
+is_panic Waits = false
+is_panic Gone = false
+is_panic Silent = false
+
+-- What is printed of replies and a switch behind the lines that stand first, and the state with these replies and tables.
+abbrev pub settled : ℕ → List TranscriptLine → List (ℕ × ℤ) → Tables → Xinu → Bool → Effect
+settled was first replies tables s panics = record {
+  lines = first ++ map return_line replies ++ switched was tables.current;
+  state = record s { tables = tables; harts = with_replies replies s.harts };
+  panics = panics;
+}
 
 -- The end of an event: the resched, the replies and the line of the switch, behind the lines that stand first.
 abbrev pub finished : ℕ → List TranscriptLine → Handled → Effect
 finished was first handled =
-    let tables = closed handled in
-    record {
-      lines = first ++ map return_line (replies_of handled) ++ switched was tables.current;
-      state = record handled.doing.state { tables = tables; harts = with_replies (replies_of handled) handled.doing.state.harts };
-    }
+    settled was first (replies_of handled) (closed handled) handled.doing.state (is_panic handled.answer)

@@ -1,5 +1,5 @@
--- RAM as a list of bytes: ranges, and numbers in it, the lowest byte first.
-use Rattle.std.specs.Prelude.{ℕ, ◌+◌, ◌*◌, ◌%◌, ◌==◌, nat_le, Bool, ◌&&◌, zero, suc, List, ◌++◌, replicate, take, drop, slice_index}
+-- RAM as a list of bytes: ranges, and numbers in it, the lowest byte first (RISC-V unprivileged manual, chapter "Introduction", section "Memory").
+use Rattle.std.specs.Prelude.{ℕ, ◌+◌, ◌*◌, ◌%◌, ◌==◌, nat_le, nat_lt, Bool, ◌&&◌, zero, suc, List, ◌++◌, replicate, take, drop, slice_index}
 use Rattle.std.specs.Int.{bytes_low_first}
 
 -- the number of bytes of RAM
@@ -30,3 +30,7 @@ with_bytes memory address width bytes = take address memory ++ bytes ++ drop (ad
 -- the memory with the lowest bytes of a number from an address on, the lowest first
 abbrev pub with_number : List ℕ → ℕ → ℕ → ℕ → List ℕ
 with_number memory address width n = with_bytes memory address width (bytes_low_first 0 width n)
+
+-- whether two ranges of addresses share one, each by its first address and how many it has
+abbrev pub ranges_meet : ℕ → ℕ → ℕ → ℕ → Bool
+ranges_meet a n b m = (nat_lt 0 n && nat_lt 0 m) && (nat_lt a (b + m) && nat_lt b (a + n))

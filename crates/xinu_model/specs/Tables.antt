@@ -1,10 +1,11 @@
--- The tables of the kernel: processes, messages, the ready list, the clock (book, chapters 4 to 6 and 13).
-use Rattle.std.specs.Prelude.{ℕ, ◌==◌, not, List, filter, replicate, slice_index_or, slice_set, Option, None, ℤ, pos}
-use Rattle.xinu_base.specs.Insert.{ready_insert}
+-- The tables of the kernel: processes, messages, the ready list, semaphores, the sleepers (book, chapters 4 to 8 and 13).
+use Rattle.std.specs.Prelude.{ℕ, ◌==◌, Bool, true, false, not, List, [], ◌∷◌, ◌++◌, filter, map, replicate, slice_index_or, slice_set, Option, None, ℤ, pos}
+use Rattle.xinu_base.specs.Insert.{ready_insert, sleeper_insert}
 use Rattle.xinu_base.specs.declared.processes.Process.{Process}
 use Rattle.xinu_base.specs.declared.processes.State.{State}
 use Rattle.xinu_base.specs.declared.processes.State.TheVariants.{Free}
 use Rattle.xinu_base.specs.declared.processes.Rest.TheVariants.{Nothing}
+use Rattle.xinu_base.specs.declared.semaphores.Owner.{Owner}
 
 -- what stands at a free number
 abbrev pub no_process : Process
@@ -18,14 +19,29 @@ no_process = record {
   rest = Nothing;
 }
 
--- Processes and messages go by process number; ready holds each process with its key.
+-- A semaphore: whose it is, its tokens, and the processes that wait, the first in front.
+pub record Semaphore : Type 0 where
+  pub owner : Option Owner
+  pub tokens : ℕ
+  pub waiters : List ℕ
+
+-- what stands at a free number
+abbrev pub no_semaphore : Semaphore
+no_semaphore = record { owner = None; tokens = 0; waiters = [] }
+
+-- Processes and messages go by process number, semaphores by theirs. Ready holds each process with its key, sleepers each with
+-- the tick at which it wakes. The last numbers given are where the next search begins.
 pub record Tables : Type 0 where
   pub processes : List Process
   pub messages : List (Option ℕ)
   pub current : ℕ
   pub quantum : ℕ
   pub ready : List (ℕ × ℤ)
+  pub semaphores : List Semaphore
+  pub sleepers : List (ℕ × ℕ)
   pub ticks : ℕ
+  pub last_process : ℕ
+  pub last_semaphore : ℕ
 
 -- the entry of process p
 abbrev pub process_at : Tables → ℕ → Process
@@ -39,19 +55,62 @@ state_at t p = (slice_index_or t.processes p no_process).state
 abbrev pub message_at : Tables → ℕ → Option ℕ
 message_at t p = slice_index_or t.messages p None
 
+-- semaphore s
+abbrev pub semaphore_at : Tables → ℕ → Semaphore
+semaphore_at t s = slice_index_or t.semaphores s no_semaphore
+
+-- whether a number of this state has no process
+abbrev pub is_free : State → Bool
+is_free Free = true
+is_free _ = false
+
 -- the entries of a list but those of process p
 abbrev pub entries_without : {K : Type 0} → ℕ → List (ℕ × K) → List (ℕ × K)
 entries_without p l = filter (λ e. not (e.0 == p)) l
+
+-- the numbers of a list but p
+abbrev pub numbers_without : ℕ → List ℕ → List ℕ
+numbers_without p l = filter (λ x. not (x == p)) l
+
+-- a semaphore on which p doesn't wait
+abbrev pub semaphore_without : ℕ → Semaphore → Semaphore
+semaphore_without p x = record { owner = x.owner; tokens = x.tokens; waiters = numbers_without p x.waiters }
+
+-- the semaphores, where p waits on none
+abbrev pub waits_without : ℕ → List Semaphore → List Semaphore
+waits_without p l = map (semaphore_without p) l
 
 -- where a process can stand
 pub data Place : Type 0 where
   Nowhere : Place
   InReady : Place
+  InSemaphore : (s : ℕ) → Place
+  InSleepers : (wake : ℕ) → Place
 
 -- the ready list with p, where that is p's place
 abbrev pub ready_in : Place → ℕ → ℤ → List (ℕ × ℤ) → List (ℕ × ℤ)
 ready_in InReady p key l = ready_insert p key l
 ready_in Nowhere p key l = l
+ready_in (InSemaphore s) p key l = l
+ready_in (InSleepers wake) p key l = l
+
+-- a semaphore with p as its last waiter
+abbrev pub with_waiter : ℕ → Semaphore → Semaphore
+with_waiter p x = record { owner = x.owner; tokens = x.tokens; waiters = x.waiters ++ p ∷ [] }
+
+-- the semaphores with p behind the waiters of one of them, where that is p's place
+abbrev pub semaphores_in : Place → ℕ → List Semaphore → List Semaphore
+semaphores_in (InSemaphore s) p l = slice_set l s (with_waiter p (slice_index_or l s no_semaphore))
+semaphores_in Nowhere p l = l
+semaphores_in InReady p l = l
+semaphores_in (InSleepers wake) p l = l
+
+-- the sleepers with p, where that is p's place
+abbrev pub sleepers_in : Place → ℕ → List (ℕ × ℕ) → List (ℕ × ℕ)
+sleepers_in (InSleepers wake) p l = sleeper_insert p wake l
+sleepers_in Nowhere p l = l
+sleepers_in InReady p l = l
+sleepers_in (InSemaphore s) p l = l
 
 -- Process p leaves the list in which it is, becomes x with message m, and goes to a place.
 abbrev pub put : ℕ → Process → Option ℕ → Place → Tables → Tables
@@ -60,4 +119,6 @@ put p x m place t =
       processes = slice_set t.processes p x;
       messages = slice_set t.messages p m;
       ready = ready_in place p x.priority (entries_without p t.ready);
+      semaphores = semaphores_in place p (waits_without p t.semaphores);
+      sleepers = sleepers_in place p (entries_without p t.sleepers);
     }

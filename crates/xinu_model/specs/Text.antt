@@ -1,11 +1,13 @@
 -- The lines of a transcript as bytes, and the tables of a state as lines.
-use Rattle.std.specs.Prelude.{ℕ, zero, suc, ◌+◌, Bool, true, false, if◌then◌else◌, List, [], ◌∷◌, ◌++◌, map, take, Option, Some, None, slice_index_or, codes, ℤ}
+use Rattle.std.specs.Prelude.{ℕ, ◌+◌, nat_lt, ◌||◌, Bool, true, false, if◌then◌else◌, List, [], ◌∷◌, ◌++◌, map, length, take, Option, Some, None, slice_index_or, codes, ℤ}
 use Rattle.std.specs.Fmt.{decimal, signed_decimal}
 use Rattle.xinu_base.specs.Calls.{name_of, args_of, is_built}
 use Rattle.xinu_base.specs.Hexadecimal.{hex_of}
 use Rattle.xinu_base.specs.declared.calls.Call.{Call}
 use Rattle.xinu_base.specs.declared.events.End.{End}
 use Rattle.xinu_base.specs.declared.events.End.TheVariants.{Schedule, Done, Panic}
+use Rattle.xinu_base.specs.declared.lines.FileMoment.{FileMoment}
+use Rattle.xinu_base.specs.declared.lines.FileMoment.TheVariants.{Turn, Finished, Next}
 use Rattle.xinu_base.specs.declared.lines.TranscriptLine.{TranscriptLine}
 use Rattle.xinu_base.specs.declared.lines.TranscriptLine.TheVariants as line
 use Rattle.xinu_base.specs.declared.processes.Process.{Process}
@@ -13,9 +15,13 @@ use Rattle.xinu_base.specs.declared.processes.State.{State}
 use Rattle.xinu_base.specs.declared.processes.State.TheVariants.{Free, Current, Ready, Receiving, Sleeping, Suspended, Waiting, Timed}
 use Rattle.xinu_base.specs.declared.registers.Cause.{Cause}
 use Rattle.xinu_base.specs.declared.registers.Cause.TheVariants.{Fetch, Illegal, Break, Target, Load, Store}
-use Rattle.xinu_model.specs.Calls.{is_free}
 use Rattle.xinu_model.specs.Heap.{free_blocks}
 use Rattle.xinu_model.specs.Machine.{Xinu}
+use Rattle.xinu_model.specs.Pools.{Pool, held_in}
+use Rattle.xinu_model.specs.Ports.{PortQueue, Port}
+use Rattle.xinu_model.specs.ProcessCalls.{before_zero}
+use Rattle.xinu_model.specs.SemaphoreCalls.{count_of, is_images}
+use Rattle.xinu_model.specs.Tables.{Semaphore, is_free}
 use Rattle.xinu_model.specs.Words.{signed}
 
 -- a word behind a line, after a blank unless the line is empty
@@ -31,12 +37,6 @@ with_words line (word ∷ words) = with_words (with_word line word) words
 -- a word of 32 bits as a signed decimal number
 abbrev pub signed_word : ℕ → List ℕ
 signed_word n = signed_decimal (signed n)
-
--- the bytes before the first zero
-abbrev pub before_zero : List ℕ → List ℕ
-before_zero [] = []
-before_zero (zero ∷ bytes) = []
-before_zero (suc b ∷ bytes) = suc b ∷ before_zero bytes
 
 -- a text, or a hyphen for the empty one
 abbrev pub or_hyphen : List ℕ → List ℕ
@@ -78,6 +78,12 @@ end_word Schedule = codes "schedule"
 end_word Done = codes "done"
 end_word Panic = codes "panic"
 
+-- what became of a file call
+abbrev pub moment_word : FileMoment → List ℕ
+moment_word Turn = codes "turn"
+moment_word Finished = codes "done"
+moment_word Next = codes "next"
+
 -- the name of a call and its arguments; of a number without a call the number
 abbrev pub call_words : Call → List (List ℕ)
 call_words call =
@@ -87,6 +93,7 @@ call_words call =
 -- the words of a line
 abbrev pub words_of : TranscriptLine → List (List ℕ)
 words_of (line.Call p call) = codes "call" ∷ decimal p ∷ call_words call
+words_of (line.File p moment) = codes "file" ∷ decimal p ∷ moment_word moment ∷ []
 words_of (line.Trap p cause) = codes "trap" ∷ decimal p ∷ cause_word cause ∷ []
 words_of (line.Return p value) = codes "ret" ∷ decimal p ∷ signed_decimal value ∷ []
 words_of (line.Run p) = codes "run" ∷ decimal p ∷ []
@@ -94,7 +101,14 @@ words_of (line.Now ticks quantum) = codes "now" ∷ decimal ticks ∷ decimal qu
 words_of (line.Process p state priority parent message name) =
     codes "proc" ∷ decimal p ∷ state_word state ∷ signed_decimal priority ∷ decimal parent ∷ message_word message ∷ name_word name ∷ []
 words_of (line.Ready p key) = codes "ready" ∷ decimal p ∷ signed_decimal key ∷ []
+words_of (line.Semaphore s count) = codes "sem" ∷ decimal s ∷ signed_decimal count ∷ []
+words_of (line.Waiter s p) = codes "wait" ∷ decimal s ∷ decimal p ∷ []
+words_of (line.Sleeper p wake) = codes "sleep" ∷ decimal p ∷ decimal wake ∷ []
 words_of (line.Free address bytes) = codes "free" ∷ decimal address ∷ decimal bytes ∷ []
+words_of (line.Pool i size free held) = codes "pool" ∷ decimal i ∷ decimal size ∷ decimal free ∷ decimal held ∷ []
+words_of (line.Buffer i address) = codes "buf" ∷ decimal i ∷ decimal address ∷ []
+words_of (line.Port q seq messages) = codes "port" ∷ decimal q ∷ decimal seq ∷ decimal messages ∷ []
+words_of (line.Node q message) = codes "node" ∷ decimal q ∷ signed_word message ∷ []
 words_of line.Console = codes "console cooked 0 0 0 0 run" ∷ []
 words_of line.Disk0 = codes "disk0 0" ∷ []
 words_of line.Disk1 = codes "disk1 clean" ∷ []
@@ -129,9 +143,47 @@ process_lines p (x ∷ processes) messages =
 abbrev pub ready_line : ℕ × ℤ → TranscriptLine
 ready_line entry = line.Ready entry.0 entry.1
 
+-- whether a semaphore is shown: it is a process's own, or somebody waits on it
+abbrev pub is_shown : Semaphore → Bool
+is_shown x = is_images x.owner || nat_lt 0 (length x.waiters)
+
+-- the lines of a semaphore and its waiters
+abbrev pub semaphore_line : ℕ → Semaphore → List TranscriptLine
+semaphore_line s x =
+    if is_shown x then line.Semaphore s (count_of x) ∷ map (line.Waiter s) x.waiters else []
+
+-- the lines of the semaphores from number s on
+abbrev pub semaphore_lines : ℕ → List Semaphore → List TranscriptLine
+semaphore_lines s [] = []
+semaphore_lines s (x ∷ semaphores) = semaphore_line s x ++ semaphore_lines (s + 1) semaphores
+
+-- the line of a sleeper
+abbrev pub sleeper_line : ℕ × ℕ → TranscriptLine
+sleeper_line entry = line.Sleeper entry.0 entry.1
+
 -- the line of a free block of the heap
 abbrev pub free_line : ℕ × ℕ → TranscriptLine
 free_line block = line.Free block.0 block.1
+
+-- the lines of a pool and its free buffers
+abbrev pub pool_line : ℕ → Pool → List TranscriptLine
+pool_line i pool =
+    line.Pool i pool.size (length pool.free) (held_in pool) ∷ map (line.Buffer i) pool.free
+
+-- the lines of the pools from number i on
+abbrev pub pool_lines : ℕ → List Pool → List TranscriptLine
+pool_lines i [] = []
+pool_lines i (pool ∷ pools) = pool_line i pool ++ pool_lines (i + 1) pools
+
+-- the lines of a port in use and its messages
+abbrev pub port_line : ℕ → ℕ → Option PortQueue → List TranscriptLine
+port_line q seq None = []
+port_line q seq (Some queue) = line.Port q seq (length queue.messages) ∷ map (line.Node q) queue.messages
+
+-- the lines of the ports from number q on
+abbrev pub port_lines : ℕ → List Port → List TranscriptLine
+port_lines q [] = []
+port_lines q (port ∷ ports) = port_line q port.seq port.queue ++ port_lines (q + 1) ports
 
 -- the tables of a state
 abbrev pub tables_of : Xinu → List TranscriptLine
@@ -139,5 +191,9 @@ tables_of s =
     line.Now s.tables.ticks s.tables.quantum
     ∷ process_lines 0 s.tables.processes s.tables.messages
     ++ map ready_line s.tables.ready
+    ++ semaphore_lines 0 s.tables.semaphores
+    ++ map sleeper_line s.tables.sleepers
     ++ map free_line (free_blocks s.heap)
+    ++ pool_lines 0 s.pools
+    ++ port_lines 0 s.ports
     ++ line.Console ∷ line.Disk0 ∷ line.Disk1 ∷ []

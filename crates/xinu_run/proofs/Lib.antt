@@ -1,7 +1,6 @@
-pub mod Bytes
-pub mod Cuts
-pub mod Digits
+pub mod Reasons
+pub mod Inputs
 pub mod Files
 pub mod Printed
 pub mod SoFar
-pub mod Lines
+pub mod OneImage

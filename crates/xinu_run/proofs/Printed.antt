@@ -1,5 +1,5 @@
 -- A whole run, printed part by part.
-use Rattle.std.proofs.Common.{◌≡◌, false, List, [], ◌∷◌, ◌++◌, take, Some, None, refl, subst}
+use Rattle.std.proofs.Common.{◌≡◌, false, List, [], ◌∷◌, ◌++◌, take, None, refl, subst}
 use Rattle.host_port.specs.declared.host.Channel.TheVariants.{Out}
 use Rattle.host_port.specs.Outside.{Outside, appended, counted}
 use Rattle.host_port.specs.Printing.{Printing, Prints}
@@ -8,7 +8,7 @@ use Rattle.xinu_base.specs.declared.events.Event.{Event}
 use Rattle.xinu_base.specs.declared.events.End.{End}
 use Rattle.xinu_base.specs.declared.lines.TranscriptLine.{TranscriptLine}
 use Rattle.xinu_base.specs.declared.lines.TranscriptLine.TheVariants as line
-use Rattle.xinu_model.specs.Boot.{Loaded, boot}
+use Rattle.xinu_model.specs.Boot.{Loaded, Boots, boot}
 use Rattle.xinu_model.specs.Machine.{Xinu}
 use Rattle.xinu_model.specs.Runs.{IsTranscript}
 use Rattle.xinu_model.specs.Text.{shown, tables_of}
@@ -17,11 +17,11 @@ use Rattle.xinu_run.specs.Transcripts.{RunPrints, RanImage, RunsImage}
 -- The transcript of a run was printed.
 pub record Printed (image : Loaded) (events : List Event) (last : Xinu) (before after : Printing) (was is : Outside) : Type 0 where
   pub lines : List TranscriptLine
-  pub runs : IsTranscript image events last lines
+  pub runs : IsTranscript (image ∷ []) events last lines
   pub prints : Prints before after was is (shown before.plain lines)
 
 -- The line of the first process, the lines of the events, the tables and the last line are a transcript.
-pub all_printed : (image : Loaded) (events : List Event) (start last : Xinu) (end : End) (a b c d e : Printing) (h i j k l : Outside) → boot image ≡ Some start → Prints a b h i (shown a.plain (line.Run start.tables.current ∷ [])) → RunPrints start events last end b c i j → Prints c d j k (shown c.plain (tables_of last)) → Prints d e k l (shown d.plain (line.End end ∷ [])) → Printed image events last a e h l
+pub all_printed : (image : Loaded) (events : List Event) (start last : Xinu) (end : End) (a b c d e : Printing) (h i j k l : Outside) → boot (image ∷ []) ≡ Boots start → Prints a b h i (shown a.plain (line.Run start.tables.current ∷ [])) → RunPrints start events last end b c i j → Prints c d j k (shown c.plain (tables_of last)) → Prints d e k l (shown d.plain (line.End end ∷ [])) → Printed image events last a e h l
 all_printed image events start last end a b c d e h i j k l boots first run tables ends = record {
   lines = line.Run start.tables.current ∷ run.lines ++ tables_of last ++ line.End end ∷ [];
   runs = record { start = start; boots = boots; lines = run.lines; end = end; runs = run.runs; whole = refl };

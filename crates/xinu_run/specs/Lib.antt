@@ -1,5 +1,6 @@
+pub mod Causes
 pub mod Commanded
-pub mod Headers
-pub mod HostRefusals
+pub mod Conversions
+pub mod Inputs
 pub mod Refusals
 pub mod Transcripts

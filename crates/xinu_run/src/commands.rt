@@ -1,72 +1,84 @@
 //! A command carried out: its files are fetched and read, and the image runs.
 
-ghost use Rattle.std.specs.Prelude.{◌≡◌, ◌≢◌, ◌≤◌, ◌∷◌, [], Some, None, IfOk, IsSome, OnOk, IsErrOf, length};
+ghost use Rattle.std.specs.Prelude.{◌≡◌, ◌≤◌, ◌∷◌, [], Some, None, map, IfOk, IfErr, OnOk, length};
+ghost use Rattle.std.specs.String.{string_bytes};
+ghost use Rattle.command_words.specs.Commands.{command_of};
 ghost use Rattle.host_port.specs.HostCalls.{Rose};
 ghost use Rattle.host_port.specs.Outside.{fetching, grown};
-ghost use Rattle.xinu_model.specs.ScheduleFiles.{events_in};
-ghost use Rattle.xinu_run.specs.Commanded.{WhereTold, starts_with, AsksSome, FilesRun, GrowsOut, HasLines, KeepsButOut, KeepsSent, RefusesImage, RunsFiles, WritesImage};
-ghost use Rattle.xinu_run.specs.declared.refusals.Refusal.TheVariants as refusal;
+ghost use Rattle.xinu_run.specs.Causes.{IsCause, IsImageCause, IsScheduleCause, LeavesOut, OfImage, OfSchedule};
+ghost use Rattle.xinu_run.specs.Commanded.{AsksSome, CommandRun, FilesRun, GrowsOut, HasLines, IsRun, KeepsButOut, KeepsSent, RunsFiles, WhereTold, WritesImage, names_of};
+ghost use Rattle.xinu_run.specs.Inputs.{CanStart, ReadsAs, schedule_fault};
 
-use crate::image_files::read_image;
 use crate::refusals::Refusal;
 use crate::runs::run_image;
-use crate::schedules::Schedule;
-use crate::words::Command;
+use crate::words::{Run, run_of};
 use host_port::Host;
-use machine::{Machine, has_room};
+use image_loader::read_image;
+use machine::Machine;
+use schedule_file::Schedule;
 use std::alloc::Global;
 
-/// The most bytes of a schedule file.
+/// The most bytes of a schedule file: 4 MiB.
 const LONGEST_SCHEDULE: usize = 4_194_304;
-/// The most bytes of an image file: a header and all of RAM.
-const LONGEST_IMAGE: usize = 1_048_604;
+/// The most bytes of an image file: 1 MiB.
+const LONGEST_IMAGE: usize = 1_048_576;
 
-/// Runs the image in a file through the events of the schedule in another, and answers the machine as the run left it.
-///
-/// `Schedule` comes exactly where the schedule file doesn't read, and `Image` where it reads and the machine doesn't start with the
-/// image file, either unless the host failed or wanted memory.
-pub(crate) fn run_files<H: Host>(
+/// Carries out the command that the words give, and answers the machine as the run left it.
+pub(crate) fn carry_out<H: Host>(
     alloc: Global,
-    command: Command<'_>,
+    words: &[String],
     host: &mut H,
 ) -> Result<Machine, Refusal>
-    ensures ok { IfOk result (λ m. RunsFiles command.entry.schedule.now command.entry.image.now m.state (H.view host.old) (H.view host.new)) }
-    ensures schedule { IsErrOf result Refusal.Schedule → WhereTold ((H.view host.old).file command.entry.schedule.now) (λ s. events_in s ≡ None) }
-    ensures image { IsErrOf result Refusal.Image → RefusesImage command.entry.schedule.now command.entry.image.now (H.view host.old) }
-    ensures reads { OnOk result (WhereTold ((H.view host.old).file command.entry.schedule.now) (λ s. IsSome (events_in s))) }
-    ensures starts { OnOk result (WhereTold ((H.view host.old).file command.entry.image.now) (λ i. IsSome (starts_with i))) }
-    ensures schedule_out { IsErrOf result Refusal.Schedule → (H.view host.new).out ≡ (H.view host.old).out }
-    ensures image_out { IsErrOf result Refusal.Image → (H.view host.new).out ≡ (H.view host.old).out }
-    ensures part { GrowsOut (FilesRun command.entry.schedule.now command.entry.image.now (H.view host.old)) (H.view host.old) (H.view host.new) }
-    ensures not_usage { IsErrOf result Refusal.Usage → ⊥ }
-    ensures failed { IsErrOf result Refusal.HostFault → Rose (H.view host.old).faults (H.view host.new).faults }
+    ensures run { IfOk result (λ m. IsRun (command_of (map string_bytes words.now)) (H.view host.old) (H.view host.new) (Some m)) }
+    ensures refused { IfErr result (λ r. IsCause r (command_of (map string_bytes words.now)) (H.view host.old) (H.view host.new)) }
+    ensures reads { OnOk result (OfSchedule (command_of (map string_bytes words.now)) (H.view host.old) (λ s. schedule_fault s ≡ None)) }
+    ensures starts { OnOk result (OfImage (command_of (map string_bytes words.now)) (H.view host.old) CanStart) }
+    ensures out { IfErr result (λ r. LeavesOut r (H.view host.old) (H.view host.new)) }
+    ensures part { GrowsOut (CommandRun (command_of (map string_bytes words.now)) (H.view host.old)) (H.view host.old) (H.view host.new) }
     ensures later { (H.view host.old).faults ≤ (H.view host.new).faults }
     ensures keeps { KeepsButOut (record (H.view host.old) { asked = (H.view host.new).asked }) (H.view host.new) }
-    ensures asks { AsksSome (H.view host.old) (H.view host.new) (fetching command.entry.schedule.now ∷ fetching command.entry.image.now ∷ []) }
-    ensures asked { OnOk result ((H.view host.new).asked ≡ grown (H.view host.old).asked (fetching command.entry.schedule.now ∷ fetching command.entry.image.now ∷ [])) }
+    ensures asks { AsksSome (H.view host.old) (H.view host.new) (names_of (command_of (map string_bytes words.now))) }
+    ensures asked { OnOk result ((H.view host.new).asked ≡ grown (H.view host.old).asked (names_of (command_of (map string_bytes words.now)))) }
 {
-    let schedule = fetch_schedule(alloc, host, command.schedule)?;
-    let bytes = host.fetch(alloc, command.image, LONGEST_IMAGE)?;
+    let run = run_of(alloc, words)?;
+    run_files(alloc, run, host)
+}
+
+// Runs the image in a file through the events of the schedule in another.
+fn run_files<H: Host>(alloc: Global, run: Run<'_>, host: &mut H) -> Result<Machine, Refusal>
+    ensures ok { IfOk result (λ m. RunsFiles run.entry.schedule.now run.entry.image.now m.state (H.view host.old) (H.view host.new)) }
+    ensures refused { IfErr result (λ r. IsCause r (Some (record { schedule = run.entry.schedule.now; images = run.entry.image.now ∷ [] })) (H.view host.old) (H.view host.new)) }
+    ensures reads { OnOk result (WhereTold ((H.view host.old).file run.entry.schedule.now) (λ s. schedule_fault s ≡ None)) }
+    ensures starts { OnOk result (WhereTold ((H.view host.old).file run.entry.image.now) CanStart) }
+    ensures out { IfErr result (λ r. LeavesOut r (H.view host.old) (H.view host.new)) }
+    ensures part { GrowsOut (FilesRun run.entry.schedule.now run.entry.image.now (H.view host.old)) (H.view host.old) (H.view host.new) }
+    ensures later { (H.view host.old).faults ≤ (H.view host.new).faults }
+    ensures keeps { KeepsButOut (record (H.view host.old) { asked = (H.view host.new).asked }) (H.view host.new) }
+    ensures asks { AsksSome (H.view host.old) (H.view host.new) (fetching run.entry.schedule.now ∷ fetching run.entry.image.now ∷ []) }
+    ensures asked { OnOk result ((H.view host.new).asked ≡ grown (H.view host.old).asked (fetching run.entry.schedule.now ∷ fetching run.entry.image.now ∷ [])) }
+{
+    let schedule = fetch_schedule(alloc, host, run.schedule)?;
+    let bytes = host.fetch(alloc, run.image, LONGEST_IMAGE)?;
     run_bytes(alloc, bytes.as_slice(), schedule, host)
 }
 
 // The schedule in a file.
 fn fetch_schedule<H: Host>(alloc: Global, host: &mut H, name: &str) -> Result<Schedule, Refusal>
-    ensures ok { IfOk result (λ s. WhereTold ((H.view host.old).file name.now) (λ bytes. events_in bytes ≡ Some s)) }
-    ensures few { IfOk result (λ s. length s ≤ 1000000000) }
-    ensures refused { IsErrOf result Refusal.Schedule → WhereTold ((H.view host.old).file name.now) (λ bytes. events_in bytes ≡ None) }
-    ensures not_image { IsErrOf result Refusal.Image → ⊥ }
-    ensures not_usage { IsErrOf result Refusal.Usage → ⊥ }
-    ensures failed { IsErrOf result Refusal.HostFault → Rose (H.view host.old).faults (H.view host.new).faults }
+    ensures ok { IfOk result (λ events. WhereTold ((H.view host.old).file name.now) (λ s. ReadsAs s events)) }
+    ensures few { IfOk result (λ events. length events ≤ 1000000000) }
+    ensures refused { IfErr result (λ r. IsScheduleCause r ((H.view host.old).file name.now) (H.view host.old) (H.view host.new)) }
     ensures later { (H.view host.old).faults ≤ (H.view host.new).faults }
     ensures sent { KeepsSent (H.view host.old) (H.view host.new) }
     ensures asks { AsksSome (H.view host.old) (H.view host.new) (fetching name.now ∷ []) }
     ensures asked { OnOk result ((H.view host.new).asked ≡ grown (H.view host.old).asked (fetching name.now ∷ [])) }
 {
     let text = host.fetch(alloc, name, LONGEST_SCHEDULE)?;
-    match Schedule::read(text.as_slice()) {
-        Some(schedule) => Ok(schedule),
-        None => Err(Refusal::Schedule),
+    if text.len() > LONGEST_SCHEDULE {
+        return Err(Refusal::Schedule(0));
+    }
+    match Schedule::read(alloc, text.as_slice()) {
+        Ok(schedule) => Ok(schedule),
+        Err(fault) => Err(Refusal::from(fault)),
     }
 }
 
@@ -79,22 +91,20 @@ fn run_bytes<H: Host>(
 ) -> Result<Machine, Refusal>
     requires { length schedule ≤ 1000000000 }
     ensures ok { IfOk result (λ m. WritesImage bytes.now schedule m.state (H.view host.old) (H.view host.new)) }
-    ensures refused { IsErrOf result Refusal.Image → starts_with bytes.now ≡ None }
-    ensures starts { OnOk result (IsSome (starts_with bytes.now)) }
-    ensures kept { IsErrOf result Refusal.Image → (H.view host.new).out ≡ (H.view host.old).out }
+    ensures refused { IfErr result (λ r. IsImageCause r bytes.now (H.view host.old) (H.view host.new)) }
+    ensures out { IfErr result (λ r. LeavesOut r (H.view host.old) (H.view host.new)) }
     ensures part { GrowsOut (HasLines bytes.now schedule) (H.view host.old) (H.view host.new) }
-    ensures not_schedule { IsErrOf result Refusal.Schedule → ⊥ }
-    ensures not_usage { IsErrOf result Refusal.Usage → ⊥ }
-    ensures failed { IsErrOf result Refusal.HostFault → Rose (H.view host.old).faults (H.view host.new).faults }
     ensures later { (H.view host.old).faults ≤ (H.view host.new).faults }
     ensures keeps { KeepsButOut (H.view host.old) (H.view host.new) }
 {
-    let Some(image) = read_image(bytes) else {
-        return Err(Refusal::Image);
-    };
-    if !has_room(&image) {
-        return Err(Refusal::Image);
+    if bytes.len() > LONGEST_IMAGE {
+        return Err(Refusal::Image { image: 1, fault: 0 });
     }
-    let machine = run_image(alloc, &image, schedule, host)?;
-    Ok(machine)
+    match read_image(bytes) {
+        Ok(image) => run_image(alloc, &image, schedule, host),
+        Err(fault) => Err(Refusal::Image {
+            image: 1,
+            fault: fault.number(),
+        }),
+    }
 }

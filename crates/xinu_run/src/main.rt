@@ -5,14 +5,12 @@
 #![tactic(auto)]
 
 mod commands;
-mod image_files;
+#[cfg(test)]
+mod failures;
 mod refusals;
 #[cfg(test)]
 mod rows;
 mod runs;
-mod schedules;
-#[cfg(test)]
-mod tests;
 mod top;
 mod words;
 

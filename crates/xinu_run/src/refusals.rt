@@ -3,7 +3,10 @@
 ghost use Rattle.std.specs.Prelude.{◌≡◌};
 ghost use Rattle.xinu_run.specs.Refusals.{Refuses, status_of, text_of};
 
-use host_port::{Channel, Host, HostFault};
+use command_words::WordsFault;
+use host_port::{Channel, Host, HostFault, Line};
+use machine::BootFault;
+use schedule_file::ScheduleFault;
 
 /// Why a command wasn't carried out.
 #[derive(Clone, Copy, Debug, PartialEq, Eq)]
@@ -12,20 +15,36 @@ pub(crate) enum Refusal {
     Usage,
     /// The host failed.
     HostFault,
-    /// The image doesn't load, or the heap has no room for its stack.
-    Image,
-    /// The schedule doesn't read.
-    Schedule,
+    /// The image file with this number, counted from 1, has this fault: 1 to 7 as the reader of images numbers them, or 0 where
+    /// the file is too long.
+    Image { image: u8, fault: u8 },
+    /// The schedule file isn't one at this line, counted from 1, or it is too long where this is 0.
+    Schedule(u32),
+    /// The heap has no room for the stack of the image with this number, counted from 1.
+    NoRoom(u8),
     /// There was no memory.
     NoMemory,
 }
 
-impl From<HostFault> for Refusal {
-    ghost use Rattle.host_port.specs.declared.host.HostFault.TheVariants as fault;
-    ghost use Rattle.xinu_run.specs.HostRefusals.{refusal_of};
+impl From<WordsFault> for Refusal {
     ghost use Rattle.std.specs.Prelude.{◌≡◌};
+    ghost use Rattle.xinu_run.specs.Conversions.{words_refusal};
 
-    ghost from_gives = { λ f r. r ≡ refusal_of f };
+    ghost from_gives = { λ f r. r ≡ words_refusal f };
+
+    fn from(fault: WordsFault) -> Refusal {
+        match fault {
+            WordsFault::NoCommand => Refusal::Usage,
+            WordsFault::NoMemory => Refusal::NoMemory,
+        }
+    }
+}
+
+impl From<HostFault> for Refusal {
+    ghost use Rattle.std.specs.Prelude.{◌≡◌};
+    ghost use Rattle.xinu_run.specs.Conversions.{host_refusal};
+
+    ghost from_gives = { λ f r. r ≡ host_refusal f };
 
     fn from(fault: HostFault) -> Refusal {
         match fault {
@@ -35,11 +54,40 @@ impl From<HostFault> for Refusal {
     }
 }
 
+impl From<ScheduleFault> for Refusal {
+    ghost use Rattle.std.specs.Prelude.{◌≡◌};
+    ghost use Rattle.xinu_run.specs.Conversions.{schedule_refusal};
+
+    ghost from_gives = { λ f r. r ≡ schedule_refusal f };
+
+    fn from(fault: ScheduleFault) -> Refusal {
+        match fault {
+            ScheduleFault::BadLine(line) | ScheduleFault::TooMany(line) => Refusal::Schedule(line),
+            ScheduleFault::NoMemory => Refusal::NoMemory,
+        }
+    }
+}
+
+impl From<BootFault> for Refusal {
+    ghost use Rattle.std.specs.Prelude.{◌≡◌};
+    ghost use Rattle.xinu_run.specs.Conversions.{boot_refusal};
+
+    ghost from_gives = { λ f r. r ≡ boot_refusal f };
+
+    fn from(fault: BootFault) -> Refusal {
+        match fault {
+            BootFault::NoRoom(image) => Refusal::NoRoom(image),
+            BootFault::NoMemory => Refusal::NoMemory,
+        }
+    }
+}
+
 /// Sends the text of a refusal, and answers its status. A failure of the host is ignored here, but for want of memory.
 pub(crate) fn refuse<H: Host>(refusal: Refusal, host: &mut H) -> u8
     ensures { Refuses refusal result (H.view host.old) (H.view host.new) }
 {
-    match host.emit(Channel::Fault, text(refusal)) {
+    let line = line_of(refusal);
+    match host.emit(Channel::Fault, line.bytes()) {
         Err(HostFault::NoMemory) => 7,
         Ok(()) | Err(HostFault::Failed) => status(refusal),
     }
@@ -51,20 +99,37 @@ fn status(refusal: Refusal) -> u8
     match refusal {
         Refusal::Usage => 2,
         Refusal::HostFault => 3,
-        Refusal::Image => 4,
-        Refusal::Schedule => 5,
+        Refusal::Image { .. } => 4,
+        Refusal::Schedule(_) => 5,
         Refusal::NoMemory => 7,
+        Refusal::NoRoom(_) => 8,
     }
 }
 
-fn text(refusal: Refusal) -> &'static [u8]
-    ensures { result.now ≡ text_of refusal }
+// The text of a refusal, as a line.
+fn line_of(refusal: Refusal) -> Line
+    ensures text { result ≡ text_of refusal }
 {
+    let mut line = Line::new();
     match refusal {
-        Refusal::Usage => b"xinu: usage\n",
-        Refusal::HostFault => b"xinu: host fault\n",
-        Refusal::Image => b"xinu: image 1 fault 0\n",
-        Refusal::Schedule => b"xinu: schedule line 0\n",
-        Refusal::NoMemory => b"xinu: no memory\n",
+        Refusal::Usage => line.word("xinu: usage"),
+        Refusal::HostFault => line.word("xinu: host fault"),
+        Refusal::Image { image, fault } => {
+            line.word("xinu: image");
+            line.number(image as i64);
+            line.word("fault");
+            line.number(fault as i64);
+        }
+        Refusal::Schedule(number) => {
+            line.word("xinu: schedule line");
+            line.number(number as i64);
+        }
+        Refusal::NoMemory => line.word("xinu: no memory"),
+        Refusal::NoRoom(image) => {
+            line.word("xinu: no room for image");
+            line.number(image as i64);
+        }
     }
+    line.end();
+    line
 }

@@ -1,42 +1,43 @@
 //! The run of an image through the events of a schedule.
 
-ghost use Rattle.std.specs.Prelude.{◌≡◌, ◌+◌, ◌*◌, ◌≤◌, ◌≤ℤ◌, pos, true, false, length, IfOk, ◌∷◌, []};
-ghost use Rattle.std.specs.List.{list_all};
-ghost use Rattle.host_port.specs.HostCalls.{HasCause};
+ghost use Rattle.std.specs.Prelude.{◌≡◌, ◌+◌, ◌≤◌, ◌∷◌, [], false, length, IfOk, IfErr};
 ghost use Rattle.host_port.specs.Printing.{Prints};
-ghost use Rattle.machine.specs.Images.{lies_in_ram, loaded_of};
+ghost use Rattle.image_loader.specs.Images.{loaded_of};
 ghost use Rattle.xinu_base.specs.declared.lines.TranscriptLine.TheVariants as line;
-ghost use Rattle.xinu_model.specs.Boot.{end_of, stack_size};
-ghost use Rattle.xinu_model.specs.Heap.{cells_for};
-ghost use Rattle.xinu_model.specs.Memory.{ram_size};
 ghost use Rattle.xinu_model.specs.Text.{shown};
-ghost use Rattle.xinu_run.specs.Transcripts.{RunPrints, RanImage, RunsImage};
+ghost use Rattle.xinu_run.specs.Causes.{LeavesOut};
+ghost use Rattle.xinu_run.specs.Transcripts.{IsRunCause, RunPrints, RanImage, RunsImage};
 
-use crate::schedules::Schedule;
-use host_port::{Host, HostFault, Line, Printer};
-use machine::{BootFault, Go, Image, Machine};
+use crate::refusals::Refusal;
+use host_port::{Host, Line, Printer};
+use image_loader::Image;
+use machine::{Go, Machine};
+use schedule_file::Schedule;
 use std::alloc::Global;
 use std::slice;
 use xinu_base::End;
 
 /// Runs an image through the events of a schedule, and answers the machine as the run left it.
+///
+/// # Errors
+/// `NoRoom(1)` exactly where the heap behind the image has no room for its stack, unless memory is wanted; `HostFault` where the
+/// host refused a line; `NoMemory`.
 pub(crate) fn run_image<H: Host>(
     alloc: Global,
     image: &Image<'_>,
     schedule: Schedule,
     host: &mut H,
-) -> Result<Machine, HostFault>
-    requires lies { list_all lies_in_ram (loaded_of image.now).parts ≡ true }
-    requires priority { pos 1 ≤ℤ image.now.priority }
-    requires room { 8 * cells_for (end_of (loaded_of image.now).parts) + stack_size image.now.stack ≤ ram_size }
+) -> Result<Machine, Refusal>
     requires few { length schedule ≤ 1000000000 }
     ensures runs { RunsImage (loaded_of image.now) schedule (H.view host.old) (H.view host.new) }
     ensures ok { IfOk result (λ m. RanImage (loaded_of image.now) schedule m.state (H.view host.old) (H.view host.new)) }
-    ensures cause { HasCause (H.view host.old).faults (H.view host.new).faults result }
+    ensures refused { IfErr result (λ r. IsRunCause r (loaded_of image.now) (H.view host.old) (H.view host.new)) }
+    ensures out { IfErr result (λ r. LeavesOut r (H.view host.old) (H.view host.new)) }
+    ensures later { (H.view host.old).faults ≤ (H.view host.new).faults }
 {
     let mut machine = match Machine::boot(alloc, slice::from_ref(image)) {
         Ok(machine) => machine,
-        Err(BootFault::NoMemory) => return Err(HostFault::NoMemory),
+        Err(fault) => return Err(Refusal::from(fault)),
     };
     let mut schedule = schedule;
     let mut out = Printer::new(false);
@@ -46,7 +47,7 @@ pub(crate) fn run_image<H: Host>(
     print_end(end, &mut out, host);
     match out.failed() {
         None => Ok(machine),
-        Some(fault) => Err(fault),
+        Some(fault) => Err(Refusal::from(fault)),
     }
 }
 

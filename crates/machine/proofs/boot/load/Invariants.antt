@@ -1,7 +1,7 @@
 -- The parts that are left give what all parts give.
 use Rattle.std.proofs.Common.{◌≡◌, true, drop, map}
 use Rattle.std.specs.List.{list_all}
-use Rattle.machine.specs.Images.{lies_in_ram, part_of}
+use Rattle.image_loader.specs.Parts.{lies_in_ram, part_of}
 use Rattle.xinu_model.specs.Boot.{with_parts}
 use Rattle.machine.proofs.boot.load.Given as goal
 

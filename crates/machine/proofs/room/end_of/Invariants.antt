@@ -1,6 +1,6 @@
 -- The end of the parts so far.
 use Rattle.std.proofs.Common.{◌≡◌, ◌<◌, ◌^◌, map, take}
-use Rattle.machine.specs.Images.{part_of}
+use Rattle.image_loader.specs.Parts.{part_of}
 use Rattle.xinu_model.specs.Boot as boot
 use Rattle.machine.proofs.room.end_of.Given as goal
 

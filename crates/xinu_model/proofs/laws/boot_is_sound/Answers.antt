@@ -1,5 +1,5 @@
-use Rattle.xinu_model.proofs.Starts.{sound_start}
+use Rattle.xinu_model.proofs.SoundEvents.{sound_boot}
 use Rattle.xinu_model.proofs.laws.boot_is_sound.Goals as goal
 
 pub returns : goal.returns
-returns c = λ image start e. sound_start image start e
+returns c = sound_boot

@@ -1,5 +1,5 @@
 use Rattle.xinu_model.specs.Events.{effect_of}
-use Rattle.xinu_model.proofs.Events.{least_happens}
+use Rattle.xinu_model.proofs.Outcomes.{least_happens}
 use Rattle.xinu_model.proofs.laws.events_happen.Goals as goal
 
 pub returns : goal.returns

@@ -1,12 +1,26 @@
-use Rattle.std.proofs.Common.{sym, ap, ◌∙◌, Some, None}
-use Rattle.xinu_model.specs.ScheduleFiles.{events_in}
-use Rattle.xinu_run.proofs.Files.{told_events}
+use Rattle.std.proofs.Common.{sym, subst, ◌<◌, ◌≤◌, ℕ, List, length, arith, take, ◌≡◌, Some}
+use Rattle.std.specs.Prelude.{MatchOption, ⊤}
+use Rattle.schedule_file.specs.ScheduleFiles.{Reads}
+use Rattle.xinu_run.proofs.Files.{told_events, told_fault}
+use Rattle.xinu_run.proofs.Inputs.{schedule_fault-long, schedule_fault-short}
+use Rattle.xinu_run.proofs.Reasons.{schedule_cause}
 use Rattle.xinu_run.proofs.commands.fetch_schedule.Goals as goal
 
-pub returns-in-Some-clause-ok : goal.returns-in-Some-clause-ok
-returns-in-Some-clause-ok g c =
-    told_events ((g.H.Host.view c.args.host.now).file c.args.name.now) c.in_ok-text.text.items (Some c.in-Some.schedule) c.in_ok-text.ensures.bytes (ap events_in (sym c.as_slice.ensures.value) ∙ c.in-Some.ensures.events)
+pub returns-then-len-gt-LONGEST_SCHEDULE-clause-refused :
+    goal.returns-then-len-gt-LONGEST_SCHEDULE-clause-refused
+returns-then-len-gt-LONGEST_SCHEDULE-clause-refused g c =
+    let long : 4194304 < length c.in_ok-text.text.items = omega arith in
+    told_fault ((g.H.Host.view c.args.host.now).file c.args.name.now) c.in_ok-text.text.items (Some 0) c.in_ok-text.ensures.bytes (schedule_fault-long c.in_ok-text.text.items long)
+
+pub returns-in-Ok-clause-ok : goal.returns-in-Ok-clause-ok
+returns-in-Ok-clause-ok g c =
+    let told = subst (λ (xs : List ℕ). MatchOption ((g.H.Host.view c.args.host.now).file c.args.name.now) ⊤ (λ bytes. xs ≡ take 4194305 bytes)) (sym c.as_slice.ensures.value) c.in_ok-text.ensures.bytes in
+    let short : length c.as_slice.result.now ≤ 4194304 = omega arith in
+    told_events ((g.H.Host.view c.args.host.now).file c.args.name.now) c.as_slice.result.now c.in-Ok.schedule told
+    (record { good = schedule_fault-short c.as_slice.result.now (Reads c.in-Ok.schedule) short c.in-Ok.ensures.read; reads = c.in-Ok.ensures.events })
 
 pub returns-clause-refused : goal.returns-clause-refused
-returns-clause-refused g c = λ _.
-    told_events ((g.H.Host.view c.args.host.now).file c.args.name.now) c.in_ok-text.text.items None c.in_ok-text.ensures.bytes (ap events_in (sym c.as_slice.ensures.value) ∙ c.in-None.ensures.events)
+returns-clause-refused g c =
+    let told = subst (λ (xs : List ℕ). MatchOption ((g.H.Host.view c.args.host.now).file c.args.name.now) ⊤ (λ bytes. xs ≡ take 4194305 bytes)) (sym c.as_slice.ensures.value) c.in_ok-text.ensures.bytes in
+    let short : length c.as_slice.result.now ≤ 4194304 = omega arith in
+    schedule_cause c.in-Err.fault c.from.result ((g.H.Host.view c.args.host.now).file c.args.name.now) c.as_slice.result.now _ _ c.from.ensures short told c.in-Err.ensures.read

@@ -11,11 +11,11 @@ returns-then-self c =
     let k = c.self.inside in
     let fits : SFits w16 k.priority = search rules in
     c.running_lines.ensures
-    ∙ ap (λ (priority : ℤ). running_lines priority k.low k.free) (to_z-of_z w16 k.priority fits)
-    ∙ sym (ap tables_of (sym c.self.view_is ∙ alive_state k c.if-self.true) ∙ tables_running k.priority k.hart k.ram k.low k.free k.taken)
+    ∙ ap (λ (priority : ℤ). running_lines k.ticks k.quantum priority k.low k.free) (to_z-of_z w16 k.priority fits)
+    ∙ sym (ap tables_of (sym c.self.view_is ∙ alive_state k c.if-self.true) ∙ tables_running k.priority k.hart k.ram k.low k.free k.taken k.ticks k.quantum)
 
 pub returns-else-self : goal.returns-else-self
 returns-else-self c =
     let k = c.self.inside in
     c.ended_lines.ensures
-    ∙ sym (ap tables_of (sym c.self.view_is ∙ dead_state k c.if-self.false) ∙ tables_ended k.ram k.low (k.free + k.taken))
+    ∙ sym (ap tables_of (sym c.self.view_is ∙ dead_state k c.if-self.false) ∙ tables_ended k.ram k.low (k.free + k.taken) k.ticks k.quantum)

@@ -1,0 +1,67 @@
+-- The calls on ports, and callers that waited and go on, keep what holds of tables, pools and ports.
+use Rattle.std.proofs.Common.{◌≡◌, ℕ, sym, subst}
+use Rattle.std.specs.Prelude.{drop}
+use Rattle.std.specs.List.{AllByRecursion}
+use Rattle.xinu_base.specs.declared.processes.PortTicket.{PortTicket}
+use Rattle.xinu_base.specs.declared.processes.Rest.TheVariants.{PtSend, PtRecv}
+use Rattle.xinu_model.specs.Calls.{effects}
+use Rattle.xinu_model.specs.Machine.{Xinu, Answer, Returns, Waits, Gone, Panics, Silent, Handled}
+use Rattle.xinu_model.specs.PortCalls.{ptcreate, ptsend, ptrecv, go_on_ptsend, go_on_ptrecv}
+use Rattle.xinu_model.specs.Sound.{IsOpen}
+use Rattle.xinu_model.specs.SoundPools.{ArePools}
+use Rattle.xinu_model.specs.SoundPorts.{ArePorts}
+use Rattle.xinu_model.specs.Tables.{Tables, process_at}
+use Rattle.xinu_model.specs.Words.{signed}
+use Rattle.xinu_model.proofs.CalmStates.{LeavesOthers}
+use Rattle.xinu_model.proofs.Fine.{FitsAnswer, IsFine, MayCall}
+use Rattle.xinu_model.proofs.PortsDeletions.{KeepsAll, keeps_all, ptdelete_keeps, ptreset_keeps}
+use Rattle.xinu_model.proofs.PortsKept.{is_ports, asks_port, ports_calm}
+use Rattle.xinu_model.proofs.PortsMade.{ptcreate_on_ports}
+use Rattle.xinu_model.proofs.PortsSends.{ptsend_on_ports, ptrecv_on_ports, go_on_ptsend_on_ports, go_on_ptrecv_on_ports}
+use Rattle.xinu_model.proofs.PortsSignals.{HasPorts}
+
+-- The calls 31 to 35 keep what holds of tables, pools and ports.
+pub port_calls_keep : (a : ℕ → ℕ) (s : Xinu) → MayCall s → ArePools s.tables s.pools → ArePorts s.tables s.ports → AllByRecursion (λ call. KeepsAll (call.effect a s)) (drop 30 effects)
+unfolding effects
+port_calls_keep a s c p k = (
+  keeps_all s (ptcreate (signed (a 0)) s) p (ptcreate_on_ports (signed (a 0)) s c k),
+  (
+    ptdelete_keeps (a 0) (a 1) s c p k,
+    (
+      ptreset_keeps (a 0) (a 1) s c p k,
+      (
+        keeps_all s (ptsend (a 0) (a 1) s) p (ptsend_on_ports (a 0) (a 1) s c k),
+        (keeps_all s (ptrecv (a 0) s) p (ptrecv_on_ports (a 0) s c k), tt),
+      ),
+    ),
+  ),
+)
+
+-- So do a sender that waited and goes on,
+pub go_on_ptsend_keeps : (ticket : PortTicket) (message : ℕ) (s : Xinu) → MayCall s → ArePools s.tables s.pools → ArePorts s.tables s.ports
+    → (process_at s.tables s.tables.current).rest ≡ PtSend ticket message → KeepsAll (go_on_ptsend ticket message s)
+go_on_ptsend_keeps ticket message s c p k e = keeps_all s (go_on_ptsend ticket message s) p (go_on_ptsend_on_ports ticket message s c k e)
+
+-- and a receiver.
+pub go_on_ptrecv_keeps : (ticket : PortTicket) (s : Xinu) → MayCall s → ArePools s.tables s.pools → ArePorts s.tables s.ports
+    → (process_at s.tables s.tables.current).rest ≡ PtRecv ticket → KeepsAll (go_on_ptrecv ticket s)
+go_on_ptrecv_keeps ticket s c p k e = keeps_all s (go_on_ptrecv ticket s) p (go_on_ptrecv_on_ports ticket s c k e)
+
+-- however a call is answered its tables are as at each moment
+open_fits : (answer : Answer) (t : Tables) → FitsAnswer answer t → IsOpen t
+open_fits (Returns value) t k = k.inside
+open_fits Panics t k = k.inside
+open_fits Silent t k = k.inside
+open_fits Waits t k = k
+open_fits Gone t k = k
+
+pub open_fine : (h : Handled) → IsFine h → IsOpen h.doing.state.tables
+open_fine h k = open_fits h.answer h.doing.state.tables k.tables
+
+-- A state that the ports are left alone on the way to has what holds of them.
+pub ports_left : (s u : Xinu) → IsOpen u.tables → LeavesOthers is_ports asks_port s u → ArePorts s.tables s.ports → ArePorts u.tables u.ports
+ports_left s u o l a = subst (ArePorts u.tables) (sym l.others.ports) (ports_calm s.tables u.tables s.ports o l.tables a)
+
+-- A call that leaves the ports alone keeps what holds of them.
+pub ports_left_by_call : (s : Xinu) (h : Handled) → IsFine h → LeavesOthers is_ports asks_port s h.doing.state → ArePorts s.tables s.ports → HasPorts h.doing
+ports_left_by_call s h k l a = ports_left s h.doing.state (open_fine h k) l a

@@ -1,0 +1,13 @@
+-- What holds of the whole state between two events.
+use Rattle.std.specs.Prelude.{◌≡◌, length}
+use Rattle.xinu_model.specs.Machine.{Xinu}
+use Rattle.xinu_model.specs.Sound.{IsSoundTables}
+use Rattle.xinu_model.specs.SoundPools.{ArePools}
+use Rattle.xinu_model.specs.SoundPorts.{ArePorts}
+
+-- Between two events the tables are sound, there are registers for each number, and what holds of pools and ports holds.
+pub record IsSound (s : Xinu) : Type 0 where
+  pub tables : IsSoundTables s.tables
+  pub harts : length s.harts ≡ 64
+  pub pools : ArePools s.tables s.pools
+  pub ports : ArePorts s.tables s.ports

@@ -1,0 +1,32 @@
+-- What the faults of the layers below mean for a command.
+use Rattle.command_words.specs.declared.refusal.WordsFault.{WordsFault}
+use Rattle.command_words.specs.declared.refusal.WordsFault.TheVariants as words
+use Rattle.host_port.specs.declared.host.HostFault.{HostFault}
+use Rattle.host_port.specs.declared.host.HostFault.TheVariants as host
+use Rattle.machine.specs.declared.boot.BootFault.{BootFault}
+use Rattle.machine.specs.declared.boot.BootFault.TheVariants as boot
+use Rattle.schedule_file.specs.declared.faults.ScheduleFault.{ScheduleFault}
+use Rattle.schedule_file.specs.declared.faults.ScheduleFault.TheVariants as schedule
+use Rattle.xinu_run.specs.declared.refusals.Refusal.{Refusal}
+use Rattle.xinu_run.specs.declared.refusals.Refusal.TheVariants as refusal
+
+-- the refusal that words without a command give
+abbrev pub words_refusal : WordsFault → Refusal
+words_refusal words.NoCommand = refusal.Usage
+words_refusal words.NoMemory = refusal.NoMemory
+
+-- the refusal that a failure of the host gives
+abbrev pub host_refusal : HostFault → Refusal
+host_refusal host.Failed = refusal.HostFault
+host_refusal host.NoMemory = refusal.NoMemory
+
+-- the refusal that a text which is no schedule gives
+abbrev pub schedule_refusal : ScheduleFault → Refusal
+schedule_refusal (schedule.BadLine line) = refusal.Schedule line
+schedule_refusal (schedule.TooMany line) = refusal.Schedule line
+schedule_refusal schedule.NoMemory = refusal.NoMemory
+
+-- the refusal that a machine which doesn't start gives
+abbrev pub boot_refusal : BootFault → Refusal
+boot_refusal (boot.NoRoom image) = refusal.NoRoom image
+boot_refusal boot.NoMemory = refusal.NoMemory
