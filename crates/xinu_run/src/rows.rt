@@ -191,75 +191,52 @@ fn bad_words_are_refused(rt: HostRuntime) -> Result<(), Fail> {
 }
 
 #[test]
-fn bad_files_are_refused(rt: HostRuntime) -> Result<(), Fail> {
+fn bad_schedules_are_refused_whatever_the_image_is(rt: HostRuntime) -> Result<(), Fail> {
+    let bad_image = with_word(20, 0);
+    for (schedule, text) in [
+        ("step 0", "xinu: schedule line 1\n"),
+        ("step", "xinu: schedule line 1\n"),
+        ("Step 4", "xinu: schedule line 1\n"),
+        ("step 4\r", "xinu: schedule line 1\n"),
+        ("type 6 ", "xinu: schedule line 1\n"),
+        ("round 925070", "xinu: schedule line 1\n"),
+        ("dump\r\nstep 0\r\n", "xinu: schedule line 2\n"),
+        ("step 1000000000\ntick 1", "xinu: schedule line 2\n"),
+        ("step 1000000000\ntick 1\nstep", "xinu: schedule line 2\n"),
+        ("step\nstep 1000000000\ntick 1", "xinu: schedule line 1\n"),
+        ("# 1\n\n\n\n\n\n\n\n\n\nstep", "xinu: schedule line 11\n"),
+    ] {
+        let mut host = quiet_host(rt.alloc(), schedule.as_bytes(), &bad_image)?;
+        assert_eq!(rt; refusal_of(rt.alloc(), &RUN, &mut host)?, 5, "{schedule}");
+        assert_eq!(rt; host.sent(Channel::Out), b"".as_slice());
+        assert_eq!(rt; host.sent(Channel::Fault), text.as_bytes());
+    }
+    Ok(())
+}
+
+#[test]
+fn bad_images_are_refused(rt: HostRuntime) -> Result<(), Fail> {
     let mut longer = [0; 45];
     longer[..44].copy_from_slice(&GETPID_AND_EXIT);
     let most = repeated(rt.alloc(), 0, 1_048_576)?;
     let too_many = repeated(rt.alloc(), 0, 1_048_577)?;
-    let good = GETPID_AND_EXIT.as_slice();
-    let rows: [(&str, &[u8], u8, &str); 24] = [
-        ("step 0", good, 5, "xinu: schedule line 1\n"),
-        ("step", good, 5, "xinu: schedule line 1\n"),
-        ("Step 4", good, 5, "xinu: schedule line 1\n"),
-        ("step 4\r", good, 5, "xinu: schedule line 1\n"),
-        ("type 6 ", good, 5, "xinu: schedule line 1\n"),
-        ("round 925070", good, 5, "xinu: schedule line 1\n"),
-        ("dump\r\nstep 0\r\n", good, 5, "xinu: schedule line 2\n"),
-        (
-            "step 1000000000\ntick 1",
-            good,
-            5,
-            "xinu: schedule line 2\n",
-        ),
-        (
-            "step 1000000000\ntick 1\nstep",
-            good,
-            5,
-            "xinu: schedule line 2\n",
-        ),
-        (
-            "step\nstep 1000000000\ntick 1",
-            good,
-            5,
-            "xinu: schedule line 1\n",
-        ),
-        (
-            "# 1\n\n\n\n\n\n\n\n\n\nstep",
-            good,
-            5,
-            "xinu: schedule line 11\n",
-        ),
-        ("step 0", &with_word(20, 0), 5, "xinu: schedule line 1\n"),
-        ("step 4", &good[..27], 4, "xinu: image 1 fault 1\n"),
-        ("step 4", &with_word(0, 0), 4, "xinu: image 1 fault 2\n"),
-        ("step 4", &with_word(4, 2), 4, "xinu: image 1 fault 3\n"),
-        ("step 4", &good[..43], 4, "xinu: image 1 fault 4\n"),
-        ("step 4", &longer, 4, "xinu: image 1 fault 4\n"),
-        ("step 4", &with_word(8, 2), 4, "xinu: image 1 fault 5\n"),
-        ("step 4", &with_word(16, 2), 4, "xinu: image 1 fault 6\n"),
-        ("step 4", &with_word(20, 0), 4, "xinu: image 1 fault 7\n"),
-        ("step 4", most.as_slice(), 4, "xinu: image 1 fault 2\n"),
-        ("step 4", too_many.as_slice(), 4, "xinu: image 1 fault 0\n"),
-        (
-            "step 4",
-            &with_stack(1_048_561),
-            8,
-            "xinu: no room for image 1\n",
-        ),
-        (
-            "step 4",
-            &with_stack(1_048_576),
-            8,
-            "xinu: no room for image 1\n",
-        ),
+    let rows: [(&[u8], u8, &str); 12] = [
+        (&GETPID_AND_EXIT[..27], 4, "xinu: image 1 fault 1\n"),
+        (&with_word(0, 0), 4, "xinu: image 1 fault 2\n"),
+        (&with_word(4, 2), 4, "xinu: image 1 fault 3\n"),
+        (&GETPID_AND_EXIT[..43], 4, "xinu: image 1 fault 4\n"),
+        (&longer, 4, "xinu: image 1 fault 4\n"),
+        (&with_word(8, 2), 4, "xinu: image 1 fault 5\n"),
+        (&with_word(16, 2), 4, "xinu: image 1 fault 6\n"),
+        (&with_word(20, 0), 4, "xinu: image 1 fault 7\n"),
+        (most.as_slice(), 4, "xinu: image 1 fault 2\n"),
+        (too_many.as_slice(), 4, "xinu: image 1 fault 0\n"),
+        (&with_stack(1_048_561), 8, "xinu: no room for image 1\n"),
+        (&with_stack(1_048_576), 8, "xinu: no room for image 1\n"),
     ];
-    for (schedule, image, status, text) in rows {
-        let mut host = quiet_host(rt.alloc(), schedule.as_bytes(), image)?;
-        assert_eq!(rt;
-            refusal_of(rt.alloc(), &RUN, &mut host)?,
-            status,
-            "{schedule}"
-        );
+    for (image, status, text) in rows {
+        let mut host = quiet_host(rt.alloc(), b"step 4", image)?;
+        assert_eq!(rt; refusal_of(rt.alloc(), &RUN, &mut host)?, status, "{text}");
         assert_eq!(rt; host.sent(Channel::Out), b"".as_slice());
         assert_eq!(rt; host.sent(Channel::Fault), text.as_bytes());
     }
