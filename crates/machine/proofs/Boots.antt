@@ -11,9 +11,8 @@ use Rattle.image_loader.specs.declared.images.Image.{Image}
 use Rattle.image_loader.specs.declared.parts.Part.{Part}
 use Rattle.xinu_model.specs.Boot.{Loaded, LoadedPart, boot, Boots, end_of, image_process, with_parts}
 use Rattle.xinu_model.specs.Heap.{cells_for}
-use Rattle.xinu_model.specs.Machine.{Xinu, no_hart}
+use Rattle.xinu_model.specs.Machine.{Xinu, first_parts, no_hart}
 use Rattle.xinu_base.specs.declared.registers.Hart.{Hart}
-use Rattle.xinu_model.specs.Ports.{first_ports}
 use Rattle.xinu_model.specs.ProcessCalls.{new_hart, stack_size}
 use Rattle.xinu_model.specs.Tables.{Tables}
 use Rattle.xinu_model.specs.Memory.{in_ram, ram_size, with_bytes, zeros}
@@ -47,10 +46,7 @@ starting image low free taken top size = record {
   tables = started (record (image_process 1 image top) { stack_size = size });
   harts = no_hart ∷ new_hart image.entry (ram_size - 4) 0 0 ∷ other_harts;
   memory = with_parts image.parts zeros;
-  heap = heap_with low free taken;
-  pools = [];
-  ports = first_ports;
-  next_port = 0;
+  parts = first_parts (heap_with low free taken);
 }
 
 -- the registers of the machine at its start
@@ -63,8 +59,8 @@ boot_starting : (image : Loaded) (free : ℕ) → pos 1 ≤ℤ image.priority
     → booted image (first_stack image free) ≡ starting image (8 * cells_for (end_of image.parts)) free (cells_for (stack_size image.stack)) (ram_size - 4) (stack_size image.stack)
 boot_starting image free priority =
     let stack = first_stack image free in
-    ap (λ (t : Tables). record { tables = t; harts = slice_set (replicate 64 no_hart) 1 (new_hart image.entry (ram_size - 4) 0 0); memory = with_parts image.parts zeros; heap = stack.heap; pools = []; ports = first_ports; next_port = 0 }) (booted_tables image stack priority)
-    ∙ ap (λ (h : List Hart). record { tables = started (image_process 1 image stack.top); harts = h; memory = with_parts image.parts zeros; heap = stack.heap; pools = []; ports = first_ports; next_port = 0 }) (first_harts (new_hart image.entry (ram_size - 4) 0 0))
+    ap (λ (t : Tables). record { tables = t; harts = slice_set (replicate 64 no_hart) 1 (new_hart image.entry (ram_size - 4) 0 0); memory = with_parts image.parts zeros; parts = first_parts stack.heap }) (booted_tables image stack priority)
+    ∙ ap (λ (h : List Hart). record { tables = started (image_process 1 image stack.top); harts = h; memory = with_parts image.parts zeros; parts = first_parts stack.heap }) (first_harts (new_hart image.entry (ram_size - 4) 0 0))
 
 -- which is the state in which the image's process runs
 starting_runs : (image : Loaded) (low free taken : ℕ) → starting image low free taken (low + 8 * (free + taken) - 4) (8 * taken) ≡ running image.priority (new_hart image.entry (ram_size - 4) 0 0) (with_parts image.parts zeros) low free taken 0 2

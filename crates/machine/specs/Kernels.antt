@@ -6,9 +6,8 @@ use Rattle.xinu_base.specs.declared.processes.Rest.TheVariants.{Nothing}
 use Rattle.xinu_base.specs.declared.registers.Hart.{Hart}
 use Rattle.xinu_model.specs.Boot.{null_process, first_semaphores}
 use Rattle.xinu_model.specs.Heap.{Heap}
-use Rattle.xinu_model.specs.Machine.{Xinu, no_hart}
+use Rattle.xinu_model.specs.Machine.{Xinu, first_parts, no_hart}
 use Rattle.xinu_model.specs.Moves.{in_state}
-use Rattle.xinu_model.specs.Ports.{first_ports}
 use Rattle.xinu_model.specs.Tables.{no_process}
 
 -- the entries of the process table behind the image's process
@@ -56,10 +55,7 @@ running priority hart memory low free taken ticks quantum = record {
   };
   harts = no_hart ∷ hart ∷ other_harts;
   memory = memory;
-  heap = heap_with low free taken;
-  pools = [];
-  ports = first_ports;
-  next_port = 0;
+  parts = first_parts (heap_with low free taken);
 }
 
 -- the image's process is dead
@@ -79,8 +75,5 @@ ended memory low free ticks quantum = record {
   };
   harts = no_hart ∷ no_hart ∷ other_harts;
   memory = memory;
-  heap = record { low = low; cells = replicate free true };
-  pools = [];
-  ports = first_ports;
-  next_port = 0;
+  parts = first_parts (record { low = low; cells = replicate free true });
 }

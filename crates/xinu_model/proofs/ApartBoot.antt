@@ -49,7 +49,7 @@ abbrev StartsApart : Start → Type 0
 StartsApart start = (s : Xinu) → start ≡ Boots s → IsApart s
 
 -- the first process of an image is made where a stack is found
-apart_where_stack : (found : Option Stack) (i : ℕ) (image : Loaded) (s : Xinu) → getstk (stack_size image.stack) s.heap ≡ found → IsApart s → StartsApart (where_stack found i image s)
+apart_where_stack : (found : Option Stack) (i : ℕ) (image : Loaded) (s : Xinu) → getstk (stack_size image.stack) s.parts.heap ≡ found → IsApart s → StartsApart (where_stack found i image s)
 apart_where_stack None i image s e apart u b = absurd (cc)
 apart_where_stack (Some stack) i image s e apart u b =
     let is : with_image i image stack s ≡ u = cc in
@@ -65,7 +65,7 @@ apart_then (NoRoom i) next first more = λ u b. absurd (cc)
 apart_all_made : (images : List Loaded) (i : ℕ) (s : Xinu) → IsApart s → StartsApart (all_made i images s)
 apart_all_made [] i s apart = λ u b. let is : s ≡ u = cc in subst IsApart is apart
 apart_all_made (image ∷ images) i s apart =
-    let found = getstk (stack_size image.stack) s.heap in
+    let found = getstk (stack_size image.stack) s.parts.heap in
     apart_then (where_stack found i image s) (λ x. all_made (i + 1) images x) (apart_where_stack found i image s refl apart) (λ x made. apart_all_made images (i + 1) x made)
 
 -- processes that become ready keep their stacks

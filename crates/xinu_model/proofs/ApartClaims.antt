@@ -31,18 +31,18 @@ pub stack_at : (t : Tables) (p : ℕ) → stack_of (process_at t p) ≡ get_or (
 stack_at t p = get_or_seen stack_of t.processes p no_process
 
 -- how many pools and stacks have an address, by the ranges and the stacks
-pub holders_by_places : (s : Xinu) (a : ℕ) → times (in_range a) (map range_of s.pools) + times (in_stack a) (stacks_of s.tables) ≡ holders s a
+pub holders_by_places : (s : Xinu) (a : ℕ) → times (in_range a) (map range_of s.parts.pools) + times (in_stack a) (stacks_of s.tables) ≡ holders s a
 holders_by_places s a =
-    let pools = times-map range_of (in_range a) s.pools in
+    let pools = times-map range_of (in_range a) s.parts.pools in
     let stacks = times-map stack_of (in_stack a) s.tables.processes in
-    ap (λ n. n + times (in_stack a) (stacks_of s.tables)) pools ∙ ap (λ n. times (is_in_pool a) s.pools + n) stacks
+    ap (λ n. n + times (in_stack a) (stacks_of s.tables)) pools ∙ ap (λ n. times (is_in_pool a) s.parts.pools + n) stacks
 
 -- Where the places stay as they are, so do the claims.
 pub holders_kept : {s u : Xinu} → KeepsPlaces s u → (a : ℕ) → holders u a ≡ holders s a
 holders_kept {s} {u} k a =
     sym (holders_by_places u a)
     ∙ ap (λ l. times (in_range a) l + times (in_stack a) (stacks_of u.tables)) k.ranges
-    ∙ ap (λ l. times (in_range a) (map range_of s.pools) + times (in_stack a) l) k.stacks
+    ∙ ap (λ l. times (in_range a) (map range_of s.parts.pools) + times (in_stack a) l) k.stacks
     ∙ holders_by_places s a
 
 -- Where the places stay as they are, no address is claimed twice.
@@ -51,7 +51,7 @@ apart_kept {s} {u} k apart = record {
   low = subst (λ (h : Heap). h.low % 8 ≡ 0) (sym k.heap) apart.low;
   stacks = λ p.
       let same = stack_at s.tables p ∙ ap (λ l. get_or l p (0, 0)) (sym k.stacks) ∙ sym (stack_at u.tables p) in
-      subst (IsStackIn u.heap) same (subst (λ h. IsStackIn h (stack_of (process_at s.tables p))) (sym k.heap) (apart.stacks p));
+      subst (IsStackIn u.parts.heap) same (subst (λ h. IsStackIn h (stack_of (process_at s.tables p))) (sym k.heap) (apart.stacks p));
   claims = λ a.
       let held = holders_kept k a in
       let free = ap (λ h. one (is_in_free a h)) k.heap in

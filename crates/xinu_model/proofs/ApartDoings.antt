@@ -73,9 +73,9 @@ kept_sent p message d =
 -- a buffer is put back
 pub kept_put_back : (a i : ℕ) (d : Doing) → KeepsPlaces d.state (put_back a i d).state
 kept_put_back a i d =
-    let pool = pool_at d.state.pools i in
-    let after = record d { state = record d.state { pools = set d.state.pools i (with_free a pool) } } in
-    let first : KeepsPlaces d.state after.state = record { heap = refl; ranges = map_set_same range_of d.state.pools i (with_free a pool) no_pool refl; stacks = refl } in
+    let pool = pool_at d.state.parts.pools i in
+    let after = record d { state = record d.state { parts = record d.state.parts { pools = set d.state.parts.pools i (with_free a pool) } } } in
+    let first : KeepsPlaces d.state after.state = record { heap = refl; ranges = map_set_same range_of d.state.parts.pools i (with_free a pool) no_pool refl; stacks = refl } in
     kept_then first (kept_signalled pool.semaphore after)
 
 -- a buffer is given back to the pool that has it
@@ -84,7 +84,7 @@ kept_given_to None a d = kept_same d.state
 kept_given_to (Some i) a d = kept_put_back a i d
 
 pub kept_freed_buffer : (a : ℕ) (d : Doing) → KeepsPlaces d.state (freed_buffer a d).state
-kept_freed_buffer a d = kept_given_to (holder a d.state.pools) a d
+kept_freed_buffer a d = kept_given_to (holder a d.state.parts.pools) a d
 
 -- messages are given back as buffers
 pub kept_freed_buffers : (messages : List ℕ) (d : Doing) → KeepsPlaces d.state (freed_buffers messages d).state

@@ -33,7 +33,7 @@ pub extent_marked : {kind : Bool} {start k : ℕ} {h u : Heap} → AreMarked kin
 extent_marked m = record { low = m.low; many = as_many_cells m }
 
 -- where the places stay, so does the extent
-pub extent_kept : {s u : Xinu} → KeepsPlaces s u → HasSameExtent s.heap u.heap
+pub extent_kept : {s u : Xinu} → KeepsPlaces s u → HasSameExtent s.parts.heap u.parts.heap
 extent_kept {s} {u} k = record { low = ap (λ (h : Heap). h.low) k.heap; many = ap (λ (h : Heap). length h.cells) k.heap }
 
 -- memory is given back
@@ -54,52 +54,52 @@ extent_freestk a n h u =
 
 -- What a call does leaves the heap its extent.
 abbrev pub LeavesExtent : (Xinu → Handled) → Type 0
-LeavesExtent effect = (s : Xinu) → HasSameExtent s.heap (effect s).doing.state.heap
+LeavesExtent effect = (s : Xinu) → HasSameExtent s.parts.heap (effect s).doing.state.parts.heap
 
 -- what is granted, found or given back
-pub extent_granted : (n : ℕ) (found : Option Grant) (s : Xinu) → heap.getmem n s.heap ≡ found → HasSameExtent s.heap (granted found s).doing.state.heap
-extent_granted n None s e = same_extent s.heap
-extent_granted n (Some grant) s e = let g = getmem_grants n s.heap grant e in extent_marked g.taken
+pub extent_granted : (n : ℕ) (found : Option Grant) (s : Xinu) → heap.getmem n s.parts.heap ≡ found → HasSameExtent s.parts.heap (granted found s).doing.state.parts.heap
+extent_granted n None s e = same_extent s.parts.heap
+extent_granted n (Some grant) s e = let g = getmem_grants n s.parts.heap grant e in extent_marked g.taken
 
-pub extent_stacked : (n : ℕ) (found : Option Stack) (s : Xinu) → heap.getstk n s.heap ≡ found → HasSameExtent s.heap (stacked found s).doing.state.heap
-extent_stacked n None s e = same_extent s.heap
-extent_stacked n (Some stack) s e = let g = getstk_finds n s.heap stack e in extent_marked g.taken
+pub extent_stacked : (n : ℕ) (found : Option Stack) (s : Xinu) → heap.getstk n s.parts.heap ≡ found → HasSameExtent s.parts.heap (stacked found s).doing.state.parts.heap
+extent_stacked n None s e = same_extent s.parts.heap
+extent_stacked n (Some stack) s e = let g = getstk_finds n s.parts.heap stack e in extent_marked g.taken
 
-pub extent_given_back : (found : Option Heap) (s : Xinu) → ((u : Heap) → found ≡ Some u → HasSameExtent s.heap u) → HasSameExtent s.heap (given_back found s).doing.state.heap
-extent_given_back None s each = same_extent s.heap
+pub extent_given_back : (found : Option Heap) (s : Xinu) → ((u : Heap) → found ≡ Some u → HasSameExtent s.parts.heap u) → HasSameExtent s.parts.heap (given_back found s).doing.state.parts.heap
+extent_given_back None s each = same_extent s.parts.heap
 extent_given_back (Some u) s each = each u refl
 
 -- a pool is made
-extent_made_pool : (found : Option Grant) (sem : Option ℕ) (size n : ℕ) (s : Xinu) → heap.getmem (pool_bytes size n) s.heap ≡ found → HasSameExtent s.heap (made_pool found sem size n s).doing.state.heap
+extent_made_pool : (found : Option Grant) (sem : Option ℕ) (size n : ℕ) (s : Xinu) → heap.getmem (pool_bytes size n) s.parts.heap ≡ found → HasSameExtent s.parts.heap (made_pool found sem size n s).doing.state.parts.heap
 extent_made_pool (Some grant) (Some sem) size n s e =
-    cond_both (meets_pool grant.address (pool_bytes size n) s.pools) (refused s) (with_pool grant sem size n s) (λ (h : Handled). HasSameExtent s.heap h.doing.state.heap)
-    (λ _. same_extent s.heap)
-    (λ _. let g = getmem_grants (pool_bytes size n) s.heap grant e in extent_marked g.taken)
-extent_made_pool (Some grant) None size n s e = same_extent s.heap
-extent_made_pool None sem size n s e = same_extent s.heap
+    cond_both (meets_pool grant.address (pool_bytes size n) s.parts.pools) (refused s) (with_pool grant sem size n s) (λ (h : Handled). HasSameExtent s.parts.heap h.doing.state.parts.heap)
+    (λ _. same_extent s.parts.heap)
+    (λ _. let g = getmem_grants (pool_bytes size n) s.parts.heap grant e in extent_marked g.taken)
+extent_made_pool (Some grant) None size n s e = same_extent s.parts.heap
+extent_made_pool None sem size n s e = same_extent s.parts.heap
 
 pub extent_mkbufpool : (size n : ℕ) → LeavesExtent (mkbufpool size n)
 extent_mkbufpool size n s =
-    let found = heap.getmem (pool_bytes (whole_words size) n) s.heap in
-    cond_both (is_pool_size size n && nat_lt (length s.pools) most_pools)
-    (made_pool found (free_semaphore s.tables) (whole_words size) n s) (refused s) (λ (h : Handled). HasSameExtent s.heap h.doing.state.heap)
+    let found = heap.getmem (pool_bytes (whole_words size) n) s.parts.heap in
+    cond_both (is_pool_size size n && nat_lt (length s.parts.pools) most_pools)
+    (made_pool found (free_semaphore s.tables) (whole_words size) n s) (refused s) (λ (h : Handled). HasSameExtent s.parts.heap h.doing.state.parts.heap)
     (λ _. extent_made_pool found (free_semaphore s.tables) (whole_words size) n s refl)
-    (λ _. same_extent s.heap)
+    (λ _. same_extent s.parts.heap)
 
 -- a process is made
-extent_created : (number : Option ℕ) (found : Option Stack) (entry size : ℕ) (priority : ℤ) (name : List ℕ) (x y : ℕ) (s : Xinu) → heap.getstk size s.heap ≡ found → HasSameExtent s.heap (created number found entry size priority name x y s).doing.state.heap
-extent_created (Some p) (Some stack) entry size priority name x y s e = let g = getstk_finds size s.heap stack e in extent_marked g.taken
-extent_created (Some p) None entry size priority name x y s e = same_extent s.heap
-extent_created None found entry size priority name x y s e = same_extent s.heap
+extent_created : (number : Option ℕ) (found : Option Stack) (entry size : ℕ) (priority : ℤ) (name : List ℕ) (x y : ℕ) (s : Xinu) → heap.getstk size s.parts.heap ≡ found → HasSameExtent s.parts.heap (created number found entry size priority name x y s).doing.state.parts.heap
+extent_created (Some p) (Some stack) entry size priority name x y s e = let g = getstk_finds size s.parts.heap stack e in extent_marked g.taken
+extent_created (Some p) None entry size priority name x y s e = same_extent s.parts.heap
+extent_created None found entry size priority name x y s e = same_extent s.parts.heap
 
 pub extent_create : (entry size : ℕ) (priority : ℤ) (name x y : ℕ) → LeavesExtent (create entry size priority name x y)
 extent_create entry size priority name x y s =
     let bytes = process_name (take 16 (drop name s.memory)) in
-    let found = heap.getstk (stack_size size) s.heap in
+    let found = heap.getstk (stack_size size) s.parts.heap in
     cond_both (int_lt priority (pos 1) || not (in_ram name 16)) (refused s)
     (created (free_process s.tables) found entry (stack_size size) priority bytes x y s)
-    (λ (h : Handled). HasSameExtent s.heap h.doing.state.heap)
-    (λ _. same_extent s.heap)
+    (λ (h : Handled). HasSameExtent s.parts.heap h.doing.state.parts.heap)
+    (λ _. same_extent s.parts.heap)
     (λ _. extent_created (free_process s.tables) found entry (stack_size size) priority bytes x y s refl)
 
 -- a process dies
@@ -107,11 +107,11 @@ extent_unless : (found : Option Heap) (h : Heap) → ((u : Heap) → found ≡ S
 extent_unless None h each = same_extent h
 extent_unless (Some u) h each = each u refl
 
-extent_killed : (p : ℕ) (d : Doing) → HasSameExtent d.state.heap (killed p d).state.heap
+extent_killed : (p : ℕ) (d : Doing) → HasSameExtent d.state.parts.heap (killed p d).state.parts.heap
 extent_killed p d =
     let x = process_at d.state.tables p in
     let told = sent x.parent p d in
-    let dead = extent_unless (heap.freestk x.stack x.stack_size told.state.heap) told.state.heap (extent_freestk x.stack x.stack_size told.state.heap) in
+    let dead = extent_unless (heap.freestk x.stack x.stack_size told.state.parts.heap) told.state.parts.heap (extent_freestk x.stack x.stack_size told.state.parts.heap) in
     let first = extent_kept (kept_sent x.parent p d) in
     record { low = dead.low ∙ first.low; many = dead.many ∙ first.many }
 
@@ -121,6 +121,6 @@ extent_exit s = extent_killed s.tables.current (begun s)
 pub extent_kill : (p : ℕ) → LeavesExtent (kill p)
 extent_kill p s =
     let other = returns (killed p (begun s)) (pos 0) in
-    cond_both ((p == 0) || is_free (state_at s.tables p)) (refused s) (cond (p == s.tables.current) (exit s) other) (λ (h : Handled). HasSameExtent s.heap h.doing.state.heap)
-    (λ _. same_extent s.heap)
-    (λ _. cond_both (p == s.tables.current) (exit s) other (λ (h : Handled). HasSameExtent s.heap h.doing.state.heap) (λ _. extent_exit s) (λ _. extent_killed p (begun s)))
+    cond_both ((p == 0) || is_free (state_at s.tables p)) (refused s) (cond (p == s.tables.current) (exit s) other) (λ (h : Handled). HasSameExtent s.parts.heap h.doing.state.parts.heap)
+    (λ _. same_extent s.parts.heap)
+    (λ _. cond_both (p == s.tables.current) (exit s) other (λ (h : Handled). HasSameExtent s.parts.heap h.doing.state.parts.heap) (λ _. extent_exit s) (λ _. extent_killed p (begun s)))

@@ -36,10 +36,10 @@ effects_extent =
     (λ a s. extent_kept (kept_chprio (a 0) (half (a 1)) s)) ⨾
     (λ a s. extent_kept (kept_getprio (a 0) s)) ⨾
     (λ a s. extent_exit s) ⨾
-    (λ a s. extent_granted (a 0) (heap.getmem (a 0) s.heap) s refl) ⨾
-    (λ a s. extent_given_back (heap.freemem (a 0) (a 1) s.heap) s (extent_freemem (a 0) (a 1) s.heap)) ⨾
-    (λ a s. extent_stacked (a 0) (heap.getstk (a 0) s.heap) s refl) ⨾
-    (λ a s. extent_given_back (heap.freestk (a 0) (a 1) s.heap) s (extent_freestk (a 0) (a 1) s.heap)) ⨾
+    (λ a s. extent_granted (a 0) (heap.getmem (a 0) s.parts.heap) s refl) ⨾
+    (λ a s. extent_given_back (heap.freemem (a 0) (a 1) s.parts.heap) s (extent_freemem (a 0) (a 1) s.parts.heap)) ⨾
+    (λ a s. extent_stacked (a 0) (heap.getstk (a 0) s.parts.heap) s refl) ⨾
+    (λ a s. extent_given_back (heap.freestk (a 0) (a 1) s.parts.heap) s (extent_freestk (a 0) (a 1) s.parts.heap)) ⨾
     (λ a s. extent_kept (kept_semcreate (signed (a 0)) s)) ⨾
     (λ a s. extent_kept (kept_semdelete (a 0) s)) ⨾
     (λ a s. extent_kept (kept_semreset (a 0) (signed (a 1)) s)) ⨾
@@ -66,41 +66,41 @@ effects_extent =
 
 -- what a table of such calls does
 extent_effect : (calls : List CallEffect) → AllByRecursion (λ call. (a : ℕ → ℕ) → LeavesExtent (call.effect a)) calls → (number : ℕ) (a : ℕ → ℕ) → LeavesExtent (effect_in calls number a)
-extent_effect [] all number a s = same_extent s.heap
+extent_effect [] all number a s = same_extent s.parts.heap
 extent_effect (call ∷ calls) all number a s =
-    cond_both (number == call.number) (call.effect a s) (effect_in calls number a s) (λ (h : Handled). HasSameExtent s.heap h.doing.state.heap)
+    cond_both (number == call.number) (call.effect a s) (effect_in calls number a s) (λ (h : Handled). HasSameExtent s.parts.heap h.doing.state.parts.heap)
     (λ _. all.0 a s) (λ _. extent_effect calls all.1 number a s)
 
 -- A call of any number.
 pub extent_called : (number : ℕ) (args : List ℕ) → LeavesExtent (called number args)
 extent_called number args s =
-    cond_both (is_built number) (effect_in effects number (slice_index args) s) (refused s) (λ (h : Handled). HasSameExtent s.heap h.doing.state.heap)
-    (λ _. extent_effect effects effects_extent number (slice_index args) s) (λ _. same_extent s.heap)
+    cond_both (is_built number) (effect_in effects number (slice_index args) s) (refused s) (λ (h : Handled). HasSameExtent s.parts.heap h.doing.state.parts.heap)
+    (λ _. extent_effect effects effects_extent number (slice_index args) s) (λ _. same_extent s.parts.heap)
 
 -- what comes of an instruction
-extent_reacted : (o : Outcome) (s : Xinu) → HasSameExtent s.heap (reacted o s).state.heap
-extent_reacted outcome.Went s = same_extent s.heap
+extent_reacted : (o : Outcome) (s : Xinu) → HasSameExtent s.parts.heap (reacted o s).state.parts.heap
+extent_reacted outcome.Went s = same_extent s.parts.heap
 extent_reacted outcome.Call s = let call = call_of (current_hart s) in extent_called call.number call.args s
 extent_reacted outcome.Exit s = extent_exit s
 extent_reacted (outcome.Trap cause) s = extent_exit s
 
 -- a machine step
-extent_stepped : (s : Xinu) → HasSameExtent s.heap (stepped s).state.heap
+extent_stepped : (s : Xinu) → HasSameExtent s.parts.heap (stepped s).state.parts.heap
 extent_stepped s =
     let left = (process_at s.tables s.tables.current).rest in
     let goes_on = finished s.tables.current [] (continued left s) in
-    cond_both (s.tables.current == 0) (nothing_happens s) (cond (is_done left) (obeyed s) goes_on) (λ (e : Effect). HasSameExtent s.heap e.state.heap)
-    (λ _. same_extent s.heap)
-    (λ _. cond_both (is_done left) (obeyed s) goes_on (λ (e : Effect). HasSameExtent s.heap e.state.heap)
+    cond_both (s.tables.current == 0) (nothing_happens s) (cond (is_done left) (obeyed s) goes_on) (λ (e : Effect). HasSameExtent s.parts.heap e.state.parts.heap)
+    (λ _. same_extent s.parts.heap)
+    (λ _. cond_both (is_done left) (obeyed s) goes_on (λ (e : Effect). HasSameExtent s.parts.heap e.state.parts.heap)
     (λ _. extent_reacted (next s).outcome (with_executed (next s) s))
     (λ _. extent_kept (kept_continued left s)))
 
 -- what an event leaves, whatever is chosen in it
-extent_effect_of : (s : Xinu) (e : Event) (choice : ℕ) → HasSameExtent s.heap (effect_of s e choice).state.heap
+extent_effect_of : (s : Xinu) (e : Event) (choice : ℕ) → HasSameExtent s.parts.heap (effect_of s e choice).state.parts.heap
 extent_effect_of s Step choice = extent_stepped s
 extent_effect_of s Tick choice = extent_kept (kept_ticked s)
-extent_effect_of s _ choice = same_extent s.heap
+extent_effect_of s _ choice = same_extent s.parts.heap
 
 -- Each event leaves the heap where it begins, with as many cells as it has.
-pub extent_happens : (old : Xinu) (e : Event) (lines : List TranscriptLine) (new : Xinu) → Happens old e lines new → HasSameExtent old.heap new.heap
-extent_happens old e lines new h = subst (λ (u : Xinu). HasSameExtent old.heap u.heap) (ap (λ (x : Effect). x.state) h.effect) (extent_effect_of old e h.choice)
+pub extent_happens : (old : Xinu) (e : Event) (lines : List TranscriptLine) (new : Xinu) → Happens old e lines new → HasSameExtent old.parts.heap new.parts.heap
+extent_happens old e lines new h = subst (λ (u : Xinu). HasSameExtent old.parts.heap u.parts.heap) (ap (λ (x : Effect). x.state) h.effect) (extent_effect_of old e h.choice)

@@ -43,9 +43,9 @@ effects_holders : AllByRecursion HoldersStay effects
 unfolding effects
 effects_holders =
     other ⨾ other ⨾ other ⨾ other ⨾ other ⨾ other ⨾ other ⨾ other ⨾ other ⨾ other ⨾
-    (λ g args s. holders_given_back (heap.freemem (args 0) (args 1) s.heap) s) ⨾
+    (λ g args s. holders_given_back (heap.freemem (args 0) (args 1) s.parts.heap) s) ⨾
     other ⨾
-    (λ g args s. holders_given_back (heap.freestk (args 0) (args 1) s.heap) s) ⨾
+    (λ g args s. holders_given_back (heap.freestk (args 0) (args 1) s.parts.heap) s) ⨾
     other ⨾ other ⨾ other ⨾ other ⨾ other ⨾ other ⨾ other ⨾ other ⨾ other ⨾ other ⨾ other ⨾
     other ⨾ other ⨾ other ⨾ other ⨾ other ⨾ other ⨾ other ⨾ other ⨾ other ⨾ other ⨾ other ⨾
     tt

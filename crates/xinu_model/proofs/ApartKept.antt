@@ -23,8 +23,8 @@ range_of pool = (pool.base, pool_bytes pool.size pool.number)
 
 -- From s to u the heap, the ranges of the pools and the stacks stay as they are.
 pub record KeepsPlaces (s u : Xinu) : Type 0 where
-  pub heap : u.heap ≡ s.heap
-  pub ranges : map range_of u.pools ≡ map range_of s.pools
+  pub heap : u.parts.heap ≡ s.parts.heap
+  pub ranges : map range_of u.parts.pools ≡ map range_of s.parts.pools
   pub stacks : stacks_of u.tables ≡ stacks_of s.tables
 
 -- nothing changes

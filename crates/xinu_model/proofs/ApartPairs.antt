@@ -51,30 +51,30 @@ stacks_share_nothing s apart p q a n e =
     other_fails (is_in_stack a (process_at s.tables p)) (is_in_stack a (process_at s.tables q)) (omega arith) e
 
 -- Two pools share no address.
-pub pools_share_nothing : (s : Xinu) → IsApart s → (i j a : ℕ) → i ≢ j → is_in_pool a (pool_at s.pools i) ≡ true → is_in_pool a (pool_at s.pools j) ≡ false
+pub pools_share_nothing : (s : Xinu) → IsApart s → (i j a : ℕ) → i ≢ j → is_in_pool a (pool_at s.parts.pools i) ≡ true → is_in_pool a (pool_at s.parts.pools j) ≡ false
 pools_share_nothing s apart i j a n e =
-    let both = times_two (is_in_pool a) s.pools i j no_pool (no_pool_has a) n in
+    let both = times_two (is_in_pool a) s.parts.pools i j no_pool (no_pool_has a) n in
     let few = apart.claims a in
-    other_fails (is_in_pool a (pool_at s.pools i)) (is_in_pool a (pool_at s.pools j)) (omega arith) e
+    other_fails (is_in_pool a (pool_at s.parts.pools i)) (is_in_pool a (pool_at s.parts.pools j)) (omega arith) e
 
 -- A stack and a pool share no address.
-pub stack_and_pool_share_nothing : (s : Xinu) → IsApart s → (p i a : ℕ) → is_in_stack a (process_at s.tables p) ≡ true → is_in_pool a (pool_at s.pools i) ≡ false
+pub stack_and_pool_share_nothing : (s : Xinu) → IsApart s → (p i a : ℕ) → is_in_stack a (process_at s.tables p) ≡ true → is_in_pool a (pool_at s.parts.pools i) ≡ false
 stack_and_pool_share_nothing s apart p i a e =
     let stack = times_at (is_in_stack a) s.tables.processes p no_process (empty_stack a no_process refl) in
-    let pool = times_at (is_in_pool a) s.pools i no_pool (no_pool_has a) in
+    let pool = times_at (is_in_pool a) s.parts.pools i no_pool (no_pool_has a) in
     let few = apart.claims a in
-    other_fails (is_in_stack a (process_at s.tables p)) (is_in_pool a (pool_at s.pools i)) (omega arith) e
+    other_fails (is_in_stack a (process_at s.tables p)) (is_in_pool a (pool_at s.parts.pools i)) (omega arith) e
 
 -- No address of a stack is free.
-pub stack_is_taken : (s : Xinu) → IsApart s → (p a : ℕ) → is_in_stack a (process_at s.tables p) ≡ true → is_in_free a s.heap ≡ false
+pub stack_is_taken : (s : Xinu) → IsApart s → (p a : ℕ) → is_in_stack a (process_at s.tables p) ≡ true → is_in_free a s.parts.heap ≡ false
 stack_is_taken s apart p a e =
     let stack = times_at (is_in_stack a) s.tables.processes p no_process (empty_stack a no_process refl) in
     let few = apart.claims a in
-    other_fails (is_in_stack a (process_at s.tables p)) (is_in_free a s.heap) (omega arith) e
+    other_fails (is_in_stack a (process_at s.tables p)) (is_in_free a s.parts.heap) (omega arith) e
 
 -- No address of a pool is free.
-pub pool_is_taken : (s : Xinu) → IsApart s → (i a : ℕ) → is_in_pool a (pool_at s.pools i) ≡ true → is_in_free a s.heap ≡ false
+pub pool_is_taken : (s : Xinu) → IsApart s → (i a : ℕ) → is_in_pool a (pool_at s.parts.pools i) ≡ true → is_in_free a s.parts.heap ≡ false
 pool_is_taken s apart i a e =
-    let pool = times_at (is_in_pool a) s.pools i no_pool (no_pool_has a) in
+    let pool = times_at (is_in_pool a) s.parts.pools i no_pool (no_pool_has a) in
     let few = apart.claims a in
-    other_fails (is_in_pool a (pool_at s.pools i)) (is_in_free a s.heap) (omega arith) e
+    other_fails (is_in_pool a (pool_at s.parts.pools i)) (is_in_free a s.parts.heap) (omega arith) e

@@ -20,16 +20,16 @@ use Rattle.xinu_model.proofs.ApartLists.{map_set_same}
 kept_take_first : (free : List ℕ) (i : ℕ) → LeavesPlaces (take_first free i)
 kept_take_first [] i s = kept_same s
 kept_take_first (a ∷ free) i s =
-    record { heap = refl; ranges = map_set_same range_of s.pools i (record (pool_at s.pools i) { free = free }) no_pool refl; stacks = refl }
+    record { heap = refl; ranges = map_set_same range_of s.parts.pools i (record (pool_at s.parts.pools i) { free = free }) no_pool refl; stacks = refl }
 
 kept_take_buffer : (i : ℕ) → LeavesPlaces (take_buffer i)
-kept_take_buffer i s = kept_take_first (pool_at s.pools i).free i s
+kept_take_buffer i s = kept_take_first (pool_at s.parts.pools i).free i s
 
 -- call 29
 pub kept_getbuf : (i : ℕ) → LeavesPlaces (getbuf i)
 kept_getbuf i s =
-    let sem = (pool_at s.pools i).semaphore in
-    kept_either (nat_lt i (length s.pools)) (await sem (rest.GetBuf i) (take_buffer i) s) (refused s) s
+    let sem = (pool_at s.parts.pools i).semaphore in
+    kept_either (nat_lt i (length s.parts.pools)) (await sem (rest.GetBuf i) (take_buffer i) s) (refused s) s
     (kept_await sem (rest.GetBuf i) (take_buffer i) (kept_take_buffer i) s) (kept_same s)
 
 -- the call `getbuf` goes on
@@ -42,7 +42,7 @@ kept_freed_by None a s = kept_same s
 kept_freed_by (Some i) a s = kept_put_back a i (begun s)
 
 pub kept_freebuf : (a : ℕ) → LeavesPlaces (freebuf a)
-kept_freebuf a s = kept_freed_by (holder a s.pools) a s
+kept_freebuf a s = kept_freed_by (holder a s.parts.pools) a s
 
 -- call 31
 kept_made_port : (found : Option ℕ) (q n send : ℕ) → LeavesPlaces (made_port found q n send)
@@ -70,7 +70,7 @@ kept_deleted_where (Some queue) q how s =
     (kept_then (kept_cleared how queue (begun s)) (kept_deleted q queue d)) (kept_same s)
 
 pub kept_ptdelete : (q how : ℕ) → LeavesPlaces (ptdelete q how)
-kept_ptdelete q how s = kept_deleted_where (port_at s.ports q).queue q how s
+kept_ptdelete q how s = kept_deleted_where (port_at s.parts.ports q).queue q how s
 
 -- call 33
 kept_emptied_port : (q : ℕ) (queue : PortQueue) (d : Doing) → KeepsPlaces d.state (emptied_port q queue d).state
@@ -84,7 +84,7 @@ kept_reset_where (Some queue) q how s =
     (kept_then (kept_cleared how queue (begun s)) (kept_emptied_port q queue d)) (kept_same s)
 
 pub kept_ptreset : (q how : ℕ) → LeavesPlaces (ptreset q how)
-kept_ptreset q how s = kept_reset_where (port_at s.ports q).queue q how s
+kept_ptreset q how s = kept_reset_where (port_at s.parts.ports q).queue q how s
 
 -- a port gets other messages
 kept_with_messages : (q : ℕ) (queue : PortQueue) (messages : List ℕ) (d : Doing) → KeepsPlaces d.state (with_messages q queue messages d).state
@@ -95,13 +95,13 @@ kept_put_message : (found : Option PortQueue) (q message : ℕ) → LeavesPlaces
 kept_put_message None q message s = kept_same s
 kept_put_message (Some queue) q message s =
     let d = with_messages q queue (queue.messages ++ message ∷ []) (begun s) in
-    kept_either (nat_le most_nodes (nodes s.ports)) (record { doing = begun s; answer = Panics }) (returns (signalled queue.receive d) (pos 0)) s
+    kept_either (nat_le most_nodes (nodes s.parts.ports)) (record { doing = begun s; answer = Panics }) (returns (signalled queue.receive d) (pos 0)) s
     (kept_same s) (kept_then (kept_with_messages q queue (queue.messages ++ message ∷ []) (begun s)) (kept_signalled queue.receive d))
 
 kept_finish_send : (ticket : PortTicket) (message : ℕ) → LeavesPlaces (finish_send ticket message)
 kept_finish_send ticket message s =
-    let found = (port_at s.ports ticket.port).queue in
-    kept_either (is_stale ticket s.ports) (refused s) (put_message found ticket.port message s) s (kept_same s) (kept_put_message found ticket.port message s)
+    let found = (port_at s.parts.ports ticket.port).queue in
+    kept_either (is_stale ticket s.parts.ports) (refused s) (put_message found ticket.port message s) s (kept_same s) (kept_put_message found ticket.port message s)
 
 -- a message is taken from a port
 kept_take_message : (messages : List ℕ) (queue : PortQueue) (q : ℕ) → LeavesPlaces (take_message messages queue q)
@@ -115,8 +115,8 @@ kept_take_from (Some queue) q s = kept_take_message queue.messages queue q s
 
 kept_finish_receive : (ticket : PortTicket) → LeavesPlaces (finish_receive ticket)
 kept_finish_receive ticket s =
-    let found = (port_at s.ports ticket.port).queue in
-    kept_either (is_stale ticket s.ports) (refused s) (take_from found ticket.port s) s (kept_same s) (kept_take_from found ticket.port s)
+    let found = (port_at s.parts.ports ticket.port).queue in
+    kept_either (is_stale ticket s.parts.ports) (refused s) (take_from found ticket.port s) s (kept_same s) (kept_take_from found ticket.port s)
 
 -- call 34
 kept_sent_to : (found : Option PortQueue) (q message : ℕ) → LeavesPlaces (sent_to found q message)
@@ -126,7 +126,7 @@ kept_sent_to (Some queue) q message s =
     kept_await queue.send (rest.PtSend ticket message) (finish_send ticket message) (kept_finish_send ticket message) s
 
 pub kept_ptsend : (q message : ℕ) → LeavesPlaces (ptsend q message)
-kept_ptsend q message s = kept_sent_to (port_at s.ports q).queue q message s
+kept_ptsend q message s = kept_sent_to (port_at s.parts.ports q).queue q message s
 
 -- call 35
 kept_received_from : (found : Option PortQueue) (q : ℕ) → LeavesPlaces (received_from found q)
@@ -136,7 +136,7 @@ kept_received_from (Some queue) q s =
     kept_await queue.receive (rest.PtRecv ticket) (finish_receive ticket) (kept_finish_receive ticket) s
 
 pub kept_ptrecv : (q : ℕ) → LeavesPlaces (ptrecv q)
-kept_ptrecv q s = kept_received_from (port_at s.ports q).queue q s
+kept_ptrecv q s = kept_received_from (port_at s.parts.ports q).queue q s
 
 -- the calls on ports go on
 pub kept_go_on_ptsend : (ticket : PortTicket) (message : ℕ) → LeavesPlaces (go_on_ptsend ticket message)

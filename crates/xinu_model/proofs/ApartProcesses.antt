@@ -45,17 +45,17 @@ new_stack h stack wanted x e same =
     inr (g.start, k, omega arith, omega arith, omega arith)
 
 -- A process is made on a stack of the heap.
-pub apart_made : (p : ℕ) (x : Process) (hart : Hart) (stack : Stack) (wanted : ℕ) (s : Xinu) → getstk (stack_size wanted) s.heap ≡ Some stack → stack_of x ≡ (stack.top, stack_size wanted) → IsApart s → IsApart (make_process p x hart stack s)
+pub apart_made : (p : ℕ) (x : Process) (hart : Hart) (stack : Stack) (wanted : ℕ) (s : Xinu) → getstk (stack_size wanted) s.parts.heap ≡ Some stack → stack_of x ≡ (stack.top, stack_size wanted) → IsApart s → IsApart (make_process p x hart stack s)
 apart_made p x hart stack wanted s e same apart =
-    let g = getstk_finds (stack_size wanted) s.heap stack e in
+    let g = getstk_finds (stack_size wanted) s.parts.heap stack e in
     let l = s.tables.processes in
     record {
-      low = low_stays s.heap stack.heap g.taken.low apart.low;
+      low = low_stays s.parts.heap stack.heap g.taken.low apart.low;
       stacks = each_set (HasStackIn stack.heap) l p x no_process
-          (new_stack s.heap stack wanted x e same)
-          (λ q. stack_stays s.heap stack.heap (process_at s.tables q) g.taken.low (as_many_cells g.taken) (apart.stacks q));
+          (new_stack s.parts.heap stack wanted x e same)
+          (λ q. stack_stays s.parts.heap stack.heap (process_at s.tables q) g.taken.low (as_many_cells g.taken) (apart.stacks q));
       claims = λ a.
-          let within : is_in_stack a x ≡ true → InCells s.heap.low g.start (cells_for (stack_size wanted)) a = λ h.
+          let within : is_in_stack a x ≡ true → InCells s.parts.heap.low g.start (cells_for (stack_size wanted)) a = λ h.
           (let parts = stack_parts a x h in
           let at = g.top in
           let whole = whole_stack wanted in
@@ -69,7 +69,7 @@ apart_made p x hart stack wanted s e same apart =
     }
 
 -- call 2
-apart_created : (number : Option ℕ) (found : Option Stack) (entry wanted : ℕ) (priority : ℤ) (name : List ℕ) (x y : ℕ) (s : Xinu) → getstk (stack_size wanted) s.heap ≡ found → IsApart s → IsApart (created number found entry (stack_size wanted) priority name x y s).doing.state
+apart_created : (number : Option ℕ) (found : Option Stack) (entry wanted : ℕ) (priority : ℤ) (name : List ℕ) (x y : ℕ) (s : Xinu) → getstk (stack_size wanted) s.parts.heap ≡ found → IsApart s → IsApart (created number found entry (stack_size wanted) priority name x y s).doing.state
 apart_created (Some p) (Some stack) entry wanted priority name x y s e apart =
     apart_made p (new_process name priority s.tables.current stack.top (stack_size wanted)) (new_hart entry stack.top x y) stack wanted s e refl apart
 apart_created (Some p) None entry wanted priority name x y s e apart = apart
@@ -79,22 +79,22 @@ pub apart_create : (entry size : ℕ) (priority : ℤ) (name x y : ℕ) (s : Xin
 apart_create entry size priority name x y s apart =
     let bytes = process_name (take 16 (drop name s.memory)) in
     cond_both (int_lt priority (pos 1) || not (in_ram name 16)) (refused s)
-    (created (free_process s.tables) (getstk (stack_size size) s.heap) entry (stack_size size) priority bytes x y s)
+    (created (free_process s.tables) (getstk (stack_size size) s.parts.heap) entry (stack_size size) priority bytes x y s)
     (λ (h : Handled). IsApart h.doing.state)
     (λ _. apart)
-    (λ _. apart_created (free_process s.tables) (getstk (stack_size size) s.heap) entry size priority bytes x y s refl apart)
+    (λ _. apart_created (free_process s.tables) (getstk (stack_size size) s.parts.heap) entry size priority bytes x y s refl apart)
 
 -- the machine without process p, with a heap
 abbrev without : ℕ → Heap → Xinu → Xinu
-without p u s = record s { tables = put p no_process None Nowhere s.tables; harts = set s.harts p no_hart; heap = u }
+without p u s = record s { tables = put p no_process None Nowhere s.tables; harts = set s.harts p no_hart; parts = record s.parts { heap = u } }
 
 -- a dead process leaves its stack as it is, where the heap refuses it
-apart_left : (p : ℕ) (s : Xinu) → IsApart s → IsApart (without p s.heap s)
+apart_left : (p : ℕ) (s : Xinu) → IsApart s → IsApart (without p s.parts.heap s)
 apart_left p s apart =
     let l = s.tables.processes in
     record {
       low = apart.low;
-      stacks = each_set (HasStackIn s.heap) l p no_process no_process (inl refl) apart.stacks;
+      stacks = each_set (HasStackIn s.parts.heap) l p no_process no_process (inl refl) apart.stacks;
       claims = λ a.
           let set = times_set (is_in_stack a) l p no_process no_process (empty_stack a no_process refl) in
           let none = ap one (empty_stack a no_process refl) in
@@ -111,18 +111,18 @@ stack_fills h x has =
     has
 
 -- and leaves it free, where the heap takes it
-apart_without : (p : ℕ) (u : Heap) (s : Xinu) → freestk (process_at s.tables p).stack (process_at s.tables p).stack_size s.heap ≡ Some u → IsApart s → IsApart (without p u s)
+apart_without : (p : ℕ) (u : Heap) (s : Xinu) → freestk (process_at s.tables p).stack (process_at s.tables p).stack_size s.parts.heap ≡ Some u → IsApart s → IsApart (without p u s)
 apart_without p u s e apart =
     let l = s.tables.processes in
     let x = process_at s.tables p in
-    let f = freestk_frees x.stack x.stack_size s.heap u apart.low e in
-    let fills = stack_fills s.heap x (apart.stacks p) in
+    let f = freestk_frees x.stack x.stack_size s.parts.heap u apart.low e in
+    let fills = stack_fills s.parts.heap x (apart.stacks p) in
     record {
-      low = low_stays s.heap u f.freed.low apart.low;
+      low = low_stays s.parts.heap u f.freed.low apart.low;
       stacks = each_set (HasStackIn u) l p no_process no_process (inl refl)
-          (λ q. stack_stays s.heap u (process_at s.tables q) f.freed.low (as_many_cells f.freed) (apart.stacks q));
+          (λ q. stack_stays s.parts.heap u (process_at s.tables q) f.freed.low (as_many_cells f.freed) (apart.stacks q));
       claims = λ a.
-          let within : InCells s.heap.low f.start (cells_for x.stack_size) a → is_in_stack a x ≡ true = λ i.
+          let within : InCells s.parts.heap.low f.start (cells_for x.stack_size) a → is_in_stack a x ≡ true = λ i.
           (let at = f.place in stack_from a x (let high = i.1 in omega arith) (let low = i.0 in omega arith)) in
           let more = claim_freed f.freed a (is_in_stack a x) within in
           let set = times_set (is_in_stack a) l p no_process no_process (empty_stack a no_process refl) in
@@ -132,14 +132,14 @@ apart_without p u s e apart =
     }
 
 -- a dead process, whether the heap takes its stack or not
-apart_either : (p : ℕ) (found : Option Heap) (s : Xinu) → freestk (process_at s.tables p).stack (process_at s.tables p).stack_size s.heap ≡ found → IsApart s → IsApart (without p (unwrap_or found s.heap) s)
+apart_either : (p : ℕ) (found : Option Heap) (s : Xinu) → freestk (process_at s.tables p).stack (process_at s.tables p).stack_size s.parts.heap ≡ found → IsApart s → IsApart (without p (unwrap_or found s.parts.heap) s)
 apart_either p None s e apart = apart_left p s apart
 apart_either p (Some u) s e apart = apart_without p u s e apart
 
 -- A process is buried.
 pub apart_buried : (p : ℕ) (x : Process) (d : Doing) → stack_of x ≡ stack_of (process_at d.state.tables p) → IsApart d.state → IsApart (buried p x d).state
 apart_buried p x d same apart =
-    let h = d.state.heap in
+    let h = d.state.parts.heap in
     let e : freestk (process_at d.state.tables p).stack (process_at d.state.tables p).stack_size h ≡ freestk x.stack x.stack_size h = sym (ap (λ (y : ℕ × ℕ). freestk y.0 y.1 h) same) in
     apart_either p (freestk x.stack x.stack_size h) d.state e apart
 

@@ -43,7 +43,7 @@ module _ {mine : Option Owner → Bool} {asks : Rest → Bool} (others : AreOthe
 
   pub leaves_create : (entry size : ℕ) (priority : ℤ) (name x y : ℕ) (s : Xinu) → LeavesOthers mine asks s (create entry size priority name x y s).doing.state
   leaves_create entry size priority name x y s = leaves_either mine asks s (int_lt priority (pos 1) || not (in_ram name 16)) _ _ (λ _. leaves_refl s)
-      (λ _. leaves_created (free_process s.tables) (heap.getstk (stack_size size) s.heap) entry (stack_size size) priority (process_name (take 16 (drop name s.memory))) x y s)
+      (λ _. leaves_created (free_process s.tables) (heap.getstk (stack_size size) s.parts.heap) entry (stack_size size) priority (process_name (take 16 (drop name s.memory))) x y s)
 
   -- Call 3.
   pub leaves_resume : (p : ℕ) (s : Xinu) → LeavesOthers mine asks s (resume p s).doing.state
@@ -89,7 +89,7 @@ module _ {mine : Option Owner → Bool} {asks : Rest → Bool} (others : AreOthe
   leaves_getprio p s = leaves_either mine asks s (is_free (state_at s.tables p)) _ _ (λ _. leaves_refl s) (λ _. leaves_refl s)
 
   -- another heap leaves all alone
-  leaves_heap : (h : Heap) (s : Xinu) → LeavesOthers mine asks s (record s { heap = h })
+  leaves_heap : (h : Heap) (s : Xinu) → LeavesOthers mine asks s (record s { parts = record s.parts { heap = h } })
   leaves_heap h s = record { tables = calm_refl s.tables; others = record { pools = refl; ports = refl; next_port = refl } }
 
   -- Call 10, by what is granted.

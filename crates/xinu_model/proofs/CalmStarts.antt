@@ -57,7 +57,7 @@ module _ {mine : Option Owner → Bool} {asks : Rest → Bool} (others : AreOthe
   leaves_all_made : (images : List Loaded) (i : ℕ) (s x : Xinu) → all_made i images s ≡ Boots x → LeavesOthers mine asks s x
   leaves_all_made [] i s x e = let f : s ≡ x = cc in subst (LeavesOthers mine asks s) f (leaves_refl s)
   leaves_all_made (image ∷ images) i s x e =
-      leaves_next (getstk (stack_size image.stack) s.heap) i image images s x (λ y f. leaves_all_made images (i + 1) y x f) e
+      leaves_next (getstk (stack_size image.stack) s.parts.heap) i image images s x (λ y f. leaves_all_made images (i + 1) y x f) e
 
   -- they become ready
   calm_all_ready : (images : List Loaded) (i : ℕ) (t : Tables) → IsCalm mine asks null_tables t → IsCalm mine asks null_tables (all_ready i images t)
@@ -105,7 +105,7 @@ module _ {mine : Option Owner → Bool} {asks : Rest → Bool} (others : AreOthe
       (λ h. both_ways (asks (process_at null_tables p).rest) (first_unasked p) (ap asks (sym ((leaves_start images start few e).tables.rests p h).0) ∙ h))
 
 -- Where the machine starts what holds of the pools holds: there are none.
-pub pools_start : (images : List Loaded) (start : Xinu) → length images < 64 → boot images ≡ Boots start → ArePools start.tables start.pools
+pub pools_start : (images : List Loaded) (start : Xinu) → length images < 64 → boot images ≡ Boots start → ArePools start.tables start.parts.pools
 pools_start images start few e =
     subst (ArePools start.tables) (sym (leaves_start pools_are_others images start few e).others.pools)
     (no_pools start.tables (start_other pools_are_others images start few e) (start_unasked pools_are_others images start few e))

@@ -15,9 +15,9 @@ use Rattle.xinu_model.proofs.Calm.{IsCalm, calm_refl, calm_trans}
 
 -- Pools and ports are as they were.
 pub record KeepsOthers (old new : Xinu) : Type 0 where
-  pub pools : new.pools ≡ old.pools
-  pub ports : new.ports ≡ old.ports
-  pub next_port : new.next_port ≡ old.next_port
+  pub pools : new.parts.pools ≡ old.parts.pools
+  pub ports : new.parts.ports ≡ old.parts.ports
+  pub next_port : new.parts.next_port ≡ old.parts.next_port
 
 -- where nothing of them is touched they are as they were
 pub keeps_refl : (s : Xinu) → KeepsOthers s s

@@ -29,10 +29,10 @@ first_calls_calm mine asks others a s o =
     (leaves_chprio others (a 0) (half (a 1)) s) ⨾
     (leaves_getprio others (a 0) s) ⨾
     (leaves_exit others s) ⨾
-    (leaves_granted others (heap.getmem (a 0) s.heap) s) ⨾
-    (leaves_given_back others (heap.freemem (a 0) (a 1) s.heap) s) ⨾
-    (leaves_stacked others (heap.getstk (a 0) s.heap) s) ⨾
-    (leaves_given_back others (heap.freestk (a 0) (a 1) s.heap) s) ⨾
+    (leaves_granted others (heap.getmem (a 0) s.parts.heap) s) ⨾
+    (leaves_given_back others (heap.freemem (a 0) (a 1) s.parts.heap) s) ⨾
+    (leaves_stacked others (heap.getstk (a 0) s.parts.heap) s) ⨾
+    (leaves_given_back others (heap.freestk (a 0) (a 1) s.parts.heap) s) ⨾
     (leaves_semcreate others (signed (a 0)) s) ⨾
     (leaves_semdelete others (a 0) s o) ⨾
     (leaves_semreset others (a 0) (signed (a 1)) s o) ⨾

@@ -22,16 +22,16 @@ given_back_fine (Some free) = λ s c. record { tables = c.tables; harts = c.hart
 
 -- Call 10.
 pub getmem_fine : (n : ℕ) → IsFineCall (getmem n)
-getmem_fine n s c = granted_fine (heap.getmem n s.heap) s c
+getmem_fine n s c = granted_fine (heap.getmem n s.parts.heap) s c
 
 -- Call 11.
 pub freemem_fine : (a n : ℕ) → IsFineCall (freemem a n)
-freemem_fine a n s c = given_back_fine (heap.freemem a n s.heap) s c
+freemem_fine a n s c = given_back_fine (heap.freemem a n s.parts.heap) s c
 
 -- Call 12.
 pub getstk_fine : (n : ℕ) → IsFineCall (getstk n)
-getstk_fine n s c = stacked_fine (heap.getstk n s.heap) s c
+getstk_fine n s c = stacked_fine (heap.getstk n s.parts.heap) s c
 
 -- Call 13.
 pub freestk_fine : (a n : ℕ) → IsFineCall (freestk a n)
-freestk_fine a n s c = given_back_fine (heap.freestk a n s.heap) s c
+freestk_fine a n s c = given_back_fine (heap.freestk a n s.parts.heap) s c

@@ -91,7 +91,7 @@ created_fine None stack entry size priority name x y s e c = refused_fine s c
 -- Call 2.
 pub create_fine : (entry size : ℕ) (priority : ℤ) (name x y : ℕ) → IsFineCall (create entry size priority name x y)
 create_fine entry size priority name x y s c = either_fine (int_lt priority (pos 1) || not (in_ram name 16)) _ _ (λ _. refused_fine s c)
-    (λ _. created_fine (free_process s.tables) (getstk (stack_size size) s.heap) entry (stack_size size) priority (process_name (take 16 (drop name s.memory))) x y s refl c)
+    (λ _. created_fine (free_process s.tables) (getstk (stack_size size) s.parts.heap) entry (stack_size size) priority (process_name (take 16 (drop name s.memory))) x y s refl c)
 
 -- Call 3.
 pub resume_fine : (p : ℕ) → IsFineCall (resume p)

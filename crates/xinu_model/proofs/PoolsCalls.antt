@@ -23,35 +23,35 @@ use Rattle.xinu_model.proofs.PoolsSteps.{pool_semaphore_within, owner_tokens, pr
 
 -- what holds of the pools holds in a state
 abbrev pub HavePools : Xinu → Type 0
-HavePools s = ArePools s.tables s.pools
+HavePools s = ArePools s.tables s.parts.pools
 
 -- Since the tables t, where what holds of the pools held, one promised buffer of pool i was taken; one of these free ones is given out.
-pools_taken : (t : Tables) (s : Xinu) (i : ℕ) (free : List ℕ) → ArePools t s.pools → i < length s.pools → (pool_at s.pools i).free ≡ free
+pools_taken : (t : Tables) (s : Xinu) (i : ℕ) (free : List ℕ) → ArePools t s.parts.pools → i < length s.parts.pools → (pool_at s.parts.pools i).free ≡ free
     → ((j : ℕ) → j ≢ i → IsCalm (is_pool j) (asks_pool j) t s.tables) → ((r : ℕ) → (semaphore_at s.tables r).owner ≡ (semaphore_at t r).owner)
-    → suc (promised i (pool_at s.pools i).semaphore s.tables) ≤ promised i (pool_at s.pools i).semaphore t → HavePools (take_first free i s).doing.state
-pools_taken t s i [] k here e calm owners h = let f = (k.each i here).enough in let g : length (pool_at s.pools i).free ≡ 0 = ap length e in absurd (omega arith)
+    → suc (promised i (pool_at s.parts.pools i).semaphore s.tables) ≤ promised i (pool_at s.parts.pools i).semaphore t → HavePools (take_first free i s).doing.state
+pools_taken t s i [] k here e calm owners h = let f = (k.each i here).enough in let g : length (pool_at s.parts.pools i).free ≡ 0 = ap length e in absurd (omega arith)
 pools_taken t s i (a ∷ free) k here e calm owners h =
-    let pool = pool_at s.pools i in
-    are_pools_set t s.tables s.pools i (record pool { free = free }) here (record { base = refl; size = refl; number = refl; semaphore = refl })
+    let pool = pool_at s.parts.pools i in
+    are_pools_set t s.tables s.parts.pools i (record pool { free = free }) here (record { base = refl; size = refl; number = refl; semaphore = refl })
     (pool_taken t s.tables i pool a free (k.each i here) e (owners pool.semaphore) h) calm owners k
 
 -- a buffer of pool i is awaited, by these tokens
-pools_awaited : (tokens i : ℕ) (s : Xinu) → tokens ≡ (semaphore_at s.tables (pool_at s.pools i).semaphore).tokens → IsSoundTables s.tables → HavePools s → i < length s.pools
-    → HavePools (take_token tokens (pool_at s.pools i).semaphore (GetBuf i) (take_buffer i) s).doing.state
+pools_awaited : (tokens i : ℕ) (s : Xinu) → tokens ≡ (semaphore_at s.tables (pool_at s.parts.pools i).semaphore).tokens → IsSoundTables s.tables → HavePools s → i < length s.parts.pools
+    → HavePools (take_token tokens (pool_at s.parts.pools i).semaphore (GetBuf i) (take_buffer i) s).doing.state
 pools_awaited zero i s e o k here =
     let t = s.tables in
-    let pool = pool_at s.pools i in
+    let pool = pool_at s.parts.pools i in
     let x = record (process_at t t.current) { state = Waiting; rest = GetBuf i } in
     let m = message_at t t.current in
     let place = InSemaphore pool.semaphore in
     let sound = k.each i here in
-    are_pools_kept t _ s.pools i here
+    are_pools_kept t _ s.parts.pools i here
     (pool_kept t _ i pool sound (owner_put t t.current x m place pool.semaphore)
     (promised_blocked t i pool.semaphore t.current x m place (let c = current_within t o in let n = o.inside.processes in omega arith) refl))
     (λ j n. calm_pool_blocked i j n pool.semaphore s sound.owner) (λ r. owner_put t t.current x m place r) k
 pools_awaited (suc n) i s e o k here =
     let t = s.tables in
-    let pool = pool_at s.pools i in
+    let pool = pool_at s.parts.pools i in
     let sound = k.each i here in
     pools_taken t (record s { tables = with_tokens pool.semaphore n t }) i pool.free k here refl
     (λ j other. calm_pool_token i j other t pool.semaphore n sound.owner) (λ r. owner_tokens t pool.semaphore n r)
@@ -60,16 +60,16 @@ pools_awaited (suc n) i s e o k here =
 -- Call 29.
 pub pools_getbuf : (i : ℕ) (s : Xinu) → IsSoundTables s.tables → HavePools s → HavePools (getbuf i s).doing.state
 pools_getbuf i s o k =
-    let semaphore = (pool_at s.pools i).semaphore in
-    cond_both (nat_lt i (length s.pools)) (await semaphore (GetBuf i) (take_buffer i) s) (refused s) (λ (h : Handled). HavePools h.doing.state)
-    (λ b. pools_awaited (semaphore_at s.tables semaphore).tokens i s refl o k (ltb-true i (length s.pools) b)) (λ _. k)
+    let semaphore = (pool_at s.parts.pools i).semaphore in
+    cond_both (nat_lt i (length s.parts.pools)) (await semaphore (GetBuf i) (take_buffer i) s) (refused s) (λ (h : Handled). HavePools h.doing.state)
+    (λ b. pools_awaited (semaphore_at s.tables semaphore).tokens i s refl o k (ltb-true i (length s.parts.pools) b)) (λ _. k)
 
 -- The call goes on.
 pub pools_go_on_getbuf : (i : ℕ) (s : Xinu) → IsSoundTables s.tables → HavePools s → (process_at s.tables s.tables.current).rest ≡ GetBuf i → HavePools (go_on_getbuf i s).doing.state
 pools_go_on_getbuf i s o k e =
     let t = s.tables in
     let x = record (process_at t t.current) { rest = Nothing } in
-    let pool = pool_at s.pools i in
+    let pool = pool_at s.parts.pools i in
     pools_taken t (goes_on (held s) s) i pool.free k (k.made t.current i e) refl
     (λ j other. calm_goes_on (pool_is_other j) (held s) s) (λ r. owner_put t t.current x (held s) Nowhere r)
     (promised_goes_on i pool.semaphore (held s) s (let c = current_within t o in let n = o.inside.processes in omega arith) o.runs e)
@@ -91,20 +91,20 @@ pub holder_finds : (a i : ℕ) (pools : List Pool) → holder a pools ≡ Some i
 holder_finds a i pools e = let r = holder_from_finds a 0 i pools e in subst (λ n. IsHolder a n pools) (let f = r.1 in omega arith) r.2
 
 -- What holds where nothing is given back, and where a held buffer is put back, holds of what is given back to the pool that has it.
-pub by_holder : (P : Doing → Type 0) (a : ℕ) (d : Doing) → P d → ((i : ℕ) → IsHolder a i d.state.pools → P (put_back a i d)) → P (freed_buffer a d)
-by_holder P a d none some = given (holder a d.state.pools) refl
+pub by_holder : (P : Doing → Type 0) (a : ℕ) (d : Doing) → P d → ((i : ℕ) → IsHolder a i d.state.parts.pools → P (put_back a i d)) → P (freed_buffer a d)
+by_holder P a d none some = given (holder a d.state.parts.pools) refl
   where
-    given : (found : Option ℕ) → holder a d.state.pools ≡ found → P (given_to found a d)
+    given : (found : Option ℕ) → holder a d.state.parts.pools ≡ found → P (given_to found a d)
     given None e = none
-    given (Some i) e = some i (holder_finds a i d.state.pools e)
+    given (Some i) e = some i (holder_finds a i d.state.parts.pools e)
 
 -- A held buffer is put back.
-pub pools_put_back : (a i : ℕ) (d : Doing) → IsOpen d.state.tables → HavePools d.state → IsHolder a i d.state.pools → HavePools (put_back a i d).state
+pub pools_put_back : (a i : ℕ) (d : Doing) → IsOpen d.state.tables → HavePools d.state → IsHolder a i d.state.parts.pools → HavePools (put_back a i d).state
 pools_put_back a i d o k h =
     let t = d.state.tables in
-    let pools = d.state.pools in
+    let pools = d.state.parts.pools in
     let pool = pool_at pools i in
-    let e = record d { state = record d.state { pools = set pools i (with_free a pool) } } in
+    let e = record d { state = record d.state { parts = record d.state.parts { pools = set pools i (with_free a pool) } } } in
     let u = (signalled pool.semaphore e).state.tables in
     let sound = k.each i h.within in
     subst (ArePools u) (sym (keeps_signalled pool.semaphore e).pools)
@@ -117,10 +117,10 @@ pub pools_freed_buffer : (a : ℕ) (d : Doing) → IsOpen d.state.tables → Hav
 pools_freed_buffer a d o k = by_holder (λ e. HavePools e.state) a d k (λ i h. pools_put_back a i d o k h)
 
 -- a process gives it back to the pool that has it
-pools_freed_by : (found : Option ℕ) (a : ℕ) (s : Xinu) → holder a s.pools ≡ found → IsOpen s.tables → HavePools s → HavePools (freed_by found a s).doing.state
+pools_freed_by : (found : Option ℕ) (a : ℕ) (s : Xinu) → holder a s.parts.pools ≡ found → IsOpen s.tables → HavePools s → HavePools (freed_by found a s).doing.state
 pools_freed_by None a s e o k = k
-pools_freed_by (Some i) a s e o k = pools_put_back a i (begun s) o k (holder_finds a i s.pools e)
+pools_freed_by (Some i) a s e o k = pools_put_back a i (begun s) o k (holder_finds a i s.parts.pools e)
 
 -- Call 30.
 pub pools_freebuf : (a : ℕ) (s : Xinu) → IsOpen s.tables → HavePools s → HavePools (freebuf a s).doing.state
-pools_freebuf a s o k = pools_freed_by (holder a s.pools) a s refl o k
+pools_freebuf a s o k = pools_freed_by (holder a s.parts.pools) a s refl o k

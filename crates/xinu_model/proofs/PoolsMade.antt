@@ -113,11 +113,11 @@ are_pools_made t pools sem base size n k few h free apart =
     }
 
 -- a pool is made, where memory and a semaphore are found
-pools_made_pool : (found : Option Grant) (sem : Option ℕ) (size n : ℕ) (s : Xinu) → free_semaphore s.tables ≡ sem → IsOpen s.tables → HavePools s → length s.pools < most_pools
+pools_made_pool : (found : Option Grant) (sem : Option ℕ) (size n : ℕ) (s : Xinu) → free_semaphore s.tables ≡ sem → IsOpen s.tables → HavePools s → length s.parts.pools < most_pools
     → HavePools (made_pool found sem size n s).doing.state
 pools_made_pool (Some grant) (Some sem) size n s e o k few =
-    cond_both (meets_pool grant.address (pool_bytes size n) s.pools) (refused s) (with_pool grant sem size n s) (λ (h : Handled). HavePools h.doing.state) (λ _. k)
-    (λ b. are_pools_made s.tables s.pools sem grant.address size n k few (let h = search_within (λ r. not (is_some (semaphore_at s.tables r).owner)) 128 (s.tables.last_semaphore + 1) sem e in let f = o.semaphores in omega arith) (free_semaphore_free s.tables sem e) b)
+    cond_both (meets_pool grant.address (pool_bytes size n) s.parts.pools) (refused s) (with_pool grant sem size n s) (λ (h : Handled). HavePools h.doing.state) (λ _. k)
+    (λ b. are_pools_made s.tables s.parts.pools sem grant.address size n k few (let h = search_within (λ r. not (is_some (semaphore_at s.tables r).owner)) 128 (s.tables.last_semaphore + 1) sem e in let f = o.semaphores in omega arith) (free_semaphore_free s.tables sem e) b)
 pools_made_pool (Some grant) None size n s e o k few = k
 pools_made_pool None sem size n s e o k few = k
 
@@ -125,7 +125,7 @@ pools_made_pool None sem size n s e o k few = k
 pub pools_mkbufpool : (size n : ℕ) (s : Xinu) → IsOpen s.tables → HavePools s → HavePools (mkbufpool size n s).doing.state
 pools_mkbufpool size n s o k =
     let fits = is_pool_size size n in
-    let few = nat_lt (length s.pools) most_pools in
-    cond_both (fits && few) (made_pool (getmem (pool_bytes (whole_words size) n) s.heap) (free_semaphore s.tables) (whole_words size) n s) (refused s) (λ (h : Handled). HavePools h.doing.state)
-    (λ b. pools_made_pool (getmem (pool_bytes (whole_words size) n) s.heap) (free_semaphore s.tables) (whole_words size) n s refl o k (ltb-true (length s.pools) most_pools (and_parts fits few b).1))
+    let few = nat_lt (length s.parts.pools) most_pools in
+    cond_both (fits && few) (made_pool (getmem (pool_bytes (whole_words size) n) s.parts.heap) (free_semaphore s.tables) (whole_words size) n s) (refused s) (λ (h : Handled). HavePools h.doing.state)
+    (λ b. pools_made_pool (getmem (pool_bytes (whole_words size) n) s.parts.heap) (free_semaphore s.tables) (whole_words size) n s refl o k (ltb-true (length s.parts.pools) most_pools (and_parts fits few b).1))
     (λ _. k)

@@ -38,8 +38,8 @@ pub record IgnoresPools (mine : Option Owner → Bool) (asks : Rest → Bool) : 
 -- The tables are calm and the ports are as they were.
 pub record LeavesPorts (mine : Option Owner → Bool) (asks : Rest → Bool) (old new : Xinu) : Type 0 where
   pub tables : IsCalm mine asks old.tables new.tables
-  pub ports : new.ports ≡ old.ports
-  pub next_port : new.next_port ≡ old.next_port
+  pub ports : new.parts.ports ≡ old.parts.ports
+  pub next_port : new.parts.next_port ≡ old.parts.next_port
 
 module _ {mine : Option Owner → Bool} {asks : Rest → Bool} (g : IgnoresPools mine asks) where
   -- where nothing happens the ports are left alone
@@ -57,9 +57,9 @@ module _ {mine : Option Owner → Bool} {asks : Rest → Bool} (g : IgnoresPools
   -- a pool is made, where memory and a semaphore are found
   leaves_made_pool : (found : Option Grant) (sem : Option ℕ) (size n : ℕ) (s : Xinu) → free_semaphore s.tables ≡ sem → LeavesPorts mine asks s (made_pool found sem size n s).doing.state
   leaves_made_pool (Some grant) (Some sem) size n s e =
-      cond_both (meets_pool grant.address (pool_bytes size n) s.pools) (refused s) (with_pool grant sem size n s) (λ (h : Handled). LeavesPorts mine asks s h.doing.state)
+      cond_both (meets_pool grant.address (pool_bytes size n) s.parts.pools) (refused s) (with_pool grant sem size n s) (λ (h : Handled). LeavesPorts mine asks s h.doing.state)
       (λ _. still s)
-      (λ _. let i = length s.pools in
+      (λ _. let i = length s.parts.pools in
       record { tables = calm_make_semaphore s.tables sem (owner.Pool i) n (ap mine (free_semaphore_free s.tables sem e) ∙ g.others.none) (g.owner i); ports = refl; next_port = refl })
   leaves_made_pool (Some grant) None size n s e = still s
   leaves_made_pool None sem size n s e = still s
@@ -67,9 +67,9 @@ module _ {mine : Option Owner → Bool} {asks : Rest → Bool} (g : IgnoresPools
   -- Call 28.
   pub mkbufpool_leaves : (size n : ℕ) (s : Xinu) → LeavesPorts mine asks s (mkbufpool size n s).doing.state
   mkbufpool_leaves size n s =
-      cond_both (is_pool_size size n && nat_lt (length s.pools) most_pools) (made_pool (getmem (pool_bytes (whole_words size) n) s.heap) (free_semaphore s.tables) (whole_words size) n s) (refused s)
+      cond_both (is_pool_size size n && nat_lt (length s.parts.pools) most_pools) (made_pool (getmem (pool_bytes (whole_words size) n) s.parts.heap) (free_semaphore s.tables) (whole_words size) n s) (refused s)
       (λ (h : Handled). LeavesPorts mine asks s h.doing.state)
-      (λ _. leaves_made_pool (getmem (pool_bytes (whole_words size) n) s.heap) (free_semaphore s.tables) (whole_words size) n s refl) (λ _. still s)
+      (λ _. leaves_made_pool (getmem (pool_bytes (whole_words size) n) s.parts.heap) (free_semaphore s.tables) (whole_words size) n s refl) (λ _. still s)
 
   -- the first of some free buffers is taken
   leaves_take_first : (free : List ℕ) (i : ℕ) (old s : Xinu) → LeavesPorts mine asks old s → LeavesPorts mine asks old (take_first free i s).doing.state
@@ -77,34 +77,34 @@ module _ {mine : Option Owner → Bool} {asks : Rest → Bool} (g : IgnoresPools
   leaves_take_first (a ∷ free) i old s k = record { tables = k.tables; ports = k.ports; next_port = k.next_port }
 
   -- a buffer of pool i is awaited, by these tokens
-  leaves_awaited : (tokens i : ℕ) (s : Xinu) → (semaphore_at s.tables (pool_at s.pools i).semaphore).owner ≡ Some (owner.Pool i)
-      → LeavesPorts mine asks s (take_token tokens (pool_at s.pools i).semaphore (GetBuf i) (take_buffer i) s).doing.state
+  leaves_awaited : (tokens i : ℕ) (s : Xinu) → (semaphore_at s.tables (pool_at s.parts.pools i).semaphore).owner ≡ Some (owner.Pool i)
+      → LeavesPorts mine asks s (take_token tokens (pool_at s.parts.pools i).semaphore (GetBuf i) (take_buffer i) s).doing.state
   leaves_awaited zero i s e =
-      let r = (pool_at s.pools i).semaphore in
+      let r = (pool_at s.parts.pools i).semaphore in
       record { tables = calm_blocked Waiting (GetBuf i) (InSemaphore r) s (pool_is_ignored s.tables r i e) (g.waits i); ports = refl; next_port = refl }
   leaves_awaited (suc n) i s e =
-      let pool = pool_at s.pools i in
+      let pool = pool_at s.parts.pools i in
       let x = record s { tables = with_tokens pool.semaphore n s.tables } in
       leaves_take_first pool.free i s x (record { tables = calm_tokens s.tables pool.semaphore n (pool_is_ignored s.tables pool.semaphore i e); ports = refl; next_port = refl })
 
   -- Call 29.
   pub getbuf_leaves : (i : ℕ) (s : Xinu) → HavePools s → LeavesPorts mine asks s (getbuf i s).doing.state
   getbuf_leaves i s k =
-      let r = (pool_at s.pools i).semaphore in
-      cond_both (nat_lt i (length s.pools)) (await r (GetBuf i) (take_buffer i) s) (refused s) (λ (h : Handled). LeavesPorts mine asks s h.doing.state)
-      (λ b. leaves_awaited (semaphore_at s.tables r).tokens i s (k.each i (ltb-true i (length s.pools) b)).owner) (λ _. still s)
+      let r = (pool_at s.parts.pools i).semaphore in
+      cond_both (nat_lt i (length s.parts.pools)) (await r (GetBuf i) (take_buffer i) s) (refused s) (λ (h : Handled). LeavesPorts mine asks s h.doing.state)
+      (λ b. leaves_awaited (semaphore_at s.tables r).tokens i s (k.each i (ltb-true i (length s.parts.pools) b)).owner) (λ _. still s)
 
   -- The call goes on.
   pub go_on_getbuf_leaves : (i : ℕ) (s : Xinu) → LeavesPorts mine asks s (go_on_getbuf i s).doing.state
   go_on_getbuf_leaves i s =
-      leaves_take_first (pool_at s.pools i).free i s (goes_on (held s) s) (record { tables = calm_goes_on g.others (held s) s; ports = refl; next_port = refl })
+      leaves_take_first (pool_at s.parts.pools i).free i s (goes_on (held s) s) (record { tables = calm_goes_on g.others (held s) s; ports = refl; next_port = refl })
 
   -- A held buffer is put back.
-  pub put_back_leaves : (a i : ℕ) (d : Doing) → IsOpen d.state.tables → HavePools d.state → IsHolder a i d.state.pools → LeavesPorts mine asks d.state (put_back a i d).state
+  pub put_back_leaves : (a i : ℕ) (d : Doing) → IsOpen d.state.tables → HavePools d.state → IsHolder a i d.state.parts.pools → LeavesPorts mine asks d.state (put_back a i d).state
   put_back_leaves a i d o k h =
       let t = d.state.tables in
-      let pool = pool_at d.state.pools i in
-      let e : Doing = record d { state = record d.state { pools = set d.state.pools i (with_free a pool) } } in
+      let pool = pool_at d.state.parts.pools i in
+      let e : Doing = record d { state = record d.state { parts = record d.state.parts { pools = set d.state.parts.pools i (with_free a pool) } } } in
       let by = (k.each i h.within).owner in
       let kept = keeps_signalled pool.semaphore e in
       record { tables = calm_signalled pool.semaphore e o (pool_is_ignored t pool.semaphore i by) (pool_unasked t pool.semaphore i by); ports = kept.ports; next_port = kept.next_port }
@@ -114,13 +114,13 @@ module _ {mine : Option Owner → Bool} {asks : Rest → Bool} (g : IgnoresPools
   freed_buffer_leaves a d o k = by_holder (λ e. LeavesPorts mine asks d.state e.state) a d (still d.state) (λ i h. put_back_leaves a i d o k h)
 
   -- the process gives it back to the pool that has it
-  leaves_freed_by : (found : Option ℕ) (a : ℕ) (s : Xinu) → holder a s.pools ≡ found → IsOpen s.tables → HavePools s → LeavesPorts mine asks s (freed_by found a s).doing.state
+  leaves_freed_by : (found : Option ℕ) (a : ℕ) (s : Xinu) → holder a s.parts.pools ≡ found → IsOpen s.tables → HavePools s → LeavesPorts mine asks s (freed_by found a s).doing.state
   leaves_freed_by None a s e o k = still s
-  leaves_freed_by (Some i) a s e o k = put_back_leaves a i (begun s) o k (holder_finds a i s.pools e)
+  leaves_freed_by (Some i) a s e o k = put_back_leaves a i (begun s) o k (holder_finds a i s.parts.pools e)
 
   -- Call 30.
   pub freebuf_leaves : (a : ℕ) (s : Xinu) → IsOpen s.tables → HavePools s → LeavesPorts mine asks s (freebuf a s).doing.state
-  freebuf_leaves a s o k = leaves_freed_by (holder a s.pools) a s refl o k
+  freebuf_leaves a s o k = leaves_freed_by (holder a s.parts.pools) a s refl o k
 
 -- What a call on a pool keeps: what holds of tables and pools, and the ports are left alone.
 pub record IsFineOnPools (s : Xinu) (h : Handled) : Type 0 where
@@ -146,4 +146,4 @@ go_on_getbuf_keeps i s c k e =
 
 -- What leaves the pools alone keeps what holds of them.
 pub pools_left : (s u : Xinu) → LeavesOthers is_pools asks_buffer s u → HavePools s → HavePools u
-pools_left s u l k = subst (ArePools u.tables) (sym l.others.pools) (are_pools_calm s.tables u.tables s.pools l.tables k)
+pools_left s u l k = subst (ArePools u.tables) (sym l.others.pools) (are_pools_calm s.tables u.tables s.parts.pools l.tables k)

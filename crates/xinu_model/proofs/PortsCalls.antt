@@ -21,7 +21,7 @@ use Rattle.xinu_model.proofs.PortsSends.{ptsend_on_ports, ptrecv_on_ports, go_on
 use Rattle.xinu_model.proofs.PortsSignals.{HasPorts}
 
 -- The calls 31 to 35 keep what holds of tables, pools and ports.
-pub port_calls_keep : (a : ℕ → ℕ) (s : Xinu) → MayCall s → ArePools s.tables s.pools → ArePorts s.tables s.ports → AllByRecursion (λ call. KeepsAll (call.effect a s)) (drop 30 effects)
+pub port_calls_keep : (a : ℕ → ℕ) (s : Xinu) → MayCall s → ArePools s.tables s.parts.pools → ArePorts s.tables s.parts.ports → AllByRecursion (λ call. KeepsAll (call.effect a s)) (drop 30 effects)
 unfolding effects
 port_calls_keep a s c p k = (
   keeps_all s (ptcreate (signed (a 0)) s) p (ptcreate_on_ports (signed (a 0)) s c k),
@@ -38,12 +38,12 @@ port_calls_keep a s c p k = (
 )
 
 -- So do a sender that waited and goes on,
-pub go_on_ptsend_keeps : (ticket : PortTicket) (message : ℕ) (s : Xinu) → MayCall s → ArePools s.tables s.pools → ArePorts s.tables s.ports
+pub go_on_ptsend_keeps : (ticket : PortTicket) (message : ℕ) (s : Xinu) → MayCall s → ArePools s.tables s.parts.pools → ArePorts s.tables s.parts.ports
     → (process_at s.tables s.tables.current).rest ≡ PtSend ticket message → KeepsAll (go_on_ptsend ticket message s)
 go_on_ptsend_keeps ticket message s c p k e = keeps_all s (go_on_ptsend ticket message s) p (go_on_ptsend_on_ports ticket message s c k e)
 
 -- and a receiver.
-pub go_on_ptrecv_keeps : (ticket : PortTicket) (s : Xinu) → MayCall s → ArePools s.tables s.pools → ArePorts s.tables s.ports
+pub go_on_ptrecv_keeps : (ticket : PortTicket) (s : Xinu) → MayCall s → ArePools s.tables s.parts.pools → ArePorts s.tables s.parts.ports
     → (process_at s.tables s.tables.current).rest ≡ PtRecv ticket → KeepsAll (go_on_ptrecv ticket s)
 go_on_ptrecv_keeps ticket s c p k e = keeps_all s (go_on_ptrecv ticket s) p (go_on_ptrecv_on_ports ticket s c k e)
 
@@ -59,9 +59,9 @@ pub open_fine : (h : Handled) → IsFine h → IsOpen h.doing.state.tables
 open_fine h k = open_fits h.answer h.doing.state.tables k.tables
 
 -- A state that the ports are left alone on the way to has what holds of them.
-pub ports_left : (s u : Xinu) → IsOpen u.tables → LeavesOthers is_ports asks_port s u → ArePorts s.tables s.ports → ArePorts u.tables u.ports
-ports_left s u o l a = subst (ArePorts u.tables) (sym l.others.ports) (ports_calm s.tables u.tables s.ports o l.tables a)
+pub ports_left : (s u : Xinu) → IsOpen u.tables → LeavesOthers is_ports asks_port s u → ArePorts s.tables s.parts.ports → ArePorts u.tables u.parts.ports
+ports_left s u o l a = subst (ArePorts u.tables) (sym l.others.ports) (ports_calm s.tables u.tables s.parts.ports o l.tables a)
 
 -- A call that leaves the ports alone keeps what holds of them.
-pub ports_left_by_call : (s : Xinu) (h : Handled) → IsFine h → LeavesOthers is_ports asks_port s h.doing.state → ArePorts s.tables s.ports → HasPorts h.doing
+pub ports_left_by_call : (s : Xinu) (h : Handled) → IsFine h → LeavesOthers is_ports asks_port s h.doing.state → ArePorts s.tables s.parts.ports → HasPorts h.doing
 ports_left_by_call s h k l a = ports_left s h.doing.state (open_fine h k) l a

@@ -25,13 +25,13 @@ use Rattle.xinu_model.proofs.PortsSignals.{HasPorts}
 pub record IsSoundInside (d : Doing) : Type 0 where
   pub tables : IsSoundTables d.state.tables
   pub harts : length d.state.harts ≡ 64
-  pub pools : ArePools d.state.tables d.state.pools
+  pub pools : ArePools d.state.tables d.state.parts.pools
   pub ports : HasPorts d
 
 -- it holds on, and the ports are as they were
 pub record KeepsInside (d e : Doing) : Type 0 where
   pub sound : IsSoundInside e
-  pub ports : e.state.ports ≡ d.state.ports
+  pub ports : e.state.parts.ports ≡ d.state.parts.ports
 
 -- the ports know nothing of the pools
 pub ports_ignore_pools : IgnoresPools is_ports asks_port
@@ -49,7 +49,7 @@ freed_buffer_keeps a d k =
         tables = sound;
         harts = ap length (harts_freed_buffer a d) ∙ k.harts;
         pools = pools_freed_buffer a d o k.pools;
-        ports = subst (ArePorts e.state.tables) (sym leaves.ports) (ports_calm d.state.tables e.state.tables d.state.ports sound.inside leaves.tables k.ports);
+        ports = subst (ArePorts e.state.tables) (sym leaves.ports) (ports_calm d.state.tables e.state.tables d.state.parts.ports sound.inside leaves.tables k.ports);
       };
       ports = leaves.ports;
     }
@@ -69,11 +69,11 @@ disposed_keeps how messages d k = cond_both (how == 1) (freed_buffers messages d
 -- What each call keeps: what holds of tables, pools and ports.
 pub record KeepsAll (h : Handled) : Type 0 where
   pub fine : IsFine h
-  pub pools : ArePools h.doing.state.tables h.doing.state.pools
+  pub pools : ArePools h.doing.state.tables h.doing.state.parts.pools
   pub ports : HasPorts h.doing
 
 -- a refusal keeps all
-refused_keeps : (s : Xinu) → MayCall s → ArePools s.tables s.pools → ArePorts s.tables s.ports → KeepsAll (refused s)
+refused_keeps : (s : Xinu) → MayCall s → ArePools s.tables s.parts.pools → ArePorts s.tables s.parts.ports → KeepsAll (refused s)
 refused_keeps s c p a = record { fine = refused_fine s c; pools = p; ports = a }
 
 -- who waits on a port's semaphore isn't to take a buffer
@@ -87,10 +87,10 @@ pub pools_ignore_ports : IgnoresPorts is_pools asks_buffer
 pools_ignore_ports = record { others = pools_are_others; ports = λ q. record { owner = refl; waits = asks_no_buffer q } }
 
 -- So what holds of the pools holds after a call on a port.
-pub keeps_all : (s : Xinu) (h : Handled) → ArePools s.tables s.pools → IsFineOnPorts s h → KeepsAll h
+pub keeps_all : (s : Xinu) (h : Handled) → ArePools s.tables s.parts.pools → IsFineOnPorts s h → KeepsAll h
 keeps_all s h p k = record {
   fine = k.fine;
-  pools = subst (ArePools h.doing.state.tables) (sym k.pools) (are_pools_calm s.tables h.doing.state.tables s.pools (k.calm is_pools asks_buffer pools_ignore_ports) p);
+  pools = subst (ArePools h.doing.state.tables) (sym k.pools) (are_pools_calm s.tables h.doing.state.tables s.parts.pools (k.calm is_pools asks_buffer pools_ignore_ports) p);
   ports = k.ports;
 }
 
@@ -98,16 +98,16 @@ keeps_all s h p k = record {
 renewed_keeps : (q : ℕ) (d e : Doing) → IsSoundInside d → IsRenewed q d e → KeepsAll (returns e (pos 0))
 renewed_keeps q d e k r = record {
   fine = record { tables = r.tables; harts = r.harts ∙ k.harts };
-  pools = subst (ArePools e.state.tables) (sym r.pools) (are_pools_calm d.state.tables e.state.tables d.state.pools (r.calm is_pools asks_buffer refl (pools_ignore_ports.ports q)) k.pools);
+  pools = subst (ArePools e.state.tables) (sym r.pools) (are_pools_calm d.state.tables e.state.tables d.state.parts.pools (r.calm is_pools asks_buffer refl (pools_ignore_ports.ports q)) k.pools);
   ports = r.ports;
 }
 
 -- what holds where a call begins
-begun_inside : (s : Xinu) → MayCall s → ArePools s.tables s.pools → ArePorts s.tables s.ports → IsSoundInside (begun s)
+begun_inside : (s : Xinu) → MayCall s → ArePools s.tables s.parts.pools → ArePorts s.tables s.parts.ports → IsSoundInside (begun s)
 begun_inside s c p a = record { tables = c.tables; harts = c.harts; pools = p; ports = a }
 
 -- a port in use is deleted
-deleted_keeps : (found : Option PortQueue) (q how : ℕ) (s : Xinu) → MayCall s → ArePools s.tables s.pools → ArePorts s.tables s.ports → (port_at s.ports q).queue ≡ found → KeepsAll (deleted_where found q how s)
+deleted_keeps : (found : Option PortQueue) (q how : ℕ) (s : Xinu) → MayCall s → ArePools s.tables s.parts.pools → ArePorts s.tables s.parts.ports → (port_at s.parts.ports q).queue ≡ found → KeepsAll (deleted_where found q how s)
 deleted_keeps None q how s c p a here = refused_keeps s c p a
 deleted_keeps (Some queue) q how s c p a here =
     let d = disposed how queue.messages (begun s) in
@@ -117,11 +117,11 @@ deleted_keeps (Some queue) q how s c p a here =
     (λ _. refused_keeps s c p a)
 
 -- Call 32.
-pub ptdelete_keeps : (q how : ℕ) (s : Xinu) → MayCall s → ArePools s.tables s.pools → ArePorts s.tables s.ports → KeepsAll (ptdelete q how s)
-ptdelete_keeps q how s c p a = deleted_keeps (port_at s.ports q).queue q how s c p a refl
+pub ptdelete_keeps : (q how : ℕ) (s : Xinu) → MayCall s → ArePools s.tables s.parts.pools → ArePorts s.tables s.parts.ports → KeepsAll (ptdelete q how s)
+ptdelete_keeps q how s c p a = deleted_keeps (port_at s.parts.ports q).queue q how s c p a refl
 
 -- a port in use is reset
-reset_keeps : (found : Option PortQueue) (q how : ℕ) (s : Xinu) → MayCall s → ArePools s.tables s.pools → ArePorts s.tables s.ports → (port_at s.ports q).queue ≡ found → KeepsAll (reset_where found q how s)
+reset_keeps : (found : Option PortQueue) (q how : ℕ) (s : Xinu) → MayCall s → ArePools s.tables s.parts.pools → ArePorts s.tables s.parts.ports → (port_at s.parts.ports q).queue ≡ found → KeepsAll (reset_where found q how s)
 reset_keeps None q how s c p a here = refused_keeps s c p a
 reset_keeps (Some queue) q how s c p a here =
     let d = disposed how queue.messages (begun s) in
@@ -131,5 +131,5 @@ reset_keeps (Some queue) q how s c p a here =
     (λ _. refused_keeps s c p a)
 
 -- Call 33.
-pub ptreset_keeps : (q how : ℕ) (s : Xinu) → MayCall s → ArePools s.tables s.pools → ArePorts s.tables s.ports → KeepsAll (ptreset q how s)
-ptreset_keeps q how s c p a = reset_keeps (port_at s.ports q).queue q how s c p a refl
+pub ptreset_keeps : (q how : ℕ) (s : Xinu) → MayCall s → ArePools s.tables s.parts.pools → ArePorts s.tables s.parts.ports → KeepsAll (ptreset q how s)
+ptreset_keeps q how s c p a = reset_keeps (port_at s.parts.ports q).queue q how s c p a refl

@@ -32,11 +32,11 @@ pub record IgnoresPorts (mine : Option Owner → Bool) (asks : Rest → Bool) : 
 pub record IsFineOnPorts (s : Xinu) (h : Handled) : Type 0 where
   pub fine : IsFine h
   pub ports : HasPorts h.doing
-  pub pools : h.doing.state.pools ≡ s.pools
+  pub pools : h.doing.state.parts.pools ≡ s.parts.pools
   pub calm : (mine : Option Owner → Bool) (asks : Rest → Bool) → IgnoresPorts mine asks → IsCalm mine asks s.tables h.doing.state.tables
 
 -- a refusal keeps all
-pub refused_on_ports : (s : Xinu) → MayCall s → ArePorts s.tables s.ports → IsFineOnPorts s (refused s)
+pub refused_on_ports : (s : Xinu) → MayCall s → ArePorts s.tables s.parts.ports → IsFineOnPorts s (refused s)
 refused_on_ports s c a = record { fine = refused_fine s c; ports = a; pools = refl; calm = λ mine asks i. calm_refl s.tables }
 
 -- a semaphore that is made is its owner's
@@ -48,7 +48,7 @@ made_other : (t : Tables) (s r tokens : ℕ) (by : Owner) → r ≢ s → semaph
 made_other t s r tokens by n = get_or-set_other t.semaphores s r (record { owner = Some by; tokens = tokens; waiters = [] }) no_semaphore n
 
 -- Port q is made with two semaphores that aren't in use.
-pub port_made : (q n send receive : ℕ) (s : Xinu) → MayCall s → ArePorts s.tables s.ports → q < most_ports → (port_at s.ports q).queue ≡ None
+pub port_made : (q n send receive : ℕ) (s : Xinu) → MayCall s → ArePorts s.tables s.parts.ports → q < most_ports → (port_at s.parts.ports q).queue ≡ None
     → send < 128 → (semaphore_at s.tables send).owner ≡ None → receive < 128 → (semaphore_at (make_semaphore send (owner.Port q) n s.tables) receive).owner ≡ None
     → IsFineOnPorts s (with_port q n send receive s)
 port_made q n send receive s c a w unused ws fs wr fr =
@@ -83,7 +83,7 @@ port_made q n send receive s c a w unused ws fs wr fr =
     (sym (ap (λ (x : Semaphore). x.owner) (made_other u receive r 0 by m)) ∙ e)) in
     record {
       fine = record { tables = kv; harts = c.harts };
-      ports = ports_renewed q (Some queue) t v s.ports w kv.inside (calm (is_other_port q) (asks_other_port q) refl (ignores_here q)) (record { rests = λ p h. refl })
+      ports = ports_renewed q (Some queue) t v s.parts.ports w kv.inside (calm (is_other_port q) (asks_other_port q) refl (ignores_here q)) (record { rests = λ p h. refl })
           (λ x f. subst (λ (y : PortQueue). IsNewPort v q y) (let g : queue ≡ x = cc in g) new)
           (λ r f. (queue, refl, owned r f)) refl a;
       pools = refl;
@@ -96,7 +96,7 @@ unused_queue None h = refl
 unused_queue (Some queue) h = cc
 
 -- the second semaphore is found or not
-made_on_ports : (found : Option ℕ) (q n send : ℕ) (s : Xinu) → MayCall s → ArePorts s.tables s.ports → q < most_ports → (port_at s.ports q).queue ≡ None
+made_on_ports : (found : Option ℕ) (q n send : ℕ) (s : Xinu) → MayCall s → ArePorts s.tables s.parts.ports → q < most_ports → (port_at s.parts.ports q).queue ≡ None
     → send < 128 → (semaphore_at s.tables send).owner ≡ None → free_semaphore (make_semaphore send (owner.Port q) n s.tables) ≡ found → IsFineOnPorts s (made_port found q n send s)
 made_on_ports None q n send s c a w unused ws fs e = refused_on_ports s c a
 made_on_ports (Some receive) q n send s c a w unused ws fs e =
@@ -105,16 +105,16 @@ made_on_ports (Some receive) q n send s c a w unused ws fs e =
     (search_within (λ r. not (is_some (semaphore_at u r).owner)) 128 (u.last_semaphore + 1) receive e) (free_semaphore_free u receive e)
 
 -- the number and the first semaphore are found or not
-begun_on_ports : (found first : Option ℕ) (n : ℕ) (s : Xinu) → MayCall s → ArePorts s.tables s.ports → free_port s ≡ found → free_semaphore s.tables ≡ first → IsFineOnPorts s (begun_port found first n s)
+begun_on_ports : (found first : Option ℕ) (n : ℕ) (s : Xinu) → MayCall s → ArePorts s.tables s.parts.ports → free_port s ≡ found → free_semaphore s.tables ≡ first → IsFineOnPorts s (begun_port found first n s)
 begun_on_ports None first n s c a e f = refused_on_ports s c a
 begun_on_ports (Some q) None n s c a e f = refused_on_ports s c a
 begun_on_ports (Some q) (Some send) n s c a e f =
-    let unused = λ (r : ℕ). not (is_used (port_at s.ports r)) in
+    let unused = λ (r : ℕ). not (is_used (port_at s.parts.ports r)) in
     made_on_ports (free_semaphore (make_semaphore send (owner.Port q) n s.tables)) q n send s c a
-    (search_within unused most_ports s.next_port q e) (unused_queue (port_at s.ports q).queue (search_passes unused most_ports s.next_port q e))
+    (search_within unused most_ports s.parts.next_port q e) (unused_queue (port_at s.parts.ports q).queue (search_passes unused most_ports s.parts.next_port q e))
     (search_within (λ r. not (is_some (semaphore_at s.tables r).owner)) 128 (s.tables.last_semaphore + 1) send f) (free_semaphore_free s.tables send f) refl
 
 -- Call 31.
-pub ptcreate_on_ports : (count : ℤ) (s : Xinu) → MayCall s → ArePorts s.tables s.ports → IsFineOnPorts s (ptcreate count s)
+pub ptcreate_on_ports : (count : ℤ) (s : Xinu) → MayCall s → ArePorts s.tables s.parts.ports → IsFineOnPorts s (ptcreate count s)
 ptcreate_on_ports (negsuc n) s c a = refused_on_ports s c a
 ptcreate_on_ports (pos n) s c a = begun_on_ports (free_port s) (free_semaphore s.tables) n s c a refl refl

@@ -29,7 +29,7 @@ pub record IsRenewed (q : ℕ) (d e : Doing) : Type 0 where
   pub tables : IsSoundTables e.state.tables
   pub harts : length e.state.harts ≡ length d.state.harts
   pub ports : HasPorts e
-  pub pools : e.state.pools ≡ d.state.pools
+  pub pools : e.state.parts.pools ≡ d.state.parts.pools
   pub calm : (mine : Option Owner → Bool) (asks : Rest → Bool) → mine None ≡ false → Ignores mine asks q → IsCalm mine asks d.state.tables e.state.tables
 
 -- what knows of the ports other than q ignores q
@@ -49,7 +49,7 @@ written_here : (t : Tables) (s : ℕ) (x : Semaphore) → IsSoundTables t → s 
 written_here t s x k w = get_or-set_same t.semaphores s x no_semaphore (let e = k.inside.semaphores in omega arith)
 
 -- A port is deleted.
-pub port_deleted : (q : ℕ) (queue : PortQueue) (d : Doing) → IsSoundTables d.state.tables → HasPorts d → (port_at d.state.ports q).queue ≡ Some queue
+pub port_deleted : (q : ℕ) (queue : PortQueue) (d : Doing) → IsSoundTables d.state.tables → HasPorts d → (port_at d.state.parts.ports q).queue ≡ Some queue
     → IsRenewed q d (deleted q queue (emptied queue.receive (emptied queue.send d)))
 port_deleted q queue d k a here =
     let i = a.each q queue here in
@@ -80,7 +80,7 @@ port_deleted q queue d k a here =
       tables = kv;
       harts = c.harts;
       ports = subst (λ l. ArePorts v (renewed q None l)) (sym c.others.ports)
-          (ports_renewed q None d.state.tables v d.state.ports (let w = port_within q queue d.state.ports here in let m = a.many in omega arith) kv.inside
+          (ports_renewed q None d.state.tables v d.state.parts.ports (let w = port_within q queue d.state.parts.ports here in let m = a.many in omega arith) kv.inside
           (calm (is_other_port q) (asks_other_port q) refl (ignores_here q))
           (keeps_rests_trans d.state.tables t v c.rests (keeps_rests_trans t u v (keeps_rests_semaphore t queue.send no_semaphore) (keeps_rests_semaphore u queue.receive no_semaphore)))
           (λ x f. cc) (λ s f. absurd (gone s f)) refl a);
@@ -93,7 +93,7 @@ waiters_tokens : (t : Tables) (s n r : ℕ) → (semaphore_at (with_tokens s n t
 waiters_tokens t s n r = same_written (λ (x : Semaphore). x.waiters) t.semaphores s r (record (semaphore_at t s) { tokens = n }) no_semaphore refl
 
 -- A port is reset.
-pub port_reset : (q : ℕ) (queue : PortQueue) (d : Doing) → IsSoundTables d.state.tables → HasPorts d → (port_at d.state.ports q).queue ≡ Some queue
+pub port_reset : (q : ℕ) (queue : PortQueue) (d : Doing) → IsSoundTables d.state.tables → HasPorts d → (port_at d.state.parts.ports q).queue ≡ Some queue
     → IsRenewed q d (emptied_port q queue (emptied queue.receive (emptied queue.send d)))
 port_reset q queue d k a here =
     let i = a.each q queue here in
@@ -131,7 +131,7 @@ port_reset q queue d k a here =
       tables = kv;
       harts = c.harts;
       ports = subst (λ l. ArePorts v (renewed q (Some next) l)) (sym c.others.ports)
-          (ports_renewed q (Some next) d.state.tables v d.state.ports (let w = port_within q queue d.state.ports here in let m = a.many in omega arith) kv.inside
+          (ports_renewed q (Some next) d.state.tables v d.state.parts.ports (let w = port_within q queue d.state.parts.ports here in let m = a.many in omega arith) kv.inside
           (calm (is_other_port q) (asks_other_port q) refl (ignores_here q))
           (keeps_rests_trans d.state.tables t v c.rests (keeps_rests_trans t u v (keeps_rests_semaphore t queue.send y) (keeps_rests_semaphore u queue.receive z)))
           (λ x f. subst (λ (w : PortQueue). IsNewPort v q w) (let g : next ≡ x = cc in g) new)

@@ -49,13 +49,13 @@ signal_on_ports q s value d k harts e a = record {
 }
 
 -- a sender puts its message, where the port is in use and has a node
-put_on_ports : (found : Option PortQueue) (q message : ℕ) (s : Xinu) → MayCall s → ArePorts s.tables s.ports → (port_at s.ports q).queue ≡ found
-    → ((queue : PortQueue) → found ≡ Some queue → HasRoom s.tables q (port_at s.ports q).seq queue) → IsFineOnPorts s (put_message found q message s)
+put_on_ports : (found : Option PortQueue) (q message : ℕ) (s : Xinu) → MayCall s → ArePorts s.tables s.parts.ports → (port_at s.parts.ports q).queue ≡ found
+    → ((queue : PortQueue) → found ≡ Some queue → HasRoom s.tables q (port_at s.parts.ports q).seq queue) → IsFineOnPorts s (put_message found q message s)
 put_on_ports None q message s c a here r = refused_on_ports s c a
 put_on_ports (Some queue) q message s c a here r =
     let ports = put_kept (Some queue) q message s here c.tables.inside r a in
     let d = with_messages q queue (queue.messages ++ message ∷ []) (begun s) in
-    go (nat_le most_nodes (nodes s.ports)) ports
+    go (nat_le most_nodes (nodes s.parts.ports)) ports
   where
     go : (full : Bool) → HasPorts (cond full (record { doing = begun s; answer = Panics }) (returns (signalled queue.receive (with_messages q queue (queue.messages ++ message ∷ []) (begun s))) (pos 0))).doing
         → IsFineOnPorts s (cond full (record { doing = begun s; answer = Panics }) (returns (signalled queue.receive (with_messages q queue (queue.messages ++ message ∷ []) (begun s))) (pos 0)))
@@ -65,18 +65,18 @@ put_on_ports (Some queue) q message s c a here r =
         record { fine = w.fine; ports = w.ports; pools = w.pools; calm = w.calm }
 
 -- A sender that has its token goes on.
-pub finish_send_on_ports : (ticket : PortTicket) (message : ℕ) (s : Xinu) → MayCall s → ArePorts s.tables s.ports → WhereFresh ticket s.ports (HasRoom s.tables ticket.port ticket.seq)
+pub finish_send_on_ports : (ticket : PortTicket) (message : ℕ) (s : Xinu) → MayCall s → ArePorts s.tables s.parts.ports → WhereFresh ticket s.parts.ports (HasRoom s.tables ticket.port ticket.seq)
     → IsFineOnPorts s (finish_send ticket message s)
 finish_send_on_ports ticket message s c a r =
-    let found = (port_at s.ports ticket.port).queue in
-    cond_both (is_stale ticket s.ports) (refused s) (put_message found ticket.port message s) (IsFineOnPorts s)
+    let found = (port_at s.parts.ports ticket.port).queue in
+    cond_both (is_stale ticket s.parts.ports) (refused s) (put_message found ticket.port message s) (IsFineOnPorts s)
     (λ _. refused_on_ports s c a)
-    (λ b. let e = fresh_seq ticket s.ports b in
+    (λ b. let e = fresh_seq ticket s.parts.ports b in
     put_on_ports found ticket.port message s c a refl (λ queue f. subst (λ n. HasRoom s.tables ticket.port n queue) (sym e) (r queue f e)))
 
 -- a receiver takes the first of these messages
-take_first_on_ports : (messages : List ℕ) (queue : PortQueue) (q : ℕ) (s : Xinu) → MayCall s → ArePorts s.tables s.ports → (port_at s.ports q).queue ≡ Some queue → queue.messages ≡ messages
-    → HasMessage s.tables q (port_at s.ports q).seq queue → IsFineOnPorts s (take_message messages queue q s)
+take_first_on_ports : (messages : List ℕ) (queue : PortQueue) (q : ℕ) (s : Xinu) → MayCall s → ArePorts s.tables s.parts.ports → (port_at s.parts.ports q).queue ≡ Some queue → queue.messages ≡ messages
+    → HasMessage s.tables q (port_at s.parts.ports q).seq queue → IsFineOnPorts s (take_message messages queue q s)
 take_first_on_ports [] queue q s c a here e r = refused_on_ports s c a
 take_first_on_ports (message ∷ messages) queue q s c a here e r =
     let w = signal_on_ports q queue.send (signed message) (with_messages q queue messages (begun s)) c.tables c.harts (a.each q queue here).send_owner
@@ -84,23 +84,23 @@ take_first_on_ports (message ∷ messages) queue q s c a here e r =
     record { fine = w.fine; ports = w.ports; pools = w.pools; calm = w.calm }
 
 -- where the port is in use
-take_on_ports : (found : Option PortQueue) (q : ℕ) (s : Xinu) → MayCall s → ArePorts s.tables s.ports → (port_at s.ports q).queue ≡ found
-    → ((queue : PortQueue) → found ≡ Some queue → HasMessage s.tables q (port_at s.ports q).seq queue) → IsFineOnPorts s (take_from found q s)
+take_on_ports : (found : Option PortQueue) (q : ℕ) (s : Xinu) → MayCall s → ArePorts s.tables s.parts.ports → (port_at s.parts.ports q).queue ≡ found
+    → ((queue : PortQueue) → found ≡ Some queue → HasMessage s.tables q (port_at s.parts.ports q).seq queue) → IsFineOnPorts s (take_from found q s)
 take_on_ports None q s c a here r = refused_on_ports s c a
 take_on_ports (Some queue) q s c a here r = take_first_on_ports queue.messages queue q s c a here refl (r queue refl)
 
 -- A receiver that has its token goes on.
-pub finish_receive_on_ports : (ticket : PortTicket) (s : Xinu) → MayCall s → ArePorts s.tables s.ports → WhereFresh ticket s.ports (HasMessage s.tables ticket.port ticket.seq)
+pub finish_receive_on_ports : (ticket : PortTicket) (s : Xinu) → MayCall s → ArePorts s.tables s.parts.ports → WhereFresh ticket s.parts.ports (HasMessage s.tables ticket.port ticket.seq)
     → IsFineOnPorts s (finish_receive ticket s)
 finish_receive_on_ports ticket s c a r =
-    let found = (port_at s.ports ticket.port).queue in
-    cond_both (is_stale ticket s.ports) (refused s) (take_from found ticket.port s) (IsFineOnPorts s)
+    let found = (port_at s.parts.ports ticket.port).queue in
+    cond_both (is_stale ticket s.parts.ports) (refused s) (take_from found ticket.port s) (IsFineOnPorts s)
     (λ _. refused_on_ports s c a)
-    (λ b. let e = fresh_seq ticket s.ports b in
+    (λ b. let e = fresh_seq ticket s.parts.ports b in
     take_on_ports found ticket.port s c a refl (λ queue f. subst (λ n. HasMessage s.tables ticket.port n queue) (sym e) (r queue f e)))
 
 -- What is kept from a state that differs from s in calm tables alone is kept from s.
-after_calm : (s u : Xinu) (h : Handled) → u.pools ≡ s.pools → ((mine : Option Owner → Bool) (asks : Rest → Bool) → IgnoresPorts mine asks → IsCalm mine asks s.tables u.tables)
+after_calm : (s u : Xinu) (h : Handled) → u.parts.pools ≡ s.parts.pools → ((mine : Option Owner → Bool) (asks : Rest → Bool) → IgnoresPorts mine asks → IsCalm mine asks s.tables u.tables)
     → IsFineOnPorts u h → IsFineOnPorts s h
 after_calm s u h pools calm k = record {
   fine = k.fine;
@@ -110,8 +110,8 @@ after_calm s u h pools calm k = record {
 }
 
 -- a caller takes one of these tokens of its port, or waits with this left of its call
-take_on_port : (tokens q sem : ℕ) (queue : PortQueue) (left : Rest) (then_ : Xinu → Handled) (s : Xinu) → MayCall s → ArePorts s.tables s.ports → (port_at s.ports q).queue ≡ Some queue
-    → tokens ≡ (semaphore_at s.tables sem).tokens → (semaphore_at s.tables sem).owner ≡ Some (owner.Port q) → IsForPort q sem left → IsCallOn s.ports q queue sem left
+take_on_port : (tokens q sem : ℕ) (queue : PortQueue) (left : Rest) (then_ : Xinu → Handled) (s : Xinu) → MayCall s → ArePorts s.tables s.parts.ports → (port_at s.parts.ports q).queue ≡ Some queue
+    → tokens ≡ (semaphore_at s.tables sem).tokens → (semaphore_at s.tables sem).owner ≡ Some (owner.Port q) → IsForPort q sem left → IsCallOn s.parts.ports q queue sem left
     → ((n : ℕ) → (semaphore_at s.tables sem).tokens ≡ suc n → MayCall (record s { tables = with_tokens sem n s.tables }) → IsFineOnPorts (record s { tables = with_tokens sem n s.tables }) (then_ (record s { tables = with_tokens sem n s.tables })))
     → IsFineOnPorts s (take_token tokens sem left then_ s)
 take_on_port zero q sem queue left then_ s c a here e o fits call go =
@@ -119,7 +119,7 @@ take_on_port zero q sem queue left then_ s c a here e o fits call go =
     let w = owned_within q sem t c.tables o in
     record {
       fine = blocked_fine Waiting left (InSemaphore sem) s c (refl, refl, refl) (w, sym e, subst (λ v. FitsOwner sem v left) (sym o) fits) (waits_hold sem (Some (owner.Port q)) left (message_at t t.current) fits);
-      ports = ports_wait q queue sem left t.current (message_at t t.current) t s.ports c.tables.inside (current_within t c.tables) here o call a;
+      ports = ports_wait q queue sem left t.current (message_at t t.current) t s.parts.ports c.tables.inside (current_within t c.tables) here o call a;
       pools = refl;
       calm = λ mine asks i. calm_blocked Waiting left (InSemaphore sem) s (ap mine o ∙ (i.ports q).owner) ((i.ports q).waits sem left fits);
     }
@@ -129,45 +129,45 @@ take_on_port (suc n) q sem queue left then_ s c a here e o fits call go =
     (go n (sym e) (tables_may_call s (with_tokens sem n s.tables) c (sound_token_taken s.tables sem n c.tables (owned_within q sem s.tables c.tables o) (sym e)) refl))
 
 -- a message for a port that is in use or not
-sent_on_ports : (found : Option PortQueue) (q message : ℕ) (s : Xinu) → MayCall s → ArePorts s.tables s.ports → (port_at s.ports q).queue ≡ found → IsFineOnPorts s (sent_to found q message s)
+sent_on_ports : (found : Option PortQueue) (q message : ℕ) (s : Xinu) → MayCall s → ArePorts s.tables s.parts.ports → (port_at s.parts.ports q).queue ≡ found → IsFineOnPorts s (sent_to found q message s)
 sent_on_ports None q message s c a here = refused_on_ports s c a
 sent_on_ports (Some queue) q message s c a here =
     let i = a.each q queue here in
     let ticket = ticket_of q queue.send s in
     take_on_port (semaphore_at s.tables queue.send).tokens q queue.send queue (PtSend ticket message) (finish_send ticket message) s c a here refl i.send_owner (refl, refl)
-    (sender_call q queue message s.ports i.differ)
+    (sender_call q queue message s.parts.ports i.differ)
     (λ n e k. let u = record s { tables = with_tokens queue.send n s.tables } in
-    let r = ports_take_room q queue n s.tables s.ports c.tables.inside here e a in
+    let r = ports_take_room q queue n s.tables s.parts.ports c.tables.inside here e a in
     finish_send_on_ports ticket message u k r.0
-    (λ other f g. subst (HasRoom u.tables q (port_at s.ports q).seq) (let h : Some queue ≡ Some other = sym here ∙ f in let v : queue ≡ other = cc in v) r.1))
+    (λ other f g. subst (HasRoom u.tables q (port_at s.parts.ports q).seq) (let h : Some queue ≡ Some other = sym here ∙ f in let v : queue ≡ other = cc in v) r.1))
 
 -- Call 34.
-pub ptsend_on_ports : (q message : ℕ) (s : Xinu) → MayCall s → ArePorts s.tables s.ports → IsFineOnPorts s (ptsend q message s)
-ptsend_on_ports q message s c a = sent_on_ports (port_at s.ports q).queue q message s c a refl
+pub ptsend_on_ports : (q message : ℕ) (s : Xinu) → MayCall s → ArePorts s.tables s.parts.ports → IsFineOnPorts s (ptsend q message s)
+ptsend_on_ports q message s c a = sent_on_ports (port_at s.parts.ports q).queue q message s c a refl
 
 -- a message of a port that is in use or not
-received_on_ports : (found : Option PortQueue) (q : ℕ) (s : Xinu) → MayCall s → ArePorts s.tables s.ports → (port_at s.ports q).queue ≡ found → IsFineOnPorts s (received_from found q s)
+received_on_ports : (found : Option PortQueue) (q : ℕ) (s : Xinu) → MayCall s → ArePorts s.tables s.parts.ports → (port_at s.parts.ports q).queue ≡ found → IsFineOnPorts s (received_from found q s)
 received_on_ports None q s c a here = refused_on_ports s c a
 received_on_ports (Some queue) q s c a here =
     let i = a.each q queue here in
     let ticket = ticket_of q queue.receive s in
     take_on_port (semaphore_at s.tables queue.receive).tokens q queue.receive queue (PtRecv ticket) (finish_receive ticket) s c a here refl i.receive_owner (refl, refl)
-    (receiver_call q queue s.ports i.differ)
+    (receiver_call q queue s.parts.ports i.differ)
     (λ n e k. let u = record s { tables = with_tokens queue.receive n s.tables } in
-    let r = ports_take_turn q queue n s.tables s.ports c.tables.inside here e a in
+    let r = ports_take_turn q queue n s.tables s.parts.ports c.tables.inside here e a in
     finish_receive_on_ports ticket u k r.0
-    (λ other f g. subst (HasMessage u.tables q (port_at s.ports q).seq) (let h : Some queue ≡ Some other = sym here ∙ f in let v : queue ≡ other = cc in v) r.1))
+    (λ other f g. subst (HasMessage u.tables q (port_at s.parts.ports q).seq) (let h : Some queue ≡ Some other = sym here ∙ f in let v : queue ≡ other = cc in v) r.1))
 
 -- Call 35.
-pub ptrecv_on_ports : (q : ℕ) (s : Xinu) → MayCall s → ArePorts s.tables s.ports → IsFineOnPorts s (ptrecv q s)
-ptrecv_on_ports q s c a = received_on_ports (port_at s.ports q).queue q s c a refl
+pub ptrecv_on_ports : (q : ℕ) (s : Xinu) → MayCall s → ArePorts s.tables s.parts.ports → IsFineOnPorts s (ptrecv q s)
+ptrecv_on_ports q s c a = received_on_ports (port_at s.parts.ports q).queue q s c a refl
 
 -- a ticket is one of its port, as it was
 own_ticket : (ticket : PortTicket) → is_ticket_of ticket.port ticket.seq ticket ≡ true
 own_ticket ticket = and_from (ticket.port == ticket.port) (ticket.seq == ticket.seq) (eq-eqb ticket.port ticket.port refl) (eq-eqb ticket.seq ticket.seq refl)
 
 -- A sender goes on that waited.
-pub go_on_ptsend_on_ports : (ticket : PortTicket) (message : ℕ) (s : Xinu) → MayCall s → ArePorts s.tables s.ports → (process_at s.tables s.tables.current).rest ≡ PtSend ticket message
+pub go_on_ptsend_on_ports : (ticket : PortTicket) (message : ℕ) (s : Xinu) → MayCall s → ArePorts s.tables s.parts.ports → (process_at s.tables s.tables.current).rest ≡ PtSend ticket message
     → IsFineOnPorts s (go_on_ptsend ticket message s)
 go_on_ptsend_on_ports ticket message s c a e =
     let t = s.tables in
@@ -177,11 +177,11 @@ go_on_ptsend_on_ports ticket message s c a e =
     let released : is_released_sender ticket.port ticket.seq x ≡ true = and_from (not (is_waiting x.state)) (sends_to ticket.port ticket.seq x.rest)
     (ap (λ v. not (is_waiting v)) c.tables.runs) (ap (sends_to ticket.port ticket.seq) e ∙ own_ticket ticket) in
     after_calm s u (finish_send ticket message u) refl (λ mine asks i. calm_goes_on i.others (held s) s)
-    (finish_send_on_ports ticket message u (goes_on_may_call (held s) s c) (ports_go_on t.current (held s) t s.ports w a)
+    (finish_send_on_ports ticket message u (goes_on_may_call (held s) s c) (ports_go_on t.current (held s) t s.parts.ports w a)
     (λ queue f g. room_go_on ticket.port ticket.seq t.current queue (held s) t w released (subst (λ n. IsSoundPort t ticket.port n queue) g (a.each ticket.port queue f))))
 
 -- A receiver goes on that waited.
-pub go_on_ptrecv_on_ports : (ticket : PortTicket) (s : Xinu) → MayCall s → ArePorts s.tables s.ports → (process_at s.tables s.tables.current).rest ≡ PtRecv ticket
+pub go_on_ptrecv_on_ports : (ticket : PortTicket) (s : Xinu) → MayCall s → ArePorts s.tables s.parts.ports → (process_at s.tables s.tables.current).rest ≡ PtRecv ticket
     → IsFineOnPorts s (go_on_ptrecv ticket s)
 go_on_ptrecv_on_ports ticket s c a e =
     let t = s.tables in
@@ -191,5 +191,5 @@ go_on_ptrecv_on_ports ticket s c a e =
     let released : is_released_receiver ticket.port ticket.seq x ≡ true = and_from (not (is_waiting x.state)) (receives_from ticket.port ticket.seq x.rest)
     (ap (λ v. not (is_waiting v)) c.tables.runs) (ap (receives_from ticket.port ticket.seq) e ∙ own_ticket ticket) in
     after_calm s u (finish_receive ticket u) refl (λ mine asks i. calm_goes_on i.others (held s) s)
-    (finish_receive_on_ports ticket u (goes_on_may_call (held s) s c) (ports_go_on t.current (held s) t s.ports w a)
+    (finish_receive_on_ports ticket u (goes_on_may_call (held s) s c) (ports_go_on t.current (held s) t s.parts.ports w a)
     (λ queue f g. message_go_on ticket.port ticket.seq t.current queue (held s) t w released (subst (λ n. IsSoundPort t ticket.port n queue) g (a.each ticket.port queue f))))

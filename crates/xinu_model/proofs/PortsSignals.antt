@@ -21,7 +21,7 @@ use Rattle.xinu_model.proofs.PoolsSteps.{at_most_one}
 
 -- what holds of the ports after a call
 abbrev pub HasPorts : Doing → Type 0
-HasPorts d = ArePorts d.state.tables d.state.ports
+HasPorts d = ArePorts d.state.tables d.state.parts.ports
 
 -- Where only port q is touched and its counts fit afterwards, what holds of the ports holds on.
 pub ports_touched : (q : ℕ) (queue : PortQueue) (t u : Tables) (ports : List Port) → ((r : ℕ) → KeepsPort r t u) → KeepsRests t u → ((r : ℕ) → q ≢ r → KeepsCounts r t u)
@@ -111,7 +111,7 @@ counts_wake_sender q seq p ticket message queue t j r m i =
 
 -- a signal on the semaphore of the messages, where these wait
 signal_receive : (q : ℕ) (queue : PortQueue) (waiters : List ℕ) (d : Doing) → IsOpen d.state.tables → waiters ≡ (semaphore_at d.state.tables queue.receive).waiters
-    → (port_at d.state.ports q).queue ≡ Some queue → HasMessage d.state.tables q (port_at d.state.ports q).seq queue → HasPorts d → HasPorts (signal_first queue.receive waiters d)
+    → (port_at d.state.parts.ports q).queue ≡ Some queue → HasMessage d.state.tables q (port_at d.state.parts.ports q).seq queue → HasPorts d → HasPorts (signal_first queue.receive waiters d)
 signal_receive q queue [] d o w here m a =
     let t = d.state.tables in
     let i = a.each q queue here in
@@ -121,17 +121,17 @@ signal_receive q queue [] d o w here m a =
     let f = ap (λ (x : Semaphore). x.tokens) (get_or-set_other t.semaphores queue.receive queue.send y no_semaphore i.differ) in
     let g = m.messages in
     let h = i.room in
-    ports_tokens q queue queue.receive n t d.state.ports o i.receive_owner here (record { messages = omega arith; room = omega arith }) a
+    ports_tokens q queue queue.receive n t d.state.parts.ports o i.receive_owner here (record { messages = omega arith; room = omega arith }) a
 signal_receive q queue (p ∷ ps) d o w here m a =
     let t = d.state.tables in
     let i = a.each q queue here in
     let c : 0 < count_in p (semaphore_at t queue.receive).waiters = subst (λ l. 0 < count_in p l) w (first_is_counted p ps) in
-    ports_wake q queue queue.receive p t d.state.ports o i.receive_owner c here
-    (counts_wake_receiver q (port_at d.state.ports q).seq p _ queue t (waiter_within queue.receive p t o c) (i.receivers p c) m i) a
+    ports_wake q queue queue.receive p t d.state.parts.ports o i.receive_owner c here
+    (counts_wake_receiver q (port_at d.state.parts.ports q).seq p _ queue t (waiter_within queue.receive p t o c) (i.receivers p c) m i) a
 
 -- the same on the semaphore of the room
 signal_send : (q : ℕ) (queue : PortQueue) (waiters : List ℕ) (d : Doing) → IsOpen d.state.tables → waiters ≡ (semaphore_at d.state.tables queue.send).waiters
-    → (port_at d.state.ports q).queue ≡ Some queue → HasRoom d.state.tables q (port_at d.state.ports q).seq queue → HasPorts d → HasPorts (signal_first queue.send waiters d)
+    → (port_at d.state.parts.ports q).queue ≡ Some queue → HasRoom d.state.tables q (port_at d.state.parts.ports q).seq queue → HasPorts d → HasPorts (signal_first queue.send waiters d)
 signal_send q queue [] d o w here m a =
     let t = d.state.tables in
     let i = a.each q queue here in
@@ -141,21 +141,21 @@ signal_send q queue [] d o w here m a =
     let f = ap (λ (x : Semaphore). x.tokens) (get_or-set_other t.semaphores queue.send queue.receive y no_semaphore (λ k. i.differ (sym k))) in
     let g = m.room in
     let h = i.messages in
-    ports_tokens q queue queue.send n t d.state.ports o i.send_owner here (record { messages = omega arith; room = omega arith }) a
+    ports_tokens q queue queue.send n t d.state.parts.ports o i.send_owner here (record { messages = omega arith; room = omega arith }) a
 signal_send q queue (p ∷ ps) d o w here m a =
     let t = d.state.tables in
     let i = a.each q queue here in
     let c : 0 < count_in p (semaphore_at t queue.send).waiters = subst (λ l. 0 < count_in p l) w (first_is_counted p ps) in
     let r = i.senders p c in
-    ports_wake q queue queue.send p t d.state.ports o i.send_owner c here
-    (counts_wake_sender q (port_at d.state.ports q).seq p _ r.0 queue t (waiter_within queue.send p t o c) r.1 m i) a
+    ports_wake q queue queue.send p t d.state.parts.ports o i.send_owner c here
+    (counts_wake_sender q (port_at d.state.parts.ports q).seq p _ r.0 queue t (waiter_within queue.send p t o c) r.1 m i) a
 
 -- A signal on the semaphore of the messages, where there is one without a token,
-pub ports_signal_receive : (q : ℕ) (queue : PortQueue) (d : Doing) → IsOpen d.state.tables → (port_at d.state.ports q).queue ≡ Some queue
-    → HasMessage d.state.tables q (port_at d.state.ports q).seq queue → HasPorts d → HasPorts (signalled queue.receive d)
+pub ports_signal_receive : (q : ℕ) (queue : PortQueue) (d : Doing) → IsOpen d.state.tables → (port_at d.state.parts.ports q).queue ≡ Some queue
+    → HasMessage d.state.tables q (port_at d.state.parts.ports q).seq queue → HasPorts d → HasPorts (signalled queue.receive d)
 ports_signal_receive q queue d o here m a = signal_receive q queue (semaphore_at d.state.tables queue.receive).waiters d o refl here m a
 
 -- and on the semaphore of the room, where there is some without a token.
-pub ports_signal_send : (q : ℕ) (queue : PortQueue) (d : Doing) → IsOpen d.state.tables → (port_at d.state.ports q).queue ≡ Some queue
-    → HasRoom d.state.tables q (port_at d.state.ports q).seq queue → HasPorts d → HasPorts (signalled queue.send d)
+pub ports_signal_send : (q : ℕ) (queue : PortQueue) (d : Doing) → IsOpen d.state.tables → (port_at d.state.parts.ports q).queue ≡ Some queue
+    → HasRoom d.state.tables q (port_at d.state.parts.ports q).seq queue → HasPorts d → HasPorts (signalled queue.send d)
 ports_signal_send q queue d o here m a = signal_send q queue (semaphore_at d.state.tables queue.send).waiters d o refl here m a

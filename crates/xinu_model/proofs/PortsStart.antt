@@ -34,7 +34,7 @@ no_ports t semaphores rests = record {
 }
 
 -- Where the machine starts what holds of the ports holds: none is in use.
-pub ports_start : (images : List Loaded) (start : Xinu) → length images < 64 → boot images ≡ Boots start → ArePorts start.tables start.ports
+pub ports_start : (images : List Loaded) (start : Xinu) → length images < 64 → boot images ≡ Boots start → ArePorts start.tables start.parts.ports
 ports_start images start few e =
     subst (ArePorts start.tables) (sym (leaves_start ports_others images start few e).others.ports)
     (no_ports start.tables (start_other ports_others images start few e) (start_unasked ports_others images start few e))

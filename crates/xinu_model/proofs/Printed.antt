@@ -93,7 +93,7 @@ pub prints_pool_given_back : printed pool_given_back ≡ pool_given_back_lines
 unfolding outcome_of effects first_semaphores first_ports
 prints_pool_given_back = refl
 
-pub shows_buffer_pool_pools : pool_lines 0 (outcome_of buffer_pool).state.pools ≡ buffer_pool_pools
+pub shows_buffer_pool_pools : pool_lines 0 (outcome_of buffer_pool).state.parts.pools ≡ buffer_pool_pools
 unfolding outcome_of effects first_semaphores first_ports
 shows_buffer_pool_pools = refl
 
@@ -117,7 +117,7 @@ pub shows_panics : (outcome_of panic).panicked ≡ true
 unfolding outcome_of effects first_semaphores first_ports
 shows_panics = refl
 
-pub shows_buffers_through_a_port_tables : pool_lines 0 (outcome_of buffers_through_a_port).state.pools ++ port_lines 0 (outcome_of buffers_through_a_port).state.ports ≡ buffers_through_a_port_tables
+pub shows_buffers_through_a_port_tables : pool_lines 0 (outcome_of buffers_through_a_port).state.parts.pools ++ port_lines 0 (outcome_of buffers_through_a_port).state.parts.ports ≡ buffers_through_a_port_tables
 unfolding outcome_of effects first_semaphores first_ports
 shows_buffers_through_a_port_tables = refl
 

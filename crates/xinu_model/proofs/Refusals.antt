@@ -70,7 +70,7 @@ created_tells None stack entry size priority name x y s e = refl
 create_tells : (entry size : ℕ) (priority : ℤ) (name x y : ℕ) (s : Xinu) → TellsRefusal s (create entry size priority name x y s)
 create_tells entry size priority name x y s =
     either_tells (int_lt priority (pos 1) || not (in_ram name 16)) s _ _ (λ _. refusal_tells s)
-    (λ _. created_tells (free_process s.tables) (getstk (stack_size size) s.heap) entry (stack_size size) priority (process_name (take 16 (drop name s.memory))) x y s)
+    (λ _. created_tells (free_process s.tables) (getstk (stack_size size) s.parts.heap) entry (stack_size size) priority (process_name (take 16 (drop name s.memory))) x y s)
 
 -- call 5
 kill_tells : (p : ℕ) (s : Xinu) → TellsRefusal s (kill p s)
@@ -133,15 +133,15 @@ sleep_tells (pos n) s = either_tells (nat_lt 2147483 n) s _ _ (λ _. refusal_tel
 
 -- a pool, where memory and a semaphore are found
 made_pool_tells : (found : Option Grant) (sem : Option ℕ) (size n : ℕ) (s : Xinu) → TellsRefusal s (made_pool found sem size n s)
-made_pool_tells (Some grant) (Some sem) size n s = either_tells (meets_pool grant.address (pool_bytes size n) s.pools) s _ _ (λ _. refusal_tells s) (λ _ e. cc)
+made_pool_tells (Some grant) (Some sem) size n s = either_tells (meets_pool grant.address (pool_bytes size n) s.parts.pools) s _ _ (λ _. refusal_tells s) (λ _ e. cc)
 made_pool_tells (Some grant) None size n s = refusal_tells s
 made_pool_tells None sem size n s = refusal_tells s
 
 -- call 28
 mkbufpool_tells : (size n : ℕ) (s : Xinu) → TellsRefusal s (mkbufpool size n s)
 mkbufpool_tells size n s =
-    guarded_tells (is_pool_size size n && nat_lt (length s.pools) most_pools) s _
-    (λ _. made_pool_tells (heap.getmem (pool_bytes (whole_words size) n) s.heap) (free_semaphore s.tables) (whole_words size) n s)
+    guarded_tells (is_pool_size size n && nat_lt (length s.parts.pools) most_pools) s _
+    (λ _. made_pool_tells (heap.getmem (pool_bytes (whole_words size) n) s.parts.heap) (free_semaphore s.tables) (whole_words size) n s)
 
 -- a buffer is taken where there is one
 take_first_tells : (free : List ℕ) (i : ℕ) (s x : Xinu) → 0 < length free → TellsRefusal s (take_first free i x)
@@ -153,12 +153,12 @@ made_number : (i n : ℕ) → nat_lt i n ≡ true → i < n
 made_number i n h = grind (arith, nat_tests)
 
 -- call 29: the pool has a free buffer for each token
-getbuf_tells : (i : ℕ) (s : Xinu) → ArePools s.tables s.pools → TellsRefusal s (getbuf i s)
+getbuf_tells : (i : ℕ) (s : Xinu) → ArePools s.tables s.parts.pools → TellsRefusal s (getbuf i s)
 getbuf_tells i s pools =
-    let pool = pool_at s.pools i in
-    guarded_tells (nat_lt i (length s.pools)) s _
+    let pool = pool_at s.parts.pools i in
+    guarded_tells (nat_lt i (length s.parts.pools)) s _
     (λ b. take_token_tells (semaphore_at s.tables pool.semaphore).tokens pool.semaphore (GetBuf i) (take_buffer i) s
-    (λ n e. take_first_tells pool.free i s (record s { tables = with_tokens pool.semaphore n s.tables }) (let k = (pools.each i (made_number i (length s.pools) b)).enough in omega arith)))
+    (λ n e. take_first_tells pool.free i s (record s { tables = with_tokens pool.semaphore n s.tables }) (let k = (pools.each i (made_number i (length s.parts.pools) b)).enough in omega arith)))
 
 -- call 30
 freed_by_tells : (found : Option ℕ) (a : ℕ) (s : Xinu) → TellsRefusal s (freed_by found a s)
@@ -195,23 +195,23 @@ reset_tells (Some queue) q how s = guarded_tells (nat_le how 1) s _ (λ _ e. cc)
 put_message_tells : (queue : PortQueue) (found : Option PortQueue) (q message : ℕ) (s x : Xinu) → found ≡ Some queue → TellsRefusal s (put_message found q message x)
 put_message_tells queue None q message s x e = cc
 put_message_tells queue (Some other) q message s x e =
-    cond_both (nat_le most_nodes (nodes x.ports)) (record { doing = begun x; answer = Panics }) _ (TellsRefusal s) (λ _ f. cc) (λ _ f. cc)
+    cond_both (nat_le most_nodes (nodes x.parts.ports)) (record { doing = begun x; answer = Panics }) _ (TellsRefusal s) (λ _ f. cc) (λ _ f. cc)
 
 -- a call that just began isn't behind its port
-fresh_ticket : (q sem : ℕ) (s : Xinu) (queue : PortQueue) → (port_at s.ports q).queue ≡ Some queue → is_stale (ticket_of q sem s) s.ports ≡ false
+fresh_ticket : (q sem : ℕ) (s : Xinu) (queue : PortQueue) → (port_at s.parts.ports q).queue ≡ Some queue → is_stale (ticket_of q sem s) s.parts.ports ≡ false
 fresh_ticket q sem s queue e =
-    ap (λ o. not (is_some o) || not ((port_at s.ports q).seq == (port_at s.ports q).seq)) e
-    ∙ ap (λ b. not b) (eq-eqb (port_at s.ports q).seq (port_at s.ports q).seq refl)
+    ap (λ o. not (is_some o) || not ((port_at s.parts.ports q).seq == (port_at s.parts.ports q).seq)) e
+    ∙ ap (λ b. not b) (eq-eqb (port_at s.parts.ports q).seq (port_at s.parts.ports q).seq refl)
 
 -- call 34
-sent_to_tells : (found : Option PortQueue) (q message : ℕ) (s : Xinu) → (port_at s.ports q).queue ≡ found → TellsRefusal s (sent_to found q message s)
+sent_to_tells : (found : Option PortQueue) (q message : ℕ) (s : Xinu) → (port_at s.parts.ports q).queue ≡ found → TellsRefusal s (sent_to found q message s)
 sent_to_tells None q message s e = refusal_tells s
 sent_to_tells (Some queue) q message s e =
     let ticket = ticket_of q queue.send s in
     take_token_tells (semaphore_at s.tables queue.send).tokens queue.send (PtSend ticket message) (finish_send ticket message) s
     (λ n f. let x = record s { tables = with_tokens queue.send n s.tables } in
-    subst (λ b. TellsRefusal s (cond b (refused x) (put_message (port_at s.ports q).queue q message x))) (sym (fresh_ticket q queue.send s queue e))
-    (put_message_tells queue (port_at s.ports q).queue q message s x e))
+    subst (λ b. TellsRefusal s (cond b (refused x) (put_message (port_at s.parts.ports q).queue q message x))) (sym (fresh_ticket q queue.send s queue e))
+    (put_message_tells queue (port_at s.parts.ports q).queue q message s x e))
 
 -- What holds of a refusal and of what each call of a table does, where the number is that call's, holds of what the table does.
 effect_of_number : (P : Handled → Type 0) (calls : List CallEffect) (number : ℕ) (a : ℕ → ℕ) (s : Xinu)
@@ -225,7 +225,7 @@ no_value : (number n : ℕ) (P : Type 0) → tells_refusal number ≡ true → t
 no_value number n P tells doesnt e = absurd (false≢true (sym doesnt ∙ subst (λ k. tells_refusal k ≡ true) e tells))
 
 -- the calls of the table
-effects_tell : (number : ℕ) (a : ℕ → ℕ) (s : Xinu) → ArePools s.tables s.pools → tells_refusal number ≡ true
+effects_tell : (number : ℕ) (a : ℕ → ℕ) (s : Xinu) → ArePools s.tables s.parts.pools → tells_refusal number ≡ true
     → AllByRecursion (λ call. number ≡ call.number → TellsRefusal s (call.effect a s)) effects
 unfolding effects
 effects_tell number a s pools tells =
@@ -238,10 +238,10 @@ effects_tell number a s pools tells =
     (no_value number 7 _ tells refl) ⨾
     (no_value number 8 _ tells refl) ⨾
     (λ e f. cc) ⨾
-    (λ e. granted_tells (heap.getmem (a 0) s.heap) s) ⨾
-    (λ e. given_back_tells (heap.freemem (a 0) (a 1) s.heap) s) ⨾
-    (λ e. stacked_tells (heap.getstk (a 0) s.heap) s) ⨾
-    (λ e. given_back_tells (heap.freestk (a 0) (a 1) s.heap) s) ⨾
+    (λ e. granted_tells (heap.getmem (a 0) s.parts.heap) s) ⨾
+    (λ e. given_back_tells (heap.freemem (a 0) (a 1) s.parts.heap) s) ⨾
+    (λ e. stacked_tells (heap.getstk (a 0) s.parts.heap) s) ⨾
+    (λ e. given_back_tells (heap.freestk (a 0) (a 1) s.parts.heap) s) ⨾
     (λ e. semcreate_tells (signed (a 0)) s) ⨾
     (λ e. guarded_tells (is_good (a 0) s.tables) s _ (λ _ f. cc)) ⨾
     (λ e. semreset_tells (a 0) (signed (a 1)) s) ⨾
@@ -258,16 +258,16 @@ effects_tell number a s pools tells =
     (λ e f. cc) ⨾
     (λ e. mkbufpool_tells (a 0) (a 1) s) ⨾
     (λ e. getbuf_tells (a 0) s pools) ⨾
-    (λ e. freed_by_tells (holder (a 0) s.pools) (a 0) s) ⨾
+    (λ e. freed_by_tells (holder (a 0) s.parts.pools) (a 0) s) ⨾
     (λ e. ptcreate_tells (signed (a 0)) s) ⨾
-    (λ e. deleted_tells (port_at s.ports (a 0)).queue (a 0) (a 1) s) ⨾
-    (λ e. reset_tells (port_at s.ports (a 0)).queue (a 0) (a 1) s) ⨾
-    (λ e. sent_to_tells (port_at s.ports (a 0)).queue (a 0) (a 1) s refl) ⨾
+    (λ e. deleted_tells (port_at s.parts.ports (a 0)).queue (a 0) (a 1) s) ⨾
+    (λ e. reset_tells (port_at s.parts.ports (a 0)).queue (a 0) (a 1) s) ⨾
+    (λ e. sent_to_tells (port_at s.parts.ports (a 0)).queue (a 0) (a 1) s refl) ⨾
     (no_value number 35 _ tells refl) ⨾
     tt
 
 -- A call that answers -1 was refused, where its number tells so.
-pub refusals_are_told : (number : ℕ) (args : List ℕ) (s : Xinu) → ArePools s.tables s.pools → tells_refusal number ≡ true
+pub refusals_are_told : (number : ℕ) (args : List ℕ) (s : Xinu) → ArePools s.tables s.parts.pools → tells_refusal number ≡ true
     → (called number args s).answer ≡ Returns (negsuc 0) → called number args s ≡ refused s
 refusals_are_told number args s pools tells =
     cond_both (is_built number) (effect_in effects number (slice_index args) s) (refused s) (TellsRefusal s)

@@ -28,8 +28,8 @@ use Rattle.xinu_model.proofs.PortsKept.{is_ports, asks_port, ports_others, ports
 -- Where a process calls, and what holds of pools and ports.
 pub record MayCallAny (s : Xinu) : Type 0 where
   pub may : MayCall s
-  pub pools : ArePools s.tables s.pools
-  pub ports : ArePorts s.tables s.ports
+  pub pools : ArePools s.tables s.parts.pools
+  pub ports : ArePorts s.tables s.parts.ports
 
 -- what holds of each of two lists at once
 all_both : {A : Type 0} (P Q R : A → Type 0) → ((x : A) → P x → Q x → R x) → (xs : List A) → AllByRecursion P xs → AllByRecursion Q xs → AllByRecursion R xs
@@ -57,7 +57,7 @@ keeps_on_pools s h c k =
     record {
       fine = k.fine;
       pools = k.pools;
-      ports = subst (ArePorts h.doing.state.tables) (sym left.ports) (ports_calm s.tables h.doing.state.tables s.ports (open_fine h k.fine) left.tables c.ports);
+      ports = subst (ArePorts h.doing.state.tables) (sym left.ports) (ports_calm s.tables h.doing.state.tables s.parts.ports (open_fine h k.fine) left.tables c.ports);
     }
 
 -- Each call of the table.

@@ -146,8 +146,8 @@ made_on_stack (Some stack) i image s y e = (stack, cc)
 pub all_are_made : (images : List Loaded) (i : ℕ) (s x : Xinu) → AreMade i s → 0 < i → i + length images ≤ 64 → all_made i images s ≡ Boots x → AreMade (i + length images) x
 all_are_made [] i s x m z w e = let f : s ≡ x = cc in let g : i ≡ i + 0 = omega arith in subst (λ k. AreMade k x) g (subst (AreMade i) f m)
 all_are_made (image ∷ images) i s x m z w e =
-    let b = boots_from (where_stack (getstk (stack_size image.stack) s.heap) i image s) (λ y. all_made (i + 1) images y) x e in
-    let on = made_on_stack (getstk (stack_size image.stack) s.heap) i image s b.0 b.1 in
+    let b = boots_from (where_stack (getstk (stack_size image.stack) s.parts.heap) i image s) (λ y. all_made (i + 1) images y) x e in
+    let on = made_on_stack (getstk (stack_size image.stack) s.parts.heap) i image s b.0 b.1 in
     let g : i + 1 + length images ≡ i + suc (length images) = omega arith in
     subst (λ k. AreMade k x) g
     (all_are_made images (i + 1) b.0 x (subst (AreMade (i + 1)) on.1 (next_made i image on.0 s m z (omega arith))) (omega arith) (omega arith) b.2)

@@ -21,11 +21,11 @@ is_in_stack a x = nat_lt a (x.stack + 4) && nat_le (x.stack + 4) (a + x.stack_si
 
 -- how many pools and stacks have an address
 abbrev pub holders : Xinu → ℕ → ℕ
-holders s a = times (is_in_pool a) s.pools + times (is_in_stack a) s.tables.processes
+holders s a = times (is_in_pool a) s.parts.pools + times (is_in_stack a) s.tables.processes
 
 -- how many of the free cells, the pools and the stacks have an address
 abbrev pub claims : Xinu → ℕ → ℕ
-claims s a = cond (is_in_free a s.heap) 1 0 + holders s a
+claims s a = cond (is_in_free a s.parts.heap) 1 0 + holders s a
 
 -- the stack of a process is empty, or whole cells of the heap
 abbrev pub HasStackIn : Heap → Process → Type 0
@@ -34,6 +34,6 @@ HasStackIn h x =
 
 -- Each stack is empty or whole cells of the heap, and no address is claimed twice.
 pub record IsApart (s : Xinu) : Type 0 where
-  pub low : s.heap.low % 8 ≡ 0
-  pub stacks : (p : ℕ) → HasStackIn s.heap (process_at s.tables p)
+  pub low : s.parts.heap.low % 8 ≡ 0
+  pub stacks : (p : ℕ) → HasStackIn s.parts.heap (process_at s.tables p)
   pub claims : (a : ℕ) → claims s a ≤ 1

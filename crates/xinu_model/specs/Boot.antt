@@ -5,10 +5,9 @@ use Rattle.xinu_base.specs.declared.processes.Process.{Process}
 use Rattle.xinu_base.specs.declared.processes.State.TheVariants.{Current}
 use Rattle.xinu_base.specs.declared.semaphores.Owner.TheVariants.{Device}
 use Rattle.xinu_model.specs.Heap.{Heap, cells_for, Stack, getstk}
-use Rattle.xinu_model.specs.Machine.{Xinu, no_hart}
+use Rattle.xinu_model.specs.Machine.{Xinu, first_parts, no_hart}
 use Rattle.xinu_model.specs.Memory.{ram_size, with_bytes, zeros, ranges_meet}
 use Rattle.xinu_model.specs.Moves.{resched, wake}
-use Rattle.xinu_model.specs.Ports.{first_ports}
 use Rattle.xinu_model.specs.ProcessCalls.{stack_size, new_hart, new_process, make_process}
 use Rattle.xinu_model.specs.Tables.{Semaphore, no_process, no_semaphore, Tables}
 
@@ -103,10 +102,7 @@ loaded images = record {
   tables = null_tables;
   harts = replicate 64 no_hart;
   memory = with_images images zeros;
-  heap = fresh_heap images;
-  pools = [];
-  ports = first_ports;
-  next_port = 0;
+  parts = first_parts (fresh_heap images);
 }
 
 -- the name of the first process of image i
@@ -147,7 +143,7 @@ where_stack (Some stack) i image s = Boots (with_image i image stack s)
 abbrev pub all_made : ℕ → List Loaded → Xinu → Start
 all_made i [] s = Boots s
 all_made i (image ∷ images) s =
-    and_then (where_stack (getstk (stack_size image.stack) s.heap) i image s) (λ x. all_made (i + 1) images x)
+    and_then (where_stack (getstk (stack_size image.stack) s.parts.heap) i image s) (λ x. all_made (i + 1) images x)
 
 -- the processes of the images are woken, with one resched
 abbrev pub all_woken : List Loaded → Xinu → Xinu

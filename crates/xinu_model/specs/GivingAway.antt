@@ -29,8 +29,8 @@ pub record GivesAway (old : Xinu) (e : Event) (new : Xinu) : Type 0 where
   pub call : (next old).outcome ≡ Call
   pub number : gives_back (call_of (next old).hart).number ≡ true
   pub address : ℕ
-  pub taken : is_in_free address old.heap ≡ false
-  pub free : is_in_free address new.heap ≡ true
+  pub taken : is_in_free address old.parts.heap ≡ false
+  pub free : is_in_free address new.parts.heap ≡ true
   pub held : 0 < holders old address
 
 -- In a run of these events nothing that is held is given away, as long as it goes on.

@@ -9,20 +9,28 @@ use Rattle.xinu_base.specs.declared.lines.TranscriptLine.TheVariants.{Return, Ru
 use Rattle.xinu_model.specs.Heap.{Heap}
 use Rattle.xinu_model.specs.Moves.{resched, wake}
 use Rattle.xinu_model.specs.Pools.{Pool}
-use Rattle.xinu_model.specs.Ports.{Port}
+use Rattle.xinu_model.specs.Ports.{Port, first_ports}
 use Rattle.xinu_model.specs.Tables.{Tables, process_at, message_at, Place, Nowhere, put}
 use Rattle.xinu_model.specs.Words.{word}
 
--- The tables, the registers of each process by number, RAM, the heap, the pools in the order in which they were made, the
--- ports by number, and the port at which the next search begins.
-pub record Xinu : Type 0 where
-  pub tables : Tables
-  pub harts : List Hart
-  pub memory : List ℕ
+-- The parts of the state besides tables, registers and RAM: the heap, the pools in the order in which they were made, the ports by
+-- number, and the port at which the next search begins.
+pub record Parts : Type 0 where
   pub heap : Heap
   pub pools : List Pool
   pub ports : List Port
   pub next_port : ℕ
+
+-- the parts at the start, with this heap: no pool was made, and no port is in use
+abbrev pub first_parts : Heap → Parts
+first_parts heap = record { heap = heap; pools = []; ports = first_ports; next_port = 0 }
+
+-- The tables, the registers of each process by number, RAM, and the other parts.
+pub record Xinu : Type 0 where
+  pub tables : Tables
+  pub harts : List Hart
+  pub memory : List ℕ
+  pub parts : Parts
 
 -- the registers at a free number
 abbrev pub no_hart : Hart

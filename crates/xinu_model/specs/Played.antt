@@ -7,9 +7,8 @@ use Rattle.xinu_base.specs.declared.lines.TranscriptLine.TheVariants as line
 use Rattle.xinu_model.specs.Boot.{null_tables, image_name}
 use Rattle.xinu_model.specs.Calls.{effects, effect_in, continued}
 use Rattle.xinu_model.specs.Events.{is_done, effect_of}
-use Rattle.xinu_model.specs.Machine.{Xinu, no_hart, Effect, finished}
+use Rattle.xinu_model.specs.Machine.{Xinu, first_parts, no_hart, Effect, finished}
 use Rattle.xinu_model.specs.Moves.{resched, wake}
-use Rattle.xinu_model.specs.Ports.{first_ports}
 use Rattle.xinu_model.specs.ProcessCalls.{new_process}
 use Rattle.xinu_model.specs.Tables.{Tables, process_at, Nowhere, put}
 use Rattle.xinu_model.specs.Text.{tables_of}
@@ -31,10 +30,7 @@ system priorities low cells = record {
   tables = resched (all_awake 1 priorities (with_processes 1 priorities null_tables));
   harts = replicate 64 no_hart;
   memory = [];
-  heap = record { low = low; cells = replicate cells true };
-  pools = [];
-  ports = first_ports;
-  next_port = 0;
+  parts = first_parts (record { low = low; cells = replicate cells true });
 }
 
 -- A state, the calls that each process is still to make, by its number from 0 on, what was printed, and whether the kernel panicked.

@@ -12,17 +12,16 @@ use Rattle.xinu_model.specs.SemaphoreCalls.{free_semaphore, make_semaphore, sign
 -- a pool with this memory and this semaphore
 abbrev pub with_pool : Grant → ℕ → ℕ → ℕ → Xinu → Handled
 with_pool grant sem size n s =
-    let i = length s.pools in
+    let i = length s.parts.pools in
     returns (begun (record s {
       tables = make_semaphore sem (Pool i) n s.tables;
-      heap = grant.heap;
-      pools = s.pools ++ new_pool grant.address size n sem ∷ [];
+      parts = record s.parts { heap = grant.heap; pools = s.parts.pools ++ new_pool grant.address size n sem ∷ [] };
     })) (pos i)
 
 -- a pool, where memory that meets no other pool and a semaphore are found
 abbrev pub made_pool : Option Grant → Option ℕ → ℕ → ℕ → Xinu → Handled
 made_pool (Some grant) (Some sem) size n s =
-    if meets_pool grant.address (pool_bytes size n) s.pools then refused s else with_pool grant sem size n s
+    if meets_pool grant.address (pool_bytes size n) s.parts.pools then refused s else with_pool grant sem size n s
 made_pool (Some grant) None size n s = refused s
 made_pool None sem size n s = refused s
 
@@ -33,8 +32,8 @@ is_pool_size size n = (nat_le 8 size && nat_le size 8192) && (nat_le 1 n && nat_
 -- call 28: a pool of n buffers of this size, rounded up to whole words
 abbrev pub mkbufpool : ℕ → ℕ → Xinu → Handled
 mkbufpool size n s =
-    if is_pool_size size n && nat_lt (length s.pools) most_pools
-    then made_pool (getmem (pool_bytes (whole_words size) n) s.heap) (free_semaphore s.tables) (whole_words size) n s
+    if is_pool_size size n && nat_lt (length s.parts.pools) most_pools
+    then made_pool (getmem (pool_bytes (whole_words size) n) s.parts.heap) (free_semaphore s.tables) (whole_words size) n s
     else refused s
 
 -- the caller takes the first of these free buffers of pool i, in front of which the pool's number is written
@@ -43,16 +42,16 @@ take_first [] i s = refused s
 take_first (a ∷ free) i s =
     returns (begun (record s {
       memory = with_number s.memory (a - 4) 4 i;
-      pools = slice_set s.pools i (record (pool_at s.pools i) { free = free });
+      parts = record s.parts { pools = slice_set s.parts.pools i (record (pool_at s.parts.pools i) { free = free }) };
     })) (pos a)
 
 abbrev pub take_buffer : ℕ → Xinu → Handled
-take_buffer i s = take_first (pool_at s.pools i).free i s
+take_buffer i s = take_first (pool_at s.parts.pools i).free i s
 
 -- call 29: a buffer of pool i, for which the caller waits
 abbrev pub getbuf : ℕ → Xinu → Handled
 getbuf i s =
-    if nat_lt i (length s.pools) then await (pool_at s.pools i).semaphore (GetBuf i) (take_buffer i) s else refused s
+    if nat_lt i (length s.parts.pools) then await (pool_at s.parts.pools i).semaphore (GetBuf i) (take_buffer i) s else refused s
 
 -- the call goes on
 abbrev pub go_on_getbuf : ℕ → Xinu → Handled
@@ -61,8 +60,8 @@ go_on_getbuf i s = take_buffer i (goes_on (held s) s)
 -- the buffer at an address is free again, and the pool is signalled
 abbrev pub put_back : ℕ → ℕ → Doing → Doing
 put_back a i d =
-    let pool = pool_at d.state.pools i in
-    signalled pool.semaphore (record d { state = record d.state { pools = slice_set d.state.pools i (with_free a pool) } })
+    let pool = pool_at d.state.parts.pools i in
+    signalled pool.semaphore (record d { state = record d.state { parts = record d.state.parts { pools = slice_set d.state.parts.pools i (with_free a pool) } } })
 
 -- a buffer is given back to the pool that has it
 abbrev pub given_to : Option ℕ → ℕ → Doing → Doing
@@ -71,7 +70,7 @@ given_to (Some i) a d = put_back a i d
 
 -- what is held at an address is given back; where it is no held buffer nothing is done
 abbrev pub freed_buffer : ℕ → Doing → Doing
-freed_buffer a d = given_to (holder a d.state.pools) a d
+freed_buffer a d = given_to (holder a d.state.parts.pools) a d
 
 -- call 30: the held buffer at an address is given back
 abbrev pub freed_by : Option ℕ → ℕ → Xinu → Handled
@@ -79,4 +78,4 @@ freed_by None a s = refused s
 freed_by (Some i) a s = returns (put_back a i (begun s)) (pos 0)
 
 abbrev pub freebuf : ℕ → Xinu → Handled
-freebuf a s = freed_by (holder a s.pools) a s
+freebuf a s = freed_by (holder a s.parts.pools) a s

@@ -14,7 +14,7 @@ use Rattle.xinu_model.specs.Words.{signed}
 
 -- the port that the next `ptcreate` gets
 abbrev pub free_port : Xinu → Option ℕ
-free_port s = search (λ q. not (is_used (port_at s.ports q))) most_ports s.next_port
+free_port s = search (λ q. not (is_used (port_at s.parts.ports q))) most_ports s.parts.next_port
 
 -- port q has this queue, or none, from now on, and the next sequence number
 abbrev pub renewed : ℕ → Option PortQueue → List Port → List Port
@@ -25,8 +25,10 @@ abbrev pub with_port : ℕ → ℕ → ℕ → ℕ → Xinu → Handled
 with_port q n send receive s =
     returns (begun (record s {
       tables = make_semaphore receive (owner.Port q) 0 (make_semaphore send (owner.Port q) n s.tables);
-      ports = renewed q (Some (record { first_count = n; send = send; receive = receive; messages = [] })) s.ports;
-      next_port = (q + 1) % most_ports;
+      parts = record s.parts {
+        ports = renewed q (Some (record { first_count = n; send = send; receive = receive; messages = [] })) s.parts.ports;
+        next_port = (q + 1) % most_ports;
+      };
     })) (pos q)
 
 -- a port, where a number and the second semaphore are found
@@ -65,8 +67,7 @@ deleted q queue d =
     record d {
       state = record d.state {
         tables = with_semaphore queue.receive no_semaphore (with_semaphore queue.send no_semaphore d.state.tables);
-        ports = renewed q None d.state.ports;
-        next_port = q;
+        parts = record d.state.parts { ports = renewed q None d.state.parts.ports; next_port = q };
       };
     }
 
@@ -76,7 +77,7 @@ emptied_port q queue d =
     record d {
       state = record d.state {
         tables = with_tokens queue.receive 0 (with_tokens queue.send queue.first_count d.state.tables);
-        ports = renewed q (Some (record queue { messages = [] })) d.state.ports;
+        parts = record d.state.parts { ports = renewed q (Some (record queue { messages = [] })) d.state.parts.ports };
       };
     }
 
@@ -87,7 +88,7 @@ deleted_where (Some queue) q how s =
     if nat_le how 1 then returns (deleted q queue (cleared how queue (begun s))) (pos 0) else refused s
 
 abbrev pub ptdelete : ℕ → ℕ → Xinu → Handled
-ptdelete q how s = deleted_where (port_at s.ports q).queue q how s
+ptdelete q how s = deleted_where (port_at s.parts.ports q).queue q how s
 
 -- call 33: port q is as it was made, its messages dropped (0) or given back as buffers (1)
 abbrev pub reset_where : Option PortQueue → ℕ → ℕ → Xinu → Handled
@@ -96,15 +97,15 @@ reset_where (Some queue) q how s =
     if nat_le how 1 then returns (emptied_port q queue (cleared how queue (begun s))) (pos 0) else refused s
 
 abbrev pub ptreset : ℕ → ℕ → Xinu → Handled
-ptreset q how s = reset_where (port_at s.ports q).queue q how s
+ptreset q how s = reset_where (port_at s.parts.ports q).queue q how s
 
 -- port q has these messages
 abbrev pub with_messages : ℕ → PortQueue → List ℕ → Doing → Doing
 with_messages q queue messages d =
-    let port = port_at d.state.ports q in
+    let port = port_at d.state.parts.ports q in
     record d {
       state = record d.state {
-        ports = slice_set d.state.ports q (record port { queue = Some (record queue { messages = messages }) });
+        parts = record d.state.parts { ports = slice_set d.state.parts.ports q (record port { queue = Some (record queue { messages = messages }) }) };
       };
     }
 
@@ -112,13 +113,13 @@ with_messages q queue messages d =
 abbrev pub put_message : Option PortQueue → ℕ → ℕ → Xinu → Handled
 put_message None q message s = refused s
 put_message (Some queue) q message s =
-    if nat_le most_nodes (nodes s.ports) then record { doing = begun s; answer = Panics }
+    if nat_le most_nodes (nodes s.parts.ports) then record { doing = begun s; answer = Panics }
     else returns (signalled queue.receive (with_messages q queue (queue.messages ++ message ∷ []) (begun s))) (pos 0)
 
 -- a sender goes on with its token, unless the port changed since its call began
 abbrev pub finish_send : PortTicket → ℕ → Xinu → Handled
 finish_send ticket message s =
-    if is_stale ticket s.ports then refused s else put_message (port_at s.ports ticket.port).queue ticket.port message s
+    if is_stale ticket s.parts.ports then refused s else put_message (port_at s.parts.ports ticket.port).queue ticket.port message s
 
 -- the first of these messages is taken, and the senders are signalled
 abbrev pub take_message : List ℕ → PortQueue → ℕ → Xinu → Handled
@@ -133,11 +134,11 @@ take_from (Some queue) q s = take_message queue.messages queue q s
 -- a receiver goes on with its token, unless the port changed since its call began
 abbrev pub finish_receive : PortTicket → Xinu → Handled
 finish_receive ticket s =
-    if is_stale ticket s.ports then refused s else take_from (port_at s.ports ticket.port).queue ticket.port s
+    if is_stale ticket s.parts.ports then refused s else take_from (port_at s.parts.ports ticket.port).queue ticket.port s
 
 -- what a call keeps of the port on which it waits
 abbrev pub ticket_of : ℕ → ℕ → Xinu → PortTicket
-ticket_of q sem s = record { port = q; seq = (port_at s.ports q).seq; sem = sem }
+ticket_of q sem s = record { port = q; seq = (port_at s.parts.ports q).seq; sem = sem }
 
 -- call 34: a message for port q; the caller waits for room
 abbrev pub sent_to : Option PortQueue → ℕ → ℕ → Xinu → Handled
@@ -147,7 +148,7 @@ sent_to (Some queue) q message s =
     await queue.send (PtSend ticket message) (finish_send ticket message) s
 
 abbrev pub ptsend : ℕ → ℕ → Xinu → Handled
-ptsend q message s = sent_to (port_at s.ports q).queue q message s
+ptsend q message s = sent_to (port_at s.parts.ports q).queue q message s
 
 -- call 35: the first message of port q, for which the caller waits
 abbrev pub received_from : Option PortQueue → ℕ → Xinu → Handled
@@ -157,7 +158,7 @@ received_from (Some queue) q s =
     await queue.receive (PtRecv ticket) (finish_receive ticket) s
 
 abbrev pub ptrecv : ℕ → Xinu → Handled
-ptrecv q s = received_from (port_at s.ports q).queue q s
+ptrecv q s = received_from (port_at s.parts.ports q).queue q s
 
 -- the calls go on
 abbrev pub go_on_ptsend : PortTicket → ℕ → Xinu → Handled

@@ -56,7 +56,7 @@ make_process p x hart stack s =
     record s {
       tables = record (put p x None Nowhere s.tables) { last_process = p };
       harts = slice_set s.harts p hart;
-      heap = stack.heap;
+      parts = record s.parts { heap = stack.heap };
     }
 
 -- whether a process of this state is suspended
@@ -76,7 +76,7 @@ buried p x d =
       state = record d.state {
         tables = put p no_process None Nowhere d.state.tables;
         harts = slice_set d.state.harts p no_hart;
-        heap = unwrap_or (freestk x.stack x.stack_size d.state.heap) d.state.heap;
+        parts = record d.state.parts { heap = unwrap_or (freestk x.stack x.stack_size d.state.parts.heap) d.state.parts.heap };
       };
     }
 
@@ -101,7 +101,7 @@ created None stack entry size priority name x y s = refused s
 abbrev pub create : ℕ → ℕ → ℤ → ℕ → ℕ → ℕ → Xinu → Handled
 create entry size priority name x y s =
     if int_lt priority (pos 1) || not (in_ram name 16) then refused s
-    else created (free_process s.tables) (getstk (stack_size size) s.heap) entry (stack_size size) priority (process_name (take 16 (drop name s.memory))) x y s
+    else created (free_process s.tables) (getstk (stack_size size) s.parts.heap) entry (stack_size size) priority (process_name (take 16 (drop name s.memory))) x y s
 
 -- call 3: p, which is suspended, becomes ready; its priority
 abbrev pub resume : ℕ → Xinu → Handled

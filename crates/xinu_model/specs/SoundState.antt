@@ -9,5 +9,5 @@ use Rattle.xinu_model.specs.SoundPorts.{ArePorts}
 pub record IsSound (s : Xinu) : Type 0 where
   pub tables : IsSoundTables s.tables
   pub harts : length s.harts ≡ 64
-  pub pools : ArePools s.tables s.pools
-  pub ports : ArePorts s.tables s.ports
+  pub pools : ArePools s.tables s.parts.pools
+  pub ports : ArePorts s.tables s.parts.ports

@@ -193,7 +193,7 @@ tables_of s =
     ++ map ready_line s.tables.ready
     ++ semaphore_lines 0 s.tables.semaphores
     ++ map sleeper_line s.tables.sleepers
-    ++ map free_line (free_blocks s.heap)
-    ++ pool_lines 0 s.pools
-    ++ port_lines 0 s.ports
+    ++ map free_line (free_blocks s.parts.heap)
+    ++ pool_lines 0 s.parts.pools
+    ++ port_lines 0 s.parts.ports
     ++ line.Console ∷ line.Disk0 ∷ line.Disk1 ∷ []

@@ -57,7 +57,7 @@ pub fn pools()
     ensures all_pools { printed pool_examples.all_pools ≡ pool_examples.all_pools_lines }
     ensures pool_refusals { printed pool_examples.pool_refusals ≡ pool_examples.pool_refusals_lines }
     ensures pool_given_back { printed pool_examples.pool_given_back ≡ pool_examples.pool_given_back_lines }
-    ensures buffer_pool_pools { pool_lines 0 (outcome_of pool_examples.buffer_pool).state.pools ≡ pool_examples.buffer_pool_pools }
+    ensures buffer_pool_pools { pool_lines 0 (outcome_of pool_examples.buffer_pool).state.parts.pools ≡ pool_examples.buffer_pool_pools }
 {}
 
 /// Ports: a sender that waited over a reset, a panic, messages given back as buffers, how many ports there are.
@@ -67,5 +67,5 @@ pub fn ports()
     ensures buffers_through_a_port { printed port_examples.buffers_through_a_port ≡ port_examples.buffers_through_a_port_lines }
     ensures all_ports { printed port_examples.all_ports ≡ port_examples.all_ports_lines }
     ensures panics { (outcome_of port_examples.panic).panicked ≡ true }
-    ensures buffers_through_a_port_tables { pool_lines 0 (outcome_of port_examples.buffers_through_a_port).state.pools ++ port_lines 0 (outcome_of port_examples.buffers_through_a_port).state.ports ≡ port_examples.buffers_through_a_port_tables }
+    ensures buffers_through_a_port_tables { pool_lines 0 (outcome_of port_examples.buffers_through_a_port).state.parts.pools ++ port_lines 0 (outcome_of port_examples.buffers_through_a_port).state.parts.ports ≡ port_examples.buffers_through_a_port_tables }
 {}

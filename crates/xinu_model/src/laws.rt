@@ -93,13 +93,13 @@ pub fn refusals_change_nothing()
 
 /// A call that answers -1 was refused, unless what it answers is a priority, a count or a message.
 pub fn refusals_are_told()
-    ensures { (number : ℕ) (args : List ℕ) (s : Xinu) → ArePools s.tables s.pools → tells_refusal number ≡ true → (called number args s).answer ≡ Returns (negsuc 0) → called number args s ≡ refused s }
+    ensures { (number : ℕ) (args : List ℕ) (s : Xinu) → ArePools s.tables s.parts.pools → tells_refusal number ≡ true → (called number args s).answer ≡ Returns (negsuc 0) → called number args s ≡ refused s }
 {}
 
 /// A port that was renewed refuses whoever waited on it before: no late message comes into it, and none is taken from it.
 pub fn renewed_ports_refuse()
-    ensures send { (ticket : PortTicket) (message : ℕ) (s : Xinu) → ticket.seq < (port_at s.ports ticket.port).seq → finish_send ticket message s ≡ refused s }
-    ensures receive { (ticket : PortTicket) (s : Xinu) → ticket.seq < (port_at s.ports ticket.port).seq → finish_receive ticket s ≡ refused s }
+    ensures send { (ticket : PortTicket) (message : ℕ) (s : Xinu) → ticket.seq < (port_at s.parts.ports ticket.port).seq → finish_send ticket message s ≡ refused s }
+    ensures receive { (ticket : PortTicket) (s : Xinu) → ticket.seq < (port_at s.parts.ports ticket.port).seq → finish_receive ticket s ≡ refused s }
 {}
 
 /// Memory comes from the least start at which there are enough free cells in a row, and a stack from the greatest.
@@ -117,10 +117,10 @@ pub fn grants_were_free()
 /// What it means that no address is claimed twice: each has one owner at most, and what has an owner isn't free.
 pub fn addresses_have_one_owner()
     ensures stacks { (s : Xinu) → IsApart s → (p q a : ℕ) → p ≢ q → is_in_stack a (process_at s.tables p) ≡ true → is_in_stack a (process_at s.tables q) ≡ false }
-    ensures pools { (s : Xinu) → IsApart s → (i j a : ℕ) → i ≢ j → is_in_pool a (pool_at s.pools i) ≡ true → is_in_pool a (pool_at s.pools j) ≡ false }
-    ensures both { (s : Xinu) → IsApart s → (p i a : ℕ) → is_in_stack a (process_at s.tables p) ≡ true → is_in_pool a (pool_at s.pools i) ≡ false }
-    ensures taken { (s : Xinu) → IsApart s → (p a : ℕ) → is_in_stack a (process_at s.tables p) ≡ true → is_in_free a s.heap ≡ false }
-    ensures kept { (s : Xinu) → IsApart s → (i a : ℕ) → is_in_pool a (pool_at s.pools i) ≡ true → is_in_free a s.heap ≡ false }
+    ensures pools { (s : Xinu) → IsApart s → (i j a : ℕ) → i ≢ j → is_in_pool a (pool_at s.parts.pools i) ≡ true → is_in_pool a (pool_at s.parts.pools j) ≡ false }
+    ensures both { (s : Xinu) → IsApart s → (p i a : ℕ) → is_in_stack a (process_at s.tables p) ≡ true → is_in_pool a (pool_at s.parts.pools i) ≡ false }
+    ensures taken { (s : Xinu) → IsApart s → (p a : ℕ) → is_in_stack a (process_at s.tables p) ≡ true → is_in_free a s.parts.heap ≡ false }
+    ensures kept { (s : Xinu) → IsApart s → (i a : ℕ) → is_in_pool a (pool_at s.parts.pools i) ≡ true → is_in_free a s.parts.heap ≡ false }
 {}
 
 /// Memory and stacks are refused only where nowhere enough free cells stand in a row.
@@ -131,5 +131,5 @@ pub fn heap_refuses_rightly()
 
 /// No event moves the heap or changes its size.
 pub fn heap_keeps_its_extent()
-    ensures { (old : Xinu) (e : Event) (lines : List TranscriptLine) (new : Xinu) → Happens old e lines new → (new.heap.low ≡ old.heap.low) × (length new.heap.cells ≡ length old.heap.cells) }
+    ensures { (old : Xinu) (e : Event) (lines : List TranscriptLine) (new : Xinu) → Happens old e lines new → (new.parts.heap.low ≡ old.parts.heap.low) × (length new.parts.heap.cells ≡ length old.parts.heap.cells) }
 {}
