@@ -10,13 +10,13 @@ use Rattle.machine.specs.Kernels.{heap_with, running, other_processes, other_mes
 use Rattle.image_loader.specs.declared.images.Image.{Image}
 use Rattle.image_loader.specs.declared.parts.Part.{Part}
 use Rattle.xinu_model.specs.Boot.{Loaded, LoadedPart, boot, Boots, end_of, image_process, with_parts}
-use Rattle.xinu_model.specs.Heap.{cells_for}
+use Rattle.xinu_model.specs.Heap.Cells.{cells_for}
 use Rattle.xinu_model.specs.Machine.{Xinu, first_parts, no_hart}
 use Rattle.xinu_base.specs.declared.registers.Hart.{Hart}
-use Rattle.xinu_model.specs.ProcessCalls.{new_hart, stack_size}
+use Rattle.xinu_model.specs.Process.Creation.{new_hart, stack_size}
 use Rattle.xinu_model.specs.Tables.{Tables}
 use Rattle.xinu_model.specs.Memory.{in_ram, ram_size, with_bytes, zeros}
-use Rattle.xinu_model.proofs.Boots.{boot_with, booted, booted_tables, first_stack, stack_cells, started}
+use Rattle.xinu_model.proofs.Boot.{boot_with, booted, booted_tables, first_stack, stack_cells, started}
 
 -- the element at k stands in front of those behind it
 pub drop_next : {A : Type 0} (l : List A) (k : ℕ) (x : A) → k < length l → x ≡ get_or l k x → drop k l ≡ x ∷ drop (k + 1) l

@@ -6,10 +6,10 @@ use Rattle.xinu_base.specs.declared.registers.Hart.{Hart}
 use Rattle.machine.specs.Kernels.{running, ended, other_processes, other_messages}
 use Rattle.machine.specs.TableLines.{free_lines, running_lines, ended_lines}
 use Rattle.xinu_model.specs.Boot.{first_semaphores}
-use Rattle.xinu_model.specs.Heap.{blocks_from}
-use Rattle.xinu_model.specs.Ports.{first_ports}
+use Rattle.xinu_model.specs.Heap.Cells.{blocks_from}
+use Rattle.xinu_model.specs.Ports.Queues.{first_ports}
 use Rattle.xinu_model.specs.Text.{free_line, port_lines, process_lines, semaphore_lines, tables_of}
-use Rattle.xinu_model.proofs.Heaps.{blocks_of_parts, blocks_of_free}
+use Rattle.xinu_model.proofs.Heap.{blocks_of_parts, blocks_of_free}
 
 -- No entry stands behind the image's process.
 no_others : (messages : List (Option ℕ)) → process_lines 2 other_processes messages ≡ []

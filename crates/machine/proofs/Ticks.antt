@@ -7,7 +7,7 @@ use Rattle.machine.specs.Kernels.{running, ended}
 use Rattle.machine.specs.KernelViews.{state_of, IsKernel}
 use Rattle.machine.specs.declared.kernel.Kernel.TheInside.{Inside}
 use Rattle.machine.proofs.Steps.{alive_state, dead_state}
-use Rattle.xinu_model.specs.ClockCalls.{ticked}
+use Rattle.xinu_model.specs.Clock.{ticked}
 use Rattle.xinu_model.specs.Machine.{Xinu}
 
 -- the quantum one tick later

@@ -5,9 +5,9 @@ use Rattle.xinu_base.specs.declared.processes.State.TheVariants.{Current, Ready}
 use Rattle.xinu_base.specs.declared.processes.Rest.TheVariants.{Nothing}
 use Rattle.xinu_base.specs.declared.registers.Hart.{Hart}
 use Rattle.xinu_model.specs.Boot.{null_process, first_semaphores}
-use Rattle.xinu_model.specs.Heap.{Heap}
+use Rattle.xinu_model.specs.Heap.Cells.{Heap}
 use Rattle.xinu_model.specs.Machine.{Xinu, first_parts, no_hart}
-use Rattle.xinu_model.specs.Moves.{in_state}
+use Rattle.xinu_model.specs.Process.Scheduling.{in_state}
 use Rattle.xinu_model.specs.Tables.{no_process}
 
 -- the entries of the process table behind the image's process

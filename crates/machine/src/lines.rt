@@ -4,7 +4,7 @@ ghost use Rattle.std.specs.Prelude.{◌≡◌, ◌+◌, ◌*◌, ◌++◌, ◌�
 ghost use Rattle.std.specs.Fmt.{decimal, signed_decimal};
 ghost use Rattle.host_port.specs.LineText.{blanked};
 ghost use Rattle.xinu_base.specs.declared.lines.TranscriptLine.TheVariants as variant;
-ghost use Rattle.xinu_model.specs.ProcessCalls as processes;
+ghost use Rattle.xinu_model.specs.Process.Creation as processes;
 ghost use Rattle.xinu_model.specs.Text as model;
 ghost use Rattle.xinu_model.specs.Words as words;
 
@@ -39,7 +39,7 @@ fn put_words(text: &mut Line, line: &TranscriptLine)
             "ret",
             &[number(*p), i64::from(*value)],
         ),
-        TranscriptLine::Run(p) => put_numbers(text, "run", &[number(*p)]),
+        TranscriptLine::Switch(p) => put_numbers(text, "run", &[number(*p)]),
         TranscriptLine::Now(ticks, quantum) => {
             put_numbers(text, "now", &[i64::from(*ticks), i64::from(*quantum)]);
         }

@@ -1,8 +1,8 @@
 -- What a word does, told by its opcode: the part of the table that each function of `execute` answers for.
 use Rattle.std.proofs.Common.{◌≡◌, ℕ, ◌<◌, ◌^◌, List, ap, ◌∙◌}
 use Rattle.xinu_base.specs.declared.Hart.{Hart}
-use Rattle.xinu_model.specs.Instructions.{rows}
-use Rattle.xinu_model.specs.Exec.{Executed, obeyed, perform}
+use Rattle.xinu_model.specs.Isa.Instructions.{rows}
+use Rattle.xinu_model.specs.Isa.Exec.{Executed, obeyed, perform}
 use Rattle.rv_isa.specs.RowFields.{row_by, opcode_of, funct3_of, funct7_of, row_of-parts}
 
 -- what a word with this opcode does

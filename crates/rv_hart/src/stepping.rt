@@ -1,7 +1,7 @@
 //! One step of a process: its instruction is fetched and carried out.
 
 ghost use Rattle.std.specs.Prelude.{◌≡◌};
-ghost use Rattle.xinu_model.specs.Exec.{exec};
+ghost use Rattle.xinu_model.specs.Isa.Exec.{exec};
 
 use crate::execute::execute;
 use crate::ram::Ram;
@@ -15,7 +15,7 @@ const EXIT_ADDRESS: u32 = 0xffff_fffc;
 /// `Exit` comes where the pc is 0xfffffffc, `Trap(Fetch)` where it is no multiple of 4 or RAM has no word there; both change nothing. Else
 /// the word is carried out: `Trap(Illegal)` where it is no instruction, `Call` for `ECALL`, whose pc is then behind it.
 #[inline]
-#[tactic(auto, unfolding(xinu_model::specs::Exec::exec))]
+#[tactic(auto, unfolding(xinu_model::specs::Isa::Exec::exec))]
 pub fn step(hart: &mut Hart, ram: &mut Ram) -> Outcome
     ensures outcome { result ≡ (exec hart.old ram.old).outcome }
     ensures hart { hart.new ≡ (exec hart.old ram.old).hart }

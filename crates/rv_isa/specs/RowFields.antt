@@ -4,7 +4,7 @@ use Rattle.std.specs.Prelude.{bit_and, ◌==◌, if◌then◌else◌}
 use Rattle.std.proofs.lemmas.Nat.{and_mask, and_block}
 use Rattle.std.proofs.lemmas.Bool.Decides.{nat_tests, eqb_tells}
 use Rattle.std.proofs.lemmas.Bool.{and_parts, ltb-true, eqb-true}
-use Rattle.xinu_model.specs.Instructions.{Row, rows, row_in, row_of}
+use Rattle.xinu_model.specs.Isa.Instructions.{Row, rows, row_in, row_of}
 
 -- the opcode of a word
 abbrev pub opcode_of : ℕ → ℕ

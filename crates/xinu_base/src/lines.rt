@@ -1,10 +1,10 @@
 //! The lines of a transcript, as data.
 
-use crate::calls::Call;
 use crate::events::End;
 use crate::numbers::{Pid, PoolId, Port, Sem};
 use crate::processes::State;
 use crate::registers::Cause;
+use crate::syscalls::Call;
 
 /// What becomes of a file call at a completion of its disk, or when it is made.
 #[derive(Clone, Copy, Debug, PartialEq, Eq)]
@@ -29,7 +29,7 @@ pub enum TranscriptLine {
     /// A process got a reply.
     Return(Pid, i32),
     /// Another process became current.
-    Run(Pid),
+    Switch(Pid),
     /// The ticks so far, and the ticks that are left of the quantum.
     Now(u32, u8),
     /// An entry of the process table.

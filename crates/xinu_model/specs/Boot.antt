@@ -1,14 +1,15 @@
 -- What is loaded, and the state in which the machine starts (book, chapter 22).
 use Rattle.std.specs.Prelude.{ℕ, ◌+◌, ◌-◌, ◌*◌, ◌/◌, max, Bool, true, if◌then◌else◌, List, [], ◌∷◌, ◌++◌, length, replicate, Option, None, Some, codes, ℤ}
 use Rattle.std.specs.List.{list_any}
+use Rattle.xinu_base.specs.Constants.{NPROC, NSEM, QUANTUM}
 use Rattle.xinu_base.specs.declared.processes.Process.{Process}
 use Rattle.xinu_base.specs.declared.processes.State.TheVariants.{Current}
 use Rattle.xinu_base.specs.declared.semaphores.Owner.TheVariants.{Device}
-use Rattle.xinu_model.specs.Heap.{Heap, cells_for, Stack, getstk}
+use Rattle.xinu_model.specs.Heap.Cells.{Heap, cells_for, Stack, take_stack}
 use Rattle.xinu_model.specs.Machine.{Xinu, first_parts, no_hart}
 use Rattle.xinu_model.specs.Memory.{ram_size, with_bytes, zeros, ranges_meet}
-use Rattle.xinu_model.specs.Moves.{resched, wake}
-use Rattle.xinu_model.specs.ProcessCalls.{stack_size, new_hart, new_process, make_process}
+use Rattle.xinu_model.specs.Process.Scheduling.{resched, ready}
+use Rattle.xinu_model.specs.Process.Creation.{stack_size, new_hart, new_process, make_process}
 use Rattle.xinu_model.specs.Tables.{Semaphore, no_process, no_semaphore, Tables}
 
 -- a part of an image: where it lies, its bytes, and how many addresses it takes
@@ -79,15 +80,15 @@ device_semaphore tokens = record { owner = Some Device; tokens = tokens; waiters
 -- the file system.
 unfoldable pub first_semaphores : List Semaphore
 first_semaphores =
-    device_semaphore 0 ∷ device_semaphore 64 ∷ device_semaphore 0 ∷ device_semaphore 0 ∷ replicate 124 no_semaphore
+    device_semaphore 0 ∷ device_semaphore 64 ∷ device_semaphore 0 ∷ device_semaphore 0 ∷ replicate (NSEM - 4) no_semaphore
 
 -- the tables before any other process is made
 abbrev pub null_tables : Tables
 null_tables = record {
-  processes = null_process ∷ replicate 63 no_process;
-  messages = replicate 64 None;
+  processes = null_process ∷ replicate (NPROC - 1) no_process;
+  messages = replicate NPROC None;
   current = 0;
-  quantum = 2;
+  quantum = QUANTUM;
   ready = [];
   semaphores = first_semaphores;
   sleepers = [];
@@ -100,7 +101,7 @@ null_tables = record {
 abbrev pub loaded : List Loaded → Xinu
 loaded images = record {
   tables = null_tables;
-  harts = replicate 64 no_hart;
+  harts = replicate NPROC no_hart;
   memory = with_images images zeros;
   parts = first_parts (fresh_heap images);
 }
@@ -120,7 +121,7 @@ with_image i image stack s = make_process i (image_process i image stack.top) (n
 -- the processes of the images become ready in order; the first of them has number i
 abbrev pub all_ready : ℕ → List Loaded → Tables → Tables
 all_ready i [] t = t
-all_ready i (image ∷ images) t = all_ready (i + 1) images (wake i t)
+all_ready i (image ∷ images) t = all_ready (i + 1) images (ready i t)
 
 -- How the machine starts: in a state, or not, since an image overlaps an earlier one or the heap has no stack for it.
 pub data Start : Type 0 where
@@ -143,16 +144,16 @@ where_stack (Some stack) i image s = Boots (with_image i image stack s)
 abbrev pub all_made : ℕ → List Loaded → Xinu → Start
 all_made i [] s = Boots s
 all_made i (image ∷ images) s =
-    and_then (where_stack (getstk (stack_size image.stack) s.parts.heap) i image s) (λ x. all_made (i + 1) images x)
+    and_then (where_stack (take_stack (stack_size image.stack) s.parts.heap) i image s) (λ x. all_made (i + 1) images x)
 
 -- the processes of the images are woken, with one resched
-abbrev pub all_woken : List Loaded → Xinu → Xinu
-all_woken images s = record s { tables = resched (all_ready 1 images s.tables) }
+abbrev pub all_started : List Loaded → Xinu → Xinu
+all_started images s = record s { tables = resched (all_ready 1 images s.tables) }
 
 -- where no image overlaps an earlier one the processes are made
 abbrev pub unless_overlap : Option ℕ → List Loaded → Start
 unless_overlap (Some i) images = Overlaps i
-unless_overlap None images = and_then (all_made 1 images (loaded images)) (λ s. Boots (all_woken images s))
+unless_overlap None images = and_then (all_made 1 images (loaded images)) (λ s. Boots (all_started images s))
 
 -- The start of the machine with some images, which are numbered from 1 on.
 abbrev pub boot : List Loaded → Start

@@ -113,8 +113,8 @@ sleepers_in InReady p l = l
 sleepers_in (InSemaphore s) p l = l
 
 -- Process p leaves the list in which it is, becomes x with message m, and goes to a place.
-abbrev pub put : ℕ → Process → Option ℕ → Place → Tables → Tables
-put p x m place t =
+abbrev pub move_to : ℕ → Process → Option ℕ → Place → Tables → Tables
+move_to p x m place t =
     record t {
       processes = slice_set t.processes p x;
       messages = slice_set t.messages p m;

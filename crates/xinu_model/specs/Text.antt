@@ -1,9 +1,9 @@
 -- The lines of a transcript as bytes, and the tables of a state as lines.
 use Rattle.std.specs.Prelude.{ℕ, ◌+◌, nat_lt, ◌||◌, Bool, true, false, if◌then◌else◌, List, [], ◌∷◌, ◌++◌, map, length, take, Option, Some, None, slice_index_or, codes, ℤ}
 use Rattle.std.specs.Fmt.{decimal, signed_decimal}
-use Rattle.xinu_base.specs.Calls.{name_of, args_of, is_built}
+use Rattle.xinu_base.specs.Syscalls.{name_of, args_of, is_built}
 use Rattle.xinu_base.specs.Hexadecimal.{hex_of}
-use Rattle.xinu_base.specs.declared.calls.Call.{Call}
+use Rattle.xinu_base.specs.declared.syscalls.Call.{Call}
 use Rattle.xinu_base.specs.declared.events.End.{End}
 use Rattle.xinu_base.specs.declared.events.End.TheVariants.{Schedule, Done, Panic}
 use Rattle.xinu_base.specs.declared.lines.FileMoment.{FileMoment}
@@ -15,12 +15,12 @@ use Rattle.xinu_base.specs.declared.processes.State.{State}
 use Rattle.xinu_base.specs.declared.processes.State.TheVariants.{Free, Current, Ready, Receiving, Sleeping, Suspended, Waiting, Timed}
 use Rattle.xinu_base.specs.declared.registers.Cause.{Cause}
 use Rattle.xinu_base.specs.declared.registers.Cause.TheVariants.{Fetch, Illegal, Break, Target, Load, Store}
-use Rattle.xinu_model.specs.Heap.{free_blocks}
+use Rattle.xinu_model.specs.Heap.Cells.{free_blocks}
 use Rattle.xinu_model.specs.Machine.{Xinu}
-use Rattle.xinu_model.specs.Pools.{Pool, held_in}
-use Rattle.xinu_model.specs.Ports.{PortQueue, Port}
-use Rattle.xinu_model.specs.ProcessCalls.{before_zero}
-use Rattle.xinu_model.specs.SemaphoreCalls.{count_of, is_images}
+use Rattle.xinu_model.specs.Pools.Buffers.{Pool, held_in}
+use Rattle.xinu_model.specs.Ports.Queues.{PortQueue, Port}
+use Rattle.xinu_model.specs.Process.Creation.{before_zero}
+use Rattle.xinu_model.specs.Semaphores.Counts.{count_of, is_images}
 use Rattle.xinu_model.specs.Tables.{Semaphore, is_free}
 use Rattle.xinu_model.specs.Words.{signed}
 
@@ -96,7 +96,7 @@ words_of (line.Call p call) = codes "call" ∷ decimal p ∷ call_words call
 words_of (line.File p moment) = codes "file" ∷ decimal p ∷ moment_word moment ∷ []
 words_of (line.Trap p cause) = codes "trap" ∷ decimal p ∷ cause_word cause ∷ []
 words_of (line.Return p value) = codes "ret" ∷ decimal p ∷ signed_decimal value ∷ []
-words_of (line.Run p) = codes "run" ∷ decimal p ∷ []
+words_of (line.Switch p) = codes "run" ∷ decimal p ∷ []
 words_of (line.Now ticks quantum) = codes "now" ∷ decimal ticks ∷ decimal quantum ∷ []
 words_of (line.Process p state priority parent message name) =
     codes "proc" ∷ decimal p ∷ state_word state ∷ signed_decimal priority ∷ decimal parent ∷ message_word message ∷ name_word name ∷ []
