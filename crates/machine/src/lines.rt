@@ -56,10 +56,10 @@ fn put_words(text: &mut Line, line: &TranscriptLine)
             put_name(text, name);
         }
         TranscriptLine::Ready(p, key) => put_numbers(text, "ready", &[number(*p), i64::from(*key)]),
-        TranscriptLine::Semaphore(s, count) => {
-            put_numbers(text, "sem", &[s.index() as i64, i64::from(*count)]);
+        TranscriptLine::Semaphore(sem, count) => {
+            put_numbers(text, "sem", &[sem.index() as i64, i64::from(*count)]);
         }
-        TranscriptLine::Waiter(s, p) => put_numbers(text, "wait", &[s.index() as i64, number(*p)]),
+        TranscriptLine::Waiter(sem, p) => put_numbers(text, "wait", &[sem.index() as i64, number(*p)]),
         TranscriptLine::Sleeper(p, wake) => {
             put_numbers(text, "sleep", &[number(*p), i64::from(*wake)]);
         }

@@ -106,31 +106,31 @@ pub tables_may_call : (s : Xinu) (t : Tables) → MayCall s → IsSoundTables t 
 tables_may_call s t c k e = record { tables = k; harts = c.harts; not_null = λ f. c.not_null (sym e ∙ f) }
 
 -- the call of one who may wait on a semaphore is no receive
-pub waits_hold : (s : ℕ) (by : Option Owner) (left : Rest) (message : Option ℕ) → FitsOwner s by left → HoldsFor left message
-waits_hold s None left message f = absurd f
-waits_hold s (Some owner.Image) left message f = subst (λ k. HoldsFor k message) (sym f) tt
-waits_hold s (Some (owner.Pool i)) left message f = subst (λ k. HoldsFor k message) (sym f) tt
-waits_hold s (Some (owner.Port q)) left message f = of_port left f
+pub waits_hold : (sem : ℕ) (by : Option Owner) (left : Rest) (message : Option ℕ) → FitsOwner sem by left → HoldsFor left message
+waits_hold sem None left message f = absurd f
+waits_hold sem (Some owner.Image) left message f = subst (λ k. HoldsFor k message) (sym f) tt
+waits_hold sem (Some (owner.Pool i)) left message f = subst (λ k. HoldsFor k message) (sym f) tt
+waits_hold sem (Some (owner.Port q)) left message f = of_port left f
   where
-    of_port : (k : Rest) → IsForPort q s k → HoldsFor k message
+    of_port : (k : Rest) → IsForPort q sem k → HoldsFor k message
     of_port (rest.PtSend ticket m) g = tt
     of_port (rest.PtRecv ticket) g = tt
     of_port _ g = absurd g
-waits_hold s (Some owner.Device) left message f = absurd f
+waits_hold sem (Some owner.Device) left message f = absurd f
 
 -- one who waits where these are the tokens
-take_token_preserves : (tokens s : ℕ) (left : Rest) (then_ : Xinu → CallResult) (x : Xinu) → tokens ≡ (semaphore_at x.tables s).tokens → MayCall x → s < 128
-    → FitsOwner s (semaphore_at x.tables s).owner left
-    → ((n : ℕ) → (semaphore_at x.tables s).tokens ≡ suc n → MayCall (record x { tables = with_tokens s n x.tables }) → IsPreserved (then_ (record x { tables = with_tokens s n x.tables })))
-    → IsPreserved (take_token tokens s left then_ x)
-take_token_preserves zero s left then_ x e c w fits go =
-    let t = x.tables in
-    blocked_preserves Waiting left (InSemaphore s) x c (refl, refl, refl) (w, sym e, fits) (waits_hold s (semaphore_at t s).owner left (message_at t t.current) fits)
-take_token_preserves (suc n) s left then_ x e c w fits go =
-    go n (sym e) (tables_may_call x (with_tokens s n x.tables) c (sound_token_taken x.tables s n c.tables w (sym e)) refl)
+take_token_preserves : (tokens sem : ℕ) (left : Rest) (then_ : Xinu → CallResult) (s : Xinu) → tokens ≡ (semaphore_at s.tables sem).tokens → MayCall s → sem < 128
+    → FitsOwner sem (semaphore_at s.tables sem).owner left
+    → ((n : ℕ) → (semaphore_at s.tables sem).tokens ≡ suc n → MayCall (record s { tables = with_tokens sem n s.tables }) → IsPreserved (then_ (record s { tables = with_tokens sem n s.tables })))
+    → IsPreserved (take_token tokens sem left then_ s)
+take_token_preserves zero sem left then_ s e c w fits go =
+    let t = s.tables in
+    blocked_preserves Waiting left (InSemaphore sem) s c (refl, refl, refl) (w, sym e, fits) (waits_hold sem (semaphore_at t sem).owner left (message_at t t.current) fits)
+take_token_preserves (suc n) sem left then_ s e c w fits go =
+    go n (sym e) (tables_may_call s (with_tokens sem n s.tables) c (sound_token_taken s.tables sem n c.tables w (sym e)) refl)
 
 -- The caller takes a token and goes on, or waits for one, with what the semaphore's owner calls for left of its call.
-pub await_preserves : (s : ℕ) (left : Rest) (then_ : Xinu → CallResult) (x : Xinu) → MayCall x → s < 128 → FitsOwner s (semaphore_at x.tables s).owner left
-    → ((n : ℕ) → (semaphore_at x.tables s).tokens ≡ suc n → MayCall (record x { tables = with_tokens s n x.tables }) → IsPreserved (then_ (record x { tables = with_tokens s n x.tables })))
-    → IsPreserved (await s left then_ x)
-await_preserves s left then_ x c w fits go = take_token_preserves (semaphore_at x.tables s).tokens s left then_ x refl c w fits go
+pub await_preserves : (sem : ℕ) (left : Rest) (then_ : Xinu → CallResult) (s : Xinu) → MayCall s → sem < 128 → FitsOwner sem (semaphore_at s.tables sem).owner left
+    → ((n : ℕ) → (semaphore_at s.tables sem).tokens ≡ suc n → MayCall (record s { tables = with_tokens sem n s.tables }) → IsPreserved (then_ (record s { tables = with_tokens sem n s.tables })))
+    → IsPreserved (await sem left then_ s)
+await_preserves sem left then_ s c w fits go = take_token_preserves (semaphore_at s.tables sem).tokens sem left then_ s refl c w fits go

@@ -8,5 +8,5 @@ ghost use Rattle.xinu_model.specs.Sound.Tables.{IsInside};
 
 /// n signals at once are n signals, one after another.
 pub fn signals_add_up()
-    ensures { (s n : ℕ) (d : CallState) → IsInside d.state.tables → signalled_times s n d ≡ repeated n (signalled s) d }
+    ensures { (sem n : ℕ) (d : CallState) → IsInside d.state.tables → signalled_times sem n d ≡ repeated n (signalled sem) d }
 {}

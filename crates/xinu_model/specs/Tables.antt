@@ -55,9 +55,9 @@ state_at t p = (slice_index_or t.processes p no_process).state
 abbrev pub message_at : Tables → ℕ → Option ℕ
 message_at t p = slice_index_or t.messages p None
 
--- semaphore s
+-- semaphore sem
 abbrev pub semaphore_at : Tables → ℕ → Semaphore
-semaphore_at t s = slice_index_or t.semaphores s no_semaphore
+semaphore_at t sem = slice_index_or t.semaphores sem no_semaphore
 
 -- whether a number of this state has no process
 abbrev pub is_free : State → Bool
@@ -84,14 +84,14 @@ waits_without p l = map (semaphore_without p) l
 pub data Place : Type 0 where
   Nowhere : Place
   InReady : Place
-  InSemaphore : (s : ℕ) → Place
+  InSemaphore : (sem : ℕ) → Place
   InSleepers : (wake : ℕ) → Place
 
 -- the ready list with p, where that is p's place
 abbrev pub ready_in : Place → ℕ → ℤ → List (ℕ × ℤ) → List (ℕ × ℤ)
 ready_in InReady p key l = ready_insert p key l
 ready_in Nowhere p key l = l
-ready_in (InSemaphore s) p key l = l
+ready_in (InSemaphore sem) p key l = l
 ready_in (InSleepers wake) p key l = l
 
 -- a semaphore with p as its last waiter
@@ -100,7 +100,7 @@ with_waiter p x = record { owner = x.owner; tokens = x.tokens; waiters = x.waite
 
 -- the semaphores with p behind the waiters of one of them, where that is p's place
 abbrev pub semaphores_in : Place → ℕ → List Semaphore → List Semaphore
-semaphores_in (InSemaphore s) p l = slice_set l s (with_waiter p (slice_index_or l s no_semaphore))
+semaphores_in (InSemaphore sem) p l = slice_set l sem (with_waiter p (slice_index_or l sem no_semaphore))
 semaphores_in Nowhere p l = l
 semaphores_in InReady p l = l
 semaphores_in (InSleepers wake) p l = l
@@ -110,7 +110,7 @@ abbrev pub sleepers_in : Place → ℕ → List (ℕ × ℕ) → List (ℕ × �
 sleepers_in (InSleepers wake) p l = sleeper_insert p wake l
 sleepers_in Nowhere p l = l
 sleepers_in InReady p l = l
-sleepers_in (InSemaphore s) p l = l
+sleepers_in (InSemaphore sem) p l = l
 
 -- Process p leaves the list in which it is, becomes x with message m, and goes to a place.
 abbrev pub move_to : ℕ → Process → Option ℕ → Place → Tables → Tables

@@ -101,8 +101,8 @@ words_of (line.Now ticks quantum) = codes "now" ∷ decimal ticks ∷ decimal qu
 words_of (line.Process p state priority parent message name) =
     codes "proc" ∷ decimal p ∷ state_word state ∷ signed_decimal priority ∷ decimal parent ∷ message_word message ∷ name_word name ∷ []
 words_of (line.Ready p key) = codes "ready" ∷ decimal p ∷ signed_decimal key ∷ []
-words_of (line.Semaphore s count) = codes "sem" ∷ decimal s ∷ signed_decimal count ∷ []
-words_of (line.Waiter s p) = codes "wait" ∷ decimal s ∷ decimal p ∷ []
+words_of (line.Semaphore sem count) = codes "sem" ∷ decimal sem ∷ signed_decimal count ∷ []
+words_of (line.Waiter sem p) = codes "wait" ∷ decimal sem ∷ decimal p ∷ []
 words_of (line.Sleeper p wake) = codes "sleep" ∷ decimal p ∷ decimal wake ∷ []
 words_of (line.Free address bytes) = codes "free" ∷ decimal address ∷ decimal bytes ∷ []
 words_of (line.Pool i size free held) = codes "pool" ∷ decimal i ∷ decimal size ∷ decimal free ∷ decimal held ∷ []
@@ -149,13 +149,13 @@ is_shown x = is_images x.owner || nat_lt 0 (length x.waiters)
 
 -- the lines of a semaphore and its waiters
 abbrev pub semaphore_line : ℕ → Semaphore → List TranscriptLine
-semaphore_line s x =
-    if is_shown x then line.Semaphore s (count_of x) ∷ map (line.Waiter s) x.waiters else []
+semaphore_line sem x =
+    if is_shown x then line.Semaphore sem (count_of x) ∷ map (line.Waiter sem) x.waiters else []
 
--- the lines of the semaphores from number s on
+-- the lines of the semaphores from number sem on
 abbrev pub semaphore_lines : ℕ → List Semaphore → List TranscriptLine
-semaphore_lines s [] = []
-semaphore_lines s (x ∷ semaphores) = semaphore_line s x ++ semaphore_lines (s + 1) semaphores
+semaphore_lines sem [] = []
+semaphore_lines sem (x ∷ semaphores) = semaphore_line sem x ++ semaphore_lines (sem + 1) semaphores
 
 -- the line of a sleeper
 abbrev pub sleeper_line : ℕ × ℕ → TranscriptLine

@@ -81,7 +81,7 @@ apart_set pools i pool p j k =
 -- Pool i becomes another that keeps its place: what holds of it is to be shown, and the moves are calm for the other pools.
 pub are_pools_set : (t u : Tables) (pools : List Pool) (i : ℕ) (pool : Pool) → i < length pools → KeepsPlace (pool_at pools i) pool → IsSoundPool u i pool
     → ((j : ℕ) → j ≢ i → IsCalm (is_pool j) (asks_pool j) t u)
-    → ((s : ℕ) → (semaphore_at u s).owner ≡ (semaphore_at t s).owner) → ArePools t pools → ArePools u (set pools i pool)
+    → ((sem : ℕ) → (semaphore_at u sem).owner ≡ (semaphore_at t sem).owner) → ArePools t pools → ArePools u (set pools i pool)
 are_pools_set t u pools i pool here p sound calm owners k =
     let len = length-set pools i pool in
     record {
@@ -90,7 +90,7 @@ are_pools_set t u pools i pool here p sound calm owners k =
           (λ _. subst (IsSoundPool u i) (sym (get_or-set_same pools i pool no_pool here)) sound)
           (λ n h. subst (IsSoundPool u j) (sym (get_or-set_other pools i j pool no_pool n))
           (sound_pool_calm (is_pool j) (asks_pool j) t u j (pool_at pools j) (calm j n) (eq-eqb j j refl) (eq-eqb j j refl) (k.each j (omega arith))));
-      owned = λ s j e. (let f = k.owned s j (sym (owners s) ∙ e) in (let g = f.0 in omega arith, same_written (λ (x : Pool). x.semaphore) pools i j pool no_pool p.semaphore ∙ f.1));
+      owned = λ sem j e. (let f = k.owned sem j (sym (owners sem) ∙ e) in (let g = f.0 in omega arith, same_written (λ (x : Pool). x.semaphore) pools i j pool no_pool p.semaphore ∙ f.1));
       made = λ q j. by_number j i (λ n. (process_at u q).rest ≡ GetBuf n → n < length (set pools i pool))
           (λ _. omega arith)
           (λ n e. let f = k.made q j (sym ((calm j n).rests q (ap (asks_pool j) e ∙ eq-eqb j j refl)).0 ∙ e) in omega arith);
@@ -99,7 +99,7 @@ are_pools_set t u pools i pool here p sound calm owners k =
 
 -- The same where pool i stays as it is.
 pub are_pools_kept : (t u : Tables) (pools : List Pool) (i : ℕ) → i < length pools → IsSoundPool u i (pool_at pools i) → ((j : ℕ) → j ≢ i → IsCalm (is_pool j) (asks_pool j) t u)
-    → ((s : ℕ) → (semaphore_at u s).owner ≡ (semaphore_at t s).owner) → ArePools t pools → ArePools u pools
+    → ((sem : ℕ) → (semaphore_at u sem).owner ≡ (semaphore_at t sem).owner) → ArePools t pools → ArePools u pools
 are_pools_kept t u pools i here sound calm owners k =
     subst (ArePools u) (set-get_or pools i no_pool)
     (are_pools_set t u pools i (pool_at pools i) here (record { base = refl; size = refl; number = refl; semaphore = refl }) sound calm owners k)

@@ -35,31 +35,31 @@ other_number : (i j : ℕ) → j ≢ i → (i == j) ≡ false
 other_number i j n = ne_eqb i j (λ e. n (sym e))
 
 -- the semaphore of a pool is in the table
-pub pool_semaphore_within : (t : Tables) (s i : ℕ) → IsInside t → (semaphore_at t s).owner ≡ Some (owner.Pool i) → s < length t.semaphores
-pool_semaphore_within t s i o e = let h = semaphore_within t s o.semaphores (λ f. cc) in let k = o.semaphores in omega arith
+pub pool_semaphore_within : (t : Tables) (sem i : ℕ) → IsInside t → (semaphore_at t sem).owner ≡ Some (owner.Pool i) → sem < length t.semaphores
+pool_semaphore_within t sem i o e = let h = semaphore_within t sem o.semaphores (λ f. cc) in let k = o.semaphores in omega arith
 
 -- another number of tokens leaves each semaphore its owner
-pub owner_tokens : (t : Tables) (s n r : ℕ) → (semaphore_at (with_tokens s n t) r).owner ≡ (semaphore_at t r).owner
-owner_tokens t s n r = same_written (λ (x : Semaphore). x.owner) t.semaphores s r (record (semaphore_at t s) { tokens = n }) no_semaphore refl
+pub owner_tokens : (t : Tables) (sem n r : ℕ) → (semaphore_at (with_tokens sem n t) r).owner ≡ (semaphore_at t r).owner
+owner_tokens t sem n r = same_written (λ (x : Semaphore). x.owner) t.semaphores sem r (record (semaphore_at t sem) { tokens = n }) no_semaphore refl
 
 -- these are its tokens then
-tokens_tokens : (t : Tables) (s n : ℕ) → s < length t.semaphores → (semaphore_at (with_tokens s n t) s).tokens ≡ n
-tokens_tokens t s n h = ap (λ (x : Semaphore). x.tokens) (get_or-set_same t.semaphores s (record (semaphore_at t s) { tokens = n }) no_semaphore h)
+tokens_tokens : (t : Tables) (sem n : ℕ) → sem < length t.semaphores → (semaphore_at (with_tokens sem n t) sem).tokens ≡ n
+tokens_tokens t sem n h = ap (λ (x : Semaphore). x.tokens) (get_or-set_same t.semaphores sem (record (semaphore_at t sem) { tokens = n }) no_semaphore h)
 
 -- A token that is taken takes one promised buffer.
-pub promised_token : (t : Tables) (i s n : ℕ) → s < length t.semaphores → (semaphore_at t s).tokens ≡ suc n → suc (promised i s (with_tokens s n t)) ≤ promised i s t
-promised_token t i s n h e = let f = tokens_tokens t s n h in omega arith
+pub promised_token : (t : Tables) (i sem n : ℕ) → sem < length t.semaphores → (semaphore_at t sem).tokens ≡ suc n → suc (promised i sem (with_tokens sem n t)) ≤ promised i sem t
+promised_token t i sem n h e = let f = tokens_tokens t sem n h in omega arith
 
 -- who waits isn't released
 waiting_unreleased : (i : ℕ) (x : Process) → x.state ≡ Waiting → is_released_to_pool i x ≡ false
 waiting_unreleased i x e = and_left (not (is_waiting x.state)) (asks_pool i x.rest) (ap (λ y. not (is_waiting y)) e)
 
 -- A caller that waits is promised none.
-pub promised_blocked : (t : Tables) (i s q : ℕ) (x : Process) (m : Option ℕ) (place : Place) → q < length t.processes → x.state ≡ Waiting → promised i s (move_to q x m place t) ≤ promised i s t
-promised_blocked t i s q x m place h w =
+pub promised_blocked : (t : Tables) (i sem q : ℕ) (x : Process) (m : Option ℕ) (place : Place) → q < length t.processes → x.state ≡ Waiting → promised i sem (move_to q x m place t) ≤ promised i sem t
+promised_blocked t i sem q x m place h w =
     let e = times-set (is_released_to_pool i) t.processes q x no_process h in
     let f = counts_none (is_released_to_pool i x) (waiting_unreleased i x w) in
-    let g = tokens_move t q x m place s in
+    let g = tokens_move t q x m place sem in
     omega arith
 
 -- who was released and is to take a buffer of pool i counts
@@ -84,55 +84,55 @@ at_most_one true = omega arith
 at_most_one false = omega arith
 
 -- one signal promises one more at most, by who waits
-promised_signal_first : (i s : ℕ) (l : List ℕ) (d : CallState) → IsInside d.state.tables → s < length d.state.tables.semaphores → ((p : ℕ) → 0 < count_in p l → p < length d.state.tables.processes)
-    → promised i s (signal_first s l d).state.tables ≤ suc (promised i s d.state.tables)
-promised_signal_first i s [] d o h w = let e = tokens_tokens d.state.tables s ((semaphore_at d.state.tables s).tokens + 1) h in omega arith
-promised_signal_first i s (p ∷ ps) d o h w =
+promised_signal_first : (i sem : ℕ) (l : List ℕ) (d : CallState) → IsInside d.state.tables → sem < length d.state.tables.semaphores → ((p : ℕ) → 0 < count_in p l → p < length d.state.tables.processes)
+    → promised i sem (signal_first sem l d).state.tables ≤ suc (promised i sem d.state.tables)
+promised_signal_first i sem [] d o h w = let e = tokens_tokens d.state.tables sem ((semaphore_at d.state.tables sem).tokens + 1) h in omega arith
+promised_signal_first i sem (p ∷ ps) d o h w =
     let t = d.state.tables in
     let x = in_state Ready (process_at t p) in
     let e = times-set (is_released_to_pool i) t.processes p x no_process (w p (first_is_counted p ps)) in
     let f = at_most_one (is_released_to_pool i x) in
-    let g = tokens_move t p x (message_at t p) InReady s in
+    let g = tokens_move t p x (message_at t p) InReady sem in
     omega arith
 
 -- who waits on a semaphore is in the table
-waiter_within : (t : Tables) (s : ℕ) → IsInside t → (p : ℕ) → 0 < count_in p (semaphore_at t s).waiters → p < length t.processes
-waiter_within t s o p h =
-    let e = waiter_waits t s p o h in
+waiter_within : (t : Tables) (sem : ℕ) → IsInside t → (p : ℕ) → 0 < count_in p (semaphore_at t sem).waiters → p < length t.processes
+waiter_within t sem o p h =
+    let e = waiter_waits t sem p o h in
     let f = within_table t p o.processes (λ g. cc) in
     let k = o.processes in
     omega arith
 
 -- A signal promises one buffer more at most.
-pub promised_signalled : (i s : ℕ) (d : CallState) → IsInside d.state.tables → s < length d.state.tables.semaphores → promised i s (signalled s d).state.tables ≤ suc (promised i s d.state.tables)
-promised_signalled i s d o h = promised_signal_first i s (semaphore_at d.state.tables s).waiters d o h (waiter_within d.state.tables s o)
+pub promised_signalled : (i sem : ℕ) (d : CallState) → IsInside d.state.tables → sem < length d.state.tables.semaphores → promised i sem (signalled sem d).state.tables ≤ suc (promised i sem d.state.tables)
+promised_signalled i sem d o h = promised_signal_first i sem (semaphore_at d.state.tables sem).waiters d o h (waiter_within d.state.tables sem o)
 
 -- a signal leaves each semaphore its owner, by who waits
-owner_signal_first : (s : ℕ) (l : List ℕ) (d : CallState) (r : ℕ) → (semaphore_at (signal_first s l d).state.tables r).owner ≡ (semaphore_at d.state.tables r).owner
-owner_signal_first s [] d r = owner_tokens d.state.tables s ((semaphore_at d.state.tables s).tokens + 1) r
-owner_signal_first s (p ∷ ps) d r = let t = d.state.tables in owner_move t p (in_state Ready (process_at t p)) (message_at t p) InReady r
+owner_signal_first : (sem : ℕ) (l : List ℕ) (d : CallState) (r : ℕ) → (semaphore_at (signal_first sem l d).state.tables r).owner ≡ (semaphore_at d.state.tables r).owner
+owner_signal_first sem [] d r = owner_tokens d.state.tables sem ((semaphore_at d.state.tables sem).tokens + 1) r
+owner_signal_first sem (p ∷ ps) d r = let t = d.state.tables in owner_move t p (in_state Ready (process_at t p)) (message_at t p) InReady r
 
 -- A signal leaves each semaphore its owner.
-pub owner_signalled : (s : ℕ) (d : CallState) (r : ℕ) → (semaphore_at (signalled s d).state.tables r).owner ≡ (semaphore_at d.state.tables r).owner
-owner_signalled s d r = owner_signal_first s (semaphore_at d.state.tables s).waiters d r
+pub owner_signalled : (sem : ℕ) (d : CallState) (r : ℕ) → (semaphore_at (signalled sem d).state.tables r).owner ≡ (semaphore_at d.state.tables r).owner
+owner_signalled sem d r = owner_signal_first sem (semaphore_at d.state.tables sem).waiters d r
 
 module _ (i j : ℕ) (other : j ≢ i) where
   -- the semaphore of pool i isn't pool j's
-  other_owner : (t : Tables) (s : ℕ) → (semaphore_at t s).owner ≡ Some (owner.Pool i) → is_pool j (semaphore_at t s).owner ≡ false
-  other_owner t s e = ap (is_pool j) e ∙ other_number i j other
+  other_owner : (t : Tables) (sem : ℕ) → (semaphore_at t sem).owner ≡ Some (owner.Pool i) → is_pool j (semaphore_at t sem).owner ≡ false
+  other_owner t sem e = ap (is_pool j) e ∙ other_number i j other
 
   -- and nobody waits there for a buffer of pool j
-  other_unasked : (t : Tables) (s : ℕ) → (semaphore_at t s).owner ≡ Some (owner.Pool i) → IsUnasked (asks_pool j) s (semaphore_at t s).owner
-  other_unasked t s e = subst (IsUnasked (asks_pool j) s) (sym e) (λ left f. ap (asks_pool j) f ∙ other_number i j other)
+  other_unasked : (t : Tables) (sem : ℕ) → (semaphore_at t sem).owner ≡ Some (owner.Pool i) → IsUnasked (asks_pool j) sem (semaphore_at t sem).owner
+  other_unasked t sem e = subst (IsUnasked (asks_pool j) sem) (sym e) (λ left f. ap (asks_pool j) f ∙ other_number i j other)
 
   -- Pool j is left alone where a token of pool i is taken,
-  pub calm_pool_token : (t : Tables) (s n : ℕ) → (semaphore_at t s).owner ≡ Some (owner.Pool i) → IsCalm (is_pool j) (asks_pool j) t (with_tokens s n t)
-  calm_pool_token t s n e = calm_tokens t s n (other_owner t s e)
+  pub calm_pool_token : (t : Tables) (sem n : ℕ) → (semaphore_at t sem).owner ≡ Some (owner.Pool i) → IsCalm (is_pool j) (asks_pool j) t (with_tokens sem n t)
+  calm_pool_token t sem n e = calm_tokens t sem n (other_owner t sem e)
 
   -- where a caller waits for a buffer of pool i,
-  pub calm_pool_blocked : (s : ℕ) (x : Xinu) → (semaphore_at x.tables s).owner ≡ Some (owner.Pool i) → IsCalm (is_pool j) (asks_pool j) x.tables (blocked Waiting (GetBuf i) (InSemaphore s) x).call.state.tables
-  calm_pool_blocked s x e = calm_blocked Waiting (GetBuf i) (InSemaphore s) x (other_owner x.tables s e) (other_number i j other)
+  pub calm_pool_blocked : (sem : ℕ) (s : Xinu) → (semaphore_at s.tables sem).owner ≡ Some (owner.Pool i) → IsCalm (is_pool j) (asks_pool j) s.tables (blocked Waiting (GetBuf i) (InSemaphore sem) s).call.state.tables
+  calm_pool_blocked sem s e = calm_blocked Waiting (GetBuf i) (InSemaphore sem) s (other_owner s.tables sem e) (other_number i j other)
 
   -- and where pool i is signalled.
-  pub calm_pool_signalled : (s : ℕ) (d : CallState) → IsInside d.state.tables → (semaphore_at d.state.tables s).owner ≡ Some (owner.Pool i) → IsCalm (is_pool j) (asks_pool j) d.state.tables (signalled s d).state.tables
-  calm_pool_signalled s d o e = calm_signalled s d o (other_owner d.state.tables s e) (other_unasked d.state.tables s e)
+  pub calm_pool_signalled : (sem : ℕ) (d : CallState) → IsInside d.state.tables → (semaphore_at d.state.tables sem).owner ≡ Some (owner.Pool i) → IsCalm (is_pool j) (asks_pool j) d.state.tables (signalled sem d).state.tables
+  calm_pool_signalled sem d o e = calm_signalled sem d o (other_owner d.state.tables sem e) (other_unasked d.state.tables sem e)

@@ -26,26 +26,26 @@ rests_ready [] t p = refl
 rests_ready (r ∷ ps) t p = rests_ready ps (ready r t) p ∙ same_written (λ (x : Process). x.rest) t.processes r p (in_state Ready (process_at t r)) no_process refl
 
 -- where nobody waits nobody waits after some are woken
-waiters_stay_gone : (ps : List ℕ) (t : Tables) (s : ℕ) → (semaphore_at t s).waiters ≡ [] → (semaphore_at (ready_all ps t) s).waiters ≡ []
-waiters_stay_gone [] t s e = e
-waiters_stay_gone (p ∷ ps) t s e =
-    waiters_stay_gone ps (ready p t) s (ap (λ (x : Semaphore). x.waiters) (left_for_ready t p (in_state Ready (process_at t p)) (message_at t p) s) ∙ ap (numbers_without p) e)
+waiters_stay_gone : (ps : List ℕ) (t : Tables) (sem : ℕ) → (semaphore_at t sem).waiters ≡ [] → (semaphore_at (ready_all ps t) sem).waiters ≡ []
+waiters_stay_gone [] t sem e = e
+waiters_stay_gone (p ∷ ps) t sem e =
+    waiters_stay_gone ps (ready p t) sem (ap (λ (x : Semaphore). x.waiters) (left_for_ready t p (in_state Ready (process_at t p)) (message_at t p) sem) ∙ ap (numbers_without p) e)
 
 -- the same where a semaphore is emptied
-rests_emptied : (s : ℕ) (d : CallState) → KeepsRests d.state.tables (emptied s d).state.tables
-rests_emptied s d =
-    let l = (semaphore_at d.state.tables s).waiters in
-    record { rests = λ p h. subst (λ (x : Xinu). (process_at x.tables p).rest ≡ (process_at d.state.tables p).rest) (sym (unblock_all_ready l d)) (rests_ready l d.state.tables p) }
+rests_emptied : (sem : ℕ) (d : CallState) → KeepsRests d.state.tables (emptied sem d).state.tables
+rests_emptied sem d =
+    let l = (semaphore_at d.state.tables sem).waiters in
+    record { rests = λ p h. subst (λ (s : Xinu). (process_at s.tables p).rest ≡ (process_at d.state.tables p).rest) (sym (unblock_all_ready l d)) (rests_ready l d.state.tables p) }
 
-still_no_waiters : (s r : ℕ) (d : CallState) → (semaphore_at d.state.tables r).waiters ≡ [] → (semaphore_at (emptied s d).state.tables r).waiters ≡ []
-still_no_waiters s r d e =
-    let l = (semaphore_at d.state.tables s).waiters in
-    subst (λ (x : Xinu). (semaphore_at x.tables r).waiters ≡ []) (sym (unblock_all_ready l d)) (waiters_stay_gone l d.state.tables r e)
+still_no_waiters : (sem r : ℕ) (d : CallState) → (semaphore_at d.state.tables r).waiters ≡ [] → (semaphore_at (emptied sem d).state.tables r).waiters ≡ []
+still_no_waiters sem r d e =
+    let l = (semaphore_at d.state.tables sem).waiters in
+    subst (λ (s : Xinu). (semaphore_at s.tables r).waiters ≡ []) (sym (unblock_all_ready l d)) (waiters_stay_gone l d.state.tables r e)
 
 -- Of the semaphores of port q and of the calls on it this says nothing.
 pub record Ignores (mine : Option Owner → Bool) (asks : Rest → Bool) (q : ℕ) : Type 0 where
   pub owner : mine (Some (owner.Port q)) ≡ false
-  pub waits : (s : ℕ) (left : Rest) → IsForPort q s left → asks left ≡ false
+  pub waits : (sem : ℕ) (left : Rest) → IsForPort q sem left → asks left ≡ false
 
 -- From d to e all are released who waited on the two semaphores of port q.
 pub record IsCleared (q : ℕ) (queue : PortQueue) (d e : CallState) : Type 0 where
@@ -74,8 +74,8 @@ port_cleared q queue d k send receive =
       no_senders = still_no_waiters queue.receive queue.send one (emptied_has_no_waiters queue.send d);
       no_receivers = emptied_has_no_waiters queue.receive one;
       others = keeps_trans d.state one.state two.state (keeps_emptied queue.send d) (keeps_emptied queue.receive one);
-      calm = λ mine asks i. (let f = λ (s : ℕ) (e : CallState) (o : (semaphore_at e.state.tables s).owner ≡ Some (owner.Port q)) (left : Rest) (h : FitsOwner s (semaphore_at e.state.tables s).owner left).
-          i.waits s left (subst (λ v. FitsOwner s v left) o h) in
+      calm = λ mine asks i. (let f = λ (sem : ℕ) (e : CallState) (o : (semaphore_at e.state.tables sem).owner ≡ Some (owner.Port q)) (left : Rest) (h : FitsOwner sem (semaphore_at e.state.tables sem).owner left).
+          i.waits sem left (subst (λ v. FitsOwner sem v left) o h) in
           calm_trans d.state.tables one.state.tables two.state.tables
           (calm_emptied queue.send d k.inside (f queue.send d send))
           (calm_emptied queue.receive one sound.inside (f queue.receive one (owner_emptied queue.send queue.receive d ∙ receive))));

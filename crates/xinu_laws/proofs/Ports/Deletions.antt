@@ -77,10 +77,10 @@ refused_keeps : (s : Xinu) → MayCall s → ArePools s.tables s.parts.pools →
 refused_keeps s c p a = record { preserved = refused_preserves s c; pools = p; ports = a }
 
 -- who waits on a port's semaphore isn't to take a buffer
-asks_no_buffer : (q s : ℕ) (left : Rest) → IsForPort q s left → asks_buffer left ≡ false
-asks_no_buffer q s (PtSend ticket message) h = refl
-asks_no_buffer q s (PtRecv ticket) h = refl
-asks_no_buffer q s _ h = absurd h
+asks_no_buffer : (q sem : ℕ) (left : Rest) → IsForPort q sem left → asks_buffer left ≡ false
+asks_no_buffer q sem (PtSend ticket message) h = refl
+asks_no_buffer q sem (PtRecv ticket) h = refl
+asks_no_buffer q sem _ h = absurd h
 
 -- the pools know nothing of the ports
 pub pools_ignore_ports : IgnoresPorts is_pools asks_buffer

@@ -32,14 +32,14 @@ ports_others = record { none = refl; image = refl; device = refl; nothing = refl
 
 -- From t to u the semaphores of port q keep their owner, none is new, and nobody is a new waiter of one.
 pub record KeepsPort (q : ℕ) (t u : Tables) : Type 0 where
-  pub kept : (s : ℕ) → (semaphore_at t s).owner ≡ Some (owner.Port q) → (semaphore_at u s).owner ≡ Some (owner.Port q)
-  pub old : (s : ℕ) → (semaphore_at u s).owner ≡ Some (owner.Port q) → (semaphore_at t s).owner ≡ Some (owner.Port q)
-  pub waiters : (s p : ℕ) → (semaphore_at t s).owner ≡ Some (owner.Port q) → 0 < count_in p (semaphore_at u s).waiters
-      → (0 < count_in p (semaphore_at t s).waiters) × ((process_at u p).rest ≡ (process_at t p).rest)
+  pub kept : (sem : ℕ) → (semaphore_at t sem).owner ≡ Some (owner.Port q) → (semaphore_at u sem).owner ≡ Some (owner.Port q)
+  pub old : (sem : ℕ) → (semaphore_at u sem).owner ≡ Some (owner.Port q) → (semaphore_at t sem).owner ≡ Some (owner.Port q)
+  pub waiters : (sem p : ℕ) → (semaphore_at t sem).owner ≡ Some (owner.Port q) → 0 < count_in p (semaphore_at u sem).waiters
+      → (0 < count_in p (semaphore_at t sem).waiters) × ((process_at u p).rest ≡ (process_at t p).rest)
 
 -- From t to u the semaphores of port q keep their tokens, and nobody more is released from them.
 pub record KeepsCounts (q : ℕ) (t u : Tables) : Type 0 where
-  pub tokens : (s : ℕ) → (semaphore_at t s).owner ≡ Some (owner.Port q) → (semaphore_at u s).tokens ≡ (semaphore_at t s).tokens
+  pub tokens : (sem : ℕ) → (semaphore_at t sem).owner ≡ Some (owner.Port q) → (semaphore_at u sem).tokens ≡ (semaphore_at t sem).tokens
   pub senders : (seq : ℕ) → times (is_released_sender q seq) u.processes ≤ times (is_released_sender q seq) t.processes
   pub receivers : (seq : ℕ) → times (is_released_receiver q seq) u.processes ≤ times (is_released_receiver q seq) t.processes
 
@@ -94,10 +94,10 @@ ports_kept t u ports k r c a = record {
 }
 
 -- who waits on a port's semaphore is in a call on a port
-asks_for_port : (q s : ℕ) (left : Rest) → IsForPort q s left → asks_port left ≡ true
-asks_for_port q s (PtSend ticket message) h = refl
-asks_for_port q s (PtRecv ticket) h = refl
-asks_for_port q s _ h = absurd h
+asks_for_port : (q sem : ℕ) (left : Rest) → IsForPort q sem left → asks_port left ≡ true
+asks_for_port q sem (PtSend ticket message) h = refl
+asks_for_port q sem (PtRecv ticket) h = refl
+asks_for_port q sem _ h = absurd h
 
 -- who is to put a message into a port is in a call on a port
 asks_send : (q seq : ℕ) (left : Rest) → sends_to q seq left ≡ true → asks_port left ≡ true
@@ -118,7 +118,7 @@ passes_on test x y e f h = sym (ap (λ w. not w && test y.rest) f ∙ ap (λ r. 
 -- Of the semaphores of port q and of the calls on it a calm move knows nothing.
 pub record Covers (mine : Option Owner → Bool) (asks : Rest → Bool) (q : ℕ) : Type 0 where
   pub owner : mine (Some (owner.Port q)) ≡ true
-  pub waits : (s : ℕ) (left : Rest) → IsForPort q s left → asks left ≡ true
+  pub waits : (sem : ℕ) (left : Rest) → IsForPort q sem left → asks left ≡ true
   pub sends : (seq : ℕ) (left : Rest) → sends_to q seq left ≡ true → asks left ≡ true
   pub receives : (seq : ℕ) (left : Rest) → receives_from q seq left ≡ true → asks left ≡ true
 

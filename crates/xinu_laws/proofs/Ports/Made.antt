@@ -40,12 +40,12 @@ pub refused_on_ports : (s : Xinu) → MayCall s → ArePorts s.tables s.parts.po
 refused_on_ports s c a = record { preserved = refused_preserves s c; ports = a; pools = refl; calm = λ mine asks i. calm_refl s.tables }
 
 -- a semaphore that is made is its owner's
-made_here : (t : Tables) (s tokens : ℕ) (by : Owner) → IsSoundTables t → s < 128 → semaphore_at (make_semaphore s by tokens t) s ≡ record { owner = Some by; tokens = tokens; waiters = [] }
-made_here t s tokens by k w = get_or-set_same t.semaphores s (record { owner = Some by; tokens = tokens; waiters = [] }) no_semaphore (let e = k.inside.semaphores in omega arith)
+made_here : (t : Tables) (sem tokens : ℕ) (by : Owner) → IsSoundTables t → sem < 128 → semaphore_at (make_semaphore sem by tokens t) sem ≡ record { owner = Some by; tokens = tokens; waiters = [] }
+made_here t sem tokens by k w = get_or-set_same t.semaphores sem (record { owner = Some by; tokens = tokens; waiters = [] }) no_semaphore (let e = k.inside.semaphores in omega arith)
 
 -- and the others are what they were
-made_other : (t : Tables) (s r tokens : ℕ) (by : Owner) → r ≢ s → semaphore_at (make_semaphore s by tokens t) r ≡ semaphore_at t r
-made_other t s r tokens by n = get_or-set_other t.semaphores s r (record { owner = Some by; tokens = tokens; waiters = [] }) no_semaphore n
+made_other : (t : Tables) (sem r tokens : ℕ) (by : Owner) → r ≢ sem → semaphore_at (make_semaphore sem by tokens t) r ≡ semaphore_at t r
+made_other t sem r tokens by n = get_or-set_other t.semaphores sem r (record { owner = Some by; tokens = tokens; waiters = [] }) no_semaphore n
 
 -- Port q is made with two semaphores that aren't in use.
 pub port_made : (q n send receive : ℕ) (s : Xinu) → MayCall s → ArePorts s.tables s.parts.ports → q < most_ports → (port_at s.parts.ports q).queue ≡ None

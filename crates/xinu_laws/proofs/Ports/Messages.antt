@@ -69,8 +69,8 @@ receivers_go_on q seq p m t i =
     omega arith
 
 -- a semaphore keeps its tokens when a process goes on
-tokens_go_on : (s p : ℕ) (m : Option ℕ) (t : Tables) → (semaphore_at (gone_on p m t) s).tokens ≡ (semaphore_at t s).tokens
-tokens_go_on s p m t = ap (λ (x : Semaphore). x.tokens) (left_for_nowhere t p (record (process_at t p) { rest = Nothing }) m s)
+tokens_go_on : (sem p : ℕ) (m : Option ℕ) (t : Tables) → (semaphore_at (gone_on p m t) sem).tokens ≡ (semaphore_at t sem).tokens
+tokens_go_on sem p m t = ap (λ (x : Semaphore). x.tokens) (left_for_nowhere t p (record (process_at t p) { rest = Nothing }) m sem)
 
 -- A process goes on of whose call nothing is left.
 pub ports_go_on : (p : ℕ) (m : Option ℕ) (t : Tables) (ports : List Port) → p < length t.processes → ArePorts t ports → ArePorts (gone_on p m t) ports

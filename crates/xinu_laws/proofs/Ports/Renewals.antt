@@ -38,16 +38,16 @@ pub ignores_here : (q : ℕ) → Ignores (is_other_port q) (asks_other_port q) q
 ignores_here q = record { owner = not_other q q refl; waits = unasked_here q }
 
 -- a semaphore of a port is one of the table, and not the kernel's
-port_semaphore : (q s : ℕ) (t : Tables) → IsSoundTables t → (semaphore_at t s).owner ≡ Some (owner.Port q) → (s < 128) × (4 ≤ s)
-port_semaphore q s t k e = (semaphore_within t s k.inside.semaphores (λ f. cc), owned_is_no_device t s k.inside (λ f. cc))
+port_semaphore : (q sem : ℕ) (t : Tables) → IsSoundTables t → (semaphore_at t sem).owner ≡ Some (owner.Port q) → (sem < 128) × (4 ≤ sem)
+port_semaphore q sem t k e = (semaphore_within t sem k.inside.semaphores (λ f. cc), owned_is_no_device t sem k.inside (λ f. cc))
 
 -- another semaphore than the one that is written
-written_other : (t : Tables) (s r : ℕ) (x : Semaphore) → r ≢ s → semaphore_at (with_semaphore s x t) r ≡ semaphore_at t r
-written_other t s r x n = get_or-set_other t.semaphores s r x no_semaphore n
+written_other : (t : Tables) (sem r : ℕ) (x : Semaphore) → r ≢ sem → semaphore_at (with_semaphore sem x t) r ≡ semaphore_at t r
+written_other t sem r x n = get_or-set_other t.semaphores sem r x no_semaphore n
 
 -- and the one that is written
-written_here : (t : Tables) (s : ℕ) (x : Semaphore) → IsSoundTables t → s < 128 → semaphore_at (with_semaphore s x t) s ≡ x
-written_here t s x k w = get_or-set_same t.semaphores s x no_semaphore (let e = k.inside.semaphores in omega arith)
+written_here : (t : Tables) (sem : ℕ) (x : Semaphore) → IsSoundTables t → sem < 128 → semaphore_at (with_semaphore sem x t) sem ≡ x
+written_here t sem x k w = get_or-set_same t.semaphores sem x no_semaphore (let e = k.inside.semaphores in omega arith)
 
 -- A port is deleted.
 pub port_deleted : (q : ℕ) (queue : PortQueue) (d : CallState) → IsSoundTables d.state.tables → HasPorts d → (port_at d.state.parts.ports q).queue ≡ Some queue
@@ -69,14 +69,14 @@ port_deleted q queue d k a here =
     let calm : (mine : Option Owner → Bool) (asks : Rest → Bool) → mine None ≡ false → Ignores mine asks q → IsCalm mine asks d.state.tables v = λ mine asks n g.
     calm_trans d.state.tables t v (c.calm mine asks g)
     (calm_trans t u v (calm_semaphore t queue.send no_semaphore (ap mine send ∙ g.owner) n) (calm_semaphore u queue.receive no_semaphore (ap mine receive ∙ g.owner) n)) in
-    let gone : (s : ℕ) → (semaphore_at v s).owner ≢ Some (owner.Port q) = λ s. by_number s queue.receive (λ r. (semaphore_at v r).owner ≢ Some (owner.Port q))
+    let gone : (sem : ℕ) → (semaphore_at v sem).owner ≢ Some (owner.Port q) = λ sem. by_number sem queue.receive (λ r. (semaphore_at v r).owner ≢ Some (owner.Port q))
     (λ f. (let g = ap (λ (x : Semaphore). x.owner) (written_here u queue.receive no_semaphore ku wr.0) in cc))
-    (λ n f. by_number s queue.send (λ r. (semaphore_at u r).owner ≢ Some (owner.Port q))
+    (λ n f. by_number sem queue.send (λ r. (semaphore_at u r).owner ≢ Some (owner.Port q))
     (λ g. (let h = ap (λ (x : Semaphore). x.owner) (written_here t queue.send no_semaphore c.tables ws.0) in cc))
-    (λ m g. (let h = a.owned s q (sym (c.owners s) ∙ sym (ap (λ (x : Semaphore). x.owner) (written_other t queue.send s no_semaphore m)) ∙ g) in
+    (λ m g. (let h = a.owned sem q (sym (c.owners sem) ∙ sym (ap (λ (x : Semaphore). x.owner) (written_other t queue.send sem no_semaphore m)) ∙ g) in
     let same : h.0 ≡ queue = (let h1 = h.1 in cc) in
-    ⊎_elim (λ (x : s ≡ h.0.send). m (x ∙ ap (λ (y : PortQueue). y.send) same)) (λ (x : s ≡ h.0.receive). n (x ∙ ap (λ (y : PortQueue). y.receive) same)) h.2))
-    (sym (ap (λ (x : Semaphore). x.owner) (written_other u queue.receive s no_semaphore n)) ∙ f)) in
+    ⊎_elim (λ (x : sem ≡ h.0.send). m (x ∙ ap (λ (y : PortQueue). y.send) same)) (λ (x : sem ≡ h.0.receive). n (x ∙ ap (λ (y : PortQueue). y.receive) same)) h.2))
+    (sym (ap (λ (x : Semaphore). x.owner) (written_other u queue.receive sem no_semaphore n)) ∙ f)) in
     record {
       tables = kv;
       harts = c.harts;
@@ -84,14 +84,14 @@ port_deleted q queue d k a here =
           (ports_renewed q None d.state.tables v d.state.parts.ports (let w = port_within q queue d.state.parts.ports here in let m = a.many in omega arith) kv.inside
           (calm (is_other_port q) (asks_other_port q) refl (ignores_here q))
           (keeps_rests_trans d.state.tables t v c.rests (keeps_rests_trans t u v (keeps_rests_semaphore t queue.send no_semaphore) (keeps_rests_semaphore u queue.receive no_semaphore)))
-          (λ x f. cc) (λ s f. absurd (gone s f)) refl a);
+          (λ x f. cc) (λ sem f. absurd (gone sem f)) refl a);
       pools = c.others.pools;
       calm = calm;
     }
 
 -- other tokens leave a semaphore its waiters
-waiters_tokens : (t : Tables) (s n r : ℕ) → (semaphore_at (with_tokens s n t) r).waiters ≡ (semaphore_at t r).waiters
-waiters_tokens t s n r = same_written (λ (x : Semaphore). x.waiters) t.semaphores s r (record (semaphore_at t s) { tokens = n }) no_semaphore refl
+waiters_tokens : (t : Tables) (sem n r : ℕ) → (semaphore_at (with_tokens sem n t) r).waiters ≡ (semaphore_at t r).waiters
+waiters_tokens t sem n r = same_written (λ (x : Semaphore). x.waiters) t.semaphores sem r (record (semaphore_at t sem) { tokens = n }) no_semaphore refl
 
 -- A port is reset.
 pub port_reset : (q : ℕ) (queue : PortQueue) (d : CallState) → IsSoundTables d.state.tables → HasPorts d → (port_at d.state.parts.ports q).queue ≡ Some queue

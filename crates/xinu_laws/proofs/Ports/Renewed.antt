@@ -39,10 +39,10 @@ other : (r q : ℕ) → r ≢ q → not (r == q) ≡ true
 other r q n = ap not (ne_eqb r q n)
 
 -- who waits on a semaphore of port r is in a call on a port other than q,
-waits_on_other : (q r s : ℕ) (left : Rest) → r ≢ q → IsForPort r s left → asks_other_port q left ≡ true
-waits_on_other q r s (PtSend ticket message) n h = other ticket.port q (λ e. n (sym h.0 ∙ e))
-waits_on_other q r s (PtRecv ticket) n h = other ticket.port q (λ e. n (sym h.0 ∙ e))
-waits_on_other q r s _ n h = absurd h
+waits_on_other : (q r sem : ℕ) (left : Rest) → r ≢ q → IsForPort r sem left → asks_other_port q left ≡ true
+waits_on_other q r sem (PtSend ticket message) n h = other ticket.port q (λ e. n (sym h.0 ∙ e))
+waits_on_other q r sem (PtRecv ticket) n h = other ticket.port q (λ e. n (sym h.0 ∙ e))
+waits_on_other q r sem _ n h = absurd h
 
 -- and so is who is to put a message into r,
 sends_to_one : (q r seq : ℕ) (left : Rest) → r ≢ q → sends_to r seq left ≡ true → asks_other_port q left ≡ true
@@ -66,10 +66,10 @@ covers_other q r n = record {
 }
 
 -- who waits on a semaphore of port q is in no call on another
-pub unasked_here : (q s : ℕ) (left : Rest) → IsForPort q s left → asks_other_port q left ≡ false
-unasked_here q s (PtSend ticket message) h = not_other ticket.port q h.0
-unasked_here q s (PtRecv ticket) h = not_other ticket.port q h.0
-unasked_here q s _ h = absurd h
+pub unasked_here : (q sem : ℕ) (left : Rest) → IsForPort q sem left → asks_other_port q left ≡ false
+unasked_here q sem (PtSend ticket message) h = not_other ticket.port q h.0
+unasked_here q sem (PtRecv ticket) h = not_other ticket.port q h.0
+unasked_here q sem _ h = absurd h
 
 -- a call that began before the next number isn't one by it
 old_sender : (q seq : ℕ) (ports : List Port) (left : Rest) → (port_at ports q).seq ≡ seq → ((ticket : PortTicket) (message : ℕ) → left ≡ PtSend ticket message → ticket.seq ≤ (port_at ports ticket.port).seq)
@@ -144,7 +144,7 @@ sound_new_port q queue t u ports k a n =
 -- Port q is renewed: what holds of it as it is now, and what held of the others, holds of all.
 pub ports_renewed : (q : ℕ) (x : Option PortQueue) (t u : Tables) (ports : List Port) → q < most_ports → IsInside u → IsCalm (is_other_port q) (asks_other_port q) t u → KeepsRests t u
     → ((queue : PortQueue) → x ≡ Some queue → IsNewPort u q queue)
-    → ((s : ℕ) → (semaphore_at u s).owner ≡ Some (owner.Port q) → (queue : PortQueue) × (x ≡ Some queue) × ((s ≡ queue.send) ⊎ (s ≡ queue.receive)))
+    → ((sem : ℕ) → (semaphore_at u sem).owner ≡ Some (owner.Port q) → (queue : PortQueue) × (x ≡ Some queue) × ((sem ≡ queue.send) ⊎ (sem ≡ queue.receive)))
     → length (queued x) ≡ 0 → ArePorts t ports → ArePorts u (renewed q x ports)
 ports_renewed q x t u ports w o c rests new owned none a =
     let y : Port = record { seq = (port_at ports q).seq + 1; queue = x } in
@@ -166,9 +166,9 @@ ports_renewed q x t u ports w o c rests new owned none a =
           let v = covers_other q r n in
           subst (λ (z : Port). IsSoundPort u r z.seq queue) (sym (others r n))
           (sound_port_kept r (port_at ports r).seq queue t u (keeps_port_calm r t u v o c) (counts_kept r (port_at ports r).seq queue t u (keeps_counts_calm r t u v c) k) k)));
-      owned = λ s r. by_number r q (λ v. (semaphore_at u s).owner ≡ Some (owner.Port v) → (queue : PortQueue) × ((port_at now v).queue ≡ Some queue) × ((s ≡ queue.send) ⊎ (s ≡ queue.receive)))
-          (λ e. (let f = owned s e in (f.0, ap (λ (z : Port). z.queue) same ∙ f.1, f.2)))
-          (λ n e. (let f = a.owned s r ((keeps_port_calm r t u (covers_other q r n) o c).old s e) in (f.0, ap (λ (z : Port). z.queue) (others r n) ∙ f.1, f.2)));
+      owned = λ sem r. by_number r q (λ v. (semaphore_at u sem).owner ≡ Some (owner.Port v) → (queue : PortQueue) × ((port_at now v).queue ≡ Some queue) × ((sem ≡ queue.send) ⊎ (sem ≡ queue.receive)))
+          (λ e. (let f = owned sem e in (f.0, ap (λ (z : Port). z.queue) same ∙ f.1, f.2)))
+          (λ n e. (let f = a.owned sem r ((keeps_port_calm r t u (covers_other q r n) o c).old sem e) in (f.0, ap (λ (z : Port). z.queue) (others r n) ∙ f.1, f.2)));
       sent = λ p ticket message e. (let f = a.sent p ticket message (sym (rests.rests p (ap asks_port e)) ∙ e) in let g = later ticket.port in omega arith);
       received = λ p ticket e. (let f = a.received p ticket (sym (rests.rests p (ap asks_port e)) ∙ e) in let g = later ticket.port in omega arith);
     }

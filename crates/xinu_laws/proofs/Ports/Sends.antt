@@ -35,18 +35,18 @@ use Rattle.xinu_laws.proofs.Ports.Signals.{HasPorts, HasMessage, HasRoom}
 use Rattle.xinu_laws.proofs.Ports.Waits.{IsCallOn, ports_wait, sender_call, receiver_call}
 
 -- a semaphore of a port is in the table
-owned_within : (q s : ℕ) (t : Tables) → IsSoundTables t → (semaphore_at t s).owner ≡ Some (owner.Port q) → s < 128
-owned_within q s t k e = semaphore_within t s k.inside.semaphores (λ f. cc)
+owned_within : (q sem : ℕ) (t : Tables) → IsSoundTables t → (semaphore_at t sem).owner ≡ Some (owner.Port q) → sem < 128
+owned_within q sem t k e = semaphore_within t sem k.inside.semaphores (λ f. cc)
 
 -- A signal on a semaphore of a port, which keeps what holds of the ports.
-signal_on_ports : (q s : ℕ) (value : ℤ) (d : CallState) → IsSoundTables d.state.tables → length d.state.harts ≡ 64 → (semaphore_at d.state.tables s).owner ≡ Some (owner.Port q)
-    → HasPorts (signalled s d) → PreservesPorts d.state (returns (signalled s d) value)
-signal_on_ports q s value d k harts e a = record {
-  preserved = record { tables = sound_signalled s d k (owned_within q s d.state.tables k e); harts = ap length (harts_signalled s d) ∙ harts };
+signal_on_ports : (q sem : ℕ) (value : ℤ) (d : CallState) → IsSoundTables d.state.tables → length d.state.harts ≡ 64 → (semaphore_at d.state.tables sem).owner ≡ Some (owner.Port q)
+    → HasPorts (signalled sem d) → PreservesPorts d.state (returns (signalled sem d) value)
+signal_on_ports q sem value d k harts e a = record {
+  preserved = record { tables = sound_signalled sem d k (owned_within q sem d.state.tables k e); harts = ap length (harts_signalled sem d) ∙ harts };
   ports = a;
-  pools = (keeps_signalled s d).pools;
-  calm = λ mine asks i. calm_signalled s d k.inside (ap mine e ∙ (i.ports q).owner)
-      (λ left h. (i.ports q).waits s left (subst (λ v. FitsOwner s v left) e h));
+  pools = (keeps_signalled sem d).pools;
+  calm = λ mine asks i. calm_signalled sem d k.inside (ap mine e ∙ (i.ports q).owner)
+      (λ left h. (i.ports q).waits sem left (subst (λ v. FitsOwner sem v left) e h));
 }
 
 -- a sender puts its message, where the port is in use and has a node

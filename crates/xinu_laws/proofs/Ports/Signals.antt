@@ -39,36 +39,36 @@ pub other_owner : (q r : ℕ) (o : Option Owner) → q ≢ r → o ≡ Some (own
 other_owner q r o n e f = n (let g : Some (owner.Port q) ≡ Some (owner.Port r) = sym e ∙ f in cc)
 
 -- a semaphore of a port is in the table
-pub port_semaphore_within : (q s : ℕ) (t : Tables) → IsInside t → (semaphore_at t s).owner ≡ Some (owner.Port q) → s < length t.semaphores
-port_semaphore_within q s t o e =
+pub port_semaphore_within : (q sem : ℕ) (t : Tables) → IsInside t → (semaphore_at t sem).owner ≡ Some (owner.Port q) → sem < length t.semaphores
+port_semaphore_within q sem t o e =
     let m = o.semaphores in
-    let w = semaphore_within t s m (λ n. cc) in
+    let w = semaphore_within t sem m (λ n. cc) in
     omega arith
 
 -- who waits on a semaphore has a number of the table
-pub waiter_within : (s p : ℕ) (t : Tables) → IsInside t → 0 < count_in p (semaphore_at t s).waiters → p < length t.processes
-waiter_within s p t o h =
+pub waiter_within : (sem p : ℕ) (t : Tables) → IsInside t → 0 < count_in p (semaphore_at t sem).waiters → p < length t.processes
+waiter_within sem p t o h =
     let m = o.processes in
     let w = o.waiting p in
-    let c = get_or-le-total (λ (x : Semaphore). count_in p x.waiters) t.semaphores s no_semaphore refl in
+    let c = get_or-le-total (λ (x : Semaphore). count_in p x.waiters) t.semaphores sem no_semaphore refl in
     let n : state_at t p ≢ Free = λ e. (let f = ap waiting_places e in absurd (omega arith)) in
     let k = within_table t p m n in
     omega arith
 
 -- A token more, or fewer, at one of the semaphores of port q.
-pub ports_tokens : (q : ℕ) (queue : PortQueue) (s n : ℕ) (t : Tables) (ports : List Port) → IsInside t → (semaphore_at t s).owner ≡ Some (owner.Port q)
-    → (port_at ports q).queue ≡ Some queue → HasCounts (with_tokens s n t) q (port_at ports q).seq queue → ArePorts t ports → ArePorts (with_tokens s n t) ports
-ports_tokens q queue s n t ports o e here c a = ports_touched q queue t (with_tokens s n t) ports
-    (λ r. keeps_port_tokens r t s n (port_semaphore_within q s t o e)) (keeps_rests_semaphore t s (record (semaphore_at t s) { tokens = n }))
-    (λ r k. keeps_counts_semaphore r t s (record (semaphore_at t s) { tokens = n }) (other_owner q r (semaphore_at t s).owner k e)) here c a
+pub ports_tokens : (q : ℕ) (queue : PortQueue) (sem n : ℕ) (t : Tables) (ports : List Port) → IsInside t → (semaphore_at t sem).owner ≡ Some (owner.Port q)
+    → (port_at ports q).queue ≡ Some queue → HasCounts (with_tokens sem n t) q (port_at ports q).seq queue → ArePorts t ports → ArePorts (with_tokens sem n t) ports
+ports_tokens q queue sem n t ports o e here c a = ports_touched q queue t (with_tokens sem n t) ports
+    (λ r. keeps_port_tokens r t sem n (port_semaphore_within q sem t o e)) (keeps_rests_semaphore t sem (record (semaphore_at t sem) { tokens = n }))
+    (λ r k. keeps_counts_semaphore r t sem (record (semaphore_at t sem) { tokens = n }) (other_owner q r (semaphore_at t sem).owner k e)) here c a
 
 -- One who waits on a semaphore of port q wakes.
-pub ports_ready : (q : ℕ) (queue : PortQueue) (s p : ℕ) (t : Tables) (ports : List Port) → IsInside t → (semaphore_at t s).owner ≡ Some (owner.Port q) → 0 < count_in p (semaphore_at t s).waiters
+pub ports_ready : (q : ℕ) (queue : PortQueue) (sem p : ℕ) (t : Tables) (ports : List Port) → IsInside t → (semaphore_at t sem).owner ≡ Some (owner.Port q) → 0 < count_in p (semaphore_at t sem).waiters
     → (port_at ports q).queue ≡ Some queue → HasCounts (ready p t) q (port_at ports q).seq queue → ArePorts t ports → ArePorts (ready p t) ports
-ports_ready q queue s p t ports o e h here c a =
-    let i = waiter_within s p t o h in
-    let f : FitsOwner s (Some (owner.Port q)) (process_at t p).rest = subst (λ k. FitsOwner s k (process_at t p).rest) e (o.rests s p h) in
-    ports_touched q queue t (ready p t) ports (λ r. keeps_port_ready r p t) (keeps_rests_ready p t i) (λ r k. keeps_counts_ready q r s p t i k f) here c a
+ports_ready q queue sem p t ports o e h here c a =
+    let i = waiter_within sem p t o h in
+    let f : FitsOwner sem (Some (owner.Port q)) (process_at t p).rest = subst (λ k. FitsOwner sem k (process_at t p).rest) e (o.rests sem p h) in
+    ports_touched q queue t (ready p t) ports (λ r. keeps_port_ready r p t) (keeps_rests_ready p t i) (λ r k. keeps_counts_ready q r sem p t i k f) here c a
 
 -- a message of port q has no token and no released receiver
 pub record HasMessage (t : Tables) (q seq : ℕ) (queue : PortQueue) : Type 0 where
@@ -79,8 +79,8 @@ pub record HasRoom (t : Tables) (q seq : ℕ) (queue : PortQueue) : Type 0 where
   pub room : suc ((semaphore_at t queue.send).tokens + length queue.messages + times (is_released_sender q seq) t.processes) ≤ queue.first_count
 
 -- a semaphore keeps its tokens when a process wakes
-tokens_ready : (s p : ℕ) (t : Tables) → (semaphore_at (ready p t) s).tokens ≡ (semaphore_at t s).tokens
-tokens_ready s p t = ap (λ (x : Semaphore). x.tokens) (left_for_ready t p (in_state Ready (process_at t p)) (message_at t p) s)
+tokens_ready : (sem p : ℕ) (t : Tables) → (semaphore_at (ready p t) sem).tokens ≡ (semaphore_at t sem).tokens
+tokens_ready sem p t = ap (λ (x : Semaphore). x.tokens) (left_for_ready t p (in_state Ready (process_at t p)) (message_at t p) sem)
 
 -- The counts fit after a receiver wakes for which there is a message,
 counts_ready_receiver : (q seq p : ℕ) (ticket : PortTicket) (queue : PortQueue) (t : Tables) → p < length t.processes → (process_at t p).rest ≡ PtRecv ticket

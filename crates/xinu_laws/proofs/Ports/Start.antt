@@ -22,13 +22,13 @@ no_nodes zero = refl
 no_nodes (suc n) = let e = no_nodes n in omega arith
 
 -- Where no semaphore is a port's and nobody is in a call on one, no port is in use.
-pub no_ports : (t : Tables) → ((s : ℕ) → is_ports (semaphore_at t s).owner ≡ false) → ((p : ℕ) → asks_port (process_at t p).rest ≡ false) → ArePorts t first_ports
+pub no_ports : (t : Tables) → ((sem : ℕ) → is_ports (semaphore_at t sem).owner ≡ false) → ((p : ℕ) → asks_port (process_at t p).rest ≡ false) → ArePorts t first_ports
 unfolding first_ports
 no_ports t semaphores rests = record {
   many = refl;
   few = (let e = no_nodes most_ports in omega arith);
   each = λ q queue e. (let f = ap (λ (x : Port). x.queue) (unused_at most_ports q) in cc);
-  owned = λ s q e. absurd (both_ways (is_ports (semaphore_at t s).owner) (semaphores s) (ap is_ports e));
+  owned = λ sem q e. absurd (both_ways (is_ports (semaphore_at t sem).owner) (semaphores sem) (ap is_ports e));
   sent = λ p ticket message e. absurd (both_ways (asks_port (process_at t p).rest) (rests p) (ap asks_port e));
   received = λ p ticket e. absurd (both_ways (asks_port (process_at t p).rest) (rests p) (ap asks_port e));
 }

@@ -22,20 +22,20 @@ abbrev IsHereOr : Tables → ℕ → ℕ → ℕ → ℕ → Type 0
 IsHereOr t c s p r = ((p ≡ c) × (r ≡ s)) ⊎ ((p ≢ c) × (0 < count_in p (semaphore_at t r).waiters))
 
 -- who waits where c left waited there before
-waits_where_left : (t : Tables) (c s p r : ℕ) → 0 < count_in p (numbers_without c (semaphore_at t r).waiters) → IsHereOr t c s p r
-waits_where_left t c s p r h = ⊎_elim
+waits_where_left : (t : Tables) (c sem p r : ℕ) → 0 < count_in p (numbers_without c (semaphore_at t r).waiters) → IsHereOr t c sem p r
+waits_where_left t c sem p r h = ⊎_elim
     (λ (e : p ≡ c). (let f : 0 < count_in c (numbers_without c (semaphore_at t r).waiters) = subst (λ k. 0 < count_in k (numbers_without c (semaphore_at t r).waiters)) e h in
     let g = numbers_without_same c (semaphore_at t r).waiters in absurd (omega arith)))
     (λ (n : p ≢ c). inr (n, subst (λ k. 0 < k) (numbers_without_other p c (semaphore_at t r).waiters n) h)) (cases_eq p c)
 
--- Who waits on a semaphore once c waits on s: c on s, or another that waited there before.
-waits_after : (t : Tables) (c s : ℕ) (x : Process) (m : Option ℕ) → s < length t.semaphores → (p r : ℕ) → 0 < count_in p (semaphore_at (move_to c x m (InSemaphore s) t) r).waiters → IsHereOr t c s p r
-waits_after t c s x m i p r =
-    let j : IsInTable (InSemaphore s) (waits_without c t.semaphores) = (let e = length-waits_without c t.semaphores in omega arith) in
-    semaphore_move_cases t c r x m (InSemaphore s) (λ y. 0 < count_in p y.waiters → IsHereOr t c s p r) j
-    (λ h. waits_where_left t c s p r h)
-    (λ v f g h. (let k : r ≡ s = cc in ⊎_elim (λ (e : p ≡ c). inl (e, k))
-    (λ (n : p ≢ c). waits_where_left t c s p r (subst (λ z. 0 < z) (count_last_other p c (numbers_without c (semaphore_at t r).waiters) n) h)) (cases_eq p c)))
+-- Who waits on a semaphore once c waits on sem: c on sem, or another that waited there before.
+waits_after : (t : Tables) (c sem : ℕ) (x : Process) (m : Option ℕ) → sem < length t.semaphores → (p r : ℕ) → 0 < count_in p (semaphore_at (move_to c x m (InSemaphore sem) t) r).waiters → IsHereOr t c sem p r
+waits_after t c sem x m i p r =
+    let j : IsInTable (InSemaphore sem) (waits_without c t.semaphores) = (let e = length-waits_without c t.semaphores in omega arith) in
+    semaphore_move_cases t c r x m (InSemaphore sem) (λ y. 0 < count_in p y.waiters → IsHereOr t c sem p r) j
+    (λ h. waits_where_left t c sem p r h)
+    (λ v f g h. (let k : r ≡ sem = cc in ⊎_elim (λ (e : p ≡ c). inl (e, k))
+    (λ (n : p ≢ c). waits_where_left t c sem p r (subst (λ z. 0 < z) (count_last_other p c (numbers_without c (semaphore_at t r).waiters) n) h)) (cases_eq p c)))
 
 -- what is left of the call of one who waits on semaphore s of port q
 pub record IsCallOn (ports : List Port) (q : ℕ) (queue : PortQueue) (s : ℕ) (left : Rest) : Type 0 where
@@ -48,30 +48,30 @@ pub record IsCallOn (ports : List Port) (q : ℕ) (queue : PortQueue) (s : ℕ) 
 abbrev pub made_wait : ℕ → ℕ → Rest → Option ℕ → Tables → Tables
 made_wait c s left m t = move_to c (record (process_at t c) { state = Waiting; rest = left }) m (InSemaphore s) t
 
-module _ (q : ℕ) (queue : PortQueue) (s : ℕ) (left : Rest) (c : ℕ) (m : Option ℕ) (t : Tables) (ports : List Port)
-    (o : IsInside t) (w : c < 64) (here : (port_at ports q).queue ≡ Some queue) (owned : (semaphore_at t s).owner ≡ Some (owner.Port q)) (call : IsCallOn ports q queue s left) where
+module _ (q : ℕ) (queue : PortQueue) (sem : ℕ) (left : Rest) (c : ℕ) (m : Option ℕ) (t : Tables) (ports : List Port)
+    (o : IsInside t) (w : c < 64) (here : (port_at ports q).queue ≡ Some queue) (owned : (semaphore_at t sem).owner ≡ Some (owner.Port q)) (call : IsCallOn ports q queue sem left) where
   -- the semaphore is in the table
-  within : s < length t.semaphores
-  within = port_semaphore_within q s t o owned
+  within : sem < length t.semaphores
+  within = port_semaphore_within q sem t o owned
 
   -- a semaphore keeps its owner and its tokens
-  same_owner : (r : ℕ) → (semaphore_at (made_wait c s left m t) r).owner ≡ (semaphore_at t r).owner
-  same_owner r = semaphore_move_cases t c r (record (process_at t c) { state = Waiting; rest = left }) m (InSemaphore s) (λ y. y.owner ≡ (semaphore_at t r).owner)
+  same_owner : (r : ℕ) → (semaphore_at (made_wait c sem left m t) r).owner ≡ (semaphore_at t r).owner
+  same_owner r = semaphore_move_cases t c r (record (process_at t c) { state = Waiting; rest = left }) m (InSemaphore sem) (λ y. y.owner ≡ (semaphore_at t r).owner)
       (let e = length-waits_without c t.semaphores in let f = within in omega arith) refl (λ v f g. refl)
 
-  same_tokens : (r : ℕ) → (semaphore_at (made_wait c s left m t) r).tokens ≡ (semaphore_at t r).tokens
-  same_tokens r = semaphore_move_cases t c r (record (process_at t c) { state = Waiting; rest = left }) m (InSemaphore s) (λ y. y.tokens ≡ (semaphore_at t r).tokens)
+  same_tokens : (r : ℕ) → (semaphore_at (made_wait c sem left m t) r).tokens ≡ (semaphore_at t r).tokens
+  same_tokens r = semaphore_move_cases t c r (record (process_at t c) { state = Waiting; rest = left }) m (InSemaphore sem) (λ y. y.tokens ≡ (semaphore_at t r).tokens)
       (let e = length-waits_without c t.semaphores in let f = within in omega arith) refl (λ v f g. refl)
 
   -- the caller's call, and those of the others
-  caller_waits : (process_at (made_wait c s left m t) c).rest ≡ left
-  caller_waits = ap (λ (x : Process). x.rest) (process_move_same t c (record (process_at t c) { state = Waiting; rest = left }) m (InSemaphore s) o.processes w)
+  caller_waits : (process_at (made_wait c sem left m t) c).rest ≡ left
+  caller_waits = ap (λ (x : Process). x.rest) (process_move_same t c (record (process_at t c) { state = Waiting; rest = left }) m (InSemaphore sem) o.processes w)
 
-  others_wait : (p : ℕ) → p ≢ c → (process_at (made_wait c s left m t) p).rest ≡ (process_at t p).rest
-  others_wait p n = ap (λ (x : Process). x.rest) (process_move_other t p c (record (process_at t c) { state = Waiting; rest = left }) m (InSemaphore s) n)
+  others_wait : (p : ℕ) → p ≢ c → (process_at (made_wait c sem left m t) p).rest ≡ (process_at t p).rest
+  others_wait p n = ap (λ (x : Process). x.rest) (process_move_other t p c (record (process_at t c) { state = Waiting; rest = left }) m (InSemaphore sem) n)
 
   -- the caller is released from no semaphore
-  counts_wait : (r : ℕ) → KeepsCounts r t (made_wait c s left m t)
+  counts_wait : (r : ℕ) → KeepsCounts r t (made_wait c sem left m t)
   counts_wait r = record {
     tokens = λ v e. same_tokens v;
     senders = λ seq. (let e = times-set (is_released_sender r seq) t.processes c (record (process_at t c) { state = Waiting; rest = left }) no_process (let f = o.processes in omega arith) in omega arith);
@@ -79,44 +79,44 @@ module _ (q : ℕ) (queue : PortQueue) (s : ℕ) (left : Rest) (c : ℕ) (m : Op
   }
 
   -- a port whose semaphore the caller's is is the caller's, with its queue
-  same_port : (r v : ℕ) (other : PortQueue) → (port_at ports r).queue ≡ Some other → (semaphore_at t v).owner ≡ Some (owner.Port r) → v ≡ s → (r ≡ q) × (other ≡ queue)
+  same_port : (r v : ℕ) (other : PortQueue) → (port_at ports r).queue ≡ Some other → (semaphore_at t v).owner ≡ Some (owner.Port r) → v ≡ sem → (r ≡ q) × (other ≡ queue)
   same_port r v other e f g =
       let h : Some (owner.Port r) ≡ Some (owner.Port q) = sym f ∙ subst (λ k. (semaphore_at t k).owner ≡ Some (owner.Port q)) (sym g) owned in
       let k : r ≡ q = cc in
       (k, (let l : Some other ≡ Some queue = sym e ∙ subst (λ n. (port_at ports n).queue ≡ Some queue) (sym k) here in cc))
 
   -- What holds of each port holds on.
-  port_waits : (r : ℕ) (other : PortQueue) → (port_at ports r).queue ≡ Some other → IsSoundPort t r (port_at ports r).seq other → IsSoundPort (made_wait c s left m t) r (port_at ports r).seq other
+  port_waits : (r : ℕ) (other : PortQueue) → (port_at ports r).queue ≡ Some other → IsSoundPort t r (port_at ports r).seq other → IsSoundPort (made_wait c sem left m t) r (port_at ports r).seq other
   port_waits r other e k =
-      let u = made_wait c s left m t in
+      let u = made_wait c sem left m t in
       let n = counts_kept r (port_at ports r).seq other t u (counts_wait r) k in
       record {
         send_owner = same_owner other.send ∙ k.send_owner;
         receive_owner = same_owner other.receive ∙ k.receive_owner;
         differ = k.differ;
         senders = λ p h. ⊎_elim
-            (λ (f : (p ≡ c) × (other.send ≡ s)). (let g = same_port r other.send other e k.send_owner f.1 in
-            let z : s ≡ queue.send = sym f.1 ∙ ap (λ (y : PortQueue). y.send) g.1 in
+            (λ (f : (p ≡ c) × (other.send ≡ sem)). (let g = same_port r other.send other e k.send_owner f.1 in
+            let z : sem ≡ queue.send = sym f.1 ∙ ap (λ (y : PortQueue). y.send) g.1 in
             let l = call.sends z in
             let y : (process_at u p).rest ≡ left = subst (λ v. (process_at u v).rest ≡ left) (sym f.0) caller_waits in
             (l.0, y ∙ l.1 ∙ (let g0 = g.0 in let g1 = g.1 in cc))))
             (λ (f : (p ≢ c) × (0 < count_in p (semaphore_at t other.send).waiters)). (let l = k.senders p f.1 in (l.0, others_wait p f.0 ∙ l.1)))
-            (waits_after t c s (record (process_at t c) { state = Waiting; rest = left }) m within p other.send h);
+            (waits_after t c sem (record (process_at t c) { state = Waiting; rest = left }) m within p other.send h);
         receivers = λ p h. ⊎_elim
-            (λ (f : (p ≡ c) × (other.receive ≡ s)). (let g = same_port r other.receive other e k.receive_owner f.1 in
-            let z : s ≡ queue.receive = sym f.1 ∙ ap (λ (y : PortQueue). y.receive) g.1 in
+            (λ (f : (p ≡ c) × (other.receive ≡ sem)). (let g = same_port r other.receive other e k.receive_owner f.1 in
+            let z : sem ≡ queue.receive = sym f.1 ∙ ap (λ (y : PortQueue). y.receive) g.1 in
             let y : (process_at u p).rest ≡ left = subst (λ v. (process_at u v).rest ≡ left) (sym f.0) caller_waits in
             y ∙ call.receives z ∙ (let g0 = g.0 in let g1 = g.1 in cc)))
             (λ (f : (p ≢ c) × (0 < count_in p (semaphore_at t other.receive).waiters)). others_wait p f.0 ∙ k.receivers p f.1)
-            (waits_after t c s (record (process_at t c) { state = Waiting; rest = left }) m within p other.receive h);
+            (waits_after t c sem (record (process_at t c) { state = Waiting; rest = left }) m within p other.receive h);
         messages = n.messages;
         room = n.room;
       }
 
   -- What holds of all ports holds on.
-  pub ports_wait : ArePorts t ports → ArePorts (made_wait c s left m t) ports
+  pub ports_wait : ArePorts t ports → ArePorts (made_wait c sem left m t) ports
   ports_wait a =
-      let u = made_wait c s left m t in
+      let u = made_wait c sem left m t in
       record {
         many = a.many;
         few = a.few;

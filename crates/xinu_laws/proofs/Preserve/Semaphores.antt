@@ -26,29 +26,29 @@ images_of (Some Device) h = cc
 images_of None h = cc
 
 -- what is known of a semaphore that a process may name
-pub record IsGood (t : Tables) (s : ℕ) : Type 0 where
-  pub owner : (semaphore_at t s).owner ≡ Some Image
-  pub within : s < 128
-  pub no_device : 4 ≤ s
+pub record IsGood (t : Tables) (sem : ℕ) : Type 0 where
+  pub owner : (semaphore_at t sem).owner ≡ Some Image
+  pub within : sem < 128
+  pub no_device : 4 ≤ sem
 
 -- it is one that a process made, and so it is in use and not the kernel's
-pub good_semaphore : (t : Tables) (s : ℕ) → IsInside t → is_good s t ≡ true → IsGood t s
-good_semaphore t s o h =
-    let e = images_of (semaphore_at t s).owner h in
-    record { owner = e; within = semaphore_within t s o.semaphores (λ f. cc); no_device = owned_is_no_device t s o (λ f. cc) }
+pub good_semaphore : (t : Tables) (sem : ℕ) → IsInside t → is_good sem t ≡ true → IsGood t sem
+good_semaphore t sem o h =
+    let e = images_of (semaphore_at t sem).owner h in
+    record { owner = e; within = semaphore_within t sem o.semaphores (λ f. cc); no_device = owned_is_no_device t sem o (λ f. cc) }
 
 -- a search for a free number finds one that isn't in use
-pub free_semaphore_free : (t : Tables) (s : ℕ) → free_semaphore t ≡ Some s → (semaphore_at t s).owner ≡ None
-free_semaphore_free t s e = unused (semaphore_at t s).owner (search_passes (λ r. not (is_some (semaphore_at t r).owner)) 128 (t.last_semaphore + 1) s e)
+pub free_semaphore_free : (t : Tables) (sem : ℕ) → free_semaphore t ≡ Some sem → (semaphore_at t sem).owner ≡ None
+free_semaphore_free t sem e = unused (semaphore_at t sem).owner (search_passes (λ r. not (is_some (semaphore_at t r).owner)) 128 (t.last_semaphore + 1) sem e)
   where
     unused : (by : Option Owner) → not (is_some by) ≡ true → by ≡ None
     unused None h = refl
     unused (Some by) h = cc
 
 -- A semaphore is made where a search found a number.
-pub sound_found_semaphore : (t : Tables) (s tokens : ℕ) (by : Owner) → IsSoundTables t → free_semaphore t ≡ Some s → by ≢ Device → IsSoundTables (make_semaphore s by tokens t)
-sound_found_semaphore t s tokens by k e n =
-    sound_made_semaphore t s tokens by k (search_within (λ r. not (is_some (semaphore_at t r).owner)) 128 (t.last_semaphore + 1) s e) (free_semaphore_free t s e) n
+pub sound_found_semaphore : (t : Tables) (sem tokens : ℕ) (by : Owner) → IsSoundTables t → free_semaphore t ≡ Some sem → by ≢ Device → IsSoundTables (make_semaphore sem by tokens t)
+sound_found_semaphore t sem tokens by k e n =
+    sound_made_semaphore t sem tokens by k (search_within (λ r. not (is_some (semaphore_at t r).owner)) 128 (t.last_semaphore + 1) sem e) (free_semaphore_free t sem e) n
 
 -- a semaphore that is made where one was found
 made_semaphore_preserves : (n : ℕ) (found : Option ℕ) (x : Xinu) → free_semaphore x.tables ≡ found → MayCall x → IsPreserved (made_semaphore n found x)
@@ -61,69 +61,69 @@ semcreate_preserves (negsuc n) = refused_preserves
 semcreate_preserves (pos n) = λ x c. made_semaphore_preserves n (free_semaphore x.tables) x refl c
 
 -- who is released changes no registers
-pub harts_emptied : (s : ℕ) (d : CallState) → length (emptied s d).state.harts ≡ length d.state.harts
-harts_emptied s d = ap (λ (x : Xinu). length x.harts) (unblock_all_ready (semaphore_at d.state.tables s).waiters d)
+pub harts_emptied : (sem : ℕ) (d : CallState) → length (emptied sem d).state.harts ≡ length d.state.harts
+harts_emptied sem d = ap (λ (s : Xinu). length s.harts) (unblock_all_ready (semaphore_at d.state.tables sem).waiters d)
 
 -- Call 15.
-pub semdelete_preserves : (s : ℕ) → Preserves (semdelete s)
-semdelete_preserves s x c = either_preserves (is_good s x.tables) _ _
-    (λ b. let g = good_semaphore x.tables s c.tables.inside b in
-    let d = emptied s (start x) in
+pub semdelete_preserves : (sem : ℕ) → Preserves (semdelete sem)
+semdelete_preserves sem x c = either_preserves (is_good sem x.tables) _ _
+    (λ b. let g = good_semaphore x.tables sem c.tables.inside b in
+    let d = emptied sem (start x) in
     record {
-      tables = sound_given_up d.state.tables s (sound_emptied s (start x) c.tables) g.within g.no_device (emptied_has_no_waiters s (start x));
-      harts = harts_emptied s (start x) ∙ c.harts;
+      tables = sound_given_up d.state.tables sem (sound_emptied sem (start x) c.tables) g.within g.no_device (emptied_has_no_waiters sem (start x));
+      harts = harts_emptied sem (start x) ∙ c.harts;
     })
     (λ _. refused_preserves x c)
 
 -- Call 16.
-pub semreset_preserves : (s : ℕ) (count : ℤ) → Preserves (semreset s count)
-semreset_preserves s (negsuc n) = refused_preserves
-semreset_preserves s (pos n) = λ x c. either_preserves (is_good s x.tables) _ _
-    (λ b. let g = good_semaphore x.tables s c.tables.inside b in
-    let d = emptied s (start x) in
+pub semreset_preserves : (sem : ℕ) (count : ℤ) → Preserves (semreset sem count)
+semreset_preserves sem (negsuc n) = refused_preserves
+semreset_preserves sem (pos n) = λ x c. either_preserves (is_good sem x.tables) _ _
+    (λ b. let g = good_semaphore x.tables sem c.tables.inside b in
+    let d = emptied sem (start x) in
     record {
-      tables = sound_tokens d.state.tables s n (sound_emptied s (start x) c.tables) g.within (inr (emptied_has_no_waiters s (start x)));
-      harts = harts_emptied s (start x) ∙ c.harts;
+      tables = sound_tokens d.state.tables sem n (sound_emptied sem (start x) c.tables) g.within (inr (emptied_has_no_waiters sem (start x)));
+      harts = harts_emptied sem (start x) ∙ c.harts;
     })
     (λ _. refused_preserves x c)
 
 -- Call 17.
-pub semcount_preserves : (s : ℕ) → Preserves (semcount s)
-semcount_preserves s x c = either_preserves (is_good s x.tables) _ _ (λ _. answers_preserves (count_of (semaphore_at x.tables s)) x c) (λ _. refused_preserves x c)
+pub semcount_preserves : (sem : ℕ) → Preserves (semcount sem)
+semcount_preserves sem x c = either_preserves (is_good sem x.tables) _ _ (λ _. answers_preserves (count_of (semaphore_at x.tables sem)) x c) (λ _. refused_preserves x c)
 
 -- Call 18.
-pub wait_preserves : (s : ℕ) → Preserves (wait s)
-wait_preserves s x c = either_preserves (is_good s x.tables) _ _
-    (λ b. let g = good_semaphore x.tables s c.tables.inside b in
-    await_preserves s Nothing (answers (pos 0)) x c g.within (subst (λ k. FitsOwner s k Nothing) (sym g.owner) refl) (λ n e k. answers_preserves (pos 0) (record x { tables = with_tokens s n x.tables }) k))
+pub wait_preserves : (sem : ℕ) → Preserves (wait sem)
+wait_preserves sem x c = either_preserves (is_good sem x.tables) _ _
+    (λ b. let g = good_semaphore x.tables sem c.tables.inside b in
+    await_preserves sem Nothing (answers (pos 0)) x c g.within (subst (λ k. FitsOwner sem k Nothing) (sym g.owner) refl) (λ n e k. answers_preserves (pos 0) (record x { tables = with_tokens sem n x.tables }) k))
     (λ _. refused_preserves x c)
 
 -- a signal changes no registers
-pub harts_signalled : (s : ℕ) (d : CallState) → (signalled s d).state.harts ≡ d.state.harts
-harts_signalled s d = by_waiters (semaphore_at d.state.tables s).waiters
+pub harts_signalled : (sem : ℕ) (d : CallState) → (signalled sem d).state.harts ≡ d.state.harts
+harts_signalled sem d = by_waiters (semaphore_at d.state.tables sem).waiters
   where
-    by_waiters : (l : List ℕ) → (signal_first s l d).state.harts ≡ d.state.harts
+    by_waiters : (l : List ℕ) → (signal_first sem l d).state.harts ≡ d.state.harts
     by_waiters [] = refl
     by_waiters (p ∷ ps) = refl
 
 -- Call 19.
-pub signal_preserves : (s : ℕ) → Preserves (signal s)
-signal_preserves s x c =
-    let less = int_lt (count_of (semaphore_at x.tables s)) most_tokens in
-    either_preserves (is_good s x.tables && less) _ _
-    (λ b. let g = good_semaphore x.tables s c.tables.inside (and_parts (is_good s x.tables) less b).0 in
-    record { tables = sound_signalled s (start x) c.tables g.within; harts = ap length (harts_signalled s (start x)) ∙ c.harts })
+pub signal_preserves : (sem : ℕ) → Preserves (signal sem)
+signal_preserves sem x c =
+    let less = int_lt (count_of (semaphore_at x.tables sem)) most_tokens in
+    either_preserves (is_good sem x.tables && less) _ _
+    (λ b. let g = good_semaphore x.tables sem c.tables.inside (and_parts (is_good sem x.tables) less b).0 in
+    record { tables = sound_signalled sem (start x) c.tables g.within; harts = ap length (harts_signalled sem (start x)) ∙ c.harts })
     (λ _. refused_preserves x c)
 
 -- Call 20.
-pub signaln_preserves : (s : ℕ) (n : ℤ) → Preserves (signaln s n)
-signaln_preserves s (negsuc n) = refused_preserves
-signaln_preserves s (pos n) = λ x c.
-    let most = not (int_lt most_tokens (count_of (semaphore_at x.tables s) +ℤ pos n)) in
-    either_preserves (is_good s x.tables && most) _ _
-    (λ b. let g = good_semaphore x.tables s c.tables.inside (and_parts (is_good s x.tables) most b).0 in
+pub signaln_preserves : (sem : ℕ) (n : ℤ) → Preserves (signaln sem n)
+signaln_preserves sem (negsuc n) = refused_preserves
+signaln_preserves sem (pos n) = λ x c.
+    let most = not (int_lt most_tokens (count_of (semaphore_at x.tables sem) +ℤ pos n)) in
+    either_preserves (is_good sem x.tables && most) _ _
+    (λ b. let g = good_semaphore x.tables sem c.tables.inside (and_parts (is_good sem x.tables) most b).0 in
     record {
-      tables = sound_signalled_times s n (start x) c.tables g.within;
-      harts = ap (λ (y : Xinu). length y.harts) (unblock_all_ready (take n (semaphore_at x.tables s).waiters) (start x)) ∙ c.harts;
+      tables = sound_signalled_times sem n (start x) c.tables g.within;
+      harts = ap (λ (y : Xinu). length y.harts) (unblock_all_ready (take n (semaphore_at x.tables sem).waiters) (start x)) ∙ c.harts;
     })
     (λ _. refused_preserves x c)

@@ -26,13 +26,13 @@ signals_of s n waiters tokens d =
     let after = unblock_all (take n waiters) d in with_tables (with_tokens s (tokens + (n - length waiters)) after.state.tables) after
 
 -- many signals are those of the semaphore as it is
-signals_at : (s n : ℕ) (d : CallState) (x : Semaphore) → semaphore_at d.state.tables s ≡ x → signalled_times s n d ≡ signals_of s n x.waiters x.tokens d
-signals_at s n d x e = ap (λ (y : Semaphore). signals_of s n y.waiters y.tokens d) e
+signals_at : (sem n : ℕ) (d : CallState) (x : Semaphore) → semaphore_at d.state.tables sem ≡ x → signalled_times sem n d ≡ signals_of sem n x.waiters x.tokens d
+signals_at sem n d x e = ap (λ (y : Semaphore). signals_of sem n y.waiters y.tokens d) e
 
 -- where nobody waits they are as many tokens
-signals_to_none : (s n tokens : ℕ) (d : CallState) → signals_of s n [] tokens d ≡ with_tables (with_tokens s (tokens + (n - 0)) d.state.tables) d
-signals_to_none s n tokens d =
-    ap (λ ps. let after = unblock_all ps d in with_tables (with_tokens s (tokens + (n - 0)) after.state.tables) after) (take_all {A = ℕ} n [] (omega arith))
+signals_to_none : (sem n tokens : ℕ) (d : CallState) → signals_of sem n [] tokens d ≡ with_tables (with_tokens sem (tokens + (n - 0)) d.state.tables) d
+signals_to_none sem n tokens d =
+    ap (λ ps. let after = unblock_all ps d in with_tables (with_tokens sem (tokens + (n - 0)) after.state.tables) after) (take_all {A = ℕ} n [] (omega arith))
 
 -- a number of places is at most one
 at_most_one : (s : State) → waiting_places s ≤ 1
@@ -40,12 +40,12 @@ at_most_one Waiting = omega arith
 at_most_one _ = omega arith
 
 -- who waits first doesn't wait behind
-first_waits_once : (t : Tables) (s p : ℕ) (ps : List ℕ) → IsInside t → (semaphore_at t s).waiters ≡ p ∷ ps → count_in p ps ≡ 0
-first_waits_once t s p ps o e =
-    let l = get_or-le-total (λ x. count_in p x.waiters) t.semaphores s no_semaphore refl in
+first_waits_once : (t : Tables) (sem p : ℕ) (ps : List ℕ) → IsInside t → (semaphore_at t sem).waiters ≡ p ∷ ps → count_in p ps ≡ 0
+first_waits_once t sem p ps o e =
+    let l = get_or-le-total (λ x. count_in p x.waiters) t.semaphores sem no_semaphore refl in
     let m = at_most_one (state_at t p) in
     let w = o.waiting p in
-    let f : count_in p (semaphore_at t s).waiters ≡ suc (count_in p ps) = ap (count_in p) e ∙ ap (λ b. cond b (suc (count_in p ps)) (count_in p ps)) (eq-eqb p p refl) in
+    let f : count_in p (semaphore_at t sem).waiters ≡ suc (count_in p ps) = ap (count_in p) e ∙ ap (λ b. cond b (suc (count_in p ps)) (count_in p ps)) (eq-eqb p p refl) in
     omega arith
 
 -- the others wait once the first is released
@@ -53,78 +53,78 @@ others_wait : (p : ℕ) (ps : List ℕ) → count_in p ps ≡ 0 → numbers_with
 others_wait p ps z = ap (λ b. cond (not b) (p ∷ numbers_without p ps) (numbers_without p ps)) (eq-eqb p p refl) ∙ filter_absent (λ x. x == p) ps z
 
 -- no signal changes nothing
-no_signal : (s : ℕ) (d : CallState) → signalled_times s 0 d ≡ d
-no_signal s d =
+no_signal : (sem : ℕ) (d : CallState) → signalled_times sem 0 d ≡ d
+no_signal sem d =
     let t = d.state.tables in
-    let x = semaphore_at t s in
+    let x = semaphore_at t sem in
     let e : x.tokens + (0 - length x.waiters) ≡ x.tokens = omega arith in
-    ap (λ n. with_tables (with_tokens s n t) d) e ∙ ap (λ l. with_tables (record t { semaphores = l }) d) (set-get_or t.semaphores s no_semaphore)
+    ap (λ n. with_tables (with_tokens sem n t) d) e ∙ ap (λ l. with_tables (record t { semaphores = l }) d) (set-get_or t.semaphores sem no_semaphore)
 
 -- one signal and then n are n + 1, where one waits
-signals_released : (s n p : ℕ) (ps : List ℕ) (d : CallState) → IsInside d.state.tables → (semaphore_at d.state.tables s).waiters ≡ p ∷ ps
-    → signalled_times s (suc n) d ≡ signalled_times s n (unblock p d)
-signals_released s n p ps d o e =
+signals_released : (sem n p : ℕ) (ps : List ℕ) (d : CallState) → IsInside d.state.tables → (semaphore_at d.state.tables sem).waiters ≡ p ∷ ps
+    → signalled_times sem (suc n) d ≡ signalled_times sem n (unblock p d)
+signals_released sem n p ps d o e =
     let t = d.state.tables in
-    let x = semaphore_at t s in
-    let left : numbers_without p x.waiters ≡ ps = ap (numbers_without p) e ∙ others_wait p ps (first_waits_once t s p ps o e) in
+    let x = semaphore_at t sem in
+    let left : numbers_without p x.waiters ≡ ps = ap (numbers_without p) e ∙ others_wait p ps (first_waits_once t sem p ps o e) in
     let g : suc n - suc (length ps) ≡ n - length ps = omega arith in
-    ap (λ w. signals_of s (suc n) w x.tokens d) e
-    ∙ ap (λ k. let after = unblock_all (take n ps) (unblock p d) in with_tables (with_tokens s (x.tokens + k) after.state.tables) after) g
-    ∙ sym (ap (λ w. signals_of s n w x.tokens (unblock p d)) left)
-    ∙ sym (signals_at s n (unblock p d) (semaphore_without p x) (semaphore_at_without p s t.semaphores))
+    ap (λ w. signals_of sem (suc n) w x.tokens d) e
+    ∙ ap (λ k. let after = unblock_all (take n ps) (unblock p d) in with_tables (with_tokens sem (x.tokens + k) after.state.tables) after) g
+    ∙ sym (ap (λ w. signals_of sem n w x.tokens (unblock p d)) left)
+    ∙ sym (signals_at sem n (unblock p d) (semaphore_without p x) (semaphore_at_without p sem t.semaphores))
 
 -- and where nobody waits
-signals_counted : (s n : ℕ) (d : CallState) → length d.state.tables.semaphores ≡ 128 → s < 128 → (semaphore_at d.state.tables s).waiters ≡ []
-    → signalled_times s (suc n) d ≡ signalled_times s n (with_tables (with_tokens s ((semaphore_at d.state.tables s).tokens + 1) d.state.tables) d)
-signals_counted s n d many w e =
+signals_counted : (sem n : ℕ) (d : CallState) → length d.state.tables.semaphores ≡ 128 → sem < 128 → (semaphore_at d.state.tables sem).waiters ≡ []
+    → signalled_times sem (suc n) d ≡ signalled_times sem n (with_tables (with_tokens sem ((semaphore_at d.state.tables sem).tokens + 1) d.state.tables) d)
+signals_counted sem n d many w e =
     let t = d.state.tables in
-    let x = semaphore_at t s in
+    let x = semaphore_at t sem in
     let y : Semaphore = record x { tokens = x.tokens + 1 } in
-    let u = with_tokens s (x.tokens + 1) t in
-    let here : semaphore_at u s ≡ y = get_or-set_same t.semaphores s y no_semaphore (omega arith) in
+    let u = with_tokens sem (x.tokens + 1) t in
+    let here : semaphore_at u sem ≡ y = get_or-set_same t.semaphores sem y no_semaphore (omega arith) in
     let sum : x.tokens + (suc n - 0) ≡ x.tokens + 1 + (n - 0) = omega arith in
     let tokens = x.tokens + 1 + (n - 0) in
-    ap (λ l. signals_of s (suc n) l x.tokens d) e
-    ∙ signals_to_none s (suc n) x.tokens d
-    ∙ ap (λ k. with_tables (with_tokens s k t) d) sum
-    ∙ sym (ap (λ l. with_tables (record t { semaphores = l }) d) (set_twice t.semaphores s y (record x { tokens = tokens })))
-    ∙ sym (ap (λ (z : Semaphore). with_tables (record u { semaphores = set u.semaphores s (record z { tokens = tokens }) }) d) here)
-    ∙ sym (signals_to_none s n (x.tokens + 1) (with_tables u d))
-    ∙ sym (ap (λ l. signals_of s n l (x.tokens + 1) (with_tables u d)) e)
-    ∙ sym (signals_at s n (with_tables u d) y here)
+    ap (λ l. signals_of sem (suc n) l x.tokens d) e
+    ∙ signals_to_none sem (suc n) x.tokens d
+    ∙ ap (λ k. with_tables (with_tokens sem k t) d) sum
+    ∙ sym (ap (λ l. with_tables (record t { semaphores = l }) d) (set_twice t.semaphores sem y (record x { tokens = tokens })))
+    ∙ sym (ap (λ (z : Semaphore). with_tables (record u { semaphores = set u.semaphores sem (record z { tokens = tokens }) }) d) here)
+    ∙ sym (signals_to_none sem n (x.tokens + 1) (with_tables u d))
+    ∙ sym (ap (λ l. signals_of sem n l (x.tokens + 1) (with_tables u d)) e)
+    ∙ sym (signals_at sem n (with_tables u d) y here)
 
 -- One signal and then n are n + 1.
-one_more_signal : (s n : ℕ) (d : CallState) (waiters : List ℕ) → waiters ≡ (semaphore_at d.state.tables s).waiters → IsInside d.state.tables → s < 128
-    → signalled_times s (suc n) d ≡ signalled_times s n (signal_first s waiters d)
-one_more_signal s n d [] e o w = signals_counted s n d o.semaphores w (sym e)
-one_more_signal s n d (p ∷ ps) e o w = signals_released s n p ps d o (sym e)
+one_more_signal : (sem n : ℕ) (d : CallState) (waiters : List ℕ) → waiters ≡ (semaphore_at d.state.tables sem).waiters → IsInside d.state.tables → sem < 128
+    → signalled_times sem (suc n) d ≡ signalled_times sem n (signal_first sem waiters d)
+one_more_signal sem n d [] e o w = signals_counted sem n d o.semaphores w (sym e)
+one_more_signal sem n d (p ∷ ps) e o w = signals_released sem n p ps d o (sym e)
 
 -- the same of a semaphore of the table
-signals_within : (n s : ℕ) (d : CallState) → IsInside d.state.tables → s < 128 → signalled_times s n d ≡ repeated n (signalled s) d
-signals_within zero s d o w = no_signal s d
-signals_within (suc n) s d o w =
-    one_more_signal s n d (semaphore_at d.state.tables s).waiters refl o w ∙ signals_within n s (signalled s d) (inside_signalled s d o w) w
+signals_within : (n sem : ℕ) (d : CallState) → IsInside d.state.tables → sem < 128 → signalled_times sem n d ≡ repeated n (signalled sem) d
+signals_within zero sem d o w = no_signal sem d
+signals_within (suc n) sem d o w =
+    one_more_signal sem n d (semaphore_at d.state.tables sem).waiters refl o w ∙ signals_within n sem (signalled sem d) (inside_signalled sem d o w) w
 
 -- a signal of a number past the table changes nothing
-signal_past : (s : ℕ) (d : CallState) → length d.state.tables.semaphores ≡ 128 → 128 ≤ s → signalled s d ≡ d
-signal_past s d many h =
+signal_past : (sem : ℕ) (d : CallState) → length d.state.tables.semaphores ≡ 128 → 128 ≤ sem → signalled sem d ≡ d
+signal_past sem d many h =
     let t = d.state.tables in
-    ap (λ (x : Semaphore). signal_first s x.waiters d) (get_or_past t.semaphores s no_semaphore (omega arith))
-    ∙ ap (λ l. with_tables (record t { semaphores = l }) d) (set_past t.semaphores s (record (semaphore_at t s) { tokens = (semaphore_at t s).tokens + 1 }) (omega arith))
+    ap (λ (x : Semaphore). signal_first sem x.waiters d) (get_or_past t.semaphores sem no_semaphore (omega arith))
+    ∙ ap (λ l. with_tables (record t { semaphores = l }) d) (set_past t.semaphores sem (record (semaphore_at t sem) { tokens = (semaphore_at t sem).tokens + 1 }) (omega arith))
 
 -- and so do many
-signals_past : (n s : ℕ) (d : CallState) → length d.state.tables.semaphores ≡ 128 → 128 ≤ s → d ≡ repeated n (signalled s) d
-signals_past zero s d many h = refl
-signals_past (suc n) s d many h = signals_past n s d many h ∙ sym (ap (repeated n (signalled s)) (signal_past s d many h))
+signals_past : (n sem : ℕ) (d : CallState) → length d.state.tables.semaphores ≡ 128 → 128 ≤ sem → d ≡ repeated n (signalled sem) d
+signals_past zero sem d many h = refl
+signals_past (suc n) sem d many h = signals_past n sem d many h ∙ sym (ap (repeated n (signalled sem)) (signal_past sem d many h))
 
 -- many at once of a number past the table change nothing
-many_past : (n s : ℕ) (d : CallState) → length d.state.tables.semaphores ≡ 128 → 128 ≤ s → signalled_times s n d ≡ d
-many_past n s d many h =
+many_past : (n sem : ℕ) (d : CallState) → length d.state.tables.semaphores ≡ 128 → 128 ≤ sem → signalled_times sem n d ≡ d
+many_past n sem d many h =
     let t = d.state.tables in
-    signals_at s n d no_semaphore (get_or_past t.semaphores s no_semaphore (omega arith))
-    ∙ signals_to_none s n 0 d
-    ∙ ap (λ l. with_tables (record t { semaphores = l }) d) (set_past t.semaphores s (record (semaphore_at t s) { tokens = 0 + (n - 0) }) (omega arith))
+    signals_at sem n d no_semaphore (get_or_past t.semaphores sem no_semaphore (omega arith))
+    ∙ signals_to_none sem n 0 d
+    ∙ ap (λ l. with_tables (record t { semaphores = l }) d) (set_past t.semaphores sem (record (semaphore_at t sem) { tokens = 0 + (n - 0) }) (omega arith))
 
 -- So many signals at once are that many signals, one after another, where what holds of the tables at each moment holds.
-pub signals_are_repeated : (s n : ℕ) (d : CallState) → IsInside d.state.tables → signalled_times s n d ≡ repeated n (signalled s) d
-signals_are_repeated s n d o = ⊎_elim (λ (h : s < 128). signals_within n s d o h) (λ (h : 128 ≤ s). many_past n s d o.semaphores h ∙ signals_past n s d o.semaphores h) (cases_lt s 128)
+pub signals_are_repeated : (sem n : ℕ) (d : CallState) → IsInside d.state.tables → signalled_times sem n d ≡ repeated n (signalled sem) d
+signals_are_repeated sem n d o = ⊎_elim (λ (h : sem < 128). signals_within n sem d o h) (λ (h : 128 ≤ sem). many_past n sem d o.semaphores h ∙ signals_past n sem d o.semaphores h) (cases_lt sem 128)

@@ -87,28 +87,28 @@ inside_message t q m o w f = record {
 }
 
 -- A semaphore with an owner that the kernel or a process may have at its number: the first four are the kernel's, and no others.
-pub record FitsNumber (s : ℕ) (owner : Option Owner) : Type 0 where
-  pub devices : s < 4 → owner ≡ Some Device
-  pub no_devices : owner ≡ Some Device → s < 4
+pub record FitsNumber (sem : ℕ) (owner : Option Owner) : Type 0 where
+  pub devices : sem < 4 → owner ≡ Some Device
+  pub no_devices : owner ≡ Some Device → sem < 4
 
 -- a semaphore that is written is what it became, and the others are what they were
-semaphore_written : (t : Tables) (s : ℕ) (y : Semaphore) (P : ℕ → Semaphore → Type 0) → length t.semaphores ≡ 128 → s < 128
-    → P s y → ((r : ℕ) → P r (semaphore_at t r)) → (r : ℕ) → P r (get_or (set t.semaphores s y) r no_semaphore)
-semaphore_written t s y P e w new old r = by_number r s (λ k. P k (get_or (set t.semaphores s y) k no_semaphore))
-    (subst (P s) (sym (get_or-set_same t.semaphores s y no_semaphore (omega arith))) new)
-    (λ n. subst (P r) (sym (get_or-set_other t.semaphores s r y no_semaphore n)) (old r))
+semaphore_written : (t : Tables) (sem : ℕ) (y : Semaphore) (P : ℕ → Semaphore → Type 0) → length t.semaphores ≡ 128 → sem < 128
+    → P sem y → ((r : ℕ) → P r (semaphore_at t r)) → (r : ℕ) → P r (get_or (set t.semaphores sem y) r no_semaphore)
+semaphore_written t sem y P e w new old r = by_number r sem (λ k. P k (get_or (set t.semaphores sem y) k no_semaphore))
+    (subst (P sem) (sym (get_or-set_same t.semaphores sem y no_semaphore (omega arith))) new)
+    (λ n. subst (P r) (sym (get_or-set_other t.semaphores sem r y no_semaphore n)) (old r))
 
 -- A semaphore is written with its old waiters, where it hasn't tokens beside them, and its owner fits them and its number.
-pub inside_semaphore : (t : Tables) (s : ℕ) (y : Semaphore) → IsInside t → s < 128 → y.waiters ≡ (semaphore_at t s).waiters → HasOneKind y
-    → ((p : ℕ) → 0 < count_in p y.waiters → FitsOwner s y.owner (process_at t p).rest) → FitsNumber s y.owner
-    → IsInside (with_semaphore s y t)
-inside_semaphore t s y o w same kind fits number = record {
+pub inside_semaphore : (t : Tables) (sem : ℕ) (y : Semaphore) → IsInside t → sem < 128 → y.waiters ≡ (semaphore_at t sem).waiters → HasOneKind y
+    → ((p : ℕ) → 0 < count_in p y.waiters → FitsOwner sem y.owner (process_at t p).rest) → FitsNumber sem y.owner
+    → IsInside (with_semaphore sem y t)
+inside_semaphore t sem y o w same kind fits number = record {
   processes = o.processes;
   messages = o.messages;
-  semaphores = length-set t.semaphores s y ∙ o.semaphores;
+  semaphores = length-set t.semaphores sem y ∙ o.semaphores;
   ready = o.ready;
   waiting = λ p.
-      (let e = total-set (λ x. count_in p x.waiters) t.semaphores s y no_semaphore (let l = o.semaphores in omega arith) in
+      (let e = total-set (λ x. count_in p x.waiters) t.semaphores sem y no_semaphore (let l = o.semaphores in omega arith) in
       let f = ap (count_in p) same in
       let g = o.waiting p in
       omega arith);
@@ -119,60 +119,60 @@ inside_semaphore t s y o w same kind fits number = record {
   falling = o.falling;
   rising = o.rising;
   later = o.later;
-  one_kind = semaphore_written t s y (λ r x. HasOneKind x) o.semaphores w kind o.one_kind;
-  rests = semaphore_written t s y (λ r x. (p : ℕ) → 0 < count_in p x.waiters → FitsOwner r x.owner (process_at t p).rest) o.semaphores w fits o.rests;
+  one_kind = semaphore_written t sem y (λ r x. HasOneKind x) o.semaphores w kind o.one_kind;
+  rests = semaphore_written t sem y (λ r x. (p : ℕ) → 0 < count_in p x.waiters → FitsOwner r x.owner (process_at t p).rest) o.semaphores w fits o.rests;
   slots = o.slots;
-  devices = semaphore_written t s y (λ r x. r < 4 → x.owner ≡ Some Device) o.semaphores w number.devices o.devices;
-  no_devices = semaphore_written t s y (λ r x. x.owner ≡ Some Device → r < 4) o.semaphores w number.no_devices o.no_devices;
+  devices = semaphore_written t sem y (λ r x. r < 4 → x.owner ≡ Some Device) o.semaphores w number.devices o.devices;
+  no_devices = semaphore_written t sem y (λ r x. x.owner ≡ Some Device → r < 4) o.semaphores w number.no_devices o.no_devices;
 }
 
 -- A semaphore gets another number of tokens, where it has none or no waiters.
-pub inside_tokens : (t : Tables) (s n : ℕ) → IsInside t → s < 128 → HasOneKind (record (semaphore_at t s) { tokens = n }) → IsInside (with_tokens s n t)
-inside_tokens t s n o w kind =
-    inside_semaphore t s (record (semaphore_at t s) { tokens = n }) o w refl kind (o.rests s) (record { devices = o.devices s; no_devices = o.no_devices s })
+pub inside_tokens : (t : Tables) (sem n : ℕ) → IsInside t → sem < 128 → HasOneKind (record (semaphore_at t sem) { tokens = n }) → IsInside (with_tokens sem n t)
+inside_tokens t sem n o w kind =
+    inside_semaphore t sem (record (semaphore_at t sem) { tokens = n }) o w refl kind (o.rests sem) (record { devices = o.devices sem; no_devices = o.no_devices sem })
 
 -- The current process goes on after that.
-pub sound_tokens : (t : Tables) (s n : ℕ) → IsSoundTables t → s < 128 → HasOneKind (record (semaphore_at t s) { tokens = n }) → IsSoundTables (with_tokens s n t)
-sound_tokens t s n k w kind = record { inside = inside_tokens t s n k.inside w kind; runs = k.runs }
+pub sound_tokens : (t : Tables) (sem n : ℕ) → IsSoundTables t → sem < 128 → HasOneKind (record (semaphore_at t sem) { tokens = n }) → IsSoundTables (with_tokens sem n t)
+sound_tokens t sem n k w kind = record { inside = inside_tokens t sem n k.inside w kind; runs = k.runs }
 
 -- a semaphore with tokens has no waiters
-pub no_waiters : (t : Tables) (s n : ℕ) → IsInside t → (semaphore_at t s).tokens ≡ suc n → (semaphore_at t s).waiters ≡ []
-no_waiters t s n o e = ⊎_elim (λ (z : (semaphore_at t s).tokens ≡ 0). absurd (omega arith)) (λ (z : (semaphore_at t s).waiters ≡ []). z) (o.one_kind s)
+pub no_waiters : (t : Tables) (sem n : ℕ) → IsInside t → (semaphore_at t sem).tokens ≡ suc n → (semaphore_at t sem).waiters ≡ []
+no_waiters t sem n o e = ⊎_elim (λ (z : (semaphore_at t sem).tokens ≡ 0). absurd (omega arith)) (λ (z : (semaphore_at t sem).waiters ≡ []). z) (o.one_kind sem)
 
 -- A token is taken.
-pub sound_token_taken : (t : Tables) (s n : ℕ) → IsSoundTables t → s < 128 → (semaphore_at t s).tokens ≡ suc n → IsSoundTables (with_tokens s n t)
-sound_token_taken t s n k w e = sound_tokens t s n k w (inr (no_waiters t s n k.inside e))
+pub sound_token_taken : (t : Tables) (sem n : ℕ) → IsSoundTables t → sem < 128 → (semaphore_at t sem).tokens ≡ suc n → IsSoundTables (with_tokens sem n t)
+sound_token_taken t sem n k w e = sound_tokens t sem n k w (inr (no_waiters t sem n k.inside e))
 
 -- nobody waits on a semaphore that isn't in use
-pub free_has_no_waiters : (t : Tables) (s : ℕ) → IsInside t → (semaphore_at t s).owner ≡ None → (semaphore_at t s).waiters ≡ []
-free_has_no_waiters t s o e = none_counted (semaphore_at t s).waiters (λ p h. subst (λ k. FitsOwner s k (process_at t p).rest) e (o.rests s p h))
+pub free_has_no_waiters : (t : Tables) (sem : ℕ) → IsInside t → (semaphore_at t sem).owner ≡ None → (semaphore_at t sem).waiters ≡ []
+free_has_no_waiters t sem o e = none_counted (semaphore_at t sem).waiters (λ p h. subst (λ k. FitsOwner sem k (process_at t p).rest) e (o.rests sem p h))
 
 -- a semaphore that isn't in use isn't one of the kernel's
-pub free_is_no_device : (t : Tables) (s : ℕ) → IsInside t → (semaphore_at t s).owner ≡ None → 4 ≤ s
-free_is_no_device t s o e = ⊎_elim (λ (h : s < 4). let f = o.devices s h in cc) (λ (h : 4 ≤ s). h) (cases_lt s 4)
+pub free_is_no_device : (t : Tables) (sem : ℕ) → IsInside t → (semaphore_at t sem).owner ≡ None → 4 ≤ sem
+free_is_no_device t sem o e = ⊎_elim (λ (h : sem < 4). let f = o.devices sem h in cc) (λ (h : 4 ≤ sem). h) (cases_lt sem 4)
 
 -- nor is one of another owner
-pub owned_is_no_device : (t : Tables) (s : ℕ) → IsInside t → (semaphore_at t s).owner ≢ Some Device → 4 ≤ s
-owned_is_no_device t s o n = ⊎_elim (λ (h : s < 4). absurd (n (o.devices s h))) (λ (h : 4 ≤ s). h) (cases_lt s 4)
+pub owned_is_no_device : (t : Tables) (sem : ℕ) → IsInside t → (semaphore_at t sem).owner ≢ Some Device → 4 ≤ sem
+owned_is_no_device t sem o n = ⊎_elim (λ (h : sem < 4). absurd (n (o.devices sem h))) (λ (h : 4 ≤ sem). h) (cases_lt sem 4)
 
 -- A semaphore on which nobody waits is given up, which isn't the kernel's.
-pub inside_given_up : (t : Tables) (s : ℕ) → IsInside t → s < 128 → 4 ≤ s → (semaphore_at t s).waiters ≡ [] → IsInside (with_semaphore s no_semaphore t)
-inside_given_up t s o w four e =
-    inside_semaphore t s no_semaphore o w (sym e) (inl refl) (λ p h. absurd (omega arith)) (record { devices = λ h. absurd (omega arith); no_devices = λ h. cc })
+pub inside_given_up : (t : Tables) (sem : ℕ) → IsInside t → sem < 128 → 4 ≤ sem → (semaphore_at t sem).waiters ≡ [] → IsInside (with_semaphore sem no_semaphore t)
+inside_given_up t sem o w four e =
+    inside_semaphore t sem no_semaphore o w (sym e) (inl refl) (λ p h. absurd (omega arith)) (record { devices = λ h. absurd (omega arith); no_devices = λ h. cc })
 
 -- The current process goes on after that.
-pub sound_given_up : (t : Tables) (s : ℕ) → IsSoundTables t → s < 128 → 4 ≤ s → (semaphore_at t s).waiters ≡ [] → IsSoundTables (with_semaphore s no_semaphore t)
-sound_given_up t s k w four e = record { inside = inside_given_up t s k.inside w four e; runs = k.runs }
+pub sound_given_up : (t : Tables) (sem : ℕ) → IsSoundTables t → sem < 128 → 4 ≤ sem → (semaphore_at t sem).waiters ≡ [] → IsSoundTables (with_semaphore sem no_semaphore t)
+sound_given_up t sem k w four e = record { inside = inside_given_up t sem k.inside w four e; runs = k.runs }
 
 -- A semaphore that isn't in use is made, for an owner that isn't the kernel.
-pub inside_made_semaphore : (t : Tables) (s tokens : ℕ) (by : Owner) → IsInside t → s < 128 → (semaphore_at t s).owner ≡ None → by ≢ Device → IsInside (make_semaphore s by tokens t)
-inside_made_semaphore t s tokens by o w free n =
+pub inside_made_semaphore : (t : Tables) (sem tokens : ℕ) (by : Owner) → IsInside t → sem < 128 → (semaphore_at t sem).owner ≡ None → by ≢ Device → IsInside (make_semaphore sem by tokens t)
+inside_made_semaphore t sem tokens by o w free n =
     let y : Semaphore = record { owner = Some by; tokens = tokens; waiters = [] } in
-    let four = free_is_no_device t s o free in
-    inside_last_semaphore (with_semaphore s y t) s
-    (inside_semaphore t s y o w (sym (free_has_no_waiters t s o free)) (inr refl) (λ p h. absurd (omega arith))
+    let four = free_is_no_device t sem o free in
+    inside_last_semaphore (with_semaphore sem y t) sem
+    (inside_semaphore t sem y o w (sym (free_has_no_waiters t sem o free)) (inr refl) (λ p h. absurd (omega arith))
     (record { devices = λ h. absurd (omega arith); no_devices = λ e. absurd (n cc) }))
 
 -- The current process goes on after that.
-pub sound_made_semaphore : (t : Tables) (s tokens : ℕ) (by : Owner) → IsSoundTables t → s < 128 → (semaphore_at t s).owner ≡ None → by ≢ Device → IsSoundTables (make_semaphore s by tokens t)
-sound_made_semaphore t s tokens by k w free n = record { inside = inside_made_semaphore t s tokens by k.inside w free n; runs = k.runs }
+pub sound_made_semaphore : (t : Tables) (sem tokens : ℕ) (by : Owner) → IsSoundTables t → sem < 128 → (semaphore_at t sem).owner ≡ None → by ≢ Device → IsSoundTables (make_semaphore sem by tokens t)
+sound_made_semaphore t sem tokens by k w free n = record { inside = inside_made_semaphore t sem tokens by k.inside w free n; runs = k.runs }

@@ -23,9 +23,9 @@ within_table t p e n =
     ⊎_elim (λ (h : p < 64). h) (λ (h : 64 ≤ p). absurd (n (ap (λ (y : Process). y.state) (get_or_past t.processes p no_process (omega arith))))) (cases_lt p 64)
 
 -- a semaphore in use has a number of the table
-pub semaphore_within : (t : Tables) (s : ℕ) → length t.semaphores ≡ 128 → (semaphore_at t s).owner ≢ None → s < 128
-semaphore_within t s e n =
-    ⊎_elim (λ (h : s < 128). h) (λ (h : 128 ≤ s). absurd (n (ap (λ (y : Semaphore). y.owner) (get_or_past t.semaphores s no_semaphore (omega arith))))) (cases_lt s 128)
+pub semaphore_within : (t : Tables) (sem : ℕ) → length t.semaphores ≡ 128 → (semaphore_at t sem).owner ≢ None → sem < 128
+semaphore_within t sem e n =
+    ⊎_elim (λ (h : sem < 128). h) (λ (h : 128 ≤ sem). absurd (n (ap (λ (y : Semaphore). y.owner) (get_or_past t.semaphores sem no_semaphore (omega arith))))) (cases_lt sem 128)
 
 -- a process that moved is what it became
 pub process_move_same : (t : Tables) (q : ℕ) (x : Process) (m : Option ℕ) (place : Place) → length t.processes ≡ 64 → q < 64 → process_at (move_to q x m place t) q ≡ x
@@ -54,13 +54,13 @@ message_move_other t p q x m place n = get_or-set_other t.messages q p m None n
 -- a semaphore after q went to its place: it has q as its last waiter where that is q's place, and else it is as it was
 semaphore_in_cases : (place : Place) (q r : ℕ) (l : List Semaphore) (P : Semaphore → Type 0) → IsInTable place l
     → P (get_or l r no_semaphore)
-    → ((s : ℕ) → place ≡ InSemaphore s → r ≡ s → P (with_waiter q (get_or l r no_semaphore)))
+    → ((sem : ℕ) → place ≡ InSemaphore sem → r ≡ sem → P (with_waiter q (get_or l r no_semaphore)))
     → P (get_or (semaphores_in place q l) r no_semaphore)
-semaphore_in_cases (InSemaphore s) q r l P i old new =
+semaphore_in_cases (InSemaphore sem) q r l P i old new =
     ⊎_elim
-    (λ (e : r ≡ s). subst (λ k. P (get_or (set l s (with_waiter q (get_or l s no_semaphore))) k no_semaphore)) (sym e)
-    (subst P (sym (get_or-set_same l s (with_waiter q (get_or l s no_semaphore)) no_semaphore i)) (subst (λ k. P (with_waiter q (get_or l k no_semaphore))) e (new s refl e))))
-    (λ (n : r ≢ s). subst P (sym (get_or-set_other l s r (with_waiter q (get_or l s no_semaphore)) no_semaphore n)) old) (cases_eq r s)
+    (λ (e : r ≡ sem). subst (λ k. P (get_or (set l sem (with_waiter q (get_or l sem no_semaphore))) k no_semaphore)) (sym e)
+    (subst P (sym (get_or-set_same l sem (with_waiter q (get_or l sem no_semaphore)) no_semaphore i)) (subst (λ k. P (with_waiter q (get_or l k no_semaphore))) e (new sem refl e))))
+    (λ (n : r ≢ sem). subst P (sym (get_or-set_other l sem r (with_waiter q (get_or l sem no_semaphore)) no_semaphore n)) old) (cases_eq r sem)
 semaphore_in_cases Nowhere q r l P i old new = old
 semaphore_in_cases InReady q r l P i old new = old
 semaphore_in_cases (InSleepers wake) q r l P i old new = old
@@ -68,11 +68,11 @@ semaphore_in_cases (InSleepers wake) q r l P i old new = old
 -- A semaphore after q moved: q doesn't wait on it any longer, or it waits there behind the others.
 pub semaphore_move_cases : (t : Tables) (q r : ℕ) (x : Process) (m : Option ℕ) (place : Place) (P : Semaphore → Type 0) → IsInTable place (waits_without q t.semaphores)
     → P (semaphore_without q (semaphore_at t r))
-    → ((s : ℕ) → place ≡ InSemaphore s → r ≡ s → P (with_waiter q (semaphore_without q (semaphore_at t r))))
+    → ((sem : ℕ) → place ≡ InSemaphore sem → r ≡ sem → P (with_waiter q (semaphore_without q (semaphore_at t r))))
     → P (semaphore_at (move_to q x m place t) r)
 semaphore_move_cases t q r x m place P i old new =
     let e = semaphore_at_without q r t.semaphores in
-    semaphore_in_cases place q r (waits_without q t.semaphores) P i (subst P (sym e) old) (λ s f g. subst (λ y. P (with_waiter q y)) (sym e) (new s f g))
+    semaphore_in_cases place q r (waits_without q t.semaphores) P i (subst P (sym e) old) (λ sem f g. subst (λ y. P (with_waiter q y)) (sym e) (new sem f g))
 
 -- the place fits the process that goes there: a semaphore without tokens whose owner calls for what is left of its call, or a later tick
 abbrev pub FitsPlace : Tables → Process → Place → Type 0
@@ -104,10 +104,10 @@ later_place t x Nowhere f = tt
 later_place t x InReady f = tt
 
 -- a semaphore that fits has no tokens, and its owner calls for what is left
-fits_semaphore : (t : Tables) (x : Process) (place : Place) (s r : ℕ) → place ≡ InSemaphore s → r ≡ s → FitsPlace t x place
+fits_semaphore : (t : Tables) (x : Process) (place : Place) (sem r : ℕ) → place ≡ InSemaphore sem → r ≡ sem → FitsPlace t x place
     → ((semaphore_at t r).tokens ≡ 0) × FitsOwner r (semaphore_at t r).owner x.rest
-fits_semaphore t x place s r e g f =
-    let h : FitsPlace t x (InSemaphore s) = subst (FitsPlace t x) e f in
+fits_semaphore t x place sem r e g f =
+    let h : FitsPlace t x (InSemaphore sem) = subst (FitsPlace t x) e f in
     subst (λ k. ((semaphore_at t k).tokens ≡ 0) × FitsOwner k (semaphore_at t k).owner x.rest) (sym g) (h.1, h.2)
 
 -- each process is in the ready list as often as its state says, after one of them moved

@@ -49,10 +49,10 @@ length-waits_without q [] = refl
 length-waits_without q (x ∷ xs) = ap suc (length-waits_without q xs)
 
 -- each is the one that was, without q
-pub semaphore_at_without : (q s : ℕ) (l : List Semaphore) → get_or (waits_without q l) s no_semaphore ≡ semaphore_without q (get_or l s no_semaphore)
-semaphore_at_without q s [] = refl
+pub semaphore_at_without : (q sem : ℕ) (l : List Semaphore) → get_or (waits_without q l) sem no_semaphore ≡ semaphore_without q (get_or l sem no_semaphore)
+semaphore_at_without q sem [] = refl
 semaphore_at_without q zero (x ∷ xs) = refl
-semaphore_at_without q (suc s) (x ∷ xs) = semaphore_at_without q s xs
+semaphore_at_without q (suc sem) (x ∷ xs) = semaphore_at_without q sem xs
 
 -- how often q is in the ready list after it went to its place
 pub ready_in_same : (place : Place) (q : ℕ) (key : ℤ) (l : List (ℕ × ℤ)) → entries_of q l ≡ 0 → entries_of q (ready_in place q key l) ≡ place_ready place

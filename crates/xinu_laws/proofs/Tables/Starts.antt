@@ -67,19 +67,19 @@ first_waits p = refl
 
 -- what holds of the kernel's four semaphores and of all free ones holds of all at first
 by_first : (P : ℕ → Semaphore → Type 0) → P 0 (device_semaphore 0) → P 1 (device_semaphore 64) → P 2 (device_semaphore 0) → P 3 (device_semaphore 0)
-    → ((s : ℕ) → P (suc (suc (suc (suc s)))) no_semaphore) → (s : ℕ) → P s (get_or first_semaphores s no_semaphore)
+    → ((sem : ℕ) → P (suc (suc (suc (suc sem)))) no_semaphore) → (sem : ℕ) → P sem (get_or first_semaphores sem no_semaphore)
 unfolding first_semaphores
 by_first P a b c d free zero = a
 by_first P a b c d free (suc zero) = b
 by_first P a b c d free (suc (suc zero)) = c
 by_first P a b c d free (suc (suc (suc zero))) = d
-by_first P a b c d free (suc (suc (suc (suc s)))) = subst (P (suc (suc (suc (suc s))))) (sym (same_everywhere 124 s no_semaphore)) (free s)
+by_first P a b c d free (suc (suc (suc (suc sem)))) = subst (P (suc (suc (suc (suc sem))))) (sym (same_everywhere 124 sem no_semaphore)) (free sem)
 
 -- who waits at first: nobody
-first_rests : (s p : ℕ) → 0 < count_in p (semaphore_at null_tables s).waiters → FitsOwner s (semaphore_at null_tables s).owner (process_at null_tables p).rest
-first_rests s p =
+first_rests : (sem p : ℕ) → 0 < count_in p (semaphore_at null_tables sem).waiters → FitsOwner sem (semaphore_at null_tables sem).owner (process_at null_tables p).rest
+first_rests sem p =
     let P : ℕ → Semaphore → Type 0 = λ r x. 0 < count_in p x.waiters → FitsOwner r x.owner (process_at null_tables p).rest in
-    by_first P (λ h. absurd (omega arith)) (λ h. absurd (omega arith)) (λ h. absurd (omega arith)) (λ h. absurd (omega arith)) (λ r h. absurd (omega arith)) s
+    by_first P (λ h. absurd (omega arith)) (λ h. absurd (omega arith)) (λ h. absurd (omega arith)) (λ h. absurd (omega arith)) (λ r h. absurd (omega arith)) sem
 
 -- What holds of the tables at each moment holds of those with the null process alone.
 pub inside_null : IsInside null_tables

@@ -65,9 +65,9 @@ pub can_be_ready_waiting : (t : Tables) (p : ℕ) → IsInside t → state_at t 
 can_be_ready_waiting t p o e = record { alive = λ f. cc; idle = λ f. cc; holds = holds_at t p o (λ f. cc) }
 
 -- who is among the waiters of a semaphore waits
-pub waiter_waits : (t : Tables) (s p : ℕ) → IsInside t → 0 < count_in p (semaphore_at t s).waiters → state_at t p ≡ Waiting
-waiter_waits t s p o h =
-    let l = get_or-le-total (λ x. count_in p x.waiters) t.semaphores s no_semaphore refl in
+pub waiter_waits : (t : Tables) (sem p : ℕ) → IsInside t → 0 < count_in p (semaphore_at t sem).waiters → state_at t p ≡ Waiting
+waiter_waits t sem p o h =
+    let l = get_or-le-total (λ x. count_in p x.waiters) t.semaphores sem no_semaphore refl in
     let e = o.waiting p in
     waiting_of (state_at t p) (omega arith)
 
@@ -77,10 +77,10 @@ all_counted [] = tt
 all_counted (x ∷ xs) = (first_is_counted x xs, all_weaker (λ p. 0 < count_in p xs) (λ p. 0 < count_in p (x ∷ xs)) (λ p h. count_behind p x xs h) xs (all_counted xs))
 
 -- the waiters of a semaphore may be woken
-pub can_be_ready_waiters : (t : Tables) (s : ℕ) → IsInside t → AllByRecursion (CanBeReady t) (semaphore_at t s).waiters
-can_be_ready_waiters t s o =
-    let l = (semaphore_at t s).waiters in
-    all_weaker (λ p. 0 < count_in p l) (CanBeReady t) (λ p h. can_be_ready_waiting t p o (waiter_waits t s p o h)) l (all_counted l)
+pub can_be_ready_waiters : (t : Tables) (sem : ℕ) → IsInside t → AllByRecursion (CanBeReady t) (semaphore_at t sem).waiters
+can_be_ready_waiters t sem o =
+    let l = (semaphore_at t sem).waiters in
+    all_weaker (λ p. 0 < count_in p l) (CanBeReady t) (λ p h. can_be_ready_waiting t p o (waiter_waits t sem p o h)) l (all_counted l)
 
 -- what holds of all of a list holds of its first n
 pub all_take : {A : Type 0} (P : A → Type 0) (n : ℕ) (l : List A) → AllByRecursion P l → AllByRecursion P (take n l)
@@ -112,73 +112,73 @@ none_of [] h = refl
 none_of (x ∷ xs) h = absurd h.0
 
 -- where all who wait on a semaphore are woken nobody waits there any longer
-waiters_after : (ps : List ℕ) (t : Tables) (s : ℕ) → AllByRecursion (λ x. IsOneOf x ps) (semaphore_at t s).waiters → (semaphore_at (ready_all ps t) s).waiters ≡ []
-waiters_after [] t s h = none_of (semaphore_at t s).waiters h
-waiters_after (p ∷ ps) t s h =
-    waiters_after ps (ready p t) s (subst (λ (x : Semaphore). AllByRecursion (λ y. IsOneOf y ps) x.waiters) (sym (semaphore_at_without p s t.semaphores)) (of_others p ps (semaphore_at t s).waiters h))
+waiters_after : (ps : List ℕ) (t : Tables) (sem : ℕ) → AllByRecursion (λ x. IsOneOf x ps) (semaphore_at t sem).waiters → (semaphore_at (ready_all ps t) sem).waiters ≡ []
+waiters_after [] t sem h = none_of (semaphore_at t sem).waiters h
+waiters_after (p ∷ ps) t sem h =
+    waiters_after ps (ready p t) sem (subst (λ (x : Semaphore). AllByRecursion (λ y. IsOneOf y ps) x.waiters) (sym (semaphore_at_without p sem t.semaphores)) (of_others p ps (semaphore_at t sem).waiters h))
 
 -- Once all waiters of a semaphore are woken nobody waits there.
-pub waiters_gone : (t : Tables) (s : ℕ) → (semaphore_at (ready_all (semaphore_at t s).waiters t) s).waiters ≡ []
-waiters_gone t s = waiters_after (semaphore_at t s).waiters t s (all_are_of (semaphore_at t s).waiters)
+pub waiters_gone : (t : Tables) (sem : ℕ) → (semaphore_at (ready_all (semaphore_at t sem).waiters t) sem).waiters ≡ []
+waiters_gone t sem = waiters_after (semaphore_at t sem).waiters t sem (all_are_of (semaphore_at t sem).waiters)
 
 -- who is woken leaves a semaphore with its owner
-pub owner_ready : (ps : List ℕ) (t : Tables) (s : ℕ) → (semaphore_at (ready_all ps t) s).owner ≡ (semaphore_at t s).owner
-owner_ready [] t s = refl
-owner_ready (p ∷ ps) t s = owner_ready ps (ready p t) s ∙ ap (λ (x : Semaphore). x.owner) (semaphore_at_without p s t.semaphores)
+pub owner_ready : (ps : List ℕ) (t : Tables) (sem : ℕ) → (semaphore_at (ready_all ps t) sem).owner ≡ (semaphore_at t sem).owner
+owner_ready [] t sem = refl
+owner_ready (p ∷ ps) t sem = owner_ready ps (ready p t) sem ∙ ap (λ (x : Semaphore). x.owner) (semaphore_at_without p sem t.semaphores)
 
 -- The current process goes on after that.
-pub sound_emptied : (s : ℕ) (d : CallState) → IsSoundTables d.state.tables → IsSoundTables (emptied s d).state.tables
-sound_emptied s d k = sound_unblock_all (semaphore_at d.state.tables s).waiters d k (can_be_ready_waiters d.state.tables s k.inside)
+pub sound_emptied : (sem : ℕ) (d : CallState) → IsSoundTables d.state.tables → IsSoundTables (emptied sem d).state.tables
+sound_emptied sem d k = sound_unblock_all (semaphore_at d.state.tables sem).waiters d k (can_be_ready_waiters d.state.tables sem k.inside)
 
 -- Nobody waits on a semaphore that was emptied.
-pub emptied_has_no_waiters : (s : ℕ) (d : CallState) → (semaphore_at (emptied s d).state.tables s).waiters ≡ []
-emptied_has_no_waiters s d =
-    subst (λ (x : Xinu). (semaphore_at x.tables s).waiters ≡ []) (sym (unblock_all_ready (semaphore_at d.state.tables s).waiters d)) (waiters_gone d.state.tables s)
+pub emptied_has_no_waiters : (sem : ℕ) (d : CallState) → (semaphore_at (emptied sem d).state.tables sem).waiters ≡ []
+emptied_has_no_waiters sem d =
+    subst (λ (s : Xinu). (semaphore_at s.tables sem).waiters ≡ []) (sym (unblock_all_ready (semaphore_at d.state.tables sem).waiters d)) (waiters_gone d.state.tables sem)
 
 -- and each semaphore keeps its owner
-pub owner_emptied : (s r : ℕ) (d : CallState) → (semaphore_at (emptied s d).state.tables r).owner ≡ (semaphore_at d.state.tables r).owner
-owner_emptied s r d =
-    subst (λ (x : Xinu). (semaphore_at x.tables r).owner ≡ (semaphore_at d.state.tables r).owner) (sym (unblock_all_ready (semaphore_at d.state.tables s).waiters d))
-    (owner_ready (semaphore_at d.state.tables s).waiters d.state.tables r)
+pub owner_emptied : (sem r : ℕ) (d : CallState) → (semaphore_at (emptied sem d).state.tables r).owner ≡ (semaphore_at d.state.tables r).owner
+owner_emptied sem r d =
+    subst (λ (s : Xinu). (semaphore_at s.tables r).owner ≡ (semaphore_at d.state.tables r).owner) (sym (unblock_all_ready (semaphore_at d.state.tables sem).waiters d))
+    (owner_ready (semaphore_at d.state.tables sem).waiters d.state.tables r)
 
 -- one signal, where these wait
-sound_signal_first : (s : ℕ) (l : List ℕ) (d : CallState) → l ≡ (semaphore_at d.state.tables s).waiters → IsSoundTables d.state.tables → s < 128 → IsSoundTables (signal_first s l d).state.tables
-sound_signal_first s [] d e k w = sound_tokens d.state.tables s ((semaphore_at d.state.tables s).tokens + 1) k w (inr (sym e))
-sound_signal_first s (p ∷ ps) d e k w =
-    sound_ready d.state.tables p k (can_be_ready_waiting d.state.tables p k.inside (waiter_waits d.state.tables s p k.inside (subst (λ l. 0 < count_in p l) e (first_is_counted p ps))))
+sound_signal_first : (sem : ℕ) (l : List ℕ) (d : CallState) → l ≡ (semaphore_at d.state.tables sem).waiters → IsSoundTables d.state.tables → sem < 128 → IsSoundTables (signal_first sem l d).state.tables
+sound_signal_first sem [] d e k w = sound_tokens d.state.tables sem ((semaphore_at d.state.tables sem).tokens + 1) k w (inr (sym e))
+sound_signal_first sem (p ∷ ps) d e k w =
+    sound_ready d.state.tables p k (can_be_ready_waiting d.state.tables p k.inside (waiter_waits d.state.tables sem p k.inside (subst (λ l. 0 < count_in p l) e (first_is_counted p ps))))
 
 -- the same inside an event
-inside_signal_first : (s : ℕ) (l : List ℕ) (d : CallState) → l ≡ (semaphore_at d.state.tables s).waiters → IsInside d.state.tables → s < 128 → IsInside (signal_first s l d).state.tables
-inside_signal_first s [] d e o w = inside_tokens d.state.tables s ((semaphore_at d.state.tables s).tokens + 1) o w (inr (sym e))
-inside_signal_first s (p ∷ ps) d e o w =
-    inside_ready d.state.tables p o (can_be_ready_waiting d.state.tables p o (waiter_waits d.state.tables s p o (subst (λ l. 0 < count_in p l) e (first_is_counted p ps))))
+inside_signal_first : (sem : ℕ) (l : List ℕ) (d : CallState) → l ≡ (semaphore_at d.state.tables sem).waiters → IsInside d.state.tables → sem < 128 → IsInside (signal_first sem l d).state.tables
+inside_signal_first sem [] d e o w = inside_tokens d.state.tables sem ((semaphore_at d.state.tables sem).tokens + 1) o w (inr (sym e))
+inside_signal_first sem (p ∷ ps) d e o w =
+    inside_ready d.state.tables p o (can_be_ready_waiting d.state.tables p o (waiter_waits d.state.tables sem p o (subst (λ l. 0 < count_in p l) e (first_is_counted p ps))))
 
 -- A semaphore is signalled.
-pub inside_signalled : (s : ℕ) (d : CallState) → IsInside d.state.tables → s < 128 → IsInside (signalled s d).state.tables
-inside_signalled s d o w = inside_signal_first s (semaphore_at d.state.tables s).waiters d refl o w
+pub inside_signalled : (sem : ℕ) (d : CallState) → IsInside d.state.tables → sem < 128 → IsInside (signalled sem d).state.tables
+inside_signalled sem d o w = inside_signal_first sem (semaphore_at d.state.tables sem).waiters d refl o w
 
 -- The current process goes on after that.
-pub sound_signalled : (s : ℕ) (d : CallState) → IsSoundTables d.state.tables → s < 128 → IsSoundTables (signalled s d).state.tables
-sound_signalled s d k w = sound_signal_first s (semaphore_at d.state.tables s).waiters d refl k w
+pub sound_signalled : (sem : ℕ) (d : CallState) → IsSoundTables d.state.tables → sem < 128 → IsSoundTables (signalled sem d).state.tables
+sound_signalled sem d k w = sound_signal_first sem (semaphore_at d.state.tables sem).waiters d refl k w
 
 -- after n signals a semaphore hasn't both tokens and waiters
-one_kind_signalled : (t : Tables) (s n : ℕ) → IsInside t
-    → HasOneKind (record (semaphore_at (ready_all (take n (semaphore_at t s).waiters) t) s) { tokens = (semaphore_at t s).tokens + (n - length (semaphore_at t s).waiters) })
-one_kind_signalled t s n o =
-    let l = (semaphore_at t s).waiters in
-    let all : length l ≤ n → (semaphore_at (ready_all (take n l) t) s).waiters ≡ [] =
-    λ h. subst (λ ps. (semaphore_at (ready_all ps t) s).waiters ≡ []) (sym (take_all n l h)) (waiters_gone t s) in
+one_kind_signalled : (t : Tables) (sem n : ℕ) → IsInside t
+    → HasOneKind (record (semaphore_at (ready_all (take n (semaphore_at t sem).waiters) t) sem) { tokens = (semaphore_at t sem).tokens + (n - length (semaphore_at t sem).waiters) })
+one_kind_signalled t sem n o =
+    let l = (semaphore_at t sem).waiters in
+    let all : length l ≤ n → (semaphore_at (ready_all (take n l) t) sem).waiters ≡ [] =
+    λ h. subst (λ ps. (semaphore_at (ready_all ps t) sem).waiters ≡ []) (sym (take_all n l h)) (waiters_gone t sem) in
     ⊎_elim
-    (λ (z : (semaphore_at t s).tokens ≡ 0). ⊎_elim (λ (h : n < length l). inl (omega arith)) (λ (h : length l ≤ n). inr (all h)) (cases_lt n (length l)))
+    (λ (z : (semaphore_at t sem).tokens ≡ 0). ⊎_elim (λ (h : n < length l). inl (omega arith)) (λ (h : length l ≤ n). inr (all h)) (cases_lt n (length l)))
     (λ (z : l ≡ []). inr (all (let e : length l ≡ 0 = ap length z in omega arith)))
-    (o.one_kind s)
+    (o.one_kind sem)
 
 -- The current process goes on after that.
-pub sound_signalled_times : (s n : ℕ) (d : CallState) → IsSoundTables d.state.tables → s < 128 → IsSoundTables (signalled_times s n d).state.tables
-sound_signalled_times s n d k w =
+pub sound_signalled_times : (sem n : ℕ) (d : CallState) → IsSoundTables d.state.tables → sem < 128 → IsSoundTables (signalled_times sem n d).state.tables
+sound_signalled_times sem n d k w =
     let t = d.state.tables in
-    let x = semaphore_at t s in
+    let x = semaphore_at t sem in
     let ps = take n x.waiters in
     let tokens = x.tokens + (n - length x.waiters) in
-    let u = sound_ready_all ps t k (all_take (CanBeReady t) n x.waiters (can_be_ready_waiters t s k.inside)) in
-    subst (λ (y : Xinu). IsSoundTables (with_tokens s tokens y.tables)) (sym (unblock_all_ready ps d)) (sound_tokens (ready_all ps t) s tokens u w (one_kind_signalled t s n k.inside))
+    let u = sound_ready_all ps t k (all_take (CanBeReady t) n x.waiters (can_be_ready_waiters t sem k.inside)) in
+    subst (λ (y : Xinu). IsSoundTables (with_tokens sem tokens y.tables)) (sym (unblock_all_ready ps d)) (sound_tokens (ready_all ps t) sem tokens u w (one_kind_signalled t sem n k.inside))

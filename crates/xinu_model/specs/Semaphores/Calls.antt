@@ -10,52 +10,52 @@ use Rattle.xinu_model.specs.Semaphores.Waiting.{signalled, signalled_times, empt
 
 -- the caller is answered
 abbrev pub answers : ℤ → Xinu → CallResult
-answers value x = returns (start x) value
+answers value s = returns (start s) value
 
 -- a semaphore with n tokens, where a number is found
 abbrev pub made_semaphore : ℕ → Option ℕ → Xinu → CallResult
-made_semaphore n None x = refused x
-made_semaphore n (Some s) x = returns (start (record x { tables = make_semaphore s owner.Image n x.tables })) (pos s)
+made_semaphore n None s = refused s
+made_semaphore n (Some sem) s = returns (start (record s { tables = make_semaphore sem owner.Image n s.tables })) (pos sem)
 
 -- call 14: a new semaphore with this count, which isn't negative
 abbrev pub semcreate : ℤ → Xinu → CallResult
-semcreate (negsuc n) x = refused x
-semcreate (pos n) x = made_semaphore n (free_semaphore x.tables) x
+semcreate (negsuc n) s = refused s
+semcreate (pos n) s = made_semaphore n (free_semaphore s.tables) s
 
 -- call 15: the semaphore is given up, and all who wait on it go on
 abbrev pub semdelete : ℕ → Xinu → CallResult
-semdelete s x =
-    if is_good s x.tables
-    then (let d = emptied s (start x) in returns (with_tables (with_semaphore s no_semaphore d.state.tables) d) OK)
-    else refused x
+semdelete sem s =
+    if is_good sem s.tables
+    then (let d = emptied sem (start s) in returns (with_tables (with_semaphore sem no_semaphore d.state.tables) d) OK)
+    else refused s
 
 -- call 16: all who wait go on, and the semaphore has this count, which isn't negative
 abbrev pub semreset : ℕ → ℤ → Xinu → CallResult
-semreset s (negsuc n) x = refused x
-semreset s (pos n) x =
-    if is_good s x.tables
-    then (let d = emptied s (start x) in returns (with_tables (with_tokens s n d.state.tables) d) OK)
-    else refused x
+semreset sem (negsuc n) s = refused s
+semreset sem (pos n) s =
+    if is_good sem s.tables
+    then (let d = emptied sem (start s) in returns (with_tables (with_tokens sem n d.state.tables) d) OK)
+    else refused s
 
 -- call 17: the count
 abbrev pub semcount : ℕ → Xinu → CallResult
-semcount s x = if is_good s x.tables then answers (count_of (semaphore_at x.tables s)) x else refused x
+semcount sem s = if is_good sem s.tables then answers (count_of (semaphore_at s.tables sem)) s else refused s
 
 -- call 18: the caller takes a token, or waits for one
 abbrev pub wait : ℕ → Xinu → CallResult
-wait s x = if is_good s x.tables then await s Nothing (answers OK) x else refused x
+wait sem s = if is_good sem s.tables then await sem Nothing (answers OK) s else refused s
 
 -- call 19: one signal, unless the count is the greatest
 abbrev pub signal : ℕ → Xinu → CallResult
-signal s x =
-    if is_good s x.tables && int_lt (count_of (semaphore_at x.tables s)) most_tokens
-    then returns (signalled s (start x)) OK
-    else refused x
+signal sem s =
+    if is_good sem s.tables && int_lt (count_of (semaphore_at s.tables sem)) most_tokens
+    then returns (signalled sem (start s)) OK
+    else refused s
 
 -- call 20: n signals, unless n is negative or the count would pass the greatest
 abbrev pub signaln : ℕ → ℤ → Xinu → CallResult
-signaln s (negsuc n) x = refused x
-signaln s (pos n) x =
-    if is_good s x.tables && not (int_lt most_tokens (count_of (semaphore_at x.tables s) +ℤ pos n))
-    then returns (signalled_times s n (start x)) OK
-    else refused x
+signaln sem (negsuc n) s = refused s
+signaln sem (pos n) s =
+    if is_good sem s.tables && not (int_lt most_tokens (count_of (semaphore_at s.tables sem) +ℤ pos n))
+    then returns (signalled_times sem n (start s)) OK
+    else refused s

@@ -10,13 +10,13 @@ use Rattle.xinu_model.specs.Tables.{Semaphore, Tables, semaphore_at}
 abbrev pub most_tokens : ℤ
 most_tokens = pos 2147483647
 
--- the tables with another semaphore s
+-- the tables with another semaphore sem
 abbrev pub with_semaphore : ℕ → Semaphore → Tables → Tables
-with_semaphore s x t = record t { semaphores = slice_set t.semaphores s x }
+with_semaphore sem x t = record t { semaphores = slice_set t.semaphores sem x }
 
--- the tables with so many tokens at semaphore s
+-- the tables with so many tokens at semaphore sem
 abbrev pub with_tokens : ℕ → ℕ → Tables → Tables
-with_tokens s n t = with_semaphore s (record (semaphore_at t s) { tokens = n }) t
+with_tokens sem n t = with_semaphore sem (record (semaphore_at t sem) { tokens = n }) t
 
 -- the count of a semaphore: its tokens less its waiters
 abbrev pub count_of : Semaphore → ℤ
@@ -27,15 +27,15 @@ abbrev pub is_images : Option Owner → Bool
 is_images (Some owner.Image) = true
 is_images _ = false
 
--- whether a process may name semaphore s: it is in use, and one that a process made
+-- whether a process may name semaphore sem: it is in use, and one that a process made
 abbrev pub is_good : ℕ → Tables → Bool
-is_good s t = is_images (semaphore_at t s).owner
+is_good sem t = is_images (semaphore_at t sem).owner
 
 -- the free number that the next semaphore gets
 abbrev pub free_semaphore : Tables → Option ℕ
-free_semaphore t = search (λ s. not (is_some (semaphore_at t s).owner)) NSEM (t.last_semaphore + 1)
+free_semaphore t = search (λ sem. not (is_some (semaphore_at t sem).owner)) NSEM (t.last_semaphore + 1)
 
--- semaphore s is made, with an owner and so many tokens
+-- semaphore sem is made, with an owner and so many tokens
 abbrev pub make_semaphore : ℕ → Owner → ℕ → Tables → Tables
-make_semaphore s by tokens t =
-    record (with_semaphore s (record { owner = Some by; tokens = tokens; waiters = [] }) t) { last_semaphore = s }
+make_semaphore sem by tokens t =
+    record (with_semaphore sem (record { owner = Some by; tokens = tokens; waiters = [] }) t) { last_semaphore = sem }

@@ -40,6 +40,6 @@ pub record IsSoundPool (t : Tables) (i : ℕ) (pool : Pool) : Type 0 where
 pub record ArePools (t : Tables) (pools : List Pool) : Type 0 where
   pub few : length pools ≤ most_pools
   pub each : (i : ℕ) → i < length pools → IsSoundPool t i (pool_at pools i)
-  pub owned : (s i : ℕ) → (semaphore_at t s).owner ≡ Some (owner.Pool i) → (i < length pools) × ((pool_at pools i).semaphore ≡ s)
+  pub owned : (sem i : ℕ) → (semaphore_at t sem).owner ≡ Some (owner.Pool i) → (i < length pools) × ((pool_at pools i).semaphore ≡ sem)
   pub made : (p i : ℕ) → (process_at t p).rest ≡ GetBuf i → i < length pools
   pub apart : (i j : ℕ) → i < j → j < length pools → ranges_meet (pool_at pools i).base (pool_bytes (pool_at pools i).size (pool_at pools i).number) (pool_at pools j).base (pool_bytes (pool_at pools j).size (pool_at pools j).number) ≡ false

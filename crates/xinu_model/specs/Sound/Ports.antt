@@ -48,6 +48,6 @@ pub record ArePorts (t : Tables) (ports : List Port) : Type 0 where
   pub many : length ports ≡ most_ports
   pub few : nodes ports ≤ most_nodes
   pub each : (q : ℕ) (queue : PortQueue) → (port_at ports q).queue ≡ Some queue → IsSoundPort t q (port_at ports q).seq queue
-  pub owned : (s q : ℕ) → (semaphore_at t s).owner ≡ Some (owner.Port q) → (queue : PortQueue) × ((port_at ports q).queue ≡ Some queue) × ((s ≡ queue.send) ⊎ (s ≡ queue.receive))
+  pub owned : (sem q : ℕ) → (semaphore_at t sem).owner ≡ Some (owner.Port q) → (queue : PortQueue) × ((port_at ports q).queue ≡ Some queue) × ((sem ≡ queue.send) ⊎ (sem ≡ queue.receive))
   pub sent : (p : ℕ) (ticket : PortTicket) (message : ℕ) → (process_at t p).rest ≡ PtSend ticket message → ticket.seq ≤ (port_at ports ticket.port).seq
   pub received : (p : ℕ) (ticket : PortTicket) → (process_at t p).rest ≡ PtRecv ticket → ticket.seq ≤ (port_at ports ticket.port).seq

@@ -67,19 +67,19 @@ CanRun state = (state ≡ Current) ⊎ (state ≡ Ready)
 abbrev pub HasOneKind : Semaphore → Type 0
 HasOneKind x = (x.tokens ≡ 0) ⊎ (x.waiters ≡ [])
 
--- what is left of a call on port q that waits on semaphore s
+-- what is left of a call on port q that waits on semaphore sem
 abbrev pub IsForPort : ℕ → ℕ → Rest → Type 0
-IsForPort q s (rest.PtSend ticket message) = (ticket.port ≡ q) × (ticket.sem ≡ s)
-IsForPort q s (rest.PtRecv ticket) = (ticket.port ≡ q) × (ticket.sem ≡ s)
-IsForPort q s _ = ⊥
+IsForPort q sem (rest.PtSend ticket message) = (ticket.port ≡ q) × (ticket.sem ≡ sem)
+IsForPort q sem (rest.PtRecv ticket) = (ticket.port ≡ q) × (ticket.sem ≡ sem)
+IsForPort q sem _ = ⊥
 
 -- what is left of the call of one who waits on a semaphore with this owner
 abbrev pub FitsOwner : ℕ → Option Owner → Rest → Type 0
-FitsOwner s None left = ⊥
-FitsOwner s (Some owner.Image) left = left ≡ rest.Nothing
-FitsOwner s (Some (owner.Pool i)) left = left ≡ rest.GetBuf i
-FitsOwner s (Some (owner.Port q)) left = IsForPort q s left
-FitsOwner s (Some owner.Device) left = ⊥
+FitsOwner sem None left = ⊥
+FitsOwner sem (Some owner.Image) left = left ≡ rest.Nothing
+FitsOwner sem (Some (owner.Pool i)) left = left ≡ rest.GetBuf i
+FitsOwner sem (Some (owner.Port q)) left = IsForPort q sem left
+FitsOwner sem (Some owner.Device) left = ⊥
 
 -- a process that no longer waits for a message holds one where its call is to answer it
 abbrev pub HoldsFor : Rest → Option ℕ → Type 0
@@ -113,11 +113,11 @@ pub record IsInside (t : Tables) : Type 0 where
   pub falling : IsFalling t.ready
   pub rising : IsRising t.sleepers
   pub later : AllByRecursion (λ e. t.ticks < e.1) t.sleepers
-  pub one_kind : (s : ℕ) → HasOneKind (semaphore_at t s)
-  pub rests : (s p : ℕ) → 0 < count_in p (semaphore_at t s).waiters → FitsOwner s (semaphore_at t s).owner (process_at t p).rest
+  pub one_kind : (sem : ℕ) → HasOneKind (semaphore_at t sem)
+  pub rests : (sem p : ℕ) → 0 < count_in p (semaphore_at t sem).waiters → FitsOwner sem (semaphore_at t sem).owner (process_at t p).rest
   pub slots : (p : ℕ) → FitsMessage (state_at t p) (process_at t p).rest (message_at t p)
-  pub devices : (s : ℕ) → s < 4 → (semaphore_at t s).owner ≡ Some owner.Device
-  pub no_devices : (s : ℕ) → (semaphore_at t s).owner ≡ Some owner.Device → s < 4
+  pub devices : (sem : ℕ) → sem < 4 → (semaphore_at t sem).owner ≡ Some owner.Device
+  pub no_devices : (sem : ℕ) → (semaphore_at t sem).owner ≡ Some owner.Device → sem < 4
 
 -- Between two events the current process is in state current.
 pub record IsSoundTables (t : Tables) : Type 0 where
