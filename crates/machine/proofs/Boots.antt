@@ -18,18 +18,18 @@ use Rattle.xinu_model.specs.Tables.{Tables}
 use Rattle.xinu_model.specs.Memory.{in_ram, ram_size, with_bytes, zeros}
 use Rattle.xinu_model.proofs.Boot.{boot_with, booted, booted_tables, first_stack, stack_cells, started}
 
--- the element at k stands in front of those behind it
+-- the element at k stands before those after it
 pub drop_next : {A : Type 0} (l : List A) (k : ℕ) (x : A) → k < length l → x ≡ get_or l k x → drop k l ≡ x ∷ drop (k + 1) l
 drop_next l k x within is =
     drop-cons l k x within ∙ ap (λ y. y ∷ drop (suc k) l) (sym is) ∙ ap (λ n. x ∷ drop n l) (sym (add-one k))
 
--- The part at k is put in its place, and then those behind it.
+-- The part at k is put in its place, and then those after it.
 pub put_next : (parts : List Part) (k : ℕ) (part : Part) (memory all : List ℕ) → k < length parts → part ≡ get_or parts k part → with_parts (map part_of (drop k parts)) memory ≡ all
     → with_parts (map part_of (drop (k + 1) parts)) (with_bytes memory part.place (length part.bytes.now) part.bytes.now) ≡ all
 put_next parts k part memory all within is so_far =
     sym (ap (λ (l : List Part). with_parts (map part_of l) memory) (drop_next parts k part within is)) ∙ so_far
 
--- The parts from k on lie in RAM: so do the one at k and those behind it.
+-- The parts from k on lie in RAM: so do the one at k and those after it.
 pub lie_next : (parts : List Part) (k : ℕ) (part : Part) → k < length parts → part ≡ get_or parts k part → list_all lies_in_ram (map part_of (drop k parts)) ≡ true
     → (lies_in_ram (part_of part) ≡ true) × (list_all lies_in_ram (map part_of (drop (k + 1) parts)) ≡ true)
 lie_next parts k part within is lie =

@@ -123,12 +123,12 @@ pub idle : (k : Inside) (old : Xinu) → state_of k ≡ old → k.is_alive ≡ f
 idle k old view dead =
     let is = sym view ∙ dead_state k dead in ap stepped is ∙ ap (λ (s : Xinu). record { lines = []; state = s; panics = false }) (sym is)
 
--- no process stands behind the image's
+-- no process stands after the image's
 others_free : list_all (λ (p : Process). is_free p.state) other_processes ≡ true
 unfolding other_processes
 others_free = refl
 
--- The run is over exactly where the process is dead.
+-- The run is over if and only if the process is dead.
 pub over_when : (k : Inside) (b : Bool) → k.is_alive ≡ b → is_over (state_of k) ≡ not b
 over_when k true alive = ap is_over (alive_state k alive)
 over_when k false dead = ap is_over (dead_state k dead) ∙ others_free

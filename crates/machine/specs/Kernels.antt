@@ -10,23 +10,23 @@ use Rattle.xinu_model.specs.Machine.{Xinu, first_parts, no_hart}
 use Rattle.xinu_model.specs.Process.Scheduling.{in_state}
 use Rattle.xinu_model.specs.Tables.{no_process}
 
--- the entries of the process table behind the image's process
+-- the entries of the process table after the image's process
 unfoldable pub other_processes : List Process
 other_processes = replicate 62 no_process
 
--- the messages behind its message
+-- the messages after its message
 unfoldable pub other_messages : List (Option ℕ)
 other_messages = replicate 62 None
 
--- the registers behind its registers
+-- the registers after its registers
 unfoldable pub other_harts : List Hart
 other_harts = replicate 62 no_hart
 
--- the heap from an address on: cells that are free, and behind them cells that are taken
+-- the heap from an address on: cells that are free, and after them cells that are taken
 abbrev pub heap_with : ℕ → ℕ → ℕ → Heap
 heap_with low free taken = record { low = low; cells = replicate free true ++ replicate taken false }
 
--- the image's process, which runs on a stack of these cells behind the free ones
+-- the image's process, which runs on a stack of these cells after the free ones
 abbrev pub running_process : ℤ → ℕ → ℕ → ℕ → Process
 running_process priority low free taken = record {
   state = Current;

@@ -11,8 +11,8 @@ ghost use Rattle.xinu_model.specs.Memory.{ram_size, zeros};
 ghost use Rattle.xinu_model.specs.Process.Creation as calls;
 
 use crate::kernel::Kernel;
-use crate::memory_map::{cells_for, end_of, has_room, stack_cells};
 use crate::machine::Machine;
+use crate::memory_map::{cells_for, end_of, has_room, stack_cells};
 use image_loader::{Image, Part};
 use rv_hart::{Hart, Ram};
 use std::alloc::Global;
@@ -33,7 +33,7 @@ impl Machine {
     /// There is exactly one image.
     ///
     /// # Errors
-    /// `NoRoom(1)` exactly where the heap behind the image has no room for the stack of its process; `NoMemory`.
+    /// `NoRoom(1)` if and only if the heap after the image has no room for the stack of its process; `NoMemory`.
     pub fn boot(alloc: Global, images: &[Image<'_>]) -> Result<Machine, BootFault>
         requires one { length images.now ≡ 1 }
         ensures starts { Starts (map loaded_of images.now) result }

@@ -1,6 +1,6 @@
 //! The kernel while it serves one image: the image's process, while it lives, and the null process.
 //!
-//! Below it stands the processor core with its RAM. The heap's cells are those that are free and, behind them, the stack's.
+//! Below it is the processor core with its RAM. The heap's cells are those that are free and, after them, the stack's.
 
 ghost use Rattle.std.specs.Prelude.{◌≡◌, ◌*◌, ◌+◌, ◌^◌, ◌<◌, ◌≤◌, ◌++◌, ◌∷◌, ◌==◌, [], None, if◌then◌else◌, pos, negsuc, false, not, IfNone, IfSome};
 ghost use Rattle.arrayvec.specs.ArrayVec.{array_vec_len};
@@ -40,7 +40,7 @@ pub(crate) struct Kernel {
     pub(crate) low: u32,
     /// How many cells of the heap were free while the process lived.
     pub(crate) free: u32,
-    /// How many cells behind these its stack has.
+    /// How many cells after these its stack has.
     pub(crate) taken: u32,
     /// The ticks so far.
     pub(crate) ticks: u32,
@@ -104,7 +104,7 @@ impl Kernel {
         };
     }
 
-    /// A step of the current process. None where nothing is to be printed.
+    /// A step of the current process. `None` if nothing is to be printed.
     pub(crate) fn step(&mut self) -> Option<EventLines>
         ensures quiet { IfNone result (stepped self.old ≡ record { lines = []; state = self.new; panics = false }) }
         ensures lines { IfSome result (λ lines. stepped self.old ≡ record { lines = lines.items; state = self.new; panics = false }) }
@@ -213,7 +213,7 @@ fn ended_lines(ticks: u32, quantum: u8, low: u32, cells: u32) -> TableLines
     lines
 }
 
-// Appends the line of the cells from an address on, where there are any.
+// Appends the line of the cells from an address on, if there are any.
 fn put_free(lines: &mut TableLines, low: u32, cells: u32)
     requires fits { 8 * cells < 2 ^ 32 }
     requires room { array_vec_len lines.old ≤ 4 }

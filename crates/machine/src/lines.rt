@@ -59,7 +59,11 @@ fn put_words(text: &mut Line, line: &TranscriptLine)
         TranscriptLine::Semaphore(sem, count) => {
             put_numbers(text, "sem", &[sem.index() as i64, i64::from(*count)]);
         }
-        TranscriptLine::Waiter(sem, p) => put_numbers(text, "wait", &[sem.index() as i64, number(*p)]),
+        TranscriptLine::Waiter(sem, p) => put_numbers(
+            text,
+            "wait",
+            &[sem.index() as i64, number(*p)],
+        ),
         TranscriptLine::Sleeper(p, wake) => {
             put_numbers(text, "sleep", &[number(*p), i64::from(*wake)]);
         }

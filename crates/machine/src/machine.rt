@@ -56,7 +56,7 @@ impl Machine {
 
     /// Takes one event and prints its lines.
     ///
-    /// `Done` comes exactly where this event killed the only process beside the null process, `Panic` where the kernel panicked in it. An
+    /// `Done` comes if and only if this event killed the only process beside the null process, `Panic` if the kernel panicked in it. An
     /// event that the machine doesn't have yet changes and prints nothing.
     pub fn event<H: Host>(&mut self, event: Event, out: &mut Printer, host: &mut H) -> Go
         requires goes_on { self.old.over ≡ false }
@@ -85,7 +85,7 @@ impl Machine {
     }
 }
 
-// Takes one event and prints its lines. Where a step prints nothing no list of lines is made.
+// Takes one event and prints its lines. If a step prints nothing no list of lines is made.
 fn happen<H: Host>(kernel: &mut Kernel, event: Event, out: &mut Printer, host: &mut H)
     requires few { kernel.old.tables.ticks < 1000000000 }
     ensures happens { EventPrints kernel.old event kernel.new out.old out.new (H.view host.old) (H.view host.new) }

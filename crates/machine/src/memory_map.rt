@@ -1,4 +1,4 @@
-//! The room of an image in RAM: its end, the heap behind it and the stack of its process.
+//! The room of an image in RAM: its end, the heap after it and the stack of its process.
 
 ghost use Rattle.std.specs.Prelude.{◌≡◌, ◌≤◌, ◌<◌, ◌^◌, ◌+◌, ◌*◌, nat_le, map};
 ghost use Rattle.image_loader.specs.Images.{loaded_of};
@@ -11,7 +11,7 @@ ghost use Rattle.xinu_model.specs.Process.Creation as calls;
 use image_loader::{Image, Part};
 use xinu_base::{MINSTK, RAM_SIZE};
 
-/// Whether the heap behind an image has room for the stack of its process.
+/// Whether the heap after an image has room for the stack of its process.
 pub(crate) fn has_room(image: &Image<'_>) -> bool
     ensures room { result ≡ nat_le (8 * heap.cells_for (boot.end_of (loaded_of image.now).parts) + calls.stack_size image.now.stack) ram_size }
 {
@@ -27,7 +27,7 @@ pub(crate) fn stack_cells(wanted: u32) -> u64
     cells_for(wanted.max(MINSTK) as u64)
 }
 
-/// The end of some parts: the greatest address behind one of them.
+/// The end of some parts: the greatest address after one of them.
 pub(crate) fn end_of(parts: &[Part<'_>]) -> u64
     ensures end { result ≡ boot.end_of (map part_of parts.now) }
     ensures small { result < 2 ^ 33 }
@@ -39,7 +39,7 @@ pub(crate) fn end_of(parts: &[Part<'_>]) -> u64
     end
 }
 
-/// How many cells of eight bytes hold so many bytes.
+/// How many cells of eight bytes hold n bytes.
 pub(crate) fn cells_for(bytes: u64) -> u64
     requires small { bytes < 2 ^ 33 }
     ensures cells { result ≡ heap.cells_for bytes }
@@ -48,7 +48,7 @@ pub(crate) fn cells_for(bytes: u64) -> u64
     (bytes + 7) / 8
 }
 
-// The address behind a part.
+// The address after a part.
 fn part_end(part: &Part<'_>) -> u64
     ensures end { result ≡ part.now.place + part.now.size }
     ensures small { result < 2 ^ 33 }

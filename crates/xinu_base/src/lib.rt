@@ -1,7 +1,7 @@
 //! The data that every layer of the kernel speaks of: numbers below a bound, processes and what is left of their calls,
 //! registers, events, calls and the lines of a transcript.
 //!
-//! It stands on nothing. The definitions in `specs/` are the two insertions of the kernel's lists and the table of calls.
+//! It depends on nothing. The definitions in `specs/` are the two insertions of the kernel's lists and the table of calls.
 #![tactic(auto)]
 
 mod constants;

@@ -24,7 +24,7 @@ pub enum TranscriptLine {
     Call(Pid, Call),
     /// A process was trapped.
     Trap(Pid, Cause),
-    /// What became of a file call; the process is 0 where its caller was killed.
+    /// What became of a file call; the process is 0 if its caller was killed.
     File(Pid, FileMoment),
     /// A process got a reply.
     Return(Pid, i32),
@@ -44,7 +44,7 @@ pub enum TranscriptLine {
         parent: Pid,
         /// The message that it holds.
         message: Option<u32>,
-        /// Its name, with zeros behind its end.
+        /// Its name, with zeros after its end.
         name: [u8; 15],
     },
     /// A process in the ready list, with its key.

@@ -25,7 +25,7 @@ use Rattle.xinu_laws.proofs.Tables.Changes.{sound_token_taken}
 use Rattle.xinu_laws.proofs.Tables.MoveTo.{within_table, state_move_same, CanMove, inside_move, FitsPlace}
 use Rattle.xinu_laws.proofs.Tables.Places.{IsPlaceOf}
 
--- the tables are sound where the caller goes on or the kernel panics, and else they are as at each moment
+-- the tables are sound if the caller goes on or the kernel panics, and else they are as at each moment
 abbrev pub FitsAnswer : Answer → Tables → Type 0
 FitsAnswer (Returns value) t = IsSoundTables t
 FitsAnswer Waits t = IsInside t
@@ -38,7 +38,7 @@ pub record IsPreserved (result : CallResult) : Type 0 where
   pub tables : FitsAnswer result.answer result.call.state.tables
   pub harts : length result.call.state.harts ≡ 64
 
--- What holds where a process calls: the state between two events, in which it isn't the null process that runs.
+-- What holds when a process calls: the state between two events, in which it isn't the null process that runs.
 pub record MayCall (s : Xinu) : Type 0 where
   pub tables : IsSoundTables s.tables
   pub harts : length s.harts ≡ 64
@@ -52,7 +52,7 @@ Preserves effect = (s : Xinu) → MayCall s → IsPreserved (effect s)
 pub current_within : (t : Tables) → IsSoundTables t → t.current < 64
 current_within t k = let e = k.runs in within_table t t.current k.inside.processes (λ f. cc)
 
--- What is answered where nothing is changed.
+-- What is answered if nothing is changed.
 pub answers_preserves : (value : ℤ) → Preserves (answers value)
 answers_preserves value s c = record { tables = c.tables; harts = c.harts }
 
@@ -118,7 +118,7 @@ waits_hold sem (Some (owner.Port q)) left message f = of_port left f
     of_port _ g = absurd g
 waits_hold sem (Some owner.Device) left message f = absurd f
 
--- one who waits where these are the tokens
+-- one who waits if these are the tokens
 take_token_preserves : (tokens sem : ℕ) (left : Rest) (then_ : Xinu → CallResult) (s : Xinu) → tokens ≡ (semaphore_at s.tables sem).tokens → MayCall s → sem < 128
     → FitsOwner sem (semaphore_at s.tables sem).owner left
     → ((n : ℕ) → (semaphore_at s.tables sem).tokens ≡ suc n → MayCall (record s { tables = with_tokens sem n s.tables }) → IsPreserved (then_ (record s { tables = with_tokens sem n s.tables })))

@@ -1,4 +1,4 @@
--- Where enough free cells stand in a row: the least such place, the greatest, or none.
+-- Where enough free cells are in a row: the least such place, the greatest, or none.
 use Rattle.std.specs.Prelude.{◌≡◌, ℕ, ◌<◌, Bool, true, false, List, length, drop}
 use Rattle.xinu_model.specs.Heap.Cells.{begins_with}
 
@@ -16,7 +16,7 @@ pub record IsLeast (k : ℕ) (cells : List Bool) (start : ℕ) : Type 0 where
   pub begins : BeginAt k cells start
   pub least : (i : ℕ) → i < start → NoneAt k cells i
 
--- k free cells begin at the greatest start, which is a place of the list, and at no place behind it
+-- k free cells begin at the greatest start, which is a place of the list, and at no place after it
 pub record IsGreatest (k : ℕ) (cells : List Bool) (start : ℕ) : Type 0 where
   pub place : start < length cells
   pub begins : BeginAt k cells start

@@ -1,4 +1,4 @@
--- Which calls answer -1 only where they are refused.
+-- Which calls answer -1 only if they are refused.
 use Rattle.std.specs.Prelude.{ℕ, Bool, not, [], ◌∷◌}
 use Rattle.xinu_model.specs.Pools.Buffers.{is_in}
 

@@ -21,7 +21,7 @@ pub fn grants_were_free()
     ensures stacks { (n : ℕ) (h : Heap) (stack : Stack) → take_stack n h ≡ Some stack → (a : ℕ) → a < stack.top + 4 → stack.top + 4 ≤ a + n → (is_in_free a h ≡ true) × (is_in_free a stack.heap ≡ false) }
 {}
 
-/// Memory and stacks are refused only where nowhere enough free cells stand in a row.
+/// Memory and stacks are refused only if nowhere enough free cells are in a row.
 pub fn heap_refuses_rightly()
     ensures memory { (n : ℕ) (h : Heap) → 0 < n → take_memory n h ≡ None → BeginNowhere (cells_for n) h.cells }
     ensures stacks { (n : ℕ) (h : Heap) → 0 < n → take_stack n h ≡ None → BeginNowhere (cells_for n) h.cells }

@@ -14,7 +14,7 @@ ghost use Rattle.xinu_model.specs.Runs.{RunsTo};
 ghost use Rattle.xinu_model.specs.Sound.State.{IsSound};
 ghost use Rattle.xinu_model.specs.Tables.{process_at};
 
-/// Where the machine starts no address is claimed twice.
+/// When the machine starts, no address is claimed twice.
 pub fn boot_is_apart()
     ensures { (images : List Loaded) (start : Xinu) → boot images ≡ Boots start → IsApart start }
 {}

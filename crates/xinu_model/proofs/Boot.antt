@@ -4,7 +4,7 @@ use Rattle.std.specs.Prelude.{replicate, int_lt}
 use Rattle.std.proofs.lemmas.Int.{ints}
 use Rattle.xinu_base.specs.declared.processes.Process.{Process}
 use Rattle.xinu_base.specs.declared.processes.State.TheVariants.{Current, Ready}
-use Rattle.xinu_model.specs.Boot.{Loaded, end_of, heap_behind, fresh_heap, first_semaphores, null_process, null_tables, image_process, loaded, with_image, all_made, all_started, Start, Boots, NoRoom, and_then, where_stack, boot}
+use Rattle.xinu_model.specs.Boot.{Loaded, end_of, heap_behind, fresh_heap, first_semaphores, null_process, null_tables, image_process, loaded_machine, with_image, all_made, all_started, Start, Boots, NoRoom, and_then, where_stack, boot}
 use Rattle.xinu_model.specs.Heap.Cells.{cells_for, Stack, take_stack}
 use Rattle.xinu_model.specs.Machine.{Xinu}
 use Rattle.xinu_model.specs.Memory.{ram_size}
@@ -36,14 +36,14 @@ started x = record {
 abbrev pub made_beside : Process → Tables
 made_beside x = record (move_to 1 x None Nowhere null_tables) { last_process = 1 }
 
--- A process that isn't below the null process is current once it is woken beside it.
+-- A process that isn't below the null process is current once it becomes ready beside it.
 pub ready_starts : (x : Process) → int_lt x.priority (pos 0) ≡ false → resched (ready 1 (made_beside x)) ≡ started x
 unfolding first_semaphores
 ready_starts x h = rw h refl
 
 -- the machine with the image's process on its stack
 abbrev pub booted : Loaded → Stack → Xinu
-booted image stack = all_started (image ∷ []) (with_image 1 image stack (loaded (image ∷ [])))
+booted image stack = all_started (image ∷ []) (with_image 1 image stack (loaded_machine (image ∷ [])))
 
 -- The tables in which the machine starts.
 pub booted_tables : (image : Loaded) (stack : Stack) → pos 1 ≤ℤ image.priority → (booted image stack).tables ≡ started (image_process 1 image stack.top)
@@ -54,9 +54,9 @@ abbrev pub starting_on : Loaded → Option Stack → Start
 starting_on image None = NoRoom 1
 starting_on image (Some stack) = Boots (booted image stack)
 
--- the processes are made, and woken, where a stack is found
+-- the processes are made, and made ready, if a stack is found
 made_and_started : (image : Loaded) (found : Option Stack)
-    → and_then (and_then (where_stack found 1 image (loaded (image ∷ []))) (λ x. all_made 2 [] x)) (λ s. Boots (all_started (image ∷ []) s)) ≡ starting_on image found
+    → and_then (and_then (where_stack found 1 image (loaded_machine (image ∷ []))) (λ x. all_made 2 [] x)) (λ s. Boots (all_started (image ∷ []) s)) ≡ starting_on image found
 made_and_started image None = refl
 made_and_started image (Some stack) = refl
 
@@ -67,7 +67,7 @@ boot_one image =
     made_and_started image (take_stack (stack_size image.stack) (fresh_heap (image ∷ [])))
     ∙ ap (λ n. starting_on image (take_stack (stack_size image.stack) (heap_behind n))) only
 
--- the stack of the image, where its heap has m cells below it
+-- the stack of the image, if its heap has m cells below it
 abbrev pub first_stack : Loaded → ℕ → Stack
 first_stack image m = record {
   top = ram_size - 4;
@@ -81,7 +81,7 @@ first_stack image m = record {
 pub stack_cells : (wanted : ℕ) → 0 < cells_for (stack_size wanted) × (8 * cells_for (stack_size wanted) ≡ stack_size wanted)
 stack_cells wanted = (omega arith, omega arith)
 
--- how many cells a fresh heap has, where they hold a stack above m others
+-- how many cells a fresh heap has, if they hold a stack above m others
 fresh_cells : (low m k : ℕ) → 8 * low + 8 * (m + k) ≡ ram_size → (ram_size - 8 * low) / 8 ≡ m + k
 fresh_cells low m k e = omega arith
 
@@ -98,7 +98,7 @@ fresh_stack image m e =
     ∙ getstk_some (stack_size image.stack) low m k some refl
     ∙ ap (λ n. Some (record { top = n; heap = record { low = low; cells = replicate m true ++ replicate k false } })) top
 
--- The machine starts where m cells, the image and its stack fill RAM.
+-- The machine starts if m cells, the image and its stack fill RAM.
 pub boot_with : (image : Loaded) (m : ℕ) → 8 * cells_for (end_of image.parts) + 8 * (m + cells_for (stack_size image.stack)) ≡ ram_size
     → boot (image ∷ []) ≡ Boots (booted image (first_stack image m))
 boot_with image m e = boot_one image ∙ ap (starting_on image) (fresh_stack image m e)
@@ -107,7 +107,7 @@ boot_with image m e = boot_one image ∙ ap (starting_on image) (fresh_stack ima
 few_cells : (low k : ℕ) → 0 < k → ram_size < 8 * low + 8 * k → (ram_size - 8 * low) / 8 < k
 few_cells low k z h = omega arith
 
--- The machine doesn't start where they don't lie in it.
+-- The machine doesn't start if they don't lie in it.
 pub boot_none : (image : Loaded) → ram_size < 8 * cells_for (end_of image.parts) + stack_size image.stack → boot (image ∷ []) ≡ NoRoom 1
 boot_none image h =
     let low = cells_for (end_of image.parts) in

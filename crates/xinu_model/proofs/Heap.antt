@@ -30,7 +30,7 @@ highest_none k (suc n) h =
     ap (or_here k (true ∷ replicate n true)) (highest_none k n (omega arith))
     ∙ ap (λ b. cond b (Some 0) None) (begins_short k (suc n) h)
 
--- the highest k of n free cells start behind the others
+-- the highest k of n free cells start after the others
 pub highest_some : (k m n : ℕ) → 0 < k → m + k ≡ n → highest_free k (replicate n true) ≡ Some m
 highest_some k m zero z e = absurd (omega arith)
 highest_some k zero (suc n) z e =
@@ -42,17 +42,17 @@ highest_some k (suc m) (suc n) z e = ap (or_here k (true ∷ replicate n true)) 
 pub highest_of_sum : (k m : ℕ) → 0 < k → highest_free k (replicate (m + k) true) ≡ Some m
 highest_of_sum k m z = highest_some k m (m + k) z refl
 
--- what is in front of a list that begins with m equal elements
+-- what is before a list that begins with m equal elements
 pub take_equal : {A : Type 0} (m : ℕ) (x : A) (l : List A) → take m (replicate m x ++ l) ≡ replicate m x
 take_equal zero x l = refl
 take_equal (suc m) x l = ap (λ k. x ∷ k) (take_equal m x l)
 
--- and what is behind them
+-- and what is after them
 pub drop_equal : {A : Type 0} (m : ℕ) (x : A) (l : List A) → drop m (replicate m x ++ l) ≡ l
 drop_equal zero x l = refl
 drop_equal (suc m) x l = drop_equal m x l
 
--- nothing is behind m elements and k more
+-- nothing is after m elements and k more
 pub drop_both : {A : Type 0} (m k : ℕ) (x y : A) → drop (m + k) (replicate m x ++ replicate k y) ≡ []
 drop_both m k x y =
     let both = length-append (replicate m x) (replicate k y) in
@@ -69,11 +69,11 @@ marked_taken m k =
     ∙ ap (λ l. replicate m true ++ replicate k false ++ l) d
     ∙ append-nil (replicate m true ++ replicate k false)
 
--- behind m free cells there are k taken ones
+-- after m free cells there are k taken ones
 pub begins_behind : (m k : ℕ) → begins_with false k (drop m (replicate m true ++ replicate k false)) ≡ true
 begins_behind m k = ap (begins_with false k) (drop_equal m true (replicate k false)) ∙ begins_taken k
 
--- the k taken cells behind m free ones are freed
+-- the k taken cells after m free ones are freed
 pub marked_free : (m k : ℕ) → marked true m k (replicate m true ++ replicate k false) ≡ replicate (m + k) true
 marked_free m k =
     ap (λ l. l ++ replicate k true ++ drop (m + k) (replicate m true ++ replicate k false)) (take_equal m true (replicate k false))
@@ -86,18 +86,18 @@ pub blocks_taken : (a k : ℕ) → blocks_from a (replicate k false) ≡ []
 blocks_taken a zero = refl
 blocks_taken a (suc k) = blocks_taken (a + 8) k
 
--- a free cell in front of a free block that it touches
+-- a free cell before a free block that it touches
 pub cell_touches : (a n : ℕ) → with_cell a ((a + 8, n) ∷ []) ≡ (a, n + 8) ∷ []
 cell_touches a n = ap (λ b. cond b ((a, n + 8) ∷ []) ((a, 8) ∷ (a + 8, n) ∷ [])) (eq-eqb (a + 8) (a + 8) refl)
 
--- free cells in front of taken ones are one block
+-- free cells before taken ones are one block
 pub blocks_free : (a m k : ℕ) → blocks_from a (replicate (suc m) true ++ replicate k false) ≡ (a, 8 * suc m) ∷ []
 blocks_free a zero k = ap (with_cell a) (blocks_taken (a + 8) k)
 blocks_free a (suc m) k =
     let e : 8 * suc m + 8 ≡ 8 * suc (suc m) = omega arith in
     ap (with_cell a) (blocks_free (a + 8) m k) ∙ cell_touches a (8 * suc m) ∙ ap (λ n. (a, n) ∷ []) e
 
--- the same where there may be none
+-- the same if there may be none
 pub blocks_of_parts : (a m k : ℕ) → blocks_from a (replicate m true ++ replicate k false) ≡ (if m == 0 then [] else (a, 8 * m) ∷ [])
 blocks_of_parts a zero k = blocks_taken a k
 blocks_of_parts a (suc m) k = blocks_free a m k ∙ sym (ap (λ b. cond b [] ((a, 8 * suc m) ∷ [])) (ne_eqb (suc m) 0 (λ e. omega arith)))
@@ -106,7 +106,7 @@ blocks_of_parts a (suc m) k = blocks_free a m k ∙ sym (ap (λ b. cond b [] ((a
 pub all_free : (n : ℕ) → replicate n true ++ replicate 0 false ≡ replicate n true
 all_free n = append-nil (replicate n true)
 
--- cells that are all free are one block, where there are any
+-- cells that are all free are one block, if there are any
 pub blocks_of_free : (a n : ℕ) → blocks_from a (replicate n true) ≡ (if n == 0 then [] else (a, 8 * n) ∷ [])
 blocks_of_free a n = sym (ap (blocks_from a) (all_free n)) ∙ blocks_of_parts a n 0
 
@@ -132,7 +132,7 @@ getstk_none n low c h =
     (λ _. refl)
     (λ _. ap (stack_at heap (cells_for n)) (highest_none (cells_for n) c h))
 
--- taken cells behind m free ones are freed
+-- taken cells after m free ones are freed
 pub freed_behind : (low m k : ℕ) → freed (record { low = low; cells = replicate m true ++ replicate k false }) m k ≡ Some (record { low = low; cells = replicate (m + k) true })
 freed_behind low m k =
     let cells = replicate m true ++ replicate k false in
@@ -143,7 +143,7 @@ freed_behind low m k =
 or_false : (a b c : Bool) → a ≡ false → b ≡ false → c ≡ false → (a || (b || c)) ≡ false
 or_false a b c e f g = or_from a (b || c) e (or_from b c f g)
 
--- Bytes that end where the heap ends are freed behind its free cells.
+-- Bytes that end where the heap ends are freed after its free cells.
 pub freemem_behind : (n low m k : ℕ) → 0 < n → low % 8 ≡ 0 → cells_for n ≡ k
     → free_memory (low + 8 * m) n (record { low = low; cells = replicate m true ++ replicate k false }) ≡ Some (record { low = low; cells = replicate (m + k) true })
 freemem_behind n low m k z a e =
@@ -158,7 +158,7 @@ freemem_behind n low m k z a e =
     ∙ ap (freed h m) e
     ∙ freed_behind low m k
 
--- A stack of n bytes is given back to the heap in which it lies behind the free cells.
+-- A stack of n bytes is given back to the heap in which it lies after the free cells.
 pub freestk_some : (n low m k : ℕ) → 0 < n → low % 8 ≡ 0 → cells_for n ≡ k
     → free_stack (low + 8 * (m + k) - 4) n (record { low = low; cells = replicate m true ++ replicate k false }) ≡ Some (record { low = low; cells = replicate (m + k) true })
 freestk_some n low m k z a e =

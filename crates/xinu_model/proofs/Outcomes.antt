@@ -15,7 +15,7 @@ use Rattle.xinu_model.specs.Isa.Exec.{exec}
 use Rattle.xinu_model.specs.Machine.{Xinu, EventResult, current_hart, nothing_happens, return_line, switched, end_of_event, replies_of, closed}
 use Rattle.xinu_model.specs.Tables.{process_at}
 
--- an outcome is what the event does where no file call takes effect
+-- an outcome is what the event does if no file call takes effect
 outcome_is : (old : Xinu) (e : Event) (lines : List TranscriptLine) (new : Xinu) → Happens old e lines new → effect_of old e 0 ≡ record { lines = lines; state = new; panics = panics_in old e }
 outcome_is old e lines new h = ap (effect_of old e) (sym h.allowed) ∙ h.effect
 
@@ -33,7 +33,7 @@ least_happens old e = record { choice = 0; allowed = refl; effect = refl }
 switch_no_next : (was is : ℕ) → begins_next (switched was is) ≡ false
 switch_no_next was is = cond_both (was == is) [] (Switch is ∷ []) (λ l. begins_next l ≡ false) (λ _. refl) (λ _. refl)
 
--- nor are those of replies in front of it
+-- nor are those of replies before it
 replies_no_next : (replies : List (ℕ × ℤ)) (was is : ℕ) → begins_next (map return_line replies ++ switched was is) ≡ false
 replies_no_next [] was is = switch_no_next was is
 replies_no_next (reply ∷ replies) was is = refl

@@ -35,7 +35,7 @@ abbrev pub with_images : List Loaded → List ℕ → List ℕ
 with_images [] memory = memory
 with_images (image ∷ images) memory = with_images images (with_parts image.parts memory)
 
--- the end of an image: the greatest address behind one of its parts
+-- the end of an image: the greatest address after one of its parts
 abbrev pub end_of : List LoadedPart → ℕ
 end_of [] = 0
 end_of (part ∷ parts) = max (part.place + part.size) (end_of parts)
@@ -64,7 +64,7 @@ abbrev pub heap_behind : ℕ → Heap
 heap_behind end =
     let low = 8 * cells_for end in record { low = low; cells = replicate ((ram_size - low) / 8) true }
 
--- the heap at the start: what lies behind every image
+-- the heap at the start: what lies after every image
 abbrev pub fresh_heap : List Loaded → Heap
 fresh_heap images = heap_behind (end_of_all images)
 
@@ -72,7 +72,7 @@ fresh_heap images = heap_behind (end_of_all images)
 abbrev pub null_process : Process
 null_process = record no_process { state = Current; name = codes "prnull" ++ replicate 9 0 }
 
--- a semaphore of the kernel's, with so many tokens
+-- a semaphore of the kernel's, with n tokens
 abbrev pub device_semaphore : ℕ → Semaphore
 device_semaphore tokens = record { owner = Some Device; tokens = tokens; waiters = [] }
 
@@ -98,8 +98,8 @@ null_tables = record {
 }
 
 -- the machine with the images in RAM, before their processes are made
-abbrev pub loaded : List Loaded → Xinu
-loaded images = record {
+abbrev pub loaded_machine : List Loaded → Xinu
+loaded_machine images = record {
   tables = null_tables;
   harts = replicate NPROC no_hart;
   memory = with_images images zeros;
@@ -135,7 +135,7 @@ and_then (Boots s) next = next s
 and_then (Overlaps i) next = Overlaps i
 and_then (NoRoom i) next = NoRoom i
 
--- the first process of image i is made, where a stack is found
+-- the first process of image i is made, if a stack is found
 abbrev pub where_stack : Option Stack → ℕ → Loaded → Xinu → Start
 where_stack None i image s = NoRoom i
 where_stack (Some stack) i image s = Boots (with_image i image stack s)
@@ -146,14 +146,14 @@ all_made i [] s = Boots s
 all_made i (image ∷ images) s =
     and_then (where_stack (take_stack (stack_size image.stack) s.parts.heap) i image s) (λ x. all_made (i + 1) images x)
 
--- the processes of the images are woken, with one resched
+-- the processes of the images become ready, with one resched
 abbrev pub all_started : List Loaded → Xinu → Xinu
 all_started images s = record s { tables = resched (all_ready 1 images s.tables) }
 
--- where no image overlaps an earlier one the processes are made
+-- if no image overlaps an earlier one the processes are made
 abbrev pub unless_overlap : Option ℕ → List Loaded → Start
 unless_overlap (Some i) images = Overlaps i
-unless_overlap None images = and_then (all_made 1 images (loaded images)) (λ s. Boots (all_started images s))
+unless_overlap None images = and_then (all_made 1 images (loaded_machine images)) (λ s. Boots (all_started images s))
 
 -- The start of the machine with some images, which are numbered from 1 on.
 abbrev pub boot : List Loaded → Start

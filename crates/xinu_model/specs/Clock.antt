@@ -11,7 +11,7 @@ use Rattle.xinu_model.specs.Tables.{Tables, InSleepers}
 abbrev pub due : ℕ → List (ℕ × ℕ) → List ℕ
 due tick sleepers = map (λ e. e.0) (filter (λ e. e.1 == tick) sleepers)
 
--- the quantum falls by one; where it comes to 0 it is 2 again, and there is a resched
+-- the quantum falls by one; if it comes to 0 it is 2 again, and there is a resched
 abbrev pub quantum_falls : Tables → Tables
 quantum_falls t =
     if nat_lt 1 t.quantum then (record t { quantum = t.quantum - 1 }) else resched (record t { quantum = QUANTUM })
@@ -20,12 +20,12 @@ quantum_falls t =
 abbrev pub wakeup : Xinu → CallState
 wakeup s = unblock_all (due (s.tables.ticks + 1) s.tables.sleepers) (start s)
 
--- the tables one tick later, with a resched where one is owed
+-- the tables one tick later, with a resched if one is owed
 abbrev pub a_tick_later : Bool → Tables → Tables
 a_tick_later owes t =
     let later = record t { ticks = t.ticks + 1 } in if owes then resched later else later
 
--- A tick of the clock: those whose tick has come are released, with a resched where there were any; then the quantum falls.
+-- A tick of the clock: those whose tick has come are released, with a resched if there were any; then the quantum falls.
 abbrev pub ticked : Xinu → EventResult
 ticked s =
     let d = wakeup s in
@@ -35,13 +35,13 @@ ticked s =
 abbrev pub yield : Xinu → CallResult
 yield s = returns (record (start s) { owes_resched = true }) OK
 
--- call 26: the caller sleeps so many ticks; for 0 it gives way
+-- call 26: the caller sleeps n ticks; for 0 it gives way
 abbrev pub sleepms : ℤ → Xinu → CallResult
 sleepms (negsuc n) s = refused s
 sleepms (pos zero) s = yield s
 sleepms (pos (suc n)) s = blocked Sleeping Nothing (InSleepers (s.tables.ticks + suc n)) s
 
--- call 25: the caller sleeps so many seconds, at most 2147483
+-- call 25: the caller sleeps n seconds, at most 2147483
 abbrev pub sleep : ℤ → Xinu → CallResult
 sleep (negsuc n) s = refused s
 sleep (pos n) s = if nat_lt 2147483 n then refused s else sleepms (pos (1000 * n)) s

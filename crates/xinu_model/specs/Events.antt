@@ -52,7 +52,7 @@ abbrev pub is_done : Rest → Bool
 is_done Nothing = true
 is_done _ = false
 
--- A machine step: nothing where the null process is current; else what is left of the call that the current process waits in; else
+-- A machine step: nothing if the null process is current; else what is left of the call that the current process waits in; else
 -- an instruction.
 abbrev pub stepped : Xinu → EventResult
 stepped s =
@@ -61,7 +61,7 @@ stepped s =
     else (if is_done rest then instruction_step s
     else end_of_event s.tables.current [] (continued rest s))
 
--- What an event prints and leaves, where this many file calls take effect in it. An event that the machine doesn't
+-- What an event prints and leaves, if this many file calls take effect in it. An event that the machine doesn't
 -- have yet does nothing.
 abbrev pub effect_of : Xinu → Event → ℕ → EventResult
 effect_of s Step choice = stepped s
@@ -73,7 +73,7 @@ effect_of s _ choice = nothing_happens s
 abbrev pub chooses : Xinu → Event → Bool
 chooses s e = false
 
--- so many file calls may take effect in an event: none where nothing is chosen
+-- n file calls may take effect in an event: none if nothing is chosen
 abbrev pub MayChoose : Xinu → Event → ℕ → Type 0
 MayChoose s e choice = choice ≡ 0
 

@@ -1,5 +1,5 @@
 -- The whole state of the machine, and what is under way inside an event (book, chapters 5, 6 and 12: rescheduling is deferred to its end).
-use Rattle.std.specs.Prelude.{ℕ, ◌==◌, Bool, true, false, if◌then◌else◌, ◌||◌, List, [], ◌∷◌, ◌++◌, map, replicate, slice_index_or, slice_set, Option, ℤ, pos, negsuc}
+use Rattle.std.specs.Prelude.{ℕ, ◌==◌, Bool, true, false, if◌then◌else◌, ◌||◌, List, [], ◌∷◌, ◌++◌, map, replicate, slice_index_or, slice_set, Option, ℤ}
 use Rattle.xinu_base.specs.Constants.{OK, SYSERR}
 use Rattle.xinu_base.specs.declared.processes.Rest.{Rest}
 use Rattle.xinu_base.specs.declared.processes.Rest.TheVariants.{Nothing}
@@ -41,7 +41,7 @@ no_hart = record { regs = replicate 32 0; pc = 0 }
 abbrev pub current_hart : Xinu → Hart
 current_hart s = slice_index_or s.harts s.tables.current no_hart
 
--- How a call goes: its caller gets a reply, waits, or is gone; or the kernel panics. Where there was no call nothing is answered.
+-- How a call goes: its caller gets a reply, waits, or is gone; or the kernel panics. If there was no call nothing is answered.
 pub data Answer : Type 0 where
   Returns : (value : ℤ) → Answer
   Waits : Answer
@@ -119,7 +119,7 @@ is_off (Returns value) = false
 is_off Panics = false
 is_off Silent = false
 
--- the one resched of an event, where one is owed or the caller runs no longer
+-- the one resched of an event, if one is owed or the caller runs no longer
 abbrev pub closed : CallResult → Tables
 closed result =
     if result.call.owes_resched || is_off result.answer then resched result.call.state.tables else result.call.state.tables
@@ -172,7 +172,7 @@ is_panic Waits = false
 is_panic Gone = false
 is_panic Silent = false
 
--- What is printed of replies and a switch behind the lines that stand first, and the state with these replies and tables.
+-- What is printed of replies and a switch after the first lines, and the state with these replies and tables.
 abbrev pub event_result : ℕ → List TranscriptLine → List (ℕ × ℤ) → Tables → Xinu → Bool → EventResult
 event_result was first replies tables s panics = record {
   lines = first ++ map return_line replies ++ switched was tables.current;
@@ -180,7 +180,7 @@ event_result was first replies tables s panics = record {
   panics = panics;
 }
 
--- The end of an event: the resched, the replies and the line of the switch, behind the lines that stand first.
+-- The end of an event: the resched, the replies and the line of the switch, after the first lines.
 abbrev pub end_of_event : ℕ → List TranscriptLine → CallResult → EventResult
 end_of_event was first result =
     event_result was first (replies_of result) (closed result) result.call.state (is_panic result.answer)

@@ -19,7 +19,7 @@ listens _ = false
 abbrev pub can_get : ℕ → Tables → Bool
 can_get p t = not (is_free (state_at t p)) && not (is_some (message_at t p))
 
--- p holds a message, and becomes ready where it waits for one
+-- p holds a message, and becomes ready if it waits for one
 abbrev pub delivered : ℕ → ℕ → CallState → CallState
 delivered p message d =
     let t = d.state.tables in
@@ -30,7 +30,7 @@ delivered p message d =
 abbrev pub sent : ℕ → ℕ → CallState → CallState
 sent p message d = if can_get p d.state.tables then delivered p message d else d
 
--- the caller's message is taken and answered; where it holds none it goes another way
+-- the caller's message is taken and answered; if it holds none it goes another way
 abbrev pub received : Option ℕ → CallResult → Xinu → CallResult
 received None otherwise s = otherwise
 received (Some message) otherwise s = returns (start (goes_on None s)) (signed message)
@@ -52,7 +52,7 @@ receive s = received (held s) (blocked Receiving rest.Receive Nowhere s) s
 abbrev pub recvclr : Xinu → CallResult
 recvclr s = received (held s) (returns (start s) OK) s
 
--- call 24: the caller's message, for which it waits so many ticks, at least one
+-- call 24: the caller's message, for which it waits n ticks, at least one
 abbrev pub recvtime : ℤ → Xinu → CallResult
 recvtime (negsuc n) s = refused s
 recvtime (pos n) s =

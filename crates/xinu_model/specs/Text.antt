@@ -24,12 +24,12 @@ use Rattle.xinu_model.specs.Semaphores.Counts.{count_of, is_images}
 use Rattle.xinu_model.specs.Tables.{Semaphore, is_free}
 use Rattle.xinu_model.specs.Words.{signed}
 
--- a word behind a line, after a blank unless the line is empty
+-- a word after a line, after a blank unless the line is empty
 abbrev pub with_word : List ℕ → List ℕ → List ℕ
 with_word [] word = word
 with_word (b ∷ line) word = b ∷ line ++ 32 ∷ word
 
--- words behind a line, a blank between each two
+-- words after a line, a blank between each two
 abbrev pub with_words : List ℕ → List (List ℕ) → List ℕ
 with_words line [] = line
 with_words line (word ∷ words) = with_words (with_word line word) words
@@ -123,7 +123,7 @@ abbrev pub text : List TranscriptLine → List ℕ
 text [] = []
 text (line ∷ lines) = line_text line ++ text lines
 
--- what is printed of lines: nothing where the output is plain
+-- what is printed of lines: nothing if the output is plain
 abbrev pub shown : Bool → List TranscriptLine → List ℕ
 shown true lines = []
 shown false lines = text lines

@@ -9,7 +9,7 @@ ghost use Rattle.xinu_model.specs.Events.{Happens};
 ghost use Rattle.xinu_model.specs.Machine.{Xinu};
 ghost use Rattle.xinu_model.specs.Runs.{RunsTo};
 
-/// The outcomes of an event agree: where nothing is chosen, and where their lines are equal.
+/// The outcomes of an event agree: if nothing is chosen, and if their lines are equal.
 pub fn outcomes_agree()
     ensures { (old : Xinu) (e : Event) → OutcomesAgree old e }
 {}

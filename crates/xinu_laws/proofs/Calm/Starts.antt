@@ -1,11 +1,10 @@
 -- At the start nothing belongs to a pool or a port, and nobody is in a call of one.
 use Rattle.std.proofs.Common.{◌≡◌, ℕ, zero, suc, ◌+◌, ◌<◌, Bool, false, List, [], ◌∷◌, length, Option, Some, None, get_or, refl, sym, ap, subst, ◌∙◌, arith}
-use Rattle.std.specs.Prelude.{replicate}
 use Rattle.std.proofs.lemmas.Bool.{both_ways, false_from_ne_true}
 use Rattle.xinu_base.specs.declared.processes.Process.{Process}
 use Rattle.xinu_base.specs.declared.processes.Rest.{Rest}
 use Rattle.xinu_base.specs.declared.semaphores.Owner.{Owner}
-use Rattle.xinu_model.specs.Boot.{Loaded, first_overlap, first_semaphores, null_tables, loaded, image_process, with_image, all_ready, Boots, and_then, where_stack, all_made, all_started, unless_overlap, boot}
+use Rattle.xinu_model.specs.Boot.{Loaded, first_overlap, first_semaphores, null_tables, loaded_machine, image_process, with_image, all_ready, Boots, and_then, where_stack, all_made, all_started, unless_overlap, boot}
 use Rattle.xinu_model.specs.Heap.Cells.{Stack, take_stack}
 use Rattle.xinu_model.specs.Machine.{Xinu}
 use Rattle.xinu_model.specs.Process.Scheduling.{resched, ready}
@@ -65,14 +64,14 @@ module _ {mine : Option Owner → Bool} {asks : Rest → Bool} (others : AreOthe
   calm_all_ready (image ∷ images) i t c = calm_all_ready images (i + 1) (ready i t) (calm_trans null_tables t (ready i t) c (calm_ready t i (may_ready_first t c i)))
 
   -- none is made at first
-  none_made : (images : List Loaded) → AreMade 1 (loaded images)
+  none_made : (images : List Loaded) → AreMade 1 (loaded_machine images)
   none_made images = record { tables = record { inside = inside_null; runs = refl }; current = refl; harts = refl; suspended = λ j z h. absurd (omega arith) }
 
   -- where no image overlaps the start leaves all alone
-  leaves_wakeup : (images : List Loaded) (s : Xinu) → length images < 64 → all_made 1 images (loaded images) ≡ Boots s → LeavesOthers mine asks (loaded images) (all_started images s)
+  leaves_wakeup : (images : List Loaded) (s : Xinu) → length images < 64 → all_made 1 images (loaded_machine images) ≡ Boots s → LeavesOthers mine asks (loaded_machine images) (all_started images s)
   leaves_wakeup images s few e =
-      let first = leaves_all_made images 1 (loaded images) s e in
-      let m = all_are_made images 1 (loaded images) s (none_made images) (omega arith) (omega arith) e in
+      let first = leaves_all_made images 1 (loaded_machine images) s e in
+      let m = all_are_made images 1 (loaded_machine images) s (none_made images) (omega arith) (omega arith) e in
       let t = all_ready 1 images s.tables in
       let o = sound_all_ready images 1 s.tables m.tables (λ j low high. m.suspended j (omega arith) high) in
       record {
@@ -81,15 +80,15 @@ module _ {mine : Option Owner → Bool} {asks : Rest → Bool} (others : AreOthe
       }
 
   -- the start, by the first image that overlaps an earlier one
-  leaves_unless_overlap : (overlap : Option ℕ) (images : List Loaded) (start : Xinu) → length images < 64 → unless_overlap overlap images ≡ Boots start → LeavesOthers mine asks (loaded images) start
+  leaves_unless_overlap : (overlap : Option ℕ) (images : List Loaded) (start : Xinu) → length images < 64 → unless_overlap overlap images ≡ Boots start → LeavesOthers mine asks (loaded_machine images) start
   leaves_unless_overlap (Some i) images start few e = cc
   leaves_unless_overlap None images start few e =
-      let b = boots_from (all_made 1 images (loaded images)) (λ s. Boots (all_started images s)) start e in
+      let b = boots_from (all_made 1 images (loaded_machine images)) (λ s. Boots (all_started images s)) start e in
       let f : all_started images b.0 ≡ start = cc in
-      subst (LeavesOthers mine asks (loaded images)) f (leaves_wakeup images b.0 few b.1)
+      subst (LeavesOthers mine asks (loaded_machine images)) f (leaves_wakeup images b.0 few b.1)
 
   -- The start with fewer than 64 images leaves all alone.
-  pub leaves_start : (images : List Loaded) (start : Xinu) → length images < 64 → boot images ≡ Boots start → LeavesOthers mine asks (loaded images) start
+  pub leaves_start : (images : List Loaded) (start : Xinu) → length images < 64 → boot images ≡ Boots start → LeavesOthers mine asks (loaded_machine images) start
   leaves_start images start few e = leaves_unless_overlap (first_overlap 1 [] images) images start few e
 
   -- Where the machine starts no semaphore is one of these,

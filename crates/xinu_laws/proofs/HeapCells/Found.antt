@@ -50,7 +50,7 @@ greatest_more k c cells start g = record {
   behind zero low high = absurd (omega arith)
   behind (suc i) low high = g.greatest i (omega arith) (omega arith)
 
--- where k free cells begin at no place behind the first, the first is the greatest start if they begin there
+-- if k free cells begin at no place after the first, the first is the greatest start if they begin there
 greatest_here : (k : ℕ) (c : Bool) (cells : List Bool) → BeginAt k (c ∷ cells) 0 → BeginNowhere k cells → IsGreatest k (c ∷ cells) 0
 greatest_here k c cells here none = record {
   place = omega arith;
@@ -78,14 +78,14 @@ highest_says k (c ∷ cells) = highest_step k c cells (highest_free k cells) (hi
 pub lowest_is_least : (k : ℕ) (cells : List Bool) (start : ℕ) → lowest_free k cells ≡ Some start → IsLeast k cells start
 lowest_is_least k cells start e = subst (OfFound (IsLeast k cells) (BeginNowhere k cells)) e (lowest_says k cells)
 
--- Where nothing is found from below, no k free cells begin anywhere.
+-- If nothing is found from below, no k free cells begin anywhere.
 pub lowest_is_nowhere : (k : ℕ) (cells : List Bool) → lowest_free k cells ≡ None → BeginNowhere k cells
 lowest_is_nowhere k cells e = subst (OfFound (IsLeast k cells) (BeginNowhere k cells)) e (lowest_says k cells)
 
--- What is found from above is the greatest start: no k free cells begin behind it.
+-- What is found from above is the greatest start: no k free cells begin after it.
 pub highest_is_greatest : (k : ℕ) (cells : List Bool) (start : ℕ) → highest_free k cells ≡ Some start → IsGreatest k cells start
 highest_is_greatest k cells start e = subst (OfFound (IsGreatest k cells) (BeginNowhere k cells)) e (highest_says k cells)
 
--- Where nothing is found from above, no k free cells begin anywhere.
+-- If nothing is found from above, no k free cells begin anywhere.
 pub highest_is_nowhere : (k : ℕ) (cells : List Bool) → highest_free k cells ≡ None → BeginNowhere k cells
 highest_is_nowhere k cells e = subst (OfFound (IsGreatest k cells) (BeginNowhere k cells)) e (highest_says k cells)

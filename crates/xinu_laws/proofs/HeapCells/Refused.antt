@@ -5,12 +5,12 @@ use Rattle.xinu_laws.specs.FreeCells.{BeginNowhere}
 use Rattle.xinu_model.specs.Heap.Cells.{Heap, cells_for, highest_free, lowest_free, grant_at, take_memory, stack_at, take_stack}
 use Rattle.xinu_laws.proofs.HeapCells.Found.{lowest_is_nowhere, highest_is_nowhere}
 
--- nothing was found where nothing is granted
+-- nothing was found if nothing is granted
 grant_refused : (h : Heap) (k : ℕ) (found : Option ℕ) → grant_at h k found ≡ None → found ≡ None
 grant_refused h k None e = refl
 grant_refused h k (Some start) e = absurd (cc)
 
--- `getmem` refuses some bytes only where the heap has no free cells in a row that hold them.
+-- `getmem` refuses some bytes only if the heap has no free cells in a row that hold them.
 pub getmem_refuses : (n : ℕ) (h : Heap) → 0 < n → take_memory n h ≡ None → BeginNowhere (cells_for n) h.cells
 getmem_refuses n h z =
     let k = cells_for n in
@@ -18,12 +18,12 @@ getmem_refuses n h z =
     (λ b. absurd (let none = eqb-true n 0 b in omega arith))
     (λ _ e. lowest_is_nowhere k h.cells (grant_refused h k (lowest_free k h.cells) e))
 
--- nothing was found where there is no stack
+-- nothing was found if there is no stack
 stack_refused : (h : Heap) (k : ℕ) (found : Option ℕ) → stack_at h k found ≡ None → found ≡ None
 stack_refused h k None e = refl
 stack_refused h k (Some start) e = absurd (cc)
 
--- `getstk` refuses some bytes only where the heap has no free cells in a row that hold them.
+-- `getstk` refuses some bytes only if the heap has no free cells in a row that hold them.
 pub getstk_refuses : (n : ℕ) (h : Heap) → 0 < n → take_stack n h ≡ None → BeginNowhere (cells_for n) h.cells
 getstk_refuses n h z =
     let k = cells_for n in

@@ -1,4 +1,4 @@
--- Cells in a row: where so many of one kind begin, and what marking them changes.
+-- Cells in a row: where n of one kind begin, and what marking them changes.
 use Rattle.std.proofs.Common.{◌≡◌, ℕ, zero, suc, ◌+◌, ◌-◌, ◌<◌, ◌≤◌, Bool, true, false, List, [], ◌∷◌, ◌++◌, length, take, drop, get_or, length-append, refl, sym, ap, ◌∙◌, arith}
 use Rattle.std.specs.Prelude.{replicate}
 use Rattle.std.proofs.lemmas.Bool.{false≢true}
@@ -30,7 +30,7 @@ begins_each kind (suc k) [] h i w = absurd (false≢true h)
 begins_each kind (suc k) (c ∷ cells) h zero w = (begins_parts kind k c cells h).0
 begins_each kind (suc k) (c ∷ cells) h (suc i) w = begins_each kind k cells (begins_parts kind k c cells h).1 i (omega arith)
 
--- no cells begin behind the last one
+-- no cells begin after the last one
 pub begins_past : (kind : Bool) (k start : ℕ) (cells : List Bool) → 0 < k → length cells ≤ start → begins_with kind k (drop start cells) ≡ false
 begins_past kind zero start cells z h = absurd (omega arith)
 begins_past kind (suc k) zero [] z h = refl
@@ -38,7 +38,7 @@ begins_past kind (suc k) zero (c ∷ cells) z h = absurd (omega arith)
 begins_past kind (suc k) (suc start) [] z h = refl
 begins_past kind (suc k) (suc start) (c ∷ cells) z h = begins_past kind (suc k) start cells z (omega arith)
 
--- Where k cells of a kind begin, at a place of the list, they exist and are of it.
+-- If k cells of a kind begin, at a place of the list, they exist and are of it.
 pub cells_there : (kind : Bool) (start k : ℕ) (cells : List Bool) → start ≤ length cells → begins_with kind k (drop start cells) ≡ true → AreCells kind start k cells
 cells_there kind start k cells w h = record {
   within = let l = begins_length kind k (drop start cells) h in let d = length-drop start cells in omega arith;
@@ -81,7 +81,7 @@ marked_below kind start k cells i w low =
     ∙ get_or_append_left (take start cells) (replicate k kind) false i (omega arith)
     ∙ get_or-take start cells i false low
 
--- And so are those behind them.
+-- And so are those after them.
 pub marked_behind : (kind : Bool) (start k : ℕ) (cells : List Bool) (i : ℕ) → start + k ≤ length cells → start + k ≤ i → get_or (marked kind start k cells) i false ≡ get_or cells i false
 marked_behind kind start k cells i w high =
     let front = front_length kind start k cells w in

@@ -34,7 +34,7 @@ pub record IsStack (n : ℕ) (h : Heap) (stack : Stack) : Type 0 where
 cells_taken : (h : Heap) (start k : ℕ) → start < length h.cells → begins_with true k (drop start h.cells) ≡ true → AreMarked false start k h (record h { cells = marked false start k h.cells })
 cells_taken h start k w b = record { before = cells_there true start k h.cells (omega arith) b; low = refl; cells = refl }
 
--- what is granted where a start is found
+-- what is granted if a start is found
 grant_found : (n : ℕ) (h : Heap) (grant : Grant) (found : Option ℕ) → 0 < n → OfFound (IsLeast (cells_for n) h.cells) (BeginNowhere (cells_for n) h.cells) found → grant_at h (cells_for n) found ≡ Some grant → IsGranted n h grant
 grant_found n h grant None z says e = absurd (cc)
 grant_found n h grant (Some start) z says e =
@@ -49,7 +49,7 @@ getmem_grants n h grant =
     (λ _ e. absurd (cc))
     (λ b e. let some = eqb-false n 0 b in grant_found n h grant (lowest_free (cells_for n) h.cells) (omega arith) (lowest_says (cells_for n) h.cells) e)
 
--- what stack is found where a start is
+-- what stack is found if a start is
 stack_found : (n : ℕ) (h : Heap) (stack : Stack) (found : Option ℕ) → 0 < n → OfFound (IsGreatest (cells_for n) h.cells) (BeginNowhere (cells_for n) h.cells) found → stack_at h (cells_for n) found ≡ Some stack → IsStack n h stack
 stack_found n h stack None z says e = absurd (cc)
 stack_found n h stack (Some start) z says e =

@@ -5,12 +5,12 @@ use Rattle.xinu_base.specs.Insert.{insert}
 use Rattle.xinu_model.specs.Sound.Tables.{times, total, entries_of, count_in}
 use Rattle.xinu_model.specs.Tables.{entries_without, numbers_without}
 
--- one element more, where it passes, in front of a part of a count
+-- one element more, if it passes, before a part of a count
 count_left : (a : Bool) (m n : ℕ) → cond a (suc m) m + n ≡ cond a (suc (m + n)) (m + n)
 count_left true m n = omega arith
 count_left false m n = refl
 
--- the same behind the other part
+-- the same after the other part
 count_right : (a : Bool) (m n : ℕ) → m + cond a (suc n) n ≡ cond a (suc (m + n)) (m + n)
 count_right true m n = omega arith
 count_right false m n = refl
@@ -32,7 +32,7 @@ times-filter_both test before [] = refl
 times-filter_both test before (x ∷ xs) =
     split_step test x (before x) (filter before xs) (filter (λ y. not (before y)) xs) (times test xs) (times-filter_both test before xs)
 
--- an insertion adds one where the element passes
+-- an insertion adds one if the element passes
 pub times-insert : {A : Type 0} (test before : A → Bool) (e : A) (xs : List A) → times test (insert before e xs) ≡ cond (test e) (suc (times test xs)) (times test xs)
 times-insert test before e xs =
     times-append test (filter before xs) (e ∷ filter (λ x. not (before x)) xs)
@@ -73,7 +73,7 @@ not_other a p q h e = ap not (ne_eqb a q (λ f. h (sym (eqb-true a p e) ∙ f)))
 pub entries_without_other : {K : Type 0} (p q : ℕ) (l : List (ℕ × K)) → p ≢ q → entries_of p (entries_without q l) ≡ entries_of p l
 entries_without_other p q l h = times-filter_keeps (λ e. e.0 == p) (λ e. not (e.0 == q)) (λ e here. not_other e.0 p q h here) l
 
--- an entry of q is inserted where there was none
+-- an entry of q is inserted if there was none
 pub entries_insert_same : {K : Type 0} (before : (ℕ × K) → Bool) (q : ℕ) (key : K) (l : List (ℕ × K)) → entries_of q l ≡ 0 → entries_of q (insert before (q, key) l) ≡ 1
 entries_insert_same before q key l none =
     times-insert (λ e. e.0 == q) before (q, key) l ∙ ap (λ b. cond b (suc (entries_of q l)) (entries_of q l)) (eq-eqb q q refl) ∙ ap suc none
@@ -91,7 +91,7 @@ first_has_entry e es = subst (λ b. 0 < cond b (suc (entries_of e.0 es)) (entrie
 pub first_is_counted : (x : ℕ) (xs : List ℕ) → 0 < count_in x (x ∷ xs)
 first_is_counted x xs = subst (λ b. 0 < cond b (suc (count_in x xs)) (count_in x xs)) (sym (eq-eqb x x refl)) (omega arith)
 
--- who is counted in a list is counted where one more stands in front
+-- who is counted in a list is counted if one more is in front
 pub count_behind : (p x : ℕ) (xs : List ℕ) → 0 < count_in p xs → 0 < count_in p (x ∷ xs)
 count_behind p x xs h = cond_both (x == p) (suc (count_in p xs)) (count_in p xs) (λ n. 0 < n) (λ _. omega arith) (λ _. h)
 
@@ -107,7 +107,7 @@ numbers_without_same q l = times-filter_drops (λ x. x == q) (λ x. not (x == q)
 pub numbers_without_other : (p q : ℕ) (l : List ℕ) → p ≢ q → count_in p (numbers_without q l) ≡ count_in p l
 numbers_without_other p q l h = times-filter_keeps (λ x. x == p) (λ x. not (x == q)) (λ x here. not_other x p q h here) l
 
--- q behind a list is there once more
+-- q after a list is there once more
 pub count_last_same : (q : ℕ) (l : List ℕ) → count_in q (l ++ q ∷ []) ≡ suc (count_in q l)
 count_last_same q l =
     let e = times-append (λ x. x == q) l (q ∷ []) in
@@ -170,7 +170,7 @@ get_or-le-total f [] i d z = omega arith
 get_or-le-total f (x ∷ xs) zero d z = omega arith
 get_or-le-total f (x ∷ xs) (suc i) d z = let e = get_or-le-total f xs i d z in omega arith
 
--- one element more in front of a list without what passes
+-- one element more before a list without what passes
 absent_step : {A : Type 0} (passes : Bool) (x : A) (xs ys : List A) (n : ℕ) → cond passes (suc n) n ≡ 0 → (n ≡ 0 → ys ≡ xs) → cond (not passes) (x ∷ ys) ys ≡ x ∷ xs
 absent_step true x xs ys n z h = absurd (omega arith)
 absent_step false x xs ys n z h = ap (λ l. x ∷ l) (h z)

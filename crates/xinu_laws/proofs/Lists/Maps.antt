@@ -1,10 +1,9 @@
 -- Lists seen through a function, and how many of a list pass a test after a write.
-use Rattle.std.proofs.Common.{◌≡◌, ℕ, zero, suc, ◌+◌, ◌≤◌, Bool, true, false, cond, List, [], ◌∷◌, ◌++◌, map, set, get_or, refl, ap, ◌∙◌, arith}
+use Rattle.std.proofs.Common.{◌≡◌, ℕ, zero, suc, ◌+◌, ◌≤◌, Bool, true, false, cond, List, [], ◌∷◌, map, set, get_or, refl, ap, ◌∙◌, arith}
 use Rattle.std.specs.Prelude.{replicate}
 use Rattle.xinu_model.specs.Sound.Tables.{times}
-use Rattle.xinu_laws.proofs.Lists.Counts.{times-append}
 
--- one where a test holds
+-- one if a test holds
 abbrev pub one : Bool → ℕ
 one b = cond b 1 0
 

@@ -37,7 +37,7 @@ order_filter R kept [] h = tt
 order_filter R kept (x ∷ xs) h =
     cond_both (kept x) (x ∷ filter kept xs) (filter kept xs) (IsInOrder R) (λ _. (all_filter (R x) kept xs h.0, order_filter R kept xs h.1)) (λ _. order_filter R kept xs h.1)
 
--- two lists in order are in order one behind the other, where each of the first stands in the relation to each of the second
+-- two lists in order are in order one after another, where each of the first is in the relation to each of the second
 pub order_append : {A : Type 0} (R : A → A → Type 0) (xs ys : List A) → IsInOrder R xs → IsInOrder R ys → AllByRecursion (λ x. AllByRecursion (R x) ys) xs → IsInOrder R (xs ++ ys)
 order_append R [] ys h k across = k
 order_append R (x ∷ xs) ys h k across = (all_append (R x) xs ys h.0 across.0, order_append R xs ys h.1 k across.1)

@@ -20,7 +20,7 @@ first_is_one P test (x ∷ xs) n all e =
     cond_both (test x) (Some x) (first_passing test xs) (λ o. o ≡ Some n → P n)
     (λ _ f. let g : x ≡ n = cc in subst P g all.0) (λ _ f. first_is_one P test xs n all.1 f) e
 
--- so many numbers from n on are below the size
+-- n numbers from n on are below the size
 numbers_below : (size n k : ℕ) → k ≤ size - n → AllByRecursion (λ x. x < size) (numbers_from n k)
 numbers_below size n zero h = tt
 numbers_below size n (suc k) h = (omega arith, numbers_below size (n + 1) k (omega arith))

@@ -2,7 +2,7 @@
 use Rattle.std.proofs.Common.{◌≡◌, ℕ, zero, suc, ◌+◌, List, [], ◌∷◌, get_or, Option, Some, None, refl, ap, subst, ◌∙◌, arith, inl}
 use Rattle.std.specs.Prelude.{replicate}
 use Rattle.xinu_laws.specs.Apart.{is_in_free, is_in_stack, IsApart}
-use Rattle.xinu_model.specs.Boot.{Loaded, first_overlap, fresh_heap, null_process, loaded, image_process, with_image, all_ready, Start, Boots, Overlaps, NoRoom, and_then, where_stack, all_made, all_started, unless_overlap, boot}
+use Rattle.xinu_model.specs.Boot.{Loaded, first_overlap, fresh_heap, null_process, loaded_machine, image_process, with_image, all_ready, Start, Boots, Overlaps, NoRoom, and_then, where_stack, all_made, all_started, unless_overlap, boot}
 use Rattle.xinu_model.specs.Heap.Cells.{Stack, take_stack}
 use Rattle.xinu_model.specs.Machine.{Xinu}
 use Rattle.xinu_model.specs.Process.Scheduling.{resched, ready}
@@ -34,7 +34,7 @@ nobody n a =
     omega arith
 
 -- The machine with the images in RAM, before their processes are made.
-pub apart_loaded : (images : List Loaded) → IsApart (loaded images)
+pub apart_loaded : (images : List Loaded) → IsApart (loaded_machine images)
 apart_loaded images = record {
   low = omega arith;
   stacks = λ p. inl (null_has 63 p);
@@ -48,7 +48,7 @@ apart_loaded images = record {
 abbrev StartsApart : Start → Type 0
 StartsApart start = (s : Xinu) → start ≡ Boots s → IsApart s
 
--- the first process of an image is made where a stack is found
+-- the first process of an image is made if a stack is found
 apart_where_stack : (found : Option Stack) (i : ℕ) (image : Loaded) (s : Xinu) → take_stack (stack_size image.stack) s.parts.heap ≡ found → IsApart s → StartsApart (where_stack found i image s)
 apart_where_stack None i image s e apart u b = absurd (cc)
 apart_where_stack (Some stack) i image s e apart u b =
@@ -73,16 +73,16 @@ stacks_all_ready : (images : List Loaded) (i : ℕ) (t : Tables) → stacks_of (
 stacks_all_ready [] i t = refl
 stacks_all_ready (image ∷ images) i t = stacks_all_ready images (i + 1) (ready i t) ∙ stacks_ready i t
 
--- the processes of the images are woken
+-- the processes of the images become ready
 kept_all_started : (images : List Loaded) (s : Xinu) → KeepsPlaces s (all_started images s)
 kept_all_started images s =
     kept_tables s (resched (all_ready 1 images s.tables)) (stacks_resched (all_ready 1 images s.tables) ∙ stacks_all_ready images 1 s.tables)
 
--- the machine starts where no image overlaps an earlier one
+-- the machine starts if no image overlaps an earlier one
 apart_unless_overlap : (overlaps : Option ℕ) (images : List Loaded) → StartsApart (unless_overlap overlaps images)
 apart_unless_overlap (Some i) images = λ u b. absurd (cc)
 apart_unless_overlap None images =
-    apart_then (all_made 1 images (loaded images)) (λ s. Boots (all_started images s)) (apart_all_made images 1 (loaded images) (apart_loaded images))
+    apart_then (all_made 1 images (loaded_machine images)) (λ s. Boots (all_started images s)) (apart_all_made images 1 (loaded_machine images) (apart_loaded images))
     (λ s apart u b. let is : all_started images s ≡ u = cc in subst IsApart is (apart_kept (kept_all_started images s) apart))
 
 -- When the machine starts, each address is claimed at most once.

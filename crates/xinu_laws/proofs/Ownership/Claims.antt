@@ -37,7 +37,7 @@ holders_by_places s a =
     let stacks = times-map stack_of (in_stack a) s.tables.processes in
     ap (λ n. n + times (in_stack a) (stacks_of s.tables)) pools ∙ ap (λ n. times (is_in_pool a) s.parts.pools + n) stacks
 
--- Where the places stay as they are, so do the claims.
+-- If the places stay as they are, so do the claims.
 pub holders_kept : {s u : Xinu} → KeepsPlaces s u → (a : ℕ) → holders u a ≡ holders s a
 holders_kept {s} {u} k a =
     sym (holders_by_places u a)
@@ -45,7 +45,7 @@ holders_kept {s} {u} k a =
     ∙ ap (λ l. times (in_range a) (map range_of s.parts.pools) + times (in_stack a) l) k.stacks
     ∙ holders_by_places s a
 
--- Where the places stay as they are, no address is claimed twice.
+-- If the places stay as they are, no address is claimed twice.
 pub apart_kept : {s u : Xinu} → KeepsPlaces s u → IsApart s → IsApart u
 apart_kept {s} {u} k apart = record {
   low = subst (λ (h : Heap). h.low % 8 ≡ 0) (sym k.heap) apart.low;
@@ -114,7 +114,7 @@ pub one_at_most : (b : Bool) → one b ≤ 1
 one_at_most true = omega arith
 one_at_most false = omega arith
 
--- Where cells are taken, an address of them may be claimed by another in their place.
+-- If cells are taken, an address of them may be claimed by another in their place.
 pub claim_taken : {start k : ℕ} {h u : Heap} → AreMarked false start k h u → (a : ℕ) (b : Bool) → (b ≡ true → InCells h.low start k a) → one (is_in_free a u) + one b ≤ one (is_in_free a h)
 claim_taken {start} {k} {h} {u} m a b within =
     ⊎_elim
@@ -132,7 +132,7 @@ claim_taken {start} {k} {h} {u} m a b within =
     (cases_Bool b))
     (cases_cells h.low start k a)
 
--- Where cells are freed, an address of them that somebody claimed is free in their place.
+-- If cells are freed, an address of them that somebody claimed is free in their place.
 pub claim_freed : {start k : ℕ} {h u : Heap} → AreMarked true start k h u → (a : ℕ) (b : Bool) → (InCells h.low start k a → b ≡ true) → one (is_in_free a u) ≤ one (is_in_free a h) + one b
 claim_freed {start} {k} {h} {u} m a b within =
     ⊎_elim

@@ -2,12 +2,10 @@
 use Rattle.std.proofs.Common.{◌≡◌, ◌≢◌, ℕ, ◌+◌, ◌-◌, ◌<◌, ◌≤◌, ◌==◌, Bool, true, ◌||◌, cond, List, [], ◌∷◌, refl, sym, ap, subst, ◌∙◌, arith, ⊎_elim, get_or-set_same}
 use Rattle.std.specs.Prelude.{nat_lt}
 use Rattle.std.proofs.lemmas.Bool.{cond_both, cases_lt, eqb-false}
-use Rattle.std.proofs.lemmas.List.{get_or_past}
 use Rattle.xinu_base.specs.declared.events.Event.{Event}
 use Rattle.xinu_base.specs.declared.events.Event.TheVariants.{Step, Tick}
 use Rattle.xinu_base.specs.declared.lines.TranscriptLine.{TranscriptLine}
 use Rattle.xinu_base.specs.declared.lines.TranscriptLine.TheVariants as line
-use Rattle.xinu_base.specs.declared.processes.Process.{Process}
 use Rattle.xinu_base.specs.declared.processes.Rest.{Rest}
 use Rattle.xinu_base.specs.declared.processes.Rest.TheVariants as rest
 use Rattle.xinu_base.specs.declared.registers.Outcome.{Outcome}
@@ -20,9 +18,8 @@ use Rattle.xinu_laws.specs.GivingAway.{next, gives_back, GivesAway}
 use Rattle.xinu_model.specs.Machine.{Xinu, no_hart, current_hart, CallResult, start, is_off, closed, EventResult, nothing_happens, end_of_event}
 use Rattle.xinu_model.specs.Process.Scheduling.{resched}
 use Rattle.xinu_model.specs.Process.Death.{exit}
-use Rattle.xinu_model.specs.Sound.Tables.{IsSoundTables}
 use Rattle.xinu_model.specs.Sound.State.{IsSound}
-use Rattle.xinu_model.specs.Tables.{no_process, Tables, process_at}
+use Rattle.xinu_model.specs.Tables.{Tables, process_at}
 use Rattle.xinu_laws.proofs.Ownership.Claims.{apart_kept}
 use Rattle.xinu_laws.proofs.Ownership.Doings.{kept_unblock_all}
 use Rattle.xinu_laws.proofs.Ownership.Kept.{stacks_of, KeepsPlaces, kept_then, stacks_resched}
@@ -67,7 +64,7 @@ hart_after s sound =
     let many = sound.harts in
     get_or-set_same s.harts s.tables.current (next s).hart no_hart (omega arith)
 
--- where an event gives nothing away, a call that gives memory back frees nothing that is held
+-- if an event gives nothing away, a call that gives memory back frees nothing that is held
 none_held : (old : Xinu) (last : List TranscriptLine) → IsSound old → old.tables.current ≢ 0 → (process_at old.tables old.tables.current).rest ≡ rest.Nothing → (next old).outcome ≡ outcome.Call
     → let s = with_executed (next old) old in let call = call_of (current_hart s) in
     (GivesAway old Step (end_of_event old.tables.current last (called call.number call.args s)).state → ⊥)

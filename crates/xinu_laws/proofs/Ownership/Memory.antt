@@ -105,7 +105,7 @@ apart_with_pool grant sem size n s e apart =
           omega arith;
     }
 
--- a pool is made where memory and a semaphore are found
+-- a pool is made if memory and a semaphore are found
 apart_made_pool : (found : Option Grant) (sem : Option ℕ) (size n : ℕ) (s : Xinu) → heap.take_memory (pool_bytes size n) s.parts.heap ≡ found → IsApart s → IsApart (made_pool found sem size n s).call.state
 apart_made_pool (Some grant) (Some sem) size n s e apart =
     cond_both (meets_pool grant.address (pool_bytes size n) s.parts.pools) (refused s) (with_pool grant sem size n s) (λ (h : CallResult). IsApart h.call.state)

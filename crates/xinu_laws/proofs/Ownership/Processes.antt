@@ -90,7 +90,7 @@ apart_create entry size priority name x y s apart =
 abbrev without : ℕ → Heap → Xinu → Xinu
 without p u s = record s { tables = move_to p no_process None Nowhere s.tables; harts = set s.harts p no_hart; parts = record s.parts { heap = u } }
 
--- a dead process leaves its stack as it is, where the heap refuses it
+-- a dead process leaves its stack as it is, if the heap refuses it
 apart_left : (p : ℕ) (s : Xinu) → IsApart s → IsApart (without p s.parts.heap s)
 apart_left p s apart =
     let l = s.tables.processes in
@@ -112,7 +112,7 @@ stack_fills h x has =
     (λ (some : (k : ℕ) × (n : ℕ) × (x.stack + 4 ≡ h.low + 8 * (k + n)) × (x.stack_size ≡ 8 * n) × (k + n ≤ length h.cells)). let e = some.3 in omega arith)
     has
 
--- and leaves it free, where the heap takes it
+-- and leaves it free, if the heap takes it
 apart_without : (p : ℕ) (u : Heap) (s : Xinu) → free_stack (process_at s.tables p).stack (process_at s.tables p).stack_size s.parts.heap ≡ Some u → IsApart s → IsApart (without p u s)
 apart_without p u s e apart =
     let l = s.tables.processes in
@@ -138,7 +138,7 @@ apart_either : (p : ℕ) (found : Option Heap) (s : Xinu) → free_stack (proces
 apart_either p None s e apart = apart_left p s apart
 apart_either p (Some u) s e apart = apart_without p u s e apart
 
--- A process is buried.
+-- A process is reaped.
 pub apart_reap : (p : ℕ) (x : Process) (d : CallState) → stack_of x ≡ stack_of (process_at d.state.tables p) → IsApart d.state → IsApart (reap p x d).state
 apart_reap p x d same apart =
     let h = d.state.parts.heap in

@@ -44,12 +44,12 @@ addresses_distinct x a step (suc n) h = cond_both (a == x) (suc (count_in x (add
     (λ b. let e = eqb-true a x b in let f = addresses_above x (a + step) step n (omega arith) in omega arith)
     (λ _. addresses_distinct x (a + step) step n h)
 
--- there are so many addresses
+-- there are n addresses
 pub length-addresses : (a step n : ℕ) → length (addresses a step n) ≡ n
 length-addresses a step zero = refl
 length-addresses a step (suc n) = ap suc (length-addresses (a + step) step n)
 
--- one element more, where it passes, on both sides
+-- one element more, if it passes, on both sides
 both_longer : (b : Bool) (x : ℕ) (xs ys : List ℕ) (k : ℕ) → length xs ≡ length ys + k → length (cond b (x ∷ xs) xs) ≡ length (cond b (x ∷ ys) ys) + k
 both_longer true x xs ys k e = omega arith
 both_longer false x xs ys k e = e
@@ -72,7 +72,7 @@ buffers_distinct a pool = addresses_distinct a (pool.base + 4) (pool.size + 4) p
 buffer_once : (a : ℕ) (pool : Pool) → is_in a (buffers pool) ≡ true → count_in a (buffers pool) ≡ 1
 buffer_once a pool h = let e = is_in_counted a (buffers pool) h in let f = buffers_distinct a pool in omega arith
 
--- where one more buffer is free one less is held
+-- if one more buffer is free one less is held
 held_step : (a : ℕ) (pool : Pool) (free : List ℕ) → is_in a (buffers pool) ≡ true → is_in a free ≡ false
     → held_in (record pool { free = free }) ≡ held_in (record pool { free = a ∷ free }) + 1
 held_step a pool free here out =

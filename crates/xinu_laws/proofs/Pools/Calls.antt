@@ -26,7 +26,7 @@ use Rattle.xinu_laws.proofs.Pools.Steps.{pool_semaphore_within, owner_tokens, pr
 abbrev pub HavePools : Xinu → Type 0
 HavePools s = ArePools s.tables s.parts.pools
 
--- Since the tables t, where what holds of the pools held, one promised buffer of pool i was taken; one of these free ones is given out.
+-- Since the tables t, if what holds of the pools held, one promised buffer of pool i was taken; one of these free ones is given out.
 pools_taken : (t : Tables) (s : Xinu) (i : ℕ) (free : List ℕ) → ArePools t s.parts.pools → i < length s.parts.pools → (pool_at s.parts.pools i).free ≡ free
     → ((j : ℕ) → j ≢ i → IsCalm (is_pool j) (asks_pool j) t s.tables) → ((r : ℕ) → (semaphore_at s.tables r).owner ≡ (semaphore_at t r).owner)
     → suc (promised i (pool_at s.parts.pools i).semaphore s.tables) ≤ promised i (pool_at s.parts.pools i).semaphore t → HavePools (take_first free i s).call.state
@@ -91,7 +91,7 @@ holder_from_finds a i k (pool ∷ pools) e = cond_both (is_held a pool) (Some i)
 pub holder_finds : (a i : ℕ) (pools : List Pool) → holder a pools ≡ Some i → IsHolder a i pools
 holder_finds a i pools e = let r = holder_from_finds a 0 i pools e in subst (λ n. IsHolder a n pools) (let f = r.1 in omega arith) r.2
 
--- What holds where nothing is given back, and where a held buffer is put back, holds of what is given back to the pool that has it.
+-- What holds if nothing is given back, and if a held buffer is put back, holds of what is given back to the pool that has it.
 pub by_holder : (P : CallState → Type 0) (a : ℕ) (d : CallState) → P d → ((i : ℕ) → IsHolder a i d.state.parts.pools → P (put_back a i d)) → P (freed_buffer a d)
 by_holder P a d none some = given (holder a d.state.parts.pools) refl
   where

@@ -1,4 +1,4 @@
--- What holds of the pools is kept where one of them changes.
+-- What holds of the pools is kept if one of them changes.
 use Rattle.std.proofs.Common.{◌≡◌, ◌≢◌, ℕ, suc, ◌+◌, ◌<◌, ◌≤◌, ◌==◌, true, not, List, ◌∷◌, length, set, refl, sym, ap, subst, ◌∙◌, arith, get_or-set_same, get_or-set_other}
 use Rattle.std.proofs.Math.ListN.{length-set}
 use Rattle.std.specs.List.{AllByRecursion}
@@ -20,7 +20,7 @@ use Rattle.xinu_laws.proofs.Tables.MoveTo.{by_number}
 abbrev pub promised : ℕ → ℕ → Tables → ℕ
 promised i s t = (semaphore_at t s).tokens + times (is_released_to_pool i) t.processes
 
--- Where not more buffers are promised nothing changes for a pool.
+-- If not more buffers are promised nothing changes for a pool.
 pub pool_kept : (t u : Tables) (i : ℕ) (pool : Pool) → IsSoundPool t i pool → (semaphore_at u pool.semaphore).owner ≡ (semaphore_at t pool.semaphore).owner
     → promised i pool.semaphore u ≤ promised i pool.semaphore t → IsSoundPool u i pool
 pool_kept t u i pool k e h = record { owner = e ∙ k.owner; buffers = k.buffers; distinct = k.distinct; number = k.number; enough = (let f = k.enough in omega arith) }
@@ -97,7 +97,7 @@ are_pools_set t u pools i pool here p sound calm owners k =
       apart = λ m n a b. apart_set pools i pool p m n ∙ k.apart m n a (omega arith);
     }
 
--- The same where pool i stays as it is.
+-- The same if pool i stays as it is.
 pub are_pools_kept : (t u : Tables) (pools : List Pool) (i : ℕ) → i < length pools → IsSoundPool u i (pool_at pools i) → ((j : ℕ) → j ≢ i → IsCalm (is_pool j) (asks_pool j) t u)
     → ((sem : ℕ) → (semaphore_at u sem).owner ≡ (semaphore_at t sem).owner) → ArePools t pools → ArePools u pools
 are_pools_kept t u pools i here sound calm owners k =

@@ -112,7 +112,7 @@ are_pools_made t pools sem base size n k few h free apart =
           (λ ah. subst (λ (y : Pool). ranges_meet y.base (pool_bytes y.size y.number) base (pool_bytes size n) ≡ false) (sym (old_at t pools pool a ah)) (meets_none base (pool_bytes size n) pools a apart ah)) b within l;
     }
 
--- a pool is made, where memory and a semaphore are found
+-- a pool is made, if memory and a semaphore are found
 pools_made_pool : (found : Option Grant) (sem : Option ℕ) (size n : ℕ) (s : Xinu) → free_semaphore s.tables ≡ sem → IsInside s.tables → HavePools s → length s.parts.pools < most_pools
     → HavePools (made_pool found sem size n s).call.state
 pools_made_pool (Some grant) (Some sem) size n s e o k few =

@@ -18,7 +18,7 @@ use Rattle.xinu_laws.proofs.Pools.Calls.{HavePools, IsHolder, holder_finds, by_h
 use Rattle.xinu_laws.proofs.Tables.MoveTo.{semaphore_within}
 use Rattle.xinu_laws.proofs.Tables.Unblock.{sound_signalled}
 
--- a pool is made, where memory and a semaphore are found
+-- a pool is made, if memory and a semaphore are found
 made_pool_preserves : (found : Option Grant) (sem : Option ℕ) (size n : ℕ) (s : Xinu) → free_semaphore s.tables ≡ sem → MayCall s → IsPreserved (made_pool found sem size n s)
 made_pool_preserves (Some grant) (Some sem) size n s e c = either_preserves (meets_pool grant.address (pool_bytes size n) s.parts.pools) (refused s) (with_pool grant sem size n s) (λ _. refused_preserves s c)
     (λ _. record { tables = sound_found_semaphore s.tables sem n (owner.Pool (length s.parts.pools)) c.tables e (λ f. cc); harts = c.harts })

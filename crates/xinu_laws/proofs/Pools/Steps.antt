@@ -125,14 +125,14 @@ module _ (i j : ℕ) (other : j ≢ i) where
   other_unasked : (t : Tables) (sem : ℕ) → (semaphore_at t sem).owner ≡ Some (owner.Pool i) → IsUnasked (asks_pool j) sem (semaphore_at t sem).owner
   other_unasked t sem e = subst (IsUnasked (asks_pool j) sem) (sym e) (λ left f. ap (asks_pool j) f ∙ other_number i j other)
 
-  -- Pool j is left alone where a token of pool i is taken,
+  -- Pool j is left alone if a token of pool i is taken,
   pub calm_pool_token : (t : Tables) (sem n : ℕ) → (semaphore_at t sem).owner ≡ Some (owner.Pool i) → IsCalm (is_pool j) (asks_pool j) t (with_tokens sem n t)
   calm_pool_token t sem n e = calm_tokens t sem n (other_owner t sem e)
 
-  -- where a caller waits for a buffer of pool i,
+  -- if a caller waits for a buffer of pool i,
   pub calm_pool_blocked : (sem : ℕ) (s : Xinu) → (semaphore_at s.tables sem).owner ≡ Some (owner.Pool i) → IsCalm (is_pool j) (asks_pool j) s.tables (blocked Waiting (GetBuf i) (InSemaphore sem) s).call.state.tables
   calm_pool_blocked sem s e = calm_blocked Waiting (GetBuf i) (InSemaphore sem) s (other_owner s.tables sem e) (other_number i j other)
 
-  -- and where pool i is signalled.
+  -- and if pool i is signalled.
   pub calm_pool_signalled : (sem : ℕ) (d : CallState) → IsInside d.state.tables → (semaphore_at d.state.tables sem).owner ≡ Some (owner.Pool i) → IsCalm (is_pool j) (asks_pool j) d.state.tables (signalled sem d).state.tables
   calm_pool_signalled sem d o e = calm_signalled sem d o (other_owner d.state.tables sem e) (other_unasked d.state.tables sem e)

@@ -20,18 +20,18 @@ use Rattle.xinu_laws.proofs.Tables.Unblock.{ready_all, unblock_all_ready, sound_
 use Rattle.xinu_laws.proofs.Ports.Kept.{KeepsRests, keeps_rests_trans}
 use Rattle.xinu_laws.proofs.Ports.Moves.{left_for_ready}
 
--- who is woken is in the call in which it was
+-- who becomes ready is in the call in which it was
 rests_ready : (ps : List ℕ) (t : Tables) (p : ℕ) → (process_at (ready_all ps t) p).rest ≡ (process_at t p).rest
 rests_ready [] t p = refl
 rests_ready (r ∷ ps) t p = rests_ready ps (ready r t) p ∙ same_written (λ (x : Process). x.rest) t.processes r p (in_state Ready (process_at t r)) no_process refl
 
--- where nobody waits nobody waits after some are woken
+-- if nobody waits nobody waits after some become ready
 waiters_stay_gone : (ps : List ℕ) (t : Tables) (sem : ℕ) → (semaphore_at t sem).waiters ≡ [] → (semaphore_at (ready_all ps t) sem).waiters ≡ []
 waiters_stay_gone [] t sem e = e
 waiters_stay_gone (p ∷ ps) t sem e =
     waiters_stay_gone ps (ready p t) sem (ap (λ (x : Semaphore). x.waiters) (left_for_ready t p (in_state Ready (process_at t p)) (message_at t p) sem) ∙ ap (numbers_without p) e)
 
--- the same where a semaphore is emptied
+-- the same if a semaphore is emptied
 rests_emptied : (sem : ℕ) (d : CallState) → KeepsRests d.state.tables (emptied sem d).state.tables
 rests_emptied sem d =
     let l = (semaphore_at d.state.tables sem).waiters in

@@ -1,9 +1,9 @@
--- A count where nothing passes, and how many messages all ports hold after one of them is written.
+-- A count if nothing passes, and how many messages all ports hold after one of them is written.
 use Rattle.std.proofs.Common.{◌≡◌, ℕ, zero, suc, ◌+◌, ◌<◌, Bool, true, false, cond, List, [], ◌∷◌, length, get_or, set, refl, arith}
 use Rattle.xinu_model.specs.Ports.Queues.{Port, port_at, queued, nodes}
 use Rattle.xinu_model.specs.Sound.Tables.{times}
 
--- where no place passes the count is zero
+-- if no place passes the count is zero
 pub times_none : {A : Type 0} (test : A → Bool) (d : A) (xs : List A) → ((i : ℕ) → test (get_or xs i d) ≡ true → ⊥) → times test xs ≡ 0
 times_none test d [] h = refl
 times_none test d (x ∷ xs) h = go (test x) (times test xs) (h 0) (times_none test d xs (λ i. h (suc i)))

@@ -37,7 +37,7 @@ pub record KeepsInside (d e : CallState) : Type 0 where
 pub ports_ignore_pools : IgnoresPools is_ports asks_port
 ports_ignore_pools = record { others = ports_others; owner = λ i. refl; waits = λ i. refl }
 
--- a buffer is given back, where it is held
+-- a buffer is given back, if it is held
 freed_buffer_keeps : (a : ℕ) (d : CallState) → IsSoundInside d → KeepsInside d (freed_buffer a d)
 freed_buffer_keeps a d k =
     let e = freed_buffer a d in
@@ -102,7 +102,7 @@ renewed_keeps q d e k r = record {
   ports = r.ports;
 }
 
--- what holds where a call begins
+-- what holds when a call begins
 start_inside : (s : Xinu) → MayCall s → ArePools s.tables s.parts.pools → ArePorts s.tables s.parts.ports → IsSoundInside (start s)
 start_inside s c p a = record { tables = c.tables; harts = c.harts; pools = p; ports = a }
 

@@ -1,4 +1,4 @@
--- A caller that has its token goes on: its message goes into the port, or it takes one, and what holds of the ports is kept. Where
+-- A caller that has its token goes on: its message goes into the port, or it takes one, and what holds of the ports is kept. If
 -- the port was renewed while it waited it is refused.
 use Rattle.std.proofs.Common.{◌≡◌, ℕ, suc, ◌<◌, ◌==◌, true, false, not, List, [], ◌∷◌, ◌++◌, length, Option, None, Some, refl, sym, ap, subst, arith, get_or-set_same, length-append, pos}
 use Rattle.std.specs.Prelude.{nat_le}
@@ -13,7 +13,7 @@ use Rattle.xinu_model.specs.Sound.Ports.{ArePorts}
 use Rattle.xinu_laws.proofs.Ports.Messages.{port_within, with_port_messages, ports_with_messages}
 use Rattle.xinu_laws.proofs.Ports.Signals.{HasPorts, HasMessage, HasRoom, ports_signal_receive, ports_signal_send}
 
--- what is said of port q where it is as it was when a call began
+-- what is said of port q if it is as it was when a call began
 abbrev pub WhereFresh : PortTicket → List Port → (PortQueue → Type 0) → Type 0
 WhereFresh ticket ports P = (queue : PortQueue) → (port_at ports ticket.port).queue ≡ Some queue → (port_at ports ticket.port).seq ≡ ticket.seq → P queue
 
@@ -43,7 +43,7 @@ message_move queue q message s here few o r a =
     ports_signal_receive q next d o (queue_with_messages q queue messages s.parts.ports i) (subst (λ n. HasMessage t q n next) (sym e) (record { messages = omega arith }))
     (ports_with_messages q queue messages t s.parts.ports here (omega arith) (record { messages = omega arith; room = omega arith }) a)
 
--- the same, where it isn't known whether the port is in use and has a node
+-- the same, if it isn't known whether the port is in use and has a node
 pub put_kept : (found : Option PortQueue) (q message : ℕ) (s : Xinu) → (port_at s.parts.ports q).queue ≡ found → IsInside s.tables
     → ((queue : PortQueue) → found ≡ Some queue → HasRoom s.tables q (port_at s.parts.ports q).seq queue) → ArePorts s.tables s.parts.ports → HasPorts (put_message found q message s).call
 put_kept None q message s here o r a = a

@@ -1,5 +1,5 @@
 -- What keeps the ports: their semaphores keep their owners, nobody is a new waiter of one, and whoever is in a call on a port was in it
--- before. Then what holds of the ports holds on where the counts fit.
+-- before. Then what holds of the ports holds on if the counts fit.
 use Rattle.std.proofs.Common.{◌≡◌, ℕ, ◌+◌, ◌<◌, ◌≤◌, Bool, true, false, not, ◌&&◌, List, length, Option, Some, refl, sym, ap, subst, ◌∙◌, arith}
 use Rattle.std.proofs.lemmas.Bool.{and_parts}
 use Rattle.xinu_base.specs.declared.processes.Process.{Process}
@@ -57,7 +57,7 @@ keeps_rests_trans t u v a b = record {
   rests = λ p h. (let e = b.rests p h in e ∙ a.rests p (sym (ap asks_port e) ∙ h));
 }
 
--- the counts fit on where they are kept
+-- the counts fit on if they are kept
 pub counts_kept : (q seq : ℕ) (queue : PortQueue) (t u : Tables) → KeepsCounts q t u → IsSoundPort t q seq queue → HasCounts u q seq queue
 counts_kept q seq queue t u k i =
     let e = k.tokens queue.receive i.receive_owner in
@@ -68,7 +68,7 @@ counts_kept q seq queue t u k i =
     let r = i.room in
     record { messages = omega arith; room = omega arith }
 
--- What holds of a port in use holds on where the port is kept and the counts fit.
+-- What holds of a port in use holds on if the port is kept and the counts fit.
 pub sound_port_kept : (q seq : ℕ) (queue : PortQueue) (t u : Tables) → KeepsPort q t u → HasCounts u q seq queue → IsSoundPort t q seq queue → IsSoundPort u q seq queue
 sound_port_kept q seq queue t u k c i = record {
   send_owner = k.kept queue.send i.send_owner;
@@ -111,7 +111,7 @@ asks_receive q seq (PtSend ticket message) h = refl
 asks_receive q seq (PtRecv ticket) h = refl
 asks_receive q seq _ h = h
 
--- a test of what is left of a call, and of not waiting, passes on where both are as they were
+-- a test of what is left of a call, and of not waiting, passes on if both are as they were
 passes_on : (test : Rest → Bool) (x y : Process) → y.rest ≡ x.rest → is_waiting y.state ≡ is_waiting x.state → not (is_waiting y.state) && test y.rest ≡ true → not (is_waiting x.state) && test x.rest ≡ true
 passes_on test x y e f h = sym (ap (λ w. not w && test y.rest) f ∙ ap (λ r. not (is_waiting x.state) && test r) e) ∙ h
 
@@ -122,7 +122,7 @@ pub record Covers (mine : Option Owner → Bool) (asks : Rest → Bool) (q : ℕ
   pub sends : (seq : ℕ) (left : Rest) → sends_to q seq left ≡ true → asks left ≡ true
   pub receives : (seq : ℕ) (left : Rest) → receives_from q seq left ≡ true → asks left ≡ true
 
--- so it is where it knows nothing of any port
+-- so it is if it knows nothing of any port
 covers_ports : (q : ℕ) → Covers is_ports asks_port q
 covers_ports q = record { owner = refl; waits = asks_for_port q; sends = asks_send q; receives = asks_receive q }
 

@@ -1,4 +1,4 @@
--- A message goes into a port, or is taken from it: what holds of the ports is kept, also where the caller's port changed meanwhile.
+-- A message goes into a port, or is taken from it: what holds of the ports is kept, also if the caller's port changed meanwhile.
 use Rattle.std.proofs.Common.{◌≡◌, ◌≢◌, ℕ, ◌⊎◌, suc, ◌+◌, ◌<◌, ◌≤◌, Bool, true, false, not, cond, ◌&&◌, List, length, Option, Some, set, ⊎_elim, refl, sym, ap, subst, ◌∙◌, arith, get_or-set_same, get_or-set_other}
 use Rattle.std.proofs.Math.ListN.{length-set}
 use Rattle.std.proofs.lemmas.Bool.{cases_lt, cond-true}
@@ -43,7 +43,7 @@ ports_take_turn q queue n t ports o here e a =
     let r = i.room in
     (ports_tokens q queue queue.receive n t ports o i.receive_owner here (record { messages = omega arith; room = omega arith }) a, record { messages = omega arith })
 
--- nothing is counted where the second of two tests fails
+-- nothing is counted if the second of two tests fails
 none_of : (b : Bool) → cond {A = ℕ} (b && false) 1 0 ≡ 0
 none_of true = refl
 none_of false = refl

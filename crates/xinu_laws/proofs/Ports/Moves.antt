@@ -42,7 +42,7 @@ keeps_port_tokens q t sem n i =
       waiters = λ r p e h. (subst (λ l. 0 < count_in p l) (waiters r) h, refl);
     }
 
--- Where processes stay, each is in the call in which it was.
+-- If processes stay, each is in the call in which it was.
 pub keeps_rests_semaphore : (t : Tables) (sem : ℕ) (y : Semaphore) → KeepsRests t (with_semaphore sem y t)
 keeps_rests_semaphore t sem y = record { rests = λ p h. refl }
 
@@ -59,7 +59,7 @@ keeps_port_left q p t u semaphores others =
           (λ n z. (subst (λ c. 0 < c) (numbers_without_other r p (semaphore_at t sem).waiters n) z, ap (λ (x : Process). x.rest) (others r n))) k);
     }
 
--- Where one process changes and is in a call on a port only where it was, each is.
+-- If one process changes and is in a call on a port only where it was, each is.
 pub keeps_rests_set : (t u : Tables) (p : ℕ) (x : Process) → p < length t.processes → u.processes ≡ set t.processes p x → (asks_port x.rest ≡ true → x.rest ≡ (process_at t p).rest) → KeepsRests t u
 keeps_rests_set t u p x i e h = record {
   rests = λ r. subst (λ l. asks_port (get_or l r no_process).rest ≡ true → (get_or l r no_process).rest ≡ (process_at t r).rest) (sym e)
@@ -68,7 +68,7 @@ keeps_rests_set t u p x i e h = record {
       (λ n a. ap (λ (y : Process). y.rest) (get_or-set_other t.processes p r x no_process n)));
 }
 
--- the same semaphores, where a process goes to no semaphore
+-- the same semaphores, if a process goes to no semaphore
 pub left_for_ready : (t : Tables) (p : ℕ) (x : Process) (m : Option ℕ) (sem : ℕ) → semaphore_at (move_to p x m InReady t) sem ≡ semaphore_without p (semaphore_at t sem)
 left_for_ready t p x m sem = semaphore_at_without p sem t.semaphores
 

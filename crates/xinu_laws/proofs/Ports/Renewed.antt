@@ -119,7 +119,7 @@ pub record IsNewPort (u : Tables) (q : ℕ) (queue : PortQueue) : Type 0 where
   pub no_tokens : (semaphore_at u queue.receive).tokens ≡ 0
   pub empty : queue.messages ≡ []
 
--- nobody waits where the list is empty
+-- nobody waits if the list is empty
 nobody : {P : Type 0} (p : ℕ) (l : List ℕ) → l ≡ [] → 0 < count_in p l → P
 nobody p l e h = let f = ap (count_in p) e in absurd (omega arith)
 

@@ -49,7 +49,7 @@ signal_on_ports q sem value d k harts e a = record {
       (λ left h. (i.ports q).waits sem left (subst (λ v. FitsOwner sem v left) e h));
 }
 
--- a sender puts its message, where the port is in use and has a node
+-- a sender puts its message, if the port is in use and has a node
 put_on_ports : (found : Option PortQueue) (q message : ℕ) (s : Xinu) → MayCall s → ArePorts s.tables s.parts.ports → (port_at s.parts.ports q).queue ≡ found
     → ((queue : PortQueue) → found ≡ Some queue → HasRoom s.tables q (port_at s.parts.ports q).seq queue) → PreservesPorts s (put_message found q message s)
 put_on_ports None q message s c a here r = refused_on_ports s c a
@@ -84,7 +84,7 @@ take_first_on_ports (message ∷ messages) queue q s c a here e r =
     (take_first_kept (message ∷ messages) queue q s here e c.tables.inside r a) in
     record { preserved = w.preserved; ports = w.ports; pools = w.pools; calm = w.calm }
 
--- where the port is in use
+-- if the port is in use
 take_on_ports : (found : Option PortQueue) (q : ℕ) (s : Xinu) → MayCall s → ArePorts s.tables s.parts.ports → (port_at s.parts.ports q).queue ≡ found
     → ((queue : PortQueue) → found ≡ Some queue → HasMessage s.tables q (port_at s.parts.ports q).seq queue) → PreservesPorts s (take_from found q s)
 take_on_ports None q s c a here r = refused_on_ports s c a

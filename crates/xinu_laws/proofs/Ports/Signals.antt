@@ -1,5 +1,5 @@
--- A signal on a semaphore of a port keeps what holds of the ports, where there is a message or room for it.
-use Rattle.std.proofs.Common.{◌≡◌, ◌≢◌, ℕ, suc, ◌+◌, ◌<◌, ◌≤◌, Bool, true, false, cond, List, [], ◌∷◌, length, Option, Some, ⊎_elim, refl, sym, ap, subst, ◌∙◌, arith, get_or-set_same, get_or-set_other}
+-- A signal on a semaphore of a port keeps what holds of the ports, if there is a message or room for it.
+use Rattle.std.proofs.Common.{◌≡◌, ◌≢◌, ℕ, suc, ◌+◌, ◌<◌, ◌≤◌, List, [], ◌∷◌, length, Option, Some, ⊎_elim, refl, sym, ap, subst, ◌∙◌, arith, get_or-set_same, get_or-set_other}
 use Rattle.std.proofs.lemmas.Bool.{cases_eq, cond-false}
 use Rattle.xinu_base.specs.declared.processes.PortTicket.{PortTicket}
 use Rattle.xinu_base.specs.declared.processes.Rest.TheVariants.{PtSend, PtRecv}
@@ -24,7 +24,7 @@ use Rattle.xinu_laws.proofs.Pools.Steps.{at_most_one}
 abbrev pub HasPorts : CallState → Type 0
 HasPorts d = ArePorts d.state.tables d.state.parts.ports
 
--- Where only port q is touched and its counts fit afterwards, what holds of the ports holds on.
+-- If only port q is touched and its counts fit afterwards, what holds of the ports holds on.
 pub ports_touched : (q : ℕ) (queue : PortQueue) (t u : Tables) (ports : List Port) → ((r : ℕ) → KeepsPort r t u) → KeepsRests t u → ((r : ℕ) → q ≢ r → KeepsCounts r t u)
     → (port_at ports q).queue ≡ Some queue → HasCounts u q (port_at ports q).seq queue → ArePorts t ports → ArePorts u ports
 ports_touched q queue t u ports k rests counts here c a = ports_kept t u ports k rests
@@ -34,7 +34,7 @@ ports_touched q queue t u ports k rests counts here c a = ports_kept t u ports k
     (λ (n : q ≢ r). counts_kept r (port_at ports r).seq other t u (counts r n) i)
     (cases_eq q r)) a
 
--- two owners that are ports are one only where the ports are
+-- two owners that are ports are one only if the ports are
 pub other_owner : (q r : ℕ) (o : Option Owner) → q ≢ r → o ≡ Some (owner.Port q) → o ≢ Some (owner.Port r)
 other_owner q r o n e f = n (let g : Some (owner.Port q) ≡ Some (owner.Port r) = sym e ∙ f in cc)
 
@@ -110,7 +110,7 @@ counts_ready_sender q seq p ticket message queue t j r m i =
     let f = tokens_ready queue.receive p t in
     record { messages = omega arith; room = omega arith }
 
--- a signal on the semaphore of the messages, where these wait
+-- a signal on the semaphore of the messages, if these wait
 signal_receive : (q : ℕ) (queue : PortQueue) (waiters : List ℕ) (d : CallState) → IsInside d.state.tables → waiters ≡ (semaphore_at d.state.tables queue.receive).waiters
     → (port_at d.state.parts.ports q).queue ≡ Some queue → HasMessage d.state.tables q (port_at d.state.parts.ports q).seq queue → HasPorts d → HasPorts (signal_first queue.receive waiters d)
 signal_receive q queue [] d o w here m a =
@@ -151,12 +151,12 @@ signal_send q queue (p ∷ ps) d o w here m a =
     ports_ready q queue queue.send p t d.state.parts.ports o i.send_owner c here
     (counts_ready_sender q (port_at d.state.parts.ports q).seq p _ r.0 queue t (waiter_within queue.send p t o c) r.1 m i) a
 
--- A signal on the semaphore of the messages, where there is one without a token,
+-- A signal on the semaphore of the messages, if there is one without a token,
 pub ports_signal_receive : (q : ℕ) (queue : PortQueue) (d : CallState) → IsInside d.state.tables → (port_at d.state.parts.ports q).queue ≡ Some queue
     → HasMessage d.state.tables q (port_at d.state.parts.ports q).seq queue → HasPorts d → HasPorts (signalled queue.receive d)
 ports_signal_receive q queue d o here m a = signal_receive q queue (semaphore_at d.state.tables queue.receive).waiters d o refl here m a
 
--- and on the semaphore of the room, where there is some without a token.
+-- and on the semaphore of the room, if there is some without a token.
 pub ports_signal_send : (q : ℕ) (queue : PortQueue) (d : CallState) → IsInside d.state.tables → (port_at d.state.parts.ports q).queue ≡ Some queue
     → HasRoom d.state.tables q (port_at d.state.parts.ports q).seq queue → HasPorts d → HasPorts (signalled queue.send d)
 ports_signal_send q queue d o here m a = signal_send q queue (semaphore_at d.state.tables queue.send).waiters d o refl here m a

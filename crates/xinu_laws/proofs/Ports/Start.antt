@@ -10,7 +10,7 @@ use Rattle.xinu_model.specs.Tables.{Tables, process_at, semaphore_at}
 use Rattle.xinu_laws.proofs.Calm.Starts.{leaves_start, start_other, start_unasked}
 use Rattle.xinu_laws.proofs.Ports.Kept.{is_ports, asks_port, ports_others}
 
--- where no port is in use none is
+-- if no port is in use none is
 unused_at : (n q : ℕ) → port_at (replicate n no_port) q ≡ no_port
 unused_at zero q = refl
 unused_at (suc n) zero = refl
@@ -21,7 +21,7 @@ no_nodes : (n : ℕ) → nodes (replicate n no_port) ≡ 0
 no_nodes zero = refl
 no_nodes (suc n) = let e = no_nodes n in omega arith
 
--- Where no semaphore is a port's and nobody is in a call on one, no port is in use.
+-- If no semaphore is a port's and nobody is in a call on one, no port is in use.
 pub no_ports : (t : Tables) → ((sem : ℕ) → is_ports (semaphore_at t sem).owner ≡ false) → ((p : ℕ) → asks_port (process_at t p).rest ≡ false) → ArePorts t first_ports
 unfolding first_ports
 no_ports t semaphores rests = record {
@@ -33,7 +33,7 @@ no_ports t semaphores rests = record {
   received = λ p ticket e. absurd (both_ways (asks_port (process_at t p).rest) (rests p) (ap asks_port e));
 }
 
--- Where the machine starts what holds of the ports holds: none is in use.
+-- When the machine starts, what holds of the ports holds: none is in use.
 pub ports_start : (images : List Loaded) (start : Xinu) → length images < 64 → boot images ≡ Boots start → ArePorts start.tables start.parts.ports
 ports_start images start few e =
     subst (ArePorts start.tables) (sym (leaves_start ports_others images start few e).others.ports)

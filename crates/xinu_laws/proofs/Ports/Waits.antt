@@ -21,7 +21,7 @@ use Rattle.xinu_laws.proofs.Ports.Signals.{port_semaphore_within}
 abbrev IsHereOr : Tables → ℕ → ℕ → ℕ → ℕ → Type 0
 IsHereOr t c s p r = ((p ≡ c) × (r ≡ s)) ⊎ ((p ≢ c) × (0 < count_in p (semaphore_at t r).waiters))
 
--- who waits where c left waited there before
+-- who waits if c left waited there before
 waits_where_left : (t : Tables) (c sem p r : ℕ) → 0 < count_in p (numbers_without c (semaphore_at t r).waiters) → IsHereOr t c sem p r
 waits_where_left t c sem p r h = ⊎_elim
     (λ (e : p ≡ c). (let f : 0 < count_in c (numbers_without c (semaphore_at t r).waiters) = subst (λ k. 0 < count_in k (numbers_without c (semaphore_at t r).waiters)) e h in

@@ -20,7 +20,7 @@ send_preserves p message s c = either_preserves (can_get p s.tables) _ _
     })
     (λ _. refused_preserves s c)
 
--- the caller's message is taken, or it goes another way that is fine where it holds none
+-- the caller's message is taken, or it goes another way that is fine if it holds none
 received_preserves : (message : Option ℕ) (otherwise : CallResult) (s : Xinu) → message ≡ held s → MayCall s → (held s ≡ None → IsPreserved otherwise) → IsPreserved (received message otherwise s)
 received_preserves None otherwise s e c f = f (sym e)
 received_preserves (Some message) otherwise s e c f = let k = goes_on_may_call None s c in record { tables = k.tables; harts = k.harts }

@@ -80,7 +80,7 @@ free_process_within t p e = search_within (λ r. is_free (state_at t r)) 64 (t.l
 pub getpid_preserves : Preserves getpid
 getpid_preserves s c = answers_preserves (pos s.tables.current) s c
 
--- a process that is created where a number and a stack are found
+-- a process that is created if a number and a stack are found
 created_preserves : (number : Option ℕ) (stack : Option Stack) (entry size : ℕ) (priority : ℤ) (name : List ℕ) (x y : ℕ) (s : Xinu)
     → free_process s.tables ≡ number → MayCall s → IsPreserved (created number stack entry size priority name x y s)
 created_preserves (Some p) (Some stack) entry size priority name x y s e c = record {

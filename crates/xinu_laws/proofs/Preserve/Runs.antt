@@ -11,7 +11,7 @@ use Rattle.xinu_model.specs.Runs.{is_over, end_with, Follows, RunsTo}
 abbrev pub IsKept : (Xinu → Type 0) → Type 0
 IsKept P = (old : Xinu) (e : Event) (lines : List TranscriptLine) (new : Xinu) → P old → Happens old e lines new → P new
 
--- what follows an event keeps it, where the rest of the run does
+-- what follows an event keeps it, if the rest of the run does
 follows_keep : (P : Xinu → Type 0) (how : Option End) (events : List Event) (first lines : List TranscriptLine) (mid new : Xinu) (end : End)
     → ((rest : List TranscriptLine) → RunsTo mid events rest new end → P new) → P mid
     → Follows how (λ rest. RunsTo mid events rest new end) first lines mid new end → P new

@@ -45,12 +45,12 @@ free_semaphore_free t sem e = unused (semaphore_at t sem).owner (search_passes (
     unused None h = refl
     unused (Some by) h = cc
 
--- A semaphore is made where a search found a number.
+-- A semaphore is made if a search found a number.
 pub sound_found_semaphore : (t : Tables) (sem tokens : ℕ) (by : Owner) → IsSoundTables t → free_semaphore t ≡ Some sem → by ≢ Device → IsSoundTables (make_semaphore sem by tokens t)
 sound_found_semaphore t sem tokens by k e n =
     sound_made_semaphore t sem tokens by k (search_within (λ r. not (is_some (semaphore_at t r).owner)) 128 (t.last_semaphore + 1) sem e) (free_semaphore_free t sem e) n
 
--- a semaphore that is made where one was found
+-- a semaphore that is made if one was found
 made_semaphore_preserves : (n : ℕ) (found : Option ℕ) (x : Xinu) → free_semaphore x.tables ≡ found → MayCall x → IsPreserved (made_semaphore n found x)
 made_semaphore_preserves n None x e c = refused_preserves x c
 made_semaphore_preserves n (Some s) x e c = record { tables = sound_found_semaphore x.tables s n Image c.tables e (λ f. cc); harts = c.harts }

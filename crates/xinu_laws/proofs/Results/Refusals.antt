@@ -1,4 +1,4 @@
--- A refused call changes nothing but its caller's reply, and most calls answer -1 only where they are refused.
+-- A refused call changes nothing but its caller's reply, and most calls answer -1 only if they are refused.
 use Rattle.std.proofs.Common.{◌≡◌, ℕ, zero, suc, ◌*◌, ◌<◌, ◌==◌, Bool, true, false, not, cond, ◌&&◌, ◌||◌, List, [], ◌∷◌, length, take, drop, refl, sym, ap, subst, ◌∙◌, arith, Option, Some, None, ℤ, pos, negsuc}
 use Rattle.std.specs.Prelude.{int_lt, ◌+ℤ◌, nat_lt, nat_le, slice_index, is_some}
 use Rattle.std.specs.List.{AllByRecursion}
@@ -38,7 +38,7 @@ pub refused_call_leaves : (number : ℕ) (args : List ℕ) (was : ℕ) (first : 
     → (end_of_event was first (called number args s)).state ≡ record s { harts = with_reply s.harts (s.tables.current, negsuc 0) }
 refused_call_leaves number args was first s e = ap (λ (result : CallResult). (end_of_event was first result).state) e
 
--- where a call answers -1 it was refused
+-- if a call answers -1 it was refused
 abbrev pub TellsRefusal : Xinu → CallResult → Type 0
 TellsRefusal s result = result.answer ≡ Returns (negsuc 0) → result ≡ refused s
 
@@ -64,7 +64,7 @@ take_token_tells : (tokens sem : ℕ) (left : Rest) (then_ : Xinu → CallResult
 take_token_tells zero sem left then_ s go = λ e. cc
 take_token_tells (suc n) sem left then_ s go = go n refl
 
--- a process that is created, where a number and a stack are found
+-- a process that is created, if a number and a stack are found
 created_tells : (number : Option ℕ) (stack : Option Stack) (entry size : ℕ) (priority : ℤ) (name : List ℕ) (x y : ℕ) (s : Xinu) → TellsRefusal s (created number stack entry size priority name x y s)
 created_tells (Some p) (Some stack) entry size priority name x y s e = cc
 created_tells (Some p) None entry size priority name x y s e = refl
@@ -135,7 +135,7 @@ sleep_tells : (seconds : ℤ) (s : Xinu) → TellsRefusal s (sleep seconds s)
 sleep_tells (negsuc n) s = refusal_tells s
 sleep_tells (pos n) s = either_tells (nat_lt 2147483 n) s _ _ (λ _. refusal_tells s) (λ _. sleepms_tells (pos (1000 * n)) s)
 
--- a pool, where memory and a semaphore are found
+-- a pool, if memory and a semaphore are found
 made_pool_tells : (found : Option Grant) (sem : Option ℕ) (size n : ℕ) (s : Xinu) → TellsRefusal s (made_pool found sem size n s)
 made_pool_tells (Some grant) (Some sem) size n s = either_tells (meets_pool grant.address (pool_bytes size n) s.parts.pools) s _ _ (λ _. refusal_tells s) (λ _ e. cc)
 made_pool_tells (Some grant) None size n s = refusal_tells s
@@ -147,7 +147,7 @@ mkbufpool_tells size n s =
     guarded_tells (is_pool_size size n && nat_lt (length s.parts.pools) most_pools) s _
     (λ _. made_pool_tells (heap.take_memory (pool_bytes (whole_words size) n) s.parts.heap) (free_semaphore s.tables) (whole_words size) n s)
 
--- a buffer is taken where there is one
+-- a buffer is taken if there is one
 take_first_tells : (free : List ℕ) (i : ℕ) (s x : Xinu) → 0 < length free → TellsRefusal s (take_first free i x)
 take_first_tells [] i s x h = absurd (omega arith)
 take_first_tells (a ∷ free) i s x h = λ e. cc
@@ -169,12 +169,12 @@ freed_by_tells : (found : Option ℕ) (a : ℕ) (s : Xinu) → TellsRefusal s (f
 freed_by_tells None a s e = refl
 freed_by_tells (Some i) a s e = cc
 
--- a port, where its second semaphore is found
+-- a port, if its second semaphore is found
 made_port_tells : (found : Option ℕ) (q n send : ℕ) (s : Xinu) → TellsRefusal s (made_port found q n send s)
 made_port_tells None q n send s e = refl
 made_port_tells (Some receive) q n send s e = cc
 
--- and where its first semaphore is found
+-- and if its first semaphore is found
 started_port_tells : (q send : Option ℕ) (n : ℕ) (s : Xinu) → TellsRefusal s (started_port q send n s)
 started_port_tells (Some q) (Some send) n s = made_port_tells (free_semaphore (make_semaphore send (owner.Port q) n s.tables)) q n send s
 started_port_tells (Some q) None n s = refusal_tells s
@@ -195,13 +195,13 @@ reset_tells : (found : Option PortQueue) (q how : ℕ) (s : Xinu) → TellsRefus
 reset_tells None q how s = refusal_tells s
 reset_tells (Some queue) q how s = guarded_tells (nat_le how 1) s _ (λ _ e. cc)
 
--- a message is put where the port is in use
+-- a message is put if the port is in use
 put_message_tells : (queue : PortQueue) (found : Option PortQueue) (q message : ℕ) (s x : Xinu) → found ≡ Some queue → TellsRefusal s (put_message found q message x)
 put_message_tells queue None q message s x e = cc
 put_message_tells queue (Some other) q message s x e =
     cond_both (nat_le most_nodes (nodes x.parts.ports)) (record { call = start x; answer = Panics }) _ (TellsRefusal s) (λ _ f. cc) (λ _ f. cc)
 
--- a call that just began isn't behind its port
+-- a call that just began isn't after its port
 fresh_ticket : (q sem : ℕ) (s : Xinu) (queue : PortQueue) → (port_at s.parts.ports q).queue ≡ Some queue → is_stale (ticket_of q sem s) s.parts.ports ≡ false
 fresh_ticket q sem s queue e =
     ap (λ o. not (is_some o) || not ((port_at s.parts.ports q).seq == (port_at s.parts.ports q).seq)) e
@@ -217,7 +217,7 @@ sent_to_tells (Some queue) q message s e =
     subst (λ b. TellsRefusal s (cond b (refused x) (put_message (port_at s.parts.ports q).queue q message x))) (sym (fresh_ticket q queue.send s queue e))
     (put_message_tells queue (port_at s.parts.ports q).queue q message s x e))
 
--- What holds of a refusal and of what each call of a table does, where the number is that call's, holds of what the table does.
+-- What holds of a refusal and of what each call of a table does, if the number is that call's, holds of what the table does.
 effect_of_number : (P : CallResult → Type 0) (calls : List CallRow) (number : ℕ) (a : ℕ → ℕ) (s : Xinu)
     → P (refused s) → AllByRecursion (λ call. number ≡ call.number → P (call.effect a s)) calls → P (effect_in calls number a s)
 effect_of_number P [] number a s refusal all = refusal
@@ -270,7 +270,7 @@ effects_tell number a s pools tells =
     (no_value number 35 _ tells refl) ⨾
     tt
 
--- A call that answers -1 was refused, where its number tells so.
+-- A call that answers -1 was refused, if its number tells so.
 pub refusals_are_told : (number : ℕ) (args : List ℕ) (s : Xinu) → ArePools s.tables s.parts.pools → tells_refusal number ≡ true
     → (called number args s).answer ≡ Returns (negsuc 0) → called number args s ≡ refused s
 refusals_are_told number args s pools tells =

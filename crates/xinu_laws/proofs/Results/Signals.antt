@@ -29,7 +29,7 @@ signals_of s n waiters tokens d =
 signals_at : (sem n : ℕ) (d : CallState) (x : Semaphore) → semaphore_at d.state.tables sem ≡ x → signalled_times sem n d ≡ signals_of sem n x.waiters x.tokens d
 signals_at sem n d x e = ap (λ (y : Semaphore). signals_of sem n y.waiters y.tokens d) e
 
--- where nobody waits they are as many tokens
+-- if nobody waits they are as many tokens
 signals_to_none : (sem n tokens : ℕ) (d : CallState) → signals_of sem n [] tokens d ≡ with_tables (with_tokens sem (tokens + (n - 0)) d.state.tables) d
 signals_to_none sem n tokens d =
     ap (λ ps. let after = unblock_all ps d in with_tables (with_tokens sem (tokens + (n - 0)) after.state.tables) after) (take_all {A = ℕ} n [] (omega arith))
@@ -39,7 +39,7 @@ at_most_one : (s : State) → waiting_places s ≤ 1
 at_most_one Waiting = omega arith
 at_most_one _ = omega arith
 
--- who waits first doesn't wait behind
+-- who waits first doesn't wait after
 first_waits_once : (t : Tables) (sem p : ℕ) (ps : List ℕ) → IsInside t → (semaphore_at t sem).waiters ≡ p ∷ ps → count_in p ps ≡ 0
 first_waits_once t sem p ps o e =
     let l = get_or-le-total (λ x. count_in p x.waiters) t.semaphores sem no_semaphore refl in
@@ -60,7 +60,7 @@ no_signal sem d =
     let e : x.tokens + (0 - length x.waiters) ≡ x.tokens = omega arith in
     ap (λ n. with_tables (with_tokens sem n t) d) e ∙ ap (λ l. with_tables (record t { semaphores = l }) d) (set-get_or t.semaphores sem no_semaphore)
 
--- one signal and then n are n + 1, where one waits
+-- one signal and then n are n + 1, if one waits
 signals_released : (sem n p : ℕ) (ps : List ℕ) (d : CallState) → IsInside d.state.tables → (semaphore_at d.state.tables sem).waiters ≡ p ∷ ps
     → signalled_times sem (suc n) d ≡ signalled_times sem n (unblock p d)
 signals_released sem n p ps d o e =
@@ -73,7 +73,7 @@ signals_released sem n p ps d o e =
     ∙ sym (ap (λ w. signals_of sem n w x.tokens (unblock p d)) left)
     ∙ sym (signals_at sem n (unblock p d) (semaphore_without p x) (semaphore_at_without p sem t.semaphores))
 
--- and where nobody waits
+-- and if nobody waits
 signals_counted : (sem n : ℕ) (d : CallState) → length d.state.tables.semaphores ≡ 128 → sem < 128 → (semaphore_at d.state.tables sem).waiters ≡ []
     → signalled_times sem (suc n) d ≡ signalled_times sem n (with_tables (with_tokens sem ((semaphore_at d.state.tables sem).tokens + 1) d.state.tables) d)
 signals_counted sem n d many w e =
@@ -125,6 +125,6 @@ many_past n sem d many h =
     ∙ signals_to_none sem n 0 d
     ∙ ap (λ l. with_tables (record t { semaphores = l }) d) (set_past t.semaphores sem (record (semaphore_at t sem) { tokens = 0 + (n - 0) }) (omega arith))
 
--- So many signals at once are that many signals, one after another, where what holds of the tables at each moment holds.
+-- So many signals at once are that many signals, one after another, if what holds of the tables at each moment holds.
 pub signals_are_repeated : (sem n : ℕ) (d : CallState) → IsInside d.state.tables → signalled_times sem n d ≡ repeated n (signalled sem) d
 signals_are_repeated sem n d o = ⊎_elim (λ (h : sem < 128). signals_within n sem d o h) (λ (h : 128 ≤ sem). many_past n sem d o.semaphores h ∙ signals_past n sem d o.semaphores h) (cases_lt sem 128)

@@ -98,7 +98,7 @@ semaphore_written t sem y P e w new old r = by_number r sem (λ k. P k (get_or (
     (subst (P sem) (sym (get_or-set_same t.semaphores sem y no_semaphore (omega arith))) new)
     (λ n. subst (P r) (sym (get_or-set_other t.semaphores sem r y no_semaphore n)) (old r))
 
--- A semaphore is written with its old waiters, where it hasn't tokens beside them, and its owner fits them and its number.
+-- A semaphore is written with its old waiters, if it hasn't tokens beside them, and its owner fits them and its number.
 pub inside_semaphore : (t : Tables) (sem : ℕ) (y : Semaphore) → IsInside t → sem < 128 → y.waiters ≡ (semaphore_at t sem).waiters → HasOneKind y
     → ((p : ℕ) → 0 < count_in p y.waiters → FitsOwner sem y.owner (process_at t p).rest) → FitsNumber sem y.owner
     → IsInside (with_semaphore sem y t)
@@ -126,7 +126,7 @@ inside_semaphore t sem y o w same kind fits number = record {
   no_devices = semaphore_written t sem y (λ r x. x.owner ≡ Some Device → r < 4) o.semaphores w number.no_devices o.no_devices;
 }
 
--- A semaphore gets another number of tokens, where it has none or no waiters.
+-- A semaphore gets another number of tokens, if it has none or no waiters.
 pub inside_tokens : (t : Tables) (sem n : ℕ) → IsInside t → sem < 128 → HasOneKind (record (semaphore_at t sem) { tokens = n }) → IsInside (with_tokens sem n t)
 inside_tokens t sem n o w kind =
     inside_semaphore t sem (record (semaphore_at t sem) { tokens = n }) o w refl kind (o.rests sem) (record { devices = o.devices sem; no_devices = o.no_devices sem })

@@ -40,12 +40,12 @@ not_free s h e = let f = ap is_free e in cc
 pub can_get_alive : (t : Tables) (p : ℕ) → can_get p t ≡ true → state_at t p ≢ Free
 can_get_alive t p h = not_free (state_at t p) (not-true (is_free (state_at t p)) (and_parts (not (is_free (state_at t p))) (not (is_some (message_at t p))) h).0)
 
--- a message is held where a call is to answer one
+-- a message is held if a call is to answer one
 pub holds_some : (left : Rest) (m : ℕ) → HoldsFor left (Some m)
 holds_some rest.Receive m = search rules
 holds_some _ m = tt
 
--- any message fits where none is waited for
+-- any message fits if none is waited for
 pub fits_some : (s : State) (left : Rest) (m : ℕ) (old : Option ℕ) → listens s ≡ false → FitsMessage s left old → FitsMessage s left (Some m)
 fits_some Receiving left m old h f = cc
 fits_some Timed left m old h f = cc
@@ -121,14 +121,14 @@ inside_killed p d o w n =
     let told = sent (process_at d.state.tables p).parent p d in
     inside_move told.state.tables p no_process None Nowhere (inside_sent (process_at d.state.tables p).parent p d o) (can_move_free told.state.tables p w n)
 
--- Where it isn't the current one, this one goes on.
+-- If it isn't the current one, this one goes on.
 pub sound_killed : (p : ℕ) (d : CallState) → IsSoundTables d.state.tables → p < 64 → p ≢ 0 → p ≢ d.state.tables.current → IsSoundTables (killed p d).state.tables
 sound_killed p d k w n other =
     let parent = (process_at d.state.tables p).parent in
     let told = sent parent p d in
     sound_move told.state.tables p no_process None Nowhere (sound_sent parent p d k) (λ e. other (e ∙ (sent_changes parent p d).current)) (can_move_free told.state.tables p w n)
 
--- Each number keeps its registers where a process dies.
+-- Each number keeps its registers if a process dies.
 pub harts_killed : (p : ℕ) (d : CallState) → length (killed p d).state.harts ≡ length d.state.harts
 harts_killed p d =
     let parent = (process_at d.state.tables p).parent in

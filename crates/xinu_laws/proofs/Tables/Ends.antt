@@ -15,12 +15,12 @@ use Rattle.xinu_laws.proofs.Preserve.{FitsAnswer, IsPreserved, MayCall}
 use Rattle.xinu_laws.proofs.Tables.Scheduling.{sound_resched}
 use Rattle.xinu_laws.proofs.Tables.Unblock.{unblock_all_ready}
 
--- where the caller runs no longer there is a resched
+-- if the caller runs no longer there is a resched
 off_closed : (answer : Answer) (owes : Bool) (t : Tables) → is_off answer ≡ true → IsSoundTables (resched t) → IsSoundTables (cond (owes || is_off answer) (resched t) t)
 off_closed answer owes t e k =
     cond_both (owes || is_off answer) (resched t) t IsSoundTables (λ _. k) (λ b. absurd (both_ways (owes || is_off answer) b (or_right owes (is_off answer) e)))
 
--- The one resched at the end makes the tables sound where they aren't yet.
+-- The one resched at the end makes the tables sound if they aren't yet.
 pub closed_fits : (answer : Answer) (owes : Bool) (t : Tables) → FitsAnswer answer t → IsSoundTables (cond (owes || is_off answer) (resched t) t)
 closed_fits (Returns value) owes t k = cond_both (owes || false) (resched t) t IsSoundTables (λ _. sound_resched t k.inside) (λ _. k)
 closed_fits Panics owes t k = cond_both (owes || false) (resched t) t IsSoundTables (λ _. sound_resched t k.inside) (λ _. k)

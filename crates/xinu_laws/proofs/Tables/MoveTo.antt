@@ -51,7 +51,7 @@ message_move_same t q x m place e h = get_or-set_same t.messages q m None (omega
 pub message_move_other : (t : Tables) (p q : ℕ) (x : Process) (m : Option ℕ) (place : Place) → p ≢ q → message_at (move_to q x m place t) p ≡ message_at t p
 message_move_other t p q x m place n = get_or-set_other t.messages q p m None n
 
--- a semaphore after q went to its place: it has q as its last waiter where that is q's place, and else it is as it was
+-- a semaphore after q went to its place: it has q as its last waiter if that is q's place, and else it is as it was
 semaphore_in_cases : (place : Place) (q r : ℕ) (l : List Semaphore) (P : Semaphore → Type 0) → IsInTable place l
     → P (get_or l r no_semaphore)
     → ((sem : ℕ) → place ≡ InSemaphore sem → r ≡ sem → P (with_waiter q (get_or l r no_semaphore)))
@@ -65,7 +65,7 @@ semaphore_in_cases Nowhere q r l P i old new = old
 semaphore_in_cases InReady q r l P i old new = old
 semaphore_in_cases (InSleepers wake) q r l P i old new = old
 
--- A semaphore after q moved: q doesn't wait on it any longer, or it waits there behind the others.
+-- A semaphore after q moved: q doesn't wait on it any longer, or it waits there after the others.
 pub semaphore_move_cases : (t : Tables) (q r : ℕ) (x : Process) (m : Option ℕ) (place : Place) (P : Semaphore → Type 0) → IsInTable place (waits_without q t.semaphores)
     → P (semaphore_without q (semaphore_at t r))
     → ((sem : ℕ) → place ≡ InSemaphore sem → r ≡ sem → P (with_waiter q (semaphore_without q (semaphore_at t r))))
@@ -147,7 +147,7 @@ null_move t q x m place o c =
     (λ e. subst R (sym (process_move_same t q x m place o.processes c.within)) (c.if_null e))
     (λ n _. subst R (sym (process_move_other t 0 q x m place n)) (o.null, o.null_rest)) refl
 
--- who waits on a semaphore fits its owner, where it isn't the one that left
+-- who waits on a semaphore fits its owner, if it isn't the one that left
 rests_left : (t : Tables) (q : ℕ) (x : Process) (m : Option ℕ) (place : Place) (r p : ℕ) → IsInside t → 0 < count_in p (numbers_without q (semaphore_at t r).waiters)
     → FitsOwner r (semaphore_at t r).owner (process_at (move_to q x m place t) p).rest
 rests_left t q x m place r p o = by_number p q
@@ -156,7 +156,7 @@ rests_left t q x m place r p o = by_number p q
     (λ n h. subst (λ (y : Process). FitsOwner r (semaphore_at t r).owner y.rest) (sym (process_move_other t p q x m place n))
     (o.rests r p (subst (λ k. 0 < k) (numbers_without_other p q (semaphore_at t r).waiters n) h)))
 
--- and where it came
+-- and if it came
 rests_come : (t : Tables) (q : ℕ) (x : Process) (m : Option ℕ) (place : Place) (r p : ℕ) → IsInside t → q < 64 → FitsOwner r (semaphore_at t r).owner x.rest
     → 0 < count_in p (numbers_without q (semaphore_at t r).waiters ++ q ∷ []) → FitsOwner r (semaphore_at t r).owner (process_at (move_to q x m place t) p).rest
 rests_come t q x m place r p o w f = by_number p q

@@ -58,7 +58,7 @@ current_of Suspended h = cc
 current_of Waiting h = cc
 current_of Timed h = cc
 
--- who doesn't wait for a message without end holds one where its call is to answer it
+-- who doesn't wait for a message without end holds one if its call is to answer it
 pub holds_of : (s : State) (r : Rest) (m : Option ℕ) → FitsMessage s r m → s ≢ Receiving → HoldsFor r m
 holds_of Receiving r m h n = absurd (n refl)
 holds_of Timed r m h n = subst (λ k. HoldsFor k m) (sym h.0) tt
@@ -88,13 +88,13 @@ can_move_ready t q m o alive holds = record {
   slot = holds;
 }
 
--- What lets process q be woken: it is alive, doesn't run, and doesn't wait for a message without end.
+-- What lets process q become ready: it is alive, doesn't run, and doesn't wait for a message without end.
 pub record CanBeReady (t : Tables) (q : ℕ) : Type 0 where
   pub alive : state_at t q ≢ Free
   pub idle : state_at t q ≢ Current
   pub holds : HoldsFor (process_at t q).rest (message_at t q)
 
--- A process that may be woken is woken.
+-- A process that can become ready becomes ready.
 pub inside_ready : (t : Tables) (q : ℕ) → IsInside t → CanBeReady t q → IsInside (ready q t)
 inside_ready t q o c = inside_move t q (in_state Ready (process_at t q)) (message_at t q) InReady o (can_move_ready t q (message_at t q) o c.alive c.holds)
 
@@ -110,12 +110,12 @@ sound_move t q x m place k n c = record { inside = inside_move t q x m place k.i
 pub idle_differs : (t : Tables) (p c : ℕ) → state_at t p ≢ Current → state_at t c ≡ Current → p ≢ c
 idle_differs t p c n e f = n (subst (λ k. state_at t k ≡ Current) (sym f) e)
 
--- A process that may be woken is woken, and the current one goes on.
+-- A process that can become ready becomes ready, and the current one goes on.
 pub sound_ready : (t : Tables) (q : ℕ) → IsSoundTables t → CanBeReady t q → IsSoundTables (ready q t)
 sound_ready t q k c =
     sound_move t q (in_state Ready (process_at t q)) (message_at t q) InReady k (idle_differs t q t.current c.idle k.runs) (can_move_ready t q (message_at t q) k.inside c.alive c.holds)
 
--- Another number may be the current one, with another quantum, tick and last numbers, where no other process runs and the sleepers wake later.
+-- Another number may be the current one, with another quantum, tick and last numbers, if no other process runs and the sleepers wake later.
 pub inside_numbers : (t : Tables) (current quantum ticks last_process last_semaphore : ℕ) → IsInside t
     → ((p : ℕ) → state_at t p ≡ Current → p ≡ current) → AllByRecursion (λ e. ticks < e.1) t.sleepers
     → IsInside (record t { current = current; quantum = quantum; ticks = ticks; last_process = last_process; last_semaphore = last_semaphore })
@@ -151,7 +151,7 @@ inside_last_process t n o = inside_numbers t t.current t.quantum t.ticks n t.las
 pub inside_last_semaphore : (t : Tables) (n : ℕ) → IsInside t → IsInside (record t { last_semaphore = n })
 inside_last_semaphore t n o = inside_numbers t t.current t.quantum t.ticks t.last_process n o o.one_current o.later
 
--- and the ticks, where all sleepers wake later
+-- and the ticks, if all sleepers wake later
 pub inside_ticks : (t : Tables) (n : ℕ) → IsInside t → AllByRecursion (λ e. n < e.1) t.sleepers → IsInside (record t { ticks = n })
 inside_ticks t n o later = inside_numbers t t.current t.quantum n t.last_process t.last_semaphore o o.one_current later
 
@@ -159,11 +159,11 @@ inside_ticks t n o later = inside_numbers t t.current t.quantum n t.last_process
 abbrev pub NoneRuns : Tables → Type 0
 NoneRuns t = (p : ℕ) → state_at t p ≢ Current
 
--- where no process is in state current, any number may be the current one, with any quantum
+-- if no process is in state current, any number may be the current one, with any quantum
 pub inside_current : (t : Tables) (c k : ℕ) → IsInside t → NoneRuns t → IsInside (record t { current = c; quantum = k })
 inside_current t c k o none = inside_numbers t c k t.ticks t.last_process t.last_semaphore o (λ p e. absurd (none p e)) o.later
 
--- where the current process runs and is woken, none runs
+-- if the current process runs and becomes ready, none runs
 none_runs_ready : (t : Tables) → IsInside t → state_at t t.current ≢ Free → NoneRuns (ready t.current t)
 none_runs_ready t o alive p =
     let c = t.current in
@@ -172,7 +172,7 @@ none_runs_ready t o alive p =
     (λ f. let g : Ready ≡ Current = sym (state_move_same t c x (message_at t c) InReady o.processes (within_table t c o.processes alive)) ∙ f in cc)
     (λ n f. n (o.one_current p (sym (state_move_other t p c x (message_at t c) InReady n) ∙ f)))
 
--- where it doesn't, none does either
+-- if it doesn't, none does either
 none_runs_idle : (t : Tables) → IsInside t → is_current (state_at t t.current) ≡ false → NoneRuns t
 none_runs_idle t o b p f = true≢false (sym (ap is_current (subst (λ k. state_at t k ≡ Current) (o.one_current p f) f)) ∙ b)
 
@@ -199,7 +199,7 @@ pub keeper_runs : (l : List (ℕ × ℤ)) (t : Tables) → IsInside t → l ≡ 
 keeper_runs [] t o e h = empty_runs t o e
 keeper_runs (x ∷ xs) t o e h = current_of (state_at t t.current) (and_parts (is_current (state_at t t.current)) (int_lt x.1 (process_at t t.current).priority) h).0
 
--- Where none runs, a ready process is run.
+-- If none runs, a ready process is run.
 pub sound_dispatch : (t : Tables) (q : ℕ) → IsInside t → NoneRuns t → state_at t q ≡ Ready → IsSoundTables (dispatch q t)
 sound_dispatch t q o none e =
     let alive : state_at t q ≢ Free = λ f. cc in
@@ -216,7 +216,7 @@ sound_dispatch t q o none e =
     } in
     record { inside = inside_move u q x (message_at t q) Nowhere (inside_current t q 2 o none) c; runs = state_move_same u q x (message_at t q) Nowhere o.processes w }
 
--- Where none runs, the first of the ready list is run.
+-- If none runs, the first of the ready list is run.
 pub sound_dispatch_first : (l : List (ℕ × ℤ)) (t : Tables) → IsInside t → NoneRuns t → l ≡ t.ready → IsSoundTables (dispatch_first l t)
 sound_dispatch_first [] t o none e = absurd (none t.current (empty_runs t o e))
 sound_dispatch_first (x ∷ xs) t o none e =

@@ -7,7 +7,7 @@ use Rattle.std.proofs.lemmas.List.{get_or-replicate, get_or_past, length-replica
 use Rattle.xinu_base.specs.declared.processes.Process.{Process}
 use Rattle.xinu_base.specs.declared.processes.State.TheVariants.{Free, Current, Ready, Suspended}
 use Rattle.xinu_base.specs.declared.semaphores.Owner.TheVariants.{Device}
-use Rattle.xinu_model.specs.Boot.{Loaded, first_overlap, device_semaphore, first_semaphores, null_tables, loaded, image_process, with_image, all_ready, Start, Boots, Overlaps, NoRoom, and_then, where_stack, all_made, all_started, unless_overlap, boot}
+use Rattle.xinu_model.specs.Boot.{Loaded, first_overlap, device_semaphore, first_semaphores, null_tables, loaded_machine, image_process, with_image, all_ready, Start, Boots, Overlaps, NoRoom, and_then, where_stack, all_made, all_started, unless_overlap, boot}
 use Rattle.xinu_model.specs.Heap.Cells.{Stack, take_stack}
 use Rattle.xinu_model.specs.Machine.{Xinu}
 use Rattle.xinu_model.specs.Process.Scheduling.{in_state, ready}
@@ -111,7 +111,7 @@ pub record AreMade (i : ℕ) (s : Xinu) : Type 0 where
   pub suspended : (j : ℕ) → 0 < j → j < i → state_at s.tables j ≡ Suspended
 
 -- none is at first
-none_made : (images : List Loaded) → AreMade 1 (loaded images)
+none_made : (images : List Loaded) → AreMade 1 (loaded_machine images)
 none_made images = record { tables = record { inside = inside_null; runs = refl }; current = refl; harts = refl; suspended = λ j z h. absurd (omega arith) }
 
 -- the process of the next image is made
@@ -131,13 +131,13 @@ next_made i image stack s m z w =
           (λ n _. state_move_other t j i x None Nowhere n ∙ m.suspended j zero_less (omega arith)) refl;
     }
 
--- where a start so far goes on to boot, it is in a state from which it does
+-- if a start so far goes on to boot, it is in a state from which it does
 pub boots_from : (so_far : Start) (next : Xinu → Start) (x : Xinu) → and_then so_far next ≡ Boots x → (s : Xinu) × (so_far ≡ Boots s) × (next s ≡ Boots x)
 boots_from (Boots s) next x e = (s, refl, e)
 boots_from (Overlaps i) next x e = cc
 boots_from (NoRoom i) next x e = cc
 
--- where the next is made a stack was found
+-- if the next is made a stack was found
 made_on_stack : (found : Option Stack) (i : ℕ) (image : Loaded) (s y : Xinu) → where_stack found i image s ≡ Boots y → (stack : Stack) × (with_image i image stack s ≡ y)
 made_on_stack None i image s y e = cc
 made_on_stack (Some stack) i image s y e = (stack, cc)
@@ -152,7 +152,7 @@ all_are_made (image ∷ images) i s x m z w e =
     subst (λ k. AreMade k x) g
     (all_are_made images (i + 1) b.0 x (subst (AreMade (i + 1)) on.1 (next_made i image on.0 s m z (omega arith))) (omega arith) (omega arith) b.2)
 
--- who is suspended may be woken
+-- who is suspended can become ready
 can_be_ready_suspended : (t : Tables) (p : ℕ) → IsInside t → state_at t p ≡ Suspended → CanBeReady t p
 can_be_ready_suspended t p o e = record { alive = λ f. cc; idle = λ f. cc; holds = holds_at t p o (λ f. cc) }
 
@@ -169,21 +169,21 @@ pub record StartsSound (start : Xinu) : Type 0 where
   pub tables : IsSoundTables start.tables
   pub harts : length start.harts ≡ 64
 
--- Where the processes are made the machine starts so.
+-- If the processes are made the machine starts so.
 sound_wakeup : (images : List Loaded) (s : Xinu) → length images < 64 → AreMade (1 + length images) s → StartsSound (all_started images s)
 sound_wakeup images s few m = record {
   tables = sound_resched (all_ready 1 images s.tables) (sound_all_ready images 1 s.tables m.tables (λ j low high. m.suspended j (omega arith) high)).inside;
   harts = m.harts;
 }
 
--- Where the machine starts it starts so.
+-- If the machine starts it starts so.
 sound_unless_overlap : (overlap : Option ℕ) (images : List Loaded) (start : Xinu) → length images < 64 → unless_overlap overlap images ≡ Boots start → StartsSound start
 sound_unless_overlap (Some i) images start few e = cc
 sound_unless_overlap None images start few e =
-    let b = boots_from (all_made 1 images (loaded images)) (λ s. Boots (all_started images s)) start e in
+    let b = boots_from (all_made 1 images (loaded_machine images)) (λ s. Boots (all_started images s)) start e in
     let f : all_started images b.0 ≡ start = cc in
-    subst StartsSound f (sound_wakeup images b.0 few (all_are_made images 1 (loaded images) b.0 (none_made images) (omega arith) (omega arith) b.1))
+    subst StartsSound f (sound_wakeup images b.0 few (all_are_made images 1 (loaded_machine images) b.0 (none_made images) (omega arith) (omega arith) b.1))
 
--- Where the machine starts with fewer than 64 images, it starts with sound tables.
+-- If the machine starts with fewer than 64 images, it starts with sound tables.
 pub sound_start : (images : List Loaded) (start : Xinu) → length images < 64 → boot images ≡ Boots start → StartsSound start
 sound_start images start few e = sound_unless_overlap (first_overlap 1 [] images) images start few e

@@ -21,7 +21,7 @@ all_have_entries [] = tt
 all_have_entries (x ∷ xs) =
     (first_has_entry x xs, all_weaker (λ e. 0 < entries_of e.0 xs) (λ e. 0 < entries_of e.0 (x ∷ xs)) (λ e h. entries_behind e.0 x xs h) xs (all_have_entries xs))
 
--- a sleeper may be woken
+-- a sleeper can become ready
 pub can_be_ready_sleeper : (t : Tables) (p : ℕ) → IsInside t → 0 < entries_of p t.sleepers → CanBeReady t p
 can_be_ready_sleeper t p o h =
     let e = o.sleeping p in
@@ -34,7 +34,7 @@ can_be_ready_sleeper t p o h =
       holds = holds_at t p o (by (λ k. k ≢ Receiving) (λ f. cc) (λ f. cc));
     }
 
--- Those who are due may be woken.
+-- Those who are due can become ready.
 pub can_be_ready_due : (t : Tables) (tick : ℕ) → IsInside t → AllByRecursion (CanBeReady t) (due tick t.sleepers)
 can_be_ready_due t tick o =
     all_map (CanBeReady t) (λ e. e.0) (filter (λ e. e.1 == tick) t.sleepers)
@@ -67,17 +67,17 @@ left_without P p ps (x ∷ xs) h =
     (λ b. (⊎_elim (λ (i : IsOneOf x.0 (p ∷ ps)). ⊎_elim (λ (e : x.0 ≡ p). let f = ap not (eq-eqb x.0 p e) in cc) (λ (j : IsOneOf x.0 ps). inl j) i) (λ (k : P x). inr k) h.0, left_without P p ps xs h.1))
     (λ _. left_without P p ps xs h.1)
 
--- the sleepers that are left once these are woken
+-- the sleepers that are left once these become ready
 left_after : (P : ℕ × ℕ → Type 0) (ps : List ℕ) (t : Tables) → AllByRecursion (λ e. IsOneOf e.0 ps ⊎ P e) t.sleepers → AllByRecursion P (ready_all ps t).sleepers
 left_after P [] t h = all_weaker (λ e. ⊥ ⊎ P e) P (λ e k. ⊎_elim (λ (b : ⊥). absurd b) (λ (v : P e). v) k) t.sleepers h
 left_after P (p ∷ ps) t h = left_after P ps (ready p t) (left_without P p ps t.sleepers h)
 
--- who is woken doesn't change the tick
+-- who becomes ready doesn't change the tick
 pub ticks_ready : (ps : List ℕ) (t : Tables) → (ready_all ps t).ticks ≡ t.ticks
 ticks_ready [] t = refl
 ticks_ready (p ∷ ps) t = ticks_ready ps (ready p t)
 
--- once those who are due are woken the others wake later than the tick to come
+-- once those who are due become ready the others wake later than the tick to come
 later_left : (t : Tables) → IsInside t → AllByRecursion (λ e. t.ticks + 1 < e.1) (ready_all (due (t.ticks + 1) t.sleepers) t).sleepers
 later_left t o =
     let n = t.ticks + 1 in
@@ -86,7 +86,7 @@ later_left t o =
     (λ e h. ⊎_elim (λ (i : IsOneOf e.0 ps). inl i) (λ (d : e.1 ≢ n). inr (let k = h.1 in omega arith)) h.0) t.sleepers
     (all_both (λ e. IsOneOf e.0 ps ⊎ (e.1 ≢ n)) (λ e. t.ticks < e.1) t.sleepers (all_due n t.sleepers) o.later))
 
--- Those who are due are woken, and it is a tick later.
+-- Those who are due become ready, and it is a tick later.
 pub sound_later : (owes : Bool) (t : Tables) → IsSoundTables t → IsSoundTables (a_tick_later owes (ready_all (due (t.ticks + 1) t.sleepers) t))
 sound_later owes t k =
     let ps = due (t.ticks + 1) t.sleepers in

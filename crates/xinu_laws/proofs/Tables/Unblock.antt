@@ -1,4 +1,4 @@
--- Processes that are woken one after another, waiters that are released, and signals keep what holds of the tables.
+-- Processes that become ready one after another, waiters that are released, and signals keep what holds of the tables.
 use Rattle.std.proofs.Common.{◌≡◌, ◌≢◌, ◌⊎◌, ℕ, zero, suc, ◌+◌, ◌-◌, ◌<◌, ◌≤◌, ◌==◌, not, List, [], ◌∷◌, length, take, refl, sym, ap, subst, ◌∙◌, arith, inl, inr, ⊎_elim}
 use Rattle.std.specs.List.{AllByRecursion}
 use Rattle.std.proofs.lemmas.Bool.{cond_both, eq-eqb, cases_lt}
@@ -18,17 +18,17 @@ use Rattle.xinu_laws.proofs.Lists.Orders.{all_weaker}
 use Rattle.xinu_laws.proofs.Tables.Places.{semaphore_at_without}
 use Rattle.xinu_laws.proofs.Tables.MoveTo.{by_number, within_table, process_move_same, process_move_other, message_move_same, message_move_other}
 
--- these processes are woken, one after another
+-- these processes become ready, one after another
 abbrev pub ready_all : List ℕ → Tables → Tables
 ready_all [] t = t
 ready_all (p ∷ ps) t = ready_all ps (ready p t)
 
--- Who is released is woken, and nothing else of the state changes.
+-- Who is released becomes ready, and nothing else of the state changes.
 pub unblock_all_ready : (ps : List ℕ) (d : CallState) → (unblock_all ps d).state ≡ record d.state { tables = ready_all ps d.state.tables }
 unblock_all_ready [] d = refl
 unblock_all_ready (p ∷ ps) d = unblock_all_ready ps (unblock p d)
 
--- who may be woken may be woken after another
+-- who can become ready can become ready after another
 pub can_be_ready_after : (t : Tables) (p q : ℕ) → IsInside t → CanBeReady t p → CanBeReady t q → CanBeReady (ready p t) q
 can_be_ready_after t p q o cp cq =
     let x = in_state Ready (process_at t p) in
@@ -60,7 +60,7 @@ sound_ready_all (p ∷ ps) t k all = sound_ready_all ps (ready p t) (sound_ready
 pub sound_unblock_all : (ps : List ℕ) (d : CallState) → IsSoundTables d.state.tables → AllByRecursion (CanBeReady d.state.tables) ps → IsSoundTables (unblock_all ps d).state.tables
 sound_unblock_all ps d k all = subst (λ (s : Xinu). IsSoundTables s.tables) (sym (unblock_all_ready ps d)) (sound_ready_all ps d.state.tables k all)
 
--- who waits for a token may be woken
+-- who waits for a token can become ready
 pub can_be_ready_waiting : (t : Tables) (p : ℕ) → IsInside t → state_at t p ≡ Waiting → CanBeReady t p
 can_be_ready_waiting t p o e = record { alive = λ f. cc; idle = λ f. cc; holds = holds_at t p o (λ f. cc) }
 
@@ -76,7 +76,7 @@ pub all_counted : (l : List ℕ) → AllByRecursion (λ p. 0 < count_in p l) l
 all_counted [] = tt
 all_counted (x ∷ xs) = (first_is_counted x xs, all_weaker (λ p. 0 < count_in p xs) (λ p. 0 < count_in p (x ∷ xs)) (λ p h. count_behind p x xs h) xs (all_counted xs))
 
--- the waiters of a semaphore may be woken
+-- the waiters of a semaphore can become ready
 pub can_be_ready_waiters : (t : Tables) (sem : ℕ) → IsInside t → AllByRecursion (CanBeReady t) (semaphore_at t sem).waiters
 can_be_ready_waiters t sem o =
     let l = (semaphore_at t sem).waiters in
@@ -111,17 +111,17 @@ none_of : (l : List ℕ) → AllByRecursion (λ x. ⊥) l → l ≡ []
 none_of [] h = refl
 none_of (x ∷ xs) h = absurd h.0
 
--- where all who wait on a semaphore are woken nobody waits there any longer
+-- if all who wait on a semaphore become ready nobody waits there any longer
 waiters_after : (ps : List ℕ) (t : Tables) (sem : ℕ) → AllByRecursion (λ x. IsOneOf x ps) (semaphore_at t sem).waiters → (semaphore_at (ready_all ps t) sem).waiters ≡ []
 waiters_after [] t sem h = none_of (semaphore_at t sem).waiters h
 waiters_after (p ∷ ps) t sem h =
     waiters_after ps (ready p t) sem (subst (λ (x : Semaphore). AllByRecursion (λ y. IsOneOf y ps) x.waiters) (sym (semaphore_at_without p sem t.semaphores)) (of_others p ps (semaphore_at t sem).waiters h))
 
--- Once all waiters of a semaphore are woken nobody waits there.
+-- Once all waiters of a semaphore become ready nobody waits there.
 pub waiters_gone : (t : Tables) (sem : ℕ) → (semaphore_at (ready_all (semaphore_at t sem).waiters t) sem).waiters ≡ []
 waiters_gone t sem = waiters_after (semaphore_at t sem).waiters t sem (all_are_of (semaphore_at t sem).waiters)
 
--- who is woken leaves a semaphore with its owner
+-- who becomes ready leaves a semaphore with its owner
 pub owner_ready : (ps : List ℕ) (t : Tables) (sem : ℕ) → (semaphore_at (ready_all ps t) sem).owner ≡ (semaphore_at t sem).owner
 owner_ready [] t sem = refl
 owner_ready (p ∷ ps) t sem = owner_ready ps (ready p t) sem ∙ ap (λ (x : Semaphore). x.owner) (semaphore_at_without p sem t.semaphores)
@@ -141,7 +141,7 @@ owner_emptied sem r d =
     subst (λ (s : Xinu). (semaphore_at s.tables r).owner ≡ (semaphore_at d.state.tables r).owner) (sym (unblock_all_ready (semaphore_at d.state.tables sem).waiters d))
     (owner_ready (semaphore_at d.state.tables sem).waiters d.state.tables r)
 
--- one signal, where these wait
+-- one signal, if these wait
 sound_signal_first : (sem : ℕ) (l : List ℕ) (d : CallState) → l ≡ (semaphore_at d.state.tables sem).waiters → IsSoundTables d.state.tables → sem < 128 → IsSoundTables (signal_first sem l d).state.tables
 sound_signal_first sem [] d e k w = sound_tokens d.state.tables sem ((semaphore_at d.state.tables sem).tokens + 1) k w (inr (sym e))
 sound_signal_first sem (p ∷ ps) d e k w =

@@ -5,7 +5,7 @@ use Rattle.xinu_base.specs.declared.lines.TranscriptLine.TheVariants.{Call, Retu
 use Rattle.xinu_laws.specs.Examples.NamedCalls.{sys_clktime, sys_exit, sys_kill, minus_one, sys_recvtime, sys_send, sys_sleep, sys_sleepms}
 use Rattle.xinu_laws.specs.Examples.Played.{Example, Steps, Ticks, system}
 
--- The time of a timed receive runs out; a second message is refused where one is held.
+-- The time of a timed receive runs out; a second message is refused if one is held.
 abbrev pub timed_receive_and_sleep : Example
 timed_receive_and_sleep = record {
   start = system (30 ∷ 20 ∷ []) 4096 8;

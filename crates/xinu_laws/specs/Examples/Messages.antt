@@ -5,7 +5,7 @@ use Rattle.xinu_base.specs.declared.lines.TranscriptLine.TheVariants.{Call, Retu
 use Rattle.xinu_laws.specs.Examples.NamedCalls.{sys_exit, sys_receive, sys_recvclr, sys_send}
 use Rattle.xinu_laws.specs.Examples.Played.{Example, Steps, system}
 
--- A message is waited for, taken, refused where one is held, and taken back.
+-- A message is waited for, taken, refused if one is held, and taken back.
 abbrev pub messages : Example
 messages = record {
   start = system (30 ∷ 20 ∷ []) 4096 8;

@@ -20,12 +20,12 @@ with_processes p [] t = t
 with_processes p (priority ∷ priorities) t =
     with_processes (p + 1) priorities (record (move_to p (new_process (image_name p) (pos priority) 0 0 0) None Nowhere t) { last_process = p })
 
--- the same processes woken in order
+-- the same processes made ready in order
 abbrev pub all_made_ready : ℕ → List ℕ → Tables → Tables
 all_made_ready p [] t = t
 all_made_ready p (priority ∷ priorities) t = all_made_ready (p + 1) priorities (ready p t)
 
--- A system of processes of these priorities, without stacks, over a heap of so many free cells.
+-- A system of processes of these priorities, without stacks, over a heap of n free cells.
 abbrev pub system : List ℕ → ℕ → ℕ → Xinu
 system priorities low cells = record {
   tables = resched (all_made_ready 1 priorities (with_processes 1 priorities null_tables));
@@ -50,7 +50,7 @@ after effect programs x = record {
   panicked = effect.panics;
 }
 
--- the next of these calls by the current process; where there is none it runs on without a call
+-- the next of these calls by the current process; if there is none it runs on without a call
 abbrev pub called_next : List Call → Played → Played
 called_next [] x = x
 called_next (call ∷ rest) x =
@@ -73,7 +73,7 @@ played_step x =
 abbrev pub played_tick : Played → Played
 played_tick x = after (effect_of x.state Tick 0) x.programs x
 
--- so many times
+-- n times
 abbrev pub times_over : ℕ → (Played → Played) → Played → Played
 times_over zero f x = x
 times_over (suc n) f x = times_over n f (f x)

@@ -35,7 +35,7 @@ panic = record {
   turns = Steps 200 ∷ [];
 }
 
--- a call and its reply, so many times
+-- a call and its reply, n times
 abbrev pub messages_sent : ℕ → List TranscriptLine
 messages_sent zero = []
 messages_sent (suc n) = Call 1 (sys_ptsend 0 1) ∷ Return 1 (pos 0) ∷ messages_sent n

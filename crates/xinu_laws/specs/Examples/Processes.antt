@@ -75,7 +75,7 @@ process_refusals_lines =
     Return 1 (negsuc 0) ∷ Call 1 (sys_create 2048 minus_one 20 3072 0 0) ∷ Return 1 (negsuc 0) ∷
     []
 
--- Where all 64 numbers are taken no process is created; a number that becomes free is found, going round.
+-- If all 64 numbers are taken no process is created; a number that becomes free is found, going round.
 abbrev pub full_table : Example
 full_table = record {
   start = system (30 ∷ replicate 62 20) 4096 100;

@@ -84,7 +84,7 @@ free_stack a n h = if nat_lt (a + 4) (8 * cells_for n) then None else free_memor
 abbrev pub Block : Type 0
 Block = ℕ × ℕ
 
--- a free cell at an address, in front of the blocks behind it
+-- a free cell at an address, before the blocks after it
 abbrev pub with_cell : ℕ → List Block → List Block
 with_cell a [] = (a, 8) ∷ []
 with_cell a (b ∷ blocks) = if b.0 == a + 8 then (a, b.1 + 8) ∷ blocks else (a, 8) ∷ b ∷ blocks

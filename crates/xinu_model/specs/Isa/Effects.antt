@@ -20,7 +20,7 @@ pub record Executed : Type 0 where
 abbrev pub wrapped : ℕ → ℕ
 wrapped n = n % 2 ^ 32
 
--- the value of a comparison: 1 where it holds, else 0
+-- the value of a comparison: 1 if it holds, else 0
 abbrev pub truth : Bool → ℕ
 truth holds = if holds then 1 else 0
 
@@ -54,7 +54,7 @@ abbrev pub jumps : Fields → Hart → List ℕ → ℕ → Executed
 jumps f h memory target =
     if target % 4 == 0 then goes h memory f.rd (following h) target else stops h memory (Trap Target)
 
--- where the condition holds the process goes on at a target, if that is a multiple of 4, and else behind the branch
+-- if the condition holds the process goes on at a target, if that is a multiple of 4, and else after the branch
 abbrev pub branches : Fields → Hart → List ℕ → Bool → Executed
 branches f h memory holds =
     let target = wrapped (h.pc + f.imm) in

@@ -4,7 +4,7 @@ use Rattle.std.specs.List.{list_any}
 use Rattle.xinu_model.specs.Memory.{ranges_meet}
 
 -- A pool: where its memory begins, the size of its buffers in bytes, how many it has, its semaphore, and the addresses of
--- the free ones, the one that was freed last in front. In front of each buffer lies a word for the pool's number.
+-- the free ones, the one that was freed last first. Before each buffer lies a word for the pool's number.
 pub record Pool : Type 0 where
   pub base : ℕ
   pub size : ℕ
@@ -24,7 +24,7 @@ most_pools = 20
 abbrev pub pool_at : List Pool → ℕ → Pool
 pool_at pools i = slice_index_or pools i no_pool
 
--- so many addresses, the first one at a and each one this far behind the one before
+-- n addresses, the first one at a and each one this far after the one before
 abbrev pub addresses : ℕ → ℕ → ℕ → List ℕ
 addresses a step zero = []
 addresses a step (suc n) = a ∷ addresses (a + step) step n

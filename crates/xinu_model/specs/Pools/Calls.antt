@@ -20,7 +20,7 @@ with_pool grant sem size n s =
       parts = record s.parts { heap = grant.heap; pools = s.parts.pools ++ new_pool grant.address size n sem ∷ [] };
     })) (pos i)
 
--- a pool, where memory that meets no other pool and a semaphore are found
+-- a pool, if memory that meets no other pool and a semaphore are found
 abbrev pub made_pool : Option Grant → Option ℕ → ℕ → ℕ → Xinu → CallResult
 made_pool (Some grant) (Some sem) size n s =
     if meets_pool grant.address (pool_bytes size n) s.parts.pools then refused s else with_pool grant sem size n s
@@ -38,7 +38,7 @@ mkbufpool size n s =
     then made_pool (take_memory (pool_bytes (whole_words size) n) s.parts.heap) (free_semaphore s.tables) (whole_words size) n s
     else refused s
 
--- the caller takes the first of these free buffers of pool i, in front of which the pool's number is written
+-- the caller takes the first of these free buffers of pool i, before which the pool's number is written
 abbrev pub take_first : List ℕ → ℕ → Xinu → CallResult
 take_first [] i s = refused s
 take_first (a ∷ free) i s =
@@ -70,7 +70,7 @@ abbrev pub given_to : Option ℕ → ℕ → CallState → CallState
 given_to None a d = d
 given_to (Some i) a d = put_back a i d
 
--- what is held at an address is given back; where it is no held buffer nothing is done
+-- what is held at an address is given back; if it is no held buffer nothing is done
 abbrev pub freed_buffer : ℕ → CallState → CallState
 freed_buffer a d = given_to (holder a d.state.parts.pools) a d
 

@@ -33,12 +33,12 @@ with_port q n send receive s =
       };
     })) (pos q)
 
--- a port, where a number and the second semaphore are found
+-- a port, if a number and the second semaphore are found
 abbrev pub made_port : Option ℕ → ℕ → ℕ → ℕ → Xinu → CallResult
 made_port None q n send s = refused s
 made_port (Some receive) q n send s = with_port q n send receive s
 
--- a port, where a number and the first semaphore are found; the second is sought behind the first
+-- a port, if a number and the first semaphore are found; the second is sought after the first
 abbrev pub started_port : Option ℕ → Option ℕ → ℕ → Xinu → CallResult
 started_port (Some q) (Some send) n s =
     made_port (free_semaphore (make_semaphore send (owner.Port q) n s.tables)) q n send s
@@ -111,7 +111,7 @@ with_messages q queue messages d =
       };
     }
 
--- a message goes behind those of the port, and its receivers are signalled; where all ports together are full the kernel panics
+-- a message goes after those of the port, and its receivers are signalled; if all ports together are full the kernel panics
 abbrev pub put_message : Option PortQueue → ℕ → ℕ → Xinu → CallResult
 put_message None q message s = refused s
 put_message (Some queue) q message s =

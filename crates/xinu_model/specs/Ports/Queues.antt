@@ -3,14 +3,14 @@ use Rattle.std.specs.Prelude.{ℕ, ◌+◌, ◌==◌, Bool, not, ◌||◌, List,
 use Rattle.xinu_base.specs.declared.processes.PortTicket.{PortTicket}
 
 -- What a port in use has: how many messages it can hold, the semaphore of the room that is left, the semaphore of the messages,
--- and the messages, the first in front.
+-- and the messages, in order.
 pub record PortQueue : Type 0 where
   pub first_count : ℕ
   pub send : ℕ
   pub receive : ℕ
   pub messages : List ℕ
 
--- A port: a number that rises each time the port is made, reset or deleted, and its queue where it is in use.
+-- A port: a number that rises each time the port is made, reset or deleted, and its queue if it is in use.
 pub record Port : Type 0 where
   pub seq : ℕ
   pub queue : Option PortQueue

@@ -1,5 +1,5 @@
 -- Processes: how they are made, run, stopped and ended (book, chapters 4 to 6).
-use Rattle.std.specs.Prelude.{ℕ, ◌-◌, ◌==◌, Bool, true, false, not, if◌then◌else◌, ◌||◌, List, take, drop, slice_set, Option, Some, None, ℤ, pos, int_lt}
+use Rattle.std.specs.Prelude.{ℕ, ◌==◌, Bool, true, false, not, if◌then◌else◌, ◌||◌, List, take, drop, slice_set, Option, Some, None, ℤ, pos, int_lt}
 use Rattle.xinu_base.specs.Constants.{OK}
 use Rattle.xinu_base.specs.declared.processes.Rest.TheVariants.{SelfSuspend}
 use Rattle.xinu_base.specs.declared.processes.State.{State}
@@ -27,7 +27,7 @@ is_ready _ = false
 abbrev pub getpid : Xinu → CallResult
 getpid s = returns (start s) (pos s.tables.current)
 
--- a process that is created, where a number and a stack are found
+-- a process that is created, if a number and a stack are found
 abbrev pub created : Option ℕ → Option Stack → ℕ → ℕ → ℤ → List ℕ → ℕ → ℕ → Xinu → CallResult
 created (Some p) (Some stack) entry size priority name x y s =
     returns (start (make_process p (new_process name priority s.tables.current stack.top size) (new_hart entry stack.top x y) stack s)) (pos p)
@@ -35,7 +35,7 @@ created (Some p) None entry size priority name x y s = refused s
 created None stack entry size priority name x y s = refused s
 
 -- Call 2: a new process with this entry, stack and priority, named by the text at an address; it begins with x and y in a0 and a1.
--- It is refused where the priority is below 1, the name doesn't lie in RAM, no number is free or the heap has no such stack.
+-- It is refused if the priority is below 1, the name doesn't lie in RAM, no number is free or the heap has no such stack.
 abbrev pub create : ℕ → ℕ → ℤ → ℕ → ℕ → ℕ → Xinu → CallResult
 create entry size priority name x y s =
     if int_lt priority (pos 1) || not (in_ram name 16) then refused s

@@ -27,7 +27,7 @@ before_zero [] = []
 before_zero (zero ∷ bytes) = []
 before_zero (suc b ∷ bytes) = suc b ∷ before_zero bytes
 
--- a name as a process has it: at most fifteen bytes, with zeros behind its end
+-- a name as a process has it: at most fifteen bytes, with zeros after its end
 abbrev pub process_name : List ℕ → List ℕ
 process_name bytes = take 15 (before_zero bytes ++ replicate 15 0)
 

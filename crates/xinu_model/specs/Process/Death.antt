@@ -1,5 +1,5 @@
 -- How a process dies (book, chapter 5).
-use Rattle.std.specs.Prelude.{ℕ, ◌-◌, slice_set, None, unwrap_or}
+use Rattle.std.specs.Prelude.{ℕ, slice_set, None, unwrap_or}
 use Rattle.xinu_base.specs.declared.processes.Process.{Process}
 use Rattle.xinu_model.specs.Heap.Cells.{free_stack}
 use Rattle.xinu_model.specs.Machine.{Xinu, no_hart, Gone, CallState, CallResult, start}
@@ -17,7 +17,7 @@ reap p x d =
       };
     }
 
--- p dies: its parent is sent its number, and it is buried
+-- p dies: its parent is sent its number, and it is reaped
 abbrev pub killed : ℕ → CallState → CallState
 killed p d =
     let x = process_at d.state.tables p in reap p x (sent x.parent p d)

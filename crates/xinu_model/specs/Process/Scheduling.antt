@@ -28,7 +28,7 @@ abbrev pub dispatch_first : List (ℕ × ℤ) → Tables → Tables
 dispatch_first [] t = t
 dispatch_first (e ∷ es) t = dispatch e.0 t
 
--- the current process makes room: where it still runs, it becomes ready
+-- the current process is preempted: if it still runs, it becomes ready
 abbrev pub preempt : Tables → Tables
 preempt t = if is_current (state_at t t.current) then ready t.current t else t
 

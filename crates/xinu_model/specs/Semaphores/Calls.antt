@@ -1,5 +1,5 @@
 -- Semaphores: tokens, and the processes that wait for one (book, chapter 7).
-use Rattle.std.specs.Prelude.{ℕ, ◌+◌, ◌-◌, not, if◌then◌else◌, ◌&&◌, Option, Some, None, ℤ, pos, negsuc, ◌+ℤ◌, int_lt}
+use Rattle.std.specs.Prelude.{ℕ, not, if◌then◌else◌, ◌&&◌, Option, Some, None, ℤ, pos, negsuc, ◌+ℤ◌, int_lt}
 use Rattle.xinu_base.specs.Constants.{OK}
 use Rattle.xinu_base.specs.declared.processes.Rest.TheVariants.{Nothing}
 use Rattle.xinu_base.specs.declared.semaphores.Owner.TheVariants as owner
@@ -12,7 +12,7 @@ use Rattle.xinu_model.specs.Semaphores.Waiting.{signalled, signalled_times, empt
 abbrev pub answers : ℤ → Xinu → CallResult
 answers value s = returns (start s) value
 
--- a semaphore with n tokens, where a number is found
+-- a semaphore with n tokens, if a number is found
 abbrev pub made_semaphore : ℕ → Option ℕ → Xinu → CallResult
 made_semaphore n None s = refused s
 made_semaphore n (Some sem) s = returns (start (record s { tables = make_semaphore sem owner.Image n s.tables })) (pos sem)

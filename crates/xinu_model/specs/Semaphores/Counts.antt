@@ -1,5 +1,5 @@
 -- The table of semaphores: owners, counts, and the search for a free number (book, chapter 7).
-use Rattle.std.specs.Prelude.{ℕ, ◌+◌, ◌-◌, Bool, true, false, not, [], length, slice_set, Option, Some, is_some, ℤ, pos, ◌+ℤ◌, neg_ℤ}
+use Rattle.std.specs.Prelude.{ℕ, ◌+◌, Bool, true, false, not, [], length, slice_set, Option, Some, is_some, ℤ, pos, ◌+ℤ◌, neg_ℤ}
 use Rattle.xinu_base.specs.Constants.{NSEM}
 use Rattle.xinu_base.specs.declared.semaphores.Owner.{Owner}
 use Rattle.xinu_base.specs.declared.semaphores.Owner.TheVariants as owner
@@ -14,7 +14,7 @@ most_tokens = pos 2147483647
 abbrev pub with_semaphore : ℕ → Semaphore → Tables → Tables
 with_semaphore sem x t = record t { semaphores = slice_set t.semaphores sem x }
 
--- the tables with so many tokens at semaphore sem
+-- the tables with n tokens at semaphore sem
 abbrev pub with_tokens : ℕ → ℕ → Tables → Tables
 with_tokens sem n t = with_semaphore sem (record (semaphore_at t sem) { tokens = n }) t
 
@@ -35,7 +35,7 @@ is_good sem t = is_images (semaphore_at t sem).owner
 abbrev pub free_semaphore : Tables → Option ℕ
 free_semaphore t = search (λ sem. not (is_some (semaphore_at t sem).owner)) NSEM (t.last_semaphore + 1)
 
--- semaphore sem is made, with an owner and so many tokens
+-- semaphore sem is made, with an owner and n tokens
 abbrev pub make_semaphore : ℕ → Owner → ℕ → Tables → Tables
 make_semaphore sem by tokens t =
     record (with_semaphore sem (record { owner = Some by; tokens = tokens; waiters = [] }) t) { last_semaphore = sem }

@@ -6,7 +6,7 @@ use Rattle.xinu_model.specs.Machine.{Xinu, CallState, CallResult, with_tables, u
 use Rattle.xinu_model.specs.Tables.{semaphore_at, InSemaphore}
 use Rattle.xinu_model.specs.Semaphores.Counts.{with_tokens}
 
--- One signal, where these wait: the first is released; where none does there is one token more.
+-- One signal, if these wait: the first is released; if none does there is one token more.
 abbrev pub signal_first : ℕ → List ℕ → CallState → CallState
 signal_first sem [] d =
     let t = d.state.tables in with_tables (with_tokens sem ((semaphore_at t sem).tokens + 1) t) d

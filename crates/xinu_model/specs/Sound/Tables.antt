@@ -46,7 +46,7 @@ sleeping_places Sleeping = 1
 sleeping_places Timed = 1
 sleeping_places _ = 0
 
--- each element stands in the relation to all behind it
+-- each element is in the relation to all after it
 abbrev pub IsInOrder : {A : Type 0} → (A → A → Type 0) → List A → Type 0
 IsInOrder R [] = Unit {0}
 IsInOrder R (x ∷ xs) = AllByRecursion (R x) xs × IsInOrder R xs
@@ -81,7 +81,7 @@ FitsOwner sem (Some (owner.Pool i)) left = left ≡ rest.GetBuf i
 FitsOwner sem (Some (owner.Port q)) left = IsForPort q sem left
 FitsOwner sem (Some owner.Device) left = ⊥
 
--- a process that no longer waits for a message holds one where its call is to answer it
+-- a process that no longer waits for a message holds one if its call is to answer it
 abbrev pub HoldsFor : Rest → Option ℕ → Type 0
 HoldsFor rest.Receive message = IsSome message
 HoldsFor _ message = Unit {0}
