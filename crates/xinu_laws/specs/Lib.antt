@@ -1,6 +1,9 @@
 pub mod Apart
 pub mod Examples
+pub mod Frame
 pub mod FreeCells
 pub mod GivingAway
+pub mod Preserve
 pub mod Refusals
 pub mod Repeated
+pub mod Touches

@@ -1,15 +1,15 @@
 -- A refused call changes nothing but its caller's reply, and most calls answer -1 only if they are refused.
-use Rattle.std.proofs.Common.{◌≡◌, ℕ, zero, suc, ◌*◌, ◌<◌, ◌==◌, Bool, true, false, not, cond, ◌&&◌, ◌||◌, List, [], ◌∷◌, length, take, drop, refl, sym, ap, subst, ◌∙◌, arith, Option, Some, None, ℤ, pos, negsuc}
+use Rattle.std.proofs.Common.{◌≡◌, ℕ, zero, suc, ◌*◌, ◌<◌, ◌==◌, Bool, true, false, not, cond, ◌&&◌, ◌||◌, List, [], ◌∷◌, length, take, drop, filter, refl, sym, ap, subst, ◌∙◌, arith, Option, Some, None, ℤ, pos, negsuc}
 use Rattle.std.specs.Prelude.{int_lt, ◌+ℤ◌, nat_lt, nat_le, slice_index, is_some}
 use Rattle.std.specs.List.{AllByRecursion}
-use Rattle.std.proofs.lemmas.Bool.{cond_both, eq-eqb, eqb-true, false≢true}
+use Rattle.std.proofs.lemmas.Bool.{cond_both, eq-eqb}
 use Rattle.std.proofs.lemmas.Bool.Decides.{nat_tests}
 use Rattle.xinu_base.specs.Syscalls.{is_built}
 use Rattle.xinu_base.specs.declared.lines.TranscriptLine.{TranscriptLine}
 use Rattle.xinu_base.specs.declared.processes.Rest.{Rest}
 use Rattle.xinu_base.specs.declared.processes.Rest.TheVariants.{Nothing, GetBuf, PtSend}
 use Rattle.xinu_base.specs.declared.semaphores.Owner.TheVariants as owner
-use Rattle.xinu_model.specs.Calls.{CallRow, half, calls, effect_in, called}
+use Rattle.xinu_model.specs.Calls.{calls, call_of_number, called}
 use Rattle.xinu_model.specs.Clock.{sleepms, sleep}
 use Rattle.xinu_model.specs.Heap.Cells as heap
 use Rattle.xinu_model.specs.Heap.Cells.{Heap, Grant, Stack, take_stack}
@@ -24,14 +24,16 @@ use Rattle.xinu_model.specs.Ports.Queues.{PortQueue, most_nodes, port_at, nodes,
 use Rattle.xinu_model.specs.Process.Creation.{stack_size, process_name, free_process}
 use Rattle.xinu_model.specs.Process.Calls.{created, create, kill}
 use Rattle.xinu_model.specs.Process.Death.{killed}
-use Rattle.xinu_laws.specs.Refusals.{tells_refusal}
+use Rattle.xinu_laws.specs.Refusals.{row_tells, tells_refusal}
+use Rattle.xinu_model.specs.Rows.{CallRow, tells_of_refusal, found_in, done_by}
 use Rattle.xinu_model.specs.Semaphores.Counts.{most_tokens, with_tokens, count_of, is_good, free_semaphore, make_semaphore}
 use Rattle.xinu_model.specs.Semaphores.Waiting.{take_token}
 use Rattle.xinu_model.specs.Semaphores.Calls.{answers, made_semaphore, semcreate, semreset, wait, signal, signaln}
 use Rattle.xinu_model.specs.Sound.Pools.{ArePools}
 use Rattle.xinu_model.specs.Tables.{state_at, semaphore_at, is_free}
-use Rattle.xinu_model.specs.Words.{signed}
+use Rattle.xinu_model.specs.Words.{signed, half}
 use Rattle.xinu_laws.proofs.Lists.RowByRow.{◌⨾◌}
+use Rattle.xinu_laws.proofs.Lists.CallRows.{of_few}
 
 -- So a call of any number that is refused changes nothing else.
 pub refused_call_leaves : (number : ℕ) (args : List ℕ) (was : ℕ) (first : List TranscriptLine) (s : Xinu) → called number args s ≡ refused s
@@ -217,63 +219,49 @@ sent_to_tells (Some queue) q message s e =
     subst (λ b. TellsRefusal s (cond b (refused x) (put_message (port_at s.parts.ports q).queue q message x))) (sym (fresh_ticket q queue.send s queue e))
     (put_message_tells queue (port_at s.parts.ports q).queue q message s x e))
 
--- What holds of a refusal and of what each call of a table does, if the number is that call's, holds of what the table does.
-effect_of_number : (P : CallResult → Type 0) (calls : List CallRow) (number : ℕ) (a : ℕ → ℕ) (s : Xinu)
-    → P (refused s) → AllByRecursion (λ call. number ≡ call.number → P (call.effect a s)) calls → P (effect_in calls number a s)
-effect_of_number P [] number a s refusal all = refusal
-effect_of_number P (call ∷ calls) number a s refusal all =
-    cond_both (number == call.number) (call.effect a s) (effect_in calls number a s) P (λ b. all.0 (eqb-true number call.number b)) (λ _. effect_of_number P calls number a s refusal all.1)
-
--- a number whose call tells its refusals isn't one whose call doesn't
-no_value : (number n : ℕ) (P : Type 0) → tells_refusal number ≡ true → tells_refusal n ≡ false → number ≡ n → P
-no_value number n P tells doesnt e = absurd (false≢true (sym doesnt ∙ subst (λ k. tells_refusal k ≡ true) e tells))
-
--- the calls of the table
-effects_tell : (number : ℕ) (a : ℕ → ℕ) (s : Xinu) → ArePools s.tables s.parts.pools → tells_refusal number ≡ true
-    → AllByRecursion (λ call. number ≡ call.number → TellsRefusal s (call.effect a s)) calls
+-- each call of the table whose kind of reply tells
+calls_tell : AllByRecursion (λ (r : CallRow). (a : ℕ → ℕ) (s : Xinu) → ArePools s.tables s.parts.pools → TellsRefusal s (r.effect a s)) (filter (λ r. tells_of_refusal r.reply) calls)
 unfolding calls
-effects_tell number a s pools tells =
-    (λ e. answer_tells s (start s) s.tables.current) ⨾
-    (λ e. create_tells (a 0) (a 1) (half (a 2)) (a 3) (a 4) (a 5) s) ⨾
-    (no_value number 3 _ tells refl) ⨾
-    (no_value number 4 _ tells refl) ⨾
-    (λ e. kill_tells (a 0) s) ⨾
-    (λ e f. cc) ⨾
-    (no_value number 7 _ tells refl) ⨾
-    (no_value number 8 _ tells refl) ⨾
-    (λ e f. cc) ⨾
-    (λ e. granted_tells (heap.take_memory (a 0) s.parts.heap) s) ⨾
-    (λ e. given_back_tells (heap.free_memory (a 0) (a 1) s.parts.heap) s) ⨾
-    (λ e. stacked_tells (heap.take_stack (a 0) s.parts.heap) s) ⨾
-    (λ e. given_back_tells (heap.free_stack (a 0) (a 1) s.parts.heap) s) ⨾
-    (λ e. semcreate_tells (signed (a 0)) s) ⨾
-    (λ e. guarded_tells (is_good (a 0) s.tables) s _ (λ _ f. cc)) ⨾
-    (λ e. semreset_tells (a 0) (signed (a 1)) s) ⨾
-    (no_value number 17 _ tells refl) ⨾
-    (λ e. wait_tells (a 0) s) ⨾
-    (λ e. signal_tells (a 0) s) ⨾
-    (λ e. signaln_tells (a 0) (signed (a 1)) s) ⨾
-    (λ e. guarded_tells (can_get (a 0) s.tables) s _ (λ _ f. cc)) ⨾
-    (no_value number 22 _ tells refl) ⨾
-    (no_value number 23 _ tells refl) ⨾
-    (no_value number 24 _ tells refl) ⨾
-    (λ e. sleep_tells (signed (a 0)) s) ⨾
-    (λ e. sleepms_tells (signed (a 0)) s) ⨾
-    (λ e f. cc) ⨾
-    (λ e. mkbufpool_tells (a 0) (a 1) s) ⨾
-    (λ e. getbuf_tells (a 0) s pools) ⨾
-    (λ e. freed_by_tells (holder (a 0) s.parts.pools) (a 0) s) ⨾
-    (λ e. ptcreate_tells (signed (a 0)) s) ⨾
-    (λ e. deleted_tells (port_at s.parts.ports (a 0)).queue (a 0) (a 1) s) ⨾
-    (λ e. reset_tells (port_at s.parts.ports (a 0)).queue (a 0) (a 1) s) ⨾
-    (λ e. sent_to_tells (port_at s.parts.ports (a 0)).queue (a 0) (a 1) s refl) ⨾
-    (no_value number 35 _ tells refl) ⨾
+calls_tell =
+    (λ a s k. answer_tells s (start s) s.tables.current) ⨾
+    (λ a s k. create_tells (a 0) (a 1) (half (a 2)) (a 3) (a 4) (a 5) s) ⨾
+    (λ a s k. kill_tells (a 0) s) ⨾
+    (λ a s k f. cc) ⨾
+    (λ a s k f. cc) ⨾
+    (λ a s k. granted_tells (heap.take_memory (a 0) s.parts.heap) s) ⨾
+    (λ a s k. given_back_tells (heap.free_memory (a 0) (a 1) s.parts.heap) s) ⨾
+    (λ a s k. stacked_tells (heap.take_stack (a 0) s.parts.heap) s) ⨾
+    (λ a s k. given_back_tells (heap.free_stack (a 0) (a 1) s.parts.heap) s) ⨾
+    (λ a s k. semcreate_tells (signed (a 0)) s) ⨾
+    (λ a s k. guarded_tells (is_good (a 0) s.tables) s _ (λ _ f. cc)) ⨾
+    (λ a s k. semreset_tells (a 0) (signed (a 1)) s) ⨾
+    (λ a s k. wait_tells (a 0) s) ⨾
+    (λ a s k. signal_tells (a 0) s) ⨾
+    (λ a s k. signaln_tells (a 0) (signed (a 1)) s) ⨾
+    (λ a s k. guarded_tells (can_get (a 0) s.tables) s _ (λ _ f. cc)) ⨾
+    (λ a s k. sleep_tells (signed (a 0)) s) ⨾
+    (λ a s k. sleepms_tells (signed (a 0)) s) ⨾
+    (λ a s k f. cc) ⨾
+    (λ a s k. mkbufpool_tells (a 0) (a 1) s) ⨾
+    (λ a s k. getbuf_tells (a 0) s k) ⨾
+    (λ a s k. freed_by_tells (holder (a 0) s.parts.pools) (a 0) s) ⨾
+    (λ a s k. ptcreate_tells (signed (a 0)) s) ⨾
+    (λ a s k. deleted_tells (port_at s.parts.ports (a 0)).queue (a 0) (a 1) s) ⨾
+    (λ a s k. reset_tells (port_at s.parts.ports (a 0)).queue (a 0) (a 1) s) ⨾
+    (λ a s k. sent_to_tells (port_at s.parts.ports (a 0)).queue (a 0) (a 1) s refl) ⨾
     tt
 
--- A call that answers -1 was refused, if its number tells so.
+-- A call that answers -1 was refused, if its row tells so, whether it is built or not.
+pub call_tells : (number : ℕ) (args : List ℕ) (s : Xinu) → ArePools s.tables s.parts.pools → tells_refusal number ≡ true → TellsRefusal s (call_of_number number args s)
+call_tells number args s k = by_row (found_in calls number) refl
+  where
+    by_row : (found : Option CallRow) → found_in calls number ≡ found → row_tells found ≡ true → TellsRefusal s (done_by found args s)
+    by_row None e tells = refusal_tells s
+    by_row (Some r) e tells =
+        of_few (λ (x : CallRow). (a : ℕ → ℕ) (u : Xinu) → ArePools u.tables u.parts.pools → TellsRefusal u (x.effect a u)) (λ x. tells_of_refusal x.reply) calls calls_tell number r e tells (slice_index args) s k
+
+-- The same of a call that is built or refused.
 pub refusals_are_told : (number : ℕ) (args : List ℕ) (s : Xinu) → ArePools s.tables s.parts.pools → tells_refusal number ≡ true
     → (called number args s).answer ≡ Returns (negsuc 0) → called number args s ≡ refused s
-refusals_are_told number args s pools tells =
-    cond_both (is_built number) (effect_in calls number (slice_index args) s) (refused s) (TellsRefusal s)
-    (λ _. effect_of_number (TellsRefusal s) calls number (slice_index args) s (refusal_tells s) (effects_tell number (slice_index args) s pools tells))
-    (λ _. refusal_tells s)
+refusals_are_told number args s k tells =
+    cond_both (is_built number) (call_of_number number args s) (refused s) (TellsRefusal s) (λ _. call_tells number args s k tells) (λ _. refusal_tells s)
