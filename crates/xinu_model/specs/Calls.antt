@@ -72,10 +72,13 @@ abbrev pub effect_in : List CallRow → ℕ → (ℕ → ℕ) → Xinu → CallR
 effect_in [] number a s = refused s
 effect_in (r ∷ rows) number a s = if number == r.number then r.effect a s else effect_in rows number a s
 
--- what a call does with its arguments; a number whose call isn't built is refused
+-- what the call of this number does with its arguments
+abbrev pub call_of_number : ℕ → List ℕ → Xinu → CallResult
+call_of_number number args s = effect_in calls number (slice_index args) s
+
+-- the same; a number whose call isn't built is refused
 abbrev pub called : ℕ → List ℕ → Xinu → CallResult
-called number args s =
-    if is_built number then effect_in calls number (slice_index args) s else refused s
+called number args s = if is_built number then call_of_number number args s else refused s
 
 -- What the first step of a process does that waited, once it is current again, by what is left of its call.
 abbrev pub continued : Rest → Xinu → CallResult
