@@ -1,4 +1,5 @@
 -- What calls answer and what examples print: refusals, signals, computed systems.
 pub mod Computed
+pub mod ComputedPorts
 pub mod Refusals
 pub mod Signals
