@@ -1,19 +1,17 @@
--- A refused call changes nothing but its caller's reply, and most calls answer -1 only if they are refused.
+-- Most calls answer -1 only if they are refused.
 use Rattle.std.proofs.Common.{◌≡◌, ℕ, zero, suc, ◌*◌, ◌<◌, ◌==◌, Bool, true, false, not, cond, ◌&&◌, ◌||◌, List, [], ◌∷◌, length, take, drop, refl, sym, ap, subst, ◌∙◌, arith, Option, Some, None, ℤ, pos, negsuc}
 use Rattle.std.specs.Prelude.{int_lt, ◌+ℤ◌, nat_lt, nat_le, slice_index, is_some}
 use Rattle.std.specs.List.{AllByRecursion}
 use Rattle.std.proofs.lemmas.Bool.{cond_both, eq-eqb, eqb-true, false≢true}
 use Rattle.std.proofs.lemmas.Bool.Decides.{nat_tests}
-use Rattle.xinu_base.specs.Syscalls.{is_built}
-use Rattle.xinu_base.specs.declared.lines.TranscriptLine.{TranscriptLine}
 use Rattle.xinu_base.specs.declared.processes.Rest.{Rest}
 use Rattle.xinu_base.specs.declared.processes.Rest.TheVariants.{Nothing, GetBuf, PtSend}
 use Rattle.xinu_base.specs.declared.semaphores.Owner.TheVariants as owner
-use Rattle.xinu_model.specs.Calls.{CallRow, half, calls, effect_in, called}
+use Rattle.xinu_model.specs.Calls.{CallRow, half, calls, effect_in, call_of_number}
 use Rattle.xinu_model.specs.Clock.{sleepms, sleep}
 use Rattle.xinu_model.specs.Heap.Cells as heap
 use Rattle.xinu_model.specs.Heap.Cells.{Heap, Grant, Stack, take_stack}
-use Rattle.xinu_model.specs.Machine.{Xinu, Returns, Panics, CallState, CallResult, start, returns, refused, with_reply, end_of_event}
+use Rattle.xinu_model.specs.Machine.{Xinu, Returns, Panics, CallState, CallResult, start, returns, refused}
 use Rattle.xinu_model.specs.Memory.{in_ram}
 use Rattle.xinu_model.specs.Heap.Calls.{granted, stacked, given_back}
 use Rattle.xinu_model.specs.Messages.{can_get}
@@ -32,11 +30,6 @@ use Rattle.xinu_model.specs.Sound.Pools.{ArePools}
 use Rattle.xinu_model.specs.Tables.{state_at, semaphore_at, is_free}
 use Rattle.xinu_model.specs.Words.{signed}
 use Rattle.xinu_laws.proofs.Lists.RowByRow.{◌⨾◌}
-
--- So a call of any number that is refused changes nothing else.
-pub refused_call_leaves : (number : ℕ) (args : List ℕ) (was : ℕ) (first : List TranscriptLine) (s : Xinu) → called number args s ≡ refused s
-    → (end_of_event was first (called number args s)).state ≡ record s { harts = with_reply s.harts (s.tables.current, negsuc 0) }
-refused_call_leaves number args was first s e = ap (λ (result : CallResult). (end_of_event was first result).state) e
 
 -- if a call answers -1 it was refused
 abbrev pub TellsRefusal : Xinu → CallResult → Type 0
@@ -202,7 +195,7 @@ put_message_tells queue (Some other) q message s x e =
     cond_both (nat_le most_nodes (nodes x.parts.ports)) (record { call = start x; answer = Panics }) _ (TellsRefusal s) (λ _ f. cc) (λ _ f. cc)
 
 -- a call that just began isn't after its port
-fresh_ticket : (q sem : ℕ) (s : Xinu) (queue : PortQueue) → (port_at s.parts.ports q).queue ≡ Some queue → is_stale (ticket_of q sem s) s.parts.ports ≡ false
+pub fresh_ticket : (q sem : ℕ) (s : Xinu) (queue : PortQueue) → (port_at s.parts.ports q).queue ≡ Some queue → is_stale (ticket_of q sem s) s.parts.ports ≡ false
 fresh_ticket q sem s queue e =
     ap (λ o. not (is_some o) || not ((port_at s.parts.ports q).seq == (port_at s.parts.ports q).seq)) e
     ∙ ap (λ b. not b) (eq-eqb (port_at s.parts.ports q).seq (port_at s.parts.ports q).seq refl)
@@ -271,9 +264,6 @@ effects_tell number a s pools tells =
     tt
 
 -- A call that answers -1 was refused, if its number tells so.
-pub refusals_are_told : (number : ℕ) (args : List ℕ) (s : Xinu) → ArePools s.tables s.parts.pools → tells_refusal number ≡ true
-    → (called number args s).answer ≡ Returns (negsuc 0) → called number args s ≡ refused s
+pub refusals_are_told : (number : ℕ) (args : List ℕ) (s : Xinu) → ArePools s.tables s.parts.pools → tells_refusal number ≡ true → TellsRefusal s (call_of_number number args s)
 refusals_are_told number args s pools tells =
-    cond_both (is_built number) (effect_in calls number (slice_index args) s) (refused s) (TellsRefusal s)
-    (λ _. effect_of_number (TellsRefusal s) calls number (slice_index args) s (refusal_tells s) (effects_tell number (slice_index args) s pools tells))
-    (λ _. refusal_tells s)
+    effect_of_number (TellsRefusal s) calls number (slice_index args) s (refusal_tells s) (effects_tell number (slice_index args) s pools tells)
