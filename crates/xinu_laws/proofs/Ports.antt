@@ -12,4 +12,5 @@ pub mod Renewed
 pub mod Sends
 pub mod Signals
 pub mod Start
+pub mod Tickets
 pub mod Waits

@@ -1,24 +1,18 @@
 -- What is known of a call: one row.
-use Rattle.std.specs.Prelude.{ℕ, ◌==◌, Bool, true, false, if◌then◌else◌, List, [], ◌∷◌, slice_index, Option, Some, None}
+use Rattle.std.specs.Prelude.{ℕ, ◌==◌, if◌then◌else◌, List, [], ◌∷◌, slice_index, Option, Some, None}
 use Rattle.xinu_model.specs.Footprints.{Footprint}
 use Rattle.xinu_model.specs.Machine.{Xinu, CallResult, refused}
 use Rattle.xinu_base.specs.Syscalls.{Syscall}
 
--- What a call answers if it isn't refused: a status or a number, an address, a priority, a count, or a message.
+-- What a call answers unless it is refused: a status or a number, an address, the priority of a process, the count of a semaphore, the
+-- caller's message, or a port's.
 pub data ReplyKind : Type 0 where
   Status : ReplyKind
   Address : ReplyKind
   Priority : ReplyKind
   Count : ReplyKind
   Message : ReplyKind
-
--- whether an answer -1 of this kind says that the call was refused
-abbrev pub tells_of_refusal : ReplyKind → Bool
-tells_of_refusal Status = true
-tells_of_refusal Address = true
-tells_of_refusal Priority = false
-tells_of_refusal Count = false
-tells_of_refusal Message = false
+  PortMessage : ReplyKind
 
 -- A call: its number, name and arity, which parts of the state it may change, what it answers, and what it does with its arguments, which
 -- go by their place from 0 on.

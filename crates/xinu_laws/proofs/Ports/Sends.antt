@@ -143,7 +143,7 @@ pub ptrecv_on_ports : (q : ℕ) (s : Xinu) → MayCall s → ArePorts s.tables s
 ptrecv_on_ports q s c a = received_on_ports (port_at s.parts.ports q).queue q s c a refl
 
 -- a ticket is one of its port, as it was
-own_ticket : (ticket : PortTicket) → is_ticket_of ticket.port ticket.seq ticket ≡ true
+pub own_ticket : (ticket : PortTicket) → is_ticket_of ticket.port ticket.seq ticket ≡ true
 own_ticket ticket = and_from (ticket.port == ticket.port) (ticket.seq == ticket.seq) (eq-eqb ticket.port ticket.port refl) (eq-eqb ticket.seq ticket.seq refl)
 
 -- A sender goes on that waited.

@@ -6,7 +6,7 @@ use Rattle.xinu_base.specs.declared.events.Event.TheVariants.{Tick}
 use Rattle.xinu_base.specs.declared.lines.TranscriptLine.{TranscriptLine}
 use Rattle.xinu_base.specs.declared.lines.TranscriptLine.TheVariants as line
 use Rattle.xinu_model.specs.Boot.{null_tables, image_name}
-use Rattle.xinu_model.specs.Calls.{continued, call_of_number}
+use Rattle.xinu_model.specs.Calls.{call_of_number, continued}
 use Rattle.xinu_model.specs.Events.{is_done, effect_of}
 use Rattle.xinu_model.specs.Machine.{Xinu, first_parts, no_hart, EventResult, end_of_event}
 use Rattle.xinu_model.specs.Process.Scheduling.{resched, ready}

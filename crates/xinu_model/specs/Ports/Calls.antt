@@ -15,7 +15,7 @@ use Rattle.xinu_model.specs.Tables.{no_semaphore}
 use Rattle.xinu_model.specs.Words.{signed}
 use Rattle.xinu_base.specs.Syscalls.{syscall}
 use Rattle.xinu_model.specs.Footprints.{on_ports, on_ports_and_pools}
-use Rattle.xinu_model.specs.Rows.{Status, Message, CallRow, row}
+use Rattle.xinu_model.specs.Rows.{Status, PortMessage, CallRow, row}
 
 -- the port that the next `ptcreate` gets
 abbrev pub free_port : Xinu → Option ℕ
@@ -179,5 +179,5 @@ port_calls =
     row (syscall 32 (codes "ptdelete") 2) on_ports_and_pools Status (λ a s. ptdelete (a 0) (a 1) s) ∷
     row (syscall 33 (codes "ptreset") 2) on_ports_and_pools Status (λ a s. ptreset (a 0) (a 1) s) ∷
     row (syscall 34 (codes "ptsend") 2) on_ports Status (λ a s. ptsend (a 0) (a 1) s) ∷
-    row (syscall 35 (codes "ptrecv") 1) on_ports Message (λ a s. ptrecv (a 0) s) ∷
+    row (syscall 35 (codes "ptrecv") 1) on_ports PortMessage (λ a s. ptrecv (a 0) s) ∷
     []
