@@ -7,6 +7,7 @@ pub mod Events
 pub mod Extent
 pub mod ExtentEvents
 pub mod Giving
+pub mod Grants
 pub mod Kept
 pub mod Memory
 pub mod Pairs
