@@ -3,6 +3,7 @@ pub mod Examples
 pub mod Frame
 pub mod FreeCells
 pub mod GivingAway
+pub mod Grants
 pub mod Preserve
 pub mod Refusals
 pub mod Repeated
