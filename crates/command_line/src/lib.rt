@@ -1,10 +1,15 @@
-//! The arguments of the command line: which command they give.
+//! The arguments of the command line.
 //!
-//! The one command is `run --schedule FILE IMAGE`. The arguments are read from the left by a table of the command's options, and [`command_of`]
-//! answers the command with the names that it holds, or that there is none. `clap` takes the arguments apart; how many of them
-//! there are, which options are needed and that no name is empty are tests after it. The crate depends on `clap` alone.
+//! [`command_of`] reads them with `clap` and then by tests of its own: how many images there are, which options are needed, and that no
+//! name is empty. `specs/Reading.antt` reads the arguments from the left by a table of options; `specs/Commands.antt` has the program's
+//! commands.
 //!
-//! `specs/Reading.antt` says how arguments are read by any table of options, and `specs/Commands.antt` has the program's own.
+//! | Call | Promise |
+//! |---|---|
+//! | [`command_of`] | `command`: an answered command is the one that the definition gives; `no_command`: the answer is no command only if the definition gives none; `an_image`, `few_images`. `NoMemory` is free |
+//!
+//! One law, by induction over the arguments, says that clap's matches are that reading, for every table whose options have other names than the
+//! positional argument (`proofs/Law.antt`, `proofs/Program.antt`). The crate depends on `clap` alone.
 #![tactic(auto)]
 
 mod command;

@@ -60,10 +60,7 @@ fn parser<'a>(alloc: Global) -> Result<Command<'a>, AllocError>
 }
 
 /// The matches of the arguments, or why there are none.
-pub(crate) fn matches_of<'a>(
-    alloc: Global,
-    args: &'a [String],
-) -> Result<ArgMatches<'a>, ArgsFault>
+pub(crate) fn matches_of<'a>(alloc: Global, args: &'a [String]) -> Result<ArgMatches<'a>, ArgsFault>
     ensures command { IfOk result (λ m. command_of (map string_bytes args.entry.now) ≡ command_in (subcommand_rows_of m)) }
     ensures no_command { IsErrOf result fault.NoCommand → command_of (map string_bytes args.entry.now) ≡ None }
 {

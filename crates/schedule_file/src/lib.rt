@@ -3,10 +3,15 @@
 //! A schedule says which events happen to the machine, in which order. It is a text of lines, each of which asks for some events;
 //! the events of the file are those of its lines, one after another. [`Schedule::read`] reads a text or names its first fault,
 //! and [`Schedule::next_event`] gives the events one by one. `specs/LineKinds.antt` is the table of the lines, and
-//! `specs/ScheduleFiles.antt` says what a text reads as.
+//! `specs/ScheduleFiles.antt` says what a text reads as (`reading`).
 //!
-//! A schedule may have 1000000000 events, so repeats are kept of it and no single events: one for each line, and one for each typed
-//! character. The reader depends on `xinu_base` and `arrayvec` alone.
+//! | Call | Promise |
+//! |---|---|
+//! | [`Schedule::read`] | `read`, `events`: the text reads as these events, or its first fault is at this line; `most`: there are at most 1000000000. `NoMemory` is free |
+//! | [`Schedule::next_event`] | `next`: the first event that is still to come; `None` if and only if there is none. It takes no memory |
+//!
+//! A [`Schedule`] is seen as the list of the events still to come. A schedule may have 1000000000 events, so repeats are kept of it and no
+//! single events: one for each line, and one for each typed character. The reader depends on `xinu_base` and `arrayvec` alone.
 #![tactic(auto)]
 
 mod faults;
