@@ -10,27 +10,26 @@ use Rattle.machine.specs.Kernels.{heap_with, running, other_processes, other_mes
 use Rattle.image_loader.specs.declared.images.Image.{Image}
 use Rattle.image_loader.specs.declared.parts.Part.{Part}
 use Rattle.xinu_model.specs.Boot.{Loaded, LoadedPart, boot, Boots, end_of, image_process, with_parts}
-use Rattle.xinu_model.specs.Heap.{cells_for}
-use Rattle.xinu_model.specs.Machine.{Xinu, no_hart}
+use Rattle.xinu_model.specs.Heap.Cells.{cells_for}
+use Rattle.xinu_model.specs.Machine.{Xinu, first_parts, no_hart}
 use Rattle.xinu_base.specs.declared.registers.Hart.{Hart}
-use Rattle.xinu_model.specs.Ports.{first_ports}
-use Rattle.xinu_model.specs.ProcessCalls.{new_hart, stack_size}
+use Rattle.xinu_model.specs.Process.Creation.{new_hart, stack_size}
 use Rattle.xinu_model.specs.Tables.{Tables}
 use Rattle.xinu_model.specs.Memory.{in_ram, ram_size, with_bytes, zeros}
-use Rattle.xinu_model.proofs.Boots.{boot_with, booted, booted_tables, first_stack, stack_cells, started}
+use Rattle.xinu_model.proofs.Boot.{boot_with, booted, booted_tables, first_stack, stack_cells, started}
 
--- the element at k stands in front of those behind it
+-- the element at k stands before those after it
 pub drop_next : {A : Type 0} (l : List A) (k : ℕ) (x : A) → k < length l → x ≡ get_or l k x → drop k l ≡ x ∷ drop (k + 1) l
 drop_next l k x within is =
     drop-cons l k x within ∙ ap (λ y. y ∷ drop (suc k) l) (sym is) ∙ ap (λ n. x ∷ drop n l) (sym (add-one k))
 
--- The part at k is put in its place, and then those behind it.
+-- The part at k is put in its place, and then those after it.
 pub put_next : (parts : List Part) (k : ℕ) (part : Part) (memory all : List ℕ) → k < length parts → part ≡ get_or parts k part → with_parts (map part_of (drop k parts)) memory ≡ all
     → with_parts (map part_of (drop (k + 1) parts)) (with_bytes memory part.place (length part.bytes.now) part.bytes.now) ≡ all
 put_next parts k part memory all within is so_far =
     sym (ap (λ (l : List Part). with_parts (map part_of l) memory) (drop_next parts k part within is)) ∙ so_far
 
--- The parts from k on lie in RAM: so do the one at k and those behind it.
+-- The parts from k on lie in RAM: so do the one at k and those after it.
 pub lie_next : (parts : List Part) (k : ℕ) (part : Part) → k < length parts → part ≡ get_or parts k part → list_all lies_in_ram (map part_of (drop k parts)) ≡ true
     → (lies_in_ram (part_of part) ≡ true) × (list_all lies_in_ram (map part_of (drop (k + 1) parts)) ≡ true)
 lie_next parts k part within is lie =
@@ -47,10 +46,7 @@ starting image low free taken top size = record {
   tables = started (record (image_process 1 image top) { stack_size = size });
   harts = no_hart ∷ new_hart image.entry (ram_size - 4) 0 0 ∷ other_harts;
   memory = with_parts image.parts zeros;
-  heap = heap_with low free taken;
-  pools = [];
-  ports = first_ports;
-  next_port = 0;
+  parts = first_parts (heap_with low free taken);
 }
 
 -- the registers of the machine at its start
@@ -63,8 +59,8 @@ boot_starting : (image : Loaded) (free : ℕ) → pos 1 ≤ℤ image.priority
     → booted image (first_stack image free) ≡ starting image (8 * cells_for (end_of image.parts)) free (cells_for (stack_size image.stack)) (ram_size - 4) (stack_size image.stack)
 boot_starting image free priority =
     let stack = first_stack image free in
-    ap (λ (t : Tables). record { tables = t; harts = slice_set (replicate 64 no_hart) 1 (new_hart image.entry (ram_size - 4) 0 0); memory = with_parts image.parts zeros; heap = stack.heap; pools = []; ports = first_ports; next_port = 0 }) (booted_tables image stack priority)
-    ∙ ap (λ (h : List Hart). record { tables = started (image_process 1 image stack.top); harts = h; memory = with_parts image.parts zeros; heap = stack.heap; pools = []; ports = first_ports; next_port = 0 }) (first_harts (new_hart image.entry (ram_size - 4) 0 0))
+    ap (λ (t : Tables). record { tables = t; harts = slice_set (replicate 64 no_hart) 1 (new_hart image.entry (ram_size - 4) 0 0); memory = with_parts image.parts zeros; parts = first_parts stack.heap }) (booted_tables image stack priority)
+    ∙ ap (λ (h : List Hart). record { tables = started (image_process 1 image stack.top); harts = h; memory = with_parts image.parts zeros; parts = first_parts stack.heap }) (first_harts (new_hart image.entry (ram_size - 4) 0 0))
 
 -- which is the state in which the image's process runs
 starting_runs : (image : Loaded) (low free taken : ℕ) → starting image low free taken (low + 8 * (free + taken) - 4) (8 * taken) ≡ running image.priority (new_hart image.entry (ram_size - 4) 0 0) (with_parts image.parts zeros) low free taken 0 2

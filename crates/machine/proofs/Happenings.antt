@@ -6,16 +6,16 @@ use Rattle.machine.specs.Printed.{EventPrints, shown_nothing}
 use Rattle.xinu_base.specs.declared.events.Event.{Event}
 use Rattle.xinu_base.specs.declared.events.Event.TheVariants.{Step, Tick, Key, Tx, Disk0, Disk1, Fail0, Fail1, Dump}
 use Rattle.xinu_base.specs.declared.lines.TranscriptLine.{TranscriptLine}
-use Rattle.xinu_model.specs.ClockCalls.{ticked}
+use Rattle.xinu_model.specs.Clock.{ticked}
 use Rattle.xinu_model.specs.Events.{effect_of, stepped, Happens}
-use Rattle.xinu_model.specs.Machine.{Xinu, Effect, nothing_happens}
+use Rattle.xinu_model.specs.Machine.{Xinu, EventResult, nothing_happens}
 
 -- what an event does that doesn't panic happens
 pub happens_as : (old new : Xinu) (e : Event) (lines : List TranscriptLine) → effect_of old e 0 ≡ record { lines = lines; state = new; panics = false } → Happens old e lines new
 happens_as old new e lines is = record {
   choice = 0;
   allowed = refl;
-  effect = is ∙ ap (λ (b : Bool). record { lines = lines; state = new; panics = b }) (sym (ap (λ (x : Effect). x.panics) is));
+  effect = is ∙ ap (λ (b : Bool). record { lines = lines; state = new; panics = b }) (sym (ap (λ (x : EventResult). x.panics) is));
 }
 
 -- an event that prints nothing
@@ -24,11 +24,11 @@ prints_nothing_as old new e out host is =
     record { lines = []; happens = happens_as old new e [] is; prints = shown_nothing out host }
 
 -- a step, by what it does
-pub step_does : (old : Xinu) (e : Event) (effect : Effect) → e ≡ Step → stepped old ≡ effect → effect_of old e 0 ≡ effect
+pub step_does : (old : Xinu) (e : Event) (effect : EventResult) → e ≡ Step → stepped old ≡ effect → effect_of old e 0 ≡ effect
 step_does old e effect is does = ap (λ (x : Event). effect_of old x 0) is ∙ does
 
 -- a tick, by what it does
-pub tick_does : (old : Xinu) (e : Event) (effect : Effect) → e ≡ Tick → ticked old ≡ effect → effect_of old e 0 ≡ effect
+pub tick_does : (old : Xinu) (e : Event) (effect : EventResult) → e ≡ Tick → ticked old ≡ effect → effect_of old e 0 ≡ effect
 tick_does old e effect is does = ap (λ (x : Event). effect_of old x 0) is ∙ does
 
 -- every other event does nothing, but for the printing of the tables

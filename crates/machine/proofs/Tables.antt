@@ -6,12 +6,12 @@ use Rattle.xinu_base.specs.declared.registers.Hart.{Hart}
 use Rattle.machine.specs.Kernels.{running, ended, other_processes, other_messages}
 use Rattle.machine.specs.TableLines.{free_lines, running_lines, ended_lines}
 use Rattle.xinu_model.specs.Boot.{first_semaphores}
-use Rattle.xinu_model.specs.Heap.{blocks_from}
-use Rattle.xinu_model.specs.Ports.{first_ports}
+use Rattle.xinu_model.specs.Heap.Cells.{blocks_from}
+use Rattle.xinu_model.specs.Ports.Queues.{first_ports}
 use Rattle.xinu_model.specs.Text.{free_line, port_lines, process_lines, semaphore_lines, tables_of}
-use Rattle.xinu_model.proofs.Heaps.{blocks_of_parts, blocks_of_free}
+use Rattle.xinu_model.proofs.Heap.{blocks_of_parts, blocks_of_free}
 
--- No entry stands behind the image's process.
+-- No entry stands after the image's process.
 no_others : (messages : List (Option ℕ)) → process_lines 2 other_processes messages ≡ []
 unfolding other_processes
 no_others messages = refl
@@ -26,7 +26,7 @@ free_parts : (low free taken : ℕ) → map free_line (blocks_from low (replicat
 free_parts low free taken =
     ap (λ (b : List (ℕ × ℕ)). map free_line b) (blocks_of_parts low free taken) ∙ one_block low free (free == 0)
 
--- the line of the heap where all cells are free
+-- the line of the heap if all cells are free
 free_whole : (low cells : ℕ) → map free_line (blocks_from low (replicate cells true)) ≡ free_lines low cells
 free_whole low cells =
     ap (λ (b : List (ℕ × ℕ)). map free_line b) (blocks_of_free low cells) ∙ one_block low cells (cells == 0)

@@ -5,17 +5,17 @@ use Rattle.host_port.specs.LineText.{blanked}
 use Rattle.xinu_base.specs.Hexadecimal.{hex_of}
 use Rattle.xinu_model.specs.Text.{with_word, with_words, or_hyphen}
 
--- A word behind a blank is a word of the line.
+-- A word after a blank is a word of the line.
 pub with_word-blanked : (line word : List ℕ) → blanked line ++ word ≡ with_word line word
 with_word-blanked [] word = refl
 with_word-blanked (b ∷ line) word = ap (λ (l : List ℕ). b ∷ l) (append_assoc line (32 ∷ []) word)
 
--- Words behind words are one list of words.
+-- Words after words are one list of words.
 pub with_words-append : (line : List ℕ) (first second : List (List ℕ)) → with_words line (first ++ second) ≡ with_words (with_words line first) second
 with_words-append line [] second = refl
 with_words-append line (word ∷ first) second = with_words-append (with_word line word) first second
 
--- One more number stands behind the words so far.
+-- One more number stands after the words so far.
 pub one_more : {A : Type 0} (shown : A → List ℕ) (text line : List ℕ) (numbers : List A) (k : ℕ) (n d : A) → k < length numbers → n ≡ get_or numbers k d
     → text ≡ with_words line (map shown (take k numbers))
     → blanked text ++ shown n ≡ with_words line (map shown (take (k + 1) numbers))

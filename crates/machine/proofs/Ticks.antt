@@ -7,14 +7,14 @@ use Rattle.machine.specs.Kernels.{running, ended}
 use Rattle.machine.specs.KernelViews.{state_of, IsKernel}
 use Rattle.machine.specs.declared.kernel.Kernel.TheInside.{Inside}
 use Rattle.machine.proofs.Steps.{alive_state, dead_state}
-use Rattle.xinu_model.specs.ClockCalls.{ticked}
+use Rattle.xinu_model.specs.Clock.{ticked}
 use Rattle.xinu_model.specs.Machine.{Xinu}
 
 -- the quantum one tick later
 abbrev pub next_quantum : ℕ → ℕ
 next_quantum quantum = if nat_lt 1 quantum then quantum - 1 else 2
 
--- the null process stands behind every other
+-- the null process stands after every other
 above_null : (priority : ℤ) → pos 1 ≤ℤ priority → int_lt (pos 0) priority ≡ true
 above_null priority h = grind (arith, ints)
 
@@ -24,7 +24,7 @@ pub tick_running : (priority : ℤ) (hart : Hart) (memory : List ℕ) (low free 
 tick_running priority hart memory low free taken ticks quantum true is h = rw is refl
 tick_running priority hart memory low free taken ticks quantum false is h = rw (is, above_null priority h) refl
 
--- The same where the null process alone is left.
+-- The same if the null process alone is left.
 pub tick_ended : (memory : List ℕ) (low cells ticks quantum : ℕ) (falls : Bool) → nat_lt 1 quantum ≡ falls
     → ticked (ended memory low cells ticks quantum) ≡ record { lines = []; state = ended memory low cells (ticks + 1) (next_quantum quantum); panics = false }
 tick_ended memory low cells ticks quantum true is = rw is refl

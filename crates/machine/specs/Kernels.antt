@@ -5,29 +5,28 @@ use Rattle.xinu_base.specs.declared.processes.State.TheVariants.{Current, Ready}
 use Rattle.xinu_base.specs.declared.processes.Rest.TheVariants.{Nothing}
 use Rattle.xinu_base.specs.declared.registers.Hart.{Hart}
 use Rattle.xinu_model.specs.Boot.{null_process, first_semaphores}
-use Rattle.xinu_model.specs.Heap.{Heap}
-use Rattle.xinu_model.specs.Machine.{Xinu, no_hart}
-use Rattle.xinu_model.specs.Moves.{in_state}
-use Rattle.xinu_model.specs.Ports.{first_ports}
+use Rattle.xinu_model.specs.Heap.Cells.{Heap}
+use Rattle.xinu_model.specs.Machine.{Xinu, first_parts, no_hart}
+use Rattle.xinu_model.specs.Process.Scheduling.{in_state}
 use Rattle.xinu_model.specs.Tables.{no_process}
 
--- the entries of the process table behind the image's process
+-- the entries of the process table after the image's process
 unfoldable pub other_processes : List Process
 other_processes = replicate 62 no_process
 
--- the messages behind its message
+-- the messages after its message
 unfoldable pub other_messages : List (Option ℕ)
 other_messages = replicate 62 None
 
--- the registers behind its registers
+-- the registers after its registers
 unfoldable pub other_harts : List Hart
 other_harts = replicate 62 no_hart
 
--- the heap from an address on: cells that are free, and behind them cells that are taken
+-- the heap from an address on: cells that are free, and after them cells that are taken
 abbrev pub heap_with : ℕ → ℕ → ℕ → Heap
 heap_with low free taken = record { low = low; cells = replicate free true ++ replicate taken false }
 
--- the image's process, which runs on a stack of these cells behind the free ones
+-- the image's process, which runs on a stack of these cells after the free ones
 abbrev pub running_process : ℤ → ℕ → ℕ → ℕ → Process
 running_process priority low free taken = record {
   state = Current;
@@ -56,10 +55,7 @@ running priority hart memory low free taken ticks quantum = record {
   };
   harts = no_hart ∷ hart ∷ other_harts;
   memory = memory;
-  heap = heap_with low free taken;
-  pools = [];
-  ports = first_ports;
-  next_port = 0;
+  parts = first_parts (heap_with low free taken);
 }
 
 -- the image's process is dead
@@ -79,8 +75,5 @@ ended memory low free ticks quantum = record {
   };
   harts = no_hart ∷ no_hart ∷ other_harts;
   memory = memory;
-  heap = record { low = low; cells = replicate free true };
-  pools = [];
-  ports = first_ports;
-  next_port = 0;
+  parts = first_parts (record { low = low; cells = replicate free true });
 }

@@ -1,4 +1,4 @@
--- What the machine prints: one event, and several lists of lines one behind the other.
+-- What the machine prints: one event, and several lists of lines one after another.
 use Rattle.std.specs.Prelude.{◌≡◌, ℕ, Bool, true, false, List, [], ◌∷◌, ◌++◌, refl}
 use Rattle.std.proofs.Common.{sym, ap, ◌∙◌, subst, append_assoc}
 use Rattle.host_port.specs.Outside.{Outside}
@@ -21,18 +21,18 @@ pub record EventPrints (old : Xinu) (e : Event) (new : Xinu) (before after : Pri
   pub happens : Happens old e lines new
   pub prints : Prints before after was is (shown before.plain lines)
 
--- the text of lines, and of lines behind them
+-- the text of lines, and of lines after them
 pub text-append : (first second : List TranscriptLine) → text (first ++ second) ≡ text first ++ text second
 text-append [] second = refl
 text-append (line ∷ first) second =
     ap (λ t. line_text line ++ t) (text-append first second) ∙ sym (append_assoc (line_text line) (text first) (text second))
 
--- what is shown of lines, and of lines behind them
+-- what is shown of lines, and of lines after them
 pub shown-append : (plain : Bool) (first second : List TranscriptLine) → shown plain (first ++ second) ≡ shown plain first ++ shown plain second
 shown-append true first second = refl
 shown-append false first second = text-append first second
 
--- Lines that were printed, and lines that were printed behind them, were printed as one list.
+-- Lines that were printed, and lines that were printed after them, were printed as one list.
 pub shown_both : (a b c : Printing) (h i j : Outside) (first second : List TranscriptLine) → Prints a b h i (shown a.plain first) → Prints b c i j (shown b.plain second) → Prints a c h j (shown a.plain (first ++ second))
 shown_both a b c h i j first second before after =
     let same : shown b.plain second ≡ shown a.plain second = ap (λ p. shown p second) before.mode in

@@ -1,7 +1,7 @@
 -- What the answer to an event says of the run.
 use Rattle.std.specs.Prelude.{Option, Some, None}
-use Rattle.machine.specs.declared.running.Go.{Go}
-use Rattle.machine.specs.declared.running.Go.TheVariants as go
+use Rattle.machine.specs.declared.machine.Go.{Go}
+use Rattle.machine.specs.declared.machine.Go.TheVariants as go
 use Rattle.xinu_base.specs.declared.events.End.{End}
 use Rattle.xinu_base.specs.declared.events.End.TheVariants.{Done, Panic}
 

@@ -5,7 +5,7 @@ use Rattle.machine.specs.declared.boot.BootFault.TheVariants as fault
 use Rattle.machine.specs.Printed.{Booted}
 use Rattle.xinu_model.specs.Boot.{Loaded, Boots, NoRoom, boot}
 
--- A machine is in the state in which the images boot, and took no event; a refusal but for want of memory is that of boot.
+-- A machine is in the state in which the images boot, and took no event; a refusal other than out of memory is that of boot.
 abbrev pub Starts : List Loaded → Result Booted BootFault → Type 0
 Starts images (Ok m) = (boot images ≡ Boots m.state) × (m.events ≡ 0) × (m.over ≡ false)
 Starts images (Err (fault.NoRoom i)) = boot images ≡ NoRoom i

@@ -6,7 +6,7 @@ use Rattle.xinu_base.specs.declared.processes.State.TheVariants.{Current, Ready}
 use Rattle.machine.specs.Kernels.{running_process}
 use Rattle.xinu_model.specs.Boot.{null_process}
 
--- the line of the cells from an address on, where there are any
+-- the line of the cells from an address on, if there are any
 abbrev pub free_lines : ℕ → ℕ → List TranscriptLine
 free_lines low cells = if cells == 0 then [] else line.Free low (8 * cells) ∷ []
 

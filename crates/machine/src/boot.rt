@@ -1,22 +1,22 @@
 //! Boot: RAM holds the image, the heap gives its stack, and its process runs.
 
-ghost use Rattle.std.specs.Prelude.{◌≡◌, ◌+◌, ◌*◌, ◌≤◌, ◌≤ℤ◌, ◌∷◌, [], pos, true, false, length, map};
+ghost use Rattle.std.specs.Prelude.{◌≡◌, ◌+◌, ◌-◌, ◌*◌, ◌≤◌, ◌≤ℤ◌, ◌∷◌, [], pos, true, false, length, map};
 ghost use Rattle.std.specs.List.{list_all};
 ghost use Rattle.image_loader.specs.Images.{loaded_of};
 ghost use Rattle.image_loader.specs.Parts.{lies_in_ram, part_of};
 ghost use Rattle.machine.specs.Starts.{Starts};
 ghost use Rattle.xinu_model.specs.Boot as model;
-ghost use Rattle.xinu_model.specs.Heap as heap;
+ghost use Rattle.xinu_model.specs.Heap.Cells as heap;
 ghost use Rattle.xinu_model.specs.Memory.{ram_size, zeros};
-ghost use Rattle.xinu_model.specs.ProcessCalls as calls;
+ghost use Rattle.xinu_model.specs.Process.Creation as calls;
 
-use crate::kernel::{Kernel, QUANTUM};
-use crate::room::{cells_for, end_of, has_room, stack_cells};
-use crate::running::Machine;
+use crate::kernel::Kernel;
+use crate::machine::Machine;
+use crate::memory_map::{cells_for, end_of, has_room, stack_cells};
 use image_loader::{Image, Part};
 use rv_hart::{Hart, Ram};
 use std::alloc::Global;
-use xinu_base::NoMemory;
+use xinu_base::{INITRET, NoMemory, QUANTUM, RAM_SIZE};
 
 /// Why a machine wasn't booted.
 #[derive(Clone, Copy, Debug, PartialEq, Eq)]
@@ -27,16 +27,13 @@ pub enum BootFault {
     NoMemory,
 }
 
-/// How many cells of eight bytes RAM has.
-const RAM_CELLS: u64 = 131_072;
-
 impl Machine {
     /// A machine that holds the image and is about to run its process (book, chapter 22).
     ///
     /// There is exactly one image.
     ///
     /// # Errors
-    /// `NoRoom(1)` exactly where the heap behind the image has no room for the stack of its process; `NoMemory`.
+    /// `NoRoom(1)` if and only if the heap after the image has no room for the stack of its process; `NoMemory`.
     pub fn boot(alloc: Global, images: &[Image<'_>]) -> Result<Machine, BootFault>
         requires one { length images.now ≡ 1 }
         ensures starts { Starts (map loaded_of images.now) result }
@@ -83,7 +80,7 @@ fn first_kernel(image: &Image<'_>, mut ram: Ram) -> Kernel
         hart: first_hart(image.entry),
         ram,
         low: (8 * below) as u32,
-        free: (RAM_CELLS - below - taken) as u32,
+        free: ((RAM_SIZE / 8) as u64 - below - taken) as u32,
         taken: taken as u32,
         ticks: 0,
         quantum: QUANTUM,
@@ -102,10 +99,10 @@ fn load(ram: &mut Ram, parts: &[Part<'_>])
 
 // The registers with which the image's process begins, on a stack that ends with RAM.
 fn first_hart(entry: u32) -> Hart
-    ensures { result ≡ calls.new_hart entry 1048572 0 0 }
+    ensures { result ≡ calls.new_hart entry (ram_size - 4) 0 0 }
 {
     let mut regs = [0; 32];
-    regs[1] = 0xffff_fffc;
-    regs[2] = 1_048_560;
+    regs[1] = INITRET;
+    regs[2] = RAM_SIZE - 16;
     Hart { regs, pc: entry }
 }

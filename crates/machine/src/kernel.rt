@@ -1,6 +1,6 @@
 //! The kernel while it serves one image: the image's process, while it lives, and the null process.
 //!
-//! Below it stands the processor core with its RAM. The heap's cells are those that are free and, behind them, the stack's.
+//! Below it is the processor core with its RAM. The heap's cells are those that are free and, after them, the stack's.
 
 ghost use Rattle.std.specs.Prelude.{◌≡◌, ◌*◌, ◌+◌, ◌^◌, ◌<◌, ◌≤◌, ◌++◌, ◌∷◌, ◌==◌, [], None, if◌then◌else◌, pos, negsuc, false, not, IfNone, IfSome};
 ghost use Rattle.arrayvec.specs.ArrayVec.{array_vec_len};
@@ -8,24 +8,22 @@ ghost use Rattle.machine.specs.Kernels as kernels;
 ghost use Rattle.machine.specs.TableLines as tables;
 ghost use Rattle.xinu_base.specs.declared.lines.TranscriptLine.TheVariants as line;
 ghost use Rattle.xinu_model.specs.Boot as model;
-ghost use Rattle.xinu_model.specs.ClockCalls.{ticked};
-ghost use Rattle.xinu_model.specs.Events.{call_of, stepped};
+ghost use Rattle.xinu_model.specs.Clock.{ticked};
+ghost use Rattle.xinu_model.specs.Events as events;
+ghost use Rattle.xinu_model.specs.Events.{stepped};
 ghost use Rattle.xinu_model.specs.Runs.{is_over};
 ghost use Rattle.xinu_model.specs.Text.{tables_of};
 
 use arrayvec::ArrayVec;
 use rv_hart::{Hart, Outcome, Ram, step};
 use std::marker::Model;
-use xinu_base::{Call, Pid, State, TranscriptLine};
+use xinu_base::{Call, Pid, QUANTUM, SYSERR, State, TranscriptLine};
 
 /// The lines of one event: at most the call, its reply and the switch.
 pub(crate) type EventLines = ArrayVec<TranscriptLine, 3>;
 
 /// The lines of the tables: the clock, two processes, a ready one, a free block and three devices.
 pub(crate) type TableLines = ArrayVec<TranscriptLine, 8>;
-
-/// The ticks that a process runs before the others have their turn.
-pub(crate) const QUANTUM: u8 = 2;
 
 /// The state of the machine. A clause sees the abstract machine's.
 #[derive(Drop)]
@@ -42,7 +40,7 @@ pub(crate) struct Kernel {
     pub(crate) low: u32,
     /// How many cells of the heap were free while the process lived.
     pub(crate) free: u32,
-    /// How many cells behind these its stack has.
+    /// How many cells after these its stack has.
     pub(crate) taken: u32,
     /// The ticks so far.
     pub(crate) ticks: u32,
@@ -106,7 +104,7 @@ impl Kernel {
         };
     }
 
-    /// A step of the current process. None where nothing is to be printed.
+    /// A step of the current process. `None` if nothing is to be printed.
     pub(crate) fn step(&mut self) -> Option<EventLines>
         ensures quiet { IfNone result (stepped self.old ≡ record { lines = []; state = self.new; panics = false }) }
         ensures lines { IfSome result (λ lines. stepped self.old ≡ record { lines = lines.items; state = self.new; panics = false }) }
@@ -118,25 +116,25 @@ impl Kernel {
         match step(&mut self.hart, &mut self.ram) {
             Outcome::Went => None,
             Outcome::Call => {
-                let call = asked(&self.hart);
+                let call = call_of(&self.hart);
                 let line = TranscriptLine::Call(image_process(), call);
                 if call.number == 9 {
-                    return Some(bury(&mut self.is_alive, &mut self.quantum, line));
+                    return Some(reap(&mut self.is_alive, &mut self.quantum, line));
                 }
                 let value = answer(call.number);
                 self.hart.regs[10] = value.cast_unsigned();
                 Some(reply_lines(line, value))
             }
             Outcome::Exit => {
-                let mut call = asked(&self.hart);
+                let mut call = call_of(&self.hart);
                 call.number = 9;
-                Some(bury(
+                Some(reap(
                     &mut self.is_alive,
                     &mut self.quantum,
                     TranscriptLine::Call(image_process(), call),
                 ))
             }
-            Outcome::Trap(cause) => Some(bury(
+            Outcome::Trap(cause) => Some(reap(
                 &mut self.is_alive,
                 &mut self.quantum,
                 TranscriptLine::Trap(image_process(), cause),
@@ -146,8 +144,8 @@ impl Kernel {
 }
 
 // The call that registers ask for.
-fn asked(hart: &Hart) -> Call
-    ensures { result ≡ call_of hart.now }
+fn call_of(hart: &Hart) -> Call
+    ensures { result ≡ events.call_of hart.now }
 {
     let regs = &hart.regs;
     Call {
@@ -160,12 +158,12 @@ fn asked(hart: &Hart) -> Call
 fn answer(number: u32) -> i32
     ensures { result ≡ (if number == 1 then pos 1 else negsuc 0) }
 {
-    if number == 1 { 1 } else { -1 }
+    if number == 1 { 1 } else { SYSERR }
 }
 
 // The death of the image's process, by its lines: why it died, and that the null process runs, with a fresh quantum.
-fn bury(is_alive: &mut bool, quantum: &mut u8, why: TranscriptLine) -> EventLines
-    ensures lines { result.items ≡ why ∷ line.Run 0 ∷ [] }
+fn reap(is_alive: &mut bool, quantum: &mut u8, why: TranscriptLine) -> EventLines
+    ensures lines { result.items ≡ why ∷ line.Switch 0 ∷ [] }
     ensures dead { is_alive.new ≡ false }
     ensures fresh { quantum.new ≡ 2 }
 {
@@ -173,7 +171,7 @@ fn bury(is_alive: &mut bool, quantum: &mut u8, why: TranscriptLine) -> EventLine
     *quantum = QUANTUM;
     let mut lines = EventLines::new();
     lines.push(why);
-    lines.push(TranscriptLine::Run(Pid::default()));
+    lines.push(TranscriptLine::Switch(Pid::default()));
     lines
 }
 
@@ -215,7 +213,7 @@ fn ended_lines(ticks: u32, quantum: u8, low: u32, cells: u32) -> TableLines
     lines
 }
 
-// Appends the line of the cells from an address on, where there are any.
+// Appends the line of the cells from an address on, if there are any.
 fn put_free(lines: &mut TableLines, low: u32, cells: u32)
     requires fits { 8 * cells < 2 ^ 32 }
     requires room { array_vec_len lines.old ≤ 4 }

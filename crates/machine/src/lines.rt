@@ -4,7 +4,7 @@ ghost use Rattle.std.specs.Prelude.{◌≡◌, ◌+◌, ◌*◌, ◌++◌, ◌�
 ghost use Rattle.std.specs.Fmt.{decimal, signed_decimal};
 ghost use Rattle.host_port.specs.LineText.{blanked};
 ghost use Rattle.xinu_base.specs.declared.lines.TranscriptLine.TheVariants as variant;
-ghost use Rattle.xinu_model.specs.ProcessCalls as processes;
+ghost use Rattle.xinu_model.specs.Process.Creation as processes;
 ghost use Rattle.xinu_model.specs.Text as model;
 ghost use Rattle.xinu_model.specs.Words as words;
 
@@ -39,7 +39,7 @@ fn put_words(text: &mut Line, line: &TranscriptLine)
             "ret",
             &[number(*p), i64::from(*value)],
         ),
-        TranscriptLine::Run(p) => put_numbers(text, "run", &[number(*p)]),
+        TranscriptLine::Switch(p) => put_numbers(text, "run", &[number(*p)]),
         TranscriptLine::Now(ticks, quantum) => {
             put_numbers(text, "now", &[i64::from(*ticks), i64::from(*quantum)]);
         }
@@ -56,10 +56,14 @@ fn put_words(text: &mut Line, line: &TranscriptLine)
             put_name(text, name);
         }
         TranscriptLine::Ready(p, key) => put_numbers(text, "ready", &[number(*p), i64::from(*key)]),
-        TranscriptLine::Semaphore(s, count) => {
-            put_numbers(text, "sem", &[s.index() as i64, i64::from(*count)]);
+        TranscriptLine::Semaphore(sem, count) => {
+            put_numbers(text, "sem", &[sem.index() as i64, i64::from(*count)]);
         }
-        TranscriptLine::Waiter(s, p) => put_numbers(text, "wait", &[s.index() as i64, number(*p)]),
+        TranscriptLine::Waiter(sem, p) => put_numbers(
+            text,
+            "wait",
+            &[sem.index() as i64, number(*p)],
+        ),
         TranscriptLine::Sleeper(p, wake) => {
             put_numbers(text, "sleep", &[number(*p), i64::from(*wake)]);
         }

@@ -3,8 +3,8 @@ use Rattle.std.proofs.Common.{◌≡◌, ◌∙◌, ℕ, ◌<◌, ◌^◌, List,
 use Rattle.xinu_base.specs.declared.Hart.{Hart}
 use Rattle.xinu_base.specs.declared.Outcome.TheVariants.{Trap}
 use Rattle.xinu_base.specs.declared.Cause.TheVariants.{Illegal}
-use Rattle.xinu_model.specs.Effects.{stops}
-use Rattle.xinu_model.specs.Exec.{Executed, obeyed, perform}
+use Rattle.xinu_model.specs.Isa.Effects.{stops}
+use Rattle.xinu_model.specs.Isa.Exec.{Executed, obeyed, perform}
 use Rattle.rv_isa.specs.RowFields.{opcode_of}
 use Rattle.rv_isa.proofs.RowByFields.{row_of-parts}
 use Rattle.rv_hart.specs.Opcodes.{of_opcode}

@@ -3,10 +3,10 @@
 //! Each function answers for the rows of one opcode. A transfer that traps writes no register.
 
 ghost use Rattle.std.specs.Prelude.{◌≡◌, ◌<◌, List, ℕ, Some, None, if◌then◌else◌};
-ghost use Rattle.xinu_model.specs.Instructions.{rd_of, sign_extended};
-ghost use Rattle.xinu_model.specs.Effects.{register, with_register, plus, less, shift_right_signed};
+ghost use Rattle.xinu_model.specs.Isa.Instructions.{rd_of, sign_extended};
+ghost use Rattle.xinu_model.specs.Isa.Effects.{register, with_register, plus, less, shift_right_signed};
 ghost use Rattle.xinu_model.specs.Memory.{may_access, number_at, with_number};
-ghost use Rattle.xinu_model.specs.Exec.{perform};
+ghost use Rattle.xinu_model.specs.Isa.Exec.{perform};
 ghost use Rattle.rv_hart.specs.Opcodes.{of_opcode};
 
 use crate::ram::Ram;

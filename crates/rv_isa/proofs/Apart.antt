@@ -4,7 +4,7 @@ use Rattle.std.specs.Prelude.{bit_and}
 use Rattle.std.specs.List.{AllPairs}
 use Rattle.std.proofs.lemmas.Nat.{and_assoc, and_comm}
 use Rattle.std.proofs.lemmas.Bool.{and_parts, eqb-true, not-true, eq-eqb, true≢false}
-use Rattle.xinu_model.specs.Instructions.{Row, rows}
+use Rattle.xinu_model.specs.Isa.Instructions.{Row, rows}
 use Rattle.rv_isa.specs.Table.{NoWordHasBoth}
 
 -- whether two rows ask different values of a bit that both fix

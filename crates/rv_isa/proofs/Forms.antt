@@ -4,7 +4,7 @@ use Rattle.std.specs.Int.{w32, cast_unsigned, cast_signed}
 use Rattle.std.proofs.lemmas.Int.{to_z-of_z}
 use Rattle.std.proofs.lemmas.Bool.{ltb-true, eqb-true, and_parts}
 use mir.Val.{SFits}
-use Rattle.xinu_model.specs.Instructions.{Row, rows, FormU, FormJ, FormI, FormB, FormS, FormShift, FormR}
+use Rattle.xinu_model.specs.Isa.Instructions.{Row, rows, FormU, FormJ, FormI, FormB, FormS, FormShift, FormR}
 use Rattle.xinu_model.specs.Words.{signed}
 use Rattle.rv_isa.specs.RowFields.{row_by, funct3_of, funct7_of}
 use Rattle.rv_isa.specs.Words.{instruction_of, instr_with, is_register, is_within, is_multiple, is_valid_u, is_valid_j, is_valid_i, is_valid_b, is_valid_s, is_valid_shift, is_valid_r}

@@ -2,7 +2,7 @@
 use Rattle.std.proofs.Common.{◌≡◌, ℕ, ◌%◌, ◌<◌, true, ℤ, pos, negsuc, arith}
 use Rattle.std.specs.Int.{w32, cast_unsigned}
 use Rattle.std.proofs.lemmas.Bool.Decides.{nat_tests}
-use Rattle.xinu_model.specs.Instructions.{sign_extended}
+use Rattle.xinu_model.specs.Isa.Instructions.{sign_extended}
 use Rattle.xinu_model.specs.Words.{signed}
 use Rattle.rv_isa.specs.Words.{is_within}
 

@@ -1,6 +1,6 @@
 -- A word is an instruction if its opcode, funct3 and funct7 name the row, and its fields are those of the instruction.
 use Rattle.std.proofs.Common.{◌≡◌, ℕ, ◌<◌, ◌^◌, ℤ, Some, ap, ◌∙◌}
-use Rattle.xinu_model.specs.Instructions.{Row, Form, rows, row_of, fields}
+use Rattle.xinu_model.specs.Isa.Instructions.{Row, Form, rows, row_of, fields}
 use Rattle.xinu_model.specs.Words.{signed}
 use Rattle.rv_isa.specs.RowFields.{row_by, opcode_of, funct3_of, funct7_of}
 use Rattle.rv_isa.proofs.RowByFields.{row_of-parts}

@@ -5,7 +5,7 @@ use Rattle.std.proofs.lemmas.Nat.{and_mask, and_block}
 use Rattle.std.proofs.lemmas.Bool.Decides.{nat_tests, eqb_tells}
 use Rattle.std.proofs.lemmas.Bool.{and_parts, ltb-true, eqb-true}
 use Rattle.rv_isa.specs.RowFields.{opcode_of, funct3_of, funct7_of, has_parts, row_by}
-use Rattle.xinu_model.specs.Instructions.{Row, rows, row_in, row_of}
+use Rattle.xinu_model.specs.Isa.Instructions.{Row, rows, row_in, row_of}
 
 -- the opcode alone
 pub opcode_masked : (w : ℕ) → bit_and w 0x7f ≡ opcode_of w

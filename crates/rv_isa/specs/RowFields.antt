@@ -1,6 +1,6 @@
 -- The row of a word by its opcode, funct3 and funct7, the fields that the table's masks keep.
 use Rattle.std.specs.Prelude.{ℕ, ◌/◌, ◌%◌, Bool, ◌&&◌, ◌==◌, if◌then◌else◌, List, [], ◌∷◌, Option, Some, None}
-use Rattle.xinu_model.specs.Instructions.{Row}
+use Rattle.xinu_model.specs.Isa.Instructions.{Row}
 
 -- the opcode of a word
 abbrev pub opcode_of : ℕ → ℕ

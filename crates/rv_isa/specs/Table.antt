@@ -1,6 +1,6 @@
 -- The table of the code beside that of the definition.
 use Rattle.std.specs.Prelude.{◌≡◌, ℕ, true, List, codes}
-use Rattle.xinu_model.specs.Instructions.{Name, Row, Form, has_bits, FormU, FormJ, FormI, FormB, FormS, FormShift, FormR, FormFence, FormWhole, Lui, Auipc, Jal, Jalr, Beq, Bne, Blt, Bge, Bltu, Bgeu, Lb, Lh, Lw, Lbu, Lhu, Sb, Sh, Sw, Addi, Slti, Sltiu, Xori, Ori, Andi, Slli, Srli, Srai, Add, Sub, Sll, Slt, Sltu, Xor, Srl, Sra, Or, And, Fence, Ecall, Ebreak}
+use Rattle.xinu_model.specs.Isa.Instructions.{Name, Row, Form, has_bits, FormU, FormJ, FormI, FormB, FormS, FormShift, FormR, FormFence, FormWhole, Lui, Auipc, Jal, Jalr, Beq, Bne, Blt, Bge, Bltu, Bgeu, Lb, Lh, Lw, Lbu, Lhu, Sb, Sh, Sw, Addi, Slti, Sltiu, Xori, Ori, Andi, Slli, Srli, Srai, Add, Sub, Sll, Slt, Sltu, Xor, Srl, Sra, Or, And, Fence, Ecall, Ebreak}
 use Rattle.rv_isa.specs.declared.rows.Row.{Row as CodeRow}
 use Rattle.rv_isa.specs.declared.rows.Form.{Form as CodeForm}
 use Rattle.rv_isa.specs.declared.rows.Form.TheVariants.{U, J, I, B, S, Shift, R, Fence as FenceForm, Whole}

@@ -1,8 +1,8 @@
 -- The instruction that a word is, and which instructions have a word.
 use Rattle.std.specs.Prelude.{◌≡◌, ℕ, ◌==◌, ◌%◌, Bool, true, ◌&&◌, nat_lt, int_le, ℤ, pos, negsuc, Option, None, Some}
 use Rattle.std.specs.Int.{w32, cast_unsigned}
-use Rattle.xinu_model.specs.Instructions as definition
-use Rattle.xinu_model.specs.Instructions.{Name, Form, Row, Fields, fields, row_of, rows}
+use Rattle.xinu_model.specs.Isa.Instructions as definition
+use Rattle.xinu_model.specs.Isa.Instructions.{Name, Form, Row, Fields, fields, row_of, rows}
 use Rattle.xinu_model.specs.Words.{signed}
 use Rattle.rv_isa.specs.RowFields.{row_by, funct3_of, funct7_of}
 use Rattle.rv_isa.specs.declared.instr.Instr.{Instr}

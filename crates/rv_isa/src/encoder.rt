@@ -3,7 +3,7 @@
 //! Each function below `encode` puts the fields of one form in their places; a macro writes the arms of `encode`.
 
 ghost use Rattle.std.specs.Prelude.{◌≡◌, ◌<◌, pos, Some, true};
-ghost use Rattle.xinu_model.specs.Instructions.{FormU, FormJ, FormI, FormB, FormS, FormShift, FormR};
+ghost use Rattle.xinu_model.specs.Isa.Instructions.{FormU, FormJ, FormI, FormB, FormS, FormShift, FormR};
 ghost use Rattle.rv_isa.specs.RowFields.{funct3_of, funct7_of};
 ghost use Rattle.rv_isa.specs.Words.{instruction_of, IsWordOf, is_valid, is_valid_u, is_valid_j, is_valid_i, is_valid_b, is_valid_s, is_valid_shift, is_valid_r};
 

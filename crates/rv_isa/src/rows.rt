@@ -2,7 +2,7 @@
 
 ghost use Rattle.std.specs.Prelude.{◌≡◌, map};
 ghost use Rattle.std.specs.List.{AllPairs};
-ghost use Rattle.xinu_model.specs.Instructions.{rows};
+ghost use Rattle.xinu_model.specs.Isa.Instructions.{rows};
 ghost use Rattle.rv_isa.specs.Table.{NoWordHasBoth, seen, defined};
 
 /// How the fields of an instruction lie in its word.

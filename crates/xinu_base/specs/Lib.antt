@@ -1,3 +1,4 @@
-pub mod Calls
+pub mod Constants
 pub mod Hexadecimal
 pub mod Insert
+pub mod Syscalls

@@ -1,10 +1,10 @@
 //! The lines of a transcript, as data.
 
-use crate::calls::Call;
 use crate::events::End;
 use crate::numbers::{Pid, PoolId, Port, Sem};
 use crate::processes::State;
 use crate::registers::Cause;
+use crate::syscalls::Call;
 
 /// What becomes of a file call at a completion of its disk, or when it is made.
 #[derive(Clone, Copy, Debug, PartialEq, Eq)]
@@ -24,12 +24,12 @@ pub enum TranscriptLine {
     Call(Pid, Call),
     /// A process was trapped.
     Trap(Pid, Cause),
-    /// What became of a file call; the process is 0 where its caller was killed.
+    /// What became of a file call; the process is 0 if its caller was killed.
     File(Pid, FileMoment),
     /// A process got a reply.
     Return(Pid, i32),
     /// Another process became current.
-    Run(Pid),
+    Switch(Pid),
     /// The ticks so far, and the ticks that are left of the quantum.
     Now(u32, u8),
     /// An entry of the process table.
@@ -44,7 +44,7 @@ pub enum TranscriptLine {
         parent: Pid,
         /// The message that it holds.
         message: Option<u32>,
-        /// Its name, with zeros behind its end.
+        /// Its name, with zeros after its end.
         name: [u8; 15],
     },
     /// A process in the ready list, with its key.

@@ -21,7 +21,7 @@ impl Model for Pid {
 }
 
 impl Pid {
-    /// The number that a word holds. None exactly where the word isn't below 64.
+    /// The number that a word holds. `None` if and only if the word isn't below 64.
     pub fn from_word(w: u32) -> Option<Self>
         ensures { result ≡ (if nat_lt w 64 then Some w else None) }
     {
@@ -66,7 +66,7 @@ impl Model for Sem {
 }
 
 impl Sem {
-    /// The number that a word holds. None exactly where the word isn't below 128.
+    /// The number that a word holds. `None` if and only if the word isn't below 128.
     pub fn from_word(w: u32) -> Option<Self>
         ensures { result ≡ (if nat_lt w 128 then Some w else None) }
     {
@@ -111,7 +111,7 @@ impl Model for PoolId {
 }
 
 impl PoolId {
-    /// The number that a word holds. None exactly where the word isn't below 20.
+    /// The number that a word holds. `None` if and only if the word isn't below 20.
     pub fn from_word(w: u32) -> Option<Self>
         ensures { result ≡ (if nat_lt w 20 then Some w else None) }
     {
@@ -156,7 +156,7 @@ impl Model for Port {
 }
 
 impl Port {
-    /// The number that a word holds. None exactly where the word isn't below 30.
+    /// The number that a word holds. `None` if and only if the word isn't below 30.
     pub fn from_word(w: u32) -> Option<Self>
         ensures { result ≡ (if nat_lt w 30 then Some w else None) }
     {
@@ -201,7 +201,7 @@ impl Model for Dev {
 }
 
 impl Dev {
-    /// The number that a word holds. None exactly where the word isn't below 10.
+    /// The number that a word holds. `None` if and only if the word isn't below 10.
     pub fn from_word(w: u32) -> Option<Self>
         ensures { result ≡ (if nat_lt w 10 then Some w else None) }
     {

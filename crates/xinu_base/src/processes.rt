@@ -9,17 +9,17 @@ pub enum State {
     Free,
     /// It runs.
     Current,
-    /// It stands in the ready list.
+    /// It is in the ready list.
     Ready,
     /// It waits for a message.
     Receiving,
-    /// It stands among the sleepers.
+    /// It is among the sleepers.
     Sleeping,
     /// It is in no list until it is resumed.
     Suspended,
-    /// It stands among the waiters of a semaphore.
+    /// It is among the waiters of a semaphore.
     Waiting,
-    /// It waits for a message, and stands among the sleepers too.
+    /// It waits for a message, and is among the sleepers too.
     Timed,
 }
 
@@ -83,11 +83,11 @@ pub struct Process {
     pub priority: i16,
     /// The process that made it.
     pub parent: Pid,
-    /// The name, with zeros behind its end.
+    /// The name, with zeros after its end.
     pub name: [u8; 15],
     /// The address of the stack's highest word, as `getstk` gave it.
     pub stack: u32,
-    /// The size of the stack in bytes, a multiple of 8; 0 where there is none.
+    /// The size of the stack in bytes, a multiple of 8; 0 if there is none.
     pub stack_size: u32,
     /// What is left of a call that waited.
     pub rest: Rest,

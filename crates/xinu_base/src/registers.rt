@@ -39,7 +39,7 @@ pub enum Cause {
 pub enum Outcome {
     /// It was carried out.
     Went,
-    /// It was `ECALL`, and the pc is behind it.
+    /// It was `ECALL`, and the pc is after it.
     Call,
     /// The pc was the return address of a process's first function, so the process exits.
     Exit,

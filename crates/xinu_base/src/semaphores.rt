@@ -2,7 +2,7 @@
 
 use crate::numbers::{PoolId, Port};
 
-/// Whose a semaphore is, where it is in use.
+/// Whose a semaphore is, if it is in use.
 #[derive(Clone, Copy, Debug, PartialEq, Eq)]
 pub enum Owner {
     /// A process's: it was made by `semcreate`.

@@ -4,18 +4,18 @@ use Rattle.std.proofs.lemmas.Bool.{cond_both}
 use Rattle.xinu_base.specs.declared.events.Event.{Event}
 use Rattle.xinu_base.specs.declared.events.Event.TheVariants.{Step, Tick, Key, Tx, Disk0, Disk1, Fail0, Fail1, Dump}
 use Rattle.xinu_base.specs.declared.lines.TranscriptLine.{TranscriptLine}
-use Rattle.xinu_base.specs.declared.lines.TranscriptLine.TheVariants.{Run}
+use Rattle.xinu_base.specs.declared.lines.TranscriptLine.TheVariants.{Switch}
 use Rattle.xinu_base.specs.declared.registers.Outcome.{Outcome}
 use Rattle.xinu_base.specs.declared.registers.Outcome.TheVariants as outcome
 use Rattle.xinu_model.specs.Agree.{begins_next, OutcomesAgree}
 use Rattle.xinu_model.specs.Calls.{continued}
-use Rattle.xinu_model.specs.ClockCalls.{woken, quantum_falls, a_tick_later}
-use Rattle.xinu_model.specs.Events.{reacted, is_done, obeyed, stepped, effect_of, panics_in, Happens, with_executed}
-use Rattle.xinu_model.specs.Exec.{exec}
-use Rattle.xinu_model.specs.Machine.{Xinu, Effect, current_hart, nothing_happens, return_line, switched, finished, replies_of, closed}
+use Rattle.xinu_model.specs.Clock.{wakeup, quantum_falls, a_tick_later}
+use Rattle.xinu_model.specs.Events.{reacted, is_done, instruction_step, stepped, effect_of, panics_in, Happens, with_executed}
+use Rattle.xinu_model.specs.Isa.Exec.{exec}
+use Rattle.xinu_model.specs.Machine.{Xinu, EventResult, current_hart, nothing_happens, return_line, switched, end_of_event, replies_of, closed}
 use Rattle.xinu_model.specs.Tables.{process_at}
 
--- an outcome is what the event does where no file call takes effect
+-- an outcome is what the event does if no file call takes effect
 outcome_is : (old : Xinu) (e : Event) (lines : List TranscriptLine) (new : Xinu) → Happens old e lines new → effect_of old e 0 ≡ record { lines = lines; state = new; panics = panics_in old e }
 outcome_is old e lines new h = ap (effect_of old e) (sym h.allowed) ∙ h.effect
 
@@ -23,7 +23,7 @@ outcome_is old e lines new h = ap (effect_of old e) (sym h.allowed) ∙ h.effect
 pub one_outcome : (old : Xinu) (e : Event) (lines others : List TranscriptLine) (new other : Xinu) → Happens old e lines new → Happens old e others other → (lines ≡ others) × (new ≡ other)
 one_outcome old e lines others new other h k =
     let same = sym (outcome_is old e lines new h) ∙ outcome_is old e others other k in
-    (ap (λ (x : Effect). x.lines) same, ap (λ (x : Effect). x.state) same)
+    (ap (λ (x : EventResult). x.lines) same, ap (λ (x : EventResult). x.state) same)
 
 -- An event has this outcome at least, with no file call that takes effect.
 pub least_happens : (old : Xinu) (e : Event) → Happens old e (effect_of old e 0).lines (effect_of old e 0).state
@@ -31,9 +31,9 @@ least_happens old e = record { choice = 0; allowed = refl; effect = refl }
 
 -- the line of a switch is none of a file call
 switch_no_next : (was is : ℕ) → begins_next (switched was is) ≡ false
-switch_no_next was is = cond_both (was == is) [] (Run is ∷ []) (λ l. begins_next l ≡ false) (λ _. refl) (λ _. refl)
+switch_no_next was is = cond_both (was == is) [] (Switch is ∷ []) (λ l. begins_next l ≡ false) (λ _. refl) (λ _. refl)
 
--- nor are those of replies in front of it
+-- nor are those of replies before it
 replies_no_next : (replies : List (ℕ × ℤ)) (was is : ℕ) → begins_next (map return_line replies ++ switched was is) ≡ false
 replies_no_next [] was is = switch_no_next was is
 replies_no_next (reply ∷ replies) was is = refl
@@ -43,9 +43,9 @@ step_no_next : (s : Xinu) → begins_next (stepped s).lines ≡ false
 step_no_next s =
     let rest = (process_at s.tables s.tables.current).rest in
     let did = exec (current_hart s) s.memory in
-    cond_both (s.tables.current == 0) (nothing_happens s) (if is_done rest then obeyed s else finished s.tables.current [] (continued rest s)) (λ (x : Effect). begins_next x.lines ≡ false)
+    cond_both (s.tables.current == 0) (nothing_happens s) (if is_done rest then instruction_step s else end_of_event s.tables.current [] (continued rest s)) (λ (x : EventResult). begins_next x.lines ≡ false)
     (λ _. refl)
-    (λ _. cond_both (is_done rest) (obeyed s) (finished s.tables.current [] (continued rest s)) (λ (x : Effect). begins_next x.lines ≡ false)
+    (λ _. cond_both (is_done rest) (instruction_step s) (end_of_event s.tables.current [] (continued rest s)) (λ (x : EventResult). begins_next x.lines ≡ false)
     (λ _. by_outcome did.outcome (with_executed did s))
     (λ _. replies_no_next (replies_of (continued rest s)) s.tables.current (closed (continued rest s)).current))
   where
@@ -59,7 +59,7 @@ step_no_next s =
 effect_no_next : (s : Xinu) (e : Event) → begins_next (effect_of s e 0).lines ≡ false
 effect_no_next s Step = step_no_next s
 effect_no_next s Tick =
-    replies_no_next (woken s).released s.tables.current (quantum_falls (a_tick_later (woken s).owes_resched (woken s).state.tables)).current
+    replies_no_next (wakeup s).released s.tables.current (quantum_falls (a_tick_later (wakeup s).owes_resched (wakeup s).state.tables)).current
 effect_no_next s Dump = refl
 effect_no_next s (Key k) = refl
 effect_no_next s Tx = refl
@@ -73,7 +73,7 @@ pub agree : (old : Xinu) (e : Event) → OutcomesAgree old e
 agree old e = record {
   forced = λ _ lines others new other h k. one_outcome old e lines others new other h k;
   told = λ lines new other h k. (one_outcome old e lines lines new other h k).1;
-  first = λ lines new h. subst (λ (l : List TranscriptLine). begins_next l ≡ false) (ap (λ (x : Effect). x.lines) (outcome_is old e lines new h)) (effect_no_next old e);
+  first = λ lines new h. subst (λ (l : List TranscriptLine). begins_next l ≡ false) (ap (λ (x : EventResult). x.lines) (outcome_is old e lines new h)) (effect_no_next old e);
 }
 
 -- One text has one outcome, whatever follows it.

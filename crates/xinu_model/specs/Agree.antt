@@ -12,7 +12,7 @@ abbrev pub begins_next : List TranscriptLine → Bool
 begins_next (line.File p Next ∷ lines) = true
 begins_next _ = false
 
--- Two outcomes of an event from one state are equal where nothing is chosen in it, and where their lines are equal; and the lines of
+-- Two outcomes of an event from one state are equal if nothing is chosen in it, and if their lines are equal; and the lines of
 -- no outcome begin with a file call that took effect as the next one.
 pub record OutcomesAgree (old : Xinu) (e : Event) : Type 0 where
   pub forced : chooses old e ≡ false → (lines others : List TranscriptLine) (new other : Xinu) → Happens old e lines new → Happens old e others other → (lines ≡ others) × (new ≡ other)

@@ -1,15 +1,15 @@
 -- What is loaded, and the state in which the machine starts (book, chapter 22).
 use Rattle.std.specs.Prelude.{ℕ, ◌+◌, ◌-◌, ◌*◌, ◌/◌, max, Bool, true, if◌then◌else◌, List, [], ◌∷◌, ◌++◌, length, replicate, Option, None, Some, codes, ℤ}
 use Rattle.std.specs.List.{list_any}
+use Rattle.xinu_base.specs.Constants.{NPROC, NSEM, QUANTUM}
 use Rattle.xinu_base.specs.declared.processes.Process.{Process}
 use Rattle.xinu_base.specs.declared.processes.State.TheVariants.{Current}
 use Rattle.xinu_base.specs.declared.semaphores.Owner.TheVariants.{Device}
-use Rattle.xinu_model.specs.Heap.{Heap, cells_for, Stack, getstk}
-use Rattle.xinu_model.specs.Machine.{Xinu, no_hart}
+use Rattle.xinu_model.specs.Heap.Cells.{Heap, cells_for, Stack, take_stack}
+use Rattle.xinu_model.specs.Machine.{Xinu, first_parts, no_hart}
 use Rattle.xinu_model.specs.Memory.{ram_size, with_bytes, zeros, ranges_meet}
-use Rattle.xinu_model.specs.Moves.{resched, wake}
-use Rattle.xinu_model.specs.Ports.{first_ports}
-use Rattle.xinu_model.specs.ProcessCalls.{stack_size, new_hart, new_process, make_process}
+use Rattle.xinu_model.specs.Process.Scheduling.{resched, ready}
+use Rattle.xinu_model.specs.Process.Creation.{stack_size, new_hart, new_process, make_process}
 use Rattle.xinu_model.specs.Tables.{Semaphore, no_process, no_semaphore, Tables}
 
 -- a part of an image: where it lies, its bytes, and how many addresses it takes
@@ -35,7 +35,7 @@ abbrev pub with_images : List Loaded → List ℕ → List ℕ
 with_images [] memory = memory
 with_images (image ∷ images) memory = with_images images (with_parts image.parts memory)
 
--- the end of an image: the greatest address behind one of its parts
+-- the end of an image: the greatest address after one of its parts
 abbrev pub end_of : List LoadedPart → ℕ
 end_of [] = 0
 end_of (part ∷ parts) = max (part.place + part.size) (end_of parts)
@@ -64,7 +64,7 @@ abbrev pub heap_behind : ℕ → Heap
 heap_behind end =
     let low = 8 * cells_for end in record { low = low; cells = replicate ((ram_size - low) / 8) true }
 
--- the heap at the start: what lies behind every image
+-- the heap at the start: what lies after every image
 abbrev pub fresh_heap : List Loaded → Heap
 fresh_heap images = heap_behind (end_of_all images)
 
@@ -72,7 +72,7 @@ fresh_heap images = heap_behind (end_of_all images)
 abbrev pub null_process : Process
 null_process = record no_process { state = Current; name = codes "prnull" ++ replicate 9 0 }
 
--- a semaphore of the kernel's, with so many tokens
+-- a semaphore of the kernel's, with n tokens
 abbrev pub device_semaphore : ℕ → Semaphore
 device_semaphore tokens = record { owner = Some Device; tokens = tokens; waiters = [] }
 
@@ -80,15 +80,15 @@ device_semaphore tokens = record { owner = Some Device; tokens = tokens; waiters
 -- the file system.
 unfoldable pub first_semaphores : List Semaphore
 first_semaphores =
-    device_semaphore 0 ∷ device_semaphore 64 ∷ device_semaphore 0 ∷ device_semaphore 0 ∷ replicate 124 no_semaphore
+    device_semaphore 0 ∷ device_semaphore 64 ∷ device_semaphore 0 ∷ device_semaphore 0 ∷ replicate (NSEM - 4) no_semaphore
 
 -- the tables before any other process is made
 abbrev pub null_tables : Tables
 null_tables = record {
-  processes = null_process ∷ replicate 63 no_process;
-  messages = replicate 64 None;
+  processes = null_process ∷ replicate (NPROC - 1) no_process;
+  messages = replicate NPROC None;
   current = 0;
-  quantum = 2;
+  quantum = QUANTUM;
   ready = [];
   semaphores = first_semaphores;
   sleepers = [];
@@ -98,15 +98,12 @@ null_tables = record {
 }
 
 -- the machine with the images in RAM, before their processes are made
-abbrev pub loaded : List Loaded → Xinu
-loaded images = record {
+abbrev pub loaded_machine : List Loaded → Xinu
+loaded_machine images = record {
   tables = null_tables;
-  harts = replicate 64 no_hart;
+  harts = replicate NPROC no_hart;
   memory = with_images images zeros;
-  heap = fresh_heap images;
-  pools = [];
-  ports = first_ports;
-  next_port = 0;
+  parts = first_parts (fresh_heap images);
 }
 
 -- the name of the first process of image i
@@ -124,7 +121,7 @@ with_image i image stack s = make_process i (image_process i image stack.top) (n
 -- the processes of the images become ready in order; the first of them has number i
 abbrev pub all_ready : ℕ → List Loaded → Tables → Tables
 all_ready i [] t = t
-all_ready i (image ∷ images) t = all_ready (i + 1) images (wake i t)
+all_ready i (image ∷ images) t = all_ready (i + 1) images (ready i t)
 
 -- How the machine starts: in a state, or not, since an image overlaps an earlier one or the heap has no stack for it.
 pub data Start : Type 0 where
@@ -138,7 +135,7 @@ and_then (Boots s) next = next s
 and_then (Overlaps i) next = Overlaps i
 and_then (NoRoom i) next = NoRoom i
 
--- the first process of image i is made, where a stack is found
+-- the first process of image i is made, if a stack is found
 abbrev pub where_stack : Option Stack → ℕ → Loaded → Xinu → Start
 where_stack None i image s = NoRoom i
 where_stack (Some stack) i image s = Boots (with_image i image stack s)
@@ -147,16 +144,16 @@ where_stack (Some stack) i image s = Boots (with_image i image stack s)
 abbrev pub all_made : ℕ → List Loaded → Xinu → Start
 all_made i [] s = Boots s
 all_made i (image ∷ images) s =
-    and_then (where_stack (getstk (stack_size image.stack) s.heap) i image s) (λ x. all_made (i + 1) images x)
+    and_then (where_stack (take_stack (stack_size image.stack) s.parts.heap) i image s) (λ x. all_made (i + 1) images x)
 
--- the processes of the images are woken, with one resched
-abbrev pub all_woken : List Loaded → Xinu → Xinu
-all_woken images s = record s { tables = resched (all_ready 1 images s.tables) }
+-- the processes of the images become ready, with one resched
+abbrev pub all_started : List Loaded → Xinu → Xinu
+all_started images s = record s { tables = resched (all_ready 1 images s.tables) }
 
--- where no image overlaps an earlier one the processes are made
+-- if no image overlaps an earlier one the processes are made
 abbrev pub unless_overlap : Option ℕ → List Loaded → Start
 unless_overlap (Some i) images = Overlaps i
-unless_overlap None images = and_then (all_made 1 images (loaded images)) (λ s. Boots (all_woken images s))
+unless_overlap None images = and_then (all_made 1 images (loaded_machine images)) (λ s. Boots (all_started images s))
 
 -- The start of the machine with some images, which are numbered from 1 on.
 abbrev pub boot : List Loaded → Start

@@ -1,6 +1,6 @@
 -- The events: what each may print, and which state it may leave. Interrupts come between instructions (book, chapter 12).
 use Rattle.std.specs.Prelude.{◌≡◌, ℕ, ◌==◌, Bool, true, false, if◌then◌else◌, List, [], ◌∷◌, drop, take, slice_index, slice_set}
-use Rattle.xinu_base.specs.declared.calls.Call.{Call}
+use Rattle.xinu_base.specs.declared.syscalls.Call.{Call}
 use Rattle.xinu_base.specs.declared.events.Event.{Event}
 use Rattle.xinu_base.specs.declared.events.Event.TheVariants.{Step, Tick, Dump}
 use Rattle.xinu_base.specs.declared.lines.TranscriptLine.{TranscriptLine}
@@ -11,10 +11,10 @@ use Rattle.xinu_base.specs.declared.registers.Hart.{Hart}
 use Rattle.xinu_base.specs.declared.registers.Outcome.{Outcome}
 use Rattle.xinu_base.specs.declared.registers.Outcome.TheVariants as outcome
 use Rattle.xinu_model.specs.Calls.{called, continued}
-use Rattle.xinu_model.specs.ClockCalls.{ticked}
-use Rattle.xinu_model.specs.Exec.{Executed, exec}
-use Rattle.xinu_model.specs.Machine.{Xinu, current_hart, Effect, nothing_happens, finished}
-use Rattle.xinu_model.specs.ProcessCalls.{exit}
+use Rattle.xinu_model.specs.Clock.{ticked}
+use Rattle.xinu_model.specs.Isa.Exec.{Executed, exec}
+use Rattle.xinu_model.specs.Machine.{Xinu, current_hart, EventResult, nothing_happens, end_of_event}
+use Rattle.xinu_model.specs.Process.Death.{exit}
 use Rattle.xinu_model.specs.Tables.{process_at}
 use Rattle.xinu_model.specs.Text.{tables_of}
 
@@ -36,34 +36,34 @@ with_executed did s =
     record s { harts = slice_set s.harts s.tables.current did.hart; memory = did.memory }
 
 -- what comes of an instruction, in the state that it left
-abbrev pub reacted : Outcome → Xinu → Effect
+abbrev pub reacted : Outcome → Xinu → EventResult
 reacted outcome.Went s = nothing_happens s
 reacted outcome.Call s =
-    let call = call_of (current_hart s) in finished s.tables.current (call_line s call ∷ []) (called call.number call.args s)
-reacted outcome.Exit s = finished s.tables.current (call_line s (exit_call (current_hart s)) ∷ []) (exit s)
-reacted (outcome.Trap cause) s = finished s.tables.current (line.Trap s.tables.current cause ∷ []) (exit s)
+    let call = call_of (current_hart s) in end_of_event s.tables.current (call_line s call ∷ []) (called call.number call.args s)
+reacted outcome.Exit s = end_of_event s.tables.current (call_line s (exit_call (current_hart s)) ∷ []) (exit s)
+reacted (outcome.Trap cause) s = end_of_event s.tables.current (line.Trap s.tables.current cause ∷ []) (exit s)
 
 -- one instruction of the current process
-abbrev pub obeyed : Xinu → Effect
-obeyed s = let did = exec (current_hart s) s.memory in reacted did.outcome (with_executed did s)
+abbrev pub instruction_step : Xinu → EventResult
+instruction_step s = let did = exec (current_hart s) s.memory in reacted did.outcome (with_executed did s)
 
 -- whether nothing is left of a call
 abbrev pub is_done : Rest → Bool
 is_done Nothing = true
 is_done _ = false
 
--- A machine step: nothing where the null process is current; else what is left of the call that the current process waits in; else
+-- A machine step: nothing if the null process is current; else what is left of the call that the current process waits in; else
 -- an instruction.
-abbrev pub stepped : Xinu → Effect
+abbrev pub stepped : Xinu → EventResult
 stepped s =
     let rest = (process_at s.tables s.tables.current).rest in
     if s.tables.current == 0 then nothing_happens s
-    else (if is_done rest then obeyed s
-    else finished s.tables.current [] (continued rest s))
+    else (if is_done rest then instruction_step s
+    else end_of_event s.tables.current [] (continued rest s))
 
--- What an event prints and leaves, where this many file calls take effect in it. An event that the machine doesn't
+-- What an event prints and leaves, if this many file calls take effect in it. An event that the machine doesn't
 -- have yet does nothing.
-abbrev pub effect_of : Xinu → Event → ℕ → Effect
+abbrev pub effect_of : Xinu → Event → ℕ → EventResult
 effect_of s Step choice = stepped s
 effect_of s Tick choice = ticked s
 effect_of s Dump choice = record { lines = tables_of s; state = s; panics = false }
@@ -73,7 +73,7 @@ effect_of s _ choice = nothing_happens s
 abbrev pub chooses : Xinu → Event → Bool
 chooses s e = false
 
--- so many file calls may take effect in an event: none where nothing is chosen
+-- n file calls may take effect in an event: none if nothing is chosen
 abbrev pub MayChoose : Xinu → Event → ℕ → Type 0
 MayChoose s e choice = choice ≡ 0
 

@@ -1,28 +1,37 @@
 -- The whole state of the machine, and what is under way inside an event (book, chapters 5, 6 and 12: rescheduling is deferred to its end).
-use Rattle.std.specs.Prelude.{ℕ, ◌==◌, Bool, true, false, if◌then◌else◌, ◌||◌, List, [], ◌∷◌, ◌++◌, map, replicate, slice_index_or, slice_set, Option, ℤ, pos, negsuc}
+use Rattle.std.specs.Prelude.{ℕ, ◌==◌, Bool, true, false, if◌then◌else◌, ◌||◌, List, [], ◌∷◌, ◌++◌, map, replicate, slice_index_or, slice_set, Option, ℤ}
+use Rattle.xinu_base.specs.Constants.{OK, SYSERR}
 use Rattle.xinu_base.specs.declared.processes.Rest.{Rest}
 use Rattle.xinu_base.specs.declared.processes.Rest.TheVariants.{Nothing}
 use Rattle.xinu_base.specs.declared.processes.State.{State}
 use Rattle.xinu_base.specs.declared.registers.Hart.{Hart}
 use Rattle.xinu_base.specs.declared.lines.TranscriptLine.{TranscriptLine}
-use Rattle.xinu_base.specs.declared.lines.TranscriptLine.TheVariants.{Return, Run}
-use Rattle.xinu_model.specs.Heap.{Heap}
-use Rattle.xinu_model.specs.Moves.{resched, wake}
-use Rattle.xinu_model.specs.Pools.{Pool}
-use Rattle.xinu_model.specs.Ports.{Port}
-use Rattle.xinu_model.specs.Tables.{Tables, process_at, message_at, Place, Nowhere, put}
+use Rattle.xinu_base.specs.declared.lines.TranscriptLine.TheVariants.{Return, Switch}
+use Rattle.xinu_model.specs.Heap.Cells.{Heap}
+use Rattle.xinu_model.specs.Process.Scheduling.{resched, ready}
+use Rattle.xinu_model.specs.Pools.Buffers.{Pool}
+use Rattle.xinu_model.specs.Ports.Queues.{Port, first_ports}
+use Rattle.xinu_model.specs.Tables.{Tables, process_at, message_at, Place, Nowhere, move_to}
 use Rattle.xinu_model.specs.Words.{word}
 
--- The tables, the registers of each process by number, RAM, the heap, the pools in the order in which they were made, the
--- ports by number, and the port at which the next search begins.
-pub record Xinu : Type 0 where
-  pub tables : Tables
-  pub harts : List Hart
-  pub memory : List ℕ
+-- The parts of the state besides tables, registers and RAM: the heap, the pools in the order in which they were made, the ports by
+-- number, and the port at which the next search begins.
+pub record Parts : Type 0 where
   pub heap : Heap
   pub pools : List Pool
   pub ports : List Port
   pub next_port : ℕ
+
+-- the parts at the start, with this heap: no pool was made, and no port is in use
+abbrev pub first_parts : Heap → Parts
+first_parts heap = record { heap = heap; pools = []; ports = first_ports; next_port = 0 }
+
+-- The tables, the registers of each process by number, RAM, and the other parts.
+pub record Xinu : Type 0 where
+  pub tables : Tables
+  pub harts : List Hart
+  pub memory : List ℕ
+  pub parts : Parts
 
 -- the registers at a free number
 abbrev pub no_hart : Hart
@@ -32,7 +41,7 @@ no_hart = record { regs = replicate 32 0; pc = 0 }
 abbrev pub current_hart : Xinu → Hart
 current_hart s = slice_index_or s.harts s.tables.current no_hart
 
--- How a call goes: its caller gets a reply, waits, or is gone; or the kernel panics. Where there was no call nothing is answered.
+-- How a call goes: its caller gets a reply, waits, or is gone; or the kernel panics. If there was no call nothing is answered.
 pub data Answer : Type 0 where
   Returns : (value : ℤ) → Answer
   Waits : Answer
@@ -41,58 +50,58 @@ pub data Answer : Type 0 where
   Silent : Answer
 
 -- The state inside an event, the replies to released processes so far, and whether a resched is owed.
-pub record Doing : Type 0 where
+pub record CallState : Type 0 where
   pub state : Xinu
   pub released : List (ℕ × ℤ)
   pub owes_resched : Bool
 
 -- what came of a call before the event is closed
-pub record Handled : Type 0 where
-  pub doing : Doing
+pub record CallResult : Type 0 where
+  pub call : CallState
   pub answer : Answer
 
 -- nothing is done yet
-abbrev pub begun : Xinu → Doing
-begun s = record { state = s; released = []; owes_resched = false }
+abbrev pub start : Xinu → CallState
+start s = record { state = s; released = []; owes_resched = false }
 
 -- the same with other tables
-abbrev pub with_tables : Tables → Doing → Doing
+abbrev pub with_tables : Tables → CallState → CallState
 with_tables t d = record d { state = record d.state { tables = t } }
 
 -- p becomes ready, and a resched is owed
-abbrev pub awaken : ℕ → Doing → Doing
-awaken p d = record (with_tables (wake p d.state.tables) d) { owes_resched = true }
+abbrev pub ready_later : ℕ → CallState → CallState
+ready_later p d = record (with_tables (ready p d.state.tables) d) { owes_resched = true }
 
 -- A process of which nothing is left of its call is answered when it is released. The others go on by themselves.
-abbrev pub reply_at_release : ℕ → Rest → List (ℕ × ℤ)
-reply_at_release p Nothing = (p, pos 0) ∷ []
-reply_at_release p _ = []
+abbrev pub reply_at_unblock : ℕ → Rest → List (ℕ × ℤ)
+reply_at_unblock p Nothing = (p, OK) ∷ []
+reply_at_unblock p _ = []
 
 -- p, which waited or slept, becomes ready
-abbrev pub release : ℕ → Doing → Doing
-release p d =
-    record (awaken p d) { released = d.released ++ reply_at_release p (process_at d.state.tables p).rest }
+abbrev pub unblock : ℕ → CallState → CallState
+unblock p d =
+    record (ready_later p d) { released = d.released ++ reply_at_unblock p (process_at d.state.tables p).rest }
 
 -- these processes become ready, one after another
-abbrev pub release_all : List ℕ → Doing → Doing
-release_all [] d = d
-release_all (p ∷ ps) d = release_all ps (release p d)
+abbrev pub unblock_all : List ℕ → CallState → CallState
+unblock_all [] d = d
+unblock_all (p ∷ ps) d = unblock_all ps (unblock p d)
 
 -- the caller gets a reply
-abbrev pub returns : Doing → ℤ → Handled
-returns d value = record { doing = d; answer = Returns value }
+abbrev pub returns : CallState → ℤ → CallResult
+returns d value = record { call = d; answer = Returns value }
 
 -- a refused call changes nothing, and its caller gets -1
-abbrev pub refused : Xinu → Handled
-refused s = returns (begun s) (negsuc 0)
+abbrev pub refused : Xinu → CallResult
+refused s = returns (start s) SYSERR
 
 -- the caller goes to a place in another state, with this left of its call
-abbrev pub blocked : State → Rest → Place → Xinu → Handled
+abbrev pub blocked : State → Rest → Place → Xinu → CallResult
 blocked state rest place s =
     let t = s.tables in
     let x = process_at t t.current in
     record {
-      doing = with_tables (put t.current (record x { state = state; rest = rest }) (message_at t t.current) place t) (begun s);
+      call = with_tables (move_to t.current (record x { state = state; rest = rest }) (message_at t t.current) place t) (start s);
       answer = Waits;
     }
 
@@ -100,7 +109,7 @@ blocked state rest place s =
 abbrev pub goes_on : Option ℕ → Xinu → Xinu
 goes_on message s =
     let t = s.tables in
-    record s { tables = put t.current (record (process_at t t.current) { rest = Nothing }) message Nowhere t }
+    record s { tables = move_to t.current (record (process_at t t.current) { rest = Nothing }) message Nowhere t }
 
 -- whether the caller runs no longer
 abbrev pub is_off : Answer → Bool
@@ -110,10 +119,10 @@ is_off (Returns value) = false
 is_off Panics = false
 is_off Silent = false
 
--- the one resched of an event, where one is owed or the caller runs no longer
-abbrev pub closed : Handled → Tables
-closed handled =
-    if handled.doing.owes_resched || is_off handled.answer then resched handled.doing.state.tables else handled.doing.state.tables
+-- the one resched of an event, if one is owed or the caller runs no longer
+abbrev pub closed : CallResult → Tables
+closed result =
+    if result.call.owes_resched || is_off result.answer then resched result.call.state.tables else result.call.state.tables
 
 -- a reply in register a0 of a process
 abbrev pub with_reply : List Hart → ℕ × ℤ → List Hart
@@ -134,8 +143,8 @@ and_callers Gone caller replies = replies
 and_callers Panics caller replies = replies
 and_callers Silent caller replies = replies
 
-abbrev pub replies_of : Handled → List (ℕ × ℤ)
-replies_of handled = and_callers handled.answer handled.doing.state.tables.current handled.doing.released
+abbrev pub replies_of : CallResult → List (ℕ × ℤ)
+replies_of result = and_callers result.answer result.call.state.tables.current result.call.released
 
 -- the line of a reply
 abbrev pub return_line : ℕ × ℤ → TranscriptLine
@@ -143,16 +152,16 @@ return_line reply = Return reply.0 reply.1
 
 -- the line of a switch
 abbrev pub switched : ℕ → ℕ → List TranscriptLine
-switched was is = if was == is then [] else Run is ∷ []
+switched was is = if was == is then [] else Switch is ∷ []
 
 -- what an event prints, the state after it, and whether the kernel panicked
-pub record Effect : Type 0 where
+pub record EventResult : Type 0 where
   pub lines : List TranscriptLine
   pub state : Xinu
   pub panics : Bool
 
 -- an event that changes and prints nothing
-abbrev pub nothing_happens : Xinu → Effect
+abbrev pub nothing_happens : Xinu → EventResult
 nothing_happens s = record { lines = []; state = s; panics = false }
 
 -- whether an answer is a panic
@@ -163,15 +172,15 @@ is_panic Waits = false
 is_panic Gone = false
 is_panic Silent = false
 
--- What is printed of replies and a switch behind the lines that stand first, and the state with these replies and tables.
-abbrev pub settled : ℕ → List TranscriptLine → List (ℕ × ℤ) → Tables → Xinu → Bool → Effect
-settled was first replies tables s panics = record {
+-- What is printed of replies and a switch after the first lines, and the state with these replies and tables.
+abbrev pub event_result : ℕ → List TranscriptLine → List (ℕ × ℤ) → Tables → Xinu → Bool → EventResult
+event_result was first replies tables s panics = record {
   lines = first ++ map return_line replies ++ switched was tables.current;
   state = record s { tables = tables; harts = with_replies replies s.harts };
   panics = panics;
 }
 
--- The end of an event: the resched, the replies and the line of the switch, behind the lines that stand first.
-abbrev pub finished : ℕ → List TranscriptLine → Handled → Effect
-finished was first handled =
-    settled was first (replies_of handled) (closed handled) handled.doing.state (is_panic handled.answer)
+-- The end of an event: the resched, the replies and the line of the switch, after the first lines.
+abbrev pub end_of_event : ℕ → List TranscriptLine → CallResult → EventResult
+end_of_event was first result =
+    event_result was first (replies_of result) (closed result) result.call.state (is_panic result.answer)

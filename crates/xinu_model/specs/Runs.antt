@@ -40,4 +40,4 @@ pub record IsTranscript (images : List Loaded) (events : List Event) (last : Xin
   pub lines : List TranscriptLine
   pub end : End
   pub runs : RunsTo start events lines last end
-  pub whole : all ≡ line.Run start.tables.current ∷ lines ++ tables_of last ++ line.End end ∷ []
+  pub whole : all ≡ line.Switch start.tables.current ∷ lines ++ tables_of last ++ line.End end ∷ []

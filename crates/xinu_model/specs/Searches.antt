@@ -1,7 +1,7 @@
--- The search for a free number, which goes round: behind the last number given first (book, chapters 5 and 7).
+-- The search for a free number, which goes round: after the last number given first (book, chapters 5 and 7).
 use Rattle.std.specs.Prelude.{ℕ, zero, suc, ◌+◌, ◌-◌, min, Bool, if◌then◌else◌, List, [], ◌∷◌, ◌++◌, Option, None, Some}
 
--- so many numbers from n on
+-- n numbers from n on
 abbrev pub numbers_from : ℕ → ℕ → List ℕ
 numbers_from n zero = []
 numbers_from n (suc k) = n ∷ numbers_from (n + 1) k

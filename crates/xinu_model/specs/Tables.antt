@@ -7,7 +7,7 @@ use Rattle.xinu_base.specs.declared.processes.State.TheVariants.{Free}
 use Rattle.xinu_base.specs.declared.processes.Rest.TheVariants.{Nothing}
 use Rattle.xinu_base.specs.declared.semaphores.Owner.{Owner}
 
--- what stands at a free number
+-- what is at a free number
 abbrev pub no_process : Process
 no_process = record {
   state = Free;
@@ -19,13 +19,13 @@ no_process = record {
   rest = Nothing;
 }
 
--- A semaphore: whose it is, its tokens, and the processes that wait, the first in front.
+-- A semaphore: whose it is, its tokens, and the processes that wait, in order.
 pub record Semaphore : Type 0 where
   pub owner : Option Owner
   pub tokens : ℕ
   pub waiters : List ℕ
 
--- what stands at a free number
+-- what is at a free number
 abbrev pub no_semaphore : Semaphore
 no_semaphore = record { owner = None; tokens = 0; waiters = [] }
 
@@ -55,9 +55,9 @@ state_at t p = (slice_index_or t.processes p no_process).state
 abbrev pub message_at : Tables → ℕ → Option ℕ
 message_at t p = slice_index_or t.messages p None
 
--- semaphore s
+-- semaphore sem
 abbrev pub semaphore_at : Tables → ℕ → Semaphore
-semaphore_at t s = slice_index_or t.semaphores s no_semaphore
+semaphore_at t sem = slice_index_or t.semaphores sem no_semaphore
 
 -- whether a number of this state has no process
 abbrev pub is_free : State → Bool
@@ -76,7 +76,7 @@ numbers_without p l = filter (λ x. not (x == p)) l
 abbrev pub semaphore_without : ℕ → Semaphore → Semaphore
 semaphore_without p x = record { owner = x.owner; tokens = x.tokens; waiters = numbers_without p x.waiters }
 
--- the semaphores, where p waits on none
+-- the semaphores, if p waits on none
 abbrev pub waits_without : ℕ → List Semaphore → List Semaphore
 waits_without p l = map (semaphore_without p) l
 
@@ -84,37 +84,37 @@ waits_without p l = map (semaphore_without p) l
 pub data Place : Type 0 where
   Nowhere : Place
   InReady : Place
-  InSemaphore : (s : ℕ) → Place
+  InSemaphore : (sem : ℕ) → Place
   InSleepers : (wake : ℕ) → Place
 
--- the ready list with p, where that is p's place
+-- the ready list with p, if that is p's place
 abbrev pub ready_in : Place → ℕ → ℤ → List (ℕ × ℤ) → List (ℕ × ℤ)
 ready_in InReady p key l = ready_insert p key l
 ready_in Nowhere p key l = l
-ready_in (InSemaphore s) p key l = l
+ready_in (InSemaphore sem) p key l = l
 ready_in (InSleepers wake) p key l = l
 
 -- a semaphore with p as its last waiter
 abbrev pub with_waiter : ℕ → Semaphore → Semaphore
 with_waiter p x = record { owner = x.owner; tokens = x.tokens; waiters = x.waiters ++ p ∷ [] }
 
--- the semaphores with p behind the waiters of one of them, where that is p's place
+-- the semaphores with p after the waiters of one of them, if that is p's place
 abbrev pub semaphores_in : Place → ℕ → List Semaphore → List Semaphore
-semaphores_in (InSemaphore s) p l = slice_set l s (with_waiter p (slice_index_or l s no_semaphore))
+semaphores_in (InSemaphore sem) p l = slice_set l sem (with_waiter p (slice_index_or l sem no_semaphore))
 semaphores_in Nowhere p l = l
 semaphores_in InReady p l = l
 semaphores_in (InSleepers wake) p l = l
 
--- the sleepers with p, where that is p's place
+-- the sleepers with p, if that is p's place
 abbrev pub sleepers_in : Place → ℕ → List (ℕ × ℕ) → List (ℕ × ℕ)
 sleepers_in (InSleepers wake) p l = sleeper_insert p wake l
 sleepers_in Nowhere p l = l
 sleepers_in InReady p l = l
-sleepers_in (InSemaphore s) p l = l
+sleepers_in (InSemaphore sem) p l = l
 
 -- Process p leaves the list in which it is, becomes x with message m, and goes to a place.
-abbrev pub put : ℕ → Process → Option ℕ → Place → Tables → Tables
-put p x m place t =
+abbrev pub move_to : ℕ → Process → Option ℕ → Place → Tables → Tables
+move_to p x m place t =
     record t {
       processes = slice_set t.processes p x;
       messages = slice_set t.messages p m;

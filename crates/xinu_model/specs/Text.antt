@@ -1,9 +1,9 @@
 -- The lines of a transcript as bytes, and the tables of a state as lines.
 use Rattle.std.specs.Prelude.{ℕ, ◌+◌, nat_lt, ◌||◌, Bool, true, false, if◌then◌else◌, List, [], ◌∷◌, ◌++◌, map, length, take, Option, Some, None, slice_index_or, codes, ℤ}
 use Rattle.std.specs.Fmt.{decimal, signed_decimal}
-use Rattle.xinu_base.specs.Calls.{name_of, args_of, is_built}
+use Rattle.xinu_base.specs.Syscalls.{name_of, args_of, is_built}
 use Rattle.xinu_base.specs.Hexadecimal.{hex_of}
-use Rattle.xinu_base.specs.declared.calls.Call.{Call}
+use Rattle.xinu_base.specs.declared.syscalls.Call.{Call}
 use Rattle.xinu_base.specs.declared.events.End.{End}
 use Rattle.xinu_base.specs.declared.events.End.TheVariants.{Schedule, Done, Panic}
 use Rattle.xinu_base.specs.declared.lines.FileMoment.{FileMoment}
@@ -15,21 +15,21 @@ use Rattle.xinu_base.specs.declared.processes.State.{State}
 use Rattle.xinu_base.specs.declared.processes.State.TheVariants.{Free, Current, Ready, Receiving, Sleeping, Suspended, Waiting, Timed}
 use Rattle.xinu_base.specs.declared.registers.Cause.{Cause}
 use Rattle.xinu_base.specs.declared.registers.Cause.TheVariants.{Fetch, Illegal, Break, Target, Load, Store}
-use Rattle.xinu_model.specs.Heap.{free_blocks}
+use Rattle.xinu_model.specs.Heap.Cells.{free_blocks}
 use Rattle.xinu_model.specs.Machine.{Xinu}
-use Rattle.xinu_model.specs.Pools.{Pool, held_in}
-use Rattle.xinu_model.specs.Ports.{PortQueue, Port}
-use Rattle.xinu_model.specs.ProcessCalls.{before_zero}
-use Rattle.xinu_model.specs.SemaphoreCalls.{count_of, is_images}
+use Rattle.xinu_model.specs.Pools.Buffers.{Pool, held_in}
+use Rattle.xinu_model.specs.Ports.Queues.{PortQueue, Port}
+use Rattle.xinu_model.specs.Process.Creation.{before_zero}
+use Rattle.xinu_model.specs.Semaphores.Counts.{count_of, is_images}
 use Rattle.xinu_model.specs.Tables.{Semaphore, is_free}
 use Rattle.xinu_model.specs.Words.{signed}
 
--- a word behind a line, after a blank unless the line is empty
+-- a word after a line, after a blank unless the line is empty
 abbrev pub with_word : List ℕ → List ℕ → List ℕ
 with_word [] word = word
 with_word (b ∷ line) word = b ∷ line ++ 32 ∷ word
 
--- words behind a line, a blank between each two
+-- words after a line, a blank between each two
 abbrev pub with_words : List ℕ → List (List ℕ) → List ℕ
 with_words line [] = line
 with_words line (word ∷ words) = with_words (with_word line word) words
@@ -96,13 +96,13 @@ words_of (line.Call p call) = codes "call" ∷ decimal p ∷ call_words call
 words_of (line.File p moment) = codes "file" ∷ decimal p ∷ moment_word moment ∷ []
 words_of (line.Trap p cause) = codes "trap" ∷ decimal p ∷ cause_word cause ∷ []
 words_of (line.Return p value) = codes "ret" ∷ decimal p ∷ signed_decimal value ∷ []
-words_of (line.Run p) = codes "run" ∷ decimal p ∷ []
+words_of (line.Switch p) = codes "run" ∷ decimal p ∷ []
 words_of (line.Now ticks quantum) = codes "now" ∷ decimal ticks ∷ decimal quantum ∷ []
 words_of (line.Process p state priority parent message name) =
     codes "proc" ∷ decimal p ∷ state_word state ∷ signed_decimal priority ∷ decimal parent ∷ message_word message ∷ name_word name ∷ []
 words_of (line.Ready p key) = codes "ready" ∷ decimal p ∷ signed_decimal key ∷ []
-words_of (line.Semaphore s count) = codes "sem" ∷ decimal s ∷ signed_decimal count ∷ []
-words_of (line.Waiter s p) = codes "wait" ∷ decimal s ∷ decimal p ∷ []
+words_of (line.Semaphore sem count) = codes "sem" ∷ decimal sem ∷ signed_decimal count ∷ []
+words_of (line.Waiter sem p) = codes "wait" ∷ decimal sem ∷ decimal p ∷ []
 words_of (line.Sleeper p wake) = codes "sleep" ∷ decimal p ∷ decimal wake ∷ []
 words_of (line.Free address bytes) = codes "free" ∷ decimal address ∷ decimal bytes ∷ []
 words_of (line.Pool i size free held) = codes "pool" ∷ decimal i ∷ decimal size ∷ decimal free ∷ decimal held ∷ []
@@ -123,7 +123,7 @@ abbrev pub text : List TranscriptLine → List ℕ
 text [] = []
 text (line ∷ lines) = line_text line ++ text lines
 
--- what is printed of lines: nothing where the output is plain
+-- what is printed of lines: nothing if the output is plain
 abbrev pub shown : Bool → List TranscriptLine → List ℕ
 shown true lines = []
 shown false lines = text lines
@@ -149,13 +149,13 @@ is_shown x = is_images x.owner || nat_lt 0 (length x.waiters)
 
 -- the lines of a semaphore and its waiters
 abbrev pub semaphore_line : ℕ → Semaphore → List TranscriptLine
-semaphore_line s x =
-    if is_shown x then line.Semaphore s (count_of x) ∷ map (line.Waiter s) x.waiters else []
+semaphore_line sem x =
+    if is_shown x then line.Semaphore sem (count_of x) ∷ map (line.Waiter sem) x.waiters else []
 
--- the lines of the semaphores from number s on
+-- the lines of the semaphores from number sem on
 abbrev pub semaphore_lines : ℕ → List Semaphore → List TranscriptLine
-semaphore_lines s [] = []
-semaphore_lines s (x ∷ semaphores) = semaphore_line s x ++ semaphore_lines (s + 1) semaphores
+semaphore_lines sem [] = []
+semaphore_lines sem (x ∷ semaphores) = semaphore_line sem x ++ semaphore_lines (sem + 1) semaphores
 
 -- the line of a sleeper
 abbrev pub sleeper_line : ℕ × ℕ → TranscriptLine
@@ -193,7 +193,7 @@ tables_of s =
     ++ map ready_line s.tables.ready
     ++ semaphore_lines 0 s.tables.semaphores
     ++ map sleeper_line s.tables.sleepers
-    ++ map free_line (free_blocks s.heap)
-    ++ pool_lines 0 s.pools
-    ++ port_lines 0 s.ports
+    ++ map free_line (free_blocks s.parts.heap)
+    ++ pool_lines 0 s.parts.pools
+    ++ port_lines 0 s.parts.ports
     ++ line.Console ∷ line.Disk0 ∷ line.Disk1 ∷ []

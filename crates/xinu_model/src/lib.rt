@@ -1,7 +1,6 @@
-//! The abstract machine: definitions, and the laws over them.
+//! The abstract machine: definitions, and the laws on its outcomes.
 //!
-//! It stands on the plain data of `xinu_base`. Nothing of it runs: each law is the contract of a function that does nothing.
+//! It depends on the plain data of `xinu_base`. Nothing of it runs: each law is the contract of a function that does nothing.
 #![tactic(auto)]
 
-pub mod examples;
 pub mod laws;

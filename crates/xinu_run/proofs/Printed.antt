@@ -21,13 +21,13 @@ pub record Printed (image : Loaded) (events : List Event) (last : Xinu) (before 
   pub prints : Prints before after was is (shown before.plain lines)
 
 -- The line of the first process, the lines of the events, the tables and the last line are a transcript.
-pub all_printed : (image : Loaded) (events : List Event) (start last : Xinu) (end : End) (a b c d e : Printing) (h i j k l : Outside) → boot (image ∷ []) ≡ Boots start → Prints a b h i (shown a.plain (line.Run start.tables.current ∷ [])) → RunPrints start events last end b c i j → Prints c d j k (shown c.plain (tables_of last)) → Prints d e k l (shown d.plain (line.End end ∷ [])) → Printed image events last a e h l
+pub all_printed : (image : Loaded) (events : List Event) (start last : Xinu) (end : End) (a b c d e : Printing) (h i j k l : Outside) → boot (image ∷ []) ≡ Boots start → Prints a b h i (shown a.plain (line.Switch start.tables.current ∷ [])) → RunPrints start events last end b c i j → Prints c d j k (shown c.plain (tables_of last)) → Prints d e k l (shown d.plain (line.End end ∷ [])) → Printed image events last a e h l
 all_printed image events start last end a b c d e h i j k l boots first run tables ends = record {
-  lines = line.Run start.tables.current ∷ run.lines ++ tables_of last ++ line.End end ∷ [];
+  lines = line.Switch start.tables.current ∷ run.lines ++ tables_of last ++ line.End end ∷ [];
   runs = record { start = start; boots = boots; lines = run.lines; end = end; runs = run.runs; whole = refl };
-  prints = shown_both a d e h k l (line.Run start.tables.current ∷ run.lines ++ tables_of last) (line.End end ∷ [])
-      (shown_both a c d h j k (line.Run start.tables.current ∷ run.lines) (tables_of last)
-      (shown_both a b c h i j (line.Run start.tables.current ∷ []) run.lines first run.prints) tables) ends;
+  prints = shown_both a d e h k l (line.Switch start.tables.current ∷ run.lines ++ tables_of last) (line.End end ∷ [])
+      (shown_both a c d h j k (line.Switch start.tables.current ∷ run.lines) (tables_of last)
+      (shown_both a b c h i j (line.Switch start.tables.current ∷ []) run.lines first run.prints) tables) ends;
 }
 
 -- a printer that isn't plain and hasn't failed

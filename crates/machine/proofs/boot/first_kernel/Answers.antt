@@ -7,10 +7,10 @@ use Rattle.image_loader.specs.declared.parts.Part.{Part}
 use Rattle.machine.proofs.Boots.{boot_running, cells_fit, cells_of_stack}
 use Rattle.xinu_base.specs.declared.registers.Hart.{Hart}
 use Rattle.xinu_model.specs.Boot.{LoadedPart, Boots, end_of, with_parts}
-use Rattle.xinu_model.specs.Heap.{cells_for}
+use Rattle.xinu_model.specs.Heap.Cells.{cells_for}
 use Rattle.xinu_model.specs.Machine.{Xinu}
 use Rattle.xinu_model.specs.Memory.{zeros}
-use Rattle.xinu_model.specs.ProcessCalls.{new_hart}
+use Rattle.xinu_model.specs.Process.Creation.{new_hart}
 use Rattle.machine.proofs.boot.first_kernel.Goals as goal
 
 pub as_slice-parts-requires : goal.as_slice-parts-requires

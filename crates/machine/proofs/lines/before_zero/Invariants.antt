@@ -1,6 +1,6 @@
 -- No byte so far is zero.
 use Rattle.std.proofs.Common.{◌≡◌, ◌++◌, take, drop}
-use Rattle.xinu_model.specs.ProcessCalls.{before_zero}
+use Rattle.xinu_model.specs.Process.Creation.{before_zero}
 use Rattle.machine.proofs.lines.before_zero.Given as goal
 
 abbrev pub invariant-loop-b : goal.invariant-loop-b

@@ -1,4 +1,4 @@
--- The arguments so far stand behind the line.
+-- The arguments so far stand after the line.
 use Rattle.std.proofs.Common.{◌≡◌, ◌+◌, ◌*◌, ◌≤◌, length, map, take}
 use Rattle.xinu_model.specs.Text.{with_words, signed_word}
 use Rattle.machine.proofs.lines.put_arguments.Given as goal

@@ -1,4 +1,4 @@
--- The numbers so far stand behind the word.
+-- The numbers so far stand after the word.
 use Rattle.std.proofs.Common.{◌≡◌, ◌+◌, ◌*◌, ◌≤◌, ◌∷◌, [], length, map, take}
 use Rattle.std.specs.Fmt.{signed_decimal}
 use Rattle.xinu_model.specs.Text.{with_words}

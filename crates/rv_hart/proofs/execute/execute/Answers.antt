@@ -1,9 +1,9 @@
 use Rattle.std.proofs.Common.{◌≡◌, ◌∙◌, ◌%◌, ap, sym, refl, arith}
 use Rattle.std.proofs.lemmas.Bool.{ne_eqb}
-use Rattle.xinu_model.specs.Exec.{Executed, perform}
+use Rattle.xinu_model.specs.Isa.Exec.{Executed, perform}
 use Rattle.xinu_base.specs.declared.Outcome.TheVariants.{Trap}
 use Rattle.xinu_base.specs.declared.Cause.TheVariants.{Illegal}
-use Rattle.xinu_model.specs.Effects.{stops}
+use Rattle.xinu_model.specs.Isa.Effects.{stops}
 use Rattle.rv_hart.proofs.Dispatch.{perform-of_opcode, outcome_by, hart_by, memory_by, no_row}
 use Rattle.rv_hart.proofs.execute.execute.Goals as goal
 

@@ -1,5 +1,5 @@
 use Rattle.std.proofs.Common.{slice_index, ap, ◌∙◌}
-use Rattle.rv_hart.proofs.ZeroRegister.{zero_register}
+use Rattle.xinu_model.proofs.ZeroRegister.{zero_register}
 use Rattle.rv_hart.proofs.fetch.step.Goals as goal
 
 pub returns-in-Some-clause-zero : goal.returns-in-Some-clause-zero

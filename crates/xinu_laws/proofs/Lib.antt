@@ -1,0 +1,9 @@
+pub mod Calm
+pub mod HeapCells
+pub mod Lists
+pub mod Ownership
+pub mod Pools
+pub mod Ports
+pub mod Preserve
+pub mod Results
+pub mod Tables

@@ -1,0 +1,104 @@
+-- Each event keeps the whole state sound, and so does each run; the machine starts in a sound state.
+use Rattle.std.proofs.Common.{◌≡◌, ◌≢◌, ◌<◌, ◌==◌, ℕ, List, [], ◌∷◌, cond, length, ap, subst, ◌∙◌}
+use Rattle.std.proofs.lemmas.Bool.{cond_both, eqb-false}
+use Rattle.xinu_base.specs.declared.events.End.{End}
+use Rattle.xinu_base.specs.declared.events.Event.{Event}
+use Rattle.xinu_base.specs.declared.events.Event.TheVariants.{Step, Tick}
+use Rattle.xinu_base.specs.declared.lines.TranscriptLine.{TranscriptLine}
+use Rattle.xinu_base.specs.declared.lines.TranscriptLine.TheVariants as line
+use Rattle.xinu_base.specs.declared.registers.Outcome.{Outcome}
+use Rattle.xinu_base.specs.declared.registers.Outcome.TheVariants as outcome
+use Rattle.xinu_model.specs.Boot.{Loaded, Boots, boot}
+use Rattle.xinu_model.specs.Calls.{called, continued}
+use Rattle.xinu_model.specs.Clock.{ticked}
+use Rattle.xinu_model.specs.Events.{call_of, call_line, exit_call, with_executed, reacted, is_done, instruction_step, stepped, effect_of}
+use Rattle.xinu_model.specs.Isa.Exec.{Executed, exec}
+use Rattle.xinu_model.specs.Machine.{Xinu, CallResult, EventResult, current_hart, nothing_happens, end_of_event}
+use Rattle.xinu_model.specs.Process.Death.{exit}
+use Rattle.xinu_model.specs.Runs.{RunsTo}
+use Rattle.xinu_model.specs.Sound.State.{IsSound}
+use Rattle.xinu_model.specs.Tables.{process_at}
+use Rattle.xinu_laws.proofs.Calm.Events.{leaves_end_of_event, leaves_ticked}
+use Rattle.xinu_laws.proofs.Calm.Starts.{pools_start}
+use Rattle.xinu_laws.proofs.Tables.Ends.{sound_end_of_event, harts_end_of_event, harts_ticked, executed_may_call}
+use Rattle.xinu_laws.proofs.Pools.Others.{pools_left}
+use Rattle.xinu_laws.proofs.Ports.Calls.{inside_preserved, ports_left}
+use Rattle.xinu_laws.proofs.Ports.Deletions.{KeepsAll}
+use Rattle.xinu_laws.proofs.Ports.Start.{ports_start}
+use Rattle.xinu_laws.proofs.Preserve.Runs.{IsKept, runs_keep}
+use Rattle.xinu_laws.proofs.Preserve.Calls.{MayCallAny, called_keeps, exit_keeps, continued_keeps}
+use Rattle.xinu_laws.proofs.Tables.Starts.{sound_start}
+use Rattle.xinu_laws.proofs.Tables.Ticks.{sound_ticked}
+
+-- The end of an event leaves a sound state.
+pub state_end_of_event : (was : ℕ) (first : List TranscriptLine) (result : CallResult) → KeepsAll result → IsSound (end_of_event was first result).state
+state_end_of_event was first result k =
+    let tables = sound_end_of_event was first result k.preserved in
+    let o = inside_preserved result k.preserved in
+    record {
+      tables = tables;
+      harts = harts_end_of_event was first result k.preserved;
+      pools = pools_left result.call.state (end_of_event was first result).state (leaves_end_of_event was first result o) k.pools;
+      ports = ports_left result.call.state (end_of_event was first result).state tables.inside (leaves_end_of_event was first result o) k.ports;
+    }
+
+-- a process that isn't the null process may call in a sound state
+may_call : (s : Xinu) → IsSound s → s.tables.current ≢ 0 → MayCallAny s
+may_call s k n = record { may = record { tables = k.tables; harts = k.harts; not_null = n }; pools = k.pools; ports = k.ports }
+
+-- and after an instruction of it
+may_call_after : (did : Executed) (s : Xinu) → MayCallAny s → MayCallAny (with_executed did s)
+may_call_after did s c = record { may = executed_may_call did s c.may; pools = c.pools; ports = c.ports }
+
+-- What comes of an instruction keeps the state sound.
+state_reacted : (o : Outcome) (s : Xinu) → MayCallAny s → IsSound (reacted o s).state
+state_reacted outcome.Went s c = record { tables = c.may.tables; harts = c.may.harts; pools = c.pools; ports = c.ports }
+state_reacted outcome.Call s c =
+    let call = call_of (current_hart s) in
+    state_end_of_event s.tables.current (call_line s call ∷ []) (called call.number call.args s) (called_keeps call.number call.args s c)
+state_reacted outcome.Exit s c = state_end_of_event s.tables.current (call_line s (exit_call (current_hart s)) ∷ []) (exit s) (exit_keeps s c)
+state_reacted (outcome.Trap cause) s c = state_end_of_event s.tables.current (line.Trap s.tables.current cause ∷ []) (exit s) (exit_keeps s c)
+
+-- A machine step keeps the state sound.
+pub state_stepped : (s : Xinu) → IsSound s → IsSound (stepped s).state
+state_stepped s k =
+    let left = (process_at s.tables s.tables.current).rest in
+    let did = exec (current_hart s) s.memory in
+    let goes_on = end_of_event s.tables.current [] (continued left s) in
+    cond_both (s.tables.current == 0) (nothing_happens s) (cond (is_done left) (instruction_step s) goes_on) (λ (e : EventResult). IsSound e.state)
+    (λ _. k)
+    (λ b. let c = may_call s k (eqb-false s.tables.current 0 b) in
+    cond_both (is_done left) (instruction_step s) goes_on (λ (e : EventResult). IsSound e.state)
+    (λ _. state_reacted did.outcome (with_executed did s) (may_call_after did s c))
+    (λ _. state_end_of_event s.tables.current [] (continued left s) (continued_keeps s c)))
+
+-- A tick keeps the state sound.
+pub state_ticked : (s : Xinu) → IsSound s → IsSound (ticked s).state
+state_ticked s k =
+    let tables = sound_ticked s k.tables in
+    record {
+      tables = tables;
+      harts = harts_ticked s ∙ k.harts;
+      pools = pools_left s (ticked s).state (leaves_ticked s k.tables) k.pools;
+      ports = ports_left s (ticked s).state tables.inside (leaves_ticked s k.tables) k.ports;
+    }
+
+-- what an event leaves is sound, whatever is chosen in it
+state_effect : (s : Xinu) (e : Event) (choice : ℕ) → IsSound s → IsSound (effect_of s e choice).state
+state_effect s Step choice k = state_stepped s k
+state_effect s Tick choice k = state_ticked s k
+state_effect s _ choice k = k
+
+-- Each event keeps the state sound.
+pub sound_happens : IsKept IsSound
+sound_happens old e lines new k h = subst IsSound (ap (λ (x : EventResult). x.state) h.effect) (state_effect old e h.choice k)
+
+-- Each run keeps the state sound.
+pub sound_run : (events : List Event) (old : Xinu) (lines : List TranscriptLine) (new : Xinu) (end : End) → IsSound old → RunsTo old events lines new end → IsSound new
+sound_run = runs_keep IsSound sound_happens
+
+-- The machine starts in a sound state.
+pub sound_boot : (images : List Loaded) (start : Xinu) → length images < 64 → boot images ≡ Boots start → IsSound start
+sound_boot images start few e =
+    let tables = sound_start images start few e in
+    record { tables = tables.tables; harts = tables.harts; pools = pools_start images start few e; ports = ports_start images start few e }

@@ -1,0 +1,10 @@
+-- What holds of the tables at each moment is kept by each move: of one process, of several, at the start, at a tick, at the end of an event.
+pub mod Changes
+pub mod Deaths
+pub mod Ends
+pub mod MoveTo
+pub mod Places
+pub mod Scheduling
+pub mod Starts
+pub mod Ticks
+pub mod Unblock

@@ -1,0 +1,8 @@
+use Rattle.xinu_laws.proofs.HeapCells.Taken.{grants_were_free as granted, stacks_were_free}
+use Rattle.xinu_laws.proofs.memory.grants_were_free.Goals as goal
+
+pub returns : goal.returns
+returns c = record {
+  memory = granted;
+  stacks = stacks_were_free;
+}

@@ -1,0 +1,10 @@
+-- Examples: small systems of processes with their calls, and what they print.
+pub mod Clock
+pub mod Heap
+pub mod Messages
+pub mod NamedCalls
+pub mod Played
+pub mod Pools
+pub mod Ports
+pub mod Processes
+pub mod Semaphores

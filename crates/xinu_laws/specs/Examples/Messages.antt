@@ -1,0 +1,26 @@
+-- Examples: messages.
+use Rattle.std.specs.Prelude.{List, [], ◌∷◌, pos, negsuc}
+use Rattle.xinu_base.specs.declared.lines.TranscriptLine.{TranscriptLine}
+use Rattle.xinu_base.specs.declared.lines.TranscriptLine.TheVariants.{Call, Return, Switch}
+use Rattle.xinu_laws.specs.Examples.NamedCalls.{sys_exit, sys_receive, sys_recvclr, sys_send}
+use Rattle.xinu_laws.specs.Examples.Played.{Example, Steps, system}
+
+-- A message is waited for, taken, refused if one is held, and taken back.
+abbrev pub messages : Example
+messages = record {
+  start = system (30 ∷ 20 ∷ []) 4096 8;
+  programs =
+      (sys_receive ∷ sys_recvclr ∷ sys_receive ∷ sys_exit ∷ []) ∷
+      (sys_send 1 7 ∷ sys_send 1 8 ∷ sys_send 2 9 ∷ sys_send 2 9 ∷ sys_send 70 1 ∷ []) ∷
+      [];
+  turns = Steps 1000 ∷ [];
+}
+
+abbrev pub messages_lines : List TranscriptLine
+messages_lines =
+    Switch 1 ∷ Call 1 sys_receive ∷ Switch 2 ∷ Call 2 (sys_send 1 7) ∷ Return 2 (pos 0) ∷
+    Switch 1 ∷ Return 1 (pos 7) ∷ Call 1 sys_recvclr ∷ Return 1 (pos 0) ∷ Call 1 sys_receive ∷
+    Switch 2 ∷ Call 2 (sys_send 1 8) ∷ Return 2 (pos 0) ∷ Switch 1 ∷ Return 1 (pos 8) ∷
+    Call 1 sys_exit ∷ Switch 2 ∷ Call 2 (sys_send 2 9) ∷ Return 2 (pos 0) ∷ Call 2 (sys_send 2 9) ∷
+    Return 2 (negsuc 0) ∷ Call 2 (sys_send 70 1) ∷ Return 2 (negsuc 0) ∷
+    []

@@ -1,0 +1,108 @@
+-- Systems of processes, each with a list of calls, to work out what the definitions say of an example.
+use Rattle.std.specs.Prelude.{ℕ, zero, suc, ◌+◌, ◌==◌, Bool, true, false, if◌then◌else◌, List, [], ◌∷◌, ◌++◌, replicate, slice_index, slice_index_or, slice_set, None, pos}
+use Rattle.xinu_base.specs.Constants.{NPROC}
+use Rattle.xinu_base.specs.declared.syscalls.Call.{Call}
+use Rattle.xinu_base.specs.declared.events.Event.TheVariants.{Tick}
+use Rattle.xinu_base.specs.declared.lines.TranscriptLine.{TranscriptLine}
+use Rattle.xinu_base.specs.declared.lines.TranscriptLine.TheVariants as line
+use Rattle.xinu_model.specs.Boot.{null_tables, image_name}
+use Rattle.xinu_model.specs.Calls.{calls, effect_in, continued}
+use Rattle.xinu_model.specs.Events.{is_done, effect_of}
+use Rattle.xinu_model.specs.Machine.{Xinu, first_parts, no_hart, EventResult, end_of_event}
+use Rattle.xinu_model.specs.Process.Scheduling.{resched, ready}
+use Rattle.xinu_model.specs.Process.Creation.{new_process}
+use Rattle.xinu_model.specs.Tables.{Tables, process_at, Nowhere, move_to}
+use Rattle.xinu_model.specs.Text.{tables_of}
+
+-- the tables with processes of these priorities beside the null process; the first of them has number p
+abbrev pub with_processes : ℕ → List ℕ → Tables → Tables
+with_processes p [] t = t
+with_processes p (priority ∷ priorities) t =
+    with_processes (p + 1) priorities (record (move_to p (new_process (image_name p) (pos priority) 0 0 0) None Nowhere t) { last_process = p })
+
+-- the same processes made ready in order
+abbrev pub all_made_ready : ℕ → List ℕ → Tables → Tables
+all_made_ready p [] t = t
+all_made_ready p (priority ∷ priorities) t = all_made_ready (p + 1) priorities (ready p t)
+
+-- A system of processes of these priorities, without stacks, over a heap of n free cells.
+abbrev pub system : List ℕ → ℕ → ℕ → Xinu
+system priorities low cells = record {
+  tables = resched (all_made_ready 1 priorities (with_processes 1 priorities null_tables));
+  harts = replicate NPROC no_hart;
+  memory = [];
+  parts = first_parts (record { low = low; cells = replicate cells true });
+}
+
+-- A state, the calls that each process is still to make, by its number from 0 on, what was printed, and whether the kernel panicked.
+pub record Played : Type 0 where
+  pub state : Xinu
+  pub programs : List (List Call)
+  pub lines : List TranscriptLine
+  pub panicked : Bool
+
+-- what an effect leaves
+abbrev pub after : EventResult → List (List Call) → Played → Played
+after effect programs x = record {
+  state = effect.state;
+  programs = programs;
+  lines = x.lines ++ effect.lines;
+  panicked = effect.panics;
+}
+
+-- the next of these calls by the current process; if there is none it runs on without a call
+abbrev pub called_next : List Call → Played → Played
+called_next [] x = x
+called_next (call ∷ rest) x =
+    let s = x.state in
+    let p = s.tables.current in
+    after (end_of_event p (line.Call p call ∷ []) (effect_in calls call.number (slice_index call.args) s)) (slice_set x.programs p rest) x
+
+-- a step: the current process goes on with the call in which it waited, or makes its next one
+abbrev pub played_step : Played → Played
+played_step x =
+    let s = x.state in
+    let p = s.tables.current in
+    let rest = (process_at s.tables p).rest in
+    if x.panicked then x
+    else (if p == 0 then x
+    else (if is_done rest then called_next (slice_index_or x.programs p []) x
+    else after (end_of_event p [] (continued rest s)) x.programs x))
+
+-- a tick of the clock
+abbrev pub played_tick : Played → Played
+played_tick x = after (effect_of x.state Tick 0) x.programs x
+
+-- n times
+abbrev pub times_over : ℕ → (Played → Played) → Played → Played
+times_over zero f x = x
+times_over (suc n) f x = times_over n f (f x)
+
+-- what happens to a system: steps and ticks
+pub data Turn : Type 0 where
+  Steps : (n : ℕ) → Turn
+  Ticks : (n : ℕ) → Turn
+
+abbrev pub played : List Turn → Played → Played
+played [] x = x
+played (Steps n ∷ turns) x = played turns (times_over n played_step x)
+played (Ticks n ∷ turns) x = played turns (times_over n played_tick x)
+
+-- An example: a system, the calls of its processes, and what happens to it.
+pub record Example : Type 0 where
+  pub start : Xinu
+  pub programs : List (List Call)
+  pub turns : List Turn
+
+-- what becomes of an example
+unfoldable pub outcome_of : Example → Played
+outcome_of example =
+    played example.turns (record { state = example.start; programs = [] ∷ example.programs; lines = line.Switch example.start.tables.current ∷ []; panicked = false })
+
+-- what it prints
+abbrev pub printed : Example → List TranscriptLine
+printed example = (outcome_of example).lines
+
+-- the tables of its last state
+abbrev pub last_tables : Example → List TranscriptLine
+last_tables example = tables_of (outcome_of example).state

@@ -1,0 +1,71 @@
+//! Examples worked out: what the definitions say of small systems of processes, line by line.
+//!
+//! Each function does nothing; its contract says what an example prints. The examples and the lines that are expected of them are in
+//! `specs/`, a file for each subject. A system makes its calls directly, so that all calls of the table can be tried.
+
+ghost use Rattle.std.specs.Prelude.{◌≡◌, ◌++◌, map, true};
+ghost use Rattle.xinu_laws.specs.Examples.Processes as process_examples;
+ghost use Rattle.xinu_laws.specs.Examples.Heap as heap_examples;
+ghost use Rattle.xinu_laws.specs.Examples.Semaphores as semaphore_examples;
+ghost use Rattle.xinu_laws.specs.Examples.Messages as message_examples;
+ghost use Rattle.xinu_laws.specs.Examples.Clock as clock_examples;
+ghost use Rattle.xinu_laws.specs.Examples.Pools as pool_examples;
+ghost use Rattle.xinu_laws.specs.Examples.Ports as port_examples;
+ghost use Rattle.xinu_laws.specs.Examples.Played.{outcome_of, last_tables, printed};
+ghost use Rattle.xinu_model.specs.Text.{pool_lines, port_lines, sleeper_line};
+
+/// Processes: turns, a preemption, a process that suspends itself, refusals, a full table.
+pub fn processes()
+    ensures round_robin { printed process_examples.round_robin ≡ process_examples.round_robin_lines }
+    ensures preemption { printed process_examples.preemption ≡ process_examples.preemption_lines }
+    ensures self_suspension { printed process_examples.self_suspension ≡ process_examples.self_suspension_lines }
+    ensures process_refusals { printed process_examples.process_refusals ≡ process_examples.process_refusals_lines }
+    ensures full_table { printed process_examples.full_table ≡ process_examples.full_table_lines }
+    ensures preemption_tables { last_tables process_examples.preemption ≡ process_examples.preemption_tables }
+{}
+
+/// The heap: the lowest block and the highest stack, merging, refusals.
+pub fn heap()
+    ensures heap_replies { printed heap_examples.heap_replies ≡ heap_examples.heap_replies_lines }
+    ensures stacks { printed heap_examples.stacks ≡ heap_examples.stacks_lines }
+{}
+
+/// Semaphores: a killed waiter, a reset, how many there are.
+pub fn semaphores()
+    ensures semaphore_with_a_kill { printed semaphore_examples.semaphore_with_a_kill ≡ semaphore_examples.semaphore_with_a_kill_lines }
+    ensures reset_releases { printed semaphore_examples.reset_releases ≡ semaphore_examples.reset_releases_lines }
+    ensures all_semaphores { printed semaphore_examples.all_semaphores ≡ semaphore_examples.all_semaphores_lines }
+{}
+
+/// Messages: a slot that is full, a slot that is taken back.
+pub fn messages()
+    ensures messages { printed message_examples.messages ≡ message_examples.messages_lines }
+{}
+
+/// The clock: sleepers, a receive with a limit, a kill among sleepers, the seconds.
+pub fn clock()
+    ensures timed_receive_and_sleep { printed clock_examples.timed_receive_and_sleep ≡ clock_examples.timed_receive_and_sleep_lines }
+    ensures timed_receive_in_time { printed clock_examples.timed_receive_in_time ≡ clock_examples.timed_receive_in_time_lines }
+    ensures three_sleepers_and_a_kill { printed clock_examples.three_sleepers_and_a_kill ≡ clock_examples.three_sleepers_and_a_kill_lines }
+    ensures seconds { printed clock_examples.seconds ≡ clock_examples.seconds_lines }
+    ensures longest_sleep_sleepers { map sleeper_line (outcome_of clock_examples.longest_sleep).state.tables.sleepers ≡ clock_examples.longest_sleep_sleepers }
+{}
+
+/// Buffer pools: waiting for a buffer, a second return of one, how many pools there are, memory that was given back.
+pub fn pools()
+    ensures buffer_pool { printed pool_examples.buffer_pool ≡ pool_examples.buffer_pool_lines }
+    ensures all_pools { printed pool_examples.all_pools ≡ pool_examples.all_pools_lines }
+    ensures pool_refusals { printed pool_examples.pool_refusals ≡ pool_examples.pool_refusals_lines }
+    ensures pool_given_back { printed pool_examples.pool_given_back ≡ pool_examples.pool_given_back_lines }
+    ensures buffer_pool_pools { pool_lines 0 (outcome_of pool_examples.buffer_pool).state.parts.pools ≡ pool_examples.buffer_pool_pools }
+{}
+
+/// Ports: a sender that waited over a reset, a panic, messages given back as buffers, how many ports there are.
+pub fn ports()
+    ensures stale_sender { printed port_examples.stale_sender ≡ port_examples.stale_sender_lines }
+    ensures panic { printed port_examples.panic ≡ port_examples.panic_lines }
+    ensures buffers_through_a_port { printed port_examples.buffers_through_a_port ≡ port_examples.buffers_through_a_port_lines }
+    ensures all_ports { printed port_examples.all_ports ≡ port_examples.all_ports_lines }
+    ensures panics { (outcome_of port_examples.panic).panicked ≡ true }
+    ensures buffers_through_a_port_tables { pool_lines 0 (outcome_of port_examples.buffers_through_a_port).state.parts.pools ++ port_lines 0 (outcome_of port_examples.buffers_through_a_port).state.parts.ports ≡ port_examples.buffers_through_a_port_tables }
+{}

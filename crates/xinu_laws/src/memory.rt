@@ -1,0 +1,33 @@
+//! What the heap hands out, where it does so, and when it refuses.
+
+ghost use Rattle.std.specs.Prelude.{◌≡◌, ◌<◌, ◌≤◌, ◌+◌, ℕ, Bool, length, true, false, List, Some, None};
+ghost use Rattle.xinu_base.specs.declared.events.Event.{Event};
+ghost use Rattle.xinu_base.specs.declared.lines.TranscriptLine.{TranscriptLine};
+ghost use Rattle.xinu_laws.specs.Apart.{is_in_free};
+ghost use Rattle.xinu_model.specs.Events.{Happens};
+ghost use Rattle.xinu_laws.specs.FreeCells.{IsLeast, IsGreatest, BeginNowhere};
+ghost use Rattle.xinu_model.specs.Heap.Cells.{Heap, Grant, Stack, cells_for, lowest_free, highest_free, take_memory, take_stack};
+ghost use Rattle.xinu_model.specs.Machine.{Xinu, refused};
+
+/// Memory comes from the least start at which there are enough free cells in a row, and a stack from the greatest.
+pub fn places_are_extreme()
+    ensures lowest { (k : ℕ) (cells : List Bool) (start : ℕ) → lowest_free k cells ≡ Some start → IsLeast k cells start }
+    ensures highest { (k : ℕ) (cells : List Bool) (start : ℕ) → highest_free k cells ≡ Some start → IsGreatest k cells start }
+{}
+
+/// The heap hands out only what was free just before.
+pub fn grants_were_free()
+    ensures memory { (n : ℕ) (h : Heap) (grant : Grant) → take_memory n h ≡ Some grant → (a : ℕ) → grant.address ≤ a → a < grant.address + n → (is_in_free a h ≡ true) × (is_in_free a grant.heap ≡ false) }
+    ensures stacks { (n : ℕ) (h : Heap) (stack : Stack) → take_stack n h ≡ Some stack → (a : ℕ) → a < stack.top + 4 → stack.top + 4 ≤ a + n → (is_in_free a h ≡ true) × (is_in_free a stack.heap ≡ false) }
+{}
+
+/// Memory and stacks are refused only if nowhere enough free cells are in a row.
+pub fn heap_refuses_rightly()
+    ensures memory { (n : ℕ) (h : Heap) → 0 < n → take_memory n h ≡ None → BeginNowhere (cells_for n) h.cells }
+    ensures stacks { (n : ℕ) (h : Heap) → 0 < n → take_stack n h ≡ None → BeginNowhere (cells_for n) h.cells }
+{}
+
+/// No event moves the heap or changes its size.
+pub fn heap_keeps_its_extent()
+    ensures { (old : Xinu) (e : Event) (lines : List TranscriptLine) (new : Xinu) → Happens old e lines new → (new.parts.heap.low ≡ old.parts.heap.low) × (length new.parts.heap.cells ≡ length old.parts.heap.cells) }
+{}

@@ -1,0 +1,26 @@
+//! Soundness: the machine starts in a sound state, and each event and each run keeps it so.
+
+ghost use Rattle.std.specs.Prelude.{◌≡◌, ◌<◌, length, List};
+ghost use Rattle.xinu_base.specs.declared.events.End.{End};
+ghost use Rattle.xinu_base.specs.declared.events.Event.{Event};
+ghost use Rattle.xinu_base.specs.declared.lines.TranscriptLine.{TranscriptLine};
+ghost use Rattle.xinu_model.specs.Boot.{Loaded, Boots, boot};
+ghost use Rattle.xinu_model.specs.Events.{Happens};
+ghost use Rattle.xinu_model.specs.Machine.{Xinu};
+ghost use Rattle.xinu_model.specs.Runs.{RunsTo};
+ghost use Rattle.xinu_model.specs.Sound.State.{IsSound};
+
+/// The state in which the machine starts is sound.
+pub fn boot_is_sound()
+    ensures { (images : List Loaded) (start : Xinu) → length images < 64 → boot images ≡ Boots start → IsSound start }
+{}
+
+/// Each event keeps a state sound, whatever is chosen in it.
+pub fn events_keep_sound()
+    ensures { (old : Xinu) (e : Event) (lines : List TranscriptLine) (new : Xinu) → IsSound old → Happens old e lines new → IsSound new }
+{}
+
+/// Each run keeps a state sound.
+pub fn runs_keep_sound()
+    ensures { (events : List Event) (old : Xinu) (lines : List TranscriptLine) (new : Xinu) (end : End) → IsSound old → RunsTo old events lines new end → IsSound new }
+{}

@@ -1,9 +1,0 @@
-use Rattle.xinu_model.proofs.Printed.{prints_semaphore_with_a_kill, prints_reset_releases, prints_all_semaphores}
-use Rattle.xinu_model.proofs.examples.semaphores.Goals as goal
-
-pub returns : goal.returns
-returns c = record {
-  semaphore_with_a_kill = prints_semaphore_with_a_kill;
-  reset_releases = prints_reset_releases;
-  all_semaphores = prints_all_semaphores;
-}

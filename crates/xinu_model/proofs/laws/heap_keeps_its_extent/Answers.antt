@@ -1,5 +1,0 @@
-use Rattle.xinu_model.proofs.ApartExtentEvents.{extent_happens}
-use Rattle.xinu_model.proofs.laws.heap_keeps_its_extent.Goals as goal
-
-pub returns : goal.returns
-returns c = λ old e lines new h. let kept = extent_happens old e lines new h in (kept.low, kept.many)

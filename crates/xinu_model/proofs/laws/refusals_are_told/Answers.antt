@@ -1,5 +1,0 @@
-use Rattle.xinu_model.proofs.Refusals.{refusals_are_told}
-use Rattle.xinu_model.proofs.laws.refusals_are_told.Goals as goal
-
-pub returns : goal.returns
-returns c = refusals_are_told

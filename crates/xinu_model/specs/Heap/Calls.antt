@@ -1,0 +1,37 @@
+-- The heap as processes call it (book, chapter 9).
+use Rattle.std.specs.Prelude.{ℕ, Option, Some, None, pos}
+use Rattle.xinu_base.specs.Constants.{OK}
+use Rattle.xinu_model.specs.Heap.Cells as heap
+use Rattle.xinu_model.specs.Heap.Cells.{Heap, Grant, Stack}
+use Rattle.xinu_model.specs.Machine.{Xinu, CallResult, start, returns, refused}
+
+-- what was granted is answered
+abbrev pub granted : Option Grant → Xinu → CallResult
+granted None s = refused s
+granted (Some grant) s = returns (start (record s { parts = record s.parts { heap = grant.heap } })) (pos grant.address)
+
+-- the stack that was found is answered
+abbrev pub stacked : Option Stack → Xinu → CallResult
+stacked None s = refused s
+stacked (Some stack) s = returns (start (record s { parts = record s.parts { heap = stack.heap } })) (pos stack.top)
+
+-- what was given back is free
+abbrev pub given_back : Option Heap → Xinu → CallResult
+given_back None s = refused s
+given_back (Some free) s = returns (start (record s { parts = record s.parts { heap = free } })) OK
+
+-- call 10: n bytes of the lowest free cells
+abbrev pub getmem : ℕ → Xinu → CallResult
+getmem n s = granted (heap.take_memory n s.parts.heap) s
+
+-- call 11: n bytes from an address on are given back
+abbrev pub freemem : ℕ → ℕ → Xinu → CallResult
+freemem a n s = given_back (heap.free_memory a n s.parts.heap) s
+
+-- call 12: a stack of n bytes of the highest free cells
+abbrev pub getstk : ℕ → Xinu → CallResult
+getstk n s = stacked (heap.take_stack n s.parts.heap) s
+
+-- call 13: a stack of n bytes whose highest word is at an address is given back
+abbrev pub freestk : ℕ → ℕ → Xinu → CallResult
+freestk a n s = given_back (heap.free_stack a n s.parts.heap) s

@@ -1,0 +1,81 @@
+-- Processes: how they are made, run, stopped and ended (book, chapters 4 to 6).
+use Rattle.std.specs.Prelude.{ℕ, ◌==◌, Bool, true, false, not, if◌then◌else◌, ◌||◌, List, take, drop, slice_set, Option, Some, None, ℤ, pos, int_lt}
+use Rattle.xinu_base.specs.Constants.{OK}
+use Rattle.xinu_base.specs.declared.processes.Rest.TheVariants.{SelfSuspend}
+use Rattle.xinu_base.specs.declared.processes.State.{State}
+use Rattle.xinu_base.specs.declared.processes.State.TheVariants.{Ready, Suspended}
+use Rattle.xinu_model.specs.Heap.Cells.{Stack, take_stack}
+use Rattle.xinu_model.specs.Machine.{Xinu, CallResult, start, with_tables, ready_later, returns, refused, blocked, goes_on}
+use Rattle.xinu_model.specs.Memory.{in_ram}
+use Rattle.xinu_model.specs.Messages.{held}
+use Rattle.xinu_model.specs.Process.Scheduling.{in_state}
+use Rattle.xinu_model.specs.Tables.{process_at, state_at, message_at, is_free, move_to, Nowhere}
+use Rattle.xinu_model.specs.Process.Creation.{stack_size, new_hart, process_name, new_process, free_process, make_process}
+use Rattle.xinu_model.specs.Process.Death.{killed, exit}
+
+-- whether a process of this state is suspended
+abbrev pub is_suspended : State → Bool
+is_suspended Suspended = true
+is_suspended _ = false
+
+-- whether a process of this state is ready
+abbrev pub is_ready : State → Bool
+is_ready Ready = true
+is_ready _ = false
+
+-- call 1: the number of the caller
+abbrev pub getpid : Xinu → CallResult
+getpid s = returns (start s) (pos s.tables.current)
+
+-- a process that is created, if a number and a stack are found
+abbrev pub created : Option ℕ → Option Stack → ℕ → ℕ → ℤ → List ℕ → ℕ → ℕ → Xinu → CallResult
+created (Some p) (Some stack) entry size priority name x y s =
+    returns (start (make_process p (new_process name priority s.tables.current stack.top size) (new_hart entry stack.top x y) stack s)) (pos p)
+created (Some p) None entry size priority name x y s = refused s
+created None stack entry size priority name x y s = refused s
+
+-- Call 2: a new process with this entry, stack and priority, named by the text at an address; it begins with x and y in a0 and a1.
+-- It is refused if the priority is below 1, the name doesn't lie in RAM, no number is free or the heap has no such stack.
+abbrev pub create : ℕ → ℕ → ℤ → ℕ → ℕ → ℕ → Xinu → CallResult
+create entry size priority name x y s =
+    if int_lt priority (pos 1) || not (in_ram name 16) then refused s
+    else created (free_process s.tables) (take_stack (stack_size size) s.parts.heap) entry (stack_size size) priority (process_name (take 16 (drop name s.memory))) x y s
+
+-- call 3: p, which is suspended, becomes ready; its priority
+abbrev pub resume : ℕ → Xinu → CallResult
+resume p s =
+    if is_suspended (state_at s.tables p) then returns (ready_later p (start s)) (process_at s.tables p).priority else refused s
+
+-- call 4: p, which is ready, is suspended, or the caller itself; its priority
+abbrev pub suspend : ℕ → Xinu → CallResult
+suspend p s =
+    let t = s.tables in
+    let x = process_at t p in
+    if p == 0 then refused s
+    else (if is_ready x.state then returns (with_tables (move_to p (in_state Suspended x) (message_at t p) Nowhere t) (start s)) x.priority
+    else (if p == t.current then blocked Suspended SelfSuspend Nowhere s
+    else refused s))
+
+-- call 5: p dies, which isn't the null process
+abbrev pub kill : ℕ → Xinu → CallResult
+kill p s =
+    if (p == 0) || is_free (state_at s.tables p) then refused s
+    else (if p == s.tables.current then exit s
+    else returns (killed p (start s)) OK)
+
+-- call 7: p has another priority, which counts from its next insertion in the ready list on; the one that it had
+abbrev pub chprio : ℕ → ℤ → Xinu → CallResult
+chprio p priority s =
+    let t = s.tables in
+    let x = process_at t p in
+    if is_free x.state then refused s
+    else returns (with_tables (record t { processes = slice_set t.processes p (record x { priority = priority }) }) (start s)) x.priority
+
+-- call 8: the priority of p
+abbrev pub getprio : ℕ → Xinu → CallResult
+getprio p s =
+    if is_free (state_at s.tables p) then refused s else returns (start s) (process_at s.tables p).priority
+
+-- the caller goes on after it suspended itself
+abbrev pub go_on_suspend : Xinu → CallResult
+go_on_suspend s = returns (start (goes_on (held s) s)) (process_at s.tables s.tables.current).priority

@@ -1,0 +1,61 @@
+-- Semaphores: tokens, and the processes that wait for one (book, chapter 7).
+use Rattle.std.specs.Prelude.{ℕ, not, if◌then◌else◌, ◌&&◌, Option, Some, None, ℤ, pos, negsuc, ◌+ℤ◌, int_lt}
+use Rattle.xinu_base.specs.Constants.{OK}
+use Rattle.xinu_base.specs.declared.processes.Rest.TheVariants.{Nothing}
+use Rattle.xinu_base.specs.declared.semaphores.Owner.TheVariants as owner
+use Rattle.xinu_model.specs.Machine.{Xinu, CallResult, start, with_tables, returns, refused}
+use Rattle.xinu_model.specs.Tables.{no_semaphore, semaphore_at}
+use Rattle.xinu_model.specs.Semaphores.Counts.{most_tokens, with_semaphore, with_tokens, count_of, is_good, free_semaphore, make_semaphore}
+use Rattle.xinu_model.specs.Semaphores.Waiting.{signalled, signalled_times, emptied, await}
+
+-- the caller is answered
+abbrev pub answers : ℤ → Xinu → CallResult
+answers value s = returns (start s) value
+
+-- a semaphore with n tokens, if a number is found
+abbrev pub made_semaphore : ℕ → Option ℕ → Xinu → CallResult
+made_semaphore n None s = refused s
+made_semaphore n (Some sem) s = returns (start (record s { tables = make_semaphore sem owner.Image n s.tables })) (pos sem)
+
+-- call 14: a new semaphore with this count, which isn't negative
+abbrev pub semcreate : ℤ → Xinu → CallResult
+semcreate (negsuc n) s = refused s
+semcreate (pos n) s = made_semaphore n (free_semaphore s.tables) s
+
+-- call 15: the semaphore is given up, and all who wait on it go on
+abbrev pub semdelete : ℕ → Xinu → CallResult
+semdelete sem s =
+    if is_good sem s.tables
+    then (let d = emptied sem (start s) in returns (with_tables (with_semaphore sem no_semaphore d.state.tables) d) OK)
+    else refused s
+
+-- call 16: all who wait go on, and the semaphore has this count, which isn't negative
+abbrev pub semreset : ℕ → ℤ → Xinu → CallResult
+semreset sem (negsuc n) s = refused s
+semreset sem (pos n) s =
+    if is_good sem s.tables
+    then (let d = emptied sem (start s) in returns (with_tables (with_tokens sem n d.state.tables) d) OK)
+    else refused s
+
+-- call 17: the count
+abbrev pub semcount : ℕ → Xinu → CallResult
+semcount sem s = if is_good sem s.tables then answers (count_of (semaphore_at s.tables sem)) s else refused s
+
+-- call 18: the caller takes a token, or waits for one
+abbrev pub wait : ℕ → Xinu → CallResult
+wait sem s = if is_good sem s.tables then await sem Nothing (answers OK) s else refused s
+
+-- call 19: one signal, unless the count is the greatest
+abbrev pub signal : ℕ → Xinu → CallResult
+signal sem s =
+    if is_good sem s.tables && int_lt (count_of (semaphore_at s.tables sem)) most_tokens
+    then returns (signalled sem (start s)) OK
+    else refused s
+
+-- call 20: n signals, unless n is negative or the count would pass the greatest
+abbrev pub signaln : ℕ → ℤ → Xinu → CallResult
+signaln sem (negsuc n) s = refused s
+signaln sem (pos n) s =
+    if is_good sem s.tables && not (int_lt most_tokens (count_of (semaphore_at s.tables sem) +ℤ pos n))
+    then returns (signalled_times sem n (start s)) OK
+    else refused s
