@@ -7,7 +7,7 @@ use Rattle.image_loader.specs.Faults.{fault_number}
 use Rattle.image_loader.specs.ImageFiles.{first_fault}
 use Rattle.image_loader.specs.declared.faults.ImageFault.{ImageFault}
 use Rattle.schedule_file.specs.ScheduleFiles.{Reading, reading}
-use Rattle.xinu_run.specs.Inputs.{fault_line, schedule_fault, image_fault}
+use Rattle.xinu_run.specs.InputFaults.{fault_line, schedule_fault, image_fault}
 
 -- a file that is too long has fault 0
 pub schedule_fault-long : (bytes : List ℕ) → 4194304 < length bytes → schedule_fault bytes ≡ Some 0
@@ -30,7 +30,7 @@ image_fault-short bytes fault short is =
     rw (le-leb (length bytes) 1048576 short) (ap (λ (f : Option ImageFault). option_map fault_number f) is)
 
 -- What was fetched of a file is the whole file, or both are too long.
-cases_fetched : (bytes items : List ℕ) (most : ℕ) → items ≡ take (most + 1) bytes → (bytes ≡ items) ⊎ ((most < length bytes) × (most < length items))
+pub cases_fetched : (bytes items : List ℕ) (most : ℕ) → items ≡ take (most + 1) bytes → (bytes ≡ items) ⊎ ((most < length bytes) × (most < length items))
 cases_fetched bytes items most told =
     let long : length items ≡ length (take (most + 1) bytes) = ap length told in
     elim (cases_lt most (length bytes)) [
@@ -53,7 +53,7 @@ image_fault-fetched bytes items told =
       | inr long ↦ image_fault-long bytes long.0 ∙ sym (image_fault-long items long.1)
     ]
 
--- What was fetched of a file is the whole file, where it has no fault.
+-- What was fetched of a file is the whole file if it has no fault.
 pub schedule_whole : (bytes items : List ℕ) → items ≡ take 4194305 bytes → schedule_fault items ≡ None → bytes ≡ items
 schedule_whole bytes items told good =
     elim (cases_fetched bytes items 4194304 told) [
