@@ -1,6 +1,6 @@
 -- What is left of a command: refused arguments, a host that failed, and the text of a refusal.
-use Rattle.std.proofs.Common.{◌≡◌, ◌≢◌, ◌≤◌, ℕ, List, [], ◌∷◌, take, Option, Some, None, refl, sym, ap, subst, ◌∙◌, arith}
-use Rattle.std.specs.Prelude.{Result, Ok, Err, IsErr, IsErrAnd, IsErrOf}
+use Rattle.std.proofs.Common.{◌≡◌, ◌≤◌, ℕ, List, [], ◌∷◌, take, Option, Some, None, refl, sym, ap, subst, ◌∙◌, arith}
+use Rattle.std.specs.Prelude.{Result, Ok, Err, IsErr, IsErrAnd}
 use Rattle.command_words.specs.Commands.{Command}
 use Rattle.command_words.specs.Reading.{Text}
 use Rattle.host_port.specs.declared.host.Channel.TheVariants.{Fault}
@@ -12,8 +12,8 @@ use Rattle.machine.specs.Printed.{Booted}
 use Rattle.xinu_model.specs.Machine.{Xinu}
 use Rattle.xinu_run.specs.Conversions.{host_refusal}
 use Rattle.xinu_run.specs.Fetches.{fetches_of}
-use Rattle.xinu_run.specs.Refusals.{IsRefused, status_of, text_of}
-use Rattle.xinu_run.specs.Stages.{IsWordsCause, KeepsFiles, left_of, refusal_of}
+use Rattle.xinu_run.specs.Refusals.{IsRefused, text_of}
+use Rattle.xinu_run.specs.Stages.{IsArgsCause, KeepsFiles, left_of, refusal_of}
 use Rattle.xinu_run.specs.Theorem.{Answers, Carries, IsAsked, IsUnsent, Obeys}
 use Rattle.xinu_run.specs.Verdict.{Verdict, Refuses, Does, Runs, held, run_verdict, verdict}
 use Rattle.xinu_run.specs.declared.refusals.Refusal.{Refusal}
@@ -22,13 +22,14 @@ use Rattle.xinu_run.proofs.Carried.{carries_nothing, carries_within, unsent_refl
 use Rattle.xinu_run.proofs.Files.{run_keeps, unseen_by}
 
 -- What holds of a refusal holds of a result that is this refusal.
-pub of_err : (r : Result Booted Refusal) (cause : Refusal) (P : Option Refusal → Option Xinu → Type 0) → IsErr r → IsErrAnd r (λ x. x ≡ cause) → P (Some cause) None → P (refusal_of r) (left_of r)
+pub of_err : (r : Result Booted Refusal) (cause : Refusal) (P : Option Refusal → Option Xinu → Type 0) → IsErr r
+    → IsErrAnd r (λ x. x ≡ cause) → P (Some cause) None → P (refusal_of r) (left_of r)
 of_err (Ok m) cause P err is holds = absurd (cc)
 of_err (Err x) cause P err is holds =
     let Q : Refusal → Type 0 = λ y. P (Some y) None in subst Q (sym is) holds
 
 -- arguments that are refused
-pub args_refuse : (r : Refusal) (command : Option Command) (h : Outside) → IsWordsCause r command → Obeys command (Some r) None h h
+pub args_refuse : (r : Refusal) (command : Option Command) (h : Outside) → IsArgsCause r command → Obeys command (Some r) None h h
 args_refuse refusal.Usage command h cause =
     let P : Option Command → Type 0 = λ c. Obeys c (Some refusal.Usage) None h h in
     subst P (sym cause) (record { unseen = unseen_by [] []; carries = carries_nothing (Refuses refusal.Usage) refusal.Usage h h refl (unsent_refl h) })
@@ -42,7 +43,8 @@ args_refuse refusal.NoMemory command h cause = record {
 args_refuse (refusal.NoRoom n) command h cause = absurd cause
 
 -- a file that the host didn't fetch
-pub host_refuses : (f : HostFault) (s i : Text) (h j k : Outside) → (f ≡ host.Failed → Rose j.faults k.faults) → h.faults ≤ j.faults → IsUnsent h k → Obeys (Some (record { schedule = s; images = i ∷ [] })) (Some (host_refusal f)) None h k
+pub host_refuses : (f : HostFault) (s i : Text) (h j k : Outside) → (f ≡ host.Failed → Rose j.faults k.faults) → h.faults ≤ j.faults
+    → IsUnsent h k → Obeys (Some (record { schedule = s; images = i ∷ [] })) (Some (host_refusal f)) None h k
 host_refuses host.Failed s i h j k cause earlier unsent =
     let rose : Rose h.faults k.faults = (let later : Rose j.faults k.faults = cause refl in omega arith) in record {
       unseen = unseen_by [] [];
@@ -68,7 +70,8 @@ done_status (Refuses cause) left h k c = (let work = c.deserved.1 in cc)
 done_status (Does (Runs start events)) left h k c = sym (ap (λ o. o.status) c.sends.writes.written)
 
 -- A command that was done answers 0.
-pub done_answers : (command : Option Command) (left : Option Xinu) (h k : Outside) → Obeys command None left h k → IsAsked (fetches_of command) None h k → KeepsFiles h k → Answers 0 command h k left
+pub done_answers : (command : Option Command) (left : Option Xinu) (h k : Outside) → Obeys command None left h k
+    → IsAsked (fetches_of command) None h k → KeepsFiles h k → Answers 0 command h k left
 done_answers command left h k obeys asked keeps = record {
   ended = None;
   obeys = obeys;
@@ -89,7 +92,8 @@ text_unsent j k text is = record {
 }
 
 -- A command that was refused answers the status of the refusal, once its text was sent.
-pub refused_answers : (command : Option Command) (r : Refusal) (exit : ℕ) (h j k : Outside) → Obeys command (Some r) None h j → IsAsked (fetches_of command) (Some r) h j → KeepsFiles h j → IsRefused r exit j k → Answers exit command h k None
+pub refused_answers : (command : Option Command) (r : Refusal) (exit : ℕ) (h j k : Outside) → Obeys command (Some r) None h j
+    → IsAsked (fetches_of command) (Some r) h j → KeepsFiles h j → IsRefused r exit j k → Answers exit command h k None
 refused_answers command r exit h j k obeys asked keeps refused =
     let sent = refused.part.1 in record {
       ended = Some r;

@@ -1,5 +1,5 @@
 -- A command that is carried out: refused before anything was sent, stage by stage, and by a printed run.
-use Rattle.std.proofs.Common.{◌≡◌, ◌≢◌, ◌≤◌, false, ℕ, List, [], take, Option, Some, None, IsSome, refl, sym, ap, subst, ◌∙◌, arith, inl, inr}
+use Rattle.std.proofs.Common.{◌≡◌, ◌≤◌, false, ℕ, List, [], take, Option, Some, None, refl, sym, ap, subst, ◌∙◌, arith, inl, inr}
 use Rattle.host_port.specs.declared.host.HostFault.{HostFault}
 use Rattle.host_port.specs.declared.host.HostFault.TheVariants as host
 use Rattle.host_port.specs.HostCalls.{Rose}
@@ -11,7 +11,7 @@ use Rattle.xinu_model.specs.Text.{shown, text}
 use Rattle.xinu_model.proofs.Runs.{some_run}
 use Rattle.xinu_run.specs.Conversions.{host_refusal}
 use Rattle.xinu_run.specs.Theorem.{Carries, Deserved, IsPart, IsPartSent, IsSent, IsUnsent, IsWhole, Sends, WorkSends}
-use Rattle.xinu_run.specs.Verdict.{Output, Verdict, Refuses, Does, Work, Runs, printed, transcript}
+use Rattle.xinu_run.specs.Verdict.{Output, Verdict, Refuses, Does, Runs, printed, transcript}
 use Rattle.xinu_run.specs.declared.refusals.Refusal.{Refusal}
 use Rattle.xinu_run.specs.declared.refusals.Refusal.TheVariants as refusal
 use Rattle.xinu_run.proofs.Printed.{Printed}
@@ -19,7 +19,8 @@ use Rattle.xinu_run.proofs.Printed.{Printed}
 -- ---- nothing was sent
 
 -- A command that is refused before anything was sent is carried out whatever its verdict is, since there is a run through all events.
-pub carries_nothing : (v : Verdict) (cause : Refusal) (h k : Outside) → Deserved v (Some cause) h k → IsUnsent h k → Carries v (Some cause) None h k
+pub carries_nothing : (v : Verdict) (cause : Refusal) (h k : Outside) → Deserved v (Some cause) h k → IsUnsent h k
+    → Carries v (Some cause) None h k
 carries_nothing (Refuses c) cause h k deserved unsent =
     record { output = printed 0 []; deserved = deserved; sends = unsent; refused = λ some. refl }
 carries_nothing (Does (Runs start events)) cause h k deserved unsent =
@@ -51,11 +52,13 @@ unsent_both h i k first second = record {
 -- ---- from one stage to the next
 
 -- the same verdict in another form
-pub carries_as : (v w : Verdict) (ended : Option Refusal) (left : Option Xinu) (h k : Outside) → v ≡ w → Carries w ended left h k → Carries v ended left h k
+pub carries_as : (v w : Verdict) (ended : Option Refusal) (left : Option Xinu) (h k : Outside) → v ≡ w → Carries w ended left h k
+    → Carries v ended left h k
 carries_as v w ended left h k same carries =
     let P : Verdict → Type 0 = λ x. Carries x ended left h k in subst P (sym same) carries
 
-deserved_within : (v : Verdict) (ended : Option Refusal) (h i j k : Outside) → h.faults ≤ i.faults → j.faults ≤ k.faults → Deserved v ended i j → Deserved v ended h k
+deserved_within : (v : Verdict) (ended : Option Refusal) (h i j k : Outside) → h.faults ≤ i.faults → j.faults ≤ k.faults
+    → Deserved v ended i j → Deserved v ended h k
 deserved_within v None h i j k before after deserved = deserved
 deserved_within v (Some refusal.Usage) h i j k before after deserved = deserved
 deserved_within v (Some refusal.HostFault) h i j k before after deserved =
@@ -93,7 +96,8 @@ part_sent_within output h i j k before after sent = record {
   image = part_within output.image h.image i.image j.image k.image before.image after.image sent.image;
 }
 
-sends_within : (v : Verdict) (output : Output) (ended : Option Refusal) (left : Option Xinu) (h i j k : Outside) → IsUnsent h i → IsUnsent j k → Sends v output ended left i j → Sends v output ended left h k
+sends_within : (v : Verdict) (output : Output) (ended : Option Refusal) (left : Option Xinu) (h i j k : Outside) → IsUnsent h i
+    → IsUnsent j k → Sends v output ended left i j → Sends v output ended left h k
 sends_within (Refuses cause) output ended left h i j k before after sends =
     unsent_both h j k (unsent_both h i j before sends) after
 sends_within (Does work) output ended left h i j k before after sends = record {
@@ -105,7 +109,8 @@ sends_within (Does work) output ended left h i j k before after sends = record {
 }
 
 -- What is carried out from one moment to another is so from before to after, if nothing is sent there.
-pub carries_within : (v : Verdict) (ended : Option Refusal) (left : Option Xinu) (h i j k : Outside) → IsUnsent h i → h.faults ≤ i.faults → IsUnsent j k → j.faults ≤ k.faults → Carries v ended left i j → Carries v ended left h k
+pub carries_within : (v : Verdict) (ended : Option Refusal) (left : Option Xinu) (h i j k : Outside) → IsUnsent h i → h.faults ≤ i.faults
+    → IsUnsent j k → j.faults ≤ k.faults → Carries v ended left i j → Carries v ended left h k
 carries_within v ended left h i j k before earlier after later carries = record {
   output = carries.output;
   deserved = deserved_within v ended h i j k earlier later carries.deserved;
@@ -120,7 +125,9 @@ abbrev pub fresh : Printing
 fresh = record { plain = false; failure = None }
 
 -- what was printed of a run was sent
-printed_sends : (start : Xinu) (events : List Event) (new : Xinu) (a e : Printing) (h k : Outside) (ended : Option Refusal) (left : Option Xinu) → a ≡ fresh → (p : Printed start events new a e h k) → (ended ≡ None → e.failure ≡ None) → (ended ≡ None → left ≡ Some new) → WorkSends (Runs start events) (printed 0 (text (transcript start p.lines p.last p.end))) ended left h k
+printed_sends : (start : Xinu) (events : List Event) (new : Xinu) (a e : Printing) (h k : Outside) (ended : Option Refusal) (left : Option Xinu)
+    → a ≡ fresh → (p : Printed start events new a e h k) → (ended ≡ None → e.failure ≡ None) → (ended ≡ None → left ≡ Some new)
+    → WorkSends (Runs start events) (printed 0 (text (transcript start p.lines p.last p.end))) ended left h k
 printed_sends start events new a e h k ended left is_fresh p done leaves =
     let all = transcript start p.lines p.last p.end in
     let P : List ℕ → Type 0 = λ bytes. Prints a e h k bytes in
@@ -144,7 +151,8 @@ printed_sends start events new a e h k ended left is_fresh p done leaves =
     }
 
 -- a run that was printed whole
-pub run_done : (v : Verdict) (start : Xinu) (events : List Event) (new : Xinu) (a e : Printing) (h k : Outside) → v ≡ Does (Runs start events) → a ≡ fresh → e.failure ≡ None → Printed start events new a e h k → Carries v None (Some new) h k
+pub run_done : (v : Verdict) (start : Xinu) (events : List Event) (new : Xinu) (a e : Printing) (h k : Outside)
+    → v ≡ Does (Runs start events) → a ≡ fresh → e.failure ≡ None → Printed start events new a e h k → Carries v None (Some new) h k
 run_done v start events new a e h k is is_fresh none p =
     carries_as v (Does (Runs start events)) None (Some new) h k is (record {
       output = printed 0 (text (transcript start p.lines p.last p.end));
@@ -154,16 +162,21 @@ run_done v start events new a e h k is is_fresh none p =
     })
 
 -- why a run wasn't printed whole
-refused_deserved : (f : HostFault) (start : Xinu) (events : List Event) (new : Xinu) (a e : Printing) (h k : Outside) → a ≡ fresh → e.failure ≡ Some f → Printed start events new a e h k → Deserved (Does (Runs start events)) (Some (host_refusal f)) h k
-refused_deserved host.Failed start events new a e h k is_fresh failed p =
-    ((λ same. cc), elim (p.prints.cause failed) [
-      | inl had ↦ (let none : a.failure ≡ None = ap (λ (x : Printing). x.failure) is_fresh in absurd (cc))
-      | inr rose ↦ rose
-    ])
+refused_deserved : (f : HostFault) (start : Xinu) (events : List Event) (new : Xinu) (a e : Printing) (h k : Outside) → a ≡ fresh
+    → e.failure ≡ Some f → Printed start events new a e h k → Deserved (Does (Runs start events)) (Some (host_refusal f)) h k
+refused_deserved host.Failed start events new a e h k is_fresh failed p = (
+  (λ same. cc),
+  elim (p.prints.cause failed) [
+    | inl had ↦ (let none : a.failure ≡ None = ap (λ (x : Printing). x.failure) is_fresh in absurd (cc))
+    | inr rose ↦ rose
+  ],
+)
 refused_deserved host.NoMemory start events new a e h k is_fresh failed p = tt
 
 -- a run of which the host refused a line
-pub run_refused : (v : Verdict) (f : HostFault) (r : Refusal) (start : Xinu) (events : List Event) (new : Xinu) (a e : Printing) (h k : Outside) → v ≡ Does (Runs start events) → r ≡ host_refusal f → a ≡ fresh → e.failure ≡ Some f → Printed start events new a e h k → Carries v (Some r) None h k
+pub run_refused : (v : Verdict) (f : HostFault) (r : Refusal) (start : Xinu) (events : List Event) (new : Xinu) (a e : Printing) (h k : Outside)
+    → v ≡ Does (Runs start events) → r ≡ host_refusal f → a ≡ fresh → e.failure ≡ Some f → Printed start events new a e h k
+    → Carries v (Some r) None h k
 run_refused v f r start events new a e h k is is_r is_fresh failed p =
     let P : Refusal → Type 0 = λ x. Carries v (Some x) None h k in
     subst P (sym is_r) (carries_as v (Does (Runs start events)) (Some (host_refusal f)) None h k is (record {

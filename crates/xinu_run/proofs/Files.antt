@@ -16,9 +16,9 @@ use Rattle.machine.specs.declared.boot.BootFault.{BootFault}
 use Rattle.machine.specs.declared.boot.BootFault.TheVariants as boot_fault
 use Rattle.xinu_run.specs.Conversions.{boot_refusal, schedule_refusal}
 use Rattle.xinu_run.specs.InputFaults.{ReadsAs, schedule_fault, image_fault}
-use Rattle.xinu_run.specs.Stages.{HoldsFault, HoldsSchedule, IsScheduleCause, KeepsFiles}
-use Rattle.xinu_run.specs.Theorem.{Carries, Deserved, IsUnsent, Obeys}
-use Rattle.xinu_run.specs.Verdict.{Input, ScheduleInput, ImageInput, Verdict, Refuses, given, held, run_verdict, start_verdict, started, verdict, with_images}
+use Rattle.xinu_run.specs.Stages.{HoldsFault, HoldsSchedule, IsScheduleCause}
+use Rattle.xinu_run.specs.Theorem.{Carries, IsUnsent, Obeys}
+use Rattle.xinu_run.specs.Verdict.{Input, ScheduleInput, ImageInput, Verdict, Refuses, given, held, run_verdict, start_verdict, started, with_images}
 use Rattle.xinu_run.specs.declared.refusals.Refusal.{Refusal}
 use Rattle.xinu_run.specs.declared.refusals.Refusal.TheVariants as refusal
 use Rattle.xinu_run.proofs.Carried.{carries_as, carries_nothing, carries_within, unsent_refl}
@@ -27,83 +27,99 @@ use Rattle.xinu_run.proofs.InputFaults.{cases_fetched, schedule_fault-fetched, s
 -- ---- a file that was fetched
 
 -- What was fetched is the first bytes of what the file holds, with what was fetched in place of bytes that can't be observed.
-pub held_fetched : (file : Option (List ℕ)) (items : List ℕ) (n : ℕ) → length items ≤ n → MatchOption file ⊤ (λ bytes. items ≡ take n bytes) → items ≡ take n (held file items)
-held_fetched None items n few told = sym (take_all n items few)
-held_fetched (Some bytes) items n few told = told
+pub held_fetched : (file : Option (List ℕ)) (items : List ℕ) (n : ℕ) → length items ≤ n
+    → MatchOption file ⊤ (λ bytes. items ≡ take n bytes) → items ≡ take n (held file items)
+held_fetched None items n few fetched = sym (take_all n items few)
+held_fetched (Some bytes) items n few fetched = fetched
 
 -- The schedule file holds the events that were read of it.
-pub holds_events : (file : Option (List ℕ)) (items : List ℕ) (events : List Event) → length items ≤ 4194305 → MatchOption file ⊤ (λ bytes. items ≡ take 4194305 bytes) → ReadsAs items events → HoldsSchedule file events
-holds_events file items events few told reads =
+pub holds_events : (file : Option (List ℕ)) (items : List ℕ) (events : List Event) → length items ≤ 4194305
+    → MatchOption file ⊤ (λ bytes. items ≡ take 4194305 bytes) → ReadsAs items events → HoldsSchedule file events
+holds_events file items events few fetched reads =
     let P : List ℕ → Type 0 = λ s. ReadsAs s events in record {
       unseen = items;
-      reads = subst P (sym (schedule_whole (held file items) items (held_fetched file items 4194305 few told) reads.good)) reads;
+      reads = subst P (sym (schedule_whole (held file items) items (held_fetched file items 4194305 few fetched) reads.good)) reads;
     }
 
 -- The schedule file has the fault of the fetched bytes.
-pub holds_fault : (file : Option (List ℕ)) (items : List ℕ) (l : ℕ) → length items ≤ 4194305 → MatchOption file ⊤ (λ bytes. items ≡ take 4194305 bytes) → schedule_fault items ≡ Some l → HoldsFault file l
-holds_fault file items l few told is = record {
+pub holds_fault : (file : Option (List ℕ)) (items : List ℕ) (l : ℕ) → length items ≤ 4194305
+    → MatchOption file ⊤ (λ bytes. items ≡ take 4194305 bytes) → schedule_fault items ≡ Some l → HoldsFault file l
+holds_fault file items l few fetched is = record {
   unseen = items;
-  fault = schedule_fault-fetched (held file items) items (held_fetched file items 4194305 few told) ∙ is;
+  fault = schedule_fault-fetched (held file items) items (held_fetched file items 4194305 few fetched) ∙ is;
 }
 
 -- why the fetched bytes aren't read
-schedule_cause_of : (f : ScheduleFault) (file : Option (List ℕ)) (items : List ℕ) (h k : Outside) → length items ≤ 4194305 → length items ≤ 4194304 → MatchOption file ⊤ (λ bytes. items ≡ take 4194305 bytes) → Names f items → IsScheduleCause (schedule_refusal f) file h k
-schedule_cause_of (schedule.BadLine l) file items h k few short told names =
-    holds_fault file items l few told (schedule_fault-short items (Bad l) short names.0)
-schedule_cause_of (schedule.TooMany l) file items h k few short told names =
-    holds_fault file items l few told (schedule_fault-short items (Many l) short names.0)
-schedule_cause_of schedule.NoMemory file items h k few short told names = tt
+schedule_cause_of : (f : ScheduleFault) (file : Option (List ℕ)) (items : List ℕ) (h k : Outside) → length items ≤ 4194305
+    → length items ≤ 4194304 → MatchOption file ⊤ (λ bytes. items ≡ take 4194305 bytes) → Names f items
+    → IsScheduleCause (schedule_refusal f) file h k
+schedule_cause_of (schedule.BadLine l) file items h k few short fetched names =
+    holds_fault file items l few fetched (schedule_fault-short items (Bad l) short names.0)
+schedule_cause_of (schedule.TooMany l) file items h k few short fetched names =
+    holds_fault file items l few fetched (schedule_fault-short items (Many l) short names.0)
+schedule_cause_of schedule.NoMemory file items h k few short fetched names = tt
 
-pub schedule_cause : (f : ScheduleFault) (r : Refusal) (file : Option (List ℕ)) (items : List ℕ) (h k : Outside) → r ≡ schedule_refusal f → length items ≤ 4194305 → length items ≤ 4194304 → MatchOption file ⊤ (λ bytes. items ≡ take 4194305 bytes) → Names f items → IsScheduleCause r file h k
-schedule_cause f r file items h k is few short told names =
+pub schedule_cause : (f : ScheduleFault) (r : Refusal) (file : Option (List ℕ)) (items : List ℕ) (h k : Outside) → r ≡ schedule_refusal f
+    → length items ≤ 4194305 → length items ≤ 4194304 → MatchOption file ⊤ (λ bytes. items ≡ take 4194305 bytes) → Names f items
+    → IsScheduleCause r file h k
+schedule_cause f r file items h k is few short fetched names =
     let P : Refusal → Type 0 = λ x. IsScheduleCause x file h k in
-    subst P (sym is) (schedule_cause_of f file items h k few short told names)
+    subst P (sym is) (schedule_cause_of f file items h k few short fetched names)
 
 -- ---- the verdict's stages
 
-pub given_read : {T : Type 0} (fault : Option Refusal) (read : Option T) (next : T → Verdict) (x : T) → fault ≡ None → read ≡ Some x → given fault read next ≡ next x
+pub given_read : {T : Type 0} (fault : Option Refusal) (read : Option T) (next : T → Verdict) (x : T) → fault ≡ None → read ≡ Some x
+    → given fault read next ≡ next x
 given_read fault read next x none some = rw (none, some) refl
 
-pub given_refused : {T : Type 0} (fault : Option Refusal) (read : Option T) (next : T → Verdict) (cause : Refusal) → fault ≡ Some cause → given fault read next ≡ Refuses cause
+pub given_refused : {T : Type 0} (fault : Option Refusal) (read : Option T) (next : T → Verdict) (cause : Refusal) → fault ≡ Some cause
+    → given fault read next ≡ Refuses cause
 given_refused fault read next cause is = rw is refl
 
 -- a schedule file that was read
-pub schedule_read : (bytes : List ℕ) (events : List Event) (images : List (List ℕ)) → ReadsAs bytes events → run_verdict bytes images ≡ with_images 1 images (started events)
+pub schedule_read : (bytes : List ℕ) (events : List Event) (images : List (List ℕ)) → ReadsAs bytes events
+    → run_verdict bytes images ≡ with_images 1 images (started events)
 schedule_read bytes events images reads =
     given_read (option_map refusal.Schedule (schedule_fault bytes)) (events_in bytes) (λ x. with_images 1 images (started x)) events (ap (option_map refusal.Schedule) reads.good) reads.reads
 
 -- a schedule file with a fault
-pub schedule_refused : (bytes : List ℕ) (l : ℕ) (images : List (List ℕ)) → schedule_fault bytes ≡ Some l → run_verdict bytes images ≡ Refuses (refusal.Schedule l)
+pub schedule_refused : (bytes : List ℕ) (l : ℕ) (images : List (List ℕ)) → schedule_fault bytes ≡ Some l
+    → run_verdict bytes images ≡ Refuses (refusal.Schedule l)
 schedule_refused bytes l images is =
     given_refused (option_map refusal.Schedule (schedule_fault bytes)) (events_in bytes) (λ x. with_images 1 images (started x)) (refusal.Schedule l) (ap (option_map refusal.Schedule) is)
 
 -- an image file that was read, the last one
-pub image_read : (i : ℕ) (bytes : List ℕ) (image : Loaded) (next : List Loaded → Verdict) → image_fault bytes ≡ None → loads bytes ≡ Some image → with_images i (bytes ∷ []) next ≡ next (image ∷ [])
+pub image_read : (i : ℕ) (bytes : List ℕ) (image : Loaded) (next : List Loaded → Verdict) → image_fault bytes ≡ None
+    → loads bytes ≡ Some image → with_images i (bytes ∷ []) next ≡ next (image ∷ [])
 image_read i bytes image next good is =
     given_read (option_map (refusal.Image i) (image_fault bytes)) (loads bytes) (λ x. next (x ∷ [])) image (ap (option_map (refusal.Image i)) good) is
 
 -- an image file with a fault
-pub image_refused : (i : ℕ) (bytes : List ℕ) (f : ℕ) (files : List (List ℕ)) (next : List Loaded → Verdict) → image_fault bytes ≡ Some f → with_images i (bytes ∷ files) next ≡ Refuses (refusal.Image i f)
+pub image_refused : (i : ℕ) (bytes : List ℕ) (f : ℕ) (files : List (List ℕ)) (next : List Loaded → Verdict) → image_fault bytes ≡ Some f
+    → with_images i (bytes ∷ files) next ≡ Refuses (refusal.Image i f)
 image_refused i bytes f files next is =
     given_refused (option_map (refusal.Image i) (image_fault bytes)) (loads bytes) (λ x. with_images (i + 1) files (λ images. next (x ∷ images))) (refusal.Image i f) (ap (option_map (refusal.Image i)) is)
 
 -- The fetched bytes of an image are judged as the whole file is.
-pub image_fetched : (i : ℕ) (bytes items : List ℕ) (files : List (List ℕ)) (next : List Loaded → Verdict) → items ≡ take 1048577 bytes → with_images i (bytes ∷ files) next ≡ with_images i (items ∷ files) next
-image_fetched i bytes items files next told =
-    elim (cases_fetched bytes items 1048576 told) [
+pub image_fetched : (i : ℕ) (bytes items : List ℕ) (files : List (List ℕ)) (next : List Loaded → Verdict) → items ≡ take 1048577 bytes
+    → with_images i (bytes ∷ files) next ≡ with_images i (items ∷ files) next
+image_fetched i bytes items files next fetched =
+    elim (cases_fetched bytes items 1048576 fetched) [
       | inl same ↦ ap (λ (b : List ℕ). with_images i (b ∷ files) next) same
       | inr long ↦ image_refused i bytes 0 files next (image_fault-long bytes long.0)
-      ∙ sym (image_refused i items 0 files next (image_fault-long items long.1))
+          ∙ sym (image_refused i items 0 files next (image_fault-long items long.1))
     ]
 
 -- the verdict on images with which the machine starts, or for which it has no room
-pub started_boots : (events : List Event) (images : List Loaded) (s : Start) → boot images ≡ s → started events images ≡ start_verdict events s
+pub started_boots : (events : List Event) (images : List Loaded) (s : Start) → boot images ≡ s
+    → started events images ≡ start_verdict events s
 unfolding started
 started_boots events images s is = ap (start_verdict events) is
 
 -- ---- no stage finds that there is no command
 
-given_keeps : {T : Type 0} (fault : Option Refusal) (read : Option T) (next : T → Verdict) → fault ≢ Some refusal.Usage → ((x : T) → next x ≢ Refuses refusal.Usage) → given fault read next ≢ Refuses refusal.Usage
+given_keeps : {T : Type 0} (fault : Option Refusal) (read : Option T) (next : T → Verdict) → fault ≢ Some refusal.Usage
+    → ((x : T) → next x ≢ Refuses refusal.Usage) → given fault read next ≢ Refuses refusal.Usage
 given_keeps (Some cause) read next other rest is =
     let same : cause ≡ refusal.Usage = cc in other (ap Some same)
 given_keeps None None next other rest is = cc
@@ -126,7 +142,8 @@ started_keeps : (events : List Event) (images : List Loaded) → started events 
 unfolding started
 started_keeps events images is = start_keeps events (boot images) is
 
-images_keep : (i : ℕ) (files : List (List ℕ)) (next : List Loaded → Verdict) → ((images : List Loaded) → next images ≢ Refuses refusal.Usage) → with_images i files next ≢ Refuses refusal.Usage
+images_keep : (i : ℕ) (files : List (List ℕ)) (next : List Loaded → Verdict)
+    → ((images : List Loaded) → next images ≢ Refuses refusal.Usage) → with_images i files next ≢ Refuses refusal.Usage
 images_keep i [] next rest is = rest [] is
 images_keep i (bytes ∷ files) next rest is =
     given_keeps (option_map (refusal.Image i) (image_fault bytes)) (loads bytes) (λ x. with_images (i + 1) files (λ images. next (x ∷ images))) (image_keeps i (image_fault bytes))
@@ -145,7 +162,8 @@ unseen_by schedule image ScheduleInput = schedule
 unseen_by schedule image (ImageInput i) = image
 
 -- why a schedule isn't run, before its image was fetched
-pub schedule_refuses : (r : Refusal) (s i : Text) (h k : Outside) → IsScheduleCause r (h.file s) h k → IsUnsent h k → Obeys (Some (record { schedule = s; images = i ∷ [] })) (Some r) None h k
+pub schedule_refuses : (r : Refusal) (s i : Text) (h k : Outside) → IsScheduleCause r (h.file s) h k → IsUnsent h k
+    → Obeys (Some (record { schedule = s; images = i ∷ [] })) (Some r) None h k
 schedule_refuses refusal.Usage s i h k cause unsent = absurd cause
 schedule_refuses refusal.HostFault s i h k cause unsent = record {
   unseen = unseen_by [] [];
@@ -164,12 +182,15 @@ schedule_refuses refusal.NoMemory s i h k cause unsent = record {
 schedule_refuses (refusal.NoRoom n) s i h k cause unsent = absurd cause
 
 -- The verdict on the fetched image is the verdict on the command, if the schedule was read.
-pub files_obey : (s i : Text) (events : List Event) (items : List ℕ) (ended : Option Refusal) (left : Option Xinu) (h j k : Outside) → HoldsSchedule (h.file s) events → length items ≤ 1048577 → MatchOption (h.file i) ⊤ (λ bytes. items ≡ take 1048577 bytes) → IsUnsent h j → h.faults ≤ j.faults → Carries (with_images 1 (items ∷ []) (started events)) ended left j k → Obeys (Some (record { schedule = s; images = i ∷ [] })) ended left h k
-files_obey s i events items ended left h j k holds few told unsent earlier carries =
+pub files_obey : (s i : Text) (events : List Event) (items : List ℕ) (ended : Option Refusal) (left : Option Xinu) (h j k : Outside)
+    → HoldsSchedule (h.file s) events → length items ≤ 1048577 → MatchOption (h.file i) ⊤ (λ bytes. items ≡ take 1048577 bytes)
+    → IsUnsent h j → h.faults ≤ j.faults → Carries (with_images 1 (items ∷ []) (started events)) ended left j k
+    → Obeys (Some (record { schedule = s; images = i ∷ [] })) ended left h k
+files_obey s i events items ended left h j k holds few fetched unsent earlier carries =
     let bytes = held (h.file i) items in
     let same : run_verdict (held (h.file s) holds.unseen) (bytes ∷ []) ≡ with_images 1 (items ∷ []) (started events) =
     schedule_read (held (h.file s) holds.unseen) events (bytes ∷ []) holds.reads
-    ∙ image_fetched 1 bytes items [] (started events) (held_fetched (h.file i) items 1048577 few told) in
+    ∙ image_fetched 1 bytes items [] (started events) (held_fetched (h.file i) items 1048577 few fetched) in
     record {
       unseen = unseen_by holds.unseen items;
       carries = carries_as (run_verdict (held (h.file s) holds.unseen) (bytes ∷ [])) (with_images 1 (items ∷ []) (started events)) ended left h k same
@@ -178,13 +199,15 @@ files_obey s i events items ended left h j k holds few told unsent earlier carri
 
 -- ---- a machine that doesn't start
 
-boot_refused_of : (f : BootFault) (events : List Event) (image : Loaded) (h : Outside) → Starts (image ∷ []) (Err f) → Carries (started events (image ∷ [])) (Some (boot_refusal f)) None h h
+boot_refused_of : (f : BootFault) (events : List Event) (image : Loaded) (h : Outside) → Starts (image ∷ []) (Err f)
+    → Carries (started events (image ∷ [])) (Some (boot_refusal f)) None h h
 boot_refused_of (boot_fault.NoRoom i) events image h starts =
     carries_nothing (started events (image ∷ [])) (refusal.NoRoom i) h h (started_boots events (image ∷ []) (NoRoom i) starts) (unsent_refl h)
 boot_refused_of boot_fault.NoMemory events image h starts =
     carries_nothing (started events (image ∷ [])) refusal.NoMemory h h tt (unsent_refl h)
 
-pub boot_refused : (f : BootFault) (r : Refusal) (events : List Event) (image : Loaded) (h : Outside) → r ≡ boot_refusal f → Starts (image ∷ []) (Err f) → Carries (started events (image ∷ [])) (Some r) None h h
+pub boot_refused : (f : BootFault) (r : Refusal) (events : List Event) (image : Loaded) (h : Outside) → r ≡ boot_refusal f
+    → Starts (image ∷ []) (Err f) → Carries (started events (image ∷ [])) (Some r) None h h
 boot_refused f r events image h is starts =
     let P : Refusal → Type 0 = λ x. Carries (started events (image ∷ [])) (Some x) None h h in
     subst P (sym is) (boot_refused_of f events image h starts)

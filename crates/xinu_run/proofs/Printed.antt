@@ -1,5 +1,5 @@
 -- A whole run, printed part by part, up to the line that the host refused.
-use Rattle.std.proofs.Common.{◌≡◌, false, ℕ, List, [], ◌∷◌, ◌++◌, take, Option, Some, None, IsSome, refl, sym, ap, subst, arith, inl, inr}
+use Rattle.std.proofs.Common.{◌≡◌, ℕ, List, [], ◌∷◌, ◌++◌, Option, Some, None, IsSome, refl, sym, ap, subst, arith, inl}
 use Rattle.host_port.specs.declared.host.HostFault.{HostFault}
 use Rattle.host_port.specs.Outside.{Outside}
 use Rattle.host_port.specs.Printing.{Printing, Prints, emitted_nothing}
@@ -31,7 +31,8 @@ prints_failed b h t failed = record {
 }
 
 -- What is printed matters only if the printer hasn't failed before.
-prints_as_by : (a b : Printing) (h i : Outside) (s t : List ℕ) (f : Option HostFault) → a.failure ≡ f → (a.failure ≡ None → s ≡ t) → Prints a b h i s → Prints a b h i t
+prints_as_by : (a b : Printing) (h i : Outside) (s t : List ℕ) (f : Option HostFault) → a.failure ≡ f → (a.failure ≡ None → s ≡ t)
+    → Prints a b h i s → Prints a b h i t
 prints_as_by a b h i s t None is same prints =
     let P : List ℕ → Type 0 = λ x. Prints a b h i x in subst P (same is) prints
 prints_as_by a b h i s t (Some f) is same prints =
@@ -54,7 +55,10 @@ pub record Printed (start : Xinu) (events : List Event) (new : Xinu) (before aft
   pub whole : after.failure ≡ None → last ≡ new
 
 -- The line of the first process, the lines of the events, the tables and the last line are a transcript.
-pub all_printed : (start : Xinu) (events : List Event) (new : Xinu) (end : End) (a b c d e : Printing) (h i j k l : Outside) → Prints a b h i (shown a.plain (line.Run start.tables.current ∷ [])) → RunPrints start events new end b c i j → Prints c d j k (shown c.plain (tables_of new)) → Prints d e k l (shown d.plain (line.End end ∷ [])) → Printed start events new a e h l
+pub all_printed : (start : Xinu) (events : List Event) (new : Xinu) (end : End) (a b c d e : Printing) (h i j k l : Outside)
+    → Prints a b h i (shown a.plain (line.Run start.tables.current ∷ [])) → RunPrints start events new end b c i j
+    → Prints c d j k (shown c.plain (tables_of new)) → Prints d e k l (shown d.plain (line.End end ∷ []))
+    → Printed start events new a e h l
 all_printed start events new end a b c d e h i j k l first run tables last =
     let tables_same : Prints c d j k (shown c.plain (tables_of run.last)) =
     prints_as c d j k (shown c.plain (tables_of new)) (shown c.plain (tables_of run.last)) (λ none. ap (λ (s : Xinu). shown c.plain (tables_of s)) (sym (run.whole none).0)) tables in

@@ -1,12 +1,12 @@
 -- Why the exit statuses mean what they do.
-use Rattle.std.proofs.Common.{◌≡◌, ◌≢◌, ◌↔◌, ◌≤◌, ℕ, Bool, true, false, nat_le, if◌then◌else◌, List, [], ◌∷◌, length, Option, Some, None, IsSome, refl, sym, ap, ◌∙◌}
+use Rattle.std.proofs.Common.{◌≡◌, ◌≢◌, ◌↔◌, ℕ, Bool, true, false, nat_le, if◌then◌else◌, List, [], ◌∷◌, length, Option, Some, None, IsSome, refl, sym, ap, ◌∙◌}
 use Rattle.std.specs.Prelude.{option_map}
 use Rattle.command_words.specs.Commands.{Command}
 use Rattle.command_words.specs.Reading.{Text}
 use Rattle.host_port.specs.HostCalls.{Rose}
 use Rattle.host_port.specs.Outside.{Outside}
 use Rattle.image_loader.specs.Faults.{fault_number}
-use Rattle.image_loader.specs.ImageFiles.{first_fault, header_of, image_of, loaded_unless, loads}
+use Rattle.image_loader.specs.ImageFiles.{first_fault, loaded_unless, loads}
 use Rattle.image_loader.specs.declared.faults.ImageFault.{ImageFault}
 use Rattle.schedule_file.specs.ScheduleFiles.{Reading, Reads, Bad, Many, events_in, events_read, reading}
 use Rattle.xinu_base.specs.declared.events.Event.{Event}
@@ -14,11 +14,10 @@ use Rattle.xinu_model.specs.Boot.{Loaded, Start, Boots, Overlaps, NoRoom, all_ma
 use Rattle.xinu_model.specs.Heap.{Stack, getstk}
 use Rattle.xinu_model.specs.Machine.{Xinu}
 use Rattle.xinu_model.specs.ProcessCalls.{stack_size}
-use Rattle.xinu_run.specs.InputFaults.{ReadsAs, fault_line, longest_image, longest_schedule, schedule_fault, image_fault}
-use Rattle.xinu_run.specs.Refusals.{status_of}
-use Rattle.xinu_run.specs.Statuses.{CanStart, HasNoRoom, SaysOfFiles, start_with, status_due}
+use Rattle.xinu_run.specs.InputFaults.{fault_line, longest_image, longest_schedule, schedule_fault, image_fault}
+use Rattle.xinu_run.specs.Statuses.{SaysOfFiles, start_with, status_due}
 use Rattle.xinu_run.specs.Theorem.{Answers, Carries, IsStatus}
-use Rattle.xinu_run.specs.Verdict.{Input, ScheduleInput, ImageInput, Verdict, Refuses, Does, Runs, held, run_verdict, started, start_verdict, verdict, with_images}
+use Rattle.xinu_run.specs.Verdict.{ScheduleInput, ImageInput, Verdict, Refuses, Does, Runs, held, run_verdict, started, start_verdict, verdict, with_images}
 use Rattle.xinu_run.specs.declared.refusals.Refusal.{Refusal}
 use Rattle.xinu_run.specs.declared.refusals.Refusal.TheVariants as refusal
 use Rattle.xinu_run.proofs.Answered.{done_status}
@@ -31,7 +30,8 @@ done_due : (v : Verdict) → (left : Option Xinu) (h k : Outside) (c : Carries v
 done_due (Refuses cause) left h k c = (let work = c.deserved.1 in cc)
 done_due (Does (Runs start events)) left h k c = refl
 
-carried_due : (v : Verdict) (ended : Option Refusal) (left : Option Xinu) (exit : ℕ) (h k : Outside) (c : Carries v ended left h k) → IsStatus ended c.output exit → exit ≢ 7 → exit ≢ 3 → exit ≡ status_due v
+carried_due : (v : Verdict) (ended : Option Refusal) (left : Option Xinu) (exit : ℕ) (h k : Outside) (c : Carries v ended left h k)
+    → IsStatus ended c.output exit → exit ≢ 7 → exit ≢ 3 → exit ≡ status_due v
 carried_due v None left exit h k c status memory fault =
     status ∙ sym (done_status v left h k c) ∙ done_due v left h k c
 carried_due v (Some refusal.Usage) left exit h k c status memory fault = status memory ∙ sym (ap status_due c.deserved)
@@ -41,7 +41,8 @@ carried_due v (Some (refusal.Schedule l)) left exit h k c status memory fault = 
 carried_due v (Some refusal.NoMemory) left exit h k c status memory fault = absurd (memory (status memory))
 carried_due v (Some (refusal.NoRoom i)) left exit h k c status memory fault = status memory ∙ sym (ap status_due c.deserved)
 
-pub due : (exit : ℕ) (command : Option Command) (old new : Outside) (left : Option Xinu) (a : Answers exit command old new left) → exit ≢ 7 → exit ≢ 3 → exit ≡ status_due (verdict command old.file a.obeys.unseen)
+pub due : (exit : ℕ) (command : Option Command) (old new : Outside) (left : Option Xinu) (a : Answers exit command old new left)
+    → exit ≢ 7 → exit ≢ 3 → exit ≡ status_due (verdict command old.file a.obeys.unseen)
 due exit command old new left a = carried_due (verdict command old.file a.obeys.unseen) a.ended left exit old new a.obeys.carries a.status
 
 -- ---- no command
@@ -57,7 +58,8 @@ usage_alone (Refuses (refusal.NoRoom i)) other is = cc
 usage_alone (Does (Runs start events)) other is = cc
 
 -- A command that is no command ends with status 2 or 7.
-refused_usage : (ended : Option Refusal) (left : Option Xinu) (exit : ℕ) (h k : Outside) (c : Carries (Refuses refusal.Usage) ended left h k) → IsStatus ended c.output exit → exit ≢ 7 → exit ≡ 2
+refused_usage : (ended : Option Refusal) (left : Option Xinu) (exit : ℕ) (h k : Outside) (c : Carries (Refuses refusal.Usage) ended left h k)
+    → IsStatus ended c.output exit → exit ≢ 7 → exit ≡ 2
 refused_usage None left exit h k c status memory = (let work = c.deserved.1 in cc)
 refused_usage (Some refusal.Usage) left exit h k c status memory = status memory
 refused_usage (Some refusal.HostFault) left exit h k c status memory = absurd (c.deserved.0 refl)
@@ -66,16 +68,20 @@ refused_usage (Some (refusal.Schedule l)) left exit h k c status memory = (let s
 refused_usage (Some refusal.NoMemory) left exit h k c status memory = absurd (memory (status memory))
 refused_usage (Some (refusal.NoRoom i)) left exit h k c status memory = (let same = c.deserved in cc)
 
-pub usage : (exit : ℕ) (command : Option Command) (old new : Outside) (left : Option Xinu) → Answers exit command old new left → exit ≢ 7 → exit ≡ 2 ↔ (command ≡ None)
+pub usage : (exit : ℕ) (command : Option Command) (old new : Outside) (left : Option Xinu) → Answers exit command old new left → exit ≢ 7
+    → exit ≡ 2 ↔ (command ≡ None)
 usage exit None old new left a memory =
     (λ is. refl, λ none. refused_usage a.ended left exit old new a.obeys.carries a.status memory)
-usage exit (Some c) old new left a memory =
-    (λ is. absurd (usage_alone (verdict (Some c) old.file a.obeys.unseen) (run_keeps (held (old.file c.schedule) (a.obeys.unseen ScheduleInput)) _)
-    (sym is ∙ due exit (Some c) old new left a memory (λ three. cc))), λ none. cc)
+usage exit (Some c) old new left a memory = (
+  λ is. absurd (usage_alone (verdict (Some c) old.file a.obeys.unseen) (run_keeps (held (old.file c.schedule) (a.obeys.unseen ScheduleInput)) _)
+      (sym is ∙ due exit (Some c) old new left a memory (λ three. cc))),
+  λ none. cc,
+)
 
 -- ---- host faults
 
-carried_fault : (v : Verdict) (ended : Option Refusal) (left : Option Xinu) (exit : ℕ) (h k : Outside) (c : Carries v ended left h k) → IsStatus ended c.output exit → exit ≡ 3 → (v ≢ Refuses refusal.Usage) × Rose h.faults k.faults
+carried_fault : (v : Verdict) (ended : Option Refusal) (left : Option Xinu) (exit : ℕ) (h k : Outside) (c : Carries v ended left h k)
+    → IsStatus ended c.output exit → exit ≡ 3 → (v ≢ Refuses refusal.Usage) × Rose h.faults k.faults
 carried_fault v None left exit h k c status three = (let zero = status ∙ sym (done_status v left h k c) in absurd (cc))
 carried_fault v (Some refusal.Usage) left exit h k c status three = (let two = status (λ seven. cc) in absurd (cc))
 carried_fault v (Some refusal.HostFault) left exit h k c status three = c.deserved
@@ -84,7 +90,8 @@ carried_fault v (Some (refusal.Schedule l)) left exit h k c status three = (let 
 carried_fault v (Some refusal.NoMemory) left exit h k c status three = (let seven = status (λ seven. cc) in absurd (cc))
 carried_fault v (Some (refusal.NoRoom i)) left exit h k c status three = (let eight = status (λ seven. cc) in absurd (cc))
 
-pub faults_counted : (exit : ℕ) (command : Option Command) (old new : Outside) (left : Option Xinu) → Answers exit command old new left → exit ≡ 3 → IsSome command × Rose old.faults new.faults
+pub faults_counted : (exit : ℕ) (command : Option Command) (old new : Outside) (left : Option Xinu) → Answers exit command old new left
+    → exit ≡ 3 → IsSome command × Rose old.faults new.faults
 faults_counted exit None old new left a three =
     absurd ((carried_fault (Refuses refusal.Usage) a.ended left exit old new a.obeys.carries a.status three).0 refl)
 faults_counted exit (Some c) old new left a three =
@@ -92,7 +99,8 @@ faults_counted exit (Some c) old new left a three =
 
 -- ---- files without a fault are read
 
-reads_by : (fits : Bool) (r : Reading) → (if fits then fault_line r else Some 0) ≡ None → (events : List Event) × (events_read r ≡ Some events)
+reads_by : (fits : Bool) (r : Reading) → (if fits then fault_line r else Some 0) ≡ None
+    → (events : List Event) × (events_read r ≡ Some events)
 reads_by false r good = cc
 reads_by true (Reads events) good = (events, refl)
 reads_by true (Bad l) good = cc
@@ -102,7 +110,8 @@ good_reads : (bytes : List ℕ) → schedule_fault bytes ≡ None → (events : 
 unfolding schedule_fault
 good_reads bytes good = reads_by (nat_le (length bytes) longest_schedule) (reading bytes) good
 
-loads_by : (fits : Bool) (f : Option ImageFault) (image : Loaded) → (if fits then option_map fault_number f else Some 0) ≡ None → loaded_unless f image ≡ Some image
+loads_by : (fits : Bool) (f : Option ImageFault) (image : Loaded) → (if fits then option_map fault_number f else Some 0) ≡ None
+    → loaded_unless f image ≡ Some image
 loads_by false f image good = cc
 loads_by true None image good = refl
 loads_by true (Some f) image good = cc
@@ -151,7 +160,8 @@ says_image exit s b f good bad is = record {
   no_room = (λ e. absurd (cc), λ p. (let other = p.1.good in cc));
 }
 
-says_room : (exit : ℕ) (s b : List ℕ) (i : ℕ) → schedule_fault s ≡ None → image_fault b ≡ None → start_with b ≡ Some (NoRoom i) → exit ≡ 8 → SaysOfFiles exit s b
+says_room : (exit : ℕ) (s b : List ℕ) (i : ℕ) → schedule_fault s ≡ None → image_fault b ≡ None → start_with b ≡ Some (NoRoom i) → exit ≡ 8
+    → SaysOfFiles exit s b
 says_room exit s b i good loads start is = record {
   done = (λ e. absurd (cc), λ p. (let other = p.1.boots in cc));
   bad_schedule = (λ e. absurd (cc), λ p. absurd (some_is_none (schedule_fault s) p good));
@@ -159,7 +169,8 @@ says_room exit s b i good loads start is = record {
   no_room = (λ e. (good, record { good = loads; image = i; start = start }), λ p. is);
 }
 
-says_done : (exit : ℕ) (s b : List ℕ) (x : Xinu) → schedule_fault s ≡ None → image_fault b ≡ None → start_with b ≡ Some (Boots x) → exit ≡ 0 → SaysOfFiles exit s b
+says_done : (exit : ℕ) (s b : List ℕ) (x : Xinu) → schedule_fault s ≡ None → image_fault b ≡ None → start_with b ≡ Some (Boots x)
+    → exit ≡ 0 → SaysOfFiles exit s b
 says_done exit s b x good loads start is = record {
   done = (λ e. (good, record { good = loads; start = x; boots = start }), λ p. is);
   bad_schedule = (λ e. absurd (cc), λ p. absurd (some_is_none (schedule_fault s) p good));
@@ -168,7 +179,9 @@ says_done exit s b x good loads start is = record {
 }
 
 -- by how the machine starts
-says_start : (exit : ℕ) (s b : List ℕ) (events : List Event) (image : Loaded) (start : Start) → schedule_fault s ≡ None → image_fault b ≡ None → loads b ≡ Some image → boot (image ∷ []) ≡ start → exit ≡ status_due (start_verdict events start) → SaysOfFiles exit s b
+says_start : (exit : ℕ) (s b : List ℕ) (events : List Event) (image : Loaded) (start : Start) → schedule_fault s ≡ None
+    → image_fault b ≡ None → loads b ≡ Some image → boot (image ∷ []) ≡ start → exit ≡ status_due (start_verdict events start)
+    → SaysOfFiles exit s b
 unfolding start_with
 says_start exit s b events image (Boots x) good fine loaded starts is =
     says_done exit s b x good fine (ap (option_map (λ i. boot (i ∷ []))) loaded ∙ ap Some starts) is
@@ -177,7 +190,8 @@ says_start exit s b events image (NoRoom i) good fine loaded starts is =
     says_room exit s b i good fine (ap (option_map (λ i. boot (i ∷ []))) loaded ∙ ap Some starts) is
 
 -- by the fault of the image
-says_by_image : (exit : ℕ) (s b : List ℕ) (events : List Event) (f : Option ℕ) → schedule_fault s ≡ None → image_fault b ≡ f → exit ≡ status_due (with_images 1 (b ∷ []) (started events)) → SaysOfFiles exit s b
+says_by_image : (exit : ℕ) (s b : List ℕ) (events : List Event) (f : Option ℕ) → schedule_fault s ≡ None → image_fault b ≡ f
+    → exit ≡ status_due (with_images 1 (b ∷ []) (started events)) → SaysOfFiles exit s b
 says_by_image exit s b events (Some f) good bad is =
     says_image exit s b f good bad (is ∙ ap status_due (image_refused 1 b f [] (started events) bad))
 says_by_image exit s b events None good fine is =
@@ -186,7 +200,8 @@ says_by_image exit s b events None good fine is =
     (is ∙ ap status_due (image_read 1 b loaded.0 (started events) fine loaded.1) ∙ ap status_due (started_boots events (loaded.0 ∷ []) (boot (loaded.0 ∷ [])) refl))
 
 -- by the fault of the schedule
-says_by_schedule : (exit : ℕ) (s b : List ℕ) (f : Option ℕ) → schedule_fault s ≡ f → exit ≡ status_due (run_verdict s (b ∷ [])) → SaysOfFiles exit s b
+says_by_schedule : (exit : ℕ) (s b : List ℕ) (f : Option ℕ) → schedule_fault s ≡ f → exit ≡ status_due (run_verdict s (b ∷ []))
+    → SaysOfFiles exit s b
 says_by_schedule exit s b (Some l) bad is =
     says_schedule exit s b l bad (is ∙ ap status_due (schedule_refused s l (b ∷ []) bad))
 says_by_schedule exit s b None good is =
@@ -194,7 +209,9 @@ says_by_schedule exit s b None good is =
     says_by_image exit s b read.0 (image_fault b) good refl
     (is ∙ ap status_due (schedule_read s read.0 (b ∷ []) (record { good = good; reads = read.1 })))
 
-pub says_of_files : (exit : ℕ) (schedule image : Text) (old new : Outside) (left : Option Xinu) (a : Answers exit (Some (record { schedule = schedule; images = image ∷ [] })) old new left) → exit ≢ 7 → exit ≢ 3 → SaysOfFiles exit (held (old.file schedule) (a.obeys.unseen ScheduleInput)) (held (old.file image) (a.obeys.unseen (ImageInput 1)))
+pub says_of_files : (exit : ℕ) (schedule image : Text) (old new : Outside) (left : Option Xinu) (a : Answers exit (Some (record { schedule = schedule; images = image ∷ [] })) old new left)
+    → exit ≢ 7 → exit ≢ 3
+    → SaysOfFiles exit (held (old.file schedule) (a.obeys.unseen ScheduleInput)) (held (old.file image) (a.obeys.unseen (ImageInput 1)))
 says_of_files exit schedule image old new left a memory fault =
     says_by_schedule exit (held (old.file schedule) (a.obeys.unseen ScheduleInput)) (held (old.file image) (a.obeys.unseen (ImageInput 1))) (schedule_fault (held (old.file schedule) (a.obeys.unseen ScheduleInput))) refl
     (due exit (Some (record { schedule = schedule; images = image ∷ [] })) old new left a memory fault)

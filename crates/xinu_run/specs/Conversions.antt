@@ -10,10 +10,10 @@ use Rattle.schedule_file.specs.declared.faults.ScheduleFault.TheVariants as sche
 use Rattle.xinu_run.specs.declared.refusals.Refusal.{Refusal}
 use Rattle.xinu_run.specs.declared.refusals.Refusal.TheVariants as refusal
 
--- the refusal that words without a command give
-abbrev pub words_refusal : WordsFault → Refusal
-words_refusal words.NoCommand = refusal.Usage
-words_refusal words.NoMemory = refusal.NoMemory
+-- the refusal that arguments without a command give
+abbrev pub args_refusal : WordsFault → Refusal
+args_refusal words.NoCommand = refusal.Usage
+args_refusal words.NoMemory = refusal.NoMemory
 
 -- the refusal that a failure of the host gives
 abbrev pub host_refusal : HostFault → Refusal

@@ -1,4 +1,4 @@
--- What the stages of a command promise one another: the words, the schedule file, the image file.
+-- What the stages of a command promise one another: the arguments, the schedule file, the image file.
 use Rattle.std.specs.Prelude.{◌≡◌, ◌≤◌, ℕ, List, Option, Some, None, Result, Ok, Err}
 use Rattle.machine.specs.Printed.{Booted}
 use Rattle.command_words.specs.Commands.{Command}
@@ -11,11 +11,11 @@ use Rattle.xinu_run.specs.Verdict.{held}
 use Rattle.xinu_run.specs.declared.refusals.Refusal.{Refusal}
 use Rattle.xinu_run.specs.declared.refusals.Refusal.TheVariants as refusal
 
--- Why words are refused: they give no command, or memory ran out.
-abbrev pub IsWordsCause : Refusal → Option Command → Type 0
-IsWordsCause refusal.Usage command = command ≡ None
-IsWordsCause refusal.NoMemory command = Unit {0}
-IsWordsCause _ command = ⊥
+-- Why arguments are refused: they give no command, or memory ran out.
+abbrev pub IsArgsCause : Refusal → Option Command → Type 0
+IsArgsCause refusal.Usage command = command ≡ None
+IsArgsCause refusal.NoMemory command = Unit {0}
+IsArgsCause _ command = ⊥
 
 -- A file reads as these events, if it can't be observed for some bytes.
 pub record HoldsSchedule (file : Option (List ℕ)) (events : List Event) : Type 0 where

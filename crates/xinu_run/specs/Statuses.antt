@@ -22,7 +22,7 @@ pub record CanStart (bytes : List ℕ) : Type 0 where
   pub start : Xinu
   pub boots : start_with bytes ≡ Some (Boots start)
 
--- The heap behind the image of a file has no room for its stack.
+-- The heap after the image of a file has no room for its stack.
 pub record HasNoRoom (bytes : List ℕ) : Type 0 where
   pub good : image_fault bytes ≡ None
   pub image : ℕ

@@ -3,7 +3,7 @@
 ghost use Rattle.std.specs.Prelude.{◌≡◌, ◌∷◌, [], Some, map, IfOk, IfErr};
 ghost use Rattle.std.specs.String.{string_bytes};
 ghost use Rattle.command_words.specs.Commands.{command_of};
-ghost use Rattle.xinu_run.specs.Stages.{IsWordsCause};
+ghost use Rattle.xinu_run.specs.Stages.{IsArgsCause};
 
 use crate::refusals::Refusal;
 use std::alloc::Global;
@@ -23,7 +23,7 @@ pub(crate) struct Run<'a> {
 /// `Usage` if and only if the arguments give no command, unless memory runs out; `NoMemory`.
 pub(crate) fn run_of<'a>(alloc: Global, args: &'a [String]) -> Result<Run<'a>, Refusal>
     ensures run { IfOk result (λ r. command_of (map string_bytes args.entry.now) ≡ Some (record { schedule = r.schedule.now; images = r.image.now ∷ [] })) }
-    ensures refused { IfErr result (λ r. IsWordsCause r (command_of (map string_bytes args.entry.now))) }
+    ensures refused { IfErr result (λ r. IsArgsCause r (command_of (map string_bytes args.entry.now))) }
 {
     let command = command_words::command_of(alloc, args)?;
     let image = command.images[0];

@@ -11,26 +11,26 @@ use schedule_file::ScheduleFault;
 /// Why a command wasn't carried out.
 #[derive(Clone, Copy, Debug, PartialEq, Eq)]
 pub(crate) enum Refusal {
-    /// The words give no command.
+    /// The arguments give no command.
     Usage,
     /// The host failed.
     HostFault,
-    /// The image file with this number, counted from 1, has this fault: 1 to 7 as the reader of images numbers them, or 0 where
-    /// the file is too long.
+    /// The image file with this number, counted from 1, has this fault: 1 to 7 as the reader of images numbers them, or 0 if the
+    /// file is too long.
     Image { image: u8, fault: u8 },
-    /// The schedule file isn't one at this line, counted from 1, or it is too long where this is 0.
+    /// The schedule file has a fault at this line, counted from 1; it is too long if this is 0.
     Schedule(u32),
     /// The heap has no room for the stack of the image with this number, counted from 1.
     NoRoom(u8),
-    /// There was no memory.
+    /// Memory ran out.
     NoMemory,
 }
 
 impl From<WordsFault> for Refusal {
     ghost use Rattle.std.specs.Prelude.{◌≡◌};
-    ghost use Rattle.xinu_run.specs.Conversions.{words_refusal};
+    ghost use Rattle.xinu_run.specs.Conversions.{args_refusal};
 
-    ghost from_gives = { λ f r. r ≡ words_refusal f };
+    ghost from_gives = { λ f r. r ≡ args_refusal f };
 
     fn from(fault: WordsFault) -> Refusal {
         match fault {
@@ -82,7 +82,7 @@ impl From<BootFault> for Refusal {
     }
 }
 
-/// Sends the text of a refusal, and answers its status. A failure of the host is ignored here, but for want of memory.
+/// Sends the text of a refusal, and answers its exit status, or 7 if memory runs out meanwhile. A host that fails is ignored here.
 pub(crate) fn refuse<H: Host>(refusal: Refusal, host: &mut H) -> u8
     ensures { IsRefused refusal result (H.view host.old) (H.view host.new) }
 {

@@ -22,7 +22,7 @@ use xinu_base::End;
 /// Runs an image through the events of a schedule, and answers the machine as the run left it.
 ///
 /// # Errors
-/// `NoRoom(1)` if and only if the heap behind the image has no room for its stack, unless memory runs out; `HostFault` if the host
+/// `NoRoom(1)` if and only if the heap after the image has no room for its stack, unless memory runs out; `HostFault` if the host
 /// refused a line; `NoMemory`.
 pub(crate) fn run_image<H: Host>(
     alloc: Global,

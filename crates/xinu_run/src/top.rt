@@ -16,12 +16,7 @@ use std::alloc::Global;
 /// The status is 0 if the transcript of the run was written on Out, 2 if the arguments give no command, 3 if the host failed, 4 if the
 /// image file has a fault, 5 if the schedule file has one, 7 if memory ran out, and 8 if the heap has no room for the stack of the
 /// image. Each but 0 sends its text on Fault. Afterwards `last` is the machine as the run left it if the status is 0, and else None.
-pub fn xinu<H: Host>(
-    alloc: Global,
-    args: &[String],
-    host: &mut H,
-    last: &mut Option<Machine>,
-) -> u8
+pub fn xinu<H: Host>(alloc: Global, args: &[String], host: &mut H, last: &mut Option<Machine>) -> u8
     ensures answers { Answers result (command_of (map string_bytes args.now)) (H.view host.old) (H.view host.new) (option_map (λ m. m.state) last.new) }
 {
     *last = None;

@@ -69,7 +69,11 @@ fn a_host_without_memory_gives_status_7(rt: HostRuntime) -> Result<(), Fail> {
             full_at,
             calls: 0,
         };
-        assert_eq!(rt; refusal_of(rt.alloc(), &RUN, &mut host)?, 7, "call {full_at}");
+        assert_eq!(rt;
+            refusal_of(rt.alloc(), &RUN, &mut host)?,
+            7,
+            "call {full_at}"
+        );
         let sent = &EXITED.as_bytes()[..out_bytes];
         assert_eq!(rt; host.quiet.sent(Channel::Out), sent);
         assert_eq!(rt; host.quiet.sent(Channel::Fault), text.as_bytes());

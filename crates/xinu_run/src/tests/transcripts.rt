@@ -35,7 +35,11 @@ fn runs_are_printed_whole(rt: HostRuntime) -> Result<(), Fail> {
         ("round 925069", &GETPID_AND_EXIT, EXITED),
         ("", &GETPID_AND_EXIT, NOT_STARTED),
         // Events of devices, of which the machine has none yet.
-        ("type 61\ntx 1\ndisk0 1\ndisk1 1\nfail0\nfail1", &GETPID_AND_EXIT, NOT_STARTED),
+        (
+            "type 61\ntx 1\ndisk0 1\ndisk1 1\nfail0\nfail1",
+            &GETPID_AND_EXIT,
+            NOT_STARTED,
+        ),
         ("", &whole_heap, NO_FREE_LINE),
         ("tick 3\ndump", &GETPID_AND_EXIT, DUMPED),
         ("tick 1\r\ntick 02\r\ndump\r\n", &GETPID_AND_EXIT, DUMPED),
@@ -61,7 +65,13 @@ fn instructions_are_printed(rt: HostRuntime) -> Result<(), Fail> {
         // jal x0, 0
         (0, 0x0000_006f, 0, "", RUNS_ON),
         // addi a7, x0, -1; ecall
-        (0, 0xfff0_0893, 0x0000_0073, "call 1 unknown -1\nret 1 -1\n", RUNS_ON),
+        (
+            0,
+            0xfff0_0893,
+            0x0000_0073,
+            "call 1 unknown -1\nret 1 -1\n",
+            RUNS_ON,
+        ),
         // jalr x0, 0(ra), to the address whose execution exits
         (0, 0x0000_8067, 0, "call 1 exit\n", DEAD),
         // lui a1, 0x100; jalr x0, 0(a1)

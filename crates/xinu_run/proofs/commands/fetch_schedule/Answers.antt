@@ -14,13 +14,13 @@ returns-then-len-gt-LONGEST_SCHEDULE-clause-refused g c =
 
 pub returns-in-Ok-clause-ok : goal.returns-in-Ok-clause-ok
 returns-in-Ok-clause-ok g c =
-    let told = subst (λ (xs : List ℕ). MatchOption ((g.H.Host.view c.args.host.now).file c.args.name.now) ⊤ (λ bytes. xs ≡ take 4194305 bytes)) (sym c.as_slice.ensures.value) c.in_ok-text.ensures.bytes in
+    let fetched = subst (λ (xs : List ℕ). MatchOption ((g.H.Host.view c.args.host.now).file c.args.name.now) ⊤ (λ bytes. xs ≡ take 4194305 bytes)) (sym c.as_slice.ensures.value) c.in_ok-text.ensures.bytes in
     let short : length c.as_slice.result.now ≤ 4194304 = omega arith in
-    holds_events ((g.H.Host.view c.args.host.now).file c.args.name.now) c.as_slice.result.now c.in-Ok.schedule (omega arith) told
+    holds_events ((g.H.Host.view c.args.host.now).file c.args.name.now) c.as_slice.result.now c.in-Ok.schedule (omega arith) fetched
     (record { good = schedule_fault-short c.as_slice.result.now (Reads c.in-Ok.schedule) short c.in-Ok.ensures.read; reads = c.in-Ok.ensures.events })
 
 pub returns-clause-refused : goal.returns-clause-refused
 returns-clause-refused g c =
-    let told = subst (λ (xs : List ℕ). MatchOption ((g.H.Host.view c.args.host.now).file c.args.name.now) ⊤ (λ bytes. xs ≡ take 4194305 bytes)) (sym c.as_slice.ensures.value) c.in_ok-text.ensures.bytes in
+    let fetched = subst (λ (xs : List ℕ). MatchOption ((g.H.Host.view c.args.host.now).file c.args.name.now) ⊤ (λ bytes. xs ≡ take 4194305 bytes)) (sym c.as_slice.ensures.value) c.in_ok-text.ensures.bytes in
     let short : length c.as_slice.result.now ≤ 4194304 = omega arith in
-    schedule_cause c.in-Err.fault c.from.result ((g.H.Host.view c.args.host.now).file c.args.name.now) c.as_slice.result.now _ _ c.from.ensures (omega arith) short told c.in-Err.ensures.read
+    schedule_cause c.in-Err.fault c.from.result ((g.H.Host.view c.args.host.now).file c.args.name.now) c.as_slice.result.now _ _ c.from.ensures (omega arith) short fetched c.in-Err.ensures.read

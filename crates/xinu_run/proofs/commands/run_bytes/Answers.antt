@@ -1,6 +1,6 @@
-use Rattle.std.proofs.Common.{◌∙◌, [], ◌∷◌, refl, sym, ap, arith, Some, None}
+use Rattle.std.proofs.Common.{◌∙◌, [], sym, ap, arith, Some, None}
 use Rattle.image_loader.specs.Images.{loaded_of}
-use Rattle.xinu_run.specs.Verdict.{started, with_images}
+use Rattle.xinu_run.specs.Verdict.{started}
 use Rattle.xinu_run.proofs.Carried.{carries_as, carries_nothing, unsent_refl}
 use Rattle.xinu_run.proofs.Files.{image_read, image_refused}
 use Rattle.xinu_run.proofs.InputFaults.{image_fault-long, image_fault-short}

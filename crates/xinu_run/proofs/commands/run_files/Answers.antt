@@ -56,10 +56,10 @@ returns-clause-obeys g c =
     let events = c.in_ok-schedule.schedule in
     let ended = refusal_of c.run_bytes.result in
     let left = left_of c.run_bytes.result in
-    let told = subst (λ (file : List ℕ → Option (List ℕ)). MatchOption (file i) ⊤ (λ bytes. items ≡ take 1048577 bytes)) c.in_ok-schedule.ensures.keeps.file c.in_ok-bytes.ensures.bytes in
+    let fetched = subst (λ (file : List ℕ → Option (List ℕ)). MatchOption (file i) ⊤ (λ bytes. items ≡ take 1048577 bytes)) c.in_ok-schedule.ensures.keeps.file c.in_ok-bytes.ensures.bytes in
     let few : length items ≤ 1048577 = omega (arith, c.in_ok-bytes.ensures.bound) in
     let carries = subst (λ (bytes : List ℕ). Carries (with_images 1 (bytes ∷ []) (started events)) ended left j k) c.as_slice.ensures.value c.run_bytes.ensures.carries in
-    files_obey c.args.run.schedule.now i events items ended left h j k c.in_ok-schedule.ensures.ok few told
+    files_obey c.args.run.schedule.now i events items ended left h j k c.in_ok-schedule.ensures.ok few fetched
     (unsent_both h (g.H.Host.view c.fetch_schedule.new.host) j c.in_ok-schedule.ensures.unsent (fetched_unsent (g.H.Host.view c.fetch_schedule.new.host) j _ _ c.fetch.ensures.asked.part.1))
     (omega (arith, c.in_ok-schedule.ensures.keeps.later, c.in_ok-bytes.ensures.cause.later)) carries
 
