@@ -1,6 +1,6 @@
-//! Commands over a host whose calls fail.
+//! Commands over a host whose calls fail: status 3.
 
-use crate::rows::{EXITED, GETPID_AND_EXIT, RUN, status_of};
+use super::programs::{EXITED, GETPID_AND_EXIT, RUN, refusal_of, status_of, two_instructions};
 use host_port::{Channel, MemoryHost};
 use std::alloc::Global;
 use std::test::Fail;
@@ -50,6 +50,19 @@ fn a_refusal_whose_text_fails_is_one_all_the_same(rt: HostRuntime) -> Result<(),
         b"run 1\ncall 1 getpid\n".as_slice()
     );
     assert_eq!(rt; host.sent(Channel::Fault), b"".as_slice());
+    Ok(())
+}
+
+// `ecall; jal x0, -4` would go on making calls for longer than a test may run.
+#[test]
+fn a_run_stops_after_a_refused_line(rt: HostRuntime) -> Result<(), Fail> {
+    let mut host = MemoryHost::new(rt.alloc());
+    host.add_file("s", b"step 1000000000")?;
+    host.add_file("i", &two_instructions(0, 0x0000_0073, 0xffdf_f06f))?;
+    host.fail_call(4)?;
+    assert_eq!(rt; refusal_of(rt.alloc(), &RUN, &mut host)?, 3);
+    assert_eq!(rt; host.sent(Channel::Out), b"run 1\n".as_slice());
+    assert_eq!(rt; host.sent(Channel::Fault), b"xinu: host fault\n".as_slice());
     Ok(())
 }
 
