@@ -1,5 +1,4 @@
 -- What holds of the ports is kept.
-pub mod Calls
 pub mod Cleared
 pub mod Counts
 pub mod Deletions

@@ -1,7 +1,10 @@
 pub mod Apart
 pub mod Examples
+pub mod Frame
 pub mod FreeCells
 pub mod GivingAway
 pub mod Grants
+pub mod Preserve
 pub mod Refusals
 pub mod Repeated
+pub mod Touches

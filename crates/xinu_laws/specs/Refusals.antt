@@ -1,40 +1,45 @@
 -- Which answers tell that a call was refused, and what else a call that waited answers.
-use Rattle.std.specs.Prelude.{◌≡◌, ◌≢◌, ℕ, ◌==◌, Bool, not, if◌then◌else◌, List, [], ◌∷◌, Option, None, Some, option_map, slice_set, ℤ}
+use Rattle.std.specs.Prelude.{◌≡◌, ◌≢◌, ℕ, List, [], ◌∷◌, Option, None, Some, option_map, slice_set, ℤ}
 use Rattle.xinu_base.specs.Constants.{SYSERR}
 use Rattle.xinu_base.specs.declared.lines.TranscriptLine.{TranscriptLine}
 use Rattle.xinu_base.specs.declared.lines.TranscriptLine.TheVariants as line
 use Rattle.xinu_base.specs.declared.processes.Rest.TheVariants.{Nothing}
 use Rattle.xinu_base.specs.declared.registers.Outcome.TheVariants.{Call}
 use Rattle.xinu_laws.specs.GivingAway.{next}
-use Rattle.xinu_model.specs.Calls.{called}
+use Rattle.xinu_model.specs.Calls.{calls, called}
 use Rattle.xinu_model.specs.Events.{call_of, with_executed}
 use Rattle.xinu_model.specs.Isa.Effects.{following}
 use Rattle.xinu_model.specs.Machine.{Xinu, Answer, Returns, current_hart, refused}
 use Rattle.xinu_model.specs.Messages.{held}
-use Rattle.xinu_model.specs.Pools.Buffers.{is_in}
 use Rattle.xinu_model.specs.Ports.Queues.{PortQueue, port_at, queued}
+use Rattle.xinu_model.specs.Rows.{ReplyKind, Status, Address, Priority, Count, Message, PortMessage, CallRow, found_in}
 use Rattle.xinu_model.specs.Semaphores.Counts.{count_of}
 use Rattle.xinu_model.specs.Tables.{process_at, semaphore_at}
 use Rattle.xinu_model.specs.Words.{signed, word}
-
--- Whether an answer -1 of the call with this number says that it was refused. The other calls answer a priority (3, 4, 7, 8), a count (17)
--- or a message (22, 23, 24, 35), which may itself be -1.
-abbrev pub tells_refusal : ℕ → Bool
-tells_refusal number = not (is_in number (3 ∷ 4 ∷ 7 ∷ 8 ∷ 17 ∷ 22 ∷ 23 ∷ 24 ∷ 35 ∷ []))
 
 -- the first of some messages
 abbrev pub first_of : List ℕ → Option ℕ
 first_of [] = None
 first_of (message ∷ messages) = Some message
 
--- What the call of this number answers of the state, unless it is refused: the priority of a process, the count of a semaphore, the
--- message that the caller holds, or the first message of a port. Other calls answer a status, a number or an address, which is never -1.
+-- What a call of this kind answers of the state, unless it is refused: the priority of a process, the count of a semaphore, the message that
+-- the caller holds, or the first message of a port. A status, a number or an address is never -1.
+abbrev pub value_of : ReplyKind → (ℕ → ℕ) → Xinu → Option ℤ
+value_of Priority a s = Some (process_at s.tables (a 0)).priority
+value_of Count a s = Some (count_of (semaphore_at s.tables (a 0)))
+value_of Message a s = option_map signed (held s)
+value_of PortMessage a s = option_map signed (first_of (queued (port_at s.parts.ports (a 0)).queue))
+value_of Status a s = None
+value_of Address a s = None
+
+-- the same of a row, if there is one
+abbrev pub row_value : Option CallRow → (ℕ → ℕ) → Xinu → Option ℤ
+row_value None a s = None
+row_value (Some r) a s = value_of r.reply a s
+
+-- and of the call of a number
 abbrev pub value_told : ℕ → (ℕ → ℕ) → Xinu → Option ℤ
-value_told number a s =
-    if is_in number (3 ∷ 4 ∷ 7 ∷ 8 ∷ []) then Some (process_at s.tables (a 0)).priority
-    else (if number == 17 then Some (count_of (semaphore_at s.tables (a 0)))
-    else (if is_in number (22 ∷ 23 ∷ 24 ∷ []) then option_map signed (held s)
-    else (if number == 35 then option_map signed (first_of (queued (port_at s.parts.ports (a 0)).queue)) else None)))
+value_told number a s = row_value (found_in calls number) a s
 
 -- The answer is the first message that a port holds.
 abbrev pub AnswersFirst : Option PortQueue → Answer → Type 0

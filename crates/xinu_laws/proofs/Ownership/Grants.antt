@@ -1,5 +1,5 @@
 -- Pools and stacks come only from what was free: a pool or a process that is made has memory of the heap, and nothing else gives them any.
-use Rattle.std.proofs.Common.{◌≡◌, ℕ, ◌+◌, ◌<◌, ◌≤◌, ◌==◌, Bool, true, false, not, ◌&&◌, ◌||◌, cond, List, [], ◌∷◌, length, take, drop, Option, Some, None, refl, sym, ap, subst, ◌∙◌, arith, ℤ, pos, ⊎_elim}
+use Rattle.std.proofs.Common.{◌≡◌, ℕ, ◌+◌, ◌<◌, ◌≤◌, ◌==◌, Bool, true, false, not, ◌&&◌, ◌||◌, cond, List, [], ◌∷◌, length, map, take, drop, Option, Some, None, refl, sym, ap, subst, ◌∙◌, arith, ℤ, pos, ⊎_elim}
 use Rattle.std.specs.Prelude.{int_lt, nat_lt, unwrap_or}
 use Rattle.std.proofs.lemmas.Bool.{cases_Bool, cond_both}
 use Rattle.xinu_base.specs.declared.processes.Process.{Process}
@@ -22,8 +22,10 @@ use Rattle.xinu_laws.proofs.HeapCells.Taken.{grants_were_free, stacks_were_free}
 use Rattle.xinu_laws.proofs.Lists.Counts.{times-append}
 use Rattle.xinu_laws.proofs.Lists.Maps.{one, times_first, times_set}
 use Rattle.xinu_laws.proofs.Ownership.Claims.{empty_stack, holders_kept, pool_parts, stack_parts}
-use Rattle.xinu_laws.proofs.Ownership.Doings.{kept_sent}
-use Rattle.xinu_laws.proofs.Ownership.Kept.{KeepsPlaces}
+use Rattle.xinu_laws.proofs.Touches.Kept.{keeps_places}
+use Rattle.xinu_laws.proofs.Touches.Moves.{touches_sent}
+use Rattle.xinu_laws.specs.Touches.{reach, range_of, stacks_of, KeepsPlaces, Touches}
+use Rattle.xinu_model.specs.Footprints.{on_tables}
 
 -- where no address has more holders nothing is given
 pub gives_nothing : (s u : Xinu) → ((a : ℕ) → holders u a ≤ holders s a) → GivesOnlyFree s u
@@ -31,15 +33,19 @@ gives_nothing s u few a none some = let f = few a in absurd (omega arith)
 
 -- nor if all places stay as they are
 pub gives_kept : {s u : Xinu} → KeepsPlaces s u → GivesOnlyFree s u
-gives_kept {s} {u} k = gives_nothing s u (λ a. let e = holders_kept k a in omega arith)
+gives_kept {s} {u} k = gives_nothing s u (λ a. let e = holders_kept s u k.ranges k.stacks a in omega arith)
+
+-- nor if the pools' ranges and the stacks do
+pub gives_within : (s u : Xinu) → map range_of u.parts.pools ≡ map range_of s.parts.pools → stacks_of u.tables ≡ stacks_of s.tables → GivesOnlyFree s u
+gives_within s u ranges stacks = gives_nothing s u (λ a. let e = holders_kept s u ranges stacks a in omega arith)
 
 -- what is given before the places stay, or after it
 pub gives_before : (s u v : Xinu) → GivesOnlyFree s u → KeepsPlaces u v → GivesOnlyFree s v
-gives_before s u v g k a none some = let e = holders_kept k a in g a none (omega arith)
+gives_before s u v g k a none some = let e = holders_kept u v k.ranges k.stacks a in g a none (omega arith)
 
 pub gives_after : (s u v : Xinu) → KeepsPlaces s u → GivesOnlyFree u v → GivesOnlyFree s v
 gives_after s u v k g a none some =
-    let e = holders_kept k a in subst (λ h. is_in_free a h ≡ true) k.heap (g a (omega arith) some)
+    let e = holders_kept s u k.ranges k.stacks a in subst (λ h. is_in_free a h ≡ true) k.heap (g a (omega arith) some)
 
 -- A process is made on a stack that was free.
 gives_made : (p : ℕ) (x : Process) (hart : Hart) (stack : Stack) (wanted : ℕ) (s : Xinu) → take_stack wanted s.parts.heap ≡ Some stack → x.stack ≡ stack.top → x.stack_size ≡ wanted
@@ -73,8 +79,10 @@ gives_killed : (p : ℕ) (d : CallState) → GivesOnlyFree d.state (killed p d).
 gives_killed p d =
     let x = process_at d.state.tables p in
     let told = sent x.parent p d in
+    let touches : Touches (reach on_tables) d.state told.state = touches_sent x.parent p d in
+    let same : KeepsPlaces d.state told.state = keeps_places touches refl refl refl in
     gives_nothing d.state (killed p d).state (λ a.
-    let kept = holders_kept (kept_sent x.parent p d) a in
+    let kept = holders_kept d.state told.state same.ranges same.stacks a in
     let set = times_set (is_in_stack a) told.state.tables.processes p no_process no_process (empty_stack a no_process refl) in
     let none = ap one (empty_stack a no_process refl) in
     omega arith)

@@ -1,12 +1,12 @@
 -- A caller that has its token goes on: its message goes into the port, or it takes one, and what holds of the ports is kept. If
 -- the port was renewed while it waited it is refused.
-use Rattle.std.proofs.Common.{◌≡◌, ℕ, suc, ◌<◌, ◌==◌, true, false, not, List, [], ◌∷◌, ◌++◌, length, Option, None, Some, refl, sym, ap, subst, arith, get_or-set_same, length-append, pos}
+use Rattle.std.proofs.Common.{◌≡◌, ℕ, suc, ◌<◌, ◌==◌, false, not, List, [], ◌∷◌, ◌++◌, length, Option, None, Some, refl, sym, ap, subst, arith, get_or-set_same, length-append, pos}
 use Rattle.std.specs.Prelude.{nat_le}
-use Rattle.std.proofs.lemmas.Bool.{cond_both, cond-true, eqb-true, leb-false, ne_eqb, not-false, or_parts, or_right}
+use Rattle.std.proofs.lemmas.Bool.{cond_both, eqb-true, leb-false, not-false, or_parts}
 use Rattle.xinu_base.specs.declared.processes.PortTicket.{PortTicket}
-use Rattle.xinu_model.specs.Machine.{Xinu, CallResult, Panics, start, refused, returns}
+use Rattle.xinu_model.specs.Machine.{Xinu, CallResult, Panics, start, returns}
 use Rattle.xinu_model.specs.Ports.Queues.{PortQueue, Port, no_port, most_nodes, port_at, is_used, nodes, is_stale}
-use Rattle.xinu_model.specs.Ports.Calls.{with_messages, put_message, finish_send, take_message, take_from, finish_receive}
+use Rattle.xinu_model.specs.Ports.Calls.{with_messages, put_message, take_message}
 use Rattle.xinu_model.specs.Semaphores.Waiting.{signalled}
 use Rattle.xinu_model.specs.Sound.Tables.{IsInside}
 use Rattle.xinu_model.specs.Sound.Ports.{ArePorts}

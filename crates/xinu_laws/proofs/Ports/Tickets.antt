@@ -6,16 +6,14 @@ use Rattle.xinu_base.specs.Constants.{OK}
 use Rattle.xinu_base.specs.declared.processes.PortTicket.{PortTicket}
 use Rattle.xinu_base.specs.declared.processes.Rest.TheVariants.{PtSend, PtRecv}
 use Rattle.xinu_model.specs.Calls.{continued}
-use Rattle.xinu_model.specs.Machine.{Xinu, Answer, Returns, Panics, CallResult, start, returns, refused, goes_on}
+use Rattle.xinu_model.specs.Machine.{Xinu, Returns, Panics, CallResult, start, returns, refused, goes_on}
 use Rattle.xinu_model.specs.Messages.{held}
-use Rattle.xinu_model.specs.Ports.Calls.{put_message, take_message, take_from, with_messages}
-use Rattle.xinu_model.specs.Ports.Queues.{PortQueue, Port, most_nodes, port_at, is_used, queued, nodes, is_stale}
-use Rattle.xinu_model.specs.Semaphores.Waiting.{signalled}
+use Rattle.xinu_model.specs.Ports.Calls.{put_message, take_message, take_from}
+use Rattle.xinu_model.specs.Ports.Queues.{PortQueue, Port, most_nodes, port_at, is_used, nodes, is_stale}
 use Rattle.xinu_model.specs.Sound.Pools.{is_waiting}
 use Rattle.xinu_model.specs.Sound.Ports.{receives_from, is_released_receiver}
 use Rattle.xinu_model.specs.Sound.State.{IsSound}
 use Rattle.xinu_model.specs.Tables.{process_at}
-use Rattle.xinu_model.specs.Words.{signed}
 use Rattle.xinu_laws.specs.Refusals.{AnswersFirst}
 use Rattle.xinu_laws.proofs.Ports.Messages.{message_go_on}
 use Rattle.xinu_laws.proofs.Ports.Finish.{fresh_seq}

@@ -1,19 +1,16 @@
 -- An event in which a call is refused changes the caller's a0 and pc alone, and prints the call and its reply.
-use Rattle.std.proofs.Common.{◌≡◌, ◌≢◌, ℕ, ◌==◌, Bool, true, false, cond, List, [], ◌∷◌, refl, sym, ap, subst, ◌∙◌}
+use Rattle.std.proofs.Common.{◌≡◌, ℕ, ◌==◌, false, cond, List, [], ◌∷◌, refl, sym, ap, ◌∙◌}
 use Rattle.std.specs.Prelude.{slice_set}
 use Rattle.std.proofs.lemmas.Bool.{cond-true, cond-false, eq-eqb, ne_eqb}
 use Rattle.xinu_base.specs.Constants.{SYSERR}
 use Rattle.xinu_base.specs.declared.events.Event.TheVariants.{Step}
 use Rattle.xinu_base.specs.declared.lines.TranscriptLine.{TranscriptLine}
 use Rattle.xinu_base.specs.declared.lines.TranscriptLine.TheVariants as line
-use Rattle.xinu_base.specs.declared.processes.Rest.{Rest}
 use Rattle.xinu_base.specs.declared.registers.Hart.{Hart}
 use Rattle.xinu_base.specs.declared.registers.Outcome.{Outcome}
-use Rattle.xinu_base.specs.declared.registers.Outcome.TheVariants.{Call}
 use Rattle.xinu_model.specs.Calls.{called, continued}
-use Rattle.xinu_model.specs.Events.{call_of, call_line, with_executed, reacted, instruction_step, is_done, stepped, effect_of, Happens}
-use Rattle.xinu_model.specs.Isa.Effects.{following}
-use Rattle.xinu_model.specs.Machine.{Xinu, CallResult, EventResult, current_hart, nothing_happens, end_of_event, refused, switched}
+use Rattle.xinu_model.specs.Events.{call_of, call_line, with_executed, reacted, instruction_step, is_done, stepped, Happens}
+use Rattle.xinu_model.specs.Machine.{Xinu, EventResult, current_hart, nothing_happens, end_of_event, refused, switched}
 use Rattle.xinu_model.specs.Sound.State.{IsSound}
 use Rattle.xinu_model.specs.Tables.{process_at}
 use Rattle.xinu_model.specs.Words.{word}
@@ -70,7 +67,7 @@ refused_events old lines new sound k none h =
       parts = ap (λ (x : Xinu). x.parts) state;
       memory = ap (λ (x : Xinu). x.memory) state ∙ did.1;
       harts = ap (λ (x : Xinu). x.harts) state
-        ∙ set_twice old.harts p (next old).hart (record (next old).hart { regs = slice_set (next old).hart.regs 10 (word SYSERR) })
-        ∙ ap (λ (x : Hart). slice_set old.harts p (record x { regs = slice_set x.regs 10 (word SYSERR) })) did.0;
+          ∙ set_twice old.harts p (next old).hart (record (next old).hart { regs = slice_set (next old).hart.regs 10 (word SYSERR) })
+          ∙ ap (λ (x : Hart). slice_set old.harts p (record x { regs = slice_set x.regs 10 (word SYSERR) })) did.0;
       lines = ap (λ (x : EventResult). x.lines) are;
     }

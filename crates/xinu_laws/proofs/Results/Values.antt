@@ -1,24 +1,29 @@
 -- The calls that answer a priority, a count or a message: an answer -1 is that value, or the call was refused.
-use Rattle.std.proofs.Common.{◌≡◌, ◌⊎◌, inl, inr, ℕ, zero, suc, ◌<◌, ◌==◌, Bool, true, false, cond, List, [], ◌∷◌, length, refl, sym, ap, subst, ◌∙◌, arith, Option, Some, None, ℤ, pos, negsuc}
+use Rattle.std.proofs.Common.{◌≡◌, ◌⊎◌, inl, inr, ℕ, zero, suc, ◌<◌, ◌==◌, Bool, true, false, cond, List, [], ◌∷◌, length, refl, sym, subst, arith, Option, Some, None, ℤ, pos, negsuc}
 use Rattle.std.specs.Prelude.{slice_index, option_map}
-use Rattle.std.proofs.lemmas.Bool.{cond_both, eqb-true}
+use Rattle.std.specs.List.{AllByRecursion}
 use Rattle.xinu_base.specs.Constants.{SYSERR}
 use Rattle.xinu_base.specs.declared.processes.Rest.{Rest}
 use Rattle.xinu_base.specs.declared.processes.Rest.TheVariants.{PtRecv}
 use Rattle.xinu_model.specs.Calls.{calls, call_of_number}
 use Rattle.xinu_model.specs.Machine.{Xinu, Returns, Waits, CallState, CallResult, start, returns, refused}
-use Rattle.xinu_model.specs.Messages.{held, received, recvtime}
+use Rattle.xinu_model.specs.Messages.{can_get, held, received, recvtime}
 use Rattle.xinu_model.specs.Ports.Calls.{finish_receive, take_from, take_message, received_from, ticket_of}
-use Rattle.xinu_model.specs.Ports.Queues.{PortQueue, port_at, queued, is_stale}
+use Rattle.xinu_model.specs.Ports.Queues.{PortQueue, port_at, queued}
 use Rattle.xinu_model.specs.Process.Calls.{is_suspended, is_ready, suspend}
 use Rattle.xinu_model.specs.Semaphores.Counts.{with_tokens, count_of, is_good}
 use Rattle.xinu_model.specs.Semaphores.Waiting.{take_token}
 use Rattle.xinu_model.specs.Sound.Pools.{ArePools}
 use Rattle.xinu_model.specs.Sound.Ports.{ArePorts}
 use Rattle.xinu_model.specs.Tables.{process_at, state_at, semaphore_at, is_free}
-use Rattle.xinu_model.specs.Words.{signed}
-use Rattle.xinu_laws.specs.Refusals.{tells_refusal, value_told, first_of}
-use Rattle.xinu_laws.proofs.Results.Refusals.{fresh_ticket, refusals_are_told}
+use Rattle.xinu_model.specs.Words.{signed, half}
+use Rattle.xinu_model.specs.Heap.Cells as heap
+use Rattle.xinu_model.specs.Pools.Buffers.{holder}
+use Rattle.xinu_model.specs.Rows.{CallRow, found_in, done_by}
+use Rattle.xinu_laws.specs.Refusals.{first_of, value_of, row_value, value_told}
+use Rattle.xinu_laws.proofs.Results.Refusals.{TellsRefusal, answer_tells, create_tells, kill_tells, granted_tells, given_back_tells, stacked_tells, semcreate_tells, guarded_tells, semreset_tells, wait_tells, signal_tells, signaln_tells, sleep_tells, sleepms_tells, mkbufpool_tells, getbuf_tells, freed_by_tells, ptcreate_tells, deleted_tells, reset_tells, fresh_ticket, sent_to_tells}
+use Rattle.xinu_laws.proofs.Lists.CallRows.{of_row}
+use Rattle.xinu_laws.proofs.Lists.RowByRow.{◌⨾◌}
 
 -- if a call answers -1 it was refused, or this is its value
 abbrev pub TellsValue : Xinu → Option ℤ → CallResult → Type 0
@@ -104,29 +109,57 @@ received_from_tells (Some queue) q s ports e =
     subst (λ b. TellsValue s (option_map signed (first_of queue.messages)) (cond b (refused x) (take_from (port_at s.parts.ports q).queue q x))) (sym (fresh_ticket q queue.receive s queue e))
     (from_tells queue (port_at s.parts.ports q).queue q s x e (omega arith)))
 
--- what holds of one number holds of each, if it holds of the others
-at_number : (n number : ℕ) (P : ℕ → Type 0) → P n → ((number == n) ≡ false → P number) → P number
-at_number n number P here other = by_test (number == n) refl
-  where
-    by_test : (b : Bool) → (number == n) ≡ b → P number
-    by_test true e = subst P (sym (eqb-true number n e)) here
-    by_test false e = other e
+-- a call whose refusals are told by -1
+status_tells : {s : Xinu} {result : CallResult} → TellsRefusal s result → TellsValue s None result
+status_tells tells e = inl (tells e)
+
+-- Each call of the table that answers -1 was refused, or that is its value.
+calls_tell : AllByRecursion (λ (r : CallRow). (a : ℕ → ℕ) (s : Xinu) → ArePools s.tables s.parts.pools → ArePorts s.tables s.parts.ports → TellsValue s (value_of r.reply a s) (r.effect a s)) calls
+unfolding calls
+calls_tell =
+    (λ a s k l. status_tells (answer_tells s (start s) s.tables.current)) ⨾
+    (λ a s k l. status_tells (create_tells (a 0) (a 1) (half (a 2)) (a 3) (a 4) (a 5) s)) ⨾
+    (λ a s k l. tested_tells (is_suspended (state_at s.tables (a 0))) s _ (process_at s.tables (a 0)).priority) ⨾
+    (λ a s k l. suspend_tells (a 0) s) ⨾
+    (λ a s k l. status_tells (kill_tells (a 0) s)) ⨾
+    (λ a s k l e. cc) ⨾
+    (λ a s k l. refused_if (is_free (state_at s.tables (a 0))) s _ (process_at s.tables (a 0)).priority) ⨾
+    (λ a s k l. refused_if (is_free (state_at s.tables (a 0))) s _ (process_at s.tables (a 0)).priority) ⨾
+    (λ a s k l e. cc) ⨾
+    (λ a s k l. status_tells (granted_tells (heap.take_memory (a 0) s.parts.heap) s)) ⨾
+    (λ a s k l. status_tells (given_back_tells (heap.free_memory (a 0) (a 1) s.parts.heap) s)) ⨾
+    (λ a s k l. status_tells (stacked_tells (heap.take_stack (a 0) s.parts.heap) s)) ⨾
+    (λ a s k l. status_tells (given_back_tells (heap.free_stack (a 0) (a 1) s.parts.heap) s)) ⨾
+    (λ a s k l. status_tells (semcreate_tells (signed (a 0)) s)) ⨾
+    (λ a s k l. status_tells (guarded_tells (is_good (a 0) s.tables) s _ (λ _ e. cc))) ⨾
+    (λ a s k l. status_tells (semreset_tells (a 0) (signed (a 1)) s)) ⨾
+    (λ a s k l. tested_tells (is_good (a 0) s.tables) s _ (count_of (semaphore_at s.tables (a 0)))) ⨾
+    (λ a s k l. status_tells (wait_tells (a 0) s)) ⨾
+    (λ a s k l. status_tells (signal_tells (a 0) s)) ⨾
+    (λ a s k l. status_tells (signaln_tells (a 0) (signed (a 1)) s)) ⨾
+    (λ a s k l. status_tells (guarded_tells (can_get (a 0) s.tables) s _ (λ _ e. cc))) ⨾
+    (λ a s k l. received_tells (held s) _ s (waiting_tells s None _)) ⨾
+    (λ a s k l. received_tells (held s) _ s (none_tells s _)) ⨾
+    (λ a s k l. recvtime_tells (signed (a 0)) s) ⨾
+    (λ a s k l. status_tells (sleep_tells (signed (a 0)) s)) ⨾
+    (λ a s k l. status_tells (sleepms_tells (signed (a 0)) s)) ⨾
+    (λ a s k l e. cc) ⨾
+    (λ a s k l. status_tells (mkbufpool_tells (a 0) (a 1) s)) ⨾
+    (λ a s k l. status_tells (getbuf_tells (a 0) s k)) ⨾
+    (λ a s k l. status_tells (freed_by_tells (holder (a 0) s.parts.pools) (a 0) s)) ⨾
+    (λ a s k l. status_tells (ptcreate_tells (signed (a 0)) s)) ⨾
+    (λ a s k l. status_tells (deleted_tells (port_at s.parts.ports (a 0)).queue (a 0) (a 1) s)) ⨾
+    (λ a s k l. status_tells (reset_tells (port_at s.parts.ports (a 0)).queue (a 0) (a 1) s)) ⨾
+    (λ a s k l. status_tells (sent_to_tells (port_at s.parts.ports (a 0)).queue (a 0) (a 1) s refl)) ⨾
+    (λ a s k l. received_from_tells (port_at s.parts.ports (a 0)).queue (a 0) s l refl) ⨾
+    tt
 
 -- A call of any number that answers -1 was refused, or that is its value.
 pub refused_or_told : (number : ℕ) (args : List ℕ) (s : Xinu) → ArePools s.tables s.parts.pools → ArePorts s.tables s.parts.ports
     → TellsValue s (value_told number (slice_index args) s) (call_of_number number args s)
-unfolding calls
-refused_or_told number args s pools ports =
-    let a = slice_index args in
-    let P : ℕ → Type 0 = λ n. TellsValue s (value_told n a s) (call_of_number n args s) in
-    let p = a 0 in
-    at_number 3 number P (tested_tells (is_suspended (state_at s.tables p)) s _ (process_at s.tables p).priority) (λ e3.
-    at_number 4 number P (suspend_tells p s) (λ e4.
-    at_number 7 number P (refused_if (is_free (state_at s.tables p)) s _ (process_at s.tables p).priority) (λ e7.
-    at_number 8 number P (refused_if (is_free (state_at s.tables p)) s _ (process_at s.tables p).priority) (λ e8.
-    at_number 17 number P (tested_tells (is_good p s.tables) s _ (count_of (semaphore_at s.tables p))) (λ e17.
-    at_number 22 number P (received_tells (held s) _ s (waiting_tells s None _)) (λ e22.
-    at_number 23 number P (received_tells (held s) _ s (none_tells s _)) (λ e23.
-    at_number 24 number P (recvtime_tells (signed p) s) (λ e24.
-    at_number 35 number P (received_from_tells (port_at s.parts.ports p).queue p s ports refl) (λ e35.
-    λ answer. inl (refusals_are_told number args s pools (rw (e3, e4, e7, e8, e17, e22, e23, e24, e35) refl) answer))))))))))
+refused_or_told number args s pools ports = by_row (found_in calls number) refl
+  where
+    by_row : (found : Option CallRow) → found_in calls number ≡ found → TellsValue s (row_value found (slice_index args) s) (done_by found args s)
+    by_row None e = refused_tells s None
+    by_row (Some r) e =
+        of_row (λ (x : CallRow). (a : ℕ → ℕ) (u : Xinu) → ArePools u.tables u.parts.pools → ArePorts u.tables u.parts.ports → TellsValue u (value_of x.reply a u) (x.effect a u)) calls calls_tell number r e (slice_index args) s pools ports
