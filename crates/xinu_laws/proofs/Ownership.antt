@@ -4,6 +4,7 @@ pub mod Claims
 pub mod Events
 pub mod ExtentEvents
 pub mod Giving
+pub mod GrantEvents
 pub mod Grants
 pub mod Memory
 pub mod Pairs

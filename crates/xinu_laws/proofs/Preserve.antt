@@ -13,7 +13,7 @@ use Rattle.std.proofs.lemmas.Bool.{cond_both}
 use Rattle.xinu_base.specs.declared.processes.Rest.{Rest}
 use Rattle.xinu_base.specs.declared.processes.Rest.TheVariants as rest
 use Rattle.xinu_base.specs.declared.processes.State.{State}
-use Rattle.xinu_base.specs.declared.processes.State.TheVariants.{Waiting}
+use Rattle.xinu_base.specs.declared.processes.State.TheVariants.{Free, Waiting}
 use Rattle.xinu_base.specs.declared.semaphores.Owner.{Owner}
 use Rattle.xinu_base.specs.declared.semaphores.Owner.TheVariants as owner
 use Rattle.xinu_laws.specs.Moves.{CanMove, FitsPlace, IsPlaceOf}
@@ -48,10 +48,10 @@ pub either_preserves : (b : Bool) (x y : CallResult) → (b ≡ true → IsPrese
 either_preserves b x y f g = cond_both b x y IsPreserved f g
 
 -- The caller goes to a place that fits its new state and what is left of its call.
-pub blocked_preserves : (state : State) (left : Rest) (place : Place) (s : Xinu) → MayCall s → IsPlaceOf state place
+pub blocked_preserves : (state : State) (left : Rest) (place : Place) (s : Xinu) → MayCall s → state ≢ Free → IsPlaceOf state place
     → FitsPlace s.tables (record (process_at s.tables s.tables.current) { state = state; rest = left }) place
     → FitsMessage state left (message_at s.tables s.tables.current) → IsPreserved (blocked state left place s)
-blocked_preserves state left place s c place_of fits slot =
+blocked_preserves state left place s c alive place_of fits slot =
     let t = s.tables in
     let x = record (process_at t t.current) { state = state; rest = left } in
     let k : CanMove t t.current x (message_at t t.current) place = record {
@@ -61,6 +61,7 @@ blocked_preserves state left place s c place_of fits slot =
       if_null = λ e. absurd (c.not_null e);
       fits = fits;
       slot = slot;
+      if_free = λ e. absurd (alive e);
     } in
     record { tables = inside_move t t.current x (message_at t t.current) place c.tables.inside k; harts = c.harts }
 
@@ -77,6 +78,7 @@ sound_goes_on message s k =
       if_null = λ e. (inl k.runs, refl);
       fits = tt;
       slot = subst (λ y. FitsMessage y rest.Nothing message) (sym k.runs) tt;
+      if_free = λ e. let f = sym k.runs ∙ e in absurd (cc);
     } in
     record { inside = inside_move t t.current x message Nowhere k.inside c; runs = state_move_same t t.current x message Nowhere k.inside.processes w ∙ k.runs }
 
@@ -108,7 +110,7 @@ take_token_preserves : (tokens sem : ℕ) (left : Rest) (then_ : Xinu → CallRe
     → IsPreserved (take_token tokens sem left then_ s)
 take_token_preserves zero sem left then_ s e c w fits go =
     let t = s.tables in
-    blocked_preserves Waiting left (InSemaphore sem) s c (refl, refl, refl) (w, sym e, fits) (waits_hold sem (semaphore_at t sem).owner left (message_at t t.current) fits)
+    blocked_preserves Waiting left (InSemaphore sem) s c (λ f. cc) (refl, refl, refl) (w, sym e, fits) (waits_hold sem (semaphore_at t sem).owner left (message_at t t.current) fits)
 take_token_preserves (suc n) sem left then_ s e c w fits go =
     go n (sym e) (tables_may_call s (with_tokens sem n s.tables) c (sound_token_taken s.tables sem n c.tables w (sym e)) refl)
 

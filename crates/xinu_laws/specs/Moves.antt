@@ -5,7 +5,7 @@ use Rattle.xinu_base.specs.declared.processes.Rest.TheVariants.{Nothing}
 use Rattle.xinu_base.specs.declared.processes.State.{State}
 use Rattle.xinu_base.specs.declared.processes.State.TheVariants.{Free, Current}
 use Rattle.xinu_model.specs.Process.Scheduling.{ready}
-use Rattle.xinu_model.specs.Sound.Tables.{ready_places, waiting_places, sleeping_places, CanRun, HoldsFor, FitsMessage, FitsOwner}
+use Rattle.xinu_model.specs.Sound.Tables.{ready_places, waiting_places, sleeping_places, CanRun, HoldsFor, FitsMessage, FitsOwner, IsFixed}
 use Rattle.xinu_model.specs.Tables.{Tables, process_at, state_at, message_at, semaphore_at, Place, InReady, InSemaphore, InSleepers}
 
 -- how often a process at a place is in the ready list
@@ -41,6 +41,7 @@ pub record CanMove (t : Tables) (q : ℕ) (x : Process) (m : Option ℕ) (place 
   pub if_null : q ≡ 0 → CanRun x.state × (x.rest ≡ Nothing)
   pub fits : FitsPlace t x place
   pub slot : FitsMessage x.state x.rest m
+  pub if_free : IsFixed x m
 
 -- What lets process q become ready: it is alive, doesn't run, and doesn't wait for a message without end.
 pub record CanBeReady (t : Tables) (q : ℕ) : Type 0 where

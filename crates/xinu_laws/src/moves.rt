@@ -1,6 +1,6 @@
 //! Moves inside an event: each keeps what holds of the tables at each moment.
 
-ghost use Rattle.std.specs.Prelude.{◌≡◌, ◌≢◌, ◌<◌, ◌+◌, ℕ, suc, List, [], ◌∷◌, Option};
+ghost use Rattle.std.specs.Prelude.{◌≡◌, ◌≢◌, ◌<◌, ◌+◌, ℕ, suc, List, [], ◌∷◌, Option, None};
 ghost use Rattle.xinu_base.specs.Constants.{NSEM};
 ghost use Rattle.xinu_base.specs.declared.processes.Process.{Process};
 ghost use Rattle.xinu_base.specs.declared.processes.Rest.{Rest};
@@ -25,11 +25,11 @@ pub fn the_unblocked_become_ready()
     ensures { (ps : List ℕ) (d : CallState) → (unblock_all ps d).state ≡ record d.state { tables = ready_all ps d.state.tables } }
 {}
 
-/// A signal: the first waiter becomes ready, or there is one token more.
+/// A signal on a semaphore in use: the first waiter becomes ready, or there is one token more.
 pub fn signals_keep_inside()
-    ensures signalled { (sem : ℕ) (d : CallState) → IsInside d.state.tables → sem < NSEM → IsInside (signalled sem d).state.tables }
+    ensures signalled { (sem : ℕ) (d : CallState) → IsInside d.state.tables → sem < NSEM → (semaphore_at d.state.tables sem).owner ≢ None → IsInside (signalled sem d).state.tables }
     ensures waiter { (t : Tables) (sem p : ℕ) (ps : List ℕ) → IsInside t → (semaphore_at t sem).waiters ≡ p ∷ ps → IsInside (ready p t) }
-    ensures token { (t : Tables) (sem : ℕ) → IsInside t → sem < NSEM → (semaphore_at t sem).waiters ≡ [] → IsInside (with_tokens sem ((semaphore_at t sem).tokens + 1) t) }
+    ensures token { (t : Tables) (sem : ℕ) → IsInside t → sem < NSEM → (semaphore_at t sem).owner ≢ None → (semaphore_at t sem).waiters ≡ [] → IsInside (with_tokens sem ((semaphore_at t sem).tokens + 1) t) }
 {}
 
 /// A caller waits for a token, or takes one and goes on.

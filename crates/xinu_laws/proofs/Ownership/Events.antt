@@ -39,7 +39,7 @@ kept_end_of_event was first result k =
     keeps_places touches refl refl refl
 
 -- So does a tick,
-kept_ticked : (s : Xinu) → IsSound s → KeepsPlaces s (ticked s).state
+pub kept_ticked : (s : Xinu) → IsSound s → KeepsPlaces s (ticked s).state
 kept_ticked s sound = let touches : Touches (reach on_tables) s (ticked s).state = touches_ticked s sound.tables in keeps_places touches refl refl refl
 
 -- and a call that goes on.
@@ -49,7 +49,7 @@ places_spared (rest.PtSend ticket message) = refl
 places_spared (rest.PtRecv ticket) = refl
 places_spared _ = refl
 
-kept_continued : (left : Rest) (s : Xinu) → IsSound s → KeepsPlaces s (continued left s).call.state
+pub kept_continued : (left : Rest) (s : Xinu) → IsSound s → KeepsPlaces s (continued left s).call.state
 kept_continued left s sound = places_stay (touched_by left) s (continued left s).call.state (places_spared left) (continued_touches left s sound)
 
 -- after an instruction the current process has the registers that it left
@@ -81,11 +81,11 @@ none_held old last sound runs idle call nothing gives a free taken =
     (cases_lt 0 (holders old a))
 
 -- an instruction leaves the places as they are
-kept_executed : (s : Xinu) → KeepsPlaces s (with_executed (next s) s)
+pub kept_executed : (s : Xinu) → KeepsPlaces s (with_executed (next s) s)
 kept_executed s = record { heap = refl; ranges = refl; stacks = refl }
 
 -- a process may call after an instruction
-may_call_next : (old : Xinu) → IsSound old → old.tables.current ≢ 0 → MayCallAny (with_executed (next old) old)
+pub may_call_next : (old : Xinu) → IsSound old → old.tables.current ≢ 0 → MayCallAny (with_executed (next old) old)
 may_call_next old sound runs = may_call_after (next old) old (may_call old sound runs)
 
 -- What comes of an instruction.

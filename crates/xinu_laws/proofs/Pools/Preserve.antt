@@ -63,7 +63,7 @@ with_buffer a i d = record d { state = record d.state { parts = record d.state.p
 
 -- The current process goes on after that.
 pub sound_put_back : (a i : ℕ) (d : CallState) → IsSoundTables d.state.tables → HavePools d.state → IsHolder a i d.state.parts.pools → IsSoundTables (put_back a i d).state.tables
-sound_put_back a i d o k h = sound_signalled (pool_at d.state.parts.pools i).semaphore (with_buffer a i d) o (holder_within a i d o.inside k h)
+sound_put_back a i d o k h = sound_signalled (pool_at d.state.parts.pools i).semaphore (with_buffer a i d) o (holder_within a i d o.inside k h) (λ f. let e = (k.each i h.within).owner in cc)
 
 -- No registers change.
 pub harts_put_back : (a i : ℕ) (d : CallState) → (put_back a i d).state.harts ≡ d.state.harts

@@ -109,9 +109,9 @@ port_reset q queue d k a here =
     let send : (semaphore_at t queue.send).owner ≡ Some (owner.Port q) = c.owners queue.send ∙ i.send_owner in
     let receive : (semaphore_at u queue.receive).owner ≡ Some (owner.Port q) = owner_tokens t queue.send n queue.receive ∙ c.owners queue.receive ∙ i.receive_owner in
     let ws = port_semaphore q queue.send t c.tables send in
-    let ku = sound_tokens t queue.send n c.tables ws.0 (inr c.no_senders) in
+    let ku = sound_tokens t queue.send n c.tables ws.0 (λ f. cc) (inr c.no_senders) in
     let wr = port_semaphore q queue.receive u ku receive in
-    let kv = sound_tokens u queue.receive 0 ku wr.0 (inl refl) in
+    let kv = sound_tokens u queue.receive 0 ku wr.0 (λ f. cc) (inl refl) in
     let touches : (f : Reach) → HasPort f q → Touches f d.state (emptied_port q queue e).state = λ f g.
     touches_trans (port_cleared_touches q g queue d k i.send_owner i.receive_owner) (emptied_port_touches q g queue e send (c.owners queue.receive ∙ i.receive_owner)) in
     let y : Semaphore = record (semaphore_at t queue.send) { tokens = n } in

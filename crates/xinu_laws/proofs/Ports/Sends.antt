@@ -38,7 +38,7 @@ owned_within q sem t k e = semaphore_within t sem k.inside.semaphores (λ f. cc)
 signal_on_ports : (q sem : ℕ) (value : ℤ) (d : CallState) → IsSoundTables d.state.tables → length d.state.harts ≡ 64 → (semaphore_at d.state.tables sem).owner ≡ Some (owner.Port q)
     → HasPorts (signalled sem d) → PreservesPorts (returns (signalled sem d) value)
 signal_on_ports q sem value d k harts e a = record {
-  preserved = record { tables = sound_signalled sem d k (owned_within q sem d.state.tables k e); harts = ap length (harts_signalled sem d) ∙ harts };
+  preserved = record { tables = sound_signalled sem d k (owned_within q sem d.state.tables k e) (λ f. cc); harts = ap length (harts_signalled sem d) ∙ harts };
   ports = a;
 }
 
@@ -102,7 +102,7 @@ take_on_port zero q sem queue left then_ s c a here e o fits call go =
     let t = s.tables in
     let w = owned_within q sem t c.tables o in
     record {
-      preserved = blocked_preserves Waiting left (InSemaphore sem) s c (refl, refl, refl) (w, sym e, subst (λ v. FitsOwner sem v left) (sym o) fits) (waits_hold sem (Some (owner.Port q)) left (message_at t t.current) fits);
+      preserved = blocked_preserves Waiting left (InSemaphore sem) s c (λ f. cc) (refl, refl, refl) (w, sym e, subst (λ v. FitsOwner sem v left) (sym o) fits) (waits_hold sem (Some (owner.Port q)) left (message_at t t.current) fits);
       ports = ports_wait q queue sem left t.current (message_at t t.current) t s.parts.ports c.tables.inside (current_within t c.tables) here o call a;
     }
 take_on_port (suc n) q sem queue left then_ s c a here e o fits call go =

@@ -28,7 +28,7 @@ received_preserves (Some message) otherwise s e c f = let k = goes_on_may_call N
 
 -- Call 22.
 pub receive_preserves : Preserves receive
-receive_preserves s c = received_preserves (held s) _ s refl c (λ e. blocked_preserves Receiving rest.Receive Nowhere s c (refl, refl, refl) tt (refl, e))
+receive_preserves s c = received_preserves (held s) _ s refl c (λ e. blocked_preserves Receiving rest.Receive Nowhere s c (λ f. cc) (refl, refl, refl) tt (refl, e))
 
 -- Call 23.
 pub recvclr_preserves : Preserves recvclr
@@ -42,7 +42,7 @@ later_tick ticks n = omega arith
 pub recvtime_preserves : (ticks : ℤ) → Preserves (recvtime ticks)
 recvtime_preserves (negsuc n) = refused_preserves
 recvtime_preserves (pos n) = λ s c. received_preserves (held s) _ s refl c
-    (λ e. blocked_preserves Timed rest.Timed (InSleepers (s.tables.ticks + max 1 n)) s c (refl, refl, refl) (later_tick s.tables.ticks n) (refl, e))
+    (λ e. blocked_preserves Timed rest.Timed (InSleepers (s.tables.ticks + max 1 n)) s c (λ f. cc) (refl, refl, refl) (later_tick s.tables.ticks n) (refl, e))
 
 -- What is left of a call that waited for a message.
 pub go_on_receive_preserves : Preserves go_on_receive
@@ -56,7 +56,7 @@ yield_preserves s c = record { tables = c.tables; harts = c.harts }
 pub sleepms_preserves : (ticks : ℤ) → Preserves (sleepms ticks)
 sleepms_preserves (negsuc n) = refused_preserves
 sleepms_preserves (pos zero) = yield_preserves
-sleepms_preserves (pos (suc n)) = λ s c. blocked_preserves Sleeping rest.Nothing (InSleepers (s.tables.ticks + suc n)) s c (refl, refl, refl) (omega arith) refl
+sleepms_preserves (pos (suc n)) = λ s c. blocked_preserves Sleeping rest.Nothing (InSleepers (s.tables.ticks + suc n)) s c (λ f. cc) (refl, refl, refl) (omega arith) refl
 
 -- Call 25.
 pub sleep_preserves : (seconds : ℤ) → Preserves (sleep seconds)

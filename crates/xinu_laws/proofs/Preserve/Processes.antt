@@ -65,6 +65,7 @@ sound_made_process t p x k within free state rest =
       if_null = λ e. absurd (free_is_not_null t p k.inside free e);
       fits = tt;
       slot = subst (λ y. FitsMessage y x.rest None) (sym state) (subst (λ r. HoldsFor r None) (sym rest) tt);
+      if_free = λ e. let f = sym state ∙ e in absurd (cc);
     } in
     let made = sound_move t p x None Nowhere k (λ e. let f = subst (λ r. state_at t r ≡ Current) (sym e) k.runs in cc) c in
     record { inside = inside_last_process (move_to p x None Nowhere t) p made.inside; runs = made.runs }
@@ -117,6 +118,7 @@ sound_suspended t p k n e =
       if_null = λ f. absurd (n f);
       fits = tt;
       slot = holds_at t p k.inside (λ f. cc);
+      if_free = λ f. absurd (cc);
     })
 
 -- Call 4.
@@ -125,7 +127,7 @@ suspend_preserves p s c = either_preserves (p == 0) _ _ (λ _. refused_preserves
     (λ n. either_preserves (is_ready (state_at s.tables p)) _ _
     (λ b. record { tables = sound_suspended s.tables p c.tables (eqb-false p 0 n) (is_ready_of (state_at s.tables p) b); harts = c.harts })
     (λ _. either_preserves (p == s.tables.current) _ _
-    (λ _. blocked_preserves Suspended SelfSuspend Nowhere s c (refl, refl, refl) tt tt)
+    (λ _. blocked_preserves Suspended SelfSuspend Nowhere s c (λ e. cc) (refl, refl, refl) tt tt)
     (λ _. refused_preserves s c)))
 
 -- Call 9: the caller dies.
@@ -149,7 +151,7 @@ kill_preserves p s c = either_preserves ((p == 0) || is_free (state_at s.tables 
 pub chprio_preserves : (p : ℕ) (priority : ℤ) → Preserves (chprio p priority)
 chprio_preserves p priority s c = either_preserves (is_free (state_at s.tables p)) _ _ (λ _. refused_preserves s c)
     (λ b. record {
-      tables = sound_process s.tables p (record (process_at s.tables p) { priority = priority }) c.tables (within_table s.tables p c.tables.inside.processes (not_free (state_at s.tables p) b)) refl refl;
+      tables = sound_process s.tables p (record (process_at s.tables p) { priority = priority }) c.tables (within_table s.tables p c.tables.inside.processes (not_free (state_at s.tables p) b)) (not_free (state_at s.tables p) b) refl refl;
       harts = c.harts;
     })
 

@@ -15,7 +15,7 @@ use Rattle.xinu_laws.proofs.Tables.Changes.{sound_tokens, sound_given_up, sound_
 use Rattle.xinu_laws.specs.Preserve.{IsPreserved, MayCall}
 use Rattle.xinu_laws.proofs.Preserve.{Preserves, refused_preserves, answers_preserves, either_preserves, await_preserves}
 use Rattle.xinu_laws.proofs.Tables.MoveTo.{semaphore_within}
-use Rattle.xinu_laws.proofs.Tables.Unblock.{unblock_all_ready, sound_emptied, emptied_has_no_waiters, sound_signalled, sound_signalled_times}
+use Rattle.xinu_laws.proofs.Tables.Unblock.{unblock_all_ready, owner_emptied, sound_emptied, emptied_has_no_waiters, sound_signalled, sound_signalled_times}
 use Rattle.xinu_laws.proofs.Lists.Searches.{search_passes, search_within}
 
 -- whose semaphore a process may name
@@ -83,7 +83,7 @@ semreset_preserves sem (pos n) = λ x c. either_preserves (is_good sem x.tables)
     (λ b. let g = good_semaphore x.tables sem c.tables.inside b in
     let d = emptied sem (start x) in
     record {
-      tables = sound_tokens d.state.tables sem n (sound_emptied sem (start x) c.tables) g.within (inr (emptied_has_no_waiters sem (start x)));
+      tables = sound_tokens d.state.tables sem n (sound_emptied sem (start x) c.tables) g.within (λ f. let o = owner_emptied sem sem (start x) in let e = g.owner in cc) (inr (emptied_has_no_waiters sem (start x)));
       harts = harts_emptied sem (start x) ∙ c.harts;
     })
     (λ _. refused_preserves x c)
@@ -113,7 +113,7 @@ signal_preserves sem x c =
     let less = int_lt (count_of (semaphore_at x.tables sem)) most_tokens in
     either_preserves (is_good sem x.tables && less) _ _
     (λ b. let g = good_semaphore x.tables sem c.tables.inside (and_parts (is_good sem x.tables) less b).0 in
-    record { tables = sound_signalled sem (start x) c.tables g.within; harts = ap length (harts_signalled sem (start x)) ∙ c.harts })
+    record { tables = sound_signalled sem (start x) c.tables g.within (λ f. let e = g.owner in cc); harts = ap length (harts_signalled sem (start x)) ∙ c.harts })
     (λ _. refused_preserves x c)
 
 -- Call 20.
@@ -124,7 +124,7 @@ signaln_preserves sem (pos n) = λ x c.
     either_preserves (is_good sem x.tables && most) _ _
     (λ b. let g = good_semaphore x.tables sem c.tables.inside (and_parts (is_good sem x.tables) most b).0 in
     record {
-      tables = sound_signalled_times sem n (start x) c.tables g.within;
+      tables = sound_signalled_times sem n (start x) c.tables g.within (λ f. let e = g.owner in cc);
       harts = ap (λ (y : Xinu). length y.harts) (unblock_all_ready (take n (semaphore_at x.tables sem).waiters) (start x)) ∙ c.harts;
     })
     (λ _. refused_preserves x c)

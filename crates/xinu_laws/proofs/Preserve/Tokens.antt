@@ -1,5 +1,5 @@
 -- Signals and waits keep what holds of the tables inside an event, step by step.
-use Rattle.std.proofs.Common.{◌≡◌, ◌≢◌, ℕ, ◌+◌, ◌<◌, List, [], ◌∷◌, refl, subst, sym, inr}
+use Rattle.std.proofs.Common.{◌≡◌, ◌≢◌, ℕ, ◌+◌, ◌<◌, List, [], ◌∷◌, None, refl, subst, sym, inr}
 use Rattle.xinu_base.specs.declared.processes.Process.{Process}
 use Rattle.xinu_base.specs.declared.processes.Rest.{Rest}
 use Rattle.xinu_base.specs.declared.processes.State.TheVariants.{Waiting}
@@ -25,9 +25,9 @@ pub inside_signal : (t : Tables) (sem p : ℕ) (ps : List ℕ) → IsInside t �
 inside_signal t sem p ps o e = inside_ready t p o (first_waiter t sem p ps o e)
 
 -- A signal without a waiter adds a token.
-pub inside_more : (t : Tables) (sem : ℕ) → IsInside t → sem < 128 → (semaphore_at t sem).waiters ≡ []
+pub inside_more : (t : Tables) (sem : ℕ) → IsInside t → sem < 128 → (semaphore_at t sem).owner ≢ None → (semaphore_at t sem).waiters ≡ []
     → IsInside (with_tokens sem ((semaphore_at t sem).tokens + 1) t)
-inside_more t sem o w e = inside_tokens t sem ((semaphore_at t sem).tokens + 1) o w (inr e)
+inside_more t sem o w used e = inside_tokens t sem ((semaphore_at t sem).tokens + 1) o w used (inr e)
 
 -- The caller waits on a semaphore without tokens, with what its owner calls for left of its call.
 pub inside_wait : (t : Tables) (sem : ℕ) (left : Rest) → IsSoundTables t → t.current ≢ 0 → sem < 128 → (semaphore_at t sem).tokens ≡ 0
@@ -43,5 +43,6 @@ inside_wait t sem left k not_null w none fits =
       if_null = λ e. absurd (not_null e);
       fits = (w, none, fits);
       slot = waits_hold sem (semaphore_at t sem).owner left m fits;
+      if_free = λ e. absurd (cc);
     } in
     inside_move t t.current x m (InSemaphore sem) k.inside c

@@ -1,9 +1,11 @@
 -- So many signals at once are that many, one after another.
-use Rattle.std.proofs.Common.{◌≡◌, ℕ, zero, suc, ◌+◌, ◌-◌, ◌<◌, ◌≤◌, ◌==◌, not, cond, List, [], ◌∷◌, length, take, set, refl, sym, ap, ◌∙◌, arith, ⊎_elim, get_or-set_same}
+use Rattle.std.proofs.Common.{◌≡◌, ◌≢◌, ℕ, zero, suc, ◌+◌, ◌-◌, ◌<◌, ◌≤◌, ◌==◌, not, cond, List, [], ◌∷◌, length, take, set, refl, sym, ap, ◌∙◌, arith, ⊎_elim, get_or-set_same, Option, None, Some}
+use Rattle.std.proofs.Math.ListN.{length-set}
 use Rattle.std.proofs.lemmas.Bool.{cases_lt, eq-eqb}
 use Rattle.std.proofs.lemmas.List.{get_or_past, set_past, set-get_or, take_all}
 use Rattle.xinu_base.specs.declared.processes.State.{State}
 use Rattle.xinu_base.specs.declared.processes.State.TheVariants.{Waiting}
+use Rattle.xinu_base.specs.declared.semaphores.Owner.{Owner}
 use Rattle.xinu_model.specs.Machine.{CallState, with_tables, unblock, unblock_all}
 use Rattle.xinu_model.specs.Semaphores.Counts.{with_tokens}
 use Rattle.xinu_model.specs.Semaphores.Waiting.{signal_first, signalled, signalled_times}
@@ -12,6 +14,8 @@ use Rattle.xinu_model.specs.Sound.Tables.{count_in, waiting_places, IsInside}
 use Rattle.xinu_model.specs.Tables.{Semaphore, no_semaphore, Tables, state_at, semaphore_at, numbers_without, semaphore_without}
 use Rattle.xinu_laws.proofs.Lists.Counts.{filter_absent, get_or-le-total}
 use Rattle.xinu_laws.proofs.Tables.Places.{semaphore_at_without}
+use Rattle.xinu_laws.proofs.Tables.Changes.{free_has_no_waiters}
+use Rattle.xinu_laws.proofs.Tables.Owners.{owner_signalled}
 use Rattle.xinu_laws.proofs.Tables.Unblock.{inside_signalled}
 
 -- the last of two writes at one place counts
@@ -100,10 +104,22 @@ one_more_signal sem n d [] e o w = signals_counted sem n d o.semaphores w (sym e
 one_more_signal sem n d (p ∷ ps) e o w = signals_released sem n p ps d o (sym e)
 
 -- the same of a semaphore of the table
-signals_within : (n sem : ℕ) (d : CallState) → IsInside d.state.tables → sem < 128 → signalled_times sem n d ≡ repeated n (signalled sem) d
-signals_within zero sem d o w = no_signal sem d
-signals_within (suc n) sem d o w =
-    one_more_signal sem n d (semaphore_at d.state.tables sem).waiters refl o w ∙ signals_within n sem (signalled sem d) (inside_signalled sem d o w) w
+signals_within : (n sem : ℕ) (d : CallState) → IsInside d.state.tables → sem < 128 → (semaphore_at d.state.tables sem).owner ≢ None → signalled_times sem n d ≡ repeated n (signalled sem) d
+signals_within zero sem d o w used = no_signal sem d
+signals_within (suc n) sem d o w used =
+    one_more_signal sem n d (semaphore_at d.state.tables sem).waiters refl o w
+    ∙ signals_within n sem (signalled sem d) (inside_signalled sem d o w used) w (λ e. used (sym (owner_signalled sem d sem) ∙ e))
+
+-- and of one that isn't in use: nobody waits on it
+signals_unused : (n sem : ℕ) (d : CallState) → length d.state.tables.semaphores ≡ 128 → sem < 128 → (semaphore_at d.state.tables sem).waiters ≡ [] → signalled_times sem n d ≡ repeated n (signalled sem) d
+signals_unused zero sem d many w e = no_signal sem d
+signals_unused (suc n) sem d many w e =
+    let t = d.state.tables in
+    let y : Semaphore = record (semaphore_at t sem) { tokens = (semaphore_at t sem).tokens + 1 } in
+    let u = with_tables (with_tokens sem ((semaphore_at t sem).tokens + 1) t) d in
+    let one : signalled sem d ≡ u = ap (λ l. signal_first sem l d) e in
+    let same : (semaphore_at u.state.tables sem).waiters ≡ [] = ap (λ (x : Semaphore). x.waiters) (get_or-set_same t.semaphores sem y no_semaphore (omega arith)) ∙ e in
+    signals_counted sem n d many w e ∙ signals_unused n sem u (length-set t.semaphores sem y ∙ many) w same ∙ sym (ap (repeated n (signalled sem)) one)
 
 -- a signal of a number past the table changes nothing
 signal_past : (sem : ℕ) (d : CallState) → length d.state.tables.semaphores ≡ 128 → 128 ≤ sem → signalled sem d ≡ d
@@ -127,4 +143,8 @@ many_past n sem d many h =
 
 -- So many signals at once are that many signals, one after another, if what holds of the tables at each moment holds.
 pub signals_are_repeated : (sem n : ℕ) (d : CallState) → IsInside d.state.tables → signalled_times sem n d ≡ repeated n (signalled sem) d
-signals_are_repeated sem n d o = ⊎_elim (λ (h : sem < 128). signals_within n sem d o h) (λ (h : 128 ≤ sem). many_past n sem d o.semaphores h ∙ signals_past n sem d o.semaphores h) (cases_lt sem 128)
+signals_are_repeated sem n d o = ⊎_elim (λ (h : sem < 128). in_use (semaphore_at d.state.tables sem).owner refl h) (λ (h : 128 ≤ sem). many_past n sem d o.semaphores h ∙ signals_past n sem d o.semaphores h) (cases_lt sem 128)
+  where
+    in_use : (by : Option Owner) → (semaphore_at d.state.tables sem).owner ≡ by → sem < 128 → signalled_times sem n d ≡ repeated n (signalled sem) d
+    in_use None e h = signals_unused n sem d o.semaphores h (free_has_no_waiters d.state.tables sem o e)
+    in_use (Some owner) e h = signals_within n sem d o h (λ f. cc)

@@ -3,10 +3,11 @@ use Rattle.std.proofs.Common.{◌≡◌, ◌≢◌, ℕ, suc, ◌<◌, ◌≤◌
 use Rattle.std.proofs.Math.ListN.{length-set}
 use Rattle.std.proofs.lemmas.Bool.{cases_lt}
 use Rattle.xinu_base.specs.declared.processes.Process.{Process}
+use Rattle.xinu_base.specs.declared.processes.State.TheVariants.{Free}
 use Rattle.xinu_base.specs.declared.semaphores.Owner.{Owner}
 use Rattle.xinu_base.specs.declared.semaphores.Owner.TheVariants.{Device}
 use Rattle.xinu_model.specs.Semaphores.Counts.{with_semaphore, with_tokens, make_semaphore}
-use Rattle.xinu_model.specs.Sound.Tables.{count_in, ready_places, waiting_places, sleeping_places, CanRun, HasOneKind, FitsOwner, FitsMessage, IsInside, IsSoundTables}
+use Rattle.xinu_model.specs.Sound.Tables.{count_in, ready_places, waiting_places, sleeping_places, CanRun, HasOneKind, FitsOwner, FitsMessage, IsInside, IsFixed, IsUnused, IsSoundTables}
 use Rattle.xinu_model.specs.Tables.{no_process, Semaphore, no_semaphore, Tables, process_at, state_at, message_at, semaphore_at}
 use Rattle.xinu_laws.proofs.Lists.Counts.{none_counted, total-set}
 use Rattle.xinu_laws.proofs.Tables.Scheduling.{inside_last_semaphore}
@@ -27,9 +28,9 @@ rest_written t q x e w same p = by_number p q (λ r. (get_or (set t.processes q 
     (λ n. ap (λ (y : Process). y.rest) (get_or-set_other t.processes q p x no_process n))
 
 -- A process is written in its old state with the same left of its call.
-pub inside_process : (t : Tables) (q : ℕ) (x : Process) → IsInside t → q < 64 → x.state ≡ state_at t q → x.rest ≡ (process_at t q).rest
+pub inside_process : (t : Tables) (q : ℕ) (x : Process) → IsInside t → q < 64 → state_at t q ≢ Free → x.state ≡ state_at t q → x.rest ≡ (process_at t q).rest
     → IsInside (record t { processes = set t.processes q x })
-inside_process t q x o w es er =
+inside_process t q x o w alive es er =
     let st = state_written t q x o.processes w es in
     let re = rest_written t q x o.processes w er in
     record {
@@ -51,20 +52,24 @@ inside_process t q x o w es er =
           (subst (λ k. FitsMessage (state_at t p) k (message_at t p)) (sym (re p)) (o.slots p));
       devices = o.devices;
       no_devices = o.no_devices;
+      free = λ p. by_number p q (λ r. IsFixed (get_or (set t.processes q x) r no_process) (message_at t r))
+          (λ e. absurd (alive (sym (st q) ∙ e)))
+          (λ n. subst (λ y. IsFixed y (message_at t p)) (sym (get_or-set_other t.processes q p x no_process n)) (o.free p));
+      unused = o.unused;
     }
 
 -- The current process goes on after that.
-pub sound_process : (t : Tables) (q : ℕ) (x : Process) → IsSoundTables t → q < 64 → x.state ≡ state_at t q → x.rest ≡ (process_at t q).rest
+pub sound_process : (t : Tables) (q : ℕ) (x : Process) → IsSoundTables t → q < 64 → state_at t q ≢ Free → x.state ≡ state_at t q → x.rest ≡ (process_at t q).rest
     → IsSoundTables (record t { processes = set t.processes q x })
-sound_process t q x k w es er = record {
-  inside = inside_process t q x k.inside w es er;
+sound_process t q x k w alive es er = record {
+  inside = inside_process t q x k.inside w alive es er;
   runs = state_written t q x k.inside.processes w es t.current ∙ k.runs;
 }
 
 -- A process holds another message, which fits its state and what is left of its call.
-pub inside_message : (t : Tables) (q : ℕ) (m : Option ℕ) → IsInside t → q < 64 → FitsMessage (state_at t q) (process_at t q).rest m
+pub inside_message : (t : Tables) (q : ℕ) (m : Option ℕ) → IsInside t → q < 64 → state_at t q ≢ Free → FitsMessage (state_at t q) (process_at t q).rest m
     → IsInside (record t { messages = set t.messages q m })
-inside_message t q m o w f = record {
+inside_message t q m o w alive f = record {
   processes = o.processes;
   messages = length-set t.messages q m ∙ o.messages;
   semaphores = o.semaphores;
@@ -84,6 +89,10 @@ inside_message t q m o w f = record {
       (λ n. subst (FitsMessage (state_at t p) (process_at t p).rest) (sym (get_or-set_other t.messages q p m None n)) (o.slots p));
   devices = o.devices;
   no_devices = o.no_devices;
+  free = λ p. by_number p q (λ r. IsFixed (process_at t r) (get_or (set t.messages q m) r None))
+      (λ e. absurd (alive e))
+      (λ n. subst (IsFixed (process_at t p)) (sym (get_or-set_other t.messages q p m None n)) (o.free p));
+  unused = o.unused;
 }
 
 -- A semaphore with an owner that the kernel or a process may have at its number: the first four are the kernel's, and no others.
@@ -100,9 +109,9 @@ semaphore_written t sem y P e w new old r = by_number r sem (λ k. P k (get_or (
 
 -- A semaphore is written with its old waiters, if it hasn't tokens beside them, and its owner fits them and its number.
 pub inside_semaphore : (t : Tables) (sem : ℕ) (y : Semaphore) → IsInside t → sem < 128 → y.waiters ≡ (semaphore_at t sem).waiters → HasOneKind y
-    → ((p : ℕ) → 0 < count_in p y.waiters → FitsOwner sem y.owner (process_at t p).rest) → FitsNumber sem y.owner
+    → ((p : ℕ) → 0 < count_in p y.waiters → FitsOwner sem y.owner (process_at t p).rest) → FitsNumber sem y.owner → IsUnused y
     → IsInside (with_semaphore sem y t)
-inside_semaphore t sem y o w same kind fits number = record {
+inside_semaphore t sem y o w same kind fits number fixed = record {
   processes = o.processes;
   messages = o.messages;
   semaphores = length-set t.semaphores sem y ∙ o.semaphores;
@@ -124,24 +133,30 @@ inside_semaphore t sem y o w same kind fits number = record {
   slots = o.slots;
   devices = semaphore_written t sem y (λ r x. r < 4 → x.owner ≡ Some Device) o.semaphores w number.devices o.devices;
   no_devices = semaphore_written t sem y (λ r x. x.owner ≡ Some Device → r < 4) o.semaphores w number.no_devices o.no_devices;
+  free = o.free;
+  unused = semaphore_written t sem y (λ r x. IsUnused x) o.semaphores w fixed o.unused;
 }
 
--- A semaphore gets another number of tokens, if it has none or no waiters.
-pub inside_tokens : (t : Tables) (sem n : ℕ) → IsInside t → sem < 128 → HasOneKind (record (semaphore_at t sem) { tokens = n }) → IsInside (with_tokens sem n t)
-inside_tokens t sem n o w kind =
-    inside_semaphore t sem (record (semaphore_at t sem) { tokens = n }) o w refl kind (o.rests sem) (record { devices = o.devices sem; no_devices = o.no_devices sem })
+-- A semaphore in use gets another number of tokens, if it has none or no waiters.
+pub inside_tokens : (t : Tables) (sem n : ℕ) → IsInside t → sem < 128 → (semaphore_at t sem).owner ≢ None → HasOneKind (record (semaphore_at t sem) { tokens = n }) → IsInside (with_tokens sem n t)
+inside_tokens t sem n o w used kind =
+    inside_semaphore t sem (record (semaphore_at t sem) { tokens = n }) o w refl kind (o.rests sem) (record { devices = o.devices sem; no_devices = o.no_devices sem }) (λ e. absurd (used e))
 
 -- The current process goes on after that.
-pub sound_tokens : (t : Tables) (sem n : ℕ) → IsSoundTables t → sem < 128 → HasOneKind (record (semaphore_at t sem) { tokens = n }) → IsSoundTables (with_tokens sem n t)
-sound_tokens t sem n k w kind = record { inside = inside_tokens t sem n k.inside w kind; runs = k.runs }
+pub sound_tokens : (t : Tables) (sem n : ℕ) → IsSoundTables t → sem < 128 → (semaphore_at t sem).owner ≢ None → HasOneKind (record (semaphore_at t sem) { tokens = n }) → IsSoundTables (with_tokens sem n t)
+sound_tokens t sem n k w used kind = record { inside = inside_tokens t sem n k.inside w used kind; runs = k.runs }
 
 -- a semaphore with tokens has no waiters
 pub no_waiters : (t : Tables) (sem n : ℕ) → IsInside t → (semaphore_at t sem).tokens ≡ suc n → (semaphore_at t sem).waiters ≡ []
 no_waiters t sem n o e = ⊎_elim (λ (z : (semaphore_at t sem).tokens ≡ 0). absurd (omega arith)) (λ (z : (semaphore_at t sem).waiters ≡ []). z) (o.one_kind sem)
 
+-- and is in use
+pub tokens_used : (t : Tables) (sem n : ℕ) → IsInside t → (semaphore_at t sem).tokens ≡ suc n → (semaphore_at t sem).owner ≢ None
+tokens_used t sem n o e none = let z = ap (λ (x : Semaphore). x.tokens) (o.unused sem none) in absurd (omega arith)
+
 -- A token is taken.
 pub sound_token_taken : (t : Tables) (sem n : ℕ) → IsSoundTables t → sem < 128 → (semaphore_at t sem).tokens ≡ suc n → IsSoundTables (with_tokens sem n t)
-sound_token_taken t sem n k w e = sound_tokens t sem n k w (inr (no_waiters t sem n k.inside e))
+sound_token_taken t sem n k w e = sound_tokens t sem n k w (tokens_used t sem n k.inside e) (inr (no_waiters t sem n k.inside e))
 
 -- nobody waits on a semaphore that isn't in use
 pub free_has_no_waiters : (t : Tables) (sem : ℕ) → IsInside t → (semaphore_at t sem).owner ≡ None → (semaphore_at t sem).waiters ≡ []
@@ -158,7 +173,7 @@ owned_is_no_device t sem o n = ⊎_elim (λ (h : sem < 4). absurd (n (o.devices 
 -- A semaphore on which nobody waits is given up, which isn't the kernel's.
 pub inside_given_up : (t : Tables) (sem : ℕ) → IsInside t → sem < 128 → 4 ≤ sem → (semaphore_at t sem).waiters ≡ [] → IsInside (with_semaphore sem no_semaphore t)
 inside_given_up t sem o w four e =
-    inside_semaphore t sem no_semaphore o w (sym e) (inl refl) (λ p h. absurd (omega arith)) (record { devices = λ h. absurd (omega arith); no_devices = λ h. cc })
+    inside_semaphore t sem no_semaphore o w (sym e) (inl refl) (λ p h. absurd (omega arith)) (record { devices = λ h. absurd (omega arith); no_devices = λ h. cc }) (λ e. refl)
 
 -- The current process goes on after that.
 pub sound_given_up : (t : Tables) (sem : ℕ) → IsSoundTables t → sem < 128 → 4 ≤ sem → (semaphore_at t sem).waiters ≡ [] → IsSoundTables (with_semaphore sem no_semaphore t)
@@ -171,7 +186,7 @@ inside_made_semaphore t sem tokens by o w free n =
     let four = free_is_no_device t sem o free in
     inside_last_semaphore (with_semaphore sem y t) sem
     (inside_semaphore t sem y o w (sym (free_has_no_waiters t sem o free)) (inr refl) (λ p h. absurd (omega arith))
-    (record { devices = λ h. absurd (omega arith); no_devices = λ e. absurd (n cc) }))
+    (record { devices = λ h. absurd (omega arith); no_devices = λ e. absurd (n cc) }) (λ e. absurd (cc)))
 
 -- The current process goes on after that.
 pub sound_made_semaphore : (t : Tables) (sem tokens : ℕ) (by : Owner) → IsSoundTables t → sem < 128 → (semaphore_at t sem).owner ≡ None → by ≢ Device → IsSoundTables (make_semaphore sem by tokens t)

@@ -74,7 +74,7 @@ inside_delivered p message d o alive =
     let t = d.state.tables in
     by_delivery p message d (λ e. IsInside e.state.tables)
     (λ b. inside_move t p (in_state Ready (process_at t p)) (Some message) InReady o (can_move_ready t p (Some message) o alive (holds_some (process_at t p).rest message)))
-    (λ b. inside_message t p (Some message) o (within_table t p o.processes alive) (fits_some (state_at t p) (process_at t p).rest message (message_at t p) b (o.slots p)))
+    (λ b. inside_message t p (Some message) o (within_table t p o.processes alive) alive (fits_some (state_at t p) (process_at t p).rest message (message_at t p) b (o.slots p)))
 
 -- The current process goes on after that.
 pub sound_delivered : (p message : ℕ) (d : CallState) → IsSoundTables d.state.tables → state_at d.state.tables p ≢ Free → IsSoundTables (delivered p message d).state.tables
@@ -84,7 +84,7 @@ sound_delivered p message d k alive =
     (λ b. sound_move t p (in_state Ready (process_at t p)) (Some message) InReady k (idle_differs t p t.current (listens_idle (state_at t p) b) k.runs)
     (can_move_ready t p (Some message) k.inside alive (holds_some (process_at t p).rest message)))
     (λ b. record {
-      inside = inside_message t p (Some message) k.inside (within_table t p k.inside.processes alive) (fits_some (state_at t p) (process_at t p).rest message (message_at t p) b (k.inside.slots p));
+      inside = inside_message t p (Some message) k.inside (within_table t p k.inside.processes alive) alive (fits_some (state_at t p) (process_at t p).rest message (message_at t p) b (k.inside.slots p));
       runs = k.runs;
     })
 
@@ -114,7 +114,7 @@ sent_changes p message d =
 
 -- a process that isn't the null process can be taken out
 pub can_move_free : (t : Tables) (p : ℕ) → p < 64 → p ≢ 0 → CanMove t p no_process None Nowhere
-can_move_free t p w n = record { within = w; place_of = (refl, refl, refl); if_current = λ e. cc; if_null = λ e. absurd (n e); fits = tt; slot = tt }
+can_move_free t p w n = record { within = w; place_of = (refl, refl, refl); if_current = λ e. cc; if_null = λ e. absurd (n e); fits = tt; slot = tt; if_free = λ e. (refl, refl) }
 
 -- A process that isn't the null process dies.
 pub inside_killed : (p : ℕ) (d : CallState) → IsInside d.state.tables → p < 64 → p ≢ 0 → IsInside (killed p d).state.tables

@@ -8,7 +8,7 @@ use Rattle.xinu_base.specs.declared.processes.Rest.TheVariants.{Nothing}
 use Rattle.xinu_base.specs.declared.processes.State.TheVariants.{Free, Current}
 use Rattle.xinu_base.specs.declared.semaphores.Owner.TheVariants.{Device}
 use Rattle.xinu_laws.specs.Moves.{CanMove, FitsPlace}
-use Rattle.xinu_model.specs.Sound.Tables.{entries_of, waits_of, count_in, ready_places, waiting_places, sleeping_places, CanRun, HasOneKind, FitsOwner, FitsMessage, IsInside}
+use Rattle.xinu_model.specs.Sound.Tables.{entries_of, waits_of, count_in, ready_places, waiting_places, sleeping_places, CanRun, HasOneKind, FitsOwner, FitsMessage, IsInside, IsFixed, IsUnused}
 use Rattle.xinu_model.specs.Tables.{no_process, Semaphore, no_semaphore, Tables, process_at, state_at, message_at, semaphore_at, entries_without, numbers_without, semaphore_without, waits_without, with_waiter, Place, Nowhere, InReady, InSemaphore, InSleepers, ready_in, semaphores_in, sleepers_in, move_to}
 use Rattle.xinu_laws.proofs.Lists.Counts.{entries_without_same, entries_without_other, numbers_without_same, numbers_without_other, count_last_other}
 use Rattle.xinu_laws.proofs.Lists.Orders.{all_filter, falling_in, falling_without, rising_in, rising_without, IsLater, later_in}
@@ -165,6 +165,21 @@ slots_move t q x m place o c p =
     (λ n. subst (λ (y : Process). FitsMessage y.state y.rest (message_at u p)) (sym (process_move_other t p q x m place n))
     (subst (FitsMessage (state_at t p) (process_at t p).rest) (sym (message_move_other t p q x m place n)) (o.slots p)))
 
+-- a free entry holds what it held at the start, after a process moved
+free_move : (t : Tables) (q : ℕ) (x : Process) (m : Option ℕ) (place : Place) → IsInside t → CanMove t q x m place
+    → (p : ℕ) → IsFixed (process_at (move_to q x m place t) p) (message_at (move_to q x m place t) p)
+free_move t q x m place o c p =
+    let u = move_to q x m place t in
+    by_number p q (λ r. IsFixed (process_at u r) (message_at u r))
+    (subst (λ (y : Process). IsFixed y (message_at u q)) (sym (process_move_same t q x m place o.processes c.within))
+    (subst (IsFixed x) (sym (message_move_same t q x m place o.messages c.within)) c.if_free))
+    (λ n. subst (λ (y : Process). IsFixed y (message_at u p)) (sym (process_move_other t p q x m place n))
+    (subst (IsFixed (process_at t p)) (sym (message_move_other t p q x m place n)) (o.free p)))
+
+-- nobody leaves a semaphore that isn't in use
+unused_left : (q : ℕ) (x : Semaphore) → IsUnused x → IsUnused (semaphore_without q x)
+unused_left q x h e = ap (semaphore_without q) (h e)
+
 -- A process that may move keeps what holds of the tables.
 pub inside_move : (t : Tables) (q : ℕ) (x : Process) (m : Option ℕ) (place : Place) → IsInside t → CanMove t q x m place → IsInside (move_to q x m place t)
 inside_move t q x m place o c =
@@ -192,4 +207,7 @@ inside_move t q x m place o c =
       slots = slots_move t q x m place o c;
       devices = λ r. semaphore_move_cases t q r x m place (λ y. r < 4 → y.owner ≡ Some Device) i (o.devices r) (λ s e g. o.devices r);
       no_devices = λ r. semaphore_move_cases t q r x m place (λ y. y.owner ≡ Some Device → r < 4) i (o.no_devices r) (λ s e g. o.no_devices r);
+      free = free_move t q x m place o c;
+      unused = λ r. semaphore_move_cases t q r x m place IsUnused i (unused_left q (semaphore_at t r) (o.unused r))
+          (λ s e g none. absurd (subst (λ k. FitsOwner r k x.rest) none (fits_semaphore t x place s r e g c.fits).1));
     }

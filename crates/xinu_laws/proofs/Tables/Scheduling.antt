@@ -87,6 +87,7 @@ can_move_ready t q m o alive holds = record {
   if_null = λ e. (inr refl, null_rest_at t q o e);
   fits = tt;
   slot = holds;
+  if_free = λ e. absurd (cc);
 }
 
 -- A process that can become ready becomes ready.
@@ -132,6 +133,8 @@ inside_numbers t current quantum ticks last_process last_semaphore o one later =
   slots = o.slots;
   devices = o.devices;
   no_devices = o.no_devices;
+  free = o.free;
+  unused = o.unused;
 }
 
 -- the quantum may be any
@@ -208,6 +211,7 @@ sound_dispatch t q o none e =
       if_null = λ f. (inl refl, null_rest_at t q o f);
       fits = tt;
       slot = holds_at t q o (λ f. cc);
+      if_free = λ f. absurd (cc);
     } in
     record { inside = inside_move u q x (message_at t q) Nowhere (inside_current t q 2 o none) c; runs = state_move_same u q x (message_at t q) Nowhere o.processes w }
 

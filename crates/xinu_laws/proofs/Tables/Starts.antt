@@ -13,7 +13,7 @@ use Rattle.xinu_model.specs.Heap.Cells.{Stack, take_stack}
 use Rattle.xinu_model.specs.Machine.{Xinu}
 use Rattle.xinu_model.specs.Process.Scheduling.{in_state, ready}
 use Rattle.xinu_model.specs.Process.Creation.{stack_size, new_hart}
-use Rattle.xinu_model.specs.Sound.Tables.{count_in, waits_of, ready_places, waiting_places, sleeping_places, HasOneKind, FitsOwner, FitsMessage, IsInside, IsSoundTables}
+use Rattle.xinu_model.specs.Sound.Tables.{count_in, waits_of, ready_places, waiting_places, sleeping_places, HasOneKind, FitsOwner, FitsMessage, IsInside, IsFixed, IsUnused, IsSoundTables}
 use Rattle.xinu_model.specs.Tables.{no_process, Semaphore, no_semaphore, Tables, process_at, state_at, message_at, semaphore_at, move_to, Nowhere, InReady}
 use Rattle.xinu_laws.proofs.Tables.Scheduling.{holds_at, inside_last_process, sound_move, sound_ready, sound_resched}
 use Rattle.xinu_laws.proofs.Tables.MoveTo.{by_number, state_move_same, state_move_other}
@@ -55,6 +55,11 @@ null_current (suc p) e = let f = null_states p in cc
 null_slots : (p : ℕ) → FitsMessage (state_at null_tables p) (process_at null_tables p).rest (message_at null_tables p)
 null_slots zero = tt
 null_slots (suc p) = subst (λ (x : Process). FitsMessage x.state x.rest (message_at null_tables (suc p))) (sym (null_process_at p)) tt
+
+-- at first a free entry holds its fixed value
+null_free : (p : ℕ) → IsFixed (process_at null_tables p) (message_at null_tables p)
+null_free zero = λ e. absurd (cc)
+null_free (suc p) = λ e. (null_process_at p, same_everywhere 64 (suc p) None)
 
 -- the number of semaphores at first
 first_many : length first_semaphores ≡ 128
@@ -102,6 +107,8 @@ inside_null = record {
   slots = null_slots;
   devices = by_first (λ s x. s < 4 → x.owner ≡ Some Device) (λ h. refl) (λ h. refl) (λ h. refl) (λ h. refl) (λ s h. absurd (omega arith));
   no_devices = by_first (λ s x. x.owner ≡ Some Device → s < 4) (λ e. omega arith) (λ e. omega arith) (λ e. omega arith) (λ e. omega arith) (λ s e. cc);
+  free = null_free;
+  unused = by_first (λ s x. IsUnused x) (λ e. absurd (cc)) (λ e. absurd (cc)) (λ e. absurd (cc)) (λ e. absurd (cc)) (λ s e. refl);
 }
 
 -- What holds while the images' processes are made, of which those below i are: they are suspended, and the null process runs.
@@ -121,7 +128,7 @@ next_made i image stack s m z w =
     let t = s.tables in
     let x = image_process i image stack.top in
     let e = m.current in
-    let c : CanMove t i x None Nowhere = record { within = w; place_of = (refl, refl, refl); if_current = λ f. cc; if_null = λ f. absurd (omega arith); fits = tt; slot = tt } in
+    let c : CanMove t i x None Nowhere = record { within = w; place_of = (refl, refl, refl); if_current = λ f. cc; if_null = λ f. absurd (omega arith); fits = tt; slot = tt; if_free = λ f. absurd (cc) } in
     let k = sound_move t i x None Nowhere m.tables (λ f. omega arith) c in
     record {
       tables = record { inside = inside_last_process (move_to i x None Nowhere t) i k.inside; runs = k.runs };

@@ -1,5 +1,5 @@
 -- Processes that become ready one after another, waiters that are released, and signals keep what holds of the tables.
-use Rattle.std.proofs.Common.{◌≡◌, ◌≢◌, ◌⊎◌, ℕ, zero, suc, ◌+◌, ◌-◌, ◌<◌, ◌≤◌, ◌==◌, not, List, [], ◌∷◌, length, take, refl, sym, ap, subst, ◌∙◌, arith, inl, inr, ⊎_elim}
+use Rattle.std.proofs.Common.{◌≡◌, ◌≢◌, ◌⊎◌, ℕ, zero, suc, ◌+◌, ◌-◌, ◌<◌, ◌≤◌, ◌==◌, not, List, [], ◌∷◌, length, take, refl, sym, ap, subst, ◌∙◌, arith, inl, inr, ⊎_elim, None}
 use Rattle.std.specs.List.{AllByRecursion}
 use Rattle.std.proofs.lemmas.Bool.{cond_both, eq-eqb, cases_lt}
 use Rattle.std.proofs.lemmas.List.{take_all}
@@ -138,24 +138,24 @@ owner_emptied sem r d =
     (owner_ready (semaphore_at d.state.tables sem).waiters d.state.tables r)
 
 -- one signal, if these wait
-sound_signal_first : (sem : ℕ) (l : List ℕ) (d : CallState) → l ≡ (semaphore_at d.state.tables sem).waiters → IsSoundTables d.state.tables → sem < 128 → IsSoundTables (signal_first sem l d).state.tables
-sound_signal_first sem [] d e k w = sound_tokens d.state.tables sem ((semaphore_at d.state.tables sem).tokens + 1) k w (inr (sym e))
-sound_signal_first sem (p ∷ ps) d e k w =
+sound_signal_first : (sem : ℕ) (l : List ℕ) (d : CallState) → l ≡ (semaphore_at d.state.tables sem).waiters → IsSoundTables d.state.tables → sem < 128 → (semaphore_at d.state.tables sem).owner ≢ None → IsSoundTables (signal_first sem l d).state.tables
+sound_signal_first sem [] d e k w used = sound_tokens d.state.tables sem ((semaphore_at d.state.tables sem).tokens + 1) k w used (inr (sym e))
+sound_signal_first sem (p ∷ ps) d e k w used =
     sound_ready d.state.tables p k (can_be_ready_waiting d.state.tables p k.inside (waiter_waits d.state.tables sem p k.inside (subst (λ l. 0 < count_in p l) e (first_is_counted p ps))))
 
 -- the same inside an event
-inside_signal_first : (sem : ℕ) (l : List ℕ) (d : CallState) → l ≡ (semaphore_at d.state.tables sem).waiters → IsInside d.state.tables → sem < 128 → IsInside (signal_first sem l d).state.tables
-inside_signal_first sem [] d e o w = inside_tokens d.state.tables sem ((semaphore_at d.state.tables sem).tokens + 1) o w (inr (sym e))
-inside_signal_first sem (p ∷ ps) d e o w =
+inside_signal_first : (sem : ℕ) (l : List ℕ) (d : CallState) → l ≡ (semaphore_at d.state.tables sem).waiters → IsInside d.state.tables → sem < 128 → (semaphore_at d.state.tables sem).owner ≢ None → IsInside (signal_first sem l d).state.tables
+inside_signal_first sem [] d e o w used = inside_tokens d.state.tables sem ((semaphore_at d.state.tables sem).tokens + 1) o w used (inr (sym e))
+inside_signal_first sem (p ∷ ps) d e o w used =
     inside_ready d.state.tables p o (can_be_ready_waiting d.state.tables p o (waiter_waits d.state.tables sem p o (subst (λ l. 0 < count_in p l) e (first_is_counted p ps))))
 
 -- A semaphore is signalled.
-pub inside_signalled : (sem : ℕ) (d : CallState) → IsInside d.state.tables → sem < 128 → IsInside (signalled sem d).state.tables
-inside_signalled sem d o w = inside_signal_first sem (semaphore_at d.state.tables sem).waiters d refl o w
+pub inside_signalled : (sem : ℕ) (d : CallState) → IsInside d.state.tables → sem < 128 → (semaphore_at d.state.tables sem).owner ≢ None → IsInside (signalled sem d).state.tables
+inside_signalled sem d o w used = inside_signal_first sem (semaphore_at d.state.tables sem).waiters d refl o w used
 
 -- The current process goes on after that.
-pub sound_signalled : (sem : ℕ) (d : CallState) → IsSoundTables d.state.tables → sem < 128 → IsSoundTables (signalled sem d).state.tables
-sound_signalled sem d k w = sound_signal_first sem (semaphore_at d.state.tables sem).waiters d refl k w
+pub sound_signalled : (sem : ℕ) (d : CallState) → IsSoundTables d.state.tables → sem < 128 → (semaphore_at d.state.tables sem).owner ≢ None → IsSoundTables (signalled sem d).state.tables
+sound_signalled sem d k w used = sound_signal_first sem (semaphore_at d.state.tables sem).waiters d refl k w used
 
 -- after n signals a semaphore hasn't both tokens and waiters
 one_kind_signalled : (t : Tables) (sem n : ℕ) → IsInside t
@@ -170,11 +170,11 @@ one_kind_signalled t sem n o =
     (o.one_kind sem)
 
 -- The current process goes on after that.
-pub sound_signalled_times : (sem n : ℕ) (d : CallState) → IsSoundTables d.state.tables → sem < 128 → IsSoundTables (signalled_times sem n d).state.tables
-sound_signalled_times sem n d k w =
+pub sound_signalled_times : (sem n : ℕ) (d : CallState) → IsSoundTables d.state.tables → sem < 128 → (semaphore_at d.state.tables sem).owner ≢ None → IsSoundTables (signalled_times sem n d).state.tables
+sound_signalled_times sem n d k w used =
     let t = d.state.tables in
     let x = semaphore_at t sem in
     let ps = take n x.waiters in
     let tokens = x.tokens + (n - length x.waiters) in
     let u = sound_ready_all ps t k (all_take (CanBeReady t) n x.waiters (can_be_ready_waiters t sem k.inside)) in
-    subst (λ (y : Xinu). IsSoundTables (with_tokens sem tokens y.tables)) (sym (unblock_all_ready ps d)) (sound_tokens (ready_all ps t) sem tokens u w (one_kind_signalled t sem n k.inside))
+    subst (λ (y : Xinu). IsSoundTables (with_tokens sem tokens y.tables)) (sym (unblock_all_ready ps d)) (sound_tokens (ready_all ps t) sem tokens u w (λ e. used (sym (owner_ready ps t sem) ∙ e)) (one_kind_signalled t sem n k.inside))

@@ -108,7 +108,7 @@ freed_buffer_sound b d t k = by_holder (λ e. IsSoundTables e.state.tables) b d 
     let pool = pool_at pools i in
     let owned = k.owner i h.within in
     sound_signalled pool.semaphore (record d { state = record d.state { parts = record d.state.parts { pools = set pools i (with_free b pool) } } }) t
-    (semaphore_within d.state.tables pool.semaphore t.inside.semaphores (λ e. cc)))
+    (semaphore_within d.state.tables pool.semaphore t.inside.semaphores (λ e. cc)) (λ e. cc))
 
 -- Some are given back, one after another.
 module _ {f : Reach} (a : HasPools f) where

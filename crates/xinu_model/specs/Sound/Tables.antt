@@ -2,13 +2,14 @@
 use Rattle.std.specs.Prelude.{◌≡◌, ◌⊎◌, ℕ, suc, ◌+◌, ◌<◌, ◌≤◌, ◌==◌, Bool, cond, List, [], ◌∷◌, length, Option, Some, None, IsSome, ℤ, ◌≤ℤ◌}
 use Rattle.std.specs.List.{AllByRecursion}
 use Rattle.xinu_base.specs.Constants.{NPROC, NSEM}
+use Rattle.xinu_base.specs.declared.processes.Process.{Process}
 use Rattle.xinu_base.specs.declared.processes.Rest.{Rest}
 use Rattle.xinu_base.specs.declared.processes.Rest.TheVariants as rest
 use Rattle.xinu_base.specs.declared.processes.State.{State}
-use Rattle.xinu_base.specs.declared.processes.State.TheVariants.{Current, Ready, Receiving, Sleeping, Waiting, Timed}
+use Rattle.xinu_base.specs.declared.processes.State.TheVariants.{Free, Current, Ready, Receiving, Sleeping, Waiting, Timed}
 use Rattle.xinu_base.specs.declared.semaphores.Owner.{Owner}
 use Rattle.xinu_base.specs.declared.semaphores.Owner.TheVariants as owner
-use Rattle.xinu_model.specs.Tables.{Semaphore, Tables, process_at, state_at, message_at, semaphore_at}
+use Rattle.xinu_model.specs.Tables.{no_process, Semaphore, no_semaphore, Tables, process_at, state_at, message_at, semaphore_at}
 
 -- how many elements of a list pass a test
 abbrev pub times : {A : Type 0} → (A → Bool) → List A → ℕ
@@ -93,13 +94,21 @@ FitsMessage Timed left message = (left ≡ rest.Timed) × (message ≡ None)
 FitsMessage Sleeping left message = left ≡ rest.Nothing
 FitsMessage _ left message = HoldsFor left message
 
+-- a free entry of the process table holds what it held at the start, and no message
+abbrev pub IsFixed : Process → Option ℕ → Type 0
+IsFixed x message = x.state ≡ Free → (x ≡ no_process) × (message ≡ None)
+
+-- so does a semaphore that isn't in use
+abbrev pub IsUnused : Semaphore → Type 0
+IsUnused x = x.owner ≡ None → x ≡ no_semaphore
+
 -- What holds of the tables at each moment, also inside an event.
 --
 -- Each process is in just the place that its state names, once: in the ready list, among the waiters of one semaphore, among the
 -- sleepers, or nowhere. Only the current number can be in state current, and the null process can run. The ready list falls by
 -- key, the sleepers rise by wake tick and all wake later. No semaphore has both tokens and waiters, and what is left of a waiter's
 -- call is what the semaphore's owner calls for. A process that waits for a message holds none, and one that was sent it holds it.
--- The kernel's semaphores are 0 to 3.
+-- The kernel's semaphores are 0 to 3. What is free holds what it held at the start.
 pub record IsInside (t : Tables) : Type 0 where
   pub processes : length t.processes ≡ NPROC
   pub messages : length t.messages ≡ NPROC
@@ -118,6 +127,8 @@ pub record IsInside (t : Tables) : Type 0 where
   pub slots : (p : ℕ) → FitsMessage (state_at t p) (process_at t p).rest (message_at t p)
   pub devices : (sem : ℕ) → sem < 4 → (semaphore_at t sem).owner ≡ Some owner.Device
   pub no_devices : (sem : ℕ) → (semaphore_at t sem).owner ≡ Some owner.Device → sem < 4
+  pub free : (p : ℕ) → IsFixed (process_at t p) (message_at t p)
+  pub unused : (sem : ℕ) → IsUnused (semaphore_at t sem)
 
 -- Between two events the current process is in state current.
 pub record IsSoundTables (t : Tables) : Type 0 where

@@ -1,8 +1,11 @@
 use Rattle.xinu_laws.proofs.HeapCells.Taken.{grants_were_free as granted, stacks_were_free}
+use Rattle.xinu_laws.proofs.Ownership.Grants.{getmem_was_free, getstk_was_free}
 use Rattle.xinu_laws.proofs.memory.grants_were_free.Goals as goal
 
 pub returns : goal.returns
 returns c = record {
   memory = granted;
   stacks = stacks_were_free;
+  getmem = getmem_was_free;
+  getstk = getstk_was_free;
 }
