@@ -3,7 +3,7 @@ use Rattle.std.proofs.Common.{◌≡◌, ℕ, ◌+◌, Bool, true, false, not, L
 use Rattle.std.proofs.lemmas.Bool.{eqb-true}
 use Rattle.std.specs.List.{list_all}
 use Rattle.xinu_base.specs.declared.processes.Process.{Process}
-use Rattle.std.specs.Prelude.{slice_index, slice_set, if◌then◌else◌, ◌==◌, ◌||◌}
+use Rattle.std.specs.Prelude.{slice_set, if◌then◌else◌, ◌==◌, ◌||◌}
 use Rattle.xinu_base.specs.declared.lines.TranscriptLine.{TranscriptLine}
 use Rattle.xinu_base.specs.declared.lines.TranscriptLine.TheVariants as line
 use Rattle.xinu_base.specs.declared.registers.Cause.{Cause}
@@ -15,7 +15,7 @@ use Rattle.machine.specs.KernelViews.{state_of, IsKernel}
 use Rattle.machine.specs.declared.kernel.Kernel.TheInside.{Inside}
 use Rattle.machine.proofs.Deaths.{death}
 use Rattle.xinu_base.specs.Syscalls.{is_built}
-use Rattle.xinu_model.specs.Calls.{called, calls, effect_in}
+use Rattle.xinu_model.specs.Calls.{called, calls, call_of_number}
 use Rattle.xinu_model.specs.Events.{call_of, exit_call, reacted, stepped}
 use Rattle.xinu_model.specs.Isa.Exec.{Executed, exec}
 use Rattle.xinu_model.specs.Machine.{Xinu, EventResult, start, end_of_event, refused, returns}
@@ -43,7 +43,7 @@ called_answer number args s not_exit is_one = by_test (number == 1) refl
 
     by_test : (b : Bool) → (number == 1) ≡ b → called number args s ≡ returns (start s) (if b then pos 1 else negsuc 0)
     by_test true one = ap (λ (n : ℕ). called n args s) (eqb-true number 1 one) ∙ ap (λ (p : ℕ). returns (start s) (pos p)) is_one
-    by_test false other = ap (λ (b : Bool). if b then effect_in calls number (slice_index args) s else refused s) (not_built other)
+    by_test false other = ap (λ (b : Bool). if b then call_of_number number args s else refused s) (not_built other)
 
 -- The call `exit` is the caller's death.
 pub called_exit : (number : ℕ) (args : List ℕ) (s : Xinu) → number ≡ 9 → called number args s ≡ exit s

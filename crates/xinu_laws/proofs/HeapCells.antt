@@ -1,4 +1,5 @@
 -- The cells of the heap: rows of free ones, what a search finds, what is taken and freed.
+pub mod Extent
 pub mod Found
 pub mod Marked
 pub mod Refused

@@ -1,4 +1,4 @@
-pub mod Calm
+pub mod Frame
 pub mod HeapCells
 pub mod Lists
 pub mod Ownership
@@ -7,3 +7,4 @@ pub mod Ports
 pub mod Preserve
 pub mod Results
 pub mod Tables
+pub mod Touches

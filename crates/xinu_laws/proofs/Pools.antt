@@ -1,9 +1,10 @@
 -- What holds of the pools is kept.
 pub mod Buffers
 pub mod Calls
-pub mod Calm
 pub mod Change
+pub mod Frame
+pub mod Holders
 pub mod Made
-pub mod Others
 pub mod Preserve
+pub mod Start
 pub mod Steps

@@ -1,5 +1,4 @@
 -- What holds of the ports is kept.
-pub mod Calls
 pub mod Cleared
 pub mod Counts
 pub mod Deletions
@@ -13,4 +12,5 @@ pub mod Renewed
 pub mod Sends
 pub mod Signals
 pub mod Start
+pub mod Tickets
 pub mod Waits

@@ -1,12 +1,13 @@
 -- What holds of a call before its event is closed, and what the calls have in common.
 pub mod Calls
+pub mod Continued
 pub mod Events
 pub mod Memory
 pub mod Messages
 pub mod Processes
 pub mod Runs
 pub mod Semaphores
-pub mod Table
+pub mod Tokens
 use Rattle.std.proofs.Common.{◌≡◌, ◌≢◌, ℕ, zero, suc, ◌<◌, Bool, cond, length, refl, sym, subst, ◌∙◌, true, false, inl, Option, Some, None, ℤ}
 use Rattle.std.proofs.lemmas.Bool.{cond_both}
 use Rattle.xinu_base.specs.declared.processes.Rest.{Rest}
@@ -15,34 +16,16 @@ use Rattle.xinu_base.specs.declared.processes.State.{State}
 use Rattle.xinu_base.specs.declared.processes.State.TheVariants.{Waiting}
 use Rattle.xinu_base.specs.declared.semaphores.Owner.{Owner}
 use Rattle.xinu_base.specs.declared.semaphores.Owner.TheVariants as owner
+use Rattle.xinu_laws.specs.Moves.{CanMove, FitsPlace, IsPlaceOf}
 use Rattle.xinu_model.specs.Machine.{Xinu, Answer, Returns, Waits, Gone, Panics, Silent, CallResult, refused, blocked, goes_on}
+use Rattle.xinu_laws.specs.Preserve.{FitsAnswer, IsPreserved, MayCall}
 use Rattle.xinu_model.specs.Semaphores.Counts.{with_tokens}
 use Rattle.xinu_model.specs.Semaphores.Waiting.{take_token, await}
 use Rattle.xinu_model.specs.Semaphores.Calls.{answers}
 use Rattle.xinu_model.specs.Sound.Tables.{HoldsFor, FitsMessage, FitsOwner, IsForPort, IsInside, IsSoundTables}
 use Rattle.xinu_model.specs.Tables.{Tables, process_at, message_at, semaphore_at, Place, Nowhere, InSemaphore}
 use Rattle.xinu_laws.proofs.Tables.Changes.{sound_token_taken}
-use Rattle.xinu_laws.proofs.Tables.MoveTo.{within_table, state_move_same, CanMove, inside_move, FitsPlace}
-use Rattle.xinu_laws.proofs.Tables.Places.{IsPlaceOf}
-
--- the tables are sound if the caller goes on or the kernel panics, and else they are as at each moment
-abbrev pub FitsAnswer : Answer → Tables → Type 0
-FitsAnswer (Returns value) t = IsSoundTables t
-FitsAnswer Waits t = IsInside t
-FitsAnswer Gone t = IsInside t
-FitsAnswer Panics t = IsSoundTables t
-FitsAnswer Silent t = IsSoundTables t
-
--- What holds of a call before its event is closed.
-pub record IsPreserved (result : CallResult) : Type 0 where
-  pub tables : FitsAnswer result.answer result.call.state.tables
-  pub harts : length result.call.state.harts ≡ 64
-
--- What holds when a process calls: the state between two events, in which it isn't the null process that runs.
-pub record MayCall (s : Xinu) : Type 0 where
-  pub tables : IsSoundTables s.tables
-  pub harts : length s.harts ≡ 64
-  pub not_null : s.tables.current ≢ 0
+use Rattle.xinu_laws.proofs.Tables.MoveTo.{within_table, state_move_same, inside_move}
 
 -- a call that any process but the null process may make
 abbrev pub Preserves : (Xinu → CallResult) → Type 0

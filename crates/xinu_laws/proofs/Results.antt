@@ -1,4 +1,8 @@
 -- What calls answer and what examples print: refusals, signals, computed systems.
 pub mod Computed
+pub mod ComputedPorts
+pub mod Ecall
+pub mod RefusedEvents
 pub mod Refusals
 pub mod Signals
+pub mod Values

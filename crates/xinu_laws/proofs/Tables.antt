@@ -3,6 +3,7 @@ pub mod Changes
 pub mod Deaths
 pub mod Ends
 pub mod MoveTo
+pub mod Owners
 pub mod Places
 pub mod Scheduling
 pub mod Starts

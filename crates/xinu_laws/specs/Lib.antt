@@ -1,6 +1,11 @@
 pub mod Apart
 pub mod Examples
+pub mod Frame
 pub mod FreeCells
 pub mod GivingAway
+pub mod Grants
+pub mod Moves
+pub mod Preserve
 pub mod Refusals
 pub mod Repeated
+pub mod Touches

@@ -12,7 +12,8 @@ ghost use Rattle.xinu_laws.specs.Examples.Clock as clock_examples;
 ghost use Rattle.xinu_laws.specs.Examples.Pools as pool_examples;
 ghost use Rattle.xinu_laws.specs.Examples.Ports as port_examples;
 ghost use Rattle.xinu_laws.specs.Examples.Played.{outcome_of, last_tables, printed};
-ghost use Rattle.xinu_model.specs.Text.{pool_lines, port_lines, sleeper_line};
+ghost use Rattle.xinu_model.specs.Memory.{number_at};
+ghost use Rattle.xinu_model.specs.Text.{pool_lines, port_lines, semaphore_lines, sleeper_line};
 
 /// Processes: turns, a preemption, a process that suspends itself, refusals, a full table.
 pub fn processes()
@@ -68,4 +69,36 @@ pub fn ports()
     ensures all_ports { printed port_examples.all_ports ≡ port_examples.all_ports_lines }
     ensures panics { (outcome_of port_examples.panic).panicked ≡ true }
     ensures buffers_through_a_port_tables { pool_lines 0 (outcome_of port_examples.buffers_through_a_port).state.parts.pools ++ port_lines 0 (outcome_of port_examples.buffers_through_a_port).state.parts.ports ≡ port_examples.buffers_through_a_port_tables }
+{}
+
+/// A message that is sent to a process that suspended itself.
+pub fn kept_messages()
+    ensures kept_message { printed message_examples.kept_message ≡ message_examples.kept_message_lines }
+{}
+
+/// Buffers: which one comes next, the number before it, the greatest pools.
+pub fn buffers()
+    ensures freed_last_first { printed pool_examples.freed_last_first ≡ pool_examples.freed_last_first_lines }
+    ensures greatest_pools { printed pool_examples.greatest_pools ≡ pool_examples.greatest_pools_lines }
+    ensures greatest_buffers { printed pool_examples.greatest_buffers ≡ pool_examples.greatest_buffers_lines }
+    ensures freed_last_first_number { number_at (outcome_of pool_examples.freed_last_first).state.memory 4112 4 ≡ 1 }
+{}
+
+/// Ports: in which order messages leave, and in which order callers go on.
+pub fn port_orders()
+    ensures through_a_port { printed port_examples.through_a_port ≡ port_examples.through_a_port_lines }
+    ensures messages_in_order { printed port_examples.messages_in_order ≡ port_examples.messages_in_order_lines }
+    ensures order_at_a_delete { printed port_examples.order_at_a_delete ≡ port_examples.order_at_a_delete_lines }
+    ensures receivers_after_senders { printed port_examples.receivers_after_senders ≡ port_examples.receivers_after_senders_lines }
+    ensures stale_while_full { printed port_examples.stale_while_full ≡ port_examples.stale_while_full_lines }
+    ensures messages_in_order_ports { port_lines 0 (outcome_of port_examples.messages_in_order).state.parts.ports ≡ port_examples.messages_in_order_ports }
+{}
+
+/// Ports: which numbers ports and their semaphores get, and a port's room after a reset.
+pub fn port_numbers()
+    ensures whose_semaphores { printed port_examples.whose_semaphores ≡ port_examples.whose_semaphores_lines }
+    ensures search_moves { printed port_examples.search_moves ≡ port_examples.search_moves_lines }
+    ensures ports_go_round { printed port_examples.ports_go_round ≡ port_examples.ports_go_round_lines }
+    ensures reset_gives_room { printed port_examples.reset_gives_room ≡ port_examples.reset_gives_room_lines }
+    ensures whose_semaphores_semaphores { semaphore_lines 0 (outcome_of port_examples.whose_semaphores).state.tables.semaphores ≡ port_examples.whose_semaphores_semaphores }
 {}

@@ -4,7 +4,10 @@
 #![tactic(auto)]
 
 pub mod examples;
+pub mod footprints;
 pub mod memory;
+pub mod moments;
+pub mod moves;
 pub mod replies;
 pub mod sharing;
 pub mod signals;

@@ -7,6 +7,7 @@ ghost use Rattle.xinu_laws.specs.Apart.{is_in_free};
 ghost use Rattle.xinu_model.specs.Events.{Happens};
 ghost use Rattle.xinu_laws.specs.FreeCells.{IsLeast, IsGreatest, BeginNowhere};
 ghost use Rattle.xinu_model.specs.Heap.Cells.{Heap, Grant, Stack, cells_for, lowest_free, highest_free, take_memory, take_stack};
+ghost use Rattle.xinu_model.specs.Sound.State.{IsSound};
 ghost use Rattle.xinu_model.specs.Machine.{Xinu, refused};
 
 /// Memory comes from the least start at which there are enough free cells in a row, and a stack from the greatest.
@@ -29,5 +30,5 @@ pub fn heap_refuses_rightly()
 
 /// No event moves the heap or changes its size.
 pub fn heap_keeps_its_extent()
-    ensures { (old : Xinu) (e : Event) (lines : List TranscriptLine) (new : Xinu) → Happens old e lines new → (new.parts.heap.low ≡ old.parts.heap.low) × (length new.parts.heap.cells ≡ length old.parts.heap.cells) }
+    ensures { (old : Xinu) (e : Event) (lines : List TranscriptLine) (new : Xinu) → IsSound old → Happens old e lines new → (new.parts.heap.low ≡ old.parts.heap.low) × (length new.parts.heap.cells ≡ length old.parts.heap.cells) }
 {}

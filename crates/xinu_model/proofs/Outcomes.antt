@@ -13,6 +13,7 @@ use Rattle.xinu_model.specs.Clock.{wakeup, quantum_falls, a_tick_later}
 use Rattle.xinu_model.specs.Events.{reacted, is_done, instruction_step, stepped, effect_of, panics_in, Happens, with_executed}
 use Rattle.xinu_model.specs.Isa.Exec.{exec}
 use Rattle.xinu_model.specs.Machine.{Xinu, EventResult, current_hart, nothing_happens, return_line, switched, end_of_event, replies_of, closed}
+use Rattle.xinu_model.specs.Sound.State.{IsSound}
 use Rattle.xinu_model.specs.Tables.{process_at}
 
 -- an outcome is what the event does if no file call takes effect
@@ -77,5 +78,6 @@ agree old e = record {
 }
 
 -- One text has one outcome, whatever follows it.
-pub texts_agree : (old : Xinu) (e : Event) (lines others : List TranscriptLine) (new other : Xinu) (more rest : List TranscriptLine) → Happens old e lines new → Happens old e others other → lines ++ more ≡ others ++ rest → (lines ≡ others) × (new ≡ other)
-texts_agree old e lines others new other more rest h k same = one_outcome old e lines others new other h k
+pub texts_agree : (old : Xinu) (e : Event) (lines others : List TranscriptLine) (new other : Xinu) (more rest : List TranscriptLine)
+    → IsSound old → begins_next more ≡ false → begins_next rest ≡ false → Happens old e lines new → Happens old e others other → lines ++ more ≡ others ++ rest → (lines ≡ others) × (new ≡ other)
+texts_agree old e lines others new other more rest sound a b h k same = one_outcome old e lines others new other h k

@@ -3,6 +3,7 @@ pub mod Boot
 pub mod Calls
 pub mod Clock
 pub mod Events
+pub mod Footprints
 pub mod Heap
 pub mod Isa
 pub mod Machine
@@ -11,6 +12,7 @@ pub mod Messages
 pub mod Pools
 pub mod Ports
 pub mod Process
+pub mod Rows
 pub mod Runs
 pub mod Searches
 pub mod Semaphores

@@ -49,3 +49,9 @@ times_set test (y ∷ l) (suc i) x d e =
     let was = times_first test y l in
     let is = times_first test y (set l i x) in
     omega arith
+
+-- what is written twice at a place is what was written last
+pub set_twice : {A : Type 0} (l : List A) (i : ℕ) (x y : A) → set (set l i x) i y ≡ set l i y
+set_twice [] i x y = refl
+set_twice (a ∷ l) zero x y = refl
+set_twice (a ∷ l) (suc i) x y = ap (λ m. a ∷ m) (set_twice l i x y)

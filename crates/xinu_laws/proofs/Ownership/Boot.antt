@@ -1,16 +1,18 @@
 -- When the machine starts, each address is claimed at most once.
-use Rattle.std.proofs.Common.{◌≡◌, ℕ, zero, suc, ◌+◌, List, [], ◌∷◌, get_or, Option, Some, None, refl, ap, subst, ◌∙◌, arith, inl}
+use Rattle.std.proofs.Common.{◌≡◌, ℕ, false, zero, suc, ◌+◌, List, [], ◌∷◌, get_or, Option, Some, None, refl, ap, subst, arith, inl}
 use Rattle.std.specs.Prelude.{replicate}
 use Rattle.xinu_laws.specs.Apart.{is_in_free, is_in_stack, IsApart}
-use Rattle.xinu_model.specs.Boot.{Loaded, first_overlap, fresh_heap, null_process, loaded_machine, image_process, with_image, all_ready, Start, Boots, Overlaps, NoRoom, and_then, where_stack, all_made, all_started, unless_overlap, boot}
+use Rattle.xinu_model.specs.Boot.{Loaded, first_overlap, fresh_heap, null_process, loaded_machine, image_process, with_image, Start, Boots, Overlaps, NoRoom, and_then, where_stack, all_made, all_started, unless_overlap, boot}
 use Rattle.xinu_model.specs.Heap.Cells.{Stack, take_stack}
 use Rattle.xinu_model.specs.Machine.{Xinu}
-use Rattle.xinu_model.specs.Process.Scheduling.{resched, ready}
 use Rattle.xinu_model.specs.Process.Creation.{stack_size, new_hart}
 use Rattle.xinu_model.specs.Sound.Tables.{times}
-use Rattle.xinu_model.specs.Tables.{no_process, Tables}
+use Rattle.xinu_model.specs.Tables.{no_process}
 use Rattle.xinu_laws.proofs.Ownership.Claims.{apart_kept, empty_stack, one_at_most}
-use Rattle.xinu_laws.proofs.Ownership.Kept.{stacks_of, KeepsPlaces, kept_tables, stacks_ready, stacks_resched}
+use Rattle.xinu_model.specs.Footprints.{on_tables}
+use Rattle.xinu_laws.specs.Touches.{Reach, KeepsPlaces, Touches}
+use Rattle.xinu_laws.proofs.Touches.Boot.{touches_all_started}
+use Rattle.xinu_laws.proofs.Touches.Kept.{keeps_places}
 use Rattle.xinu_laws.proofs.Lists.Maps.{one, times_first, times_none}
 use Rattle.xinu_laws.proofs.Ownership.Processes.{apart_made}
 
@@ -68,15 +70,14 @@ apart_all_made (image ∷ images) i s apart =
     let found = take_stack (stack_size image.stack) s.parts.heap in
     apart_then (where_stack found i image s) (λ x. all_made (i + 1) images x) (apart_where_stack found i image s refl apart) (λ x made. apart_all_made images (i + 1) x made)
 
--- processes that become ready keep their stacks
-stacks_all_ready : (images : List Loaded) (i : ℕ) (t : Tables) → stacks_of (all_ready i images t) ≡ stacks_of t
-stacks_all_ready [] i t = refl
-stacks_all_ready (image ∷ images) i t = stacks_all_ready images (i + 1) (ready i t) ∙ stacks_ready i t
+-- anything but the places may change
+abbrev beside_places : Reach
+beside_places = record { mine = λ sem by. false; asks = λ left. false; parts = on_tables }
 
 -- the processes of the images become ready
 kept_all_started : (images : List Loaded) (s : Xinu) → KeepsPlaces s (all_started images s)
 kept_all_started images s =
-    kept_tables s (resched (all_ready 1 images s.tables)) (stacks_resched (all_ready 1 images s.tables) ∙ stacks_all_ready images 1 s.tables)
+    let touches : Touches beside_places s (all_started images s) = touches_all_started images s (λ p. record { idle = λ e. absurd (cc) }) in keeps_places touches refl refl refl
 
 -- the machine starts if no image overlaps an earlier one
 apart_unless_overlap : (overlaps : Option ℕ) (images : List Loaded) → StartsApart (unless_overlap overlaps images)

@@ -9,7 +9,7 @@ use Rattle.xinu_model.specs.Machine.{Xinu}
 use Rattle.xinu_model.specs.Pools.Buffers.{Pool, pool_bytes}
 use Rattle.xinu_model.specs.Sound.Tables.{times}
 use Rattle.xinu_model.specs.Tables.{no_process, Tables, process_at}
-use Rattle.xinu_laws.proofs.Ownership.Kept.{stack_of, stacks_of, range_of, KeepsPlaces}
+use Rattle.xinu_laws.specs.Touches.{stack_of, stacks_of, range_of, KeepsPlaces}
 use Rattle.xinu_laws.proofs.Lists.Maps.{one, times-map, get_or_seen}
 use Rattle.xinu_laws.proofs.HeapCells.Marked.{AreMarked, free_inside, free_outside}
 
@@ -38,11 +38,11 @@ holders_by_places s a =
     ap (λ n. n + times (in_stack a) (stacks_of s.tables)) pools ∙ ap (λ n. times (is_in_pool a) s.parts.pools + n) stacks
 
 -- If the places stay as they are, so do the claims.
-pub holders_kept : {s u : Xinu} → KeepsPlaces s u → (a : ℕ) → holders u a ≡ holders s a
-holders_kept {s} {u} k a =
+pub holders_kept : (s u : Xinu) → map range_of u.parts.pools ≡ map range_of s.parts.pools → stacks_of u.tables ≡ stacks_of s.tables → (a : ℕ) → holders u a ≡ holders s a
+holders_kept s u ranges stacks a =
     sym (holders_by_places u a)
-    ∙ ap (λ l. times (in_range a) l + times (in_stack a) (stacks_of u.tables)) k.ranges
-    ∙ ap (λ l. times (in_range a) (map range_of s.parts.pools) + times (in_stack a) l) k.stacks
+    ∙ ap (λ l. times (in_range a) l + times (in_stack a) (stacks_of u.tables)) ranges
+    ∙ ap (λ l. times (in_range a) (map range_of s.parts.pools) + times (in_stack a) l) stacks
     ∙ holders_by_places s a
 
 -- If the places stay as they are, no address is claimed twice.
@@ -53,7 +53,7 @@ apart_kept {s} {u} k apart = record {
       let same = stack_at s.tables p ∙ ap (λ l. get_or l p (0, 0)) (sym k.stacks) ∙ sym (stack_at u.tables p) in
       subst (IsStackIn u.parts.heap) same (subst (λ h. IsStackIn h (stack_of (process_at s.tables p))) (sym k.heap) (apart.stacks p));
   claims = λ a.
-      let held = holders_kept k a in
+      let held = holders_kept s u k.ranges k.stacks a in
       let free = ap (λ h. one (is_in_free a h)) k.heap in
       let few = apart.claims a in
       omega arith;

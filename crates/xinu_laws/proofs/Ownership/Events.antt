@@ -1,6 +1,5 @@
 -- Each event keeps each address claimed at most once, unless it gives away what is held.
-use Rattle.std.proofs.Common.{◌≡◌, ◌≢◌, ℕ, ◌+◌, ◌-◌, ◌<◌, ◌≤◌, ◌==◌, Bool, true, ◌||◌, cond, List, [], ◌∷◌, refl, sym, ap, subst, ◌∙◌, arith, ⊎_elim, get_or-set_same}
-use Rattle.std.specs.Prelude.{nat_lt}
+use Rattle.std.proofs.Common.{◌≡◌, ◌≢◌, ℕ, ◌<◌, ◌≤◌, ◌==◌, true, false, cond, List, [], ◌∷◌, refl, sym, ap, subst, ◌∙◌, arith, ⊎_elim, get_or-set_same}
 use Rattle.std.proofs.lemmas.Bool.{cond_both, cases_lt, eqb-false}
 use Rattle.xinu_base.specs.declared.events.Event.{Event}
 use Rattle.xinu_base.specs.declared.events.Event.TheVariants.{Step, Tick}
@@ -12,50 +11,46 @@ use Rattle.xinu_base.specs.declared.registers.Outcome.{Outcome}
 use Rattle.xinu_base.specs.declared.registers.Outcome.TheVariants as outcome
 use Rattle.xinu_laws.specs.Apart.{holders, IsApart}
 use Rattle.xinu_model.specs.Calls.{called, continued}
-use Rattle.xinu_model.specs.Clock.{due, quantum_falls, wakeup, a_tick_later, ticked}
+use Rattle.xinu_model.specs.Clock.{ticked}
 use Rattle.xinu_model.specs.Events.{call_of, call_line, exit_call, with_executed, reacted, instruction_step, is_done, stepped, effect_of, Happens}
 use Rattle.xinu_laws.specs.GivingAway.{next, gives_back, GivesAway}
-use Rattle.xinu_model.specs.Machine.{Xinu, no_hart, current_hart, CallResult, start, is_off, closed, EventResult, nothing_happens, end_of_event}
-use Rattle.xinu_model.specs.Process.Scheduling.{resched}
+use Rattle.xinu_model.specs.Machine.{Xinu, no_hart, current_hart, CallResult, EventResult, nothing_happens, end_of_event}
 use Rattle.xinu_model.specs.Process.Death.{exit}
 use Rattle.xinu_model.specs.Sound.State.{IsSound}
-use Rattle.xinu_model.specs.Tables.{Tables, process_at}
+use Rattle.xinu_model.specs.Tables.{process_at}
 use Rattle.xinu_laws.proofs.Ownership.Claims.{apart_kept}
-use Rattle.xinu_laws.proofs.Ownership.Doings.{kept_unblock_all}
-use Rattle.xinu_laws.proofs.Ownership.Kept.{stacks_of, KeepsPlaces, kept_then, stacks_resched}
 use Rattle.xinu_laws.proofs.Ownership.Memory.{FreesNothingHeld}
 use Rattle.xinu_laws.proofs.Ownership.Processes.{apart_exit}
-use Rattle.xinu_laws.proofs.Ownership.Table.{called_apart, kept_continued}
+use Rattle.xinu_model.specs.Footprints.{on_tables}
+use Rattle.xinu_laws.specs.Preserve.{MayCallAny, KeepsAll}
+use Rattle.xinu_laws.specs.Touches.{reach, touched_by, KeepsPlaces, Touches}
+use Rattle.xinu_laws.proofs.Ownership.Table.{names_places, places_stay, called_apart}
+use Rattle.xinu_laws.proofs.Preserve.Calls.{sound_where_called, inside_preserved, called_keeps, exit_keeps, continued_keeps}
+use Rattle.xinu_laws.proofs.Preserve.Events.{may_call, may_call_after}
+use Rattle.xinu_laws.proofs.Touches.Continued.{continued_touches}
+use Rattle.xinu_laws.proofs.Touches.Events.{touches_end_of_event, touches_ticked}
+use Rattle.xinu_laws.proofs.Touches.Kept.{keeps_places}
 use Rattle.xinu_laws.proofs.Preserve.{current_within}
 
--- the one resched of an event leaves the stacks as they are
-stacks_closed : (result : CallResult) → stacks_of (closed result) ≡ stacks_of result.call.state.tables
-stacks_closed result =
-    let t = result.call.state.tables in
-    cond_both (result.call.owes_resched || is_off result.answer) (resched t) t (λ u. stacks_of u ≡ stacks_of t) (λ _. stacks_resched t) (λ _. refl)
-
 -- The end of an event leaves the places as they are.
-pub kept_end_of_event : (was : ℕ) (first : List TranscriptLine) (result : CallResult) → KeepsPlaces result.call.state (end_of_event was first result).state
-kept_end_of_event was first result = record { heap = refl; ranges = refl; stacks = stacks_closed result }
+pub kept_end_of_event : (was : ℕ) (first : List TranscriptLine) (result : CallResult) → KeepsAll result → KeepsPlaces result.call.state (end_of_event was first result).state
+kept_end_of_event was first result k =
+    let touches : Touches (reach on_tables) result.call.state (end_of_event was first result).state = touches_end_of_event was first result (inside_preserved result k.preserved) in
+    keeps_places touches refl refl refl
 
--- a quantum that falls leaves the stacks as they are
-stacks_quantum : (t : Tables) → stacks_of (quantum_falls t) ≡ stacks_of t
-stacks_quantum t =
-    cond_both (nat_lt 1 t.quantum) (record t { quantum = t.quantum - 1 }) (resched (record t { quantum = 2 })) (λ u. stacks_of u ≡ stacks_of t)
-    (λ _. refl) (λ _. stacks_resched (record t { quantum = 2 }))
+-- So does a tick,
+kept_ticked : (s : Xinu) → IsSound s → KeepsPlaces s (ticked s).state
+kept_ticked s sound = let touches : Touches (reach on_tables) s (ticked s).state = touches_ticked s sound.tables in keeps_places touches refl refl refl
 
--- and so does a tick that is counted
-stacks_later : (owes : Bool) (t : Tables) → stacks_of (a_tick_later owes t) ≡ stacks_of t
-stacks_later owes t =
-    let later = record t { ticks = t.ticks + 1 } in
-    cond_both owes (resched later) later (λ u. stacks_of u ≡ stacks_of t) (λ _. stacks_resched later) (λ _. refl)
+-- and a call that goes on.
+places_spared : (left : Rest) → names_places (touched_by left) ≡ false
+places_spared (rest.GetBuf i) = refl
+places_spared (rest.PtSend ticket message) = refl
+places_spared (rest.PtRecv ticket) = refl
+places_spared _ = refl
 
--- A tick leaves the places as they are.
-pub kept_ticked : (s : Xinu) → KeepsPlaces s (ticked s).state
-kept_ticked s =
-    let d = wakeup s in
-    let last : KeepsPlaces d.state (ticked s).state = record { heap = refl; ranges = refl; stacks = stacks_quantum (a_tick_later d.owes_resched d.state.tables) ∙ stacks_later d.owes_resched d.state.tables } in
-    kept_then (kept_unblock_all (due (s.tables.ticks + 1) s.tables.sleepers) (start s)) last
+kept_continued : (left : Rest) (s : Xinu) → IsSound s → KeepsPlaces s (continued left s).call.state
+kept_continued left s sound = places_stay (touched_by left) s (continued left s).call.state (places_spared left) (continued_touches left s sound)
 
 -- after an instruction the current process has the registers that it left
 pub hart_after : (s : Xinu) → IsSound s → current_hart (with_executed (next s) s) ≡ (next s).hart
@@ -89,6 +84,10 @@ none_held old last sound runs idle call nothing gives a free taken =
 kept_executed : (s : Xinu) → KeepsPlaces s (with_executed (next s) s)
 kept_executed s = record { heap = refl; ranges = refl; stacks = refl }
 
+-- a process may call after an instruction
+may_call_next : (old : Xinu) → IsSound old → old.tables.current ≢ 0 → MayCallAny (with_executed (next old) old)
+may_call_next old sound runs = may_call_after (next old) old (may_call old sound runs)
+
 -- What comes of an instruction.
 pub apart_reacted : (o : Outcome) (old : Xinu) → (next old).outcome ≡ o → IsSound old → IsApart old → old.tables.current ≢ 0 → (process_at old.tables old.tables.current).rest ≡ rest.Nothing
     → (GivesAway old Step (reacted o (with_executed (next old) old)).state → ⊥) → IsApart (reacted o (with_executed (next old) old)).state
@@ -97,14 +96,15 @@ apart_reacted outcome.Call old call sound apart runs idle nothing =
     let s = with_executed (next old) old in
     let asked = call_of (current_hart s) in
     let result = called asked.number asked.args s in
-    apart_kept (kept_end_of_event old.tables.current (call_line s asked ∷ []) result)
-    (called_apart asked.number asked.args s (apart_kept (kept_executed old) apart) (none_held old (call_line s asked ∷ []) sound runs idle call nothing))
+    let may = may_call_next old sound runs in
+    apart_kept (kept_end_of_event old.tables.current (call_line s asked ∷ []) result (called_keeps asked.number asked.args s may))
+    (called_apart asked.number asked.args s (sound_where_called s may) (apart_kept (kept_executed old) apart) (none_held old (call_line s asked ∷ []) sound runs idle call nothing))
 apart_reacted outcome.Exit old call sound apart runs idle nothing =
     let s = with_executed (next old) old in
-    apart_kept (kept_end_of_event old.tables.current (call_line s (exit_call (current_hart s)) ∷ []) (exit s)) (apart_exit s (apart_kept (kept_executed old) apart))
+    apart_kept (kept_end_of_event old.tables.current (call_line s (exit_call (current_hart s)) ∷ []) (exit s) (exit_keeps s (may_call_next old sound runs))) (apart_exit s (apart_kept (kept_executed old) apart))
 apart_reacted (outcome.Trap cause) old call sound apart runs idle nothing =
     let s = with_executed (next old) old in
-    apart_kept (kept_end_of_event old.tables.current (line.Trap old.tables.current cause ∷ []) (exit s)) (apart_exit s (apart_kept (kept_executed old) apart))
+    apart_kept (kept_end_of_event old.tables.current (line.Trap old.tables.current cause ∷ []) (exit s) (exit_keeps s (may_call_next old sound runs))) (apart_exit s (apart_kept (kept_executed old) apart))
 
 -- nothing is left of a call that is done
 done_rest : (left : Rest) → is_done left ≡ true → left ≡ rest.Nothing
@@ -130,12 +130,12 @@ apart_stepped s sound apart =
     (λ _ _. apart)
     (λ b. cond_both (is_done left) (instruction_step s) goes_on (λ (e : EventResult). (GivesAway s Step e.state → ⊥) → IsApart e.state)
     (λ idle. apart_reacted (next s).outcome s refl sound apart (eqb-false s.tables.current 0 b) (done_rest left idle))
-    (λ _ _. apart_kept (kept_end_of_event s.tables.current [] (continued left s)) (apart_kept (kept_continued left s) apart)))
+    (λ _ _. apart_kept (kept_end_of_event s.tables.current [] (continued left s) (continued_keeps s (may_call s sound (eqb-false s.tables.current 0 b)))) (apart_kept (kept_continued left s sound) apart)))
 
 -- What an event leaves, whatever is chosen in it.
 pub apart_effect : (s : Xinu) (e : Event) (choice : ℕ) → IsSound s → IsApart s → (GivesAway s e (effect_of s e choice).state → ⊥) → IsApart (effect_of s e choice).state
 apart_effect s Step choice sound apart = apart_stepped s sound apart
-apart_effect s Tick choice sound apart = λ _. apart_kept (kept_ticked s) apart
+apart_effect s Tick choice sound apart = λ _. apart_kept (kept_ticked s sound) apart
 apart_effect s _ choice sound apart = λ _. apart
 
 -- Each event keeps each address claimed at most once, unless it gives away what is held.

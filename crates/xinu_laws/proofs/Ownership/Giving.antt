@@ -1,69 +1,67 @@
 -- An event that gives away what is held leaves an address claimed twice: so just those events have to be excepted.
-use Rattle.std.proofs.Common.{◌≡◌, ℕ, ◌==◌, false, true, cond, List, [], ◌∷◌, Option, Some, None, refl, sym, ap, subst, ◌∙◌, arith}
-use Rattle.std.specs.Prelude.{slice_index}
-use Rattle.std.specs.List.{AllByRecursion}
-use Rattle.std.proofs.lemmas.Bool.{false≢true, cond_both, cond-true, cond-false, eqb-true, ne_eqb}
+use Rattle.std.proofs.Common.{◌≡◌, ℕ, ◌==◌, ◌&&◌, ◌||◌, Bool, false, true, not, cond, List, [], ◌∷◌, Option, Some, None, refl, sym, ap, subst, ◌∙◌, arith}
+use Rattle.std.specs.List.{list_all}
+use Rattle.std.proofs.lemmas.Bool.{cond_both, cond-true, cond-false, ne_eqb}
 use Rattle.xinu_base.specs.Syscalls.{is_built}
 use Rattle.xinu_base.specs.declared.events.Event.{Event}
 use Rattle.xinu_base.specs.declared.lines.TranscriptLine.{TranscriptLine}
 use Rattle.xinu_laws.specs.Apart.{holders, IsApart}
-use Rattle.xinu_model.specs.Calls.{CallRow, calls, effect_in, called, continued}
+use Rattle.xinu_model.specs.Calls.{calls, call_of_number, called, continued}
 use Rattle.xinu_model.specs.Events.{call_of, call_line, with_executed, reacted, instruction_step, is_done, stepped, effect_of, Happens}
 use Rattle.xinu_laws.specs.GivingAway.{next, gives_back, GivesAway}
-use Rattle.xinu_model.specs.Heap.Cells as heap
-use Rattle.xinu_model.specs.Heap.Cells.{Heap}
+use Rattle.xinu_model.specs.Footprints.{Footprint}
 use Rattle.xinu_model.specs.Machine.{Xinu, current_hart, CallResult, refused, EventResult, nothing_happens, end_of_event}
-use Rattle.xinu_model.specs.Heap.Calls.{given_back}
+use Rattle.xinu_model.specs.Rows.{CallRow, found_in, done_by}
+use Rattle.xinu_laws.specs.Touches.{reach, Touches}
 use Rattle.xinu_model.specs.Sound.State.{IsSound}
 use Rattle.xinu_model.specs.Tables.{process_at}
 use Rattle.xinu_laws.proofs.Ownership.Claims.{holders_kept}
 use Rattle.xinu_laws.proofs.Ownership.Events.{hart_after, kept_end_of_event}
 use Rattle.xinu_laws.proofs.Lists.Maps.{one}
-use Rattle.xinu_laws.proofs.Lists.RowByRow.{◌⨾◌}
+use Rattle.xinu_laws.proofs.Lists.CallRows.{of_row, number_of_row, all_rows}
+use Rattle.xinu_laws.proofs.Preserve.Calls.{sound_where_called, called_keeps}
+use Rattle.xinu_laws.proofs.Preserve.Events.{may_call, may_call_after}
+use Rattle.xinu_laws.proofs.Touches.Table.{call_touches}
 
 -- pools and stacks have the addresses that they had
 abbrev KeepsHolders : Xinu → Xinu → Type 0
 KeepsHolders s u = (a : ℕ) → holders u a ≡ holders s a
 
--- memory that is given back changes no pool and no stack
-holders_given_back : (found : Option Heap) (s : Xinu) → KeepsHolders s (given_back found s).call.state
-holders_given_back None s a = refl
-holders_given_back (Some u) s a = refl
+-- whether a footprint names stacks or ranges
+abbrev names_holders : Footprint → Bool
+names_holders f = f.stacks || f.ranges
 
--- a call that gives memory back changes no pool and no stack
-abbrev HoldersStay : CallRow → Type 0
-HoldersStay call = gives_back call.number ≡ true → (args : ℕ → ℕ) (s : Xinu) → KeepsHolders s (call.effect args s).call.state
-
--- a call of another number
-other : {A : Type 0} → false ≡ true → A
-other g = absurd (false≢true g)
-
--- the calls of the table
-effects_holders : AllByRecursion HoldersStay calls
+-- No call that gives memory back may touch stacks or the pools' ranges.
+giving_calls_spare : list_all (λ r. not (gives_back r.syscall.number && names_holders r.touches)) calls ≡ true
 unfolding calls
-effects_holders =
-    other ⨾ other ⨾ other ⨾ other ⨾ other ⨾ other ⨾ other ⨾ other ⨾ other ⨾ other ⨾
-    (λ g args s. holders_given_back (heap.free_memory (args 0) (args 1) s.parts.heap) s) ⨾
-    other ⨾
-    (λ g args s. holders_given_back (heap.free_stack (args 0) (args 1) s.parts.heap) s) ⨾
-    other ⨾ other ⨾ other ⨾ other ⨾ other ⨾ other ⨾ other ⨾ other ⨾ other ⨾ other ⨾ other ⨾
-    other ⨾ other ⨾ other ⨾ other ⨾ other ⨾ other ⨾ other ⨾ other ⨾ other ⨾ other ⨾ other ⨾
-    tt
+giving_calls_spare = refl
 
--- what a table of such calls does
-holders_effect : (calls : List CallRow) → AllByRecursion HoldersStay calls → (number : ℕ) → gives_back number ≡ true → (args : ℕ → ℕ) (s : Xinu) → KeepsHolders s (effect_in calls number args s).call.state
-holders_effect [] all number g args s = λ a. refl
-holders_effect (call ∷ calls) all number g args s =
-    cond_both (number == call.number) (call.effect args s) (effect_in calls number args s) (λ (h : CallResult). KeepsHolders s h.call.state)
-    (λ b. all.0 (sym (ap gives_back (eqb-true number call.number b)) ∙ g) args s)
-    (λ _. holders_effect calls all.1 number g args s)
+-- so neither of a row with such a number
+spared : (g st ra : Bool) → g ≡ true → not (g && (st || ra)) ≡ true → (st ≡ false) × (ra ≡ false)
+spared true false false h e = (refl, refl)
+spared true true ra h e = cc
+spared true false true h e = cc
+spared false st ra h e = cc
 
 -- a call of such a number
-holders_called : (number : ℕ) (args : List ℕ) (s : Xinu) → gives_back number ≡ true → KeepsHolders s (called number args s).call.state
-holders_called number args s g =
-    cond_both (is_built number) (effect_in calls number (slice_index args) s) (refused s) (λ (h : CallResult). KeepsHolders s h.call.state)
-    (λ _. holders_effect calls effects_holders number g (slice_index args) s)
-    (λ _ a. refl)
+holders_call : (number : ℕ) (args : List ℕ) (s : Xinu) → IsSound s → gives_back number ≡ true
+    → KeepsHolders s (call_of_number number args s).call.state
+holders_call number args s k g = by_row (found_in calls number) refl
+  where
+    by_row : (found : Option CallRow) → found_in calls number ≡ found → KeepsHolders s (done_by found args s).call.state
+    by_row None e = λ a. refl
+    by_row (Some r) e =
+        let f = r.touches in
+        let h = spared (gives_back r.syscall.number) f.stacks f.ranges (ap gives_back (number_of_row calls number r e) ∙ g)
+        (of_row (λ x. not (gives_back x.syscall.number && names_holders x.touches) ≡ true) calls
+        (all_rows (λ x. not (gives_back x.syscall.number && names_holders x.touches)) calls giving_calls_spare) number r e) in
+        let t : Touches (reach f) s (done_by (Some r) args s).call.state = subst (λ x. Touches (reach f) s (done_by x args s).call.state) e (call_touches number args s r k e) in
+        holders_kept s (done_by (Some r) args s).call.state (t.parts.ranges h.1) (t.stacks h.0)
+
+holders_called : (number : ℕ) (args : List ℕ) (s : Xinu) → IsSound s → gives_back number ≡ true
+    → KeepsHolders s (called number args s).call.state
+holders_called number args s k g =
+    cond_both (is_built number) (call_of_number number args s) (refused s) (λ (h : CallResult). KeepsHolders s h.call.state) (λ _. holders_call number args s k g) (λ _ a. refl)
 
 -- the step that gives away is the call
 stepped_calls : (old : Xinu) (e : Event) (new : Xinu) → GivesAway old e new
@@ -76,7 +74,8 @@ stepped_calls old e new g =
     ∙ ap (λ o. reacted o (with_executed (next old) old)) g.call
 
 -- what gives away changes no pool and no stack
-holders_given_away : (old : Xinu) (e : Event) (lines : List TranscriptLine) (new : Xinu) → IsSound old → Happens old e lines new → GivesAway old e new → KeepsHolders old new
+holders_given_away : (old : Xinu) (e : Event) (lines : List TranscriptLine) (new : Xinu) → IsSound old → Happens old e lines new
+    → GivesAway old e new → KeepsHolders old new
 holders_given_away old e lines new sound h g =
     let s = with_executed (next old) old in
     let call = call_of (current_hart s) in
@@ -84,10 +83,13 @@ holders_given_away old e lines new sound h g =
     let gives : gives_back call.number ≡ true = ap (λ r. gives_back (call_of r).number) (hart_after old sound) ∙ g.number in
     let is : (end_of_event old.tables.current (call_line s call ∷ []) result).state ≡ new =
     sym (ap (λ (x : EventResult). x.state) (stepped_calls old e new g)) ∙ sym (ap (λ f. (effect_of old f h.choice).state) g.step) ∙ ap (λ (x : EventResult). x.state) h.effect in
-    subst (KeepsHolders old) is (λ a. holders_kept (kept_end_of_event old.tables.current (call_line s call ∷ []) result) a ∙ holders_called call.number call.args s gives a)
+    let may = may_call_after (next old) old (may_call old sound g.runs) in
+    let ended = kept_end_of_event old.tables.current (call_line s call ∷ []) result (called_keeps call.number call.args s may) in
+    subst (KeepsHolders old) is (λ a. holders_kept result.call.state (end_of_event old.tables.current (call_line s call ∷ []) result).state ended.ranges ended.stacks a ∙ holders_called call.number call.args s (sound_where_called s may) gives a)
 
 -- An event that gives away what is held leaves an address claimed twice.
-pub given_away_is_shared : (old : Xinu) (e : Event) (lines : List TranscriptLine) (new : Xinu) → IsSound old → Happens old e lines new → GivesAway old e new → IsApart new → ⊥
+pub given_away_is_shared : (old : Xinu) (e : Event) (lines : List TranscriptLine) (new : Xinu) → IsSound old → Happens old e lines new
+    → GivesAway old e new → IsApart new → ⊥
 given_away_is_shared old e lines new sound h g apart =
     let few = apart.claims g.address in
     let same = holders_given_away old e lines new sound h g g.address in

@@ -14,8 +14,10 @@ use Rattle.xinu_model.specs.Process.Death.{reap, killed, exit}
 use Rattle.xinu_model.specs.Process.Calls.{created, create, kill}
 use Rattle.xinu_model.specs.Tables.{no_process, process_at, state_at, is_free, Nowhere, move_to}
 use Rattle.xinu_laws.proofs.Ownership.Claims.{stack_at, apart_kept, stack_stays, low_stays, stack_parts, stack_from, empty_stack, InCells, claim_taken, claim_freed}
-use Rattle.xinu_laws.proofs.Ownership.Doings.{kept_sent}
-use Rattle.xinu_laws.proofs.Ownership.Kept.{stack_of}
+use Rattle.xinu_model.specs.Footprints.{on_tables}
+use Rattle.xinu_laws.specs.Touches.{reach, stack_of, KeepsPlaces, Touches}
+use Rattle.xinu_laws.proofs.Touches.Kept.{keeps_places}
+use Rattle.xinu_laws.proofs.Touches.Moves.{touches_sent}
 use Rattle.xinu_laws.proofs.Lists.Maps.{one, times_set}
 use Rattle.xinu_laws.proofs.HeapCells.Marked.{as_many_cells}
 use Rattle.xinu_laws.proofs.HeapCells.Taken.{getstk_finds, freestk_frees}
@@ -150,7 +152,8 @@ pub apart_killed : (p : ℕ) (d : CallState) → IsApart d.state → IsApart (ki
 apart_killed p d apart =
     let x = process_at d.state.tables p in
     let told = sent x.parent p d in
-    let kept = kept_sent x.parent p d in
+    let touches : Touches (reach on_tables) d.state told.state = touches_sent x.parent p d in
+    let kept : KeepsPlaces d.state told.state = keeps_places touches refl refl refl in
     let same = stack_at d.state.tables p ∙ ap (λ l. get_or l p (0, 0)) (sym kept.stacks) ∙ sym (stack_at told.state.tables p) in
     apart_reap p x told same (apart_kept kept apart)
 

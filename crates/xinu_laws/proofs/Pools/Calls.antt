@@ -1,26 +1,27 @@
 -- The calls that take a buffer and give one back keep what holds of the pools.
-use Rattle.std.proofs.Common.{◌≡◌, ◌≢◌, ℕ, zero, suc, ◌+◌, ◌<◌, ◌≤◌, true, List, [], ◌∷◌, length, Option, None, Some, set, refl, sym, ap, subst, arith}
+use Rattle.std.proofs.Common.{◌≡◌, ◌≢◌, ℕ, zero, suc, ◌<◌, ◌≤◌, List, [], ◌∷◌, length, Option, None, Some, set, refl, sym, ap, subst, arith}
 use Rattle.std.specs.Prelude.{nat_lt}
 use Rattle.std.proofs.lemmas.Bool.{cond_both, ltb-true}
 use Rattle.xinu_base.specs.declared.processes.Rest.TheVariants.{Nothing, GetBuf}
 use Rattle.xinu_base.specs.declared.processes.State.TheVariants.{Waiting}
-use Rattle.xinu_model.specs.Machine.{Xinu, CallState, CallResult, start, refused, goes_on}
+use Rattle.xinu_model.specs.Machine.{Parts, Xinu, CallState, CallResult, start, refused, goes_on}
 use Rattle.xinu_model.specs.Messages.{held}
-use Rattle.xinu_model.specs.Pools.Calls.{take_first, take_buffer, getbuf, go_on_getbuf, put_back, given_to, freed_buffer, freed_by, freebuf}
-use Rattle.xinu_model.specs.Pools.Buffers.{Pool, pool_at, is_held, holder_from, holder, with_free}
+use Rattle.xinu_model.specs.Pools.Calls.{take_first, take_buffer, getbuf, go_on_getbuf, put_back, freed_buffer, freed_by, freebuf}
+use Rattle.xinu_model.specs.Pools.Buffers.{pool_at, holder, with_free}
 use Rattle.xinu_model.specs.Semaphores.Counts.{with_tokens}
 use Rattle.xinu_model.specs.Semaphores.Waiting.{signalled, take_token, await}
 use Rattle.xinu_model.specs.Sound.Tables.{IsInside, IsSoundTables}
 use Rattle.xinu_model.specs.Sound.Pools.{asks_pool, ArePools}
 use Rattle.xinu_model.specs.Tables.{Tables, process_at, message_at, semaphore_at, Nowhere, InSemaphore}
-use Rattle.xinu_laws.proofs.Calm.{IsCalm}
-use Rattle.xinu_laws.proofs.Calm.Moves.{calm_goes_on}
-use Rattle.xinu_laws.proofs.Calm.Put.{owner_move}
-use Rattle.xinu_laws.proofs.Calm.States.{keeps_signalled}
+use Rattle.xinu_laws.specs.Frame.{Frame}
+use Rattle.xinu_laws.proofs.Frame.MoveTo.{owner_move}
+use Rattle.xinu_laws.proofs.Pools.Holders.{IsHolder, holder_finds, by_holder}
+use Rattle.xinu_laws.proofs.Tables.Owners.{owner_tokens, owner_signalled}
+use Rattle.xinu_laws.proofs.Touches.Moves.{touches_goes_on, parts_signalled}
 use Rattle.xinu_laws.proofs.Preserve.{current_within}
-use Rattle.xinu_laws.proofs.Pools.Calm.{is_pool, pool_is_other}
+use Rattle.xinu_laws.proofs.Pools.Frame.{is_pool}
 use Rattle.xinu_laws.proofs.Pools.Change.{promised, pool_kept, pool_taken, pool_put_back, are_pools_set, are_pools_kept}
-use Rattle.xinu_laws.proofs.Pools.Steps.{pool_semaphore_within, owner_tokens, promised_token, promised_blocked, promised_goes_on, promised_signalled, owner_signalled, calm_pool_token, calm_pool_blocked, calm_pool_signalled}
+use Rattle.xinu_laws.proofs.Pools.Steps.{beside_pool, pool_semaphore_within, promised_token, promised_blocked, promised_goes_on, promised_signalled, frame_pool_token, frame_pool_blocked, frame_pool_signalled}
 
 -- what holds of the pools holds in a state
 abbrev pub HavePools : Xinu → Type 0
@@ -28,13 +29,13 @@ HavePools s = ArePools s.tables s.parts.pools
 
 -- Since the tables t, if what holds of the pools held, one promised buffer of pool i was taken; one of these free ones is given out.
 pools_taken : (t : Tables) (s : Xinu) (i : ℕ) (free : List ℕ) → ArePools t s.parts.pools → i < length s.parts.pools → (pool_at s.parts.pools i).free ≡ free
-    → ((j : ℕ) → j ≢ i → IsCalm (is_pool j) (asks_pool j) t s.tables) → ((r : ℕ) → (semaphore_at s.tables r).owner ≡ (semaphore_at t r).owner)
+    → ((j : ℕ) → j ≢ i → Frame (is_pool j) (asks_pool j) t s.tables) → ((r : ℕ) → (semaphore_at s.tables r).owner ≡ (semaphore_at t r).owner)
     → suc (promised i (pool_at s.parts.pools i).semaphore s.tables) ≤ promised i (pool_at s.parts.pools i).semaphore t → HavePools (take_first free i s).call.state
-pools_taken t s i [] k here e calm owners h = let f = (k.each i here).enough in let g : length (pool_at s.parts.pools i).free ≡ 0 = ap length e in absurd (omega arith)
-pools_taken t s i (a ∷ free) k here e calm owners h =
+pools_taken t s i [] k here e others owners h = let f = (k.each i here).enough in let g : length (pool_at s.parts.pools i).free ≡ 0 = ap length e in absurd (omega arith)
+pools_taken t s i (a ∷ free) k here e others owners h =
     let pool = pool_at s.parts.pools i in
     are_pools_set t s.tables s.parts.pools i (record pool { free = free }) here (record { base = refl; size = refl; number = refl; semaphore = refl })
-    (pool_taken t s.tables i pool a free (k.each i here) e (owners pool.semaphore) h) calm owners k
+    (pool_taken t s.tables i pool a free (k.each i here) e (owners pool.semaphore) h) others owners k
 
 -- a buffer of pool i is awaited, by these tokens
 pools_awaited : (tokens i : ℕ) (s : Xinu) → tokens ≡ (semaphore_at s.tables (pool_at s.parts.pools i).semaphore).tokens → IsSoundTables s.tables → HavePools s → i < length s.parts.pools
@@ -49,13 +50,13 @@ pools_awaited zero i s e o k here =
     are_pools_kept t _ s.parts.pools i here
     (pool_kept t _ i pool sound (owner_move t t.current x m place pool.semaphore)
     (promised_blocked t i pool.semaphore t.current x m place (let c = current_within t o in let n = o.inside.processes in omega arith) refl))
-    (λ j n. calm_pool_blocked i j n pool.semaphore s sound.owner) (λ r. owner_move t t.current x m place r) k
+    (λ j n. frame_pool_blocked i j n pool.semaphore s sound.owner) (λ r. owner_move t t.current x m place r) k
 pools_awaited (suc n) i s e o k here =
     let t = s.tables in
     let pool = pool_at s.parts.pools i in
     let sound = k.each i here in
     pools_taken t (record s { tables = with_tokens pool.semaphore n t }) i pool.free k here refl
-    (λ j other. calm_pool_token i j other t pool.semaphore n sound.owner) (λ r. owner_tokens t pool.semaphore n r)
+    (λ j other. frame_pool_token i j other t pool.semaphore n sound.owner) (λ r. owner_tokens t pool.semaphore n r)
     (promised_token t i pool.semaphore n (pool_semaphore_within t pool.semaphore i o.inside sound.owner) (sym e))
 
 -- Call 29.
@@ -72,32 +73,8 @@ pools_go_on_getbuf i s o k e =
     let x = record (process_at t t.current) { rest = Nothing } in
     let pool = pool_at s.parts.pools i in
     pools_taken t (goes_on (held s) s) i pool.free k (k.made t.current i e) refl
-    (λ j other. calm_goes_on (pool_is_other j) (held s) s) (λ r. owner_move t t.current x (held s) Nowhere r)
+    (λ j other. (touches_goes_on {f = beside_pool j} refl (held s) s).frame) (λ r. owner_move t t.current x (held s) Nowhere r)
     (promised_goes_on i pool.semaphore (held s) s (let c = current_within t o in let n = o.inside.processes in omega arith) o.runs e)
-
--- A buffer at a is held, and is one of pool i.
-pub record IsHolder (a i : ℕ) (pools : List Pool) : Type 0 where
-  pub within : i < length pools
-  pub held : is_held a (pool_at pools i) ≡ true
-
--- what a search among pools that are numbered from i on finds
-holder_from_finds : (a i k : ℕ) (pools : List Pool) → holder_from a i pools ≡ Some k → (m : ℕ) × (k ≡ i + m) × IsHolder a m pools
-holder_from_finds a i k [] e = cc
-holder_from_finds a i k (pool ∷ pools) e = cond_both (is_held a pool) (Some i) (holder_from a (i + 1) pools) (λ o. o ≡ Some k → (m : ℕ) × (k ≡ i + m) × IsHolder a m (pool ∷ pools))
-    (λ b f. let g : i ≡ k = cc in (0, omega arith, record { within = omega arith; held = b }))
-    (λ _ f. let r = holder_from_finds a (i + 1) k pools f in (suc r.0, (let g = r.1 in omega arith), record { within = (let g = r.2.within in omega arith); held = r.2.held })) e
-
--- The pool that is found has the buffer.
-pub holder_finds : (a i : ℕ) (pools : List Pool) → holder a pools ≡ Some i → IsHolder a i pools
-holder_finds a i pools e = let r = holder_from_finds a 0 i pools e in subst (λ n. IsHolder a n pools) (let f = r.1 in omega arith) r.2
-
--- What holds if nothing is given back, and if a held buffer is put back, holds of what is given back to the pool that has it.
-pub by_holder : (P : CallState → Type 0) (a : ℕ) (d : CallState) → P d → ((i : ℕ) → IsHolder a i d.state.parts.pools → P (put_back a i d)) → P (freed_buffer a d)
-by_holder P a d none some = given (holder a d.state.parts.pools) refl
-  where
-    given : (found : Option ℕ) → holder a d.state.parts.pools ≡ found → P (given_to found a d)
-    given None e = none
-    given (Some i) e = some i (holder_finds a i d.state.parts.pools e)
 
 -- A held buffer is put back.
 pub pools_put_back : (a i : ℕ) (d : CallState) → IsInside d.state.tables → HavePools d.state → IsHolder a i d.state.parts.pools → HavePools (put_back a i d).state
@@ -108,10 +85,10 @@ pools_put_back a i d o k h =
     let e = record d { state = record d.state { parts = record d.state.parts { pools = set pools i (with_free a pool) } } } in
     let u = (signalled pool.semaphore e).state.tables in
     let sound = k.each i h.within in
-    subst (ArePools u) (sym (keeps_signalled pool.semaphore e).pools)
+    subst (ArePools u) (sym (ap (λ (p : Parts). p.pools) (parts_signalled pool.semaphore e)))
     (are_pools_set t u pools i (with_free a pool) h.within (record { base = refl; size = refl; number = refl; semaphore = refl })
     (pool_put_back t u i pool a sound h.held (owner_signalled pool.semaphore e pool.semaphore) (promised_signalled i pool.semaphore e o (pool_semaphore_within t pool.semaphore i o sound.owner)))
-    (λ j other. calm_pool_signalled i j other pool.semaphore e o sound.owner) (λ r. owner_signalled pool.semaphore e r) k)
+    (λ j other. frame_pool_signalled i j other pool.semaphore e o sound.owner) (λ r. owner_signalled pool.semaphore e r) k)
 
 -- What is held at an address is given back.
 pub pools_freed_buffer : (a : ℕ) (d : CallState) → IsInside d.state.tables → HavePools d.state → HavePools (freed_buffer a d).state

@@ -10,10 +10,10 @@ use Rattle.xinu_model.specs.Pools.Buffers.{Pool, no_pool, pool_at, pool_bytes, b
 use Rattle.xinu_model.specs.Sound.Tables.{times, count_in}
 use Rattle.xinu_model.specs.Sound.Pools.{asks_pool, is_released_to_pool, IsSoundPool, ArePools}
 use Rattle.xinu_model.specs.Tables.{Tables, process_at, semaphore_at}
-use Rattle.xinu_laws.proofs.Calm.{IsCalm}
-use Rattle.xinu_laws.proofs.Calm.Put.{same_written}
+use Rattle.xinu_laws.specs.Frame.{Frame}
+use Rattle.xinu_laws.proofs.Frame.MoveTo.{same_written}
 use Rattle.xinu_laws.proofs.Pools.Buffers.{is_out_uncounted, held_taken, held_put_back}
-use Rattle.xinu_laws.proofs.Pools.Calm.{is_pool, sound_pool_calm}
+use Rattle.xinu_laws.proofs.Pools.Frame.{is_pool, sound_pool_framed}
 use Rattle.xinu_laws.proofs.Tables.MoveTo.{by_number}
 
 -- how many buffers of pool i are promised: the tokens of its semaphore, and those who were released and haven't taken theirs
@@ -78,28 +78,28 @@ apart_set pools i pool p j k =
     let number = λ (n : ℕ). same_written (λ (x : Pool). x.number) pools i n pool no_pool p.number in
     cc (base j, base k, size j, size k, number j, number k)
 
--- Pool i becomes another that keeps its place: what holds of it is to be shown, and the moves are calm for the other pools.
+-- Pool i becomes another that keeps its place: what holds of it is to be shown, and the other pools are left alone.
 pub are_pools_set : (t u : Tables) (pools : List Pool) (i : ℕ) (pool : Pool) → i < length pools → KeepsPlace (pool_at pools i) pool → IsSoundPool u i pool
-    → ((j : ℕ) → j ≢ i → IsCalm (is_pool j) (asks_pool j) t u)
-    → ((sem : ℕ) → (semaphore_at u sem).owner ≡ (semaphore_at t sem).owner) → ArePools t pools → ArePools u (set pools i pool)
-are_pools_set t u pools i pool here p sound calm owners k =
+    → ((j : ℕ) → j ≢ i → Frame (is_pool j) (asks_pool j) t u)
+    → ((s : ℕ) → (semaphore_at u s).owner ≡ (semaphore_at t s).owner) → ArePools t pools → ArePools u (set pools i pool)
+are_pools_set t u pools i pool here p sound others owners k =
     let len = length-set pools i pool in
     record {
       few = (let f = k.few in omega arith);
       each = λ j. by_number j i (λ n. n < length (set pools i pool) → IsSoundPool u n (pool_at (set pools i pool) n))
           (λ _. subst (IsSoundPool u i) (sym (get_or-set_same pools i pool no_pool here)) sound)
           (λ n h. subst (IsSoundPool u j) (sym (get_or-set_other pools i j pool no_pool n))
-          (sound_pool_calm (is_pool j) (asks_pool j) t u j (pool_at pools j) (calm j n) (eq-eqb j j refl) (eq-eqb j j refl) (k.each j (omega arith))));
-      owned = λ sem j e. (let f = k.owned sem j (sym (owners sem) ∙ e) in (let g = f.0 in omega arith, same_written (λ (x : Pool). x.semaphore) pools i j pool no_pool p.semaphore ∙ f.1));
+          (sound_pool_framed (is_pool j) (asks_pool j) t u j (pool_at pools j) (others j n) (λ sem. eq-eqb j j refl) (eq-eqb j j refl) (k.each j (omega arith))));
+      owned = λ s j e. (let f = k.owned s j (sym (owners s) ∙ e) in (let g = f.0 in omega arith, same_written (λ (x : Pool). x.semaphore) pools i j pool no_pool p.semaphore ∙ f.1));
       made = λ q j. by_number j i (λ n. (process_at u q).rest ≡ GetBuf n → n < length (set pools i pool))
           (λ _. omega arith)
-          (λ n e. let f = k.made q j (sym ((calm j n).rests q (ap (asks_pool j) e ∙ eq-eqb j j refl)).0 ∙ e) in omega arith);
+          (λ n e. let f = k.made q j (sym ((others j n).rests q (ap (asks_pool j) e ∙ eq-eqb j j refl)).0 ∙ e) in omega arith);
       apart = λ m n a b. apart_set pools i pool p m n ∙ k.apart m n a (omega arith);
     }
 
 -- The same if pool i stays as it is.
-pub are_pools_kept : (t u : Tables) (pools : List Pool) (i : ℕ) → i < length pools → IsSoundPool u i (pool_at pools i) → ((j : ℕ) → j ≢ i → IsCalm (is_pool j) (asks_pool j) t u)
+pub are_pools_kept : (t u : Tables) (pools : List Pool) (i : ℕ) → i < length pools → IsSoundPool u i (pool_at pools i) → ((j : ℕ) → j ≢ i → Frame (is_pool j) (asks_pool j) t u)
     → ((sem : ℕ) → (semaphore_at u sem).owner ≡ (semaphore_at t sem).owner) → ArePools t pools → ArePools u pools
-are_pools_kept t u pools i here sound calm owners k =
+are_pools_kept t u pools i here sound others owners k =
     subst (ArePools u) (set-get_or pools i no_pool)
-    (are_pools_set t u pools i (pool_at pools i) here (record { base = refl; size = refl; number = refl; semaphore = refl }) sound calm owners k)
+    (are_pools_set t u pools i (pool_at pools i) here (record { base = refl; size = refl; number = refl; semaphore = refl }) sound others owners k)

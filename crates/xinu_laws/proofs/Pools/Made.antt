@@ -16,11 +16,11 @@ use Rattle.xinu_model.specs.Semaphores.Counts.{free_semaphore, make_semaphore}
 use Rattle.xinu_model.specs.Sound.Tables.{times, IsInside}
 use Rattle.xinu_model.specs.Sound.Pools.{is_waiting, asks_pool, is_released_to_pool, IsSoundPool, ArePools}
 use Rattle.xinu_model.specs.Tables.{no_process, Semaphore, no_semaphore, Tables, process_at, semaphore_at}
-use Rattle.xinu_laws.proofs.Calm.Semaphores.{calm_make_semaphore}
+use Rattle.xinu_laws.proofs.Frame.Semaphores.{frame_make_semaphore}
 use Rattle.xinu_laws.proofs.Preserve.Semaphores.{free_semaphore_free}
 use Rattle.xinu_laws.proofs.Pools.Buffers.{length-addresses, buffers_distinct, new_pool_buffers, new_pool_number}
 use Rattle.xinu_laws.proofs.Pools.Calls.{HavePools}
-use Rattle.xinu_laws.proofs.Pools.Calm.{is_pool, asks_pool_of, sound_pool_calm}
+use Rattle.xinu_laws.proofs.Pools.Frame.{is_pool, asks_pool_of, sound_pool_framed}
 use Rattle.xinu_laws.proofs.Tables.MoveTo.{by_number}
 use Rattle.xinu_laws.proofs.Lists.Searches.{search_within}
 
@@ -97,8 +97,8 @@ are_pools_made t pools sem base size n k few h free apart =
     record {
       few = omega arith;
       each = by_age t pools pool (IsSoundPool u)
-          (λ j l. sound_pool_calm (is_pool j) (asks_pool j) t u j (pool_at pools j)
-          (calm_make_semaphore t sem (owner.Pool i) n (ap (is_pool j) free) (ne_eqb i j (λ e. absurd (omega arith)))) (eq-eqb j j refl) (eq-eqb j j refl) (k.each j l))
+          (λ j l. sound_pool_framed (is_pool j) (asks_pool j) t u j (pool_at pools j)
+          (frame_make_semaphore t sem (owner.Pool i) n (ap (is_pool j sem) free) (ne_eqb i j (λ e. absurd (omega arith)))) (λ sem. eq-eqb j j refl) (eq-eqb j j refl) (k.each j l))
           (new_pool_sound t pools sem base size n k h);
       owned = λ r j. by_number r sem (λ s. (semaphore_at u s).owner ≡ Some (owner.Pool j) → (j < length all) × ((pool_at all j).semaphore ≡ s))
           (λ e. let f : i ≡ j = (let g : (semaphore_at u sem).owner ≡ Some (owner.Pool i) = ap (λ (y : Semaphore). y.owner) (get_or-set_same t.semaphores sem x no_semaphore h) in cc) in

@@ -5,22 +5,24 @@ use Rattle.xinu_base.specs.declared.processes.Process.{Process}
 use Rattle.xinu_base.specs.declared.processes.Rest.TheVariants.{Nothing, GetBuf}
 use Rattle.xinu_base.specs.declared.processes.State.TheVariants.{Current, Ready, Waiting}
 use Rattle.xinu_base.specs.declared.semaphores.Owner.TheVariants as owner
+use Rattle.xinu_model.specs.Footprints.{on_tables}
+use Rattle.xinu_laws.specs.Frame.{Frame}
 use Rattle.xinu_model.specs.Machine.{Xinu, CallState, blocked, goes_on}
 use Rattle.xinu_model.specs.Process.Scheduling.{in_state}
 use Rattle.xinu_model.specs.Semaphores.Counts.{with_tokens}
 use Rattle.xinu_model.specs.Semaphores.Waiting.{signal_first, signalled}
-use Rattle.xinu_model.specs.Sound.Tables.{count_in, IsInside}
+use Rattle.xinu_model.specs.Sound.Tables.{count_in, FitsOwner, IsInside}
 use Rattle.xinu_model.specs.Sound.Pools.{is_waiting, asks_pool, is_released_to_pool}
 use Rattle.xinu_model.specs.Tables.{no_process, Semaphore, no_semaphore, Tables, process_at, state_at, message_at, semaphore_at, Place, Nowhere, InReady, InSemaphore, move_to}
-use Rattle.xinu_laws.proofs.Calm.{IsCalm}
-use Rattle.xinu_laws.proofs.Calm.Moves.{calm_blocked}
-use Rattle.xinu_laws.proofs.Calm.Put.{same_written, owner_move, tokens_move}
-use Rattle.xinu_laws.proofs.Calm.Semaphores.{IsUnasked, calm_tokens, calm_signalled}
+use Rattle.xinu_laws.specs.Touches.{Reach}
+use Rattle.xinu_laws.proofs.Frame.MoveTo.{tokens_move}
 use Rattle.xinu_laws.proofs.Lists.Counts.{times-set, first_is_counted}
-use Rattle.xinu_laws.proofs.Pools.Calm.{is_pool}
+use Rattle.xinu_laws.proofs.Pools.Frame.{is_pool}
 use Rattle.xinu_laws.proofs.Pools.Change.{promised}
 use Rattle.xinu_laws.proofs.Tables.MoveTo.{semaphore_within, within_table}
 use Rattle.xinu_laws.proofs.Tables.Unblock.{waiter_waits}
+use Rattle.xinu_laws.proofs.Touches.Moves.{MayTouch, touches_blocked, touches_signalled}
+use Rattle.xinu_laws.proofs.Frame.Semaphores.{frame_semaphore}
 
 -- what doesn't pass adds nothing to a count
 counts_none : (b : Bool) → b ≡ false → cond {A = ℕ} b 1 0 ≡ 0
@@ -37,10 +39,6 @@ other_number i j n = ne_eqb i j (λ e. n (sym e))
 -- the semaphore of a pool is in the table
 pub pool_semaphore_within : (t : Tables) (sem i : ℕ) → IsInside t → (semaphore_at t sem).owner ≡ Some (owner.Pool i) → sem < length t.semaphores
 pool_semaphore_within t sem i o e = let h = semaphore_within t sem o.semaphores (λ f. cc) in let k = o.semaphores in omega arith
-
--- another number of tokens leaves each semaphore its owner
-pub owner_tokens : (t : Tables) (sem n r : ℕ) → (semaphore_at (with_tokens sem n t) r).owner ≡ (semaphore_at t r).owner
-owner_tokens t sem n r = same_written (λ (x : Semaphore). x.owner) t.semaphores sem r (record (semaphore_at t sem) { tokens = n }) no_semaphore refl
 
 -- these are its tokens then
 tokens_tokens : (t : Tables) (sem n : ℕ) → sem < length t.semaphores → (semaphore_at (with_tokens sem n t) sem).tokens ≡ n
@@ -107,32 +105,27 @@ waiter_within t sem o p h =
 pub promised_signalled : (i sem : ℕ) (d : CallState) → IsInside d.state.tables → sem < length d.state.tables.semaphores → promised i sem (signalled sem d).state.tables ≤ suc (promised i sem d.state.tables)
 promised_signalled i sem d o h = promised_signal_first i sem (semaphore_at d.state.tables sem).waiters d o h (waiter_within d.state.tables sem o)
 
--- a signal leaves each semaphore its owner, by who waits
-owner_signal_first : (sem : ℕ) (l : List ℕ) (d : CallState) (r : ℕ) → (semaphore_at (signal_first sem l d).state.tables r).owner ≡ (semaphore_at d.state.tables r).owner
-owner_signal_first sem [] d r = owner_tokens d.state.tables sem ((semaphore_at d.state.tables sem).tokens + 1) r
-owner_signal_first sem (p ∷ ps) d r = let t = d.state.tables in owner_move t p (in_state Ready (process_at t p)) (message_at t p) InReady r
-
--- A signal leaves each semaphore its owner.
-pub owner_signalled : (sem : ℕ) (d : CallState) (r : ℕ) → (semaphore_at (signalled sem d).state.tables r).owner ≡ (semaphore_at d.state.tables r).owner
-owner_signalled sem d r = owner_signal_first sem (semaphore_at d.state.tables sem).waiters d r
+-- what leaves pool j alone, and may touch the other tables
+abbrev pub beside_pool : ℕ → Reach
+beside_pool j = record { mine = is_pool j; asks = asks_pool j; parts = on_tables }
 
 module _ (i j : ℕ) (other : j ≢ i) where
   -- the semaphore of pool i isn't pool j's
-  other_owner : (t : Tables) (sem : ℕ) → (semaphore_at t sem).owner ≡ Some (owner.Pool i) → is_pool j (semaphore_at t sem).owner ≡ false
-  other_owner t sem e = ap (is_pool j) e ∙ other_number i j other
+  other_owner : (t : Tables) (sem : ℕ) → (semaphore_at t sem).owner ≡ Some (owner.Pool i) → is_pool j sem (semaphore_at t sem).owner ≡ false
+  other_owner t sem e = ap (is_pool j sem) e ∙ other_number i j other
 
-  -- and nobody waits there for a buffer of pool j
-  other_unasked : (t : Tables) (sem : ℕ) → (semaphore_at t sem).owner ≡ Some (owner.Pool i) → IsUnasked (asks_pool j) sem (semaphore_at t sem).owner
-  other_unasked t sem e = subst (IsUnasked (asks_pool j) sem) (sym e) (λ left f. ap (asks_pool j) f ∙ other_number i j other)
+  -- it may be touched while pool j is left alone
+  other_may_be_touched : (t : Tables) (sem : ℕ) → (semaphore_at t sem).owner ≡ Some (owner.Pool i) → MayTouch (beside_pool j) t sem
+  other_may_be_touched t sem e = record { owner = other_owner t sem e; rests = λ left g. ap (asks_pool j) (subst (λ o. FitsOwner sem o left) e g) ∙ other_number i j other }
 
   -- Pool j is left alone if a token of pool i is taken,
-  pub calm_pool_token : (t : Tables) (sem n : ℕ) → (semaphore_at t sem).owner ≡ Some (owner.Pool i) → IsCalm (is_pool j) (asks_pool j) t (with_tokens sem n t)
-  calm_pool_token t sem n e = calm_tokens t sem n (other_owner t sem e)
+  pub frame_pool_token : (t : Tables) (sem n : ℕ) → (semaphore_at t sem).owner ≡ Some (owner.Pool i) → Frame (is_pool j) (asks_pool j) t (with_tokens sem n t)
+  frame_pool_token t sem n e = frame_semaphore t sem (record (semaphore_at t sem) { tokens = n }) (other_owner t sem e) (other_owner t sem e)
 
   -- if a caller waits for a buffer of pool i,
-  pub calm_pool_blocked : (sem : ℕ) (s : Xinu) → (semaphore_at s.tables sem).owner ≡ Some (owner.Pool i) → IsCalm (is_pool j) (asks_pool j) s.tables (blocked Waiting (GetBuf i) (InSemaphore sem) s).call.state.tables
-  calm_pool_blocked sem s e = calm_blocked Waiting (GetBuf i) (InSemaphore sem) s (other_owner s.tables sem e) (other_number i j other)
+  pub frame_pool_blocked : (sem : ℕ) (s : Xinu) → (semaphore_at s.tables sem).owner ≡ Some (owner.Pool i) → Frame (is_pool j) (asks_pool j) s.tables (blocked Waiting (GetBuf i) (InSemaphore sem) s).call.state.tables
+  frame_pool_blocked sem s e = (touches_blocked {f = beside_pool j} Waiting (GetBuf i) (InSemaphore sem) s (other_owner s.tables sem e) (other_number i j other)).frame
 
   -- and if pool i is signalled.
-  pub calm_pool_signalled : (sem : ℕ) (d : CallState) → IsInside d.state.tables → (semaphore_at d.state.tables sem).owner ≡ Some (owner.Pool i) → IsCalm (is_pool j) (asks_pool j) d.state.tables (signalled sem d).state.tables
-  calm_pool_signalled sem d o e = calm_signalled sem d o (other_owner d.state.tables sem e) (other_unasked d.state.tables sem e)
+  pub frame_pool_signalled : (sem : ℕ) (d : CallState) → IsInside d.state.tables → (semaphore_at d.state.tables sem).owner ≡ Some (owner.Pool i) → Frame (is_pool j) (asks_pool j) d.state.tables (signalled sem d).state.tables
+  frame_pool_signalled sem d o e = (touches_signalled {f = beside_pool j} sem d o (other_may_be_touched d.state.tables sem e)).frame

@@ -1,22 +1,19 @@
--- All who wait on the two semaphores of a port are released: nobody waits there any longer, and what else the ports and pools need is kept.
-use Rattle.std.proofs.Common.{◌≡◌, ℕ, Bool, false, List, [], ◌∷◌, length, Option, Some, refl, sym, ap, subst, ◌∙◌}
+-- All who wait on the two semaphores of a port are released: nobody waits there any longer.
+use Rattle.std.proofs.Common.{◌≡◌, ℕ, List, [], ◌∷◌, length, Some, refl, sym, ap, subst, ◌∙◌}
 use Rattle.xinu_base.specs.declared.processes.Process.{Process}
-use Rattle.xinu_base.specs.declared.processes.Rest.{Rest}
 use Rattle.xinu_base.specs.declared.processes.State.TheVariants.{Ready}
-use Rattle.xinu_base.specs.declared.semaphores.Owner.{Owner}
 use Rattle.xinu_base.specs.declared.semaphores.Owner.TheVariants as owner
+use Rattle.xinu_laws.specs.Moves.{ready_all}
 use Rattle.xinu_model.specs.Machine.{Xinu, CallState}
 use Rattle.xinu_model.specs.Process.Scheduling.{in_state, ready}
 use Rattle.xinu_model.specs.Ports.Queues.{PortQueue}
 use Rattle.xinu_model.specs.Semaphores.Waiting.{emptied}
-use Rattle.xinu_model.specs.Sound.Tables.{IsForPort, FitsOwner, IsSoundTables}
+use Rattle.xinu_model.specs.Sound.Tables.{IsSoundTables}
 use Rattle.xinu_model.specs.Tables.{no_process, Semaphore, Tables, process_at, message_at, semaphore_at, numbers_without}
-use Rattle.xinu_laws.proofs.Calm.{IsCalm, calm_trans}
-use Rattle.xinu_laws.proofs.Calm.Put.{same_written}
-use Rattle.xinu_laws.proofs.Calm.Semaphores.{calm_emptied}
-use Rattle.xinu_laws.proofs.Calm.States.{KeepsOthers, keeps_trans, keeps_emptied}
+use Rattle.xinu_laws.proofs.Frame.MoveTo.{same_written}
+use Rattle.xinu_laws.proofs.Touches.Moves.{parts_emptied}
 use Rattle.xinu_laws.proofs.Preserve.Semaphores.{harts_emptied}
-use Rattle.xinu_laws.proofs.Tables.Unblock.{ready_all, unblock_all_ready, sound_emptied, emptied_has_no_waiters, owner_emptied}
+use Rattle.xinu_laws.proofs.Tables.Unblock.{unblock_all_ready, sound_emptied, emptied_has_no_waiters, owner_emptied}
 use Rattle.xinu_laws.proofs.Ports.Kept.{KeepsRests, keeps_rests_trans}
 use Rattle.xinu_laws.proofs.Ports.Moves.{left_for_ready}
 
@@ -42,11 +39,6 @@ still_no_waiters sem r d e =
     let l = (semaphore_at d.state.tables sem).waiters in
     subst (λ (s : Xinu). (semaphore_at s.tables r).waiters ≡ []) (sym (unblock_all_ready l d)) (waiters_stay_gone l d.state.tables r e)
 
--- Of the semaphores of port q and of the calls on it this says nothing.
-pub record Ignores (mine : Option Owner → Bool) (asks : Rest → Bool) (q : ℕ) : Type 0 where
-  pub owner : mine (Some (owner.Port q)) ≡ false
-  pub waits : (sem : ℕ) (left : Rest) → IsForPort q sem left → asks left ≡ false
-
 -- From d to e all are released who waited on the two semaphores of port q.
 pub record IsCleared (q : ℕ) (queue : PortQueue) (d e : CallState) : Type 0 where
   pub tables : IsSoundTables e.state.tables
@@ -55,8 +47,7 @@ pub record IsCleared (q : ℕ) (queue : PortQueue) (d e : CallState) : Type 0 wh
   pub rests : KeepsRests d.state.tables e.state.tables
   pub no_senders : (semaphore_at e.state.tables queue.send).waiters ≡ []
   pub no_receivers : (semaphore_at e.state.tables queue.receive).waiters ≡ []
-  pub others : KeepsOthers d.state e.state
-  pub calm : (mine : Option Owner → Bool) (asks : Rest → Bool) → Ignores mine asks q → IsCalm mine asks d.state.tables e.state.tables
+  pub parts : e.state.parts ≡ d.state.parts
 
 -- Both semaphores are emptied.
 pub port_cleared : (q : ℕ) (queue : PortQueue) (d : CallState) → IsSoundTables d.state.tables
@@ -73,10 +64,5 @@ port_cleared q queue d k send receive =
       rests = keeps_rests_trans d.state.tables one.state.tables two.state.tables (rests_emptied queue.send d) (rests_emptied queue.receive one);
       no_senders = still_no_waiters queue.receive queue.send one (emptied_has_no_waiters queue.send d);
       no_receivers = emptied_has_no_waiters queue.receive one;
-      others = keeps_trans d.state one.state two.state (keeps_emptied queue.send d) (keeps_emptied queue.receive one);
-      calm = λ mine asks i. (let f = λ (sem : ℕ) (e : CallState) (o : (semaphore_at e.state.tables sem).owner ≡ Some (owner.Port q)) (left : Rest) (h : FitsOwner sem (semaphore_at e.state.tables sem).owner left).
-          i.waits sem left (subst (λ v. FitsOwner sem v left) o h) in
-          calm_trans d.state.tables one.state.tables two.state.tables
-          (calm_emptied queue.send d k.inside (f queue.send d send))
-          (calm_emptied queue.receive one sound.inside (f queue.receive one (owner_emptied queue.send queue.receive d ∙ receive))));
+      parts = parts_emptied queue.receive one ∙ parts_emptied queue.send d;
     }

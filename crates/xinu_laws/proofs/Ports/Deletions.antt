@@ -1,23 +1,22 @@
 -- A port that is deleted or reset may give its messages back as buffers: what holds of tables, pools and ports is kept.
-use Rattle.std.proofs.Common.{◌≡◌, ℕ, ◌==◌, false, List, [], ◌∷◌, length, Option, None, Some, refl, sym, ap, subst, ◌∙◌, pos}
+use Rattle.std.proofs.Common.{◌≡◌, ℕ, ◌==◌, List, [], ◌∷◌, length, Option, None, Some, refl, ap, ◌∙◌, pos}
 use Rattle.std.specs.Prelude.{nat_le}
 use Rattle.std.proofs.lemmas.Bool.{cond_both}
-use Rattle.xinu_base.specs.declared.processes.Rest.{Rest}
-use Rattle.xinu_base.specs.declared.processes.Rest.TheVariants.{PtSend, PtRecv}
-use Rattle.xinu_model.specs.Machine.{Xinu, CallState, CallResult, start, refused, returns}
+use Rattle.xinu_model.specs.Machine.{Xinu, CallState, start, refused, returns}
+use Rattle.xinu_model.specs.Footprints.{on_pools}
+use Rattle.xinu_laws.specs.Touches.{reach, Touches}
 use Rattle.xinu_model.specs.Pools.Calls.{freed_buffer}
 use Rattle.xinu_model.specs.Ports.Queues.{PortQueue, port_at}
 use Rattle.xinu_model.specs.Ports.Calls.{freed_buffers, disposed, cleared, deleted, emptied_port, deleted_where, ptdelete, reset_where, ptreset}
-use Rattle.xinu_model.specs.Sound.Tables.{IsForPort, IsSoundTables}
+use Rattle.xinu_model.specs.Sound.Tables.{IsSoundTables}
 use Rattle.xinu_model.specs.Sound.Pools.{ArePools}
 use Rattle.xinu_model.specs.Sound.Ports.{ArePorts}
-use Rattle.xinu_laws.proofs.Preserve.{IsPreserved, MayCall, refused_preserves}
+use Rattle.xinu_laws.specs.Preserve.{MayCall, KeepsAll}
+use Rattle.xinu_laws.proofs.Preserve.{refused_preserves}
 use Rattle.xinu_laws.proofs.Pools.Calls.{pools_freed_buffer}
-use Rattle.xinu_laws.proofs.Pools.Calm.{is_pools, asks_buffer, pools_are_others, are_pools_calm}
 use Rattle.xinu_laws.proofs.Pools.Preserve.{sound_freed_buffer, harts_freed_buffer}
-use Rattle.xinu_laws.proofs.Pools.Others.{IgnoresPools, freed_buffer_leaves}
-use Rattle.xinu_laws.proofs.Ports.Kept.{is_ports, asks_port, ports_others, ports_calm}
-use Rattle.xinu_laws.proofs.Ports.Made.{IgnoresPorts, PreservesPorts}
+use Rattle.xinu_laws.proofs.Touches.Kept.{keeps_pools, keeps_ports}
+use Rattle.xinu_laws.proofs.Touches.Pools.{pools_reached, own_semaphores, freed_buffer_touches}
 use Rattle.xinu_laws.proofs.Ports.Renewals.{IsRenewed, port_deleted, port_reset}
 use Rattle.xinu_laws.proofs.Ports.Signals.{HasPorts}
 
@@ -33,25 +32,21 @@ pub record KeepsInside (d e : CallState) : Type 0 where
   pub sound : IsSoundInside e
   pub ports : e.state.parts.ports ≡ d.state.parts.ports
 
--- the ports know nothing of the pools
-pub ports_ignore_pools : IgnoresPools is_ports asks_port
-ports_ignore_pools = record { others = ports_others; owner = λ i. refl; waits = λ i. refl }
-
 -- a buffer is given back, if it is held
 freed_buffer_keeps : (a : ℕ) (d : CallState) → IsSoundInside d → KeepsInside d (freed_buffer a d)
 freed_buffer_keeps a d k =
     let e = freed_buffer a d in
     let o = k.tables.inside in
-    let leaves = freed_buffer_leaves ports_ignore_pools a d o k.pools in
+    let touches : Touches (reach on_pools) d.state e.state = freed_buffer_touches pools_reached a d o (own_semaphores d.state.tables d.state.parts.pools k.pools) in
     let sound = sound_freed_buffer a d k.tables k.pools in
     record {
       sound = record {
         tables = sound;
         harts = ap length (harts_freed_buffer a d) ∙ k.harts;
         pools = pools_freed_buffer a d o k.pools;
-        ports = subst (ArePorts e.state.tables) (sym leaves.ports) (ports_calm d.state.tables e.state.tables d.state.parts.ports sound.inside leaves.tables k.ports);
+        ports = keeps_ports refl touches sound.inside k.ports;
       };
-      ports = leaves.ports;
+      ports = (touches.parts.ports refl).0;
     }
 
 -- some are given back, one after another
@@ -66,39 +61,15 @@ freed_buffers_keep (a ∷ messages) d k =
 pub disposed_keeps : (how : ℕ) (messages : List ℕ) (d : CallState) → IsSoundInside d → KeepsInside d (disposed how messages d)
 disposed_keeps how messages d k = cond_both (how == 1) (freed_buffers messages d) d (KeepsInside d) (λ _. freed_buffers_keep messages d k) (λ _. record { sound = k; ports = refl })
 
--- What each call keeps: what holds of tables, pools and ports.
-pub record KeepsAll (h : CallResult) : Type 0 where
-  pub preserved : IsPreserved h
-  pub pools : ArePools h.call.state.tables h.call.state.parts.pools
-  pub ports : HasPorts h.call
-
 -- a refusal keeps all
 refused_keeps : (s : Xinu) → MayCall s → ArePools s.tables s.parts.pools → ArePorts s.tables s.parts.ports → KeepsAll (refused s)
 refused_keeps s c p a = record { preserved = refused_preserves s c; pools = p; ports = a }
 
--- who waits on a port's semaphore isn't to take a buffer
-asks_no_buffer : (q sem : ℕ) (left : Rest) → IsForPort q sem left → asks_buffer left ≡ false
-asks_no_buffer q sem (PtSend ticket message) h = refl
-asks_no_buffer q sem (PtRecv ticket) h = refl
-asks_no_buffer q sem _ h = absurd h
-
--- the pools know nothing of the ports
-pub pools_ignore_ports : IgnoresPorts is_pools asks_buffer
-pools_ignore_ports = record { others = pools_are_others; ports = λ q. record { owner = refl; waits = asks_no_buffer q } }
-
--- So what holds of the pools holds after a call on a port.
-pub keeps_all : (s : Xinu) (h : CallResult) → ArePools s.tables s.parts.pools → PreservesPorts s h → KeepsAll h
-keeps_all s h p k = record {
-  preserved = k.preserved;
-  pools = subst (ArePools h.call.state.tables) (sym k.pools) (are_pools_calm s.tables h.call.state.tables s.parts.pools (k.calm is_pools asks_buffer pools_ignore_ports) p);
-  ports = k.ports;
-}
-
--- and so it does after a port is renewed
+-- a port is renewed
 renewed_keeps : (q : ℕ) (d e : CallState) → IsSoundInside d → IsRenewed q d e → KeepsAll (returns e (pos 0))
 renewed_keeps q d e k r = record {
   preserved = record { tables = r.tables; harts = r.harts ∙ k.harts };
-  pools = subst (ArePools e.state.tables) (sym r.pools) (are_pools_calm d.state.tables e.state.tables d.state.parts.pools (r.calm is_pools asks_buffer refl (pools_ignore_ports.ports q)) k.pools);
+  pools = keeps_pools refl r.touches k.pools;
   ports = r.ports;
 }
 

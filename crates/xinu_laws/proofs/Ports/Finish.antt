@@ -1,12 +1,12 @@
 -- A caller that has its token goes on: its message goes into the port, or it takes one, and what holds of the ports is kept. If
 -- the port was renewed while it waited it is refused.
-use Rattle.std.proofs.Common.{◌≡◌, ℕ, suc, ◌<◌, ◌==◌, true, false, not, List, [], ◌∷◌, ◌++◌, length, Option, None, Some, refl, sym, ap, subst, arith, get_or-set_same, length-append, pos}
+use Rattle.std.proofs.Common.{◌≡◌, ℕ, suc, ◌<◌, ◌==◌, false, not, List, [], ◌∷◌, ◌++◌, length, Option, None, Some, refl, sym, ap, subst, arith, get_or-set_same, length-append, pos}
 use Rattle.std.specs.Prelude.{nat_le}
-use Rattle.std.proofs.lemmas.Bool.{cond_both, cond-true, eqb-true, leb-false, ne_eqb, not-false, or_parts, or_right}
+use Rattle.std.proofs.lemmas.Bool.{cond_both, eqb-true, leb-false, not-false, or_parts}
 use Rattle.xinu_base.specs.declared.processes.PortTicket.{PortTicket}
-use Rattle.xinu_model.specs.Machine.{Xinu, CallResult, Panics, start, refused, returns}
+use Rattle.xinu_model.specs.Machine.{Xinu, CallResult, Panics, start, returns}
 use Rattle.xinu_model.specs.Ports.Queues.{PortQueue, Port, no_port, most_nodes, port_at, is_used, nodes, is_stale}
-use Rattle.xinu_model.specs.Ports.Calls.{with_messages, put_message, finish_send, take_message, take_from, finish_receive}
+use Rattle.xinu_model.specs.Ports.Calls.{with_messages, put_message, take_message}
 use Rattle.xinu_model.specs.Semaphores.Waiting.{signalled}
 use Rattle.xinu_model.specs.Sound.Tables.{IsInside}
 use Rattle.xinu_model.specs.Sound.Ports.{ArePorts}
@@ -80,17 +80,3 @@ pub take_first_kept : (messages : List ℕ) (queue : PortQueue) (q : ℕ) (s : X
     → HasMessage s.tables q (port_at s.parts.ports q).seq queue → ArePorts s.tables s.parts.ports → HasPorts (take_message messages queue q s).call
 take_first_kept [] queue q s here f o r a = a
 take_first_kept (message ∷ messages) queue q s here f o r a = message_taken queue message messages q s here f o r a
-
--- a ticket is stale whose port has a later number
-stale : (ticket : PortTicket) (ports : List Port) → ticket.seq < (port_at ports ticket.port).seq → is_stale ticket ports ≡ true
-stale ticket ports h =
-    let port = port_at ports ticket.port in
-    or_right (not (is_used port)) (not (port.seq == ticket.seq)) (ap not (ne_eqb port.seq ticket.seq (λ e. absurd (omega arith))))
-
--- A call is refused whose port was renewed while it waited: its message doesn't come into the port,
-pub renewed_refuses_send : (ticket : PortTicket) (message : ℕ) (s : Xinu) → ticket.seq < (port_at s.parts.ports ticket.port).seq → finish_send ticket message s ≡ refused s
-renewed_refuses_send ticket message s h = cond-true (is_stale ticket s.parts.ports) (refused s) (put_message (port_at s.parts.ports ticket.port).queue ticket.port message s) (stale ticket s.parts.ports h)
-
--- and it takes none.
-pub renewed_refuses_receive : (ticket : PortTicket) (s : Xinu) → ticket.seq < (port_at s.parts.ports ticket.port).seq → finish_receive ticket s ≡ refused s
-renewed_refuses_receive ticket s h = cond-true (is_stale ticket s.parts.ports) (refused s) (take_from (port_at s.parts.ports ticket.port).queue ticket.port s) (stale ticket s.parts.ports h)

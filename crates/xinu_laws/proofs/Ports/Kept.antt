@@ -12,23 +12,19 @@ use Rattle.xinu_model.specs.Sound.Tables.{times, count_in, IsForPort, FitsOwner,
 use Rattle.xinu_model.specs.Sound.Pools.{is_waiting}
 use Rattle.xinu_model.specs.Sound.Ports.{sends_to, receives_from, is_released_sender, is_released_receiver, IsSoundPort, ArePorts}
 use Rattle.xinu_model.specs.Tables.{no_process, Tables, process_at, semaphore_at}
-use Rattle.xinu_laws.proofs.Calm.{AreOthers, IsCalm}
-use Rattle.xinu_laws.proofs.Pools.Calm.{times-le}
+use Rattle.xinu_laws.specs.Frame.{Frame}
+use Rattle.xinu_laws.proofs.Pools.Frame.{times-le}
 
 -- whether a semaphore's owner is a port
-abbrev pub is_ports : Option Owner → Bool
-is_ports (Some (owner.Port q)) = true
-is_ports _ = false
+abbrev pub is_ports : ℕ → Option Owner → Bool
+is_ports sem (Some (owner.Port q)) = true
+is_ports sem _ = false
 
 -- whether what is left of a call is that of a call on a port
 abbrev pub asks_port : Rest → Bool
 asks_port (PtSend ticket message) = true
 asks_port (PtRecv ticket) = true
 asks_port _ = false
-
--- The moves that know nothing of ports.
-pub ports_others : AreOthers is_ports asks_port
-ports_others = record { none = refl; image = refl; device = refl; nothing = refl; receive = refl; timed = refl; suspend = refl }
 
 -- From t to u the semaphores of port q keep their owner, none is new, and nobody is a new waiter of one.
 pub record KeepsPort (q : ℕ) (t u : Tables) : Type 0 where
@@ -115,34 +111,34 @@ asks_receive q seq _ h = h
 passes_on : (test : Rest → Bool) (x y : Process) → y.rest ≡ x.rest → is_waiting y.state ≡ is_waiting x.state → not (is_waiting y.state) && test y.rest ≡ true → not (is_waiting x.state) && test x.rest ≡ true
 passes_on test x y e f h = sym (ap (λ w. not w && test y.rest) f ∙ ap (λ r. not (is_waiting x.state) && test r) e) ∙ h
 
--- Of the semaphores of port q and of the calls on it a calm move knows nothing.
-pub record Covers (mine : Option Owner → Bool) (asks : Rest → Bool) (q : ℕ) : Type 0 where
-  pub owner : mine (Some (owner.Port q)) ≡ true
-  pub waits : (sem : ℕ) (left : Rest) → IsForPort q sem left → asks left ≡ true
+-- What leaves the semaphores of port q and the calls on it alone.
+pub record Covers (mine : ℕ → Option Owner → Bool) (asks : Rest → Bool) (q : ℕ) : Type 0 where
+  pub owner : (sem : ℕ) → mine sem (Some (owner.Port q)) ≡ true
+  pub waits : (s : ℕ) (left : Rest) → IsForPort q s left → asks left ≡ true
   pub sends : (seq : ℕ) (left : Rest) → sends_to q seq left ≡ true → asks left ≡ true
   pub receives : (seq : ℕ) (left : Rest) → receives_from q seq left ≡ true → asks left ≡ true
 
--- so it is if it knows nothing of any port
+-- so it does if it leaves all ports alone
 covers_ports : (q : ℕ) → Covers is_ports asks_port q
-covers_ports q = record { owner = refl; waits = asks_for_port q; sends = asks_send q; receives = asks_receive q }
+covers_ports q = record { owner = λ sem. refl; waits = asks_for_port q; sends = asks_send q; receives = asks_receive q }
 
-module _ {mine : Option Owner → Bool} {asks : Rest → Bool} where
+module _ {mine : ℕ → Option Owner → Bool} {asks : Rest → Bool} where
   -- Such a move keeps the port,
-  pub keeps_port_calm : (q : ℕ) (t u : Tables) → Covers mine asks q → IsInside u → IsCalm mine asks t u → KeepsPort q t u
-  keeps_port_calm q t u v o c = record {
-    kept = λ s e. (c.kept s (ap mine e ∙ v.owner)).0 ∙ e;
-    old = λ s e. sym (c.old s (ap mine e ∙ v.owner)) ∙ e;
+  pub keeps_port_framed : (q : ℕ) (t u : Tables) → Covers mine asks q → IsInside u → Frame mine asks t u → KeepsPort q t u
+  keeps_port_framed q t u v o c = record {
+    kept = λ s e. (c.kept s (ap (mine s) e ∙ v.owner s)).0 ∙ e;
+    old = λ s e. sym (c.old s (ap (mine s) e ∙ v.owner s)) ∙ e;
     waiters = λ s p e h. (
-      c.waiters s p (ap mine e ∙ v.owner) h,
-      (let f : FitsOwner s (Some (owner.Port q)) (process_at u p).rest = subst (λ k. FitsOwner s k (process_at u p).rest) ((c.kept s (ap mine e ∙ v.owner)).0 ∙ e) (o.rests s p h) in
+      c.waiters s p (ap (mine s) e ∙ v.owner s) h,
+      (let f : FitsOwner s (Some (owner.Port q)) (process_at u p).rest = subst (λ k. FitsOwner s k (process_at u p).rest) ((c.kept s (ap (mine s) e ∙ v.owner s)).0 ∙ e) (o.rests s p h) in
           (c.rests p (v.waits s (process_at u p).rest f)).0),
     );
   }
 
   -- and its counts.
-  pub keeps_counts_calm : (q : ℕ) (t u : Tables) → Covers mine asks q → IsCalm mine asks t u → KeepsCounts q t u
-  keeps_counts_calm q t u v c = record {
-    tokens = λ s e. (c.kept s (ap mine e ∙ v.owner)).1;
+  pub keeps_counts_framed : (q : ℕ) (t u : Tables) → Covers mine asks q → Frame mine asks t u → KeepsCounts q t u
+  keeps_counts_framed q t u v c = record {
+    tokens = λ s e. (c.kept s (ap (mine s) e ∙ v.owner s)).1;
     senders = λ seq. times-le (is_released_sender q seq) u.processes t.processes no_process c.many
         (λ p h. (let a = v.sends seq (process_at u p).rest (and_parts (not (is_waiting (process_at u p).state)) (sends_to q seq (process_at u p).rest) h).1 in
         passes_on (sends_to q seq) (process_at t p) (process_at u p) (c.rests p a).0 (c.rests p a).1 h));
@@ -151,8 +147,8 @@ module _ {mine : Option Owner → Bool} {asks : Rest → Bool} where
         passes_on (receives_from q seq) (process_at t p) (process_at u p) (c.rests p a).0 (c.rests p a).1 h));
   }
 
--- A move that knows nothing of ports keeps all that holds of them.
-pub ports_calm : (t u : Tables) (ports : List Port) → IsInside u → IsCalm is_ports asks_port t u → ArePorts t ports → ArePorts u ports
-ports_calm t u ports o c a =
-    ports_kept t u ports (λ q. keeps_port_calm q t u (covers_ports q) o c) (record { rests = λ p h. (c.rests p h).0 })
-    (λ q queue e i. counts_kept q (port_at ports q).seq queue t u (keeps_counts_calm q t u (covers_ports q) c) i) a
+-- What leaves the ports alone keeps what holds of them.
+pub ports_framed : (t u : Tables) (ports : List Port) → IsInside u → Frame is_ports asks_port t u → ArePorts t ports → ArePorts u ports
+ports_framed t u ports o c a =
+    ports_kept t u ports (λ q. keeps_port_framed q t u (covers_ports q) o c) (record { rests = λ p h. (c.rests p h).0 })
+    (λ q queue e i. counts_kept q (port_at ports q).seq queue t u (keeps_counts_framed q t u (covers_ports q) c) i) a

@@ -1,7 +1,6 @@
 -- A port is made: with a number and two semaphores that a search found.
-use Rattle.std.proofs.Common.{◌≡◌, ◌≢◌, ◌⊎◌, ℕ, ◌+◌, ◌<◌, Bool, true, false, not, [], Option, None, Some, inl, inr, refl, sym, ap, subst, ◌∙◌, arith, get_or-set_same, get_or-set_other, ℤ, pos, negsuc}
+use Rattle.std.proofs.Common.{◌≡◌, ◌≢◌, ◌⊎◌, ℕ, ◌+◌, ◌<◌, true, not, [], Option, None, Some, inl, inr, refl, sym, ap, subst, ◌∙◌, arith, get_or-set_same, get_or-set_other, ℤ, pos, negsuc}
 use Rattle.std.specs.Prelude.{is_some}
-use Rattle.xinu_base.specs.declared.processes.Rest.{Rest}
 use Rattle.xinu_base.specs.declared.semaphores.Owner.{Owner}
 use Rattle.xinu_base.specs.declared.semaphores.Owner.TheVariants as owner
 use Rattle.xinu_model.specs.Machine.{Xinu, CallResult, refused}
@@ -10,34 +9,27 @@ use Rattle.xinu_model.specs.Ports.Calls.{free_port, with_port, made_port, starte
 use Rattle.xinu_model.specs.Semaphores.Counts.{make_semaphore, free_semaphore}
 use Rattle.xinu_model.specs.Sound.Tables.{IsSoundTables}
 use Rattle.xinu_model.specs.Sound.Ports.{ArePorts}
+use Rattle.xinu_laws.specs.Touches.{Touches}
 use Rattle.xinu_model.specs.Tables.{Semaphore, no_semaphore, Tables, semaphore_at}
-use Rattle.xinu_laws.proofs.Calm.{AreOthers, IsCalm, calm_refl, calm_trans}
-use Rattle.xinu_laws.proofs.Calm.Semaphores.{calm_make_semaphore}
+use Rattle.xinu_laws.proofs.Touches.Ports.{with_port_touches}
 use Rattle.xinu_laws.proofs.Tables.Changes.{sound_made_semaphore}
-use Rattle.xinu_laws.proofs.Preserve.{IsPreserved, MayCall, refused_preserves}
+use Rattle.xinu_laws.specs.Preserve.{IsPreserved, MayCall}
+use Rattle.xinu_laws.proofs.Preserve.{refused_preserves}
 use Rattle.xinu_laws.proofs.Preserve.Semaphores.{free_semaphore_free}
 use Rattle.xinu_laws.proofs.Tables.MoveTo.{by_number}
 use Rattle.xinu_laws.proofs.Lists.Searches.{search_passes, search_within}
-use Rattle.xinu_laws.proofs.Ports.Cleared.{Ignores}
-use Rattle.xinu_laws.proofs.Ports.Renewed.{is_other_port, asks_other_port, IsNewPort, ports_renewed}
-use Rattle.xinu_laws.proofs.Ports.Renewals.{ignores_here}
+use Rattle.xinu_laws.proofs.Ports.Renewed.{IsNewPort, ports_renewed}
+use Rattle.xinu_laws.proofs.Ports.Renewals.{beside_ports, port_reached_alone}
 use Rattle.xinu_laws.proofs.Ports.Signals.{HasPorts}
 
--- what knows nothing of ports
-pub record IgnoresPorts (mine : Option Owner → Bool) (asks : Rest → Bool) : Type 0 where
-  pub others : AreOthers mine asks
-  pub ports : (q : ℕ) → Ignores mine asks q
-
--- What a call on a port keeps: what holds of tables and ports, the pools as they were, and all calm for what knows nothing of ports.
-pub record PreservesPorts (s : Xinu) (h : CallResult) : Type 0 where
+-- What a call on a port keeps: what holds of tables and ports.
+pub record PreservesPorts (h : CallResult) : Type 0 where
   pub preserved : IsPreserved h
   pub ports : HasPorts h.call
-  pub pools : h.call.state.parts.pools ≡ s.parts.pools
-  pub calm : (mine : Option Owner → Bool) (asks : Rest → Bool) → IgnoresPorts mine asks → IsCalm mine asks s.tables h.call.state.tables
 
 -- a refusal keeps all
-pub refused_on_ports : (s : Xinu) → MayCall s → ArePorts s.tables s.parts.ports → PreservesPorts s (refused s)
-refused_on_ports s c a = record { preserved = refused_preserves s c; ports = a; pools = refl; calm = λ mine asks i. calm_refl s.tables }
+pub refused_on_ports : (s : Xinu) → MayCall s → ArePorts s.tables s.parts.ports → PreservesPorts (refused s)
+refused_on_ports s c a = record { preserved = refused_preserves s c; ports = a }
 
 -- a semaphore that is made is its owner's
 made_here : (t : Tables) (sem tokens : ℕ) (by : Owner) → IsSoundTables t → sem < 128 → semaphore_at (make_semaphore sem by tokens t) sem ≡ record { owner = Some by; tokens = tokens; waiters = [] }
@@ -50,7 +42,7 @@ made_other t sem r tokens by n = get_or-set_other t.semaphores sem r (record { o
 -- Port q is made with two semaphores that aren't in use.
 pub port_made : (q n send receive : ℕ) (s : Xinu) → MayCall s → ArePorts s.tables s.parts.ports → q < most_ports → (port_at s.parts.ports q).queue ≡ None
     → send < 128 → (semaphore_at s.tables send).owner ≡ None → receive < 128 → (semaphore_at (make_semaphore send (owner.Port q) n s.tables) receive).owner ≡ None
-    → PreservesPorts s (with_port q n send receive s)
+    → PreservesPorts (with_port q n send receive s)
 port_made q n send receive s c a w unused ws fs wr fr =
     let t = s.tables in
     let by = owner.Port q in
@@ -63,8 +55,7 @@ port_made q n send receive s c a w unused ws fs wr fr =
     let at_send : semaphore_at v send ≡ record { owner = Some by; tokens = n; waiters = [] } = made_other u receive send 0 by (λ e. differ (sym e)) ∙ made_here t send n by c.tables ws in
     let at_receive = made_here u receive 0 by ku wr in
     let queue : PortQueue = record { first_count = n; send = send; receive = receive; messages = [] } in
-    let calm : (mine : Option Owner → Bool) (asks : Rest → Bool) → mine None ≡ false → Ignores mine asks q → IsCalm mine asks t v = λ mine asks z g.
-    calm_trans t u v (calm_make_semaphore t send by n (ap mine fs ∙ z) g.owner) (calm_make_semaphore u receive by 0 (ap mine fr ∙ z) g.owner) in
+    let touches : Touches (beside_ports q) s (with_port q n send receive s).call.state = with_port_touches q (port_reached_alone q) n send receive s fs fr in
     let new : IsNewPort v q queue = record {
       send_owner = ap (λ (x : Semaphore). x.owner) at_send;
       receive_owner = ap (λ (x : Semaphore). x.owner) at_receive;
@@ -83,11 +74,9 @@ port_made q n send receive s c a w unused ws fs wr fr =
     (sym (ap (λ (x : Semaphore). x.owner) (made_other u receive r 0 by m)) ∙ e)) in
     record {
       preserved = record { tables = kv; harts = c.harts };
-      ports = ports_renewed q (Some queue) t v s.parts.ports w kv.inside (calm (is_other_port q) (asks_other_port q) refl (ignores_here q)) (record { rests = λ p h. refl })
+      ports = ports_renewed q (Some queue) t v s.parts.ports w kv.inside touches.frame (record { rests = λ p h. refl })
           (λ x f. subst (λ (y : PortQueue). IsNewPort v q y) (let g : queue ≡ x = cc in g) new)
           (λ r f. (queue, refl, owned r f)) refl a;
-      pools = refl;
-      calm = λ mine asks i. calm mine asks i.others.none (i.ports q);
     }
 
 -- a port that isn't in use has no queue
@@ -97,7 +86,7 @@ unused_queue (Some queue) h = cc
 
 -- the second semaphore is found or not
 made_on_ports : (found : Option ℕ) (q n send : ℕ) (s : Xinu) → MayCall s → ArePorts s.tables s.parts.ports → q < most_ports → (port_at s.parts.ports q).queue ≡ None
-    → send < 128 → (semaphore_at s.tables send).owner ≡ None → free_semaphore (make_semaphore send (owner.Port q) n s.tables) ≡ found → PreservesPorts s (made_port found q n send s)
+    → send < 128 → (semaphore_at s.tables send).owner ≡ None → free_semaphore (make_semaphore send (owner.Port q) n s.tables) ≡ found → PreservesPorts (made_port found q n send s)
 made_on_ports None q n send s c a w unused ws fs e = refused_on_ports s c a
 made_on_ports (Some receive) q n send s c a w unused ws fs e =
     let u = make_semaphore send (owner.Port q) n s.tables in
@@ -105,7 +94,7 @@ made_on_ports (Some receive) q n send s c a w unused ws fs e =
     (search_within (λ r. not (is_some (semaphore_at u r).owner)) 128 (u.last_semaphore + 1) receive e) (free_semaphore_free u receive e)
 
 -- the number and the first semaphore are found or not
-start_on_ports : (found first : Option ℕ) (n : ℕ) (s : Xinu) → MayCall s → ArePorts s.tables s.parts.ports → free_port s ≡ found → free_semaphore s.tables ≡ first → PreservesPorts s (started_port found first n s)
+start_on_ports : (found first : Option ℕ) (n : ℕ) (s : Xinu) → MayCall s → ArePorts s.tables s.parts.ports → free_port s ≡ found → free_semaphore s.tables ≡ first → PreservesPorts (started_port found first n s)
 start_on_ports None first n s c a e f = refused_on_ports s c a
 start_on_ports (Some q) None n s c a e f = refused_on_ports s c a
 start_on_ports (Some q) (Some send) n s c a e f =
@@ -115,6 +104,6 @@ start_on_ports (Some q) (Some send) n s c a e f =
     (search_within (λ r. not (is_some (semaphore_at s.tables r).owner)) 128 (s.tables.last_semaphore + 1) send f) (free_semaphore_free s.tables send f) refl
 
 -- Call 31.
-pub ptcreate_on_ports : (count : ℤ) (s : Xinu) → MayCall s → ArePorts s.tables s.parts.ports → PreservesPorts s (ptcreate count s)
+pub ptcreate_on_ports : (count : ℤ) (s : Xinu) → MayCall s → ArePorts s.tables s.parts.ports → PreservesPorts (ptcreate count s)
 ptcreate_on_ports (negsuc n) s c a = refused_on_ports s c a
 ptcreate_on_ports (pos n) s c a = start_on_ports (free_port s) (free_semaphore s.tables) n s c a refl refl

@@ -1,41 +1,42 @@
 -- A port is deleted or reset once all who wait on it are released: what holds of tables and ports is kept, and the rest is left alone.
-use Rattle.std.proofs.Common.{◌≡◌, ◌≢◌, ◌⊎◌, ℕ, ◌<◌, ◌≤◌, Bool, false, [], length, Option, None, Some, inl, inr, ⊎_elim, refl, sym, ap, subst, ◌∙◌, arith, get_or-set_same, get_or-set_other}
-use Rattle.xinu_base.specs.declared.processes.Rest.{Rest}
-use Rattle.xinu_base.specs.declared.semaphores.Owner.{Owner}
+use Rattle.std.proofs.Common.{◌≡◌, ◌≢◌, ◌⊎◌, ℕ, ◌<◌, ◌≤◌, [], length, None, Some, inl, inr, ⊎_elim, refl, sym, ap, subst, ◌∙◌, arith, get_or-set_same, get_or-set_other}
 use Rattle.xinu_base.specs.declared.semaphores.Owner.TheVariants as owner
-use Rattle.xinu_model.specs.Machine.{CallState}
+use Rattle.xinu_model.specs.Machine.{Parts, CallState}
 use Rattle.xinu_model.specs.Ports.Queues.{PortQueue, port_at}
+use Rattle.xinu_model.specs.Footprints.{on_ports}
+use Rattle.xinu_laws.specs.Touches.{Reach, reach, Touches}
 use Rattle.xinu_model.specs.Ports.Calls.{renewed, deleted, emptied_port}
 use Rattle.xinu_model.specs.Semaphores.Counts.{with_semaphore, with_tokens}
 use Rattle.xinu_model.specs.Semaphores.Waiting.{emptied}
 use Rattle.xinu_model.specs.Sound.Tables.{IsSoundTables}
 use Rattle.xinu_model.specs.Sound.Ports.{ArePorts}
 use Rattle.xinu_model.specs.Tables.{Semaphore, no_semaphore, Tables, semaphore_at}
-use Rattle.xinu_laws.proofs.Calm.{IsCalm, calm_trans}
-use Rattle.xinu_laws.proofs.Calm.Put.{same_written}
-use Rattle.xinu_laws.proofs.Calm.Semaphores.{calm_semaphore, calm_tokens}
+use Rattle.xinu_laws.proofs.Frame.MoveTo.{same_written}
+use Rattle.xinu_laws.proofs.Touches.{touches_trans}
+use Rattle.xinu_laws.proofs.Touches.Ports.{HasPort, port_reached, port_cleared_touches, deleted_touches, emptied_port_touches}
 use Rattle.xinu_laws.proofs.Tables.Changes.{owned_is_no_device, sound_given_up, sound_tokens}
-use Rattle.xinu_laws.proofs.Pools.Steps.{owner_tokens}
+use Rattle.xinu_laws.proofs.Tables.Owners.{owner_tokens}
 use Rattle.xinu_laws.proofs.Tables.MoveTo.{by_number, semaphore_within}
-use Rattle.xinu_laws.proofs.Ports.Cleared.{Ignores, port_cleared}
+use Rattle.xinu_laws.proofs.Ports.Cleared.{port_cleared}
 use Rattle.xinu_laws.proofs.Ports.Kept.{keeps_rests_trans}
 use Rattle.xinu_laws.proofs.Ports.Messages.{port_within}
 use Rattle.xinu_laws.proofs.Ports.Moves.{keeps_rests_semaphore}
 use Rattle.xinu_laws.proofs.Ports.Renewed.{is_other_port, asks_other_port, not_other, unasked_here, IsNewPort, ports_renewed}
 use Rattle.xinu_laws.proofs.Ports.Signals.{HasPorts}
 
--- From d to e port q is renewed: what holds of tables and ports holds, the pools are as they were, and what knows nothing of port q
--- finds all calm.
+-- From d to e port q is renewed: what holds of tables and ports holds, and nothing else is touched.
 pub record IsRenewed (q : ℕ) (d e : CallState) : Type 0 where
   pub tables : IsSoundTables e.state.tables
   pub harts : length e.state.harts ≡ length d.state.harts
   pub ports : HasPorts e
-  pub pools : e.state.parts.pools ≡ d.state.parts.pools
-  pub calm : (mine : Option Owner → Bool) (asks : Rest → Bool) → mine None ≡ false → Ignores mine asks q → IsCalm mine asks d.state.tables e.state.tables
+  pub touches : Touches (reach on_ports) d.state e.state
 
--- what knows of the ports other than q ignores q
-pub ignores_here : (q : ℕ) → Ignores (is_other_port q) (asks_other_port q) q
-ignores_here q = record { owner = not_other q q refl; waits = unasked_here q }
+-- what leaves the ports other than q alone, and may touch port q
+abbrev pub beside_ports : ℕ → Reach
+beside_ports q = record { mine = is_other_port q; asks = asks_other_port q; parts = on_ports }
+
+pub port_reached_alone : (q : ℕ) → HasPort (beside_ports q) q
+port_reached_alone q = record { none = λ sem. refl; owner = λ sem. not_other q q refl; waits = unasked_here q; nothing = refl; parts = refl }
 
 -- a semaphore of a port is one of the table, and not the kernel's
 port_semaphore : (q sem : ℕ) (t : Tables) → IsSoundTables t → (semaphore_at t sem).owner ≡ Some (owner.Port q) → (sem < 128) × (4 ≤ sem)
@@ -66,9 +67,8 @@ port_deleted q queue d k a here =
     let ku = sound_given_up t queue.send c.tables ws.0 ws.1 c.no_senders in
     let wr = port_semaphore q queue.receive u ku receive in
     let kv = sound_given_up u queue.receive ku wr.0 wr.1 (ap (λ (x : Semaphore). x.waiters) other ∙ c.no_receivers) in
-    let calm : (mine : Option Owner → Bool) (asks : Rest → Bool) → mine None ≡ false → Ignores mine asks q → IsCalm mine asks d.state.tables v = λ mine asks n g.
-    calm_trans d.state.tables t v (c.calm mine asks g)
-    (calm_trans t u v (calm_semaphore t queue.send no_semaphore (ap mine send ∙ g.owner) n) (calm_semaphore u queue.receive no_semaphore (ap mine receive ∙ g.owner) n)) in
+    let touches : (f : Reach) → HasPort f q → Touches f d.state (deleted q queue e).state = λ f g.
+    touches_trans (port_cleared_touches q g queue d k i.send_owner i.receive_owner) (deleted_touches q g queue e send (c.owners queue.receive ∙ i.receive_owner)) in
     let gone : (sem : ℕ) → (semaphore_at v sem).owner ≢ Some (owner.Port q) = λ sem. by_number sem queue.receive (λ r. (semaphore_at v r).owner ≢ Some (owner.Port q))
     (λ f. (let g = ap (λ (x : Semaphore). x.owner) (written_here u queue.receive no_semaphore ku wr.0) in cc))
     (λ n f. by_number sem queue.send (λ r. (semaphore_at u r).owner ≢ Some (owner.Port q))
@@ -80,13 +80,12 @@ port_deleted q queue d k a here =
     record {
       tables = kv;
       harts = c.harts;
-      ports = subst (λ l. ArePorts v (renewed q None l)) (sym c.others.ports)
+      ports = subst (λ l. ArePorts v (renewed q None l)) (sym (ap (λ (p : Parts). p.ports) c.parts))
           (ports_renewed q None d.state.tables v d.state.parts.ports (let w = port_within q queue d.state.parts.ports here in let m = a.many in omega arith) kv.inside
-          (calm (is_other_port q) (asks_other_port q) refl (ignores_here q))
+          (touches (beside_ports q) (port_reached_alone q)).frame
           (keeps_rests_trans d.state.tables t v c.rests (keeps_rests_trans t u v (keeps_rests_semaphore t queue.send no_semaphore) (keeps_rests_semaphore u queue.receive no_semaphore)))
           (λ x f. cc) (λ sem f. absurd (gone sem f)) refl a);
-      pools = c.others.pools;
-      calm = calm;
+      touches = touches (reach on_ports) (port_reached q);
     }
 
 -- other tokens leave a semaphore its waiters
@@ -113,9 +112,8 @@ port_reset q queue d k a here =
     let ku = sound_tokens t queue.send n c.tables ws.0 (inr c.no_senders) in
     let wr = port_semaphore q queue.receive u ku receive in
     let kv = sound_tokens u queue.receive 0 ku wr.0 (inl refl) in
-    let calm : (mine : Option Owner → Bool) (asks : Rest → Bool) → mine None ≡ false → Ignores mine asks q → IsCalm mine asks d.state.tables v = λ mine asks z g.
-    calm_trans d.state.tables t v (c.calm mine asks g)
-    (calm_trans t u v (calm_tokens t queue.send n (ap mine send ∙ g.owner)) (calm_tokens u queue.receive 0 (ap mine receive ∙ g.owner))) in
+    let touches : (f : Reach) → HasPort f q → Touches f d.state (emptied_port q queue e).state = λ f g.
+    touches_trans (port_cleared_touches q g queue d k i.send_owner i.receive_owner) (emptied_port_touches q g queue e send (c.owners queue.receive ∙ i.receive_owner)) in
     let y : Semaphore = record (semaphore_at t queue.send) { tokens = n } in
     let z : Semaphore = record (semaphore_at u queue.receive) { tokens = 0 } in
     let new : IsNewPort v q next = record {
@@ -131,15 +129,14 @@ port_reset q queue d k a here =
     record {
       tables = kv;
       harts = c.harts;
-      ports = subst (λ l. ArePorts v (renewed q (Some next) l)) (sym c.others.ports)
+      ports = subst (λ l. ArePorts v (renewed q (Some next) l)) (sym (ap (λ (p : Parts). p.ports) c.parts))
           (ports_renewed q (Some next) d.state.tables v d.state.parts.ports (let w = port_within q queue d.state.parts.ports here in let m = a.many in omega arith) kv.inside
-          (calm (is_other_port q) (asks_other_port q) refl (ignores_here q))
+          (touches (beside_ports q) (port_reached_alone q)).frame
           (keeps_rests_trans d.state.tables t v c.rests (keeps_rests_trans t u v (keeps_rests_semaphore t queue.send y) (keeps_rests_semaphore u queue.receive z)))
           (λ x f. subst (λ (w : PortQueue). IsNewPort v q w) (let g : next ≡ x = cc in g) new)
           (λ s f. (let h = a.owned s q (sym (owners s) ∙ f) in
           let same : h.0 ≡ queue = (let h1 = h.1 in cc) in
           (next, refl, subst (λ (w : PortQueue). (s ≡ w.send) ⊎ (s ≡ w.receive)) same h.2)))
           refl a);
-      pools = c.others.pools;
-      calm = calm;
+      touches = touches (reach on_ports) (port_reached q);
     }

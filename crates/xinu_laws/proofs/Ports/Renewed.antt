@@ -14,15 +14,15 @@ use Rattle.xinu_model.specs.Sound.Tables.{times, count_in, IsForPort, IsInside}
 use Rattle.xinu_model.specs.Sound.Pools.{is_waiting}
 use Rattle.xinu_model.specs.Sound.Ports.{sends_to, receives_from, is_released_sender, is_released_receiver, IsSoundPort, ArePorts}
 use Rattle.xinu_model.specs.Tables.{no_process, Tables, process_at, semaphore_at}
-use Rattle.xinu_laws.proofs.Calm.{IsCalm}
+use Rattle.xinu_laws.specs.Frame.{Frame}
 use Rattle.xinu_laws.proofs.Tables.MoveTo.{by_number}
 use Rattle.xinu_laws.proofs.Ports.Counts.{times_none, nodes-set}
-use Rattle.xinu_laws.proofs.Ports.Kept.{asks_port, KeepsRests, Covers, counts_kept, sound_port_kept, keeps_port_calm, keeps_counts_calm}
+use Rattle.xinu_laws.proofs.Ports.Kept.{asks_port, KeepsRests, Covers, counts_kept, sound_port_kept, keeps_port_framed, keeps_counts_framed}
 
 -- whether a semaphore's owner is a port other than q
-abbrev pub is_other_port : ℕ → Option Owner → Bool
-is_other_port q (Some (owner.Port r)) = not (r == q)
-is_other_port q _ = false
+abbrev pub is_other_port : ℕ → ℕ → Option Owner → Bool
+is_other_port q sem (Some (owner.Port r)) = not (r == q)
+is_other_port q sem _ = false
 
 -- whether what is left of a call is that of a call on a port other than q
 abbrev pub asks_other_port : ℕ → Rest → Bool
@@ -56,10 +56,10 @@ receives_from_one q r seq (PtRecv ticket) n h = other ticket.port q (λ e. n (sy
 receives_from_one q r seq (PtSend ticket message) n h = cc
 receives_from_one q r seq _ n h = h
 
--- so the moves that know nothing of the ports other than q keep each of them
+-- so what leaves the ports other than q alone covers each of them
 covers_other : (q r : ℕ) → r ≢ q → Covers (is_other_port q) (asks_other_port q) r
 covers_other q r n = record {
-  owner = other r q n;
+  owner = λ sem. other r q n;
   waits = λ s left h. waits_on_other q r s left n h;
   sends = λ seq left h. sends_to_one q r seq left n h;
   receives = λ seq left h. receives_from_one q r seq left n h;
@@ -142,7 +142,7 @@ sound_new_port q queue t u ports k a n =
     }
 
 -- Port q is renewed: what holds of it as it is now, and what held of the others, holds of all.
-pub ports_renewed : (q : ℕ) (x : Option PortQueue) (t u : Tables) (ports : List Port) → q < most_ports → IsInside u → IsCalm (is_other_port q) (asks_other_port q) t u → KeepsRests t u
+pub ports_renewed : (q : ℕ) (x : Option PortQueue) (t u : Tables) (ports : List Port) → q < most_ports → IsInside u → Frame (is_other_port q) (asks_other_port q) t u → KeepsRests t u
     → ((queue : PortQueue) → x ≡ Some queue → IsNewPort u q queue)
     → ((sem : ℕ) → (semaphore_at u sem).owner ≡ Some (owner.Port q) → (queue : PortQueue) × (x ≡ Some queue) × ((sem ≡ queue.send) ⊎ (sem ≡ queue.receive)))
     → length (queued x) ≡ 0 → ArePorts t ports → ArePorts u (renewed q x ports)
@@ -165,10 +165,10 @@ ports_renewed q x t u ports w o c rests new owned none a =
           (λ n queue e. (let k = a.each r queue (sym (ap (λ (z : Port). z.queue) (others r n)) ∙ e) in
           let v = covers_other q r n in
           subst (λ (z : Port). IsSoundPort u r z.seq queue) (sym (others r n))
-          (sound_port_kept r (port_at ports r).seq queue t u (keeps_port_calm r t u v o c) (counts_kept r (port_at ports r).seq queue t u (keeps_counts_calm r t u v c) k) k)));
+          (sound_port_kept r (port_at ports r).seq queue t u (keeps_port_framed r t u v o c) (counts_kept r (port_at ports r).seq queue t u (keeps_counts_framed r t u v c) k) k)));
       owned = λ sem r. by_number r q (λ v. (semaphore_at u sem).owner ≡ Some (owner.Port v) → (queue : PortQueue) × ((port_at now v).queue ≡ Some queue) × ((sem ≡ queue.send) ⊎ (sem ≡ queue.receive)))
           (λ e. (let f = owned sem e in (f.0, ap (λ (z : Port). z.queue) same ∙ f.1, f.2)))
-          (λ n e. (let f = a.owned sem r ((keeps_port_calm r t u (covers_other q r n) o c).old sem e) in (f.0, ap (λ (z : Port). z.queue) (others r n) ∙ f.1, f.2)));
+          (λ n e. (let f = a.owned sem r ((keeps_port_framed r t u (covers_other q r n) o c).old sem e) in (f.0, ap (λ (z : Port). z.queue) (others r n) ∙ f.1, f.2)));
       sent = λ p ticket message e. (let f = a.sent p ticket message (sym (rests.rests p (ap asks_port e)) ∙ e) in let g = later ticket.port in omega arith);
       received = λ p ticket e. (let f = a.received p ticket (sym (rests.rests p (ap asks_port e)) ∙ e) in let g = later ticket.port in omega arith);
     }

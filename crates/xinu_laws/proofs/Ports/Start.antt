@@ -1,5 +1,5 @@
 -- At the start no port is in use.
-use Rattle.std.proofs.Common.{◌≡◌, ℕ, zero, suc, ◌<◌, false, List, length, refl, sym, ap, subst, arith}
+use Rattle.std.proofs.Common.{◌≡◌, ℕ, zero, suc, false, List, refl, sym, ap, subst, arith}
 use Rattle.std.specs.Prelude.{replicate}
 use Rattle.std.proofs.lemmas.Bool.{both_ways}
 use Rattle.xinu_model.specs.Boot.{Loaded, Boots, boot}
@@ -7,8 +7,10 @@ use Rattle.xinu_model.specs.Machine.{Xinu}
 use Rattle.xinu_model.specs.Ports.Queues.{Port, no_port, first_ports, most_ports, port_at, nodes}
 use Rattle.xinu_model.specs.Sound.Ports.{ArePorts}
 use Rattle.xinu_model.specs.Tables.{Tables, process_at, semaphore_at}
-use Rattle.xinu_laws.proofs.Calm.Starts.{leaves_start, start_other, start_unasked}
-use Rattle.xinu_laws.proofs.Ports.Kept.{is_ports, asks_port, ports_others}
+use Rattle.xinu_model.specs.Footprints.{on_processes}
+use Rattle.xinu_laws.specs.Touches.{Reach}
+use Rattle.xinu_laws.proofs.Touches.Boot.{HasStart, touches_start, start_other, start_unasked}
+use Rattle.xinu_laws.proofs.Ports.Kept.{is_ports, asks_port}
 
 -- if no port is in use none is
 unused_at : (n q : ℕ) → port_at (replicate n no_port) q ≡ no_port
@@ -22,19 +24,26 @@ no_nodes zero = refl
 no_nodes (suc n) = let e = no_nodes n in omega arith
 
 -- If no semaphore is a port's and nobody is in a call on one, no port is in use.
-pub no_ports : (t : Tables) → ((sem : ℕ) → is_ports (semaphore_at t sem).owner ≡ false) → ((p : ℕ) → asks_port (process_at t p).rest ≡ false) → ArePorts t first_ports
+pub no_ports : (t : Tables) → ((sem : ℕ) → is_ports sem (semaphore_at t sem).owner ≡ false) → ((p : ℕ) → asks_port (process_at t p).rest ≡ false) → ArePorts t first_ports
 unfolding first_ports
 no_ports t semaphores rests = record {
   many = refl;
   few = (let e = no_nodes most_ports in omega arith);
   each = λ q queue e. (let f = ap (λ (x : Port). x.queue) (unused_at most_ports q) in cc);
-  owned = λ sem q e. absurd (both_ways (is_ports (semaphore_at t sem).owner) (semaphores sem) (ap is_ports e));
+  owned = λ sem q e. absurd (both_ways (is_ports sem (semaphore_at t sem).owner) (semaphores sem) (ap (is_ports sem) e));
   sent = λ p ticket message e. absurd (both_ways (asks_port (process_at t p).rest) (rests p) (ap asks_port e));
   received = λ p ticket e. absurd (both_ways (asks_port (process_at t p).rest) (rests p) (ap asks_port e));
 }
 
+-- the start leaves ports alone
+abbrev beside_all_ports : Reach
+beside_all_ports = record { mine = is_ports; asks = asks_port; parts = on_processes }
+
+start_reached : HasStart beside_all_ports
+start_reached = record { none = λ sem. refl; kernel = λ sem. refl; nothing = refl; heap = refl; stacks = refl }
+
 -- When the machine starts, what holds of the ports holds: none is in use.
-pub ports_start : (images : List Loaded) (start : Xinu) → length images < 64 → boot images ≡ Boots start → ArePorts start.tables start.parts.ports
-ports_start images start few e =
-    subst (ArePorts start.tables) (sym (leaves_start ports_others images start few e).others.ports)
-    (no_ports start.tables (start_other ports_others images start few e) (start_unasked ports_others images start few e))
+pub ports_start : (images : List Loaded) (start : Xinu) → boot images ≡ Boots start → ArePorts start.tables start.parts.ports
+ports_start images start e =
+    subst (ArePorts start.tables) (sym ((touches_start start_reached images start e).parts.ports refl).0)
+    (no_ports start.tables (start_other start_reached images start e) (start_unasked start_reached images start e))

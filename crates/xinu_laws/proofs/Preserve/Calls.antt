@@ -1,98 +1,191 @@
 -- Each call of the table, and what is left of each that waited, keeps what holds of tables, pools and ports.
-use Rattle.std.proofs.Common.{ℕ, List, [], ◌∷◌, ◌++◌, sym, subst, take}
-use Rattle.std.specs.Prelude.{drop, slice_index}
+use Rattle.std.proofs.Common.{◌≡◌, ℕ, Bool, true, false, not, ◌&&◌, List, Option, Some, None, refl}
+use Rattle.std.specs.Prelude.{slice_index}
 use Rattle.std.specs.List.{AllByRecursion}
-use Rattle.xinu_model.specs.Calls.{CallRow, calls, called, continued}
-use Rattle.xinu_model.specs.Machine.{Xinu, CallResult, refused}
+use Rattle.std.proofs.lemmas.Bool.{cond_both, and_parts}
+use Rattle.xinu_base.specs.Syscalls.{is_built}
+use Rattle.xinu_model.specs.Calls.{calls, call_of_number, called, continued}
+use Rattle.xinu_model.specs.Footprints.{Footprint, on_tables, on_processes, on_pools, on_ports}
+use Rattle.xinu_model.specs.Machine.{Xinu, Answer, Returns, Waits, Gone, Panics, Silent, CallResult, refused}
 use Rattle.xinu_model.specs.Messages.{go_on_receive}
 use Rattle.xinu_model.specs.Pools.Calls.{go_on_getbuf}
+use Rattle.xinu_model.specs.Ports.Calls.{go_on_ptsend, go_on_ptrecv}
+use Rattle.xinu_laws.specs.Preserve.{FitsAnswer, IsPreserved, KeepsAll, MayCall, MayCallAny}
 use Rattle.xinu_model.specs.Process.Death.{exit}
 use Rattle.xinu_model.specs.Process.Calls.{go_on_suspend}
+use Rattle.xinu_model.specs.Rows.{CallRow, found_in, done_by}
+use Rattle.xinu_model.specs.Sound.Tables.{IsInside}
 use Rattle.xinu_model.specs.Sound.Pools.{ArePools}
 use Rattle.xinu_model.specs.Sound.Ports.{ArePorts}
-use Rattle.xinu_model.specs.Tables.{process_at}
-use Rattle.xinu_laws.proofs.Preserve.Table.{called_holds, continued_holds, first_calls_preserve}
-use Rattle.xinu_laws.proofs.Calm.Calls.{leaves_exit}
-use Rattle.xinu_laws.proofs.Calm.States.{LeavesOthers}
-use Rattle.xinu_laws.proofs.Calm.Table.{first_calls_calm}
-use Rattle.xinu_laws.proofs.Calm.Waits.{leaves_go_on_receive, leaves_go_on_suspend}
-use Rattle.xinu_laws.proofs.Preserve.{IsPreserved, MayCall}
-use Rattle.xinu_laws.proofs.Preserve.Messages.{go_on_receive_preserves}
-use Rattle.xinu_laws.proofs.Preserve.Processes.{exit_preserves, go_on_suspend_preserves}
-use Rattle.xinu_laws.proofs.Lists.Orders.{all_append, all_weaker}
-use Rattle.xinu_laws.proofs.Pools.Calm.{is_pools, asks_buffer, pools_are_others}
-use Rattle.xinu_laws.proofs.Pools.Others.{PreservesPools, pool_calls_keep, go_on_getbuf_keeps, pools_left}
-use Rattle.xinu_laws.proofs.Ports.Calls.{port_calls_keep, go_on_ptsend_keeps, go_on_ptrecv_keeps, inside_preserved, ports_left_by_call}
-use Rattle.xinu_laws.proofs.Ports.Deletions.{KeepsAll, ports_ignore_pools}
-use Rattle.xinu_laws.proofs.Ports.Kept.{is_ports, asks_port, ports_others, ports_calm}
+use Rattle.xinu_model.specs.Sound.State.{IsSound}
+use Rattle.xinu_model.specs.Tables.{Tables, process_at}
+use Rattle.xinu_laws.specs.Touches.{reach, Touches}
+use Rattle.xinu_model.specs.Words.{signed, half}
+use Rattle.xinu_laws.proofs.Preserve.Continued.{continued_holds}
+use Rattle.xinu_laws.proofs.Preserve.Memory.{getmem_preserves, freemem_preserves, getstk_preserves, freestk_preserves}
+use Rattle.xinu_laws.proofs.Preserve.Messages.{send_preserves, receive_preserves, recvclr_preserves, recvtime_preserves, go_on_receive_preserves, yield_preserves, sleep_preserves, sleepms_preserves, clktime_preserves}
+use Rattle.xinu_laws.proofs.Preserve.Processes.{getpid_preserves, create_preserves, resume_preserves, suspend_preserves, go_on_suspend_preserves, kill_preserves, chprio_preserves, getprio_preserves, exit_preserves}
+use Rattle.xinu_laws.proofs.Preserve.Semaphores.{semcreate_preserves, semdelete_preserves, semreset_preserves, semcount_preserves, wait_preserves, signal_preserves, signaln_preserves}
+use Rattle.xinu_laws.proofs.Pools.Calls.{pools_getbuf, pools_go_on_getbuf, pools_freebuf}
+use Rattle.xinu_laws.proofs.Pools.Preserve.{mkbufpool_preserves, getbuf_preserves, go_on_getbuf_preserves, freebuf_preserves}
+use Rattle.xinu_laws.proofs.Pools.Made.{pools_mkbufpool}
+use Rattle.xinu_laws.proofs.Ports.Deletions.{ptdelete_keeps, ptreset_keeps}
+use Rattle.xinu_laws.proofs.Ports.Made.{PreservesPorts, ptcreate_on_ports}
+use Rattle.xinu_laws.proofs.Ports.Sends.{ptsend_on_ports, ptrecv_on_ports, go_on_ptsend_on_ports, go_on_ptrecv_on_ports}
+use Rattle.xinu_laws.proofs.Lists.RowByRow.{◌⨾◌}
+use Rattle.xinu_laws.proofs.Lists.CallRows.{of_row}
+use Rattle.xinu_laws.proofs.Touches.Kept.{keeps_pools, keeps_ports}
+use Rattle.xinu_laws.proofs.Touches.Messages.{go_on_receive_touches}
+use Rattle.xinu_laws.proofs.Touches.Pools.{go_on_getbuf_touches}
+use Rattle.xinu_laws.proofs.Touches.Ports.{go_on_ptsend_touches, go_on_ptrecv_touches}
+use Rattle.xinu_laws.proofs.Touches.Processes.{exit_touches, go_on_suspend_touches}
+use Rattle.xinu_laws.proofs.Touches.Table.{Stays, calls_touch}
 
--- Where a process calls, and what holds of pools and ports.
-pub record MayCallAny (s : Xinu) : Type 0 where
-  pub may : MayCall s
-  pub pools : ArePools s.tables s.parts.pools
-  pub ports : ArePorts s.tables s.parts.ports
+-- a state in which a process calls is sound
+pub sound_where_called : (s : Xinu) → MayCallAny s → IsSound s
+sound_where_called s c = record { tables = c.may.tables; harts = c.may.harts; pools = c.pools; ports = c.ports }
 
--- what holds of each of two lists at once
-all_both : {A : Type 0} (P Q R : A → Type 0) → ((x : A) → P x → Q x → R x) → (xs : List A) → AllByRecursion P xs → AllByRecursion Q xs → AllByRecursion R xs
-all_both P Q R f [] p q = tt
-all_both P Q R f (x ∷ xs) p q = (f x p.0 q.0, all_both P Q R f xs p.1 q.1)
+-- however a call is answered its tables are as at each moment
+inside_by_answer : (answer : Answer) (t : Tables) → FitsAnswer answer t → IsInside t
+inside_by_answer (Returns value) t k = k.inside
+inside_by_answer Panics t k = k.inside
+inside_by_answer Silent t k = k.inside
+inside_by_answer Waits t k = k
+inside_by_answer Gone t k = k
 
--- what holds of the calls on processes, semaphores, messages and the clock, of those on pools and of those on ports holds of all
-pub all_calls : (P : CallRow → Type 0) → AllByRecursion P (take 27 calls) → AllByRecursion P (take 3 (drop 27 calls)) → AllByRecursion P (drop 30 calls) → AllByRecursion P calls
-unfolding calls
-all_calls P first pools ports =
-    all_append P (take 27 calls) (take 3 (drop 27 calls) ++ drop 30 calls) first (all_append P (take 3 (drop 27 calls)) (drop 30 calls) pools ports)
+pub inside_preserved : (h : CallResult) → IsPreserved h → IsInside h.call.state.tables
+inside_preserved h k = inside_by_answer h.answer h.call.state.tables k.tables
 
--- a call that leaves pools and ports alone
-keeps_leaving : (s : Xinu) (h : CallResult) → MayCallAny s → IsPreserved h → LeavesOthers is_pools asks_buffer s h.call.state → LeavesOthers is_ports asks_port s h.call.state → KeepsAll h
-keeps_leaving s h c preserved pools ports = record {
-  preserved = preserved;
-  pools = pools_left s h.call.state pools c.pools;
-  ports = ports_left_by_call s h preserved ports c.ports;
-}
+-- A call that stays within a footprint keeps all, if it keeps what holds of the tables and of the parts that the footprint names.
+pub keeps_within : (f : Footprint) (s : Xinu) (h : CallResult) → MayCallAny s → Touches (reach f) s h.call.state → IsPreserved h
+    → (f.pools ≡ true → ArePools h.call.state.tables h.call.state.parts.pools)
+    → (f.ports ≡ true → ArePorts h.call.state.tables h.call.state.parts.ports) → KeepsAll h
+keeps_within f s h c t preserved pools ports = record { preserved = preserved; pools = by_pools f.pools refl; ports = by_ports f.ports refl }
+  where
+    by_pools : (b : Bool) → f.pools ≡ b → ArePools h.call.state.tables h.call.state.parts.pools
+    by_pools true e = pools e
+    by_pools false e = keeps_pools e t c.pools
 
--- a call on a pool
-keeps_on_pools : (s : Xinu) (h : CallResult) → MayCallAny s → PreservesPools s h → KeepsAll h
-keeps_on_pools s h c k =
-    let left = k.leaves is_ports asks_port ports_ignore_pools in
-    record {
-      preserved = k.preserved;
-      pools = k.pools;
-      ports = subst (ArePorts h.call.state.tables) (sym left.ports) (ports_calm s.tables h.call.state.tables s.parts.ports (inside_preserved h k.preserved) left.tables c.ports);
-    }
+    by_ports : (b : Bool) → f.ports ≡ b → ArePorts h.call.state.tables h.call.state.parts.ports
+    by_ports true e = ports e
+    by_ports false e = keeps_ports e t (inside_preserved h preserved) c.ports
+
+-- What is shown of a call: it keeps what holds of tables and registers, and of the parts that its footprint names.
+pub record PreservesRow (r : CallRow) : Type 0 where
+  pub preserved : (a : ℕ → ℕ) (s : Xinu) → MayCallAny s → IsPreserved (r.effect a s)
+  pub pools : r.touches.pools ≡ true → (a : ℕ → ℕ) (s : Xinu) → MayCallAny s
+      → ArePools (r.effect a s).call.state.tables (r.effect a s).call.state.parts.pools
+  pub ports : r.touches.ports ≡ true → (a : ℕ → ℕ) (s : Xinu) → MayCallAny s
+      → ArePorts (r.effect a s).call.state.tables (r.effect a s).call.state.parts.ports
+
+-- whether a footprint names neither pools nor ports
+abbrev names_no_part : Footprint → Bool
+names_no_part f = not f.pools && not f.ports
+
+-- what a footprint doesn't name it doesn't name
+unnamed : (b : Bool) {P : Type 0} → not b ≡ true → b ≡ true → P
+unnamed true h e = absurd (cc)
+unnamed false h e = absurd (cc)
+
+module _ {r : CallRow} where
+  -- A call that touches no pool and no port.
+  of_tables : names_no_part r.touches ≡ true → ((a : ℕ → ℕ) (s : Xinu) → MayCall s → IsPreserved (r.effect a s)) → PreservesRow r
+  of_tables e preserved =
+      let h = and_parts (not r.touches.pools) (not r.touches.ports) e in
+      record { preserved = λ a s c. preserved a s c.may; pools = unnamed r.touches.pools h.0; ports = unnamed r.touches.ports h.1 }
+
+  -- A call that touches pools alone.
+  of_pools : not r.touches.ports ≡ true → ((a : ℕ → ℕ) (s : Xinu) → MayCallAny s → IsPreserved (r.effect a s))
+      → ((a : ℕ → ℕ) (s : Xinu) → MayCallAny s → ArePools (r.effect a s).call.state.tables (r.effect a s).call.state.parts.pools)
+      → PreservesRow r
+  of_pools e preserved pools = record { preserved = preserved; pools = λ _. pools; ports = unnamed r.touches.ports e }
+
+  -- A call that touches ports alone.
+  of_ports : not r.touches.pools ≡ true → ((a : ℕ → ℕ) (s : Xinu) → MayCallAny s → PreservesPorts (r.effect a s)) → PreservesRow r
+  of_ports e k = record { preserved = λ a s c. (k a s c).preserved; pools = unnamed r.touches.pools e; ports = λ _ a s c. (k a s c).ports }
+
+  -- A call of which all is shown together.
+  of_all : ((a : ℕ → ℕ) (s : Xinu) → MayCallAny s → KeepsAll (r.effect a s)) → PreservesRow r
+  of_all k = record { preserved = λ a s c. (k a s c).preserved; pools = λ e a s c. (k a s c).pools; ports = λ e a s c. (k a s c).ports }
 
 -- Each call of the table.
-pub calls_keep : (a : ℕ → ℕ) (s : Xinu) → MayCallAny s → AllByRecursion (λ call. KeepsAll (call.effect a s)) calls
-calls_keep a s c =
-    let Leaves : CallRow → Type 0 = λ call. LeavesOthers is_pools asks_buffer s (call.effect a s).call.state × LeavesOthers is_ports asks_port s (call.effect a s).call.state in
-    let o = c.may.tables.inside in
-    let pools = first_calls_calm is_pools asks_buffer pools_are_others a s o in
-    let ports = first_calls_calm is_ports asks_port ports_others a s o in
-    let both = all_both (λ call. LeavesOthers is_pools asks_buffer s (call.effect a s).call.state) (λ call. LeavesOthers is_ports asks_port s (call.effect a s).call.state) Leaves (λ call p q. (p, q)) (take 27 calls) pools ports in
-    let first = all_both (λ call. IsPreserved (call.effect a s)) Leaves (λ call. KeepsAll (call.effect a s)) (λ call preserved l. keeps_leaving s (call.effect a s) c preserved l.0 l.1) (take 27 calls) (first_calls_preserve a s c.may) both in
-    all_calls (λ call. KeepsAll (call.effect a s)) first
-    (all_weaker (λ call. PreservesPools s (call.effect a s)) (λ call. KeepsAll (call.effect a s)) (λ call k. keeps_on_pools s (call.effect a s) c k) (take 3 (drop 27 calls)) (pool_calls_keep a s c.may c.pools))
-    (port_calls_keep a s c.may c.pools c.ports)
+pub calls_preserve : AllByRecursion PreservesRow calls
+unfolding calls
+calls_preserve =
+    of_tables refl (λ a. getpid_preserves) ⨾
+    of_tables refl (λ a. create_preserves (a 0) (a 1) (half (a 2)) (a 3) (a 4) (a 5)) ⨾
+    of_tables refl (λ a. resume_preserves (a 0)) ⨾
+    of_tables refl (λ a. suspend_preserves (a 0)) ⨾
+    of_tables refl (λ a. kill_preserves (a 0)) ⨾
+    of_tables refl (λ a. yield_preserves) ⨾
+    of_tables refl (λ a. chprio_preserves (a 0) (half (a 1))) ⨾
+    of_tables refl (λ a. getprio_preserves (a 0)) ⨾
+    of_tables refl (λ a. exit_preserves) ⨾
+    of_tables refl (λ a. getmem_preserves (a 0)) ⨾
+    of_tables refl (λ a. freemem_preserves (a 0) (a 1)) ⨾
+    of_tables refl (λ a. getstk_preserves (a 0)) ⨾
+    of_tables refl (λ a. freestk_preserves (a 0) (a 1)) ⨾
+    of_tables refl (λ a. semcreate_preserves (signed (a 0))) ⨾
+    of_tables refl (λ a. semdelete_preserves (a 0)) ⨾
+    of_tables refl (λ a. semreset_preserves (a 0) (signed (a 1))) ⨾
+    of_tables refl (λ a. semcount_preserves (a 0)) ⨾
+    of_tables refl (λ a. wait_preserves (a 0)) ⨾
+    of_tables refl (λ a. signal_preserves (a 0)) ⨾
+    of_tables refl (λ a. signaln_preserves (a 0) (signed (a 1))) ⨾
+    of_tables refl (λ a. send_preserves (a 0) (a 1)) ⨾
+    of_tables refl (λ a. receive_preserves) ⨾
+    of_tables refl (λ a. recvclr_preserves) ⨾
+    of_tables refl (λ a. recvtime_preserves (signed (a 0))) ⨾
+    of_tables refl (λ a. sleep_preserves (signed (a 0))) ⨾
+    of_tables refl (λ a. sleepms_preserves (signed (a 0))) ⨾
+    of_tables refl (λ a. clktime_preserves) ⨾
+    of_pools refl (λ a s c. mkbufpool_preserves (a 0) (a 1) s c.may) (λ a s c. pools_mkbufpool (a 0) (a 1) s c.may.tables.inside c.pools) ⨾
+    of_pools refl (λ a s c. getbuf_preserves (a 0) s c.may c.pools) (λ a s c. pools_getbuf (a 0) s c.may.tables c.pools) ⨾
+    of_pools refl (λ a s c. freebuf_preserves (a 0) s c.may c.pools) (λ a s c. pools_freebuf (a 0) s c.may.tables.inside c.pools) ⨾
+    of_ports refl (λ a s c. ptcreate_on_ports (signed (a 0)) s c.may c.ports) ⨾
+    of_all (λ a s c. ptdelete_keeps (a 0) (a 1) s c.may c.pools c.ports) ⨾
+    of_all (λ a s c. ptreset_keeps (a 0) (a 1) s c.may c.pools c.ports) ⨾
+    of_ports refl (λ a s c. ptsend_on_ports (a 0) (a 1) s c.may c.ports) ⨾
+    of_ports refl (λ a s c. ptrecv_on_ports (a 0) s c.may c.ports) ⨾
+    tt
 
--- A refusal.
+-- So each call keeps what holds of tables, pools and ports: the row of a number,
+pub row_keeps : (number : ℕ) (r : CallRow) → found_in calls number ≡ Some r → (a : ℕ → ℕ) (s : Xinu) → MayCallAny s
+    → KeepsAll (r.effect a s)
+row_keeps number r e a s c =
+    let t = of_row Stays calls calls_touch number r e in
+    let k = of_row PreservesRow calls calls_preserve number r e in
+    keeps_within r.touches s (r.effect a s) c (t a s (sound_where_called s c)) (k.preserved a s c) (λ h. k.pools h a s c) (λ h. k.ports h a s c)
+
+-- a refusal,
 pub refused_keeps_all : (s : Xinu) → MayCallAny s → KeepsAll (refused s)
 refused_keeps_all s c = record { preserved = record { tables = c.may.tables; harts = c.may.harts }; pools = c.pools; ports = c.ports }
 
--- A call of any number.
+-- the call of any number, whether it is built or not,
+pub call_keeps : (number : ℕ) (args : List ℕ) (s : Xinu) → MayCallAny s → KeepsAll (call_of_number number args s)
+call_keeps number args s c = by_row (found_in calls number) refl
+  where
+    by_row : (found : Option CallRow) → found_in calls number ≡ found → KeepsAll (done_by found args s)
+    by_row None e = refused_keeps_all s c
+    by_row (Some r) e = row_keeps number r e (slice_index args) s c
+
 pub called_keeps : (number : ℕ) (args : List ℕ) (s : Xinu) → MayCallAny s → KeepsAll (called number args s)
-called_keeps number args s c = called_holds KeepsAll number args s (refused_keeps_all s c) (calls_keep (slice_index args) s c)
+called_keeps number args s c = cond_both (is_built number) (call_of_number number args s) (refused s) KeepsAll (λ _. call_keeps number args s c) (λ _. refused_keeps_all s c)
 
--- The death of the caller.
+-- the death of the caller,
 pub exit_keeps : (s : Xinu) → MayCallAny s → KeepsAll (exit s)
-exit_keeps s c = keeps_leaving s (exit s) c (exit_preserves s c.may) (leaves_exit pools_are_others s) (leaves_exit ports_others s)
+exit_keeps s c = keeps_within on_processes s (exit s) c (exit_touches s (sound_where_called s c)) (exit_preserves s c.may) (λ e. absurd (cc)) (λ e. absurd (cc))
 
--- What is left of any call that waited.
+-- and what is left of any call that waited.
 pub continued_keeps : (s : Xinu) → MayCallAny s → KeepsAll (continued (process_at s.tables s.tables.current).rest s)
 continued_keeps s c =
+    let k = sound_where_called s c in
     continued_holds KeepsAll (process_at s.tables s.tables.current).rest s
-    (keeps_leaving s (go_on_receive s) c (go_on_receive_preserves s c.may) (leaves_go_on_receive pools_are_others s) (leaves_go_on_receive ports_others s))
-    (keeps_leaving s (go_on_suspend s) c (go_on_suspend_preserves s c.may) (leaves_go_on_suspend pools_are_others s) (leaves_go_on_suspend ports_others s))
-    (λ i e. keeps_on_pools s (go_on_getbuf i s) c (go_on_getbuf_keeps i s c.may c.pools e))
-    (λ ticket message e. go_on_ptsend_keeps ticket message s c.may c.pools c.ports e)
-    (λ ticket e. go_on_ptrecv_keeps ticket s c.may c.pools c.ports e)
+    (keeps_within on_tables s (go_on_receive s) c (go_on_receive_touches s k) (go_on_receive_preserves s c.may) (λ e. absurd (cc)) (λ e. absurd (cc)))
+    (keeps_within on_tables s (go_on_suspend s) c (go_on_suspend_touches s k) (go_on_suspend_preserves s c.may) (λ e. absurd (cc)) (λ e. absurd (cc)))
+    (λ i e. keeps_within on_pools s (go_on_getbuf i s) c (go_on_getbuf_touches i s k) (go_on_getbuf_preserves i s c.may) (λ _. pools_go_on_getbuf i s c.may.tables c.pools e) (λ g. absurd (cc)))
+    (λ ticket message e. let p = go_on_ptsend_on_ports ticket message s c.may c.ports e in
+    keeps_within on_ports s (go_on_ptsend ticket message s) c (go_on_ptsend_touches ticket message s k) p.preserved (λ g. absurd (cc)) (λ _. p.ports))
+    (λ ticket e. let p = go_on_ptrecv_on_ports ticket s c.may c.ports e in
+    keeps_within on_ports s (go_on_ptrecv ticket s) c (go_on_ptrecv_touches ticket s k) p.preserved (λ g. absurd (cc)) (λ _. p.ports))
     (record { preserved = record { tables = c.may.tables; harts = c.may.harts }; pools = c.pools; ports = c.ports })

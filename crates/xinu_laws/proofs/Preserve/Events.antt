@@ -1,5 +1,5 @@
 -- Each event keeps the whole state sound, and so does each run; the machine starts in a sound state.
-use Rattle.std.proofs.Common.{◌≡◌, ◌≢◌, ◌<◌, ◌==◌, ℕ, List, [], ◌∷◌, cond, length, ap, subst, ◌∙◌}
+use Rattle.std.proofs.Common.{◌≡◌, ◌≢◌, ◌<◌, ◌==◌, ◌+◌, ℕ, List, [], ◌∷◌, cond, length, refl, ap, subst, ◌∙◌}
 use Rattle.std.proofs.lemmas.Bool.{cond_both, eqb-false}
 use Rattle.xinu_base.specs.declared.events.End.{End}
 use Rattle.xinu_base.specs.declared.events.Event.{Event}
@@ -10,23 +10,25 @@ use Rattle.xinu_base.specs.declared.registers.Outcome.{Outcome}
 use Rattle.xinu_base.specs.declared.registers.Outcome.TheVariants as outcome
 use Rattle.xinu_model.specs.Boot.{Loaded, Boots, boot}
 use Rattle.xinu_model.specs.Calls.{called, continued}
-use Rattle.xinu_model.specs.Clock.{ticked}
+use Rattle.xinu_model.specs.Clock.{due, ticked}
 use Rattle.xinu_model.specs.Events.{call_of, call_line, exit_call, with_executed, reacted, is_done, instruction_step, stepped, effect_of}
 use Rattle.xinu_model.specs.Isa.Exec.{Executed, exec}
-use Rattle.xinu_model.specs.Machine.{Xinu, CallResult, EventResult, current_hart, nothing_happens, end_of_event}
+use Rattle.xinu_model.specs.Machine.{Xinu, start, CallResult, EventResult, current_hart, nothing_happens, end_of_event}
 use Rattle.xinu_model.specs.Process.Death.{exit}
 use Rattle.xinu_model.specs.Runs.{RunsTo}
 use Rattle.xinu_model.specs.Sound.State.{IsSound}
 use Rattle.xinu_model.specs.Tables.{process_at}
-use Rattle.xinu_laws.proofs.Calm.Events.{leaves_end_of_event, leaves_ticked}
-use Rattle.xinu_laws.proofs.Calm.Starts.{pools_start}
+use Rattle.xinu_laws.proofs.Pools.Start.{pools_start}
+use Rattle.xinu_laws.proofs.Touches.Events.{touches_end_of_event, touches_ticked}
+use Rattle.xinu_laws.proofs.Touches.Kept.{keeps_pools, keeps_ports}
+use Rattle.xinu_model.specs.Footprints.{on_tables}
+use Rattle.xinu_laws.specs.Touches.{reach, Touches}
 use Rattle.xinu_laws.proofs.Tables.Ends.{sound_end_of_event, harts_end_of_event, harts_ticked, executed_may_call}
-use Rattle.xinu_laws.proofs.Pools.Others.{pools_left}
-use Rattle.xinu_laws.proofs.Ports.Calls.{inside_preserved, ports_left}
-use Rattle.xinu_laws.proofs.Ports.Deletions.{KeepsAll}
 use Rattle.xinu_laws.proofs.Ports.Start.{ports_start}
+use Rattle.xinu_laws.proofs.Tables.Unblock.{unblock_all_ready}
 use Rattle.xinu_laws.proofs.Preserve.Runs.{IsKept, runs_keep}
-use Rattle.xinu_laws.proofs.Preserve.Calls.{MayCallAny, called_keeps, exit_keeps, continued_keeps}
+use Rattle.xinu_laws.specs.Preserve.{MayCallAny, KeepsAll, ticking}
+use Rattle.xinu_laws.proofs.Preserve.Calls.{inside_preserved, called_keeps, exit_keeps, continued_keeps}
 use Rattle.xinu_laws.proofs.Tables.Starts.{sound_start}
 use Rattle.xinu_laws.proofs.Tables.Ticks.{sound_ticked}
 
@@ -34,20 +36,20 @@ use Rattle.xinu_laws.proofs.Tables.Ticks.{sound_ticked}
 pub state_end_of_event : (was : ℕ) (first : List TranscriptLine) (result : CallResult) → KeepsAll result → IsSound (end_of_event was first result).state
 state_end_of_event was first result k =
     let tables = sound_end_of_event was first result k.preserved in
-    let o = inside_preserved result k.preserved in
+    let touches : Touches (reach on_tables) result.call.state (end_of_event was first result).state = touches_end_of_event was first result (inside_preserved result k.preserved) in
     record {
       tables = tables;
       harts = harts_end_of_event was first result k.preserved;
-      pools = pools_left result.call.state (end_of_event was first result).state (leaves_end_of_event was first result o) k.pools;
-      ports = ports_left result.call.state (end_of_event was first result).state tables.inside (leaves_end_of_event was first result o) k.ports;
+      pools = keeps_pools refl touches k.pools;
+      ports = keeps_ports refl touches tables.inside k.ports;
     }
 
 -- a process that isn't the null process may call in a sound state
-may_call : (s : Xinu) → IsSound s → s.tables.current ≢ 0 → MayCallAny s
+pub may_call : (s : Xinu) → IsSound s → s.tables.current ≢ 0 → MayCallAny s
 may_call s k n = record { may = record { tables = k.tables; harts = k.harts; not_null = n }; pools = k.pools; ports = k.ports }
 
 -- and after an instruction of it
-may_call_after : (did : Executed) (s : Xinu) → MayCallAny s → MayCallAny (with_executed did s)
+pub may_call_after : (did : Executed) (s : Xinu) → MayCallAny s → MayCallAny (with_executed did s)
 may_call_after did s c = record { may = executed_may_call did s c.may; pools = c.pools; ports = c.ports }
 
 -- What comes of an instruction keeps the state sound.
@@ -76,11 +78,22 @@ state_stepped s k =
 pub state_ticked : (s : Xinu) → IsSound s → IsSound (ticked s).state
 state_ticked s k =
     let tables = sound_ticked s k.tables in
+    let touches : Touches (reach on_tables) s (ticked s).state = touches_ticked s k.tables in
     record {
       tables = tables;
       harts = harts_ticked s ∙ k.harts;
-      pools = pools_left s (ticked s).state (leaves_ticked s k.tables) k.pools;
-      ports = ports_left s (ticked s).state tables.inside (leaves_ticked s k.tables) k.ports;
+      pools = keeps_pools refl touches k.pools;
+      ports = keeps_ports refl touches tables.inside k.ports;
+    }
+
+-- And so does what is under way at its end.
+pub ticking_keeps : (s : Xinu) → IsSound s → KeepsAll (ticking s)
+ticking_keeps s k =
+    let t = state_ticked s k in
+    record {
+      preserved = record { tables = t.tables; harts = ap (λ (x : Xinu). length x.harts) (unblock_all_ready (due (s.tables.ticks + 1) s.tables.sleepers) (start s)) ∙ k.harts };
+      pools = t.pools;
+      ports = t.ports;
     }
 
 -- what an event leaves is sound, whatever is chosen in it
@@ -101,4 +114,4 @@ sound_run = runs_keep IsSound sound_happens
 pub sound_boot : (images : List Loaded) (start : Xinu) → length images < 64 → boot images ≡ Boots start → IsSound start
 sound_boot images start few e =
     let tables = sound_start images start few e in
-    record { tables = tables.tables; harts = tables.harts; pools = pools_start images start few e; ports = ports_start images start few e }
+    record { tables = tables.tables; harts = tables.harts; pools = pools_start images start e; ports = ports_start images start e }

@@ -12,7 +12,8 @@ use Rattle.xinu_model.specs.Semaphores.Calls.{answers, made_semaphore, semcreate
 use Rattle.xinu_model.specs.Sound.Tables.{FitsOwner, IsInside, IsSoundTables}
 use Rattle.xinu_model.specs.Tables.{Tables, semaphore_at}
 use Rattle.xinu_laws.proofs.Tables.Changes.{sound_tokens, sound_given_up, sound_made_semaphore, owned_is_no_device}
-use Rattle.xinu_laws.proofs.Preserve.{IsPreserved, MayCall, Preserves, refused_preserves, answers_preserves, either_preserves, await_preserves}
+use Rattle.xinu_laws.specs.Preserve.{IsPreserved, MayCall}
+use Rattle.xinu_laws.proofs.Preserve.{Preserves, refused_preserves, answers_preserves, either_preserves, await_preserves}
 use Rattle.xinu_laws.proofs.Tables.MoveTo.{semaphore_within}
 use Rattle.xinu_laws.proofs.Tables.Unblock.{unblock_all_ready, sound_emptied, emptied_has_no_waiters, sound_signalled, sound_signalled_times}
 use Rattle.xinu_laws.proofs.Lists.Searches.{search_passes, search_within}

@@ -1,49 +1,36 @@
--- A refused call changes nothing but its caller's reply, and most calls answer -1 only if they are refused.
+-- Most calls answer -1 only if they are refused.
 use Rattle.std.proofs.Common.{◌≡◌, ℕ, zero, suc, ◌*◌, ◌<◌, ◌==◌, Bool, true, false, not, cond, ◌&&◌, ◌||◌, List, [], ◌∷◌, length, take, drop, refl, sym, ap, subst, ◌∙◌, arith, Option, Some, None, ℤ, pos, negsuc}
-use Rattle.std.specs.Prelude.{int_lt, ◌+ℤ◌, nat_lt, nat_le, slice_index, is_some}
-use Rattle.std.specs.List.{AllByRecursion}
-use Rattle.std.proofs.lemmas.Bool.{cond_both, eq-eqb, eqb-true, false≢true}
+use Rattle.std.specs.Prelude.{int_lt, ◌+ℤ◌, nat_lt, nat_le, is_some}
+use Rattle.std.proofs.lemmas.Bool.{cond_both, eq-eqb}
 use Rattle.std.proofs.lemmas.Bool.Decides.{nat_tests}
-use Rattle.xinu_base.specs.Syscalls.{is_built}
-use Rattle.xinu_base.specs.declared.lines.TranscriptLine.{TranscriptLine}
 use Rattle.xinu_base.specs.declared.processes.Rest.{Rest}
 use Rattle.xinu_base.specs.declared.processes.Rest.TheVariants.{Nothing, GetBuf, PtSend}
 use Rattle.xinu_base.specs.declared.semaphores.Owner.TheVariants as owner
-use Rattle.xinu_model.specs.Calls.{CallRow, half, calls, effect_in, called}
 use Rattle.xinu_model.specs.Clock.{sleepms, sleep}
 use Rattle.xinu_model.specs.Heap.Cells as heap
 use Rattle.xinu_model.specs.Heap.Cells.{Heap, Grant, Stack, take_stack}
-use Rattle.xinu_model.specs.Machine.{Xinu, Returns, Panics, CallState, CallResult, start, returns, refused, with_reply, end_of_event}
+use Rattle.xinu_model.specs.Machine.{Xinu, Returns, Panics, CallState, CallResult, start, returns, refused}
 use Rattle.xinu_model.specs.Memory.{in_ram}
 use Rattle.xinu_model.specs.Heap.Calls.{granted, stacked, given_back}
-use Rattle.xinu_model.specs.Messages.{can_get}
 use Rattle.xinu_model.specs.Pools.Calls.{made_pool, is_pool_size, mkbufpool, take_first, take_buffer, getbuf, freed_by}
-use Rattle.xinu_model.specs.Pools.Buffers.{most_pools, pool_at, pool_bytes, whole_words, meets_pool, holder}
+use Rattle.xinu_model.specs.Pools.Buffers.{most_pools, pool_at, pool_bytes, whole_words, meets_pool}
 use Rattle.xinu_model.specs.Ports.Calls.{free_port, made_port, started_port, ptcreate, deleted_where, reset_where, put_message, finish_send, ticket_of, sent_to}
 use Rattle.xinu_model.specs.Ports.Queues.{PortQueue, most_nodes, port_at, nodes, is_stale}
 use Rattle.xinu_model.specs.Process.Creation.{stack_size, process_name, free_process}
 use Rattle.xinu_model.specs.Process.Calls.{created, create, kill}
 use Rattle.xinu_model.specs.Process.Death.{killed}
-use Rattle.xinu_laws.specs.Refusals.{tells_refusal}
 use Rattle.xinu_model.specs.Semaphores.Counts.{most_tokens, with_tokens, count_of, is_good, free_semaphore, make_semaphore}
 use Rattle.xinu_model.specs.Semaphores.Waiting.{take_token}
 use Rattle.xinu_model.specs.Semaphores.Calls.{answers, made_semaphore, semcreate, semreset, wait, signal, signaln}
 use Rattle.xinu_model.specs.Sound.Pools.{ArePools}
 use Rattle.xinu_model.specs.Tables.{state_at, semaphore_at, is_free}
-use Rattle.xinu_model.specs.Words.{signed}
-use Rattle.xinu_laws.proofs.Lists.RowByRow.{◌⨾◌}
-
--- So a call of any number that is refused changes nothing else.
-pub refused_call_leaves : (number : ℕ) (args : List ℕ) (was : ℕ) (first : List TranscriptLine) (s : Xinu) → called number args s ≡ refused s
-    → (end_of_event was first (called number args s)).state ≡ record s { harts = with_reply s.harts (s.tables.current, negsuc 0) }
-refused_call_leaves number args was first s e = ap (λ (result : CallResult). (end_of_event was first result).state) e
 
 -- if a call answers -1 it was refused
 abbrev pub TellsRefusal : Xinu → CallResult → Type 0
 TellsRefusal s result = result.answer ≡ Returns (negsuc 0) → result ≡ refused s
 
 -- a call with an answer that isn't negative
-answer_tells : (s : Xinu) (d : CallState) (n : ℕ) → TellsRefusal s (returns d (pos n))
+pub answer_tells : (s : Xinu) (d : CallState) (n : ℕ) → TellsRefusal s (returns d (pos n))
 answer_tells s d n e = cc
 
 -- a refused call
@@ -55,7 +42,7 @@ either_tells : (b : Bool) (s : Xinu) (x y : CallResult) → (b ≡ true → Tell
 either_tells b s x y f g = cond_both b x y (TellsRefusal s) f g
 
 -- a test before a call that is refused else
-guarded_tells : (b : Bool) (s : Xinu) (x : CallResult) → (b ≡ true → TellsRefusal s x) → TellsRefusal s (cond b x (refused s))
+pub guarded_tells : (b : Bool) (s : Xinu) (x : CallResult) → (b ≡ true → TellsRefusal s x) → TellsRefusal s (cond b x (refused s))
 guarded_tells b s x f = cond_both b x (refused s) (TellsRefusal s) f (λ _. refusal_tells s)
 
 -- one who waits for a token, or goes on with it
@@ -71,34 +58,34 @@ created_tells (Some p) None entry size priority name x y s e = refl
 created_tells None stack entry size priority name x y s e = refl
 
 -- call 2
-create_tells : (entry size : ℕ) (priority : ℤ) (name x y : ℕ) (s : Xinu) → TellsRefusal s (create entry size priority name x y s)
+pub create_tells : (entry size : ℕ) (priority : ℤ) (name x y : ℕ) (s : Xinu) → TellsRefusal s (create entry size priority name x y s)
 create_tells entry size priority name x y s =
     either_tells (int_lt priority (pos 1) || not (in_ram name 16)) s _ _ (λ _. refusal_tells s)
     (λ _. created_tells (free_process s.tables) (take_stack (stack_size size) s.parts.heap) entry (stack_size size) priority (process_name (take 16 (drop name s.memory))) x y s)
 
 -- call 5
-kill_tells : (p : ℕ) (s : Xinu) → TellsRefusal s (kill p s)
+pub kill_tells : (p : ℕ) (s : Xinu) → TellsRefusal s (kill p s)
 kill_tells p s =
     either_tells ((p == 0) || is_free (state_at s.tables p)) s _ _ (λ _. refusal_tells s)
     (λ _. either_tells (p == s.tables.current) s _ _ (λ _ e. cc) (λ _. answer_tells s (killed p (start s)) 0))
 
 -- memory that is granted
-granted_tells : (found : Option Grant) (s : Xinu) → TellsRefusal s (granted found s)
+pub granted_tells : (found : Option Grant) (s : Xinu) → TellsRefusal s (granted found s)
 granted_tells None s e = refl
 granted_tells (Some grant) s e = cc
 
 -- a stack that is granted
-stacked_tells : (found : Option Stack) (s : Xinu) → TellsRefusal s (stacked found s)
+pub stacked_tells : (found : Option Stack) (s : Xinu) → TellsRefusal s (stacked found s)
 stacked_tells None s e = refl
 stacked_tells (Some stack) s e = cc
 
 -- memory that is given back
-given_back_tells : (found : Option Heap) (s : Xinu) → TellsRefusal s (given_back found s)
+pub given_back_tells : (found : Option Heap) (s : Xinu) → TellsRefusal s (given_back found s)
 given_back_tells None s e = refl
 given_back_tells (Some free) s e = cc
 
 -- call 14
-semcreate_tells : (count : ℤ) (s : Xinu) → TellsRefusal s (semcreate count s)
+pub semcreate_tells : (count : ℤ) (s : Xinu) → TellsRefusal s (semcreate count s)
 semcreate_tells (negsuc n) s = refusal_tells s
 semcreate_tells (pos n) s = made (free_semaphore s.tables)
   where
@@ -107,31 +94,31 @@ semcreate_tells (pos n) s = made (free_semaphore s.tables)
     made (Some k) e = cc
 
 -- call 16
-semreset_tells : (k : ℕ) (count : ℤ) (s : Xinu) → TellsRefusal s (semreset k count s)
+pub semreset_tells : (k : ℕ) (count : ℤ) (s : Xinu) → TellsRefusal s (semreset k count s)
 semreset_tells k (negsuc n) s = refusal_tells s
 semreset_tells k (pos n) s = guarded_tells (is_good k s.tables) s _ (λ _ e. cc)
 
 -- call 18
-wait_tells : (k : ℕ) (s : Xinu) → TellsRefusal s (wait k s)
+pub wait_tells : (k : ℕ) (s : Xinu) → TellsRefusal s (wait k s)
 wait_tells k s = guarded_tells (is_good k s.tables) s _ (λ _. take_token_tells (semaphore_at s.tables k).tokens k Nothing (answers (pos 0)) s (λ n e f. cc))
 
 -- call 19
-signal_tells : (k : ℕ) (s : Xinu) → TellsRefusal s (signal k s)
+pub signal_tells : (k : ℕ) (s : Xinu) → TellsRefusal s (signal k s)
 signal_tells k s = guarded_tells (is_good k s.tables && int_lt (count_of (semaphore_at s.tables k)) most_tokens) s _ (λ _ e. cc)
 
 -- call 20
-signaln_tells : (k : ℕ) (n : ℤ) (s : Xinu) → TellsRefusal s (signaln k n s)
+pub signaln_tells : (k : ℕ) (n : ℤ) (s : Xinu) → TellsRefusal s (signaln k n s)
 signaln_tells k (negsuc n) s = refusal_tells s
 signaln_tells k (pos n) s = guarded_tells (is_good k s.tables && not (int_lt most_tokens (count_of (semaphore_at s.tables k) +ℤ pos n))) s _ (λ _ e. cc)
 
 -- call 26
-sleepms_tells : (ticks : ℤ) (s : Xinu) → TellsRefusal s (sleepms ticks s)
+pub sleepms_tells : (ticks : ℤ) (s : Xinu) → TellsRefusal s (sleepms ticks s)
 sleepms_tells (negsuc n) s e = refl
 sleepms_tells (pos zero) s e = cc
 sleepms_tells (pos (suc n)) s e = cc
 
 -- call 25
-sleep_tells : (seconds : ℤ) (s : Xinu) → TellsRefusal s (sleep seconds s)
+pub sleep_tells : (seconds : ℤ) (s : Xinu) → TellsRefusal s (sleep seconds s)
 sleep_tells (negsuc n) s = refusal_tells s
 sleep_tells (pos n) s = either_tells (nat_lt 2147483 n) s _ _ (λ _. refusal_tells s) (λ _. sleepms_tells (pos (1000 * n)) s)
 
@@ -142,7 +129,7 @@ made_pool_tells (Some grant) None size n s = refusal_tells s
 made_pool_tells None sem size n s = refusal_tells s
 
 -- call 28
-mkbufpool_tells : (size n : ℕ) (s : Xinu) → TellsRefusal s (mkbufpool size n s)
+pub mkbufpool_tells : (size n : ℕ) (s : Xinu) → TellsRefusal s (mkbufpool size n s)
 mkbufpool_tells size n s =
     guarded_tells (is_pool_size size n && nat_lt (length s.parts.pools) most_pools) s _
     (λ _. made_pool_tells (heap.take_memory (pool_bytes (whole_words size) n) s.parts.heap) (free_semaphore s.tables) (whole_words size) n s)
@@ -157,7 +144,7 @@ made_number : (i n : ℕ) → nat_lt i n ≡ true → i < n
 made_number i n h = grind (arith, nat_tests)
 
 -- call 29: the pool has a free buffer for each token
-getbuf_tells : (i : ℕ) (s : Xinu) → ArePools s.tables s.parts.pools → TellsRefusal s (getbuf i s)
+pub getbuf_tells : (i : ℕ) (s : Xinu) → ArePools s.tables s.parts.pools → TellsRefusal s (getbuf i s)
 getbuf_tells i s pools =
     let pool = pool_at s.parts.pools i in
     guarded_tells (nat_lt i (length s.parts.pools)) s _
@@ -165,7 +152,7 @@ getbuf_tells i s pools =
     (λ n e. take_first_tells pool.free i s (record s { tables = with_tokens pool.semaphore n s.tables }) (let k = (pools.each i (made_number i (length s.parts.pools) b)).enough in omega arith)))
 
 -- call 30
-freed_by_tells : (found : Option ℕ) (a : ℕ) (s : Xinu) → TellsRefusal s (freed_by found a s)
+pub freed_by_tells : (found : Option ℕ) (a : ℕ) (s : Xinu) → TellsRefusal s (freed_by found a s)
 freed_by_tells None a s e = refl
 freed_by_tells (Some i) a s e = cc
 
@@ -181,17 +168,17 @@ started_port_tells (Some q) None n s = refusal_tells s
 started_port_tells None send n s = refusal_tells s
 
 -- call 31
-ptcreate_tells : (n : ℤ) (s : Xinu) → TellsRefusal s (ptcreate n s)
+pub ptcreate_tells : (n : ℤ) (s : Xinu) → TellsRefusal s (ptcreate n s)
 ptcreate_tells (negsuc n) s = refusal_tells s
 ptcreate_tells (pos n) s = started_port_tells (free_port s) (free_semaphore s.tables) n s
 
 -- call 32
-deleted_tells : (found : Option PortQueue) (q how : ℕ) (s : Xinu) → TellsRefusal s (deleted_where found q how s)
+pub deleted_tells : (found : Option PortQueue) (q how : ℕ) (s : Xinu) → TellsRefusal s (deleted_where found q how s)
 deleted_tells None q how s = refusal_tells s
 deleted_tells (Some queue) q how s = guarded_tells (nat_le how 1) s _ (λ _ e. cc)
 
 -- call 33
-reset_tells : (found : Option PortQueue) (q how : ℕ) (s : Xinu) → TellsRefusal s (reset_where found q how s)
+pub reset_tells : (found : Option PortQueue) (q how : ℕ) (s : Xinu) → TellsRefusal s (reset_where found q how s)
 reset_tells None q how s = refusal_tells s
 reset_tells (Some queue) q how s = guarded_tells (nat_le how 1) s _ (λ _ e. cc)
 
@@ -202,13 +189,13 @@ put_message_tells queue (Some other) q message s x e =
     cond_both (nat_le most_nodes (nodes x.parts.ports)) (record { call = start x; answer = Panics }) _ (TellsRefusal s) (λ _ f. cc) (λ _ f. cc)
 
 -- a call that just began isn't after its port
-fresh_ticket : (q sem : ℕ) (s : Xinu) (queue : PortQueue) → (port_at s.parts.ports q).queue ≡ Some queue → is_stale (ticket_of q sem s) s.parts.ports ≡ false
+pub fresh_ticket : (q sem : ℕ) (s : Xinu) (queue : PortQueue) → (port_at s.parts.ports q).queue ≡ Some queue → is_stale (ticket_of q sem s) s.parts.ports ≡ false
 fresh_ticket q sem s queue e =
     ap (λ o. not (is_some o) || not ((port_at s.parts.ports q).seq == (port_at s.parts.ports q).seq)) e
     ∙ ap (λ b. not b) (eq-eqb (port_at s.parts.ports q).seq (port_at s.parts.ports q).seq refl)
 
 -- call 34
-sent_to_tells : (found : Option PortQueue) (q message : ℕ) (s : Xinu) → (port_at s.parts.ports q).queue ≡ found → TellsRefusal s (sent_to found q message s)
+pub sent_to_tells : (found : Option PortQueue) (q message : ℕ) (s : Xinu) → (port_at s.parts.ports q).queue ≡ found → TellsRefusal s (sent_to found q message s)
 sent_to_tells None q message s e = refusal_tells s
 sent_to_tells (Some queue) q message s e =
     let ticket = ticket_of q queue.send s in
@@ -216,64 +203,3 @@ sent_to_tells (Some queue) q message s e =
     (λ n f. let x = record s { tables = with_tokens queue.send n s.tables } in
     subst (λ b. TellsRefusal s (cond b (refused x) (put_message (port_at s.parts.ports q).queue q message x))) (sym (fresh_ticket q queue.send s queue e))
     (put_message_tells queue (port_at s.parts.ports q).queue q message s x e))
-
--- What holds of a refusal and of what each call of a table does, if the number is that call's, holds of what the table does.
-effect_of_number : (P : CallResult → Type 0) (calls : List CallRow) (number : ℕ) (a : ℕ → ℕ) (s : Xinu)
-    → P (refused s) → AllByRecursion (λ call. number ≡ call.number → P (call.effect a s)) calls → P (effect_in calls number a s)
-effect_of_number P [] number a s refusal all = refusal
-effect_of_number P (call ∷ calls) number a s refusal all =
-    cond_both (number == call.number) (call.effect a s) (effect_in calls number a s) P (λ b. all.0 (eqb-true number call.number b)) (λ _. effect_of_number P calls number a s refusal all.1)
-
--- a number whose call tells its refusals isn't one whose call doesn't
-no_value : (number n : ℕ) (P : Type 0) → tells_refusal number ≡ true → tells_refusal n ≡ false → number ≡ n → P
-no_value number n P tells doesnt e = absurd (false≢true (sym doesnt ∙ subst (λ k. tells_refusal k ≡ true) e tells))
-
--- the calls of the table
-effects_tell : (number : ℕ) (a : ℕ → ℕ) (s : Xinu) → ArePools s.tables s.parts.pools → tells_refusal number ≡ true
-    → AllByRecursion (λ call. number ≡ call.number → TellsRefusal s (call.effect a s)) calls
-unfolding calls
-effects_tell number a s pools tells =
-    (λ e. answer_tells s (start s) s.tables.current) ⨾
-    (λ e. create_tells (a 0) (a 1) (half (a 2)) (a 3) (a 4) (a 5) s) ⨾
-    (no_value number 3 _ tells refl) ⨾
-    (no_value number 4 _ tells refl) ⨾
-    (λ e. kill_tells (a 0) s) ⨾
-    (λ e f. cc) ⨾
-    (no_value number 7 _ tells refl) ⨾
-    (no_value number 8 _ tells refl) ⨾
-    (λ e f. cc) ⨾
-    (λ e. granted_tells (heap.take_memory (a 0) s.parts.heap) s) ⨾
-    (λ e. given_back_tells (heap.free_memory (a 0) (a 1) s.parts.heap) s) ⨾
-    (λ e. stacked_tells (heap.take_stack (a 0) s.parts.heap) s) ⨾
-    (λ e. given_back_tells (heap.free_stack (a 0) (a 1) s.parts.heap) s) ⨾
-    (λ e. semcreate_tells (signed (a 0)) s) ⨾
-    (λ e. guarded_tells (is_good (a 0) s.tables) s _ (λ _ f. cc)) ⨾
-    (λ e. semreset_tells (a 0) (signed (a 1)) s) ⨾
-    (no_value number 17 _ tells refl) ⨾
-    (λ e. wait_tells (a 0) s) ⨾
-    (λ e. signal_tells (a 0) s) ⨾
-    (λ e. signaln_tells (a 0) (signed (a 1)) s) ⨾
-    (λ e. guarded_tells (can_get (a 0) s.tables) s _ (λ _ f. cc)) ⨾
-    (no_value number 22 _ tells refl) ⨾
-    (no_value number 23 _ tells refl) ⨾
-    (no_value number 24 _ tells refl) ⨾
-    (λ e. sleep_tells (signed (a 0)) s) ⨾
-    (λ e. sleepms_tells (signed (a 0)) s) ⨾
-    (λ e f. cc) ⨾
-    (λ e. mkbufpool_tells (a 0) (a 1) s) ⨾
-    (λ e. getbuf_tells (a 0) s pools) ⨾
-    (λ e. freed_by_tells (holder (a 0) s.parts.pools) (a 0) s) ⨾
-    (λ e. ptcreate_tells (signed (a 0)) s) ⨾
-    (λ e. deleted_tells (port_at s.parts.ports (a 0)).queue (a 0) (a 1) s) ⨾
-    (λ e. reset_tells (port_at s.parts.ports (a 0)).queue (a 0) (a 1) s) ⨾
-    (λ e. sent_to_tells (port_at s.parts.ports (a 0)).queue (a 0) (a 1) s refl) ⨾
-    (no_value number 35 _ tells refl) ⨾
-    tt
-
--- A call that answers -1 was refused, if its number tells so.
-pub refusals_are_told : (number : ℕ) (args : List ℕ) (s : Xinu) → ArePools s.tables s.parts.pools → tells_refusal number ≡ true
-    → (called number args s).answer ≡ Returns (negsuc 0) → called number args s ≡ refused s
-refusals_are_told number args s pools tells =
-    cond_both (is_built number) (effect_in calls number (slice_index args) s) (refused s) (TellsRefusal s)
-    (λ _. effect_of_number (TellsRefusal s) calls number (slice_index args) s (refusal_tells s) (effects_tell number (slice_index args) s pools tells))
-    (λ _. refusal_tells s)

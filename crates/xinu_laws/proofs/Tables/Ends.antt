@@ -11,7 +11,7 @@ use Rattle.xinu_model.specs.Machine.{Xinu, Answer, Returns, Waits, Gone, Panics,
 use Rattle.xinu_model.specs.Process.Scheduling.{resched}
 use Rattle.xinu_model.specs.Sound.Tables.{IsSoundTables}
 use Rattle.xinu_model.specs.Tables.{Tables}
-use Rattle.xinu_laws.proofs.Preserve.{FitsAnswer, IsPreserved, MayCall}
+use Rattle.xinu_laws.specs.Preserve.{FitsAnswer, IsPreserved, MayCall}
 use Rattle.xinu_laws.proofs.Tables.Scheduling.{sound_resched}
 use Rattle.xinu_laws.proofs.Tables.Unblock.{unblock_all_ready}
 

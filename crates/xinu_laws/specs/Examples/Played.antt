@@ -1,12 +1,12 @@
 -- Systems of processes, each with a list of calls, to work out what the definitions say of an example.
-use Rattle.std.specs.Prelude.{ℕ, zero, suc, ◌+◌, ◌==◌, Bool, true, false, if◌then◌else◌, List, [], ◌∷◌, ◌++◌, replicate, slice_index, slice_index_or, slice_set, None, pos}
+use Rattle.std.specs.Prelude.{ℕ, zero, suc, ◌+◌, ◌==◌, Bool, true, false, if◌then◌else◌, List, [], ◌∷◌, ◌++◌, replicate, slice_index_or, slice_set, None, pos}
 use Rattle.xinu_base.specs.Constants.{NPROC}
 use Rattle.xinu_base.specs.declared.syscalls.Call.{Call}
 use Rattle.xinu_base.specs.declared.events.Event.TheVariants.{Tick}
 use Rattle.xinu_base.specs.declared.lines.TranscriptLine.{TranscriptLine}
 use Rattle.xinu_base.specs.declared.lines.TranscriptLine.TheVariants as line
 use Rattle.xinu_model.specs.Boot.{null_tables, image_name}
-use Rattle.xinu_model.specs.Calls.{calls, effect_in, continued}
+use Rattle.xinu_model.specs.Calls.{call_of_number, continued}
 use Rattle.xinu_model.specs.Events.{is_done, effect_of}
 use Rattle.xinu_model.specs.Machine.{Xinu, first_parts, no_hart, EventResult, end_of_event}
 use Rattle.xinu_model.specs.Process.Scheduling.{resched, ready}
@@ -56,7 +56,7 @@ called_next [] x = x
 called_next (call ∷ rest) x =
     let s = x.state in
     let p = s.tables.current in
-    after (end_of_event p (line.Call p call ∷ []) (effect_in calls call.number (slice_index call.args) s)) (slice_set x.programs p rest) x
+    after (end_of_event p (line.Call p call ∷ []) (call_of_number call.number call.args s)) (slice_set x.programs p rest) x
 
 -- a step: the current process goes on with the call in which it waited, or makes its next one
 abbrev pub played_step : Played → Played

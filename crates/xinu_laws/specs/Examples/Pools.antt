@@ -78,3 +78,51 @@ pool_given_back_lines =
     Switch 1 ∷ Call 1 (sys_mkbufpool 8 2) ∷ Return 1 (pos 0) ∷ Call 1 (sys_freemem 4096 24) ∷ Return 1 (pos 0) ∷
     Call 1 (sys_mkbufpool 8 2) ∷ Return 1 (negsuc 0) ∷ Call 1 (sys_getmem 24) ∷ Return 1 (pos 4096) ∷
     []
+
+-- The buffer that was given back last is given out first, and the number of its pool is in the word before it.
+abbrev pub freed_last_first : Example
+freed_last_first = record {
+  start = record (system (20 ∷ []) 4096 100) { memory = replicate 4200 0 };
+  programs =
+      (sys_mkbufpool 8 1 ∷ sys_mkbufpool 8 2 ∷ sys_getbuf 1 ∷ sys_getbuf 1 ∷ sys_freebuf 4116 ∷ sys_freebuf 4128 ∷ sys_getbuf 1 ∷ []) ∷
+      [];
+  turns = Steps 1000 ∷ [];
+}
+
+abbrev pub freed_last_first_lines : List TranscriptLine
+freed_last_first_lines =
+    Switch 1 ∷ Call 1 (sys_mkbufpool 8 1) ∷ Return 1 (pos 0) ∷ Call 1 (sys_mkbufpool 8 2) ∷ Return 1 (pos 1) ∷
+    Call 1 (sys_getbuf 1) ∷ Return 1 (pos 4116) ∷ Call 1 (sys_getbuf 1) ∷ Return 1 (pos 4128) ∷ Call 1 (sys_freebuf 4116) ∷
+    Return 1 (pos 0) ∷ Call 1 (sys_freebuf 4128) ∷ Return 1 (pos 0) ∷ Call 1 (sys_getbuf 1) ∷ Return 1 (pos 4128) ∷
+    []
+
+-- The most buffers of a pool are 2048, and the greatest have 8192 bytes.
+abbrev pub greatest_pools : Example
+greatest_pools = record {
+  start = system (20 ∷ []) 4096 3074;
+  programs =
+      (sys_mkbufpool 8193 1 ∷ sys_mkbufpool 8 2049 ∷ sys_mkbufpool 8 2048 ∷ []) ∷
+      [];
+  turns = Steps 1000 ∷ [];
+}
+
+abbrev pub greatest_pools_lines : List TranscriptLine
+greatest_pools_lines =
+    Switch 1 ∷ Call 1 (sys_mkbufpool 8193 1) ∷ Return 1 (negsuc 0) ∷ Call 1 (sys_mkbufpool 8 2049) ∷ Return 1 (negsuc 0) ∷
+    Call 1 (sys_mkbufpool 8 2048) ∷ Return 1 (pos 0) ∷
+    []
+
+-- A pool of one of the greatest buffers.
+abbrev pub greatest_buffers : Example
+greatest_buffers = record {
+  start = system (20 ∷ []) 4096 1026;
+  programs =
+      (sys_mkbufpool 8193 1 ∷ sys_mkbufpool 8192 1 ∷ []) ∷
+      [];
+  turns = Steps 1000 ∷ [];
+}
+
+abbrev pub greatest_buffers_lines : List TranscriptLine
+greatest_buffers_lines =
+    Switch 1 ∷ Call 1 (sys_mkbufpool 8193 1) ∷ Return 1 (negsuc 0) ∷ Call 1 (sys_mkbufpool 8192 1) ∷ Return 1 (pos 0) ∷
+    []

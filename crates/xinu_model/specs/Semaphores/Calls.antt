@@ -1,5 +1,5 @@
 -- Semaphores: tokens, and the processes that wait for one (book, chapter 7).
-use Rattle.std.specs.Prelude.{ℕ, not, if◌then◌else◌, ◌&&◌, Option, Some, None, ℤ, pos, negsuc, ◌+ℤ◌, int_lt}
+use Rattle.std.specs.Prelude.{ℕ, not, if◌then◌else◌, ◌&&◌, Option, Some, None, ℤ, pos, negsuc, ◌+ℤ◌, int_lt, List, [], ◌∷◌, codes}
 use Rattle.xinu_base.specs.Constants.{OK}
 use Rattle.xinu_base.specs.declared.processes.Rest.TheVariants.{Nothing}
 use Rattle.xinu_base.specs.declared.semaphores.Owner.TheVariants as owner
@@ -7,6 +7,10 @@ use Rattle.xinu_model.specs.Machine.{Xinu, CallResult, start, with_tables, retur
 use Rattle.xinu_model.specs.Tables.{no_semaphore, semaphore_at}
 use Rattle.xinu_model.specs.Semaphores.Counts.{most_tokens, with_semaphore, with_tokens, count_of, is_good, free_semaphore, make_semaphore}
 use Rattle.xinu_model.specs.Semaphores.Waiting.{signalled, signalled_times, emptied, await}
+use Rattle.xinu_base.specs.Syscalls.{syscall}
+use Rattle.xinu_model.specs.Footprints.{on_tables}
+use Rattle.xinu_model.specs.Rows.{Status, Count, CallRow, row}
+use Rattle.xinu_model.specs.Words.{signed}
 
 -- the caller is answered
 abbrev pub answers : ℤ → Xinu → CallResult
@@ -59,3 +63,15 @@ signaln sem (pos n) s =
     if is_good sem s.tables && not (int_lt most_tokens (count_of (semaphore_at s.tables sem) +ℤ pos n))
     then returns (signalled_times sem n (start s)) OK
     else refused s
+
+-- the calls on semaphores
+abbrev pub semaphore_calls : List CallRow
+semaphore_calls =
+    row (syscall 14 (codes "semcreate") 1) on_tables Status (λ a s. semcreate (signed (a 0)) s) ∷
+    row (syscall 15 (codes "semdelete") 1) on_tables Status (λ a s. semdelete (a 0) s) ∷
+    row (syscall 16 (codes "semreset") 2) on_tables Status (λ a s. semreset (a 0) (signed (a 1)) s) ∷
+    row (syscall 17 (codes "semcount") 1) on_tables Count (λ a s. semcount (a 0) s) ∷
+    row (syscall 18 (codes "wait") 1) on_tables Status (λ a s. wait (a 0) s) ∷
+    row (syscall 19 (codes "signal") 1) on_tables Status (λ a s. signal (a 0) s) ∷
+    row (syscall 20 (codes "signaln") 2) on_tables Status (λ a s. signaln (a 0) (signed (a 1)) s) ∷
+    []

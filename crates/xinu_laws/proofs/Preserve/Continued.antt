@@ -1,0 +1,25 @@
+-- What holds of each way in which a call goes on holds of what is left of any call.
+use Rattle.std.proofs.Common.{◌≡◌, ℕ, refl}
+use Rattle.xinu_base.specs.declared.processes.PortTicket.{PortTicket}
+use Rattle.xinu_base.specs.declared.processes.Rest.{Rest}
+use Rattle.xinu_base.specs.declared.processes.Rest.TheVariants as rest
+use Rattle.xinu_model.specs.Calls.{continued}
+use Rattle.xinu_model.specs.Machine.{Xinu, Silent, CallResult, start}
+use Rattle.xinu_model.specs.Messages.{go_on_receive}
+use Rattle.xinu_model.specs.Pools.Calls.{go_on_getbuf}
+use Rattle.xinu_model.specs.Ports.Calls.{go_on_ptsend, go_on_ptrecv}
+use Rattle.xinu_model.specs.Process.Calls.{go_on_suspend}
+
+-- What holds of each way in which a call goes on, and of doing nothing, holds of what is left of any call.
+pub continued_holds : (P : CallResult → Type 0) (left : Rest) (s : Xinu) → P (go_on_receive s) → P (go_on_suspend s)
+    → ((i : ℕ) → left ≡ rest.GetBuf i → P (go_on_getbuf i s))
+    → ((ticket : PortTicket) (message : ℕ) → left ≡ rest.PtSend ticket message → P (go_on_ptsend ticket message s))
+    → ((ticket : PortTicket) → left ≡ rest.PtRecv ticket → P (go_on_ptrecv ticket s))
+    → P (record { call = start s; answer = Silent }) → P (continued left s)
+continued_holds P rest.Receive s receive suspend pool send take silent = receive
+continued_holds P rest.Timed s receive suspend pool send take silent = receive
+continued_holds P rest.SelfSuspend s receive suspend pool send take silent = suspend
+continued_holds P (rest.GetBuf i) s receive suspend pool send take silent = pool i refl
+continued_holds P (rest.PtSend ticket message) s receive suspend pool send take silent = send ticket message refl
+continued_holds P (rest.PtRecv ticket) s receive suspend pool send take silent = take ticket refl
+continued_holds P _ s receive suspend pool send take silent = silent

@@ -1,0 +1,99 @@
+-- A call touches no more than its footprint: how this is put together from the steps of which a call is made.
+-- The folder has a lemma for each move and each call, the list of all calls, and what follows for the parts that a footprint doesn't name.
+pub mod Boot
+pub mod Clock
+pub mod Continued
+pub mod Events
+pub mod Kept
+pub mod Memory
+pub mod Messages
+pub mod Moves
+pub mod Pools
+pub mod Ports
+pub mod Processes
+pub mod Semaphores
+pub mod Table
+use Rattle.std.proofs.Common.{◌≡◌, ℕ, Bool, true, false, cond, List, Option, length, map, refl, sym, ap, ◌∙◌}
+use Rattle.std.proofs.lemmas.Bool.{false≢true, cond_both}
+use Rattle.xinu_base.specs.declared.processes.Rest.{Rest}
+use Rattle.xinu_base.specs.declared.semaphores.Owner.{Owner}
+use Rattle.xinu_model.specs.Footprints.{Footprint}
+use Rattle.xinu_laws.specs.Frame.{Frame}
+use Rattle.xinu_model.specs.Heap.Cells.{Heap}
+use Rattle.xinu_model.specs.Machine.{Parts, Xinu, CallResult, refused}
+use Rattle.xinu_model.specs.Pools.Buffers.{Pool}
+use Rattle.xinu_model.specs.Ports.Queues.{Port}
+use Rattle.xinu_model.specs.Sound.Tables.{IsInside}
+use Rattle.xinu_model.specs.Sound.State.{IsSound}
+use Rattle.xinu_model.specs.Tables.{Tables}
+use Rattle.xinu_laws.specs.Touches.{Reach, reach, stacks_of, range_of, HasSameExtent, KeepsParts, Touches}
+use Rattle.xinu_laws.proofs.Frame.{frame_same, frame_refl, frame_trans, frame_weaker}
+
+-- What a call does stays within a footprint.
+abbrev pub StaysIn : Footprint → (Xinu → CallResult) → Type 0
+StaysIn f effect = (s : Xinu) → IsSound s → Touches (reach f) s (effect s).call.state
+
+-- what is named isn't kept
+pub named : {b : Bool} {P : Type 0} → b ≡ true → b ≡ false → P
+named may e = absurd (false≢true (sym e ∙ may))
+
+module _ {f : Footprint} where
+  -- No part changes.
+  pub parts_same : (p : Parts) → KeepsParts f p p
+  parts_same p = record { extent = record { low = refl; many = refl }; heap = λ _. refl; pools = λ _. refl; ranges = λ _. refl; ports = λ _. (refl, refl) }
+
+  -- One change after another.
+  pub parts_trans : {p q r : Parts} → KeepsParts f p q → KeepsParts f q r → KeepsParts f p r
+  parts_trans a b = record {
+    extent = record { low = b.extent.low ∙ a.extent.low; many = b.extent.many ∙ a.extent.many };
+    heap = λ e. b.heap e ∙ a.heap e;
+    pools = λ e. b.pools e ∙ a.pools e;
+    ranges = λ e. b.ranges e ∙ a.ranges e;
+    ports = λ e. ((b.ports e).0 ∙ (a.ports e).0, (b.ports e).1 ∙ (a.ports e).1);
+  }
+
+  -- Another heap of the same extent.
+  pub parts_heap : f.heap ≡ true → (p : Parts) (h : Heap) → HasSameExtent p.heap h → KeepsParts f p (record p { heap = h })
+  parts_heap may p h e = record { extent = e; heap = named may; pools = λ _. refl; ranges = λ _. refl; ports = λ _. (refl, refl) }
+
+  -- Other pools in the same ranges.
+  pub parts_pools : f.pools ≡ true → (p : Parts) (pools : List Pool) → map range_of pools ≡ map range_of p.pools
+      → KeepsParts f p (record p { pools = pools })
+  parts_pools may p pools e = record { extent = record { low = refl; many = refl }; heap = λ _. refl; pools = named may; ranges = λ _. e; ports = λ _. (refl, refl) }
+
+  -- Other ports.
+  pub parts_ports : f.ports ≡ true → (p : Parts) (ports : List Port) (next : ℕ)
+      → KeepsParts f p (record p { ports = ports; next_port = next })
+  parts_ports may p ports next = record { extent = record { low = refl; many = refl }; heap = λ _. refl; pools = λ _. refl; ranges = λ _. refl; ports = named may }
+
+module _ {f : Reach} where
+  -- Other tables with the same stacks.
+  pub touches_tables : (s : Xinu) (t : Tables) → Frame f.mine f.asks s.tables t → stacks_of t ≡ stacks_of s.tables
+      → Touches f s (record s { tables = t })
+  touches_tables s t c e = record { frame = c; stacks = λ _. e; parts = parts_same s.parts }
+
+  -- Nothing is touched.
+  pub touches_refl : (s : Xinu) → Touches f s s
+  touches_refl s = touches_tables s s.tables (frame_refl s.tables) refl
+
+  -- Other parts of the state, and any memory and registers.
+  pub touches_parts : (s u : Xinu) → u.tables ≡ s.tables → KeepsParts f.parts s.parts u.parts → Touches f s u
+  touches_parts s u e k = record { frame = frame_same s.tables u.tables (ap (λ (t : Tables). t.processes) e) (ap (λ (t : Tables). t.semaphores) e); stacks = λ _. ap stacks_of e; parts = k }
+
+  -- One step after another.
+  pub touches_trans : {s u v : Xinu} → Touches f s u → Touches f u v → Touches f s v
+  touches_trans {s} {u} {v} a b = record {
+    frame = frame_trans s.tables u.tables v.tables a.frame b.frame;
+    stacks = λ e. b.stacks e ∙ a.stacks e;
+    parts = parts_trans a.parts b.parts;
+  }
+
+  -- One of two ways is gone.
+  pub touches_either : (s : Xinu) (b : Bool) (x y : CallResult) → (b ≡ true → Touches f s x.call.state)
+      → (b ≡ false → Touches f s y.call.state) → Touches f s (cond b x y).call.state
+  touches_either s b x y g h = cond_both b x y (λ (k : CallResult). Touches f s k.call.state) g h
+
+  -- A call that is refused unless a test holds.
+  pub touches_if : (s : Xinu) (b : Bool) (x : CallResult) → (b ≡ true → Touches f s x.call.state)
+      → Touches f s (cond b x (refused s)).call.state
+  touches_if s b x g = touches_either s b x (refused s) g (λ _. touches_refl s)

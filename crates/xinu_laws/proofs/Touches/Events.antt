@@ -1,0 +1,135 @@
+-- The end of an event and a tick touch the tables alone.
+use Rattle.std.proofs.Common.{◌≡◌, ℕ, ◌+◌, ◌-◌, ◌<◌, ◌≤◌, ◌==◌, Bool, false, cond, ◌||◌, List, [], ◌∷◌, filter, refl, sym, ap, subst, ◌∙◌, ⊎_elim, arith, ℤ}
+use Rattle.std.specs.Prelude.{nat_lt}
+use Rattle.std.proofs.lemmas.Bool.{cond_both}
+use Rattle.xinu_base.specs.declared.lines.TranscriptLine.{TranscriptLine}
+use Rattle.xinu_base.specs.declared.processes.Rest.{Rest}
+use Rattle.xinu_base.specs.declared.processes.State.{State}
+use Rattle.xinu_base.specs.declared.processes.State.TheVariants.{Current, Ready, Sleeping, Timed}
+use Rattle.xinu_model.specs.Clock.{due, quantum_falls, wakeup, a_tick_later, ticked}
+use Rattle.xinu_model.specs.Machine.{Xinu, CallResult, start, is_off, end_of_event}
+use Rattle.xinu_model.specs.Process.Scheduling.{is_current, ready, dispatch, dispatch_first, preempt, keeps_cpu, resched}
+use Rattle.xinu_model.specs.Sound.Tables.{count_in, entries_of, sleeping_places, IsInside, IsSoundTables}
+use Rattle.xinu_model.specs.Sound.Pools.{is_waiting}
+use Rattle.xinu_model.specs.Tables.{Tables, process_at, state_at, message_at, entries_without, Nowhere, InReady}
+use Rattle.xinu_laws.specs.Touches.{Reach, Touches}
+use Rattle.xinu_laws.proofs.Lists.Counts.{entries_without_other, first_has_entry}
+use Rattle.xinu_laws.proofs.Frame.{frame_same}
+use Rattle.xinu_laws.proofs.Tables.Scheduling.{ready_of, current_of, sleeping_of, inside_quantum, sound_resched}
+use Rattle.xinu_laws.proofs.Tables.Places.{ready_in_other}
+use Rattle.xinu_laws.proofs.Tables.MoveTo.{by_number}
+use Rattle.xinu_laws.proofs.Touches.{touches_tables, touches_refl, touches_trans}
+use Rattle.xinu_laws.proofs.Touches.Moves.{MayReady, may_ready_idle, may_ready_framed, touches_moved, touches_unblock_all}
+use Rattle.xinu_laws.proofs.Lists.Maps.{times-map}
+use Rattle.xinu_laws.proofs.Frame.MoveTo.{times-filter-le}
+use Rattle.xinu_laws.proofs.Tables.Unblock.{unblock_all_ready}
+use Rattle.xinu_laws.proofs.Tables.Ticks.{sound_later}
+
+-- who is in the ready list can become ready
+may_ready_ready : (asks : Rest → Bool) (t : Tables) → IsInside t → (p : ℕ) → 0 < entries_of p t.ready → MayReady asks t p
+may_ready_ready asks t o p h = may_ready_idle asks t p (ap is_waiting (ready_of (state_at t p) (let e = o.ready p in omega arith)))
+
+-- and so can who is in it once the current process is preempted
+may_ready_preempted : (asks : Rest → Bool) (t : Tables) → ((p : ℕ) → 0 < entries_of p t.ready → MayReady asks t p) → (p : ℕ)
+    → 0 < entries_of p (preempt t).ready → MayReady asks t p
+may_ready_preempted asks t may p =
+    let c = t.current in
+    cond_both (is_current (state_at t c)) (ready c t) t (λ u. 0 < entries_of p u.ready → MayReady asks t p)
+    (λ b. by_number p c (λ r. 0 < entries_of r (ready c t).ready → MayReady asks t r)
+    (λ _. may_ready_idle asks t c (ap is_waiting (current_of (state_at t c) b)))
+    (λ n h. may p (subst (λ k. 0 < k) (ready_in_other InReady p c (process_at t c).priority (entries_without c t.ready) n ∙ entries_without_other p c t.ready n) h)))
+    (λ _. may p)
+
+-- who sleeps waits on no semaphore
+sleeping_idle : (s : State) → 0 < sleeping_places s → is_waiting s ≡ false
+sleeping_idle s h = ⊎_elim (λ (e : s ≡ Sleeping). ap is_waiting e) (λ (e : s ≡ Timed). ap is_waiting e) (sleeping_of s h)
+
+-- who is due sleeps
+due_sleeps : (tick p : ℕ) (sleepers : List (ℕ × ℕ)) → count_in p (due tick sleepers) ≤ entries_of p sleepers
+due_sleeps tick p sleepers =
+    let e = times-map (λ (e : ℕ × ℕ). e.0) (λ (x : ℕ). x == p) (filter (λ (e : ℕ × ℕ). e.1 == tick) sleepers) in
+    let f = times-filter-le (λ (e : ℕ × ℕ). e.0 == p) (λ (e : ℕ × ℕ). e.1 == tick) sleepers in
+    omega arith
+
+module _ {f : Reach} where
+  -- A process becomes the current one.
+  touches_dispatch : (s : Xinu) (p : ℕ) → MayReady f.asks s.tables p → Touches f s (record s { tables = dispatch p s.tables })
+  touches_dispatch s p w =
+      let t = s.tables in
+      let u = record t { current = p; quantum = 2 } in
+      touches_trans (touches_tables s u (frame_same t u refl refl) refl)
+      (touches_moved (record s { tables = u }) p Current (message_at u p) Nowhere tt refl (record { idle = w.idle }))
+
+  -- The current process is preempted.
+  touches_preempt : (s : Xinu) → Touches f s (record s { tables = preempt s.tables })
+  touches_preempt s =
+      let t = s.tables in
+      let c = t.current in
+      cond_both (is_current (state_at t c)) (ready c t) t (λ u. Touches f s (record s { tables = u }))
+      (λ b. touches_moved s c Ready (message_at t c) InReady tt refl (may_ready_idle f.asks t c (ap is_waiting (current_of (state_at t c) b)))) (λ _. touches_refl s)
+
+  -- The first of a list runs.
+  touches_dispatch_first : (l : List (ℕ × ℤ)) (s u : Xinu) → Touches f s u → ((p : ℕ) → 0 < entries_of p l → MayReady f.asks s.tables p)
+      → Touches f s (record u { tables = dispatch_first l u.tables })
+  touches_dispatch_first [] s u c w = c
+  touches_dispatch_first (e ∷ es) s u c w = touches_trans c (touches_dispatch u e.0 (may_ready_framed s u e.0 c (w e.0 (first_has_entry e es))))
+
+  -- A resched, if who is in the ready list can become ready.
+  pub touches_resched_if : (s : Xinu) → ((p : ℕ) → 0 < entries_of p s.tables.ready → MayReady f.asks s.tables p)
+      → Touches f s (record s { tables = resched s.tables })
+  touches_resched_if s may =
+      let t = s.tables in
+      let room = preempt t in
+      cond_both (keeps_cpu t.ready t) t (dispatch_first room.ready room) (λ u. Touches f s (record s { tables = u }))
+      (λ _. touches_refl s) (λ _. touches_dispatch_first room.ready s (record s { tables = room }) (touches_preempt s) (may_ready_preempted f.asks t may))
+
+  -- A resched inside an event.
+  pub touches_resched : (s : Xinu) → IsInside s.tables → Touches f s (record s { tables = resched s.tables })
+  touches_resched s o = touches_resched_if s (may_ready_ready f.asks s.tables o)
+
+  -- The end of an event.
+  pub touches_end_of_event : (was : ℕ) (first : List TranscriptLine) (result : CallResult) → IsInside result.call.state.tables
+      → Touches f result.call.state (end_of_event was first result).state
+  touches_end_of_event was first result o =
+      let s = result.call.state in
+      let k : Touches f s (record s { tables = cond (result.call.owes_resched || is_off result.answer) (resched s.tables) s.tables }) =
+      cond_both (result.call.owes_resched || is_off result.answer) (resched s.tables) s.tables (λ u. Touches f s (record s { tables = u })) (λ _. touches_resched s o) (λ _. touches_refl s) in
+      record { frame = k.frame; stacks = k.stacks; parts = k.parts }
+
+  -- those whose tick has come go on
+  touches_wakeup : (s : Xinu) → IsInside s.tables → Touches f s (wakeup s).state
+  touches_wakeup s o =
+      let t = s.tables in
+      let n = t.ticks + 1 in
+      touches_unblock_all (due n t.sleepers) (start s)
+      (λ p h. may_ready_idle f.asks t p (sleeping_idle (state_at t p) (let e = o.sleeping p in let g = due_sleeps n p t.sleepers in omega arith)))
+
+  -- the quantum falls
+  touches_quantum : (s : Xinu) → IsInside s.tables → Touches f s (record s { tables = quantum_falls s.tables })
+  touches_quantum s o =
+      let t = s.tables in
+      let fresh = record t { quantum = 2 } in
+      cond_both (nat_lt 1 t.quantum) (record t { quantum = t.quantum - 1 }) (resched fresh) (λ u. Touches f s (record s { tables = u }))
+      (λ _. touches_tables s (record t { quantum = t.quantum - 1 }) (frame_same t (record t { quantum = t.quantum - 1 }) refl refl) refl)
+      (λ _. touches_trans (touches_tables s fresh (frame_same t fresh refl refl) refl) (touches_resched (record s { tables = fresh }) (inside_quantum t 2 o)))
+
+  -- a tick later, and then the quantum falls
+  touches_later : (owes : Bool) (s : Xinu) → IsInside (record s.tables { ticks = s.tables.ticks + 1 })
+      → Touches f s (record s { tables = quantum_falls (a_tick_later owes s.tables) })
+  touches_later owes s o =
+      let t = s.tables in
+      let later = record t { ticks = t.ticks + 1 } in
+      let u = record s { tables = later } in
+      let first : Touches f s u = touches_tables s later (frame_same t later refl refl) refl in
+      cond_both owes (resched later) later (λ v. Touches f s (record s { tables = quantum_falls v }))
+      (λ _. touches_trans (touches_trans first (touches_resched u o)) (touches_quantum (record s { tables = resched later }) (sound_resched later o).inside))
+      (λ _. touches_trans first (touches_quantum u o))
+
+  -- A tick.
+  pub touches_ticked : (s : Xinu) → IsSoundTables s.tables → Touches f s (ticked s).state
+  touches_ticked s k =
+      let d = wakeup s in
+      let ps = due (s.tables.ticks + 1) s.tables.sleepers in
+      let later = subst (λ (x : Xinu). IsInside (record x.tables { ticks = x.tables.ticks + 1 })) (sym (unblock_all_ready ps (start s))) (sound_later false s.tables k).inside in
+      let all : Touches f s (record d.state { tables = quantum_falls (a_tick_later d.owes_resched d.state.tables) }) = touches_trans (touches_wakeup s k.inside) (touches_later d.owes_resched d.state later) in
+      record { frame = all.frame; stacks = all.stacks; parts = all.parts }

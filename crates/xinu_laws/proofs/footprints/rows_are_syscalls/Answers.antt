@@ -1,0 +1,5 @@
+use Rattle.xinu_laws.proofs.Lists.CallRows.{rows_are_syscalls}
+use Rattle.xinu_laws.proofs.footprints.rows_are_syscalls.Goals as goal
+
+pub returns : goal.returns
+returns c = rows_are_syscalls

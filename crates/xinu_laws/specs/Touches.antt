@@ -1,0 +1,85 @@
+-- What it means that a call touches no more than its footprint allows.
+use Rattle.std.specs.Prelude.{◌≡◌, ℕ, Bool, true, false, not, List, length, map, Option, Some, None}
+use Rattle.xinu_base.specs.declared.processes.Process.{Process}
+use Rattle.xinu_base.specs.declared.processes.Rest.{Rest}
+use Rattle.xinu_base.specs.declared.processes.Rest.TheVariants.{Nothing, Receive, Timed, SelfSuspend, GetBuf, PtSend, PtRecv}
+use Rattle.xinu_base.specs.declared.semaphores.Owner.{Owner}
+use Rattle.xinu_base.specs.declared.semaphores.Owner.TheVariants as owner
+use Rattle.xinu_model.specs.Footprints.{Footprint, on_tables, on_pools, on_ports}
+use Rattle.xinu_laws.specs.Frame.{Frame}
+use Rattle.xinu_model.specs.Heap.Cells.{Heap}
+use Rattle.xinu_model.specs.Machine.{Parts, Xinu}
+use Rattle.xinu_model.specs.Pools.Buffers.{Pool, pool_bytes}
+use Rattle.xinu_model.specs.Tables.{Tables}
+
+-- Whose semaphores a footprint leaves alone: a device's always, a pool's and a port's unless it names pools or ports.
+abbrev pub spares : Footprint → ℕ → Option Owner → Bool
+spares f sem (Some (owner.Pool i)) = not f.pools
+spares f sem (Some (owner.Port q)) = not f.ports
+spares f sem (Some owner.Device) = true
+spares f sem (Some owner.Image) = false
+spares f sem None = false
+
+-- and the processes in which calls it leaves alone
+abbrev pub spares_rest : Footprint → Rest → Bool
+spares_rest f Nothing = false
+spares_rest f Receive = false
+spares_rest f Timed = false
+spares_rest f SelfSuspend = false
+spares_rest f (GetBuf i) = not f.pools
+spares_rest f (PtSend ticket message) = not f.ports
+spares_rest f (PtRecv ticket) = not f.ports
+spares_rest f _ = true
+
+-- How far a step reaches: the semaphores and the calls under way that it leaves alone, and the parts that it may change.
+pub record Reach : Type 0 where
+  pub mine : ℕ → Option Owner → Bool
+  pub asks : Rest → Bool
+  pub parts : Footprint
+
+-- the reach of a call with this footprint
+abbrev pub reach : Footprint → Reach
+reach f = record { mine = spares f; asks = spares_rest f; parts = f }
+
+-- a process's stack: its highest word, and its bytes; and the stacks by process number
+abbrev pub stack_of : Process → ℕ × ℕ
+stack_of x = (x.stack, x.stack_size)
+
+abbrev pub stacks_of : Tables → List (ℕ × ℕ)
+stacks_of t = map stack_of t.processes
+
+-- where a pool lies: its first address and its bytes
+abbrev pub range_of : Pool → ℕ × ℕ
+range_of pool = (pool.base, pool_bytes pool.size pool.number)
+
+-- Two heaps begin at one address and have the same number of cells.
+pub record HasSameExtent (h u : Heap) : Type 0 where
+  pub low : u.low ≡ h.low
+  pub many : length u.cells ≡ length h.cells
+
+-- From p to q only the parts that the footprint names change. The heap keeps its extent whatever it names.
+pub record KeepsParts (f : Footprint) (p q : Parts) : Type 0 where
+  pub extent : HasSameExtent p.heap q.heap
+  pub heap : f.heap ≡ false → q.heap ≡ p.heap
+  pub pools : f.pools ≡ false → q.pools ≡ p.pools
+  pub ranges : f.ranges ≡ false → map range_of q.pools ≡ map range_of p.pools
+  pub ports : f.ports ≡ false → (q.ports ≡ p.ports) × (q.next_port ≡ p.next_port)
+
+-- From s to u nothing is touched beyond this reach.
+pub record Touches (f : Reach) (s u : Xinu) : Type 0 where
+  pub frame : Frame f.mine f.asks s.tables u.tables
+  pub stacks : f.parts.stacks ≡ false → stacks_of u.tables ≡ stacks_of s.tables
+  pub parts : KeepsParts f.parts s.parts u.parts
+
+-- From s to u the heap, the ranges of the pools and the stacks stay as they are.
+pub record KeepsPlaces (s u : Xinu) : Type 0 where
+  pub heap : u.parts.heap ≡ s.parts.heap
+  pub ranges : map range_of u.parts.pools ≡ map range_of s.parts.pools
+  pub stacks : stacks_of u.tables ≡ stacks_of s.tables
+
+-- the footprint of what is left of a call that waited
+abbrev pub touched_by : Rest → Footprint
+touched_by (GetBuf i) = on_pools
+touched_by (PtSend ticket message) = on_ports
+touched_by (PtRecv ticket) = on_ports
+touched_by _ = on_tables

@@ -1,0 +1,44 @@
+//! Footprints: which parts of the state each call may change.
+
+ghost use Rattle.std.specs.Prelude.{◌≡◌, ℕ, true, false, List, Some, Option, Bool, filter, length, map, take};
+ghost use Rattle.xinu_base.specs.declared.lines.TranscriptLine.{TranscriptLine};
+ghost use Rattle.xinu_base.specs.declared.processes.Rest.{Rest};
+ghost use Rattle.xinu_base.specs.declared.semaphores.Owner.{Owner};
+ghost use Rattle.xinu_model.specs.Calls.{calls, call_of_number, continued};
+ghost use Rattle.xinu_model.specs.Clock.{ticked};
+ghost use Rattle.xinu_model.specs.Footprints.{on_tables};
+ghost use Rattle.xinu_laws.specs.Frame.{Frame, waits_at};
+ghost use Rattle.xinu_model.specs.Machine.{Xinu, CallResult, end_of_event};
+ghost use Rattle.xinu_model.specs.Rows.{CallRow, found_in};
+ghost use Rattle.xinu_model.specs.Sound.Tables.{IsInside, FitsOwner};
+ghost use Rattle.xinu_model.specs.Sound.State.{IsSound};
+ghost use Rattle.xinu_base.specs.Syscalls.{syscalls};
+ghost use Rattle.xinu_model.specs.Tables.{Tables, semaphore_at};
+ghost use Rattle.xinu_laws.specs.Touches.{Reach, reach, touched_by, Touches};
+
+/// The rows have the numbers, names and arities that the transcript prints.
+pub fn rows_are_syscalls()
+    ensures { map (λ (r : CallRow). r.syscall) calls ≡ take (length calls) syscalls }
+{}
+
+/// Each call touches no more than its footprint.
+pub fn calls_stay_within()
+    ensures { (number : ℕ) (args : List ℕ) (s : Xinu) (r : CallRow) → IsSound s → found_in calls number ≡ Some r → Touches (reach r.touches) s (call_of_number number args s).call.state }
+{}
+
+/// So does what is left of a call that waited.
+pub fn continuations_stay_within()
+    ensures { (left : Rest) (s : Xinu) → IsSound s → Touches (reach (touched_by left)) s (continued left s).call.state }
+{}
+
+/// A tick and the end of an event touch the tables alone, whatever is left alone of semaphores and calls.
+pub fn ends_stay_within()
+    ensures tick { (f : Reach) (s : Xinu) → IsSound s → Touches f s (ticked s).state }
+    ensures end { (f : Reach) (was : ℕ) (first : List TranscriptLine) (result : CallResult) → IsInside result.call.state.tables → Touches f result.call.state (end_of_event was first result).state }
+{}
+
+/// On a semaphore that is left alone those wait who waited before and still do, in the same order.
+pub fn waiters_keep_their_order()
+    ensures { (mine : ℕ → Option Owner → Bool) (asks : Rest → Bool) (t u : Tables) (sem : ℕ) → Frame mine asks t u → IsInside u → mine sem (semaphore_at t sem).owner ≡ true
+        → ((left : Rest) → FitsOwner sem (semaphore_at u sem).owner left → asks left ≡ true) → (semaphore_at u sem).waiters ≡ filter (waits_at asks u) (semaphore_at t sem).waiters }
+{}

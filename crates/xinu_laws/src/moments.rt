@@ -1,0 +1,55 @@
+//! What holds at each moment of an event: the kernel's code stands on these laws.
+
+ghost use Rattle.std.specs.Prelude.{◌≡◌, ℕ, true, false, [], List, Some, slice_index};
+ghost use Rattle.xinu_base.specs.Syscalls.{is_built};
+ghost use Rattle.xinu_base.specs.declared.lines.TranscriptLine.{TranscriptLine};
+ghost use Rattle.xinu_model.specs.Calls.{calls, call_of_number, called, continued};
+ghost use Rattle.xinu_model.specs.Clock.{ticked};
+ghost use Rattle.xinu_model.specs.Machine.{Xinu, CallResult, refused, end_of_event};
+ghost use Rattle.xinu_model.specs.Process.Scheduling.{resched};
+ghost use Rattle.xinu_laws.specs.Preserve.{KeepsAll, MayCallAny, ticking};
+ghost use Rattle.xinu_model.specs.Process.Death.{exit};
+ghost use Rattle.xinu_model.specs.Rows.{CallRow, found_in};
+ghost use Rattle.xinu_model.specs.Sound.Tables.{IsInside, IsSoundTables};
+ghost use Rattle.xinu_model.specs.Sound.State.{IsSound};
+ghost use Rattle.xinu_model.specs.Tables.{Tables, process_at};
+
+/// The call of a number is what the row of this number does, if there is one; a call that is built is served so, and any other is refused.
+pub fn calls_are_rows()
+    ensures row { (number : ℕ) (args : List ℕ) (s : Xinu) (r : CallRow) → found_in calls number ≡ Some r → call_of_number number args s ≡ r.effect (slice_index args) s }
+    ensures built { (number : ℕ) (args : List ℕ) (s : Xinu) → is_built number ≡ true → called number args s ≡ call_of_number number args s }
+    ensures other { (number : ℕ) (args : List ℕ) (s : Xinu) → is_built number ≡ false → called number args s ≡ refused s }
+{}
+
+/// Each call keeps what holds of tables, pools and ports: each row, whatever its arguments, and so the call of any number.
+pub fn calls_keep_all()
+    ensures rows { (number : ℕ) (r : CallRow) → found_in calls number ≡ Some r → (args : ℕ → ℕ) (s : Xinu) → MayCallAny s → KeepsAll (r.effect args s) }
+    ensures numbers { (number : ℕ) (args : List ℕ) (s : Xinu) → MayCallAny s → KeepsAll (call_of_number number args s) }
+    ensures called { (number : ℕ) (args : List ℕ) (s : Xinu) → MayCallAny s → KeepsAll (called number args s) }
+{}
+
+/// What is left of a call that waited keeps it too.
+pub fn continuations_keep_all()
+    ensures { (s : Xinu) → MayCallAny s → KeepsAll (continued (process_at s.tables s.tables.current).rest s) }
+{}
+
+/// So does the death of the caller, by `exit` or by a trap.
+pub fn deaths_keep_all()
+    ensures { (s : Xinu) → MayCallAny s → KeepsAll (exit s) }
+{}
+
+/// So does a tick, whose end is that of any event.
+pub fn ticks_keep_all()
+    ensures keeps { (s : Xinu) → IsSound s → KeepsAll (ticking s) }
+    ensures ends { (s : Xinu) → end_of_event s.tables.current [] (ticking s) ≡ ticked s }
+{}
+
+/// A resched inside an event leaves sound tables.
+pub fn rescheds_are_sound()
+    ensures { (t : Tables) → IsInside t → IsSoundTables (resched t) }
+{}
+
+/// The end of an event leaves a sound state.
+pub fn ends_are_sound()
+    ensures { (was : ℕ) (first : List TranscriptLine) (result : CallResult) → KeepsAll result → IsSound (end_of_event was first result).state }
+{}

@@ -1,0 +1,39 @@
+-- Which parts of the state a call may change.
+use Rattle.std.specs.Prelude.{Bool, true, false}
+
+-- Besides the processes, their messages and semaphores, and the clock, which any call may change: whether it may change the heap, the
+-- stacks of processes, where pools lie, the pools, and the ports.
+pub record Footprint : Type 0 where
+  pub heap : Bool
+  pub stacks : Bool
+  pub ranges : Bool
+  pub pools : Bool
+  pub ports : Bool
+
+-- processes, messages, semaphores of processes and the clock
+abbrev pub on_tables : Footprint
+on_tables = record { heap = false; stacks = false; ranges = false; pools = false; ports = false }
+
+-- the heap too
+abbrev pub on_heap : Footprint
+on_heap = record on_tables { heap = true }
+
+-- the heap and the stacks of processes
+abbrev pub on_processes : Footprint
+on_processes = record on_heap { stacks = true }
+
+-- the pools, which stay where they lie
+abbrev pub on_pools : Footprint
+on_pools = record on_tables { pools = true }
+
+-- a pool more, from the heap
+abbrev pub on_new_pool : Footprint
+on_new_pool = record on_pools { heap = true; ranges = true }
+
+-- the ports
+abbrev pub on_ports : Footprint
+on_ports = record on_tables { ports = true }
+
+-- the ports, and the pools to which their messages are given back
+abbrev pub on_ports_and_pools : Footprint
+on_ports_and_pools = record on_ports { pools = true }
