@@ -32,7 +32,7 @@ pub(crate) fn run_image<H: Host>(
 ) -> Result<Machine, Refusal>
     requires few { length schedule ≤ 1000000000 }
     ensures carries { Carries (started schedule (loaded_of image.now ∷ [])) (refusal_of result) (left_of result) (H.view host.old) (H.view host.new) }
-    ensures asked { (H.view host.new).asked ≡ (H.view host.old).asked }
+    ensures fetched { (H.view host.new).asked ≡ (H.view host.old).asked }
     ensures keeps { KeepsFiles (H.view host.old) (H.view host.new) }
 {
     let mut machine = match Machine::boot(alloc, slice::from_ref(image)) {
