@@ -15,7 +15,7 @@ use Rattle.xinu_run.specs.Fetches.{fetches_of}
 use Rattle.xinu_run.specs.Refusals.{IsRefused, text_of}
 use Rattle.xinu_run.specs.Stages.{IsArgsCause, KeepsFiles, left_of, refusal_of}
 use Rattle.xinu_run.specs.Theorem.{Answers, Carries, HasFetched, IsUnsent, Obeys}
-use Rattle.xinu_run.specs.Verdict.{Verdict, Refuses, Does, Runs, held, run_verdict, verdict}
+use Rattle.xinu_run.specs.Verdict.{Verdict, Refuses, Does, Runs, file_bytes, run_verdict, verdict}
 use Rattle.xinu_run.specs.declared.refusals.Refusal.{Refusal}
 use Rattle.xinu_run.specs.declared.refusals.Refusal.TheVariants as refusal
 use Rattle.xinu_run.proofs.Carried.{carries_nothing, carries_within, unsent_refl}
@@ -48,11 +48,11 @@ pub host_refuses : (f : HostFault) (s i : Text) (h j k : Outside) → (f ≡ hos
 host_refuses host.Failed s i h j k cause earlier unsent =
     let rose : Rose h.faults k.faults = (let later : Rose j.faults k.faults = cause refl in omega arith) in record {
       unseen = unseen_by [] [];
-      carries = carries_nothing (run_verdict (held (h.file s) []) (held (h.file i) [] ∷ [])) refusal.HostFault h k (run_keeps (held (h.file s) []) (held (h.file i) [] ∷ []), rose) unsent;
+      carries = carries_nothing (run_verdict (file_bytes (h.file s) []) (file_bytes (h.file i) [] ∷ [])) refusal.HostFault h k (run_keeps (file_bytes (h.file s) []) (file_bytes (h.file i) [] ∷ []), rose) unsent;
     }
 host_refuses host.NoMemory s i h j k cause earlier unsent = record {
   unseen = unseen_by [] [];
-  carries = carries_nothing (run_verdict (held (h.file s) []) (held (h.file i) [] ∷ [])) refusal.NoMemory h k tt unsent;
+  carries = carries_nothing (run_verdict (file_bytes (h.file s) []) (file_bytes (h.file i) [] ∷ [])) refusal.NoMemory h k tt unsent;
 }
 
 -- A fetch sends nothing.

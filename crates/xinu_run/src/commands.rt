@@ -7,7 +7,7 @@ ghost use Rattle.host_port.specs.Outside.{fetching};
 ghost use Rattle.xinu_run.specs.Fetches.{fetches_of};
 ghost use Rattle.xinu_run.specs.Stages.{HoldsSchedule, IsScheduleCause, KeepsFiles, left_of, refusal_of};
 ghost use Rattle.xinu_run.specs.Theorem.{Carries, HasFetched, IsUnsent, Obeys};
-ghost use Rattle.xinu_run.specs.Verdict.{started, with_images};
+ghost use Rattle.xinu_run.specs.Verdict.{boot_verdict, images_verdict};
 
 use crate::args::{RunFiles, files_of};
 use crate::refusals::Refusal;
@@ -78,7 +78,7 @@ fn run_bytes<H: Host>(
     host: &mut H,
 ) -> Result<Machine, Refusal>
     requires { length schedule ≤ 1000000000 }
-    ensures carries { Carries (with_images 1 (bytes.now ∷ []) (started schedule)) (refusal_of result) (left_of result) (H.view host.old) (H.view host.new) }
+    ensures carries { Carries (images_verdict 1 (bytes.now ∷ []) (boot_verdict schedule)) (refusal_of result) (left_of result) (H.view host.old) (H.view host.new) }
     ensures fetched { (H.view host.new).asked ≡ (H.view host.old).asked }
     ensures keeps { KeepsFiles (H.view host.old) (H.view host.new) }
 {

@@ -3,7 +3,7 @@ use Rattle.std.specs.Prelude.{MatchOption, ⊤, Err}
 use Rattle.host_port.specs.Outside.{Outside, fetching}
 use Rattle.xinu_run.specs.Conversions.{host_refusal}
 use Rattle.xinu_run.specs.Theorem.{Carries, HasFetched, Obeys}
-use Rattle.xinu_run.specs.Verdict.{started, with_images}
+use Rattle.xinu_run.specs.Verdict.{boot_verdict, images_verdict}
 use Rattle.xinu_run.specs.Stages.{left_of, refusal_of}
 use Rattle.xinu_run.proofs.Answered.{fetched_unsent, host_refuses, of_err}
 use Rattle.xinu_run.proofs.Fetching.{fetched_first, fetched_two}
@@ -58,7 +58,7 @@ returns-clause-obeys g c =
     let left = left_of c.run_bytes.result in
     let fetched = subst (λ (file : List ℕ → Option (List ℕ)). MatchOption (file i) ⊤ (λ bytes. items ≡ take 1048577 bytes)) c.in_ok-schedule.ensures.keeps.file c.in_ok-bytes.ensures.bytes in
     let few : length items ≤ 1048577 = omega (arith, c.in_ok-bytes.ensures.bound) in
-    let carries = subst (λ (bytes : List ℕ). Carries (with_images 1 (bytes ∷ []) (started events)) ended left j k) c.as_slice.ensures.value c.run_bytes.ensures.carries in
+    let carries = subst (λ (bytes : List ℕ). Carries (images_verdict 1 (bytes ∷ []) (boot_verdict events)) ended left j k) c.as_slice.ensures.value c.run_bytes.ensures.carries in
     files_obey c.args.files.schedule.now i events items ended left h j k c.in_ok-schedule.ensures.ok few fetched
     (unsent_both h (g.H.Host.view c.fetch_schedule.new.host) j c.in_ok-schedule.ensures.unsent (fetched_unsent (g.H.Host.view c.fetch_schedule.new.host) j _ _ c.fetch.ensures.asked.part.1))
     (omega (arith, c.in_ok-schedule.ensures.keeps.later, c.in_ok-bytes.ensures.cause.later)) carries
