@@ -1,4 +1,4 @@
--- From the quiet host to the host that fails on demand: the same changes, with the added files alone told and another count.
+-- From the quiet host to the host that fails on demand: the same changes, with only the added files observable and another count.
 use Rattle.std.specs.Prelude.{ℕ, ◌≡◌, List, Option, Result, Ok, Err, take}
 use Rattle.std.specs.Option.{option_map}
 use Rattle.std.specs.BTreeMap.{get_by_text}

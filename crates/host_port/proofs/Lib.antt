@@ -1,2 +1,5 @@
 mod Answered
 mod HeldLemmas
+mod HexText
+pub mod Prints
+mod Writes

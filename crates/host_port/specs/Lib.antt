@@ -1,6 +1,6 @@
 pub mod Outside
 pub mod HostCalls
-pub mod Asking
+pub mod Recording
 pub mod QuietHost
 pub mod MemoryHost
 pub mod LineText

@@ -7,11 +7,11 @@ use Rattle.host_port.specs.declared.memory.MemoryHost.{MemoryHost}
 use Rattle.host_port.specs.Outside.{Outside, counted}
 use Rattle.host_port.specs.QuietHost.{added, held}
 
--- the host: a name that wasn't added is not told
+-- the host: a file that wasn't added is unobservable
 abbrev pub memory_view : MemoryHost → Outside
 memory_view h = counted (held h.quiet) h.faults
 
--- a host with no files, on which nothing was sent and of which nothing was asked
+-- a host with no files, on which nothing was sent and of which no call was made
 abbrev pub memory_empty : Outside
 memory_empty = record {
   file = λ name. None;
@@ -20,7 +20,7 @@ memory_empty = record {
   disk0 = Some [];
   disk1 = Some [];
   image = Some [];
-  asked = Some [];
+  calls = Some [];
   faults = 0;
 }
 
@@ -34,21 +34,21 @@ fails_at h n = list_any (λ m. m == n) h.failing.items
 
 -- whether the next call is to fail
 abbrev pub fails_next : MemoryHost → Bool
-fails_next h = fails_at h (next h.calls)
+fails_next h = fails_at h (next h.calls_made)
 
--- whether the next call fails, where it is a `fetch` of this file
+-- whether the next call fails, if it is a `fetch` of this file
 abbrev pub fetch_fails : MemoryHost → List ℕ → Bool
 fetch_fails h name = fails_next h || not (is_some (added h.quiet name))
 
--- the count of faults behind a call
+-- the count of faults after a call
 abbrev pub faults_after : {T : Type 0} → ℕ → Result T HostFault → ℕ
 faults_after faults (Ok x) = faults
 faults_after faults (Err Failed) = next faults
 faults_after faults (Err NoMemory) = faults
 
--- The call was counted. It was refused where it was to fail, and it answered `Failed` nowhere else. Each failure was counted.
+-- The call was counted. It was refused if it was to fail, and it answered `Failed` only then. Each failure was counted.
 pub record CountsCall {T : Type 0} (old new : MemoryHost) (fails : Bool) (result : Result T HostFault) : Type 0 where
-  pub calls : new.calls ≡ next old.calls
+  pub calls : new.calls_made ≡ next old.calls_made
   pub numbers : (n : ℕ) → fails_at new n ≡ fails_at old n
   pub faults : new.faults ≡ faults_after old.faults result
   pub refused : fails ≡ true → IsErr result

@@ -1,14 +1,14 @@
--- The outside of the machine as a value: the files, what was emitted on each channel, the calls that were asked, the faults.
+-- The outside of the machine as a value: the files, what was emitted on each channel, the calls that named a file, the faults.
 use Rattle.std.specs.Prelude.{ℕ, ◌≡◌, ◌≢◌, List, [], ◌++◌, Option, Some, None}
 use Rattle.host_port.specs.declared.host.Channel.{Channel}
 use Rattle.host_port.specs.declared.host.Channel.TheVariants.{Out, Fault, Disk0, Disk1, Image}
 
 -- a call that named a file: of `name_out` with its channel, of `fetch` with none
-pub record Asked : Type 0 where
+pub record HostCall : Type 0 where
   pub name : List ℕ
   pub channel : Option Channel
 
--- A host: the bytes of its files, the bytes on each channel and the calls that were asked, each where the host tells them, and
+-- A host: the bytes of its files, the bytes on each channel and the calls that named a file, each if it is observable, and
 -- how many faults there were.
 pub record Outside : Type 0 where
   pub file : List ℕ → Option (List ℕ)
@@ -17,23 +17,23 @@ pub record Outside : Type 0 where
   pub disk0 : Option (List ℕ)
   pub disk1 : Option (List ℕ)
   pub image : Option (List ℕ)
-  pub asked : Option (List Asked)
+  pub calls : Option (List HostCall)
   pub faults : ℕ
 
 -- the call of `fetch` that names this file
-abbrev pub fetching : List ℕ → Asked
+abbrev pub fetching : List ℕ → HostCall
 fetching name = record { name = name; channel = None }
 
 -- the call of `name_out` that names this file for the channel
-abbrev pub naming : Channel → List ℕ → Asked
+abbrev pub naming : Channel → List ℕ → HostCall
 naming channel name = record { name = name; channel = Some channel }
 
--- what is told, with more behind it
+-- what is observable, with more after it
 abbrev pub grown : {T : Type 0} → Option (List T) → List T → Option (List T)
 grown None more = None
 grown (Some before) more = Some (before ++ more)
 
--- what is told, with nothing left of it
+-- what is observable, with nothing left of it
 abbrev pub emptied : {T : Type 0} → Option (List T) → Option (List T)
 emptied None = None
 emptied (Some before) = Some []
@@ -62,11 +62,11 @@ made_empty h Disk0 = record h { disk0 = emptied h.disk0 }
 made_empty h Disk1 = record h { disk1 = emptied h.disk1 }
 made_empty h Image = record h { image = emptied h.image }
 
--- these calls were asked, and nothing else was changed
-abbrev pub asked_also : Outside → List Asked → Outside
-asked_also h calls = record h { asked = grown h.asked calls }
+-- these calls were made, and nothing else was changed
+abbrev pub with_calls : Outside → List HostCall → Outside
+with_calls h calls = record h { calls = grown h.calls calls }
 
--- the count of faults stands at this number, and nothing else was changed
+-- the count of faults is this number, and nothing else was changed
 abbrev pub counted : Outside → ℕ → Outside
 counted h n = record h { faults = n }
 
@@ -81,15 +81,15 @@ pub record Stays (old new : Outside) : Type 0 where
   pub files : (name : List ℕ) → new.file name ≡ old.file name
   pub rest : new ≡ record old { file = new.file }
 
--- a host that tells nothing but the count of its faults
-abbrev pub untold : ℕ → Outside
-untold faults = record {
+-- a host of which nothing is observable but the count of its faults
+abbrev pub unobservable : ℕ → Outside
+unobservable faults = record {
   file = λ name. None;
   out = None;
   fault = None;
   disk0 = None;
   disk1 = None;
   image = None;
-  asked = None;
+  calls = None;
   faults = faults;
 }

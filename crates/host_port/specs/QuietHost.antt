@@ -4,7 +4,7 @@ use Rattle.std.specs.Option.{option_map}
 use Rattle.std.specs.BTreeMap.{get_by_text}
 use Rattle.host_port.specs.declared.quiet.QuietMemoryHost.{QuietMemoryHost}
 use Rattle.host_port.specs.Outside.{Outside}
-use Rattle.host_port.specs.Asking.{asked_of}
+use Rattle.host_port.specs.Recording.{host_call_of}
 
 -- the bytes of the file that was added under this name
 abbrev pub added : QuietMemoryHost → List ℕ → Option (List ℕ)
@@ -19,15 +19,15 @@ quiet_view h = record {
   disk0 = Some h.disk0.items;
   disk1 = Some h.disk1.items;
   image = Some h.image.items;
-  asked = Some (map asked_of h.asked.items);
+  calls = Some (map host_call_of h.calls.items);
   faults = 0;
 }
 
--- the host, where a name that wasn't added is not told
+-- the host, in which a file that wasn't added is unobservable
 abbrev pub held : QuietMemoryHost → Outside
 held h = record (quiet_view h) { file = added h }
 
--- a host with no files, on which nothing was sent and of which nothing was asked
+-- a host with no files, on which nothing was sent and of which no call was made
 abbrev pub quiet_empty : Outside
 quiet_empty = record {
   file = λ name. Some [];
@@ -36,6 +36,6 @@ quiet_empty = record {
   disk0 = Some [];
   disk1 = Some [];
   image = Some [];
-  asked = Some [];
+  calls = Some [];
   faults = 0;
 }

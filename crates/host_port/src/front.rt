@@ -4,7 +4,7 @@ ghost use Rattle.std.specs.Prelude.{◌≡◌, ◌+◌, ◌≤◌, take, IfOk, v
 
 use std::alloc::{AllocError, Global};
 
-/// The first `max + 1` bytes, or all where there are fewer.
+/// The first `max + 1` bytes, or all of them if there are fewer.
 pub(crate) fn first_bytes(alloc: Global, bytes: &[u8], max: usize) -> Result<Vec<u8>, AllocError>
     ensures bytes { IfOk result (λ v. v.items ≡ take (max + 1) bytes.now) }
     ensures bound { IfOk result (λ v. vec_len v ≤ max + 1) }

@@ -5,11 +5,11 @@
 
 ghost use Rattle.std.specs.Prelude.{◌≡◌, ◌≢◌, ◌+◌, ◌≤◌, ◌<◌, ◌^◌, ⊤, take, vec_len, IfOk, MatchOption};
 ghost use Rattle.host_port.specs.Outside.{Outside, fetching, naming};
-ghost use Rattle.host_port.specs.HostCalls.{HasCause, Emits, Asks, Names};
+ghost use Rattle.host_port.specs.HostCalls.{HasCause, Emits, MakesCall, Names};
 
 use std::alloc::{AllocError, AllocFailed, Global};
 
-/// Where bytes are sent.
+/// A destination of bytes.
 #[derive(Clone, Copy, Debug, PartialEq, Eq)]
 pub enum Channel {
     /// The transcript, or the plain output.
@@ -59,21 +59,21 @@ impl<T: Drop> From<AllocFailed<T>> for HostFault {
 pub trait Host {
     ghost view: { Self → Outside };
 
-    /// The first `max + 1` bytes of a file, or all of them where it has fewer.
+    /// The first `max + 1` bytes of a file, or all of them if it has fewer.
     ///
     /// # Errors
-    /// `Failed` where the file can't be read, only where the count of faults rose; `NoMemory`.
+    /// `Failed` if the file can't be read, and only if the count of faults rose; `NoMemory`.
     fn fetch(&mut self, alloc: Global, path: &str, max: usize) -> Result<Vec<u8>, HostFault>
         ensures bytes { IfOk result (λ v. MatchOption ((view self.old).file path.now) ⊤ (λ bytes. v.items ≡ take (max + 1) bytes)) }
         ensures bound { IfOk result (λ v. vec_len v ≤ max + 1) }
-        ensures asked { Asks (view self.old) (view self.new) (fetching path.now) result }
+        ensures calls { MakesCall (view self.old) (view self.new) (fetching path.now) result }
         ensures cause { HasCause (view self.old).faults (view self.new).faults result }
         ensures count { (view self.new).faults < 2 ^ 64 };
 
     /// Says which file a channel writes, and makes the channel empty. `channel` is `Disk0`, `Disk1` or `Image`.
     ///
     /// # Errors
-    /// `Failed` where the file can't be made, only where the count of faults rose; `NoMemory`. The channel may be empty then.
+    /// `Failed` if the file can't be made, and only if the count of faults rose; `NoMemory`. The channel may be empty then.
     fn name_out(&mut self, channel: Channel, path: &str) -> Result<(), HostFault>
         requires not_out { channel ≢ Channel.Out }
         requires not_fault { channel ≢ Channel.Fault }
@@ -84,7 +84,7 @@ pub trait Host {
     /// Appends bytes to a channel.
     ///
     /// # Errors
-    /// `Failed` where they can't be written, only where the count of faults rose; `NoMemory`. Some bytes from the
+    /// `Failed` if they can't be written, and only if the count of faults rose; `NoMemory`. Some bytes from the
     /// front may have been appended then.
     fn emit(&mut self, channel: Channel, bytes: &[u8]) -> Result<(), HostFault>
         ensures sent { Emits (view self.old) (view self.new) channel bytes.now result }

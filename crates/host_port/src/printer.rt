@@ -22,7 +22,7 @@ impl Model for Printer {
 }
 
 impl Printer {
-    /// A printer that was refused nothing. Where `plain`, it sends the bytes of the console alone, as they are.
+    /// A printer that was refused nothing. If `plain`, it sends the bytes of the console alone, as they are.
     pub fn new(plain: bool) -> Self
         ensures fresh { result ≡ record { plain = plain; failure = None } }
     {
@@ -32,7 +32,7 @@ impl Printer {
         }
     }
 
-    /// Prints a line; nothing where the output is plain.
+    /// Prints a line; nothing if the output is plain.
     pub fn line<H: Host>(&mut self, host: &mut H, line: &Line)
         ensures prints { Prints self.old self.new (H.view host.old) (H.view host.new) (if self.old.plain then [] else line.now) }
     {
@@ -41,7 +41,7 @@ impl Printer {
         }
     }
 
-    /// Prints a byte that the console transmitted: the line `con` and its two hexadecimal digits, or the byte alone where the
+    /// Prints a byte that the console transmitted: the line `con` and its two hexadecimal digits, or the byte alone if the
     /// output is plain.
     pub fn con<H: Host>(&mut self, host: &mut H, b: u8)
         ensures prints { Prints self.old self.new (H.view host.old) (H.view host.new) (if self.old.plain then b ∷ [] else con_text b) }
@@ -58,7 +58,7 @@ impl Printer {
         }
     }
 
-    /// The first refusal; None exactly where nothing was refused.
+    /// The first refusal; `None` if nothing was refused.
     pub fn failed(&self) -> Option<HostFault>
         ensures failed { result ≡ self.now.failure }
     {

@@ -1,13 +1,13 @@
 //! A host in memory that never fails.
 
-use crate::asked::AskedCall;
 use crate::front::first_bytes;
 use crate::host::{Channel, Host, HostFault};
+use crate::recorded::RecordedCall;
 use std::alloc::Global;
 use std::collections::BTreeMap;
 use xinu_base::NoMemory;
 
-/// Files and channels in memory. Every name is a file, empty until it is added, and no call fails but for want of memory.
+/// Files and channels in memory. Every name is a file, empty until it is added, and a call fails only if memory runs out.
 #[derive(Drop)]
 pub struct QuietMemoryHost {
     alloc: Global,
@@ -17,12 +17,12 @@ pub struct QuietMemoryHost {
     disk0: Vec<u8>,
     disk1: Vec<u8>,
     image: Vec<u8>,
-    asked: Vec<AskedCall>,
+    calls: Vec<RecordedCall>,
 }
 
 impl QuietMemoryHost {
     ghost use Rattle.std.specs.Prelude.{◌≡◌, Some, None, is_some, OnOk, OnErr, IsErrOf, ◌∷◌, [], unwrap_or};
-    ghost use Rattle.host_port.specs.Outside.{AddsFile, Stays, sent_on, asked_also};
+    ghost use Rattle.host_port.specs.Outside.{AddsFile, Stays, sent_on, with_calls};
     ghost use Rattle.host_port.specs.QuietHost.{quiet_view, quiet_empty, added, held};
 
     /// A host with no files, on which nothing was sent.
@@ -38,7 +38,7 @@ impl QuietMemoryHost {
             disk0: Vec::new(alloc),
             disk1: Vec::new(alloc),
             image: Vec::new(alloc),
-            asked: Vec::new(alloc),
+            calls: Vec::new(alloc),
         }
     }
 
@@ -79,14 +79,18 @@ impl QuietMemoryHost {
     }
 
     /// Writes down a call: of `name_out` with its channel, of `fetch` with none.
-    pub(crate) fn ask(&mut self, name: &str, channel: Option<Channel>) -> Result<(), HostFault>
-        ensures ok { OnOk result (quiet_view self.new ≡ asked_also (quiet_view self.old) (record { name = name.now; channel = channel } ∷ [])) }
+    pub(crate) fn record_call(
+        &mut self,
+        name: &str,
+        channel: Option<Channel>,
+    ) -> Result<(), HostFault>
+        ensures ok { OnOk result (quiet_view self.new ≡ with_calls (quiet_view self.old) (record { name = name.now; channel = channel } ∷ [])) }
         ensures err { OnErr result (quiet_view self.new ≡ quiet_view self.old) }
         ensures cause { IsErrOf result HostFault.Failed → ⊥ }
         ensures files { self.new.files ≡ self.old.files }
     {
         let name = String::from_str(self.alloc, name)?;
-        self.asked.push(AskedCall { name, channel })?;
+        self.calls.push(RecordedCall { name, channel })?;
         Ok(())
     }
 
@@ -104,7 +108,7 @@ impl QuietMemoryHost {
 impl Host for QuietMemoryHost {
     ghost use Rattle.std.specs.Prelude.{◌≡◌, ◌≢◌, ◌+◌, ◌≤◌, ◌<◌, ◌^◌, ⊤, take, vec_len, IfOk, MatchOption};
     ghost use Rattle.host_port.specs.Outside.{fetching, naming};
-    ghost use Rattle.host_port.specs.HostCalls.{HasCause, Emits, Asks, Names};
+    ghost use Rattle.host_port.specs.HostCalls.{HasCause, Emits, MakesCall, Names};
     ghost use Rattle.host_port.specs.QuietHost.{quiet_view};
 
     ghost view = { quiet_view };
@@ -112,12 +116,12 @@ impl Host for QuietMemoryHost {
     fn fetch(&mut self, alloc: Global, path: &str, max: usize) -> Result<Vec<u8>, HostFault>
         ensures bytes { IfOk result (λ v. MatchOption ((quiet_view self.old).file path.now) ⊤ (λ bytes. v.items ≡ take (max + 1) bytes)) }
         ensures bound { IfOk result (λ v. vec_len v ≤ max + 1) }
-        ensures asked { Asks (quiet_view self.old) (quiet_view self.new) (fetching path.now) result }
+        ensures calls { MakesCall (quiet_view self.old) (quiet_view self.new) (fetching path.now) result }
         ensures cause { HasCause (quiet_view self.old).faults (quiet_view self.new).faults result }
         ensures count { (quiet_view self.new).faults < 2 ^ 64 }
         ensures files { self.new.files ≡ self.old.files }
     {
-        self.ask(path, None)?;
+        self.record_call(path, None)?;
         Ok(first_bytes(alloc, self.bytes_of(path), max)?)
     }
 
@@ -129,7 +133,7 @@ impl Host for QuietMemoryHost {
         ensures count { (quiet_view self.new).faults < 2 ^ 64 }
         ensures files { self.new.files ≡ self.old.files }
     {
-        self.ask(path, Some(channel))?;
+        self.record_call(path, Some(channel))?;
         match channel {
             Channel::Disk0 => self.disk0.clear(),
             Channel::Disk1 => self.disk1.clear(),

@@ -1,6 +1,6 @@
 //! The host of the program: real files, standard output and standard error.
 //!
-//! This is the edge of the machine, and trusted: no clause tells what the system did with the bytes.
+//! This is the edge of the machine, and trusted: no clause says what the system did with the bytes.
 
 use crate::host::{Channel, Host, HostFault};
 use crate::streams::{read_front, write_whole};
@@ -8,7 +8,7 @@ use std::alloc::Global;
 use std::rt::Runtime;
 use std::{fs, io, str};
 
-/// Files, standard output and standard error. It tells how many faults there were, and nothing of what was read or written.
+/// Files, standard output and standard error. The count of faults is observable, what was read or written is not.
 ///
 /// Each call of the system that fails is a fault, and so is a write that takes nothing. `Out` is standard output and `Fault`
 /// standard error, which takes text alone. Bytes for a channel that has no file are a fault; an `emit` of nothing is none.
@@ -38,7 +38,7 @@ impl<R: Runtime> RealHost<R> {
         }
     }
 
-    // Counts a fault, where there was one.
+    // Counts a fault, if there was one.
     fn count<T>(&mut self, done: Result<T, HostFault>) -> Result<T, HostFault>
         ensures same { result ≡ done }
         ensures cause { HasCause self.old.faults self.new.faults result }
@@ -53,9 +53,9 @@ impl<R: Runtime> RealHost<R> {
 }
 
 impl<R: Runtime> Host for RealHost<R> {
-    ghost use Rattle.host_port.specs.Outside.{untold};
+    ghost use Rattle.host_port.specs.Outside.{unobservable};
 
-    ghost view = { λ h. untold h.faults };
+    ghost view = { λ h. unobservable h.faults };
 
     fn fetch(&mut self, alloc: Global, path: &str, max: usize) -> Result<Vec<u8>, HostFault> {
         let fetched = match fs::open(&self.rt, path) {

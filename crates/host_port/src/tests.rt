@@ -1,6 +1,7 @@
 //! The hosts in memory and the real one, and the text of lines.
 
 use crate::{Channel, Host, HostFault, Line, MemoryHost, Printer, QuietMemoryHost, RealHost};
+use std::alloc::Global;
 use std::fs;
 use std::test::Fail;
 
@@ -100,31 +101,75 @@ fn printer_stops_at_a_failure(rt: HostRuntime) -> Result<(), Fail> {
     Ok(())
 }
 
+// 10,000 bytes, more than two buffers of a read hold, that differ from one channel to another.
+fn long_bytes(alloc: Global, first: u8) -> Result<Vec<u8>, Fail> {
+    let mut bytes = Vec::new(alloc);
+    for n in 0..10_000u32 {
+        bytes.push((n % 251) as u8 ^ first)?;
+    }
+    Ok(bytes)
+}
+
 #[test]
 fn real_host_reads_what_it_wrote(rt: HostRuntime) -> Result<(), Fail> {
     let alloc = rt.alloc();
     let mut host = RealHost::new(rt.clone()?);
-    let name = "real_host_test.img";
-    assert_eq!(rt; host.emit(Channel::Image, b""), Ok(()));
-    assert_eq!(rt; host.emit(Channel::Image, b"none"), Err(HostFault::Failed));
-    assert_eq!(rt; host.name_out(Channel::Image, name), Ok(()));
-    assert_eq!(rt; host.emit(Channel::Image, b"old"), Ok(()));
-    assert_eq!(rt; host.name_out(Channel::Image, name), Ok(()));
-    assert_eq!(rt; host.emit(Channel::Image, b"new "), Ok(()));
-    assert_eq!(rt; host.emit(Channel::Image, b"bytes"), Ok(()));
-    assert_eq!(rt;
-        host.fetch(alloc, name, 8)?.as_slice(),
-        b"new bytes".as_slice()
-    );
-    assert_eq!(rt; host.fetch(alloc, name, 2)?.as_slice(), b"new".as_slice());
-    fs::remove_file(&rt, name)?;
-    assert_eq!(rt; host.fetch(alloc, name, 8).err(), Some(HostFault::Failed));
+    let files = [
+        (Channel::Disk0, "real_host_disk0.img"),
+        (Channel::Disk1, "real_host_disk1.img"),
+        (Channel::Image, "real_host_image.img"),
+    ];
+    for (channel, name) in files {
+        assert_eq!(rt; host.emit(channel, b""), Ok(()), "{name}");
+        assert_eq!(rt;
+            host.emit(channel, b"none"),
+            Err(HostFault::Failed),
+            "{name}"
+        );
+        assert_eq!(rt; host.name_out(channel, name), Ok(()), "{name}");
+        assert_eq!(rt; host.emit(channel, b"old"), Ok(()), "{name}");
+    }
+    for (number, (channel, name)) in files.iter().enumerate() {
+        let bytes = long_bytes(alloc, number as u8)?;
+        assert_eq!(rt; host.name_out(*channel, name), Ok(()), "{name}");
+        assert_eq!(rt; host.emit(*channel, &bytes[..7]), Ok(()), "{name}");
+        assert_eq!(rt; host.emit(*channel, &bytes[7..]), Ok(()), "{name}");
+    }
+    for (number, (_, name)) in files.iter().enumerate() {
+        let bytes = long_bytes(alloc, number as u8)?;
+        for max in [0, 4095, 4096, 9_998, 9_999, 20_000] {
+            let front = &bytes[..bytes.len().min(max + 1)];
+            assert_eq!(rt;
+                host.fetch(alloc, name, max)?.as_slice(),
+                front,
+                "{name} {max}"
+            );
+        }
+        fs::remove_file(&rt, name)?;
+        assert_eq!(rt;
+            host.fetch(alloc, name, 8).err(),
+            Some(HostFault::Failed),
+            "{name}"
+        );
+    }
+    Ok(())
+}
+
+#[test]
+fn real_host_tells_a_failing_write(rt: HostRuntime) -> Result<(), Fail> {
+    let mut host = RealHost::new(rt.clone()?);
     assert_eq!(rt;
         host.name_out(Channel::Disk0, "no/such/folder"),
         Err(HostFault::Failed)
     );
     assert_eq!(rt; host.emit(Channel::Disk0, b"none"), Err(HostFault::Failed));
+    // A device that is always full: each write to it fails.
+    if host.name_out(Channel::Image, "/dev/full") == Ok(()) {
+        assert_eq!(rt; host.emit(Channel::Image, b""), Ok(()));
+        assert_eq!(rt; host.emit(Channel::Image, b"none"), Err(HostFault::Failed));
+    }
     assert_eq!(rt; host.emit(Channel::Out, b"out\n"), Ok(()));
     assert_eq!(rt; host.emit(Channel::Fault, b"fault\n"), Ok(()));
+    assert_eq!(rt; host.emit(Channel::Fault, b"\xff"), Err(HostFault::Failed));
     Ok(())
 }

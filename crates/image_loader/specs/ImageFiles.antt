@@ -30,7 +30,7 @@ has_magic h = h.magic == number_at (codes "XIMG") 0 4
 abbrev pub has_version : Header → Bool
 has_version h = h.version == 1
 
--- A file of so many bytes is the header and a content of the length that it gives.
+-- A file of n bytes is the header and a content of the length that it gives.
 abbrev pub has_length : Header → ℕ → Bool
 has_length h size = size == 28 + h.length
 
@@ -46,7 +46,7 @@ has_entry h = (h.entry % 4 == 0) && (nat_le h.place h.entry && nat_le (h.entry +
 abbrev pub has_priority : Header → Bool
 has_priority h = nat_le 1 h.priority && nat_le h.priority 32767
 
--- the tests of a header in a file of so many bytes, each beside the fault where it fails
+-- the tests of a header in a file of n bytes, each beside the fault if it fails
 abbrev pub header_tests : Header → ℕ → List (ImageFault × Bool)
 header_tests h size =
     (Magic, has_magic h)
@@ -66,11 +66,11 @@ abbrev pub first_failed : List (ImageFault × Bool) → Option ImageFault
 first_failed [] = None
 first_failed (test ∷ rest) = if test.1 then first_failed rest else Some test.0
 
--- the fault of a file; None where it is an image file
+-- the fault of a file; None if it is an image file
 abbrev pub first_fault : List ℕ → Option ImageFault
 first_fault bytes = first_failed (tests bytes)
 
--- what a header and the content behind it load
+-- what a header and the content after it load
 abbrev pub image_of : Header → List ℕ → Loaded
 image_of h content = record {
   parts = (record { place = h.place; bytes = content; size = h.length }) ∷ [];
@@ -79,11 +79,11 @@ image_of h content = record {
   stack = h.stack;
 }
 
--- what is loaded where there is no fault
+-- what is loaded if there is no fault
 abbrev pub loaded_unless : Option ImageFault → Loaded → Option Loaded
 loaded_unless None image = Some image
 loaded_unless (Some fault) image = None
 
--- what a file loads; None where it has a fault
+-- what a file loads; None if it has a fault
 abbrev pub loads : List ℕ → Option Loaded
 loads bytes = loaded_unless (first_fault bytes) (image_of (header_of bytes) (drop 28 bytes))

@@ -52,7 +52,7 @@ impl Header {
         }
     }
 
-    /// The first field that doesn't hold, in a file of so many bytes.
+    /// The first field that doesn't hold, in a file of n bytes.
     pub(crate) fn first_fault(&self, size: usize) -> Option<ImageFault>
         ensures fault { result ≡ files.first_failed (files.header_tests self.now size) }
     {
@@ -73,7 +73,7 @@ impl Header {
         }
     }
 
-    // Whether a file of so many bytes has the content's length behind the header, and no more.
+    // Whether a file of n bytes has the content's length after the header, and no more.
     fn has_length(&self, size: usize) -> bool
         ensures length { result ≡ files.has_length self.now size }
     {
@@ -101,7 +101,7 @@ impl Header {
         1 <= self.priority && self.priority <= GREATEST_PRIORITY
     }
 
-    // The address behind the content, which needn't be one of 32 bits.
+    // The address after the content, which needn't be one of 32 bits.
     fn end(&self) -> u64
         ensures end { result ≡ self.now.place + self.now.length }
     {

@@ -1,8 +1,13 @@
-//! The reader of image files: programs as they lie in a file, and the image that is loaded from one.
+//! The reader of image files: programs as they are stored in a file, and the image that is loaded from one.
 //!
-//! An image file is a header of seven words of 32 bits, the lowest byte first, and the content behind it. The reader names the
-//! first field of the header that doesn't hold, or answers the image, which borrows the content. It keeps true that an image can
-//! be loaded: its parts lie in RAM and share no address, its entry is a word of one of them, and a process can have its priority.
+//! An image file is a header of seven words of 32 bits, the lowest byte first, and the content after it. It loads as `loads` in
+//! `specs/ImageFiles.antt` says, which also names the first field that doesn't hold (`first_fault`).
+//!
+//! | What | Promise |
+//! |---|---|
+//! | [`read_image`] | `loads`: an image is answered if and only if the bytes load, and it is what header and content say; `fault`: a refusal is the first field that doesn't hold. It takes no memory |
+//! | [`Image`] | each has one to eight parts, each in RAM with at most as many bytes as addresses; no two share an address; the entry is a word of one part; the priority is 1 to 32767 (`IsImage`, a ghost fact) |
+//! | [`ImageFault::number`] | the number by which a fault is reported |
 #![tactic(auto)]
 
 mod faults;

@@ -2,7 +2,7 @@
 
 ghost use Rattle.std.specs.Prelude.{◌≡◌, []};
 
-/// A part of an image: bytes, and the addresses that they and the zeros behind them take.
+/// A part of an image: bytes, and the addresses that they and the zeros after them take.
 #[derive(Clone, Copy, Drop)]
 pub struct Part<'a> {
     /// The address of the first byte.

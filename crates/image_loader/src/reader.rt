@@ -10,11 +10,11 @@ use crate::images::Image;
 use crate::parts::Part;
 use arrayvec::ArrayVec;
 
-/// The image of a file's bytes, whose one part is the content behind the header. It borrows the content: nothing is allocated.
+/// The image of a file's bytes, whose one part is the content after the header. It borrows the content: nothing is allocated.
 ///
 /// # Errors
 ///
-/// The first field that doesn't hold, in the order of `ImageFault`, where the bytes aren't an image file.
+/// The first field that doesn't hold, in the order of `ImageFault`, if the bytes aren't an image file.
 pub fn read_image(bytes: &[u8]) -> Result<Image<'_>, ImageFault>
     ensures loads { MatchResult result (λ image. loads bytes.now ≡ Some (loaded_of image)) (λ _. loads bytes.now ≡ None) }
     ensures fault { MatchResult result (λ _. first_fault bytes.now ≡ None) (λ fault. first_fault bytes.now ≡ Some fault) }
@@ -29,7 +29,7 @@ pub fn read_image(bytes: &[u8]) -> Result<Image<'_>, ImageFault>
     }
 }
 
-// The image of a header and the content behind it, as its one part.
+// The image of a header and the content after it, as its one part.
 fn image_of<'a>(header: &Header, content: &'a [u8]) -> Image<'a>
     requires holds { first_failed (header_tests header.now (28 + length content.now)) ≡ None }
     ensures image { loaded_of result ≡ image_of header.now content.now }

@@ -27,7 +27,7 @@ fn header_of(fields: [u32; 7]) -> [u8; 28] {
     header
 }
 
-// The program behind another header.
+// The program after another header.
 fn file_of(fields: [u32; 7]) -> [u8; 44] {
     let mut file = FILE;
     file[..28].copy_from_slice(&header_of(fields));

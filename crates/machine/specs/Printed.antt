@@ -2,7 +2,8 @@
 use Rattle.std.specs.Prelude.{◌≡◌, ℕ, Bool, true, false, List, [], ◌∷◌, ◌++◌, refl}
 use Rattle.std.proofs.Common.{sym, ap, ◌∙◌, subst, append_assoc}
 use Rattle.host_port.specs.Outside.{Outside}
-use Rattle.host_port.specs.Printing.{Printing, Prints, prints_both, prints_nothing}
+use Rattle.host_port.proofs.Prints.{prints_both, prints_nothing}
+use Rattle.host_port.specs.Printing.{Printing, Prints}
 use Rattle.xinu_base.specs.declared.events.Event.{Event}
 use Rattle.xinu_base.specs.declared.lines.TranscriptLine.{TranscriptLine}
 use Rattle.xinu_model.specs.Events.{Happens}

@@ -43,19 +43,19 @@ is_in-left x l m h = elim (cases_Bool (is_in x l)) [
 pub is_in-right : (x : ℕ) (l m : List Entry) → is_in x (l ++ m) ≡ false → is_in x m ≡ false
 is_in-right x l m h = sym (ap (λ b. cond b true (is_in x m)) (is_in-left x l m h)) ∙ sym (is_in-append x l m) ∙ h
 
--- back from an entry of a path stand the entries ahead of it, the nearest first
+-- back from an entry of a path come the entries ahead of it, the nearest first
 pub Back-at : (P : ℕ) (es : List Links) (h : ℕ) (pre : List Entry) (f : Entry) (post : List Entry) → Path P es h (pre ++ f ∷ post) → Back P es h (f ∷ reverse_aux pre []) f.0
 Back-at P es h pre f post p =
     let q : Path P es (last_from h pre) (f ∷ post) = Path-rest P es h pre (f ∷ post) p in
     Back-more P es h (last_from h pre) f (reverse_aux pre []) (Back-path P es h h [] pre refl (Path-front P es h pre (f ∷ post) p)) q.0 q.1 q.2
 
--- an entry of a path from a head doesn't stand ahead of itself in it
+-- an entry of a path from a head isn't ahead of itself in it
 pub alone_front : (P : ℕ) (es : List Links) (h : ℕ) (pre : List Entry) (f : Entry) (post : List Entry) → P ≤ h → Path P es h (pre ++ f ∷ post) → is_in f.0 pre ≡ false
 alone_front P es h pre f post le p =
     never_met P es h f.0 (f ∷ reverse_aux pre []) le (Back-at P es h pre f post p) h h [] pre le refl (Path-front P es h pre (f ∷ post) p)
     (λ j lo hi s at. omega (arith, length-reverse_aux pre [], lo, hi, at))
 
--- an entry of a path from a head doesn't stand behind itself in it
+-- an entry of a path from a head isn't after itself in it
 pub alone_rest : (P : ℕ) (es : List Links) (h : ℕ) (pre : List Entry) (f : Entry) (post : List Entry) → P ≤ h → Path P es h (pre ++ f ∷ post) → is_in f.0 post ≡ false
 alone_rest P es h pre f post le p =
     let b : Back P es h (f ∷ reverse_aux pre []) f.0 = Back-at P es h pre f post p in

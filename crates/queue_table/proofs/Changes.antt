@@ -10,12 +10,12 @@ use Rattle.queue_table.proofs.Paths.{Path-front, Path-rest, is_in-cons}
 use Rattle.queue_table.proofs.Writes.{Rewired}
 use Rattle.queue_table.proofs.Chains.{Chain-cut, Chain-kept_in, Chain-kept_out, Chain-put, Chain-tie, Chain-ties, alone_apart, is_in-above, is_in-head, is_in-left, is_in-right, is_in-tail, last_from-differs}
 
--- where the neighbours of a place stand
+-- the neighbours of a place
 pub last_from-cases : (P : ℕ) (es : List Links) (h : ℕ) (pre : List Entry) → Path P es h pre → (last_from h pre ≡ h) ⊎ (last_from h pre < P)
 last_from-cases P es h [] p = inl refl
 last_from-cases P es h (e ∷ l) p = elim (last_from-cases P es e.0 l p.3) [ inl s ↦ inr (omega (arith, s, p.2)) | inr lt ↦ inr lt ]
 
--- behind a place of a list stands its tail or a process
+-- after a place of a list comes its tail or a process
 pub first_to-cases : (P : ℕ) (es : List Links) (a : ℕ) (post : List Entry) (t : ℕ) → Path P es a post → (first_to post t ≡ t) ⊎ (first_to post t < P)
 first_to-cases P es a [] t p = inl refl
 first_to-cases P es a (e ∷ l) t p = inr p.2
@@ -28,13 +28,13 @@ list_at-same ls q l lt = get_or-set_same ls q l [] lt
 pub list_at-other : (ls : List (List Entry)) (q : ℕ) (l : List Entry) (r : ℕ) → r ≢ q → list_at (with_list ls q l) r ≡ list_at ls r
 list_at-other ls q l r n = get_or-set_other ls q r l [] n
 
--- what stands behind a place of one list is in no path from another head
+-- what comes after a place of one list is in no path from another head
 pub first_to-apart : (P : ℕ) (es : List Links) (h : ℕ) (pre post : List Entry) (t : ℕ) → P ≤ h → P ≤ t → Chain P es h (pre ++ post) t
     → (h' : ℕ) (l : List Entry) → P ≤ h' → Path P es h' l → h ≢ h' → is_in (first_to post t) l ≡ false
 first_to-apart P es h pre [] t le lt' c h' l le' p n = is_in-above P es h' l t p lt'
 first_to-apart P es h pre (f ∷ post) t le lt' c h' l le' p n = alone_apart P es h pre f post le c.path h' l le' p n
 
--- an entry from P on, other than this tail, doesn't stand behind a place of this tail's list
+-- an entry from P on, other than this tail, isn't after a place of this tail's list
 pub not_near : (P n m t : ℕ) → P ≤ n → n ≢ t → (m ≡ t) ⊎ (m < P) → n ≢ m
 not_near P n m t le d o = elim o [ inl s ↦ (λ e. d (e ∙ s)) | inr lt ↦ (λ e. omega (arith, e, lt)) ]
 

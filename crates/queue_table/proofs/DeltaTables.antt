@@ -38,7 +38,7 @@ all_delta_without-is {P} {Q} t p q at =
     map-with (λ l. delta_without p l) (lists t) q (delta_without p (list_at (lists t) q)) (place-some (lists t) p q at).0 refl
     (λ i n. delta_without-absent p (list_at (lists t) i) (Chained-apart P Q t.entries.items (lists t) (chained_of t) q i p (λ s. n (sym s)) (place-some (lists t) p q at).1))
 
--- p goes into the delta list where the walk stopped, with what is left of its delay as its key, by which the entry behind it gets less:
+-- p goes into the delta list at the place at which the walk stopped, with what is left of its delay as its key, by which the entry after it gets less:
 -- `by` and k are these numbers as the code has them, and r the entry that the walk stopped at
 pub delta_put : {P Q : ℕ} → (t : QueueTable P Q) (p q : ℕ) (d : ℤ) (n : ℕ) (left by k : ℤ) (r : Links) (es1 es2 : List Links)
     → p < P → q < Q → place (lists t) p ≡ None → IsDelta (list_at (lists t) q) → GoesAtDelay (list_at (lists t) q) d (tail_of P q) n left
@@ -72,7 +72,7 @@ delta_put {P} {Q} t p q d n left by k r es1 es2 ltp ltq absent delta goes er eby
     let L : List (List Entry) → Type 0 = λ ls. Chained P Q es2 ls in
     subst L (set-set ls q mid new ∙ ap (with_list ls q) same) made
 
--- the entry behind p takes over its key, and p goes out: r is the entry of p, and j its key as the code has it
+-- the entry after p takes over its key, and p goes out: r is the entry of p, and j its key as the code has it
 pub delta_taken : {P Q : ℕ} → (t : QueueTable P Q) (p : ℕ) (r : Links) (j : ℤ) (es1 : List Links)
     → IsSome (place (lists t) p) → r ≡ slice_index_or t.entries.items p blank → j ≡ r.key → es1 ≡ shifted t.entries.items r.next j P
     → Chained P Q (taken_out es1 p) (all_delta_without p (lists t)) × (next_at es1 p < P + 2 * Q) × (prev_at es1 p < P + 2 * Q) × (length es1 ≡ P + 2 * Q)
@@ -127,7 +127,7 @@ key_bound pre e post d =
     let r = KeysAtLeast-right (pos 0) pre (e ∷ post) d.differences in
     (r.0, omega (arith, ints, d.bounded, key_sum-append pre (e ∷ post), key_sum-least pre (KeysAtLeast-left (pos 0) pre (e ∷ post) d.differences), key_sum-least post r.1))
 
--- an entry behind a place of a delta list: its number is in range, and its key
+-- an entry after a place of a delta list: its number is in range, and its key
 pub behind_is : {P Q : ℕ} → (t : QueueTable P Q) (q : ℕ) (pre post : List Entry) (n : ℕ) → q < Q → list_at (lists t) q ≡ pre ++ post → n ≡ first_to post (tail_of P q)
     → (n < P + 2 * Q) × (n < P → (e : Entry) × (m : List Entry) × (post ≡ e ∷ m) × (key_at t.entries.items n ≡ e.1))
 behind_is t q pre post n lt is e = ((place_between t q pre post n lt is e).1, λ ltn. (let s = step t q pre post n lt is e ltn in (s.entry, s.rest, s.post_is, s.key_is)))
@@ -152,7 +152,7 @@ pub some_and : (o : Option ℤ) → (P : ℤ → Type 0) → IsSomeAnd o P → (
 some_and (Some k) P h = (k, refl, h)
 some_and None P h = absurd h
 
--- the key of a process in a delta list and that of the process behind it add up within the bound
+-- the key of a process in a delta list and that of the process after it add up within the bound
 pub key_behind : {P Q : ℕ} → (t : QueueTable P Q) (p n : ℕ) → IsSome (place (lists t) p) → IsDelta (list_of (lists t) p) → n ≡ next_at t.entries.items p → n < P
     → (pos 0 ≤ℤ key_at t.entries.items p) × (pos 0 ≤ℤ key_at t.entries.items n) × ((key_at t.entries.items n +ℤ key_at t.entries.items p) ≤ℤ pos 2147483647)
 key_behind {P} {Q} t p n h delta e ltn =

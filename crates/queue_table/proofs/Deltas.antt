@@ -1,4 +1,4 @@
--- Lists of differences, and the delays that they stand for.
+-- Lists of differences, and the delays that they give.
 use Rattle.std.proofs.Common.{subst, inl, inr, ◌≡◌, ℕ, ℤ, pos, negsuc, neg_ℤ, ◌≤ℤ◌, ◌<ℤ◌, ◌+ℤ◌, ◌-ℤ◌, int_le, true, false, cond, eqb, List, [], ◌∷◌, ◌++◌, map, refl, sym, ap, ◌∙◌, arith}
 use Rattle.std.proofs.lemmas.Int.{ints}
 use Rattle.queue_table.specs.Lists.{Entry, IsDelta, KeysAbove, KeysAtLeast, KeysAtMost, delay_insert, delays, delays_from, delta_insert, delta_sooner, delta_without, differences, differences_from, is_in, key_sum, sooner, without}
@@ -7,7 +7,7 @@ use Rattle.queue_table.proofs.Insertions.{AllAre, insert-split}
 use Rattle.queue_table.proofs.Orders.{cases_ℤ, int_le-false, int_le-true}
 use Rattle.queue_table.proofs.Places.{without-absent, without-split}
 
--- two lists are the same where their first keys and their rests are
+-- two lists are the same if their first keys and their rests are
 entry_is : (p : ℕ) (a b : ℤ) (l m : List Entry) → a ≡ b → l ≡ m → (p, a) ∷ l ≡ (p, b) ∷ m
 entry_is p a b l m x y = ap (λ a. (p, a) ∷ l) x ∙ ap (λ l. (p, b) ∷ l) y
 
@@ -33,7 +33,7 @@ pub delays-differences : (l : List Entry) → delays (differences l) ≡ l
 unfolding differences delays
 delays-differences l = delays-differences_from (pos 0) l
 
--- behind the first of two parts the delays of the second count on from its sum
+-- after the first of two parts the delays of the second count on from its sum
 delays_from-append : (s : ℤ) (pre post : List Entry) → delays_from s (pre ++ post) ≡ delays_from s pre ++ delays_from (s +ℤ key_sum pre) post
 delays_from-append s [] post = let x : s ≡ s +ℤ pos 0 = omega (arith, ints) in ap (λ z. delays_from z post) x
 delays_from-append s (e ∷ pre) post =
@@ -55,38 +55,38 @@ late : (s d : ℤ) (l : List Entry) → KeysAtLeast (pos 0) l → d <ℤ s → K
 late s d [] h lt = tt
 late s d (e ∷ l) h lt = (omega (arith, ints, h.0, lt), late (s +ℤ e.1) d l h.1 (omega (arith, ints, h.0, lt)))
 
--- an insertion by delay goes behind each delay that is not greater
+-- an insertion by delay goes after each delay that is not greater
 early_kept : (d : ℤ) (l : List Entry) → KeysAtMost d l → AllAre (λ e. int_le e.1 d) true l
 early_kept d [] h = tt
 early_kept d (e ∷ l) h = (int_le-true e.1 d h.0, early_kept d l h.1)
 
--- an insertion by delay goes in front of each delay that is greater
+-- an insertion by delay goes before each delay that is greater
 late_kept : (d : ℤ) (l : List Entry) → KeysAbove d l → AllAre (λ e. int_le e.1 d) false l
 late_kept d [] h = tt
 late_kept d (e ∷ l) h = (int_le-false e.1 d h.0, late_kept d l h.1)
 
--- the insertion by delay, where the list falls into the delays that are not greater and those that are
+-- the insertion by delay, if the list falls into the delays that are not greater and those that are
 pub delay_insert-split : (pre post : List Entry) (p : ℕ) (d : ℤ) → KeysAtMost d pre → KeysAbove d post → delay_insert p d (pre ++ post) ≡ pre ++ (p, d) ∷ post
 delay_insert-split pre post p d a b = insert-split (λ e. int_le e.1 d) (p, d) pre post (early_kept d pre a) (late_kept d post b)
 
--- where the first key is above what is left of a delay, each delay from there on is greater
+-- if the first key is above what is left of a delay, each delay from there on is greater
 rest_late : (s left d : ℤ) (post : List Entry) → KeysAtLeast (pos 0) post → FirstAbove left post → s +ℤ left ≡ d → KeysAbove d (delays_from s post)
 rest_late s left d [] h f e = tt
 rest_late s left d (x ∷ l) h f e = (omega (arith, ints, f, e), late (s +ℤ x.1) d l h.1 (omega (arith, ints, f, e)))
 
--- an entry put in ahead takes from the first key what it adds, and the delays behind it stay
+-- an entry put in ahead takes from the first key what it adds, and the delays after it stay
 rest_shifted : (s left : ℤ) (post : List Entry) → delays_from (s +ℤ left) (first_raised (neg_ℤ left) post) ≡ delays_from s post
 rest_shifted s left [] = refl
 rest_shifted s left (x ∷ l) =
     let e : s +ℤ left +ℤ (x.1 +ℤ neg_ℤ left) ≡ s +ℤ x.1 = omega (arith, ints) in
     entry_is x.0 _ _ _ _ e (ap (λ z. delays_from z l) e)
 
--- no key of the first part of a list is less than k, where none of the list is
+-- no key of the first part of a list is less than k, if none of the list is
 pub KeysAtLeast-left : (k : ℤ) (l m : List Entry) → KeysAtLeast k (l ++ m) → KeysAtLeast k l
 KeysAtLeast-left k [] m h = tt
 KeysAtLeast-left k (e ∷ l) m h = (h.0, KeysAtLeast-left k l m h.1)
 
--- no key of the second part of a list is less than k, where none of the list is
+-- no key of the second part of a list is less than k, if none of the list is
 pub KeysAtLeast-right : (k : ℤ) (l m : List Entry) → KeysAtLeast k (l ++ m) → KeysAtLeast k m
 KeysAtLeast-right k [] m h = h
 KeysAtLeast-right k (e ∷ l) m h = KeysAtLeast-right k l m h.1
@@ -139,7 +139,7 @@ delays-without p l = delays-differences (without p (delays l))
 pub delays-sooner : (l : List Entry) → delays (delta_sooner l) ≡ sooner (delays l)
 delays-sooner l = delays-differences (sooner (delays l))
 
--- where the first delay is 0 the others are those of the rest
+-- if the first delay is 0 the others are those of the rest
 pub delays-rest : (p : ℕ) (l : List Entry) → delays ((p, pos 0) ∷ l) ≡ (p, pos 0) ∷ delays l
 unfolding delays
 delays-rest p l = refl
@@ -153,7 +153,7 @@ raised_shift : (s k : ℤ) (post : List Entry) → delays_from s (first_raised k
 raised_shift s k [] = refl
 raised_shift s k (x ∷ l) = let e : s +ℤ (x.1 +ℤ k) ≡ s +ℤ k +ℤ x.1 = omega (arith, ints) in entry_is x.0 _ _ _ _ e (ap (λ z. delays_from z l) e)
 
--- taking p out, with its key added to the entry behind it, takes its delay out
+-- taking p out, with its key added to the entry after it, takes its delay out
 pub delta_without-cut : (pre : List Entry) (p : ℕ) (k : ℤ) (post : List Entry) → is_in p pre ≡ false → is_in p post ≡ false
     → pre ++ first_raised k post ≡ delta_without p (pre ++ (p, k) ∷ post)
 unfolding delays
@@ -196,7 +196,7 @@ pub record Walked (l : List Entry) (d : ℤ) : Type 0 where
   pub sum : left +ℤ key_sum pre ≡ d
   pub above : FirstAbove left post
 
--- where a delay goes in
+-- the place at which a delay goes in
 pub walked : (l : List Entry) (d : ℤ) → KeysAtLeast (pos 0) l → pos 0 ≤ℤ d → Walked l d
 walked [] d h le = record { pre = []; post = []; left = d; is = refl; least = le; sum = omega (arith, ints); above = tt }
 walked (e ∷ l) d h le = elim (cases_ℤ d e.1) [
@@ -205,7 +205,7 @@ walked (e ∷ l) d h le = elim (cases_ℤ d e.1) [
       record { pre = e ∷ w.pre; post = w.post; left = w.left; is = ap (λ l. e ∷ l) w.is; least = w.least; sum = omega (arith, ints, w.sum); above = w.above })
 ]
 
--- no key of two lists put together is less than k, where none of either is
+-- no key of two lists put together is less than k, if none of either is
 KeysAtLeast-append : (k : ℤ) (l m : List Entry) → KeysAtLeast k l → KeysAtLeast k m → KeysAtLeast k (l ++ m)
 KeysAtLeast-append k [] m a b = b
 KeysAtLeast-append k (e ∷ l) m a b = (a.0, KeysAtLeast-append k l m a.1 b)

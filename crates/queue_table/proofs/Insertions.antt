@@ -13,11 +13,11 @@ abbrev pub AllAre : (Entry → Bool) → Bool → List Entry → Type 0
 AllAre test b [] = Unit {0}
 AllAre test b (e ∷ l) = (test e ≡ b) × AllAre test b l
 
--- a filter keeps the first entry, where the test holds of it
+-- a filter keeps the first entry, if the test holds of it
 pub filter-keeps : (test : Entry → Bool) (e : Entry) (l m : List Entry) → test e ≡ true → filter test l ≡ m → filter test (e ∷ l) ≡ e ∷ m
 filter-keeps test e l m t h = ap (λ b. cond b (e ∷ filter test l) (filter test l)) t ∙ ap (λ l. e ∷ l) h
 
--- a filter drops the first entry, where the test fails of it
+-- a filter drops the first entry, if the test fails of it
 pub filter-drops : (test : Entry → Bool) (e : Entry) (l m : List Entry) → test e ≡ false → filter test l ≡ m → filter test (e ∷ l) ≡ m
 filter-drops test e l m t h = ap (λ b. cond b (e ∷ filter test l) (filter test l)) t ∙ h
 
@@ -36,7 +36,7 @@ AllAre-not : (test : Entry → Bool) (b : Bool) (l : List Entry) → AllAre test
 AllAre-not test b [] h = tt
 AllAre-not test b (e ∷ l) h = (ap not h.0, AllAre-not test b l h.1)
 
--- where a list falls into entries that go before the new one and entries that don't, the new one goes in between
+-- if a list falls into entries that go before the new one and entries that don't, the new one goes in between
 pub insert-split : (test : Entry → Bool) (e : Entry) (pre post : List Entry) → AllAre test true pre → AllAre test false post → insert test e (pre ++ post) ≡ pre ++ e ∷ post
 insert-split test e pre post a b =
     let other : Entry → Bool = λ x. not (test x) in
@@ -57,7 +57,7 @@ or-swap true true c = refl
 or-swap true false c = refl
 or-swap false b c = refl
 
--- a process is in two lists put together where it is in one of them
+-- a process is in two lists put together if it is in one of them
 pub is_in-append : (x : ℕ) (l m : List Entry) → is_in x (l ++ m) ≡ cond (is_in x l) true (is_in x m)
 is_in-append x [] m = refl
 is_in-append x (e ∷ l) m = let i : is_in x (l ++ m) ≡ cond (is_in x l) true (is_in x m) = is_in-append x l m in
@@ -93,6 +93,6 @@ is_in-insert test e l x =
 pub is_in-first : (e : Entry) (l : List Entry) → is_in e.0 (e ∷ l) ≡ true
 is_in-first e l = grind (arith, nat_tests)
 
--- another process is in a list where it is in the rest
+-- another process is in a list if it is in the rest
 pub is_in-rest : (x : ℕ) (e : Entry) (l : List Entry) → x ≢ e.0 → is_in x (e ∷ l) ≡ is_in x l
 is_in-rest x e l n = grind (arith, nat_tests)

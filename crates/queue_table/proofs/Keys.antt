@@ -101,7 +101,7 @@ Chained-rekeyed P Q es es' ls q pre f post k lk lt is w =
           (w.next m ∙ old.0, w.prev m ∙ old.1);
     }
 
--- the entry behind a place gets k more, where it is a process
+-- the entry after a place gets k more, if it is a process
 pub Chained-shifted : (P Q : ℕ) (es : List Links) (ls : List (List Entry)) (q : ℕ) (pre post : List Entry) (n : ℕ) (k : ℤ)
     → Chained P Q es ls → q < Q → list_at ls q ≡ pre ++ post → n ≡ first_to post (tail_of P q) → Chained P Q (shifted es n k P) (with_list ls q (pre ++ first_raised k post))
 Chained-shifted P Q es ls q pre [] n k lk lt is e =

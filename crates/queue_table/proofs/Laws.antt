@@ -33,11 +33,11 @@ below_P {P} {Q} t p q h = elim (cases_lt q Q) [
       absurd (false≢true (subst F (get_or_past (lists t) q [] (omega (arith, (chained_of t).queues))) h)))
 ]
 
--- a process that stands in the list of a queue is in no other list of the table
+-- a process that is in the list of a queue is in no other list of the table
 pub disjoint : {P Q : ℕ} → (t : QueueTable P Q) (p q r : ℕ) → place (lists t) p ≡ Some q → q ≢ r → is_in p (list_at (lists t) r) ≡ false
 disjoint t p q r at n = (linked_of t).apart q r p n (place-some (lists t) p q at).1
 
--- the first process of a list stands in it, and not in the rest
+-- the first process of a list is in it, and not in the rest
 pub first_placed : {P Q : ℕ} → (t : QueueTable P Q) (q : ℕ) (e : Entry) (l : List Entry) → q < Q → list_at (lists t) q ≡ e ∷ l → (place (lists t) e.0 ≡ Some q) × (is_in e.0 l ≡ false)
 first_placed {P} {Q} t q e l lt is =
     let C : List Entry → Type 0 = λ l. Chain P t.entries.items (head_of P q) l (tail_of P q) in
@@ -48,7 +48,7 @@ first_placed {P} {Q} t q e l lt is =
       alone_rest P t.entries.items (head_of P q) [] e l (omega arith) c.path,
     )
 
--- once the first of a list is taken out it stands nowhere, and every other process where it stood
+-- once the first of a list is taken out it is nowhere, and every other process where it was
 pub place_rest : {P Q : ℕ} → (t : QueueTable P Q) (q : ℕ) (e : Entry) (l : List Entry) → q < Q → list_at (lists t) q ≡ e ∷ l
     → (place (with_list (lists t) q l) e.0 ≡ None) × ((r : ℕ) → r ≢ e.0 → place (with_list (lists t) q l) r ≡ place (lists t) r)
 place_rest t q e l lt is =
@@ -61,14 +61,14 @@ place_rest t q e l lt is =
       λ r n. place-with (lists t) q l r (sym (ap (is_in r) is ∙ is_in-rest r e l n)),
     )
 
--- a process that stood nowhere stands in the queue whose list it was put into
+-- a process that was nowhere is in the queue whose list it was put into
 pub place_put : (ls : List (List Entry)) (q p : ℕ) (l : List Entry) → place ls p ≡ None → q < length ls → is_in p l ≡ true → place (with_list ls q l) p ≡ Some q
 place_put ls q p l none lt h =
     let F : List Entry → Type 0 = λ l. is_in p l ≡ true in
     let G : List Entry → Type 0 = λ l. is_in p l ≡ false in
     some-place (with_list ls q l) p q (λ j lj. subst G (sym (list_at-other ls q l j (omega arith))) (place-none ls p none j)) (subst F (sym (list_at-same ls q l lt)) h)
 
--- a change of a list that adds p, which stood nowhere, and nobody else puts p there and leaves every other process where it stood
+-- a change of a list that adds p, which was nowhere, and nobody else puts p there and leaves every other process where it was
 place_added : (ls : List (List Entry)) (q p : ℕ) (k : ℤ) (l : List Entry) → place ls p ≡ None → q < length ls → ((r : ℕ) → is_in r l ≡ is_in r ((p, k) ∷ list_at ls q))
     → (place (with_list ls q l) p ≡ Some q) × ((r : ℕ) → r ≢ p → place (with_list ls q l) r ≡ place ls r)
 place_added ls q p k l none lt h = (
@@ -82,12 +82,12 @@ is_in-last [] e r = refl
 is_in-last (f ∷ l) e r =
     ap (λ b. cond (eqb r f.0) true b) (is_in-last l e r) ∙ or-swap (eqb r f.0) (eqb r e.0) (is_in r l)
 
--- a process put last into a list stands there, and every other where it stood
+-- a process put last into a list is there, and every other where it was
 pub place_pushed : (ls : List (List Entry)) (q p : ℕ) (k : ℤ) → place ls p ≡ None → q < length ls
     → (place (with_list ls q (list_at ls q ++ (p, k) ∷ [])) p ≡ Some q) × ((r : ℕ) → r ≢ p → place (with_list ls q (list_at ls q ++ (p, k) ∷ [])) r ≡ place ls r)
 place_pushed ls q p k none lt = place_added ls q p k (list_at ls q ++ (p, k) ∷ []) none lt (is_in-last (list_at ls q) (p, k))
 
--- a process inserted by key into a list stands there, and every other where it stood
+-- a process inserted by key into a list is there, and every other where it was
 pub place_inserted : (ls : List (List Entry)) (q p : ℕ) (k : ℤ) → place ls p ≡ None → q < length ls
     → (place (with_list ls q (ready_insert p k (list_at ls q))) p ≡ Some q) × ((r : ℕ) → r ≢ p → place (with_list ls q (ready_insert p k (list_at ls q))) r ≡ place ls r)
 place_inserted ls q p k none lt = place_added ls q p k (ready_insert p k (list_at ls q)) none lt (is_in-insert (λ x. not (int_lt x.1 k)) (p, k) (list_at ls q))
@@ -97,7 +97,7 @@ is_in-delta_insert : (p : ℕ) (d : ℤ) (l : List Entry) (r : ℕ) → is_in r 
 is_in-delta_insert p d l r =
     is_in-differences r (delay_insert p d (delays l)) ∙ is_in-insert (λ x. int_le x.1 d) (p, d) (delays l) r ∙ ap (λ b. cond (eqb r p) true b) (is_in-delays r l)
 
--- a process put into a delta list stands there, and every other where it stood
+-- a process put into a delta list is there, and every other where it was
 pub place_delayed : (ls : List (List Entry)) (q p : ℕ) (d : ℤ) → place ls p ≡ None → q < length ls
     → (place (with_list ls q (delta_insert p d (list_at ls q))) p ≡ Some q) × ((r : ℕ) → r ≢ p → place (with_list ls q (delta_insert p d (list_at ls q))) r ≡ place ls r)
 place_delayed ls q p d none lt = place_added ls q p d (delta_insert p d (list_at ls q)) none lt (is_in-delta_insert p d (list_at ls q))
@@ -108,7 +108,7 @@ unfolding sooner
 is_in-sooner r [] = refl
 is_in-sooner r (e ∷ l) = ap (λ b. cond (eqb r e.0) true b) (is_in-sooner r l)
 
--- lowering the delays of a list leaves every process where it stood
+-- lowering the delays of a list leaves every process where it was
 pub place_sooner : (ls : List (List Entry)) (q r : ℕ) → place (with_list ls q (delta_sooner (list_at ls q))) r ≡ place ls r
 place_sooner ls q r =
     place-with ls q (delta_sooner (list_at ls q)) r (is_in-differences r (sooner (delays (list_at ls q))) ∙ is_in-sooner r (delays (list_at ls q)) ∙ is_in-delays r (list_at ls q))
@@ -133,7 +133,7 @@ is_in-without_other p r (e ∷ l) n = let i : is_in r (without p l) ≡ is_in r 
           ap (λ b. is_in r (cond (not b) (e ∷ without p l) (without p l))) b ∙ ap (λ b. cond (eqb r e.0) true b) i)
     ]
 
--- a change of every list alike leaves a process where it stood, if it leaves it in each list where it was
+-- a change of every list alike leaves a process where it was, if it leaves it in each list in which it was
 place_mapped : (f : List Entry → List Entry) (r from : ℕ) (ls : List (List Entry)) → ((l : List Entry) → is_in r (f l) ≡ is_in r l) → place_from from (map f ls) r ≡ place_from from ls r
 place_mapped f r from [] h = refl
 place_mapped f r from (l ∷ ls) h =
@@ -146,16 +146,16 @@ list_at_without [] p i = refl
 list_at_without (l ∷ ls) p zero = refl
 list_at_without (l ∷ ls) p (suc i) = list_at_without ls p i
 
--- a process that is taken out stands nowhere
+-- a process that is taken out is nowhere
 pub place_without_same : (ls : List (List Entry)) (p : ℕ) → place (all_without p ls) p ≡ None
 place_without_same ls p = none-place (all_without p ls) p (λ i. ap (is_in p) (list_at_without ls p i) ∙ is_in-without_same p (list_at ls i))
 
--- once p is taken out every other process stands where it stood
+-- once p is taken out every other process is where it was
 pub place_without_other : (ls : List (List Entry)) (p r : ℕ) → r ≢ p → place (all_without p ls) r ≡ place ls r
 unfolding all_without place
 place_without_other ls p r n = place_mapped (without p) r 0 ls (λ l. is_in-without_other p r l n)
 
--- the lists stay as they are where p, which stands nowhere, is taken out
+-- the lists stay as they are if p, which is nowhere, is taken out
 pub all_without_none : (ls : List (List Entry)) (p : ℕ) → place ls p ≡ None → all_without p ls ≡ ls
 unfolding all_without
 all_without_none ls p h = map-same (without p) ls (λ i. without-absent p (list_at ls i) (place-none ls p h i))
@@ -171,16 +171,16 @@ list_at_delta_without (l ∷ ls) p (suc i) = list_at_delta_without ls p i
 is_in-delta_without : (p r : ℕ) (l : List Entry) → is_in r (delta_without p l) ≡ is_in r (without p (delays l))
 is_in-delta_without p r l = is_in-differences r (without p (delays l))
 
--- a process that is taken out of its delta list stands nowhere
+-- a process that is taken out of its delta list is nowhere
 pub place_delta_without_same : (ls : List (List Entry)) (p : ℕ) → place (all_delta_without p ls) p ≡ None
 place_delta_without_same ls p = none-place (all_delta_without p ls) p (λ i. ap (is_in p) (list_at_delta_without ls p i) ∙ is_in-delta_without p p (list_at ls i) ∙ is_in-without_same p (delays (list_at ls i)))
 
--- once p is taken out of its delta list every other process stands where it stood
+-- once p is taken out of its delta list every other process is where it was
 pub place_delta_without_other : (ls : List (List Entry)) (p r : ℕ) → r ≢ p → place (all_delta_without p ls) r ≡ place ls r
 unfolding all_delta_without place
 place_delta_without_other ls p r n = place_mapped (delta_without p) r 0 ls (λ l. is_in-delta_without p r l ∙ is_in-without_other p r (delays l) n ∙ is_in-delays r l)
 
--- the lists stay as they are where p, which stands nowhere, is taken out as out of a delta list
+-- the lists stay as they are if p, which is nowhere, is taken out as out of a delta list
 pub all_delta_without_none : (ls : List (List Entry)) (p : ℕ) → place ls p ≡ None → all_delta_without p ls ≡ ls
 unfolding all_delta_without
 all_delta_without_none ls p h = map-same (delta_without p) ls (λ i. delta_without-absent p (list_at ls i) (place-none ls p h i))
@@ -200,7 +200,7 @@ IsDelta-without {P} {Q} t p q r at h = elim (cases_eq q r) [
   | inr n ↦ (let D : List Entry → Type 0 = λ l. IsDelta l in subst D (sym (delta_without-absent p (list_at (lists t) r) (disjoint t p q r at n))) h)
 ]
 
--- where the first process is p the list is p and the rest
+-- if the first process is p the list is p and the rest
 pub first_is : (l : List Entry) (p : ℕ) → Some p ≡ first_of l → (k : ℤ) × (l ≡ (p, k) ∷ rest_of l)
 first_is [] p h = absurd (cc)
 first_is (e ∷ l) p h = let s : p ≡ e.0 = cc in (e.1, (let F : ℕ → Type 0 = λ n. e ∷ l ≡ (n, e.1) ∷ l in subst F (sym s) refl))
@@ -210,18 +210,18 @@ pub first_none : (l : List Entry) → None ≡ first_of l → l ≡ []
 first_none [] h = refl
 first_none (e ∷ l) h = absurd (cc)
 
--- the lists stay as they are where the first of an empty list is taken out
+-- the lists stay as they are if the first of an empty list is taken out
 pub rest_of_none : (ls : List (List Entry)) (q : ℕ) → None ≡ first_of (list_at ls q) → with_list ls q (rest_of (list_at ls q)) ≡ ls
 rest_of_none ls q h =
     let e : list_at ls q ≡ [] = first_none (list_at ls q) h in
     ap (λ l. with_list ls q (rest_of l)) e ∙ ap (λ l. with_list ls q l) (sym e) ∙ set-get_or ls q []
 
--- a process stands nowhere in empty lists, counted from any queue
+-- a process is nowhere in empty lists, counted from any queue
 place_from_fresh : (from n p : ℕ) → place_from from (replicate n []) p ≡ None
 place_from_fresh from zero p = refl
 place_from_fresh from (suc n) p = place_from_fresh (from + 1) n p
 
--- no process stands in a list of a new table
+-- no process is in a list of a new table
 pub place_fresh : (n p : ℕ) → place (replicate n []) p ≡ None
 unfolding place
 place_fresh n p = place_from_fresh 0 n p

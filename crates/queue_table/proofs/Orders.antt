@@ -7,37 +7,37 @@ use Rattle.xinu_base.specs.Insert.{ready_insert}
 use Rattle.queue_table.specs.Lists.{Entry, IsByKey, KeysAtLeast, KeysAtMost, KeysBelow, rest_of}
 use Rattle.queue_table.proofs.Insertions.{AllAre, filter-drops, filter-keeps, insert-split}
 
--- the test at most holds where it is so
+-- the test at most holds if it is so
 pub int_le-true : (a b : ℤ) → a ≤ℤ b → int_le a b ≡ true
 int_le-true a b h = grind (arith, ints)
 
--- the test at most fails where it isn't so
+-- the test at most fails if it isn't so
 pub int_le-false : (a b : ℤ) → b <ℤ a → int_le a b ≡ false
 int_le-false a b h = grind (arith, ints)
 
--- the test less holds where it is so
+-- the test less holds if it is so
 pub int_lt-true : (a b : ℤ) → a <ℤ b → int_lt a b ≡ true
 int_lt-true a b h = grind (arith, ints)
 
--- the test less fails where it isn't so
+-- the test less fails if it isn't so
 pub int_lt-false : (a b : ℤ) → b ≤ℤ a → int_lt a b ≡ false
 int_lt-false a b h = grind (arith, ints)
 
--- an insertion by key goes behind each key that is not less
+-- an insertion by key goes after each key that is not less
 before_kept : (k : ℤ) (l : List Entry) → KeysAtLeast k l → AllAre (λ e. not (int_lt e.1 k)) true l
 before_kept k [] h = tt
 before_kept k (e ∷ l) h = (ap not (int_lt-false e.1 k h.0), before_kept k l h.1)
 
--- an insertion by key goes in front of each key that is less
+-- an insertion by key goes before each key that is less
 behind_kept : (k : ℤ) (l : List Entry) → KeysBelow k l → AllAre (λ e. not (int_lt e.1 k)) false l
 behind_kept k [] h = tt
 behind_kept k (e ∷ l) h = (ap not (int_lt-true e.1 k h.0), behind_kept k l h.1)
 
--- the insertion by key, where the list falls into the keys that are not less and those that are
+-- the insertion by key, if the list falls into the keys that are not less and those that are
 pub ready_insert-split : (pre post : List Entry) (p : ℕ) (k : ℤ) → KeysAtLeast k pre → KeysBelow k post → ready_insert p k (pre ++ post) ≡ pre ++ (p, k) ∷ post
 ready_insert-split pre post p k a b = insert-split (λ e. not (int_lt e.1 k)) (p, k) pre post (before_kept k pre a) (behind_kept k post b)
 
--- no key is less than k, where none was and the one put last isn't
+-- no key is less than k, if none was and the one put last isn't
 pub KeysAtLeast-push : (k : ℤ) (l : List Entry) (e : Entry) → KeysAtLeast k l → k ≤ℤ e.1 → KeysAtLeast k (l ++ e ∷ [])
 KeysAtLeast-push k [] e h le = (le, tt)
 KeysAtLeast-push k (f ∷ l) e h le = (h.0, KeysAtLeast-push k l e h.1 le)
@@ -52,16 +52,16 @@ IsByKey-behind : (l m : List Entry) → IsByKey (l ++ m) → IsByKey m
 IsByKey-behind [] m h = h
 IsByKey-behind (e ∷ l) m h = IsByKey-behind l m h.1
 
--- where a walk stops, the rest of an ordered list has lower keys
+-- if a walk stops, the rest of an ordered list has lower keys
 pub KeysBelow-rest : (pre : List Entry) (e : Entry) (post : List Entry) (k : ℤ) → IsByKey (pre ++ e ∷ post) → e.1 <ℤ k → KeysBelow k (e ∷ post)
 KeysBelow-rest pre e post k h lt = (lt, KeysBelow-from e.1 k post (IsByKey-behind pre (e ∷ post) h).0 lt)
 
--- no key of two lists put together is greater than j, where none of either is
+-- no key of two lists put together is greater than j, if none of either is
 KeysAtMost-append : (j : ℤ) (l m : List Entry) → KeysAtMost j l → KeysAtMost j m → KeysAtMost j (l ++ m)
 KeysAtMost-append j [] m a b = b
 KeysAtMost-append j (e ∷ l) m a b = (a.0, KeysAtMost-append j l m a.1 b)
 
--- no key of some entries of a list is greater than j, where none of the list is
+-- no key of some entries of a list is greater than j, if none of the list is
 KeysAtMost-filter : (j : ℤ) (test : Entry → Bool) (l : List Entry) → KeysAtMost j l → KeysAtMost j (filter test l)
 KeysAtMost-filter j test [] h = tt
 KeysAtMost-filter j test (e ∷ l) h = let F : List Entry → Type 0 = λ l. KeysAtMost j l in elim (cases_Bool (test e)) [
@@ -81,12 +81,12 @@ by_key_split (e ∷ l) k h = elim (cases_ℤ e.1 k) [
   | inr le ↦ (let r = by_key_split l k h.1 in (e ∷ r.0, r.1, ap (λ l. e ∷ l) r.2, (le, r.3), r.4))
 ]
 
--- no key of the first part of a list is greater than j, where none of the list is
+-- no key of the first part of a list is greater than j, if none of the list is
 KeysAtMost-left : (j : ℤ) (l m : List Entry) → KeysAtMost j (l ++ m) → KeysAtMost j l
 KeysAtMost-left j [] m h = tt
 KeysAtMost-left j (e ∷ l) m h = (h.0, KeysAtMost-left j l m h.1)
 
--- no key of the second part of a list is greater than j, where none of the list is
+-- no key of the second part of a list is greater than j, if none of the list is
 KeysAtMost-right : (j : ℤ) (l m : List Entry) → KeysAtMost j (l ++ m) → KeysAtMost j m
 KeysAtMost-right j [] m h = h
 KeysAtMost-right j (e ∷ l) m h = KeysAtMost-right j l m h.1
@@ -96,7 +96,7 @@ KeysBelow-at_most : (k : ℤ) (l : List Entry) → KeysBelow k l → KeysAtMost 
 KeysBelow-at_most k [] h = tt
 KeysBelow-at_most k (e ∷ l) h = (omega (arith, ints, h.0), KeysBelow-at_most k l h.1)
 
--- a list stays kept by key where an entry goes in between the keys that are not less and those that are
+-- a list stays kept by key if an entry goes in between the keys that are not less and those that are
 IsByKey-between : (pre post : List Entry) (p : ℕ) (k : ℤ) → IsByKey (pre ++ post) → KeysAtLeast k pre → KeysBelow k post → IsByKey (pre ++ (p, k) ∷ post)
 IsByKey-between [] post p k h a b = (KeysBelow-at_most k post b, h)
 IsByKey-between (e ∷ pre) post p k h a b =

@@ -1,4 +1,4 @@
--- Paths over entries: what stands between two entries, that no process stands twice, and what is read off.
+-- Paths over entries: what is between two entries, that no process is there twice, and what is read off.
 use Rattle.std.proofs.Common.{◌≡◌, ◌≢◌, ℕ, ◌+◌, ◌<◌, ◌≤◌, zero, suc, Bool, true, false, cond, ◌||◌, eqb, ltb, List, [], ◌∷◌, ◌++◌, length, map, get_or, refl, sym, ap, ◌∙◌, subst, inl, inr, ◌⊎◌, arith, zero-add}
 use Rattle.std.proofs.lemmas.Bool.Decides.{nat_tests}
 use mathlib.Core.List.{reverse, reverse_aux}
@@ -24,22 +24,22 @@ pub Path-rest : (P : ℕ) (es : List Links) (a : ℕ) (l m : List Entry) → Pat
 Path-rest P es a [] m h = h
 Path-rest P es a (e ∷ l) m h = Path-rest P es e.0 l m h.3
 
--- the last of two lists put together is the last of the second, or of the first where that is empty
+-- the last of two lists put together is the last of the second, or of the first if that is empty
 pub last_from-append : (a : ℕ) (l m : List Entry) → last_from a (l ++ m) ≡ last_from (last_from a l) m
 last_from-append a [] m = refl
 last_from-append a (e ∷ l) m = last_from-append e.0 l m
 
--- back from entry n stand the entries of r, the nearest first, and then h
+-- back from entry n come the entries of r, the nearest first, and then h
 abbrev pub Back : ℕ → List Links → ℕ → List Entry → ℕ → Type 0
 Back P es h [] n = n ≡ h
 Back P es h (e ∷ r) n = (n ≡ e.0) × (e.0 < P) × Back P es h r (prev_at es n) × (key_at es e.0 ≡ e.1)
 
--- one entry more, tied behind those that are met going back
+-- one entry more, tied after those that are met going back
 pub Back-more : (P : ℕ) (es : List Links) (h a : ℕ) (e : Entry) (r : List Entry) → Back P es h r a → Tied es a e.0 → key_at es e.0 ≡ e.1 → e.0 < P → Back P es h (e ∷ r) e.0
 Back-more P es h a e r b t k lt =
     (refl, lt, (let F : ℕ → Type 0 = λ n. Back P es h r n in subst F (sym t.1) b), k)
 
--- back from the end of a path stand its entries reversed, and then what stood ahead of it
+-- back from the end of a path come its entries reversed, and then what was ahead of it
 pub Back-path : (P : ℕ) (es : List Links) (h a : ℕ) (r l : List Entry) → Back P es h r a → Path P es a l → Back P es h (reverse_aux l r) (last_from a l)
 Back-path P es h a r [] b p = b
 Back-path P es h a r (e ∷ l) b p = Back-path P es h e.0 (e ∷ r) l (Back-more P es h a e r b p.0 p.1 p.2) p.3
@@ -57,7 +57,7 @@ Back-unique P es h h' (e ∷ r) (e' ∷ r') n le le' b b' =
 pub is_in-cons : (x : ℕ) (e : Entry) (l : List Entry) → x ≢ e.0 → is_in x l ≡ false → is_in x (e ∷ l) ≡ false
 is_in-cons x e l n h = grind (arith, nat_tests)
 
--- x, which stands behind the entries of r0, isn't met on a path at other places
+-- x, which is after the entries of r0, isn't met on a path at other places
 pub never_met : (P : ℕ) (es : List Links) (h x : ℕ) (r0 : List Entry) → P ≤ h → Back P es h r0 x
     → (h' a : ℕ) (r l : List Entry) → P ≤ h' → Back P es h' r a → Path P es a l
     → ((j : ℕ) → length r < j → j ≤ length r + length l → h ≡ h' → j ≢ length r0)
@@ -129,7 +129,7 @@ follow-path P es a b (suc fuel) (e ∷ l) f p t le =
     let below : ltb e.0 P ≡ true = grind (arith, nat_tests) in
     rw (p.0.0, below, p.1, i) refl
 
--- what stands at a place of the lists that are read off
+-- what is at a place of the lists that are read off
 pub map-range : {X : Type 0} (f : ℕ → X) (d : X) (n a : ℕ) (xs : List X) → length xs ≡ n → ((i : ℕ) → i < n → f (a + i) ≡ get_or xs i d) → map f (range_with_len a n) ≡ xs
 map-range f d zero a [] s h = refl
 map-range f d zero a (x ∷ xs) s h = absurd (omega arith)
@@ -145,7 +145,7 @@ map-range f d (suc n) a (x ∷ xs) s h =
 pub Chain-read : (P : ℕ) (es : List Links) (a : ℕ) (l : List Entry) (b : ℕ) → P ≤ a → P ≤ b → Chain P es a l b → follow P P es (next_at es a) ≡ l
 Chain-read P es a l b le le' c = follow-path P es a b P l (Path-short P es a l le c.path) c.path c.tied le'
 
--- back from an entry the processes are read that stand ahead of it, the nearest first
+-- back from an entry the processes are read that are ahead of it, the nearest first
 follow_back-reads : (P : ℕ) (es : List Links) (h fuel : ℕ) (r : List Entry) (n : ℕ) → length r ≤ fuel → P ≤ h → Back P es h r n → follow_back fuel P es n ≡ r
 follow_back-reads P es h zero [] n f le b = refl
 follow_back-reads P es h (suc fuel) [] n f le b = let above : ltb n P ≡ false = grind (arith, nat_tests) in rw above refl

@@ -49,12 +49,12 @@ place_from-with from [] q l' r h = refl
 place_from-with from (l ∷ ls) zero l' r h = ap (λ b. cond b (Some from) (place_from (from + 1) ls r)) h
 place_from-with from (l ∷ ls) (suc q) l' r h = ap (λ o. cond (is_in r l) (Some from) o) (place_from-with (from + 1) ls q l' r h)
 
--- a process that stands nowhere is in no list
+-- a process that is nowhere is in no list
 pub place-none : (ls : List (List Entry)) (p : ℕ) → place ls p ≡ None → (i : ℕ) → is_in p (list_at ls i) ≡ false
 unfolding place
 place-none ls p h = place_from-none 0 ls p h
 
--- a process that is in no list stands nowhere
+-- a process that is in no list is nowhere
 pub none-place : (ls : List (List Entry)) (p : ℕ) → ((i : ℕ) → is_in p (list_at ls i) ≡ false) → place ls p ≡ None
 unfolding place
 none-place ls p h = none-place_from 0 ls p h
@@ -72,7 +72,7 @@ pub some-place : (ls : List (List Entry)) (p q : ℕ) → ((j : ℕ) → j < q �
 unfolding place
 some-place ls p q h t = some-place_from 0 ls p q h t ∙ ap Some (omega arith)
 
--- the list of the first queue that has p, where the lists are those of queue `from` and the queues behind it
+-- the list of the first queue that has p, if the lists are those of queue `from` and the queues after it
 list_of-from : (from : ℕ) (ls : List (List Entry)) (p q : ℕ) → place_from from ls p ≡ Some q → (i : ℕ) × (q ≡ from + i) × (list_of ls p ≡ list_at ls i)
 list_of-from from [] p q h = let e : None ≡ Some q = h in absurd (cc)
 list_of-from from (l ∷ ls) p q h = elim (cases_Bool (is_in p l)) [
@@ -80,7 +80,7 @@ list_of-from from (l ∷ ls) p q h = elim (cases_Bool (is_in p l)) [
   | inr f ↦ (let r = list_of-from (from + 1) ls p q (sym (step from l ls p false f) ∙ h) in (suc r.0, omega (arith, r.1), ap (λ b. cond b l (list_of ls p)) f ∙ r.2))
 ]
 
--- the list in which p stands is that of its queue
+-- the list in which p is, is that of its queue
 pub list_of-placed : (ls : List (List Entry)) (p q : ℕ) → place ls p ≡ Some q → list_of ls p ≡ list_at ls q
 unfolding place
 list_of-placed ls p q h =
@@ -114,7 +114,7 @@ without-absent p (e ∷ l) h =
 pub without-append : (p : ℕ) (l m : List Entry) → without p (l ++ m) ≡ without p l ++ without p m
 without-append p l m = filter-append (λ e. not (eqb p e.0)) l m
 
--- taking out a process that is in the list once leaves the parts ahead of it and behind it
+-- taking out a process that is in the list once leaves the parts ahead of it and after it
 pub without-split : (p : ℕ) (pre : List Entry) (k : ℤ) (post : List Entry) → is_in p pre ≡ false → is_in p post ≡ false → without p (pre ++ (p, k) ∷ post) ≡ pre ++ post
 without-split p pre k post a b =
     let e : eqb p p ≡ true = grind (arith, nat_tests) in

@@ -49,7 +49,7 @@ chained_of {P} {Q} t = Chained-had P Q t.entries.items (lists_of P Q t.entries.i
 pub Chained-self : (P Q : ℕ) (es : List Links) (ls : List (List Entry)) → Chained P Q es ls → Chained P Q es (lists_of P Q es)
 Chained-self P Q es ls k = let F : List (List Entry) → Type 0 = λ ls. Chained P Q es ls in subst F (sym (Chained-read P Q es ls k)) k
 
--- the first entry behind a head
+-- the first entry after a head
 pub next_of : {P Q : ℕ} → (t : QueueTable P Q) (q : ℕ) → q < Q → next_at t.entries.items (head_of P q) ≡ first_to (list_at (lists t) q) (tail_of P q)
 next_of {P} {Q} t q lt = (Chain-tie P t.entries.items (head_of P q) [] (list_at (lists t) q) (tail_of P q) ((chained_of t).chains q lt)).0
 
@@ -57,22 +57,22 @@ next_of {P} {Q} t q lt = (Chain-tie P t.entries.items (head_of P q) [] (list_at 
 pub prev_of : {P Q : ℕ} → (t : QueueTable P Q) (q : ℕ) → q < Q → prev_at t.entries.items (tail_of P q) ≡ last_from (head_of P q) (list_at (lists t) q)
 prev_of {P} {Q} t q lt = ((chained_of t).chains q lt).tied.1
 
--- an entry behind a head that is a process is the first of the list
+-- an entry after a head that is a process is the first of the list
 pub first-some : (P : ℕ) (l : List Entry) (t n : ℕ) → P ≤ t → n ≡ first_to l t → n < P → Some n ≡ first_of l
 first-some P [] t n le e lt = absurd (omega arith)
 first-some P (f ∷ l) t n le e lt = ap Some e
 
--- an entry behind a head that is no process is the tail of an empty list
+-- an entry after a head that is no process is the tail of an empty list
 pub first-none : (P : ℕ) (es : List Links) (h : ℕ) (l : List Entry) (t n : ℕ) → Path P es h l → n ≡ first_to l t → P ≤ n → None ≡ first_of l
 first-none P es h [] t n p e lt = refl
 first-none P es h (f ∷ l) t n p e lt = absurd (omega (arith, p.2))
 
--- the key of an entry behind a head that is a process is the first key of the list
+-- the key of an entry after a head that is a process is the first key of the list
 pub first_key-some : (P : ℕ) (es : List Links) (h : ℕ) (l : List Entry) (t n : ℕ) (k : ℤ) → Path P es h l → P ≤ t → n ≡ first_to l t → n < P → k ≡ key_at es n → Some k ≡ first_key_of l
 first_key-some P es h [] t n k p le e lt ek = absurd (omega arith)
 first_key-some P es h (f ∷ l) t n k p le e lt ek = ap Some (ek ∙ ap (key_at es) e ∙ p.1)
 
--- behind the head of an empty list there is no first key
+-- after the head of an empty list there is no first key
 pub first_key-none : (P : ℕ) (es : List Links) (h : ℕ) (l : List Entry) (t n : ℕ) → Path P es h l → n ≡ first_to l t → P ≤ n → None ≡ first_key_of l
 first_key-none P es h [] t n p e lt = refl
 first_key-none P es h (f ∷ l) t n p e lt = absurd (omega (arith, p.2))
@@ -99,7 +99,7 @@ put_chained P Q es ls p q pre post k x y es' k' ltp ltq fresh is ex ey ees =
     subst E (sym ees) (Chained-put P Q es (put_between es x p y k) ls q pre post p (record { next = y; prev = x; key = k })
     k' ltq is ltp fresh (subst Y ey (subst X ex w)) ey ex)
 
--- p, which stands nowhere, is put in at a place of a table's list
+-- p, which is nowhere, is put in at a place of a table's list
 pub put_at : {P Q : ℕ} → (t : QueueTable P Q) (p q : ℕ) (pre post : List Entry) (k : ℤ) (x y : ℕ) (es' : List Links)
     → p < P → q < Q → place (lists t) p ≡ None → list_at (lists t) q ≡ pre ++ post
     → x ≡ last_from (head_of P q) pre → y ≡ first_to post (tail_of P q)
@@ -153,7 +153,7 @@ pub take_at : {P Q : ℕ} → (t : QueueTable P Q) (p q : ℕ) (pre : List Entry
     × (next_at t.entries.items p < P + 2 * Q) × (prev_at t.entries.items p < P + 2 * Q)
 take_at {P} {Q} t p q pre k post ltq is = take_chained P Q t.entries.items (lists t) p q pre k post (chained_of t) ltq is
 
--- p, which stands in a list, is taken out
+-- p, which is in a list, is taken out
 pub take_placed : {P Q : ℕ} → (t : QueueTable P Q) (p : ℕ) → IsSome (place (lists t) p)
     → Chained P Q (taken_out t.entries.items p) (all_without p (lists t)) × (next_at t.entries.items p < P + 2 * Q) × (prev_at t.entries.items p < P + 2 * Q)
 take_placed {P} {Q} t p h =
@@ -174,19 +174,19 @@ pub first-nil : (P : ℕ) (es : List Links) (h : ℕ) (l : List Entry) (t n : �
 first-nil P es h [] t n p e lt = refl
 first-nil P es h (f ∷ l) t n p e lt = absurd (omega (arith, p.2))
 
--- where the entry behind a head is a process the list begins with it
+-- if the entry after a head is a process the list begins with it
 pub head_split : {P Q : ℕ} → (t : QueueTable P Q) (q n : ℕ) → q < Q → n ≡ next_at t.entries.items (head_of P q) → n < P → (k : ℤ) × (post : List Entry) × (list_at (lists t) q ≡ (n, k) ∷ post)
 head_split {P} {Q} t q n lt e ltn = first-cons P (list_at (lists t) q) (tail_of P q) n (omega arith) (e ∙ next_of t q lt) ltn
 
--- where the entry behind a head is no process the list is empty
+-- if the entry after a head is no process the list is empty
 pub head_none : {P Q : ℕ} → (t : QueueTable P Q) (q n : ℕ) → q < Q → n ≡ next_at t.entries.items (head_of P q) → P ≤ n → list_at (lists t) q ≡ []
 head_none {P} {Q} t q n lt e le = first-nil P t.entries.items (head_of P q) (list_at (lists t) q) (tail_of P q) n ((chained_of t).chains q lt).path (e ∙ next_of t q lt) le
 
--- behind the head of an empty list stands no process
+-- after the head of an empty list comes no process
 pub head_above : {P Q : ℕ} → (t : QueueTable P Q) (q n : ℕ) → q < Q → n ≡ next_at t.entries.items (head_of P q) → list_at (lists t) q ≡ [] → P ≤ n
 head_above {P} {Q} t q n lt e is = let x : n ≡ tail_of P q = e ∙ next_of t q lt ∙ ap (λ l. first_to l (tail_of P q)) is in omega (arith, x)
 
--- a process that is in a list, with the parts of the list before and behind it
+-- a process that is in a list, with the parts of the list before and after it
 pub record Placed (P : ℕ) (Q : ℕ) (es : List Links) (l : List Entry) (p : ℕ) (q : ℕ) : Type 0 where
   pub before : List Entry
   pub key : ℤ
@@ -195,7 +195,7 @@ pub record Placed (P : ℕ) (Q : ℕ) (es : List Links) (l : List Entry) (p : �
   pub is : l ≡ before ++ (p, key) ∷ behind
   pub chain : Chain P es (head_of P q) (before ++ (p, key) ∷ behind) (tail_of P q)
 
--- a process that stands in a list, with its place there
+-- a process that is in a list, with its place there
 pub placed : {P Q : ℕ} → (t : QueueTable P Q) (p q : ℕ) → place (lists t) p ≡ Some q → Placed P Q t.entries.items (list_at (lists t) q) p q
 placed {P} {Q} t p q at =
     let s = place-some (lists t) p q at in
@@ -204,15 +204,15 @@ placed {P} {Q} t p q at =
     let C : List Entry → Type 0 = λ l. Chain P t.entries.items (head_of P q) l (tail_of P q) in
     record { before = f.0; key = f.1; behind = f.2; queue_in = lt; is = f.3; chain = subst C f.3 ((chained_of t).chains q lt) }
 
--- a process doesn't stand in the part of its list ahead of it
+-- a process isn't in the part of its list ahead of it
 pub front_of : {P Q : ℕ} → {es : List Links} → {l : List Entry} → {p q : ℕ} → (d : Placed P Q es l p q) → is_in p d.before ≡ false
 front_of {P} {Q} {es} {l} {p} {q} d = alone_front P es (head_of P q) d.before (p, d.key) d.behind (omega arith) d.chain.path
 
--- a process doesn't stand in the part of its list behind it
+-- a process isn't in the part of its list after it
 pub rest_of_placed : {P Q : ℕ} → {es : List Links} → {l : List Entry} → {p q : ℕ} → (d : Placed P Q es l p q) → is_in p d.behind ≡ false
 rest_of_placed {P} {Q} {es} {l} {p} {q} d = alone_rest P es (head_of P q) d.before (p, d.key) d.behind (omega arith) d.chain.path
 
--- the process behind p is the first of the part behind it
+-- the process after p is the first of the part after it
 after_in-split : (p : ℕ) (pre : List Entry) (k : ℤ) (post : List Entry) → is_in p pre ≡ false → after_in p (pre ++ (p, k) ∷ post) ≡ first_of post
 after_in-split p [] k post h = let e : eqb p p ≡ true = grind (arith, nat_tests) in ap (λ b. cond b (first_of post) (after_in p post)) e
 after_in-split p (e ∷ pre) k post h =
@@ -220,7 +220,7 @@ after_in-split p (e ∷ pre) k post h =
     let t : is_in p pre ≡ false = grind (arith, nat_tests) in
     ap (λ b. cond b (first_of (pre ++ (p, k) ∷ post)) (after_in p (pre ++ (p, k) ∷ post))) n ∙ after_in-split p pre k post t
 
--- the key of p is the one that it stands with
+-- the key of p is the one beside it
 key_in-split : (p : ℕ) (pre : List Entry) (k : ℤ) (post : List Entry) → is_in p pre ≡ false → key_in p (pre ++ (p, k) ∷ post) ≡ k
 key_in-split p [] k post h = let e : eqb p p ≡ true = grind (arith, nat_tests) in ap (λ b. cond b k (key_in p post)) e
 key_in-split p (e ∷ pre) k post h =
@@ -228,7 +228,7 @@ key_in-split p (e ∷ pre) k post h =
     let t : is_in p pre ≡ false = grind (arith, nat_tests) in
     ap (λ b. cond b e.1 (key_in p (pre ++ (p, k) ∷ post))) n ∙ key_in-split p pre k post t
 
--- the next number of a process that stands in a list is the process behind it, where it is a process
+-- the next number of a process that is in a list is the process after it, if it is a process
 pub after-some : {P Q : ℕ} → (t : QueueTable P Q) (p n : ℕ) → IsSome (place (lists t) p) → n ≡ next_at t.entries.items p → n < P → Some n ≡ after_in p (list_of (lists t) p)
 after-some {P} {Q} t p n h e lt =
     let q = some_of (place (lists t) p) h in
@@ -236,7 +236,7 @@ after-some {P} {Q} t p n h e lt =
     let ties = Chain-ties P t.entries.items (head_of P q.0) d.before (p, d.key) d.behind (tail_of P q.0) d.chain in
     first-some P d.behind (tail_of P q.0) n (omega arith) (e ∙ ties.1.0) lt ∙ sym (ap (after_in p) (list_of-placed (lists t) p q.0 q.1 ∙ d.is) ∙ after_in-split p d.before d.key d.behind (front_of d))
 
--- the next number of a process that stands in a list is a tail, where it is the last
+-- the next number of a process that is in a list is a tail, if it is the last
 pub after-none : {P Q : ℕ} → (t : QueueTable P Q) (p n : ℕ) → IsSome (place (lists t) p) → n ≡ next_at t.entries.items p → P ≤ n → None ≡ after_in p (list_of (lists t) p)
 after-none {P} {Q} t p n h e le =
     let q = some_of (place (lists t) p) h in
@@ -245,7 +245,7 @@ after-none {P} {Q} t p n h e le =
     let rest = Path-rest P t.entries.items (head_of P q.0) d.before ((p, d.key) ∷ d.behind) d.chain.path in
     first-none P t.entries.items p d.behind (tail_of P q.0) n rest.3 (e ∙ ties.1.0) le ∙ sym (ap (after_in p) (list_of-placed (lists t) p q.0 q.1 ∙ d.is) ∙ after_in-split p d.before d.key d.behind (front_of d))
 
--- the key of the entry of a process that stands in a list is its key there
+-- the key of the entry of a process that is in a list is its key there
 pub key_placed : {P Q : ℕ} → (t : QueueTable P Q) (p : ℕ) → IsSome (place (lists t) p) → key_at t.entries.items p ≡ key_in p (list_of (lists t) p)
 key_placed {P} {Q} t p h =
     let q = some_of (place (lists t) p) h in
@@ -260,11 +260,11 @@ placed_differs {P} {Q} t p q lt at = λ same.
     let ties = Chain-ties P t.entries.items (head_of P q) d.before (p, d.key) d.behind (tail_of P q) d.chain in
     first_to-differs p d.behind (tail_of P q) (omega arith) (rest_of_placed d) (sym same ∙ ties.1.0)
 
--- a process that is its own next stands nowhere
+-- a process that is its own next is nowhere
 pub place_none-by_next : {P Q : ℕ} → (t : QueueTable P Q) (p : ℕ) → p < P → next_at t.entries.items p ≡ p → place (lists t) p ≡ None
 place_none-by_next t p lt e = elim (option_cases (place (lists t) p)) [ inl n ↦ n | inr s ↦ absurd (placed_differs t p s.0 lt s.1 e) ]
 
--- a process that isn't its own next stands in a list
+-- a process that isn't its own next is in a list
 pub place_some-by_next : {P Q : ℕ} → (t : QueueTable P Q) (p : ℕ) → p < P → next_at t.entries.items p ≢ p → (q : ℕ) × (place (lists t) p ≡ Some q)
 place_some-by_next t p lt ne = elim (option_cases (place (lists t) p)) [
   | inl n ↦ absurd (ne ((chained_of t).loose p lt (λ i lti. place-none (lists t) p n i)).0)

@@ -1,4 +1,4 @@
--- A walk along a queue: what one step finds, where it stops, and what is put in there.
+-- A walk along a queue: what one step finds, the place at which it stops, and what is put in there.
 use Rattle.std.proofs.Common.{◌≡◌, ℕ, ◌+◌, ◌*◌, ◌<◌, ◌≤◌, ℤ, ◌<ℤ◌, None, List, [], ◌∷◌, ◌++◌, length, sym, ap, ◌∙◌, subst, append_assoc, refl, inl, inr, arith}
 use Rattle.std.proofs.lemmas.List.{length-append}
 use Rattle.std.specs.Prelude.{slice_index_or}
@@ -70,7 +70,7 @@ pub at_tail : {P Q : ℕ} → (t : QueueTable P Q) (q : ℕ) (pre post : List En
 at_tail {P} {Q} t q pre post n lt is e le =
     first-nil P t.entries.items (last_from (head_of P q) pre) post (tail_of P q) n (Path-rest P t.entries.items (head_of P q) pre post (chain_at t q pre post lt is).path) e le
 
--- where a walk along a list that is kept by key meets a lower key, the rest has lower keys
+-- if a walk along a list that is kept by key meets a lower key, the rest has lower keys
 pub stop_at_key : {P Q : ℕ} → (t : QueueTable P Q) (q : ℕ) (pre post : List Entry) (n : ℕ) (k : ℤ) → q < Q → list_at (lists t) q ≡ pre ++ post → n ≡ first_to post (tail_of P q) → n < P
     → IsByKey (list_at (lists t) q) → key_at t.entries.items n <ℤ k → KeysBelow k post
 stop_at_key t q pre post n k lt is e ltn by below =
@@ -93,7 +93,7 @@ place_between {P} {Q} t q pre post n lt is e =
     let ys = first_to-cases P es (last_from h pre) post (tail_of P q) (Path-rest P es h pre post c.path) in
     (ex, elim ys [ inl s ↦ omega (arith, e, s) | inr s ↦ omega (arith, e, s) ], elim xs [ inl s ↦ omega (arith, ex, s) | inr s ↦ omega (arith, ex, s) ])
 
--- p goes in by its key where the walk stopped: k is the key as the code has it, and r the entry that the walk stopped at
+-- p goes in by its key at the place at which the walk stopped: k is the key as the code has it, and r the entry that the walk stopped at
 pub put_by_key : {P Q : ℕ} → (t : QueueTable P Q) (p q : ℕ) (key k : ℤ) (n : ℕ) (r : Links) (es' : List Links)
     → p < P → q < Q → place (lists t) p ≡ None → GoesBefore (list_at (lists t) q) k (tail_of P q) n → r ≡ slice_index_or t.entries.items n blank → k ≡ key
     → es' ≡ put_between t.entries.items r.prev p n k → Chained P Q es' (with_list (lists t) q (ready_insert p key (list_at (lists t) q)))

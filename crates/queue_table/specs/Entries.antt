@@ -4,11 +4,11 @@ use Rattle.std.specs.List.{range_with_len}
 use Rattle.queue_table.specs.declared.links.Links.{Links}
 use Rattle.queue_table.specs.Lists.{Entry, is_in, list_at}
 
--- what is read where there is no entry
+-- what is read if there is no entry
 abbrev pub blank : Links
 blank = record { next = 0; prev = 0; key = pos 0 }
 
--- the number of the entry behind entry i
+-- the number of the entry after entry i
 abbrev pub next_at : List Links → ℕ → ℕ
 next_at es i = (slice_index_or es i blank).next
 
@@ -20,11 +20,11 @@ prev_at es i = (slice_index_or es i blank).prev
 abbrev pub key_at : List Links → ℕ → ℤ
 key_at es i = (slice_index_or es i blank).key
 
--- the entry ahead of queue q's list, where P entries are processes
+-- the entry ahead of queue q's list, if P entries are processes
 abbrev pub head_of : ℕ → ℕ → ℕ
 head_of P q = P + 2 * q
 
--- the entry behind queue q's list
+-- the entry after queue q's list
 abbrev pub tail_of : ℕ → ℕ → ℕ
 tail_of P q = P + 2 * q + 1
 
@@ -42,7 +42,7 @@ follow_back (suc fuel) P es i = cond (nat_lt i P) ((i, key_at es i) ∷ follow_b
 unfoldable pub lists_of : ℕ → ℕ → List Links → List (List Entry)
 lists_of P Q es = map (λ q. follow P P es (next_at es (head_of P q))) (range_with_len 0 Q)
 
--- the head h and the tail t are bounds: h has nothing ahead of it and the greatest key, t nothing behind it and the least
+-- the head h and the tail t are bounds: h has nothing ahead of it and the greatest key, t nothing after it and the least
 pub record Ends (es : List Links) (h : ℕ) (t : ℕ) : Type 0 where
   pub head_prev : prev_at es h ≡ h
   pub head_key : key_at es h ≡ pos 2147483647
@@ -60,26 +60,26 @@ pub record Linked (P : ℕ) (Q : ℕ) (es : List Links) (ls : List (List Entry))
   pub ends : (q : ℕ) → q < Q → Ends es (head_of P q) (tail_of P q)
   pub loose : (p : ℕ) → p < P → ((q : ℕ) → q < Q → is_in p (list_at ls q) ≡ false) → (next_at es p ≡ p) × (prev_at es p ≡ p)
 
--- entry b stands right behind entry a
+-- entry b is right after entry a
 abbrev pub Tied : List Links → ℕ → ℕ → Type 0
 Tied es a b = (next_at es a ≡ b) × (prev_at es b ≡ a)
 
--- the last entry of the list, or a, behind which it begins, where it is empty
+-- the last entry of the list, or a, after which it begins, if it is empty
 abbrev pub last_from : ℕ → List Entry → ℕ
 last_from a [] = a
 last_from a (e ∷ l) = last_from e.0 l
 
--- the first entry of the list, or b, ahead of which it ends, where it is empty
+-- the first entry of the list, or b, ahead of which it ends, if it is empty
 abbrev pub first_to : List Entry → ℕ → ℕ
 first_to [] b = b
 first_to (e ∷ l) b = e.0
 
--- behind entry a, tied both ways, stand the processes of the list with their keys
+-- after entry a, tied both ways, come the processes of the list with their keys
 abbrev pub Path : ℕ → List Links → ℕ → List Entry → Type 0
 Path P es a [] = Unit {0}
 Path P es a (e ∷ l) = Tied es a e.0 × (key_at es e.0 ≡ e.1) × (e.0 < P) × Path P es e.0 l
 
--- between entries a and b, tied both ways, stand exactly the processes of the list
+-- between entries a and b, tied both ways, are exactly the processes of the list
 pub record Chain (P : ℕ) (es : List Links) (a : ℕ) (l : List Entry) (b : ℕ) : Type 0 where
   pub path : Path P es a l
   pub tied : Tied es (last_from a l) b

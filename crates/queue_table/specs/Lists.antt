@@ -6,11 +6,11 @@ use Rattle.xinu_base.specs.Insert.{insert}
 abbrev pub Entry : Type 0
 Entry = ℕ × ℤ
 
--- the list of queue q, which is empty where there is no such queue
+-- the list of queue q, which is empty if there is no such queue
 abbrev pub list_at : List (List Entry) → ℕ → List Entry
 list_at ls q = slice_index_or ls q []
 
--- the lists, where l has taken the place of queue q's
+-- the lists, with l in the place of queue q's
 abbrev pub with_list : List (List Entry) → ℕ → List Entry → List (List Entry)
 with_list ls q l = slice_set ls q l
 
@@ -19,16 +19,16 @@ abbrev pub is_in : ℕ → List Entry → Bool
 is_in p [] = false
 is_in p (e ∷ l) = cond (nat_eq p e.0) true (is_in p l)
 
--- the first queue whose list has p, where the lists are those of queue `from` and the queues behind it
+-- the first queue whose list has p, if the lists are those of queue `from` and the queues after it
 abbrev pub place_from : ℕ → List (List Entry) → ℕ → Option ℕ
 place_from from [] p = None
 place_from from (l ∷ ls) p = cond (is_in p l) (Some from) (place_from (from + 1) ls p)
 
--- the queue in which p stands, and None where it stands in none
+-- the queue in which p is, and `None` if it is in none
 unfoldable pub place : List (List Entry) → ℕ → Option ℕ
 place ls p = place_from 0 ls p
 
--- the list in which p stands, and the empty list where it stands in none
+-- the list in which p is, and the empty list if it is in none
 abbrev pub list_of : List (List Entry) → ℕ → List Entry
 list_of [] p = []
 list_of (l ∷ ls) p = cond (is_in p l) l (list_of ls p)
@@ -48,7 +48,7 @@ abbrev pub rest_of : List Entry → List Entry
 rest_of [] = []
 rest_of (e ∷ l) = l
 
--- the process right behind p in the list
+-- the process right after p in the list
 abbrev pub after_in : ℕ → List Entry → Option ℕ
 after_in p [] = None
 after_in p (e ∷ l) = cond (nat_eq p e.0) (first_of l) (after_in p l)
@@ -101,7 +101,7 @@ pub record IsDelta (l : List Entry) : Type 0 where
   pub differences : KeysAtLeast (pos 0) l
   pub bounded : key_sum l ≤ℤ pos 2147483647
 
--- each process with its delay, where the delays of the delta list count from s
+-- each process with its delay, if the delays of the delta list count from s
 abbrev pub delays_from : ℤ → List Entry → List Entry
 delays_from s [] = []
 delays_from s (e ∷ l) = (e.0, s +ℤ e.1) ∷ delays_from (s +ℤ e.1) l
@@ -119,7 +119,7 @@ differences_from s (e ∷ l) = (e.0, e.1 -ℤ s) ∷ differences_from e.1 l
 unfoldable pub differences : List Entry → List Entry
 differences l = differences_from (pos 0) l
 
--- p with delay d in a list of delays, behind all that are not greater
+-- p with delay d in a list of delays, after all that are not greater
 abbrev pub delay_insert : ℕ → ℤ → List Entry → List Entry
 delay_insert p d l = insert (λ x. int_le x.1 d) (p, d) l
 

@@ -19,7 +19,7 @@ set_key es i k = slice_set es i (record { next = next_at es i; prev = prev_at es
 unfoldable pub rewired : List Links → ℕ → ℕ → ℕ → ℕ → ℕ → Links → List Links
 rewired es x a y b p r = slice_set (set_prev (set_next es x a) y b) p r
 
--- entry p stands between entries x and y with key k
+-- entry p is between entries x and y with key k
 abbrev pub put_between : List Links → ℕ → ℕ → ℕ → ℤ → List Links
 put_between es x p y k = rewired es x p y p p (record { next = y; prev = x; key = k })
 
@@ -27,6 +27,6 @@ put_between es x p y k = rewired es x p y p p (record { next = y; prev = x; key 
 abbrev pub taken_out : List Links → ℕ → List Links
 taken_out es p = rewired es (prev_at es p) (next_at es p) (next_at es p) (prev_at es p) p (record { next = p; prev = p; key = key_at es p })
 
--- the key of entry i, where i is one of the P processes, is more by k; no other entry changes
+-- the key of entry i, if i is one of the P processes, is more by k; no other entry changes
 abbrev pub shifted : List Links → ℕ → ℤ → ℕ → List Links
 shifted es i k P = cond (nat_lt i P) (set_key es i (key_at es i +ℤ k)) es

@@ -1,6 +1,6 @@
 //! The calls on a delta list, in which a key is the difference of a delay to the delay ahead of it (book, chapter 13).
 //!
-//! They stand on the table and on the writes of `links`. Each leaves the entries linked.
+//! They depend on the table and on the writes of `links`. Each leaves the entries linked.
 
 ghost use Rattle.std.specs.Prelude.{◌≡◌, ◌<◌, ◌≤ℤ◌, pos, IsSome, IsSomeAnd, None};
 ghost use Rattle.queue_table.specs.Entries.{Linked, next_at, key_at, tail_of};
@@ -14,7 +14,7 @@ impl<const P: usize, const Q: usize> QueueTable<P, Q> {
     ghost use Rattle.queue_table.specs.Table.{lists};
     ghost use Rattle.queue_table.specs.Lists.{list_at, list_of, with_list, place, first_key_of, IsDelta, delta_insert, delta_sooner, all_delta_without};
 
-    /// Puts `p`, which is in no list, into the delta list of queue `q`, behind all whose delay is not greater; the other
+    /// Puts `p`, which is in no list, into the delta list of queue `q`, after all whose delay is not greater; the other
     /// delays stay. The delay is at least 1, in ticks from now.
     pub fn insert_delta(&mut self, p: usize, q: usize, delay: i32)
         requires p_in { p < P }
@@ -32,7 +32,7 @@ impl<const P: usize, const Q: usize> QueueTable<P, Q> {
     }
 
     /// Takes `p` out of its delta list, without a search; the other delays stay. Its entry and its two neighbours'
-    /// change, the one behind it by the key of `p` too, and no other.
+    /// change, the one after it by the key of `p` too, and no other.
     pub fn remove_delta(&mut self, p: usize)
         requires p_in { p < P }
         requires present { IsSome (place (lists self.old) p) }

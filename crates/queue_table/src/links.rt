@@ -1,15 +1,15 @@
 //! An entry of the table, and the three writes that change the entries.
 //!
-//! Each write says by an equation what it leaves of the array; that the lists stay linked is said where it is called.
+//! Each write says by an equation what it leaves of the array; the caller says that the lists stay linked.
 
 ghost use Rattle.std.specs.Prelude.{◌≡◌, ◌<◌, ◌+ℤ◌, ◌≤ℤ◌, pos, negsuc, vec_len};
 ghost use Rattle.queue_table.specs.Entries.{next_at, prev_at, key_at};
 ghost use Rattle.queue_table.specs.Writes.{put_between, taken_out, shifted};
 
-/// An entry: which entries stand behind it and ahead of it, and its key.
+/// An entry: which entries are after it and ahead of it, and its key.
 #[derive(Clone, Copy)]
 pub struct Links {
-    /// The number of the entry behind it.
+    /// The number of the entry after it.
     pub next: usize,
     /// The number of the entry ahead of it.
     pub prev: usize,
@@ -56,7 +56,7 @@ pub(crate) fn unlink(entries: &mut Vec<Links>, p: usize)
     };
 }
 
-/// Adds to the key of entry `at`, where it is one of the processes and no tail.
+/// Adds to the key of entry `at`, if it is one of the processes and no tail.
 pub(crate) fn shift_key(entries: &mut Vec<Links>, at: usize, by: i32, processes: usize)
     requires at_in { at < vec_len entries.old }
     requires raised { at < processes → pos 0 ≤ℤ by → (key_at entries.old.items at +ℤ by) ≤ℤ pos 2147483647 }

@@ -1,6 +1,6 @@
 //! The calls that put a process into a list and take it out, and keep every other key.
 //!
-//! They stand on the table and on the writes of `links`. Each leaves the entries linked.
+//! They depend on the table and on the writes of `links`. Each leaves the entries linked.
 
 ghost use Rattle.std.specs.Prelude.{◌≡◌, ◌<◌, ◌++◌, ◌∷◌, [], pos, IfSome, IsSome, None};
 ghost use Rattle.xinu_base.specs.Insert.{ready_insert};
@@ -28,7 +28,7 @@ impl<const P: usize, const Q: usize> QueueTable<P, Q> {
         link_between(&mut self.entries, p, last, tail, 0);
     }
 
-    /// Puts `p`, which is in no list, into queue `q`, which is kept by key, behind all keys that are not less.
+    /// Puts `p`, which is in no list, into queue `q`, which is kept by key, after all keys that are not less.
     pub fn insert(&mut self, p: usize, q: usize, key: i32)
         requires p_in { p < P }
         requires q_in { q < Q }
@@ -42,7 +42,7 @@ impl<const P: usize, const Q: usize> QueueTable<P, Q> {
         link_between(&mut self.entries, p, before, after, key);
     }
 
-    /// Takes the first process out of queue `q`. None exactly where the list is empty.
+    /// Takes the first process out of queue `q`. `None` if and only if the list is empty.
     pub fn dequeue(&mut self, q: usize) -> Option<usize>
         requires q_in { q < Q }
         ensures first { result ≡ first_of (list_at (lists self.old) q) }

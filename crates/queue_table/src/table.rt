@@ -1,6 +1,6 @@
 //! The table, a new one, and what is read of it.
 //!
-//! It stands on the entries of `links`. It keeps true, as a ghost fact, that the entries are linked.
+//! It depends on the entries of `links`. It keeps true, as a ghost fact, that the entries are linked.
 
 ghost use Rattle.std.specs.Prelude.{◌≡◌, ◌<◌, ◌+◌, ◌*◌, ◌≤◌, ◌++◌, ◌∷◌, [], IfOk, OnOk, IfSome, IsSome, IsTrue, ◌↔◌, replicate, slice_index_or};
 ghost use Rattle.queue_table.specs.Entries.{lists_of, Chained, Linked, blank};
@@ -12,7 +12,7 @@ use xinu_base::NoMemory;
 /// Q lists of processes below P, in one array of P + 2Q entries.
 ///
 /// A process is the entry of its own number. The entries from P on bound the lists: P + 2q is the head of queue q, with
-/// key 2147483647 and nothing ahead of it, and P + 2q + 1 its tail, with key -2147483648 and nothing behind it. Where
+/// key 2147483647 and nothing ahead of it, and P + 2q + 1 its tail, with key -2147483648 and nothing after it. If
 /// there is nothing, an entry names itself; so does a process that is in no list, both ways.
 #[derive(Drop)]
 pub struct QueueTable<const P: usize, const Q: usize> {
@@ -29,7 +29,7 @@ impl<const P: usize, const Q: usize> QueueTable<P, Q> {
     ///
     /// # Errors
     ///
-    /// `NoMemory` where there is no memory for the entries.
+    /// `NoMemory` if there is no memory for the entries.
     pub fn new(alloc: Global) -> Result<Self, NoMemory>
         requires size { P + 2 * Q ≤ 65535 }
         ensures empty { IfOk result (λ t. lists t ≡ replicate Q []) }
@@ -56,7 +56,7 @@ impl<const P: usize, const Q: usize> QueueTable<P, Q> {
         self.entries[i]
     }
 
-    /// The first process of queue `q`. None exactly where its list is empty.
+    /// The first process of queue `q`. `None` if and only if its list is empty.
     pub fn first(&self, q: usize) -> Option<usize>
         requires q_in { q < Q }
         ensures first { result ≡ first_of (list_at (lists self.now) q) }
@@ -66,7 +66,7 @@ impl<const P: usize, const Q: usize> QueueTable<P, Q> {
         if first < P { Some(first) } else { None }
     }
 
-    /// The key of the first process of queue `q`. None exactly where its list is empty.
+    /// The key of the first process of queue `q`. `None` if and only if its list is empty.
     pub fn first_key(&self, q: usize) -> Option<i32>
         requires q_in { q < Q }
         ensures key { result ≡ first_key_of (list_at (lists self.now) q) }
@@ -87,7 +87,7 @@ impl<const P: usize, const Q: usize> QueueTable<P, Q> {
         self.links(P + 2 * q).next >= P
     }
 
-    /// The queue in whose list `p` stands. None exactly where it stands in none.
+    /// The queue in whose list `p` is. `None` if and only if it is in none.
     ///
     /// An entry doesn't hold its queue: the walk goes on to the tail, which does.
     pub fn place_of(&self, p: usize) -> Option<usize>
@@ -105,7 +105,7 @@ impl<const P: usize, const Q: usize> QueueTable<P, Q> {
         Some((at - P) / 2)
     }
 
-    /// The process behind `p` in its list. None exactly where `p` is the last.
+    /// The process after `p` in its list. `None` if and only if `p` is the last.
     pub fn next_after(&self, p: usize) -> Option<usize>
         requires p_in { p < P }
         requires present { IsSome (place (lists self.now) p) }

@@ -1,12 +1,18 @@
 -- What a word does, by its opcode: for the match that picks the function of an opcode.
-use Rattle.std.proofs.Common.{◌≡◌, ℕ, ◌<◌, ◌^◌, List, eqb, false, sym, ap, refl}
+use Rattle.std.proofs.Common.{◌≡◌, ◌∙◌, ℕ, ◌<◌, ◌^◌, List, eqb, false, sym, ap, refl}
 use Rattle.xinu_base.specs.declared.Hart.{Hart}
 use Rattle.xinu_base.specs.declared.Outcome.TheVariants.{Trap}
 use Rattle.xinu_base.specs.declared.Cause.TheVariants.{Illegal}
 use Rattle.xinu_model.specs.Isa.Effects.{stops}
-use Rattle.xinu_model.specs.Isa.Exec.{Executed, perform}
+use Rattle.xinu_model.specs.Isa.Exec.{Executed, obeyed, perform}
 use Rattle.rv_isa.specs.RowFields.{opcode_of}
-use Rattle.rv_hart.specs.Opcodes.{of_opcode, perform-of_opcode}
+use Rattle.rv_isa.proofs.RowByFields.{row_of-parts}
+use Rattle.rv_hart.specs.Opcodes.{of_opcode}
+
+-- what a word does is what its opcode says
+pub perform-of_opcode : (opcode word : ℕ) (h : Hart) (memory : List ℕ) → word < 2 ^ 32 → opcode_of word ≡ opcode → perform word h memory ≡ of_opcode opcode word h memory
+perform-of_opcode opcode word h memory fits is =
+    ap (λ r. obeyed r word h memory) (row_of-parts word fits) ∙ ap (λ (o : ℕ). of_opcode o word h memory) is
 
 pub outcome_by : (opcode word : ℕ) (h : Hart) (memory : List ℕ) → word < 2 ^ 32 → opcode_of word ≡ opcode → (of_opcode opcode word h memory).outcome ≡ (perform word h memory).outcome
 outcome_by opcode word h memory fits is = ap (λ (e : Executed). e.outcome) (sym (perform-of_opcode opcode word h memory fits is))

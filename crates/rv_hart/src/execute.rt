@@ -135,7 +135,7 @@ fn store(hart: &mut Hart, ram: &mut Ram, word: u32) -> Outcome
     }
 }
 
-// A branch, taken where its condition holds.
+// A branch, taken if its condition holds.
 #[inline]
 fn branch(hart: &mut Hart, word: u32) -> Outcome
     ensures outcome { (memory : List ℕ) → result ≡ (of_opcode 0x63 word hart.old memory).outcome }
@@ -263,7 +263,7 @@ fn register(hart: &Hart, number: u32) -> u32
     }
 }
 
-// The destination register takes a value, and the process goes on behind the instruction.
+// The destination register takes a value, and the process goes on after the instruction.
 #[inline]
 fn give(hart: &mut Hart, word: u32, value: u32)
     ensures { hart.new ≡ (record { regs = with_register hart.old.regs (rd_of word) value; pc = plus hart.old.pc 4 }) }

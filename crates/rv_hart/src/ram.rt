@@ -42,7 +42,7 @@ impl Ram {
         }
     }
 
-    /// The byte at an address. None exactly where it isn't in RAM.
+    /// The byte at an address. `None` if and only if it isn't in RAM.
     #[inline]
     pub fn read8(&self, a: u32) -> Option<u8>
         ensures { result ≡ (if may_access a 1 then Some (number_at self.now a 1) else None) }
@@ -55,7 +55,7 @@ impl Ram {
         }
     }
 
-    /// The half word at an address. None exactly where that isn't a multiple of 2, or the range isn't in RAM.
+    /// The half word at an address. `None` if and only if that isn't a multiple of 2, or the range isn't in RAM.
     #[inline]
     pub fn read16(&self, a: u32) -> Option<u16>
         ensures { result ≡ (if may_access a 2 then Some (number_at self.now a 2) else None) }
@@ -68,7 +68,7 @@ impl Ram {
         }
     }
 
-    /// The word at an address. None exactly where that isn't a multiple of 4, or the range isn't in RAM.
+    /// The word at an address. `None` if and only if that isn't a multiple of 4, or the range isn't in RAM.
     #[inline]
     pub fn read32(&self, a: u32) -> Option<u32>
         ensures { result ≡ (if may_access a 4 then Some (number_at self.now a 4) else None) }
@@ -81,7 +81,7 @@ impl Ram {
         }
     }
 
-    /// Writes a byte. False exactly where the address isn't in RAM; then nothing is changed.
+    /// Writes a byte. `false` if and only if the address isn't in RAM; then nothing is changed.
     #[inline]
     pub fn write8(&mut self, a: u32, v: u8) -> bool
         ensures wrote { result ≡ may_access a 1 }
@@ -95,7 +95,7 @@ impl Ram {
         false
     }
 
-    /// Writes a half word. False exactly where the address isn't a multiple of 2, or the range isn't in RAM; then nothing is changed.
+    /// Writes a half word. `false` if and only if the address isn't a multiple of 2, or the range isn't in RAM; then nothing is changed.
     #[inline]
     pub fn write16(&mut self, a: u32, v: u16) -> bool
         ensures wrote { result ≡ may_access a 2 }
@@ -109,7 +109,7 @@ impl Ram {
         false
     }
 
-    /// Writes a word. False exactly where the address isn't a multiple of 4, or the range isn't in RAM; then nothing is changed.
+    /// Writes a word. `false` if and only if the address isn't a multiple of 4, or the range isn't in RAM; then nothing is changed.
     #[inline]
     pub fn write32(&mut self, a: u32, v: u32) -> bool
         ensures wrote { result ≡ may_access a 4 }
@@ -123,7 +123,7 @@ impl Ram {
         false
     }
 
-    /// Copies bytes into RAM. Refused exactly where the range isn't in RAM; then nothing is changed.
+    /// Copies bytes into RAM. Refused if and only if the range isn't in RAM; then nothing is changed.
     pub fn copy_in(&mut self, a: u32, bytes: &[u8]) -> Result<(), OutOfRam>
         ensures answer { is_ok result ≡ in_ram a (length bytes.now) }
         ensures memory { self.new ≡ (if in_ram a (length bytes.now) then with_bytes self.old a (length bytes.now) bytes.now else self.old) }
@@ -137,7 +137,7 @@ impl Ram {
         Ok(())
     }
 
-    /// The bytes of a range. Refused exactly where it isn't in RAM.
+    /// The bytes of a range. Refused if and only if it isn't in RAM.
     pub fn copy_out(&self, a: u32, n: usize) -> Result<&[u8], OutOfRam>
         ensures answer { is_ok result ≡ in_ram a n }
         ensures bytes { IfOk result (λ bytes. bytes.now ≡ take n (drop a self.now)) }

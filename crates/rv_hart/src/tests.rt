@@ -114,11 +114,11 @@ fn loads_and_stores(rt: HostRuntime) -> Result<(), Fail> {
     for (word, a, b, expected, pc) in [
         (0x0002_9383, 0x1001, 0, Trap(Cause::Load), 0), // lh, odd
         (0x0002_a383, 0x000f_fffd, 0, Trap(Cause::Load), 0), // lw, not aligned
-        (0x0002_8383, 0x0010_0000, 0, Trap(Cause::Load), 0), // lb behind RAM
+        (0x0002_8383, 0x0010_0000, 0, Trap(Cause::Load), 0), // lb after RAM
         (0x0002_8383, 0xffff_ffff, 0, Trap(Cause::Load), 0), // lb, the highest
         (0x0062_9023, 0x000f_fffe, 0, Went, 4), // the last half
         (0x0062_a023, 0x000f_fffe, 0, Trap(Cause::Store), 0), // sw, not aligned
-        (0x0062_8023, 0x0010_0000, 0, Trap(Cause::Store), 0), // sb behind RAM
+        (0x0062_8023, 0x0010_0000, 0, Trap(Cause::Store), 0), // sb after RAM
     ] {
         assert_eq!(rt; outcome(&mut ram, word, a, b), (expected, pc), "{word}");
     }

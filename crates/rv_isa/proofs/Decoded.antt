@@ -1,6 +1,7 @@
 -- The instruction of a word, by its opcode.
 use Rattle.std.proofs.Common.{◌≡◌, ℕ, ◌<◌, ◌^◌, eqb, false, None, sym, ap, ◌∙◌, refl}
-use Rattle.rv_isa.specs.RowFields.{opcode_of, row_of-parts}
+use Rattle.rv_isa.specs.RowFields.{opcode_of}
+use Rattle.rv_isa.proofs.RowByFields.{row_of-parts}
 use Rattle.rv_isa.specs.Words.{decoded, decoded_by, instruction_of}
 
 pub decoded_by-instruction_of : (opcode word : ℕ) → word < 2 ^ 32 → opcode_of word ≡ opcode → decoded_by opcode word ≡ instruction_of word

@@ -1,4 +1,4 @@
--- A signed immediate is what its lowest bits stand for, where it lies in the range of those bits.
+-- A signed immediate is the value of its lowest bits, if it is in the range of those bits.
 use Rattle.std.proofs.Common.{◌≡◌, ℕ, ◌%◌, ◌<◌, true, ℤ, pos, negsuc, arith}
 use Rattle.std.specs.Int.{w32, cast_unsigned}
 use Rattle.std.proofs.lemmas.Bool.Decides.{nat_tests}

@@ -1,5 +1,6 @@
 pub mod Apart
 pub mod Decoded
-pub mod Placed
-pub mod Immediates
 pub mod Forms
+pub mod Immediates
+pub mod Placed
+pub mod RowByFields

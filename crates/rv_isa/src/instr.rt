@@ -14,17 +14,17 @@ pub enum Instr {
     Jal { rd: u8, imm: i32 },
     /// Jump and link to a register.
     Jalr { rd: u8, rs1: u8, imm: i32 },
-    /// Branch where equal.
+    /// Branch if equal.
     Beq { rs1: u8, rs2: u8, imm: i32 },
-    /// Branch where not equal.
+    /// Branch if not equal.
     Bne { rs1: u8, rs2: u8, imm: i32 },
-    /// Branch where less, signed.
+    /// Branch if less, signed.
     Blt { rs1: u8, rs2: u8, imm: i32 },
-    /// Branch where greater or equal, signed.
+    /// Branch if greater or equal, signed.
     Bge { rs1: u8, rs2: u8, imm: i32 },
-    /// Branch where less, unsigned.
+    /// Branch if less, unsigned.
     Bltu { rs1: u8, rs2: u8, imm: i32 },
-    /// Branch where greater or equal, unsigned.
+    /// Branch if greater or equal, unsigned.
     Bgeu { rs1: u8, rs2: u8, imm: i32 },
     /// Load a byte, signed.
     Lb { rd: u8, rs1: u8, imm: i32 },
@@ -44,9 +44,9 @@ pub enum Instr {
     Sw { rs1: u8, rs2: u8, imm: i32 },
     /// Add an immediate.
     Addi { rd: u8, rs1: u8, imm: i32 },
-    /// Set where less than an immediate, signed.
+    /// Set if less than an immediate, signed.
     Slti { rd: u8, rs1: u8, imm: i32 },
-    /// Set where less than an immediate, unsigned.
+    /// Set if less than an immediate, unsigned.
     Sltiu { rd: u8, rs1: u8, imm: i32 },
     /// Exclusive or with an immediate.
     Xori { rd: u8, rs1: u8, imm: i32 },
@@ -66,9 +66,9 @@ pub enum Instr {
     Sub { rd: u8, rs1: u8, rs2: u8 },
     /// Shift left.
     Sll { rd: u8, rs1: u8, rs2: u8 },
-    /// Set where less, signed.
+    /// Set if less, signed.
     Slt { rd: u8, rs1: u8, rs2: u8 },
-    /// Set where less, unsigned.
+    /// Set if less, unsigned.
     Sltu { rd: u8, rs1: u8, rs2: u8 },
     /// Exclusive or.
     Xor { rd: u8, rs1: u8, rs2: u8 },

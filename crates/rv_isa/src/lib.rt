@@ -1,22 +1,31 @@
 //! The instructions of RV32I: their table, and how a word is read and written.
 //!
-//! Below it stand the definitions of the table and of a word's fields. It keeps true that a word is read as the row whose bits it has,
-//! and that what is written for an instruction is read as that instruction.
+//! A word is read as the row whose bits it has, and what is written for an instruction is read as that instruction again. The table and
+//! the fields of a word are defined in `xinu_model`; `instruction_of` and `is_valid` in `specs/Words.antt`.
+//!
+//! | Call | Promise |
+//! |---|---|
+//! | [`decode`] | `instruction_of word`: the instruction of the row whose bits the word has; `None` if and only if it has the bits of no row |
+//! | [`encode`], of a valid instruction | `word`: `instruction_of` of the answer is this instruction; `fence`: `Fence` becomes 0x0FF0000F |
+//! | [`valid`] | `is_valid i`: each register number is below 32, and the immediate is in the range of the form |
+//! | [`rows_apart`] | no word has the bits of two rows: two rows differ in a bit that both fix |
+//! | [`table`] | the answer is [`ROWS`], and it is the definition's list; a contract can't name a constant that holds references, so this call carries the fact |
+//! | [`rd`], [`immediate_i`] and the other fields | the field of the word; an immediate is a word in two's complement |
 #![tactic(auto)]
 
+mod decoder;
+mod encoder;
 mod fields;
 mod instr;
-mod reading;
+mod ranges;
 mod rows;
-mod validity;
-mod writing;
 
+pub use decoder::decode;
+pub use encoder::encode;
 pub use fields::{immediate_b, immediate_i, immediate_j, immediate_s, immediate_u, rd, rs1, rs2};
 pub use instr::Instr;
-pub use reading::decode;
+pub use ranges::valid;
 pub use rows::{Form, ROWS, Row, rows_apart, table};
-pub use validity::valid;
-pub use writing::encode;
 
 #[cfg(test)]
 mod tests;

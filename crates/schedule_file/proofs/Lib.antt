@@ -1,9 +1,9 @@
 pub mod SearchLemmas
 pub mod LineLemmas
-pub mod WordLemmas
+pub mod TokenLemmas
 pub mod DigitLemmas
 pub mod PlaceLemmas
 pub mod RoundLemmas
-pub mod RunLemmas
+pub mod RepeatLemmas
 pub mod TypedLemmas
 pub mod ReadingLemmas

@@ -26,14 +26,14 @@ without_return-keeps line (b ∷ []) last is other = rw is (ap (λ (x : List ℕ
 without_return-keeps line (b ∷ c ∷ front) last is other =
     rw is (ap (λ (x : List ℕ). b ∷ x) (without_return-keeps (c ∷ front ++ last ∷ []) (c ∷ front) last refl other))
 
--- a line with others behind it
+-- a line with others after it
 ended-cons : (line : List ℕ) (lines : List (List ℕ)) → 0 < length lines → ended (line ∷ lines) ≡ without_return line ∷ ended lines
 ended-cons [] [] some = absurd (omega arith)
 ended-cons [] (next ∷ lines) some = refl
 ended-cons (b ∷ line) [] some = absurd (omega arith)
 ended-cons (b ∷ line) (next ∷ lines) some = refl
 
--- a line with none behind it
+-- a line with none after it
 ended-last : (line : List ℕ) → 0 < length line → ended (line ∷ []) ≡ line ∷ []
 ended-last [] some = absurd (omega arith)
 ended-last (b ∷ line) some = refl

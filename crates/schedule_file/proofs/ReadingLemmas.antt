@@ -7,11 +7,11 @@ use Rattle.xinu_base.specs.declared.events.Event.{Event}
 use Rattle.schedule_file.specs.Lines.{lines_of}
 use Rattle.schedule_file.specs.Numbers.{most_events}
 use Rattle.schedule_file.specs.ScheduleFiles.{is_bad, events_at, first_from, sums, Reading, Reads, Bad, Many, judged, reading, Names}
-use Rattle.schedule_file.specs.Runs.{IsFaultOf}
+use Rattle.schedule_file.specs.Repeats.{IsFaultOf}
 use Rattle.schedule_file.specs.declared.faults.ScheduleFault.{ScheduleFault}
 use Rattle.schedule_file.specs.declared.faults.ScheduleFault.TheVariants.{BadLine, TooMany, NoMemory}
 
--- what is read where these events stand in front of lines that are numbered from k on
+-- what is read if these events come before lines that are numbered from k on
 abbrev pub read_on : ℕ → List Event → List (List ℕ) → Reading
 read_on k events lines =
     judged (first_from k is_bad lines) (first_from k (nat_lt most_events) (sums (length events) lines)) (events ++ flat_map events_at lines)
@@ -21,7 +21,7 @@ pub read_on-start : (text : List ℕ) → read_on 1 [] (lines_of text) ≡ readi
 unfolding reading
 read_on-start text = refl
 
--- behind the last line
+-- after the last line
 pub read_on-end : (k : ℕ) (events : List Event) → read_on k events [] ≡ Reads events
 read_on-end k events = ap Reads (append-nil events)
 
@@ -72,7 +72,7 @@ faulty_bad text l is = (is, rw is refl)
 faulty_many : (text : List ℕ) (l : ℕ) → reading text ≡ Many l → Names (TooMany l) text
 faulty_many text l is = (is, rw is refl)
 
--- the first fault, where it comes behind lines that were read
+-- the first fault, if it comes after lines that were read
 pub names_fault : (fault : ScheduleFault) (k n : ℕ) (events : List Event) (line : List ℕ) (lines : List (List ℕ)) (text : List ℕ) → IsFaultOf fault k line n → n ≡ length events → read_on k events (line ∷ lines) ≡ reading text → Names fault text
 names_fault (BadLine l) k n events line lines text is sum reads =
     faulty_bad text l (sym reads ∙ read_on-bad k events line lines is.1 ∙ ap Bad (sym is.0))

@@ -1,4 +1,4 @@
--- The events of a round, and of rounds one behind the other.
+-- The events of a round, and of rounds one after another.
 use Rattle.std.proofs.Common.{◌≡◌, ℕ, zero, suc, ◌+◌, ◌-◌, ◌*◌, ◌%◌, ◌<◌, ◌≤◌, List, [], ◌∷◌, ◌++◌, length, replicate, Some, refl, ap, ◌∙◌, arith, length-append, ⊎_elim, ◌⊎◌}
 use Rattle.std.specs.Prelude.{slice_get}
 use Rattle.std.proofs.lemmas.List.{length-replicate}
@@ -27,7 +27,7 @@ unfolding rounds
 length-rounds zero = refl
 length-rounds (suc n) = omega (arith, length-append round (rounds n), length-round, length-rounds n)
 
--- a place among copies in front of others, and one behind them
+-- a place among copies before others, and one after them
 in_copies : {X : Type 0} (n k : ℕ) (x : X) (ys : List X) → k < n → slice_get (replicate n x ++ ys) k ≡ Some x
 in_copies n k x ys within =
     slice_get-left (replicate n x) ys k (omega (arith, length-replicate n x)) ∙ slice_get-replicate n k x within

@@ -1,11 +1,11 @@
--- The bytes that words write, one word after another.
+-- The bytes that tokens stand for, one token after another.
 use Rattle.std.proofs.Common.{◌≡◌, ℕ, ◌+◌, ◌≤◌, ◌==◌, nat_le, Bool, true, false, cond, List, [], ◌++◌, length, Option, Some, None, refl, ap, ◌∙◌, arith, append-nil, ◌&&◌}
 use Rattle.std.proofs.lemmas.Bool.{le-leb}
 use Rattle.std.proofs.lemmas.Bool.Decides.{nat_tests}
-use Rattle.schedule_file.specs.Lines.{words_of}
+use Rattle.schedule_file.specs.Lines.{tokens_of}
 use Rattle.schedule_file.specs.Numbers.{bytes_in, typed_in}
 
--- bytes behind others
+-- bytes after others
 abbrev pub behind : List ℕ → Option (List ℕ) → Option (List ℕ)
 behind front None = None
 behind front (Some bytes) = Some (front ++ bytes)
@@ -18,13 +18,13 @@ some_from n some = grind (arith, nat_tests)
 both_hold : {X : Type 0} (a b : Bool) (x y : X) → a ≡ true → b ≡ true → cond (a && b) x y ≡ x
 both_hold a b x y first second = rw (first, second) refl
 
--- words that were all read are typed
-pub typed_in-all : (words : List (List ℕ)) (bytes rest : List ℕ) → words_of rest ≡ [] → bytes_in words ≡ behind bytes (bytes_in (words_of rest)) → length words ≡ length bytes + length (words_of rest) → false ≡ (length bytes == 0) → length bytes ≤ 64 → typed_in words ≡ Some bytes
-typed_in-all words bytes rest none read count some few =
-    let all : length words ≡ length bytes = omega (arith, ap length none) in
-    let least : 1 ≤ length words = omega (arith, some_from (length bytes) some) in
-    let most : length words ≤ 64 = omega arith in
-    both_hold (nat_le 1 (length words)) (nat_le (length words) 64) (bytes_in words) None (le-leb 1 (length words) least) (le-leb (length words) 64 most)
+-- tokens that were all read are typed
+pub typed_in-all : (tokens : List (List ℕ)) (bytes rest : List ℕ) → tokens_of rest ≡ [] → bytes_in tokens ≡ behind bytes (bytes_in (tokens_of rest)) → length tokens ≡ length bytes + length (tokens_of rest) → false ≡ (length bytes == 0) → length bytes ≤ 64 → typed_in tokens ≡ Some bytes
+typed_in-all tokens bytes rest none read count some few =
+    let all : length tokens ≡ length bytes = omega (arith, ap length none) in
+    let least : 1 ≤ length tokens = omega (arith, some_from (length bytes) some) in
+    let most : length tokens ≤ 64 = omega arith in
+    both_hold (nat_le 1 (length tokens)) (nat_le (length tokens) 64) (bytes_in tokens) None (le-leb 1 (length tokens) least) (le-leb (length tokens) 64 most)
     ∙ read
     ∙ ap (λ (ws : List (List ℕ)). behind bytes (bytes_in ws)) none
     ∙ ap Some (append-nil bytes)

@@ -2,4 +2,4 @@ pub mod Lines
 pub mod Numbers
 pub mod LineKinds
 pub mod ScheduleFiles
-pub mod Runs
+pub mod Repeats

@@ -1,14 +1,14 @@
--- The lines of a text, and the words of a line.
+-- The lines of a text, and the tokens of a line.
 use Rattle.std.specs.Prelude.{ℕ, ◌==◌, nat_lt, Bool, if◌then◌else◌, ◌||◌, List, [], ◌∷◌, length}
 use Rattle.std.specs.List.{slice_split, filter}
 
--- a line without the carriage return in front of its line feed
+-- a line without the carriage return before its line feed
 abbrev pub without_return : List ℕ → List ℕ
 without_return [] = []
 without_return (b ∷ []) = if b == 13 then [] else b ∷ []
 without_return (b ∷ c ∷ line) = b ∷ without_return (c ∷ line)
 
--- the lines, where these stood between the line feeds: what is behind the last line feed is a line unless it is empty
+-- the lines, given what is between the line feeds: what comes after the last line feed is a line unless it is empty
 abbrev pub ended : List (List ℕ) → List (List ℕ)
 ended [] = []
 ended ([] ∷ []) = []
@@ -23,10 +23,10 @@ lines_of text = ended (slice_split (λ b. b == 10) text)
 abbrev pub is_blank : ℕ → Bool
 is_blank b = (b == 32) || (b == 9)
 
--- a word has a byte at least
-abbrev pub is_word : List ℕ → Bool
-is_word bytes = nat_lt 0 (length bytes)
+-- a token has a byte at least
+abbrev pub is_token : List ℕ → Bool
+is_token bytes = nat_lt 0 (length bytes)
 
--- the words of a line: what stands between its blanks
-abbrev pub words_of : List ℕ → List (List ℕ)
-words_of line = filter is_word (slice_split is_blank line)
+-- the tokens of a line: what is between its blanks
+abbrev pub tokens_of : List ℕ → List (List ℕ)
+tokens_of line = filter is_token (slice_split is_blank line)

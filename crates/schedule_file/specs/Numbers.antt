@@ -1,4 +1,4 @@
--- The numbers that words write: counts in decimal, and bytes in hexadecimal.
+-- The numbers that tokens stand for: counts in decimal, and bytes in hexadecimal.
 use Rattle.std.specs.Prelude.{ℕ, ◌+◌, ◌-◌, ◌*◌, nat_le, Bool, if◌then◌else◌, ◌&&◌, List, [], ◌∷◌, length, Option, Some, None}
 use Rattle.std.specs.List.{list_all}
 use Rattle.std.specs.Str.Parse.{digits_value}
@@ -18,11 +18,11 @@ count_in digits =
     then Some (digits_value 10 digits)
     else None
 
--- the count where it is the one word
+-- the count, if it is the one token
 abbrev pub one_count : List (List ℕ) → Option ℕ
 one_count [] = None
-one_count (word ∷ []) = count_in word
-one_count (word ∷ next ∷ words) = None
+one_count (token ∷ []) = count_in token
+one_count (token ∷ next ∷ tokens) = None
 
 -- the value of a hexadecimal digit, in lower or upper case
 abbrev pub hex_value : ℕ → Option ℕ
@@ -38,24 +38,24 @@ two_digits (Some high) (Some low) = Some (16 * high + low)
 two_digits (Some high) None = None
 two_digits None low = None
 
--- the byte that a word of two hexadecimal digits writes
+-- the byte that a token of two hexadecimal digits stands for
 abbrev pub byte_in : List ℕ → Option ℕ
 byte_in [] = None
 byte_in (high ∷ []) = None
 byte_in (high ∷ low ∷ []) = two_digits (hex_value high) (hex_value low)
-byte_in (high ∷ low ∷ b ∷ word) = None
+byte_in (high ∷ low ∷ b ∷ token) = None
 
--- a byte in front of others, where there are any
+-- a byte before others, if there are any
 abbrev pub in_front : Option ℕ → Option (List ℕ) → Option (List ℕ)
 in_front (Some b) (Some bytes) = Some (b ∷ bytes)
 in_front (Some b) None = None
 in_front None bytes = None
 
--- the bytes that words write, a byte a word
+-- the bytes that tokens stand for, a byte a token
 abbrev pub bytes_in : List (List ℕ) → Option (List ℕ)
 bytes_in [] = Some []
-bytes_in (word ∷ words) = in_front (byte_in word) (bytes_in words)
+bytes_in (token ∷ tokens) = in_front (byte_in token) (bytes_in tokens)
 
 -- what is typed on one line: 1 to 64 bytes
 abbrev pub typed_in : List (List ℕ) → Option (List ℕ)
-typed_in words = if nat_le 1 (length words) && nat_le (length words) 64 then bytes_in words else None
+typed_in tokens = if nat_le 1 (length tokens) && nat_le (length tokens) 64 then bytes_in tokens else None

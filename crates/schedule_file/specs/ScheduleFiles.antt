@@ -8,7 +8,7 @@ use Rattle.schedule_file.specs.Lines.{lines_of}
 use Rattle.schedule_file.specs.Numbers.{most_events}
 use Rattle.schedule_file.specs.LineKinds.{line_events}
 
--- a line is bad where it is of none of the forms
+-- a line is bad if it is of none of the forms
 abbrev pub is_bad : List ℕ → Bool
 is_bad line = is_none (line_events line)
 
@@ -16,12 +16,12 @@ is_bad line = is_none (line_events line)
 abbrev pub events_at : List ℕ → List Event
 events_at line = unwrap_or (line_events line) []
 
--- the number of the first that passes a test, where they are numbered from n on
+-- the number of the first that passes a test, if they are numbered from n on
 abbrev pub first_from : {A : Type 0} → ℕ → (A → Bool) → List A → Option ℕ
 first_from n p [] = None
 first_from n p (x ∷ xs) = if p x then Some n else first_from (n + 1) p xs
 
--- how many events there are up to the end of each line, where n stand in front of the lines
+-- how many events there are up to the end of each line, if n come before the lines
 abbrev pub sums : ℕ → List (List ℕ) → List ℕ
 sums n [] = []
 sums n (line ∷ lines) = (n + length (events_at line)) ∷ sums (n + length (events_at line)) lines
@@ -39,7 +39,7 @@ judged None (Some many) events = Many many
 judged (Some bad) None events = Bad bad
 judged (Some bad) (Some many) events = if nat_le bad many then Bad bad else Many many
 
--- what a text reads as: the events of its lines one behind the other, unless a line is bad or the sum of events passes the most
+-- what a text reads as: the events of its lines one after another, unless a line is bad or the sum of events passes the most
 unfoldable pub reading : List ℕ → Reading
 reading text =
     judged (first_from 1 is_bad (lines_of text)) (first_from 1 (nat_lt most_events) (sums 0 (lines_of text))) (flat_map events_at (lines_of text))
@@ -50,7 +50,7 @@ events_read (Reads events) = Some events
 events_read (Bad line) = None
 events_read (Many line) = None
 
--- the events of a schedule file, where it has no fault
+-- the events of a schedule file, if it has no fault
 abbrev pub events_in : List ℕ → Option (List Event)
 events_in text = events_read (reading text)
 

@@ -1,24 +1,24 @@
-//! The kinds of lines, by the word that a line begins with.
+//! The kinds of lines, by the token that a line begins with.
 
 ghost use Rattle.std.specs.Prelude.{◌≡◌};
 ghost use Rattle.schedule_file.specs.LineKinds.{kinds, kind_among};
 
 use xinu_base::Event;
 
-/// What the words behind a line's first word mean.
+/// What the tokens after a line's first token mean.
 #[derive(Clone, Copy)]
 pub(crate) enum Kind {
-    /// One word, which counts events of this kind.
+    /// One token, which counts events of this kind.
     Counted(Event),
-    /// One word, which counts rounds of the machine.
+    /// One token, which counts rounds of the machine.
     Rounds,
     /// Words of two hexadecimal digits, each a character that is typed.
     Typed,
-    /// No word: the event happens once.
+    /// No token: the event happens once.
     Once(Event),
 }
 
-/// The kind of the lines that begin with this word.
+/// The kind of the lines that begin with this token.
 pub(crate) fn kind_of(name: &[u8]) -> Option<Kind>
     ensures kind { result ≡ kind_among kinds name.now }
 {

@@ -1,20 +1,25 @@
 //! The reader of schedule files.
 //!
 //! A schedule says which events happen to the machine, in which order. It is a text of lines, each of which asks for some events;
-//! the events of the file are those of its lines, one behind the other. [`Schedule::read`] reads a text or names its first fault,
+//! the events of the file are those of its lines, one after another. [`Schedule::read`] reads a text or names its first fault,
 //! and [`Schedule::next_event`] gives the events one by one. `specs/LineKinds.antt` is the table of the lines, and
-//! `specs/ScheduleFiles.antt` says what a text reads as.
+//! `specs/ScheduleFiles.antt` says what a text reads as (`reading`).
 //!
-//! A schedule may have 1000000000 events, so what is kept of it are runs and no single events: a run for each line, and one for
-//! each typed character. Below stands `xinu_base` alone.
+//! | Call | Promise |
+//! |---|---|
+//! | [`Schedule::read`] | `read`, `events`: the text reads as these events, or its first fault is at this line; `most`: there are at most 1000000000. `NoMemory` is free |
+//! | [`Schedule::next_event`] | `next`: the first event that is still to come; `None` if and only if there is none. It takes no memory |
+//!
+//! A [`Schedule`] is seen as the list of the events still to come. A schedule may have 1000000000 events, so repeats are kept of it and no
+//! single events: one for each line, and one for each typed character. The reader depends on `xinu_base` and `arrayvec` alone.
 #![tactic(auto)]
 
-mod asked;
 mod faults;
 mod kinds;
+mod line_events;
 mod lines;
 mod numbers;
-mod runs;
+mod repeats;
 mod schedules;
 
 pub use faults::ScheduleFault;

@@ -1,10 +1,10 @@
-//! Lines cut off the front of a text, and words off the front of a line. Each is cut where it ends, so a text is gone over once.
+//! Lines cut off the front of a text, and tokens off the front of a line. A text is gone over once.
 
 ghost use Rattle.std.specs.Prelude.{ℕ, ◌≡◌, ◌<◌, ◌==◌, [], ◌∷◌, length, not, MatchOption, IfSome};
 ghost use Rattle.std.specs.List.{position};
 ghost use Rattle.schedule_file.specs.Lines as lines;
 
-/// The first line of a text that isn't empty, and the text behind its line feed.
+/// The first line of a text that isn't empty, and the text after its line feed.
 pub(crate) fn first_line(text: &[u8]) -> (&[u8], &[u8])
     requires something { 0 < length text.now }
     ensures lines { lines.lines_of text.now ≡ result.0.now ∷ lines.lines_of result.1.now }
@@ -16,20 +16,20 @@ pub(crate) fn first_line(text: &[u8]) -> (&[u8], &[u8])
     }
 }
 
-/// The first word of a line, and the line behind the blank that ends it. There is none in a line of blanks.
-pub(crate) fn first_word(line: &[u8]) -> Option<(&[u8], &[u8])>
-    ensures words { MatchOption result (lines.words_of line.now ≡ []) (λ cut. lines.words_of line.now ≡ cut.0.now ∷ lines.words_of cut.1.now) }
+/// The first token of a line, and the line after the blank that ends it. There is none in a line of blanks.
+pub(crate) fn first_token(line: &[u8]) -> Option<(&[u8], &[u8])>
+    ensures tokens { MatchOption result (lines.tokens_of line.now ≡ []) (λ cut. lines.tokens_of line.now ≡ cut.0.now ∷ lines.tokens_of cut.1.now) }
     ensures something { IfSome result (λ cut. 0 < length cut.0.now) }
     ensures shorter { IfSome result (λ cut. length cut.1.now < length line.now) }
 {
     let start = word_start(line)?;
-    Some(cut_word(&line[start..]))
+    Some(cut_token(&line[start..]))
 }
 
-// The word that a line begins with, and the line behind the blank that ends it.
-fn cut_word(line: &[u8]) -> (&[u8], &[u8])
+// The token that a line begins with, and the line after the blank that ends it.
+fn cut_token(line: &[u8]) -> (&[u8], &[u8])
     requires starts { position (λ b. not (lines.is_blank b)) line.now ≡ Some 0 }
-    ensures words { lines.words_of line.now ≡ result.0.now ∷ lines.words_of result.1.now }
+    ensures tokens { lines.tokens_of line.now ≡ result.0.now ∷ lines.tokens_of result.1.now }
     ensures something { 0 < length result.0.now }
     ensures shorter { length result.1.now < length line.now }
 {
@@ -39,21 +39,21 @@ fn cut_word(line: &[u8]) -> (&[u8], &[u8])
     }
 }
 
-// Where the first line feed stands.
+// The place of the first line feed.
 fn line_feed(text: &[u8]) -> Option<usize>
     ensures feed { result ≡ position (λ b. b == 10) text.now }
 {
     text.iter().position(|b| *b == b'\n')
 }
 
-// Where the first byte stands that isn't blank.
+// The place of the first byte that isn't blank.
 fn word_start(line: &[u8]) -> Option<usize>
     ensures start { result ≡ position (λ b. not (lines.is_blank b)) line.now }
 {
     line.iter().position(|b| !is_blank(*b))
 }
 
-// Where the first blank stands.
+// The place of the first blank.
 fn word_end(line: &[u8]) -> Option<usize>
     ensures end { result ≡ position (λ b. lines.is_blank b) line.now }
 {

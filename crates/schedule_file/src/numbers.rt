@@ -1,4 +1,4 @@
-//! The numbers that words write: counts in decimal, and bytes in hexadecimal.
+//! The numbers that tokens stand for: counts in decimal, and bytes in hexadecimal.
 
 ghost use Rattle.std.specs.Prelude.{ℕ, ◌≡◌, ◌≤◌, ◌<◌, true, length, IfSome};
 ghost use Rattle.std.specs.List.{list_all};
@@ -8,7 +8,7 @@ ghost use Rattle.schedule_file.specs.Numbers as numbers;
 /// The most events of a schedule.
 pub(crate) const MOST_EVENTS: u32 = 1_000_000_000;
 
-/// The number that one to ten decimal digits write, where it is from 1 to the most events. Zeros may lead it.
+/// The number that one to ten decimal digits stand for, if it is from 1 to the most events. Zeros may lead it.
 pub(crate) fn count_in(digits: &[u8]) -> Option<u32>
     ensures count { result ≡ numbers.count_in digits.now }
     ensures some { IfSome result (λ n. 0 < n) }
@@ -23,11 +23,11 @@ pub(crate) fn count_in(digits: &[u8]) -> Option<u32>
     Some(number as u32)
 }
 
-/// The byte that a word of two hexadecimal digits writes.
-pub(crate) fn byte_in(word: &[u8]) -> Option<u8>
-    ensures byte { result ≡ numbers.byte_in word.now }
+/// The byte that a token of two hexadecimal digits stands for.
+pub(crate) fn byte_in(token: &[u8]) -> Option<u8>
+    ensures byte { result ≡ numbers.byte_in token.now }
 {
-    match word {
+    match token {
         [high, low] => Some(16 * hex_value(*high)? + hex_value(*low)?),
         _ => None,
     }

@@ -4,13 +4,13 @@ ghost use Rattle.std.specs.Prelude.{ℕ, ◌≡◌, ◌+◌, ◌≤◌, ◌<◌,
 ghost use Rattle.std.specs.List.{All};
 ghost use Rattle.schedule_file.specs.ScheduleFiles.{reading, events_in, Names, is_bad, events_at};
 ghost use Rattle.schedule_file.specs.ScheduleFiles as files;
-ghost use Rattle.schedule_file.specs.Runs.{IsRun, IsFaultOf, runs_events};
+ghost use Rattle.schedule_file.specs.Repeats.{IsRepeat, IsFaultOf, repeats_events};
 
-use crate::asked::asked_of;
 use crate::faults::ScheduleFault;
+use crate::line_events::line_events_of;
 use crate::lines::first_line;
 use crate::numbers::MOST_EVENTS;
-use crate::runs::Run;
+use crate::repeats::Repeat;
 use std::alloc::Global;
 use std::marker::Model;
 use xinu_base::Event;
@@ -19,62 +19,62 @@ use xinu_base::Event;
 #[derive(Drop)]
 pub struct Schedule {
     /// What the lines asked for, in their order.
-    runs: Vec<Run>,
-    /// The run that the next event is of.
+    repeats: Vec<Repeat>,
+    /// The repeat to which the next event belongs.
     at: usize,
-    /// How many events of this run were taken.
+    /// How many events of this repeat were taken.
     taken: u32,
 }
 
 impl Model for Schedule {
     ghost use Rattle.std.specs.Prelude.{List};
     ghost use Rattle.xinu_base.specs.declared.events.Event.{Event};
-    ghost use Rattle.schedule_file.specs.Runs.{to_come, IsCursor};
+    ghost use Rattle.schedule_file.specs.Repeats.{to_come, IsCursor};
 
     ghost Value = { List Event };
 
-    ghost view = { λ s. to_come s.runs.items s.at s.taken };
+    ghost view = { λ s. to_come s.repeats.items s.at s.taken };
 
-    ghost invariant = { λ s. IsCursor s.runs.items s.at s.taken };
+    ghost invariant = { λ s. IsCursor s.repeats.items s.at s.taken };
 }
 
 impl Schedule {
-    /// Reads a text of at most 4294967294 bytes. The events are those of its lines, one behind the other, and at most 1000000000.
+    /// Reads a text of at most 4294967294 bytes. The events are those of its lines, one after another, and at most 1000000000.
     ///
-    /// Lines end with a line feed, which the last one may lack; a carriage return in front of a line feed is left out. A line of
-    /// blanks (spaces and tabs), and one whose first other byte is `#`, asks for no event. Each other line is words between blanks:
-    /// `step`, `tick`, `tx`, `disk0`, `disk1` or `round` with a count behind it, `type` with 1 to 64 words of two hexadecimal
+    /// Lines end with a line feed, which the last one may lack; a carriage return before a line feed is left out. A line of
+    /// blanks (spaces and tabs), and one whose first other byte is `#`, asks for no event. Each other line is tokens with blanks between them:
+    /// `step`, `tick`, `tx`, `disk0`, `disk1` or `round` with a count after it, `type` with 1 to 64 tokens of two hexadecimal
     /// digits, or `fail0`, `fail1` or `dump` alone. A count has 1 to 10 decimal digits and a value from 1 to 1000000000. A round is
     /// 1000 steps, 64 transmissions, 8 completions of the file system's disk, 8 of the raw disk and a tick, in this order.
     ///
     /// # Errors
     /// `BadLine` names the first line that is of none of these forms, `TooMany` the first with which there are more than 1000000000
-    /// events; where both come, the lower line is named. `NoMemory` says nothing of the text.
+    /// events; if both come, the lower line is named. `NoMemory` says nothing of the text.
     pub fn read(alloc: Global, text: &[u8]) -> Result<Schedule, ScheduleFault>
         requires { length text.now ≤ 4294967294 }
         ensures read { MatchResult result (λ events. reading text.now ≡ files.Reads events) (λ fault. Names fault text.now) }
         ensures events { IfOk result (λ events. events_in text.now ≡ Some events) }
         ensures most { IfOk result (λ events. length events ≤ 1000000000) }
     {
-        let runs = runs_in(alloc, text)?;
+        let repeats = repeats_in(alloc, text)?;
         Ok(Schedule {
-            runs,
+            repeats,
             at: 0,
             taken: 0,
         })
     }
 
-    /// Takes the next event off the schedule. There is none where it is at its end.
+    /// Takes the next event off the schedule; `None` if it is at its end.
     pub fn next_event(&mut self) -> Option<Event>
         ensures next { MatchOption result ((self.old ≡ []) × (self.new ≡ [])) (λ event. self.old ≡ event ∷ self.new) }
     {
-        if self.at == self.runs.len() {
+        if self.at == self.repeats.len() {
             return None;
         }
-        let run = self.runs[self.at];
-        let event = run.event_at(self.taken);
+        let repeat = self.repeats[self.at];
+        let event = repeat.event_at(self.taken);
         self.taken += 1;
-        if self.taken as u64 == run.length() {
+        if self.taken as u64 == repeat.length() {
             self.at += 1;
             self.taken = 0;
         }
@@ -82,50 +82,50 @@ impl Schedule {
     }
 }
 
-// The runs that the lines of a text ask for.
-fn runs_in(alloc: Global, text: &[u8]) -> Result<Vec<Run>, ScheduleFault>
+// The repeats that the lines of a text ask for.
+fn repeats_in(alloc: Global, text: &[u8]) -> Result<Vec<Repeat>, ScheduleFault>
     requires { length text.now ≤ 4294967294 }
-    ensures read { MatchResult result (λ runs. reading text.now ≡ files.Reads (runs_events runs.items)) (λ fault. Names fault text.now) }
-    ensures most { IfOk result (λ runs. length (runs_events runs.items) ≤ 1000000000) }
-    ensures runs { IfOk result (λ runs. All IsRun runs.items) }
+    ensures read { MatchResult result (λ repeats. reading text.now ≡ files.Reads (repeats_events repeats.items)) (λ fault. Names fault text.now) }
+    ensures most { IfOk result (λ repeats. length (repeats_events repeats.items) ≤ 1000000000) }
+    ensures repeats { IfOk result (λ repeats. All IsRepeat repeats.items) }
 {
-    let mut runs = Vec::new(alloc);
+    let mut repeats = Vec::new(alloc);
     let mut events = 0;
     let mut line = 0;
     let mut rest = text;
     while !rest.is_empty() {
         let (first, next) = first_line(rest);
         line += 1;
-        events = take_line(&mut runs, events, line, first)?;
+        events = take_line(&mut repeats, events, line, first)?;
         rest = next;
     }
-    Ok(runs)
+    Ok(repeats)
 }
 
-// Puts the events of a line behind those of the lines in front of it, and answers how many there are then.
+// Appends the events of a line to those of the lines before it, and answers how many there are then.
 fn take_line(
-    runs: &mut Vec<Run>,
+    repeats: &mut Vec<Repeat>,
     events: u32,
     number: u32,
     line: &[u8],
 ) -> Result<u32, ScheduleFault>
-    requires runs { All IsRun runs.old.items }
+    requires repeats { All IsRepeat repeats.old.items }
     requires most { events ≤ 1000000000 }
     ensures form { OnOk result (is_bad line.now ≡ false) }
     ensures sum { IfOk result (λ sum. sum ≡ events + length (events_at line.now)) }
     ensures most { IfOk result (λ sum. sum ≤ 1000000000) }
-    ensures events { OnOk result (runs_events runs.new.items ≡ runs_events runs.old.items ++ events_at line.now) }
-    ensures runs { OnOk result (All IsRun runs.new.items) }
+    ensures events { OnOk result (repeats_events repeats.new.items ≡ repeats_events repeats.old.items ++ events_at line.now) }
+    ensures repeats { OnOk result (All IsRepeat repeats.new.items) }
     ensures fault { IfErr result (λ fault. IsFaultOf fault number line.now events) }
 {
-    let Some(asked) = asked_of(line) else {
+    let Some(found) = line_events_of(line) else {
         return Err(ScheduleFault::BadLine(number));
     };
-    let sum = events as u64 + asked.count();
+    let sum = events as u64 + found.count();
     if sum > MOST_EVENTS as u64 {
         return Err(ScheduleFault::TooMany(number));
     }
-    match asked.push_to(runs) {
+    match found.push_to(repeats) {
         Ok(()) => Ok(sum as u32),
         Err(_) => Err(ScheduleFault::NoMemory),
     }

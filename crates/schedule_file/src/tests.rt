@@ -5,18 +5,18 @@ use std::alloc::Global;
 use std::process::Abort;
 use std::test::Fail;
 
-// The events of a text that reads, as runs of equal ones.
+// The events of a text that reads, as repeats of equal ones.
 fn events(rt: &impl Abort, alloc: Global, text: &[u8]) -> Result<Vec<(Event, u32)>, Fail> {
     assert!(rt; text.len() < 1000);
     let mut schedule = Schedule::read(alloc, text)?;
-    let mut runs: Vec<(Event, u32)> = Vec::new(alloc);
+    let mut repeats: Vec<(Event, u32)> = Vec::new(alloc);
     for _ in 0..5000u32 {
         let Some(event) = schedule.next_event() else {
-            return Ok(runs);
+            return Ok(repeats);
         };
-        match runs.last_mut() {
+        match repeats.last_mut() {
             Some(last) if last.0 == event => last.1 = last.1.saturating_add(1),
-            _ => runs.push((event, 1))?,
+            _ => repeats.push((event, 1))?,
         }
     }
     Err("no end".into())
@@ -28,10 +28,10 @@ fn fault(rt: &impl Abort, alloc: Global, text: &[u8]) -> Option<ScheduleFault> {
     Schedule::read(alloc, text).err()
 }
 
-// A line `type` with so many words.
-fn typed(alloc: Global, words: u32) -> Result<Vec<u8>, Fail> {
+// A line `type` with n tokens.
+fn typed(alloc: Global, tokens: u32) -> Result<Vec<u8>, Fail> {
     let mut line = b"type".as_slice().to_vec(alloc)?;
-    for _ in 0..words {
+    for _ in 0..tokens {
         line.extend_from_slice(b" 61")?;
     }
     Ok(line)

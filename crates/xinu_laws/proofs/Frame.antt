@@ -1,4 +1,4 @@
--- What most moves leave alone of some semaphores, by number and owner, and of the processes in some calls.
+-- What moves leave alone: some semaphores, by number and owner, and the processes in some calls.
 pub mod MoveTo
 pub mod Order
 pub mod Semaphores
@@ -11,7 +11,7 @@ use Rattle.xinu_model.specs.Sound.Tables.{count_in}
 use Rattle.xinu_model.specs.Sound.Pools.{is_waiting}
 use Rattle.xinu_model.specs.Tables.{no_process, no_semaphore, Tables, process_at, semaphore_at}
 
--- an element more of a list that is filtered twice
+-- one more element of a list that is filtered twice
 filter_step : {A : Type 0} (f g : A → Bool) (x : A) (l : List A) (b : Bool) → (f x ≡ true → b ≡ true) → filter f (filter g l) ≡ filter f l
     → filter f (cond b (x ∷ filter g l) (filter g l)) ≡ cond (f x) (x ∷ filter f l) (filter f l)
 filter_step f g x l true k e = ap (λ r. cond (f x) (x ∷ r) r) e
@@ -23,7 +23,8 @@ filter_within f g h [] = refl
 filter_within f g h (x ∷ l) = filter_step f g x l (g x) (h x) (filter_within f g h l)
 
 -- what two lists have in common under a filter they have under a narrower one
-pub filter_same : {A : Type 0} (f g : A → Bool) → ((x : A) → f x ≡ true → g x ≡ true) → (l m : List A) → filter g l ≡ filter g m → filter f l ≡ filter f m
+pub filter_same : {A : Type 0} (f g : A → Bool) → ((x : A) → f x ≡ true → g x ≡ true) → (l m : List A) → filter g l ≡ filter g m
+    → filter f l ≡ filter f m
 filter_same f g h l m e = sym (filter_within f g h l) ∙ (ap (filter f) e ∙ filter_within f g h m)
 
 module _ {mine : ℕ → Option Owner → Bool} {asks : Rest → Bool} where
@@ -38,11 +39,11 @@ module _ {mine : ℕ → Option Owner → Bool} {asks : Rest → Bool} where
     rests = λ p h. (ap (λ l. (get_or l p no_process).rest) processes, ap (λ l. is_waiting (get_or l p no_process).state) processes);
   }
 
-  -- If nothing moves.
+  -- Nothing moves.
   pub frame_refl : (t : Tables) → Frame mine asks t t
   frame_refl t = frame_same t t refl refl
 
-  -- who waits so after a move waited so before
+  -- who waits in such a call after a move waited in it before
   pub waited : (t u : Tables) → Frame mine asks t u → (p : ℕ) → waits_at asks u p ≡ true → waits_at asks t p ≡ true
   waited t u a p h =
       let e = a.rests p (and_parts (is_waiting (process_at u p).state) (asks (process_at u p).rest) h).1 in
@@ -60,8 +61,9 @@ module _ {mine : ℕ → Option Owner → Bool} {asks : Rest → Bool} where
     rests = λ p h. (let f = b.rests p h in let e = a.rests p (sym (ap asks f.0) ∙ h) in (f.0 ∙ e.0, f.1 ∙ e.1));
   }
 
--- What leaves some semaphores and calls alone leaves fewer alone.
-pub frame_weaker : {mine less : ℕ → Option Owner → Bool} {asks fewer : Rest → Bool} (t u : Tables) → ((sem : ℕ) (o : Option Owner) → less sem o ≡ true → mine sem o ≡ true)
+-- What leaves some semaphores and calls alone leaves any of them alone.
+pub frame_weaker : {mine less : ℕ → Option Owner → Bool} {asks fewer : Rest → Bool} (t u : Tables)
+    → ((sem : ℕ) (o : Option Owner) → less sem o ≡ true → mine sem o ≡ true)
     → ((left : Rest) → fewer left ≡ true → asks left ≡ true) → Frame mine asks t u → Frame less fewer t u
 frame_weaker {mine} {less} {asks} {fewer} t u f g a = record {
   many = a.many;

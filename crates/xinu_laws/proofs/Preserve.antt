@@ -7,6 +7,7 @@ pub mod Messages
 pub mod Processes
 pub mod Runs
 pub mod Semaphores
+pub mod Tokens
 use Rattle.std.proofs.Common.{◌≡◌, ◌≢◌, ℕ, zero, suc, ◌<◌, Bool, cond, length, refl, sym, subst, ◌∙◌, true, false, inl, Option, Some, None, ℤ}
 use Rattle.std.proofs.lemmas.Bool.{cond_both}
 use Rattle.xinu_base.specs.declared.processes.Rest.{Rest}
@@ -15,6 +16,7 @@ use Rattle.xinu_base.specs.declared.processes.State.{State}
 use Rattle.xinu_base.specs.declared.processes.State.TheVariants.{Free, Waiting}
 use Rattle.xinu_base.specs.declared.semaphores.Owner.{Owner}
 use Rattle.xinu_base.specs.declared.semaphores.Owner.TheVariants as owner
+use Rattle.xinu_laws.specs.Moves.{CanMove, FitsPlace, IsPlaceOf}
 use Rattle.xinu_model.specs.Machine.{Xinu, Answer, Returns, Waits, Gone, Panics, Silent, CallResult, refused, blocked, goes_on}
 use Rattle.xinu_laws.specs.Preserve.{FitsAnswer, IsPreserved, MayCall}
 use Rattle.xinu_model.specs.Semaphores.Counts.{with_tokens}
@@ -23,8 +25,7 @@ use Rattle.xinu_model.specs.Semaphores.Calls.{answers}
 use Rattle.xinu_model.specs.Sound.Tables.{HoldsFor, FitsMessage, FitsOwner, IsForPort, IsInside, IsSoundTables}
 use Rattle.xinu_model.specs.Tables.{Tables, process_at, message_at, semaphore_at, Place, Nowhere, InSemaphore}
 use Rattle.xinu_laws.proofs.Tables.Changes.{sound_token_taken}
-use Rattle.xinu_laws.proofs.Tables.MoveTo.{within_table, state_move_same, CanMove, inside_move, FitsPlace}
-use Rattle.xinu_laws.proofs.Tables.Places.{IsPlaceOf}
+use Rattle.xinu_laws.proofs.Tables.MoveTo.{within_table, state_move_same, inside_move}
 
 -- a call that any process but the null process may make
 abbrev pub Preserves : (Xinu → CallResult) → Type 0

@@ -1,4 +1,5 @@
--- What a call may touch, and that steps within a footprint are within it together.
+-- A call touches no more than its footprint: how this is put together from the steps of which a call is made.
+-- The folder has a lemma for each move and each call, the list of all calls, and what follows for the parts that a footprint doesn't name.
 pub mod Boot
 pub mod Clock
 pub mod Continued
@@ -56,23 +57,26 @@ module _ {f : Footprint} where
   parts_heap may p h e = record { extent = e; heap = named may; pools = λ _. refl; ranges = λ _. refl; ports = λ _. (refl, refl) }
 
   -- Other pools in the same ranges.
-  pub parts_pools : f.pools ≡ true → (p : Parts) (pools : List Pool) → map range_of pools ≡ map range_of p.pools → KeepsParts f p (record p { pools = pools })
+  pub parts_pools : f.pools ≡ true → (p : Parts) (pools : List Pool) → map range_of pools ≡ map range_of p.pools
+      → KeepsParts f p (record p { pools = pools })
   parts_pools may p pools e = record { extent = record { low = refl; many = refl }; heap = λ _. refl; pools = named may; ranges = λ _. e; ports = λ _. (refl, refl) }
 
   -- Other ports.
-  pub parts_ports : f.ports ≡ true → (p : Parts) (ports : List Port) (next : ℕ) → KeepsParts f p (record p { ports = ports; next_port = next })
+  pub parts_ports : f.ports ≡ true → (p : Parts) (ports : List Port) (next : ℕ)
+      → KeepsParts f p (record p { ports = ports; next_port = next })
   parts_ports may p ports next = record { extent = record { low = refl; many = refl }; heap = λ _. refl; pools = λ _. refl; ranges = λ _. refl; ports = named may }
 
 module _ {f : Reach} where
   -- Other tables with the same stacks.
-  pub touches_tables : (s : Xinu) (t : Tables) → Frame f.mine f.asks s.tables t → stacks_of t ≡ stacks_of s.tables → Touches f s (record s { tables = t })
+  pub touches_tables : (s : Xinu) (t : Tables) → Frame f.mine f.asks s.tables t → stacks_of t ≡ stacks_of s.tables
+      → Touches f s (record s { tables = t })
   touches_tables s t c e = record { frame = c; stacks = λ _. e; parts = parts_same s.parts }
 
   -- Nothing is touched.
   pub touches_refl : (s : Xinu) → Touches f s s
   touches_refl s = touches_tables s s.tables (frame_refl s.tables) refl
 
-  -- Other parts, and whatever memory and registers.
+  -- Other parts of the state, and any memory and registers.
   pub touches_parts : (s u : Xinu) → u.tables ≡ s.tables → KeepsParts f.parts s.parts u.parts → Touches f s u
   touches_parts s u e k = record { frame = frame_same s.tables u.tables (ap (λ (t : Tables). t.processes) e) (ap (λ (t : Tables). t.semaphores) e); stacks = λ _. ap stacks_of e; parts = k }
 
@@ -84,10 +88,12 @@ module _ {f : Reach} where
     parts = parts_trans a.parts b.parts;
   }
 
-  -- Either of two ways.
-  pub touches_either : (s : Xinu) (b : Bool) (x y : CallResult) → (b ≡ true → Touches f s x.call.state) → (b ≡ false → Touches f s y.call.state) → Touches f s (cond b x y).call.state
+  -- One of two ways is gone.
+  pub touches_either : (s : Xinu) (b : Bool) (x y : CallResult) → (b ≡ true → Touches f s x.call.state)
+      → (b ≡ false → Touches f s y.call.state) → Touches f s (cond b x y).call.state
   touches_either s b x y g h = cond_both b x y (λ (k : CallResult). Touches f s k.call.state) g h
 
   -- A call that is refused unless a test holds.
-  pub touches_if : (s : Xinu) (b : Bool) (x : CallResult) → (b ≡ true → Touches f s x.call.state) → Touches f s (cond b x (refused s)).call.state
+  pub touches_if : (s : Xinu) (b : Bool) (x : CallResult) → (b ≡ true → Touches f s x.call.state)
+      → Touches f s (cond b x (refused s)).call.state
   touches_if s b x g = touches_either s b x (refused s) g (λ _. touches_refl s)

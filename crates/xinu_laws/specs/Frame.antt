@@ -19,8 +19,12 @@ waits_at asks t p = waits_in asks (process_at t p)
 -- those who still wait in such a call do so in the same order. Whoever is in such a call in u was in it in t, waiting or not as now.
 pub record Frame (mine : ℕ → Option Owner → Bool) (asks : Rest → Bool) (t u : Tables) : Type 0 where
   pub many : length u.processes ≡ length t.processes
-  pub kept : (sem : ℕ) → mine sem (semaphore_at t sem).owner ≡ true → ((semaphore_at u sem).owner ≡ (semaphore_at t sem).owner) × ((semaphore_at u sem).tokens ≡ (semaphore_at t sem).tokens)
+  pub kept : (sem : ℕ) → mine sem (semaphore_at t sem).owner ≡ true
+      → ((semaphore_at u sem).owner ≡ (semaphore_at t sem).owner) × ((semaphore_at u sem).tokens ≡ (semaphore_at t sem).tokens)
   pub old : (sem : ℕ) → mine sem (semaphore_at u sem).owner ≡ true → (semaphore_at u sem).owner ≡ (semaphore_at t sem).owner
-  pub waiters : (sem p : ℕ) → mine sem (semaphore_at t sem).owner ≡ true → 0 < count_in p (semaphore_at u sem).waiters → 0 < count_in p (semaphore_at t sem).waiters
-  pub order : (sem : ℕ) → mine sem (semaphore_at t sem).owner ≡ true → filter (waits_at asks u) (semaphore_at u sem).waiters ≡ filter (waits_at asks u) (semaphore_at t sem).waiters
-  pub rests : (p : ℕ) → asks (process_at u p).rest ≡ true → ((process_at u p).rest ≡ (process_at t p).rest) × (is_waiting (process_at u p).state ≡ is_waiting (process_at t p).state)
+  pub waiters : (sem p : ℕ) → mine sem (semaphore_at t sem).owner ≡ true → 0 < count_in p (semaphore_at u sem).waiters
+      → 0 < count_in p (semaphore_at t sem).waiters
+  pub order : (sem : ℕ) → mine sem (semaphore_at t sem).owner ≡ true
+      → filter (waits_at asks u) (semaphore_at u sem).waiters ≡ filter (waits_at asks u) (semaphore_at t sem).waiters
+  pub rests : (p : ℕ) → asks (process_at u p).rest ≡ true
+      → ((process_at u p).rest ≡ (process_at t p).rest) × (is_waiting (process_at u p).state ≡ is_waiting (process_at t p).state)

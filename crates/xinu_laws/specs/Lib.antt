@@ -4,6 +4,7 @@ pub mod Frame
 pub mod FreeCells
 pub mod GivingAway
 pub mod Grants
+pub mod Moves
 pub mod Preserve
 pub mod Refusals
 pub mod Repeated

@@ -1,4 +1,4 @@
--- What holds inside an event: if a process may call, and what each call keeps before its event is closed.
+-- What holds inside an event: when a process calls, and before the event of its call is closed.
 use Rattle.std.specs.Prelude.{◌≡◌, ◌≢◌, false, length}
 use Rattle.xinu_model.specs.Clock.{quantum_falls, wakeup, a_tick_later}
 use Rattle.xinu_model.specs.Machine.{Xinu, Answer, Returns, Waits, Gone, Panics, Silent, CallResult}
@@ -20,19 +20,19 @@ pub record IsPreserved (result : CallResult) : Type 0 where
   pub tables : FitsAnswer result.answer result.call.state.tables
   pub harts : length result.call.state.harts ≡ 64
 
--- What each call keeps then: what holds of tables and registers, of the pools and of the ports.
+-- What each call keeps: what holds of tables and registers, of the pools and of the ports.
 pub record KeepsAll (result : CallResult) : Type 0 where
   pub preserved : IsPreserved result
   pub pools : ArePools result.call.state.tables result.call.state.parts.pools
   pub ports : ArePorts result.call.state.tables result.call.state.parts.ports
 
--- What holds of tables and registers if a process calls: it isn't the null process that runs.
+-- What holds of tables and registers when a process calls: it isn't the null process that runs.
 pub record MayCall (s : Xinu) : Type 0 where
   pub tables : IsSoundTables s.tables
   pub harts : length s.harts ≡ 64
   pub not_null : s.tables.current ≢ 0
 
--- What holds of the whole state there.
+-- What holds of the whole state then.
 pub record MayCallAny (s : Xinu) : Type 0 where
   pub may : MayCall s
   pub pools : ArePools s.tables s.parts.pools

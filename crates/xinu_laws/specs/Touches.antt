@@ -20,7 +20,7 @@ spares f sem (Some owner.Device) = true
 spares f sem (Some owner.Image) = false
 spares f sem None = false
 
--- and who is in which calls
+-- and the processes in which calls it leaves alone
 abbrev pub spares_rest : Footprint → Rest → Bool
 spares_rest f Nothing = false
 spares_rest f Receive = false
@@ -41,7 +41,7 @@ pub record Reach : Type 0 where
 abbrev pub reach : Footprint → Reach
 reach f = record { mine = spares f; asks = spares_rest f; parts = f }
 
--- a process's stack, and the stacks of all
+-- a process's stack: its highest word, and its bytes; and the stacks by process number
 abbrev pub stack_of : Process → ℕ × ℕ
 stack_of x = (x.stack, x.stack_size)
 
@@ -52,7 +52,7 @@ stacks_of t = map stack_of t.processes
 abbrev pub range_of : Pool → ℕ × ℕ
 range_of pool = (pool.base, pool_bytes pool.size pool.number)
 
--- A heap begins where another does, and has as many cells.
+-- Two heaps begin at one address and have the same number of cells.
 pub record HasSameExtent (h u : Heap) : Type 0 where
   pub low : u.low ≡ h.low
   pub many : length u.cells ≡ length h.cells
@@ -77,7 +77,7 @@ pub record KeepsPlaces (s u : Xinu) : Type 0 where
   pub ranges : map range_of u.parts.pools ≡ map range_of s.parts.pools
   pub stacks : stacks_of u.tables ≡ stacks_of s.tables
 
--- what the rest of a call touches that waited
+-- the footprint of what is left of a call that waited
 abbrev pub touched_by : Rest → Footprint
 touched_by (GetBuf i) = on_pools
 touched_by (PtSend ticket message) = on_ports

@@ -7,6 +7,7 @@ pub mod examples;
 pub mod footprints;
 pub mod memory;
 pub mod moments;
+pub mod moves;
 pub mod replies;
 pub mod sharing;
 pub mod signals;

@@ -1,165 +1,213 @@
--- What the fetched bytes say of the whole files.
-use Rattle.std.proofs.Common.{◌≡◌, ℕ, zero, suc, arith, List, [], ◌∷◌, take, Option, Some, None, refl, sym, ap, subst, ◌∙◌, append-nil, rules}
+-- The fetched bytes of the files, and the verdict on them.
+use Rattle.std.proofs.Common.{◌≡◌, ◌≢◌, ◌≤◌, ◌+◌, ℕ, List, [], ◌∷◌, length, take, Option, Some, None, refl, sym, ap, subst, ◌∙◌, arith, inl, inr}
 use Rattle.std.proofs.lemmas.List.{take_all}
-use Rattle.std.specs.Prelude.{MatchOption, ⊤, Result, Ok, Err, IfOk, IfErr, OnOk, option_map}
-use Rattle.host_port.specs.Outside.{Outside, Asked, grown}
-use Rattle.host_port.specs.Printing.{grown-grown}
+use Rattle.std.specs.Prelude.{MatchOption, ⊤, Err, option_map}
+use Rattle.command_line.specs.Reading.{Text}
+use Rattle.host_port.specs.Outside.{Outside}
+use Rattle.image_loader.specs.ImageFiles.{loads}
+use Rattle.schedule_file.specs.ScheduleFiles.{Bad, Many, Names, events_in}
+use Rattle.schedule_file.specs.declared.faults.ScheduleFault.{ScheduleFault}
+use Rattle.schedule_file.specs.declared.faults.ScheduleFault.TheVariants as schedule
 use Rattle.xinu_base.specs.declared.events.Event.{Event}
-use Rattle.xinu_base.specs.declared.lines.TranscriptLine.{TranscriptLine}
-use Rattle.xinu_model.specs.Boot.{Loaded, boot}
+use Rattle.xinu_model.specs.Boot.{Loaded, Start, Boots, Overlaps, NoRoom, boot}
 use Rattle.xinu_model.specs.Machine.{Xinu}
-use Rattle.xinu_model.specs.Text.{text}
-use Rattle.xinu_run.specs.Commanded.{WhereTold, AsksSome, FilesRun, GrowsOut, HasLines, HasRun, WritesImage, WritesRun}
-use Rattle.xinu_run.specs.Inputs.{CanStart, LoadsAs, ReadsAs, schedule_fault, image_fault, start_with}
-use Rattle.xinu_run.specs.Transcripts.{RanImage, RunsImage}
-use Rattle.xinu_run.proofs.Inputs.{schedule_fault-fetched, schedule_whole, image_whole}
+use Rattle.machine.specs.Starts.{Starts}
+use Rattle.machine.specs.declared.boot.BootFault.{BootFault}
+use Rattle.machine.specs.declared.boot.BootFault.TheVariants as boot_fault
+use Rattle.xinu_run.specs.Conversions.{boot_refusal, schedule_refusal}
+use Rattle.xinu_run.specs.InputFaults.{ReadsAs, schedule_fault, image_fault}
+use Rattle.xinu_run.specs.Stages.{HoldsFault, HoldsSchedule, IsScheduleCause}
+use Rattle.xinu_run.specs.Theorem.{Carries, IsUnsent, Obeys}
+use Rattle.xinu_run.specs.Verdict.{Input, ScheduleInput, ImageInput, Verdict, Refuses, unless_fault, file_bytes, run_verdict, start_verdict, boot_verdict, images_verdict}
+use Rattle.xinu_run.specs.declared.refusals.Refusal.{Refusal}
+use Rattle.xinu_run.specs.declared.refusals.Refusal.TheVariants as refusal
+use Rattle.xinu_run.proofs.Carried.{carries_as, carries_nothing, carries_within, unsent_refl}
+use Rattle.xinu_run.proofs.InputFaults.{cases_fetched, schedule_fault-fetched, schedule_fault-short, schedule_whole, image_fault-long}
 
--- A schedule file has the fault of the fetched bytes.
-pub told_fault : (file : Option (List ℕ)) (items : List ℕ) (fault : Option ℕ) → MatchOption file ⊤ (λ bytes. items ≡ take 4194305 bytes) → schedule_fault items ≡ fault → WhereTold file (λ s. schedule_fault s ≡ fault)
-told_fault None items fault told is = tt
-told_fault (Some bytes) items fault told is = schedule_fault-fetched bytes items told ∙ is
+-- ---- a file that was fetched
 
--- A schedule file reads as the fetched bytes do, where these have no fault.
-pub told_events : (file : Option (List ℕ)) (items : List ℕ) (events : List Event) → MatchOption file ⊤ (λ bytes. items ≡ take 4194305 bytes) → ReadsAs items events → WhereTold file (λ s. ReadsAs s events)
-told_events None items events told is = tt
-told_events (Some bytes) items events told is =
-    let P : List ℕ → Type 0 = λ s. ReadsAs s events in subst P (sym (schedule_whole bytes items told is.good)) is
+-- What was fetched is the first bytes of what the file holds, with what was fetched in place of bytes that can't be observed.
+pub held_fetched : (file : Option (List ℕ)) (items : List ℕ) (n : ℕ) → length items ≤ n
+    → MatchOption file ⊤ (λ bytes. items ≡ take n bytes) → items ≡ take n (file_bytes file items)
+held_fetched None items n few fetched = sym (take_all n items few)
+held_fetched (Some bytes) items n few fetched = fetched
 
--- A schedule that reads has no fault.
-pub reads_good : (file : Option (List ℕ)) (events : List Event) → WhereTold file (λ s. ReadsAs s events) → WhereTold file (λ s. schedule_fault s ≡ None)
-reads_good None events reads = tt
-reads_good (Some s) events reads = reads.good
+-- The schedule file holds the events that were read of it.
+pub holds_events : (file : Option (List ℕ)) (items : List ℕ) (events : List Event) → length items ≤ 4194305
+    → MatchOption file ⊤ (λ bytes. items ≡ take 4194305 bytes) → ReadsAs items events → HoldsSchedule file events
+holds_events file items events few fetched reads =
+    let P : List ℕ → Type 0 = λ s. ReadsAs s events in record {
+      unseen = items;
+      reads = subst P (sym (schedule_whole (file_bytes file items) items (held_fetched file items 4194305 few fetched) reads.good)) reads;
+    }
 
--- What holds of the fetched bytes of an image that has no fault holds of its file.
-pub told_image : (P : List ℕ → Type 0) (file : Option (List ℕ)) (items : List ℕ) → MatchOption file ⊤ (λ bytes. items ≡ take 1048577 bytes) → image_fault items ≡ None → P items → WhereTold file P
-told_image P None items told good p = tt
-told_image P (Some bytes) items told good p = subst P (sym (image_whole bytes items told good)) p
-
--- What holds at each Ok holds of this answer where it is one.
-pub on_ok : {T E : Type 0} (r : Result T E) (P : Type 0) → P → OnOk r P
-on_ok (Ok x) P p = p
-on_ok (Err e) P p = tt
-
--- What follows at each Ok follows of this answer.
-pub if_ok-map : {T E : Type 0} (r : Result T E) (P Q : T → Type 0) → ((x : T) → P x → Q x) → IfOk r P → IfOk r Q
-if_ok-map (Ok x) P Q f p = f x p
-if_ok-map (Err e) P Q f p = tt
-
--- What follows at each Ok, whatever its value is, holds of this answer where it is one.
-pub if_ok-on_ok : {T E : Type 0} (r : Result T E) (P : T → Type 0) (Q : Type 0) → ((x : T) → P x → Q) → IfOk r P → OnOk r Q
-if_ok-on_ok (Ok x) P Q f p = f x p
-if_ok-on_ok (Err e) P Q f p = tt
-
--- What follows at each Err follows of this answer.
-pub if_err-map : {T E : Type 0} (r : Result T E) (P Q : E → Type 0) → ((e : E) → P e → Q e) → IfErr r P → IfErr r Q
-if_err-map (Ok x) P Q f p = tt
-if_err-map (Err e) P Q f p = f e p
-
--- A call was asked, and then perhaps another.
-pub asks_both : (h i j k : Outside) (a b : Asked) (n : ℕ) → i.asked ≡ grown h.asked (a ∷ []) → j.asked ≡ grown i.asked (take n (b ∷ [])) → k.asked ≡ j.asked → AsksSome h k (a ∷ b ∷ [])
-asks_both h i j k a b n first second same = record {
-  n = suc n;
-  asked = same ∙ second ∙ ap (λ (o : Option (List Asked)). grown o (take n (b ∷ []))) first ∙ grown-grown h.asked (a ∷ []) (take n (b ∷ []));
+-- The schedule file has the fault of the fetched bytes.
+pub holds_fault : (file : Option (List ℕ)) (items : List ℕ) (l : ℕ) → length items ≤ 4194305
+    → MatchOption file ⊤ (λ bytes. items ≡ take 4194305 bytes) → schedule_fault items ≡ Some l → HoldsFault file l
+holds_fault file items l few fetched is = record {
+  unseen = items;
+  fault = schedule_fault-fetched (file_bytes file items) items (held_fetched file items 4194305 few fetched) ∙ is;
 }
 
--- Of one call some were asked, and so of it and another.
-asks_first_by : (n : ℕ) (h k : Outside) (a b : Asked) → k.asked ≡ grown h.asked (take n (a ∷ [])) → AsksSome h k (a ∷ b ∷ [])
-asks_first_by zero h k a b asked = record { n = 0; asked = asked }
-asks_first_by (suc n) h k a b asked =
-    let few : take n [] ≡ [] = take_all n [] (omega arith) in
-    record { n = 1; asked = asked ∙ ap (λ (more : List Asked). grown h.asked (a ∷ more)) few }
+-- why the fetched bytes aren't read
+schedule_cause_of : (f : ScheduleFault) (file : Option (List ℕ)) (items : List ℕ) (h k : Outside) → length items ≤ 4194305
+    → length items ≤ 4194304 → MatchOption file ⊤ (λ bytes. items ≡ take 4194305 bytes) → Names f items
+    → IsScheduleCause (schedule_refusal f) file h k
+schedule_cause_of (schedule.BadLine l) file items h k few short fetched names =
+    holds_fault file items l few fetched (schedule_fault-short items (Bad l) short names.0)
+schedule_cause_of (schedule.TooMany l) file items h k few short fetched names =
+    holds_fault file items l few fetched (schedule_fault-short items (Many l) short names.0)
+schedule_cause_of schedule.NoMemory file items h k few short fetched names = tt
 
-pub asks_first : (h k : Outside) (a b : Asked) → AsksSome h k (a ∷ []) → AsksSome h k (a ∷ b ∷ [])
-asks_first h k a b asks = asks_first_by asks.n h k a b asks.asked
+pub schedule_cause : (f : ScheduleFault) (r : Refusal) (file : Option (List ℕ)) (items : List ℕ) (h k : Outside) → r ≡ schedule_refusal f
+    → length items ≤ 4194305 → length items ≤ 4194304 → MatchOption file ⊤ (λ bytes. items ≡ take 4194305 bytes) → Names f items
+    → IsScheduleCause r file h k
+schedule_cause f r file items h k is few short fetched names =
+    let P : Refusal → Type 0 = λ x. IsScheduleCause x file h k in
+    subst P (sym is) (schedule_cause_of f file items h k few short fetched names)
 
--- Both calls were asked.
-pub asked_both : (h i j k : Outside) (a b : Asked) → i.asked ≡ grown h.asked (a ∷ []) → j.asked ≡ grown i.asked (b ∷ []) → k.asked ≡ j.asked → k.asked ≡ grown h.asked (a ∷ b ∷ [])
-asked_both h i j k a b first second same =
-    same ∙ second ∙ ap (λ (o : Option (List Asked)). grown o (b ∷ [])) first ∙ grown-grown h.asked (a ∷ []) (b ∷ [])
+-- ---- the verdict's stages
 
--- An image file loads what the fetched bytes do.
-loads_file : (bytes items : List ℕ) (image : Loaded) → items ≡ take 1048577 bytes → LoadsAs items image → LoadsAs bytes image
-loads_file bytes items image told is =
-    let P : List ℕ → Type 0 = λ i. LoadsAs i image in subst P (sym (image_whole bytes items told is.good)) is
+pub unless_fault_read : {T : Type 0} (fault : Option Refusal) (read : Option T) (next : T → Verdict) (x : T) → fault ≡ None → read ≡ Some x
+    → unless_fault fault read next ≡ next x
+unless_fault_read fault read next x none some = rw (none, some) refl
 
--- The machine starts with an image that was run.
-pub starts_run : (items : List ℕ) (events : List Event) (last : Xinu) (j k : Outside) → WritesImage items events last j k → CanStart items
-unfolding start_with
-starts_run items events last j k run = record {
-  good = run.loads.good;
-  start = run.runs.start;
-  boots = ap (λ (o : Option Loaded). option_map (λ image. boot (image ∷ [])) o) run.loads.loads ∙ ap Some run.runs.boots;
+pub unless_fault_refused : {T : Type 0} (fault : Option Refusal) (read : Option T) (next : T → Verdict) (cause : Refusal) → fault ≡ Some cause
+    → unless_fault fault read next ≡ Refuses cause
+unless_fault_refused fault read next cause is = rw is refl
+
+-- a schedule file that was read
+pub schedule_read : (bytes : List ℕ) (events : List Event) (images : List (List ℕ)) → ReadsAs bytes events
+    → run_verdict bytes images ≡ images_verdict 1 images (boot_verdict events)
+schedule_read bytes events images reads =
+    unless_fault_read (option_map refusal.Schedule (schedule_fault bytes)) (events_in bytes) (λ x. images_verdict 1 images (boot_verdict x)) events (ap (option_map refusal.Schedule) reads.good) reads.reads
+
+-- a schedule file with a fault
+pub schedule_refused : (bytes : List ℕ) (l : ℕ) (images : List (List ℕ)) → schedule_fault bytes ≡ Some l
+    → run_verdict bytes images ≡ Refuses (refusal.Schedule l)
+schedule_refused bytes l images is =
+    unless_fault_refused (option_map refusal.Schedule (schedule_fault bytes)) (events_in bytes) (λ x. images_verdict 1 images (boot_verdict x)) (refusal.Schedule l) (ap (option_map refusal.Schedule) is)
+
+-- an image file that was read, the last one
+pub image_read : (i : ℕ) (bytes : List ℕ) (image : Loaded) (next : List Loaded → Verdict) → image_fault bytes ≡ None
+    → loads bytes ≡ Some image → images_verdict i (bytes ∷ []) next ≡ next (image ∷ [])
+image_read i bytes image next good is =
+    unless_fault_read (option_map (refusal.Image i) (image_fault bytes)) (loads bytes) (λ x. next (x ∷ [])) image (ap (option_map (refusal.Image i)) good) is
+
+-- an image file with a fault
+pub image_refused : (i : ℕ) (bytes : List ℕ) (f : ℕ) (files : List (List ℕ)) (next : List Loaded → Verdict) → image_fault bytes ≡ Some f
+    → images_verdict i (bytes ∷ files) next ≡ Refuses (refusal.Image i f)
+image_refused i bytes f files next is =
+    unless_fault_refused (option_map (refusal.Image i) (image_fault bytes)) (loads bytes) (λ x. images_verdict (i + 1) files (λ images. next (x ∷ images))) (refusal.Image i f) (ap (option_map (refusal.Image i)) is)
+
+-- The fetched bytes of an image are judged as the whole file is.
+pub image_fetched : (i : ℕ) (bytes items : List ℕ) (files : List (List ℕ)) (next : List Loaded → Verdict) → items ≡ take 1048577 bytes
+    → images_verdict i (bytes ∷ files) next ≡ images_verdict i (items ∷ files) next
+image_fetched i bytes items files next fetched =
+    elim (cases_fetched bytes items 1048576 fetched) [
+      | inl same ↦ ap (λ (b : List ℕ). images_verdict i (b ∷ files) next) same
+      | inr long ↦ image_refused i bytes 0 files next (image_fault-long bytes long.0)
+          ∙ sym (image_refused i items 0 files next (image_fault-long items long.1))
+    ]
+
+-- the verdict on images with which the machine starts, or for which it has no room
+pub boot_verdict_at : (events : List Event) (images : List Loaded) (s : Start) → boot images ≡ s
+    → boot_verdict events images ≡ start_verdict events s
+unfolding boot_verdict
+boot_verdict_at events images s is = ap (start_verdict events) is
+
+-- ---- no stage finds that there is no command
+
+unless_fault_keeps : {T : Type 0} (fault : Option Refusal) (read : Option T) (next : T → Verdict) → fault ≢ Some refusal.Usage
+    → ((x : T) → next x ≢ Refuses refusal.Usage) → unless_fault fault read next ≢ Refuses refusal.Usage
+unless_fault_keeps (Some cause) read next other rest is =
+    let same : cause ≡ refusal.Usage = cc in other (ap Some same)
+unless_fault_keeps None None next other rest is = cc
+unless_fault_keeps None (Some x) next other rest is = rest x is
+
+schedule_keeps : (fault : Option ℕ) → option_map refusal.Schedule fault ≢ Some refusal.Usage
+schedule_keeps None is = cc
+schedule_keeps (Some l) is = cc
+
+image_keeps : (i : ℕ) (fault : Option ℕ) → option_map (refusal.Image i) fault ≢ Some refusal.Usage
+image_keeps i None is = cc
+image_keeps i (Some f) is = cc
+
+start_keeps : (events : List Event) (s : Start) → start_verdict events s ≢ Refuses refusal.Usage
+start_keeps events (Boots x) is = cc
+start_keeps events (Overlaps i) is = cc
+start_keeps events (NoRoom i) is = cc
+
+boot_keeps : (events : List Event) (images : List Loaded) → boot_verdict events images ≢ Refuses refusal.Usage
+unfolding boot_verdict
+boot_keeps events images is = start_keeps events (boot images) is
+
+images_keep : (i : ℕ) (files : List (List ℕ)) (next : List Loaded → Verdict)
+    → ((images : List Loaded) → next images ≢ Refuses refusal.Usage) → images_verdict i files next ≢ Refuses refusal.Usage
+images_keep i [] next rest is = rest [] is
+images_keep i (bytes ∷ files) next rest is =
+    unless_fault_keeps (option_map (refusal.Image i) (image_fault bytes)) (loads bytes) (λ x. images_verdict (i + 1) files (λ images. next (x ∷ images))) (image_keeps i (image_fault bytes))
+    (λ x. images_keep (i + 1) files (λ images. next (x ∷ images)) (λ images. rest (x ∷ images))) is
+
+pub run_keeps : (schedule : List ℕ) (images : List (List ℕ)) → run_verdict schedule images ≢ Refuses refusal.Usage
+run_keeps schedule images is =
+    unless_fault_keeps (option_map refusal.Schedule (schedule_fault schedule)) (events_in schedule) (λ events. images_verdict 1 images (boot_verdict events)) (schedule_keeps (schedule_fault schedule))
+    (λ events. images_keep 1 images (boot_verdict events) (λ x. boot_keeps events x)) is
+
+-- ---- a command over two files
+
+-- these bytes for the schedule and for each image
+abbrev pub unseen_by : List ℕ → List ℕ → Input → List ℕ
+unseen_by schedule image ScheduleInput = schedule
+unseen_by schedule image (ImageInput i) = image
+
+-- why a schedule isn't run, before its image was fetched
+pub schedule_refuses : (r : Refusal) (s i : Text) (h k : Outside) → IsScheduleCause r (h.file s) h k → IsUnsent h k
+    → Obeys (Some (record { schedule = s; images = i ∷ [] })) (Some r) None h k
+schedule_refuses refusal.Usage s i h k cause unsent = absurd cause
+schedule_refuses refusal.HostFault s i h k cause unsent = record {
+  unseen = unseen_by [] [];
+  carries = carries_nothing (run_verdict (file_bytes (h.file s) []) (file_bytes (h.file i) [] ∷ [])) refusal.HostFault h k (run_keeps (file_bytes (h.file s) []) (file_bytes (h.file i) [] ∷ []), cause) unsent;
 }
-
--- The run of the fetched bytes is that of the files.
-pub writes_run : (fs fi : Option (List ℕ)) (events : List Event) (items : List ℕ) (last : Xinu) (h j k : Outside) → WhereTold fs (λ s. ReadsAs s events) → MatchOption fi ⊤ (λ bytes. items ≡ take 1048577 bytes) → j.out ≡ h.out → WritesImage items events last j k → WhereTold fs (λ s. WhereTold fi (λ i. WritesRun s i last h k))
-writes_run None fi events items last h j k reads told same run = tt
-writes_run (Some s) None events items last h j k reads told same run = tt
-writes_run (Some s) (Some i) events items last h j k reads told same run = record {
-  events = events;
-  reads = reads;
-  writes = record {
-    loaded = run.loaded;
-    lines = run.lines;
-    loads = loads_file i items run.loaded told run.loads;
-    runs = run.runs;
-    writes = run.writes ∙ ap (λ (o : Option (List ℕ)). grown o (text run.lines)) same;
-  };
+schedule_refuses (refusal.Image n f) s i h k cause unsent = absurd cause
+schedule_refuses (refusal.Schedule l) s i h k cause unsent =
+    let holds : HoldsFault (h.file s) l = cause in record {
+      unseen = unseen_by holds.unseen [];
+      carries = carries_nothing (run_verdict (file_bytes (h.file s) holds.unseen) (file_bytes (h.file i) [] ∷ [])) (refusal.Schedule l) h k (schedule_refused (file_bytes (h.file s) holds.unseen) l (file_bytes (h.file i) [] ∷ []) holds.fault) unsent;
+    }
+schedule_refuses refusal.NoMemory s i h k cause unsent = record {
+  unseen = unseen_by [] [];
+  carries = carries_nothing (run_verdict (file_bytes (h.file s) []) (file_bytes (h.file i) [] ∷ [])) refusal.NoMemory h k tt unsent;
 }
+schedule_refuses (refusal.NoRoom n) s i h k cause unsent = absurd cause
 
--- Nothing behind what is told leaves it.
-grown-nothing : {T : Type 0} (o : Option (List T)) → o ≡ grown o []
-grown-nothing None = refl
-grown-nothing (Some before) = ap Some (sym (append-nil before))
+-- The verdict on the fetched image is the verdict on the command, if the schedule was read.
+pub files_obey : (s i : Text) (events : List Event) (items : List ℕ) (ended : Option Refusal) (left : Option Xinu) (h j k : Outside)
+    → HoldsSchedule (h.file s) events → length items ≤ 1048577 → MatchOption (h.file i) ⊤ (λ bytes. items ≡ take 1048577 bytes)
+    → IsUnsent h j → h.faults ≤ j.faults → Carries (images_verdict 1 (items ∷ []) (boot_verdict events)) ended left j k
+    → Obeys (Some (record { schedule = s; images = i ∷ [] })) ended left h k
+files_obey s i events items ended left h j k holds few fetched unsent earlier carries =
+    let bytes = file_bytes (h.file i) items in
+    let same : run_verdict (file_bytes (h.file s) holds.unseen) (bytes ∷ []) ≡ images_verdict 1 (items ∷ []) (boot_verdict events) =
+    schedule_read (file_bytes (h.file s) holds.unseen) events (bytes ∷ []) holds.reads
+    ∙ image_fetched 1 bytes items [] (boot_verdict events) (held_fetched (h.file i) items 1048577 few fetched) in
+    record {
+      unseen = unseen_by holds.unseen items;
+      carries = carries_as (run_verdict (file_bytes (h.file s) holds.unseen) (bytes ∷ [])) (images_verdict 1 (items ∷ []) (boot_verdict events)) ended left h k same
+          (carries_within (images_verdict 1 (items ∷ []) (boot_verdict events)) ended left h j k k unsent earlier (unsent_refl k) (omega arith) carries);
+    }
 
--- Out that stayed has grown by nothing.
-pub grows_nothing : (P : List TranscriptLine → Type 0) (h k : Outside) → k.out ≡ h.out → GrowsOut P h k
-grows_nothing P h k same = record {
-  n = 0;
-  lines = [];
-  run = λ some. absurd (search rules);
-  out = same ∙ grown-nothing h.out;
-}
+-- ---- a machine that doesn't start
 
--- The lines of the fetched bytes are those of the files.
-files_run : (fs fi : Option (List ℕ)) (events : List Event) (items : List ℕ) (lines : List TranscriptLine) → WhereTold fs (λ s. ReadsAs s events) → MatchOption fi ⊤ (λ bytes. items ≡ take 1048577 bytes) → HasLines items events lines → WhereTold fs (λ s. WhereTold fi (λ i. HasRun s i lines))
-files_run None fi events items lines reads told run = tt
-files_run (Some s) None events items lines reads told run = tt
-files_run (Some s) (Some i) events items lines reads told run = record {
-  events = events;
-  reads = reads;
-  run = record {
-    loaded = run.loaded;
-    last = run.last;
-    loads = loads_file i items run.loaded told run.loads;
-    runs = run.runs;
-  };
-}
+boot_refused_of : (f : BootFault) (events : List Event) (image : Loaded) (h : Outside) → Starts (image ∷ []) (Err f)
+    → Carries (boot_verdict events (image ∷ [])) (Some (boot_refusal f)) None h h
+boot_refused_of (boot_fault.NoRoom i) events image h starts =
+    carries_nothing (boot_verdict events (image ∷ [])) (refusal.NoRoom i) h h (boot_verdict_at events (image ∷ []) (NoRoom i) starts) (unsent_refl h)
+boot_refused_of boot_fault.NoMemory events image h starts =
+    carries_nothing (boot_verdict events (image ∷ [])) refusal.NoMemory h h tt (unsent_refl h)
 
--- Out has grown by lines of the files where it has by lines of the fetched bytes.
-pub grows_files : (schedule image : List ℕ) (events : List Event) (items : List ℕ) (h j k : Outside) → WhereTold (h.file schedule) (λ s. ReadsAs s events) → MatchOption (h.file image) ⊤ (λ bytes. items ≡ take 1048577 bytes) → j.out ≡ h.out → GrowsOut (HasLines items events) j k → GrowsOut (FilesRun schedule image h) h k
-grows_files schedule image events items h j k reads told same grows = record {
-  n = grows.n;
-  lines = grows.lines;
-  run = λ some. files_run (h.file schedule) (h.file image) events items grows.lines reads told (grows.run some);
-  out = grows.out ∙ ap (λ (o : Option (List ℕ)). grown o (take grows.n (text grows.lines))) same;
-}
-
--- An image that was loaded and run is that of its file.
-pub writes_image : (bytes : List ℕ) (image : Loaded) (events : List Event) (last : Xinu) (h k : Outside) → LoadsAs bytes image → RanImage image events last h k → WritesImage bytes events last h k
-writes_image bytes image events last h k loads ran = record {
-  loaded = image;
-  lines = ran.lines;
-  loads = loads;
-  runs = ran.runs;
-  writes = ap (λ (o : Outside). o.out) ran.writes;
-}
-
--- Out has grown by lines of an image that was loaded.
-pub grows_image : (bytes : List ℕ) (image : Loaded) (events : List Event) (h k : Outside) → LoadsAs bytes image → RunsImage image events h k → GrowsOut (HasLines bytes events) h k
-grows_image bytes image events h k loads runs = record {
-  n = runs.n;
-  lines = runs.lines;
-  run = λ some. record { loaded = image; last = (runs.runs some).0; loads = loads; runs = (runs.runs some).1 };
-  out = ap (λ (o : Outside). o.out) runs.writes;
-}
+pub boot_refused : (f : BootFault) (r : Refusal) (events : List Event) (image : Loaded) (h : Outside) → r ≡ boot_refusal f
+    → Starts (image ∷ []) (Err f) → Carries (boot_verdict events (image ∷ [])) (Some r) None h h
+boot_refused f r events image h is starts =
+    let P : Refusal → Type 0 = λ x. Carries (boot_verdict events (image ∷ [])) (Some x) None h h in
+    subst P (sym is) (boot_refused_of f events image h starts)

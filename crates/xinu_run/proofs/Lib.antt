@@ -1,6 +1,9 @@
-pub mod Reasons
-pub mod Inputs
+pub mod Answered
+pub mod Fetching
+pub mod Carried
 pub mod Files
+pub mod InputFaults
+pub mod OneImage
 pub mod Printed
 pub mod SoFar
-pub mod OneImage
+pub mod Statuses

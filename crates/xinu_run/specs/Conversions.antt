@@ -1,6 +1,6 @@
 -- What the faults of the layers below mean for a command.
-use Rattle.command_words.specs.declared.refusal.WordsFault.{WordsFault}
-use Rattle.command_words.specs.declared.refusal.WordsFault.TheVariants as words
+use Rattle.command_line.specs.declared.refusal.ArgsFault.{ArgsFault}
+use Rattle.command_line.specs.declared.refusal.ArgsFault.TheVariants as words
 use Rattle.host_port.specs.declared.host.HostFault.{HostFault}
 use Rattle.host_port.specs.declared.host.HostFault.TheVariants as host
 use Rattle.machine.specs.declared.boot.BootFault.{BootFault}
@@ -10,10 +10,10 @@ use Rattle.schedule_file.specs.declared.faults.ScheduleFault.TheVariants as sche
 use Rattle.xinu_run.specs.declared.refusals.Refusal.{Refusal}
 use Rattle.xinu_run.specs.declared.refusals.Refusal.TheVariants as refusal
 
--- the refusal that words without a command give
-abbrev pub words_refusal : WordsFault → Refusal
-words_refusal words.NoCommand = refusal.Usage
-words_refusal words.NoMemory = refusal.NoMemory
+-- the refusal that arguments without a command give
+abbrev pub args_refusal : ArgsFault → Refusal
+args_refusal words.NoCommand = refusal.Usage
+args_refusal words.NoMemory = refusal.NoMemory
 
 -- the refusal that a failure of the host gives
 abbrev pub host_refusal : HostFault → Refusal

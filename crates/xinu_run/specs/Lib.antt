@@ -1,6 +1,9 @@
-pub mod Causes
-pub mod Commanded
 pub mod Conversions
-pub mod Inputs
+pub mod Fetches
+pub mod InputFaults
 pub mod Refusals
+pub mod Stages
+pub mod Statuses
+pub mod Theorem
 pub mod Transcripts
+pub mod Verdict

@@ -25,9 +25,9 @@ text_of (refusal.Schedule l) = codes "xinu: schedule line " ++ decimal l ++ code
 text_of refusal.NoMemory = codes "xinu: no memory\n"
 text_of (refusal.NoRoom i) = codes "xinu: no room for image " ++ decimal i ++ codes "\n"
 
--- A prefix of the text was sent, and but for the count of faults nothing else was changed; it is the whole text where no fault
--- came and the status isn't that of want of memory.
-pub record Refuses (refusal : Refusal) (status : ℕ) (old new : Outside) : Type 0 where
+-- A prefix of the text was sent, and but for the count of faults nothing else changed; it is the whole text unless a fault came or
+-- memory ran out.
+pub record IsRefused (refusal : Refusal) (status : ℕ) (old new : Outside) : Type 0 where
   pub answer : status ≢ 7 → status ≡ status_of refusal
   pub part : (n : ℕ) × (new ≡ counted (appended old Fault (take n (text_of refusal))) new.faults)
   pub whole : status ≢ 7 → (Rose old.faults new.faults → ⊥) → new ≡ counted (appended old Fault (text_of refusal)) new.faults

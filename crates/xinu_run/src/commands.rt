@@ -1,17 +1,17 @@
 //! A command carried out: its files are fetched and read, and the image runs.
 
-ghost use Rattle.std.specs.Prelude.{◌≡◌, ◌≤◌, ◌∷◌, [], Some, None, map, IfOk, IfErr, OnOk, length};
+ghost use Rattle.std.specs.Prelude.{◌≡◌, ◌≤◌, ◌∷◌, [], Some, map, IfOk, IfErr, length};
 ghost use Rattle.std.specs.String.{string_bytes};
-ghost use Rattle.command_words.specs.Commands.{command_of};
-ghost use Rattle.host_port.specs.HostCalls.{Rose};
-ghost use Rattle.host_port.specs.Outside.{fetching, grown};
-ghost use Rattle.xinu_run.specs.Causes.{IsCause, IsImageCause, IsScheduleCause, LeavesOut, OfImage, OfSchedule};
-ghost use Rattle.xinu_run.specs.Commanded.{AsksSome, CommandRun, FilesRun, GrowsOut, HasLines, IsRun, KeepsButOut, KeepsSent, RunsFiles, WhereTold, WritesImage, names_of};
-ghost use Rattle.xinu_run.specs.Inputs.{CanStart, ReadsAs, schedule_fault};
+ghost use Rattle.command_line.specs.Commands.{command_of};
+ghost use Rattle.host_port.specs.Outside.{fetching};
+ghost use Rattle.xinu_run.specs.Fetches.{fetches_of};
+ghost use Rattle.xinu_run.specs.Stages.{HoldsSchedule, IsScheduleCause, KeepsFiles, left_of, refusal_of};
+ghost use Rattle.xinu_run.specs.Theorem.{Carries, HasFetched, IsUnsent, Obeys};
+ghost use Rattle.xinu_run.specs.Verdict.{boot_verdict, images_verdict};
 
+use crate::args::{RunFiles, files_of};
 use crate::refusals::Refusal;
 use crate::runs::run_image;
-use crate::words::{Run, run_of};
 use host_port::Host;
 use image_loader::read_image;
 use machine::Machine;
@@ -23,54 +23,42 @@ const LONGEST_SCHEDULE: usize = 4_194_304;
 /// The most bytes of an image file: 1 MiB.
 const LONGEST_IMAGE: usize = 1_048_576;
 
-/// Carries out the command that the words give, and answers the machine as the run left it.
+/// Carries out the command that the arguments give, and answers the machine as the run left it.
+///
+/// # Errors
+/// The refusal that the command deserves; `HostFault` if the host failed; `NoMemory`.
 pub(crate) fn carry_out<H: Host>(
     alloc: Global,
-    words: &[String],
+    args: &[String],
     host: &mut H,
 ) -> Result<Machine, Refusal>
-    ensures run { IfOk result (λ m. IsRun (command_of (map string_bytes words.now)) (H.view host.old) (H.view host.new) (Some m)) }
-    ensures refused { IfErr result (λ r. IsCause r (command_of (map string_bytes words.now)) (H.view host.old) (H.view host.new)) }
-    ensures reads { OnOk result (OfSchedule (command_of (map string_bytes words.now)) (H.view host.old) (λ s. schedule_fault s ≡ None)) }
-    ensures starts { OnOk result (OfImage (command_of (map string_bytes words.now)) (H.view host.old) CanStart) }
-    ensures out { IfErr result (λ r. LeavesOut r (H.view host.old) (H.view host.new)) }
-    ensures part { GrowsOut (CommandRun (command_of (map string_bytes words.now)) (H.view host.old)) (H.view host.old) (H.view host.new) }
-    ensures later { (H.view host.old).faults ≤ (H.view host.new).faults }
-    ensures keeps { KeepsButOut (record (H.view host.old) { asked = (H.view host.new).asked }) (H.view host.new) }
-    ensures asks { AsksSome (H.view host.old) (H.view host.new) (names_of (command_of (map string_bytes words.now))) }
-    ensures asked { OnOk result ((H.view host.new).asked ≡ grown (H.view host.old).asked (names_of (command_of (map string_bytes words.now)))) }
+    ensures obeys { Obeys (command_of (map string_bytes args.now)) (refusal_of result) (left_of result) (H.view host.old) (H.view host.new) }
+    ensures fetched { HasFetched (fetches_of (command_of (map string_bytes args.now))) (refusal_of result) (H.view host.old) (H.view host.new) }
+    ensures keeps { KeepsFiles (H.view host.old) (H.view host.new) }
 {
-    let run = run_of(alloc, words)?;
-    run_files(alloc, run, host)
+    let files = files_of(alloc, args)?;
+    run_files(alloc, files, host)
 }
 
 // Runs the image in a file through the events of the schedule in another.
-fn run_files<H: Host>(alloc: Global, run: Run<'_>, host: &mut H) -> Result<Machine, Refusal>
-    ensures ok { IfOk result (λ m. RunsFiles run.entry.schedule.now run.entry.image.now m.state (H.view host.old) (H.view host.new)) }
-    ensures refused { IfErr result (λ r. IsCause r (Some (record { schedule = run.entry.schedule.now; images = run.entry.image.now ∷ [] })) (H.view host.old) (H.view host.new)) }
-    ensures reads { OnOk result (WhereTold ((H.view host.old).file run.entry.schedule.now) (λ s. schedule_fault s ≡ None)) }
-    ensures starts { OnOk result (WhereTold ((H.view host.old).file run.entry.image.now) CanStart) }
-    ensures out { IfErr result (λ r. LeavesOut r (H.view host.old) (H.view host.new)) }
-    ensures part { GrowsOut (FilesRun run.entry.schedule.now run.entry.image.now (H.view host.old)) (H.view host.old) (H.view host.new) }
-    ensures later { (H.view host.old).faults ≤ (H.view host.new).faults }
-    ensures keeps { KeepsButOut (record (H.view host.old) { asked = (H.view host.new).asked }) (H.view host.new) }
-    ensures asks { AsksSome (H.view host.old) (H.view host.new) (fetching run.entry.schedule.now ∷ fetching run.entry.image.now ∷ []) }
-    ensures asked { OnOk result ((H.view host.new).asked ≡ grown (H.view host.old).asked (fetching run.entry.schedule.now ∷ fetching run.entry.image.now ∷ [])) }
+fn run_files<H: Host>(alloc: Global, files: RunFiles<'_>, host: &mut H) -> Result<Machine, Refusal>
+    ensures obeys { Obeys (Some (record { schedule = files.entry.schedule.now; images = files.entry.image.now ∷ [] })) (refusal_of result) (left_of result) (H.view host.old) (H.view host.new) }
+    ensures fetched { HasFetched (fetching files.entry.schedule.now ∷ fetching files.entry.image.now ∷ []) (refusal_of result) (H.view host.old) (H.view host.new) }
+    ensures keeps { KeepsFiles (H.view host.old) (H.view host.new) }
 {
-    let schedule = fetch_schedule(alloc, host, run.schedule)?;
-    let bytes = host.fetch(alloc, run.image, LONGEST_IMAGE)?;
+    let schedule = fetch_schedule(alloc, host, files.schedule)?;
+    let bytes = host.fetch(alloc, files.image, LONGEST_IMAGE)?;
     run_bytes(alloc, bytes.as_slice(), schedule, host)
 }
 
 // The schedule in a file.
 fn fetch_schedule<H: Host>(alloc: Global, host: &mut H, name: &str) -> Result<Schedule, Refusal>
-    ensures ok { IfOk result (λ events. WhereTold ((H.view host.old).file name.now) (λ s. ReadsAs s events)) }
+    ensures ok { IfOk result (λ events. HoldsSchedule ((H.view host.old).file name.now) events) }
     ensures few { IfOk result (λ events. length events ≤ 1000000000) }
     ensures refused { IfErr result (λ r. IsScheduleCause r ((H.view host.old).file name.now) (H.view host.old) (H.view host.new)) }
-    ensures later { (H.view host.old).faults ≤ (H.view host.new).faults }
-    ensures sent { KeepsSent (H.view host.old) (H.view host.new) }
-    ensures asks { AsksSome (H.view host.old) (H.view host.new) (fetching name.now ∷ []) }
-    ensures asked { OnOk result ((H.view host.new).asked ≡ grown (H.view host.old).asked (fetching name.now ∷ [])) }
+    ensures unsent { IsUnsent (H.view host.old) (H.view host.new) }
+    ensures fetched { HasFetched (fetching name.now ∷ []) (refusal_of result) (H.view host.old) (H.view host.new) }
+    ensures keeps { KeepsFiles (H.view host.old) (H.view host.new) }
 {
     let text = host.fetch(alloc, name, LONGEST_SCHEDULE)?;
     if text.len() > LONGEST_SCHEDULE {
@@ -90,12 +78,9 @@ fn run_bytes<H: Host>(
     host: &mut H,
 ) -> Result<Machine, Refusal>
     requires { length schedule ≤ 1000000000 }
-    ensures ok { IfOk result (λ m. WritesImage bytes.now schedule m.state (H.view host.old) (H.view host.new)) }
-    ensures refused { IfErr result (λ r. IsImageCause r bytes.now (H.view host.old) (H.view host.new)) }
-    ensures out { IfErr result (λ r. LeavesOut r (H.view host.old) (H.view host.new)) }
-    ensures part { GrowsOut (HasLines bytes.now schedule) (H.view host.old) (H.view host.new) }
-    ensures later { (H.view host.old).faults ≤ (H.view host.new).faults }
-    ensures keeps { KeepsButOut (H.view host.old) (H.view host.new) }
+    ensures carries { Carries (images_verdict 1 (bytes.now ∷ []) (boot_verdict schedule)) (refusal_of result) (left_of result) (H.view host.old) (H.view host.new) }
+    ensures fetched { (H.view host.new).calls ≡ (H.view host.old).calls }
+    ensures keeps { KeepsFiles (H.view host.old) (H.view host.new) }
 {
     if bytes.len() > LONGEST_IMAGE {
         return Err(Refusal::Image { image: 1, fault: 0 });

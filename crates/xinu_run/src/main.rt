@@ -1,18 +1,17 @@
 //! The program: it runs an image under a schedule and prints the transcript.
 //!
-//! `xinu_run run --schedule FILE IMAGE` is its one command. The work is done by the top call over the host of the program; the status that
-//! it answers is the program's.
+//! `xinu_run run --schedule FILE IMAGE` is its one command. The work is done by the top call, [`xinu`], over the host of the program; the
+//! status that it answers is the program's. `specs/Theorem.antt` says what the top call does.
 #![tactic(auto)]
 
+mod args;
 mod commands;
-#[cfg(test)]
-mod failures;
+pub mod laws;
 mod refusals;
-#[cfg(test)]
-mod rows;
 mod runs;
+#[cfg(test)]
+mod tests;
 mod top;
-mod words;
 
 use host_port::RealHost;
 use std::alloc::Global;
@@ -24,9 +23,9 @@ pub use top::xinu;
 
 fn main(rt: HostRuntime) -> ExitCode {
     let alloc = rt.alloc();
-    let words = match words_of(alloc, &rt) {
-        Ok(words) => words,
-        // Words that are no text are no command.
+    let args = match args_of(alloc, &rt) {
+        Ok(args) => args,
+        // Arguments that are no text are no command.
         Err(error) if error.kind() == ErrorKind::InvalidData => Vec::new(alloc),
         Err(_) => {
             let _ = rt.eprintln("xinu: no memory");
@@ -34,15 +33,15 @@ fn main(rt: HostRuntime) -> ExitCode {
         }
     };
     let mut last = None;
-    let status = xinu(alloc, words.as_slice(), &mut RealHost::new(rt), &mut last);
+    let status = xinu(alloc, args.as_slice(), &mut RealHost::new(rt), &mut last);
     ExitCode::from(status)
 }
 
-// The words behind the program's name.
-fn words_of<R: Env + AllocGlobal>(alloc: Global, rt: &R) -> io::Result<Vec<String>> {
-    let mut words = Vec::new(alloc);
-    for word in env::args(rt)?.skip(1) {
-        words.push(word)?;
+// The arguments after the program's name.
+fn args_of<R: Env + AllocGlobal>(alloc: Global, rt: &R) -> io::Result<Vec<String>> {
+    let mut args = Vec::new(alloc);
+    for arg in env::args(rt)?.skip(1) {
+        args.push(arg)?;
     }
-    Ok(words)
+    Ok(args)
 }

@@ -1,9 +1,9 @@
 //! The refusals of a command, each with its status and its text.
 
 ghost use Rattle.std.specs.Prelude.{◌≡◌};
-ghost use Rattle.xinu_run.specs.Refusals.{Refuses, status_of, text_of};
+ghost use Rattle.xinu_run.specs.Refusals.{IsRefused, status_of, text_of};
 
-use command_words::WordsFault;
+use command_line::ArgsFault;
 use host_port::{Channel, Host, HostFault, Line};
 use machine::BootFault;
 use schedule_file::ScheduleFault;
@@ -11,31 +11,31 @@ use schedule_file::ScheduleFault;
 /// Why a command wasn't carried out.
 #[derive(Clone, Copy, Debug, PartialEq, Eq)]
 pub(crate) enum Refusal {
-    /// The words give no command.
+    /// The arguments give no command.
     Usage,
     /// The host failed.
     HostFault,
-    /// The image file with this number, counted from 1, has this fault: 1 to 7 as the reader of images numbers them, or 0 where
-    /// the file is too long.
+    /// The image file with this number, counted from 1, has this fault: 1 to 7 as the reader of images numbers them, or 0 if the
+    /// file is too long.
     Image { image: u8, fault: u8 },
-    /// The schedule file isn't one at this line, counted from 1, or it is too long where this is 0.
+    /// The schedule file has a fault at this line, counted from 1; it is too long if this is 0.
     Schedule(u32),
     /// The heap has no room for the stack of the image with this number, counted from 1.
     NoRoom(u8),
-    /// There was no memory.
+    /// Memory ran out.
     NoMemory,
 }
 
-impl From<WordsFault> for Refusal {
+impl From<ArgsFault> for Refusal {
     ghost use Rattle.std.specs.Prelude.{◌≡◌};
-    ghost use Rattle.xinu_run.specs.Conversions.{words_refusal};
+    ghost use Rattle.xinu_run.specs.Conversions.{args_refusal};
 
-    ghost from_gives = { λ f r. r ≡ words_refusal f };
+    ghost from_gives = { λ f r. r ≡ args_refusal f };
 
-    fn from(fault: WordsFault) -> Refusal {
+    fn from(fault: ArgsFault) -> Refusal {
         match fault {
-            WordsFault::NoCommand => Refusal::Usage,
-            WordsFault::NoMemory => Refusal::NoMemory,
+            ArgsFault::NoCommand => Refusal::Usage,
+            ArgsFault::NoMemory => Refusal::NoMemory,
         }
     }
 }
@@ -82,9 +82,9 @@ impl From<BootFault> for Refusal {
     }
 }
 
-/// Sends the text of a refusal, and answers its status. A failure of the host is ignored here, but for want of memory.
+/// Sends the text of a refusal, and answers its exit status, or 7 if memory runs out meanwhile. A host that fails is ignored here.
 pub(crate) fn refuse<H: Host>(refusal: Refusal, host: &mut H) -> u8
-    ensures { Refuses refusal result (H.view host.old) (H.view host.new) }
+    ensures { IsRefused refusal result (H.view host.old) (H.view host.new) }
 {
     let line = line_of(refusal);
     match host.emit(Channel::Fault, line.bytes()) {

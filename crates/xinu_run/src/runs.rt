@@ -1,12 +1,14 @@
 //! The run of an image through the events of a schedule.
 
-ghost use Rattle.std.specs.Prelude.{◌≡◌, ◌+◌, ◌≤◌, ◌∷◌, [], false, length, IfOk, IfErr};
+ghost use Rattle.std.specs.Prelude.{◌≡◌, ◌+◌, ◌≤◌, ◌∷◌, [], false, length};
 ghost use Rattle.host_port.specs.Printing.{Prints};
 ghost use Rattle.image_loader.specs.Images.{loaded_of};
 ghost use Rattle.xinu_base.specs.declared.lines.TranscriptLine.TheVariants as line;
 ghost use Rattle.xinu_model.specs.Text.{shown};
-ghost use Rattle.xinu_run.specs.Causes.{LeavesOut};
-ghost use Rattle.xinu_run.specs.Transcripts.{IsRunCause, RunPrints, RanImage, RunsImage};
+ghost use Rattle.xinu_run.specs.Stages.{KeepsFiles, left_of, refusal_of};
+ghost use Rattle.xinu_run.specs.Theorem.{Carries};
+ghost use Rattle.xinu_run.specs.Transcripts.{RunPrints};
+ghost use Rattle.xinu_run.specs.Verdict.{boot_verdict};
 
 use crate::refusals::Refusal;
 use host_port::{Host, Line, Printer};
@@ -20,8 +22,8 @@ use xinu_base::End;
 /// Runs an image through the events of a schedule, and answers the machine as the run left it.
 ///
 /// # Errors
-/// `NoRoom(1)` exactly where the heap behind the image has no room for its stack, unless memory is wanted; `HostFault` where the
-/// host refused a line; `NoMemory`.
+/// `NoRoom(1)` if and only if the heap after the image has no room for its stack, unless memory runs out; `HostFault` if the host
+/// refused a line; `NoMemory`.
 pub(crate) fn run_image<H: Host>(
     alloc: Global,
     image: &Image<'_>,
@@ -29,11 +31,9 @@ pub(crate) fn run_image<H: Host>(
     host: &mut H,
 ) -> Result<Machine, Refusal>
     requires few { length schedule ≤ 1000000000 }
-    ensures runs { RunsImage (loaded_of image.now) schedule (H.view host.old) (H.view host.new) }
-    ensures ok { IfOk result (λ m. RanImage (loaded_of image.now) schedule m.state (H.view host.old) (H.view host.new)) }
-    ensures refused { IfErr result (λ r. IsRunCause r (loaded_of image.now) (H.view host.old) (H.view host.new)) }
-    ensures out { IfErr result (λ r. LeavesOut r (H.view host.old) (H.view host.new)) }
-    ensures later { (H.view host.old).faults ≤ (H.view host.new).faults }
+    ensures carries { Carries (boot_verdict schedule (loaded_of image.now ∷ [])) (refusal_of result) (left_of result) (H.view host.old) (H.view host.new) }
+    ensures fetched { (H.view host.new).calls ≡ (H.view host.old).calls }
+    ensures keeps { KeepsFiles (H.view host.old) (H.view host.new) }
 {
     let mut machine = match Machine::boot(alloc, slice::from_ref(image)) {
         Ok(machine) => machine,
@@ -51,7 +51,7 @@ pub(crate) fn run_image<H: Host>(
     }
 }
 
-// Takes the events up to the end of the run.
+// Takes the events up to the end of the run, or until the host refused a line.
 fn take_events<H: Host>(
     machine: &mut Machine,
     schedule: &mut Schedule,
@@ -62,8 +62,11 @@ fn take_events<H: Host>(
     requires few { machine.old.events + length schedule.old ≤ 1000000000 }
     ensures { RunPrints machine.old.state schedule.old machine.new.state result out.old out.new (H.view host.old) (H.view host.new) }
 {
-    while let Some(e) = schedule.next_event() {
-        match machine.event(e, out, host) {
+    while out.failed().is_none() {
+        let Some(event) = schedule.next_event() else {
+            return End::Schedule;
+        };
+        match machine.event(event, out, host) {
             Go::Goes => {}
             Go::Done => return End::Done,
             Go::Panic => return End::Panic,

@@ -22,7 +22,8 @@ read_written l i x d = ⊎_elim
     (cases_lt i (length l))
 
 -- what is the same of the new value and the old one is the same at each place
-pub same_written : {A B : Type 0} (f : A → B) (l : List A) (i j : ℕ) (x d : A) → f x ≡ f (get_or l i d) → f (get_or (set l i x) j d) ≡ f (get_or l j d)
+pub same_written : {A B : Type 0} (f : A → B) (l : List A) (i j : ℕ) (x d : A) → f x ≡ f (get_or l i d)
+    → f (get_or (set l i x) j d) ≡ f (get_or l j d)
 same_written f l i j x d e = by_number j i (λ k. f (get_or (set l i x) k d) ≡ f (get_or l k d))
     (⊎_elim (λ (g : get_or (set l i x) i d ≡ x). ap f g ∙ e) (λ (g : get_or (set l i x) i d ≡ get_or l i d). ap f g) (read_written l i x d))
     (λ n. ap f (get_or-set_other l i j x d n))
@@ -38,7 +39,8 @@ more_on_one true m n h = omega arith
 more_on_one false m n h = h
 
 -- one element more in a list that is filtered
-filter_step : {A : Type 0} (test : A → Bool) (x : A) (xs : List A) (kept : Bool) (n : ℕ) → times test xs ≤ n → times test (cond kept (x ∷ xs) xs) ≤ cond (test x) (suc n) n
+filter_step : {A : Type 0} (test : A → Bool) (x : A) (xs : List A) (kept : Bool) (n : ℕ) → times test xs ≤ n
+    → times test (cond kept (x ∷ xs) xs) ≤ cond (test x) (suc n) n
 filter_step test x xs true n h = more_on_both (test x) (times test xs) n h
 filter_step test x xs false n h = more_on_one (test x) (times test xs) n h
 
@@ -47,12 +49,12 @@ pub times-filter-le : {A : Type 0} (test kept : A → Bool) (l : List A) → tim
 times-filter-le test kept [] = omega arith
 times-filter-le test kept (x ∷ xs) = filter_step test x (filter kept xs) (kept x) (times test xs) (times-filter-le test kept xs)
 
--- a place that is no semaphore of these owners
+-- a place that is no semaphore that is left alone
 abbrev pub IsFramePlace : (ℕ → Option Owner → Bool) → Tables → Place → Type 0
 IsFramePlace mine t (InSemaphore s) = mine s (semaphore_at t s).owner ≡ false
 IsFramePlace mine t _ = Unit {0}
 
--- Who becomes x is in such a call only where it was in it before, waiting or not as now.
+-- Who becomes x is in such a call only if it was in it before, waiting or not as now.
 abbrev pub IsFrameChange : (Rest → Bool) → Process → Process → Type 0
 IsFrameChange asks old x = asks x.rest ≡ true → (x.rest ≡ old.rest) × (is_waiting x.state ≡ is_waiting old.state)
 
@@ -64,8 +66,9 @@ kept_in f Nowhere q sem l e = refl
 kept_in f InReady q sem l e = refl
 kept_in f (InSleepers ready) q sem l e = refl
 
--- a semaphore of these owners gets no waiter
-waiters_in : (mine : ℕ → Option Owner → Bool) (t : Tables) (place : Place) (q sem : ℕ) (l : List Semaphore) → IsFramePlace mine t place → mine sem (semaphore_at t sem).owner ≡ true
+-- a semaphore that is left alone gets no waiter
+waiters_in : (mine : ℕ → Option Owner → Bool) (t : Tables) (place : Place) (q sem : ℕ) (l : List Semaphore) → IsFramePlace mine t place
+    → mine sem (semaphore_at t sem).owner ≡ true
     → get_or (semaphores_in place q l) sem no_semaphore ≡ get_or l sem no_semaphore
 waiters_in mine t (InSemaphore r) q sem l c m =
     get_or-set_other l r sem (with_waiter q (get_or l r no_semaphore)) no_semaphore (λ e. both_ways (mine r (semaphore_at t r).owner) c (subst (λ k. mine k (semaphore_at t k).owner ≡ true) e m))
@@ -73,28 +76,32 @@ waiters_in mine t Nowhere q sem l c m = refl
 waiters_in mine t InReady q sem l c m = refl
 waiters_in mine t (InSleepers ready) q sem l c m = refl
 
--- each process is in such a call only where it was, once one of them changed so
-pub rests_written : (asks : Rest → Bool) (t : Tables) (q : ℕ) (x : Process) → IsFrameChange asks (process_at t q) x → (p : ℕ) → IsFrameChange asks (process_at t p) (get_or (set t.processes q x) p no_process)
+-- each process is in such a call only if it was, once one of them changed so
+pub rests_written : (asks : Rest → Bool) (t : Tables) (q : ℕ) (x : Process) → IsFrameChange asks (process_at t q) x → (p : ℕ)
+    → IsFrameChange asks (process_at t p) (get_or (set t.processes q x) p no_process)
 rests_written asks t q x c p = by_number p q (λ r. IsFrameChange asks (process_at t r) (get_or (set t.processes q x) r no_process))
     (⊎_elim (λ (e : get_or (set t.processes q x) q no_process ≡ x). subst (IsFrameChange asks (process_at t q)) (sym e) c)
     (λ (e : get_or (set t.processes q x) q no_process ≡ process_at t q). subst (IsFrameChange asks (process_at t q)) (sym e) (λ _. (refl, refl)))
     (read_written t.processes q x no_process))
     (λ n. subst (IsFrameChange asks (process_at t p)) (sym (get_or-set_other t.processes q p x no_process n)) (λ _. (refl, refl)))
 
--- who waits if another left waited before
+-- who waits once another has left waited before
 counted_without : (r q : ℕ) (l : List ℕ) → 0 < count_in r (numbers_without q l) → 0 < count_in r l
 counted_without r q l h = let e = times-filter-le (λ y. y == r) (λ y. not (y == q)) l in omega arith
 
 -- a process that moves leaves each semaphore its owner
-pub owner_move : (t : Tables) (q : ℕ) (x : Process) (m : Option ℕ) (place : Place) (sem : ℕ) → (semaphore_at (move_to q x m place t) sem).owner ≡ (semaphore_at t sem).owner
+pub owner_move : (t : Tables) (q : ℕ) (x : Process) (m : Option ℕ) (place : Place) (sem : ℕ)
+    → (semaphore_at (move_to q x m place t) sem).owner ≡ (semaphore_at t sem).owner
 owner_move t q x m place sem = kept_in (λ y. y.owner) place q sem (waits_without q t.semaphores) (λ y. refl) ∙ ap (λ (y : Semaphore). y.owner) (semaphore_at_without q sem t.semaphores)
 
 -- and its tokens
-pub tokens_move : (t : Tables) (q : ℕ) (x : Process) (m : Option ℕ) (place : Place) (sem : ℕ) → (semaphore_at (move_to q x m place t) sem).tokens ≡ (semaphore_at t sem).tokens
+pub tokens_move : (t : Tables) (q : ℕ) (x : Process) (m : Option ℕ) (place : Place) (sem : ℕ)
+    → (semaphore_at (move_to q x m place t) sem).tokens ≡ (semaphore_at t sem).tokens
 tokens_move t q x m place sem = kept_in (λ y. y.tokens) place q sem (waits_without q t.semaphores) (λ y. refl) ∙ ap (λ (y : Semaphore). y.tokens) (semaphore_at_without q sem t.semaphores)
 
 -- who moved so doesn't wait in such a call
-idle_written : (asks : Rest → Bool) (l : List Process) (q : ℕ) (x : Process) → waits_in asks x ≡ false → waits_in asks (get_or (set l q x) q no_process) ≡ false
+idle_written : (asks : Rest → Bool) (l : List Process) (q : ℕ) (x : Process) → waits_in asks x ≡ false
+    → waits_in asks (get_or (set l q x) q no_process) ≡ false
 idle_written asks l q x e = ⊎_elim
     (λ (h : q < length l). ap (waits_in asks) (get_or-set_same l q x no_process h) ∙ e)
     (λ (h : length l ≤ q). ap (waits_in asks) (get_or_past (set l q x) q no_process (let f = length-set l q x in omega arith)))
@@ -109,8 +116,9 @@ stays_in test q e r h = by_test (r == q) refl
     by_test false f = refl
 
 module _ {mine : ℕ → Option Owner → Bool} {asks : Rest → Bool} where
-  -- A process that moves so is calm.
-  pub frame_move : (t : Tables) (q : ℕ) (x : Process) (m : Option ℕ) (place : Place) → IsFramePlace mine t place → IsFrameChange asks (process_at t q) x → waits_in asks x ≡ false
+  -- A process moves: it is then in no such call that it wasn't in before, and waits in none.
+  pub frame_move : (t : Tables) (q : ℕ) (x : Process) (m : Option ℕ) (place : Place) → IsFramePlace mine t place
+      → IsFrameChange asks (process_at t q) x → waits_in asks x ≡ false
       → Frame mine asks t (move_to q x m place t)
   frame_move t q x m place p c idle =
       let l = waits_without q t.semaphores in
@@ -124,6 +132,7 @@ module _ {mine : ℕ → Option Owner → Bool} {asks : Rest → Bool} where
         rests = rests_written asks t q x c;
       }
 
-  -- A process that changes so if it stands is calm.
-  pub frame_process : (t : Tables) (q : ℕ) (x : Process) → IsFrameChange asks (process_at t q) x → Frame mine asks t (record t { processes = set t.processes q x })
+  -- A process changes without moving.
+  pub frame_process : (t : Tables) (q : ℕ) (x : Process) → IsFrameChange asks (process_at t q) x
+      → Frame mine asks t (record t { processes = set t.processes q x })
   frame_process t q x c = record { many = length-set t.processes q x; kept = λ s k. (refl, refl); old = λ s k. refl; waiters = λ s r k h. h; order = λ s k. refl; rests = rests_written asks t q x c }

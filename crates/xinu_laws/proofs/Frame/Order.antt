@@ -1,4 +1,4 @@
--- Who still waits does so in the order that was.
+-- Those who still wait do so in the order of before.
 use Rattle.std.proofs.Common.{◌≡◌, ℕ, ◌<◌, Bool, true, cond, ◌&&◌, List, [], ◌∷◌, filter, Option, refl, sym, ap, ◌∙◌, arith}
 use Rattle.xinu_base.specs.declared.processes.Rest.{Rest}
 use Rattle.xinu_base.specs.declared.processes.State.{State}
@@ -27,8 +27,10 @@ waiting_of Suspended h = absurd (omega arith)
 waiting_of Timed h = absurd (omega arith)
 
 -- Who waits on a semaphore that is left alone: those of before who still wait, in the same order.
-pub waiters_kept : {mine : ℕ → Option Owner → Bool} {asks : Rest → Bool} (t u : Tables) (sem : ℕ) → Frame mine asks t u → IsInside u → mine sem (semaphore_at t sem).owner ≡ true
-    → ((left : Rest) → FitsOwner sem (semaphore_at u sem).owner left → asks left ≡ true) → (semaphore_at u sem).waiters ≡ filter (waits_at asks u) (semaphore_at t sem).waiters
+pub waiters_kept : {mine : ℕ → Option Owner → Bool} {asks : Rest → Bool} (t u : Tables) (sem : ℕ) → Frame mine asks t u → IsInside u
+    → mine sem (semaphore_at t sem).owner ≡ true
+    → ((left : Rest) → FitsOwner sem (semaphore_at u sem).owner left → asks left ≡ true)
+    → (semaphore_at u sem).waiters ≡ filter (waits_at asks u) (semaphore_at t sem).waiters
 waiters_kept {mine} {asks} t u sem c o m fits =
     sym (filter_all (waits_at asks u) (semaphore_at u sem).waiters
     (λ p h.

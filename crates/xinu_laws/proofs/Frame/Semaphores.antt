@@ -1,4 +1,4 @@
--- The changes of semaphores that are calm.
+-- What changes of a semaphore leave alone: all others.
 use Rattle.std.proofs.Common.{◌≡◌, ◌≢◌, ℕ, ◌<◌, Bool, true, false, filter, [], Option, Some, refl, sym, ap, subst, ◌∙◌, ⊎_elim, get_or-set_other}
 use Rattle.std.proofs.lemmas.Bool.{both_ways, false_from_ne_true}
 use Rattle.xinu_base.specs.declared.processes.Rest.{Rest}
@@ -12,12 +12,14 @@ use Rattle.xinu_laws.proofs.Frame.MoveTo.{read_written}
 use Rattle.xinu_laws.proofs.Tables.MoveTo.{by_number}
 
 module _ {mine : ℕ → Option Owner → Bool} {asks : Rest → Bool} where
-  -- what is no semaphore of these owners is none after a calm move
-  pub others_framed : (t u : Tables) (sem : ℕ) → Frame mine asks t u → mine sem (semaphore_at t sem).owner ≡ false → mine sem (semaphore_at u sem).owner ≡ false
+  -- a semaphore that isn't left alone still isn't after a move
+  pub others_framed : (t u : Tables) (sem : ℕ) → Frame mine asks t u → mine sem (semaphore_at t sem).owner ≡ false
+      → mine sem (semaphore_at u sem).owner ≡ false
   others_framed t u sem c e = false_from_ne_true (mine sem (semaphore_at u sem).owner) (λ h. both_ways (mine sem (semaphore_at t sem).owner) e (ap (mine sem) (sym (c.old sem h)) ∙ h))
 
-  -- A semaphore of another owner changes, and keeps another owner.
-  pub frame_semaphore : (t : Tables) (sem : ℕ) (x : Semaphore) → mine sem (semaphore_at t sem).owner ≡ false → mine sem x.owner ≡ false → Frame mine asks t (with_semaphore sem x t)
+  -- A semaphore changes that isn't left alone, neither before nor after.
+  pub frame_semaphore : (t : Tables) (sem : ℕ) (x : Semaphore) → mine sem (semaphore_at t sem).owner ≡ false → mine sem x.owner ≡ false
+      → Frame mine asks t (with_semaphore sem x t)
   frame_semaphore t sem x old new =
       let u = with_semaphore sem x t in
       let same = λ (r : ℕ) (n : r ≢ sem). get_or-set_other t.semaphores sem r x no_semaphore n in
@@ -41,7 +43,8 @@ module _ {mine : ℕ → Option Owner → Bool} {asks : Rest → Bool} where
       }
 
   -- A semaphore that no one owns is made.
-  pub frame_make_semaphore : (t : Tables) (sem : ℕ) (by : Owner) (n : ℕ) → mine sem (semaphore_at t sem).owner ≡ false → mine sem (Some by) ≡ false → Frame mine asks t (make_semaphore sem by n t)
+  pub frame_make_semaphore : (t : Tables) (sem : ℕ) (by : Owner) (n : ℕ) → mine sem (semaphore_at t sem).owner ≡ false
+      → mine sem (Some by) ≡ false → Frame mine asks t (make_semaphore sem by n t)
   frame_make_semaphore t sem by n old new =
       let x : Semaphore = record { owner = Some by; tokens = n; waiters = [] } in
       let u = with_semaphore sem x t in

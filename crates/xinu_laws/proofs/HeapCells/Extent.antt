@@ -1,4 +1,4 @@
--- What changes the heap leaves it if it is.
+-- What changes the heap leaves it where it is.
 use Rattle.std.proofs.Common.{◌≡◌, ℕ, ◌+◌, ◌-◌, ◌*◌, ◌/◌, ◌%◌, ◌==◌, ◌||◌, Bool, not, Option, Some, None, refl, arith}
 use Rattle.std.specs.Prelude.{nat_lt, unwrap_or}
 use Rattle.std.proofs.lemmas.Bool.{cond_both, eqb-false, or_parts}
@@ -34,6 +34,7 @@ extent_freestk a n h u =
     (λ _ e. extent_freemem (a + 4 - 8 * cells_for n) n h u e)
 
 -- and if it is refused the heap stays
-pub extent_unless : (found : Option Heap) (h : Heap) → ((u : Heap) → found ≡ Some u → HasSameExtent h u) → HasSameExtent h (unwrap_or found h)
+pub extent_unless : (found : Option Heap) (h : Heap) → ((u : Heap) → found ≡ Some u → HasSameExtent h u)
+    → HasSameExtent h (unwrap_or found h)
 extent_unless None h each = same_extent h
 extent_unless (Some u) h each = each u refl

@@ -11,7 +11,8 @@ pub same_row : (a b : CallRow) → Some a ≡ Some b → a ≡ b
 same_row a b e = cc
 
 -- What holds of each row holds of the row of a number.
-pub of_row : (P : CallRow → Type 0) (rows : List CallRow) → AllByRecursion P rows → (number : ℕ) (r : CallRow) → found_in rows number ≡ Some r → P r
+pub of_row : (P : CallRow → Type 0) (rows : List CallRow) → AllByRecursion P rows → (number : ℕ) (r : CallRow)
+    → found_in rows number ≡ Some r → P r
 of_row P [] all number r = λ e. absurd (cc)
 of_row P (row ∷ rows) all number r =
     cond_both (number == row.syscall.number) (Some row) (found_in rows number) (λ x. x ≡ Some r → P r)
@@ -30,16 +31,19 @@ all_rows test [] h = tt
 all_rows test (r ∷ rows) h = let e = and_parts (test r) (list_all test rows) h in (e.0, all_rows test rows e.1)
 
 -- what holds of the rows that pass a test holds of a row that passes it
-first_of : (P : CallRow → Type 0) (test : CallRow → Bool) (row : CallRow) (rows : List CallRow) (b : Bool) → b ≡ true → AllByRecursion P (cond b (row ∷ rows) rows) → P row
+first_of : (P : CallRow → Type 0) (test : CallRow → Bool) (row : CallRow) (rows : List CallRow) (b : Bool) → b ≡ true
+    → AllByRecursion P (cond b (row ∷ rows) rows) → P row
 first_of P test row rows true e all = all.0
 first_of P test row rows false e all = absurd (cc)
 
-others_of : (P : CallRow → Type 0) (row : CallRow) (rows : List CallRow) (b : Bool) → AllByRecursion P (cond b (row ∷ rows) rows) → AllByRecursion P rows
+others_of : (P : CallRow → Type 0) (row : CallRow) (rows : List CallRow) (b : Bool) → AllByRecursion P (cond b (row ∷ rows) rows)
+    → AllByRecursion P rows
 others_of P row rows true all = all.1
 others_of P row rows false all = all
 
 -- What holds of the rows that pass a test holds of the row of a number, if it passes.
-pub of_few : (P : CallRow → Type 0) (test : CallRow → Bool) (rows : List CallRow) → AllByRecursion P (filter test rows) → (number : ℕ) (r : CallRow) → found_in rows number ≡ Some r → test r ≡ true → P r
+pub of_few : (P : CallRow → Type 0) (test : CallRow → Bool) (rows : List CallRow) → AllByRecursion P (filter test rows)
+    → (number : ℕ) (r : CallRow) → found_in rows number ≡ Some r → test r ≡ true → P r
 of_few P test [] all number r = λ e. absurd (cc)
 of_few P test (row ∷ rows) all number r =
     cond_both (number == row.syscall.number) (Some row) (found_in rows number) (λ x. x ≡ Some r → test r ≡ true → P r)

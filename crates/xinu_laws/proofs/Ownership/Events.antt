@@ -84,7 +84,7 @@ none_held old last sound runs idle call nothing gives a free taken =
 pub kept_executed : (s : Xinu) → KeepsPlaces s (with_executed (next s) s)
 kept_executed s = record { heap = refl; ranges = refl; stacks = refl }
 
--- if a process calls after an instruction
+-- a process may call after an instruction
 pub may_call_next : (old : Xinu) → IsSound old → old.tables.current ≢ 0 → MayCallAny (with_executed (next old) old)
 may_call_next old sound runs = may_call_after (next old) old (may_call old sound runs)
 

@@ -67,5 +67,6 @@ extent_effect_of s Tick choice k = let touches : Touches (reach on_tables) s (ti
 extent_effect_of s _ choice k = same_extent s.parts.heap
 
 -- Each event leaves the heap where it begins, with as many cells as it has.
-pub extent_happens : (old : Xinu) (e : Event) (lines : List TranscriptLine) (new : Xinu) → IsSound old → Happens old e lines new → HasSameExtent old.parts.heap new.parts.heap
+pub extent_happens : (old : Xinu) (e : Event) (lines : List TranscriptLine) (new : Xinu) → IsSound old → Happens old e lines new
+    → HasSameExtent old.parts.heap new.parts.heap
 extent_happens old e lines new k h = subst (HaveSameExtent old) (ap (λ (x : EventResult). x.state) h.effect) (extent_effect_of old e h.choice k)

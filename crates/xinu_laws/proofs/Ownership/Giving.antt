@@ -44,7 +44,8 @@ spared true false true h e = cc
 spared false st ra h e = cc
 
 -- a call of such a number
-holders_call : (number : ℕ) (args : List ℕ) (s : Xinu) → IsSound s → gives_back number ≡ true → KeepsHolders s (call_of_number number args s).call.state
+holders_call : (number : ℕ) (args : List ℕ) (s : Xinu) → IsSound s → gives_back number ≡ true
+    → KeepsHolders s (call_of_number number args s).call.state
 holders_call number args s k g = by_row (found_in calls number) refl
   where
     by_row : (found : Option CallRow) → found_in calls number ≡ found → KeepsHolders s (done_by found args s).call.state
@@ -57,7 +58,8 @@ holders_call number args s k g = by_row (found_in calls number) refl
         let t : Touches (reach f) s (done_by (Some r) args s).call.state = subst (λ x. Touches (reach f) s (done_by x args s).call.state) e (call_touches number args s r k e) in
         holders_kept s (done_by (Some r) args s).call.state (t.parts.ranges h.1) (t.stacks h.0)
 
-holders_called : (number : ℕ) (args : List ℕ) (s : Xinu) → IsSound s → gives_back number ≡ true → KeepsHolders s (called number args s).call.state
+holders_called : (number : ℕ) (args : List ℕ) (s : Xinu) → IsSound s → gives_back number ≡ true
+    → KeepsHolders s (called number args s).call.state
 holders_called number args s k g =
     cond_both (is_built number) (call_of_number number args s) (refused s) (λ (h : CallResult). KeepsHolders s h.call.state) (λ _. holders_call number args s k g) (λ _ a. refl)
 
@@ -72,7 +74,8 @@ stepped_calls old e new g =
     ∙ ap (λ o. reacted o (with_executed (next old) old)) g.call
 
 -- what gives away changes no pool and no stack
-holders_given_away : (old : Xinu) (e : Event) (lines : List TranscriptLine) (new : Xinu) → IsSound old → Happens old e lines new → GivesAway old e new → KeepsHolders old new
+holders_given_away : (old : Xinu) (e : Event) (lines : List TranscriptLine) (new : Xinu) → IsSound old → Happens old e lines new
+    → GivesAway old e new → KeepsHolders old new
 holders_given_away old e lines new sound h g =
     let s = with_executed (next old) old in
     let call = call_of (current_hart s) in
@@ -85,7 +88,8 @@ holders_given_away old e lines new sound h g =
     subst (KeepsHolders old) is (λ a. holders_kept result.call.state (end_of_event old.tables.current (call_line s call ∷ []) result).state ended.ranges ended.stacks a ∙ holders_called call.number call.args s (sound_where_called s may) gives a)
 
 -- An event that gives away what is held leaves an address claimed twice.
-pub given_away_is_shared : (old : Xinu) (e : Event) (lines : List TranscriptLine) (new : Xinu) → IsSound old → Happens old e lines new → GivesAway old e new → IsApart new → ⊥
+pub given_away_is_shared : (old : Xinu) (e : Event) (lines : List TranscriptLine) (new : Xinu) → IsSound old → Happens old e lines new
+    → GivesAway old e new → IsApart new → ⊥
 given_away_is_shared old e lines new sound h g apart =
     let few = apart.claims g.address in
     let same = holders_given_away old e lines new sound h g g.address in

@@ -33,7 +33,8 @@ asks_pool_of i Nothing h = cc
 asks_pool_of i _ h = cc
 
 -- where each element that passes passed before, at most as many pass
-pub times-le : {A : Type 0} (test : A → Bool) (xs ys : List A) (d : A) → length xs ≡ length ys → ((p : ℕ) → test (get_or xs p d) ≡ true → test (get_or ys p d) ≡ true) → times test xs ≤ times test ys
+pub times-le : {A : Type 0} (test : A → Bool) (xs ys : List A) (d : A) → length xs ≡ length ys
+    → ((p : ℕ) → test (get_or xs p d) ≡ true → test (get_or ys p d) ≡ true) → times test xs ≤ times test ys
 times-le test [] ys d e h = omega arith
 times-le test (x ∷ xs) [] d e h = absurd (omega arith)
 times-le test (x ∷ xs) (y ∷ ys) d e h =
@@ -42,8 +43,9 @@ times-le test (x ∷ xs) (y ∷ ys) d e h =
     (λ b. rw (h 0 b) (omega arith))
     (λ b. cond_both (test y) (suc (times test ys)) (times test ys) (λ n. times test xs ≤ n) (λ _. omega arith) (λ _. k))
 
--- Under moves that leave them alone at most as many are released to pool i and haven't taken their buffer as before.
-pub released_framed : (mine : ℕ → Option Owner → Bool) (asks : Rest → Bool) (t u : Tables) (i : ℕ) → Frame mine asks t u → asks (GetBuf i) ≡ true
+-- If pool i is left alone, no more processes than before are released to it and haven't taken their buffer.
+pub released_framed : (mine : ℕ → Option Owner → Bool) (asks : Rest → Bool) (t u : Tables) (i : ℕ) → Frame mine asks t u
+    → asks (GetBuf i) ≡ true
     → times (is_released_to_pool i) u.processes ≤ times (is_released_to_pool i) t.processes
 released_framed mine asks t u i c here = times-le (is_released_to_pool i) u.processes t.processes no_process c.many
     (λ p h. let x = process_at u p in
@@ -52,7 +54,8 @@ released_framed mine asks t u i c here = times-le (is_released_to_pool i) u.proc
     and_from (not (is_waiting (state_at t p))) (asks_pool i (process_at t p).rest) (ap not (sym same.1) ∙ parts.0) (ap (asks_pool i) (sym same.0) ∙ parts.1))
 
 -- What leaves pool i alone keeps what holds of it.
-pub sound_pool_framed : (mine : ℕ → Option Owner → Bool) (asks : Rest → Bool) (t u : Tables) (i : ℕ) (pool : Pool) → Frame mine asks t u → ((sem : ℕ) → mine sem (Some (owner.Pool i)) ≡ true) → asks (GetBuf i) ≡ true
+pub sound_pool_framed : (mine : ℕ → Option Owner → Bool) (asks : Rest → Bool) (t u : Tables) (i : ℕ) (pool : Pool) → Frame mine asks t u
+    → ((sem : ℕ) → mine sem (Some (owner.Pool i)) ≡ true) → asks (GetBuf i) ≡ true
     → IsSoundPool t i pool → IsSoundPool u i pool
 sound_pool_framed mine asks t u i pool c m a k =
     let kept = c.kept pool.semaphore (ap (mine pool.semaphore) k.owner ∙ m pool.semaphore) in
@@ -75,7 +78,8 @@ are_pools_framed t u pools c k = record {
 }
 
 -- At the start there are no pools.
-pub no_pools : (t : Tables) → ((sem : ℕ) → is_pools sem (semaphore_at t sem).owner ≡ false) → ((p : ℕ) → asks_buffer (process_at t p).rest ≡ false) → ArePools t []
+pub no_pools : (t : Tables) → ((sem : ℕ) → is_pools sem (semaphore_at t sem).owner ≡ false)
+    → ((p : ℕ) → asks_buffer (process_at t p).rest ≡ false) → ArePools t []
 no_pools t sem p = record {
   few = omega arith;
   each = λ i h. absurd (omega arith);

@@ -22,7 +22,8 @@ pub holder_finds : (a i : ℕ) (pools : List Pool) → holder a pools ≡ Some i
 holder_finds a i pools e = let r = holder_from_finds a 0 i pools e in subst (λ n. IsHolder a n pools) (let f = r.1 in omega arith) r.2
 
 -- What holds if nothing is given back, and if a held buffer is put back, holds of what is given back to the pool that has it.
-pub by_holder : (P : CallState → Type 0) (a : ℕ) (d : CallState) → P d → ((i : ℕ) → IsHolder a i d.state.parts.pools → P (put_back a i d)) → P (freed_buffer a d)
+pub by_holder : (P : CallState → Type 0) (a : ℕ) (d : CallState) → P d → ((i : ℕ) → IsHolder a i d.state.parts.pools → P (put_back a i d))
+    → P (freed_buffer a d)
 by_holder P a d none some = given (holder a d.state.parts.pools) refl
   where
     given : (found : Option ℕ) → holder a d.state.parts.pools ≡ found → P (given_to found a d)

@@ -15,7 +15,7 @@ beside_all_pools = record { mine = is_pools; asks = asks_buffer; parts = on_proc
 start_reached : HasStart beside_all_pools
 start_reached = record { none = λ sem. refl; kernel = λ sem. refl; nothing = refl; heap = refl; stacks = refl }
 
--- If the machine starts what holds of the pools holds: there are none.
+-- When the machine starts, what holds of the pools holds: there are none.
 pub pools_start : (images : List Loaded) (start : Xinu) → boot images ≡ Boots start → ArePools start.tables start.parts.pools
 pools_start images start e =
     subst (ArePools start.tables) (sym ((touches_start start_reached images start e).parts.pools refl))

@@ -3,6 +3,7 @@ use Rattle.std.proofs.Common.{◌≡◌, ℕ, List, [], ◌∷◌, length, Some,
 use Rattle.xinu_base.specs.declared.processes.Process.{Process}
 use Rattle.xinu_base.specs.declared.processes.State.TheVariants.{Ready}
 use Rattle.xinu_base.specs.declared.semaphores.Owner.TheVariants as owner
+use Rattle.xinu_laws.specs.Moves.{ready_all}
 use Rattle.xinu_model.specs.Machine.{Xinu, CallState}
 use Rattle.xinu_model.specs.Process.Scheduling.{in_state, ready}
 use Rattle.xinu_model.specs.Ports.Queues.{PortQueue}
@@ -12,7 +13,7 @@ use Rattle.xinu_model.specs.Tables.{no_process, Semaphore, Tables, process_at, m
 use Rattle.xinu_laws.proofs.Frame.MoveTo.{same_written}
 use Rattle.xinu_laws.proofs.Touches.Moves.{parts_emptied}
 use Rattle.xinu_laws.proofs.Preserve.Semaphores.{harts_emptied}
-use Rattle.xinu_laws.proofs.Tables.Unblock.{ready_all, unblock_all_ready, sound_emptied, emptied_has_no_waiters, owner_emptied}
+use Rattle.xinu_laws.proofs.Tables.Unblock.{unblock_all_ready, sound_emptied, emptied_has_no_waiters, owner_emptied}
 use Rattle.xinu_laws.proofs.Ports.Kept.{KeepsRests, keeps_rests_trans}
 use Rattle.xinu_laws.proofs.Ports.Moves.{left_for_ready}
 

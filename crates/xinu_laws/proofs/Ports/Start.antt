@@ -42,7 +42,7 @@ beside_all_ports = record { mine = is_ports; asks = asks_port; parts = on_proces
 start_reached : HasStart beside_all_ports
 start_reached = record { none = λ sem. refl; kernel = λ sem. refl; nothing = refl; heap = refl; stacks = refl }
 
--- If the machine starts what holds of the ports holds: none is in use.
+-- When the machine starts, what holds of the ports holds: none is in use.
 pub ports_start : (images : List Loaded) (start : Xinu) → boot images ≡ Boots start → ArePorts start.tables start.parts.ports
 ports_start images start e =
     subst (ArePorts start.tables) (sym ((touches_start start_reached images start e).parts.ports refl).0)

@@ -41,7 +41,7 @@ use Rattle.xinu_laws.proofs.Touches.Ports.{go_on_ptsend_touches, go_on_ptrecv_to
 use Rattle.xinu_laws.proofs.Touches.Processes.{exit_touches, go_on_suspend_touches}
 use Rattle.xinu_laws.proofs.Touches.Table.{Stays, calls_touch}
 
--- if a process calls the state is sound
+-- a state in which a process calls is sound
 pub sound_where_called : (s : Xinu) → MayCallAny s → IsSound s
 sound_where_called s c = record { tables = c.may.tables; harts = c.may.harts; pools = c.pools; ports = c.ports }
 
@@ -56,9 +56,10 @@ inside_by_answer Gone t k = k
 pub inside_preserved : (h : CallResult) → IsPreserved h → IsInside h.call.state.tables
 inside_preserved h k = inside_by_answer h.answer h.call.state.tables k.tables
 
--- What a call that stays within a footprint keeps: what is to be shown of the parts that the footprint names, and the others anyway.
+-- A call that stays within a footprint keeps all, if it keeps what holds of the tables and of the parts that the footprint names.
 pub keeps_within : (f : Footprint) (s : Xinu) (h : CallResult) → MayCallAny s → Touches (reach f) s h.call.state → IsPreserved h
-    → (f.pools ≡ true → ArePools h.call.state.tables h.call.state.parts.pools) → (f.ports ≡ true → ArePorts h.call.state.tables h.call.state.parts.ports) → KeepsAll h
+    → (f.pools ≡ true → ArePools h.call.state.tables h.call.state.parts.pools)
+    → (f.ports ≡ true → ArePorts h.call.state.tables h.call.state.parts.ports) → KeepsAll h
 keeps_within f s h c t preserved pools ports = record { preserved = preserved; pools = by_pools f.pools refl; ports = by_ports f.ports refl }
   where
     by_pools : (b : Bool) → f.pools ≡ b → ArePools h.call.state.tables h.call.state.parts.pools
@@ -69,84 +70,88 @@ keeps_within f s h c t preserved pools ports = record { preserved = preserved; p
     by_ports true e = ports e
     by_ports false e = keeps_ports e t (inside_preserved h preserved) c.ports
 
--- What is to be shown of a call: that it keeps what holds of tables and registers, and of the parts that its footprint names.
+-- What is shown of a call: it keeps what holds of tables and registers, and of the parts that its footprint names.
 pub record PreservesRow (r : CallRow) : Type 0 where
   pub preserved : (a : ℕ → ℕ) (s : Xinu) → MayCallAny s → IsPreserved (r.effect a s)
-  pub pools : r.touches.pools ≡ true → (a : ℕ → ℕ) (s : Xinu) → MayCallAny s → ArePools (r.effect a s).call.state.tables (r.effect a s).call.state.parts.pools
-  pub ports : r.touches.ports ≡ true → (a : ℕ → ℕ) (s : Xinu) → MayCallAny s → ArePorts (r.effect a s).call.state.tables (r.effect a s).call.state.parts.ports
+  pub pools : r.touches.pools ≡ true → (a : ℕ → ℕ) (s : Xinu) → MayCallAny s
+      → ArePools (r.effect a s).call.state.tables (r.effect a s).call.state.parts.pools
+  pub ports : r.touches.ports ≡ true → (a : ℕ → ℕ) (s : Xinu) → MayCallAny s
+      → ArePorts (r.effect a s).call.state.tables (r.effect a s).call.state.parts.ports
 
 -- whether a footprint names neither pools nor ports
-abbrev is_beside_devices : Footprint → Bool
-is_beside_devices f = not f.pools && not f.ports
+abbrev names_no_part : Footprint → Bool
+names_no_part f = not f.pools && not f.ports
 
--- what isn't named
+-- what a footprint doesn't name it doesn't name
 unnamed : (b : Bool) {P : Type 0} → not b ≡ true → b ≡ true → P
 unnamed true h e = absurd (cc)
 unnamed false h e = absurd (cc)
 
 module _ {r : CallRow} where
   -- A call that touches no pool and no port.
-  on_no_part : is_beside_devices r.touches ≡ true → ((a : ℕ → ℕ) (s : Xinu) → MayCall s → IsPreserved (r.effect a s)) → PreservesRow r
-  on_no_part e preserved =
+  of_tables : names_no_part r.touches ≡ true → ((a : ℕ → ℕ) (s : Xinu) → MayCall s → IsPreserved (r.effect a s)) → PreservesRow r
+  of_tables e preserved =
       let h = and_parts (not r.touches.pools) (not r.touches.ports) e in
       record { preserved = λ a s c. preserved a s c.may; pools = unnamed r.touches.pools h.0; ports = unnamed r.touches.ports h.1 }
 
   -- A call that touches pools alone.
-  on_pools_alone : not r.touches.ports ≡ true → ((a : ℕ → ℕ) (s : Xinu) → MayCallAny s → IsPreserved (r.effect a s))
-      → ((a : ℕ → ℕ) (s : Xinu) → MayCallAny s → ArePools (r.effect a s).call.state.tables (r.effect a s).call.state.parts.pools) → PreservesRow r
-  on_pools_alone e preserved pools = record { preserved = preserved; pools = λ _. pools; ports = unnamed r.touches.ports e }
+  of_pools : not r.touches.ports ≡ true → ((a : ℕ → ℕ) (s : Xinu) → MayCallAny s → IsPreserved (r.effect a s))
+      → ((a : ℕ → ℕ) (s : Xinu) → MayCallAny s → ArePools (r.effect a s).call.state.tables (r.effect a s).call.state.parts.pools)
+      → PreservesRow r
+  of_pools e preserved pools = record { preserved = preserved; pools = λ _. pools; ports = unnamed r.touches.ports e }
 
   -- A call that touches ports alone.
-  on_ports_alone : not r.touches.pools ≡ true → ((a : ℕ → ℕ) (s : Xinu) → MayCallAny s → PreservesPorts (r.effect a s)) → PreservesRow r
-  on_ports_alone e k = record { preserved = λ a s c. (k a s c).preserved; pools = unnamed r.touches.pools e; ports = λ _ a s c. (k a s c).ports }
+  of_ports : not r.touches.pools ≡ true → ((a : ℕ → ℕ) (s : Xinu) → MayCallAny s → PreservesPorts (r.effect a s)) → PreservesRow r
+  of_ports e k = record { preserved = λ a s c. (k a s c).preserved; pools = unnamed r.touches.pools e; ports = λ _ a s c. (k a s c).ports }
 
-  -- A call of which all is shown at once.
-  on_all_parts : ((a : ℕ → ℕ) (s : Xinu) → MayCallAny s → KeepsAll (r.effect a s)) → PreservesRow r
-  on_all_parts k = record { preserved = λ a s c. (k a s c).preserved; pools = λ e a s c. (k a s c).pools; ports = λ e a s c. (k a s c).ports }
+  -- A call of which all is shown together.
+  of_all : ((a : ℕ → ℕ) (s : Xinu) → MayCallAny s → KeepsAll (r.effect a s)) → PreservesRow r
+  of_all k = record { preserved = λ a s c. (k a s c).preserved; pools = λ e a s c. (k a s c).pools; ports = λ e a s c. (k a s c).ports }
 
 -- Each call of the table.
 pub calls_preserve : AllByRecursion PreservesRow calls
 unfolding calls
 calls_preserve =
-    on_no_part refl (λ a. getpid_preserves) ⨾
-    on_no_part refl (λ a. create_preserves (a 0) (a 1) (half (a 2)) (a 3) (a 4) (a 5)) ⨾
-    on_no_part refl (λ a. resume_preserves (a 0)) ⨾
-    on_no_part refl (λ a. suspend_preserves (a 0)) ⨾
-    on_no_part refl (λ a. kill_preserves (a 0)) ⨾
-    on_no_part refl (λ a. yield_preserves) ⨾
-    on_no_part refl (λ a. chprio_preserves (a 0) (half (a 1))) ⨾
-    on_no_part refl (λ a. getprio_preserves (a 0)) ⨾
-    on_no_part refl (λ a. exit_preserves) ⨾
-    on_no_part refl (λ a. getmem_preserves (a 0)) ⨾
-    on_no_part refl (λ a. freemem_preserves (a 0) (a 1)) ⨾
-    on_no_part refl (λ a. getstk_preserves (a 0)) ⨾
-    on_no_part refl (λ a. freestk_preserves (a 0) (a 1)) ⨾
-    on_no_part refl (λ a. semcreate_preserves (signed (a 0))) ⨾
-    on_no_part refl (λ a. semdelete_preserves (a 0)) ⨾
-    on_no_part refl (λ a. semreset_preserves (a 0) (signed (a 1))) ⨾
-    on_no_part refl (λ a. semcount_preserves (a 0)) ⨾
-    on_no_part refl (λ a. wait_preserves (a 0)) ⨾
-    on_no_part refl (λ a. signal_preserves (a 0)) ⨾
-    on_no_part refl (λ a. signaln_preserves (a 0) (signed (a 1))) ⨾
-    on_no_part refl (λ a. send_preserves (a 0) (a 1)) ⨾
-    on_no_part refl (λ a. receive_preserves) ⨾
-    on_no_part refl (λ a. recvclr_preserves) ⨾
-    on_no_part refl (λ a. recvtime_preserves (signed (a 0))) ⨾
-    on_no_part refl (λ a. sleep_preserves (signed (a 0))) ⨾
-    on_no_part refl (λ a. sleepms_preserves (signed (a 0))) ⨾
-    on_no_part refl (λ a. clktime_preserves) ⨾
-    on_pools_alone refl (λ a s c. mkbufpool_preserves (a 0) (a 1) s c.may) (λ a s c. pools_mkbufpool (a 0) (a 1) s c.may.tables.inside c.pools) ⨾
-    on_pools_alone refl (λ a s c. getbuf_preserves (a 0) s c.may c.pools) (λ a s c. pools_getbuf (a 0) s c.may.tables c.pools) ⨾
-    on_pools_alone refl (λ a s c. freebuf_preserves (a 0) s c.may c.pools) (λ a s c. pools_freebuf (a 0) s c.may.tables.inside c.pools) ⨾
-    on_ports_alone refl (λ a s c. ptcreate_on_ports (signed (a 0)) s c.may c.ports) ⨾
-    on_all_parts (λ a s c. ptdelete_keeps (a 0) (a 1) s c.may c.pools c.ports) ⨾
-    on_all_parts (λ a s c. ptreset_keeps (a 0) (a 1) s c.may c.pools c.ports) ⨾
-    on_ports_alone refl (λ a s c. ptsend_on_ports (a 0) (a 1) s c.may c.ports) ⨾
-    on_ports_alone refl (λ a s c. ptrecv_on_ports (a 0) s c.may c.ports) ⨾
+    of_tables refl (λ a. getpid_preserves) ⨾
+    of_tables refl (λ a. create_preserves (a 0) (a 1) (half (a 2)) (a 3) (a 4) (a 5)) ⨾
+    of_tables refl (λ a. resume_preserves (a 0)) ⨾
+    of_tables refl (λ a. suspend_preserves (a 0)) ⨾
+    of_tables refl (λ a. kill_preserves (a 0)) ⨾
+    of_tables refl (λ a. yield_preserves) ⨾
+    of_tables refl (λ a. chprio_preserves (a 0) (half (a 1))) ⨾
+    of_tables refl (λ a. getprio_preserves (a 0)) ⨾
+    of_tables refl (λ a. exit_preserves) ⨾
+    of_tables refl (λ a. getmem_preserves (a 0)) ⨾
+    of_tables refl (λ a. freemem_preserves (a 0) (a 1)) ⨾
+    of_tables refl (λ a. getstk_preserves (a 0)) ⨾
+    of_tables refl (λ a. freestk_preserves (a 0) (a 1)) ⨾
+    of_tables refl (λ a. semcreate_preserves (signed (a 0))) ⨾
+    of_tables refl (λ a. semdelete_preserves (a 0)) ⨾
+    of_tables refl (λ a. semreset_preserves (a 0) (signed (a 1))) ⨾
+    of_tables refl (λ a. semcount_preserves (a 0)) ⨾
+    of_tables refl (λ a. wait_preserves (a 0)) ⨾
+    of_tables refl (λ a. signal_preserves (a 0)) ⨾
+    of_tables refl (λ a. signaln_preserves (a 0) (signed (a 1))) ⨾
+    of_tables refl (λ a. send_preserves (a 0) (a 1)) ⨾
+    of_tables refl (λ a. receive_preserves) ⨾
+    of_tables refl (λ a. recvclr_preserves) ⨾
+    of_tables refl (λ a. recvtime_preserves (signed (a 0))) ⨾
+    of_tables refl (λ a. sleep_preserves (signed (a 0))) ⨾
+    of_tables refl (λ a. sleepms_preserves (signed (a 0))) ⨾
+    of_tables refl (λ a. clktime_preserves) ⨾
+    of_pools refl (λ a s c. mkbufpool_preserves (a 0) (a 1) s c.may) (λ a s c. pools_mkbufpool (a 0) (a 1) s c.may.tables.inside c.pools) ⨾
+    of_pools refl (λ a s c. getbuf_preserves (a 0) s c.may c.pools) (λ a s c. pools_getbuf (a 0) s c.may.tables c.pools) ⨾
+    of_pools refl (λ a s c. freebuf_preserves (a 0) s c.may c.pools) (λ a s c. pools_freebuf (a 0) s c.may.tables.inside c.pools) ⨾
+    of_ports refl (λ a s c. ptcreate_on_ports (signed (a 0)) s c.may c.ports) ⨾
+    of_all (λ a s c. ptdelete_keeps (a 0) (a 1) s c.may c.pools c.ports) ⨾
+    of_all (λ a s c. ptreset_keeps (a 0) (a 1) s c.may c.pools c.ports) ⨾
+    of_ports refl (λ a s c. ptsend_on_ports (a 0) (a 1) s c.may c.ports) ⨾
+    of_ports refl (λ a s c. ptrecv_on_ports (a 0) s c.may c.ports) ⨾
     tt
 
 -- So each call keeps what holds of tables, pools and ports: the row of a number,
-pub row_keeps : (number : ℕ) (r : CallRow) → found_in calls number ≡ Some r → (a : ℕ → ℕ) (s : Xinu) → MayCallAny s → KeepsAll (r.effect a s)
+pub row_keeps : (number : ℕ) (r : CallRow) → found_in calls number ≡ Some r → (a : ℕ → ℕ) (s : Xinu) → MayCallAny s
+    → KeepsAll (r.effect a s)
 row_keeps number r e a s c =
     let t = of_row Stays calls calls_touch number r e in
     let k = of_row PreservesRow calls calls_preserve number r e in

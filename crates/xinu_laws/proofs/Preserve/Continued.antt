@@ -10,7 +10,7 @@ use Rattle.xinu_model.specs.Pools.Calls.{go_on_getbuf}
 use Rattle.xinu_model.specs.Ports.Calls.{go_on_ptsend, go_on_ptrecv}
 use Rattle.xinu_model.specs.Process.Calls.{go_on_suspend}
 
--- What holds of each way in which a call goes on, and if nothing is left, holds of what is left of any call.
+-- What holds of each way in which a call goes on, and of doing nothing, holds of what is left of any call.
 pub continued_holds : (P : CallResult → Type 0) (left : Rest) (s : Xinu) → P (go_on_receive s) → P (go_on_suspend s)
     → ((i : ℕ) → left ≡ rest.GetBuf i → P (go_on_getbuf i s))
     → ((ticket : PortTicket) (message : ℕ) → left ≡ rest.PtSend ticket message → P (go_on_ptsend ticket message s))

@@ -7,6 +7,7 @@ use Rattle.xinu_base.specs.declared.processes.Process.{Process}
 use Rattle.xinu_base.specs.declared.processes.Rest.TheVariants.{Nothing, SelfSuspend}
 use Rattle.xinu_base.specs.declared.processes.State.{State}
 use Rattle.xinu_base.specs.declared.processes.State.TheVariants.{Free, Current, Ready, Receiving, Sleeping, Suspended, Waiting, Timed}
+use Rattle.xinu_laws.specs.Moves.{CanMove, IsPlaceOf}
 use Rattle.xinu_model.specs.Heap.Cells.{Stack, take_stack}
 use Rattle.xinu_model.specs.Machine.{Xinu, start, goes_on}
 use Rattle.xinu_model.specs.Memory.{in_ram}
@@ -22,8 +23,7 @@ use Rattle.xinu_laws.proofs.Tables.Deaths.{free_of, not_free, inside_killed, sou
 use Rattle.xinu_laws.specs.Preserve.{IsPreserved, MayCall}
 use Rattle.xinu_laws.proofs.Preserve.{Preserves, current_within, refused_preserves, answers_preserves, either_preserves, blocked_preserves, goes_on_may_call}
 use Rattle.xinu_laws.proofs.Tables.Scheduling.{holds_at, inside_last_process, sound_move, sound_ready, idle_differs}
-use Rattle.xinu_laws.proofs.Tables.Places.{IsPlaceOf}
-use Rattle.xinu_laws.proofs.Tables.MoveTo.{within_table, CanMove}
+use Rattle.xinu_laws.proofs.Tables.MoveTo.{within_table}
 use Rattle.xinu_laws.proofs.Lists.Searches.{search_passes, search_within}
 
 -- who passes the test is suspended

@@ -65,7 +65,8 @@ suspend_tells p s =
     by_test false false false d e = refused_tells s (Some (process_at s.tables p).priority)
 
 -- a message that is taken, or what else is done
-received_tells : (message : Option ℕ) (otherwise : CallResult) (s : Xinu) → TellsValue s None otherwise → TellsValue s (option_map signed message) (received message otherwise s)
+received_tells : (message : Option ℕ) (otherwise : CallResult) (s : Xinu) → TellsValue s None otherwise
+    → TellsValue s (option_map signed message) (received message otherwise s)
 received_tells None otherwise s other = other
 received_tells (Some message) otherwise s other = value_tells s _ (signed message)
 
@@ -79,7 +80,8 @@ recvtime_tells (negsuc n) s = refused_tells s (option_map signed (held s))
 recvtime_tells (pos n) s = received_tells (held s) _ s (waiting_tells s None _)
 
 -- one of the messages of a port is taken
-take_message_tells : (messages : List ℕ) (queue : PortQueue) (q : ℕ) (s x : Xinu) → 0 < length messages → TellsValue s (option_map signed (first_of messages)) (take_message messages queue q x)
+take_message_tells : (messages : List ℕ) (queue : PortQueue) (q : ℕ) (s x : Xinu) → 0 < length messages
+    → TellsValue s (option_map signed (first_of messages)) (take_message messages queue q x)
 take_message_tells [] queue q s x some = absurd (omega arith)
 take_message_tells (message ∷ messages) queue q s x some = value_tells s _ (signed message)
 
@@ -90,14 +92,16 @@ take_token_tells zero sem left then_ s value go = waiting_tells s value _
 take_token_tells (suc n) sem left then_ s value go = go n refl
 
 -- a message of a port with this queue
-from_tells : (queue : PortQueue) (found : Option PortQueue) (q : ℕ) (s x : Xinu) → found ≡ Some queue → 0 < length queue.messages → TellsValue s (option_map signed (first_of queue.messages)) (take_from found q x)
+from_tells : (queue : PortQueue) (found : Option PortQueue) (q : ℕ) (s x : Xinu) → found ≡ Some queue → 0 < length queue.messages
+    → TellsValue s (option_map signed (first_of queue.messages)) (take_from found q x)
 from_tells queue None q s x e some = absurd (cc)
 from_tells queue (Some other) q s x e some =
     let same : other ≡ queue = cc in
     subst (λ (o : PortQueue). TellsValue s (option_map signed (first_of queue.messages)) (take_message o.messages o q x)) (sym same) (take_message_tells queue.messages queue q s x some)
 
 -- call 35
-received_from_tells : (found : Option PortQueue) (q : ℕ) (s : Xinu) → ArePorts s.tables s.parts.ports → (port_at s.parts.ports q).queue ≡ found
+received_from_tells : (found : Option PortQueue) (q : ℕ) (s : Xinu) → ArePorts s.tables s.parts.ports
+    → (port_at s.parts.ports q).queue ≡ found
     → TellsValue s (option_map signed (first_of (queued found))) (received_from found q s)
 received_from_tells None q s ports e = refused_tells s None
 received_from_tells (Some queue) q s ports e =
@@ -159,7 +163,8 @@ pub refused_or_told : (number : ℕ) (args : List ℕ) (s : Xinu) → ArePools s
     → TellsValue s (value_told number (slice_index args) s) (call_of_number number args s)
 refused_or_told number args s pools ports = by_row (found_in calls number) refl
   where
-    by_row : (found : Option CallRow) → found_in calls number ≡ found → TellsValue s (row_value found (slice_index args) s) (done_by found args s)
+    by_row : (found : Option CallRow) → found_in calls number ≡ found
+        → TellsValue s (row_value found (slice_index args) s) (done_by found args s)
     by_row None e = refused_tells s None
     by_row (Some r) e =
         of_row (λ (x : CallRow). (a : ℕ → ℕ) (u : Xinu) → ArePools u.tables u.parts.pools → ArePorts u.tables u.parts.ports → TellsValue u (value_of x.reply a u) (x.effect a u)) calls calls_tell number r e (slice_index args) s pools ports

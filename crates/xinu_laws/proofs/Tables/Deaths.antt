@@ -7,6 +7,7 @@ use Rattle.xinu_base.specs.declared.processes.Rest.{Rest}
 use Rattle.xinu_base.specs.declared.processes.Rest.TheVariants as rest
 use Rattle.xinu_base.specs.declared.processes.State.{State}
 use Rattle.xinu_base.specs.declared.processes.State.TheVariants.{Free, Current, Ready, Receiving, Sleeping, Suspended, Waiting, Timed}
+use Rattle.xinu_laws.specs.Moves.{CanMove}
 use Rattle.xinu_model.specs.Machine.{Xinu, no_hart, CallState, with_tables}
 use Rattle.xinu_model.specs.Messages.{listens, can_get, delivered, sent}
 use Rattle.xinu_model.specs.Process.Scheduling.{in_state}
@@ -15,7 +16,7 @@ use Rattle.xinu_model.specs.Sound.Tables.{HoldsFor, FitsMessage, IsInside, IsSou
 use Rattle.xinu_model.specs.Tables.{no_process, Tables, process_at, state_at, message_at, is_free, move_to, Nowhere, InReady}
 use Rattle.xinu_laws.proofs.Tables.Changes.{inside_message}
 use Rattle.xinu_laws.proofs.Tables.Scheduling.{can_move_ready, idle_differs, sound_move}
-use Rattle.xinu_laws.proofs.Tables.MoveTo.{within_table, CanMove, inside_move}
+use Rattle.xinu_laws.proofs.Tables.MoveTo.{within_table, inside_move}
 
 -- and doesn't run
 pub listens_idle : (s : State) → listens s ≡ true → s ≢ Current

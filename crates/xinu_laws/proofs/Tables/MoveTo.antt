@@ -7,11 +7,12 @@ use Rattle.xinu_base.specs.declared.processes.Process.{Process}
 use Rattle.xinu_base.specs.declared.processes.Rest.TheVariants.{Nothing}
 use Rattle.xinu_base.specs.declared.processes.State.TheVariants.{Free, Current}
 use Rattle.xinu_base.specs.declared.semaphores.Owner.TheVariants.{Device}
+use Rattle.xinu_laws.specs.Moves.{CanMove, FitsPlace}
 use Rattle.xinu_model.specs.Sound.Tables.{entries_of, waits_of, count_in, ready_places, waiting_places, sleeping_places, CanRun, HasOneKind, FitsOwner, FitsMessage, IsInside, IsFixed, IsUnused}
 use Rattle.xinu_model.specs.Tables.{no_process, Semaphore, no_semaphore, Tables, process_at, state_at, message_at, semaphore_at, entries_without, numbers_without, semaphore_without, waits_without, with_waiter, Place, Nowhere, InReady, InSemaphore, InSleepers, ready_in, semaphores_in, sleepers_in, move_to}
 use Rattle.xinu_laws.proofs.Lists.Counts.{entries_without_same, entries_without_other, numbers_without_same, numbers_without_other, count_last_other}
 use Rattle.xinu_laws.proofs.Lists.Orders.{all_filter, falling_in, falling_without, rising_in, rising_without, IsLater, later_in}
-use Rattle.xinu_laws.proofs.Tables.Places.{IsPlaceOf, IsInTable, waits_without_same, waits_without_other, length-waits_without, semaphore_at_without, ready_in_same, ready_in_other, sleepers_in_same, sleepers_in_other, semaphores_in_same, semaphores_in_other, length-semaphores_in}
+use Rattle.xinu_laws.proofs.Tables.Places.{IsInTable, waits_without_same, waits_without_other, length-waits_without, semaphore_at_without, ready_in_same, ready_in_other, sleepers_in_same, sleepers_in_other, semaphores_in_same, semaphores_in_other, length-semaphores_in}
 
 -- what holds at q and at each other number holds at all
 pub by_number : (p q : ℕ) (P : ℕ → Type 0) → P q → (p ≢ q → P p) → P p
@@ -73,22 +74,6 @@ pub semaphore_move_cases : (t : Tables) (q r : ℕ) (x : Process) (m : Option �
 semaphore_move_cases t q r x m place P i old new =
     let e = semaphore_at_without q r t.semaphores in
     semaphore_in_cases place q r (waits_without q t.semaphores) P i (subst P (sym e) old) (λ sem f g. subst (λ y. P (with_waiter q y)) (sym e) (new sem f g))
-
--- the place fits the process that goes there: a semaphore without tokens whose owner calls for what is left of its call, or a later tick
-abbrev pub FitsPlace : Tables → Process → Place → Type 0
-FitsPlace t x (InSemaphore s) = (s < 128) × ((semaphore_at t s).tokens ≡ 0) × FitsOwner s (semaphore_at t s).owner x.rest
-FitsPlace t x (InSleepers wake) = t.ticks < wake
-FitsPlace t x _ = Unit {0}
-
--- what lets process q become x with message m and go to a place
-pub record CanMove (t : Tables) (q : ℕ) (x : Process) (m : Option ℕ) (place : Place) : Type 0 where
-  pub within : q < 64
-  pub place_of : IsPlaceOf x.state place
-  pub if_current : x.state ≡ Current → q ≡ t.current
-  pub if_null : q ≡ 0 → CanRun x.state × (x.rest ≡ Nothing)
-  pub fits : FitsPlace t x place
-  pub slot : FitsMessage x.state x.rest m
-  pub if_free : IsFixed x m
 
 -- a place that fits is in the table
 in_table : (t : Tables) (x : Process) (place : Place) (q : ℕ) → length t.semaphores ≡ 128 → FitsPlace t x place → IsInTable place (waits_without q t.semaphores)

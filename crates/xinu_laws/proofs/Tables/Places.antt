@@ -2,29 +2,10 @@
 use Rattle.std.proofs.Common.{◌≡◌, ◌≢◌, ℕ, zero, suc, ◌<◌, not, List, [], ◌∷◌, length, get_or, refl, ap, ◌∙◌, arith, ℤ}
 use Rattle.std.specs.Prelude.{int_lt, nat_le}
 use Rattle.std.proofs.Math.ListN.{length-set}
-use Rattle.xinu_base.specs.declared.processes.State.{State}
-use Rattle.xinu_model.specs.Sound.Tables.{count_in, entries_of, waits_of, ready_places, waiting_places, sleeping_places}
+use Rattle.xinu_laws.specs.Moves.{place_ready, place_sleeping, place_waiting}
+use Rattle.xinu_model.specs.Sound.Tables.{count_in, entries_of, waits_of}
 use Rattle.xinu_model.specs.Tables.{Semaphore, no_semaphore, semaphore_without, numbers_without, waits_without, with_waiter, Place, Nowhere, InReady, InSemaphore, InSleepers, ready_in, semaphores_in, sleepers_in}
 use Rattle.xinu_laws.proofs.Lists.Counts.{entries_insert_same, entries_insert_other, numbers_without_same, numbers_without_other, count_last_same, count_last_other, total-agree, total-map, total-zero, total-set}
-
--- how often a process at a place is in the ready list
-abbrev pub place_ready : Place → ℕ
-place_ready InReady = 1
-place_ready _ = 0
-
--- how often it is among waiters
-abbrev pub place_waiting : Place → ℕ
-place_waiting (InSemaphore s) = 1
-place_waiting _ = 0
-
--- how often it is among the sleepers
-abbrev pub place_sleeping : Place → ℕ
-place_sleeping (InSleepers wake) = 1
-place_sleeping _ = 0
-
--- a process of this state is at such a place
-abbrev pub IsPlaceOf : State → Place → Type 0
-IsPlaceOf state place = (ready_places state ≡ place_ready place) × (waiting_places state ≡ place_waiting place) × (sleeping_places state ≡ place_sleeping place)
 
 -- the semaphore of a place is one of the table
 abbrev pub IsInTable : Place → List Semaphore → Type 0

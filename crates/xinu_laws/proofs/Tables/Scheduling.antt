@@ -8,11 +8,12 @@ use Rattle.xinu_base.specs.declared.processes.Rest.{Rest}
 use Rattle.xinu_base.specs.declared.processes.Rest.TheVariants.{Nothing}
 use Rattle.xinu_base.specs.declared.processes.State.{State}
 use Rattle.xinu_base.specs.declared.processes.State.TheVariants.{Free, Current, Ready, Receiving, Sleeping, Suspended, Waiting, Timed}
+use Rattle.xinu_laws.specs.Moves.{CanBeReady, CanMove}
 use Rattle.xinu_model.specs.Process.Scheduling.{is_current, in_state, ready, dispatch, dispatch_first, preempt, keeps_cpu, resched}
 use Rattle.xinu_model.specs.Sound.Tables.{entries_of, ready_places, waiting_places, sleeping_places, HoldsFor, FitsMessage, IsInside, IsSoundTables}
 use Rattle.xinu_model.specs.Tables.{Tables, process_at, state_at, message_at, Place, Nowhere, InReady, move_to}
 use Rattle.xinu_laws.proofs.Lists.Counts.{first_has_entry}
-use Rattle.xinu_laws.proofs.Tables.MoveTo.{by_number, within_table, state_move_same, state_move_other, CanMove, inside_move}
+use Rattle.xinu_laws.proofs.Tables.MoveTo.{by_number, within_table, state_move_same, state_move_other, inside_move}
 
 -- who is in the ready list is ready
 pub ready_of : (s : State) → 0 < ready_places s → s ≡ Ready
@@ -88,12 +89,6 @@ can_move_ready t q m o alive holds = record {
   slot = holds;
   if_free = λ e. absurd (cc);
 }
-
--- What lets process q become ready: it is alive, doesn't run, and doesn't wait for a message without end.
-pub record CanBeReady (t : Tables) (q : ℕ) : Type 0 where
-  pub alive : state_at t q ≢ Free
-  pub idle : state_at t q ≢ Current
-  pub holds : HoldsFor (process_at t q).rest (message_at t q)
 
 -- A process that can become ready becomes ready.
 pub inside_ready : (t : Tables) (q : ℕ) → IsInside t → CanBeReady t q → IsInside (ready q t)

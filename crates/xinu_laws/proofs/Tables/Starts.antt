@@ -7,6 +7,7 @@ use Rattle.std.proofs.lemmas.List.{get_or-replicate, get_or_past, length-replica
 use Rattle.xinu_base.specs.declared.processes.Process.{Process}
 use Rattle.xinu_base.specs.declared.processes.State.TheVariants.{Free, Current, Ready, Suspended}
 use Rattle.xinu_base.specs.declared.semaphores.Owner.TheVariants.{Device}
+use Rattle.xinu_laws.specs.Moves.{CanBeReady, CanMove}
 use Rattle.xinu_model.specs.Boot.{Loaded, first_overlap, device_semaphore, first_semaphores, null_tables, loaded_machine, image_process, with_image, all_ready, Start, Boots, Overlaps, NoRoom, and_then, where_stack, all_made, all_started, unless_overlap, boot}
 use Rattle.xinu_model.specs.Heap.Cells.{Stack, take_stack}
 use Rattle.xinu_model.specs.Machine.{Xinu}
@@ -14,8 +15,8 @@ use Rattle.xinu_model.specs.Process.Scheduling.{in_state, ready}
 use Rattle.xinu_model.specs.Process.Creation.{stack_size, new_hart}
 use Rattle.xinu_model.specs.Sound.Tables.{count_in, waits_of, ready_places, waiting_places, sleeping_places, HasOneKind, FitsOwner, FitsMessage, IsInside, IsFixed, IsUnused, IsSoundTables}
 use Rattle.xinu_model.specs.Tables.{no_process, Semaphore, no_semaphore, Tables, process_at, state_at, message_at, semaphore_at, move_to, Nowhere, InReady}
-use Rattle.xinu_laws.proofs.Tables.Scheduling.{holds_at, CanBeReady, inside_last_process, sound_move, sound_ready, sound_resched}
-use Rattle.xinu_laws.proofs.Tables.MoveTo.{by_number, state_move_same, state_move_other, CanMove}
+use Rattle.xinu_laws.proofs.Tables.Scheduling.{holds_at, inside_last_process, sound_move, sound_ready, sound_resched}
+use Rattle.xinu_laws.proofs.Tables.MoveTo.{by_number, state_move_same, state_move_other}
 
 -- in a table of one thing each place holds it
 pub same_everywhere : {A : Type 0} (n p : ℕ) (x : A) → get_or (replicate n x) p x ≡ x

@@ -5,15 +5,16 @@ use Rattle.std.specs.List.{AllByRecursion}
 use Rattle.std.proofs.lemmas.Bool.{cases_eq, cond_both, eq-eqb}
 use Rattle.xinu_base.specs.declared.processes.State.{State}
 use Rattle.xinu_base.specs.declared.processes.State.TheVariants.{Free, Current, Receiving, Sleeping, Timed}
+use Rattle.xinu_laws.specs.Moves.{CanBeReady, ready_all}
 use Rattle.xinu_model.specs.Clock.{due, quantum_falls, wakeup, a_tick_later, ticked}
 use Rattle.xinu_model.specs.Machine.{Xinu, start}
 use Rattle.xinu_model.specs.Process.Scheduling.{ready, resched}
 use Rattle.xinu_model.specs.Sound.Tables.{entries_of, IsInside, IsSoundTables}
 use Rattle.xinu_model.specs.Tables.{Tables, state_at, entries_without}
 use Rattle.xinu_laws.proofs.Lists.Counts.{first_has_entry, entries_behind}
-use Rattle.xinu_laws.proofs.Tables.Scheduling.{sleeping_of, holds_at, CanBeReady, inside_quantum, inside_ticks, sound_resched}
+use Rattle.xinu_laws.proofs.Tables.Scheduling.{sleeping_of, holds_at, inside_quantum, inside_ticks, sound_resched}
 use Rattle.xinu_laws.proofs.Lists.Orders.{all_filter, all_weaker, all_map, all_both}
-use Rattle.xinu_laws.proofs.Tables.Unblock.{ready_all, unblock_all_ready, sound_ready_all, IsOneOf}
+use Rattle.xinu_laws.proofs.Tables.Unblock.{unblock_all_ready, sound_ready_all, IsOneOf}
 
 -- each entry of a list is counted in it
 pub all_have_entries : {K : Type 0} (l : List (ℕ × K)) → AllByRecursion (λ e. 0 < entries_of e.0 l) l

@@ -5,6 +5,7 @@ use Rattle.std.proofs.lemmas.Bool.{cond_both, eq-eqb, cases_lt}
 use Rattle.std.proofs.lemmas.List.{take_all}
 use Rattle.xinu_base.specs.declared.processes.Process.{Process}
 use Rattle.xinu_base.specs.declared.processes.State.TheVariants.{Free, Current, Ready, Waiting}
+use Rattle.xinu_laws.specs.Moves.{CanBeReady, ready_all}
 use Rattle.xinu_model.specs.Machine.{Xinu, CallState, unblock, unblock_all}
 use Rattle.xinu_model.specs.Process.Scheduling.{in_state, ready}
 use Rattle.xinu_model.specs.Semaphores.Counts.{with_tokens}
@@ -13,15 +14,10 @@ use Rattle.xinu_model.specs.Sound.Tables.{count_in, HasOneKind, HoldsFor, IsInsi
 use Rattle.xinu_model.specs.Tables.{Semaphore, no_semaphore, Tables, process_at, state_at, message_at, semaphore_at, numbers_without, InReady}
 use Rattle.xinu_laws.proofs.Tables.Changes.{inside_tokens, sound_tokens}
 use Rattle.xinu_laws.proofs.Lists.Counts.{first_is_counted, count_behind, get_or-le-total}
-use Rattle.xinu_laws.proofs.Tables.Scheduling.{waiting_of, holds_at, CanBeReady, inside_ready, sound_ready}
+use Rattle.xinu_laws.proofs.Tables.Scheduling.{waiting_of, holds_at, inside_ready, sound_ready}
 use Rattle.xinu_laws.proofs.Lists.Orders.{all_weaker}
 use Rattle.xinu_laws.proofs.Tables.Places.{semaphore_at_without}
 use Rattle.xinu_laws.proofs.Tables.MoveTo.{by_number, within_table, process_move_same, process_move_other, message_move_same, message_move_other}
-
--- these processes become ready, one after another
-abbrev pub ready_all : List ℕ → Tables → Tables
-ready_all [] t = t
-ready_all (p ∷ ps) t = ready_all ps (ready p t)
 
 -- Who is released becomes ready, and nothing else of the state changes.
 pub unblock_all_ready : (ps : List ℕ) (d : CallState) → (unblock_all ps d).state ≡ record d.state { tables = ready_all ps d.state.tables }

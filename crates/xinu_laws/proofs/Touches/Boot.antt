@@ -23,7 +23,8 @@ use Rattle.xinu_laws.proofs.Touches.Moves.{MayReady, may_ready_framed, touches_m
 
 module _ {f : Reach} where
   -- processes become ready
-  touches_all_ready : (images : List Loaded) (i : ℕ) (s : Xinu) → ((p : ℕ) → MayReady f.asks s.tables p) → Touches f s (record s { tables = all_ready i images s.tables })
+  touches_all_ready : (images : List Loaded) (i : ℕ) (s : Xinu) → ((p : ℕ) → MayReady f.asks s.tables p)
+      → Touches f s (record s { tables = all_ready i images s.tables })
   touches_all_ready [] i s may = touches_refl s
   touches_all_ready (image ∷ images) i s may =
       let t = s.tables in
@@ -38,7 +39,7 @@ module _ {f : Reach} where
       let first = touches_all_ready images 1 s may in
       touches_trans first (touches_resched_if u (λ p _. may_ready_framed s u p first (may p)))
 
--- A reach that has what the start touches: no call is under way, no semaphore is taken but the kernel's, which are left to devices.
+-- A reach that allows the start: no call is under way, and it leaves no semaphore alone, not even the four that devices have from the start on.
 pub record HasStart (f : Reach) : Type 0 where
   pub none : (sem : ℕ) → f.mine sem None ≡ false
   pub kernel : (sem : ℕ) → f.mine sem (Some Device) ≡ false
@@ -62,7 +63,8 @@ module _ {f : Reach} (g : HasStart f) where
   first_other (suc (suc (suc (suc sem)))) = ap (λ (x : Semaphore). f.mine (suc (suc (suc (suc sem)))) x.owner) (same_everywhere 124 sem no_semaphore) ∙ g.none (suc (suc (suc (suc sem))))
 
   -- the process of an image is made
-  touches_image : (i : ℕ) (image : Loaded) (stack : Stack) (s : Xinu) → take_stack (stack_size image.stack) s.parts.heap ≡ Some stack → Touches f s (with_image i image stack s)
+  touches_image : (i : ℕ) (image : Loaded) (stack : Stack) (s : Xinu) → take_stack (stack_size image.stack) s.parts.heap ≡ Some stack
+      → Touches f s (with_image i image stack s)
   touches_image i image stack s e =
       let x = image_process i image stack.top in
       let t = s.tables in
@@ -75,8 +77,10 @@ module _ {f : Reach} (g : HasStart f) where
       }
 
   -- and those of the others, if a stack is found
-  touches_next : (found : Option Stack) (i : ℕ) (image : Loaded) (images : List Loaded) (s x : Xinu) → take_stack (stack_size image.stack) s.parts.heap ≡ found
-      → ((y : Xinu) → all_made (i + 1) images y ≡ Boots x → Touches f y x) → and_then (where_stack found i image s) (λ y. all_made (i + 1) images y) ≡ Boots x → Touches f s x
+  touches_next : (found : Option Stack) (i : ℕ) (image : Loaded) (images : List Loaded) (s x : Xinu)
+      → take_stack (stack_size image.stack) s.parts.heap ≡ found
+      → ((y : Xinu) → all_made (i + 1) images y ≡ Boots x → Touches f y x)
+      → and_then (where_stack found i image s) (λ y. all_made (i + 1) images y) ≡ Boots x → Touches f s x
   touches_next None i image images s x e next h = cc
   touches_next (Some stack) i image images s x e next h = touches_trans (touches_image i image stack s e) (next (with_image i image stack s) h)
 
@@ -87,7 +91,8 @@ module _ {f : Reach} (g : HasStart f) where
       touches_next (take_stack (stack_size image.stack) s.parts.heap) i image images s x refl (λ y h. touches_all_made images (i + 1) y x h) e
 
   -- the start, by the first image that overlaps an earlier one
-  touches_unless_overlap : (overlap : Option ℕ) (images : List Loaded) (start : Xinu) → unless_overlap overlap images ≡ Boots start → Touches f (loaded_machine images) start
+  touches_unless_overlap : (overlap : Option ℕ) (images : List Loaded) (start : Xinu) → unless_overlap overlap images ≡ Boots start
+      → Touches f (loaded_machine images) start
   touches_unless_overlap (Some i) images start e = cc
   touches_unless_overlap None images start e =
       let b = boots_from (all_made 1 images (loaded_machine images)) (λ s. Boots (all_started images s)) start e in
@@ -101,13 +106,15 @@ module _ {f : Reach} (g : HasStart f) where
   touches_start images start e = touches_unless_overlap (first_overlap 1 [] images) images start e
 
   -- So no semaphore is one of these,
-  pub start_other : (images : List Loaded) (start : Xinu) → boot images ≡ Boots start → (sem : ℕ) → f.mine sem (semaphore_at start.tables sem).owner ≡ false
+  pub start_other : (images : List Loaded) (start : Xinu) → boot images ≡ Boots start → (sem : ℕ)
+      → f.mine sem (semaphore_at start.tables sem).owner ≡ false
   start_other images start e sem =
       false_from_ne_true (f.mine sem (semaphore_at start.tables sem).owner)
       (λ h. both_ways (f.mine sem (semaphore_at null_tables sem).owner) (first_other sem) (ap (f.mine sem) (sym ((touches_start images start e).frame.old sem h)) ∙ h))
 
   -- and nobody is in such a call.
-  pub start_unasked : (images : List Loaded) (start : Xinu) → boot images ≡ Boots start → (p : ℕ) → f.asks (process_at start.tables p).rest ≡ false
+  pub start_unasked : (images : List Loaded) (start : Xinu) → boot images ≡ Boots start → (p : ℕ)
+      → f.asks (process_at start.tables p).rest ≡ false
   start_unasked images start e p =
       false_from_ne_true (f.asks (process_at start.tables p).rest)
       (λ h. both_ways (f.asks (process_at null_tables p).rest) (first_unasked p) (ap f.asks (sym ((touches_start images start e).frame.rests p h).0) ∙ h))

@@ -1,4 +1,4 @@
--- What the rest of a call touches that waited.
+-- What is left of a call that waited touches no more than its footprint.
 use Rattle.xinu_base.specs.declared.processes.Rest.{Rest}
 use Rattle.xinu_base.specs.declared.processes.Rest.TheVariants as rest
 use Rattle.xinu_model.specs.Calls.{continued}

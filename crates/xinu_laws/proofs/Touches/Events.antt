@@ -29,8 +29,9 @@ use Rattle.xinu_laws.proofs.Tables.Ticks.{sound_later}
 may_ready_ready : (asks : Rest → Bool) (t : Tables) → IsInside t → (p : ℕ) → 0 < entries_of p t.ready → MayReady asks t p
 may_ready_ready asks t o p h = may_ready_idle asks t p (ap is_waiting (ready_of (state_at t p) (let e = o.ready p in omega arith)))
 
--- and so may who is in it after the current process made room
-may_ready_preempted : (asks : Rest → Bool) (t : Tables) → ((p : ℕ) → 0 < entries_of p t.ready → MayReady asks t p) → (p : ℕ) → 0 < entries_of p (preempt t).ready → MayReady asks t p
+-- and so can who is in it once the current process is preempted
+may_ready_preempted : (asks : Rest → Bool) (t : Tables) → ((p : ℕ) → 0 < entries_of p t.ready → MayReady asks t p) → (p : ℕ)
+    → 0 < entries_of p (preempt t).ready → MayReady asks t p
 may_ready_preempted asks t may p =
     let c = t.current in
     cond_both (is_current (state_at t c)) (ready c t) t (λ u. 0 < entries_of p u.ready → MayReady asks t p)
@@ -59,7 +60,7 @@ module _ {f : Reach} where
       touches_trans (touches_tables s u (frame_same t u refl refl) refl)
       (touches_moved (record s { tables = u }) p Current (message_at u p) Nowhere tt refl (record { idle = w.idle }))
 
-  -- The current process makes room.
+  -- The current process is preempted.
   touches_preempt : (s : Xinu) → Touches f s (record s { tables = preempt s.tables })
   touches_preempt s =
       let t = s.tables in
@@ -68,12 +69,14 @@ module _ {f : Reach} where
       (λ b. touches_moved s c Ready (message_at t c) InReady tt refl (may_ready_idle f.asks t c (ap is_waiting (current_of (state_at t c) b)))) (λ _. touches_refl s)
 
   -- The first of a list runs.
-  touches_dispatch_first : (l : List (ℕ × ℤ)) (s u : Xinu) → Touches f s u → ((p : ℕ) → 0 < entries_of p l → MayReady f.asks s.tables p) → Touches f s (record u { tables = dispatch_first l u.tables })
+  touches_dispatch_first : (l : List (ℕ × ℤ)) (s u : Xinu) → Touches f s u → ((p : ℕ) → 0 < entries_of p l → MayReady f.asks s.tables p)
+      → Touches f s (record u { tables = dispatch_first l u.tables })
   touches_dispatch_first [] s u c w = c
   touches_dispatch_first (e ∷ es) s u c w = touches_trans c (touches_dispatch u e.0 (may_ready_framed s u e.0 c (w e.0 (first_has_entry e es))))
 
   -- A resched, if who is in the ready list can become ready.
-  pub touches_resched_if : (s : Xinu) → ((p : ℕ) → 0 < entries_of p s.tables.ready → MayReady f.asks s.tables p) → Touches f s (record s { tables = resched s.tables })
+  pub touches_resched_if : (s : Xinu) → ((p : ℕ) → 0 < entries_of p s.tables.ready → MayReady f.asks s.tables p)
+      → Touches f s (record s { tables = resched s.tables })
   touches_resched_if s may =
       let t = s.tables in
       let room = preempt t in
@@ -85,7 +88,8 @@ module _ {f : Reach} where
   touches_resched s o = touches_resched_if s (may_ready_ready f.asks s.tables o)
 
   -- The end of an event.
-  pub touches_end_of_event : (was : ℕ) (first : List TranscriptLine) (result : CallResult) → IsInside result.call.state.tables → Touches f result.call.state (end_of_event was first result).state
+  pub touches_end_of_event : (was : ℕ) (first : List TranscriptLine) (result : CallResult) → IsInside result.call.state.tables
+      → Touches f result.call.state (end_of_event was first result).state
   touches_end_of_event was first result o =
       let s = result.call.state in
       let k : Touches f s (record s { tables = cond (result.call.owes_resched || is_off result.answer) (resched s.tables) s.tables }) =
@@ -110,7 +114,8 @@ module _ {f : Reach} where
       (λ _. touches_trans (touches_tables s fresh (frame_same t fresh refl refl) refl) (touches_resched (record s { tables = fresh }) (inside_quantum t 2 o)))
 
   -- a tick later, and then the quantum falls
-  touches_later : (owes : Bool) (s : Xinu) → IsInside (record s.tables { ticks = s.tables.ticks + 1 }) → Touches f s (record s { tables = quantum_falls (a_tick_later owes s.tables) })
+  touches_later : (owes : Bool) (s : Xinu) → IsInside (record s.tables { ticks = s.tables.ticks + 1 })
+      → Touches f s (record s { tables = quantum_falls (a_tick_later owes s.tables) })
   touches_later owes s o =
       let t = s.tables in
       let later = record t { ticks = t.ticks + 1 } in

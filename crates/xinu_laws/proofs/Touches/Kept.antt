@@ -1,4 +1,4 @@
--- What a step keeps whose footprint doesn't name a part.
+-- What a step keeps of the parts that its footprint doesn't name.
 use Rattle.std.proofs.Common.{◌≡◌, ℕ, true, false, not, Option, Some, sym, ap, subst}
 use Rattle.std.proofs.lemmas.Bool.{false≢true}
 use Rattle.xinu_base.specs.declared.processes.Rest.{Rest}
@@ -36,16 +36,18 @@ module _ (f : Footprint) where
   messages_spared e _ h = absurd (false≢true h)
 
 module _ {f : Footprint} {s u : Xinu} where
-  -- Without the pools it keeps what holds of them.
+  -- A step that may not change pools keeps what holds of them.
   pub keeps_pools : f.pools ≡ false → Touches (reach f) s u → ArePools s.tables s.parts.pools → ArePools u.tables u.parts.pools
   keeps_pools e t k = subst (ArePools u.tables) (sym (t.parts.pools e))
       (are_pools_framed s.tables u.tables s.parts.pools (frame_weaker s.tables u.tables (pools_spared f e) (buffers_spared f e) t.frame) k)
 
-  -- Without the ports it keeps what holds of them, if it keeps what holds of the tables.
-  pub keeps_ports : f.ports ≡ false → Touches (reach f) s u → IsInside u.tables → ArePorts s.tables s.parts.ports → ArePorts u.tables u.parts.ports
+  -- A step that may not change ports keeps what holds of them, if it keeps what holds of the tables.
+  pub keeps_ports : f.ports ≡ false → Touches (reach f) s u → IsInside u.tables → ArePorts s.tables s.parts.ports
+      → ArePorts u.tables u.parts.ports
   keeps_ports e t o k = subst (ArePorts u.tables) (sym (t.parts.ports e).0)
       (ports_framed s.tables u.tables s.parts.ports o (frame_weaker s.tables u.tables (ports_spared f e) (messages_spared f e) t.frame) k)
 
--- Without heap, stacks and the pools' ranges it keeps the places of all.
-pub keeps_places : {f : Reach} {s u : Xinu} → Touches f s u → f.parts.heap ≡ false → f.parts.stacks ≡ false → f.parts.ranges ≡ false → KeepsPlaces s u
+-- A step that may change neither the heap nor stacks nor where pools lie keeps the places of all.
+pub keeps_places : {f : Reach} {s u : Xinu} → Touches f s u → f.parts.heap ≡ false → f.parts.stacks ≡ false → f.parts.ranges ≡ false
+    → KeepsPlaces s u
 keeps_places t h k r = record { heap = t.parts.heap h; ranges = t.parts.ranges r; stacks = t.stacks k }

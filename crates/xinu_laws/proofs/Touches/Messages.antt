@@ -13,7 +13,8 @@ use Rattle.xinu_laws.proofs.Touches.{StaysIn, touches_refl, touches_if}
 use Rattle.xinu_laws.proofs.Touches.Moves.{touches_delivered, touches_goes_on, touches_blocked}
 
 -- a message is taken, or there is another way
-received_touches : (message : Option ℕ) (otherwise : CallResult) (s : Xinu) → Touches (reach on_tables) s otherwise.call.state → Touches (reach on_tables) s (received message otherwise s).call.state
+received_touches : (message : Option ℕ) (otherwise : CallResult) (s : Xinu) → Touches (reach on_tables) s otherwise.call.state
+    → Touches (reach on_tables) s (received message otherwise s).call.state
 received_touches None otherwise s k = k
 received_touches (Some message) otherwise s k = touches_goes_on refl None s
 

@@ -1,4 +1,4 @@
--- What is done inside an event touches the tables alone.
+-- What the moves inside an event touch: the tables alone, and no semaphore and no call that is left alone.
 use Rattle.std.proofs.Common.{◌≡◌, ℕ, zero, suc, ◌+◌, ◌-◌, ◌<◌, ◌==◌, Bool, true, false, ◌&&◌, List, [], ◌∷◌, length, take, drop, set, Option, Some, refl, sym, ap, ◌∙◌, arith}
 use Rattle.std.proofs.lemmas.Bool.{both_ways, cond_both}
 use Rattle.std.proofs.lemmas.List.{take-append-drop}
@@ -25,7 +25,7 @@ use Rattle.xinu_laws.proofs.Frame.MoveTo.{IsFramePlace, IsFrameChange, frame_mov
 use Rattle.xinu_laws.proofs.Frame.Semaphores.{others_framed, frame_semaphore, frame_make_semaphore}
 use Rattle.xinu_laws.proofs.Touches.{touches_tables, touches_refl, touches_trans}
 
--- Where a process is in such a call it doesn't wait.
+-- Process p can become ready: if it is in a call that is left alone, it doesn't wait.
 pub record MayReady (asks : Rest → Bool) (t : Tables) (p : ℕ) : Type 0 where
   pub idle : asks (process_at t p).rest ≡ true → is_waiting (state_at t p) ≡ false
 
@@ -33,7 +33,7 @@ pub record MayReady (asks : Rest → Bool) (t : Tables) (p : ℕ) : Type 0 where
 pub may_ready_idle : (asks : Rest → Bool) (t : Tables) (p : ℕ) → is_waiting (state_at t p) ≡ false → MayReady asks t p
 may_ready_idle asks t p e = record { idle = λ _. e }
 
--- who can become ready may be after a move
+-- who can become ready still can after a move
 pub may_ready_framed : {f : Reach} (s u : Xinu) (p : ℕ) → Touches f s u → MayReady f.asks s.tables p → MayReady f.asks u.tables p
 may_ready_framed {f} s u p c w = record { idle = λ h. (let e = c.frame.rests p h in e.1 ∙ w.idle (ap f.asks (sym e.0) ∙ h)) }
 
@@ -48,7 +48,7 @@ listens_idle Sleeping h = refl
 listens_idle Suspended h = refl
 listens_idle Timed h = refl
 
--- whoever is in no such call doesn't wait in one
+-- whoever isn't in such a call doesn't wait in one
 unasked : (a b : Bool) → b ≡ false → a && b ≡ false
 unasked true b e = e
 unasked false b e = refl
@@ -63,40 +63,46 @@ pub record MayTouch (f : Reach) (t : Tables) (sem : ℕ) : Type 0 where
   pub rests : (left : Rest) → FitsOwner sem (semaphore_at t sem).owner left → f.asks left ≡ false
 
 -- whoever waits on it can become ready
-may_ready_waiter : {f : Reach} (t : Tables) (sem : ℕ) → IsInside t → MayTouch f t sem → (p : ℕ) → 0 < count_in p (semaphore_at t sem).waiters → MayReady f.asks t p
+may_ready_waiter : {f : Reach} (t : Tables) (sem : ℕ) → IsInside t → MayTouch f t sem → (p : ℕ)
+    → 0 < count_in p (semaphore_at t sem).waiters → MayReady f.asks t p
 may_ready_waiter {f} t sem o may p h = let e = may.rests (process_at t p).rest (o.rests sem p h) in record { idle = λ g. absurd (both_ways (f.asks (process_at t p).rest) e g) }
 
 module _ {f : Reach} where
   -- A process moves with its stack.
-  pub touches_move : (s : Xinu) (q : ℕ) (x : Process) (m : Option ℕ) (place : Place) → IsFramePlace f.mine s.tables place → IsFrameChange f.asks (process_at s.tables q) x
+  pub touches_move : (s : Xinu) (q : ℕ) (x : Process) (m : Option ℕ) (place : Place) → IsFramePlace f.mine s.tables place
+      → IsFrameChange f.asks (process_at s.tables q) x
       → waits_in f.asks x ≡ false → stack_of x ≡ stack_of (process_at s.tables q) → Touches f s (record s { tables = move_to q x m place s.tables })
   touches_move s q x m place p c idle stack =
       let t = s.tables in touches_tables s (move_to q x m place t) (frame_move t q x m place p c idle) (map_set_same stack_of t.processes q x no_process stack)
 
   -- A process goes to another state, in which it doesn't wait.
-  pub touches_moved : (s : Xinu) (q : ℕ) (state : State) (m : Option ℕ) (place : Place) → IsFramePlace f.mine s.tables place → is_waiting state ≡ false → MayReady f.asks s.tables q
+  pub touches_moved : (s : Xinu) (q : ℕ) (state : State) (m : Option ℕ) (place : Place) → IsFramePlace f.mine s.tables place
+      → is_waiting state ≡ false → MayReady f.asks s.tables q
       → Touches f s (record s { tables = move_to q (in_state state (process_at s.tables q)) m place s.tables })
   touches_moved s q state m place p e w =
       let x = process_at s.tables q in touches_move s q (in_state state x) m place p (λ h. (refl, e ∙ sym (w.idle h))) (ap (λ b. b && f.asks x.rest) e) refl
 
   -- A process goes anywhere, in a call that isn't left alone.
-  pub touches_unasked : (s : Xinu) (q : ℕ) (x : Process) (m : Option ℕ) (place : Place) → IsFramePlace f.mine s.tables place → f.asks x.rest ≡ false
+  pub touches_unasked : (s : Xinu) (q : ℕ) (x : Process) (m : Option ℕ) (place : Place) → IsFramePlace f.mine s.tables place
+      → f.asks x.rest ≡ false
       → stack_of x ≡ stack_of (process_at s.tables q) → Touches f s (record s { tables = move_to q x m place s.tables })
   touches_unasked s q x m place p e = touches_move s q x m place p (λ h. absurd (both_ways (f.asks x.rest) e h)) (unasked (is_waiting x.state) (f.asks x.rest) e)
 
-  -- A process is released.
+  -- A process is unblocked.
   pub touches_unblock : (p : ℕ) (d : CallState) → MayReady f.asks d.state.tables p → Touches f d.state (unblock p d).state
   touches_unblock p d w = touches_moved d.state p Ready (message_at d.state.tables p) InReady tt refl w
 
-  -- Processes are released, one after another.
-  pub touches_unblock_all : (ps : List ℕ) (d : CallState) → ((p : ℕ) → 0 < count_in p ps → MayReady f.asks d.state.tables p) → Touches f d.state (unblock_all ps d).state
+  -- Processes are unblocked, one after another.
+  pub touches_unblock_all : (ps : List ℕ) (d : CallState) → ((p : ℕ) → 0 < count_in p ps → MayReady f.asks d.state.tables p)
+      → Touches f d.state (unblock_all ps d).state
   touches_unblock_all [] d w = touches_refl d.state
   touches_unblock_all (p ∷ ps) d w =
       let first = touches_unblock p d (w p (first_is_counted p ps)) in
       touches_trans first (touches_unblock_all ps (unblock p d) (λ q h. may_ready_framed d.state (unblock p d).state q first (w q (count_behind q p ps h))))
 
   -- The caller waits, in a call that isn't left alone.
-  pub touches_blocked : (state : State) (rest : Rest) (place : Place) (s : Xinu) → IsFramePlace f.mine s.tables place → f.asks rest ≡ false → Touches f s (blocked state rest place s).call.state
+  pub touches_blocked : (state : State) (rest : Rest) (place : Place) (s : Xinu) → IsFramePlace f.mine s.tables place → f.asks rest ≡ false
+      → Touches f s (blocked state rest place s).call.state
   touches_blocked state rest place s p e =
       let t = s.tables in touches_unasked s t.current (record (process_at t t.current) { state = state; rest = rest }) (message_at t t.current) place p e refl
 
@@ -120,37 +126,44 @@ module _ {f : Reach} where
       cond_both (can_get p d.state.tables) (delivered p message d) d (λ e. Touches f d.state e.state) (λ _. touches_delivered p message d) (λ _. touches_refl d.state)
 
   -- A semaphore changes.
-  pub touches_semaphore : (s : Xinu) (r : ℕ) (x : Semaphore) → f.mine r (semaphore_at s.tables r).owner ≡ false → f.mine r x.owner ≡ false → Touches f s (record s { tables = with_semaphore r x s.tables })
+  pub touches_semaphore : (s : Xinu) (r : ℕ) (x : Semaphore) → f.mine r (semaphore_at s.tables r).owner ≡ false → f.mine r x.owner ≡ false
+      → Touches f s (record s { tables = with_semaphore r x s.tables })
   touches_semaphore s r x old new = touches_tables s (with_semaphore r x s.tables) (frame_semaphore s.tables r x old new) refl
 
   -- Its tokens change.
-  pub touches_tokens : (s : Xinu) (r n : ℕ) → f.mine r (semaphore_at s.tables r).owner ≡ false → Touches f s (record s { tables = with_tokens r n s.tables })
+  pub touches_tokens : (s : Xinu) (r n : ℕ) → f.mine r (semaphore_at s.tables r).owner ≡ false
+      → Touches f s (record s { tables = with_tokens r n s.tables })
   touches_tokens s r n e = touches_semaphore s r (record (semaphore_at s.tables r) { tokens = n }) e e
 
   -- It is made.
-  pub touches_make_semaphore : (s : Xinu) (r : ℕ) (by : Owner) (n : ℕ) → f.mine r (semaphore_at s.tables r).owner ≡ false → f.mine r (Some by) ≡ false
+  pub touches_make_semaphore : (s : Xinu) (r : ℕ) (by : Owner) (n : ℕ) → f.mine r (semaphore_at s.tables r).owner ≡ false
+      → f.mine r (Some by) ≡ false
       → Touches f s (record s { tables = make_semaphore r by n s.tables })
   touches_make_semaphore s r by n old new = touches_tables s (make_semaphore r by n s.tables) (frame_make_semaphore s.tables r by n old new) refl
 
   -- One signal, by who waits.
-  touches_signal_first : (s : ℕ) (l : List ℕ) (d : CallState) → f.mine s (semaphore_at d.state.tables s).owner ≡ false → ((p : ℕ) → 0 < count_in p l → MayReady f.asks d.state.tables p)
+  touches_signal_first : (s : ℕ) (l : List ℕ) (d : CallState) → f.mine s (semaphore_at d.state.tables s).owner ≡ false
+      → ((p : ℕ) → 0 < count_in p l → MayReady f.asks d.state.tables p)
       → Touches f d.state (signal_first s l d).state
   touches_signal_first s [] d e w = touches_tokens d.state s ((semaphore_at d.state.tables s).tokens + 1) e
   touches_signal_first s (p ∷ ps) d e w = touches_unblock p d (w p (first_is_counted p ps))
 
-  pub touches_signalled : (s : ℕ) (d : CallState) → IsInside d.state.tables → MayTouch f d.state.tables s → Touches f d.state (signalled s d).state
+  pub touches_signalled : (s : ℕ) (d : CallState) → IsInside d.state.tables → MayTouch f d.state.tables s
+      → Touches f d.state (signalled s d).state
   touches_signalled s d o may = touches_signal_first s (semaphore_at d.state.tables s).waiters d may.owner (may_ready_waiter d.state.tables s o may)
 
-  -- All who wait are released.
-  pub touches_emptied : (s : ℕ) (d : CallState) → IsInside d.state.tables → MayTouch f d.state.tables s → Touches f d.state (emptied s d).state
+  -- All who wait are unblocked.
+  pub touches_emptied : (s : ℕ) (d : CallState) → IsInside d.state.tables → MayTouch f d.state.tables s
+      → Touches f d.state (emptied s d).state
   touches_emptied s d o may = touches_unblock_all (semaphore_at d.state.tables s).waiters d (may_ready_waiter d.state.tables s o may)
 
-  -- a semaphore that may be touched may be after a step
+  -- a semaphore that may be touched still may after a step
   pub still_touched : {s u : Xinu} (r : ℕ) → Touches f s u → MayTouch f s.tables r → f.mine r (semaphore_at u.tables r).owner ≡ false
   still_touched {s} {u} r c may = others_framed s.tables u.tables r c.frame may.owner
 
-  -- Some signals.
-  pub touches_signalled_times : (s n : ℕ) (d : CallState) → IsInside d.state.tables → MayTouch f d.state.tables s → Touches f d.state (signalled_times s n d).state
+  -- n signals.
+  pub touches_signalled_times : (s n : ℕ) (d : CallState) → IsInside d.state.tables → MayTouch f d.state.tables s
+      → Touches f d.state (signalled_times s n d).state
   touches_signalled_times s n d o may =
       let x = semaphore_at d.state.tables s in
       let after = unblock_all (take n x.waiters) d in
@@ -158,7 +171,8 @@ module _ {f : Reach} where
       touches_trans first (touches_tokens after.state s (x.tokens + (n - length x.waiters)) (still_touched s first may))
 
   -- A token is taken, or awaited.
-  pub touches_take_token : (tokens sem : ℕ) (rest : Rest) (then_ : Xinu → CallResult) (s : Xinu) → f.mine sem (semaphore_at s.tables sem).owner ≡ false → f.asks rest ≡ false
+  pub touches_take_token : (tokens sem : ℕ) (rest : Rest) (then_ : Xinu → CallResult) (s : Xinu)
+      → f.mine sem (semaphore_at s.tables sem).owner ≡ false → f.asks rest ≡ false
       → ((n : ℕ) → tokens ≡ suc n → Touches f s (then_ (record s { tables = with_tokens sem n s.tables })).call.state) → Touches f s (take_token tokens sem rest then_ s).call.state
   touches_take_token zero sem rest then_ s e left go = touches_blocked Waiting rest (InSemaphore sem) s e left
   touches_take_token (suc n) sem rest then_ s e left go = go n refl

@@ -1,4 +1,4 @@
--- What the calls on pools touch. The lemmas that calls on ports need too hold for any reach that has the pools.
+-- What the calls on pools touch. What calls on ports need too holds for any reach that allows pools.
 use Rattle.std.proofs.Common.{◌≡◌, ◌<◌, ℕ, ◌&&◌, false, true, List, [], ◌∷◌, length, Option, None, Some, set, refl, sym, ap, subst, ◌∙◌, arith}
 use Rattle.std.proofs.Math.ListN.{length-set}
 use Rattle.std.specs.Prelude.{nat_lt}
@@ -31,13 +31,13 @@ use Rattle.xinu_laws.proofs.Tables.Unblock.{sound_signalled}
 use Rattle.xinu_laws.proofs.Touches.{StaysIn, named, parts_pools, touches_parts, touches_refl, touches_trans, touches_either, touches_if}
 use Rattle.xinu_laws.proofs.Touches.Moves.{MayTouch, touches_tokens, touches_make_semaphore, parts_signalled, touches_signalled, touches_take_token, touches_goes_on}
 
--- A reach that has all pools.
+-- A reach that allows all pools to change.
 pub record HasPools (f : Reach) : Type 0 where
   pub owner : (sem i : ℕ) → f.mine sem (Some (owner.Pool i)) ≡ false
   pub waits : (i : ℕ) → f.asks (GetBuf i) ≡ false
   pub parts : f.parts.pools ≡ true
 
--- that of the calls on pools has them
+-- that of the calls on pools does
 pub pools_reached : HasPools (reach on_pools)
 pools_reached = record { owner = λ sem i. refl; waits = λ i. refl; parts = refl }
 
@@ -49,8 +49,9 @@ pub record OwnSemaphores (t : Tables) (pools : List Pool) : Type 0 where
 pub own_semaphores : (t : Tables) (pools : List Pool) → ArePools t pools → OwnSemaphores t pools
 own_semaphores t pools k = record { owner = λ i h. (k.each i h).owner }
 
--- with a buffer more in one of them
-own_set : (t u : Tables) (pools : List Pool) (a i : ℕ) → OwnSemaphores t pools → ((sem : ℕ) → (semaphore_at u sem).owner ≡ (semaphore_at t sem).owner)
+-- and still does with one more free buffer
+own_set : (t u : Tables) (pools : List Pool) (a i : ℕ) → OwnSemaphores t pools
+    → ((sem : ℕ) → (semaphore_at u sem).owner ≡ (semaphore_at t sem).owner)
     → OwnSemaphores u (set pools i (with_free a (pool_at pools i)))
 own_set t u pools a i k same = record {
   owner = λ j h. (let x = with_free a (pool_at pools i) in
@@ -59,7 +60,8 @@ own_set t u pools a i k same = record {
 }
 
 -- a held buffer that is put back leaves each pool its semaphore
-put_back_owns : (a i : ℕ) (d : CallState) → OwnSemaphores d.state.tables d.state.parts.pools → OwnSemaphores (put_back a i d).state.tables (put_back a i d).state.parts.pools
+put_back_owns : (a i : ℕ) (d : CallState) → OwnSemaphores d.state.tables d.state.parts.pools
+    → OwnSemaphores (put_back a i d).state.tables (put_back a i d).state.parts.pools
 put_back_owns a i d k =
     let pools = d.state.parts.pools in
     let pool = pool_at pools i in
@@ -81,7 +83,8 @@ module _ {f : Reach} (a : HasPools f) where
   touches_free s memory i pool e = touches_parts s _ refl (parts_pools a.parts s.parts (set s.parts.pools i pool) (map_set_same range_of s.parts.pools i pool no_pool e))
 
   -- A held buffer is put back.
-  put_back_touches : (b i : ℕ) (d : CallState) → IsInside d.state.tables → OwnSemaphores d.state.tables d.state.parts.pools → i < length d.state.parts.pools → Touches f d.state (put_back b i d).state
+  put_back_touches : (b i : ℕ) (d : CallState) → IsInside d.state.tables → OwnSemaphores d.state.tables d.state.parts.pools
+      → i < length d.state.parts.pools → Touches f d.state (put_back b i d).state
   put_back_touches b i d o k h =
       let pool = pool_at d.state.parts.pools i in
       let e : CallState = record d { state = record d.state { parts = record d.state.parts { pools = set d.state.parts.pools i (with_free b pool) } } } in
@@ -89,14 +92,17 @@ module _ {f : Reach} (a : HasPools f) where
       touches_trans first (touches_signalled pool.semaphore e o (pool_may_be_touched d.state.tables pool.semaphore i (k.owner i h)))
 
   -- What is held at an address is given back.
-  pub freed_buffer_touches : (b : ℕ) (d : CallState) → IsInside d.state.tables → OwnSemaphores d.state.tables d.state.parts.pools → Touches f d.state (freed_buffer b d).state
+  pub freed_buffer_touches : (b : ℕ) (d : CallState) → IsInside d.state.tables → OwnSemaphores d.state.tables d.state.parts.pools
+      → Touches f d.state (freed_buffer b d).state
   freed_buffer_touches b d o k = by_holder (λ e. Touches f d.state e.state) b d (touches_refl d.state) (λ i h. put_back_touches b i d o k h.within)
 
--- the tables stay sound in that, and each pool has its semaphore
-pub freed_buffer_owns : (b : ℕ) (d : CallState) → OwnSemaphores d.state.tables d.state.parts.pools → OwnSemaphores (freed_buffer b d).state.tables (freed_buffer b d).state.parts.pools
+-- then the tables stay sound, and each pool keeps its semaphore
+pub freed_buffer_owns : (b : ℕ) (d : CallState) → OwnSemaphores d.state.tables d.state.parts.pools
+    → OwnSemaphores (freed_buffer b d).state.tables (freed_buffer b d).state.parts.pools
 freed_buffer_owns b d k = by_holder (λ e. OwnSemaphores e.state.tables e.state.parts.pools) b d k (λ i h. put_back_owns b i d k)
 
-pub freed_buffer_sound : (b : ℕ) (d : CallState) → IsSoundTables d.state.tables → OwnSemaphores d.state.tables d.state.parts.pools → IsSoundTables (freed_buffer b d).state.tables
+pub freed_buffer_sound : (b : ℕ) (d : CallState) → IsSoundTables d.state.tables → OwnSemaphores d.state.tables d.state.parts.pools
+    → IsSoundTables (freed_buffer b d).state.tables
 freed_buffer_sound b d t k = by_holder (λ e. IsSoundTables e.state.tables) b d t
     (λ i h. let pools = d.state.parts.pools in
     let pool = pool_at pools i in
@@ -106,17 +112,20 @@ freed_buffer_sound b d t k = by_holder (λ e. IsSoundTables e.state.tables) b d 
 
 -- Some are given back, one after another.
 module _ {f : Reach} (a : HasPools f) where
-  pub freed_buffers_touch : (messages : List ℕ) (d : CallState) → IsSoundTables d.state.tables → OwnSemaphores d.state.tables d.state.parts.pools → Touches f d.state (freed_buffers messages d).state
+  pub freed_buffers_touch : (messages : List ℕ) (d : CallState) → IsSoundTables d.state.tables
+      → OwnSemaphores d.state.tables d.state.parts.pools → Touches f d.state (freed_buffers messages d).state
   freed_buffers_touch [] d t k = touches_refl d.state
   freed_buffers_touch (b ∷ messages) d t k =
       touches_trans (freed_buffer_touches a b d t.inside k) (freed_buffers_touch messages (freed_buffer b d) (freed_buffer_sound b d t k) (freed_buffer_owns b d k))
 
-pub freed_buffers_sound : (messages : List ℕ) (d : CallState) → IsSoundTables d.state.tables → OwnSemaphores d.state.tables d.state.parts.pools → IsSoundTables (freed_buffers messages d).state.tables
+pub freed_buffers_sound : (messages : List ℕ) (d : CallState) → IsSoundTables d.state.tables
+    → OwnSemaphores d.state.tables d.state.parts.pools → IsSoundTables (freed_buffers messages d).state.tables
 freed_buffers_sound [] d t k = t
 freed_buffers_sound (b ∷ messages) d t k = freed_buffers_sound messages (freed_buffer b d) (freed_buffer_sound b d t k) (freed_buffer_owns b d k)
 
 -- Call 30.
-freed_by_touches : (found : Option ℕ) (b : ℕ) (s : Xinu) → holder b s.parts.pools ≡ found → IsSound s → Touches (reach on_pools) s (freed_by found b s).call.state
+freed_by_touches : (found : Option ℕ) (b : ℕ) (s : Xinu) → holder b s.parts.pools ≡ found → IsSound s
+    → Touches (reach on_pools) s (freed_by found b s).call.state
 freed_by_touches None b s e k = touches_refl s
 freed_by_touches (Some i) b s e k = put_back_touches pools_reached b i (start s) k.tables.inside (own_semaphores s.tables s.parts.pools k.pools) (holder_finds b i s.parts.pools e).within
 
@@ -143,7 +152,8 @@ pub go_on_getbuf_touches : (i : ℕ) → StaysIn on_pools (go_on_getbuf i)
 go_on_getbuf_touches i s k = touches_trans (touches_goes_on refl (held s) s) (take_first_touches (pool_at s.parts.pools i).free i (goes_on (held s) s))
 
 -- a pool is made, if memory and a semaphore are found
-made_pool_touches : (found : Option Grant) (sem : Option ℕ) (size n : ℕ) (s : Xinu) → free_semaphore s.tables ≡ sem → take_memory (pool_bytes size n) s.parts.heap ≡ found
+made_pool_touches : (found : Option Grant) (sem : Option ℕ) (size n : ℕ) (s : Xinu) → free_semaphore s.tables ≡ sem
+    → take_memory (pool_bytes size n) s.parts.heap ≡ found
     → Touches (reach on_new_pool) s (made_pool found sem size n s).call.state
 made_pool_touches (Some grant) (Some sem) size n s e g =
     touches_either s (meets_pool grant.address (pool_bytes size n) s.parts.pools) (refused s) (with_pool grant sem size n s) (λ _. touches_refl s)

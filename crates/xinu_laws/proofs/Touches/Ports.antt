@@ -1,4 +1,4 @@
--- What the calls on ports touch. Each lemma holds for any reach that has the port, so also for one that has this port alone.
+-- What the calls on ports touch. What is shown of one port holds for any reach that allows this port, so also for one that allows no other.
 use Rattle.std.proofs.Common.{◌≡◌, ℕ, suc, ◌==◌, ◌++◌, true, false, List, [], ◌∷◌, Option, None, Some, refl, ap, subst, ◌∙◌, ℤ, pos, negsuc}
 use Rattle.std.specs.Prelude.{nat_le}
 use Rattle.std.proofs.lemmas.Bool.{cond_both}
@@ -29,7 +29,7 @@ use Rattle.xinu_laws.proofs.Touches.{StaysIn, parts_ports, touches_parts, touche
 use Rattle.xinu_laws.proofs.Touches.Moves.{MayTouch, touches_semaphore, touches_tokens, touches_make_semaphore, touches_signalled, touches_emptied, still_touched, touches_take_token, touches_goes_on}
 use Rattle.xinu_laws.proofs.Touches.Pools.{HasPools, OwnSemaphores, own_semaphores, freed_buffers_touch, freed_buffers_sound}
 
--- A reach that has port q.
+-- A reach that allows port q to change.
 pub record HasPort (f : Reach) (q : ℕ) : Type 0 where
   pub none : (sem : ℕ) → f.mine sem None ≡ false
   pub owner : (sem : ℕ) → f.mine sem (Some (owner.Port q)) ≡ false
@@ -37,7 +37,7 @@ pub record HasPort (f : Reach) (q : ℕ) : Type 0 where
   pub nothing : f.asks Nothing ≡ false
   pub parts : f.parts.ports ≡ true
 
--- that of the calls on ports has each
+-- that of the calls on ports allows each
 pub port_reached : (q : ℕ) → HasPort (reach on_ports) q
 port_reached q = record { none = λ sem. refl; owner = λ sem. refl; waits = waits; nothing = refl; parts = refl }
   where
@@ -46,7 +46,7 @@ port_reached q = record { none = λ sem. refl; owner = λ sem. refl; waits = wai
     waits sem (PtRecv ticket) h = refl
     waits sem _ h = absurd h
 
--- and so has that of the calls that give messages back as buffers
+-- and so does that of the calls that give messages back as buffers
 deleted_reached : (q : ℕ) → HasPort (reach on_ports_and_pools) q
 deleted_reached q = record { none = λ sem. refl; owner = λ sem. refl; waits = waits; nothing = refl; parts = refl }
   where
@@ -61,14 +61,16 @@ pools_reached_too = record { owner = λ sem i. refl; waits = λ i. refl; parts =
 -- Each port names two semaphores of its own.
 pub record OwnPorts (t : Tables) (ports : List Port) : Type 0 where
   pub send : (q : ℕ) (queue : PortQueue) → (port_at ports q).queue ≡ Some queue → (semaphore_at t queue.send).owner ≡ Some (owner.Port q)
-  pub receive : (q : ℕ) (queue : PortQueue) → (port_at ports q).queue ≡ Some queue → (semaphore_at t queue.receive).owner ≡ Some (owner.Port q)
+  pub receive : (q : ℕ) (queue : PortQueue) → (port_at ports q).queue ≡ Some queue
+      → (semaphore_at t queue.receive).owner ≡ Some (owner.Port q)
 
 -- if the ports are sound each does
 pub own_ports : (s : Xinu) → IsSound s → OwnPorts s.tables s.parts.ports
 own_ports s k = record { send = λ q queue e. (k.ports.each q queue e).send_owner; receive = λ q queue e. (k.ports.each q queue e).receive_owner }
 
--- and goes on to, if semaphores keep their owners
-own_kept : (t u : Tables) (ports : List Port) → ((sem : ℕ) → (semaphore_at u sem).owner ≡ (semaphore_at t sem).owner) → OwnPorts t ports → OwnPorts u ports
+-- and still does if semaphores keep their owners
+own_kept : (t u : Tables) (ports : List Port) → ((sem : ℕ) → (semaphore_at u sem).owner ≡ (semaphore_at t sem).owner) → OwnPorts t ports
+    → OwnPorts u ports
 own_kept t u ports same k = record { send = λ q queue e. same queue.send ∙ k.send q queue e; receive = λ q queue e. same queue.receive ∙ k.receive q queue e }
 
 module _ {f : Reach} (q : ℕ) (a : HasPort f q) where
@@ -80,7 +82,8 @@ module _ {f : Reach} (q : ℕ) (a : HasPort f q) where
   }
 
   -- A port is made with two semaphores that no one owns.
-  pub with_port_touches : (n send receive : ℕ) (s : Xinu) → (semaphore_at s.tables send).owner ≡ None → (semaphore_at (make_semaphore send (owner.Port q) n s.tables) receive).owner ≡ None
+  pub with_port_touches : (n send receive : ℕ) (s : Xinu) → (semaphore_at s.tables send).owner ≡ None
+      → (semaphore_at (make_semaphore send (owner.Port q) n s.tables) receive).owner ≡ None
       → Touches f s (with_port q n send receive s).call.state
   with_port_touches n send receive s g h =
       let u = record s { tables = make_semaphore send (owner.Port q) n s.tables } in
@@ -89,14 +92,16 @@ module _ {f : Reach} (q : ℕ) (a : HasPort f q) where
       let then_ : Touches f u v = touches_make_semaphore u receive (owner.Port q) 0 (ap (f.mine receive) (h) ∙ a.none receive) (a.owner receive) in
       touches_trans (touches_trans first then_) (touches_parts v _ refl (parts_ports a.parts s.parts _ _))
 
-  -- a port is made, if the second semaphore is found.
-  made_port_touches : (found : Option ℕ) (n send : ℕ) (s : Xinu) → (semaphore_at s.tables send).owner ≡ None → free_semaphore (make_semaphore send (owner.Port q) n s.tables) ≡ found
+  -- a port is made, if the second semaphore is found
+  made_port_touches : (found : Option ℕ) (n send : ℕ) (s : Xinu) → (semaphore_at s.tables send).owner ≡ None
+      → free_semaphore (make_semaphore send (owner.Port q) n s.tables) ≡ found
       → Touches f s (made_port found q n send s).call.state
   made_port_touches None n send s g h = touches_refl s
   made_port_touches (Some receive) n send s g h = with_port_touches n send receive s g (free_semaphore_free (make_semaphore send (owner.Port q) n s.tables) receive h)
 
   -- A message goes into the port.
-  pub put_message_touches : (found : Option PortQueue) (message : ℕ) (s : Xinu) → (port_at s.parts.ports q).queue ≡ found → IsInside s.tables → OwnPorts s.tables s.parts.ports
+  pub put_message_touches : (found : Option PortQueue) (message : ℕ) (s : Xinu) → (port_at s.parts.ports q).queue ≡ found
+      → IsInside s.tables → OwnPorts s.tables s.parts.ports
       → Touches f s (put_message found q message s).call.state
   put_message_touches None message s e o k = touches_refl s
   put_message_touches (Some queue) message s e o k =
@@ -106,7 +111,8 @@ module _ {f : Reach} (q : ℕ) (a : HasPort f q) where
       (touches_signalled queue.receive d o (port_may_be_touched s.tables queue.receive (k.receive q queue e))))
 
   -- A message is taken from the port.
-  pub take_message_touches : (messages : List ℕ) (queue : PortQueue) (s : Xinu) → (port_at s.parts.ports q).queue ≡ Some queue → IsInside s.tables → OwnPorts s.tables s.parts.ports
+  pub take_message_touches : (messages : List ℕ) (queue : PortQueue) (s : Xinu) → (port_at s.parts.ports q).queue ≡ Some queue
+      → IsInside s.tables → OwnPorts s.tables s.parts.ports
       → Touches f s (take_message messages queue q s).call.state
   take_message_touches [] queue s e o k = touches_refl s
   take_message_touches (message ∷ messages) queue s e o k =
@@ -116,7 +122,8 @@ module _ {f : Reach} (q : ℕ) (a : HasPort f q) where
 
   -- All who wait on the two semaphores of the port go on.
   pub port_cleared_touches : (queue : PortQueue) (d : CallState) → IsSoundTables d.state.tables
-      → (semaphore_at d.state.tables queue.send).owner ≡ Some (owner.Port q) → (semaphore_at d.state.tables queue.receive).owner ≡ Some (owner.Port q)
+      → (semaphore_at d.state.tables queue.send).owner ≡ Some (owner.Port q)
+      → (semaphore_at d.state.tables queue.receive).owner ≡ Some (owner.Port q)
       → Touches f d.state (emptied queue.receive (emptied queue.send d)).state
   port_cleared_touches queue d k send receive =
       let one = emptied queue.send d in
@@ -124,7 +131,8 @@ module _ {f : Reach} (q : ℕ) (a : HasPort f q) where
       (touches_emptied queue.receive one (sound_emptied queue.send d k).inside (port_may_be_touched one.state.tables queue.receive (owner_emptied queue.send queue.receive d ∙ receive)))
 
   -- the messages are gone and the port is deleted
-  pub deleted_touches : (queue : PortQueue) (d : CallState) → (semaphore_at d.state.tables queue.send).owner ≡ Some (owner.Port q) → (semaphore_at d.state.tables queue.receive).owner ≡ Some (owner.Port q)
+  pub deleted_touches : (queue : PortQueue) (d : CallState) → (semaphore_at d.state.tables queue.send).owner ≡ Some (owner.Port q)
+      → (semaphore_at d.state.tables queue.receive).owner ≡ Some (owner.Port q)
       → Touches f d.state (deleted q queue d).state
   deleted_touches queue d send receive =
       let t = d.state.tables in
@@ -134,8 +142,9 @@ module _ {f : Reach} (q : ℕ) (a : HasPort f q) where
       let then_ : Touches f u v = touches_semaphore u queue.receive no_semaphore (still_touched queue.receive first (port_may_be_touched t queue.receive receive)) (a.none queue.receive) in
       touches_trans (touches_trans first then_) (touches_parts v _ refl (parts_ports a.parts d.state.parts _ _))
 
-  -- or is as it was made
-  pub emptied_port_touches : (queue : PortQueue) (d : CallState) → (semaphore_at d.state.tables queue.send).owner ≡ Some (owner.Port q) → (semaphore_at d.state.tables queue.receive).owner ≡ Some (owner.Port q)
+  -- or is as it was when it was made
+  pub emptied_port_touches : (queue : PortQueue) (d : CallState) → (semaphore_at d.state.tables queue.send).owner ≡ Some (owner.Port q)
+      → (semaphore_at d.state.tables queue.receive).owner ≡ Some (owner.Port q)
       → Touches f d.state (emptied_port q queue d).state
   emptied_port_touches queue d send receive =
       let t = d.state.tables in
@@ -146,22 +155,26 @@ module _ {f : Reach} (q : ℕ) (a : HasPort f q) where
       touches_trans (touches_trans first then_) (touches_parts v _ refl (parts_ports a.parts d.state.parts _ _))
 
 -- a call on a port ends, unless its ticket is stale
-finish_send_touches : (ticket : PortTicket) (message : ℕ) (s : Xinu) → IsInside s.tables → OwnPorts s.tables s.parts.ports → Touches (reach on_ports) s (finish_send ticket message s).call.state
+finish_send_touches : (ticket : PortTicket) (message : ℕ) (s : Xinu) → IsInside s.tables → OwnPorts s.tables s.parts.ports
+    → Touches (reach on_ports) s (finish_send ticket message s).call.state
 finish_send_touches ticket message s o k =
     touches_either s (is_stale ticket s.parts.ports) (refused s) (put_message (port_at s.parts.ports ticket.port).queue ticket.port message s) (λ _. touches_refl s)
     (λ _. put_message_touches ticket.port (port_reached ticket.port) (port_at s.parts.ports ticket.port).queue message s refl o k)
 
-take_from_touches : (found : Option PortQueue) (q : ℕ) (s : Xinu) → (port_at s.parts.ports q).queue ≡ found → IsInside s.tables → OwnPorts s.tables s.parts.ports → Touches (reach on_ports) s (take_from found q s).call.state
+take_from_touches : (found : Option PortQueue) (q : ℕ) (s : Xinu) → (port_at s.parts.ports q).queue ≡ found → IsInside s.tables
+    → OwnPorts s.tables s.parts.ports → Touches (reach on_ports) s (take_from found q s).call.state
 take_from_touches None q s e o k = touches_refl s
 take_from_touches (Some queue) q s e o k = take_message_touches q (port_reached q) queue.messages queue s e o k
 
-finish_receive_touches : (ticket : PortTicket) (s : Xinu) → IsInside s.tables → OwnPorts s.tables s.parts.ports → Touches (reach on_ports) s (finish_receive ticket s).call.state
+finish_receive_touches : (ticket : PortTicket) (s : Xinu) → IsInside s.tables → OwnPorts s.tables s.parts.ports
+    → Touches (reach on_ports) s (finish_receive ticket s).call.state
 finish_receive_touches ticket s o k =
     touches_either s (is_stale ticket s.parts.ports) (refused s) (take_from (port_at s.parts.ports ticket.port).queue ticket.port s) (λ _. touches_refl s)
     (λ _. take_from_touches (port_at s.parts.ports ticket.port).queue ticket.port s refl o k)
 
--- what a caller with a token of a port's semaphore finds
-after_token : (q sem n : ℕ) (s : Xinu) → IsSound s → (semaphore_at s.tables sem).owner ≡ Some (owner.Port q) → (semaphore_at s.tables sem).tokens ≡ suc n
+-- what holds of the tables for a caller that took a token of a port's semaphore
+after_token : (q sem n : ℕ) (s : Xinu) → IsSound s → (semaphore_at s.tables sem).owner ≡ Some (owner.Port q)
+    → (semaphore_at s.tables sem).tokens ≡ suc n
     → IsInside (with_tokens sem n s.tables) × OwnPorts (with_tokens sem n s.tables) s.parts.ports
 after_token q sem n s k e tokens = (
   (sound_token_taken s.tables sem n k.tables (semaphore_within s.tables sem k.tables.inside.semaphores (λ g. cc)) tokens).inside,
@@ -169,7 +182,8 @@ after_token q sem n s k e tokens = (
 )
 
 -- Call 34.
-sent_to_touches : (found : Option PortQueue) (q message : ℕ) (s : Xinu) → (port_at s.parts.ports q).queue ≡ found → IsSound s → Touches (reach on_ports) s (sent_to found q message s).call.state
+sent_to_touches : (found : Option PortQueue) (q message : ℕ) (s : Xinu) → (port_at s.parts.ports q).queue ≡ found → IsSound s
+    → Touches (reach on_ports) s (sent_to found q message s).call.state
 sent_to_touches None q message s e k = touches_refl s
 sent_to_touches (Some queue) q message s e k =
     let sem = queue.send in
@@ -185,7 +199,8 @@ pub ptsend_touches : (q message : ℕ) → StaysIn on_ports (ptsend q message)
 ptsend_touches q message s k = sent_to_touches (port_at s.parts.ports q).queue q message s refl k
 
 -- Call 35.
-received_from_touches : (found : Option PortQueue) (q : ℕ) (s : Xinu) → (port_at s.parts.ports q).queue ≡ found → IsSound s → Touches (reach on_ports) s (received_from found q s).call.state
+received_from_touches : (found : Option PortQueue) (q : ℕ) (s : Xinu) → (port_at s.parts.ports q).queue ≡ found → IsSound s
+    → Touches (reach on_ports) s (received_from found q s).call.state
 received_from_touches None q s e k = touches_refl s
 received_from_touches (Some queue) q s e k =
     let sem = queue.receive in
@@ -200,7 +215,7 @@ received_from_touches (Some queue) q s e k =
 pub ptrecv_touches : (q : ℕ) → StaysIn on_ports (ptrecv q)
 ptrecv_touches q s k = received_from_touches (port_at s.parts.ports q).queue q s refl k
 
--- what a caller finds that goes on
+-- and for a caller that goes on
 after_waiting : (s : Xinu) → IsSound s → IsInside (goes_on (held s) s).tables × OwnPorts (goes_on (held s) s).tables s.parts.ports
 after_waiting s k =
     let t = s.tables in (
@@ -218,7 +233,8 @@ go_on_ptrecv_touches ticket s k =
     let after = after_waiting s k in touches_trans (touches_goes_on refl (held s) s) (finish_receive_touches ticket (goes_on (held s) s) after.0 after.1)
 
 -- Call 31.
-started_port_touches : (found first : Option ℕ) (n : ℕ) (s : Xinu) → free_semaphore s.tables ≡ first → Touches (reach on_ports) s (started_port found first n s).call.state
+started_port_touches : (found first : Option ℕ) (n : ℕ) (s : Xinu) → free_semaphore s.tables ≡ first
+    → Touches (reach on_ports) s (started_port found first n s).call.state
 started_port_touches None first n s e = touches_refl s
 started_port_touches (Some q) None n s e = touches_refl s
 started_port_touches (Some q) (Some send) n s e =
@@ -237,10 +253,12 @@ pools_reached_there = record { owner = λ sem i. refl; waits = λ i. refl; parts
 
 -- Messages are dropped, or given back as buffers.
 module _ {f : Reach} (a : HasPools f) where
-  disposed_touches : (how : ℕ) (messages : List ℕ) (d : CallState) → IsSoundTables d.state.tables → OwnSemaphores d.state.tables d.state.parts.pools → Touches f d.state (disposed how messages d).state
+  disposed_touches : (how : ℕ) (messages : List ℕ) (d : CallState) → IsSoundTables d.state.tables
+      → OwnSemaphores d.state.tables d.state.parts.pools → Touches f d.state (disposed how messages d).state
   disposed_touches how messages d t k = cond_both (how == 1) (freed_buffers messages d) d (λ e. Touches f d.state e.state) (λ _. freed_buffers_touch a messages d t k) (λ _. touches_refl d.state)
 
-disposed_sound : (how : ℕ) (messages : List ℕ) (d : CallState) → IsSoundTables d.state.tables → OwnSemaphores d.state.tables d.state.parts.pools → IsSoundTables (disposed how messages d).state.tables
+disposed_sound : (how : ℕ) (messages : List ℕ) (d : CallState) → IsSoundTables d.state.tables
+    → OwnSemaphores d.state.tables d.state.parts.pools → IsSoundTables (disposed how messages d).state.tables
 disposed_sound how messages d t k = cond_both (how == 1) (freed_buffers messages d) d (λ e. IsSoundTables e.state.tables) (λ _. freed_buffers_sound messages d t k) (λ _. t)
 
 -- the messages are gone, and all who waited go on: the port still has its semaphores
@@ -249,7 +267,8 @@ pub record HasCleared (f : Reach) (q : ℕ) (queue : PortQueue) (d e : CallState
   pub send : (semaphore_at e.state.tables queue.send).owner ≡ Some (owner.Port q)
   pub receive : (semaphore_at e.state.tables queue.receive).owner ≡ Some (owner.Port q)
 
-cleared_touches : (q how : ℕ) (queue : PortQueue) (s : Xinu) → IsSound s → (port_at s.parts.ports q).queue ≡ Some queue → HasCleared (reach on_ports_and_pools) q queue (start s) (cleared how queue (start s))
+cleared_touches : (q how : ℕ) (queue : PortQueue) (s : Xinu) → IsSound s → (port_at s.parts.ports q).queue ≡ Some queue
+    → HasCleared (reach on_ports_and_pools) q queue (start s) (cleared how queue (start s))
 cleared_touches q how queue s k here =
     let d = start s in
     let one = disposed how queue.messages d in
@@ -269,7 +288,8 @@ cleared_touches q how queue s k here =
     }
 
 -- Call 32.
-deleted_where_touches : (found : Option PortQueue) (q how : ℕ) (s : Xinu) → (port_at s.parts.ports q).queue ≡ found → IsSound s → Touches (reach on_ports_and_pools) s (deleted_where found q how s).call.state
+deleted_where_touches : (found : Option PortQueue) (q how : ℕ) (s : Xinu) → (port_at s.parts.ports q).queue ≡ found → IsSound s
+    → Touches (reach on_ports_and_pools) s (deleted_where found q how s).call.state
 deleted_where_touches None q how s e k = touches_refl s
 deleted_where_touches (Some queue) q how s e k = touches_if s (nat_le how 1) _
     (λ _. let c = cleared_touches q how queue s k e in touches_trans c.touches (deleted_touches q (deleted_reached q) queue (cleared how queue (start s)) c.send c.receive))
@@ -278,7 +298,8 @@ pub ptdelete_touches : (q how : ℕ) → StaysIn on_ports_and_pools (ptdelete q 
 ptdelete_touches q how s k = deleted_where_touches (port_at s.parts.ports q).queue q how s refl k
 
 -- Call 33.
-reset_where_touches : (found : Option PortQueue) (q how : ℕ) (s : Xinu) → (port_at s.parts.ports q).queue ≡ found → IsSound s → Touches (reach on_ports_and_pools) s (reset_where found q how s).call.state
+reset_where_touches : (found : Option PortQueue) (q how : ℕ) (s : Xinu) → (port_at s.parts.ports q).queue ≡ found → IsSound s
+    → Touches (reach on_ports_and_pools) s (reset_where found q how s).call.state
 reset_where_touches None q how s e k = touches_refl s
 reset_where_touches (Some queue) q how s e k = touches_if s (nat_le how 1) _
     (λ _. let c = cleared_touches q how queue s k e in touches_trans c.touches (emptied_port_touches q (deleted_reached q) queue (cleared how queue (start s)) c.send c.receive))

@@ -84,7 +84,8 @@ kill_touches p s i = touches_either s ((p == 0) || is_free (state_at s.tables p)
     (λ _. touches_either s (p == s.tables.current) _ _ (λ _. exit_touches s i) (λ _. killed_touches p (start s)))
 
 -- Call 2.
-created_touches : (found : Option ℕ) (stack : Option Stack) (entry size : ℕ) (priority : ℤ) (name : List ℕ) (x y : ℕ) (s : Xinu) → heap.take_stack size s.parts.heap ≡ stack
+created_touches : (found : Option ℕ) (stack : Option Stack) (entry size : ℕ) (priority : ℤ) (name : List ℕ) (x y : ℕ) (s : Xinu)
+    → heap.take_stack size s.parts.heap ≡ stack
     → Touches (reach on_processes) s (created found stack entry size priority name x y s).call.state
 created_touches (Some p) (Some stack) entry size priority name x y s e =
     let t = s.tables in

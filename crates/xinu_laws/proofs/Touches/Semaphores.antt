@@ -23,12 +23,14 @@ good_may_be_touched t sem o h =
     record { owner = ap ((reach on_tables).mine sem) e; rests = λ left g. ap (reach on_tables).asks (subst (λ o. FitsOwner sem o left) e g) }
 
 -- a semaphore is made, if a number is found
-made_semaphore_touches : (n : ℕ) (found : Option ℕ) (s : Xinu) → free_semaphore s.tables ≡ found → Touches (reach on_tables) s (made_semaphore n found s).call.state
+made_semaphore_touches : (n : ℕ) (found : Option ℕ) (s : Xinu) → free_semaphore s.tables ≡ found
+    → Touches (reach on_tables) s (made_semaphore n found s).call.state
 made_semaphore_touches n None s e = touches_refl s
 made_semaphore_touches n (Some sem) s e = touches_make_semaphore s sem Image n (ap ((reach on_tables).mine sem) (free_semaphore_free s.tables sem e)) refl
 
 -- all are released from a process's semaphore
-emptied_touches : (sem : ℕ) (s : Xinu) → IsInside s.tables → is_good sem s.tables ≡ true → Touches (reach on_tables) s (emptied sem (start s)).state
+emptied_touches : (sem : ℕ) (s : Xinu) → IsInside s.tables → is_good sem s.tables ≡ true
+    → Touches (reach on_tables) s (emptied sem (start s)).state
 emptied_touches sem s o b = touches_emptied sem (start s) o (good_may_be_touched s.tables sem o b)
 
 -- Call 14.

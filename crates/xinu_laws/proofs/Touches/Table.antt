@@ -65,7 +65,8 @@ calls_touch =
     tt
 
 -- The call of a number that has a row stays within the row's footprint.
-pub call_touches : (number : ℕ) (args : List ℕ) (s : Xinu) (r : CallRow) → IsSound s → found_in calls number ≡ Some r → Touches (reach r.touches) s (call_of_number number args s).call.state
+pub call_touches : (number : ℕ) (args : List ℕ) (s : Xinu) (r : CallRow) → IsSound s → found_in calls number ≡ Some r
+    → Touches (reach r.touches) s (call_of_number number args s).call.state
 call_touches number args s r k e =
     subst (λ found. Touches (reach r.touches) s (done_by found args s).call.state) (sym e)
     (of_row Stays calls calls_touch number r e (slice_index args) s k)

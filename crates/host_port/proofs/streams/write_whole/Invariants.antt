@@ -1,6 +1,10 @@
--- Each write takes a byte at least.
-use Rattle.std.proofs.Common.{length}
+-- What was written so far and the rest are the bytes; each write takes a byte at least.
+use Rattle.std.proofs.Common.{◌≡◌, ◌++◌, ℕ, List, length}
+use Rattle.std.specs.Io.KnownBytes.{Appends}
 use Rattle.host_port.proofs.streams.write_whole.Given as goal
+
+abbrev pub invariant-loop-rest : goal.invariant-loop-rest
+invariant-loop-rest g l = (done : List ℕ) × (l.initial.bytes ≡ done ++ l.rest) × Appends (g.W.Write.contents l.initial.file) (g.W.Write.contents l.file) done
 
 abbrev pub decreases-loop-rest : goal.decreases-loop-rest
 decreases-loop-rest g l = length l.rest

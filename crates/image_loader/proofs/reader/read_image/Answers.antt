@@ -1,4 +1,4 @@
--- The image is that of the header and the content behind it.
+-- The image is that of the header and the content after it.
 use Rattle.std.proofs.Common.{◌≡◌, ◌-◌, ◌∙◌, Some, None, length, take, drop, ap, sym, arith, length-drop, rules}
 use Rattle.std.proofs.lemmas.List.{take_all}
 use Rattle.image_loader.specs.ImageFiles.{first_fault}

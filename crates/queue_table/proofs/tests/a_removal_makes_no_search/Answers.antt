@@ -1,4 +1,4 @@
--- The test on searching: no process stands in a new table.
+-- The test on searching: no process is in a new table.
 use Rattle.std.proofs.Common.{◌∙◌, ap}
 use Rattle.queue_table.specs.Lists.{place}
 use Rattle.queue_table.proofs.Laws.{place_fresh}

@@ -1,4 +1,4 @@
--- `churn`: every process stands in the queue.
+-- `churn`: every process is in the queue.
 use Rattle.std.proofs.Common.{◌≡◌, ◌<◌, ℕ, Some}
 use Rattle.queue_table.specs.Lists.{place}
 use Rattle.queue_table.specs.Table.{lists}

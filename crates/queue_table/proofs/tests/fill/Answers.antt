@@ -1,4 +1,4 @@
--- `fill`: one process more stands in the queue.
+-- `fill`: one process more is in the queue.
 use Rattle.std.proofs.Common.{◌∙◌, pos, ap, inl, inr, arith}
 use Rattle.std.proofs.lemmas.Bool.{cases_eq}
 use Rattle.queue_table.specs.Lists.{place}

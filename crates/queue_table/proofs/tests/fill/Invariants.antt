@@ -1,4 +1,4 @@
--- `fill`: the processes so far stand in the queue, and the others nowhere.
+-- `fill`: the processes so far are in the queue, and the others nowhere.
 use Rattle.std.proofs.Common.{◌≡◌, ◌<◌, ◌≤◌, ℕ, Some, None}
 use Rattle.queue_table.specs.Lists.{place}
 use Rattle.queue_table.specs.Table.{lists}

@@ -4,8 +4,7 @@ use Rattle.xinu_model.specs.Isa.Exec.{Executed, perform}
 use Rattle.xinu_base.specs.declared.Outcome.TheVariants.{Trap}
 use Rattle.xinu_base.specs.declared.Cause.TheVariants.{Illegal}
 use Rattle.xinu_model.specs.Isa.Effects.{stops}
-use Rattle.rv_hart.specs.Opcodes.{perform-of_opcode}
-use Rattle.rv_hart.proofs.Dispatch.{outcome_by, hart_by, memory_by, no_row}
+use Rattle.rv_hart.proofs.Dispatch.{perform-of_opcode, outcome_by, hart_by, memory_by, no_row}
 use Rattle.rv_hart.proofs.execute.execute.Goals as goal
 
 pub returns-in-3-clause-outcome : goal.returns-in-3-clause-outcome

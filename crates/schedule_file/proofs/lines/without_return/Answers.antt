@@ -1,4 +1,4 @@
--- The line is the bytes in front and the last.
+-- The line is the bytes before the last one, and the last one.
 use Rattle.std.proofs.Common.{sym}
 use Rattle.schedule_file.proofs.LineLemmas.{without_return-drops, without_return-keeps}
 use Rattle.schedule_file.proofs.lines.without_return.Goals as goal

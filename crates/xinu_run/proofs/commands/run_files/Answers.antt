@@ -1,72 +1,70 @@
-use Rattle.std.proofs.Common.{◌≡◌, ◌∙◌, ℕ, List, Option, take, refl, ap, subst, arith}
-use Rattle.std.specs.Prelude.{MatchOption, ⊤}
+use Rattle.std.proofs.Common.{◌≡◌, ◌∷◌, [], Some, ◌≤◌, ℕ, List, Option, length, take, refl, ap, subst, arith}
+use Rattle.std.specs.Prelude.{MatchOption, ⊤, Err}
 use Rattle.host_port.specs.Outside.{Outside, fetching}
-use Rattle.xinu_run.specs.Causes.{IsImageCause}
-use Rattle.xinu_run.specs.Commanded.{GrowsOut, HasLines, WritesImage}
-use Rattle.xinu_run.specs.Inputs.{CanStart}
-use Rattle.xinu_run.proofs.Files.{asks_both, asks_first, asked_both, grows_files, grows_nothing, if_err-map, if_ok-map, if_ok-on_ok, on_ok, reads_good, starts_run, told_image, writes_run}
-use Rattle.xinu_run.proofs.Reasons.{files_cause}
+use Rattle.xinu_run.specs.Conversions.{host_refusal}
+use Rattle.xinu_run.specs.Theorem.{Carries, HasFetched, Obeys}
+use Rattle.xinu_run.specs.Verdict.{boot_verdict, images_verdict}
+use Rattle.xinu_run.specs.Stages.{left_of, refusal_of}
+use Rattle.xinu_run.proofs.Answered.{fetched_unsent, host_refuses, of_err}
+use Rattle.xinu_run.proofs.Fetching.{fetched_first, fetched_two}
+use Rattle.xinu_run.proofs.Carried.{unsent_both}
+use Rattle.xinu_run.proofs.Files.{files_obey, schedule_refuses}
 use Rattle.xinu_run.proofs.commands.run_files.Goals as goal
 
-pub returns-in_err-schedule-clause-asks : goal.returns-in_err-schedule-clause-asks
-returns-in_err-schedule-clause-asks g c = asks_first _ _ _ _ c.in_err-schedule.ensures.asks
+pub returns-in_err-schedule-clause-obeys : goal.returns-in_err-schedule-clause-obeys
+returns-in_err-schedule-clause-obeys g c =
+    let h = g.H.Host.view c.args.host.now in
+    let k = g.H.Host.view c.fetch_schedule.new.host in
+    let r = c.in_err-schedule.field-0.0 in
+    of_err c.from_residual.result r (λ ended left. Obeys (Some (record { schedule = c.args.files.schedule.now; images = c.args.files.image.now ∷ [] })) ended left h k) c.from_residual.ensures.0 c.from_residual.ensures.1
+    (schedule_refuses r c.args.files.schedule.now c.args.files.image.now h k c.in_err-schedule.ensures.refused c.in_err-schedule.ensures.unsent)
 
-pub returns-in_err-bytes-clause-part : goal.returns-in_err-bytes-clause-part
-returns-in_err-bytes-clause-part g c =
-    grows_nothing _ _ _ (ap (λ (h : Outside). h.out) c.fetch.ensures.asked.part.1 ∙ c.in_ok-schedule.ensures.sent.out)
+pub returns-in_err-schedule-clause-fetched : goal.returns-in_err-schedule-clause-fetched
+returns-in_err-schedule-clause-fetched g c =
+    let h = g.H.Host.view c.args.host.now in
+    let k = g.H.Host.view c.fetch_schedule.new.host in
+    let r = c.in_err-schedule.field-0.0 in
+    of_err c.from_residual.result r (λ ended left. HasFetched (fetching c.args.files.schedule.now ∷ fetching c.args.files.image.now ∷ []) ended h k) c.from_residual.ensures.0 c.from_residual.ensures.1
+    (fetched_first h k (fetching c.args.files.schedule.now) (fetching c.args.files.image.now) r c.in_err-schedule.ensures.fetched)
 
-pub returns-in_err-bytes-clause-asks : goal.returns-in_err-bytes-clause-asks
-returns-in_err-bytes-clause-asks g c =
-    let asked = c.fetch.ensures.asked.part in
-    asks_both (g.H.Host.view c.args.host.now) (g.H.Host.view c.fetch_schedule.new.host) (g.H.Host.view c.fetch.new.self) (g.H.Host.view c.fetch.new.self) (fetching c.args.run.schedule.now) (fetching c.args.run.image.now) asked.0
-    c.in_ok-schedule.ensures.asked (ap (λ (h : Outside). h.asked) asked.1) refl
+pub returns-in_err-bytes-clause-obeys : goal.returns-in_err-bytes-clause-obeys
+returns-in_err-bytes-clause-obeys g c =
+    let h = g.H.Host.view c.args.host.now in
+    let j = g.H.Host.view c.fetch_schedule.new.host in
+    let k = g.H.Host.view c.fetch.new.self in
+    let f = c.in_err-bytes.field-0.0 in
+    of_err c.from_residual-in_err-bytes.result (host_refusal f) (λ ended left. Obeys (Some (record { schedule = c.args.files.schedule.now; images = c.args.files.image.now ∷ [] })) ended left h k) c.from_residual-in_err-bytes.ensures.0 c.from_residual-in_err-bytes.ensures.1
+    (host_refuses f c.args.files.schedule.now c.args.files.image.now h j k (λ is. c.in_err-bytes.ensures.cause.failed (ap Err is)) c.in_ok-schedule.ensures.keeps.later
+    (unsent_both h j k c.in_ok-schedule.ensures.unsent (fetched_unsent j k _ _ c.fetch.ensures.calls.part.1)))
 
-pub returns-clause-ok : goal.returns-clause-ok
-returns-clause-ok g c =
-    let told = subst (λ (file : List ℕ → Option (List ℕ)). MatchOption (file c.args.run.image.now) ⊤ (λ bytes. c.in_ok-bytes.bytes.items ≡ take 1048577 bytes)) c.in_ok-schedule.ensures.sent.file c.in_ok-bytes.ensures.bytes in
-    let same : (g.H.Host.view c.fetch.new.self).out ≡ (g.H.Host.view c.args.host.now).out =
-    ap (λ (h : Outside). h.out) c.in_ok-bytes.ensures.asked.ok ∙ c.in_ok-schedule.ensures.sent.out in
-    if_ok-map c.run_bytes.result _ _
-    (λ m run. writes_run ((g.H.Host.view c.args.host.now).file c.args.run.schedule.now) ((g.H.Host.view c.args.host.now).file c.args.run.image.now) c.in_ok-schedule.schedule c.in_ok-bytes.bytes.items m.state (g.H.Host.view c.args.host.now) (g.H.Host.view c.fetch.new.self) (g.H.Host.view c.run_bytes.new.host)
-    c.in_ok-schedule.ensures.ok told same (subst (λ (bytes : List ℕ). WritesImage bytes c.in_ok-schedule.schedule m.state (g.H.Host.view c.fetch.new.self) (g.H.Host.view c.run_bytes.new.host)) c.as_slice.ensures.value run))
-    c.run_bytes.ensures.ok
+pub returns-in_err-bytes-clause-fetched : goal.returns-in_err-bytes-clause-fetched
+returns-in_err-bytes-clause-fetched g c =
+    let h = g.H.Host.view c.args.host.now in
+    let j = g.H.Host.view c.fetch_schedule.new.host in
+    let k = g.H.Host.view c.fetch.new.self in
+    of_err c.from_residual-in_err-bytes.result (host_refusal c.in_err-bytes.field-0.0) (λ ended left. HasFetched (fetching c.args.files.schedule.now ∷ fetching c.args.files.image.now ∷ []) ended h k) c.from_residual-in_err-bytes.ensures.0 c.from_residual-in_err-bytes.ensures.1
+    (fetched_two h j k k (fetching c.args.files.schedule.now) (fetching c.args.files.image.now) c.fetch.ensures.calls.part.0 (Some (host_refusal c.in_err-bytes.field-0.0))
+    (c.in_ok-schedule.ensures.fetched.all refl) (ap (λ (x : Outside). x.calls) c.fetch.ensures.calls.part.1) refl (λ none. absurd (cc)))
 
-pub returns-clause-refused : goal.returns-clause-refused
-returns-clause-refused g c =
-    let told = subst (λ (file : List ℕ → Option (List ℕ)). MatchOption (file c.args.run.image.now) ⊤ (λ bytes. c.in_ok-bytes.bytes.items ≡ take 1048577 bytes)) c.in_ok-schedule.ensures.sent.file c.in_ok-bytes.ensures.bytes in
-    if_err-map c.run_bytes.result _ _
-    (λ r cause. files_cause r c.args.run.schedule.now c.args.run.image.now c.in_ok-bytes.bytes.items (g.H.Host.view c.args.host.now) (g.H.Host.view c.fetch.new.self) (g.H.Host.view c.run_bytes.new.host)
-    (reads_good _ c.in_ok-schedule.schedule c.in_ok-schedule.ensures.ok) told (omega (arith, c.in_ok-schedule.ensures.later, c.in_ok-bytes.ensures.cause.later)) (subst (λ (bytes : List ℕ). IsImageCause r bytes (g.H.Host.view c.fetch.new.self) (g.H.Host.view c.run_bytes.new.host)) c.as_slice.ensures.value cause))
-    c.run_bytes.ensures.refused
+pub returns-clause-obeys : goal.returns-clause-obeys
+returns-clause-obeys g c =
+    let h = g.H.Host.view c.args.host.now in
+    let j = g.H.Host.view c.fetch.new.self in
+    let k = g.H.Host.view c.run_bytes.new.host in
+    let i = c.args.files.image.now in
+    let items = c.in_ok-bytes.bytes.items in
+    let events = c.in_ok-schedule.schedule in
+    let ended = refusal_of c.run_bytes.result in
+    let left = left_of c.run_bytes.result in
+    let fetched = subst (λ (file : List ℕ → Option (List ℕ)). MatchOption (file i) ⊤ (λ bytes. items ≡ take 1048577 bytes)) c.in_ok-schedule.ensures.keeps.file c.in_ok-bytes.ensures.bytes in
+    let few : length items ≤ 1048577 = omega (arith, c.in_ok-bytes.ensures.bound) in
+    let carries = subst (λ (bytes : List ℕ). Carries (images_verdict 1 (bytes ∷ []) (boot_verdict events)) ended left j k) c.as_slice.ensures.value c.run_bytes.ensures.carries in
+    files_obey c.args.files.schedule.now i events items ended left h j k c.in_ok-schedule.ensures.ok few fetched
+    (unsent_both h (g.H.Host.view c.fetch_schedule.new.host) j c.in_ok-schedule.ensures.unsent (fetched_unsent (g.H.Host.view c.fetch_schedule.new.host) j _ _ c.fetch.ensures.calls.part.1))
+    (omega (arith, c.in_ok-schedule.ensures.keeps.later, c.in_ok-bytes.ensures.cause.later)) carries
 
-pub returns-clause-reads : goal.returns-clause-reads
-returns-clause-reads g c =
-    on_ok c.run_bytes.result _ (reads_good ((g.H.Host.view c.args.host.now).file c.args.run.schedule.now) c.in_ok-schedule.schedule c.in_ok-schedule.ensures.ok)
-
-pub returns-clause-starts : goal.returns-clause-starts
-returns-clause-starts g c =
-    let told = subst (λ (file : List ℕ → Option (List ℕ)). MatchOption (file c.args.run.image.now) ⊤ (λ bytes. c.in_ok-bytes.bytes.items ≡ take 1048577 bytes)) c.in_ok-schedule.ensures.sent.file c.in_ok-bytes.ensures.bytes in
-    if_ok-on_ok c.run_bytes.result _ _
-    (λ m run.
-    let starts = starts_run c.in_ok-bytes.bytes.items c.in_ok-schedule.schedule m.state (g.H.Host.view c.fetch.new.self) (g.H.Host.view c.run_bytes.new.host) (subst (λ (bytes : List ℕ). WritesImage bytes c.in_ok-schedule.schedule m.state (g.H.Host.view c.fetch.new.self) (g.H.Host.view c.run_bytes.new.host)) c.as_slice.ensures.value run) in
-    told_image CanStart ((g.H.Host.view c.args.host.now).file c.args.run.image.now) c.in_ok-bytes.bytes.items told starts.good starts)
-    c.run_bytes.ensures.ok
-
-pub returns-clause-asks : goal.returns-clause-asks
-returns-clause-asks g c =
-    asks_both (g.H.Host.view c.args.host.now) (g.H.Host.view c.fetch_schedule.new.host) (g.H.Host.view c.fetch.new.self) (g.H.Host.view c.run_bytes.new.host) (fetching c.args.run.schedule.now) (fetching c.args.run.image.now) 1
-    c.in_ok-schedule.ensures.asked (ap (λ (h : Outside). h.asked) c.in_ok-bytes.ensures.asked.ok) c.run_bytes.ensures.keeps.asked
-
-pub returns-clause-asked : goal.returns-clause-asked
-returns-clause-asked g c =
-    on_ok c.run_bytes.result _
-    (asked_both (g.H.Host.view c.args.host.now) (g.H.Host.view c.fetch_schedule.new.host) (g.H.Host.view c.fetch.new.self) (g.H.Host.view c.run_bytes.new.host) (fetching c.args.run.schedule.now) (fetching c.args.run.image.now)
-    c.in_ok-schedule.ensures.asked (ap (λ (h : Outside). h.asked) c.in_ok-bytes.ensures.asked.ok) c.run_bytes.ensures.keeps.asked)
-
-pub returns-clause-part : goal.returns-clause-part
-returns-clause-part g c =
-    let told = subst (λ (file : List ℕ → Option (List ℕ)). MatchOption (file c.args.run.image.now) ⊤ (λ bytes. c.in_ok-bytes.bytes.items ≡ take 1048577 bytes)) c.in_ok-schedule.ensures.sent.file c.in_ok-bytes.ensures.bytes in
-    let same : (g.H.Host.view c.fetch.new.self).out ≡ (g.H.Host.view c.args.host.now).out =
-    ap (λ (h : Outside). h.out) c.in_ok-bytes.ensures.asked.ok ∙ c.in_ok-schedule.ensures.sent.out in
-    grows_files c.args.run.schedule.now c.args.run.image.now c.in_ok-schedule.schedule c.in_ok-bytes.bytes.items (g.H.Host.view c.args.host.now) (g.H.Host.view c.fetch.new.self) (g.H.Host.view c.run_bytes.new.host)
-    c.in_ok-schedule.ensures.ok told same (subst (λ (bytes : List ℕ). GrowsOut (HasLines bytes c.in_ok-schedule.schedule) (g.H.Host.view c.fetch.new.self) (g.H.Host.view c.run_bytes.new.host)) c.as_slice.ensures.value c.run_bytes.ensures.part)
+pub returns-clause-fetched : goal.returns-clause-fetched
+returns-clause-fetched g c =
+    let second = ap (λ (x : Outside). x.calls) c.in_ok-bytes.ensures.calls.ok in
+    fetched_two (g.H.Host.view c.args.host.now) (g.H.Host.view c.fetch_schedule.new.host) (g.H.Host.view c.fetch.new.self) (g.H.Host.view c.run_bytes.new.host) (fetching c.args.files.schedule.now) (fetching c.args.files.image.now) 1 (refusal_of c.run_bytes.result)
+    (c.in_ok-schedule.ensures.fetched.all refl) second c.run_bytes.ensures.fetched (λ none. second)

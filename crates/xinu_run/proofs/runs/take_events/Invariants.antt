@@ -13,9 +13,9 @@ pub record UnderWay (start : Booted) (all : List Event) (here : Booted) (left : 
   pub few : here.events + length left ≤ 1000000000
   pub so_far : SoFar start.state all here.state left before after was is
 
-abbrev pub invariant-loop-e : goal.invariant-loop-e
-invariant-loop-e g l =
+abbrev pub invariant-loop-schedule : goal.invariant-loop-schedule
+invariant-loop-schedule g l =
     UnderWay l.initial.machine l.initial.schedule l.machine l.schedule l.initial.out l.out (g.H.Host.view l.initial.host) (g.H.Host.view l.host)
 
-abbrev pub decreases-loop-e : goal.decreases-loop-e
-decreases-loop-e g l = length l.schedule
+abbrev pub decreases-loop-schedule : goal.decreases-loop-schedule
+decreases-loop-schedule g l = length l.schedule

@@ -1,7 +1,7 @@
 -- One more byte.
 use Rattle.std.proofs.Common.{arith}
 use Rattle.std.proofs.lemmas.Grind.{common_steps}
-use Rattle.host_port.specs.LineText.{hex_of-push}
+use Rattle.host_port.proofs.HexText.{hex_of-push}
 use Rattle.host_port.proofs.line.Line.hex.Goals as goal
 
 pub loop-b-preserved : goal.loop-b-preserved

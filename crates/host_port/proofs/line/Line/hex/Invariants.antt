@@ -1,4 +1,4 @@
--- So far the digits of the bytes in front of the present one were appended.
+-- So far the digits of the bytes before the present one were appended.
 use Rattle.std.proofs.Common.{◌≡◌, ◌++◌, ◌+◌, ◌*◌, length, take}
 use Rattle.host_port.specs.LineText.{hex_of}
 use Rattle.host_port.proofs.line.Line.hex.Given as goal

@@ -1,4 +1,4 @@
--- `dequeue`: the entry behind the head is taken out, where it is a process.
+-- `dequeue`: the entry after the head is taken out, if it is a process.
 use Rattle.std.proofs.Common.{◌≡◌, ◌∙◌, List, [], ap, subst, sym, arith}
 use Rattle.std.proofs.lemmas.List.{set-get_or}
 use Rattle.queue_table.specs.declared.links.Links.{Links}

@@ -1,4 +1,4 @@
--- `first`: the entry behind the head is the first process, or the tail of an empty list.
+-- `first`: the entry after the head is the first process, or the tail of an empty list.
 use Rattle.std.proofs.Common.{◌∙◌, ap, arith}
 use Rattle.queue_table.specs.declared.links.Links.{Links}
 use Rattle.queue_table.specs.Lists.{list_at}

@@ -1,4 +1,4 @@
--- `first_key`: the entry behind the head has the first key, or is the tail of an empty list.
+-- `first_key`: the entry after the head has the first key, or is the tail of an empty list.
 use Rattle.std.proofs.Common.{◌∙◌, ap, arith, rules}
 use Rattle.std.proofs.lemmas.Int.{to_z-of_z}
 use mir.Syntax.{w32}

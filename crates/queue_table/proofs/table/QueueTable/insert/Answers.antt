@@ -1,4 +1,4 @@
--- `insert`: p goes in where the walk for its key stopped.
+-- `insert`: p goes in at the place at which the walk for its key stopped.
 use Rattle.std.proofs.Common.{◌≡◌, ap, arith, w32}
 use Rattle.std.proofs.lemmas.Int.{to_z-of_z}
 use Rattle.queue_table.specs.declared.links.Links.{Links}

@@ -1,4 +1,4 @@
--- `insert_delta`: the entry where the walk stopped gets less by what is left of the delay, and p goes in ahead of it.
+-- `insert_delta`: the entry at which the walk stopped gets less by what is left of the delay, and p goes in ahead of it.
 use Rattle.std.proofs.Common.{◌≡◌, ◌∙◌, ◌++◌, ℤ, pos, neg_ℤ, ◌-ℤ◌, List, ap, subst, arith, rules, w32, to_z, of_z, length}
 use Rattle.std.proofs.lemmas.Int.{to_z-of_z, ints}
 use mir.Val.{SFits}

@@ -1,4 +1,4 @@
--- `is_empty`: the entry behind the head is no process exactly where the list is empty.
+-- `is_empty`: the entry after the head is no process if and only if the list is empty.
 use Rattle.std.proofs.Common.{◌≡◌, ◌≤◌, ap, arith}
 use Rattle.std.proofs.lemmas.Bool.Decides.{nat_tests}
 use Rattle.queue_table.specs.declared.links.Links.{Links}

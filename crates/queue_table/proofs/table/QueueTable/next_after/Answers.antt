@@ -1,4 +1,4 @@
--- `next_after`: the entry behind p is the process behind it, or the tail.
+-- `next_after`: the entry after p is the process after it, or the tail.
 use Rattle.std.proofs.Common.{ap}
 use Rattle.queue_table.specs.declared.links.Links.{Links}
 use Rattle.queue_table.proofs.Tables.{after-none, after-some}

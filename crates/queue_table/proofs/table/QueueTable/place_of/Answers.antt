@@ -1,4 +1,4 @@
--- `place_of`: a process that is its own next stands nowhere, and from any other the walk ends at the tail of its queue.
+-- `place_of`: a process that is its own next is nowhere, and from any other the walk ends at the tail of its queue.
 use Rattle.std.proofs.Common.{◌≡◌, ◌∙◌, ◌++◌, ◌-◌, ◌/◌, [], ◌∷◌, Some, ap, sym, refl, arith}
 use Rattle.queue_table.specs.declared.links.Links.{Links}
 use Rattle.queue_table.specs.Entries.{first_to, next_at, tail_of}

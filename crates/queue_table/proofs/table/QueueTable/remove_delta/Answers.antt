@@ -1,4 +1,4 @@
--- `remove_delta`: the entry behind p takes over its key, and p is taken out.
+-- `remove_delta`: the entry after p takes over its key, and p is taken out.
 use Rattle.std.proofs.Common.{◌≡◌, ◌∙◌, List, ap, subst, sym, arith, w32, to_z, of_z, rules}
 use Rattle.std.proofs.lemmas.Int.{ints, to_z-of_z}
 use mir.Val.{SFits}

@@ -1,8 +1,0 @@
--- Rounds have events.
-use Rattle.std.proofs.Common.{arith}
-use Rattle.schedule_file.proofs.RoundLemmas.{length-rounds}
-use Rattle.schedule_file.proofs.asked.asked_behind.Goals as goal
-
-pub returns-in_ok-count-in-Rounds-clause-some : goal.returns-in_ok-count-in-Rounds-clause-some
-returns-in_ok-count-in-Rounds-clause-some c =
-    omega (arith, length-rounds c.in_ok-count-in-Rounds.count, c.in_ok-count-in-Rounds.ensures.some)

@@ -1,0 +1,242 @@
+-- Why the exit statuses mean what they do.
+use Rattle.std.proofs.lemmas.Bool.{cases_eq}
+use Rattle.std.specs.List.{list_any}
+use Rattle.std.proofs.Common.{inl, inr, ◌==◌, IsTrue, ◌≡◌, ◌≢◌, ◌↔◌, ℕ, Bool, true, false, nat_le, if◌then◌else◌, List, [], ◌∷◌, length, Option, Some, None, IsSome, refl, sym, ap, ◌∙◌}
+use Rattle.std.specs.Prelude.{option_map}
+use Rattle.command_line.specs.Commands.{Command}
+use Rattle.command_line.specs.Reading.{Text}
+use Rattle.host_port.specs.HostCalls.{Rose}
+use Rattle.host_port.specs.Outside.{Outside}
+use Rattle.image_loader.specs.Faults.{fault_number}
+use Rattle.image_loader.specs.ImageFiles.{first_fault, loaded_unless, loads}
+use Rattle.image_loader.specs.declared.faults.ImageFault.{ImageFault}
+use Rattle.schedule_file.specs.ScheduleFiles.{Reading, Reads, Bad, Many, events_in, events_read, reading}
+use Rattle.xinu_base.specs.declared.events.Event.{Event}
+use Rattle.xinu_model.specs.Boot.{Loaded, Start, Boots, Overlaps, NoRoom, all_made, all_started, and_then, boot, loaded_machine, where_stack}
+use Rattle.xinu_model.specs.Heap.Cells.{Stack, take_stack}
+use Rattle.xinu_model.specs.Machine.{Xinu}
+use Rattle.xinu_model.specs.Process.Creation.{stack_size}
+use Rattle.xinu_run.specs.InputFaults.{fault_line, longest_image, longest_schedule, schedule_fault, image_fault}
+use Rattle.xinu_run.specs.Statuses.{SaysOfFiles, start_with, status_due, statuses}
+use Rattle.xinu_run.specs.Theorem.{Answers, Carries, IsStatus}
+use Rattle.xinu_run.specs.Verdict.{ScheduleInput, ImageInput, Verdict, Refuses, Does, Runs, file_bytes, run_verdict, boot_verdict, start_verdict, verdict, images_verdict}
+use Rattle.xinu_run.specs.declared.refusals.Refusal.{Refusal}
+use Rattle.xinu_run.specs.declared.refusals.Refusal.TheVariants as refusal
+use Rattle.xinu_run.proofs.Answered.{done_status}
+use Rattle.xinu_run.proofs.Files.{image_read, image_refused, run_keeps, schedule_read, schedule_refused, boot_verdict_at}
+use Rattle.xinu_run.proofs.Printed.{some_is_none}
+
+-- ---- which statuses there are
+
+-- whether a number is one of the exit statuses
+abbrev IsListed : ℕ → Type 0
+IsListed exit = IsTrue (list_any (λ n. exit == n) statuses)
+
+listed_by : (v : Verdict) (ended : Option Refusal) (left : Option Xinu) (exit : ℕ) (h k : Outside) (c : Carries v ended left h k) → IsStatus ended c.output exit → exit ≢ 7 → IsListed exit
+listed_by v None left exit h k c status memory =
+    let zero : exit ≡ 0 = status ∙ sym (done_status v left h k c) in rw zero refl
+listed_by v (Some refusal.Usage) left exit h k c status memory = rw (status memory) refl
+listed_by v (Some refusal.HostFault) left exit h k c status memory = rw (status memory) refl
+listed_by v (Some (refusal.Image i f)) left exit h k c status memory = rw (status memory) refl
+listed_by v (Some (refusal.Schedule l)) left exit h k c status memory = rw (status memory) refl
+listed_by v (Some refusal.NoMemory) left exit h k c status memory = rw (status memory) refl
+listed_by v (Some (refusal.NoRoom i)) left exit h k c status memory = rw (status memory) refl
+
+pub listed : (exit : ℕ) (command : Option Command) (old new : Outside) (left : Option Xinu) → Answers exit command old new left → IsTrue (list_any (λ n. exit == n) statuses)
+listed exit command old new left a =
+    elim (cases_eq exit 7) [
+      | inl seven ↦ rw seven refl
+      | inr other ↦ listed_by (verdict command old.file a.obeys.unseen) a.ended left exit old new a.obeys.carries a.status other
+    ]
+
+-- ---- the status is the verdict's
+
+done_due : (v : Verdict) → (left : Option Xinu) (h k : Outside) (c : Carries v None left h k) → 0 ≡ status_due v
+done_due (Refuses cause) left h k c = (let work = c.deserved.1 in cc)
+done_due (Does (Runs start events)) left h k c = refl
+
+carried_due : (v : Verdict) (ended : Option Refusal) (left : Option Xinu) (exit : ℕ) (h k : Outside) (c : Carries v ended left h k)
+    → IsStatus ended c.output exit → exit ≢ 7 → exit ≢ 3 → exit ≡ status_due v
+carried_due v None left exit h k c status memory fault =
+    status ∙ sym (done_status v left h k c) ∙ done_due v left h k c
+carried_due v (Some refusal.Usage) left exit h k c status memory fault = status memory ∙ sym (ap status_due c.deserved)
+carried_due v (Some refusal.HostFault) left exit h k c status memory fault = absurd (fault (status memory))
+carried_due v (Some (refusal.Image i f)) left exit h k c status memory fault = status memory ∙ sym (ap status_due c.deserved)
+carried_due v (Some (refusal.Schedule l)) left exit h k c status memory fault = status memory ∙ sym (ap status_due c.deserved)
+carried_due v (Some refusal.NoMemory) left exit h k c status memory fault = absurd (memory (status memory))
+carried_due v (Some (refusal.NoRoom i)) left exit h k c status memory fault = status memory ∙ sym (ap status_due c.deserved)
+
+pub due : (exit : ℕ) (command : Option Command) (old new : Outside) (left : Option Xinu) (a : Answers exit command old new left)
+    → exit ≢ 7 → exit ≢ 3 → exit ≡ status_due (verdict command old.file a.obeys.unseen)
+due exit command old new left a = carried_due (verdict command old.file a.obeys.unseen) a.ended left exit old new a.obeys.carries a.status
+
+-- ---- no command
+
+-- Only the verdict that there is no command calls for the status 2.
+usage_alone : (v : Verdict) → v ≢ Refuses refusal.Usage → 2 ≢ status_due v
+usage_alone (Refuses refusal.Usage) other is = other refl
+usage_alone (Refuses refusal.HostFault) other is = cc
+usage_alone (Refuses (refusal.Image i f)) other is = cc
+usage_alone (Refuses (refusal.Schedule l)) other is = cc
+usage_alone (Refuses refusal.NoMemory) other is = cc
+usage_alone (Refuses (refusal.NoRoom i)) other is = cc
+usage_alone (Does (Runs start events)) other is = cc
+
+-- A command that is no command ends with status 2 or 7.
+refused_usage : (ended : Option Refusal) (left : Option Xinu) (exit : ℕ) (h k : Outside) (c : Carries (Refuses refusal.Usage) ended left h k)
+    → IsStatus ended c.output exit → exit ≢ 7 → exit ≡ 2
+refused_usage None left exit h k c status memory = (let work = c.deserved.1 in cc)
+refused_usage (Some refusal.Usage) left exit h k c status memory = status memory
+refused_usage (Some refusal.HostFault) left exit h k c status memory = absurd (c.deserved.0 refl)
+refused_usage (Some (refusal.Image i f)) left exit h k c status memory = (let same = c.deserved in cc)
+refused_usage (Some (refusal.Schedule l)) left exit h k c status memory = (let same = c.deserved in cc)
+refused_usage (Some refusal.NoMemory) left exit h k c status memory = absurd (memory (status memory))
+refused_usage (Some (refusal.NoRoom i)) left exit h k c status memory = (let same = c.deserved in cc)
+
+pub usage : (exit : ℕ) (command : Option Command) (old new : Outside) (left : Option Xinu) → Answers exit command old new left → exit ≢ 7
+    → exit ≡ 2 ↔ (command ≡ None)
+usage exit None old new left a memory =
+    (λ is. refl, λ none. refused_usage a.ended left exit old new a.obeys.carries a.status memory)
+usage exit (Some c) old new left a memory = (
+  λ is. absurd (usage_alone (verdict (Some c) old.file a.obeys.unseen) (run_keeps (file_bytes (old.file c.schedule) (a.obeys.unseen ScheduleInput)) _)
+      (sym is ∙ due exit (Some c) old new left a memory (λ three. cc))),
+  λ none. cc,
+)
+
+-- ---- host faults
+
+carried_fault : (v : Verdict) (ended : Option Refusal) (left : Option Xinu) (exit : ℕ) (h k : Outside) (c : Carries v ended left h k)
+    → IsStatus ended c.output exit → exit ≡ 3 → (v ≢ Refuses refusal.Usage) × Rose h.faults k.faults
+carried_fault v None left exit h k c status three = (let zero = status ∙ sym (done_status v left h k c) in absurd (cc))
+carried_fault v (Some refusal.Usage) left exit h k c status three = (let two = status (λ seven. cc) in absurd (cc))
+carried_fault v (Some refusal.HostFault) left exit h k c status three = c.deserved
+carried_fault v (Some (refusal.Image i f)) left exit h k c status three = (let four = status (λ seven. cc) in absurd (cc))
+carried_fault v (Some (refusal.Schedule l)) left exit h k c status three = (let five = status (λ seven. cc) in absurd (cc))
+carried_fault v (Some refusal.NoMemory) left exit h k c status three = (let seven = status (λ seven. cc) in absurd (cc))
+carried_fault v (Some (refusal.NoRoom i)) left exit h k c status three = (let eight = status (λ seven. cc) in absurd (cc))
+
+pub faults_counted : (exit : ℕ) (command : Option Command) (old new : Outside) (left : Option Xinu) → Answers exit command old new left
+    → exit ≡ 3 → IsSome command × Rose old.faults new.faults
+faults_counted exit None old new left a three =
+    absurd ((carried_fault (Refuses refusal.Usage) a.ended left exit old new a.obeys.carries a.status three).0 refl)
+faults_counted exit (Some c) old new left a three =
+    (refl, (carried_fault (verdict (Some c) old.file a.obeys.unseen) a.ended left exit old new a.obeys.carries a.status three).1)
+
+-- ---- files without a fault are read
+
+reads_by : (fits : Bool) (r : Reading) → (if fits then fault_line r else Some 0) ≡ None
+    → (events : List Event) × (events_read r ≡ Some events)
+reads_by false r good = cc
+reads_by true (Reads events) good = (events, refl)
+reads_by true (Bad l) good = cc
+reads_by true (Many l) good = cc
+
+good_reads : (bytes : List ℕ) → schedule_fault bytes ≡ None → (events : List Event) × (events_in bytes ≡ Some events)
+unfolding schedule_fault
+good_reads bytes good = reads_by (nat_le (length bytes) longest_schedule) (reading bytes) good
+
+loads_by : (fits : Bool) (f : Option ImageFault) (image : Loaded) → (if fits then option_map fault_number f else Some 0) ≡ None
+    → loaded_unless f image ≡ Some image
+loads_by false f image good = cc
+loads_by true None image good = refl
+loads_by true (Some f) image good = cc
+
+good_loads : (bytes : List ℕ) → image_fault bytes ≡ None → (image : Loaded) × (loads bytes ≡ Some image)
+unfolding image_fault
+good_loads bytes good =
+    (_, loads_by (nat_le (length bytes) longest_image) (first_fault bytes) _ good)
+
+-- ---- one image overlaps nothing
+
+then_fits : (s : Start) (next : Xinu → Start) (i : ℕ) → s ≢ Overlaps i → ((x : Xinu) → next x ≢ Overlaps i) → and_then s next ≢ Overlaps i
+then_fits (Boots x) next i first second is = second x is
+then_fits (Overlaps j) next i first second is = first is
+then_fits (NoRoom j) next i first second is = cc
+
+stack_fits : (stack : Option Stack) (image : Loaded) (s : Xinu) (i : ℕ) → where_stack stack 1 image s ≢ Overlaps i
+stack_fits None image s i is = cc
+stack_fits (Some stack) image s i is = cc
+
+one_fits : (image : Loaded) (i : ℕ) → boot (image ∷ []) ≢ Overlaps i
+one_fits image i is =
+    then_fits (all_made 1 (image ∷ []) (loaded_machine (image ∷ []))) (λ s. Boots (all_started (image ∷ []) s)) i
+    (λ made. then_fits (where_stack (take_stack (stack_size image.stack) (loaded_machine (image ∷ [])).parts.heap) 1 image (loaded_machine (image ∷ []))) (λ x. Boots x) i
+    (stack_fits (take_stack (stack_size image.stack) (loaded_machine (image ∷ [])).parts.heap) image (loaded_machine (image ∷ [])) i) (λ x same. cc) made)
+    (λ x same. cc) is
+
+-- ---- the statuses by the files
+
+some_of : {X : Type 0} (o : Option X) (x : X) → o ≡ Some x → IsSome o
+some_of o x is = rw is refl
+
+says_schedule : (exit : ℕ) (s b : List ℕ) (l : ℕ) → schedule_fault s ≡ Some l → exit ≡ 5 → SaysOfFiles exit s b
+says_schedule exit s b l bad is = record {
+  done = (λ e. absurd (cc), λ p. (let good = p.0 in cc));
+  bad_schedule = (λ e. some_of (schedule_fault s) l bad, λ p. is);
+  bad_image = (λ e. absurd (cc), λ p. (let good = p.0 in cc));
+  no_room = (λ e. absurd (cc), λ p. (let good = p.0 in cc));
+}
+
+says_image : (exit : ℕ) (s b : List ℕ) (f : ℕ) → schedule_fault s ≡ None → image_fault b ≡ Some f → exit ≡ 4 → SaysOfFiles exit s b
+says_image exit s b f good bad is = record {
+  done = (λ e. absurd (cc), λ p. (let other = p.1.good in cc));
+  bad_schedule = (λ e. absurd (cc), λ p. absurd (some_is_none (schedule_fault s) p good));
+  bad_image = (λ e. (good, some_of (image_fault b) f bad), λ p. is);
+  no_room = (λ e. absurd (cc), λ p. (let other = p.1.good in cc));
+}
+
+says_room : (exit : ℕ) (s b : List ℕ) (i : ℕ) → schedule_fault s ≡ None → image_fault b ≡ None → start_with b ≡ Some (NoRoom i) → exit ≡ 8
+    → SaysOfFiles exit s b
+says_room exit s b i good loads start is = record {
+  done = (λ e. absurd (cc), λ p. (let other = p.1.boots in cc));
+  bad_schedule = (λ e. absurd (cc), λ p. absurd (some_is_none (schedule_fault s) p good));
+  bad_image = (λ e. absurd (cc), λ p. absurd (some_is_none (image_fault b) p.1 loads));
+  no_room = (λ e. (good, record { good = loads; image = i; start = start }), λ p. is);
+}
+
+says_done : (exit : ℕ) (s b : List ℕ) (x : Xinu) → schedule_fault s ≡ None → image_fault b ≡ None → start_with b ≡ Some (Boots x)
+    → exit ≡ 0 → SaysOfFiles exit s b
+says_done exit s b x good loads start is = record {
+  done = (λ e. (good, record { good = loads; start = x; boots = start }), λ p. is);
+  bad_schedule = (λ e. absurd (cc), λ p. absurd (some_is_none (schedule_fault s) p good));
+  bad_image = (λ e. absurd (cc), λ p. absurd (some_is_none (image_fault b) p.1 loads));
+  no_room = (λ e. absurd (cc), λ p. (let other = p.1.start in cc));
+}
+
+-- by how the machine starts
+says_start : (exit : ℕ) (s b : List ℕ) (events : List Event) (image : Loaded) (start : Start) → schedule_fault s ≡ None
+    → image_fault b ≡ None → loads b ≡ Some image → boot (image ∷ []) ≡ start → exit ≡ status_due (start_verdict events start)
+    → SaysOfFiles exit s b
+unfolding start_with
+says_start exit s b events image (Boots x) good fine loaded starts is =
+    says_done exit s b x good fine (ap (option_map (λ i. boot (i ∷ []))) loaded ∙ ap Some starts) is
+says_start exit s b events image (Overlaps i) good fine loaded starts is = absurd (one_fits image i starts)
+says_start exit s b events image (NoRoom i) good fine loaded starts is =
+    says_room exit s b i good fine (ap (option_map (λ i. boot (i ∷ []))) loaded ∙ ap Some starts) is
+
+-- by the fault of the image
+says_by_image : (exit : ℕ) (s b : List ℕ) (events : List Event) (f : Option ℕ) → schedule_fault s ≡ None → image_fault b ≡ f
+    → exit ≡ status_due (images_verdict 1 (b ∷ []) (boot_verdict events)) → SaysOfFiles exit s b
+says_by_image exit s b events (Some f) good bad is =
+    says_image exit s b f good bad (is ∙ ap status_due (image_refused 1 b f [] (boot_verdict events) bad))
+says_by_image exit s b events None good fine is =
+    let loaded = good_loads b fine in
+    says_start exit s b events loaded.0 (boot (loaded.0 ∷ [])) good fine loaded.1 refl
+    (is ∙ ap status_due (image_read 1 b loaded.0 (boot_verdict events) fine loaded.1) ∙ ap status_due (boot_verdict_at events (loaded.0 ∷ []) (boot (loaded.0 ∷ [])) refl))
+
+-- by the fault of the schedule
+says_by_schedule : (exit : ℕ) (s b : List ℕ) (f : Option ℕ) → schedule_fault s ≡ f → exit ≡ status_due (run_verdict s (b ∷ []))
+    → SaysOfFiles exit s b
+says_by_schedule exit s b (Some l) bad is =
+    says_schedule exit s b l bad (is ∙ ap status_due (schedule_refused s l (b ∷ []) bad))
+says_by_schedule exit s b None good is =
+    let read = good_reads s good in
+    says_by_image exit s b read.0 (image_fault b) good refl
+    (is ∙ ap status_due (schedule_read s read.0 (b ∷ []) (record { good = good; reads = read.1 })))
+
+pub says_of_files : (exit : ℕ) (schedule image : Text) (old new : Outside) (left : Option Xinu) (a : Answers exit (Some (record { schedule = schedule; images = image ∷ [] })) old new left)
+    → exit ≢ 7 → exit ≢ 3
+    → SaysOfFiles exit (file_bytes (old.file schedule) (a.obeys.unseen ScheduleInput)) (file_bytes (old.file image) (a.obeys.unseen (ImageInput 1)))
+says_of_files exit schedule image old new left a memory fault =
+    says_by_schedule exit (file_bytes (old.file schedule) (a.obeys.unseen ScheduleInput)) (file_bytes (old.file image) (a.obeys.unseen (ImageInput 1))) (schedule_fault (file_bytes (old.file schedule) (a.obeys.unseen ScheduleInput))) refl
+    (due exit (Some (record { schedule = schedule; images = image ∷ [] })) old new left a memory fault)

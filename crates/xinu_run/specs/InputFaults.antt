@@ -1,0 +1,35 @@
+-- What is reported of a file that is refused, and when a file has no fault.
+use Rattle.std.specs.Prelude.{◌≡◌, ℕ, nat_le, if◌then◌else◌, List, length, Option, Some, None, option_map}
+use Rattle.image_loader.specs.Faults.{fault_number}
+use Rattle.image_loader.specs.ImageFiles.{first_fault}
+use Rattle.schedule_file.specs.ScheduleFiles.{Reading, Reads, Bad, Many, events_in, reading}
+use Rattle.xinu_base.specs.declared.events.Event.{Event}
+
+-- the most bytes of a schedule file: 4 MiB
+abbrev pub longest_schedule : ℕ
+longest_schedule = 4194304
+
+-- the most bytes of an image file: 1 MiB
+abbrev pub longest_image : ℕ
+longest_image = 1048576
+
+-- the line at which a text isn't a schedule
+abbrev pub fault_line : Reading → Option ℕ
+fault_line (Reads events) = None
+fault_line (Bad line) = Some line
+fault_line (Many line) = Some line
+
+-- the line that is reported of a schedule file: 0 if the file is too long; none if it is a schedule
+unfoldable pub schedule_fault : List ℕ → Option ℕ
+schedule_fault bytes =
+    if nat_le (length bytes) longest_schedule then fault_line (reading bytes) else Some 0
+
+-- the fault that is reported of an image file: 0 if the file is too long; none if it is an image
+unfoldable pub image_fault : List ℕ → Option ℕ
+image_fault bytes =
+    if nat_le (length bytes) longest_image then option_map fault_number (first_fault bytes) else Some 0
+
+-- A schedule file has no fault, and it reads as these events.
+pub record ReadsAs (bytes : List ℕ) (events : List Event) : Type 0 where
+  pub good : schedule_fault bytes ≡ None
+  pub reads : events_in bytes ≡ Some events
