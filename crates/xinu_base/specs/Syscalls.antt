@@ -1,5 +1,6 @@
 -- The table of calls: for each number a name and how many arguments are printed (book, appendix on system calls).
-use Rattle.std.specs.Prelude.{ℕ, Bool, List, [], ◌∷◌, ◌==◌, ◌||◌, false, if◌then◌else◌, codes}
+use Rattle.std.specs.Prelude.{ℕ, Bool, List, [], ◌∷◌, ◌==◌, if◌then◌else◌, codes}
+use Rattle.std.specs.List.{list_any}
 
 -- A system call: its number, its name, and how many arguments it takes.
 pub record Syscall : Type 0 where
@@ -80,10 +81,6 @@ args_of number = (syscall_in syscalls number).args
 abbrev pub built : List ℕ
 built = 1 ∷ 9 ∷ []
 
-abbrev pub is_among : ℕ → List ℕ → Bool
-is_among number [] = false
-is_among number (n ∷ ns) = (number == n) || is_among number ns
-
 -- whether the kernel has the call of this number
 abbrev pub is_built : ℕ → Bool
-is_built number = is_among number built
+is_built number = list_any (λ n. number == n) built

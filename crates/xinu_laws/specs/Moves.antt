@@ -1,5 +1,6 @@
 -- When a process may move to another state and place, and become ready.
 use Rattle.std.specs.Prelude.{◌≡◌, ◌≢◌, ℕ, ◌<◌, List, [], ◌∷◌, Option}
+use Rattle.xinu_base.specs.Constants.{NPROC, NSEM}
 use Rattle.xinu_base.specs.declared.processes.Process.{Process}
 use Rattle.xinu_base.specs.declared.processes.Rest.TheVariants.{Nothing}
 use Rattle.xinu_base.specs.declared.processes.State.{State}
@@ -15,7 +16,7 @@ place_ready _ = 0
 
 -- how often it is among waiters
 abbrev pub place_waiting : Place → ℕ
-place_waiting (InSemaphore s) = 1
+place_waiting (InSemaphore sem) = 1
 place_waiting _ = 0
 
 -- how often it is among the sleepers
@@ -29,13 +30,13 @@ IsPlaceOf state place = (ready_places state ≡ place_ready place) × (waiting_p
 
 -- the place fits the process that goes there: a semaphore without tokens whose owner calls for what is left of its call, or a later tick
 abbrev pub FitsPlace : Tables → Process → Place → Type 0
-FitsPlace t x (InSemaphore s) = (s < 128) × ((semaphore_at t s).tokens ≡ 0) × FitsOwner s (semaphore_at t s).owner x.rest
+FitsPlace t x (InSemaphore sem) = (sem < NSEM) × ((semaphore_at t sem).tokens ≡ 0) × FitsOwner sem (semaphore_at t sem).owner x.rest
 FitsPlace t x (InSleepers wake) = t.ticks < wake
 FitsPlace t x _ = Unit {0}
 
 -- What lets process q become x with message m and go to a place.
 pub record CanMove (t : Tables) (q : ℕ) (x : Process) (m : Option ℕ) (place : Place) : Type 0 where
-  pub within : q < 64
+  pub within : q < NPROC
   pub place_of : IsPlaceOf x.state place
   pub if_current : x.state ≡ Current → q ≡ t.current
   pub if_null : q ≡ 0 → CanRun x.state × (x.rest ≡ Nothing)

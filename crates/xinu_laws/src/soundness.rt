@@ -1,6 +1,7 @@
 //! Soundness: the machine starts in a sound state, and each event and each run keeps it so.
 
 ghost use Rattle.std.specs.Prelude.{◌≡◌, ◌<◌, length, List, ℕ, None};
+ghost use Rattle.xinu_base.specs.Constants.{NPROC};
 ghost use Rattle.xinu_base.specs.declared.events.End.{End};
 ghost use Rattle.xinu_base.specs.declared.events.Event.{Event};
 ghost use Rattle.xinu_base.specs.declared.lines.TranscriptLine.{TranscriptLine};
@@ -14,7 +15,7 @@ ghost use Rattle.xinu_model.specs.Tables.{message_at, no_process, no_semaphore, 
 
 /// The state in which the machine starts is sound.
 pub fn boot_is_sound()
-    ensures { (images : List Loaded) (start : Xinu) → length images < 64 → boot images ≡ Boots start → IsSound start }
+    ensures { (images : List Loaded) (start : Xinu) → length images < NPROC → boot images ≡ Boots start → IsSound start }
 {}
 
 /// Each event keeps a state sound, whatever is chosen in it.

@@ -14,8 +14,8 @@ use Rattle.xinu_run.specs.Conversions.{host_refusal}
 use Rattle.xinu_run.specs.Fetches.{fetches_of}
 use Rattle.xinu_run.specs.Refusals.{IsRefused, text_of}
 use Rattle.xinu_run.specs.Stages.{IsArgsCause, KeepsFiles, left_of, refusal_of}
-use Rattle.xinu_run.specs.Theorem.{Answers, Carries, MakesCalls, IsUnsent, Obeys}
-use Rattle.xinu_run.specs.Verdict.{Verdict, Refuses, Does, Runs, held, run_verdict, verdict}
+use Rattle.xinu_run.specs.Theorem.{Answers, Carries, HasFetched, IsUnsent, Obeys}
+use Rattle.xinu_run.specs.Verdict.{Verdict, Refuses, Does, Runs, file_bytes, run_verdict, verdict}
 use Rattle.xinu_run.specs.declared.refusals.Refusal.{Refusal}
 use Rattle.xinu_run.specs.declared.refusals.Refusal.TheVariants as refusal
 use Rattle.xinu_run.proofs.Carried.{carries_nothing, carries_within, unsent_refl}
@@ -48,11 +48,11 @@ pub host_refuses : (f : HostFault) (s i : Text) (h j k : Outside) → (f ≡ hos
 host_refuses host.Failed s i h j k cause earlier unsent =
     let rose : Rose h.faults k.faults = (let later : Rose j.faults k.faults = cause refl in omega arith) in record {
       unseen = unseen_by [] [];
-      carries = carries_nothing (run_verdict (held (h.file s) []) (held (h.file i) [] ∷ [])) refusal.HostFault h k (run_keeps (held (h.file s) []) (held (h.file i) [] ∷ []), rose) unsent;
+      carries = carries_nothing (run_verdict (file_bytes (h.file s) []) (file_bytes (h.file i) [] ∷ [])) refusal.HostFault h k (run_keeps (file_bytes (h.file s) []) (file_bytes (h.file i) [] ∷ []), rose) unsent;
     }
 host_refuses host.NoMemory s i h j k cause earlier unsent = record {
   unseen = unseen_by [] [];
-  carries = carries_nothing (run_verdict (held (h.file s) []) (held (h.file i) [] ∷ [])) refusal.NoMemory h k tt unsent;
+  carries = carries_nothing (run_verdict (file_bytes (h.file s) []) (file_bytes (h.file i) [] ∷ [])) refusal.NoMemory h k tt unsent;
 }
 
 -- A fetch sends nothing.
@@ -71,13 +71,13 @@ done_status (Does (Runs start events)) left h k c = sym (ap (λ o. o.status) c.s
 
 -- A command that was done answers 0.
 pub done_answers : (command : Option Command) (left : Option Xinu) (h k : Outside) → Obeys command None left h k
-    → MakesCalls (fetches_of command) None h k → KeepsFiles h k → Answers 0 command h k left
-done_answers command left h k obeys calls keeps = record {
+    → HasFetched (fetches_of command) None h k → KeepsFiles h k → Answers 0 command h k left
+done_answers command left h k obeys fetched keeps = record {
   ended = None;
   obeys = obeys;
   status = done_status (verdict command h.file obeys.unseen) left h k obeys.carries;
   message = keeps.fault;
-  calls = calls;
+  fetched = fetched;
   files = keeps.file;
   faults = keeps.later;
 }
@@ -93,8 +93,8 @@ text_unsent j k text is = record {
 
 -- A command that was refused answers the status of the refusal, once its text was sent.
 pub refused_answers : (command : Option Command) (r : Refusal) (exit : ℕ) (h j k : Outside) → Obeys command (Some r) None h j
-    → MakesCalls (fetches_of command) (Some r) h j → KeepsFiles h j → IsRefused r exit j k → Answers exit command h k None
-refused_answers command r exit h j k obeys calls keeps refused =
+    → HasFetched (fetches_of command) (Some r) h j → KeepsFiles h j → IsRefused r exit j k → Answers exit command h k None
+refused_answers command r exit h j k obeys fetched keeps refused =
     let sent = refused.part.1 in record {
       ended = Some r;
       obeys = record {
@@ -108,8 +108,8 @@ refused_answers command r exit h j k obeys calls keeps refused =
             let calm : Rose j.faults k.faults → ⊥ = λ rose. unrisen (let earlier = keeps.later in omega arith) in
             ap (λ (x : Outside). x.fault) (refused.whole other calm) ∙ ap (λ (o : Option (List ℕ)). grown o (text_of r)) keeps.fault;
       };
-      calls = record {
-        some = (calls.some.0, ap (λ (x : Outside). x.calls) sent ∙ calls.some.1);
+      fetched = record {
+        some = (fetched.some.0, ap (λ (x : Outside). x.calls) sent ∙ fetched.some.1);
         all = λ none. absurd (cc);
       };
       files = ap (λ (x : Outside). x.file) sent ∙ keeps.file;

@@ -15,7 +15,7 @@ use Rattle.xinu_run.specs.Theorem.{Carries, Deserved, IsPart, IsPartSent, IsSent
 use Rattle.xinu_run.specs.Verdict.{Output, Verdict, Refuses, Does, Runs, printed, transcript}
 use Rattle.xinu_run.specs.declared.refusals.Refusal.{Refusal}
 use Rattle.xinu_run.specs.declared.refusals.Refusal.TheVariants as refusal
-use Rattle.xinu_run.proofs.Printed.{Printed}
+use Rattle.xinu_run.proofs.Printed.{PrintsTranscript}
 
 -- ---- nothing was sent
 
@@ -127,7 +127,7 @@ fresh = record { plain = false; failure = None }
 
 -- what was printed of a run was sent
 printed_sends : (start : Xinu) (events : List Event) (new : Xinu) (a e : Printing) (h k : Outside) (ended : Option Refusal) (left : Option Xinu)
-    → a ≡ fresh → (p : Printed start events new a e h k) → (ended ≡ None → e.failure ≡ None) → (ended ≡ None → left ≡ Some new)
+    → a ≡ fresh → (p : PrintsTranscript start events new a e h k) → (ended ≡ None → e.failure ≡ None) → (ended ≡ None → left ≡ Some new)
     → WorkSends (Runs start events) (printed 0 (text (transcript start p.lines p.last p.end))) ended left h k
 printed_sends start events new a e h k ended left is_fresh p done leaves =
     let all = transcript start p.lines p.last p.end in
@@ -153,7 +153,7 @@ printed_sends start events new a e h k ended left is_fresh p done leaves =
 
 -- a run that was printed whole
 pub run_done : (v : Verdict) (start : Xinu) (events : List Event) (new : Xinu) (a e : Printing) (h k : Outside)
-    → v ≡ Does (Runs start events) → a ≡ fresh → e.failure ≡ None → Printed start events new a e h k → Carries v None (Some new) h k
+    → v ≡ Does (Runs start events) → a ≡ fresh → e.failure ≡ None → PrintsTranscript start events new a e h k → Carries v None (Some new) h k
 run_done v start events new a e h k is is_fresh none p =
     carries_as v (Does (Runs start events)) None (Some new) h k is (record {
       output = printed 0 (text (transcript start p.lines p.last p.end));
@@ -164,7 +164,7 @@ run_done v start events new a e h k is is_fresh none p =
 
 -- why a run wasn't printed whole
 refused_deserved : (f : HostFault) (start : Xinu) (events : List Event) (new : Xinu) (a e : Printing) (h k : Outside) → a ≡ fresh
-    → e.failure ≡ Some f → Printed start events new a e h k → Deserved (Does (Runs start events)) (Some (host_refusal f)) h k
+    → e.failure ≡ Some f → PrintsTranscript start events new a e h k → Deserved (Does (Runs start events)) (Some (host_refusal f)) h k
 refused_deserved host.Failed start events new a e h k is_fresh failed p = (
   (λ same. cc),
   elim (p.prints.cause failed) [
@@ -176,7 +176,7 @@ refused_deserved host.NoMemory start events new a e h k is_fresh failed p = tt
 
 -- a run of which the host refused a line
 pub run_refused : (v : Verdict) (f : HostFault) (r : Refusal) (start : Xinu) (events : List Event) (new : Xinu) (a e : Printing) (h k : Outside)
-    → v ≡ Does (Runs start events) → r ≡ host_refusal f → a ≡ fresh → e.failure ≡ Some f → Printed start events new a e h k
+    → v ≡ Does (Runs start events) → r ≡ host_refusal f → a ≡ fresh → e.failure ≡ Some f → PrintsTranscript start events new a e h k
     → Carries v (Some r) None h k
 run_refused v f r start events new a e h k is is_r is_fresh failed p =
     let P : Refusal → Type 0 = λ x. Carries v (Some x) None h k in

@@ -18,7 +18,7 @@ use Rattle.xinu_run.specs.Conversions.{boot_refusal, schedule_refusal}
 use Rattle.xinu_run.specs.InputFaults.{ReadsAs, schedule_fault, image_fault}
 use Rattle.xinu_run.specs.Stages.{HoldsFault, HoldsSchedule, IsScheduleCause}
 use Rattle.xinu_run.specs.Theorem.{Carries, IsUnsent, Obeys}
-use Rattle.xinu_run.specs.Verdict.{Input, ScheduleInput, ImageInput, Verdict, Refuses, given, held, run_verdict, start_verdict, started, with_images}
+use Rattle.xinu_run.specs.Verdict.{Input, ScheduleInput, ImageInput, Verdict, Refuses, unless_fault, file_bytes, run_verdict, start_verdict, boot_verdict, images_verdict}
 use Rattle.xinu_run.specs.declared.refusals.Refusal.{Refusal}
 use Rattle.xinu_run.specs.declared.refusals.Refusal.TheVariants as refusal
 use Rattle.xinu_run.proofs.Carried.{carries_as, carries_nothing, carries_within, unsent_refl}
@@ -28,7 +28,7 @@ use Rattle.xinu_run.proofs.InputFaults.{cases_fetched, schedule_fault-fetched, s
 
 -- What was fetched is the first bytes of what the file holds, with what was fetched in place of bytes that can't be observed.
 pub held_fetched : (file : Option (List ℕ)) (items : List ℕ) (n : ℕ) → length items ≤ n
-    → MatchOption file ⊤ (λ bytes. items ≡ take n bytes) → items ≡ take n (held file items)
+    → MatchOption file ⊤ (λ bytes. items ≡ take n bytes) → items ≡ take n (file_bytes file items)
 held_fetched None items n few fetched = sym (take_all n items few)
 held_fetched (Some bytes) items n few fetched = fetched
 
@@ -38,7 +38,7 @@ pub holds_events : (file : Option (List ℕ)) (items : List ℕ) (events : List 
 holds_events file items events few fetched reads =
     let P : List ℕ → Type 0 = λ s. ReadsAs s events in record {
       unseen = items;
-      reads = subst P (sym (schedule_whole (held file items) items (held_fetched file items 4194305 few fetched) reads.good)) reads;
+      reads = subst P (sym (schedule_whole (file_bytes file items) items (held_fetched file items 4194305 few fetched) reads.good)) reads;
     }
 
 -- The schedule file has the fault of the fetched bytes.
@@ -46,7 +46,7 @@ pub holds_fault : (file : Option (List ℕ)) (items : List ℕ) (l : ℕ) → le
     → MatchOption file ⊤ (λ bytes. items ≡ take 4194305 bytes) → schedule_fault items ≡ Some l → HoldsFault file l
 holds_fault file items l few fetched is = record {
   unseen = items;
-  fault = schedule_fault-fetched (held file items) items (held_fetched file items 4194305 few fetched) ∙ is;
+  fault = schedule_fault-fetched (file_bytes file items) items (held_fetched file items 4194305 few fetched) ∙ is;
 }
 
 -- why the fetched bytes aren't read
@@ -68,62 +68,62 @@ schedule_cause f r file items h k is few short fetched names =
 
 -- ---- the verdict's stages
 
-pub given_read : {T : Type 0} (fault : Option Refusal) (read : Option T) (next : T → Verdict) (x : T) → fault ≡ None → read ≡ Some x
-    → given fault read next ≡ next x
-given_read fault read next x none some = rw (none, some) refl
+pub unless_fault_read : {T : Type 0} (fault : Option Refusal) (read : Option T) (next : T → Verdict) (x : T) → fault ≡ None → read ≡ Some x
+    → unless_fault fault read next ≡ next x
+unless_fault_read fault read next x none some = rw (none, some) refl
 
-pub given_refused : {T : Type 0} (fault : Option Refusal) (read : Option T) (next : T → Verdict) (cause : Refusal) → fault ≡ Some cause
-    → given fault read next ≡ Refuses cause
-given_refused fault read next cause is = rw is refl
+pub unless_fault_refused : {T : Type 0} (fault : Option Refusal) (read : Option T) (next : T → Verdict) (cause : Refusal) → fault ≡ Some cause
+    → unless_fault fault read next ≡ Refuses cause
+unless_fault_refused fault read next cause is = rw is refl
 
 -- a schedule file that was read
 pub schedule_read : (bytes : List ℕ) (events : List Event) (images : List (List ℕ)) → ReadsAs bytes events
-    → run_verdict bytes images ≡ with_images 1 images (started events)
+    → run_verdict bytes images ≡ images_verdict 1 images (boot_verdict events)
 schedule_read bytes events images reads =
-    given_read (option_map refusal.Schedule (schedule_fault bytes)) (events_in bytes) (λ x. with_images 1 images (started x)) events (ap (option_map refusal.Schedule) reads.good) reads.reads
+    unless_fault_read (option_map refusal.Schedule (schedule_fault bytes)) (events_in bytes) (λ x. images_verdict 1 images (boot_verdict x)) events (ap (option_map refusal.Schedule) reads.good) reads.reads
 
 -- a schedule file with a fault
 pub schedule_refused : (bytes : List ℕ) (l : ℕ) (images : List (List ℕ)) → schedule_fault bytes ≡ Some l
     → run_verdict bytes images ≡ Refuses (refusal.Schedule l)
 schedule_refused bytes l images is =
-    given_refused (option_map refusal.Schedule (schedule_fault bytes)) (events_in bytes) (λ x. with_images 1 images (started x)) (refusal.Schedule l) (ap (option_map refusal.Schedule) is)
+    unless_fault_refused (option_map refusal.Schedule (schedule_fault bytes)) (events_in bytes) (λ x. images_verdict 1 images (boot_verdict x)) (refusal.Schedule l) (ap (option_map refusal.Schedule) is)
 
 -- an image file that was read, the last one
 pub image_read : (i : ℕ) (bytes : List ℕ) (image : Loaded) (next : List Loaded → Verdict) → image_fault bytes ≡ None
-    → loads bytes ≡ Some image → with_images i (bytes ∷ []) next ≡ next (image ∷ [])
+    → loads bytes ≡ Some image → images_verdict i (bytes ∷ []) next ≡ next (image ∷ [])
 image_read i bytes image next good is =
-    given_read (option_map (refusal.Image i) (image_fault bytes)) (loads bytes) (λ x. next (x ∷ [])) image (ap (option_map (refusal.Image i)) good) is
+    unless_fault_read (option_map (refusal.Image i) (image_fault bytes)) (loads bytes) (λ x. next (x ∷ [])) image (ap (option_map (refusal.Image i)) good) is
 
 -- an image file with a fault
 pub image_refused : (i : ℕ) (bytes : List ℕ) (f : ℕ) (files : List (List ℕ)) (next : List Loaded → Verdict) → image_fault bytes ≡ Some f
-    → with_images i (bytes ∷ files) next ≡ Refuses (refusal.Image i f)
+    → images_verdict i (bytes ∷ files) next ≡ Refuses (refusal.Image i f)
 image_refused i bytes f files next is =
-    given_refused (option_map (refusal.Image i) (image_fault bytes)) (loads bytes) (λ x. with_images (i + 1) files (λ images. next (x ∷ images))) (refusal.Image i f) (ap (option_map (refusal.Image i)) is)
+    unless_fault_refused (option_map (refusal.Image i) (image_fault bytes)) (loads bytes) (λ x. images_verdict (i + 1) files (λ images. next (x ∷ images))) (refusal.Image i f) (ap (option_map (refusal.Image i)) is)
 
 -- The fetched bytes of an image are judged as the whole file is.
 pub image_fetched : (i : ℕ) (bytes items : List ℕ) (files : List (List ℕ)) (next : List Loaded → Verdict) → items ≡ take 1048577 bytes
-    → with_images i (bytes ∷ files) next ≡ with_images i (items ∷ files) next
+    → images_verdict i (bytes ∷ files) next ≡ images_verdict i (items ∷ files) next
 image_fetched i bytes items files next fetched =
     elim (cases_fetched bytes items 1048576 fetched) [
-      | inl same ↦ ap (λ (b : List ℕ). with_images i (b ∷ files) next) same
+      | inl same ↦ ap (λ (b : List ℕ). images_verdict i (b ∷ files) next) same
       | inr long ↦ image_refused i bytes 0 files next (image_fault-long bytes long.0)
           ∙ sym (image_refused i items 0 files next (image_fault-long items long.1))
     ]
 
 -- the verdict on images with which the machine starts, or for which it has no room
-pub started_boots : (events : List Event) (images : List Loaded) (s : Start) → boot images ≡ s
-    → started events images ≡ start_verdict events s
-unfolding started
-started_boots events images s is = ap (start_verdict events) is
+pub boot_verdict_at : (events : List Event) (images : List Loaded) (s : Start) → boot images ≡ s
+    → boot_verdict events images ≡ start_verdict events s
+unfolding boot_verdict
+boot_verdict_at events images s is = ap (start_verdict events) is
 
 -- ---- no stage finds that there is no command
 
-given_keeps : {T : Type 0} (fault : Option Refusal) (read : Option T) (next : T → Verdict) → fault ≢ Some refusal.Usage
-    → ((x : T) → next x ≢ Refuses refusal.Usage) → given fault read next ≢ Refuses refusal.Usage
-given_keeps (Some cause) read next other rest is =
+unless_fault_keeps : {T : Type 0} (fault : Option Refusal) (read : Option T) (next : T → Verdict) → fault ≢ Some refusal.Usage
+    → ((x : T) → next x ≢ Refuses refusal.Usage) → unless_fault fault read next ≢ Refuses refusal.Usage
+unless_fault_keeps (Some cause) read next other rest is =
     let same : cause ≡ refusal.Usage = cc in other (ap Some same)
-given_keeps None None next other rest is = cc
-given_keeps None (Some x) next other rest is = rest x is
+unless_fault_keeps None None next other rest is = cc
+unless_fault_keeps None (Some x) next other rest is = rest x is
 
 schedule_keeps : (fault : Option ℕ) → option_map refusal.Schedule fault ≢ Some refusal.Usage
 schedule_keeps None is = cc
@@ -138,21 +138,21 @@ start_keeps events (Boots x) is = cc
 start_keeps events (Overlaps i) is = cc
 start_keeps events (NoRoom i) is = cc
 
-started_keeps : (events : List Event) (images : List Loaded) → started events images ≢ Refuses refusal.Usage
-unfolding started
-started_keeps events images is = start_keeps events (boot images) is
+boot_keeps : (events : List Event) (images : List Loaded) → boot_verdict events images ≢ Refuses refusal.Usage
+unfolding boot_verdict
+boot_keeps events images is = start_keeps events (boot images) is
 
 images_keep : (i : ℕ) (files : List (List ℕ)) (next : List Loaded → Verdict)
-    → ((images : List Loaded) → next images ≢ Refuses refusal.Usage) → with_images i files next ≢ Refuses refusal.Usage
+    → ((images : List Loaded) → next images ≢ Refuses refusal.Usage) → images_verdict i files next ≢ Refuses refusal.Usage
 images_keep i [] next rest is = rest [] is
 images_keep i (bytes ∷ files) next rest is =
-    given_keeps (option_map (refusal.Image i) (image_fault bytes)) (loads bytes) (λ x. with_images (i + 1) files (λ images. next (x ∷ images))) (image_keeps i (image_fault bytes))
+    unless_fault_keeps (option_map (refusal.Image i) (image_fault bytes)) (loads bytes) (λ x. images_verdict (i + 1) files (λ images. next (x ∷ images))) (image_keeps i (image_fault bytes))
     (λ x. images_keep (i + 1) files (λ images. next (x ∷ images)) (λ images. rest (x ∷ images))) is
 
 pub run_keeps : (schedule : List ℕ) (images : List (List ℕ)) → run_verdict schedule images ≢ Refuses refusal.Usage
 run_keeps schedule images is =
-    given_keeps (option_map refusal.Schedule (schedule_fault schedule)) (events_in schedule) (λ events. with_images 1 images (started events)) (schedule_keeps (schedule_fault schedule))
-    (λ events. images_keep 1 images (started events) (λ x. started_keeps events x)) is
+    unless_fault_keeps (option_map refusal.Schedule (schedule_fault schedule)) (events_in schedule) (λ events. images_verdict 1 images (boot_verdict events)) (schedule_keeps (schedule_fault schedule))
+    (λ events. images_keep 1 images (boot_verdict events) (λ x. boot_keeps events x)) is
 
 -- ---- a command over two files
 
@@ -167,47 +167,47 @@ pub schedule_refuses : (r : Refusal) (s i : Text) (h k : Outside) → IsSchedule
 schedule_refuses refusal.Usage s i h k cause unsent = absurd cause
 schedule_refuses refusal.HostFault s i h k cause unsent = record {
   unseen = unseen_by [] [];
-  carries = carries_nothing (run_verdict (held (h.file s) []) (held (h.file i) [] ∷ [])) refusal.HostFault h k (run_keeps (held (h.file s) []) (held (h.file i) [] ∷ []), cause) unsent;
+  carries = carries_nothing (run_verdict (file_bytes (h.file s) []) (file_bytes (h.file i) [] ∷ [])) refusal.HostFault h k (run_keeps (file_bytes (h.file s) []) (file_bytes (h.file i) [] ∷ []), cause) unsent;
 }
 schedule_refuses (refusal.Image n f) s i h k cause unsent = absurd cause
 schedule_refuses (refusal.Schedule l) s i h k cause unsent =
     let holds : HoldsFault (h.file s) l = cause in record {
       unseen = unseen_by holds.unseen [];
-      carries = carries_nothing (run_verdict (held (h.file s) holds.unseen) (held (h.file i) [] ∷ [])) (refusal.Schedule l) h k (schedule_refused (held (h.file s) holds.unseen) l (held (h.file i) [] ∷ []) holds.fault) unsent;
+      carries = carries_nothing (run_verdict (file_bytes (h.file s) holds.unseen) (file_bytes (h.file i) [] ∷ [])) (refusal.Schedule l) h k (schedule_refused (file_bytes (h.file s) holds.unseen) l (file_bytes (h.file i) [] ∷ []) holds.fault) unsent;
     }
 schedule_refuses refusal.NoMemory s i h k cause unsent = record {
   unseen = unseen_by [] [];
-  carries = carries_nothing (run_verdict (held (h.file s) []) (held (h.file i) [] ∷ [])) refusal.NoMemory h k tt unsent;
+  carries = carries_nothing (run_verdict (file_bytes (h.file s) []) (file_bytes (h.file i) [] ∷ [])) refusal.NoMemory h k tt unsent;
 }
 schedule_refuses (refusal.NoRoom n) s i h k cause unsent = absurd cause
 
 -- The verdict on the fetched image is the verdict on the command, if the schedule was read.
 pub files_obey : (s i : Text) (events : List Event) (items : List ℕ) (ended : Option Refusal) (left : Option Xinu) (h j k : Outside)
     → HoldsSchedule (h.file s) events → length items ≤ 1048577 → MatchOption (h.file i) ⊤ (λ bytes. items ≡ take 1048577 bytes)
-    → IsUnsent h j → h.faults ≤ j.faults → Carries (with_images 1 (items ∷ []) (started events)) ended left j k
+    → IsUnsent h j → h.faults ≤ j.faults → Carries (images_verdict 1 (items ∷ []) (boot_verdict events)) ended left j k
     → Obeys (Some (record { schedule = s; images = i ∷ [] })) ended left h k
 files_obey s i events items ended left h j k holds few fetched unsent earlier carries =
-    let bytes = held (h.file i) items in
-    let same : run_verdict (held (h.file s) holds.unseen) (bytes ∷ []) ≡ with_images 1 (items ∷ []) (started events) =
-    schedule_read (held (h.file s) holds.unseen) events (bytes ∷ []) holds.reads
-    ∙ image_fetched 1 bytes items [] (started events) (held_fetched (h.file i) items 1048577 few fetched) in
+    let bytes = file_bytes (h.file i) items in
+    let same : run_verdict (file_bytes (h.file s) holds.unseen) (bytes ∷ []) ≡ images_verdict 1 (items ∷ []) (boot_verdict events) =
+    schedule_read (file_bytes (h.file s) holds.unseen) events (bytes ∷ []) holds.reads
+    ∙ image_fetched 1 bytes items [] (boot_verdict events) (held_fetched (h.file i) items 1048577 few fetched) in
     record {
       unseen = unseen_by holds.unseen items;
-      carries = carries_as (run_verdict (held (h.file s) holds.unseen) (bytes ∷ [])) (with_images 1 (items ∷ []) (started events)) ended left h k same
-          (carries_within (with_images 1 (items ∷ []) (started events)) ended left h j k k unsent earlier (unsent_refl k) (omega arith) carries);
+      carries = carries_as (run_verdict (file_bytes (h.file s) holds.unseen) (bytes ∷ [])) (images_verdict 1 (items ∷ []) (boot_verdict events)) ended left h k same
+          (carries_within (images_verdict 1 (items ∷ []) (boot_verdict events)) ended left h j k k unsent earlier (unsent_refl k) (omega arith) carries);
     }
 
 -- ---- a machine that doesn't start
 
 boot_refused_of : (f : BootFault) (events : List Event) (image : Loaded) (h : Outside) → Starts (image ∷ []) (Err f)
-    → Carries (started events (image ∷ [])) (Some (boot_refusal f)) None h h
+    → Carries (boot_verdict events (image ∷ [])) (Some (boot_refusal f)) None h h
 boot_refused_of (boot_fault.NoRoom i) events image h starts =
-    carries_nothing (started events (image ∷ [])) (refusal.NoRoom i) h h (started_boots events (image ∷ []) (NoRoom i) starts) (unsent_refl h)
+    carries_nothing (boot_verdict events (image ∷ [])) (refusal.NoRoom i) h h (boot_verdict_at events (image ∷ []) (NoRoom i) starts) (unsent_refl h)
 boot_refused_of boot_fault.NoMemory events image h starts =
-    carries_nothing (started events (image ∷ [])) refusal.NoMemory h h tt (unsent_refl h)
+    carries_nothing (boot_verdict events (image ∷ [])) refusal.NoMemory h h tt (unsent_refl h)
 
 pub boot_refused : (f : BootFault) (r : Refusal) (events : List Event) (image : Loaded) (h : Outside) → r ≡ boot_refusal f
-    → Starts (image ∷ []) (Err f) → Carries (started events (image ∷ [])) (Some r) None h h
+    → Starts (image ∷ []) (Err f) → Carries (boot_verdict events (image ∷ [])) (Some r) None h h
 boot_refused f r events image h is starts =
-    let P : Refusal → Type 0 = λ x. Carries (started events (image ∷ [])) (Some x) None h h in
+    let P : Refusal → Type 0 = λ x. Carries (boot_verdict events (image ∷ [])) (Some x) None h h in
     subst P (sym is) (boot_refused_of f events image h starts)

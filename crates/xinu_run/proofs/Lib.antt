@@ -1,5 +1,5 @@
 pub mod Answered
-pub mod HostCalls
+pub mod Fetching
 pub mod Carried
 pub mod Files
 pub mod InputFaults

@@ -16,8 +16,8 @@ some_if false x y is = cc
 one_of_run : (schedule : Option Text) (images : List Text) (c : Command) → run_of schedule images ≡ Some c → length c.images ≡ 1
 one_of_run None images c is = cc
 one_of_run (Some schedule) images c is =
-    let given : Command = record { schedule = schedule; images = images } in
-    let holds = some_if (is_file_name schedule && (list_all is_file_name images && (nat_lt 0 (length images) && nat_le (length images) 1))) given c is in
+    let unless_fault : Command = record { schedule = schedule; images = images } in
+    let holds = some_if (is_file_name schedule && (list_all is_file_name images && (nat_lt 0 (length images) && nat_le (length images) 1))) unless_fault c is in
     let counts = and_parts (nat_lt 0 (length images)) (nat_le (length images) 1) (and_parts (list_all is_file_name images) _ (and_parts (is_file_name schedule) _ holds.0).1).1 in
     let some : 0 < length images = ltb-true 0 (length images) counts.0 in
     let few : length images ≤ 1 = leb-true (length images) 1 counts.1 in

@@ -47,7 +47,7 @@ pub prints_as : (a b : Printing) (h i : Outside) (s t : List ℕ) → (a.failure
 prints_as a b h i s t same prints = prints_as_by a b h i s t a.failure refl same prints
 
 -- The transcript of a run was printed; if all of it was, the machine is in the run's last state.
-pub record Printed (start : Xinu) (events : List Event) (new : Xinu) (before after : Printing) (was is : Outside) : Type 0 where
+pub record PrintsTranscript (start : Xinu) (events : List Event) (new : Xinu) (before after : Printing) (was is : Outside) : Type 0 where
   pub lines : List TranscriptLine
   pub last : Xinu
   pub end : End
@@ -59,7 +59,7 @@ pub record Printed (start : Xinu) (events : List Event) (new : Xinu) (before aft
 pub all_printed : (start : Xinu) (events : List Event) (new : Xinu) (end : End) (a b c d e : Printing) (h i j k l : Outside)
     → Prints a b h i (shown a.plain (line.Switch start.tables.current ∷ [])) → RunPrints start events new end b c i j
     → Prints c d j k (shown c.plain (tables_of new)) → Prints d e k l (shown d.plain (line.End end ∷ []))
-    → Printed start events new a e h l
+    → PrintsTranscript start events new a e h l
 all_printed start events new end a b c d e h i j k l first run tables last =
     let tables_same : Prints c d j k (shown c.plain (tables_of run.last)) =
     prints_as c d j k (shown c.plain (tables_of new)) (shown c.plain (tables_of run.last)) (λ none. ap (λ (s : Xinu). shown c.plain (tables_of s)) (sym (run.whole none).0)) tables in

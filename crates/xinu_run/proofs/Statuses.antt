@@ -1,5 +1,7 @@
 -- Why the exit statuses mean what they do.
-use Rattle.std.proofs.Common.{◌≡◌, ◌≢◌, ◌↔◌, ℕ, Bool, true, false, nat_le, if◌then◌else◌, List, [], ◌∷◌, length, Option, Some, None, IsSome, refl, sym, ap, ◌∙◌}
+use Rattle.std.proofs.lemmas.Bool.{cases_eq}
+use Rattle.std.specs.List.{list_any}
+use Rattle.std.proofs.Common.{inl, inr, ◌==◌, IsTrue, ◌≡◌, ◌≢◌, ◌↔◌, ℕ, Bool, true, false, nat_le, if◌then◌else◌, List, [], ◌∷◌, length, Option, Some, None, IsSome, refl, sym, ap, ◌∙◌}
 use Rattle.std.specs.Prelude.{option_map}
 use Rattle.command_line.specs.Commands.{Command}
 use Rattle.command_line.specs.Reading.{Text}
@@ -15,14 +17,37 @@ use Rattle.xinu_model.specs.Heap.Cells.{Stack, take_stack}
 use Rattle.xinu_model.specs.Machine.{Xinu}
 use Rattle.xinu_model.specs.Process.Creation.{stack_size}
 use Rattle.xinu_run.specs.InputFaults.{fault_line, longest_image, longest_schedule, schedule_fault, image_fault}
-use Rattle.xinu_run.specs.Statuses.{SaysOfFiles, start_with, status_due}
+use Rattle.xinu_run.specs.Statuses.{SaysOfFiles, start_with, status_due, statuses}
 use Rattle.xinu_run.specs.Theorem.{Answers, Carries, IsStatus}
-use Rattle.xinu_run.specs.Verdict.{ScheduleInput, ImageInput, Verdict, Refuses, Does, Runs, held, run_verdict, started, start_verdict, verdict, with_images}
+use Rattle.xinu_run.specs.Verdict.{ScheduleInput, ImageInput, Verdict, Refuses, Does, Runs, file_bytes, run_verdict, boot_verdict, start_verdict, verdict, images_verdict}
 use Rattle.xinu_run.specs.declared.refusals.Refusal.{Refusal}
 use Rattle.xinu_run.specs.declared.refusals.Refusal.TheVariants as refusal
 use Rattle.xinu_run.proofs.Answered.{done_status}
-use Rattle.xinu_run.proofs.Files.{image_read, image_refused, run_keeps, schedule_read, schedule_refused, started_boots}
+use Rattle.xinu_run.proofs.Files.{image_read, image_refused, run_keeps, schedule_read, schedule_refused, boot_verdict_at}
 use Rattle.xinu_run.proofs.Printed.{some_is_none}
+
+-- ---- which statuses there are
+
+-- whether a number is one of the exit statuses
+abbrev IsListed : ℕ → Type 0
+IsListed exit = IsTrue (list_any (λ n. exit == n) statuses)
+
+listed_by : (v : Verdict) (ended : Option Refusal) (left : Option Xinu) (exit : ℕ) (h k : Outside) (c : Carries v ended left h k) → IsStatus ended c.output exit → exit ≢ 7 → IsListed exit
+listed_by v None left exit h k c status memory =
+    let zero : exit ≡ 0 = status ∙ sym (done_status v left h k c) in rw zero refl
+listed_by v (Some refusal.Usage) left exit h k c status memory = rw (status memory) refl
+listed_by v (Some refusal.HostFault) left exit h k c status memory = rw (status memory) refl
+listed_by v (Some (refusal.Image i f)) left exit h k c status memory = rw (status memory) refl
+listed_by v (Some (refusal.Schedule l)) left exit h k c status memory = rw (status memory) refl
+listed_by v (Some refusal.NoMemory) left exit h k c status memory = rw (status memory) refl
+listed_by v (Some (refusal.NoRoom i)) left exit h k c status memory = rw (status memory) refl
+
+pub listed : (exit : ℕ) (command : Option Command) (old new : Outside) (left : Option Xinu) → Answers exit command old new left → IsTrue (list_any (λ n. exit == n) statuses)
+listed exit command old new left a =
+    elim (cases_eq exit 7) [
+      | inl seven ↦ rw seven refl
+      | inr other ↦ listed_by (verdict command old.file a.obeys.unseen) a.ended left exit old new a.obeys.carries a.status other
+    ]
 
 -- ---- the status is the verdict's
 
@@ -73,7 +98,7 @@ pub usage : (exit : ℕ) (command : Option Command) (old new : Outside) (left : 
 usage exit None old new left a memory =
     (λ is. refl, λ none. refused_usage a.ended left exit old new a.obeys.carries a.status memory)
 usage exit (Some c) old new left a memory = (
-  λ is. absurd (usage_alone (verdict (Some c) old.file a.obeys.unseen) (run_keeps (held (old.file c.schedule) (a.obeys.unseen ScheduleInput)) _)
+  λ is. absurd (usage_alone (verdict (Some c) old.file a.obeys.unseen) (run_keeps (file_bytes (old.file c.schedule) (a.obeys.unseen ScheduleInput)) _)
       (sym is ∙ due exit (Some c) old new left a memory (λ three. cc))),
   λ none. cc,
 )
@@ -191,13 +216,13 @@ says_start exit s b events image (NoRoom i) good fine loaded starts is =
 
 -- by the fault of the image
 says_by_image : (exit : ℕ) (s b : List ℕ) (events : List Event) (f : Option ℕ) → schedule_fault s ≡ None → image_fault b ≡ f
-    → exit ≡ status_due (with_images 1 (b ∷ []) (started events)) → SaysOfFiles exit s b
+    → exit ≡ status_due (images_verdict 1 (b ∷ []) (boot_verdict events)) → SaysOfFiles exit s b
 says_by_image exit s b events (Some f) good bad is =
-    says_image exit s b f good bad (is ∙ ap status_due (image_refused 1 b f [] (started events) bad))
+    says_image exit s b f good bad (is ∙ ap status_due (image_refused 1 b f [] (boot_verdict events) bad))
 says_by_image exit s b events None good fine is =
     let loaded = good_loads b fine in
     says_start exit s b events loaded.0 (boot (loaded.0 ∷ [])) good fine loaded.1 refl
-    (is ∙ ap status_due (image_read 1 b loaded.0 (started events) fine loaded.1) ∙ ap status_due (started_boots events (loaded.0 ∷ []) (boot (loaded.0 ∷ [])) refl))
+    (is ∙ ap status_due (image_read 1 b loaded.0 (boot_verdict events) fine loaded.1) ∙ ap status_due (boot_verdict_at events (loaded.0 ∷ []) (boot (loaded.0 ∷ [])) refl))
 
 -- by the fault of the schedule
 says_by_schedule : (exit : ℕ) (s b : List ℕ) (f : Option ℕ) → schedule_fault s ≡ f → exit ≡ status_due (run_verdict s (b ∷ []))
@@ -211,7 +236,7 @@ says_by_schedule exit s b None good is =
 
 pub says_of_files : (exit : ℕ) (schedule image : Text) (old new : Outside) (left : Option Xinu) (a : Answers exit (Some (record { schedule = schedule; images = image ∷ [] })) old new left)
     → exit ≢ 7 → exit ≢ 3
-    → SaysOfFiles exit (held (old.file schedule) (a.obeys.unseen ScheduleInput)) (held (old.file image) (a.obeys.unseen (ImageInput 1)))
+    → SaysOfFiles exit (file_bytes (old.file schedule) (a.obeys.unseen ScheduleInput)) (file_bytes (old.file image) (a.obeys.unseen (ImageInput 1)))
 says_of_files exit schedule image old new left a memory fault =
-    says_by_schedule exit (held (old.file schedule) (a.obeys.unseen ScheduleInput)) (held (old.file image) (a.obeys.unseen (ImageInput 1))) (schedule_fault (held (old.file schedule) (a.obeys.unseen ScheduleInput))) refl
+    says_by_schedule exit (file_bytes (old.file schedule) (a.obeys.unseen ScheduleInput)) (file_bytes (old.file image) (a.obeys.unseen (ImageInput 1))) (schedule_fault (file_bytes (old.file schedule) (a.obeys.unseen ScheduleInput))) refl
     (due exit (Some (record { schedule = schedule; images = image ∷ [] })) old new left a memory fault)

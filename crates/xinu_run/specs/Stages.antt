@@ -7,7 +7,7 @@ use Rattle.host_port.specs.Outside.{Outside}
 use Rattle.xinu_base.specs.declared.events.Event.{Event}
 use Rattle.xinu_model.specs.Machine.{Xinu}
 use Rattle.xinu_run.specs.InputFaults.{ReadsAs, schedule_fault}
-use Rattle.xinu_run.specs.Verdict.{held}
+use Rattle.xinu_run.specs.Verdict.{file_bytes}
 use Rattle.xinu_run.specs.declared.refusals.Refusal.{Refusal}
 use Rattle.xinu_run.specs.declared.refusals.Refusal.TheVariants as refusal
 
@@ -20,12 +20,12 @@ IsArgsCause _ command = ⊥
 -- A file reads as these events, if it can't be observed for some bytes.
 pub record HoldsSchedule (file : Option (List ℕ)) (events : List Event) : Type 0 where
   pub unseen : List ℕ
-  pub reads : ReadsAs (held file unseen) events
+  pub reads : ReadsAs (file_bytes file unseen) events
 
 -- A file has a fault at this line, if it can't be observed for some bytes.
 pub record HoldsFault (file : Option (List ℕ)) (line : ℕ) : Type 0 where
   pub unseen : List ℕ
-  pub fault : schedule_fault (held file unseen) ≡ Some line
+  pub fault : schedule_fault (file_bytes file unseen) ≡ Some line
 
 -- Why a schedule file isn't read: it has a fault at a line, the host failed, or memory ran out.
 abbrev pub IsScheduleCause : Refusal → Option (List ℕ) → Outside → Outside → Type 0

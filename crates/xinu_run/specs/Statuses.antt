@@ -7,6 +7,10 @@ use Rattle.xinu_run.specs.InputFaults.{schedule_fault, image_fault}
 use Rattle.xinu_run.specs.Refusals.{status_of}
 use Rattle.xinu_run.specs.Verdict.{Verdict, Refuses, Does, Runs}
 
+-- the exit statuses
+abbrev pub statuses : List ℕ
+statuses = 0 ∷ 2 ∷ 3 ∷ 4 ∷ 5 ∷ 7 ∷ 8 ∷ []
+
 -- the exit status that a verdict calls for
 abbrev pub status_due : Verdict → ℕ
 status_due (Refuses cause) = status_of cause

@@ -90,7 +90,7 @@ IsMessage None exit old new = new.fault ≡ old.fault
 IsMessage (Some cause) exit old new = SendsText cause exit old new
 
 -- The files that the command names were fetched in order, all of them if it was done.
-pub record MakesCalls (calls : List HostCall) (ended : Option Refusal) (old new : Outside) : Type 0 where
+pub record HasFetched (calls : List HostCall) (ended : Option Refusal) (old new : Outside) : Type 0 where
   pub some : (n : ℕ) × (new.calls ≡ grown old.calls (take n calls))
   pub all : ended ≡ None → new.calls ≡ grown old.calls calls
 
@@ -101,6 +101,6 @@ pub record Answers (exit : ℕ) (command : Option Command) (old new : Outside) (
   pub obeys : Obeys command ended left old new
   pub status : IsStatus ended obeys.carries.output exit
   pub message : IsMessage ended exit old new
-  pub calls : MakesCalls (fetches_of command) ended old new
+  pub fetched : HasFetched (fetches_of command) ended old new
   pub files : new.file ≡ old.file
   pub faults : old.faults ≤ new.faults

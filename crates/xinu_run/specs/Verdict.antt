@@ -33,24 +33,24 @@ pub data Verdict : Type 0 where
 -- ---- the bytes of the files
 
 -- what a file holds: the bytes that can be observed, or else the unseen ones
-abbrev pub held : Option (List ℕ) → List ℕ → List ℕ
-held None unseen = unseen
-held (Some bytes) unseen = bytes
+abbrev pub file_bytes : Option (List ℕ) → List ℕ → List ℕ
+file_bytes None unseen = unseen
+file_bytes (Some bytes) unseen = bytes
 
 -- what the image files hold, from image i on
-abbrev pub images_held : ℕ → List Text → (Text → Option (List ℕ)) → (Input → List ℕ) → List (List ℕ)
-images_held i [] file unseen = []
-images_held i (name ∷ names) file unseen =
-    held (file name) (unseen (ImageInput i)) ∷ images_held (i + 1) names file unseen
+abbrev pub image_bytes : ℕ → List Text → (Text → Option (List ℕ)) → (Input → List ℕ) → List (List ℕ)
+image_bytes i [] file unseen = []
+image_bytes i (name ∷ names) file unseen =
+    file_bytes (file name) (unseen (ImageInput i)) ∷ image_bytes (i + 1) names file unseen
 
 -- ---- the stages, in the order in which a command goes through them
 
 -- A file with a fault is refused; what is read of any other goes on to the next stage. (A file without a fault can be read, so the
 -- middle equation is never reached.)
-abbrev pub given : {T : Type 0} → Option Refusal → Option T → (T → Verdict) → Verdict
-given (Some cause) read next = Refuses cause
-given None None next = Refuses refusal.NoMemory
-given None (Some x) next = next x
+abbrev pub unless_fault : {T : Type 0} → Option Refusal → Option T → (T → Verdict) → Verdict
+unless_fault (Some cause) read next = Refuses cause
+unless_fault None None next = Refuses refusal.NoMemory
+unless_fault None (Some x) next = next x
 
 -- The machine starts, or it doesn't. (One image overlaps nothing, so the middle equation is never reached.)
 abbrev pub start_verdict : List Event → Start → Verdict
@@ -59,25 +59,25 @@ start_verdict events (Overlaps i) = Refuses refusal.NoMemory
 start_verdict events (NoRoom i) = Refuses (refusal.NoRoom i)
 
 -- the images are loaded, and run through the events
-unfoldable pub started : List Event → List Loaded → Verdict
-started events images = start_verdict events (boot images)
+unfoldable pub boot_verdict : List Event → List Loaded → Verdict
+boot_verdict events images = start_verdict events (boot images)
 
 -- the image files are read in order, from image i on
-abbrev pub with_images : ℕ → List (List ℕ) → (List Loaded → Verdict) → Verdict
-with_images i [] next = next []
-with_images i (bytes ∷ files) next =
-    given (option_map (refusal.Image i) (image_fault bytes)) (loads bytes) (λ image. with_images (i + 1) files (λ images. next (image ∷ images)))
+abbrev pub images_verdict : ℕ → List (List ℕ) → (List Loaded → Verdict) → Verdict
+images_verdict i [] next = next []
+images_verdict i (bytes ∷ files) next =
+    unless_fault (option_map (refusal.Image i) (image_fault bytes)) (loads bytes) (λ image. images_verdict (i + 1) files (λ images. next (image ∷ images)))
 
 -- the schedule file is read, then the images
 abbrev pub run_verdict : List ℕ → List (List ℕ) → Verdict
 run_verdict schedule images =
-    given (option_map refusal.Schedule (schedule_fault schedule)) (events_in schedule) (λ events. with_images 1 images (started events))
+    unless_fault (option_map refusal.Schedule (schedule_fault schedule)) (events_in schedule) (λ events. images_verdict 1 images (boot_verdict events))
 
 -- What a command deserves if its files hold these bytes.
 abbrev pub verdict : Option Command → (Text → Option (List ℕ)) → (Input → List ℕ) → Verdict
 verdict None file unseen = Refuses refusal.Usage
 verdict (Some c) file unseen =
-    run_verdict (held (file c.schedule) (unseen ScheduleInput)) (images_held 1 c.images file unseen)
+    run_verdict (file_bytes (file c.schedule) (unseen ScheduleInput)) (image_bytes 1 c.images file unseen)
 
 -- ---- what work puts out
 

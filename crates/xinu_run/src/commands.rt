@@ -6,10 +6,10 @@ ghost use Rattle.command_line.specs.Commands.{command_of};
 ghost use Rattle.host_port.specs.Outside.{fetching};
 ghost use Rattle.xinu_run.specs.Fetches.{fetches_of};
 ghost use Rattle.xinu_run.specs.Stages.{HoldsSchedule, IsScheduleCause, KeepsFiles, left_of, refusal_of};
-ghost use Rattle.xinu_run.specs.Theorem.{Carries, MakesCalls, IsUnsent, Obeys};
-ghost use Rattle.xinu_run.specs.Verdict.{started, with_images};
+ghost use Rattle.xinu_run.specs.Theorem.{Carries, HasFetched, IsUnsent, Obeys};
+ghost use Rattle.xinu_run.specs.Verdict.{boot_verdict, images_verdict};
 
-use crate::args::{Run, run_of};
+use crate::args::{RunFiles, files_of};
 use crate::refusals::Refusal;
 use crate::runs::run_image;
 use host_port::Host;
@@ -33,21 +33,21 @@ pub(crate) fn carry_out<H: Host>(
     host: &mut H,
 ) -> Result<Machine, Refusal>
     ensures obeys { Obeys (command_of (map string_bytes args.now)) (refusal_of result) (left_of result) (H.view host.old) (H.view host.new) }
-    ensures calls { MakesCalls (fetches_of (command_of (map string_bytes args.now))) (refusal_of result) (H.view host.old) (H.view host.new) }
+    ensures fetched { HasFetched (fetches_of (command_of (map string_bytes args.now))) (refusal_of result) (H.view host.old) (H.view host.new) }
     ensures keeps { KeepsFiles (H.view host.old) (H.view host.new) }
 {
-    let run = run_of(alloc, args)?;
-    run_files(alloc, run, host)
+    let files = files_of(alloc, args)?;
+    run_files(alloc, files, host)
 }
 
 // Runs the image in a file through the events of the schedule in another.
-fn run_files<H: Host>(alloc: Global, run: Run<'_>, host: &mut H) -> Result<Machine, Refusal>
-    ensures obeys { Obeys (Some (record { schedule = run.entry.schedule.now; images = run.entry.image.now ∷ [] })) (refusal_of result) (left_of result) (H.view host.old) (H.view host.new) }
-    ensures calls { MakesCalls (fetching run.entry.schedule.now ∷ fetching run.entry.image.now ∷ []) (refusal_of result) (H.view host.old) (H.view host.new) }
+fn run_files<H: Host>(alloc: Global, files: RunFiles<'_>, host: &mut H) -> Result<Machine, Refusal>
+    ensures obeys { Obeys (Some (record { schedule = files.entry.schedule.now; images = files.entry.image.now ∷ [] })) (refusal_of result) (left_of result) (H.view host.old) (H.view host.new) }
+    ensures fetched { HasFetched (fetching files.entry.schedule.now ∷ fetching files.entry.image.now ∷ []) (refusal_of result) (H.view host.old) (H.view host.new) }
     ensures keeps { KeepsFiles (H.view host.old) (H.view host.new) }
 {
-    let schedule = fetch_schedule(alloc, host, run.schedule)?;
-    let bytes = host.fetch(alloc, run.image, LONGEST_IMAGE)?;
+    let schedule = fetch_schedule(alloc, host, files.schedule)?;
+    let bytes = host.fetch(alloc, files.image, LONGEST_IMAGE)?;
     run_bytes(alloc, bytes.as_slice(), schedule, host)
 }
 
@@ -57,7 +57,7 @@ fn fetch_schedule<H: Host>(alloc: Global, host: &mut H, name: &str) -> Result<Sc
     ensures few { IfOk result (λ events. length events ≤ 1000000000) }
     ensures refused { IfErr result (λ r. IsScheduleCause r ((H.view host.old).file name.now) (H.view host.old) (H.view host.new)) }
     ensures unsent { IsUnsent (H.view host.old) (H.view host.new) }
-    ensures calls { MakesCalls (fetching name.now ∷ []) (refusal_of result) (H.view host.old) (H.view host.new) }
+    ensures fetched { HasFetched (fetching name.now ∷ []) (refusal_of result) (H.view host.old) (H.view host.new) }
     ensures keeps { KeepsFiles (H.view host.old) (H.view host.new) }
 {
     let text = host.fetch(alloc, name, LONGEST_SCHEDULE)?;
@@ -78,8 +78,8 @@ fn run_bytes<H: Host>(
     host: &mut H,
 ) -> Result<Machine, Refusal>
     requires { length schedule ≤ 1000000000 }
-    ensures carries { Carries (with_images 1 (bytes.now ∷ []) (started schedule)) (refusal_of result) (left_of result) (H.view host.old) (H.view host.new) }
-    ensures calls { (H.view host.new).calls ≡ (H.view host.old).calls }
+    ensures carries { Carries (images_verdict 1 (bytes.now ∷ []) (boot_verdict schedule)) (refusal_of result) (left_of result) (H.view host.old) (H.view host.new) }
+    ensures fetched { (H.view host.new).calls ≡ (H.view host.old).calls }
     ensures keeps { KeepsFiles (H.view host.old) (H.view host.new) }
 {
     if bytes.len() > LONGEST_IMAGE {

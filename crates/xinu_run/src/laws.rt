@@ -1,14 +1,20 @@
 //! What the exit statuses mean: laws about every answer of the top call. Each is the contract of a function that does nothing.
 
-ghost use Rattle.std.specs.Prelude.{◌≡◌, ◌≢◌, ◌↔◌, ◌∷◌, [], ℕ, Option, Some, None, IsSome};
+ghost use Rattle.std.specs.Prelude.{◌≡◌, ◌≢◌, ◌↔◌, ◌==◌, ◌∷◌, [], ℕ, IsTrue, Option, Some, None, IsSome};
+ghost use Rattle.std.specs.List.{list_any};
 ghost use Rattle.command_line.specs.Commands.{Command};
 ghost use Rattle.command_line.specs.Reading.{Text};
 ghost use Rattle.host_port.specs.HostCalls.{Rose};
 ghost use Rattle.host_port.specs.Outside.{Outside};
 ghost use Rattle.xinu_model.specs.Machine.{Xinu};
-ghost use Rattle.xinu_run.specs.Statuses.{SaysOfFiles, status_due};
+ghost use Rattle.xinu_run.specs.Statuses.{SaysOfFiles, status_due, statuses};
 ghost use Rattle.xinu_run.specs.Theorem.{Answers};
-ghost use Rattle.xinu_run.specs.Verdict.{ScheduleInput, ImageInput, held, verdict};
+ghost use Rattle.xinu_run.specs.Verdict.{ScheduleInput, ImageInput, file_bytes, verdict};
+
+/// The exit status is 0, 2, 3, 4, 5, 7 or 8.
+pub fn statuses_are_these()
+    ensures { (exit : ℕ) (command : Option Command) (old new : Outside) (left : Option Xinu) → Answers exit command old new left → IsTrue (list_any (λ n. exit == n) statuses) }
+{}
 
 /// The exit status is exactly that of the verdict, unless the host failed or memory ran out.
 pub fn statuses_are_due()
@@ -28,5 +34,5 @@ pub fn host_faults_are_counted()
 /// The exit status is 5 if and only if the schedule file has a fault; if it has none, 4 if and only if the image file has one; if both
 /// have none, 8 if and only if the heap has no room for the stack of the image, and else 0: unless the host failed or memory ran out.
 pub fn statuses_say_of_files()
-    ensures { (exit : ℕ) (schedule image : Text) (old new : Outside) (left : Option Xinu) (a : Answers exit (Some (record { schedule = schedule; images = image ∷ [] })) old new left) → exit ≢ 7 → exit ≢ 3 → SaysOfFiles exit (held (old.file schedule) (a.obeys.unseen ScheduleInput)) (held (old.file image) (a.obeys.unseen (ImageInput 1))) }
+    ensures { (exit : ℕ) (schedule image : Text) (old new : Outside) (left : Option Xinu) (a : Answers exit (Some (record { schedule = schedule; images = image ∷ [] })) old new left) → exit ≢ 7 → exit ≢ 3 → SaysOfFiles exit (file_bytes (old.file schedule) (a.obeys.unseen ScheduleInput)) (file_bytes (old.file image) (a.obeys.unseen (ImageInput 1))) }
 {}

@@ -1,23 +1,24 @@
 -- What a search for a free number finds.
+use Rattle.std.specs.List.{find}
 use Rattle.std.proofs.Common.{◌≡◌, ℕ, zero, suc, ◌+◌, ◌-◌, ◌<◌, ◌≤◌, Bool, true, List, [], ◌∷◌, subst, arith, Some}
 use Rattle.std.specs.Prelude.{min}
 use Rattle.std.specs.List.{AllByRecursion}
 use Rattle.std.proofs.lemmas.Bool.{cond_both}
-use Rattle.xinu_model.specs.Searches.{numbers_from, first_passing, going_round, search}
+use Rattle.xinu_model.specs.Searches.{numbers_from, going_round, search}
 use Rattle.xinu_laws.proofs.Lists.Orders.{all_append}
 
 -- what is found first passes
-pub first_passes : (test : ℕ → Bool) (l : List ℕ) (n : ℕ) → first_passing test l ≡ Some n → test n ≡ true
+pub first_passes : (test : ℕ → Bool) (l : List ℕ) (n : ℕ) → find test l ≡ Some n → test n ≡ true
 first_passes test [] n e = cc
 first_passes test (x ∷ xs) n e =
-    cond_both (test x) (Some x) (first_passing test xs) (λ o. o ≡ Some n → test n ≡ true)
+    cond_both (test x) (Some x) (find test xs) (λ o. o ≡ Some n → test n ≡ true)
     (λ b f. let g : x ≡ n = cc in subst (λ k. test k ≡ true) g b) (λ _ f. first_passes test xs n f) e
 
 -- and is one of those that are looked at
-pub first_is_one : (P : ℕ → Type 0) (test : ℕ → Bool) (l : List ℕ) (n : ℕ) → AllByRecursion P l → first_passing test l ≡ Some n → P n
+pub first_is_one : (P : ℕ → Type 0) (test : ℕ → Bool) (l : List ℕ) (n : ℕ) → AllByRecursion P l → find test l ≡ Some n → P n
 first_is_one P test [] n all e = cc
 first_is_one P test (x ∷ xs) n all e =
-    cond_both (test x) (Some x) (first_passing test xs) (λ o. o ≡ Some n → P n)
+    cond_both (test x) (Some x) (find test xs) (λ o. o ≡ Some n → P n)
     (λ _ f. let g : x ≡ n = cc in subst P g all.0) (λ _ f. first_is_one P test xs n all.1 f) e
 
 -- n numbers from n on are below the size

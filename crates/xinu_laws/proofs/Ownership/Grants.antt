@@ -6,6 +6,7 @@ use Rattle.xinu_base.specs.declared.processes.Process.{Process}
 use Rattle.xinu_base.specs.declared.registers.Hart.{Hart}
 use Rattle.xinu_laws.specs.Apart.{is_in_free, is_in_pool, is_in_stack, holders}
 use Rattle.xinu_laws.specs.Grants.{GivesOnlyFree}
+use Rattle.xinu_model.specs.Footprints.{on_tables}
 use Rattle.xinu_model.specs.Heap.Calls.{getmem, getstk, granted, stacked}
 use Rattle.xinu_model.specs.Heap.Cells.{Grant, Stack, take_memory, take_stack}
 use Rattle.xinu_model.specs.Machine.{Xinu, Returns, CallState, CallResult, start, refused, returns}
@@ -22,10 +23,8 @@ use Rattle.xinu_laws.proofs.HeapCells.Taken.{grants_were_free, stacks_were_free}
 use Rattle.xinu_laws.proofs.Lists.Counts.{times-append}
 use Rattle.xinu_laws.proofs.Lists.Maps.{one, times_first, times_set}
 use Rattle.xinu_laws.proofs.Ownership.Claims.{empty_stack, holders_kept, pool_parts, stack_parts}
-use Rattle.xinu_laws.proofs.Touches.Kept.{keeps_places}
-use Rattle.xinu_laws.proofs.Touches.Moves.{touches_sent}
 use Rattle.xinu_laws.specs.Touches.{reach, range_of, stacks_of, KeepsPlaces, Touches}
-use Rattle.xinu_model.specs.Footprints.{on_tables}
+use Rattle.xinu_laws.proofs.Touches.Moves.{touches_sent}
 
 -- where no address has more holders nothing is given
 pub gives_nothing : (s u : Xinu) → ((a : ℕ) → holders u a ≤ holders s a) → GivesOnlyFree s u
@@ -80,9 +79,8 @@ gives_killed p d =
     let x = process_at d.state.tables p in
     let told = sent x.parent p d in
     let touches : Touches (reach on_tables) d.state told.state = touches_sent x.parent p d in
-    let same : KeepsPlaces d.state told.state = keeps_places touches refl refl refl in
     gives_nothing d.state (killed p d).state (λ a.
-    let kept = holders_kept d.state told.state same.ranges same.stacks a in
+    let kept = holders_kept d.state told.state (touches.parts.ranges refl) (touches.stacks refl) a in
     let set = times_set (is_in_stack a) told.state.tables.processes p no_process no_process (empty_stack a no_process refl) in
     let none = ap one (empty_stack a no_process refl) in
     omega arith)

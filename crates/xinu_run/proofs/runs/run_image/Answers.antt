@@ -5,7 +5,7 @@ use Rattle.image_loader.specs.declared.images.Image.{Image}
 use Rattle.machine.specs.Starts.{Starts}
 use Rattle.xinu_model.specs.Boot.{Boots, boot}
 use Rattle.xinu_run.proofs.Carried.{run_done, run_refused}
-use Rattle.xinu_run.proofs.Files.{boot_refused, started_boots}
+use Rattle.xinu_run.proofs.Files.{boot_refused, boot_verdict_at}
 use Rattle.xinu_run.proofs.Printed.{all_printed}
 use Rattle.xinu_run.proofs.runs.run_image.Goals as goal
 
@@ -18,10 +18,10 @@ pub returns-in-None-clause-carries : goal.returns-in-None-clause-carries
 returns-in-None-clause-carries g c =
     let boots = ap (λ (images : List Image). boot (map loaded_of images)) (sym c.from_ref.ensures.value) ∙ c.in-Ok.ensures.starts.0 in
     let printed = all_printed c.in-Ok.machine.state c.args.schedule c.take_events-end.new.machine.state c.take_events-end.result _ _ _ _ _ _ _ _ _ _ c.start.ensures c.take_events-end.ensures c.dump.ensures c.print_end.ensures in
-    run_done _ c.in-Ok.machine.state c.args.schedule c.take_events-end.new.machine.state _ _ _ _ (started_boots c.args.schedule _ (Boots c.in-Ok.machine.state) boots) c.new-out.ensures.fresh (sym c.failed.ensures.failed ∙ c.in-None.is) printed
+    run_done _ c.in-Ok.machine.state c.args.schedule c.take_events-end.new.machine.state _ _ _ _ (boot_verdict_at c.args.schedule _ (Boots c.in-Ok.machine.state) boots) c.new-out.ensures.fresh (sym c.failed.ensures.failed ∙ c.in-None.is) printed
 
 pub returns-in-Some-clause-carries : goal.returns-in-Some-clause-carries
 returns-in-Some-clause-carries g c =
     let boots = ap (λ (images : List Image). boot (map loaded_of images)) (sym c.from_ref.ensures.value) ∙ c.in-Ok.ensures.starts.0 in
     let printed = all_printed c.in-Ok.machine.state c.args.schedule c.take_events-end.new.machine.state c.take_events-end.result _ _ _ _ _ _ _ _ _ _ c.start.ensures c.take_events-end.ensures c.dump.ensures c.print_end.ensures in
-    run_refused _ c.in-Some.fault c.from-in-Some.result c.in-Ok.machine.state c.args.schedule c.take_events-end.new.machine.state _ _ _ _ (started_boots c.args.schedule _ (Boots c.in-Ok.machine.state) boots) c.from-in-Some.ensures c.new-out.ensures.fresh (sym c.failed.ensures.failed ∙ c.in-Some.is) printed
+    run_refused _ c.in-Some.fault c.from-in-Some.result c.in-Ok.machine.state c.args.schedule c.take_events-end.new.machine.state _ _ _ _ (boot_verdict_at c.args.schedule _ (Boots c.in-Ok.machine.state) boots) c.from-in-Some.ensures c.new-out.ensures.fresh (sym c.failed.ensures.failed ∙ c.in-Some.is) printed

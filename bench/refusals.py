@@ -1,0 +1,69 @@
+#!/usr/bin/env python3
+"""Runs the built program where it refuses, and compares its exit status, standard output and standard error.
+
+usage: bench/refusals.py
+
+It builds `xinu_run` as a proved program and writes its files into a folder of its own. The last line says how many runs were as they
+should be. The gate compares neither standard error nor more than one run of a program, so this is run by hand."""
+import os
+import struct
+import subprocess
+import sys
+import tempfile
+
+CRATE = os.path.join(os.path.dirname(os.path.abspath(__file__)), "..", "crates", "xinu_run")
+GOOD_RUN = ["run", "--schedule", "data/four_steps.txt", "data/getpid_and_exit.xim"]
+
+
+def image(stack):
+    """An image of the calls `getpid` and `exit`, with a stack of so many bytes."""
+    code = struct.pack("<4I", 0x0010_0893, 0x0000_0073, 0x0090_0893, 0x0000_0073)
+    return b"XIMG" + struct.pack("<6I", 1, 0, len(code), 0, 20, stack) + code
+
+
+FILES = {
+    "four": b"step 4\n",
+    "none": b"dump\nstep 0\n",
+    "image": image(4096),
+    "short": image(4096)[:27],
+    "whole": image(1_048_576),
+}
+
+# the arguments, the exit status, and standard error
+ROWS = [
+    ([], 2, "xinu: usage\n"),
+    (["run", "--schedule", "four"], 2, "xinu: usage\n"),
+    (["run", "--schedule", "no file", "image"], 3, "xinu: host fault\n"),
+    (["run", "--schedule", "four", "no file"], 3, "xinu: host fault\n"),
+    (["run", "--schedule", "four", "short"], 4, "xinu: image 1 fault 1\n"),
+    (["run", "--schedule", "none", "image"], 5, "xinu: schedule line 2\n"),
+    (["run", "--schedule", "none", "short"], 5, "xinu: schedule line 2\n"),
+    (["run", "--schedule", "four", "whole"], 8, "xinu: no room for image 1\n"),
+]
+
+
+def is_right(program, folder, args, status, error, out=subprocess.PIPE):
+    """Whether the program ends with this status and text, and writes nothing on standard output."""
+    ran = subprocess.run([program, *args], cwd=folder, stdout=out, stderr=subprocess.PIPE, check=False)
+    if (ran.returncode, ran.stdout or b"", ran.stderr) == (status, b"", error.encode()):
+        return True
+    print(f"{args}: status {ran.returncode}, {ran.stdout!r}, {ran.stderr!r}; not {status}, b'', {error!r}")
+    return False
+
+
+def main():
+    subprocess.run(["rt", "run", "--", *GOOD_RUN], cwd=CRATE, check=True, stdout=subprocess.DEVNULL)
+    program = os.path.abspath(os.path.join(CRATE, "out", "xinu_run"))
+    with tempfile.TemporaryDirectory() as folder:
+        for name, content in FILES.items():
+            with open(os.path.join(folder, name), "wb") as file:
+                file.write(content)
+        right = [is_right(program, folder, *row) for row in ROWS]
+        with open("/dev/full", "wb") as full:
+            right.append(is_right(program, folder, ["run", "--schedule", "four", "image"], 3, "xinu: host fault\n", full))
+    print(f"{sum(right)} of {len(right)} runs were as they should be")
+    sys.exit(0 if all(right) else 1)
+
+
+if __name__ == "__main__":
+    main()
