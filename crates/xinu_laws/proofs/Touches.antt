@@ -61,6 +61,11 @@ module _ {f : Footprint} where
       → KeepsParts f p (record p { pools = pools })
   parts_pools may p pools e = record { extent = record { low = refl; many = refl }; heap = λ _. refl; pools = named may; ranges = λ _. e; ports = λ _. (refl, refl) }
 
+  -- Another heap of the same extent, and one more pool.
+  pub parts_new_pool : f.heap ≡ true → f.pools ≡ true → f.ranges ≡ true → (p : Parts) (h : Heap) (pools : List Pool) → HasSameExtent p.heap h
+      → KeepsParts f p (record p { heap = h; pools = pools })
+  parts_new_pool heap pools ranges p h l e = record { extent = e; heap = named heap; pools = named pools; ranges = named ranges; ports = λ _. (refl, refl) }
+
   -- Other ports.
   pub parts_ports : f.ports ≡ true → (p : Parts) (ports : List Port) (next : ℕ)
       → KeepsParts f p (record p { ports = ports; next_port = next })

@@ -28,7 +28,7 @@ use Rattle.xinu_laws.proofs.Pools.Holders.{holder_finds, by_holder}
 use Rattle.xinu_laws.proofs.Tables.Owners.{owner_signalled}
 use Rattle.xinu_laws.proofs.Tables.MoveTo.{semaphore_within}
 use Rattle.xinu_laws.proofs.Tables.Unblock.{sound_signalled}
-use Rattle.xinu_laws.proofs.Touches.{StaysIn, named, parts_pools, touches_parts, touches_refl, touches_trans, touches_either, touches_if}
+use Rattle.xinu_laws.proofs.Touches.{StaysIn, parts_new_pool, parts_pools, touches_parts, touches_refl, touches_trans, touches_either, touches_if}
 use Rattle.xinu_laws.proofs.Touches.Moves.{MayTouch, touches_tokens, touches_make_semaphore, parts_signalled, touches_signalled, touches_take_token, touches_goes_on}
 
 -- A reach that allows all pools to change.
@@ -161,11 +161,7 @@ made_pool_touches (Some grant) (Some sem) size n s e g =
     let t : Touches (reach on_new_pool) s (record s { tables = make_semaphore sem (owner.Pool i) n s.tables }) =
     touches_make_semaphore s sem (owner.Pool i) n (ap ((reach on_new_pool).mine sem) (free_semaphore_free s.tables sem e)) refl in
     let m = getmem_grants (pool_bytes size n) s.parts.heap grant g in
-    record {
-      frame = t.frame;
-      stacks = t.stacks;
-      parts = record { extent = extent_marked m.taken; heap = named refl; pools = named refl; ranges = named refl; ports = λ _. (refl, refl) };
-    })
+    record { frame = t.frame; stacks = t.stacks; parts = parts_new_pool refl refl refl s.parts grant.heap _ (extent_marked m.taken) })
 made_pool_touches (Some grant) None size n s e g = touches_refl s
 made_pool_touches None sem size n s e g = touches_refl s
 
