@@ -25,7 +25,7 @@ pub fn the_unblocked_become_ready()
     ensures { (ps : List ℕ) (d : CallState) → (unblock_all ps d).state ≡ record d.state { tables = ready_all ps d.state.tables } }
 {}
 
-/// A signal of a semaphore in use: the first waiter becomes ready, or there is one token more.
+/// A signal on a semaphore in use: the first waiter becomes ready, or there is one token more.
 pub fn signals_keep_inside()
     ensures signalled { (sem : ℕ) (d : CallState) → IsInside d.state.tables → sem < NSEM → (semaphore_at d.state.tables sem).owner ≢ None → IsInside (signalled sem d).state.tables }
     ensures waiter { (t : Tables) (sem p : ℕ) (ps : List ℕ) → IsInside t → (semaphore_at t sem).waiters ≡ p ∷ ps → IsInside (ready p t) }

@@ -38,9 +38,9 @@ waits_after t c sem x m i p r =
     (λ (n : p ≢ c). waits_where_left t c sem p r (subst (λ z. 0 < z) (count_last_other p c (numbers_without c (semaphore_at t r).waiters) n) h)) (cases_eq p c)))
 
 -- what is left of the call of one who waits on semaphore s of port q
-pub record IsCallOn (ports : List Port) (q : ℕ) (queue : PortQueue) (s : ℕ) (left : Rest) : Type 0 where
-  pub sends : s ≡ queue.send → (message : ℕ) × (left ≡ PtSend (record { port = q; seq = (port_at ports q).seq; sem = queue.send }) message)
-  pub receives : s ≡ queue.receive → left ≡ PtRecv (record { port = q; seq = (port_at ports q).seq; sem = queue.receive })
+pub record IsCallOn (ports : List Port) (q : ℕ) (queue : PortQueue) (sem : ℕ) (left : Rest) : Type 0 where
+  pub sends : sem ≡ queue.send → (message : ℕ) × (left ≡ PtSend (record { port = q; seq = (port_at ports q).seq; sem = queue.send }) message)
+  pub receives : sem ≡ queue.receive → left ≡ PtRecv (record { port = q; seq = (port_at ports q).seq; sem = queue.receive })
   pub sent : (ticket : PortTicket) (message : ℕ) → left ≡ PtSend ticket message → ticket.seq ≤ (port_at ports ticket.port).seq
   pub received : (ticket : PortTicket) → left ≡ PtRecv ticket → ticket.seq ≤ (port_at ports ticket.port).seq
 

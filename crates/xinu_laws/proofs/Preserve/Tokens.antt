@@ -24,7 +24,7 @@ first_waiter t sem p ps o e =
 pub inside_signal : (t : Tables) (sem p : ℕ) (ps : List ℕ) → IsInside t → (semaphore_at t sem).waiters ≡ p ∷ ps → IsInside (ready p t)
 inside_signal t sem p ps o e = inside_ready t p o (first_waiter t sem p ps o e)
 
--- A signal of a semaphore in use, without a waiter, adds a token.
+-- A signal on a semaphore in use, without a waiter, adds a token.
 pub inside_more : (t : Tables) (sem : ℕ) → IsInside t → sem < 128 → (semaphore_at t sem).owner ≢ None → (semaphore_at t sem).waiters ≡ []
     → IsInside (with_tokens sem ((semaphore_at t sem).tokens + 1) t)
 inside_more t sem o w used e = inside_tokens t sem ((semaphore_at t sem).tokens + 1) o w used (inr e)

@@ -142,33 +142,33 @@ module _ {f : Reach} where
   touches_make_semaphore s r by n old new = touches_tables s (make_semaphore r by n s.tables) (frame_make_semaphore s.tables r by n old new) refl
 
   -- One signal, by who waits.
-  touches_signal_first : (s : ℕ) (l : List ℕ) (d : CallState) → f.mine s (semaphore_at d.state.tables s).owner ≡ false
+  touches_signal_first : (sem : ℕ) (l : List ℕ) (d : CallState) → f.mine sem (semaphore_at d.state.tables sem).owner ≡ false
       → ((p : ℕ) → 0 < count_in p l → MayReady f.asks d.state.tables p)
-      → Touches f d.state (signal_first s l d).state
-  touches_signal_first s [] d e w = touches_tokens d.state s ((semaphore_at d.state.tables s).tokens + 1) e
-  touches_signal_first s (p ∷ ps) d e w = touches_unblock p d (w p (first_is_counted p ps))
+      → Touches f d.state (signal_first sem l d).state
+  touches_signal_first sem [] d e w = touches_tokens d.state sem ((semaphore_at d.state.tables sem).tokens + 1) e
+  touches_signal_first sem (p ∷ ps) d e w = touches_unblock p d (w p (first_is_counted p ps))
 
-  pub touches_signalled : (s : ℕ) (d : CallState) → IsInside d.state.tables → MayTouch f d.state.tables s
-      → Touches f d.state (signalled s d).state
-  touches_signalled s d o may = touches_signal_first s (semaphore_at d.state.tables s).waiters d may.owner (may_ready_waiter d.state.tables s o may)
+  pub touches_signalled : (sem : ℕ) (d : CallState) → IsInside d.state.tables → MayTouch f d.state.tables sem
+      → Touches f d.state (signalled sem d).state
+  touches_signalled sem d o may = touches_signal_first sem (semaphore_at d.state.tables sem).waiters d may.owner (may_ready_waiter d.state.tables sem o may)
 
   -- All who wait are unblocked.
-  pub touches_emptied : (s : ℕ) (d : CallState) → IsInside d.state.tables → MayTouch f d.state.tables s
-      → Touches f d.state (emptied s d).state
-  touches_emptied s d o may = touches_unblock_all (semaphore_at d.state.tables s).waiters d (may_ready_waiter d.state.tables s o may)
+  pub touches_emptied : (sem : ℕ) (d : CallState) → IsInside d.state.tables → MayTouch f d.state.tables sem
+      → Touches f d.state (emptied sem d).state
+  touches_emptied sem d o may = touches_unblock_all (semaphore_at d.state.tables sem).waiters d (may_ready_waiter d.state.tables sem o may)
 
   -- a semaphore that may be touched still may after a step
   pub still_touched : {s u : Xinu} (r : ℕ) → Touches f s u → MayTouch f s.tables r → f.mine r (semaphore_at u.tables r).owner ≡ false
   still_touched {s} {u} r c may = others_framed s.tables u.tables r c.frame may.owner
 
   -- n signals.
-  pub touches_signalled_times : (s n : ℕ) (d : CallState) → IsInside d.state.tables → MayTouch f d.state.tables s
-      → Touches f d.state (signalled_times s n d).state
-  touches_signalled_times s n d o may =
-      let x = semaphore_at d.state.tables s in
+  pub touches_signalled_times : (sem n : ℕ) (d : CallState) → IsInside d.state.tables → MayTouch f d.state.tables sem
+      → Touches f d.state (signalled_times sem n d).state
+  touches_signalled_times sem n d o may =
+      let x = semaphore_at d.state.tables sem in
       let after = unblock_all (take n x.waiters) d in
-      let first : Touches f d.state after.state = touches_unblock_all (take n x.waiters) d (λ p h. may_ready_waiter d.state.tables s o may p (counted_take p n x.waiters h)) in
-      touches_trans first (touches_tokens after.state s (x.tokens + (n - length x.waiters)) (still_touched s first may))
+      let first : Touches f d.state after.state = touches_unblock_all (take n x.waiters) d (λ p h. may_ready_waiter d.state.tables sem o may p (counted_take p n x.waiters h)) in
+      touches_trans first (touches_tokens after.state sem (x.tokens + (n - length x.waiters)) (still_touched sem first may))
 
   -- A token is taken, or awaited.
   pub touches_take_token : (tokens sem : ℕ) (rest : Rest) (then_ : Xinu → CallResult) (s : Xinu)
