@@ -48,7 +48,7 @@ extent_stepped s k =
     (λ _. same_extent s.parts.heap)
     (λ b. let c = may_call s k (eqb-false s.tables.current 0 b) in
     cond_both (is_done left) (instruction_step s) goes_on (λ (e : EventResult). HaveSameExtent s e.state)
-    (λ _. let u = with_executed (next s) s in extent_reacted (next s).outcome u (sound_where_called u (may_call_after (next s) s c)))
+    (λ _. let u = with_executed (next s) s in extent_reacted (next s).outcome u (sound_where_called u (may_call_after s c)))
     (λ _. (continued_touches left s k).parts.extent))
 
 -- what an event leaves, whatever is chosen in it
