@@ -46,7 +46,7 @@ harts_end_of_event was first result k = harts_with_replies (replies_of result) r
 pub harts_ticked : (s : Xinu) → AreHarts s.harts → AreHarts (ticked s).state.harts
 harts_ticked s a =
     harts_with_replies (wakeup s).released (wakeup s).state.harts
-      (harts_same s.harts _ (ap (λ (x : Xinu). x.harts) (unblock_all_ready (due (s.tables.ticks + 1) s.tables.sleepers) (start s))) a)
+    (harts_same s.harts _ (ap (λ (x : Xinu). x.harts) (unblock_all_ready (due (s.tables.ticks + 1) s.tables.sleepers) (start s))) a)
 
 -- An instruction leaves the tables as they are, and each number keeps its registers.
 pub executed_may_call : (did : Executed) (s : Xinu) → slice_index did.hart.regs 0 ≡ 0 → MayCall s → MayCall (with_executed did s)

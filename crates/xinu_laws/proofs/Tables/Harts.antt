@@ -30,7 +30,7 @@ harts_with_replies [] harts a = a
 harts_with_replies (reply ∷ replies) harts a =
     let hart = slice_index_or harts reply.0 no_hart in
     harts_with_replies replies (with_reply harts reply)
-      (harts_set harts reply.0 _ (get_or-set_other hart.regs 10 0 _ 0 (λ e. cc) ∙ a.zero reply.0) a)
+    (harts_set harts reply.0 _ (get_or-set_other hart.regs 10 0 _ 0 (λ e. cc) ∙ a.zero reply.0) a)
 
 -- the registers of free numbers
 pub harts_of_none : (p n : ℕ) → slice_index (slice_index_or (replicate n no_hart) p no_hart).regs 0 ≡ 0
