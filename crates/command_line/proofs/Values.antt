@@ -6,7 +6,7 @@ use Rattle.std.proofs.lemmas.List.Folds.{find-append}
 use Rattle.clap.specs.Walk.{Row, at_row, first_of, has_row, more_values, reading_by, with_default}
 use Rattle.clap.specs.declared.parser.matches.ValueSource.TheVariants.{DefaultValue}
 use Rattle.command_line.specs.Reading.{OptionRow, Taken, Text, given, row_named}
-use Rattle.command_line.specs.Commands.{value_of}
+use Rattle.command_line.specs.Commands.{option_value}
 use Rattle.command_line.specs.Parser.{args_in}
 use Rattle.command_line.proofs.Table.{ready, rules, arg_id}
 use Rattle.command_line.proofs.Rows.{Holds, at_row_none, find_row, has_found, not_true, or_none, row_made, args_row}
@@ -64,7 +64,7 @@ defaults_leave (o ∷ os) rows id e =
 module _ (os : List OptionRow) (rows : List Row) (t : Taken) (h : Holds os rows t) where
   -- the value of an option
   pub value_read : (id : Text) (o : OptionRow) → row_named os id ≡ Some o → o.takes_value ≡ true → bytes_eq id arg_id ≡ false → has_no_default os id ≡ true
-      → first_of id (fold with_default rows (rules os)) ≡ value_of id t
+      → first_of id (fold with_default rows (rules os)) ≡ option_value id t
   value_read id o row takes apart plain = ap (option_and_then (λ (r : Row). slice_get r.values 0)) (defaults_leave os rows id plain ∙ h.options id apart) ∙ go (given id t) (h.known id)
     where
       go : (x : Option (OptionRow × Text)) → ((p : OptionRow × Text) → x ≡ Some p → row_named os id ≡ Some p.0)

@@ -39,11 +39,11 @@ run_of (Some schedule) images = if is_file_name schedule && (list_all is_file_na
     else None
 
 -- the value of an option that was given
-abbrev pub value_of : Text → Taken → Option Text
-value_of name t = option_map (λ p. p.1) (given name t)
+abbrev pub option_value : Text → Taken → Option Text
+option_value name t = option_map (λ p. p.1) (given name t)
 
 abbrev pub run_from : Taken → Option Command
-run_from t = run_of (value_of (codes "schedule") t) t.positional
+run_from t = run_of (option_value (codes "schedule") t) t.positional
 
 -- the command that the arguments give, or `None` if they give none
 abbrev pub command_of : List Text → Option Command

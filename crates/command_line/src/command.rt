@@ -55,7 +55,7 @@ fn run_of<'a>(alloc: Global, matches: &ArgMatches<'a>) -> Result<Command<'a>, Ar
     ensures few_images { IfOk result (λ c. length c.images.items ≤ commands.most_images) }
 {
     let images = args_of(alloc, matches)?;
-    let Some(schedule) = value_of(matches, "schedule") else {
+    let Some(schedule) = option_value(matches, "schedule") else {
         return Err(ArgsFault::NoCommand);
     };
     let has_images = !images.is_empty() && images.len() <= MOST_IMAGES;
@@ -67,7 +67,7 @@ fn run_of<'a>(alloc: Global, matches: &ArgMatches<'a>) -> Result<Command<'a>, Ar
 }
 
 // The value of an option, if it was given.
-fn value_of<'a>(matches: &ArgMatches<'a>, name: &str) -> Option<&'a str>
+fn option_value<'a>(matches: &ArgMatches<'a>, name: &str) -> Option<&'a str>
     ensures value { option_map (λ s. s.now) result ≡ first_of name.now (rows_of (found_of matches.now)) }
 {
     matches.get_str(name)

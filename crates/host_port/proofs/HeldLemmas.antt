@@ -9,7 +9,7 @@ use Rattle.host_port.specs.declared.host.HostFault.{HostFault}
 use Rattle.host_port.specs.declared.quiet.QuietMemoryHost.{QuietMemoryHost}
 use Rattle.host_port.specs.Outside.{Outside, appended, counted}
 use Rattle.host_port.specs.HostCalls.{Emits}
-use Rattle.host_port.specs.QuietHost.{quiet_view, added, held}
+use Rattle.host_port.specs.QuietHost.{quiet_view, added, added_view}
 
 -- an outside with these files and this count in place of its own
 abbrev pub with_files : Outside → (List ℕ → Option (List ℕ)) → ℕ → Outside
@@ -38,10 +38,10 @@ pub same_files : (p q : QuietMemoryHost) → p.files ≡ q.files → added p ≡
 same_files p q same = ap (λ files. λ (name : List ℕ). option_map (λ v. v.items) (get_by_text files name)) same
 
 -- what the quiet host inside emits, the host emits
-pub held_emits : {T : Type 0} (old middle new : QuietMemoryHost) (before after : ℕ) (channel : Channel) (bytes : List ℕ) (result : Result T HostFault) → middle ≡ old → new.files ≡ middle.files → Emits (quiet_view middle) (quiet_view new) channel bytes result → Emits (counted (held old) before) (counted (held new) after) channel bytes result
+pub held_emits : {T : Type 0} (old middle new : QuietMemoryHost) (before after : ℕ) (channel : Channel) (bytes : List ℕ) (result : Result T HostFault) → middle ≡ old → new.files ≡ middle.files → Emits (quiet_view middle) (quiet_view new) channel bytes result → Emits (counted (added_view old) before) (counted (added_view new) after) channel bytes result
 held_emits old middle new before after channel bytes result same files e =
     let kept : added new ≡ added old =
     same_files new old (files ∙ ap (λ (q : QuietMemoryHost). q.files) same) in
     let P : QuietMemoryHost → Type 0 = λ q. Emits (quiet_view q) (quiet_view new) channel bytes result in
-    let Q : (List ℕ → Option (List ℕ)) → Type 0 = λ file. Emits (counted (held old) before) (with_files (quiet_view new) file after) channel bytes result in
+    let Q : (List ℕ → Option (List ℕ)) → Type 0 = λ file. Emits (counted (added_view old) before) (with_files (quiet_view new) file after) channel bytes result in
     subst Q (sym kept) (emits_over (quiet_view old) (quiet_view new) channel bytes result (added old) before after (subst P same e))

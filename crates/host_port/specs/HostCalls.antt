@@ -28,7 +28,7 @@ pub record MakesCall {T : Type 0} (old new : Outside) (call : HostCall) (result 
 
 -- The call was noted, unless memory ran out, and the channel was made empty, at a refusal perhaps not; but for the
 -- count of faults nothing else was changed.
-pub record Names {T : Type 0} (old new : Outside) (channel : Channel) (call : HostCall) (result : Result T HostFault) : Type 0 where
+pub record NamesFile {T : Type 0} (old new : Outside) (channel : Channel) (call : HostCall) (result : Result T HostFault) : Type 0 where
   pub ok : OnOk result (new ≡ counted (with_calls (made_empty old channel) (call ∷ [])) new.faults)
   pub failed : IsErrOf result Failed → (is_made_empty : Bool) × (new ≡ counted (with_calls (if is_made_empty then made_empty old channel else old) (call ∷ [])) new.faults)
   pub refused : OnErr result ((n : ℕ) × (is_made_empty : Bool) × (new ≡ counted (with_calls (if is_made_empty then made_empty old channel else old) (take n (call ∷ []))) new.faults))

@@ -5,11 +5,11 @@ use Rattle.host_port.specs.declared.host.HostFault.{HostFault}
 use Rattle.host_port.specs.declared.host.HostFault.TheVariants.{Failed, NoMemory}
 use Rattle.host_port.specs.declared.memory.MemoryHost.{MemoryHost}
 use Rattle.host_port.specs.Outside.{Outside, counted}
-use Rattle.host_port.specs.QuietHost.{added, held}
+use Rattle.host_port.specs.QuietHost.{added, added_view}
 
 -- the host: a file that wasn't added is unobservable
 abbrev pub memory_view : MemoryHost → Outside
-memory_view h = counted (held h.quiet) h.faults
+memory_view h = counted (added_view h.quiet) h.faults
 
 -- a host with no files, on which nothing was sent and of which no call was made
 abbrev pub memory_empty : Outside
@@ -25,8 +25,8 @@ memory_empty = record {
 }
 
 -- one more, up to the greatest value of the type
-abbrev pub next : ℕ → ℕ
-next n = min (n + 1) (2 ^ 64 - 1)
+abbrev pub one_more : ℕ → ℕ
+one_more n = min (n + 1) (2 ^ 64 - 1)
 
 -- whether the call of this number is to fail
 abbrev pub fails_at : MemoryHost → ℕ → Bool
@@ -34,7 +34,7 @@ fails_at h n = list_any (λ m. m == n) h.failing.items
 
 -- whether the next call is to fail
 abbrev pub fails_next : MemoryHost → Bool
-fails_next h = fails_at h (next h.calls_made)
+fails_next h = fails_at h (one_more h.calls_made)
 
 -- whether the next call fails, if it is a `fetch` of this file
 abbrev pub fetch_fails : MemoryHost → List ℕ → Bool
@@ -43,12 +43,12 @@ fetch_fails h name = fails_next h || not (is_some (added h.quiet name))
 -- the count of faults after a call
 abbrev pub faults_after : {T : Type 0} → ℕ → Result T HostFault → ℕ
 faults_after faults (Ok x) = faults
-faults_after faults (Err Failed) = next faults
+faults_after faults (Err Failed) = one_more faults
 faults_after faults (Err NoMemory) = faults
 
 -- The call was counted. It was refused if it was to fail, and it answered `Failed` only then. Each failure was counted.
 pub record CountsCall {T : Type 0} (old new : MemoryHost) (fails : Bool) (result : Result T HostFault) : Type 0 where
-  pub calls : new.calls_made ≡ next old.calls_made
+  pub calls : new.calls_made ≡ one_more old.calls_made
   pub numbers : (n : ℕ) → fails_at new n ≡ fails_at old n
   pub faults : new.faults ≡ faults_after old.faults result
   pub refused : fails ≡ true → IsErr result

@@ -34,9 +34,9 @@ grown None more = None
 grown (Some before) more = Some (before ++ more)
 
 -- what is observable, with nothing left of it
-abbrev pub emptied : {T : Type 0} → Option (List T) → Option (List T)
-emptied None = None
-emptied (Some before) = Some []
+abbrev pub emptied_channel : {T : Type 0} → Option (List T) → Option (List T)
+emptied_channel None = None
+emptied_channel (Some before) = Some []
 
 -- what was emitted on the channel
 abbrev pub sent_on : Outside → Channel → Option (List ℕ)
@@ -56,11 +56,11 @@ appended h Image bytes = record h { image = grown h.image bytes }
 
 -- the channel was made empty, and nothing else was changed
 abbrev pub made_empty : Outside → Channel → Outside
-made_empty h Out = record h { out = emptied h.out }
-made_empty h Fault = record h { fault = emptied h.fault }
-made_empty h Disk0 = record h { disk0 = emptied h.disk0 }
-made_empty h Disk1 = record h { disk1 = emptied h.disk1 }
-made_empty h Image = record h { image = emptied h.image }
+made_empty h Out = record h { out = emptied_channel h.out }
+made_empty h Fault = record h { fault = emptied_channel h.fault }
+made_empty h Disk0 = record h { disk0 = emptied_channel h.disk0 }
+made_empty h Disk1 = record h { disk1 = emptied_channel h.disk1 }
+made_empty h Image = record h { image = emptied_channel h.image }
 
 -- these calls were made, and nothing else was changed
 abbrev pub with_calls : Outside → List HostCall → Outside

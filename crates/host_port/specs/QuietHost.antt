@@ -24,8 +24,8 @@ quiet_view h = record {
 }
 
 -- the host, in which a file that wasn't added is unobservable
-abbrev pub held : QuietMemoryHost → Outside
-held h = record (quiet_view h) { file = added h }
+abbrev pub added_view : QuietMemoryHost → Outside
+added_view h = record (quiet_view h) { file = added h }
 
 -- a host with no files, on which nothing was sent and of which no call was made
 abbrev pub quiet_empty : Outside

@@ -5,7 +5,7 @@
 
 ghost use Rattle.std.specs.Prelude.{◌≡◌, ◌≢◌, ◌+◌, ◌≤◌, ◌<◌, ◌^◌, ⊤, take, vec_len, IfOk, MatchOption};
 ghost use Rattle.host_port.specs.Outside.{Outside, fetching, naming};
-ghost use Rattle.host_port.specs.HostCalls.{HasCause, Emits, MakesCall, Names};
+ghost use Rattle.host_port.specs.HostCalls.{HasCause, Emits, MakesCall, NamesFile};
 
 use std::alloc::{AllocError, AllocFailed, Global};
 
@@ -77,7 +77,7 @@ pub trait Host {
     fn name_out(&mut self, channel: Channel, path: &str) -> Result<(), HostFault>
         requires not_out { channel ≢ Channel.Out }
         requires not_fault { channel ≢ Channel.Fault }
-        ensures named { Names (view self.old) (view self.new) channel (naming channel path.now) result }
+        ensures named { NamesFile (view self.old) (view self.new) channel (naming channel path.now) result }
         ensures cause { HasCause (view self.old).faults (view self.new).faults result }
         ensures count { (view self.new).faults < 2 ^ 64 };
 

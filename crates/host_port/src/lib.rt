@@ -14,7 +14,7 @@
 //! |---|---|---|
 //! | `fetch` | if the file is observable, its first `max + 1` bytes, fewer only at its end; never more | `bytes`, `bound` |
 //! | | no file and no channel changes; the call is added to `calls` (at `NoMemory` perhaps not) | `calls`: `MakesCall` |
-//! | `name_out` | the channel is empty, and the call was added to `calls`; at a refusal the channel is empty or as before | `named`: `Names` |
+//! | `name_out` | the channel is empty, and the call was added to `calls`; at a refusal the channel is empty or as before | `named`: `NamesFile` |
 //! | `emit` | all bytes were appended to what was sent on this channel; at a refusal a prefix of them | `sent`: `Emits` |
 //! | each | the count never falls and stays below 2^64; `Failed` comes only if it rose or is at its end | `cause`: `HasCause`; `count` |
 //!

@@ -18,7 +18,7 @@ pub struct MemoryHost {
 impl MemoryHost {
     ghost use Rattle.std.specs.Prelude.{◌≡◌, ◌==◌, ◌||◌, ◌<◌, ◌^◌, ℕ, Some, OnOk, OnErr, false};
     ghost use Rattle.host_port.specs.Outside.{AddsFile, Stays, sent_on};
-    ghost use Rattle.host_port.specs.MemoryHost.{memory_view, memory_empty, fails_at, fails_next, next};
+    ghost use Rattle.host_port.specs.MemoryHost.{memory_view, memory_empty, fails_at, fails_next, one_more};
 
     /// A host with no files, on which nothing was sent, of which no call was made and none is to fail.
     pub fn new(alloc: Global) -> Self
@@ -34,7 +34,7 @@ impl MemoryHost {
         }
     }
 
-    /// Adds a file, in place of what the name held before.
+    /// Adds a file, in place of what the name added_view before.
     ///
     /// # Errors
     /// `NoMemory`, and the host is as it was.
@@ -71,7 +71,7 @@ impl MemoryHost {
     // Counts a call, and answers whether it is to fail.
     fn count_call(&mut self) -> bool
         ensures fails { result ≡ fails_next self.old }
-        ensures rest { self.new ≡ record self.old { calls_made = next self.old.calls_made } }
+        ensures rest { self.new ≡ record self.old { calls_made = one_more self.old.calls_made } }
         ensures count { self.new.faults < 2 ^ 64 }
     {
         // The read shows that the count fits its type.
@@ -83,7 +83,7 @@ impl MemoryHost {
     // Counts a fault.
     fn fail(&mut self) -> HostFault
         ensures failed { result ≡ HostFault.Failed }
-        ensures rest { self.new ≡ record self.old { faults = next self.old.faults } }
+        ensures rest { self.new ≡ record self.old { faults = one_more self.old.faults } }
     {
         self.faults = self.faults.saturating_add(1);
         HostFault::Failed
@@ -94,7 +94,7 @@ impl Host for MemoryHost {
     ghost use Rattle.std.specs.Prelude.{◌≡◌, ◌≢◌, ◌+◌, ◌≤◌, ◌<◌, ◌^◌, ⊤, take, vec_len, IfOk, Err, MatchOption, true};
     ghost use Rattle.host_port.specs.Outside.{fetching, naming, sent_on, counted};
     ghost use Rattle.host_port.specs.declared.host.HostFault.TheVariants.{Failed};
-    ghost use Rattle.host_port.specs.HostCalls.{HasCause, Emits, MakesCall, Names};
+    ghost use Rattle.host_port.specs.HostCalls.{HasCause, Emits, MakesCall, NamesFile};
     ghost use Rattle.host_port.specs.MemoryHost.{memory_view, fails_next, fetch_fails, CountsCall};
 
     ghost view = { memory_view };
@@ -117,7 +117,7 @@ impl Host for MemoryHost {
     fn name_out(&mut self, channel: Channel, path: &str) -> Result<(), HostFault>
         requires not_out { channel ≢ Channel.Out }
         requires not_fault { channel ≢ Channel.Fault }
-        ensures named { Names (memory_view self.old) (memory_view self.new) channel (naming channel path.now) result }
+        ensures named { NamesFile (memory_view self.old) (memory_view self.new) channel (naming channel path.now) result }
         ensures cause { HasCause (memory_view self.old).faults (memory_view self.new).faults result }
         ensures count { (memory_view self.new).faults < 2 ^ 64 }
         ensures counts { CountsCall self.old self.new (fails_next self.old) result }

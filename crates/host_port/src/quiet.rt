@@ -23,12 +23,12 @@ pub struct QuietMemoryHost {
 impl QuietMemoryHost {
     ghost use Rattle.std.specs.Prelude.{◌≡◌, Some, None, is_some, OnOk, OnErr, IsErrOf, ◌∷◌, [], unwrap_or};
     ghost use Rattle.host_port.specs.Outside.{AddsFile, Stays, sent_on, with_calls};
-    ghost use Rattle.host_port.specs.QuietHost.{quiet_view, quiet_empty, added, held};
+    ghost use Rattle.host_port.specs.QuietHost.{quiet_view, quiet_empty, added, added_view};
 
     /// A host with no files, on which nothing was sent.
     pub fn new(alloc: Global) -> Self
         ensures empty { quiet_view result ≡ quiet_empty }
-        ensures files { held result ≡ record quiet_empty { file = λ name. None } }
+        ensures files { added_view result ≡ record quiet_empty { file = λ name. None } }
     {
         QuietMemoryHost {
             alloc,
@@ -42,15 +42,15 @@ impl QuietMemoryHost {
         }
     }
 
-    /// Adds a file, in place of what the name held before.
+    /// Adds a file, in place of what the name added_view before.
     ///
     /// # Errors
     /// `NoMemory`, and the host is as it was.
     pub fn add_file(&mut self, name: &str, bytes: &[u8]) -> Result<(), NoMemory>
         ensures added { OnOk result (AddsFile (quiet_view self.old) (quiet_view self.new) name.now bytes.now) }
-        ensures held { OnOk result (AddsFile (held self.old) (held self.new) name.now bytes.now) }
+        ensures added_view { OnOk result (AddsFile (added_view self.old) (added_view self.new) name.now bytes.now) }
         ensures stays { OnErr result (Stays (quiet_view self.old) (quiet_view self.new)) }
-        ensures files { OnErr result (Stays (held self.old) (held self.new)) }
+        ensures files { OnErr result (Stays (added_view self.old) (added_view self.new)) }
     {
         let name = String::from_str(self.alloc, name).map_err(|_| NoMemory)?;
         let bytes = Vec::from_slice(self.alloc, bytes).map_err(|_| NoMemory)?;
@@ -73,7 +73,7 @@ impl QuietMemoryHost {
 
     /// Whether a file was added.
     pub(crate) fn has_file(&self, name: &str) -> bool
-        ensures held { result ≡ is_some (added self.now name.now) }
+        ensures added_view { result ≡ is_some (added self.now name.now) }
     {
         self.files.contains_key(name)
     }
@@ -108,7 +108,7 @@ impl QuietMemoryHost {
 impl Host for QuietMemoryHost {
     ghost use Rattle.std.specs.Prelude.{◌≡◌, ◌≢◌, ◌+◌, ◌≤◌, ◌<◌, ◌^◌, ⊤, take, vec_len, IfOk, MatchOption};
     ghost use Rattle.host_port.specs.Outside.{fetching, naming};
-    ghost use Rattle.host_port.specs.HostCalls.{HasCause, Emits, MakesCall, Names};
+    ghost use Rattle.host_port.specs.HostCalls.{HasCause, Emits, MakesCall, NamesFile};
     ghost use Rattle.host_port.specs.QuietHost.{quiet_view};
 
     ghost view = { quiet_view };
@@ -128,7 +128,7 @@ impl Host for QuietMemoryHost {
     fn name_out(&mut self, channel: Channel, path: &str) -> Result<(), HostFault>
         requires not_out { channel ≢ Channel.Out }
         requires not_fault { channel ≢ Channel.Fault }
-        ensures named { Names (quiet_view self.old) (quiet_view self.new) channel (naming channel path.now) result }
+        ensures named { NamesFile (quiet_view self.old) (quiet_view self.new) channel (naming channel path.now) result }
         ensures cause { HasCause (quiet_view self.old).faults (quiet_view self.new).faults result }
         ensures count { (quiet_view self.new).faults < 2 ^ 64 }
         ensures files { self.new.files ≡ self.old.files }

@@ -85,5 +85,5 @@ loaded_unless None image = Some image
 loaded_unless (Some fault) image = None
 
 -- what a file loads; None if it has a fault
-abbrev pub loads : List ℕ → Option Loaded
-loads bytes = loaded_unless (first_fault bytes) (image_of (header_of bytes) (drop 28 bytes))
+abbrev pub image_in : List ℕ → Option Loaded
+image_in bytes = loaded_unless (first_fault bytes) (image_of (header_of bytes) (drop 28 bytes))

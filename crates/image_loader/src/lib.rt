@@ -1,6 +1,6 @@
 //! The reader of image files: programs as they are stored in a file, and the image that is loaded from one.
 //!
-//! An image file is a header of seven words of 32 bits, the lowest byte first, and the content after it. It loads as `loads` in
+//! An image file is a header of seven words of 32 bits, the lowest byte first, and the content after it. It loads as `image_in` in
 //! `specs/ImageFiles.antt` says, which also names the first field that doesn't hold (`first_fault`).
 //!
 //! | What | Promise |

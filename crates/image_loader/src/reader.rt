@@ -1,7 +1,7 @@
 //! The reader of image files.
 
 ghost use Rattle.std.specs.Prelude.{◌≡◌, ◌+◌, length, Some, None, MatchResult};
-ghost use Rattle.image_loader.specs.ImageFiles.{first_failed, first_fault, header_tests, image_of, loads};
+ghost use Rattle.image_loader.specs.ImageFiles.{first_failed, first_fault, header_tests, image_of, image_in};
 ghost use Rattle.image_loader.specs.Images.{loaded_of};
 
 use crate::faults::ImageFault;
@@ -16,7 +16,7 @@ use arrayvec::ArrayVec;
 ///
 /// The first field that doesn't hold, in the order of `ImageFault`, if the bytes aren't an image file.
 pub fn read_image(bytes: &[u8]) -> Result<Image<'_>, ImageFault>
-    ensures loads { MatchResult result (λ image. loads bytes.now ≡ Some (loaded_of image)) (λ _. loads bytes.now ≡ None) }
+    ensures loads { MatchResult result (λ image. image_in bytes.now ≡ Some (loaded_of image)) (λ _. image_in bytes.now ≡ None) }
     ensures fault { MatchResult result (λ _. first_fault bytes.now ≡ None) (λ fault. first_fault bytes.now ≡ Some fault) }
 {
     if bytes.len() < HEADER_SIZE {

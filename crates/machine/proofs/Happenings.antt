@@ -2,7 +2,8 @@
 use Rattle.std.proofs.Common.{◌≡◌, ◌≢◌, false, List, [], refl, sym, ap, ◌∙◌, Bool}
 use Rattle.host_port.specs.Outside.{Outside}
 use Rattle.host_port.specs.Printing.{Printing}
-use Rattle.machine.specs.Printed.{EventPrints, shown_nothing}
+use Rattle.machine.proofs.ShownLines.{shown_nothing}
+use Rattle.machine.specs.Printed.{EventPrints}
 use Rattle.xinu_base.specs.declared.events.Event.{Event}
 use Rattle.xinu_base.specs.declared.events.Event.TheVariants.{Step, Tick, Key, Tx, Disk0, Disk1, Fail0, Fail1, Dump}
 use Rattle.xinu_base.specs.declared.lines.TranscriptLine.{TranscriptLine}

@@ -3,6 +3,7 @@ pub mod Deaths
 pub mod Ends
 pub mod Happenings
 pub mod Printings
+pub mod ShownLines
 pub mod Steps
 pub mod Tables
 pub mod Texts

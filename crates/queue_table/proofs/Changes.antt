@@ -3,12 +3,12 @@ use Rattle.std.proofs.Common.{◌≡◌, ◌≢◌, ℕ, ◌<◌, ◌≤◌, tru
 use Rattle.std.proofs.lemmas.List.{get_or-set_same, get_or-set_other, length-set}
 use Rattle.std.proofs.lemmas.Bool.{cases_eq}
 use Rattle.queue_table.specs.declared.links.Links.{Links}
-use Rattle.queue_table.specs.Lists.{Entry, is_in, list_at, with_list}
+use Rattle.queue_table.specs.Lists.{Entry, is_listed, list_at, with_list}
 use Rattle.queue_table.specs.Entries.{Chain, Chained, Path, Tied, first_to, head_of, last_from, next_at, prev_at, tail_of}
-use Rattle.queue_table.proofs.Insertions.{is_in-append}
-use Rattle.queue_table.proofs.Paths.{Path-front, Path-rest, is_in-cons}
+use Rattle.queue_table.proofs.Insertions.{is_listed-append}
+use Rattle.queue_table.proofs.Paths.{Path-front, Path-rest, is_listed-cons}
 use Rattle.queue_table.proofs.Writes.{Rewired}
-use Rattle.queue_table.proofs.Chains.{Chain-cut, Chain-kept_in, Chain-kept_out, Chain-put, Chain-tie, Chain-ties, alone_apart, is_in-above, is_in-head, is_in-left, is_in-right, is_in-tail, last_from-differs}
+use Rattle.queue_table.proofs.Chains.{Chain-cut, Chain-kept_in, Chain-kept_out, Chain-put, Chain-tie, Chain-ties, alone_apart, is_listed-above, is_listed-head, is_listed-left, is_listed-right, is_listed-tail, last_from-differs}
 
 -- the neighbours of a place
 pub last_from-cases : (P : ℕ) (es : List Links) (h : ℕ) (pre : List Entry) → Path P es h pre → (last_from h pre ≡ h) ⊎ (last_from h pre < P)
@@ -30,8 +30,8 @@ list_at-other ls q l r n = get_or-set_other ls q r l [] n
 
 -- what comes after a place of one list is in no path from another head
 pub first_to-apart : (P : ℕ) (es : List Links) (h : ℕ) (pre post : List Entry) (t : ℕ) → P ≤ h → P ≤ t → Chain P es h (pre ++ post) t
-    → (h' : ℕ) (l : List Entry) → P ≤ h' → Path P es h' l → h ≢ h' → is_in (first_to post t) l ≡ false
-first_to-apart P es h pre [] t le lt' c h' l le' p n = is_in-above P es h' l t p lt'
+    → (h' : ℕ) (l : List Entry) → P ≤ h' → Path P es h' l → h ≢ h' → is_listed (first_to post t) l ≡ false
+first_to-apart P es h pre [] t le lt' c h' l le' p n = is_listed-above P es h' l t p lt'
 first_to-apart P es h pre (f ∷ post) t le lt' c h' l le' p n = alone_apart P es h pre f post le c.path h' l le' p n
 
 -- an entry from P on, other than this tail, isn't after a place of this tail's list
@@ -39,17 +39,17 @@ pub not_near : (P n m t : ℕ) → P ≤ n → n ≢ t → (m ≡ t) ⊎ (m < P)
 not_near P n m t le d o = elim o [ inl s ↦ (λ e. d (e ∙ s)) | inr lt ↦ (λ e. omega (arith, e, lt)) ]
 
 -- a process that isn't in a list and isn't its tail isn't the first up to the tail
-pub first_to-differs : (x : ℕ) (l : List Entry) (t : ℕ) → x ≢ t → is_in x l ≡ false → x ≢ first_to l t
+pub first_to-differs : (x : ℕ) (l : List Entry) (t : ℕ) → x ≢ t → is_listed x l ≡ false → x ≢ first_to l t
 first_to-differs x [] t n h = n
-first_to-differs x (e ∷ l) t n h = is_in-head x e l h
+first_to-differs x (e ∷ l) t n h = is_listed-head x e l h
 
 -- a process that is in neither of two lists isn't in them put together
-pub is_in-both : (x : ℕ) (l m : List Entry) → is_in x l ≡ false → is_in x m ≡ false → is_in x (l ++ m) ≡ false
-is_in-both x l m a b = is_in-append x l m ∙ ap (λ c. cond c true (is_in x m)) a ∙ b
+pub is_listed-both : (x : ℕ) (l m : List Entry) → is_listed x l ≡ false → is_listed x m ≡ false → is_listed x (l ++ m) ≡ false
+is_listed-both x l m a b = is_listed-append x l m ∙ ap (λ c. cond c true (is_listed x m)) a ∙ b
 
 -- p, which is in no list, is linked in at a place of queue q's list, and no other list changes
 pub Chained-put : (P Q : ℕ) (es es' : List Links) (ls : List (List Entry)) (q : ℕ) (pre post : List Entry) (p : ℕ) (r : Links)
-    → Chained P Q es ls → q < Q → list_at ls q ≡ pre ++ post → p < P → ((i : ℕ) → i < Q → is_in p (list_at ls i) ≡ false)
+    → Chained P Q es ls → q < Q → list_at ls q ≡ pre ++ post → p < P → ((i : ℕ) → i < Q → is_listed p (list_at ls i) ≡ false)
     → Rewired es es' (last_from (head_of P q) pre) p (first_to post (tail_of P q)) p p r → r.next ≡ first_to post (tail_of P q) → r.prev ≡ last_from (head_of P q) pre
     → Chained P Q es' (with_list ls q (pre ++ (p, r.key) ∷ post))
 Chained-put P Q es es' ls q pre post p r k lt is below fresh w rn rp =
@@ -62,7 +62,7 @@ Chained-put P Q es es' ls q pre post p r k lt is below fresh w rn rp =
     let tie : Tied es (last_from h pre) (first_to post t) = Chain-tie P es h pre post t c in
     let xs : (last_from h pre ≡ h) ⊎ (last_from h pre < P) = last_from-cases P es h pre (Path-front P es h pre post c.path) in
     let ys : (first_to post t ≡ t) ⊎ (first_to post t < P) = first_to-cases P es (last_from h pre) post t (Path-rest P es h pre post c.path) in
-    let fq : is_in p (pre ++ post) ≡ false = (let F : List Entry → Type 0 = λ l. is_in p l ≡ false in subst F is (fresh q lt)) in
+    let fq : is_listed p (pre ++ post) ≡ false = (let F : List Entry → Type 0 = λ l. is_listed p l ≡ false in subst F is (fresh q lt)) in
     let same : list_at (with_list ls q new) q ≡ new = list_at-same ls q new ltq in
     record {
       size = w.size ∙ k.size;
@@ -85,14 +85,14 @@ Chained-put P Q es es' ls q pre post p r k lt is below fresh w rn rp =
         tail_key = w.key_other (tail_of P i) (omega arith) ∙ (k.ends i lti).tail_key;
       };
       loose = λ m ltm out.
-          let G : List Entry → Type 0 = λ l. is_in m l ≡ false in
-          let here : is_in m new ≡ false = subst G same (out q lt) in
-          let a : is_in m pre ≡ false = is_in-left m pre ((p, r.key) ∷ post) here in
-          let b : is_in m ((p, r.key) ∷ post) ≡ false = is_in-right m pre ((p, r.key) ∷ post) here in
-          let b' : is_in m post ≡ false = is_in-tail m (p, r.key) post b in
-          let np : m ≢ p = is_in-head m (p, r.key) post b in
+          let G : List Entry → Type 0 = λ l. is_listed m l ≡ false in
+          let here : is_listed m new ≡ false = subst G same (out q lt) in
+          let a : is_listed m pre ≡ false = is_listed-left m pre ((p, r.key) ∷ post) here in
+          let b : is_listed m ((p, r.key) ∷ post) ≡ false = is_listed-right m pre ((p, r.key) ∷ post) here in
+          let b' : is_listed m post ≡ false = is_listed-tail m (p, r.key) post b in
+          let np : m ≢ p = is_listed-head m (p, r.key) post b in
           let old : (next_at es m ≡ m) × (prev_at es m ≡ m) = k.loose m ltm (λ i lti. elim (cases_eq i q) [
-            | inl s ↦ (let H : ℕ → Type 0 = λ i. is_in m (list_at ls i) ≡ false in subst H (sym s) (subst G (sym is) (is_in-both m pre post a b')))
+            | inl s ↦ (let H : ℕ → Type 0 = λ i. is_listed m (list_at ls i) ≡ false in subst H (sym s) (subst G (sym is) (is_listed-both m pre post a b')))
             | inr n ↦ subst G (list_at-other ls q new i n) (out i lti)
           ]) in
           let nx : m ≢ last_from h pre = λ s. last_from-differs h m pre (omega arith) a (sym s) in
@@ -140,12 +140,12 @@ Chained-cut P Q es es' ls q pre f post r k lt is w rn rp =
       loose = λ m ltm out. elim (cases_eq m f.0) [
         | inl s ↦ (let F : ℕ → Type 0 = λ n. (next_at es' n ≡ n) × (prev_at es' n ≡ n) in subst F (sym s) (w.next_p ∙ rn, w.prev_p ∙ rp))
         | inr np ↦ (
-            let G : List Entry → Type 0 = λ l. is_in m l ≡ false in
-            let here : is_in m new ≡ false = subst G same (out q lt) in
-            let a : is_in m pre ≡ false = is_in-left m pre post here in
-            let b : is_in m post ≡ false = is_in-right m pre post here in
+            let G : List Entry → Type 0 = λ l. is_listed m l ≡ false in
+            let here : is_listed m new ≡ false = subst G same (out q lt) in
+            let a : is_listed m pre ≡ false = is_listed-left m pre post here in
+            let b : is_listed m post ≡ false = is_listed-right m pre post here in
             let old : (next_at es m ≡ m) × (prev_at es m ≡ m) = k.loose m ltm (λ i lti. elim (cases_eq i q) [
-              | inl s ↦ (let H : ℕ → Type 0 = λ i. is_in m (list_at ls i) ≡ false in subst H (sym s) (subst G (sym is) (is_in-both m pre (f ∷ post) a (is_in-cons m f post np b))))
+              | inl s ↦ (let H : ℕ → Type 0 = λ i. is_listed m (list_at ls i) ≡ false in subst H (sym s) (subst G (sym is) (is_listed-both m pre (f ∷ post) a (is_listed-cons m f post np b))))
               | inr n ↦ subst G (list_at-other ls q new i n) (out i lti)
             ]) in
             let nx : m ≢ last_from h pre = λ s. last_from-differs h m pre (omega arith) a (sym s) in

@@ -6,7 +6,7 @@ use Rattle.std.proofs.lemmas.List.{set-set, length-set}
 use Rattle.std.proofs.lemmas.Bool.{cases_eq, cases_Bool}
 use Rattle.queue_table.specs.declared.links.Links.{Links}
 use Rattle.queue_table.specs.declared.table.QueueTable.{QueueTable}
-use Rattle.queue_table.specs.Lists.{Entry, IsDelta, KeysAtLeast, all_delta_without, delta_insert, delta_sooner, delta_without, first_key_of, is_in, list_at, list_of, place, with_list}
+use Rattle.queue_table.specs.Lists.{Entry, IsDelta, KeysAtLeast, all_delta_without, delta_insert, delta_sooner, delta_without, first_key_of, is_listed, list_at, list_of, place, with_list}
 use Rattle.queue_table.specs.Table.{lists}
 use Rattle.queue_table.specs.Entries.{Chained, blank, first_to, head_of, key_at, last_from, next_at, prev_at, tail_of}
 use Rattle.queue_table.specs.Writes.{put_between, set_key, shifted, taken_out}
@@ -14,15 +14,15 @@ use Rattle.queue_table.specs.Walks.{GoesAtDelay, first_raised}
 use Rattle.queue_table.proofs.Places.{list_of-placed, map-with, place-none, place-some}
 use Rattle.queue_table.proofs.Deltas.{KeysAtLeast-left, KeysAtLeast-right, delta_insert-walked, delta_sooner-first, delta_without-absent, delta_without-cut, key_sum-append, key_sum-least}
 use Rattle.queue_table.proofs.Paths.{Path-rest}
-use Rattle.queue_table.proofs.Chains.{Chain-ties, is_in-left, is_in-right}
-use Rattle.queue_table.proofs.Changes.{is_in-both, list_at-other, list_at-same}
+use Rattle.queue_table.proofs.Chains.{Chain-ties, is_listed-left, is_listed-right}
+use Rattle.queue_table.proofs.Changes.{is_listed-both, list_at-other, list_at-same}
 use Rattle.queue_table.proofs.Keys.{Chained-shifted}
 use Rattle.queue_table.proofs.Tables.{chained_of, front_of, next_of, placed, put_chained, rest_of_placed, some_of, take_chained}
 use Rattle.queue_table.proofs.Walks.{place_between, step}
 use Rattle.queue_table.proofs.Linked.{Chained-apart}
 
 -- a change of the first key leaves who is in the list
-raised_in : (k : ℤ) (l : List Entry) (m : ℕ) → is_in m (first_raised k l) ≡ is_in m l
+raised_in : (k : ℤ) (l : List Entry) (m : ℕ) → is_listed m (first_raised k l) ≡ is_listed m l
 raised_in k [] m = refl
 raised_in k (e ∷ l) m = refl
 
@@ -57,11 +57,11 @@ delta_put {P} {Q} t p q d n left by k r es1 es2 ltp ltq absent delta goes er eby
     let E1 : List Links → Type 0 = λ es. Chained P Q es ls1 in
     let kept1 : Chained P Q es1 ls1 = subst E1 (sym (e1 ∙ ap (λ by. shifted es n by P) eby)) (Chained-shifted P Q es ls q pre post n (neg_ℤ left) kept ltq goes.2 goes.3) in
     let here : list_at ls1 q ≡ mid = list_at-same ls q mid (omega (arith, kept.queues)) in
-    let I : List Entry → Type 0 = λ l. is_in p l ≡ false in
-    let out : is_in p (pre ++ post) ≡ false = subst I goes.2 (place-none ls p absent q) in
-    let fresh : (i : ℕ) → i < Q → is_in p (list_at ls1 i) ≡ false = λ i lti. elim (cases_eq i q) [
-      | inl s ↦ (let H : ℕ → Type 0 = λ i. is_in p (list_at ls1 i) ≡ false in subst H (sym s) (subst I (sym here)
-          (is_in-both p pre less (is_in-left p pre post out) (raised_in (neg_ℤ left) post p ∙ is_in-right p pre post out))))
+    let I : List Entry → Type 0 = λ l. is_listed p l ≡ false in
+    let out : is_listed p (pre ++ post) ≡ false = subst I goes.2 (place-none ls p absent q) in
+    let fresh : (i : ℕ) → i < Q → is_listed p (list_at ls1 i) ≡ false = λ i lti. elim (cases_eq i q) [
+      | inl s ↦ (let H : ℕ → Type 0 = λ i. is_listed p (list_at ls1 i) ≡ false in subst H (sym s) (subst I (sym here)
+          (is_listed-both p pre less (is_listed-left p pre post out) (raised_in (neg_ℤ left) post p ∙ is_listed-right p pre post out))))
       | inr n ↦ subst I (sym (list_at-other ls q mid i n)) (place-none ls p absent i)
     ] in
     let ex : r.prev ≡ last_from (head_of P q) pre = ap (λ (r : Links). r.prev) er ∙ (place_between t q pre post n ltq goes.2 goes.3).0 in

@@ -1,7 +1,7 @@
 -- Lists of differences, and the delays that they give.
 use Rattle.std.proofs.Common.{subst, inl, inr, ◌≡◌, ℕ, ℤ, pos, negsuc, neg_ℤ, ◌≤ℤ◌, ◌<ℤ◌, ◌+ℤ◌, ◌-ℤ◌, int_le, true, false, cond, eqb, List, [], ◌∷◌, ◌++◌, map, refl, sym, ap, ◌∙◌, arith}
 use Rattle.std.proofs.lemmas.Int.{ints}
-use Rattle.queue_table.specs.Lists.{Entry, IsDelta, KeysAbove, KeysAtLeast, KeysAtMost, delay_insert, delays, delays_from, delta_insert, delta_sooner, delta_without, differences, differences_from, is_in, key_sum, sooner, without}
+use Rattle.queue_table.specs.Lists.{Entry, IsDelta, KeysAbove, KeysAtLeast, KeysAtMost, delay_insert, delays, delays_from, delta_insert, delta_sooner, delta_without, differences, differences_from, is_listed, key_sum, sooner, without}
 use Rattle.queue_table.specs.Walks.{FirstAbove, first_raised}
 use Rattle.queue_table.proofs.Insertions.{AllAre, insert-split}
 use Rattle.queue_table.proofs.Orders.{cases_ℤ, int_le-false, int_le-true}
@@ -108,24 +108,24 @@ delta_insert-walked pre post p d left h le e f =
     sym (ap differences (target ∙ sym made) ∙ differences-delays (pre ++ (p, left) ∷ first_raised (neg_ℤ left) post))
 
 -- a list and its delays have the same processes, counted from any start
-is_in-delays_from : (p : ℕ) (s : ℤ) (l : List Entry) → is_in p (delays_from s l) ≡ is_in p l
-is_in-delays_from p s [] = refl
-is_in-delays_from p s (e ∷ l) = ap (λ b. cond (eqb p e.0) true b) (is_in-delays_from p (s +ℤ e.1) l)
+is_listed-delays_from : (p : ℕ) (s : ℤ) (l : List Entry) → is_listed p (delays_from s l) ≡ is_listed p l
+is_listed-delays_from p s [] = refl
+is_listed-delays_from p s (e ∷ l) = ap (λ b. cond (eqb p e.0) true b) (is_listed-delays_from p (s +ℤ e.1) l)
 
 -- a list and its delays have the same processes
-pub is_in-delays : (p : ℕ) (l : List Entry) → is_in p (delays l) ≡ is_in p l
+pub is_listed-delays : (p : ℕ) (l : List Entry) → is_listed p (delays l) ≡ is_listed p l
 unfolding delays
-is_in-delays p l = is_in-delays_from p (pos 0) l
+is_listed-delays p l = is_listed-delays_from p (pos 0) l
 
 -- a list of delays and its differences have the same processes, counted from any start
-is_in-differences_from : (p : ℕ) (s : ℤ) (l : List Entry) → is_in p (differences_from s l) ≡ is_in p l
-is_in-differences_from p s [] = refl
-is_in-differences_from p s (e ∷ l) = ap (λ b. cond (eqb p e.0) true b) (is_in-differences_from p e.1 l)
+is_listed-differences_from : (p : ℕ) (s : ℤ) (l : List Entry) → is_listed p (differences_from s l) ≡ is_listed p l
+is_listed-differences_from p s [] = refl
+is_listed-differences_from p s (e ∷ l) = ap (λ b. cond (eqb p e.0) true b) (is_listed-differences_from p e.1 l)
 
 -- a list of delays and its delta list have the same processes
-pub is_in-differences : (p : ℕ) (l : List Entry) → is_in p (differences l) ≡ is_in p l
+pub is_listed-differences : (p : ℕ) (l : List Entry) → is_listed p (differences l) ≡ is_listed p l
 unfolding differences
-is_in-differences p l = is_in-differences_from p (pos 0) l
+is_listed-differences p l = is_listed-differences_from p (pos 0) l
 
 -- the delays after an insertion are those before it, and the new one
 pub delays-insert : (p : ℕ) (d : ℤ) (l : List Entry) → delays (delta_insert p d l) ≡ delay_insert p d (delays l)
@@ -145,8 +145,8 @@ unfolding delays
 delays-rest p l = refl
 
 -- a delta list without p is left alone by taking p out
-pub delta_without-absent : (p : ℕ) (l : List Entry) → is_in p l ≡ false → delta_without p l ≡ l
-delta_without-absent p l h = ap differences (without-absent p (delays l) (is_in-delays p l ∙ h)) ∙ differences-delays l
+pub delta_without-absent : (p : ℕ) (l : List Entry) → is_listed p l ≡ false → delta_without p l ≡ l
+delta_without-absent p l h = ap differences (without-absent p (delays l) (is_listed-delays p l ∙ h)) ∙ differences-delays l
 
 -- a first key that is more by k makes each delay more by k
 raised_shift : (s k : ℤ) (post : List Entry) → delays_from s (first_raised k post) ≡ delays_from (s +ℤ k) post
@@ -154,7 +154,7 @@ raised_shift s k [] = refl
 raised_shift s k (x ∷ l) = let e : s +ℤ (x.1 +ℤ k) ≡ s +ℤ k +ℤ x.1 = omega (arith, ints) in entry_is x.0 _ _ _ _ e (ap (λ z. delays_from z l) e)
 
 -- taking p out, with its key added to the entry after it, takes its delay out
-pub delta_without-cut : (pre : List Entry) (p : ℕ) (k : ℤ) (post : List Entry) → is_in p pre ≡ false → is_in p post ≡ false
+pub delta_without-cut : (pre : List Entry) (p : ℕ) (k : ℤ) (post : List Entry) → is_listed p pre ≡ false → is_listed p post ≡ false
     → pre ++ first_raised k post ≡ delta_without p (pre ++ (p, k) ∷ post)
 unfolding delays
 delta_without-cut pre p k post a b =
@@ -162,7 +162,7 @@ delta_without-cut pre p k post a b =
     let ahead : List Entry = delays_from (pos 0) pre in
     let behind : List Entry = delays_from (s +ℤ k) post in
     let target : without p (delays_from (pos 0) (pre ++ (p, k) ∷ post)) ≡ ahead ++ behind =
-    ap (without p) (delays_from-append (pos 0) pre ((p, k) ∷ post)) ∙ without-split p ahead (s +ℤ k) behind (is_in-delays_from p (pos 0) pre ∙ a) (is_in-delays_from p (s +ℤ k) post ∙ b) in
+    ap (without p) (delays_from-append (pos 0) pre ((p, k) ∷ post)) ∙ without-split p ahead (s +ℤ k) behind (is_listed-delays_from p (pos 0) pre ∙ a) (is_listed-delays_from p (s +ℤ k) post ∙ b) in
     let made : delays_from (pos 0) (pre ++ first_raised k post) ≡ ahead ++ behind = delays_from-append (pos 0) pre (first_raised k post) ∙ ap (λ l. ahead ++ l) (raised_shift s k post) in
     sym (ap differences (target ∙ sym made) ∙ differences-delays (pre ++ first_raised k post))
 
@@ -245,7 +245,7 @@ raised_total k [] le = omega (arith, ints)
 raised_total k (e ∷ l) le = omega (arith, ints)
 
 -- a delta list stays one when a process that is in it once is taken out
-pub IsDelta-cut : (pre : List Entry) (p : ℕ) (k : ℤ) (post : List Entry) → is_in p pre ≡ false → is_in p post ≡ false → IsDelta (pre ++ (p, k) ∷ post) → IsDelta (delta_without p (pre ++ (p, k) ∷ post))
+pub IsDelta-cut : (pre : List Entry) (p : ℕ) (k : ℤ) (post : List Entry) → is_listed p pre ≡ false → is_listed p post ≡ false → IsDelta (pre ++ (p, k) ∷ post) → IsDelta (delta_without p (pre ++ (p, k) ∷ post))
 IsDelta-cut pre p k post a b h =
     let D : List Entry → Type 0 = λ l. IsDelta l in
     let r = KeysAtLeast-right (pos 0) pre ((p, k) ∷ post) h.differences in

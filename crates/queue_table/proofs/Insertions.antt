@@ -6,7 +6,7 @@ use Rattle.std.proofs.lemmas.List.Elements.{filter-append}
 use Rattle.std.proofs.lemmas.Bool.{cases_Bool}
 use Rattle.std.proofs.lemmas.Bool.Decides.{nat_tests}
 use Rattle.xinu_base.specs.Insert.{insert}
-use Rattle.queue_table.specs.Lists.{Entry, is_in}
+use Rattle.queue_table.specs.Lists.{Entry, is_listed}
 
 -- the test says b of each entry of the list
 abbrev pub AllAre : (Entry → Bool) → Bool → List Entry → Type 0
@@ -58,41 +58,41 @@ or-swap true false c = refl
 or-swap false b c = refl
 
 -- a process is in two lists put together if it is in one of them
-pub is_in-append : (x : ℕ) (l m : List Entry) → is_in x (l ++ m) ≡ cond (is_in x l) true (is_in x m)
-is_in-append x [] m = refl
-is_in-append x (e ∷ l) m = let i : is_in x (l ++ m) ≡ cond (is_in x l) true (is_in x m) = is_in-append x l m in
-    ap (λ b. cond (eqb x e.0) true b) i ∙ or-assoc (eqb x e.0) (is_in x l) (is_in x m)
+pub is_listed-append : (x : ℕ) (l m : List Entry) → is_listed x (l ++ m) ≡ cond (is_listed x l) true (is_listed x m)
+is_listed-append x [] m = refl
+is_listed-append x (e ∷ l) m = let i : is_listed x (l ++ m) ≡ cond (is_listed x l) true (is_listed x m) = is_listed-append x l m in
+    ap (λ b. cond (eqb x e.0) true b) i ∙ or-assoc (eqb x e.0) (is_listed x l) (is_listed x m)
 
 -- the two filters of an insertion have together the processes of the list
-in_parts : (test : Entry → Bool) (x : ℕ) (l : List Entry) → cond (is_in x (filter test l)) true (is_in x (filter (λ e. not (test e)) l)) ≡ is_in x l
+in_parts : (test : Entry → Bool) (x : ℕ) (l : List Entry) → cond (is_listed x (filter test l)) true (is_listed x (filter (λ e. not (test e)) l)) ≡ is_listed x l
 in_parts test x [] = refl
 in_parts test x (e ∷ l) =
     let other : Entry → Bool = λ e. not (test e) in
-    let i : cond (is_in x (filter test l)) true (is_in x (filter other l)) ≡ is_in x l = in_parts test x l in
+    let i : cond (is_listed x (filter test l)) true (is_listed x (filter other l)) ≡ is_listed x l = in_parts test x l in
     elim (cases_Bool (test e)) [
       | inl t ↦ (
           let a : filter test (e ∷ l) ≡ e ∷ filter test l = filter-keeps test e l (filter test l) t refl in
           let b : filter other (e ∷ l) ≡ filter other l = filter-drops other e l (filter other l) (ap not t) refl in
-          ap (λ m. cond (is_in x m) true (is_in x (filter other (e ∷ l)))) a ∙ ap (λ m. cond (is_in x (e ∷ filter test l)) true (is_in x m)) b
-          ∙ sym (or-assoc (eqb x e.0) (is_in x (filter test l)) (is_in x (filter other l))) ∙ ap (λ b. cond (eqb x e.0) true b) i)
+          ap (λ m. cond (is_listed x m) true (is_listed x (filter other (e ∷ l)))) a ∙ ap (λ m. cond (is_listed x (e ∷ filter test l)) true (is_listed x m)) b
+          ∙ sym (or-assoc (eqb x e.0) (is_listed x (filter test l)) (is_listed x (filter other l))) ∙ ap (λ b. cond (eqb x e.0) true b) i)
       | inr f ↦ (
           let a : filter test (e ∷ l) ≡ filter test l = filter-drops test e l (filter test l) f refl in
           let b : filter other (e ∷ l) ≡ e ∷ filter other l = filter-keeps other e l (filter other l) (ap not f) refl in
-          ap (λ m. cond (is_in x m) true (is_in x (filter other (e ∷ l)))) a ∙ ap (λ m. cond (is_in x (filter test l)) true (is_in x m)) b
-          ∙ or-swap (is_in x (filter test l)) (eqb x e.0) (is_in x (filter other l)) ∙ ap (λ b. cond (eqb x e.0) true b) i)
+          ap (λ m. cond (is_listed x m) true (is_listed x (filter other (e ∷ l)))) a ∙ ap (λ m. cond (is_listed x (filter test l)) true (is_listed x m)) b
+          ∙ or-swap (is_listed x (filter test l)) (eqb x e.0) (is_listed x (filter other l)) ∙ ap (λ b. cond (eqb x e.0) true b) i)
     ]
 
 -- an insertion adds its entry and nothing else, wherever it goes in
-pub is_in-insert : (test : Entry → Bool) (e : Entry) (l : List Entry) (x : ℕ) → is_in x (insert test e l) ≡ is_in x (e ∷ l)
-is_in-insert test e l x =
-    is_in-append x (filter test l) (e ∷ filter (λ e. not (test e)) l)
-    ∙ or-swap (is_in x (filter test l)) (eqb x e.0) (is_in x (filter (λ e. not (test e)) l))
+pub is_listed-insert : (test : Entry → Bool) (e : Entry) (l : List Entry) (x : ℕ) → is_listed x (insert test e l) ≡ is_listed x (e ∷ l)
+is_listed-insert test e l x =
+    is_listed-append x (filter test l) (e ∷ filter (λ e. not (test e)) l)
+    ∙ or-swap (is_listed x (filter test l)) (eqb x e.0) (is_listed x (filter (λ e. not (test e)) l))
     ∙ ap (λ b. cond (eqb x e.0) true b) (in_parts test x l)
 
 -- an entry's own process is in a list that begins with it
-pub is_in-first : (e : Entry) (l : List Entry) → is_in e.0 (e ∷ l) ≡ true
-is_in-first e l = grind (arith, nat_tests)
+pub is_listed-first : (e : Entry) (l : List Entry) → is_listed e.0 (e ∷ l) ≡ true
+is_listed-first e l = grind (arith, nat_tests)
 
 -- another process is in a list if it is in the rest
-pub is_in-rest : (x : ℕ) (e : Entry) (l : List Entry) → x ≢ e.0 → is_in x (e ∷ l) ≡ is_in x l
-is_in-rest x e l n = grind (arith, nat_tests)
+pub is_listed-rest : (x : ℕ) (e : Entry) (l : List Entry) → x ≢ e.0 → is_listed x (e ∷ l) ≡ is_listed x l
+is_listed-rest x e l n = grind (arith, nat_tests)

@@ -4,13 +4,13 @@ use Rattle.std.proofs.lemmas.List.{get_or-set_same, get_or-set_other, length-set
 use Rattle.std.proofs.lemmas.Bool.{cases_eq}
 use Rattle.std.proofs.lemmas.Bool.Decides.{nat_tests}
 use Rattle.queue_table.specs.declared.links.Links.{Links}
-use Rattle.queue_table.specs.Lists.{Entry, is_in, list_at, with_list}
+use Rattle.queue_table.specs.Lists.{Entry, is_listed, list_at, with_list}
 use Rattle.queue_table.specs.Entries.{Chain, Chained, Path, Tied, blank, first_to, head_of, key_at, last_from, next_at, prev_at, tail_of}
 use Rattle.queue_table.specs.Writes.{set_key, shifted}
 use Rattle.queue_table.specs.Walks.{first_raised}
 use Rattle.queue_table.proofs.Paths.{Path-append, Path-front, Path-rest, last_from-append}
-use Rattle.queue_table.proofs.Chains.{alone_apart, alone_front, alone_rest, is_in-head, is_in-left, is_in-right, is_in-tail}
-use Rattle.queue_table.proofs.Changes.{is_in-both, list_at-other, list_at-same}
+use Rattle.queue_table.proofs.Chains.{alone_apart, alone_front, alone_rest, is_listed-head, is_listed-left, is_listed-right, is_listed-tail}
+use Rattle.queue_table.proofs.Changes.{is_listed-both, list_at-other, list_at-same}
 
 -- es' is es with another key at i
 pub record Rekeyed (es : List Links) (es' : List Links) (i : ℕ) (k : ℤ) : Type 0 where
@@ -37,13 +37,13 @@ Tied-rekeyed : (es es' : List Links) (i : ℕ) (k : ℤ) → Rekeyed es es' i k 
 Tied-rekeyed es es' i k w a b t = (w.next a ∙ t.0, w.prev b ∙ t.1)
 
 -- another key of an entry leaves a path that doesn't have it
-Path-rekeyed : (P : ℕ) (es es' : List Links) (i : ℕ) (k : ℤ) → Rekeyed es es' i k → (a : ℕ) (l : List Entry) → is_in i l ≡ false → Path P es a l → Path P es' a l
+Path-rekeyed : (P : ℕ) (es es' : List Links) (i : ℕ) (k : ℤ) → Rekeyed es es' i k → (a : ℕ) (l : List Entry) → is_listed i l ≡ false → Path P es a l → Path P es' a l
 Path-rekeyed P es es' i k w a [] out h = tt
 Path-rekeyed P es es' i k w a (e ∷ l) out h =
-    (Tied-rekeyed es es' i k w a e.0 h.0, w.other e.0 (λ s. is_in-head i e l out (sym s)) ∙ h.1, h.2, Path-rekeyed P es es' i k w e.0 l (is_in-tail i e l out) h.3)
+    (Tied-rekeyed es es' i k w a e.0 h.0, w.other e.0 (λ s. is_listed-head i e l out (sym s)) ∙ h.1, h.2, Path-rekeyed P es es' i k w e.0 l (is_listed-tail i e l out) h.3)
 
 -- another key of an entry leaves a chain that doesn't have it
-Chain-rekeyed_other : (P : ℕ) (es es' : List Links) (i : ℕ) (k : ℤ) → Rekeyed es es' i k → (a : ℕ) (l : List Entry) (b : ℕ) → is_in i l ≡ false → Chain P es a l b → Chain P es' a l b
+Chain-rekeyed_other : (P : ℕ) (es es' : List Links) (i : ℕ) (k : ℤ) → Rekeyed es es' i k → (a : ℕ) (l : List Entry) (b : ℕ) → is_listed i l ≡ false → Chain P es a l b → Chain P es' a l b
 Chain-rekeyed_other P es es' i k w a l b out c = record { path = Path-rekeyed P es es' i k w a l out c.path; tied = Tied-rekeyed es es' i k w _ _ c.tied }
 
 -- another key of an entry changes its key in the chain that has it
@@ -59,7 +59,7 @@ Chain-rekeyed P es es' h pre f post t k w le c =
     }
 
 -- a process is in a list whatever the first key is
-in_rekeyed : (m : ℕ) (f : Entry) (k : ℤ) (l : List Entry) → is_in m ((f.0, k) ∷ l) ≡ false → is_in m (f ∷ l) ≡ false
+in_rekeyed : (m : ℕ) (f : Entry) (k : ℤ) (l : List Entry) → is_listed m ((f.0, k) ∷ l) ≡ false → is_listed m (f ∷ l) ≡ false
 in_rekeyed m f k l h = h
 
 -- another key of an entry of queue q's list changes its key there, and no other list
@@ -91,11 +91,11 @@ Chained-rekeyed P Q es es' ls q pre f post k lk lt is w =
         tail_key = w.other (tail_of P i) (omega (arith, rest.2)) ∙ (lk.ends i lti).tail_key;
       };
       loose = λ m ltm out.
-          let G : List Entry → Type 0 = λ l. is_in m l ≡ false in
-          let here : is_in m new ≡ false = subst G same (out q lt) in
+          let G : List Entry → Type 0 = λ l. is_listed m l ≡ false in
+          let here : is_listed m new ≡ false = subst G same (out q lt) in
           let old : (next_at es m ≡ m) × (prev_at es m ≡ m) = lk.loose m ltm (λ i lti. elim (cases_eq i q) [
-            | inl s ↦ (let H : ℕ → Type 0 = λ i. is_in m (list_at ls i) ≡ false in subst H (sym s) (subst G (sym is)
-                (is_in-both m pre (f ∷ post) (is_in-left m pre ((f.0, k) ∷ post) here) (in_rekeyed m f k post (is_in-right m pre ((f.0, k) ∷ post) here)))))
+            | inl s ↦ (let H : ℕ → Type 0 = λ i. is_listed m (list_at ls i) ≡ false in subst H (sym s) (subst G (sym is)
+                (is_listed-both m pre (f ∷ post) (is_listed-left m pre ((f.0, k) ∷ post) here) (in_rekeyed m f k post (is_listed-right m pre ((f.0, k) ∷ post) here)))))
             | inr n ↦ subst G (list_at-other ls q new i n) (out i lti)
           ]) in
           (w.next m ∙ old.0, w.prev m ∙ old.1);

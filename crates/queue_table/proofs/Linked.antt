@@ -4,7 +4,7 @@ use Rattle.std.proofs.lemmas.Bool.{cases_lt, false≢true}
 use Rattle.std.proofs.lemmas.List.{get_or_past}
 use Rattle.queue_table.specs.declared.links.Links.{Links}
 use Rattle.queue_table.specs.declared.table.QueueTable.{QueueTable}
-use Rattle.queue_table.specs.Lists.{Entry, is_in, list_at}
+use Rattle.queue_table.specs.Lists.{Entry, is_listed, list_at}
 use Rattle.queue_table.specs.Table.{lists}
 use Rattle.queue_table.specs.Entries.{Chain, Chained, Linked, head_of, tail_of}
 use Rattle.queue_table.proofs.Places.{split_in}
@@ -13,12 +13,12 @@ use Rattle.queue_table.proofs.Chains.{alone_apart}
 use Rattle.queue_table.proofs.Tables.{chained_of}
 
 -- there is nobody in the list of a queue that the table doesn't have
-nobody_past : (P Q : ℕ) (es : List Links) (ls : List (List Entry)) → Chained P Q es ls → (q p : ℕ) → Q ≤ q → is_in p (list_at ls q) ≡ false
+nobody_past : (P Q : ℕ) (es : List Links) (ls : List (List Entry)) → Chained P Q es ls → (q p : ℕ) → Q ≤ q → is_listed p (list_at ls q) ≡ false
 nobody_past P Q es ls k q p le =
-    let F : List Entry → Type 0 = λ l. is_in p l ≡ false in subst F (sym (get_or_past ls q [] (omega (arith, k.queues)))) refl
+    let F : List Entry → Type 0 = λ l. is_listed p l ≡ false in subst F (sym (get_or_past ls q [] (omega (arith, k.queues)))) refl
 
 -- a process that is in one of the lists is in no other
-pub Chained-apart : (P Q : ℕ) (es : List Links) (ls : List (List Entry)) → Chained P Q es ls → (q r p : ℕ) → q ≢ r → is_in p (list_at ls q) ≡ true → is_in p (list_at ls r) ≡ false
+pub Chained-apart : (P Q : ℕ) (es : List Links) (ls : List (List Entry)) → Chained P Q es ls → (q r p : ℕ) → q ≢ r → is_listed p (list_at ls q) ≡ true → is_listed p (list_at ls r) ≡ false
 Chained-apart P Q es ls k q r p n h = elim (cases_lt q Q) [
   | inl lq ↦ elim (cases_lt r Q) [
     | inl lr ↦ (

@@ -6,7 +6,7 @@ use Rattle.std.proofs.lemmas.List.{length-reverse}
 use Rattle.std.specs.List.{IsDistinct, AllByRecursion, list_any, range_with_len}
 use Rattle.std.proofs.lemmas.Map.Steps.{length-le_from_distinct_below}
 use Rattle.queue_table.specs.declared.links.Links.{Links}
-use Rattle.queue_table.specs.Lists.{Entry, is_in, list_at}
+use Rattle.queue_table.specs.Lists.{Entry, is_listed, list_at}
 use Rattle.queue_table.specs.Entries.{Chain, Chained, Path, Tied, follow, follow_back, head_of, key_at, last_from, lists_of, next_at, prev_at, tail_of}
 
 -- two paths, the second from the end of the first, are one
@@ -54,28 +54,28 @@ Back-unique P es h h' (e ∷ r) (e' ∷ r') n le le' b b' =
     (i.0, omega (arith, i.1))
 
 -- a process that is neither the first of a list nor in the rest isn't in it
-pub is_in-cons : (x : ℕ) (e : Entry) (l : List Entry) → x ≢ e.0 → is_in x l ≡ false → is_in x (e ∷ l) ≡ false
-is_in-cons x e l n h = grind (arith, nat_tests)
+pub is_listed-cons : (x : ℕ) (e : Entry) (l : List Entry) → x ≢ e.0 → is_listed x l ≡ false → is_listed x (e ∷ l) ≡ false
+is_listed-cons x e l n h = grind (arith, nat_tests)
 
 -- x, which is after the entries of r0, isn't met on a path at other places
 pub never_met : (P : ℕ) (es : List Links) (h x : ℕ) (r0 : List Entry) → P ≤ h → Back P es h r0 x
     → (h' a : ℕ) (r l : List Entry) → P ≤ h' → Back P es h' r a → Path P es a l
     → ((j : ℕ) → length r < j → j ≤ length r + length l → h ≡ h' → j ≢ length r0)
-    → is_in x l ≡ false
+    → is_listed x l ≡ false
 never_met P es h x r0 le b h' a r [] le' b' p away = refl
 never_met P es h x r0 le b h' a r (e ∷ l) le' b' p away =
     let b'' : Back P es h' (e ∷ r) e.0 = Back-more P es h' a e r b' p.0 p.1 p.2 in
     let differs : x ≢ e.0 = λ same. (let F : ℕ → Type 0 = λ n. Back P es h r0 n in
     let u : (h ≡ h') × (length r0 ≡ length (e ∷ r)) = Back-unique P es h h' r0 (e ∷ r) e.0 le le' (subst F same b) b'' in
     away (length (e ∷ r)) (omega arith) (omega arith) u.0 (sym u.1)) in
-    is_in-cons x e l differs (never_met P es h x r0 le b h' e.0 (e ∷ r) l le' b'' p.3 (λ j lo hi. away j (omega (arith, lo)) (omega (arith, hi))))
+    is_listed-cons x e l differs (never_met P es h x r0 le b h' e.0 (e ∷ r) l le' b'' p.3 (λ j lo hi. away j (omega (arith, lo)) (omega (arith, hi))))
 
 -- the processes of a list
 abbrev pub procs : List Entry → List ℕ
 procs l = map (λ e. e.0) l
 
 -- a process that isn't in a list differs from each in it
-pub AllByRecursion-from_is_in : (x : ℕ) (l : List Entry) → is_in x l ≡ false → AllByRecursion (λ y. eqb x y ≡ false) (procs l)
+pub AllByRecursion-from_is_in : (x : ℕ) (l : List Entry) → is_listed x l ≡ false → AllByRecursion (λ y. eqb x y ≡ false) (procs l)
 AllByRecursion-from_is_in x [] h = tt
 AllByRecursion-from_is_in x (e ∷ l) h = (grind (arith, nat_tests), AllByRecursion-from_is_in x l (grind (arith, nat_tests)))
 
@@ -88,14 +88,14 @@ Path-distinct P es h a r (e ∷ l) le b p =
     (AllByRecursion-from_is_in e.0 l (never_met P es h e.0 (e ∷ r) le b' h e.0 (e ∷ r) l le b' p.3 (λ j lo hi same at. omega (arith, lo, at))), Path-distinct P es h e.0 (e ∷ r) l le b' p.3)
 
 -- a process that is in a list is its first, or in the rest
-pub is_in-cases : (x : ℕ) (e : Entry) (l : List Entry) → is_in x (e ∷ l) ≡ true → (x ≡ e.0) ⊎ (is_in x l ≡ true)
-is_in-cases x e l h = grind (arith, nat_tests)
+pub is_listed-cases : (x : ℕ) (e : Entry) (l : List Entry) → is_listed x (e ∷ l) ≡ true → (x ≡ e.0) ⊎ (is_listed x l ≡ true)
+is_listed-cases x e l h = grind (arith, nat_tests)
 
 -- the processes of a path are below P
-pub Path-below : (P : ℕ) (es : List Links) (a : ℕ) (l : List Entry) → Path P es a l → (x : ℕ) → is_in x l ≡ true → x < P
+pub Path-below : (P : ℕ) (es : List Links) (a : ℕ) (l : List Entry) → Path P es a l → (x : ℕ) → is_listed x l ≡ true → x < P
 Path-below P es a [] p x h = absurd (cc)
 Path-below P es a (e ∷ l) p x h =
-    elim (is_in-cases x e l h) [ inl s ↦ omega (arith, s, p.2) | inr i ↦ Path-below P es e.0 l p.3 x i ]
+    elim (is_listed-cases x e l h) [ inl s ↦ omega (arith, s, p.2) | inr i ↦ Path-below P es e.0 l p.3 x i ]
 
 -- one of two tests holds, said by cases
 or_cond : (a b : Bool) → (a || b) ≡ cond a true b
@@ -103,9 +103,9 @@ or_cond true b = refl
 or_cond false b = refl
 
 -- that some process of a list is q, said by a test over the list
-pub list_any-is_in : (q : ℕ) (l : List Entry) → list_any (eqb q) (procs l) ≡ is_in q l
-list_any-is_in q [] = refl
-list_any-is_in q (e ∷ l) = or_cond (eqb q e.0) (list_any (eqb q) (procs l)) ∙ ap (λ b. cond (eqb q e.0) true b) (list_any-is_in q l)
+pub list_any-is_listed : (q : ℕ) (l : List Entry) → list_any (eqb q) (procs l) ≡ is_listed q l
+list_any-is_listed q [] = refl
+list_any-is_listed q (e ∷ l) = or_cond (eqb q e.0) (list_any (eqb q) (procs l)) ∙ ap (λ b. cond (eqb q e.0) true b) (list_any-is_listed q l)
 
 -- a list has as many processes as entries
 pub length-procs : (l : List Entry) → length (procs l) ≡ length l
@@ -116,7 +116,7 @@ length-procs (e ∷ l) = ap suc (length-procs l)
 pub Path-short : (P : ℕ) (es : List Links) (h : ℕ) (l : List Entry) → P ≤ h → Path P es h l → length l ≤ P
 Path-short P es h l le p =
     let d : IsDistinct eqb (procs l) = Path-distinct P es h h [] l le refl p in
-    let n : length (procs l) ≤ P = length-le_from_distinct_below (procs l) P d (λ q m. Path-below P es h l p q (sym (list_any-is_in q l) ∙ m)) in
+    let n : length (procs l) ≤ P = length-le_from_distinct_below (procs l) P d (λ q m. Path-below P es h l p q (sym (list_any-is_listed q l) ∙ m)) in
     omega (arith, length-procs l)
 
 -- along a path to an entry that is no process its processes are read off

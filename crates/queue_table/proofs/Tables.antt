@@ -7,7 +7,7 @@ use Rattle.std.proofs.lemmas.Bool.{cases_lt}
 use Rattle.std.proofs.lemmas.List.{get_or_past}
 use Rattle.queue_table.specs.declared.links.Links.{Links}
 use Rattle.queue_table.specs.declared.table.QueueTable.{QueueTable}
-use Rattle.queue_table.specs.Lists.{Entry, after_in, all_without, first_key_of, first_of, is_in, key_in, list_at, list_of, place, with_list, without}
+use Rattle.queue_table.specs.Lists.{Entry, after_in, all_without, first_key_of, first_process, is_listed, key_in, list_at, list_of, place, with_list, without}
 use Rattle.queue_table.specs.Table.{lists}
 use Rattle.queue_table.specs.Entries.{Chain, Chained, Path, Tied, first_to, head_of, key_at, last_from, lists_of, next_at, prev_at, tail_of}
 use Rattle.queue_table.specs.Writes.{put_between, taken_out}
@@ -58,12 +58,12 @@ pub prev_of : {P Q : ℕ} → (t : QueueTable P Q) (q : ℕ) → q < Q → prev_
 prev_of {P} {Q} t q lt = ((chained_of t).chains q lt).tied.1
 
 -- an entry after a head that is a process is the first of the list
-pub first-some : (P : ℕ) (l : List Entry) (t n : ℕ) → P ≤ t → n ≡ first_to l t → n < P → Some n ≡ first_of l
+pub first-some : (P : ℕ) (l : List Entry) (t n : ℕ) → P ≤ t → n ≡ first_to l t → n < P → Some n ≡ first_process l
 first-some P [] t n le e lt = absurd (omega arith)
 first-some P (f ∷ l) t n le e lt = ap Some e
 
 -- an entry after a head that is no process is the tail of an empty list
-pub first-none : (P : ℕ) (es : List Links) (h : ℕ) (l : List Entry) (t n : ℕ) → Path P es h l → n ≡ first_to l t → P ≤ n → None ≡ first_of l
+pub first-none : (P : ℕ) (es : List Links) (h : ℕ) (l : List Entry) (t n : ℕ) → Path P es h l → n ≡ first_to l t → P ≤ n → None ≡ first_process l
 first-none P es h [] t n p e lt = refl
 first-none P es h (f ∷ l) t n p e lt = absurd (omega (arith, p.2))
 
@@ -79,7 +79,7 @@ first_key-none P es h (f ∷ l) t n p e lt = absurd (omega (arith, p.2))
 
 -- p, in no list, is put between two neighbours of queue q
 pub put_chained : (P Q : ℕ) (es : List Links) (ls : List (List Entry)) (p q : ℕ) (pre post : List Entry) (k : ℤ) (x y : ℕ) (es' : List Links)
-    → Chained P Q es ls → p < P → q < Q → ((i : ℕ) → i < Q → is_in p (list_at ls i) ≡ false) → list_at ls q ≡ pre ++ post
+    → Chained P Q es ls → p < P → q < Q → ((i : ℕ) → i < Q → is_listed p (list_at ls i) ≡ false) → list_at ls q ≡ pre ++ post
     → x ≡ last_from (head_of P q) pre → y ≡ first_to post (tail_of P q)
     → es' ≡ put_between es x p y k
     → Chained P Q es' (with_list ls q (pre ++ (p, k) ∷ post))
@@ -138,7 +138,7 @@ take_chained P Q es ls p q pre k post k' ltq is =
     let Y : ℕ → Type 0 = λ n. Rewired es (taken_out es p) (last_from h pre) n n (last_from h pre) p r in
     let alone_else : (i : ℕ) → i ≢ q → without p (list_at ls i) ≡ list_at ls i = λ i n. without-absent p (list_at ls i) (elim (cases_lt i Q) [
       | inl lti ↦ alone_apart P es h pre (p, k) post (omega arith) c.path (head_of P i) (list_at ls i) (omega arith) (k'.chains i lti).path (omega arith)
-      | inr le ↦ (let N : List Entry → Type 0 = λ l. is_in p l ≡ false in subst N (sym (get_or_past ls i [] (omega (arith, k'.queues)))) refl)
+      | inr le ↦ (let N : List Entry → Type 0 = λ l. is_listed p l ≡ false in subst N (sym (get_or_past ls i [] (omega (arith, k'.queues)))) refl)
     ]) in
     let W : List Entry → Type 0 = λ l. without p l ≡ pre ++ post in (
       Chained-cut P Q es (taken_out es p) ls q pre (p, k) post r k' ltq is (subst Y ey (subst X ex w)) refl refl,
@@ -205,27 +205,27 @@ placed {P} {Q} t p q at =
     record { before = f.0; key = f.1; behind = f.2; queue_in = lt; is = f.3; chain = subst C f.3 ((chained_of t).chains q lt) }
 
 -- a process isn't in the part of its list ahead of it
-pub front_of : {P Q : ℕ} → {es : List Links} → {l : List Entry} → {p q : ℕ} → (d : Placed P Q es l p q) → is_in p d.before ≡ false
+pub front_of : {P Q : ℕ} → {es : List Links} → {l : List Entry} → {p q : ℕ} → (d : Placed P Q es l p q) → is_listed p d.before ≡ false
 front_of {P} {Q} {es} {l} {p} {q} d = alone_front P es (head_of P q) d.before (p, d.key) d.behind (omega arith) d.chain.path
 
 -- a process isn't in the part of its list after it
-pub rest_of_placed : {P Q : ℕ} → {es : List Links} → {l : List Entry} → {p q : ℕ} → (d : Placed P Q es l p q) → is_in p d.behind ≡ false
+pub rest_of_placed : {P Q : ℕ} → {es : List Links} → {l : List Entry} → {p q : ℕ} → (d : Placed P Q es l p q) → is_listed p d.behind ≡ false
 rest_of_placed {P} {Q} {es} {l} {p} {q} d = alone_rest P es (head_of P q) d.before (p, d.key) d.behind (omega arith) d.chain.path
 
 -- the process after p is the first of the part after it
-after_in-split : (p : ℕ) (pre : List Entry) (k : ℤ) (post : List Entry) → is_in p pre ≡ false → after_in p (pre ++ (p, k) ∷ post) ≡ first_of post
-after_in-split p [] k post h = let e : eqb p p ≡ true = grind (arith, nat_tests) in ap (λ b. cond b (first_of post) (after_in p post)) e
+after_in-split : (p : ℕ) (pre : List Entry) (k : ℤ) (post : List Entry) → is_listed p pre ≡ false → after_in p (pre ++ (p, k) ∷ post) ≡ first_process post
+after_in-split p [] k post h = let e : eqb p p ≡ true = grind (arith, nat_tests) in ap (λ b. cond b (first_process post) (after_in p post)) e
 after_in-split p (e ∷ pre) k post h =
     let n : eqb p e.0 ≡ false = grind (arith, nat_tests) in
-    let t : is_in p pre ≡ false = grind (arith, nat_tests) in
-    ap (λ b. cond b (first_of (pre ++ (p, k) ∷ post)) (after_in p (pre ++ (p, k) ∷ post))) n ∙ after_in-split p pre k post t
+    let t : is_listed p pre ≡ false = grind (arith, nat_tests) in
+    ap (λ b. cond b (first_process (pre ++ (p, k) ∷ post)) (after_in p (pre ++ (p, k) ∷ post))) n ∙ after_in-split p pre k post t
 
 -- the key of p is the one beside it
-key_in-split : (p : ℕ) (pre : List Entry) (k : ℤ) (post : List Entry) → is_in p pre ≡ false → key_in p (pre ++ (p, k) ∷ post) ≡ k
+key_in-split : (p : ℕ) (pre : List Entry) (k : ℤ) (post : List Entry) → is_listed p pre ≡ false → key_in p (pre ++ (p, k) ∷ post) ≡ k
 key_in-split p [] k post h = let e : eqb p p ≡ true = grind (arith, nat_tests) in ap (λ b. cond b k (key_in p post)) e
 key_in-split p (e ∷ pre) k post h =
     let n : eqb p e.0 ≡ false = grind (arith, nat_tests) in
-    let t : is_in p pre ≡ false = grind (arith, nat_tests) in
+    let t : is_listed p pre ≡ false = grind (arith, nat_tests) in
     ap (λ b. cond b e.1 (key_in p (pre ++ (p, k) ∷ post))) n ∙ key_in-split p pre k post t
 
 -- the next number of a process that is in a list is the process after it, if it is a process

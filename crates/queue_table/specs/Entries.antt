@@ -2,7 +2,7 @@
 use Rattle.std.specs.Prelude.{◌≡◌, ◌≢◌, ℕ, ◌+◌, ◌*◌, ◌<◌, ℤ, pos, negsuc, nat_lt, true, false, List, [], ◌∷◌, map, length, reverse, cond, slice_index_or, zero, suc}
 use Rattle.std.specs.List.{range_with_len}
 use Rattle.queue_table.specs.declared.links.Links.{Links}
-use Rattle.queue_table.specs.Lists.{Entry, is_in, list_at}
+use Rattle.queue_table.specs.Lists.{Entry, is_listed, list_at}
 
 -- what is read if there is no entry
 abbrev pub blank : Links
@@ -56,9 +56,9 @@ pub record Linked (P : ℕ) (Q : ℕ) (es : List Links) (ls : List (List Entry))
   pub queues : length ls ≡ Q
   pub forward : (q : ℕ) → q < Q → follow P P es (next_at es (head_of P q)) ≡ list_at ls q
   pub backward : (q : ℕ) → q < Q → follow_back P P es (prev_at es (tail_of P q)) ≡ reverse (list_at ls q)
-  pub apart : (q r p : ℕ) → q ≢ r → is_in p (list_at ls q) ≡ true → is_in p (list_at ls r) ≡ false
+  pub apart : (q r p : ℕ) → q ≢ r → is_listed p (list_at ls q) ≡ true → is_listed p (list_at ls r) ≡ false
   pub ends : (q : ℕ) → q < Q → Ends es (head_of P q) (tail_of P q)
-  pub loose : (p : ℕ) → p < P → ((q : ℕ) → q < Q → is_in p (list_at ls q) ≡ false) → (next_at es p ≡ p) × (prev_at es p ≡ p)
+  pub loose : (p : ℕ) → p < P → ((q : ℕ) → q < Q → is_listed p (list_at ls q) ≡ false) → (next_at es p ≡ p) × (prev_at es p ≡ p)
 
 -- entry b is right after entry a
 abbrev pub Tied : List Links → ℕ → ℕ → Type 0
@@ -90,4 +90,4 @@ pub record Chained (P : ℕ) (Q : ℕ) (es : List Links) (ls : List (List Entry)
   pub queues : length ls ≡ Q
   pub chains : (q : ℕ) → q < Q → Chain P es (head_of P q) (list_at ls q) (tail_of P q)
   pub ends : (q : ℕ) → q < Q → Ends es (head_of P q) (tail_of P q)
-  pub loose : (p : ℕ) → p < P → ((q : ℕ) → q < Q → is_in p (list_at ls q) ≡ false) → (next_at es p ≡ p) × (prev_at es p ≡ p)
+  pub loose : (p : ℕ) → p < P → ((q : ℕ) → q < Q → is_listed p (list_at ls q) ≡ false) → (next_at es p ≡ p) × (prev_at es p ≡ p)

@@ -15,14 +15,14 @@ abbrev pub with_list : List (List Entry) → ℕ → List Entry → List (List E
 with_list ls q l = slice_set ls q l
 
 -- whether process p is in the list
-abbrev pub is_in : ℕ → List Entry → Bool
-is_in p [] = false
-is_in p (e ∷ l) = cond (nat_eq p e.0) true (is_in p l)
+abbrev pub is_listed : ℕ → List Entry → Bool
+is_listed p [] = false
+is_listed p (e ∷ l) = cond (nat_eq p e.0) true (is_listed p l)
 
 -- the first queue whose list has p, if the lists are those of queue `from` and the queues after it
 abbrev pub place_from : ℕ → List (List Entry) → ℕ → Option ℕ
 place_from from [] p = None
-place_from from (l ∷ ls) p = cond (is_in p l) (Some from) (place_from (from + 1) ls p)
+place_from from (l ∷ ls) p = cond (is_listed p l) (Some from) (place_from (from + 1) ls p)
 
 -- the queue in which p is, and `None` if it is in none
 unfoldable pub place : List (List Entry) → ℕ → Option ℕ
@@ -31,12 +31,12 @@ place ls p = place_from 0 ls p
 -- the list in which p is, and the empty list if it is in none
 abbrev pub list_of : List (List Entry) → ℕ → List Entry
 list_of [] p = []
-list_of (l ∷ ls) p = cond (is_in p l) l (list_of ls p)
+list_of (l ∷ ls) p = cond (is_listed p l) l (list_of ls p)
 
 -- the first process of the list
-abbrev pub first_of : List Entry → Option ℕ
-first_of [] = None
-first_of (e ∷ l) = Some e.0
+abbrev pub first_process : List Entry → Option ℕ
+first_process [] = None
+first_process (e ∷ l) = Some e.0
 
 -- the key of the first process of the list
 abbrev pub first_key_of : List Entry → Option ℤ
@@ -51,7 +51,7 @@ rest_of (e ∷ l) = l
 -- the process right after p in the list
 abbrev pub after_in : ℕ → List Entry → Option ℕ
 after_in p [] = None
-after_in p (e ∷ l) = cond (nat_eq p e.0) (first_of l) (after_in p l)
+after_in p (e ∷ l) = cond (nat_eq p e.0) (first_process l) (after_in p l)
 
 -- the key of p in the list
 abbrev pub key_in : ℕ → List Entry → ℤ

@@ -13,7 +13,7 @@ use crate::links::{link_between, unlink};
 
 impl<const P: usize, const Q: usize> QueueTable<P, Q> {
     ghost use Rattle.queue_table.specs.Table.{lists};
-    ghost use Rattle.queue_table.specs.Lists.{list_at, with_list, place, first_of, rest_of, all_without, IsByKey};
+    ghost use Rattle.queue_table.specs.Lists.{list_at, with_list, place, first_process, rest_of, all_without, IsByKey};
 
     /// Puts `p`, which is in no list, last into queue `q`, with key 0.
     pub fn enqueue(&mut self, p: usize, q: usize)
@@ -45,7 +45,7 @@ impl<const P: usize, const Q: usize> QueueTable<P, Q> {
     /// Takes the first process out of queue `q`. `None` if and only if the list is empty.
     pub fn dequeue(&mut self, q: usize) -> Option<usize>
         requires q_in { q < Q }
-        ensures first { result ≡ first_of (list_at (lists self.old) q) }
+        ensures first { result ≡ first_process (list_at (lists self.old) q) }
         ensures below { IfSome result (λ p. p < P) }
         ensures lists { lists self.new ≡ with_list (lists self.old) q (rest_of (list_at (lists self.old) q)) }
         ensures linked { Linked P Q self.new.entries.items (lists self.new) }

@@ -23,7 +23,7 @@ pub struct QueueTable<const P: usize, const Q: usize> {
 
 impl<const P: usize, const Q: usize> QueueTable<P, Q> {
     ghost use Rattle.queue_table.specs.Table.{lists};
-    ghost use Rattle.queue_table.specs.Lists.{list_at, list_of, place, first_of, first_key_of, after_in, key_in};
+    ghost use Rattle.queue_table.specs.Lists.{list_at, list_of, place, first_process, first_key_of, after_in, key_in};
 
     /// A table of empty lists. This call alone takes memory.
     ///
@@ -59,7 +59,7 @@ impl<const P: usize, const Q: usize> QueueTable<P, Q> {
     /// The first process of queue `q`. `None` if and only if its list is empty.
     pub fn first(&self, q: usize) -> Option<usize>
         requires q_in { q < Q }
-        ensures first { result ≡ first_of (list_at (lists self.now) q) }
+        ensures first { result ≡ first_process (list_at (lists self.now) q) }
         ensures below { IfSome result (λ p. p < P) }
     {
         let first = self.links(P + 2 * q).next;

@@ -6,7 +6,7 @@ use Rattle.std.proofs.lemmas.List.Elements.{All-from_get_or}
 use Rattle.std.proofs.lemmas.List.Sums.{fails_before_first}
 use Rattle.std.proofs.lemmas.Bool.Decides.{nat_tests}
 use Rattle.schedule_file.proofs.SearchLemmas.{found_at, found_within, found_none}
-use Rattle.schedule_file.specs.Lines.{ended, lines_of, without_return}
+use Rattle.schedule_file.specs.Lines.{whole_lines, lines_of, without_return}
 
 -- a carriage return at the end of a line is left out
 pub without_return-drops : (line front : List ℕ) (last : ℕ) → line ≡ front ++ last ∷ [] → last ≡ 13 → without_return line ≡ front
@@ -27,16 +27,16 @@ without_return-keeps line (b ∷ c ∷ front) last is other =
     rw is (ap (λ (x : List ℕ). b ∷ x) (without_return-keeps (c ∷ front ++ last ∷ []) (c ∷ front) last refl other))
 
 -- a line with others after it
-ended-cons : (line : List ℕ) (lines : List (List ℕ)) → 0 < length lines → ended (line ∷ lines) ≡ without_return line ∷ ended lines
-ended-cons [] [] some = absurd (omega arith)
-ended-cons [] (next ∷ lines) some = refl
-ended-cons (b ∷ line) [] some = absurd (omega arith)
-ended-cons (b ∷ line) (next ∷ lines) some = refl
+whole_lines-cons : (line : List ℕ) (lines : List (List ℕ)) → 0 < length lines → whole_lines (line ∷ lines) ≡ without_return line ∷ whole_lines lines
+whole_lines-cons [] [] some = absurd (omega arith)
+whole_lines-cons [] (next ∷ lines) some = refl
+whole_lines-cons (b ∷ line) [] some = absurd (omega arith)
+whole_lines-cons (b ∷ line) (next ∷ lines) some = refl
 
 -- a line with none after it
-ended-last : (line : List ℕ) → 0 < length line → ended (line ∷ []) ≡ line ∷ []
-ended-last [] some = absurd (omega arith)
-ended-last (b ∷ line) some = refl
+whole_lines-last : (line : List ℕ) → 0 < length line → whole_lines (line ∷ []) ≡ line ∷ []
+whole_lines-last [] some = absurd (omega arith)
+whole_lines-last (b ∷ line) some = refl
 
 -- whether a byte is a line feed
 abbrev is_feed : ℕ → Bool
@@ -48,8 +48,8 @@ lines_of-feed text i is =
     let within : position_or_len is_feed text < length text = found_within (position_or_len is_feed text) (length text) i is in
     let at : position_or_len is_feed text ≡ i = found_at (position_or_len is_feed text) (length text) i is in
     let some : 0 < length (slice_split is_feed (drop (position_or_len is_feed text + 1) text)) = omega (arith, length-slice_split is_feed (drop (position_or_len is_feed text + 1) text)) in
-    ap ended (slice_split_first is_feed text 0 within)
-    ∙ ended-cons (take (position_or_len is_feed text) text) (slice_split is_feed (drop (position_or_len is_feed text + 1) text)) some
+    ap whole_lines (slice_split_first is_feed text 0 within)
+    ∙ whole_lines-cons (take (position_or_len is_feed text) text) (slice_split is_feed (drop (position_or_len is_feed text + 1) text)) some
     ∙ ap (λ (k : ℕ). without_return (take k text) ∷ lines_of (drop (k + 1) text)) at
 
 -- a text with no line feed is its last line
@@ -58,4 +58,4 @@ lines_of-last text some is =
     let none : length text ≤ position_or_len is_feed text = found_none (position_or_len is_feed text) (length text) is in
     let fails : All (λ (b : ℕ). is_feed b ≡ false) text =
     All-from_get_or (λ (b : ℕ). is_feed b ≡ false) text 0 (λ k within. fails_before_first is_feed text k 0 (omega arith)) in
-    ap ended (slice_split_none is_feed text fails) ∙ ended-last text some
+    ap whole_lines (slice_split_none is_feed text fails) ∙ whole_lines-last text some

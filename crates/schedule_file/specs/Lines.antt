@@ -9,15 +9,15 @@ without_return (b ∷ []) = if b == 13 then [] else b ∷ []
 without_return (b ∷ c ∷ line) = b ∷ without_return (c ∷ line)
 
 -- the lines, given what is between the line feeds: what comes after the last line feed is a line unless it is empty
-abbrev pub ended : List (List ℕ) → List (List ℕ)
-ended [] = []
-ended ([] ∷ []) = []
-ended ((b ∷ line) ∷ []) = (b ∷ line) ∷ []
-ended (line ∷ next ∷ lines) = without_return line ∷ ended (next ∷ lines)
+abbrev pub whole_lines : List (List ℕ) → List (List ℕ)
+whole_lines [] = []
+whole_lines ([] ∷ []) = []
+whole_lines ((b ∷ line) ∷ []) = (b ∷ line) ∷ []
+whole_lines (line ∷ next ∷ lines) = without_return line ∷ whole_lines (next ∷ lines)
 
 -- the lines of a text
 abbrev pub lines_of : List ℕ → List (List ℕ)
-lines_of text = ended (slice_split (λ b. b == 10) text)
+lines_of text = whole_lines (slice_split (λ b. b == 10) text)
 
 -- a blank is a space or a tab
 abbrev pub is_blank : ℕ → Bool

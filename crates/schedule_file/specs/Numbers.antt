@@ -12,8 +12,8 @@ abbrev pub is_digit : ℕ → Bool
 is_digit b = nat_le 48 b && nat_le b 57
 
 -- a count: one to ten decimal digits with a value from 1 to the most events
-abbrev pub count_in : List ℕ → Option ℕ
-count_in digits =
+abbrev pub count_written : List ℕ → Option ℕ
+count_written digits =
     if nat_le 1 (length digits) && (nat_le (length digits) 10 && (list_all is_digit digits && (nat_le 1 (digits_value 10 digits) && nat_le (digits_value 10 digits) most_events)))
     then Some (digits_value 10 digits)
     else None
@@ -21,7 +21,7 @@ count_in digits =
 -- the count, if it is the one token
 abbrev pub one_count : List (List ℕ) → Option ℕ
 one_count [] = None
-one_count (token ∷ []) = count_in token
+one_count (token ∷ []) = count_written token
 one_count (token ∷ next ∷ tokens) = None
 
 -- the value of a hexadecimal digit, in lower or upper case

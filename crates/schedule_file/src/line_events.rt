@@ -10,7 +10,7 @@ ghost use Rattle.schedule_file.specs.Repeats.{events_of, HasEvents, IsRepeat, re
 
 use crate::kinds::{Kind, kind_of};
 use crate::lines::first_token;
-use crate::numbers::{byte_in, count_in};
+use crate::numbers::{byte_in, count_written};
 use crate::repeats::Repeat;
 use arrayvec::ArrayVec;
 use std::alloc::AllocError;
@@ -109,7 +109,7 @@ fn counted(tokens: &[u8]) -> Option<u32>
     let (token, rest) = first_token(tokens)?;
     match first_token(rest) {
         Some(_) => None,
-        None => count_in(token),
+        None => count_written(token),
     }
 }
 

@@ -9,8 +9,8 @@ ghost use Rattle.schedule_file.specs.Numbers as numbers;
 pub(crate) const MOST_EVENTS: u32 = 1_000_000_000;
 
 /// The number that one to ten decimal digits stand for, if it is from 1 to the most events. Zeros may lead it.
-pub(crate) fn count_in(digits: &[u8]) -> Option<u32>
-    ensures count { result ≡ numbers.count_in digits.now }
+pub(crate) fn count_written(digits: &[u8]) -> Option<u32>
+    ensures count { result ≡ numbers.count_written digits.now }
     ensures some { IfSome result (λ n. 0 < n) }
 {
     if digits.is_empty() || digits.len() > 10 || !are_digits(digits) {

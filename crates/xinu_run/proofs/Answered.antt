@@ -12,7 +12,7 @@ use Rattle.machine.specs.Printed.{Booted}
 use Rattle.xinu_model.specs.Machine.{Xinu}
 use Rattle.xinu_run.specs.Conversions.{host_refusal}
 use Rattle.xinu_run.specs.Fetches.{fetches_of}
-use Rattle.xinu_run.specs.Refusals.{IsRefused, text_of}
+use Rattle.xinu_run.specs.Refusals.{TellsRefusal, text_of}
 use Rattle.xinu_run.specs.Stages.{IsArgsCause, KeepsFiles, left_of, refusal_of}
 use Rattle.xinu_run.specs.Theorem.{Answers, Carries, HasFetched, IsUnsent, Obeys}
 use Rattle.xinu_run.specs.Verdict.{Verdict, Refuses, Does, Runs, file_bytes, run_verdict, verdict}
@@ -93,7 +93,7 @@ text_unsent j k text is = record {
 
 -- A command that was refused answers the status of the refusal, once its text was sent.
 pub refused_answers : (command : Option Command) (r : Refusal) (exit : ℕ) (h j k : Outside) → Obeys command (Some r) None h j
-    → HasFetched (fetches_of command) (Some r) h j → KeepsFiles h j → IsRefused r exit j k → Answers exit command h k None
+    → HasFetched (fetches_of command) (Some r) h j → KeepsFiles h j → TellsRefusal r exit j k → Answers exit command h k None
 refused_answers command r exit h j k obeys fetched keeps refused =
     let sent = refused.part.1 in record {
       ended = Some r;

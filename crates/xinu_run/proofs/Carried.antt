@@ -12,7 +12,7 @@ use Rattle.xinu_model.specs.Text.{shown, text}
 use Rattle.xinu_model.proofs.Runs.{some_run}
 use Rattle.xinu_run.specs.Conversions.{host_refusal}
 use Rattle.xinu_run.specs.Theorem.{Carries, Deserved, IsPart, IsPartSent, IsSent, IsUnsent, IsWhole, Sends, WorkSends}
-use Rattle.xinu_run.specs.Verdict.{Output, Verdict, Refuses, Does, Runs, printed, transcript}
+use Rattle.xinu_run.specs.Verdict.{Output, Verdict, Refuses, Does, Runs, only_printed, transcript}
 use Rattle.xinu_run.specs.declared.refusals.Refusal.{Refusal}
 use Rattle.xinu_run.specs.declared.refusals.Refusal.TheVariants as refusal
 use Rattle.xinu_run.proofs.Printed.{PrintsTranscript}
@@ -23,10 +23,10 @@ use Rattle.xinu_run.proofs.Printed.{PrintsTranscript}
 pub carries_nothing : (v : Verdict) (cause : Refusal) (h k : Outside) → Deserved v (Some cause) h k → IsUnsent h k
     → Carries v (Some cause) None h k
 carries_nothing (Refuses c) cause h k deserved unsent =
-    record { output = printed 0 []; deserved = deserved; sends = unsent; refused = λ some. refl }
+    record { output = only_printed 0 []; deserved = deserved; sends = unsent; refused = λ some. refl }
 carries_nothing (Does (Runs start events)) cause h k deserved unsent =
     let run = some_run events start in record {
-      output = printed 0 (text (transcript start run.0 run.1 run.2));
+      output = only_printed 0 (text (transcript start run.0 run.1 run.2));
       deserved = deserved;
       sends = record {
         last = Some run.1;
@@ -128,7 +128,7 @@ fresh = record { plain = false; failure = None }
 -- what was printed of a run was sent
 printed_sends : (start : Xinu) (events : List Event) (new : Xinu) (a e : Printing) (h k : Outside) (ended : Option Refusal) (left : Option Xinu)
     → a ≡ fresh → (p : PrintsTranscript start events new a e h k) → (ended ≡ None → e.failure ≡ None) → (ended ≡ None → left ≡ Some new)
-    → WorkSends (Runs start events) (printed 0 (text (transcript start p.lines p.last p.end))) ended left h k
+    → WorkSends (Runs start events) (only_printed 0 (text (transcript start p.lines p.last p.end))) ended left h k
 printed_sends start events new a e h k ended left is_fresh p done leaves =
     let all = transcript start p.lines p.last p.end in
     let P : List ℕ → Type 0 = λ bytes. Prints a e h k bytes in
@@ -156,7 +156,7 @@ pub run_done : (v : Verdict) (start : Xinu) (events : List Event) (new : Xinu) (
     → v ≡ Does (Runs start events) → a ≡ fresh → e.failure ≡ None → PrintsTranscript start events new a e h k → Carries v None (Some new) h k
 run_done v start events new a e h k is is_fresh none p =
     carries_as v (Does (Runs start events)) None (Some new) h k is (record {
-      output = printed 0 (text (transcript start p.lines p.last p.end));
+      output = only_printed 0 (text (transcript start p.lines p.last p.end));
       deserved = (Runs start events, refl);
       sends = printed_sends start events new a e h k None (Some new) is_fresh p (λ x. none) (λ x. refl);
       refused = λ some. absurd (cc);
@@ -181,7 +181,7 @@ pub run_refused : (v : Verdict) (f : HostFault) (r : Refusal) (start : Xinu) (ev
 run_refused v f r start events new a e h k is is_r is_fresh failed p =
     let P : Refusal → Type 0 = λ x. Carries v (Some x) None h k in
     subst P (sym is_r) (carries_as v (Does (Runs start events)) (Some (host_refusal f)) None h k is (record {
-      output = printed 0 (text (transcript start p.lines p.last p.end));
+      output = only_printed 0 (text (transcript start p.lines p.last p.end));
       deserved = refused_deserved f start events new a e h k is_fresh failed p;
       sends = printed_sends start events new a e h k (Some (host_refusal f)) None is_fresh p (λ none. absurd (cc)) (λ none. absurd (cc));
       refused = λ some. refl;

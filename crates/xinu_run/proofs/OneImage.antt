@@ -4,7 +4,7 @@ use Rattle.std.proofs.lemmas.List.{length-map}
 use Rattle.std.specs.List.{list_all}
 use Rattle.std.proofs.lemmas.Bool.{and_parts, ltb-true, leb-true}
 use Rattle.std.proofs.lemmas.Option.{option_and_then_some}
-use Rattle.command_line.specs.Commands.{Command, command_of, commands, is_file_name, run_from, run_of, value_of}
+use Rattle.command_line.specs.Commands.{Command, command_of, commands, is_file_name, run_from, run_of, option_value}
 use Rattle.command_line.specs.Reading.{Request, Text, request_of}
 
 -- a value that is there if a test holds
@@ -28,7 +28,7 @@ one_of_run (Some schedule) images c is =
 pub one_image : (args : List Text) (c : Command) → command_of args ≡ Some c → length c.images ≡ 1
 one_image args c is =
     option_and_then_some (λ (r : Request). run_from r.taken) (request_of commands args) c is
-    (λ r calls run. one_of_run (value_of (codes "schedule") r.taken) r.taken.positional c run)
+    (λ r calls run. one_of_run (option_value (codes "schedule") r.taken) r.taken.positional c run)
 
 -- a list of one is its first
 one_item : {A : Type 0} (xs : List A) (x : A) → length xs ≡ 1 → x ≡ get_or xs 0 x → xs ≡ x ∷ []

@@ -4,7 +4,7 @@ use Rattle.host_port.specs.declared.host.HostFault.{HostFault}
 use Rattle.host_port.specs.Outside.{Outside}
 use Rattle.host_port.proofs.Prints.{emitted_nothing}
 use Rattle.host_port.specs.Printing.{Printing, Prints}
-use Rattle.machine.specs.Printed.{shown_both}
+use Rattle.machine.proofs.ShownLines.{shown_both}
 use Rattle.xinu_base.specs.declared.events.Event.{Event}
 use Rattle.xinu_base.specs.declared.events.End.{End}
 use Rattle.xinu_base.specs.declared.lines.TranscriptLine.{TranscriptLine}

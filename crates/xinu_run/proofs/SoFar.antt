@@ -2,7 +2,8 @@
 use Rattle.std.proofs.Common.{◌≡◌, List, [], ◌∷◌, ◌++◌, Option, Some, None, IsSome, refl, sym, subst, append_assoc, append-nil}
 use Rattle.host_port.specs.Outside.{Outside}
 use Rattle.host_port.specs.Printing.{Printing, Prints}
-use Rattle.machine.specs.Printed.{EventPrints, shown_both, shown_nothing}
+use Rattle.machine.proofs.ShownLines.{shown_both, shown_nothing}
+use Rattle.machine.specs.Printed.{EventPrints}
 use Rattle.xinu_base.specs.declared.events.Event.{Event}
 use Rattle.xinu_base.specs.declared.events.End.{End}
 use Rattle.xinu_base.specs.declared.events.End.TheVariants.{Schedule}

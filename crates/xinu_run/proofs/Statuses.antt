@@ -8,7 +8,7 @@ use Rattle.command_line.specs.Reading.{Text}
 use Rattle.host_port.specs.HostCalls.{Rose}
 use Rattle.host_port.specs.Outside.{Outside}
 use Rattle.image_loader.specs.Faults.{fault_number}
-use Rattle.image_loader.specs.ImageFiles.{first_fault, loaded_unless, loads}
+use Rattle.image_loader.specs.ImageFiles.{first_fault, loaded_unless, image_in}
 use Rattle.image_loader.specs.declared.faults.ImageFault.{ImageFault}
 use Rattle.schedule_file.specs.ScheduleFiles.{Reading, Reads, Bad, Many, events_in, events_read, reading}
 use Rattle.xinu_base.specs.declared.events.Event.{Event}
@@ -141,7 +141,7 @@ loads_by false f image good = cc
 loads_by true None image good = refl
 loads_by true (Some f) image good = cc
 
-good_loads : (bytes : List ℕ) → image_fault bytes ≡ None → (image : Loaded) × (loads bytes ≡ Some image)
+good_loads : (bytes : List ℕ) → image_fault bytes ≡ None → (image : Loaded) × (image_in bytes ≡ Some image)
 unfolding image_fault
 good_loads bytes good =
     (_, loads_by (nat_le (length bytes) longest_image) (first_fault bytes) _ good)
@@ -205,7 +205,7 @@ says_done exit s b x good loads start is = record {
 
 -- by how the machine starts
 says_start : (exit : ℕ) (s b : List ℕ) (events : List Event) (image : Loaded) (start : Start) → schedule_fault s ≡ None
-    → image_fault b ≡ None → loads b ≡ Some image → boot (image ∷ []) ≡ start → exit ≡ status_due (start_verdict events start)
+    → image_fault b ≡ None → image_in b ≡ Some image → boot (image ∷ []) ≡ start → exit ≡ status_due (start_verdict events start)
     → SaysOfFiles exit s b
 unfolding start_with
 says_start exit s b events image (Boots x) good fine loaded starts is =

@@ -27,7 +27,7 @@ text_of (refusal.NoRoom i) = codes "xinu: no room for image " ++ decimal i ++ co
 
 -- A prefix of the text was sent, and but for the count of faults nothing else changed; it is the whole text unless a fault came or
 -- memory ran out.
-pub record IsRefused (refusal : Refusal) (status : ℕ) (old new : Outside) : Type 0 where
+pub record TellsRefusal (refusal : Refusal) (status : ℕ) (old new : Outside) : Type 0 where
   pub answer : status ≢ 7 → status ≡ status_of refusal
   pub part : (n : ℕ) × (new ≡ counted (appended old Fault (take n (text_of refusal))) new.faults)
   pub whole : status ≢ 7 → (Rose old.faults new.faults → ⊥) → new ≡ counted (appended old Fault (text_of refusal)) new.faults

@@ -1,6 +1,6 @@
 -- What the exit statuses say of a command's files.
 use Rattle.std.specs.Prelude.{◌≡◌, ◌↔◌, ℕ, List, [], ◌∷◌, Option, Some, None, IsSome, option_map}
-use Rattle.image_loader.specs.ImageFiles.{loads}
+use Rattle.image_loader.specs.ImageFiles.{image_in}
 use Rattle.xinu_model.specs.Boot.{Start, Boots, NoRoom, boot}
 use Rattle.xinu_model.specs.Machine.{Xinu}
 use Rattle.xinu_run.specs.InputFaults.{schedule_fault, image_fault}
@@ -18,7 +18,7 @@ status_due (Does (Runs start events)) = 0
 
 -- how the machine starts with the image of a file, if the file is an image
 unfoldable pub start_with : List ℕ → Option Start
-start_with bytes = option_map (λ image. boot (image ∷ [])) (loads bytes)
+start_with bytes = option_map (λ image. boot (image ∷ [])) (image_in bytes)
 
 -- A file is an image with which the machine starts.
 pub record CanStart (bytes : List ℕ) : Type 0 where

@@ -2,7 +2,7 @@
 use Rattle.std.specs.Prelude.{◌≡◌, ◌≢◌, ◌≤◌, ◌⊎◌, ℕ, List, take, Option, Some, None, IsSome}
 use Rattle.command_line.specs.Commands.{Command}
 use Rattle.host_port.specs.HostCalls.{Rose}
-use Rattle.host_port.specs.Outside.{Outside, HostCall, emptied, grown}
+use Rattle.host_port.specs.Outside.{Outside, HostCall, emptied_channel, grown}
 use Rattle.xinu_model.specs.Machine.{Xinu}
 use Rattle.xinu_run.specs.Fetches.{fetches_of}
 use Rattle.xinu_run.specs.Refusals.{status_of, text_of}
@@ -21,12 +21,12 @@ Deserved v (Some cause) old new = v ≡ Refuses cause
 -- A channel without a file stays as it was; one with a file was made empty and holds the bytes.
 abbrev pub IsWhole : Option (List ℕ) → Option (List ℕ) → Option (List ℕ) → Type 0
 IsWhole None old new = new ≡ old
-IsWhole (Some bytes) old new = new ≡ grown (emptied old) bytes
+IsWhole (Some bytes) old new = new ≡ grown (emptied_channel old) bytes
 
 -- The same up to some moment: the channel is as it was, or was made empty and holds a prefix of the bytes.
 abbrev pub IsPart : Option (List ℕ) → Option (List ℕ) → Option (List ℕ) → Type 0
 IsPart None old new = new ≡ old
-IsPart (Some bytes) old new = (new ≡ old) ⊎ ((n : ℕ) × (new ≡ grown (emptied old) (take n bytes)))
+IsPart (Some bytes) old new = (new ≡ old) ⊎ ((n : ℕ) × (new ≡ grown (emptied_channel old) (take n bytes)))
 
 -- The whole output was sent.
 pub record IsSent (output : Output) (old new : Outside) : Type 0 where

@@ -3,7 +3,7 @@ use Rattle.std.specs.Prelude.{◌≡◌, ◌+◌, ℕ, List, [], ◌∷◌, ◌+
 use Rattle.command_line.specs.Commands.{Command}
 use Rattle.command_line.specs.Reading.{Text}
 use Rattle.schedule_file.specs.ScheduleFiles.{events_in}
-use Rattle.image_loader.specs.ImageFiles.{loads}
+use Rattle.image_loader.specs.ImageFiles.{image_in}
 use Rattle.xinu_base.specs.declared.events.Event.{Event}
 use Rattle.xinu_base.specs.declared.events.End.{End}
 use Rattle.xinu_base.specs.declared.lines.TranscriptLine.{TranscriptLine}
@@ -66,7 +66,7 @@ boot_verdict events images = start_verdict events (boot images)
 abbrev pub images_verdict : ℕ → List (List ℕ) → (List Loaded → Verdict) → Verdict
 images_verdict i [] next = next []
 images_verdict i (bytes ∷ files) next =
-    unless_fault (option_map (refusal.Image i) (image_fault bytes)) (loads bytes) (λ image. images_verdict (i + 1) files (λ images. next (image ∷ images)))
+    unless_fault (option_map (refusal.Image i) (image_fault bytes)) (image_in bytes) (λ image. images_verdict (i + 1) files (λ images. next (image ∷ images)))
 
 -- the schedule file is read, then the images
 abbrev pub run_verdict : List ℕ → List (List ℕ) → Verdict
@@ -90,8 +90,8 @@ pub record Output : Type 0 where
   pub image : Option (List ℕ)
 
 -- a status and text on Out, and no file
-abbrev pub printed : ℕ → List ℕ → Output
-printed status bytes =
+abbrev pub only_printed : ℕ → List ℕ → Output
+only_printed status bytes =
     record { status = status; out = bytes; disk0 = None; disk1 = None; image = None }
 
 -- the lines of a whole run
@@ -105,7 +105,7 @@ pub record RunWrites (start : Xinu) (events : List Event) (output : Output) (lef
   pub state : Xinu
   pub end : End
   pub runs : RunsTo start events lines state end
-  pub written : output ≡ printed 0 (text (transcript start lines state end))
+  pub written : output ≡ only_printed 0 (text (transcript start lines state end))
   pub last : left ≡ Some state
 
 -- What work puts out, and the state that it leaves. It is a relation, since a run may have several outcomes.

@@ -1,7 +1,7 @@
 //! The refusals of a command, each with its status and its text.
 
 ghost use Rattle.std.specs.Prelude.{◌≡◌};
-ghost use Rattle.xinu_run.specs.Refusals.{IsRefused, status_of, text_of};
+ghost use Rattle.xinu_run.specs.Refusals.{TellsRefusal, status_of, text_of};
 
 use command_line::ArgsFault;
 use host_port::{Channel, Host, HostFault, Line};
@@ -84,7 +84,7 @@ impl From<BootFault> for Refusal {
 
 /// Sends the text of a refusal, and answers its exit status, or 7 if memory runs out meanwhile. A host that fails is ignored here.
 pub(crate) fn refuse<H: Host>(refusal: Refusal, host: &mut H) -> u8
-    ensures { IsRefused refusal result (H.view host.old) (H.view host.new) }
+    ensures { TellsRefusal refusal result (H.view host.old) (H.view host.new) }
 {
     let line = line_of(refusal);
     match host.emit(Channel::Fault, line.bytes()) {

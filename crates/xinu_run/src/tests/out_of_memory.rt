@@ -2,7 +2,7 @@
 
 ghost use Rattle.std.specs.Prelude.{◌≡◌, ◌≢◌, ◌+◌, ◌≤◌, ◌<◌, ◌^◌, ⊤, take, vec_len, IfOk, MatchOption};
 ghost use Rattle.host_port.specs.Outside.{fetching, naming};
-ghost use Rattle.host_port.specs.HostCalls.{HasCause, Emits, MakesCall, Names};
+ghost use Rattle.host_port.specs.HostCalls.{HasCause, Emits, MakesCall, NamesFile};
 ghost use Rattle.host_port.specs.QuietHost.{quiet_view};
 
 use super::programs::{EXITED, GETPID_AND_EXIT, RUN, quiet_host, refusal_of};

@@ -7,6 +7,6 @@ pub returns-clause-added : goal.returns-clause-added
 returns-clause-added c =
     record { holds = grind (arith, text_keys); others = λ other differs. grind (arith, text_keys); rest = refl }
 
-pub returns-clause-held : goal.returns-clause-held
-returns-clause-held c =
+pub returns-clause-added_view : goal.returns-clause-added_view
+returns-clause-added_view c =
     record { holds = grind (arith, text_keys); others = λ other differs. grind (arith, text_keys); rest = refl }

@@ -2,7 +2,7 @@
 use Rattle.std.proofs.Common.{◌≡◌, ◌∙◌, List, [], ap, subst, sym, arith}
 use Rattle.std.proofs.lemmas.List.{set-get_or}
 use Rattle.queue_table.specs.declared.links.Links.{Links}
-use Rattle.queue_table.specs.Lists.{first_of, list_at, rest_of, with_list}
+use Rattle.queue_table.specs.Lists.{first_process, list_at, rest_of, with_list}
 use Rattle.queue_table.specs.Table.{lists}
 use Rattle.queue_table.specs.Entries.{Chained}
 use Rattle.queue_table.proofs.Paths.{Chained-read}
@@ -33,7 +33,7 @@ pub returns-then-first-clause-first : goal.returns-then-first-clause-first
 returns-then-first-clause-first g c =
     let t = c.args.self.now in
     let s = head_split t c.args.q c.links-first.result.next c.requires.q_in (ap (λ (r : Links). r.next) c.links-first.ensures.entry) c.if-first.true in
-    sym (ap first_of s.2)
+    sym (ap first_process s.2)
 
 pub returns-then-first-clause-lists : goal.returns-then-first-clause-lists
 unfolding lists
@@ -47,7 +47,7 @@ returns-then-first-clause-lists g c =
 pub returns-else-first-clause-first : goal.returns-else-first-clause-first
 returns-else-first-clause-first g c =
     let t = c.args.self.now in
-    sym (ap first_of (head_none t c.args.q c.links-first.result.next c.requires.q_in (ap (λ (r : Links). r.next) c.links-first.ensures.entry) c.if-first.false))
+    sym (ap first_process (head_none t c.args.q c.links-first.result.next c.requires.q_in (ap (λ (r : Links). r.next) c.links-first.ensures.entry) c.if-first.false))
 
 pub returns-else-first-clause-lists : goal.returns-else-first-clause-lists
 returns-else-first-clause-lists g c =
