@@ -102,6 +102,7 @@ inside_null = record {
   null = inl refl;
   null_rest = refl;
   falling = tt;
+  keys = tt;
   rising = tt;
   later = tt;
   one_kind = by_first (λ s x. HasOneKind x) (inr refl) (inr refl) (inr refl) (inr refl) (λ s. inr refl);
