@@ -1,0 +1,10 @@
+use Rattle.xinu_laws.proofs.Results.ComputedPriorities.{prints_raised_above_caller, prints_lowered_below_null, prints_raised_null, prints_entered_again}
+use Rattle.xinu_laws.proofs.examples.priorities.Goals as goal
+
+pub returns : goal.returns
+returns c = record {
+  raised_above_caller = prints_raised_above_caller;
+  lowered_below_null = prints_lowered_below_null;
+  raised_null = prints_raised_null;
+  entered_again = prints_entered_again;
+}
