@@ -5,5 +5,6 @@ pub mod ComputedPriorities
 pub mod Ecall
 pub mod RefusedEvents
 pub mod Refusals
+pub mod Released
 pub mod Signals
 pub mod Values

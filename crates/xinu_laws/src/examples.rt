@@ -32,6 +32,7 @@ pub fn priorities()
     ensures lowered_below_null { transcript priority_examples.lowered_below_null ≡ priority_examples.lowered_below_null_transcript }
     ensures raised_null { transcript priority_examples.raised_null ≡ priority_examples.raised_null_transcript }
     ensures entered_again { transcript priority_examples.entered_again ≡ priority_examples.entered_again_transcript }
+    ensures yields_to_equals { printed priority_examples.yields_to_equals ≡ priority_examples.yields_to_equals_lines }
 {}
 
 /// The heap: the lowest block and the highest stack, merging, refusals.

@@ -124,4 +124,4 @@ unfolding exec
 zero_register_of_step h memory =
     let trapped = stops h memory (Trap Fetch) in
     either (h.pc == INITRET) h (stops h memory Exit) (if may_access h.pc 4 then perform (number_at memory h.pc 4) h memory else trapped) (same h (stops h memory Exit) refl)
-      (either (may_access h.pc 4) h (perform (number_at memory h.pc 4) h memory) trapped (zero_register (number_at memory h.pc 4) h memory) (same h trapped refl))
+    (either (may_access h.pc 4) h (perform (number_at memory h.pc 4) h memory) trapped (zero_register (number_at memory h.pc 4) h memory) (same h trapped refl))

@@ -1,7 +1,6 @@
 -- The calls on processes keep what holds of the tables.
 use Rattle.std.proofs.Common.{◌≡◌, ◌≢◌, ℕ, ◌+◌, ◌<◌, ◌==◌, true, not, ◌||◌, List, refl, sym, subst, ◌∙◌, ⊎_elim, inr, ap, false, Option, Some, None, ℤ, pos}
 use Rattle.std.specs.Prelude.{int_lt, drop, slice_set, take}
-use Rattle.std.proofs.Math.ListN.{length-set}
 use Rattle.std.proofs.lemmas.Bool.{cond_both, or_parts, eqb-false}
 use Rattle.xinu_base.specs.declared.processes.Process.{Process}
 use Rattle.xinu_base.specs.declared.processes.Rest.TheVariants.{Nothing, SelfSuspend}

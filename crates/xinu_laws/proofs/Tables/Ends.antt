@@ -1,13 +1,11 @@
 -- The end of an event leaves sound tables, and registers for each number.
-use Rattle.std.proofs.Common.{◌≡◌, ℕ, ◌+◌, Bool, true, false, cond, ◌||◌, List, [], ◌∷◌, slice_index, refl, ap, ◌∙◌, ℤ}
-use Rattle.std.proofs.Math.ListN.{length-set}
+use Rattle.std.proofs.Common.{◌≡◌, ℕ, ◌+◌, Bool, true, false, cond, ◌||◌, List, slice_index, refl, ap}
 use Rattle.std.proofs.lemmas.Bool.{both_ways, cond_both, or_right}
 use Rattle.xinu_base.specs.declared.lines.TranscriptLine.{TranscriptLine}
-use Rattle.xinu_base.specs.declared.registers.Hart.{Hart}
 use Rattle.xinu_model.specs.Clock.{due, wakeup, ticked}
 use Rattle.xinu_model.specs.Events.{with_executed}
 use Rattle.xinu_model.specs.Isa.Exec.{Executed}
-use Rattle.xinu_model.specs.Machine.{Xinu, Answer, Returns, Waits, Gone, Panics, Silent, CallResult, start, is_off, closed, with_reply, with_replies, replies_of, end_of_event}
+use Rattle.xinu_model.specs.Machine.{Xinu, Answer, Returns, Waits, Gone, Panics, Silent, CallResult, start, is_off, closed, replies_of, end_of_event}
 use Rattle.xinu_model.specs.Process.Scheduling.{resched}
 use Rattle.xinu_model.specs.Sound.Tables.{IsSoundTables}
 use Rattle.xinu_model.specs.Tables.{Tables}
@@ -46,7 +44,7 @@ harts_end_of_event was first result k = harts_with_replies (replies_of result) r
 pub harts_ticked : (s : Xinu) → AreHarts s.harts → AreHarts (ticked s).state.harts
 harts_ticked s a =
     harts_with_replies (wakeup s).released (wakeup s).state.harts
-      (harts_same s.harts _ (ap (λ (x : Xinu). x.harts) (unblock_all_ready (due (s.tables.ticks + 1) s.tables.sleepers) (start s))) a)
+    (harts_same s.harts _ (ap (λ (x : Xinu). x.harts) (unblock_all_ready (due (s.tables.ticks + 1) s.tables.sleepers) (start s))) a)
 
 -- An instruction leaves the tables as they are, and each number keeps its registers.
 pub executed_may_call : (did : Executed) (s : Xinu) → slice_index did.hart.regs 0 ≡ 0 → MayCall s → MayCall (with_executed did s)

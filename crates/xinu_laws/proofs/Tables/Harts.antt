@@ -1,8 +1,7 @@
 -- There are registers for each process number, and x0 is 0 in each, whatever is written into the others.
-use Rattle.std.proofs.Common.{◌≡◌, ◌≢◌, ℕ, zero, suc, List, [], ◌∷◌, length, slice_index, slice_index_or, slice_set, replicate, refl, sym, ap, subst, ◌∙◌, ℤ, inl, inr}
+use Rattle.std.proofs.Common.{◌≡◌, ℕ, zero, suc, List, [], ◌∷◌, slice_index, slice_index_or, slice_set, replicate, refl, sym, subst, ◌∙◌, ℤ}
 use Rattle.std.proofs.Math.ListN.{length-set}
 use Rattle.std.proofs.lemmas.List.{get_or-set_other}
-use Rattle.std.proofs.lemmas.Bool.Decides.{eqb_tells}
 use Rattle.xinu_base.specs.declared.registers.Hart.{Hart}
 use Rattle.xinu_model.specs.Machine.{no_hart, with_reply, with_replies}
 use Rattle.xinu_model.specs.Sound.State.{AreHarts}
@@ -30,7 +29,7 @@ harts_with_replies [] harts a = a
 harts_with_replies (reply ∷ replies) harts a =
     let hart = slice_index_or harts reply.0 no_hart in
     harts_with_replies replies (with_reply harts reply)
-      (harts_set harts reply.0 _ (get_or-set_other hart.regs 10 0 _ 0 (λ e. cc) ∙ a.zero reply.0) a)
+    (harts_set harts reply.0 _ (get_or-set_other hart.regs 10 0 _ 0 (λ e. cc) ∙ a.zero reply.0) a)
 
 -- the registers of free numbers
 pub harts_of_none : (p n : ℕ) → slice_index (slice_index_or (replicate n no_hart) p no_hart).regs 0 ≡ 0

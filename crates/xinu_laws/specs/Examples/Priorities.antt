@@ -101,3 +101,18 @@ entered_again_transcript =
     Console ∷ Disk0 ∷ Disk1 ∷
     End Schedule ∷
     []
+
+-- A process that gives itself the priority that it has gives way to its equals.
+abbrev pub yields_to_equals : Example
+yields_to_equals = record {
+  start = system (20 ∷ 20 ∷ []) 4096 8;
+  programs =
+      (sys_chprio 1 20 ∷ []) ∷
+      [];
+  turns = Steps 1000 ∷ [];
+}
+
+abbrev pub yields_to_equals_lines : List TranscriptLine
+yields_to_equals_lines =
+    Switch 1 ∷ Call 1 (sys_chprio 1 20) ∷ Return 1 (pos 20) ∷ Switch 2 ∷
+    []
