@@ -6,5 +6,6 @@ pub mod NamedCalls
 pub mod Played
 pub mod Pools
 pub mod Ports
+pub mod Priorities
 pub mod Processes
 pub mod Semaphores

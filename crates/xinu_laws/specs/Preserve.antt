@@ -1,5 +1,5 @@
 -- What holds inside an event: when a process calls, and before the event of its call is closed.
-use Rattle.std.specs.Prelude.{◌≡◌, ◌≢◌, false}
+use Rattle.std.specs.Prelude.{◌≢◌, false}
 use Rattle.xinu_model.specs.Clock.{quantum_falls, wakeup, a_tick_later}
 use Rattle.xinu_model.specs.Machine.{Xinu, Answer, Returns, Waits, Gone, Panics, Silent, CallResult}
 use Rattle.xinu_model.specs.Sound.Tables.{IsInside, IsSoundTables}

@@ -1,13 +1,13 @@
 //! Moves inside an event: each keeps what holds of the tables at each moment.
 
-ghost use Rattle.std.specs.Prelude.{◌≡◌, ◌≢◌, ◌<◌, ◌+◌, ℕ, suc, List, [], ◌∷◌, Option, None};
+ghost use Rattle.std.specs.Prelude.{◌≡◌, ◌≢◌, ◌<◌, ◌+◌, ℕ, suc, List, [], ◌∷◌, Option, None, ℤ};
 ghost use Rattle.xinu_base.specs.Constants.{NSEM};
 ghost use Rattle.xinu_base.specs.declared.processes.Process.{Process};
 ghost use Rattle.xinu_base.specs.declared.processes.Rest.{Rest};
 ghost use Rattle.xinu_base.specs.declared.processes.State.TheVariants.{Waiting};
 ghost use Rattle.xinu_laws.specs.Moves.{CanMove, CanBeReady, ready_all};
 ghost use Rattle.xinu_laws.specs.Preserve.{IsPreserved, MayCall};
-ghost use Rattle.xinu_model.specs.Machine.{Xinu, CallState, CallResult, unblock_all};
+ghost use Rattle.xinu_model.specs.Machine.{Xinu, CallState, CallResult, unblock_all_with};
 ghost use Rattle.xinu_model.specs.Process.Scheduling.{ready};
 ghost use Rattle.xinu_model.specs.Semaphores.Counts.{with_tokens};
 ghost use Rattle.xinu_model.specs.Semaphores.Waiting.{await, signalled};
@@ -20,9 +20,9 @@ pub fn moves_keep_inside()
     ensures ready { (t : Tables) (p : ℕ) → IsInside t → CanBeReady t p → IsInside (ready p t) }
 {}
 
-/// Those who are unblocked become ready, one after another, and nothing else of the state changes.
+/// Those who are unblocked become ready, one after another, whatever they answer, and nothing else of the state changes.
 pub fn the_unblocked_become_ready()
-    ensures { (ps : List ℕ) (d : CallState) → (unblock_all ps d).state ≡ record d.state { tables = ready_all ps d.state.tables } }
+    ensures { (value : ℤ) (ps : List ℕ) (d : CallState) → (unblock_all_with value ps d).state ≡ record d.state { tables = ready_all ps d.state.tables } }
 {}
 
 /// A signal on a semaphore in use: the first waiter becomes ready, or there is one token more.

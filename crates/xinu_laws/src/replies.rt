@@ -1,23 +1,28 @@
 //! What a refusal leaves, and which answers tell of one.
 
-ghost use Rattle.std.specs.Prelude.{◌≡◌, ◌⊎◌, ◌<◌, ℕ, true, false, if◌then◌else◌, nat_le, List, Some, slice_index};
+ghost use Rattle.std.specs.Prelude.{◌≡◌, ◌⊎◌, ◌<◌, ℕ, true, false, if◌then◌else◌, nat_le, List, Some, slice_index, ◌++◌, map, take, pos};
 ghost use Rattle.xinu_base.specs.Constants.{OK, SYSERR};
 ghost use Rattle.xinu_base.specs.declared.events.Event.TheVariants.{Step};
 ghost use Rattle.xinu_base.specs.declared.lines.TranscriptLine.{TranscriptLine};
 ghost use Rattle.xinu_base.specs.declared.processes.PortTicket.{PortTicket};
 ghost use Rattle.xinu_base.specs.declared.processes.Rest.TheVariants.{PtSend, PtRecv};
+ghost use Rattle.xinu_laws.specs.Moves.{ready_all};
 ghost use Rattle.xinu_laws.specs.Refusals.{AnswersFirst, IsCalling, IsRefused, LeavesRefused, value_told};
 ghost use Rattle.xinu_model.specs.Calls.{call_of_number, continued};
 ghost use Rattle.xinu_model.specs.Events.{Happens};
-ghost use Rattle.xinu_model.specs.Machine.{Xinu, Panics, Returns, goes_on, refused};
+ghost use Rattle.xinu_model.specs.Machine.{Xinu, CallState, Panics, Returns, goes_on, refused};
 ghost use Rattle.xinu_model.specs.Messages.{held};
 ghost use Rattle.xinu_model.specs.Ports.Queues.{Port, is_stale, most_nodes, nodes, port_at};
+ghost use Rattle.xinu_model.specs.Semaphores.Calls.{semdelete, semreset};
+ghost use Rattle.xinu_model.specs.Semaphores.Counts.{is_good, with_semaphore};
+ghost use Rattle.xinu_model.specs.Semaphores.Waiting.{signalled, signalled_times};
 ghost use Rattle.xinu_model.specs.Sound.Pools.{ArePools};
 ghost use Rattle.xinu_model.specs.Sound.Ports.{ArePorts};
 ghost use Rattle.xinu_model.specs.Sound.State.{IsSound};
-ghost use Rattle.xinu_model.specs.Tables.{process_at};
+ghost use Rattle.xinu_model.specs.Sound.Tables.{IsInside};
+ghost use Rattle.xinu_model.specs.Tables.{no_semaphore, process_at, semaphore_at};
 
-/// A refused call changes nothing but its caller's a0 and pc, and the event prints the call and its reply.
+/// A call that is refused in its own event changes nothing but its caller's a0 and pc, and the event prints the call and its reply.
 pub fn refusals_change_nothing()
     ensures { (old : Xinu) (lines : List TranscriptLine) (new : Xinu) → IsSound old → IsCalling old → IsRefused old → Happens old Step lines new → LeavesRefused old lines new }
 {}
@@ -25,6 +30,16 @@ pub fn refusals_change_nothing()
 /// A call that answers -1 was refused, unless that is the priority, the count or the message that it answers.
 pub fn refusals_are_told()
     ensures { (number : ℕ) (args : List ℕ) (s : Xinu) → ArePools s.tables s.parts.pools → ArePorts s.tables s.parts.ports → (call_of_number number args s).answer ≡ Returns SYSERR → (call_of_number number args s ≡ refused s) ⊎ (value_told number (slice_index args) s ≡ Some SYSERR) }
+{}
+
+/// Who waits on a semaphore that a process made answers -1 if it is deleted, which changes nothing but who waits and the semaphore itself.
+/// However else a waiter is released, it answers 0. Those who are released answer in the order in which they came.
+pub fn waiters_are_answered()
+    ensures deleted { (sem : ℕ) (s : Xinu) → IsInside s.tables → is_good sem s.tables ≡ true → (semdelete sem s).call.released ≡ map (λ p. (p, SYSERR)) (semaphore_at s.tables sem).waiters }
+    ensures left { (sem : ℕ) (s : Xinu) → is_good sem s.tables ≡ true → (semdelete sem s).call.state ≡ record s { tables = with_semaphore sem no_semaphore (ready_all (semaphore_at s.tables sem).waiters s.tables) } }
+    ensures reset { (sem n : ℕ) (s : Xinu) → IsInside s.tables → is_good sem s.tables ≡ true → (semreset sem (pos n) s).call.released ≡ map (λ p. (p, OK)) (semaphore_at s.tables sem).waiters }
+    ensures signal { (sem : ℕ) (d : CallState) → IsInside d.state.tables → is_good sem d.state.tables ≡ true → (signalled sem d).released ≡ d.released ++ map (λ p. (p, OK)) (take 1 (semaphore_at d.state.tables sem).waiters) }
+    ensures signals { (sem n : ℕ) (d : CallState) → IsInside d.state.tables → is_good sem d.state.tables ≡ true → (signalled_times sem n d).released ≡ d.released ++ map (λ p. (p, OK)) (take n (semaphore_at d.state.tables sem).waiters) }
 {}
 
 /// Who waited on a port is refused if and only if the port was renewed since the call began: then no late message comes into it, and none

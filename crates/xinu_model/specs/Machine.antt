@@ -73,19 +73,27 @@ abbrev pub ready_later : ℕ → CallState → CallState
 ready_later p d = record (with_tables (ready p d.state.tables) d) { owes_resched = true }
 
 -- A process of which nothing is left of its call is answered when it is released. The others go on by themselves.
-abbrev pub reply_at_unblock : ℕ → Rest → List (ℕ × ℤ)
-reply_at_unblock p Nothing = (p, OK) ∷ []
-reply_at_unblock p _ = []
+abbrev pub reply_at_unblock : ℤ → ℕ → Rest → List (ℕ × ℤ)
+reply_at_unblock value p Nothing = (p, value) ∷ []
+reply_at_unblock value p _ = []
 
--- p, which waited or slept, becomes ready
+-- p, which waited or slept, becomes ready; this value is the answer if it is answered now
+abbrev pub unblock_with : ℤ → ℕ → CallState → CallState
+unblock_with value p d =
+    record (ready_later p d) { released = d.released ++ reply_at_unblock value p (process_at d.state.tables p).rest }
+
+-- these processes become ready, one after another, with this answer
+abbrev pub unblock_all_with : ℤ → List ℕ → CallState → CallState
+unblock_all_with value [] d = d
+unblock_all_with value (p ∷ ps) d = unblock_all_with value ps (unblock_with value p d)
+
+-- p becomes ready, and its call succeeded
 abbrev pub unblock : ℕ → CallState → CallState
-unblock p d =
-    record (ready_later p d) { released = d.released ++ reply_at_unblock p (process_at d.state.tables p).rest }
+unblock p d = unblock_with OK p d
 
--- these processes become ready, one after another
+-- the same of these processes, one after another
 abbrev pub unblock_all : List ℕ → CallState → CallState
-unblock_all [] d = d
-unblock_all (p ∷ ps) d = unblock_all ps (unblock p d)
+unblock_all ps d = unblock_all_with OK ps d
 
 -- the caller gets a reply
 abbrev pub returns : CallState → ℤ → CallResult

@@ -6,7 +6,8 @@ use Rattle.std.proofs.lemmas.Bool.{cond_both, not-true, not-false}
 use Rattle.std.proofs.lemmas.Bool.Decides.{nat_tests}
 use Rattle.std.proofs.lemmas.Int.{ints}
 use Rattle.xinu_base.specs.Insert.{insert}
-use Rattle.xinu_model.specs.Sound.Tables.{IsInOrder, IsFalling, IsRising}
+use Rattle.xinu_model.specs.Sound.Tables.{IsInOrder, IsFalling, IsRising, entries_of}
+use Rattle.xinu_laws.proofs.Lists.Counts.{first_has_entry, entries_behind}
 use Rattle.xinu_model.specs.Tables.{entries_without, Place, Nowhere, InReady, InSemaphore, InSleepers, ready_in, sleepers_in}
 
 -- what holds of all holds of those that a filter keeps
@@ -56,6 +57,11 @@ order_insert R before e l to from across h =
     (λ x b. (to x b, all_weaker (λ y. not (before y) ≡ true) (R x) (λ y n. across x y b (not-true (before y) n)) others behind))
     (filter before l) (all_passes before l))
 
+-- what holds of all and of a new element holds of all after its insertion
+pub all_insert : {A : Type 0} (P : A → Type 0) (before : A → Bool) (e : A) (l : List A) → P e → AllByRecursion P l → AllByRecursion P (insert before e l)
+all_insert P before e l new h =
+    all_append P (filter before l) (e ∷ filter (λ x. not (before x)) l) (all_filter P before l h) (new, all_filter P (λ x. not (before x)) l h)
+
 -- a key that isn't less
 not_less : (a k : ℤ) → not (int_lt a k) ≡ true → k ≤ℤ a
 not_less a k h = let e = not-true (int_lt a k) h in grind (arith, ints)
@@ -75,6 +81,13 @@ falling_in InReady p key l h =
 falling_in Nowhere p key l h = h
 falling_in (InSemaphore s) p key l h = h
 falling_in (InSleepers wake) p key l h = h
+
+-- what holds of all of the ready list and of a process's new entry holds of all after it went to its place
+pub all_ready_in : (P : ℕ × ℤ → Type 0) (place : Place) (p : ℕ) (key : ℤ) (l : List (ℕ × ℤ)) → P (p, key) → AllByRecursion P l → AllByRecursion P (ready_in place p key l)
+all_ready_in P InReady p key l new h = all_insert P (λ x. not (int_lt x.1 key)) (p, key) l new h
+all_ready_in P Nowhere p key l new h = h
+all_ready_in P (InSemaphore s) p key l new h = h
+all_ready_in P (InSleepers wake) p key l new h = h
 
 -- and after one left it
 pub falling_without : (p : ℕ) (l : List (ℕ × ℤ)) → IsFalling l → IsFalling (entries_without p l)
@@ -101,11 +114,6 @@ rising_in (InSemaphore s) p l h = h
 pub rising_without : (p : ℕ) (l : List (ℕ × ℕ)) → IsRising l → IsRising (entries_without p l)
 rising_without p l h = order_filter (λ a b. a.1 ≤ b.1) (λ e. not (e.0 == p)) l h
 
--- what holds of all and of a new element holds of all after its insertion
-pub all_insert : {A : Type 0} (P : A → Type 0) (before : A → Bool) (e : A) (l : List A) → P e → AllByRecursion P l → AllByRecursion P (insert before e l)
-all_insert P before e l new h =
-    all_append P (filter before l) (e ∷ filter (λ x. not (before x)) l) (all_filter P before l h) (new, all_filter P (λ x. not (before x)) l h)
-
 -- a place among the sleepers is for a later tick
 abbrev pub IsLater : ℕ → Place → Type 0
 IsLater ticks (InSleepers wake) = ticks < wake
@@ -128,3 +136,9 @@ all_map P f (x ∷ xs) h = (h.0, all_map P f xs h.1)
 pub all_both : {A : Type 0} (P Q : A → Type 0) (l : List A) → AllByRecursion P l → AllByRecursion Q l → AllByRecursion (λ x. P x × Q x) l
 all_both P Q [] h k = tt
 all_both P Q (x ∷ xs) h k = ((h.0, k.0), all_both P Q xs h.1 k.1)
+
+-- each entry of a list is counted in it
+pub all_have_entries : {K : Type 0} (l : List (ℕ × K)) → AllByRecursion (λ e. 0 < entries_of e.0 l) l
+all_have_entries [] = tt
+all_have_entries (x ∷ xs) =
+    (first_has_entry x xs, all_weaker (λ e. 0 < entries_of e.0 xs) (λ e. 0 < entries_of e.0 (x ∷ xs)) (λ e h. entries_behind e.0 x xs h) xs (all_have_entries xs))

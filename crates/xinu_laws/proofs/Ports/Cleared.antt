@@ -1,5 +1,5 @@
 -- All who wait on the two semaphores of a port are released: nobody waits there any longer.
-use Rattle.std.proofs.Common.{◌≡◌, ℕ, List, [], ◌∷◌, length, Some, refl, sym, ap, subst, ◌∙◌}
+use Rattle.std.proofs.Common.{◌≡◌, ℕ, List, [], ◌∷◌, Some, refl, sym, ap, subst, ◌∙◌}
 use Rattle.xinu_base.specs.declared.processes.Process.{Process}
 use Rattle.xinu_base.specs.declared.processes.State.TheVariants.{Ready}
 use Rattle.xinu_base.specs.declared.semaphores.Owner.TheVariants as owner

@@ -1,5 +1,5 @@
 -- A port that is deleted or reset may give its messages back as buffers: what holds of tables, pools and ports is kept.
-use Rattle.std.proofs.Common.{◌≡◌, ℕ, ◌==◌, List, [], ◌∷◌, length, Option, None, Some, refl, ap, ◌∙◌, pos}
+use Rattle.std.proofs.Common.{◌≡◌, ℕ, ◌==◌, List, [], ◌∷◌, Option, None, Some, refl, ap, ◌∙◌, pos}
 use Rattle.std.specs.Prelude.{nat_le}
 use Rattle.std.proofs.lemmas.Bool.{cond_both}
 use Rattle.xinu_model.specs.Machine.{Xinu, CallState, start, refused, returns}

@@ -1,5 +1,5 @@
 -- A port is deleted or reset once all who wait on it are released: what holds of tables and ports is kept, and the rest is left alone.
-use Rattle.std.proofs.Common.{◌≡◌, ◌≢◌, ◌⊎◌, ℕ, ◌<◌, ◌≤◌, [], length, None, Some, inl, inr, ⊎_elim, refl, sym, ap, subst, ◌∙◌, arith, get_or-set_same, get_or-set_other}
+use Rattle.std.proofs.Common.{◌≡◌, ◌≢◌, ◌⊎◌, ℕ, ◌<◌, ◌≤◌, [], None, Some, inl, inr, ⊎_elim, refl, sym, ap, subst, ◌∙◌, arith, get_or-set_same, get_or-set_other}
 use Rattle.xinu_base.specs.declared.semaphores.Owner.TheVariants as owner
 use Rattle.xinu_model.specs.Machine.{Parts, CallState}
 use Rattle.xinu_model.specs.Ports.Queues.{PortQueue, port_at}

@@ -1,5 +1,5 @@
 -- Each event keeps the whole state sound, and so does each run; the machine starts in a sound state.
-use Rattle.std.proofs.Common.{◌≡◌, ◌≢◌, ◌<◌, ◌==◌, ◌+◌, ℕ, List, [], ◌∷◌, cond, length, refl, ap, subst, ◌∙◌}
+use Rattle.std.proofs.Common.{◌≡◌, ◌≢◌, ◌<◌, ◌==◌, ◌+◌, ℕ, List, [], ◌∷◌, cond, length, refl, ap, subst}
 use Rattle.std.proofs.lemmas.Bool.{cond_both, eqb-false}
 use Rattle.xinu_base.specs.declared.events.End.{End}
 use Rattle.xinu_base.specs.declared.events.Event.{Event}
@@ -12,7 +12,7 @@ use Rattle.xinu_model.specs.Boot.{Loaded, Boots, boot}
 use Rattle.xinu_model.specs.Calls.{called, continued}
 use Rattle.xinu_model.specs.Clock.{due, ticked}
 use Rattle.xinu_model.specs.Events.{call_of, call_line, exit_call, with_executed, reacted, is_done, instruction_step, stepped, effect_of}
-use Rattle.xinu_model.specs.Isa.Exec.{Executed, exec}
+use Rattle.xinu_model.specs.Isa.Exec.{exec}
 use Rattle.xinu_model.specs.Machine.{Xinu, start, CallResult, EventResult, current_hart, nothing_happens, end_of_event}
 use Rattle.xinu_model.specs.Process.Death.{exit}
 use Rattle.xinu_model.specs.Runs.{RunsTo}

@@ -1,5 +1,5 @@
 -- The calls on messages and the clock keep what holds of the tables.
-use Rattle.std.proofs.Common.{◌≡◌, ℕ, zero, suc, ◌+◌, ◌*◌, ◌/◌, ◌<◌, length, refl, sym, ap, ◌∙◌, arith, Option, Some, None, ℤ, pos, negsuc}
+use Rattle.std.proofs.Common.{◌≡◌, ℕ, zero, suc, ◌+◌, ◌*◌, ◌/◌, ◌<◌, refl, sym, ap, arith, Option, Some, None, ℤ, pos, negsuc}
 use Rattle.std.specs.Prelude.{max, nat_lt}
 use Rattle.xinu_base.specs.declared.processes.Rest.TheVariants as rest
 use Rattle.xinu_base.specs.declared.processes.State.TheVariants.{Receiving, Sleeping, Timed}

@@ -1,8 +1,7 @@
 -- The calls on processes keep what holds of the tables.
-use Rattle.std.proofs.Common.{◌≡◌, ◌≢◌, ℕ, ◌+◌, ◌<◌, ◌==◌, true, not, ◌||◌, List, refl, sym, subst, ◌∙◌, ⊎_elim, Option, Some, None, ℤ, pos}
-use Rattle.std.specs.Prelude.{int_lt, drop, take}
-use Rattle.std.proofs.Math.ListN.{length-set}
-use Rattle.std.proofs.lemmas.Bool.{or_parts, eqb-false}
+use Rattle.std.proofs.Common.{◌≡◌, ◌≢◌, ℕ, ◌+◌, ◌<◌, ◌==◌, true, not, ◌||◌, List, refl, sym, subst, ◌∙◌, ⊎_elim, inr, ap, false, Option, Some, None, ℤ, pos}
+use Rattle.std.specs.Prelude.{int_lt, drop, slice_set, take}
+use Rattle.std.proofs.lemmas.Bool.{cond_both, or_parts, eqb-false}
 use Rattle.xinu_base.specs.declared.processes.Process.{Process}
 use Rattle.xinu_base.specs.declared.processes.Rest.TheVariants.{Nothing, SelfSuspend}
 use Rattle.xinu_base.specs.declared.processes.State.{State}
@@ -14,15 +13,15 @@ use Rattle.xinu_model.specs.Memory.{in_ram}
 use Rattle.xinu_model.specs.Messages.{held}
 use Rattle.xinu_model.specs.Process.Scheduling.{in_state}
 use Rattle.xinu_model.specs.Process.Creation.{stack_size, new_hart, process_name, new_process, free_process}
-use Rattle.xinu_model.specs.Process.Calls.{is_suspended, is_ready, getpid, created, create, resume, suspend, kill, chprio, getprio, go_on_suspend}
+use Rattle.xinu_model.specs.Process.Calls.{is_suspended, is_ready, getpid, created, create, resume, suspend, kill, with_priority, chprio, getprio, go_on_suspend}
 use Rattle.xinu_model.specs.Process.Death.{exit}
 use Rattle.xinu_model.specs.Sound.Tables.{CanRun, HoldsFor, FitsMessage, IsInside, IsSoundTables}
-use Rattle.xinu_model.specs.Tables.{Tables, process_at, state_at, message_at, is_free, move_to, Nowhere}
+use Rattle.xinu_model.specs.Tables.{Tables, process_at, state_at, message_at, is_free, move_to, Nowhere, InReady}
 use Rattle.xinu_laws.proofs.Tables.Changes.{sound_process}
 use Rattle.xinu_laws.proofs.Tables.Deaths.{free_of, not_free, inside_killed, sound_killed, harts_killed}
 use Rattle.xinu_laws.specs.Preserve.{IsPreserved, MayCall}
 use Rattle.xinu_laws.proofs.Preserve.{Preserves, current_within, refused_preserves, answers_preserves, either_preserves, blocked_preserves, goes_on_may_call}
-use Rattle.xinu_laws.proofs.Tables.Scheduling.{holds_at, inside_last_process, sound_move, sound_ready, idle_differs}
+use Rattle.xinu_laws.proofs.Tables.Scheduling.{holds_at, null_rest_at, inside_last_process, sound_move, sound_ready, idle_differs}
 use Rattle.xinu_laws.proofs.Tables.MoveTo.{within_table}
 use Rattle.xinu_laws.proofs.Lists.Searches.{search_passes, search_within}
 use Rattle.xinu_laws.proofs.Tables.Harts.{harts_set}
@@ -148,13 +147,37 @@ kill_preserves p s c = either_preserves ((p == 0) || is_free (state_at s.tables 
       harts = harts_killed p (start s) c.harts;
     }))
 
+-- A ready process enters the ready list again by another priority.
+sound_entered : (t : Tables) (p : ℕ) (priority : ℤ) → IsSoundTables t → state_at t p ≡ Ready
+    → IsSoundTables (move_to p (record (process_at t p) { priority = priority }) (message_at t p) InReady t)
+sound_entered t p priority k e =
+    sound_move t p (record (process_at t p) { priority = priority }) (message_at t p) InReady k (idle_differs t p t.current (λ f. cc) k.runs)
+    (record {
+      within = within_table t p k.inside.processes (λ f. cc);
+      place_of = subst (λ y. IsPlaceOf y InReady) (sym e) (refl, refl, refl);
+      if_current = λ f. cc;
+      if_null = λ f. (inr e, null_rest_at t p k.inside f);
+      fits = tt;
+      slot = k.inside.slots p;
+      if_free = λ f. absurd (cc);
+    })
+
+-- a process that doesn't pass the test isn't ready
+is_not_ready : (s : State) → is_ready s ≡ false → s ≢ Ready
+is_not_ready s h e = let f = ap is_ready e in cc
+
+-- A process gets another priority.
+sound_with_priority : (t : Tables) (p : ℕ) (priority : ℤ) → IsSoundTables t → state_at t p ≢ Free → IsSoundTables (with_priority p priority t)
+sound_with_priority t p priority k alive =
+    let x = record (process_at t p) { priority = priority } in
+    cond_both (is_ready (state_at t p)) (move_to p x (message_at t p) InReady t) (record t { processes = slice_set t.processes p x }) IsSoundTables
+    (λ b. sound_entered t p priority k (is_ready_of (state_at t p) b))
+    (λ b. sound_process t p x k (within_table t p k.inside.processes alive) alive (is_not_ready (state_at t p) b) refl refl)
+
 -- Call 7.
 pub chprio_preserves : (p : ℕ) (priority : ℤ) → Preserves (chprio p priority)
 chprio_preserves p priority s c = either_preserves (is_free (state_at s.tables p)) _ _ (λ _. refused_preserves s c)
-    (λ b. record {
-      tables = sound_process s.tables p (record (process_at s.tables p) { priority = priority }) c.tables (within_table s.tables p c.tables.inside.processes (not_free (state_at s.tables p) b)) (not_free (state_at s.tables p) b) refl refl;
-      harts = c.harts;
-    })
+    (λ b. record { tables = sound_with_priority s.tables p priority c.tables (not_free (state_at s.tables p) b); harts = c.harts })
 
 -- Call 8.
 pub getprio_preserves : (p : ℕ) → Preserves (getprio p)

@@ -1,21 +1,22 @@
 -- The calls on semaphores keep what holds of the tables.
-use Rattle.std.proofs.Common.{◌≡◌, ◌≢◌, ℕ, ◌+◌, ◌<◌, ◌≤◌, true, ◌&&◌, List, [], ◌∷◌, length, take, refl, sym, ap, subst, ◌∙◌, inr, Option, Some, None, ℤ, pos, negsuc}
+use Rattle.std.proofs.Common.{◌≡◌, ◌≢◌, ℕ, ◌+◌, ◌<◌, ◌≤◌, true, ◌&&◌, List, [], ◌∷◌, take, refl, sym, ap, subst, ◌∙◌, inr, Option, Some, None, ℤ, pos, negsuc}
 use Rattle.std.specs.Prelude.{int_lt, ◌+ℤ◌, is_some, not}
 use Rattle.std.proofs.lemmas.Bool.{and_parts}
+use Rattle.xinu_base.specs.Constants.{SYSERR}
 use Rattle.xinu_base.specs.declared.processes.Rest.TheVariants.{Nothing}
 use Rattle.xinu_base.specs.declared.semaphores.Owner.{Owner}
 use Rattle.xinu_base.specs.declared.semaphores.Owner.TheVariants.{Image, Pool, Port, Device}
 use Rattle.xinu_model.specs.Machine.{Xinu, CallState, start}
-use Rattle.xinu_model.specs.Semaphores.Counts.{most_tokens, count_of, with_tokens, make_semaphore, is_images, is_good, free_semaphore}
+use Rattle.xinu_model.specs.Semaphores.Counts.{most_tokens, count_of, with_semaphore, with_tokens, make_semaphore, is_images, is_good, free_semaphore}
 use Rattle.xinu_model.specs.Semaphores.Waiting.{emptied, signal_first, signalled}
 use Rattle.xinu_model.specs.Semaphores.Calls.{answers, made_semaphore, semcreate, semdelete, semreset, semcount, wait, signal, signaln}
 use Rattle.xinu_model.specs.Sound.Tables.{FitsOwner, IsInside, IsSoundTables}
-use Rattle.xinu_model.specs.Tables.{Tables, semaphore_at}
+use Rattle.xinu_model.specs.Tables.{no_semaphore, Tables, semaphore_at}
 use Rattle.xinu_laws.proofs.Tables.Changes.{sound_tokens, sound_given_up, sound_made_semaphore, owned_is_no_device}
 use Rattle.xinu_laws.specs.Preserve.{IsPreserved, MayCall}
 use Rattle.xinu_laws.proofs.Preserve.{Preserves, refused_preserves, answers_preserves, either_preserves, await_preserves}
 use Rattle.xinu_laws.proofs.Tables.MoveTo.{semaphore_within}
-use Rattle.xinu_laws.proofs.Tables.Unblock.{unblock_all_ready, owner_emptied, sound_emptied, emptied_has_no_waiters, sound_signalled, sound_signalled_times}
+use Rattle.xinu_laws.proofs.Tables.Unblock.{unblock_all_ready, emptied_alike, owner_emptied, sound_emptied, emptied_has_no_waiters, sound_signalled, sound_signalled_times}
 use Rattle.xinu_laws.proofs.Lists.Searches.{search_passes, search_within}
 use Rattle.xinu_laws.proofs.Tables.Harts.{harts_same}
 
@@ -71,9 +72,11 @@ pub semdelete_preserves : (sem : ℕ) → Preserves (semdelete sem)
 semdelete_preserves sem x c = either_preserves (is_good sem x.tables) _ _
     (λ b. let g = good_semaphore x.tables sem c.tables.inside b in
     let d = emptied sem (start x) in
+    let same = emptied_alike SYSERR sem (start x) in
     record {
-      tables = sound_given_up d.state.tables sem (sound_emptied sem (start x) c.tables) g.within g.no_device (emptied_has_no_waiters sem (start x));
-      harts = harts_same x.harts _ (harts_emptied sem (start x)) c.harts;
+      tables = subst (λ (u : Xinu). IsSoundTables (with_semaphore sem no_semaphore u.tables)) (sym same)
+          (sound_given_up d.state.tables sem (sound_emptied sem (start x) c.tables) g.within g.no_device (emptied_has_no_waiters sem (start x)));
+      harts = harts_same x.harts _ (ap (λ (u : Xinu). u.harts) same ∙ harts_emptied sem (start x)) c.harts;
     })
     (λ _. refused_preserves x c)
 

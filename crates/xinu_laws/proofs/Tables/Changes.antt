@@ -1,16 +1,17 @@
 -- What is written into the tables without a move keeps what holds of them: a process, a message, a semaphore.
-use Rattle.std.proofs.Common.{◌≡◌, ◌≢◌, ℕ, suc, ◌<◌, ◌≤◌, [], length, get_or, set, refl, sym, ap, subst, ◌∙◌, arith, inl, inr, ⊎_elim, Option, Some, None, get_or-set_same, get_or-set_other}
+use Rattle.std.proofs.Common.{◌≡◌, ◌≢◌, ℕ, suc, ◌<◌, ◌≤◌, [], length, get_or, set, refl, sym, ap, subst, ◌∙◌, arith, inl, inr, ⊎_elim, Option, Some, None, ℤ, get_or-set_same, get_or-set_other}
 use Rattle.std.proofs.Math.ListN.{length-set}
 use Rattle.std.proofs.lemmas.Bool.{cases_lt}
 use Rattle.xinu_base.specs.declared.processes.Process.{Process}
-use Rattle.xinu_base.specs.declared.processes.State.TheVariants.{Free}
+use Rattle.xinu_base.specs.declared.processes.State.TheVariants.{Free, Ready}
 use Rattle.xinu_base.specs.declared.semaphores.Owner.{Owner}
 use Rattle.xinu_base.specs.declared.semaphores.Owner.TheVariants.{Device}
 use Rattle.xinu_model.specs.Semaphores.Counts.{with_semaphore, with_tokens, make_semaphore}
-use Rattle.xinu_model.specs.Sound.Tables.{count_in, ready_places, waiting_places, sleeping_places, CanRun, HasOneKind, FitsOwner, FitsMessage, IsInside, IsFixed, IsUnused, IsSoundTables}
+use Rattle.xinu_model.specs.Sound.Tables.{count_in, ready_places, waiting_places, sleeping_places, CanRun, HasOneKind, FitsOwner, FitsMessage, HaveKeys, entries_of, IsInside, IsFixed, IsUnused, IsSoundTables}
 use Rattle.xinu_model.specs.Tables.{no_process, Semaphore, no_semaphore, Tables, process_at, state_at, message_at, semaphore_at}
 use Rattle.xinu_laws.proofs.Lists.Counts.{none_counted, total-set}
-use Rattle.xinu_laws.proofs.Tables.Scheduling.{inside_last_semaphore}
+use Rattle.xinu_laws.proofs.Lists.Orders.{all_weaker, all_both, all_have_entries}
+use Rattle.xinu_laws.proofs.Tables.Scheduling.{ready_of, inside_last_semaphore}
 use Rattle.xinu_laws.proofs.Tables.MoveTo.{by_number}
 
 -- a process that is written in its old state is in that state, and so are the others
@@ -27,10 +28,19 @@ rest_written t q x e w same p = by_number p q (λ r. (get_or (set t.processes q 
     (ap (λ (y : Process). y.rest) (get_or-set_same t.processes q x no_process (omega arith)) ∙ same)
     (λ n. ap (λ (y : Process). y.rest) (get_or-set_other t.processes q p x no_process n))
 
--- A process is written in its old state with the same left of its call.
-pub inside_process : (t : Tables) (q : ℕ) (x : Process) → IsInside t → q < 64 → state_at t q ≢ Free → x.state ≡ state_at t q → x.rest ≡ (process_at t q).rest
+-- each key is its process's priority, if another process is written that isn't ready
+keys_written : (t : Tables) (q : ℕ) (x : Process) → IsInside t → state_at t q ≢ Ready → HaveKeys (set t.processes q x) t.ready
+keys_written t q x o idle =
+    let key_at = λ (e : ℕ × ℤ). e.1 ≡ (process_at t e.0).priority in
+    all_weaker (λ e. (0 < entries_of e.0 t.ready) × key_at e) (λ e. e.1 ≡ (get_or (set t.processes q x) e.0 no_process).priority)
+    (λ e h. let n : e.0 ≢ q = λ f. idle (subst (λ r. state_at t r ≡ Ready) f (ready_of (state_at t e.0) (subst (λ k. 0 < k) (o.ready e.0) h.0))) in
+    h.1 ∙ sym (ap (λ (y : Process). y.priority) (get_or-set_other t.processes q e.0 x no_process n)))
+    t.ready (all_both (λ e. 0 < entries_of e.0 t.ready) key_at t.ready (all_have_entries t.ready) o.keys)
+
+-- A process that isn't ready is written in its old state with the same left of its call.
+pub inside_process : (t : Tables) (q : ℕ) (x : Process) → IsInside t → q < 64 → state_at t q ≢ Free → state_at t q ≢ Ready → x.state ≡ state_at t q → x.rest ≡ (process_at t q).rest
     → IsInside (record t { processes = set t.processes q x })
-inside_process t q x o w alive es er =
+inside_process t q x o w alive idle es er =
     let st = state_written t q x o.processes w es in
     let re = rest_written t q x o.processes w er in
     record {
@@ -44,6 +54,7 @@ inside_process t q x o w alive es er =
       null = subst CanRun (sym (st 0)) o.null;
       null_rest = re 0 ∙ o.null_rest;
       falling = o.falling;
+      keys = keys_written t q x o idle;
       rising = o.rising;
       later = o.later;
       one_kind = o.one_kind;
@@ -59,10 +70,10 @@ inside_process t q x o w alive es er =
     }
 
 -- The current process goes on after that.
-pub sound_process : (t : Tables) (q : ℕ) (x : Process) → IsSoundTables t → q < 64 → state_at t q ≢ Free → x.state ≡ state_at t q → x.rest ≡ (process_at t q).rest
+pub sound_process : (t : Tables) (q : ℕ) (x : Process) → IsSoundTables t → q < 64 → state_at t q ≢ Free → state_at t q ≢ Ready → x.state ≡ state_at t q → x.rest ≡ (process_at t q).rest
     → IsSoundTables (record t { processes = set t.processes q x })
-sound_process t q x k w alive es er = record {
-  inside = inside_process t q x k.inside w alive es er;
+sound_process t q x k w alive idle es er = record {
+  inside = inside_process t q x k.inside w alive idle es er;
   runs = state_written t q x k.inside.processes w es t.current ∙ k.runs;
 }
 
@@ -80,6 +91,7 @@ inside_message t q m o w alive f = record {
   null = o.null;
   null_rest = o.null_rest;
   falling = o.falling;
+  keys = o.keys;
   rising = o.rising;
   later = o.later;
   one_kind = o.one_kind;
@@ -126,6 +138,7 @@ inside_semaphore t sem y o w same kind fits number fixed = record {
   null = o.null;
   null_rest = o.null_rest;
   falling = o.falling;
+  keys = o.keys;
   rising = o.rising;
   later = o.later;
   one_kind = semaphore_written t sem y (λ r x. HasOneKind x) o.semaphores w kind o.one_kind;

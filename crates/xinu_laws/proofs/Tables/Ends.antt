@@ -1,13 +1,11 @@
 -- The end of an event leaves sound tables, and registers for each number.
-use Rattle.std.proofs.Common.{◌≡◌, ℕ, ◌+◌, Bool, true, false, cond, ◌||◌, List, [], ◌∷◌, slice_index, refl, ap, ◌∙◌, ℤ}
-use Rattle.std.proofs.Math.ListN.{length-set}
+use Rattle.std.proofs.Common.{◌≡◌, ℕ, ◌+◌, Bool, true, false, cond, ◌||◌, List, slice_index, refl, ap}
 use Rattle.std.proofs.lemmas.Bool.{both_ways, cond_both, or_right}
 use Rattle.xinu_base.specs.declared.lines.TranscriptLine.{TranscriptLine}
-use Rattle.xinu_base.specs.declared.registers.Hart.{Hart}
 use Rattle.xinu_model.specs.Clock.{due, wakeup, ticked}
 use Rattle.xinu_model.specs.Events.{with_executed}
 use Rattle.xinu_model.specs.Isa.Exec.{Executed}
-use Rattle.xinu_model.specs.Machine.{Xinu, Answer, Returns, Waits, Gone, Panics, Silent, CallResult, start, is_off, closed, with_reply, with_replies, replies_of, end_of_event}
+use Rattle.xinu_model.specs.Machine.{Xinu, Answer, Returns, Waits, Gone, Panics, Silent, CallResult, start, is_off, closed, replies_of, end_of_event}
 use Rattle.xinu_model.specs.Process.Scheduling.{resched}
 use Rattle.xinu_model.specs.Sound.Tables.{IsSoundTables}
 use Rattle.xinu_model.specs.Tables.{Tables}

@@ -1,8 +1,7 @@
 -- There are registers for each process number, and x0 is 0 in each, whatever is written into the others.
-use Rattle.std.proofs.Common.{◌≡◌, ◌≢◌, ℕ, zero, suc, List, [], ◌∷◌, length, slice_index, slice_index_or, slice_set, replicate, refl, sym, ap, subst, ◌∙◌, ℤ, inl, inr}
+use Rattle.std.proofs.Common.{◌≡◌, ℕ, zero, suc, List, [], ◌∷◌, slice_index, slice_index_or, slice_set, replicate, refl, sym, subst, ◌∙◌, ℤ}
 use Rattle.std.proofs.Math.ListN.{length-set}
 use Rattle.std.proofs.lemmas.List.{get_or-set_other}
-use Rattle.std.proofs.lemmas.Bool.Decides.{eqb_tells}
 use Rattle.xinu_base.specs.declared.registers.Hart.{Hart}
 use Rattle.xinu_model.specs.Machine.{no_hart, with_reply, with_replies}
 use Rattle.xinu_model.specs.Sound.State.{AreHarts}

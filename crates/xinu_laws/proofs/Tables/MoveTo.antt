@@ -1,17 +1,17 @@
 -- A process that moves keeps what holds of the tables at each moment.
-use Rattle.std.proofs.Common.{◌≡◌, ◌≢◌, ℕ, ◌<◌, ◌≤◌, ◌==◌, not, List, [], ◌∷◌, ◌++◌, length, get_or, set, refl, sym, ap, subst, ◌∙◌, arith, ⊎_elim, inl, inr, Option, None, Some, get_or-set_same, get_or-set_other}
+use Rattle.std.proofs.Common.{◌≡◌, ◌≢◌, ℕ, ◌<◌, ◌≤◌, ◌==◌, not, List, [], ◌∷◌, ◌++◌, length, get_or, set, refl, sym, ap, subst, ◌∙◌, arith, ⊎_elim, inl, inr, Option, None, Some, true, ℤ, get_or-set_same, get_or-set_other}
 use Rattle.std.proofs.Math.ListN.{length-set}
-use Rattle.std.proofs.lemmas.Bool.{cases_eq, cases_lt}
+use Rattle.std.proofs.lemmas.Bool.{cases_eq, cases_lt, eqb-false, not-true}
 use Rattle.std.proofs.lemmas.List.{get_or_past}
 use Rattle.xinu_base.specs.declared.processes.Process.{Process}
 use Rattle.xinu_base.specs.declared.processes.Rest.TheVariants.{Nothing}
 use Rattle.xinu_base.specs.declared.processes.State.TheVariants.{Free, Current}
 use Rattle.xinu_base.specs.declared.semaphores.Owner.TheVariants.{Device}
 use Rattle.xinu_laws.specs.Moves.{CanMove, FitsPlace}
-use Rattle.xinu_model.specs.Sound.Tables.{entries_of, waits_of, count_in, ready_places, waiting_places, sleeping_places, CanRun, HasOneKind, FitsOwner, FitsMessage, IsInside, IsFixed, IsUnused}
+use Rattle.xinu_model.specs.Sound.Tables.{entries_of, waits_of, count_in, ready_places, waiting_places, sleeping_places, CanRun, HasOneKind, FitsOwner, FitsMessage, HaveKeys, IsInside, IsFixed, IsUnused}
 use Rattle.xinu_model.specs.Tables.{no_process, Semaphore, no_semaphore, Tables, process_at, state_at, message_at, semaphore_at, entries_without, numbers_without, semaphore_without, waits_without, with_waiter, Place, Nowhere, InReady, InSemaphore, InSleepers, ready_in, semaphores_in, sleepers_in, move_to}
 use Rattle.xinu_laws.proofs.Lists.Counts.{entries_without_same, entries_without_other, numbers_without_same, numbers_without_other, count_last_other}
-use Rattle.xinu_laws.proofs.Lists.Orders.{all_filter, falling_in, falling_without, rising_in, rising_without, IsLater, later_in}
+use Rattle.xinu_laws.proofs.Lists.Orders.{all_filter, all_weaker, all_passes, all_both, all_ready_in, falling_in, falling_without, rising_in, rising_without, IsLater, later_in}
 use Rattle.xinu_laws.proofs.Tables.Places.{IsInTable, waits_without_same, waits_without_other, length-waits_without, semaphore_at_without, ready_in_same, ready_in_other, sleepers_in_same, sleepers_in_other, semaphores_in_same, semaphores_in_other, length-semaphores_in}
 
 -- what holds at q and at each other number holds at all
@@ -105,6 +105,18 @@ ready_move t q x m place o c p =
     (ready_in_same place q x.priority l (entries_without_same q t.ready) ∙ sym c.place_of.0 ∙ sym (ap ready_places (state_move_same t q x m place o.processes c.within)))
     (λ n. ready_in_other place p q x.priority l n ∙ entries_without_other p q t.ready n ∙ o.ready p ∙ sym (ap ready_places (state_move_other t p q x m place n)))
 
+-- each key is its process's priority, after one of them moved
+keys_move : (t : Tables) (q : ℕ) (x : Process) (m : Option ℕ) (place : Place) → IsInside t → CanMove t q x m place
+    → HaveKeys (move_to q x m place t).processes (move_to q x m place t).ready
+keys_move t q x m place o c =
+    let key_at : Tables → ℕ × ℤ → Type 0 = λ u e. e.1 ≡ (process_at u e.0).priority in
+    let u = move_to q x m place t in
+    let l = entries_without q t.ready in
+    let others = all_both (λ e. not (e.0 == q) ≡ true) (key_at t) l (all_passes (λ e. not (e.0 == q)) t.ready) (all_filter (key_at t) (λ e. not (e.0 == q)) t.ready o.keys) in
+    all_ready_in (key_at u) place q x.priority l (sym (ap (λ (y : Process). y.priority) (process_move_same t q x m place o.processes c.within)))
+    (all_weaker (λ e. (not (e.0 == q) ≡ true) × key_at t e) (key_at u)
+    (λ e h. h.1 ∙ sym (ap (λ (y : Process). y.priority) (process_move_other t e.0 q x m place (eqb-false e.0 q (not-true (e.0 == q) h.0))))) l others)
+
 -- the same of the waiters
 waiting_move : (t : Tables) (q : ℕ) (x : Process) (m : Option ℕ) (place : Place) → IsInside t → CanMove t q x m place
     → (p : ℕ) → waits_of p (move_to q x m place t).semaphores ≡ waiting_places (state_at (move_to q x m place t) p)
@@ -197,6 +209,7 @@ inside_move t q x m place o c =
       null = (null_move t q x m place o c).0;
       null_rest = (null_move t q x m place o c).1;
       falling = falling_in place q x.priority (entries_without q t.ready) (falling_without q t.ready o.falling);
+      keys = keys_move t q x m place o c;
       rising = rising_in place q (entries_without q t.sleepers) (rising_without q t.sleepers o.rising);
       later = later_in t.ticks place q (entries_without q t.sleepers) (later_place t x place c.fits) (all_filter (λ e. t.ticks < e.1) (λ e. not (e.0 == q)) t.sleepers o.later);
       one_kind = λ r. semaphore_move_cases t q r x m place HasOneKind i (one_kind_left q (semaphore_at t r) (o.one_kind r))

@@ -126,6 +126,7 @@ inside_numbers t current quantum ticks last_process last_semaphore o one later =
   null = o.null;
   null_rest = o.null_rest;
   falling = o.falling;
+  keys = o.keys;
   rising = o.rising;
   later = later;
   one_kind = o.one_kind;

@@ -1,7 +1,6 @@
 -- The tables in which the machine starts are sound.
 use Rattle.std.proofs.Common.{◌≡◌, ℕ, zero, suc, ◌+◌, ◌<◌, ◌≤◌, List, [], ◌∷◌, length, get_or, refl, sym, ap, subst, ◌∙◌, arith, inl, inr, ⊎_elim, Option, Some, None}
 use Rattle.std.specs.Prelude.{replicate}
-use Rattle.std.proofs.Math.ListN.{length-set}
 use Rattle.std.proofs.lemmas.Bool.{cases_lt}
 use Rattle.std.proofs.lemmas.List.{get_or-replicate, get_or_past, length-replicate}
 use Rattle.xinu_base.specs.declared.processes.Process.{Process}
@@ -102,6 +101,7 @@ inside_null = record {
   null = inl refl;
   null_rest = refl;
   falling = tt;
+  keys = tt;
   rising = tt;
   later = tt;
   one_kind = by_first (λ s x. HasOneKind x) (inr refl) (inr refl) (inr refl) (inr refl) (λ s. inr refl);

@@ -11,16 +11,9 @@ use Rattle.xinu_model.specs.Machine.{Xinu, start}
 use Rattle.xinu_model.specs.Process.Scheduling.{ready, resched}
 use Rattle.xinu_model.specs.Sound.Tables.{entries_of, IsInside, IsSoundTables}
 use Rattle.xinu_model.specs.Tables.{Tables, state_at, entries_without}
-use Rattle.xinu_laws.proofs.Lists.Counts.{first_has_entry, entries_behind}
 use Rattle.xinu_laws.proofs.Tables.Scheduling.{sleeping_of, holds_at, inside_quantum, inside_ticks, sound_resched}
-use Rattle.xinu_laws.proofs.Lists.Orders.{all_filter, all_weaker, all_map, all_both}
+use Rattle.xinu_laws.proofs.Lists.Orders.{all_filter, all_weaker, all_map, all_both, all_have_entries}
 use Rattle.xinu_laws.proofs.Tables.Unblock.{unblock_all_ready, sound_ready_all, IsOneOf}
-
--- each entry of a list is counted in it
-pub all_have_entries : {K : Type 0} (l : List (ℕ × K)) → AllByRecursion (λ e. 0 < entries_of e.0 l) l
-all_have_entries [] = tt
-all_have_entries (x ∷ xs) =
-    (first_has_entry x xs, all_weaker (λ e. 0 < entries_of e.0 xs) (λ e. 0 < entries_of e.0 (x ∷ xs)) (λ e h. entries_behind e.0 x xs h) xs (all_have_entries xs))
 
 -- a sleeper can become ready
 pub can_be_ready_sleeper : (t : Tables) (p : ℕ) → IsInside t → 0 < entries_of p t.sleepers → CanBeReady t p

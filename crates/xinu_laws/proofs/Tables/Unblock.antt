@@ -1,15 +1,16 @@
 -- Processes that become ready one after another, waiters that are released, and signals keep what holds of the tables.
-use Rattle.std.proofs.Common.{◌≡◌, ◌≢◌, ◌⊎◌, ℕ, zero, suc, ◌+◌, ◌-◌, ◌<◌, ◌≤◌, ◌==◌, not, List, [], ◌∷◌, length, take, refl, sym, ap, subst, ◌∙◌, arith, inl, inr, ⊎_elim, None}
+use Rattle.std.proofs.Common.{◌≡◌, ◌≢◌, ◌⊎◌, ℕ, zero, suc, ◌+◌, ◌-◌, ◌<◌, ◌≤◌, ◌==◌, not, List, [], ◌∷◌, length, take, refl, sym, ap, subst, ◌∙◌, arith, inl, inr, ⊎_elim, None, ℤ}
 use Rattle.std.specs.List.{AllByRecursion}
 use Rattle.std.proofs.lemmas.Bool.{cond_both, eq-eqb, cases_lt}
 use Rattle.std.proofs.lemmas.List.{take_all}
+use Rattle.xinu_base.specs.Constants.{OK}
 use Rattle.xinu_base.specs.declared.processes.Process.{Process}
 use Rattle.xinu_base.specs.declared.processes.State.TheVariants.{Free, Current, Ready, Waiting}
 use Rattle.xinu_laws.specs.Moves.{CanBeReady, ready_all}
-use Rattle.xinu_model.specs.Machine.{Xinu, CallState, unblock, unblock_all}
+use Rattle.xinu_model.specs.Machine.{Xinu, CallState, unblock_with, unblock_all, unblock_all_with}
 use Rattle.xinu_model.specs.Process.Scheduling.{in_state, ready}
 use Rattle.xinu_model.specs.Semaphores.Counts.{with_tokens}
-use Rattle.xinu_model.specs.Semaphores.Waiting.{signal_first, signalled, signalled_times, emptied}
+use Rattle.xinu_model.specs.Semaphores.Waiting.{signal_first, signalled, signalled_times, emptied, emptied_with}
 use Rattle.xinu_model.specs.Sound.Tables.{count_in, HasOneKind, HoldsFor, IsInside, IsSoundTables}
 use Rattle.xinu_model.specs.Tables.{Semaphore, no_semaphore, Tables, process_at, state_at, message_at, semaphore_at, numbers_without, InReady}
 use Rattle.xinu_laws.proofs.Tables.Changes.{inside_tokens, sound_tokens}
@@ -20,9 +21,17 @@ use Rattle.xinu_laws.proofs.Tables.Places.{semaphore_at_without}
 use Rattle.xinu_laws.proofs.Tables.MoveTo.{by_number, within_table, process_move_same, process_move_other, message_move_same, message_move_other}
 
 -- Who is released becomes ready, and nothing else of the state changes.
+pub unblock_all_with_ready : (value : ℤ) (ps : List ℕ) (d : CallState) → (unblock_all_with value ps d).state ≡ record d.state { tables = ready_all ps d.state.tables }
+unblock_all_with_ready value [] d = refl
+unblock_all_with_ready value (p ∷ ps) d = unblock_all_with_ready value ps (unblock_with value p d)
+
+-- The same if they succeed.
 pub unblock_all_ready : (ps : List ℕ) (d : CallState) → (unblock_all ps d).state ≡ record d.state { tables = ready_all ps d.state.tables }
-unblock_all_ready [] d = refl
-unblock_all_ready (p ∷ ps) d = unblock_all_ready ps (unblock p d)
+unblock_all_ready = unblock_all_with_ready OK
+
+-- The state is the same whatever those who wait on a semaphore answer.
+pub emptied_alike : (value : ℤ) (sem : ℕ) (d : CallState) → (emptied_with value sem d).state ≡ (emptied sem d).state
+emptied_alike value sem d = let l = (semaphore_at d.state.tables sem).waiters in unblock_all_with_ready value l d ∙ sym (unblock_all_ready l d)
 
 -- who can become ready can become ready after another
 pub can_be_ready_after : (t : Tables) (p q : ℕ) → IsInside t → CanBeReady t p → CanBeReady t q → CanBeReady (ready p t) q

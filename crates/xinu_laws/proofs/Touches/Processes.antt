@@ -1,6 +1,7 @@
 -- What the calls of processes touch.
-use Rattle.std.proofs.Common.{◌≡◌, ℕ, ◌==◌, true, false, not, ◌||◌, List, drop, take, Option, Some, None, set, refl, ℤ, pos}
+use Rattle.std.proofs.Common.{◌≡◌, ℕ, ◌==◌, true, false, not, ◌&&◌, ◌||◌, List, drop, take, Option, Some, None, set, refl, ap, ℤ, pos}
 use Rattle.std.specs.Prelude.{int_lt}
+use Rattle.std.proofs.lemmas.Bool.{cond_both}
 use Rattle.xinu_base.specs.declared.processes.Rest.TheVariants.{SelfSuspend}
 use Rattle.xinu_base.specs.declared.processes.State.{State}
 use Rattle.xinu_base.specs.declared.processes.State.TheVariants.{Suspended, Waiting}
@@ -11,18 +12,18 @@ use Rattle.xinu_model.specs.Machine.{Xinu, CallState, start, refused}
 use Rattle.xinu_model.specs.Memory.{in_ram}
 use Rattle.xinu_model.specs.Messages.{held, sent}
 use Rattle.xinu_model.specs.Process.Creation.{stack_size, new_process, process_name, free_process}
-use Rattle.xinu_model.specs.Process.Calls.{is_suspended, is_ready, created, getpid, create, resume, suspend, kill, chprio, getprio, go_on_suspend}
+use Rattle.xinu_model.specs.Process.Calls.{is_suspended, is_ready, created, getpid, create, resume, suspend, kill, with_priority, chprio, getprio, go_on_suspend}
 use Rattle.xinu_model.specs.Process.Death.{killed, exit}
 use Rattle.xinu_model.specs.Sound.Pools.{is_waiting}
 use Rattle.xinu_laws.specs.Touches.{stack_of, reach, Touches}
-use Rattle.xinu_model.specs.Tables.{no_process, process_at, state_at, message_at, is_free, Nowhere, move_to}
+use Rattle.xinu_model.specs.Tables.{no_process, process_at, state_at, message_at, is_free, Nowhere, InReady, move_to}
 use Rattle.xinu_laws.proofs.Lists.Maps.{map_set_same}
 use Rattle.xinu_laws.proofs.HeapCells.Taken.{getstk_finds}
 use Rattle.xinu_laws.proofs.HeapCells.Extent.{extent_marked, extent_freestk, extent_unless}
 use Rattle.xinu_laws.proofs.Frame.{frame_same, frame_trans}
 use Rattle.xinu_laws.proofs.Frame.MoveTo.{frame_move, frame_process}
 use Rattle.xinu_laws.proofs.Touches.{StaysIn, named, parts_heap, touches_tables, touches_refl, touches_trans, touches_either, touches_if}
-use Rattle.xinu_laws.proofs.Touches.Moves.{may_ready_idle, touches_moved, touches_blocked, touches_goes_on, touches_unblock, touches_sent}
+use Rattle.xinu_laws.proofs.Touches.Moves.{may_ready_idle, touches_move, touches_moved, touches_blocked, touches_goes_on, touches_unblock, touches_sent}
 
 -- what a state says of waiting
 idle_suspended : (s : State) → is_suspended s ≡ true → is_waiting s ≡ false
@@ -51,13 +52,20 @@ suspend_touches p s i =
     (λ b. touches_moved s p Suspended (message_at t p) Nowhere tt refl (may_ready_idle (reach on_tables).asks t p (idle_ready (state_at t p) b)))
     (λ _. touches_if s (p == t.current) _ (λ _. touches_blocked Suspended SelfSuspend Nowhere s tt refl)))
 
+-- a process gets another priority
+with_priority_touches : (p : ℕ) (priority : ℤ) (s : Xinu) → Touches (reach on_tables) s (record s { tables = with_priority p priority s.tables })
+with_priority_touches p priority s =
+    let t = s.tables in
+    let x = record (process_at t p) { priority = priority } in
+    let u = record t { processes = set t.processes p x } in
+    cond_both (is_ready (state_at t p)) (move_to p x (message_at t p) InReady t) u (λ v. Touches (reach on_tables) s (record s { tables = v }))
+    (λ b. touches_move s p x (message_at t p) InReady tt (λ h. (refl, refl)) (ap (λ k. k && (reach on_tables).asks x.rest) (idle_ready (state_at t p) b)) refl)
+    (λ _. touches_tables s u (frame_process t p x (λ h. (refl, refl))) (map_set_same stack_of t.processes p x no_process refl))
+
 -- Call 7.
 pub chprio_touches : (p : ℕ) (priority : ℤ) → StaysIn on_tables (chprio p priority)
 chprio_touches p priority s i =
-    let t = s.tables in
-    let x = record (process_at t p) { priority = priority } in
-    touches_either s (is_free (state_at t p)) (refused s) _ (λ _. touches_refl s)
-    (λ _. touches_tables s (record t { processes = set t.processes p x }) (frame_process t p x (λ h. (refl, refl))) (map_set_same stack_of t.processes p x no_process refl))
+    touches_either s (is_free (state_at s.tables p)) (refused s) _ (λ _. touches_refl s) (λ _. with_priority_touches p priority s)
 
 -- Call 8.
 pub getprio_touches : (p : ℕ) → StaysIn on_tables (getprio p)

@@ -1,18 +1,20 @@
 -- What the calls on semaphores touch.
-use Rattle.std.proofs.Common.{◌≡◌, ℕ, true, not, ◌&&◌, Option, Some, None, refl, ap, subst, ℤ, pos, negsuc}
+use Rattle.std.proofs.Common.{◌≡◌, ℕ, true, not, ◌&&◌, Option, Some, None, refl, sym, ap, subst, ℤ, pos, negsuc}
 use Rattle.std.specs.Prelude.{int_lt, ◌+ℤ◌}
 use Rattle.std.proofs.lemmas.Bool.{and_parts}
+use Rattle.xinu_base.specs.Constants.{OK, SYSERR}
 use Rattle.xinu_base.specs.declared.processes.Rest.TheVariants.{Nothing}
 use Rattle.xinu_base.specs.declared.semaphores.Owner.TheVariants.{Image}
 use Rattle.xinu_model.specs.Footprints.{on_tables}
 use Rattle.xinu_model.specs.Machine.{Xinu, start}
 use Rattle.xinu_model.specs.Semaphores.Counts.{most_tokens, count_of, is_good, free_semaphore}
-use Rattle.xinu_model.specs.Semaphores.Waiting.{emptied}
+use Rattle.xinu_model.specs.Semaphores.Waiting.{emptied, emptied_with}
 use Rattle.xinu_model.specs.Semaphores.Calls.{answers, made_semaphore, semcreate, semdelete, semreset, semcount, wait, signal, signaln}
 use Rattle.xinu_model.specs.Sound.Tables.{FitsOwner, IsInside}
 use Rattle.xinu_model.specs.Tables.{no_semaphore, Tables, semaphore_at}
 use Rattle.xinu_laws.specs.Touches.{reach, Touches}
 use Rattle.xinu_laws.proofs.Preserve.Semaphores.{good_semaphore, free_semaphore_free}
+use Rattle.xinu_laws.proofs.Tables.Unblock.{emptied_alike}
 use Rattle.xinu_laws.proofs.Touches.{StaysIn, touches_refl, touches_trans, touches_if}
 use Rattle.xinu_laws.proofs.Touches.Moves.{MayTouch, touches_semaphore, touches_tokens, touches_make_semaphore, touches_signalled, touches_emptied, still_touched, touches_signalled_times, touches_take_token}
 
@@ -28,10 +30,11 @@ made_semaphore_touches : (n : ℕ) (found : Option ℕ) (s : Xinu) → free_sema
 made_semaphore_touches n None s e = touches_refl s
 made_semaphore_touches n (Some sem) s e = touches_make_semaphore s sem Image n (ap ((reach on_tables).mine sem) (free_semaphore_free s.tables sem e)) refl
 
--- all are released from a process's semaphore
-emptied_touches : (sem : ℕ) (s : Xinu) → IsInside s.tables → is_good sem s.tables ≡ true
-    → Touches (reach on_tables) s (emptied sem (start s)).state
-emptied_touches sem s o b = touches_emptied sem (start s) o (good_may_be_touched s.tables sem o b)
+-- all are released from a process's semaphore, whatever they answer
+emptied_touches : (value : ℤ) (sem : ℕ) (s : Xinu) → IsInside s.tables → is_good sem s.tables ≡ true
+    → Touches (reach on_tables) s (emptied_with value sem (start s)).state
+emptied_touches value sem s o b =
+    subst (Touches (reach on_tables) s) (sym (emptied_alike value sem (start s))) (touches_emptied sem (start s) o (good_may_be_touched s.tables sem o b))
 
 -- Call 14.
 pub semcreate_touches : (count : ℤ) → StaysIn on_tables (semcreate count)
@@ -41,14 +44,14 @@ semcreate_touches (pos n) s i = made_semaphore_touches n (free_semaphore s.table
 -- Call 15.
 pub semdelete_touches : (sem : ℕ) → StaysIn on_tables (semdelete sem)
 semdelete_touches sem s i = touches_if s (is_good sem s.tables) _
-    (λ b. let first = emptied_touches sem s i.tables.inside b in
-    touches_trans first (touches_semaphore (emptied sem (start s)).state sem no_semaphore (still_touched sem first (good_may_be_touched s.tables sem i.tables.inside b)) refl))
+    (λ b. let first = emptied_touches SYSERR sem s i.tables.inside b in
+    touches_trans first (touches_semaphore (emptied_with SYSERR sem (start s)).state sem no_semaphore (still_touched sem first (good_may_be_touched s.tables sem i.tables.inside b)) refl))
 
 -- Call 16.
 pub semreset_touches : (sem : ℕ) (count : ℤ) → StaysIn on_tables (semreset sem count)
 semreset_touches sem (negsuc n) s i = touches_refl s
 semreset_touches sem (pos n) s i = touches_if s (is_good sem s.tables) _
-    (λ b. let first = emptied_touches sem s i.tables.inside b in
+    (λ b. let first = emptied_touches OK sem s i.tables.inside b in
     touches_trans first (touches_tokens (emptied sem (start s)).state sem n (still_touched sem first (good_may_be_touched s.tables sem i.tables.inside b))))
 
 -- Call 17.

@@ -6,9 +6,12 @@ use Rattle.xinu_base.specs.declared.syscalls.Call.{Call}
 abbrev pub numbered : ℕ → List ℕ → Call
 numbered number args = record { number = number; args = args }
 
--- the word of a negative number
+-- the words of negative numbers
 abbrev pub minus_one : ℕ
 minus_one = 4294967295
+
+abbrev pub minus_five : ℕ
+minus_five = 4294967291
 
 abbrev pub sys_getpid : Call
 sys_getpid = numbered 1 []

@@ -1,7 +1,9 @@
 -- Systems of processes, each with a list of calls, to work out what the definitions say of an example.
-use Rattle.std.specs.Prelude.{ℕ, zero, suc, ◌+◌, ◌==◌, Bool, true, false, if◌then◌else◌, List, [], ◌∷◌, ◌++◌, replicate, slice_index_or, slice_set, None, pos}
+use Rattle.std.specs.Prelude.{ℕ, zero, suc, ◌+◌, ◌==◌, Bool, true, false, if◌then◌else◌, List, [], ◌∷◌, ◌++◌, replicate, slice_index_or, slice_set, None, unwrap_or, pos}
 use Rattle.xinu_base.specs.Constants.{NPROC}
 use Rattle.xinu_base.specs.declared.syscalls.Call.{Call}
+use Rattle.xinu_base.specs.declared.events.End.{End}
+use Rattle.xinu_base.specs.declared.events.End.TheVariants.{Schedule}
 use Rattle.xinu_base.specs.declared.events.Event.TheVariants.{Tick}
 use Rattle.xinu_base.specs.declared.lines.TranscriptLine.{TranscriptLine}
 use Rattle.xinu_base.specs.declared.lines.TranscriptLine.TheVariants as line
@@ -11,6 +13,7 @@ use Rattle.xinu_model.specs.Events.{is_done, effect_of}
 use Rattle.xinu_model.specs.Machine.{Xinu, first_parts, no_hart, EventResult, end_of_event}
 use Rattle.xinu_model.specs.Process.Scheduling.{resched, ready}
 use Rattle.xinu_model.specs.Process.Creation.{new_process}
+use Rattle.xinu_model.specs.Runs.{is_over, end_with}
 use Rattle.xinu_model.specs.Tables.{Tables, process_at, Nowhere, move_to}
 use Rattle.xinu_model.specs.Text.{tables_of}
 
@@ -106,3 +109,11 @@ printed example = (outcome_of example).lines
 -- the tables of its last state
 abbrev pub last_tables : Example → List TranscriptLine
 last_tables example = tables_of (outcome_of example).state
+
+-- how it ended: in a panic, since no process but the null process was left, or with its last turn
+abbrev pub ended : Played → End
+ended x = unwrap_or (end_with x.panicked (is_over x.state)) Schedule
+
+-- the whole of what it prints: its lines, the tables of its last state, and its end
+abbrev pub transcript : Example → List TranscriptLine
+transcript example = printed example ++ last_tables example ++ line.End (ended (outcome_of example)) ∷ []

@@ -1,8 +1,11 @@
 -- Examples: semaphores.
-use Rattle.std.specs.Prelude.{List, [], ◌∷◌, pos, negsuc, replicate, ◌++◌, ℕ}
+use Rattle.std.specs.Prelude.{List, [], ◌∷◌, pos, negsuc, replicate, ◌++◌, ℕ, None, codes}
+use Rattle.xinu_base.specs.declared.events.End.TheVariants.{Schedule}
 use Rattle.xinu_base.specs.declared.lines.TranscriptLine.{TranscriptLine}
-use Rattle.xinu_base.specs.declared.lines.TranscriptLine.TheVariants.{Call, Return, Switch}
-use Rattle.xinu_laws.specs.Examples.NamedCalls.{sys_exit, sys_kill, minus_one, sys_semcount, sys_semcreate, sys_semreset, sys_signal, sys_signaln, sys_wait}
+use Rattle.xinu_base.specs.declared.lines.TranscriptLine.TheVariants as line
+use Rattle.xinu_base.specs.declared.lines.TranscriptLine.TheVariants.{Call, Console, Disk0, Disk1, End, Free, Now, Return, Switch}
+use Rattle.xinu_base.specs.declared.processes.State.TheVariants.{Current, Ready}
+use Rattle.xinu_laws.specs.Examples.NamedCalls.{sys_exit, sys_kill, minus_one, sys_semcount, sys_semcreate, sys_semdelete, sys_semreset, sys_signal, sys_signaln, sys_wait}
 use Rattle.xinu_laws.specs.Examples.Played.{Example, Steps, system}
 use Rattle.xinu_model.specs.Searches.{numbers_from}
 
@@ -68,3 +71,29 @@ abbrev pub all_semaphores_lines : List TranscriptLine
 all_semaphores_lines =
     (Switch 1 ∷ Call 1 (sys_semcount 0) ∷ Return 1 (negsuc 0) ∷ Call 1 (sys_signal 0) ∷ Return 1 (negsuc 0) ∷ [])
     ++ semaphores_made (numbers_from 4 124) ++ Call 1 (sys_semcreate 0) ∷ Return 1 (negsuc 0) ∷ []
+
+-- A process that waits on a semaphore that is deleted is refused.
+abbrev pub deleted_semaphore : Example
+deleted_semaphore = record {
+  start = system (30 ∷ 20 ∷ []) 4096 8;
+  programs =
+      (sys_semcreate 0 ∷ sys_wait 4 ∷ []) ∷
+      (sys_semdelete 4 ∷ []) ∷
+      [];
+  turns = Steps 1000 ∷ [];
+}
+
+abbrev pub deleted_semaphore_transcript : List TranscriptLine
+deleted_semaphore_transcript =
+    Switch 1 ∷ Call 1 (sys_semcreate 0) ∷ Return 1 (pos 4) ∷ Call 1 (sys_wait 4) ∷ Switch 2 ∷
+    Call 2 (sys_semdelete 4) ∷ Return 1 (negsuc 0) ∷ Return 2 (pos 0) ∷ Switch 1 ∷
+    Now 0 2 ∷
+    line.Process 0 Ready (pos 0) 0 None (codes "prnull" ++ replicate 9 0) ∷
+    line.Process 1 Current (pos 30) 0 None (codes "image1" ++ replicate 9 0) ∷
+    line.Process 2 Ready (pos 20) 0 None (codes "image2" ++ replicate 9 0) ∷
+    line.Ready 2 (pos 20) ∷
+    line.Ready 0 (pos 0) ∷
+    Free 4096 64 ∷
+    Console ∷ Disk0 ∷ Disk1 ∷
+    End Schedule ∷
+    []

@@ -8,8 +8,8 @@ use Rattle.xinu_model.specs.Heap.Cells.{Stack, take_stack}
 use Rattle.xinu_model.specs.Machine.{Xinu, CallResult, start, with_tables, ready_later, returns, refused, blocked, goes_on}
 use Rattle.xinu_model.specs.Memory.{in_ram}
 use Rattle.xinu_model.specs.Messages.{held}
-use Rattle.xinu_model.specs.Process.Scheduling.{in_state}
-use Rattle.xinu_model.specs.Tables.{process_at, state_at, message_at, is_free, move_to, Nowhere}
+use Rattle.xinu_model.specs.Process.Scheduling.{is_current, in_state}
+use Rattle.xinu_model.specs.Tables.{Tables, process_at, state_at, message_at, is_free, move_to, Nowhere, InReady}
 use Rattle.xinu_model.specs.Process.Creation.{stack_size, new_hart, process_name, new_process, free_process, make_process}
 use Rattle.xinu_model.specs.Process.Death.{killed, exit}
 use Rattle.xinu_base.specs.Syscalls.{syscall}
@@ -68,13 +68,19 @@ kill p s =
     else (if p == s.tables.current then exit s
     else returns (killed p (start s)) OK)
 
--- call 7: p has another priority, which counts from its next insertion in the ready list on; the one that it had
+-- p has another priority; if it is ready it leaves the ready list and enters it again by this key
+abbrev pub with_priority : ℕ → ℤ → Tables → Tables
+with_priority p priority t =
+    let x = record (process_at t p) { priority = priority } in
+    if is_ready x.state then move_to p x (message_at t p) InReady t else record t { processes = slice_set t.processes p x }
+
+-- call 7: p has another priority, and if it is ready or current the caller asks for a resched; the one that it had
 abbrev pub chprio : ℕ → ℤ → Xinu → CallResult
 chprio p priority s =
     let t = s.tables in
     let x = process_at t p in
     if is_free x.state then refused s
-    else returns (with_tables (record t { processes = slice_set t.processes p (record x { priority = priority }) }) (start s)) x.priority
+    else returns (record (with_tables (with_priority p priority t) (start s)) { owes_resched = is_ready x.state || is_current x.state }) x.priority
 
 -- call 8: the priority of p
 abbrev pub getprio : ℕ → Xinu → CallResult

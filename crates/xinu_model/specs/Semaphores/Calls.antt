@@ -1,12 +1,12 @@
 -- Semaphores: tokens, and the processes that wait for one (book, chapter 7).
 use Rattle.std.specs.Prelude.{ℕ, not, if◌then◌else◌, ◌&&◌, Option, Some, None, ℤ, pos, negsuc, ◌+ℤ◌, int_lt, List, [], ◌∷◌, codes}
-use Rattle.xinu_base.specs.Constants.{OK}
+use Rattle.xinu_base.specs.Constants.{OK, SYSERR}
 use Rattle.xinu_base.specs.declared.processes.Rest.TheVariants.{Nothing}
 use Rattle.xinu_base.specs.declared.semaphores.Owner.TheVariants as owner
 use Rattle.xinu_model.specs.Machine.{Xinu, CallResult, start, with_tables, returns, refused}
 use Rattle.xinu_model.specs.Tables.{no_semaphore, semaphore_at}
 use Rattle.xinu_model.specs.Semaphores.Counts.{most_tokens, with_semaphore, with_tokens, count_of, is_good, free_semaphore, make_semaphore}
-use Rattle.xinu_model.specs.Semaphores.Waiting.{signalled, signalled_times, emptied, await}
+use Rattle.xinu_model.specs.Semaphores.Waiting.{signalled, signalled_times, emptied, emptied_with, await}
 use Rattle.xinu_base.specs.Syscalls.{syscall}
 use Rattle.xinu_model.specs.Footprints.{on_tables}
 use Rattle.xinu_model.specs.Rows.{Status, Count, CallRow, row}
@@ -26,11 +26,11 @@ abbrev pub semcreate : ℤ → Xinu → CallResult
 semcreate (negsuc n) s = refused s
 semcreate (pos n) s = made_semaphore n (free_semaphore s.tables) s
 
--- call 15: the semaphore is given up, and all who wait on it go on
+-- call 15: the semaphore is given up, and all who wait on it are refused
 abbrev pub semdelete : ℕ → Xinu → CallResult
 semdelete sem s =
     if is_good sem s.tables
-    then (let d = emptied sem (start s) in returns (with_tables (with_semaphore sem no_semaphore d.state.tables) d) OK)
+    then (let d = emptied_with SYSERR sem (start s) in returns (with_tables (with_semaphore sem no_semaphore d.state.tables) d) OK)
     else refused s
 
 -- call 16: all who wait go on, and the semaphore has this count, which isn't negative
@@ -45,7 +45,7 @@ semreset sem (pos n) s =
 abbrev pub semcount : ℕ → Xinu → CallResult
 semcount sem s = if is_good sem s.tables then answers (count_of (semaphore_at s.tables sem)) s else refused s
 
--- call 18: the caller takes a token, or waits for one
+-- call 18: the caller takes a token, or waits for one; if the semaphore is deleted meanwhile it is refused
 abbrev pub wait : ℕ → Xinu → CallResult
 wait sem s = if is_good sem s.tables then await sem Nothing (answers OK) s else refused s
 

@@ -1,8 +1,9 @@
 -- What a signal does to those who wait, and a wait to its caller (book, chapter 7).
-use Rattle.std.specs.Prelude.{ℕ, zero, suc, ◌+◌, ◌-◌, List, [], ◌∷◌, length, take}
+use Rattle.std.specs.Prelude.{ℕ, zero, suc, ◌+◌, ◌-◌, List, [], ◌∷◌, length, take, ℤ}
+use Rattle.xinu_base.specs.Constants.{OK}
 use Rattle.xinu_base.specs.declared.processes.Rest.{Rest}
 use Rattle.xinu_base.specs.declared.processes.State.TheVariants.{Waiting}
-use Rattle.xinu_model.specs.Machine.{Xinu, CallState, CallResult, with_tables, unblock, unblock_all, blocked}
+use Rattle.xinu_model.specs.Machine.{Xinu, CallState, CallResult, with_tables, unblock, unblock_all, unblock_all_with, blocked}
 use Rattle.xinu_model.specs.Tables.{semaphore_at, InSemaphore}
 use Rattle.xinu_model.specs.Semaphores.Counts.{with_tokens}
 
@@ -22,9 +23,13 @@ signalled_times sem n d =
     let after = unblock_all (take n x.waiters) d in
     with_tables (with_tokens sem (x.tokens + (n - length x.waiters)) after.state.tables) after
 
--- all who wait on semaphore sem are released
+-- all who wait on semaphore sem are released, with this answer
+abbrev pub emptied_with : ℤ → ℕ → CallState → CallState
+emptied_with value sem d = unblock_all_with value (semaphore_at d.state.tables sem).waiters d
+
+-- all who wait on semaphore sem are released, and their calls succeeded
 abbrev pub emptied : ℕ → CallState → CallState
-emptied sem d = unblock_all (semaphore_at d.state.tables sem).waiters d
+emptied sem d = emptied_with OK sem d
 
 -- The caller takes one of these tokens of semaphore sem and goes on, or waits there with this left of its call.
 abbrev pub take_token : ℕ → ℕ → Rest → (Xinu → CallResult) → Xinu → CallResult

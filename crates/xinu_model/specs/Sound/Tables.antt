@@ -1,5 +1,5 @@
 -- What holds of the tables at each moment, and between two events.
-use Rattle.std.specs.Prelude.{◌≡◌, ◌⊎◌, ℕ, suc, ◌+◌, ◌<◌, ◌≤◌, ◌==◌, Bool, cond, List, [], ◌∷◌, length, Option, Some, None, IsSome, ℤ, ◌≤ℤ◌}
+use Rattle.std.specs.Prelude.{◌≡◌, ◌⊎◌, ℕ, suc, ◌+◌, ◌<◌, ◌≤◌, ◌==◌, Bool, cond, List, [], ◌∷◌, length, slice_index_or, Option, Some, None, IsSome, ℤ, ◌≤ℤ◌}
 use Rattle.std.specs.List.{AllByRecursion}
 use Rattle.xinu_base.specs.Constants.{NPROC, NSEM}
 use Rattle.xinu_base.specs.declared.processes.Process.{Process}
@@ -56,6 +56,10 @@ IsInOrder R (x ∷ xs) = AllByRecursion (R x) xs × IsInOrder R xs
 abbrev pub IsFalling : List (ℕ × ℤ) → Type 0
 IsFalling l = IsInOrder (λ a b. b.1 ≤ℤ a.1) l
 
+-- each key is the priority of its process
+abbrev pub HaveKeys : List Process → List (ℕ × ℤ) → Type 0
+HaveKeys processes l = AllByRecursion (λ e. e.1 ≡ (slice_index_or processes e.0 no_process).priority) l
+
 -- the wake ticks rise, or stay equal
 abbrev pub IsRising : List (ℕ × ℕ) → Type 0
 IsRising l = IsInOrder (λ a b. a.1 ≤ b.1) l
@@ -106,7 +110,7 @@ IsUnused x = x.owner ≡ None → x ≡ no_semaphore
 --
 -- Each process is in just the place that its state names, once: in the ready list, among the waiters of one semaphore, among the
 -- sleepers, or nowhere. Only the current number can be in state current, and the null process can run. The ready list falls by
--- key, the sleepers rise by wake tick and all wake later. No semaphore has both tokens and waiters, and what is left of a waiter's
+-- key, each key is its process's priority, the sleepers rise by wake tick and all wake later. No semaphore has both tokens and waiters, and what is left of a waiter's
 -- call is what the semaphore's owner calls for. A process that waits for a message holds none, and one that was sent it holds it.
 -- The kernel's semaphores are 0 to 3. What is free holds what it held at the start.
 pub record IsInside (t : Tables) : Type 0 where
@@ -120,6 +124,7 @@ pub record IsInside (t : Tables) : Type 0 where
   pub null : CanRun (state_at t 0)
   pub null_rest : (process_at t 0).rest ≡ rest.Nothing
   pub falling : IsFalling t.ready
+  pub keys : HaveKeys t.processes t.ready
   pub rising : IsRising t.sleepers
   pub later : AllByRecursion (λ e. t.ticks < e.1) t.sleepers
   pub one_kind : (sem : ℕ) → HasOneKind (semaphore_at t sem)

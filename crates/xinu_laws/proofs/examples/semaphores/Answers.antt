@@ -1,4 +1,5 @@
 use Rattle.xinu_laws.proofs.Results.Computed.{prints_semaphore_with_a_kill, prints_reset_releases, prints_all_semaphores}
+use Rattle.xinu_laws.proofs.Results.ComputedPriorities.{prints_deleted_semaphore}
 use Rattle.xinu_laws.proofs.examples.semaphores.Goals as goal
 
 pub returns : goal.returns
@@ -6,4 +7,5 @@ returns c = record {
   semaphore_with_a_kill = prints_semaphore_with_a_kill;
   reset_releases = prints_reset_releases;
   all_semaphores = prints_all_semaphores;
+  deleted_semaphore = prints_deleted_semaphore;
 }
