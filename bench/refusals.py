@@ -16,7 +16,7 @@ GOOD_RUN = ["run", "--schedule", "data/four_steps.txt", "data/getpid_and_exit.xi
 
 
 def image(stack):
-    """An image of the calls `getpid` and `exit`, with a stack of so many bytes."""
+    """An image of the calls `getpid` and `exit`, with a stack of this size in bytes."""
     code = struct.pack("<4I", 0x0010_0893, 0x0000_0073, 0x0090_0893, 0x0000_0073)
     return b"XIMG" + struct.pack("<6I", 1, 0, len(code), 0, 20, stack) + code
 

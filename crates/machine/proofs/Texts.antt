@@ -3,29 +3,29 @@ use Rattle.std.proofs.Common.{◌≡◌, ℕ, ◌+◌, ◌*◌, ◌<◌, List, [
 use Rattle.std.proofs.lemmas.List.{map-append, take_more}
 use Rattle.host_port.specs.LineText.{blanked}
 use Rattle.xinu_base.specs.Hexadecimal.{hex_of}
-use Rattle.xinu_model.specs.Text.{with_word, with_words, or_hyphen}
+use Rattle.xinu_model.specs.Text.{with_field, with_fields, or_hyphen}
 
 -- A word after a blank is a word of the line.
-pub with_word-blanked : (line word : List ℕ) → blanked line ++ word ≡ with_word line word
-with_word-blanked [] word = refl
-with_word-blanked (b ∷ line) word = ap (λ (l : List ℕ). b ∷ l) (append_assoc line (32 ∷ []) word)
+pub with_field-blanked : (line word : List ℕ) → blanked line ++ word ≡ with_field line word
+with_field-blanked [] word = refl
+with_field-blanked (b ∷ line) word = ap (λ (l : List ℕ). b ∷ l) (append_assoc line (32 ∷ []) word)
 
 -- Words after words are one list of words.
-pub with_words-append : (line : List ℕ) (first second : List (List ℕ)) → with_words line (first ++ second) ≡ with_words (with_words line first) second
-with_words-append line [] second = refl
-with_words-append line (word ∷ first) second = with_words-append (with_word line word) first second
+pub with_fields-append : (line : List ℕ) (first second : List (List ℕ)) → with_fields line (first ++ second) ≡ with_fields (with_fields line first) second
+with_fields-append line [] second = refl
+with_fields-append line (field ∷ first) second = with_fields-append (with_field line field) first second
 
 -- One more number stands after the words so far.
 pub one_more : {A : Type 0} (shown : A → List ℕ) (text line : List ℕ) (numbers : List A) (k : ℕ) (n d : A) → k < length numbers → n ≡ get_or numbers k d
-    → text ≡ with_words line (map shown (take k numbers))
-    → blanked text ++ shown n ≡ with_words line (map shown (take (k + 1) numbers))
+    → text ≡ with_fields line (map shown (take k numbers))
+    → blanked text ++ shown n ≡ with_fields line (map shown (take (k + 1) numbers))
 one_more {A} shown text line numbers k n d within is so_far =
     let more : take (k + 1) numbers ≡ take k numbers ++ n ∷ [] =
     take_more numbers k d within ∙ ap (λ (x : A). take k numbers ++ x ∷ []) (sym is) in
-    with_word-blanked text (shown n)
-    ∙ ap (λ (t : List ℕ). with_word t (shown n)) so_far
-    ∙ sym (with_words-append line (map shown (take k numbers)) (shown n ∷ []))
-    ∙ sym (ap (λ (ws : List (List ℕ)). with_words line ws) (ap (map shown) more ∙ map-append shown (take k numbers) (n ∷ [])))
+    with_field-blanked text (shown n)
+    ∙ ap (λ (t : List ℕ). with_field t (shown n)) so_far
+    ∙ sym (with_fields-append line (map shown (take k numbers)) (shown n ∷ []))
+    ∙ sym (ap (λ (ws : List (List ℕ)). with_fields line ws) (ap (map shown) more ∙ map-append shown (take k numbers) (n ∷ [])))
 
 -- A name's digits are no hyphen.
 pub named : (line name : List ℕ) → 0 < length name → (blanked line ++ []) ++ hex_of name ≡ blanked line ++ or_hyphen (hex_of name)

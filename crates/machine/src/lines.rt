@@ -19,21 +19,21 @@ pub(crate) fn render(line: &TranscriptLine) -> Line
     ensures { result ≡ model.line_text line.now }
 {
     let mut text = Line::new();
-    put_words(&mut text, line);
+    put_fields(&mut text, line);
     text.end();
     text
 }
 
-// Appends the words of a line.
-fn put_words(text: &mut Line, line: &TranscriptLine)
+// Appends the fields of a line.
+fn put_fields(text: &mut Line, line: &TranscriptLine)
     requires { text.old ≡ [] }
-    ensures put { text.new ≡ model.with_words [] (model.words_of line.now) }
+    ensures put { text.new ≡ model.with_fields [] (model.line_fields line.now) }
     ensures size { length text.new ≤ 150 }
 {
     match line {
         TranscriptLine::Call(p, call) => put_call(text, *p, call),
-        TranscriptLine::Trap(p, cause) => put_state(text, "trap", *p, cause_word(*cause)),
-        TranscriptLine::File(p, moment) => put_state(text, "file", *p, moment_word(*moment)),
+        TranscriptLine::Trap(p, cause) => put_state(text, "trap", *p, cause_name(*cause)),
+        TranscriptLine::File(p, moment) => put_state(text, "file", *p, moment_name(*moment)),
         TranscriptLine::Return(p, value) => put_numbers(
             text,
             "ret",
@@ -100,42 +100,42 @@ fn put_words(text: &mut Line, line: &TranscriptLine)
         TranscriptLine::Disk1 => text.word("disk1 clean"),
         TranscriptLine::End(end) => {
             text.word("end");
-            text.word(end_word(*end));
+            text.word(end_name(*end));
         }
     }
 }
 
-// Appends a word and numbers.
-fn put_numbers(text: &mut Line, word: &str, numbers: &[i64])
+// Appends a field and numbers.
+fn put_numbers(text: &mut Line, field: &str, numbers: &[i64])
     requires empty { text.old ≡ [] }
-    requires short { length word.now ≤ 5 }
+    requires short { length field.now ≤ 5 }
     requires few { length numbers.now ≤ 4 }
-    ensures put { text.new ≡ model.with_words [] (word.now ∷ map signed_decimal numbers.now) }
+    ensures put { text.new ≡ model.with_fields [] (field.now ∷ map signed_decimal numbers.now) }
     ensures size { length text.new ≤ 150 }
 {
-    text.word(word);
+    text.word(field);
     for number in numbers {
         text.number(*number);
     }
 }
 
-// Appends a word, the number of a process, and a word that says what became of it.
-fn put_state(text: &mut Line, word: &str, p: Pid, what: &str)
+// Appends a field, the number of a process, and a field that says what became of it.
+fn put_state(text: &mut Line, field: &str, p: Pid, what: &str)
     requires empty { text.old ≡ [] }
-    requires short { length word.now ≤ 5 }
+    requires short { length field.now ≤ 5 }
     requires small { length what.now ≤ 10 }
-    ensures put { text.new ≡ model.with_words [] (word.now ∷ decimal p ∷ what.now ∷ []) }
+    ensures put { text.new ≡ model.with_fields [] (field.now ∷ decimal p ∷ what.now ∷ []) }
     ensures size { length text.new ≤ 150 }
 {
-    text.word(word);
+    text.word(field);
     put_process(text, p);
     text.word(what);
 }
 
-// Appends the words of a pool.
+// Appends the fields of a pool.
 fn put_pool(text: &mut Line, pool: PoolId, size: u32, free: u32, held: u32)
     requires { text.old ≡ [] }
-    ensures put { text.new ≡ model.with_words [] (model.words_of (variant.Pool pool size free held)) }
+    ensures put { text.new ≡ model.with_fields [] (model.line_fields (variant.Pool pool size free held)) }
     ensures size { length text.new ≤ 150 }
 {
     put_numbers(
@@ -157,10 +157,10 @@ fn number(p: Pid) -> i64
     p.index() as i64
 }
 
-// Appends the words of a call.
+// Appends the fields of a call.
 fn put_call(text: &mut Line, p: Pid, call: &Call)
     requires { text.old ≡ [] }
-    ensures put { text.new ≡ model.with_words [] (model.words_of (variant.Call p call.now)) }
+    ensures put { text.new ≡ model.with_fields [] (model.line_fields (variant.Call p call.now)) }
     ensures size { length text.new ≤ 150 }
 {
     text.word("call");
@@ -170,7 +170,7 @@ fn put_call(text: &mut Line, p: Pid, call: &Call)
         put_arguments(text, &call.args[..call_args(call.number)]);
     } else {
         text.word("unknown");
-        put_word(text, call.number);
+        put_signed(text, call.number);
     }
 }
 
@@ -178,23 +178,23 @@ fn put_call(text: &mut Line, p: Pid, call: &Call)
 fn put_arguments(text: &mut Line, args: &[u32])
     requires few { length args.now ≤ 6 }
     requires fits { length text.old ≤ 60 }
-    ensures put { text.new ≡ model.with_words text.old (map model.signed_word args.now) }
+    ensures put { text.new ≡ model.with_fields text.old (map model.signed_field args.now) }
     ensures size { length text.new ≤ length text.old + 72 }
 {
     for arg in args {
-        put_word(text, *arg);
+        put_signed(text, *arg);
     }
 }
 
-// Appends the first words of an entry of the process table.
+// Appends the first fields of an entry of the process table.
 fn put_entry(text: &mut Line, p: Pid, state: State, priority: i16, parent: Pid)
     requires { text.old ≡ [] }
-    ensures put { text.new ≡ model.with_words [] (codes "proc" ∷ decimal p ∷ model.state_word state ∷ signed_decimal priority ∷ decimal parent ∷ []) }
+    ensures put { text.new ≡ model.with_fields [] (codes "proc" ∷ decimal p ∷ model.state_name state ∷ signed_decimal priority ∷ decimal parent ∷ []) }
     ensures size { length text.new ≤ 60 }
 {
     text.word("proc");
     put_process(text, p);
-    text.word(state_word(state));
+    text.word(state_name(state));
     text.number(i64::from(priority));
     put_process(text, parent);
 }
@@ -202,11 +202,11 @@ fn put_entry(text: &mut Line, p: Pid, state: State, priority: i16, parent: Pid)
 // Appends the message that a process holds, or a hyphen.
 fn put_message(text: &mut Line, message: Option<u32>)
     requires { length text.old ≤ 100 }
-    ensures put { text.new ≡ blanked text.old ++ model.message_word message }
+    ensures put { text.new ≡ blanked text.old ++ model.message_field message }
     ensures size { length text.new ≤ length text.old + 12 }
 {
     match message {
-        Some(message) => put_word(text, message),
+        Some(message) => put_signed(text, message),
         None => text.word("-"),
     }
 }
@@ -214,7 +214,7 @@ fn put_message(text: &mut Line, message: Option<u32>)
 // Appends the name of a process in hexadecimal digits, or a hyphen.
 fn put_name(text: &mut Line, name: &[u8; 15])
     requires { length text.old ≤ 110 }
-    ensures put { text.new ≡ blanked text.old ++ model.name_word name.now }
+    ensures put { text.new ≡ blanked text.old ++ model.name_field name.now }
     ensures size { length text.new ≤ length text.old + 31 }
 {
     let name = before_zero(name);
@@ -251,16 +251,16 @@ fn put_process(text: &mut Line, p: Pid)
 }
 
 // Appends a word as a signed number.
-fn put_word(text: &mut Line, word: u32)
+fn put_signed(text: &mut Line, word: u32)
     requires { length text.old ≤ 139 }
-    ensures put { text.new ≡ blanked text.old ++ model.signed_word word }
+    ensures put { text.new ≡ blanked text.old ++ model.signed_field word }
     ensures size { length text.new ≤ length text.old + 12 }
 {
     text.number(i64::from(word.cast_signed()));
 }
 
-fn cause_word(cause: Cause) -> &'static str
-    ensures word { result.now ≡ model.cause_word cause }
+fn cause_name(cause: Cause) -> &'static str
+    ensures word { result.now ≡ model.cause_name cause }
     ensures short { length result.now ≤ 7 }
 {
     match cause {
@@ -273,8 +273,8 @@ fn cause_word(cause: Cause) -> &'static str
     }
 }
 
-fn moment_word(moment: FileMoment) -> &'static str
-    ensures word { result.now ≡ model.moment_word moment }
+fn moment_name(moment: FileMoment) -> &'static str
+    ensures word { result.now ≡ model.moment_name moment }
     ensures short { length result.now ≤ 4 }
 {
     match moment {
@@ -284,8 +284,8 @@ fn moment_word(moment: FileMoment) -> &'static str
     }
 }
 
-fn end_word(end: End) -> &'static str
-    ensures word { result.now ≡ model.end_word end }
+fn end_name(end: End) -> &'static str
+    ensures word { result.now ≡ model.end_name end }
     ensures short { length result.now ≤ 8 }
 {
     match end {
@@ -295,8 +295,8 @@ fn end_word(end: End) -> &'static str
     }
 }
 
-fn state_word(state: State) -> &'static str
-    ensures word { result.now ≡ model.state_word state }
+fn state_name(state: State) -> &'static str
+    ensures word { result.now ≡ model.state_name state }
     ensures short { length result.now ≤ 7 }
 {
     match state {

@@ -1,7 +1,14 @@
 //! The data that every layer of the kernel speaks of: numbers below a bound, processes and what is left of their calls,
 //! registers, events, calls and the lines of a transcript.
 //!
-//! It depends on nothing. The definitions in `specs/` are the two insertions of the kernel's lists and the table of calls.
+//! | What | Promise |
+//! |---|---|
+//! | [`Pid`], [`Sem`], [`PoolId`], [`Port`], [`Dev`] | seen as numbers: `from_word` gives one if and only if the word is below the bound, `index` gives it back |
+//! | [`call_name`], [`call_args`], [`is_built`] | the name and the number of arguments of a call, and whether the machine serves it: the table `syscalls` in `specs/Syscalls.antt` |
+//! | all other types | plain data: a contract sees their fields |
+//!
+//! `specs/Insert.antt` has the two insertions of the kernel's lists, `specs/Constants.antt` the constants by the book's names,
+//! `specs/Hexadecimal.antt` bytes as digits. The crate depends on nothing.
 #![tactic(auto)]
 
 mod constants;

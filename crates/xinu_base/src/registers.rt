@@ -3,7 +3,7 @@
 /// The registers of a process on the one processor core.
 #[derive(Clone, Copy, Debug, PartialEq, Eq)]
 pub struct Hart {
-    /// The registers x0 to x31. x0 is always 0.
+    /// The registers x0 to x31. x0 is 0 in each process of a sound state (`AreHarts` in `xinu_model`), and no instruction writes it.
     pub regs: [u32; 32],
     /// The address of the next instruction.
     pub pc: u32,

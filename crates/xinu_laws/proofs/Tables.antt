@@ -2,6 +2,7 @@
 pub mod Changes
 pub mod Deaths
 pub mod Ends
+pub mod Harts
 pub mod MoveTo
 pub mod Owners
 pub mod Places

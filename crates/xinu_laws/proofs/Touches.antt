@@ -4,6 +4,7 @@ pub mod Boot
 pub mod Clock
 pub mod Continued
 pub mod Events
+pub mod Few
 pub mod Kept
 pub mod Memory
 pub mod Messages

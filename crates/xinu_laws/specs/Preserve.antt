@@ -1,11 +1,11 @@
 -- What holds inside an event: when a process calls, and before the event of its call is closed.
-use Rattle.std.specs.Prelude.{◌≡◌, ◌≢◌, false, length}
-use Rattle.xinu_base.specs.Constants.{NPROC}
+use Rattle.std.specs.Prelude.{◌≡◌, ◌≢◌, false}
 use Rattle.xinu_model.specs.Clock.{quantum_falls, wakeup, a_tick_later}
 use Rattle.xinu_model.specs.Machine.{Xinu, Answer, Returns, Waits, Gone, Panics, Silent, CallResult}
 use Rattle.xinu_model.specs.Sound.Tables.{IsInside, IsSoundTables}
 use Rattle.xinu_model.specs.Sound.Pools.{ArePools}
 use Rattle.xinu_model.specs.Sound.Ports.{ArePorts}
+use Rattle.xinu_model.specs.Sound.State.{AreHarts}
 use Rattle.xinu_model.specs.Tables.{Tables}
 
 -- The tables are sound if the caller goes on or the kernel panics, and else they are as inside an event.
@@ -19,7 +19,7 @@ FitsAnswer Silent t = IsSoundTables t
 -- What a call keeps of tables and registers before its event is closed.
 pub record IsPreserved (result : CallResult) : Type 0 where
   pub tables : FitsAnswer result.answer result.call.state.tables
-  pub harts : length result.call.state.harts ≡ NPROC
+  pub harts : AreHarts result.call.state.harts
 
 -- What each call keeps: what holds of tables and registers, of the pools and of the ports.
 pub record KeepsAll (result : CallResult) : Type 0 where
@@ -30,7 +30,7 @@ pub record KeepsAll (result : CallResult) : Type 0 where
 -- What holds of tables and registers when a process calls: it isn't the null process that runs.
 pub record MayCall (s : Xinu) : Type 0 where
   pub tables : IsSoundTables s.tables
-  pub harts : length s.harts ≡ NPROC
+  pub harts : AreHarts s.harts
   pub not_null : s.tables.current ≢ 0
 
 -- What holds of the whole state then.

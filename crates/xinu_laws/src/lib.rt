@@ -1,6 +1,22 @@
-//! The laws of the abstract machine: soundness, who has which address, refusals, signals, and worked examples.
+//! The laws of the abstract machine, and worked examples. The definitions are those of `xinu_model`.
 //!
-//! The definitions are those of `xinu_model`. Nothing of it runs: each law is the contract of a function that does nothing.
+//! Nothing of it runs: each law is the contract of a function that does nothing, proved for all images, states and lists of events, and for
+//! all calls of the table, whether they are built or not.
+//!
+//! | Module | Its laws |
+//! |---|---|
+//! | [`soundness`] | boot is sound, and each event and run keeps it so; a free place holds its fixed value |
+//! | [`moments`] | what holds at each moment of an event: each row, each continuation, a death, a tick, a resched and the end of an event keep it. The kernel's code will cite these |
+//! | [`moves`] | the moves of a process, signals and waits, as the kernel's code makes them |
+//! | [`footprints`] | the rows are the calls that a transcript names; each call touches no more than its footprint; waiters keep their order |
+//! | [`replies`] | a refused call changes a0 and pc alone, and prints its call and its reply; -1 tells a refusal, except as a value; who waited on a port is refused if and only if it was renewed |
+//! | [`signals`] | n signals at once are n signals, one after another |
+//! | [`memory`] | memory comes from the least place and a stack from the greatest, both only from what was free; refused only if there is no such place; the heap keeps its extent |
+//! | [`sharing`] | no address comes to have two owners, unless a process gives away what a pool or a stack has, and then one does |
+//! | [`examples`] | what small systems of processes print, line by line |
+//!
+//! `proofs/` has a folder a subject. *Frame* is what a move leaves alone, *touches* what a call leaves alone by its footprint, *preserve* what
+//! holds and goes on holding; `docs/CONTRIBUTING.md` says how a call is added.
 #![tactic(auto)]
 
 pub mod examples;

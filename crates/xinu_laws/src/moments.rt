@@ -1,10 +1,12 @@
-//! What holds at each moment of an event: the kernel's code stands on these laws.
+//! What holds at each moment of an event: the laws that the kernel's code cites.
 
-ghost use Rattle.std.specs.Prelude.{◌≡◌, ℕ, true, false, [], List, Some, slice_index};
+ghost use Rattle.std.specs.Prelude.{◌≡◌, ◌≢◌, ℕ, true, false, [], List, Some, slice_index};
 ghost use Rattle.xinu_base.specs.Syscalls.{is_built};
 ghost use Rattle.xinu_base.specs.declared.lines.TranscriptLine.{TranscriptLine};
 ghost use Rattle.xinu_model.specs.Calls.{calls, call_of_number, called, continued};
 ghost use Rattle.xinu_model.specs.Clock.{ticked};
+ghost use Rattle.xinu_model.specs.Events.{with_executed};
+ghost use Rattle.xinu_model.specs.Isa.Effects.{Executed};
 ghost use Rattle.xinu_model.specs.Machine.{Xinu, CallResult, refused, end_of_event};
 ghost use Rattle.xinu_model.specs.Process.Scheduling.{resched};
 ghost use Rattle.xinu_laws.specs.Preserve.{KeepsAll, MayCallAny, ticking};
@@ -14,11 +16,18 @@ ghost use Rattle.xinu_model.specs.Sound.Tables.{IsInside, IsSoundTables};
 ghost use Rattle.xinu_model.specs.Sound.State.{IsSound};
 ghost use Rattle.xinu_model.specs.Tables.{Tables, process_at};
 
-/// The call of a number is what the row of this number does, if there is one; a call that is built is served so, and any other is refused.
+/// The call of a number does what the row of this number says. A call that is built is carried out so, and any other is refused.
 pub fn calls_are_rows()
     ensures row { (number : ℕ) (args : List ℕ) (s : Xinu) (r : CallRow) → found_in calls number ≡ Some r → call_of_number number args s ≡ r.effect (slice_index args) s }
     ensures built { (number : ℕ) (args : List ℕ) (s : Xinu) → is_built number ≡ true → called number args s ≡ call_of_number number args s }
     ensures other { (number : ℕ) (args : List ℕ) (s : Xinu) → is_built number ≡ false → called number args s ≡ refused s }
+{}
+
+/// In a sound state, and after an instruction, any process but the null process may call; what a call keeps holds inside an event.
+pub fn processes_may_call()
+    ensures sound { (s : Xinu) → IsSound s → s.tables.current ≢ 0 → MayCallAny s }
+    ensures executed { (did : Executed) (s : Xinu) → MayCallAny s → MayCallAny (with_executed did s) }
+    ensures inside { (result : CallResult) → KeepsAll result → IsInside result.call.state.tables }
 {}
 
 /// Each call keeps what holds of tables, pools and ports: each row, whatever its arguments, and so the call of any number.

@@ -2,11 +2,12 @@
 use Rattle.std.proofs.Common.{◌≡◌, ◌==◌, ℕ, Bool, true, false, cond, if◌then◌else◌, ◌+◌, ◌*◌, ◌/◌, ◌%◌, not, List, Option, None, Some, slice_index, slice_set, refl, ap, ◌∙◌}
 use Rattle.std.proofs.lemmas.Bool.{true≢false}
 use Rattle.std.proofs.lemmas.List.{get_or-set_other}
+use Rattle.xinu_base.specs.Constants.{INITRET}
 use Rattle.xinu_base.specs.declared.Hart.{Hart}
-use Rattle.xinu_base.specs.declared.Outcome.TheVariants.{Went, Trap}
-use Rattle.xinu_base.specs.declared.Cause.TheVariants.{Target, Load, Store}
+use Rattle.xinu_base.specs.declared.Outcome.TheVariants.{Went, Exit, Trap}
+use Rattle.xinu_base.specs.declared.Cause.TheVariants.{Fetch, Target, Load, Store}
 use Rattle.xinu_model.specs.Isa.Effects.{Executed, wrapped, register, with_register, stops, following, goes, gives, jumps, branches, loads, stores, effect_on, truth, plus, minus, less, less_unsigned, shift_left, shift_right, shift_right_signed, as_it_is}
-use Rattle.xinu_model.specs.Isa.Exec.{obeyed, perform}
+use Rattle.xinu_model.specs.Isa.Exec.{exec, obeyed, perform}
 use Rattle.xinu_model.specs.Memory.{may_access, number_at, with_number}
 use Rattle.std.specs.Prelude.{bit_and, bit_or, bit_xor}
 use Rattle.xinu_model.specs.Isa.Instructions.{Fields, Name, Row, row_of, sign_extended, Lui, Auipc, Jal, Jalr, Beq, Bne, Blt, Bge, Bltu, Bgeu, Lb, Lh, Lw, Lbu, Lhu, Sb, Sh, Sw, Addi, Slti, Sltiu, Xori, Ori, Andi, Slli, Srli, Srai, Add, Sub, Sll, Slt, Sltu, Xor, Srl, Sra, Or, And, Fence, Ecall, Ebreak}
@@ -116,3 +117,11 @@ obeyed_kept (Some row) word h memory = kept row.name _ h memory _ _
 -- what a word does
 pub zero_register : (word : ℕ) (h : Hart) (memory : List ℕ) → KeepsZero h (perform word h memory)
 zero_register word h memory = obeyed_kept (row_of word) word h memory
+
+-- a step
+pub zero_register_of_step : (h : Hart) (memory : List ℕ) → KeepsZero h (exec h memory)
+unfolding exec
+zero_register_of_step h memory =
+    let trapped = stops h memory (Trap Fetch) in
+    either (h.pc == INITRET) h (stops h memory Exit) (if may_access h.pc 4 then perform (number_at memory h.pc 4) h memory else trapped) (same h (stops h memory Exit) refl)
+    (either (may_access h.pc 4) h (perform (number_at memory h.pc 4) h memory) trapped (zero_register (number_at memory h.pc 4) h memory) (same h trapped refl))

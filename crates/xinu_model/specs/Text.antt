@@ -24,19 +24,19 @@ use Rattle.xinu_model.specs.Semaphores.Counts.{count_of, is_images}
 use Rattle.xinu_model.specs.Tables.{Semaphore, is_free}
 use Rattle.xinu_model.specs.Words.{signed}
 
--- a word after a line, after a blank unless the line is empty
-abbrev pub with_word : List ℕ → List ℕ → List ℕ
-with_word [] word = word
-with_word (b ∷ line) word = b ∷ line ++ 32 ∷ word
+-- a field after a line, after a blank unless the line is empty
+abbrev pub with_field : List ℕ → List ℕ → List ℕ
+with_field [] field = field
+with_field (b ∷ line) field = b ∷ line ++ 32 ∷ field
 
--- words after a line, a blank between each two
-abbrev pub with_words : List ℕ → List (List ℕ) → List ℕ
-with_words line [] = line
-with_words line (word ∷ words) = with_words (with_word line word) words
+-- fields after a line, a blank between each two
+abbrev pub with_fields : List ℕ → List (List ℕ) → List ℕ
+with_fields line [] = line
+with_fields line (field ∷ fields) = with_fields (with_field line field) fields
 
 -- a word of 32 bits as a signed decimal number
-abbrev pub signed_word : ℕ → List ℕ
-signed_word n = signed_decimal (signed n)
+abbrev pub signed_field : ℕ → List ℕ
+signed_field n = signed_decimal (signed n)
 
 -- a text, or a hyphen for the empty one
 abbrev pub or_hyphen : List ℕ → List ℕ
@@ -44,79 +44,79 @@ or_hyphen [] = codes "-"
 or_hyphen (b ∷ bytes) = b ∷ bytes
 
 -- the name of a process in hexadecimal digits
-abbrev pub name_word : List ℕ → List ℕ
-name_word name = or_hyphen (hex_of (before_zero name))
+abbrev pub name_field : List ℕ → List ℕ
+name_field name = or_hyphen (hex_of (before_zero name))
 
 -- the message that a process holds
-abbrev pub message_word : Option ℕ → List ℕ
-message_word None = codes "-"
-message_word (Some message) = signed_word message
+abbrev pub message_field : Option ℕ → List ℕ
+message_field None = codes "-"
+message_field (Some message) = signed_field message
 
 -- the state of a process
-abbrev pub state_word : State → List ℕ
-state_word Free = codes "free"
-state_word Current = codes "current"
-state_word Ready = codes "ready"
-state_word Receiving = codes "receive"
-state_word Sleeping = codes "sleep"
-state_word Suspended = codes "suspend"
-state_word Waiting = codes "wait"
-state_word Timed = codes "timed"
+abbrev pub state_name : State → List ℕ
+state_name Free = codes "free"
+state_name Current = codes "current"
+state_name Ready = codes "ready"
+state_name Receiving = codes "receive"
+state_name Sleeping = codes "sleep"
+state_name Suspended = codes "suspend"
+state_name Waiting = codes "wait"
+state_name Timed = codes "timed"
 
 -- the cause of a trap
-abbrev pub cause_word : Cause → List ℕ
-cause_word Fetch = codes "fetch"
-cause_word Illegal = codes "illegal"
-cause_word Break = codes "break"
-cause_word Target = codes "target"
-cause_word Load = codes "load"
-cause_word Store = codes "store"
+abbrev pub cause_name : Cause → List ℕ
+cause_name Fetch = codes "fetch"
+cause_name Illegal = codes "illegal"
+cause_name Break = codes "break"
+cause_name Target = codes "target"
+cause_name Load = codes "load"
+cause_name Store = codes "store"
 
 -- how a run ended
-abbrev pub end_word : End → List ℕ
-end_word Schedule = codes "schedule"
-end_word Done = codes "done"
-end_word Panic = codes "panic"
+abbrev pub end_name : End → List ℕ
+end_name Schedule = codes "schedule"
+end_name Done = codes "done"
+end_name Panic = codes "panic"
 
 -- what became of a file call
-abbrev pub moment_word : FileMoment → List ℕ
-moment_word Turn = codes "turn"
-moment_word Finished = codes "done"
-moment_word Next = codes "next"
+abbrev pub moment_name : FileMoment → List ℕ
+moment_name Turn = codes "turn"
+moment_name Finished = codes "done"
+moment_name Next = codes "next"
 
 -- the name of a call and its arguments; of a number without a call the number
-abbrev pub call_words : Call → List (List ℕ)
-call_words call =
-    if is_built call.number then name_of call.number ∷ map signed_word (take (args_of call.number) call.args)
-    else codes "unknown" ∷ signed_word call.number ∷ []
+abbrev pub call_fields : Call → List (List ℕ)
+call_fields call =
+    if is_built call.number then name_of call.number ∷ map signed_field (take (args_of call.number) call.args)
+    else codes "unknown" ∷ signed_field call.number ∷ []
 
--- the words of a line
-abbrev pub words_of : TranscriptLine → List (List ℕ)
-words_of (line.Call p call) = codes "call" ∷ decimal p ∷ call_words call
-words_of (line.File p moment) = codes "file" ∷ decimal p ∷ moment_word moment ∷ []
-words_of (line.Trap p cause) = codes "trap" ∷ decimal p ∷ cause_word cause ∷ []
-words_of (line.Return p value) = codes "ret" ∷ decimal p ∷ signed_decimal value ∷ []
-words_of (line.Switch p) = codes "run" ∷ decimal p ∷ []
-words_of (line.Now ticks quantum) = codes "now" ∷ decimal ticks ∷ decimal quantum ∷ []
-words_of (line.Process p state priority parent message name) =
-    codes "proc" ∷ decimal p ∷ state_word state ∷ signed_decimal priority ∷ decimal parent ∷ message_word message ∷ name_word name ∷ []
-words_of (line.Ready p key) = codes "ready" ∷ decimal p ∷ signed_decimal key ∷ []
-words_of (line.Semaphore sem count) = codes "sem" ∷ decimal sem ∷ signed_decimal count ∷ []
-words_of (line.Waiter sem p) = codes "wait" ∷ decimal sem ∷ decimal p ∷ []
-words_of (line.Sleeper p wake) = codes "sleep" ∷ decimal p ∷ decimal wake ∷ []
-words_of (line.Free address bytes) = codes "free" ∷ decimal address ∷ decimal bytes ∷ []
-words_of (line.Pool i size free held) = codes "pool" ∷ decimal i ∷ decimal size ∷ decimal free ∷ decimal held ∷ []
-words_of (line.Buffer i address) = codes "buf" ∷ decimal i ∷ decimal address ∷ []
-words_of (line.Port q seq messages) = codes "port" ∷ decimal q ∷ decimal seq ∷ decimal messages ∷ []
-words_of (line.Node q message) = codes "node" ∷ decimal q ∷ signed_word message ∷ []
-words_of line.Console = codes "console cooked 0 0 0 0 run" ∷ []
-words_of line.Disk0 = codes "disk0 0" ∷ []
-words_of line.Disk1 = codes "disk1 clean" ∷ []
-words_of (line.End end) = codes "end" ∷ end_word end ∷ []
+-- the fields of a line
+abbrev pub line_fields : TranscriptLine → List (List ℕ)
+line_fields (line.Call p call) = codes "call" ∷ decimal p ∷ call_fields call
+line_fields (line.File p moment) = codes "file" ∷ decimal p ∷ moment_name moment ∷ []
+line_fields (line.Trap p cause) = codes "trap" ∷ decimal p ∷ cause_name cause ∷ []
+line_fields (line.Return p value) = codes "ret" ∷ decimal p ∷ signed_decimal value ∷ []
+line_fields (line.Switch p) = codes "run" ∷ decimal p ∷ []
+line_fields (line.Now ticks quantum) = codes "now" ∷ decimal ticks ∷ decimal quantum ∷ []
+line_fields (line.Process p state priority parent message name) =
+    codes "proc" ∷ decimal p ∷ state_name state ∷ signed_decimal priority ∷ decimal parent ∷ message_field message ∷ name_field name ∷ []
+line_fields (line.Ready p key) = codes "ready" ∷ decimal p ∷ signed_decimal key ∷ []
+line_fields (line.Semaphore sem count) = codes "sem" ∷ decimal sem ∷ signed_decimal count ∷ []
+line_fields (line.Waiter sem p) = codes "wait" ∷ decimal sem ∷ decimal p ∷ []
+line_fields (line.Sleeper p wake) = codes "sleep" ∷ decimal p ∷ decimal wake ∷ []
+line_fields (line.Free address bytes) = codes "free" ∷ decimal address ∷ decimal bytes ∷ []
+line_fields (line.Pool i size free held) = codes "pool" ∷ decimal i ∷ decimal size ∷ decimal free ∷ decimal held ∷ []
+line_fields (line.Buffer i address) = codes "buf" ∷ decimal i ∷ decimal address ∷ []
+line_fields (line.Port q seq messages) = codes "port" ∷ decimal q ∷ decimal seq ∷ decimal messages ∷ []
+line_fields (line.Node q message) = codes "node" ∷ decimal q ∷ signed_field message ∷ []
+line_fields line.Console = codes "console cooked 0 0 0 0 run" ∷ []
+line_fields line.Disk0 = codes "disk0 0" ∷ []
+line_fields line.Disk1 = codes "disk1 clean" ∷ []
+line_fields (line.End end) = codes "end" ∷ end_name end ∷ []
 
 -- a line as bytes
 abbrev pub line_text : TranscriptLine → List ℕ
-line_text line = with_words [] (words_of line) ++ 10 ∷ []
+line_text line = with_fields [] (line_fields line) ++ 10 ∷ []
 
 -- lines as bytes
 abbrev pub text : List TranscriptLine → List ℕ

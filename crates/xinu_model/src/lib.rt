@@ -1,6 +1,17 @@
 //! The abstract machine: definitions, and the laws on its outcomes.
 //!
-//! It depends on the plain data of `xinu_base`. Nothing of it runs: each law is the contract of a function that does nothing.
+//! Nothing of it runs. `specs/` has a file or a folder for each subject: `Process`, `Semaphores`, `Messages`, `Clock`, `Heap`, `Pools`,
+//! `Ports`, `Isa` (the instructions), then `Machine` (the state, and the end of an event), `Calls` (the table of calls), `Events`, `Boot`,
+//! `Runs`, `Text`, and `Sound` (what always holds). The contracts of all other crates cite these definitions. `docs/KERNEL.md` says them in
+//! words. [`laws`] has the laws on outcomes, each the contract of a function that does nothing:
+//!
+//! | Law | Says |
+//! |---|---|
+//! | [`laws::outcomes_agree`] | if nothing is chosen in an event, its lines and the state after it are determined by the state before; equal lines have equal states; no outcome begins with a file call that took effect as the next one |
+//! | [`laws::texts_agree`] | two outcomes whose lines begin one text are equal |
+//! | [`laws::events_happen`], [`laws::runs_happen`] | each event has an outcome, and there is a run through each list of events, from each state |
+//!
+//! They speak of all calls of the table, whether they are built or not.
 #![tactic(auto)]
 
 pub mod laws;

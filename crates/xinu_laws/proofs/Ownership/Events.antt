@@ -56,7 +56,7 @@ kept_continued left s sound = places_stay (touched_by left) s (continued left s)
 pub hart_after : (s : Xinu) → IsSound s → current_hart (with_executed (next s) s) ≡ (next s).hart
 hart_after s sound =
     let within = current_within s.tables sound.tables in
-    let many = sound.harts in
+    let many = sound.harts.many in
     get_or-set_same s.harts s.tables.current (next s).hart no_hart (omega arith)
 
 -- if an event gives nothing away, a call that gives memory back frees nothing that is held
@@ -86,7 +86,7 @@ kept_executed s = record { heap = refl; ranges = refl; stacks = refl }
 
 -- a process may call after an instruction
 pub may_call_next : (old : Xinu) → IsSound old → old.tables.current ≢ 0 → MayCallAny (with_executed (next old) old)
-may_call_next old sound runs = may_call_after (next old) old (may_call old sound runs)
+may_call_next old sound runs = may_call_after old (may_call old sound runs)
 
 -- What comes of an instruction.
 pub apart_reacted : (o : Outcome) (old : Xinu) → (next old).outcome ≡ o → IsSound old → IsApart old → old.tables.current ≢ 0 → (process_at old.tables old.tables.current).rest ≡ rest.Nothing

@@ -1,19 +1,17 @@
 -- Each event leaves the heap where it begins, with as many cells as it has.
-use Rattle.std.proofs.Common.{◌≡◌, ℕ, ◌==◌, cond, List, [], Option, Some, None, refl, ap, subst}
+use Rattle.std.proofs.Common.{false, ℕ, ◌==◌, cond, List, [], ap, subst}
 use Rattle.std.proofs.lemmas.Bool.{cond_both, eqb-false}
-use Rattle.xinu_base.specs.Syscalls.{is_built}
 use Rattle.xinu_base.specs.declared.events.Event.{Event}
 use Rattle.xinu_base.specs.declared.events.Event.TheVariants.{Step, Tick}
 use Rattle.xinu_base.specs.declared.lines.TranscriptLine.{TranscriptLine}
 use Rattle.xinu_base.specs.declared.registers.Outcome.{Outcome}
 use Rattle.xinu_base.specs.declared.registers.Outcome.TheVariants as outcome
-use Rattle.xinu_model.specs.Calls.{calls, call_of_number, called, continued}
+use Rattle.xinu_model.specs.Calls.{calls, continued}
 use Rattle.xinu_model.specs.Clock.{ticked}
 use Rattle.xinu_model.specs.Events.{call_of, with_executed, reacted, instruction_step, is_done, stepped, effect_of, Happens}
 use Rattle.xinu_model.specs.Footprints.{on_tables}
 use Rattle.xinu_laws.specs.GivingAway.{next}
-use Rattle.xinu_model.specs.Machine.{Xinu, current_hart, CallResult, refused, EventResult, nothing_happens, end_of_event}
-use Rattle.xinu_model.specs.Rows.{CallRow, found_in, done_by}
+use Rattle.xinu_model.specs.Machine.{Xinu, current_hart, EventResult, nothing_happens, end_of_event}
 use Rattle.xinu_model.specs.Sound.State.{IsSound}
 use Rattle.xinu_model.specs.Tables.{process_at}
 use Rattle.xinu_laws.specs.Touches.{reach, HasSameExtent, Touches}
@@ -23,28 +21,21 @@ use Rattle.xinu_laws.proofs.Preserve.Events.{may_call, may_call_after}
 use Rattle.xinu_laws.proofs.Touches.Continued.{continued_touches}
 use Rattle.xinu_laws.proofs.Touches.Events.{touches_ticked}
 use Rattle.xinu_laws.proofs.Touches.Processes.{exit_touches}
-use Rattle.xinu_laws.proofs.Touches.Table.{call_touches}
+use Rattle.xinu_laws.proofs.Touches.Few.{IsLawOfFew, built_law_of_few}
 
 -- the heap of s and that of u have the same extent
 abbrev HaveSameExtent : Xinu → Xinu → Type 0
 HaveSameExtent s u = HasSameExtent s.parts.heap u.parts.heap
 
--- a call of any number
-extent_call : (number : ℕ) (args : List ℕ) (s : Xinu) → IsSound s → HaveSameExtent s (call_of_number number args s).call.state
-extent_call number args s k = by_row (found_in calls number) refl
-  where
-    by_row : (found : Option CallRow) → found_in calls number ≡ found → HaveSameExtent s (done_by found args s).call.state
-    by_row None e = same_extent s.parts.heap
-    by_row (Some r) e = subst (λ x. HaveSameExtent s (done_by x args s).call.state) e (call_touches number args s r k e).parts.extent
-
-extent_called : (number : ℕ) (args : List ℕ) (s : Xinu) → IsSound s → HaveSameExtent s (called number args s).call.state
-extent_called number args s k =
-    cond_both (is_built number) (call_of_number number args s) (refused s) (λ (h : CallResult). HaveSameExtent s h.call.state) (λ _. extent_call number args s k) (λ _. same_extent s.parts.heap)
+-- each call keeps it: no footprint names the extent
+extent_law : IsLawOfFew (λ f. false) (λ number s u. HaveSameExtent s u)
+unfolding calls
+extent_law = record { same = λ number s. same_extent s.parts.heap; others = λ number f s u e t. t.parts.extent; few = tt }
 
 -- what comes of an instruction
 extent_reacted : (o : Outcome) (s : Xinu) → IsSound s → HaveSameExtent s (reacted o s).state
 extent_reacted outcome.Went s k = same_extent s.parts.heap
-extent_reacted outcome.Call s k = let call = call_of (current_hart s) in extent_called call.number call.args s k
+extent_reacted outcome.Call s k = let call = call_of (current_hart s) in built_law_of_few extent_law call.number call.args s k
 extent_reacted outcome.Exit s k = (exit_touches s k).parts.extent
 extent_reacted (outcome.Trap cause) s k = (exit_touches s k).parts.extent
 
@@ -57,7 +48,7 @@ extent_stepped s k =
     (λ _. same_extent s.parts.heap)
     (λ b. let c = may_call s k (eqb-false s.tables.current 0 b) in
     cond_both (is_done left) (instruction_step s) goes_on (λ (e : EventResult). HaveSameExtent s e.state)
-    (λ _. let u = with_executed (next s) s in extent_reacted (next s).outcome u (sound_where_called u (may_call_after (next s) s c)))
+    (λ _. let u = with_executed (next s) s in extent_reacted (next s).outcome u (sound_where_called u (may_call_after s c)))
     (λ _. (continued_touches left s k).parts.extent))
 
 -- what an event leaves, whatever is chosen in it

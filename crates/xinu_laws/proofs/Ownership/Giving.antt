@@ -83,7 +83,7 @@ holders_given_away old e lines new sound h g =
     let gives : gives_back call.number ≡ true = ap (λ r. gives_back (call_of r).number) (hart_after old sound) ∙ g.number in
     let is : (end_of_event old.tables.current (call_line s call ∷ []) result).state ≡ new =
     sym (ap (λ (x : EventResult). x.state) (stepped_calls old e new g)) ∙ sym (ap (λ f. (effect_of old f h.choice).state) g.step) ∙ ap (λ (x : EventResult). x.state) h.effect in
-    let may = may_call_after (next old) old (may_call old sound g.runs) in
+    let may = may_call_after old (may_call old sound g.runs) in
     let ended = kept_end_of_event old.tables.current (call_line s call ∷ []) result (called_keeps call.number call.args s may) in
     subst (KeepsHolders old) is (λ a. holders_kept result.call.state (end_of_event old.tables.current (call_line s call ∷ []) result).state ended.ranges ended.stacks a ∙ holders_called call.number call.args s (sound_where_called s may) gives a)
 

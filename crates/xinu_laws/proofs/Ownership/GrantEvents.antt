@@ -1,9 +1,6 @@
 -- What a pool or a stack has after a call or an event and not before was free before it: only those calls that touch stacks or ranges are to be looked at.
-use Rattle.std.proofs.Common.{◌≡◌, ◌≢◌, ℕ, ◌==◌, Bool, true, false, ◌||◌, cond, List, [], ◌∷◌, filter, Option, Some, None, refl, ap, subst, arith}
-use Rattle.std.specs.Prelude.{slice_index}
-use Rattle.std.specs.List.{AllByRecursion}
+use Rattle.std.proofs.Common.{◌≢◌, ℕ, ◌==◌, Bool, ◌||◌, cond, List, [], ◌∷◌, ap, subst, arith}
 use Rattle.std.proofs.lemmas.Bool.{cond_both, eqb-false, or_parts}
-use Rattle.xinu_base.specs.Syscalls.{is_built}
 use Rattle.xinu_base.specs.declared.events.Event.{Event}
 use Rattle.xinu_base.specs.declared.events.Event.TheVariants.{Step, Tick}
 use Rattle.xinu_base.specs.declared.lines.TranscriptLine.{TranscriptLine}
@@ -12,68 +9,54 @@ use Rattle.xinu_base.specs.declared.registers.Outcome.{Outcome}
 use Rattle.xinu_base.specs.declared.registers.Outcome.TheVariants as outcome
 use Rattle.xinu_laws.specs.GivingAway.{next}
 use Rattle.xinu_laws.specs.Grants.{GivesOnlyFree}
-use Rattle.xinu_laws.specs.Touches.{reach, Touches}
 use Rattle.xinu_model.specs.Calls.{calls, call_of_number, called, continued}
 use Rattle.xinu_model.specs.Events.{call_of, call_line, exit_call, with_executed, reacted, instruction_step, is_done, stepped, effect_of, Happens}
 use Rattle.xinu_model.specs.Footprints.{Footprint}
-use Rattle.xinu_model.specs.Machine.{Xinu, current_hart, CallResult, EventResult, nothing_happens, end_of_event, refused}
+use Rattle.xinu_model.specs.Machine.{Xinu, current_hart, EventResult, nothing_happens, end_of_event}
 use Rattle.xinu_model.specs.Process.Death.{exit}
-use Rattle.xinu_model.specs.Rows.{CallRow, found_in, done_by}
 use Rattle.xinu_model.specs.Sound.State.{IsSound}
 use Rattle.xinu_model.specs.Tables.{process_at}
 use Rattle.xinu_model.specs.Words.{half}
-use Rattle.xinu_laws.proofs.Lists.CallRows.{of_few}
 use Rattle.xinu_laws.proofs.Lists.RowByRow.{◌⨾◌}
 use Rattle.xinu_laws.proofs.Ownership.Events.{kept_continued, kept_end_of_event, kept_executed, kept_ticked, may_call_next}
 use Rattle.xinu_laws.proofs.Ownership.Grants.{gives_after, gives_before, gives_create, gives_exit, gives_kept, gives_kill, gives_mkbufpool, gives_nothing, gives_within}
 use Rattle.xinu_laws.proofs.Preserve.Calls.{called_keeps, continued_keeps, exit_keeps, sound_where_called}
 use Rattle.xinu_laws.proofs.Preserve.Events.{may_call}
-use Rattle.xinu_laws.proofs.Touches.Table.{call_touches}
+use Rattle.xinu_laws.proofs.Touches.Few.{IsLawOfFew, law_of_few, built_law_of_few}
 
 -- whether a footprint names stacks or ranges
 abbrev names_grants : Footprint → Bool
 names_grants f = f.stacks || f.ranges
 
--- a row gives only what was free
-abbrev GivesOnlyFreeRow : CallRow → Type 0
-GivesOnlyFreeRow r = (a : ℕ → ℕ) (s : Xinu) → GivesOnlyFree s (r.effect a s).call.state
-
--- The calls that give a pool or a stack memory, or take it.
-few_calls_give : AllByRecursion GivesOnlyFreeRow (filter (λ r. names_grants r.touches) calls)
-unfolding calls
-few_calls_give =
-    (λ a s. gives_create (a 0) (a 1) (half (a 2)) (a 3) (a 4) (a 5) s) ⨾
-    (λ a s. gives_kill (a 0) s) ⨾
-    (λ a s. gives_exit s) ⨾
-    (λ a s. gives_mkbufpool (a 0) (a 1) s) ⨾
-    tt
-
 -- nothing changes
 gives_same : (s : Xinu) → GivesOnlyFree s s
 gives_same s = gives_nothing s s (λ a. omega arith)
 
--- The call of any number.
-pub call_gives : (number : ℕ) (args : List ℕ) (s : Xinu) → IsSound s → GivesOnlyFree s (call_of_number number args s).call.state
-call_gives number args s sound = by_row (found_in calls number) refl
-  where
-    by_row : (found : Option CallRow) → found_in calls number ≡ found → GivesOnlyFree s (done_by found args s).call.state
-    by_row None e = gives_same s
-    by_row (Some r) e = by_test (names_grants r.touches) refl
-      where
-        by_test : (b : Bool) → names_grants r.touches ≡ b → GivesOnlyFree s (r.effect (slice_index args) s).call.state
-        by_test true h = of_few GivesOnlyFreeRow (λ x. names_grants x.touches) calls few_calls_give number r e h (slice_index args) s
-        by_test false h =
-            let t : Touches (reach r.touches) s (r.effect (slice_index args) s).call.state = subst (λ x. Touches (reach r.touches) s (done_by x args s).call.state) e (call_touches number args s r sound e) in
-            let k = or_parts r.touches.stacks r.touches.ranges h in
-            gives_within s (r.effect (slice_index args) s).call.state (t.parts.ranges k.1) (t.stacks k.0)
+-- Each call gives only what was free: those that may change one of these, one by one.
+grants_law : IsLawOfFew names_grants (λ number s u. GivesOnlyFree s u)
+unfolding calls
+grants_law = record {
+  same = λ number s. gives_same s;
+  others = λ number f s u e t. (let k = or_parts f.stacks f.ranges e in gives_within s u (t.parts.ranges k.1) (t.stacks k.0));
+  few =
+      (λ a s k. gives_create (a 0) (a 1) (half (a 2)) (a 3) (a 4) (a 5) s) ⨾
+      (λ a s k. gives_kill (a 0) s) ⨾
+      (λ a s k. gives_exit s) ⨾
+      (λ a s k. gives_mkbufpool (a 0) (a 1) s) ⨾
+      tt;
+}
 
--- The same of a call that is built or refused.
+-- So the call of any number does,
+pub call_gives : (number : ℕ) (args : List ℕ) (s : Xinu) → IsSound s → GivesOnlyFree s (call_of_number number args s).call.state
+call_gives number args s sound = law_of_few grants_law number args s sound
+
+-- and a call that is built or refused.
 called_gives : (number : ℕ) (args : List ℕ) (s : Xinu) → IsSound s → GivesOnlyFree s (called number args s).call.state
-called_gives number args s sound =
-    cond_both (is_built number) (call_of_number number args s) (refused s) (λ (h : CallResult). GivesOnlyFree s h.call.state) (λ _. call_gives number args s sound) (λ _. gives_same s)
+called_gives number args s sound = built_law_of_few grants_law number args s sound
 
 -- What comes of an instruction.
-reacted_gives : (o : Outcome) (old : Xinu) → IsSound old → old.tables.current ≢ 0 → GivesOnlyFree old (reacted o (with_executed (next old) old)).state
+reacted_gives : (o : Outcome) (old : Xinu) → IsSound old → old.tables.current ≢ 0
+    → GivesOnlyFree old (reacted o (with_executed (next old) old)).state
 reacted_gives outcome.Went old sound runs = gives_kept (kept_executed old)
 reacted_gives outcome.Call old sound runs =
     let s = with_executed (next old) old in
@@ -113,5 +96,6 @@ effect_gives s Tick choice sound = gives_kept (kept_ticked s sound)
 effect_gives s _ choice sound = gives_same s
 
 -- Each event.
-pub event_gives : (old : Xinu) (e : Event) (lines : List TranscriptLine) (new : Xinu) → IsSound old → Happens old e lines new → GivesOnlyFree old new
+pub event_gives : (old : Xinu) (e : Event) (lines : List TranscriptLine) (new : Xinu) → IsSound old → Happens old e lines new
+    → GivesOnlyFree old new
 event_gives old e lines new sound h = subst (GivesOnlyFree old) (ap (λ (x : EventResult). x.state) h.effect) (effect_gives old e h.choice sound)

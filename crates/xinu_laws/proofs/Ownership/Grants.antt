@@ -6,6 +6,7 @@ use Rattle.xinu_base.specs.declared.processes.Process.{Process}
 use Rattle.xinu_base.specs.declared.registers.Hart.{Hart}
 use Rattle.xinu_laws.specs.Apart.{is_in_free, is_in_pool, is_in_stack, holders}
 use Rattle.xinu_laws.specs.Grants.{GivesOnlyFree}
+use Rattle.xinu_model.specs.Footprints.{on_tables}
 use Rattle.xinu_model.specs.Heap.Calls.{getmem, getstk, granted, stacked}
 use Rattle.xinu_model.specs.Heap.Cells.{Grant, Stack, take_memory, take_stack}
 use Rattle.xinu_model.specs.Machine.{Xinu, Returns, CallState, CallResult, start, refused, returns}
@@ -24,7 +25,6 @@ use Rattle.xinu_laws.proofs.Lists.Maps.{one, times_first, times_set}
 use Rattle.xinu_laws.proofs.Ownership.Claims.{empty_stack, holders_kept, pool_parts, stack_parts}
 use Rattle.xinu_laws.specs.Touches.{reach, range_of, stacks_of, KeepsPlaces, Touches}
 use Rattle.xinu_laws.proofs.Touches.Moves.{touches_sent}
-use Rattle.xinu_model.specs.Footprints.{on_tables}
 
 -- where no address has more holders nothing is given
 pub gives_nothing : (s u : Xinu) → ((a : ℕ) → holders u a ≤ holders s a) → GivesOnlyFree s u

@@ -19,6 +19,7 @@ use Rattle.xinu_laws.proofs.Pools.Holders.{IsHolder, holder_finds, by_holder}
 use Rattle.xinu_laws.proofs.Pools.Calls.{HavePools}
 use Rattle.xinu_laws.proofs.Tables.MoveTo.{semaphore_within}
 use Rattle.xinu_laws.proofs.Tables.Unblock.{sound_signalled}
+use Rattle.xinu_laws.proofs.Tables.Harts.{harts_same}
 
 -- a pool is made, if memory and a semaphore are found
 made_pool_preserves : (found : Option Grant) (sem : Option ℕ) (size n : ℕ) (s : Xinu) → free_semaphore s.tables ≡ sem → MayCall s → IsPreserved (made_pool found sem size n s)
@@ -81,7 +82,7 @@ harts_freed_buffer a d = by_holder (λ e. e.state.harts ≡ d.state.harts) a d r
 freed_by_preserves : (found : Option ℕ) (a : ℕ) (s : Xinu) → holder a s.parts.pools ≡ found → MayCall s → HavePools s → IsPreserved (freed_by found a s)
 freed_by_preserves None a s e c k = refused_preserves s c
 freed_by_preserves (Some i) a s e c k =
-    record { tables = sound_put_back a i (start s) c.tables k (holder_finds a i s.parts.pools e); harts = ap length (harts_put_back a i (start s)) ∙ c.harts }
+    record { tables = sound_put_back a i (start s) c.tables k (holder_finds a i s.parts.pools e); harts = harts_same s.harts _ (harts_put_back a i (start s)) c.harts }
 
 -- Call 30.
 pub freebuf_preserves : (a : ℕ) (s : Xinu) → MayCall s → HavePools s → IsPreserved (freebuf a s)

@@ -42,7 +42,7 @@ still_no_waiters sem r d e =
 -- From d to e all are released who waited on the two semaphores of port q.
 pub record IsCleared (q : ℕ) (queue : PortQueue) (d e : CallState) : Type 0 where
   pub tables : IsSoundTables e.state.tables
-  pub harts : length e.state.harts ≡ length d.state.harts
+  pub harts : e.state.harts ≡ d.state.harts
   pub owners : (r : ℕ) → (semaphore_at e.state.tables r).owner ≡ (semaphore_at d.state.tables r).owner
   pub rests : KeepsRests d.state.tables e.state.tables
   pub no_senders : (semaphore_at e.state.tables queue.send).waiters ≡ []

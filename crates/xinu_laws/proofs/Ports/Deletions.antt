@@ -19,11 +19,13 @@ use Rattle.xinu_laws.proofs.Touches.Kept.{keeps_pools, keeps_ports}
 use Rattle.xinu_laws.proofs.Touches.Pools.{pools_reached, own_semaphores, freed_buffer_touches}
 use Rattle.xinu_laws.proofs.Ports.Renewals.{IsRenewed, port_deleted, port_reset}
 use Rattle.xinu_laws.proofs.Ports.Signals.{HasPorts}
+use Rattle.xinu_laws.proofs.Tables.Harts.{harts_same}
+use Rattle.xinu_model.specs.Sound.State.{AreHarts}
 
 -- what holds inside an event while its caller runs
 pub record IsSoundInside (d : CallState) : Type 0 where
   pub tables : IsSoundTables d.state.tables
-  pub harts : length d.state.harts ≡ 64
+  pub harts : AreHarts d.state.harts
   pub pools : ArePools d.state.tables d.state.parts.pools
   pub ports : HasPorts d
 
@@ -42,7 +44,7 @@ freed_buffer_keeps a d k =
     record {
       sound = record {
         tables = sound;
-        harts = ap length (harts_freed_buffer a d) ∙ k.harts;
+        harts = harts_same d.state.harts _ (harts_freed_buffer a d) k.harts;
         pools = pools_freed_buffer a d o k.pools;
         ports = keeps_ports refl touches sound.inside k.ports;
       };
@@ -68,7 +70,7 @@ refused_keeps s c p a = record { preserved = refused_preserves s c; pools = p; p
 -- a port is renewed
 renewed_keeps : (q : ℕ) (d e : CallState) → IsSoundInside d → IsRenewed q d e → KeepsAll (returns e (pos 0))
 renewed_keeps q d e k r = record {
-  preserved = record { tables = r.tables; harts = r.harts ∙ k.harts };
+  preserved = record { tables = r.tables; harts = harts_same d.state.harts _ r.harts k.harts };
   pools = keeps_pools refl r.touches k.pools;
   ports = r.ports;
 }

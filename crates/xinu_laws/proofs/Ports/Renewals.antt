@@ -27,7 +27,7 @@ use Rattle.xinu_laws.proofs.Ports.Signals.{HasPorts}
 -- From d to e port q is renewed: what holds of tables and ports holds, and nothing else is touched.
 pub record IsRenewed (q : ℕ) (d e : CallState) : Type 0 where
   pub tables : IsSoundTables e.state.tables
-  pub harts : length e.state.harts ≡ length d.state.harts
+  pub harts : e.state.harts ≡ d.state.harts
   pub ports : HasPorts e
   pub touches : Touches (reach on_ports) d.state e.state
 

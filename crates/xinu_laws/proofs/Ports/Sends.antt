@@ -29,16 +29,18 @@ use Rattle.xinu_laws.proofs.Ports.Made.{PreservesPorts, refused_on_ports}
 use Rattle.xinu_laws.proofs.Ports.Messages.{ports_take_room, ports_take_turn, ports_go_on, room_go_on, message_go_on}
 use Rattle.xinu_laws.proofs.Ports.Signals.{HasPorts, HasMessage, HasRoom}
 use Rattle.xinu_laws.proofs.Ports.Waits.{IsCallOn, ports_wait, sender_call, receiver_call}
+use Rattle.xinu_laws.proofs.Tables.Harts.{harts_same}
+use Rattle.xinu_model.specs.Sound.State.{AreHarts}
 
 -- a semaphore of a port is in the table
 owned_within : (q sem : ℕ) (t : Tables) → IsSoundTables t → (semaphore_at t sem).owner ≡ Some (owner.Port q) → sem < 128
 owned_within q sem t k e = semaphore_within t sem k.inside.semaphores (λ f. cc)
 
 -- A signal on a semaphore of a port, which keeps what holds of the ports.
-signal_on_ports : (q sem : ℕ) (value : ℤ) (d : CallState) → IsSoundTables d.state.tables → length d.state.harts ≡ 64 → (semaphore_at d.state.tables sem).owner ≡ Some (owner.Port q)
+signal_on_ports : (q sem : ℕ) (value : ℤ) (d : CallState) → IsSoundTables d.state.tables → AreHarts d.state.harts → (semaphore_at d.state.tables sem).owner ≡ Some (owner.Port q)
     → HasPorts (signalled sem d) → PreservesPorts (returns (signalled sem d) value)
 signal_on_ports q sem value d k harts e a = record {
-  preserved = record { tables = sound_signalled sem d k (owned_within q sem d.state.tables k e) (λ f. cc); harts = ap length (harts_signalled sem d) ∙ harts };
+  preserved = record { tables = sound_signalled sem d k (owned_within q sem d.state.tables k e) (λ f. cc); harts = harts_same d.state.harts _ (harts_signalled sem d) harts };
   ports = a;
 }
 

@@ -30,7 +30,9 @@ use Rattle.xinu_laws.proofs.Preserve.Runs.{IsKept, runs_keep}
 use Rattle.xinu_laws.specs.Preserve.{MayCallAny, KeepsAll, ticking}
 use Rattle.xinu_laws.proofs.Preserve.Calls.{inside_preserved, called_keeps, exit_keeps, continued_keeps}
 use Rattle.xinu_laws.proofs.Tables.Starts.{sound_start}
+use Rattle.xinu_model.proofs.ZeroRegister.{zero_register_of_step}
 use Rattle.xinu_laws.proofs.Tables.Ticks.{sound_ticked}
+use Rattle.xinu_laws.proofs.Tables.Harts.{harts_same}
 
 -- The end of an event leaves a sound state.
 pub state_end_of_event : (was : ℕ) (first : List TranscriptLine) (result : CallResult) → KeepsAll result → IsSound (end_of_event was first result).state
@@ -49,8 +51,10 @@ pub may_call : (s : Xinu) → IsSound s → s.tables.current ≢ 0 → MayCallAn
 may_call s k n = record { may = record { tables = k.tables; harts = k.harts; not_null = n }; pools = k.pools; ports = k.ports }
 
 -- and after an instruction of it
-pub may_call_after : (did : Executed) (s : Xinu) → MayCallAny s → MayCallAny (with_executed did s)
-may_call_after did s c = record { may = executed_may_call did s c.may; pools = c.pools; ports = c.ports }
+pub may_call_after : (s : Xinu) → MayCallAny s → MayCallAny (with_executed (exec (current_hart s) s.memory) s)
+may_call_after s c =
+    let zero = (zero_register_of_step (current_hart s) s.memory).zero (c.may.harts.zero s.tables.current) in
+    record { may = executed_may_call (exec (current_hart s) s.memory) s zero c.may; pools = c.pools; ports = c.ports }
 
 -- What comes of an instruction keeps the state sound.
 state_reacted : (o : Outcome) (s : Xinu) → MayCallAny s → IsSound (reacted o s).state
@@ -71,7 +75,7 @@ state_stepped s k =
     (λ _. k)
     (λ b. let c = may_call s k (eqb-false s.tables.current 0 b) in
     cond_both (is_done left) (instruction_step s) goes_on (λ (e : EventResult). IsSound e.state)
-    (λ _. state_reacted did.outcome (with_executed did s) (may_call_after did s c))
+    (λ _. state_reacted did.outcome (with_executed did s) (may_call_after s c))
     (λ _. state_end_of_event s.tables.current [] (continued left s) (continued_keeps s c)))
 
 -- A tick keeps the state sound.
@@ -81,7 +85,7 @@ state_ticked s k =
     let touches : Touches (reach on_tables) s (ticked s).state = touches_ticked s k.tables in
     record {
       tables = tables;
-      harts = harts_ticked s ∙ k.harts;
+      harts = harts_ticked s k.harts;
       pools = keeps_pools refl touches k.pools;
       ports = keeps_ports refl touches tables.inside k.ports;
     }
@@ -91,7 +95,7 @@ pub ticking_keeps : (s : Xinu) → IsSound s → KeepsAll (ticking s)
 ticking_keeps s k =
     let t = state_ticked s k in
     record {
-      preserved = record { tables = t.tables; harts = ap (λ (x : Xinu). length x.harts) (unblock_all_ready (due (s.tables.ticks + 1) s.tables.sleepers) (start s)) ∙ k.harts };
+      preserved = record { tables = t.tables; harts = harts_same s.harts _ (ap (λ (x : Xinu). x.harts) (unblock_all_ready (due (s.tables.ticks + 1) s.tables.sleepers) (start s))) k.harts };
       pools = t.pools;
       ports = t.ports;
     }

@@ -11,13 +11,14 @@ use Rattle.xinu_model.specs.Tables.{Nowhere, InSleepers}
 use Rattle.xinu_laws.proofs.Tables.Deaths.{can_get_alive, sound_delivered, delivered_changes}
 use Rattle.xinu_laws.specs.Preserve.{IsPreserved, MayCall}
 use Rattle.xinu_laws.proofs.Preserve.{Preserves, refused_preserves, answers_preserves, either_preserves, blocked_preserves, goes_on_may_call}
+use Rattle.xinu_laws.proofs.Tables.Harts.{harts_same}
 
 -- Call 21.
 pub send_preserves : (p message : ℕ) → Preserves (send p message)
 send_preserves p message s c = either_preserves (can_get p s.tables) _ _
     (λ b. record {
       tables = sound_delivered p message (start s) c.tables (can_get_alive s.tables p b);
-      harts = ap (λ (x : Xinu). length x.harts) (delivered_changes p message (start s)).state ∙ c.harts;
+      harts = harts_same s.harts _ (ap (λ (x : Xinu). x.harts) (delivered_changes p message (start s)).state) c.harts;
     })
     (λ _. refused_preserves s c)
 

@@ -25,6 +25,7 @@ use Rattle.xinu_laws.proofs.Preserve.{Preserves, current_within, refused_preserv
 use Rattle.xinu_laws.proofs.Tables.Scheduling.{holds_at, inside_last_process, sound_move, sound_ready, idle_differs}
 use Rattle.xinu_laws.proofs.Tables.MoveTo.{within_table}
 use Rattle.xinu_laws.proofs.Lists.Searches.{search_passes, search_within}
+use Rattle.xinu_laws.proofs.Tables.Harts.{harts_set}
 
 -- who passes the test is suspended
 pub suspended_of : (s : State) → is_suspended s ≡ true → s ≡ Suspended
@@ -87,7 +88,7 @@ created_preserves : (number : Option ℕ) (stack : Option Stack) (entry size : �
     → free_process s.tables ≡ number → MayCall s → IsPreserved (created number stack entry size priority name x y s)
 created_preserves (Some p) (Some stack) entry size priority name x y s e c = record {
   tables = sound_made_process s.tables p (new_process name priority s.tables.current stack.top size) c.tables (free_process_within s.tables p e) (free_process_free s.tables p e) refl refl;
-  harts = length-set s.harts p (new_hart entry stack.top x y) ∙ c.harts;
+  harts = harts_set s.harts p (new_hart entry stack.top x y) refl c.harts;
 }
 created_preserves (Some p) None entry size priority name x y s e c = refused_preserves s c
 created_preserves None stack entry size priority name x y s e c = refused_preserves s c
@@ -134,7 +135,7 @@ suspend_preserves p s c = either_preserves (p == 0) _ _ (λ _. refused_preserves
 pub exit_preserves : Preserves exit
 exit_preserves s c = record {
   tables = inside_killed s.tables.current (start s) c.tables.inside (current_within s.tables c.tables) c.not_null;
-  harts = harts_killed s.tables.current (start s) ∙ c.harts;
+  harts = harts_killed s.tables.current (start s) c.harts;
 }
 
 -- Call 5.
@@ -144,7 +145,7 @@ kill_preserves p s c = either_preserves ((p == 0) || is_free (state_at s.tables 
     either_preserves (p == s.tables.current) _ _ (λ _. exit_preserves s c)
     (λ other. record {
       tables = sound_killed p (start s) c.tables (within_table s.tables p c.tables.inside.processes (not_free (state_at s.tables p) parts.1)) (eqb-false p 0 parts.0) (eqb-false p s.tables.current other);
-      harts = harts_killed p (start s) ∙ c.harts;
+      harts = harts_killed p (start s) c.harts;
     }))
 
 -- Call 7.

@@ -17,6 +17,7 @@ use Rattle.xinu_laws.proofs.Preserve.{Preserves, refused_preserves, answers_pres
 use Rattle.xinu_laws.proofs.Tables.MoveTo.{semaphore_within}
 use Rattle.xinu_laws.proofs.Tables.Unblock.{unblock_all_ready, owner_emptied, sound_emptied, emptied_has_no_waiters, sound_signalled, sound_signalled_times}
 use Rattle.xinu_laws.proofs.Lists.Searches.{search_passes, search_within}
+use Rattle.xinu_laws.proofs.Tables.Harts.{harts_same}
 
 -- whose semaphore a process may name
 images_of : (by : Option Owner) → is_images by ≡ true → by ≡ Some Image
@@ -62,8 +63,8 @@ semcreate_preserves (negsuc n) = refused_preserves
 semcreate_preserves (pos n) = λ x c. made_semaphore_preserves n (free_semaphore x.tables) x refl c
 
 -- who is released changes no registers
-pub harts_emptied : (sem : ℕ) (d : CallState) → length (emptied sem d).state.harts ≡ length d.state.harts
-harts_emptied sem d = ap (λ (s : Xinu). length s.harts) (unblock_all_ready (semaphore_at d.state.tables sem).waiters d)
+pub harts_emptied : (sem : ℕ) (d : CallState) → (emptied sem d).state.harts ≡ d.state.harts
+harts_emptied sem d = ap (λ (s : Xinu). s.harts) (unblock_all_ready (semaphore_at d.state.tables sem).waiters d)
 
 -- Call 15.
 pub semdelete_preserves : (sem : ℕ) → Preserves (semdelete sem)
@@ -72,7 +73,7 @@ semdelete_preserves sem x c = either_preserves (is_good sem x.tables) _ _
     let d = emptied sem (start x) in
     record {
       tables = sound_given_up d.state.tables sem (sound_emptied sem (start x) c.tables) g.within g.no_device (emptied_has_no_waiters sem (start x));
-      harts = harts_emptied sem (start x) ∙ c.harts;
+      harts = harts_same x.harts _ (harts_emptied sem (start x)) c.harts;
     })
     (λ _. refused_preserves x c)
 
@@ -84,7 +85,7 @@ semreset_preserves sem (pos n) = λ x c. either_preserves (is_good sem x.tables)
     let d = emptied sem (start x) in
     record {
       tables = sound_tokens d.state.tables sem n (sound_emptied sem (start x) c.tables) g.within (λ f. let o = owner_emptied sem sem (start x) in let e = g.owner in cc) (inr (emptied_has_no_waiters sem (start x)));
-      harts = harts_emptied sem (start x) ∙ c.harts;
+      harts = harts_same x.harts _ (harts_emptied sem (start x)) c.harts;
     })
     (λ _. refused_preserves x c)
 
@@ -113,7 +114,7 @@ signal_preserves sem x c =
     let less = int_lt (count_of (semaphore_at x.tables sem)) most_tokens in
     either_preserves (is_good sem x.tables && less) _ _
     (λ b. let g = good_semaphore x.tables sem c.tables.inside (and_parts (is_good sem x.tables) less b).0 in
-    record { tables = sound_signalled sem (start x) c.tables g.within (λ f. let e = g.owner in cc); harts = ap length (harts_signalled sem (start x)) ∙ c.harts })
+    record { tables = sound_signalled sem (start x) c.tables g.within (λ f. let e = g.owner in cc); harts = harts_same x.harts _ (harts_signalled sem (start x)) c.harts })
     (λ _. refused_preserves x c)
 
 -- Call 20.
@@ -125,6 +126,6 @@ signaln_preserves sem (pos n) = λ x c.
     (λ b. let g = good_semaphore x.tables sem c.tables.inside (and_parts (is_good sem x.tables) most b).0 in
     record {
       tables = sound_signalled_times sem n (start x) c.tables g.within (λ f. let e = g.owner in cc);
-      harts = ap (λ (y : Xinu). length y.harts) (unblock_all_ready (take n (semaphore_at x.tables sem).waiters) (start x)) ∙ c.harts;
+      harts = harts_same x.harts _ (ap (λ (y : Xinu). y.harts) (unblock_all_ready (take n (semaphore_at x.tables sem).waiters) (start x))) c.harts;
     })
     (λ _. refused_preserves x c)

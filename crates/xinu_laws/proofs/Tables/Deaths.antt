@@ -17,6 +17,8 @@ use Rattle.xinu_model.specs.Tables.{no_process, Tables, process_at, state_at, me
 use Rattle.xinu_laws.proofs.Tables.Changes.{inside_message}
 use Rattle.xinu_laws.proofs.Tables.Scheduling.{can_move_ready, idle_differs, sound_move}
 use Rattle.xinu_laws.proofs.Tables.MoveTo.{within_table, inside_move}
+use Rattle.xinu_laws.proofs.Tables.Harts.{harts_set, harts_same}
+use Rattle.xinu_model.specs.Sound.State.{AreHarts}
 
 -- and doesn't run
 pub listens_idle : (s : State) → listens s ≡ true → s ≢ Current
@@ -130,7 +132,7 @@ sound_killed p d k w n other =
     sound_move told.state.tables p no_process None Nowhere (sound_sent parent p d k) (λ e. other (e ∙ (sent_changes parent p d).current)) (can_move_free told.state.tables p w n)
 
 -- Each number keeps its registers if a process dies.
-pub harts_killed : (p : ℕ) (d : CallState) → length (killed p d).state.harts ≡ length d.state.harts
-harts_killed p d =
+pub harts_killed : (p : ℕ) (d : CallState) → AreHarts d.state.harts → AreHarts (killed p d).state.harts
+harts_killed p d a =
     let parent = (process_at d.state.tables p).parent in
-    length-set (sent parent p d).state.harts p no_hart ∙ ap (λ (s : Xinu). length s.harts) (sent_changes parent p d).state
+    harts_set (sent parent p d).state.harts p no_hart refl (harts_same d.state.harts _ (ap (λ (s : Xinu). s.harts) (sent_changes parent p d).state) a)

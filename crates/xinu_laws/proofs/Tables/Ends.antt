@@ -1,5 +1,5 @@
 -- The end of an event leaves sound tables, and registers for each number.
-use Rattle.std.proofs.Common.{◌≡◌, ℕ, ◌+◌, Bool, true, false, cond, ◌||◌, List, [], ◌∷◌, length, refl, ap, ◌∙◌, ℤ}
+use Rattle.std.proofs.Common.{◌≡◌, ℕ, ◌+◌, Bool, true, false, cond, ◌||◌, List, [], ◌∷◌, slice_index, refl, ap, ◌∙◌, ℤ}
 use Rattle.std.proofs.Math.ListN.{length-set}
 use Rattle.std.proofs.lemmas.Bool.{both_ways, cond_both, or_right}
 use Rattle.xinu_base.specs.declared.lines.TranscriptLine.{TranscriptLine}
@@ -14,6 +14,8 @@ use Rattle.xinu_model.specs.Tables.{Tables}
 use Rattle.xinu_laws.specs.Preserve.{FitsAnswer, IsPreserved, MayCall}
 use Rattle.xinu_laws.proofs.Tables.Scheduling.{sound_resched}
 use Rattle.xinu_laws.proofs.Tables.Unblock.{unblock_all_ready}
+use Rattle.xinu_laws.proofs.Tables.Harts.{harts_set, harts_same, harts_with_replies}
+use Rattle.xinu_model.specs.Sound.State.{AreHarts}
 
 -- if the caller runs no longer there is a resched
 off_closed : (answer : Answer) (owes : Bool) (t : Tables) → is_off answer ≡ true → IsSoundTables (resched t) → IsSoundTables (cond (owes || is_off answer) (resched t) t)
@@ -32,25 +34,20 @@ closed_fits Gone owes t o = off_closed Gone owes t refl (sound_resched t o)
 pub sound_closed : (result : CallResult) → IsPreserved result → IsSoundTables (closed result)
 sound_closed result k = closed_fits result.answer result.call.owes_resched result.call.state.tables k.tables
 
--- each number keeps its registers under the replies
-pub length-with_replies : (replies : List (ℕ × ℤ)) (harts : List Hart) → length (with_replies replies harts) ≡ length harts
-length-with_replies [] harts = refl
-length-with_replies (reply ∷ replies) harts = length-with_replies replies (with_reply harts reply) ∙ length-set harts reply.0 _
-
 -- The end of an event leaves sound tables.
 pub sound_end_of_event : (was : ℕ) (first : List TranscriptLine) (result : CallResult) → IsPreserved result → IsSoundTables (end_of_event was first result).state.tables
 sound_end_of_event was first result k = sound_closed result k
 
 -- Each number keeps its registers there.
-pub harts_end_of_event : (was : ℕ) (first : List TranscriptLine) (result : CallResult) → IsPreserved result → length (end_of_event was first result).state.harts ≡ 64
-harts_end_of_event was first result k = length-with_replies (replies_of result) result.call.state.harts ∙ k.harts
+pub harts_end_of_event : (was : ℕ) (first : List TranscriptLine) (result : CallResult) → IsPreserved result → AreHarts (end_of_event was first result).state.harts
+harts_end_of_event was first result k = harts_with_replies (replies_of result) result.call.state.harts k.harts
 
 -- And so it does at a tick.
-pub harts_ticked : (s : Xinu) → length (ticked s).state.harts ≡ length s.harts
-harts_ticked s =
-    length-with_replies (wakeup s).released (wakeup s).state.harts
-    ∙ ap (λ (x : Xinu). length x.harts) (unblock_all_ready (due (s.tables.ticks + 1) s.tables.sleepers) (start s))
+pub harts_ticked : (s : Xinu) → AreHarts s.harts → AreHarts (ticked s).state.harts
+harts_ticked s a =
+    harts_with_replies (wakeup s).released (wakeup s).state.harts
+    (harts_same s.harts _ (ap (λ (x : Xinu). x.harts) (unblock_all_ready (due (s.tables.ticks + 1) s.tables.sleepers) (start s))) a)
 
 -- An instruction leaves the tables as they are, and each number keeps its registers.
-pub executed_may_call : (did : Executed) (s : Xinu) → MayCall s → MayCall (with_executed did s)
-executed_may_call did s c = record { tables = c.tables; harts = length-set s.harts s.tables.current did.hart ∙ c.harts; not_null = c.not_null }
+pub executed_may_call : (did : Executed) (s : Xinu) → slice_index did.hart.regs 0 ≡ 0 → MayCall s → MayCall (with_executed did s)
+executed_may_call did s zero c = record { tables = c.tables; harts = harts_set s.harts s.tables.current did.hart zero c.harts; not_null = c.not_null }

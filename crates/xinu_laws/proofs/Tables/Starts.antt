@@ -17,6 +17,8 @@ use Rattle.xinu_model.specs.Sound.Tables.{count_in, waits_of, ready_places, wait
 use Rattle.xinu_model.specs.Tables.{no_process, Semaphore, no_semaphore, Tables, process_at, state_at, message_at, semaphore_at, move_to, Nowhere, InReady}
 use Rattle.xinu_laws.proofs.Tables.Scheduling.{holds_at, inside_last_process, sound_move, sound_ready, sound_resched}
 use Rattle.xinu_laws.proofs.Tables.MoveTo.{by_number, state_move_same, state_move_other}
+use Rattle.xinu_laws.proofs.Tables.Harts.{harts_set, harts_of_none}
+use Rattle.xinu_model.specs.Sound.State.{AreHarts}
 
 -- in a table of one thing each place holds it
 pub same_everywhere : {A : Type 0} (n p : ℕ) (x : A) → get_or (replicate n x) p x ≡ x
@@ -115,12 +117,12 @@ inside_null = record {
 pub record AreMade (i : ℕ) (s : Xinu) : Type 0 where
   pub tables : IsSoundTables s.tables
   pub current : s.tables.current ≡ 0
-  pub harts : length s.harts ≡ 64
+  pub harts : AreHarts s.harts
   pub suspended : (j : ℕ) → 0 < j → j < i → state_at s.tables j ≡ Suspended
 
 -- none is at first
 none_made : (images : List Loaded) → AreMade 1 (loaded_machine images)
-none_made images = record { tables = record { inside = inside_null; runs = refl }; current = refl; harts = refl; suspended = λ j z h. absurd (omega arith) }
+none_made images = record { tables = record { inside = inside_null; runs = refl }; current = refl; harts = record { many = refl; zero = λ p. harts_of_none p 64 }; suspended = λ j z h. absurd (omega arith) }
 
 -- the process of the next image is made
 next_made : (i : ℕ) (image : Loaded) (stack : Stack) (s : Xinu) → AreMade i s → 0 < i → i < 64 → AreMade (i + 1) (with_image i image stack s)
@@ -133,7 +135,7 @@ next_made i image stack s m z w =
     record {
       tables = record { inside = inside_last_process (move_to i x None Nowhere t) i k.inside; runs = k.runs };
       current = e;
-      harts = length-set s.harts i (new_hart image.entry stack.top 0 0) ∙ m.harts;
+      harts = harts_set s.harts i (new_hart image.entry stack.top 0 0) refl m.harts;
       suspended = λ j zero_less h. by_number j i (λ r. r ≡ j → state_at (move_to i x None Nowhere t) r ≡ Suspended)
           (λ _. state_move_same t i x None Nowhere m.tables.inside.processes w)
           (λ n _. state_move_other t j i x None Nowhere n ∙ m.suspended j zero_less (omega arith)) refl;
@@ -175,7 +177,7 @@ sound_all_ready (image ∷ images) i t k all =
 -- The machine starts with sound tables, and with registers for each number.
 pub record StartsSound (start : Xinu) : Type 0 where
   pub tables : IsSoundTables start.tables
-  pub harts : length start.harts ≡ 64
+  pub harts : AreHarts start.harts
 
 -- If the processes are made the machine starts so.
 sound_wakeup : (images : List Loaded) (s : Xinu) → length images < 64 → AreMade (1 + length images) s → StartsSound (all_started images s)

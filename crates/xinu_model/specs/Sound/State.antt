@@ -1,14 +1,20 @@
 -- What holds of the whole state between two events.
-use Rattle.std.specs.Prelude.{◌≡◌, length}
+use Rattle.std.specs.Prelude.{◌≡◌, ℕ, List, length, slice_index, slice_index_or}
 use Rattle.xinu_base.specs.Constants.{NPROC}
-use Rattle.xinu_model.specs.Machine.{Xinu}
+use Rattle.xinu_base.specs.declared.registers.Hart.{Hart}
+use Rattle.xinu_model.specs.Machine.{Xinu, no_hart}
 use Rattle.xinu_model.specs.Sound.Tables.{IsSoundTables}
 use Rattle.xinu_model.specs.Sound.Pools.{ArePools}
 use Rattle.xinu_model.specs.Sound.Ports.{ArePorts}
 
--- Between two events the tables are sound, there are registers for each number, and what holds of pools and ports holds.
+-- There are registers for each process number, and x0 is 0 in each.
+pub record AreHarts (harts : List Hart) : Type 0 where
+  pub many : length harts ≡ NPROC
+  pub zero : (p : ℕ) → slice_index (slice_index_or harts p no_hart).regs 0 ≡ 0
+
+-- Between two events the tables are sound, and so are the registers, the pools and the ports.
 pub record IsSound (s : Xinu) : Type 0 where
   pub tables : IsSoundTables s.tables
-  pub harts : length s.harts ≡ NPROC
+  pub harts : AreHarts s.harts
   pub pools : ArePools s.tables s.parts.pools
   pub ports : ArePorts s.tables s.parts.ports

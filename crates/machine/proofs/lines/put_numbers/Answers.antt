@@ -11,6 +11,6 @@ loop-number-preserved c =
     let fits : SFits w64 n = search rules in (
       c.number.ensures.number
           ∙ ap (λ (k : ℤ). blanked c.loop-number.text ++ signed_decimal k) (to_z-of_z w64 n fits)
-          ∙ one_more signed_decimal _ c.args.word.now c.args.numbers.now c.loop-number.number-index _ (pos 0) (omega arith) refl c.loop-number.invariant.0,
+          ∙ one_more signed_decimal _ c.args.field.now c.args.numbers.now c.loop-number.number-index _ (pos 0) (omega arith) refl c.loop-number.invariant.0,
       omega arith,
     )
