@@ -6,8 +6,8 @@ ghost use Rattle.xinu_base.specs.declared.lines.TranscriptLine.{TranscriptLine};
 ghost use Rattle.xinu_model.specs.Calls.{calls, call_of_number, called, continued};
 ghost use Rattle.xinu_model.specs.Clock.{ticked};
 ghost use Rattle.xinu_model.specs.Events.{with_executed};
-ghost use Rattle.xinu_model.specs.Isa.Effects.{Executed};
-ghost use Rattle.xinu_model.specs.Machine.{Xinu, CallResult, refused, end_of_event};
+ghost use Rattle.xinu_model.specs.Isa.Exec.{exec};
+ghost use Rattle.xinu_model.specs.Machine.{Xinu, current_hart, CallResult, refused, end_of_event};
 ghost use Rattle.xinu_model.specs.Process.Scheduling.{resched};
 ghost use Rattle.xinu_laws.specs.Preserve.{KeepsAll, MayCallAny, ticking};
 ghost use Rattle.xinu_model.specs.Process.Death.{exit};
@@ -26,7 +26,7 @@ pub fn calls_are_rows()
 /// In a sound state, and after an instruction, any process but the null process may call; what a call keeps holds inside an event.
 pub fn processes_may_call()
     ensures sound { (s : Xinu) → IsSound s → s.tables.current ≢ 0 → MayCallAny s }
-    ensures executed { (did : Executed) (s : Xinu) → MayCallAny s → MayCallAny (with_executed did s) }
+    ensures executed { (s : Xinu) → MayCallAny s → MayCallAny (with_executed (exec (current_hart s) s.memory) s) }
     ensures inside { (result : CallResult) → KeepsAll result → IsInside result.call.state.tables }
 {}
 
