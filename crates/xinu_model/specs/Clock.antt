@@ -35,17 +35,17 @@ ticked s =
     let d = wakeup s in
     event_result s.tables.current [] d.released (quantum_falls (a_tick_later d.owes_resched d.state.tables)) d.state false
 
--- the caller gives way to the others
+-- call 6: the caller lets the others run
 abbrev pub yield : Xinu → CallResult
 yield s = returns (record (start s) { owes_resched = true }) OK
 
--- call 26: the caller sleeps n ticks; for 0 it gives way
+-- call 26: the caller sleeps n ticks, for 0 it yields; refused if n is negative
 abbrev pub sleepms : ℤ → Xinu → CallResult
 sleepms (negsuc n) s = refused s
 sleepms (pos zero) s = yield s
 sleepms (pos (suc n)) s = blocked Sleeping Nothing (InSleepers (s.tables.ticks + suc n)) s
 
--- call 25: the caller sleeps n seconds, at most 2147483
+-- call 25: the caller sleeps n seconds; refused if n is negative or above 2147483
 abbrev pub sleep : ℤ → Xinu → CallResult
 sleep (negsuc n) s = refused s
 sleep (pos n) s = if nat_lt 2147483 n then refused s else sleepms (pos (1000 * n)) s

@@ -42,7 +42,7 @@ received (Some message) otherwise s = returns (start (goes_on None s)) (signed m
 abbrev pub held : Xinu → Option ℕ
 held s = message_at s.tables s.tables.current
 
--- call 21: p is sent a message, unless it holds one
+-- call 21: p is sent a message; refused if p is free or holds one
 abbrev pub send : ℕ → ℕ → Xinu → CallResult
 send p message s =
     if can_get p s.tables then returns (delivered p message (start s)) OK else refused s
@@ -55,7 +55,7 @@ receive s = received (held s) (blocked Receiving rest.Receive Nowhere s) s
 abbrev pub recvclr : Xinu → CallResult
 recvclr s = received (held s) (returns (start s) OK) s
 
--- call 24: the caller's message, for which it waits n ticks, at least one
+-- call 24: the caller's message, for which it waits n ticks, at least one; refused if n is negative
 abbrev pub recvtime : ℤ → Xinu → CallResult
 recvtime (negsuc n) s = refused s
 recvtime (pos n) s =

@@ -23,19 +23,19 @@ abbrev pub given_back : Option Heap → Xinu → CallResult
 given_back None s = refused s
 given_back (Some free) s = returns (start (record s { parts = record s.parts { heap = free } })) OK
 
--- call 10: n bytes of the lowest free cells
+-- call 10: n bytes of the lowest free cells; refused if n is 0 or no such cells are free
 abbrev pub getmem : ℕ → Xinu → CallResult
 getmem n s = granted (heap.take_memory n s.parts.heap) s
 
--- call 11: n bytes from an address on are given back
+-- call 11: n bytes from an address on are given back; refused if they aren't whole cells of the heap that are taken
 abbrev pub freemem : ℕ → ℕ → Xinu → CallResult
 freemem a n s = given_back (heap.free_memory a n s.parts.heap) s
 
--- call 12: a stack of n bytes of the highest free cells
+-- call 12: a stack of n bytes of the highest free cells; refused as call 10
 abbrev pub getstk : ℕ → Xinu → CallResult
 getstk n s = stacked (heap.take_stack n s.parts.heap) s
 
--- call 13: a stack of n bytes whose highest word is at an address is given back
+-- call 13: a stack of n bytes whose highest word is at an address is given back; refused as call 11
 abbrev pub freestk : ℕ → ℕ → Xinu → CallResult
 freestk a n s = given_back (heap.free_stack a n s.parts.heap) s
 

@@ -34,7 +34,8 @@ made_pool None sem size n s = refused s
 abbrev pub is_pool_size : ℕ → ℕ → Bool
 is_pool_size size n = (nat_le 8 size && nat_le size 8192) && (nat_le 1 n && nat_le n 2048)
 
--- call 28: a pool of n buffers of this size, rounded up to whole words
+-- Call 28: a pool of n buffers of this size, rounded up to whole words. Refused if the size or n is out of bounds, all pools are made, or no
+-- memory that meets no other pool or no semaphore is left.
 abbrev pub mkbufpool : ℕ → ℕ → Xinu → CallResult
 mkbufpool size n s =
     if is_pool_size size n && nat_lt (length s.parts.pools) most_pools
@@ -53,7 +54,7 @@ take_first (a ∷ free) i s =
 abbrev pub take_buffer : ℕ → Xinu → CallResult
 take_buffer i s = take_first (pool_at s.parts.pools i).free i s
 
--- call 29: a buffer of pool i, for which the caller waits
+-- call 29: a buffer of pool i, for which the caller waits; refused if the pool isn't made
 abbrev pub getbuf : ℕ → Xinu → CallResult
 getbuf i s =
     if nat_lt i (length s.parts.pools) then await (pool_at s.parts.pools i).semaphore (GetBuf i) (take_buffer i) s else refused s
@@ -77,11 +78,12 @@ given_to (Some i) a d = put_back a i d
 abbrev pub freed_buffer : ℕ → CallState → CallState
 freed_buffer a d = given_to (holder a d.state.parts.pools) a d
 
--- call 30: the held buffer at an address is given back
+-- a buffer is given back, if a pool that has it is found
 abbrev pub freed_by : Option ℕ → ℕ → Xinu → CallResult
 freed_by None a s = refused s
 freed_by (Some i) a s = returns (put_back a i (start s)) OK
 
+-- call 30: the buffer at an address is given back; refused if none is held there
 abbrev pub freebuf : ℕ → Xinu → CallResult
 freebuf a s = freed_by (holder a s.parts.pools) a s
 

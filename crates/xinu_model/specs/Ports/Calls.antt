@@ -48,7 +48,7 @@ started_port (Some q) (Some send) n s =
 started_port (Some q) None n s = refused s
 started_port None send n s = refused s
 
--- call 31: a port that holds n messages, which isn't negative
+-- call 31: a port that holds n messages; refused if n is negative, or no port or no two semaphores are free
 abbrev pub ptcreate : ℤ → Xinu → CallResult
 ptcreate (negsuc n) s = refused s
 ptcreate (pos n) s = started_port (free_port s) (free_semaphore s.tables) n s
@@ -86,21 +86,23 @@ emptied_port q queue d =
       };
     }
 
--- call 32: port q is deleted, its messages dropped (0) or given back as buffers (1)
+-- a port is deleted, if it is in use
 abbrev pub deleted_where : Option PortQueue → ℕ → ℕ → Xinu → CallResult
 deleted_where None q how s = refused s
 deleted_where (Some queue) q how s =
     if nat_le how 1 then returns (deleted q queue (cleared how queue (start s))) OK else refused s
 
+-- call 32: port q is deleted, its messages dropped (0) or given back as buffers (1); refused if it isn't in use, or `how` is neither
 abbrev pub ptdelete : ℕ → ℕ → Xinu → CallResult
 ptdelete q how s = deleted_where (port_at s.parts.ports q).queue q how s
 
--- call 33: port q is as it was made, its messages dropped (0) or given back as buffers (1)
+-- a port is reset, if it is in use
 abbrev pub reset_where : Option PortQueue → ℕ → ℕ → Xinu → CallResult
 reset_where None q how s = refused s
 reset_where (Some queue) q how s =
     if nat_le how 1 then returns (emptied_port q queue (cleared how queue (start s))) OK else refused s
 
+-- call 33: port q is as it was made, its messages dropped (0) or given back as buffers (1); refused as call 32
 abbrev pub ptreset : ℕ → ℕ → Xinu → CallResult
 ptreset q how s = reset_where (port_at s.parts.ports q).queue q how s
 
@@ -145,23 +147,25 @@ finish_receive ticket s =
 abbrev pub ticket_of : ℕ → ℕ → Xinu → PortTicket
 ticket_of q sem s = record { port = q; seq = (port_at s.parts.ports q).seq; sem = sem }
 
--- call 34: a message for port q; the caller waits for room
+-- a message is sent to a port, if it is in use
 abbrev pub sent_to : Option PortQueue → ℕ → ℕ → Xinu → CallResult
 sent_to None q message s = refused s
 sent_to (Some queue) q message s =
     let ticket = ticket_of q queue.send s in
     await queue.send (PtSend ticket message) (finish_send ticket message) s
 
+-- call 34: a message for port q; the caller waits for room; refused if the port isn't in use
 abbrev pub ptsend : ℕ → ℕ → Xinu → CallResult
 ptsend q message s = sent_to (port_at s.parts.ports q).queue q message s
 
--- call 35: the first message of port q, for which the caller waits
+-- a message is received from a port, if it is in use
 abbrev pub received_from : Option PortQueue → ℕ → Xinu → CallResult
 received_from None q s = refused s
 received_from (Some queue) q s =
     let ticket = ticket_of q queue.receive s in
     await queue.receive (PtRecv ticket) (finish_receive ticket) s
 
+-- call 35: the first message of port q, for which the caller waits; refused if the port isn't in use
 abbrev pub ptrecv : ℕ → Xinu → CallResult
 ptrecv q s = received_from (port_at s.parts.ports q).queue q s
 

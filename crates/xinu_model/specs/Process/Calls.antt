@@ -46,12 +46,12 @@ create entry size priority name x y s =
     if int_lt priority (pos 1) || not (in_ram name 16) then refused s
     else created (free_process s.tables) (take_stack (stack_size size) s.parts.heap) entry (stack_size size) priority (process_name (take 16 (drop name s.memory))) x y s
 
--- call 3: p, which is suspended, becomes ready; its priority
+-- call 3: p becomes ready; its priority; refused if p isn't suspended
 abbrev pub resume : ℕ → Xinu → CallResult
 resume p s =
     if is_suspended (state_at s.tables p) then returns (ready_later p (start s)) (process_at s.tables p).priority else refused s
 
--- call 4: p, which is ready, is suspended, or the caller itself; its priority
+-- call 4: p is suspended, or the caller itself; its priority; refused if p is the null process, or neither ready nor current
 abbrev pub suspend : ℕ → Xinu → CallResult
 suspend p s =
     let t = s.tables in
@@ -61,7 +61,7 @@ suspend p s =
     else (if p == t.current then blocked Suspended SelfSuspend Nowhere s
     else refused s))
 
--- call 5: p dies, which isn't the null process
+-- call 5: p dies; refused if p is the null process or free
 abbrev pub kill : ℕ → Xinu → CallResult
 kill p s =
     if (p == 0) || is_free (state_at s.tables p) then refused s
@@ -74,7 +74,8 @@ with_priority p priority t =
     let x = record (process_at t p) { priority = priority } in
     if is_ready x.state then move_to p x (message_at t p) InReady t else record t { processes = slice_set t.processes p x }
 
--- call 7: p has another priority, and if it is ready or current the caller asks for a resched; the one that it had
+-- call 7: p has another priority, and if it is ready or current the caller asks for a resched; the one that it had; refused if p
+-- is free
 abbrev pub chprio : ℕ → ℤ → Xinu → CallResult
 chprio p priority s =
     let t = s.tables in
@@ -82,7 +83,7 @@ chprio p priority s =
     if is_free x.state then refused s
     else returns (record (with_tables (with_priority p priority t) (start s)) { owes_resched = is_ready x.state || is_current x.state }) x.priority
 
--- call 8: the priority of p
+-- call 8: the priority of p; refused if p is free
 abbrev pub getprio : ℕ → Xinu → CallResult
 getprio p s =
     if is_free (state_at s.tables p) then refused s else returns (start s) (process_at s.tables p).priority

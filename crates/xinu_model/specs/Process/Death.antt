@@ -22,6 +22,6 @@ abbrev pub killed : ℕ → CallState → CallState
 killed p d =
     let x = process_at d.state.tables p in reap p x (sent x.parent p d)
 
--- the caller dies
+-- call 9, and the end of a process that is trapped or returns from its first function: the caller dies
 abbrev pub exit : Xinu → CallResult
 exit s = record { call = killed s.tables.current (start s); answer = Gone }

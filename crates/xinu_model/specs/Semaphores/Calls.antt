@@ -21,19 +21,19 @@ abbrev pub made_semaphore : ℕ → Option ℕ → Xinu → CallResult
 made_semaphore n None s = refused s
 made_semaphore n (Some sem) s = returns (start (record s { tables = make_semaphore sem owner.Image n s.tables })) (pos sem)
 
--- call 14: a new semaphore with this count, which isn't negative
+-- call 14: a new semaphore with this count; refused if that is negative or no number is free
 abbrev pub semcreate : ℤ → Xinu → CallResult
 semcreate (negsuc n) s = refused s
 semcreate (pos n) s = made_semaphore n (free_semaphore s.tables) s
 
--- call 15: the semaphore is given up, and all who wait on it are refused
+-- call 15: the semaphore is given up, and all who wait on it are refused; refused if it isn't a process's
 abbrev pub semdelete : ℕ → Xinu → CallResult
 semdelete sem s =
     if is_good sem s.tables
     then (let d = emptied_with SYSERR sem (start s) in returns (with_tables (with_semaphore sem no_semaphore d.state.tables) d) OK)
     else refused s
 
--- call 16: all who wait go on, and the semaphore has this count, which isn't negative
+-- call 16: all who wait go on, and the semaphore has this count; refused if it isn't a process's or the count is negative
 abbrev pub semreset : ℕ → ℤ → Xinu → CallResult
 semreset sem (negsuc n) s = refused s
 semreset sem (pos n) s =
@@ -41,22 +41,23 @@ semreset sem (pos n) s =
     then (let d = emptied sem (start s) in returns (with_tables (with_tokens sem n d.state.tables) d) OK)
     else refused s
 
--- call 17: the count
+-- call 17: the count; refused if the semaphore isn't a process's
 abbrev pub semcount : ℕ → Xinu → CallResult
 semcount sem s = if is_good sem s.tables then answers (count_of (semaphore_at s.tables sem)) s else refused s
 
--- call 18: the caller takes a token, or waits for one; if the semaphore is deleted meanwhile it is refused
+-- call 18: the caller takes a token, or waits for one; refused if the semaphore isn't a process's, or is deleted while the caller
+-- waits
 abbrev pub wait : ℕ → Xinu → CallResult
 wait sem s = if is_good sem s.tables then await sem Nothing (answers OK) s else refused s
 
--- call 19: one signal, unless the count is the greatest
+-- call 19: one signal; refused if the semaphore isn't a process's or its count is the greatest
 abbrev pub signal : ℕ → Xinu → CallResult
 signal sem s =
     if is_good sem s.tables && int_lt (count_of (semaphore_at s.tables sem)) most_tokens
     then returns (signalled sem (start s)) OK
     else refused s
 
--- call 20: n signals, unless n is negative or the count would pass the greatest
+-- call 20: n signals; refused if the semaphore isn't a process's, n is negative or the count would pass the greatest
 abbrev pub signaln : ℕ → ℤ → Xinu → CallResult
 signaln sem (negsuc n) s = refused s
 signaln sem (pos n) s =
