@@ -56,7 +56,7 @@ abbrev pub joined : List (List ℕ) → List ℕ
 joined [] = []
 joined (l ∷ lists) = l ++ joined lists
 
-times-joined : (b : ℕ) (lists : List (List ℕ)) → times b (joined lists) ≡ times_in b lists
+pub times-joined : (b : ℕ) (lists : List (List ℕ)) → times b (joined lists) ≡ times_in b lists
 times-joined b [] = refl
 times-joined b (l ∷ lists) = let i = times-joined b lists in let a = times-append b l (joined lists) in omega (arith, i, a)
 

@@ -8,9 +8,9 @@ use Rattle.lfs_check.specs.declared.faults.DiskFault.{DiskFault}
 use Rattle.lfs_check.specs.Geometries.{index_count, IsGeometry}
 use Rattle.lfs_format.specs.Words.{words_of}
 use Rattle.lfs_check.specs.Laid.{no_index}
-use Rattle.lfs_check.specs.Rules.{rule_0}
+use Rattle.lfs_check.specs.Rules.{rule_0, rule_1}
 use Rattle.lfs_check.specs.Faults.{fault, first_fault, named}
-use Rattle.lfs_check.specs.Fields.{fields_of, geometry_of, is_version_2, index_in_bytes, link_in_bytes, index_place}
+use Rattle.lfs_check.specs.Fields.{entries_of, fields_of, geometry_of, is_version_2, index_in_bytes, link_in_bytes, index_place}
 use Rattle.lfs_check.specs.Clean.{IsShape, Passes, places_of, LaidIn}
 use Rattle.lfs_format.proofs.Words.{length-words_of}
 use Rattle.lfs_check.proofs.Numbered.{length_numbered, numbered-at}
@@ -66,3 +66,34 @@ pub image_lies : (image : List ℕ) → fault image ≡ None → LaidIn (geometr
 image_lies image e =
     let zero_rule = named-none 0 (rule_0 (geometry_of image) image) (first-nones (named 0 (rule_0 (geometry_of image) image)) _ e).0 in
     passes_lies (geometry_of image) (fields_of (geometry_of image) image) (image_geometry image zero_rule) (fields_shape (geometry_of image) image) (image_passes image e)
+
+-- and it has the right size, and right names
+pub image_size : (image : List ℕ) → fault image ≡ None → rule_0 (geometry_of image) image ≡ None
+image_size image e = named-none 0 (rule_0 (geometry_of image) image) (first-nones (named 0 (rule_0 (geometry_of image) image)) _ e).0
+
+pub whole_blocks : (image : List ℕ) → fault image ≡ None → length image ≡ 512 * (length image / 512)
+whole_blocks image e =
+    let n = length image in
+    let P : Bool → Type 0 = λ v. rule_0 (record { dirs = cond v 6 1; blocks = n / 512 }) image ≡ None → n % 512 ≡ 0 in
+    let yes : P true = λ r. (let a = nat_eq (n % 512) 0 in let b = nat_le (512 * 14) n in let c = nat_le n (512 * 65542) in
+    let t : a ≡ true = (both a b (both (a && b) c (cond-none (a && b && c) 0 r)).0).0 in grind (arith, nat_tests)) in
+    let no : P false = λ r. (let a = nat_eq (n % 512) 0 in let b = nat_le (512 * 8) n in let c = nat_le n (512 * 65536) in
+    let t : a ≡ true = (both a b (both (a && b) c (cond-none (a && b && c) 0 r)).0).0 in grind (arith, nat_tests)) in
+    let all : (v : Bool) → P v = λ v. elim v as (λ v. P v) [ true ↦ yes | false ↦ no ] in
+    let z = all (is_version_2 image) (image_size image e) in omega (arith, z)
+
+pub image_names : (image : List ℕ) → fault image ≡ None → rule_1 (geometry_of image) (entries_of (geometry_of image) image) ≡ None
+image_names image e =
+    let g = geometry_of image in let d = fields_of g image in
+    let dirs = (first-nones _ _ (first-nones (named 0 (rule_0 g image)) _ e).1).0 in
+    named-none 1 (rule_1 g d.entries) (first-nones (named 1 (rule_1 g d.entries)) _ dirs).0
+
+-- and as many blocks as its version allows
+pub image_blocks : (image : List ℕ) → fault image ≡ None → (cond (is_version_2 image) 14 8 ≤ length image / 512) × (length image / 512 ≤ cond (is_version_2 image) 65542 65536)
+image_blocks image e =
+    let n = length image in
+    let P : Bool → Type 0 = λ v. rule_0 (record { dirs = cond v 6 1; blocks = n / 512 }) image ≡ None → (cond v 14 8 ≤ n / 512) × (n / 512 ≤ cond v 65542 65536) in
+    let yes : P true = λ r. (let f = size_facts 14 65542 n (cond-none _ 0 r) in (omega (arith, f.0), omega (arith, f.1))) in
+    let no : P false = λ r. (let f = size_facts 8 65536 n (cond-none _ 0 r) in (omega (arith, f.0), omega (arith, f.1))) in
+    let all : (v : Bool) → P v = λ v. elim v as (λ v. P v) [ true ↦ yes | false ↦ no ] in
+    all (is_version_2 image) (image_size image e)

@@ -29,6 +29,7 @@ pub use laws::{
     migration_fits, places_are_read,
 };
 pub use rules::{entry_is_used, size_fault};
+pub use survey::file_blocks;
 
 #[cfg(test)]
 mod tests;

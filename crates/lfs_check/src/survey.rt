@@ -5,6 +5,7 @@ ghost use Rattle.std.specs.List.{flat_map};
 ghost use Rattle.lfs_check.specs.Geometries.{index_count, IsGeometry};
 ghost use Rattle.lfs_check.specs.Checks.{least, need_index, need_data, nexts_of, met_of, end_of, end_fault, rows_fault, offsets_fault, file_fault_4, file_fault_5, file_index_numbers, file_data_numbers, row_of, lowest_of};
 ghost use Rattle.lfs_check.specs.Rules.{is_used};
+ghost use Rattle.lfs_check.specs.Clean.{data_in};
 
 use crate::chain_rules::{
     data_needed, end_fault, indexes_needed, least, offsets_fault, rows_fault,
@@ -22,6 +23,28 @@ pub struct Survey {
     pub rule_5: Option<u32>,
     pub index_numbers: Vec<u32>,
     pub data_numbers: Vec<u32>,
+}
+
+/// The data blocks of the file of an entry: as many of the numbers in its index blocks as its size needs.
+pub fn file_blocks(
+    alloc: Global,
+    geometry: Geometry,
+    indexes: &[Index],
+    nexts: &[u32],
+    entry: &Entry,
+) -> Result<Vec<u32>, AllocError>
+    requires geometry { IsGeometry geometry }
+    requires count { length indexes.now ≡ index_count geometry }
+    requires nexts { nexts.now ≡ nexts_of indexes.now }
+    ensures { IfOk result (λ v. v.items ≡ data_in geometry indexes.now entry.now) }
+{
+    let mut numbers = Vec::new(alloc);
+    if entry_is_used(entry) {
+        let walk = walk_file(alloc, geometry, indexes, nexts, entry)?;
+        add_rows(&mut numbers, indexes, &walk.met)?;
+        numbers.truncate(data_needed(entry));
+    }
+    Ok(numbers)
 }
 
 // Walks the index blocks of the file of an entry.
