@@ -1,0 +1,13 @@
+pub mod Geometries
+pub mod Rules
+pub mod Walks
+pub mod Meets
+pub mod Laid
+pub mod Checks
+pub mod Fields
+pub mod Faults
+pub mod Clean
+pub mod Empty
+pub mod Built
+pub mod Kept
+pub mod Files

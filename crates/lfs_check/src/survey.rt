@@ -1,0 +1,182 @@
+//! What the walks of all files meet.
+
+ghost use Rattle.std.specs.Prelude.{◌≡◌, ℕ, ◌+◌, ◌*◌, ◌≤◌, ◌<◌, ◌^◌, ◌++◌, ◌∷◌, [], length, slice_index, slice_index_or, drop, IfOk, OnOk, map, None};
+ghost use Rattle.std.specs.List.{flat_map};
+ghost use Rattle.lfs_check.specs.Geometries.{index_count, IsGeometry};
+ghost use Rattle.lfs_check.specs.Checks.{least, need_index, need_data, nexts_of, met_of, end_of, end_fault, rows_fault, offsets_fault, file_fault_4, file_fault_5, file_index_numbers, file_data_numbers, row_of, lowest_of};
+ghost use Rattle.lfs_check.specs.Rules.{is_used};
+ghost use Rattle.lfs_check.specs.Clean.{data_in};
+
+use crate::chain_rules::{
+    data_needed, end_fault, indexes_needed, least, offsets_fault, rows_fault,
+};
+use crate::geometry::{Geometry, indexes_on};
+use crate::rules::entry_is_used;
+use crate::walks::{Walk, walk_chain};
+use lfs_format::{Entry, Index};
+use std::alloc::{AllocError, Global};
+
+/// What walks have met so far, and where they broke the rules 4 and 5.
+#[derive(Drop)]
+pub struct Survey {
+    pub rule_4: Option<u32>,
+    pub rule_5: Option<u32>,
+    pub index_numbers: Vec<u32>,
+    pub data_numbers: Vec<u32>,
+}
+
+/// The data blocks of the file of an entry: as many of the numbers in its index blocks as its size needs.
+pub fn file_blocks(
+    alloc: Global,
+    geometry: Geometry,
+    indexes: &[Index],
+    nexts: &[u32],
+    entry: &Entry,
+) -> Result<Vec<u32>, AllocError>
+    requires geometry { IsGeometry geometry }
+    requires count { length indexes.now ≡ index_count geometry }
+    requires nexts { nexts.now ≡ nexts_of indexes.now }
+    ensures { IfOk result (λ v. v.items ≡ data_in geometry indexes.now entry.now) }
+{
+    let mut numbers = Vec::new(alloc);
+    if entry_is_used(entry) {
+        let walk = walk_file(alloc, geometry, indexes, nexts, entry)?;
+        add_rows(&mut numbers, indexes, &walk.met)?;
+        numbers.truncate(data_needed(entry));
+    }
+    Ok(numbers)
+}
+
+// Walks the index blocks of the file of an entry.
+fn walk_file(
+    alloc: Global,
+    geometry: Geometry,
+    indexes: &[Index],
+    nexts: &[u32],
+    entry: &Entry,
+) -> Result<Walk, AllocError>
+    requires geometry { IsGeometry geometry }
+    requires count { length indexes.now ≡ index_count geometry }
+    requires nexts { nexts.now ≡ nexts_of indexes.now }
+    ensures met { IfOk result (λ w. w.met.items ≡ met_of geometry indexes.now entry.now) }
+    ensures end { IfOk result (λ w. w.end ≡ end_of geometry indexes.now entry.now) }
+    ensures below { IfOk result (λ w. (j : ℕ) → j < length w.met.items → slice_index w.met.items j < length indexes.now) }
+    ensures few { IfOk result (λ w. length w.met.items ≤ 2 ^ 20) }
+{
+    walk_chain(
+        alloc,
+        nexts,
+        0,
+        indexes_on(geometry),
+        indexes_needed(entry),
+        entry.first,
+    )
+}
+
+// Appends what a walk met and the number that ended it.
+pub fn add_walk(numbers: &mut Vec<u32>, walk: &Walk) -> Result<(), AllocError>
+    ensures { OnOk result (numbers.new.items ≡ numbers.old.items ++ (walk.now.met.items ++ walk.now.end ∷ [])) }
+{
+    numbers.extend_from_slice(&walk.met)?;
+    numbers.push(walk.end)?;
+    Ok(())
+}
+
+// Appends the data numbers of an index block.
+fn add_row(numbers: &mut Vec<u32>, indexes: &[Index], i: u32) -> Result<(), AllocError>
+    requires below { i < length indexes.now }
+    ensures { OnOk result (numbers.new.items ≡ numbers.old.items ++ row_of indexes.now i) }
+{
+    let index = indexes[i as usize];
+    numbers.extend_from_slice(&index.blocks)?;
+    Ok(())
+}
+
+// Appends the data numbers of index blocks.
+fn add_rows(numbers: &mut Vec<u32>, indexes: &[Index], met: &[u32]) -> Result<(), AllocError>
+    requires below { (j : ℕ) → j < length met.now → slice_index met.now j < length indexes.now }
+    ensures { OnOk result (numbers.new.items ≡ numbers.old.items ++ flat_map (row_of indexes.now) met.now) }
+{
+    for j in 0..met.len() {
+        add_row(numbers, indexes, met[j])?;
+    }
+    Ok(())
+}
+
+// The file of a used entry.
+fn survey_walk(
+    survey: &mut Survey,
+    geometry: Geometry,
+    indexes: &[Index],
+    k: usize,
+    entry: &Entry,
+    walk: &Walk,
+) -> Result<(), AllocError>
+    requires geometry { IsGeometry geometry }
+    requires few { k < 78 }
+    requires short { length walk.now.met.items ≤ 2 ^ 20 }
+    requires below { (j : ℕ) → j < length walk.now.met.items → slice_index walk.now.met.items j < length indexes.now }
+    ensures rule_4 { OnOk result (survey.new.rule_4 ≡ least survey.old.rule_4 (least (end_fault geometry k entry.now walk.now.met.items walk.now.end) (rows_fault geometry indexes.now (need_data entry.now) walk.now.met.items))) }
+    ensures rule_5 { OnOk result (survey.new.rule_5 ≡ least survey.old.rule_5 (offsets_fault geometry indexes.now 0 walk.now.met.items)) }
+    ensures index_numbers { OnOk result (survey.new.index_numbers.items ≡ survey.old.index_numbers.items ++ (walk.now.met.items ++ walk.now.end ∷ [])) }
+    ensures data_numbers { OnOk result (survey.new.data_numbers.items ≡ survey.old.data_numbers.items ++ flat_map (row_of indexes.now) walk.now.met.items) }
+{
+    let end = end_fault(geometry, k, entry, &walk.met, walk.end);
+    let rows = rows_fault(geometry, indexes, data_needed(entry), &walk.met);
+    survey.rule_4 = least(survey.rule_4, least(end, rows));
+    survey.rule_5 = least(survey.rule_5, offsets_fault(geometry, indexes, &walk.met));
+    add_walk(&mut survey.index_numbers, walk)?;
+    add_rows(&mut survey.data_numbers, indexes, &walk.met)?;
+    Ok(())
+}
+
+// The file of an entry, where it is used.
+#[tactic(auto, using(crate::proofs::Surveys::least_none, crate::proofs::Surveys::append_none))]
+fn survey_file(
+    survey: &mut Survey,
+    alloc: Global,
+    geometry: Geometry,
+    indexes: &[Index],
+    nexts: &[u32],
+    k: usize,
+    entry: &Entry,
+) -> Result<(), AllocError>
+    requires geometry { IsGeometry geometry }
+    requires few { k < 78 }
+    requires count { length indexes.now ≡ index_count geometry }
+    requires nexts { nexts.now ≡ nexts_of indexes.now }
+    ensures rule_4 { OnOk result (survey.new.rule_4 ≡ least survey.old.rule_4 (file_fault_4 geometry indexes.now k entry.now)) }
+    ensures rule_5 { OnOk result (survey.new.rule_5 ≡ least survey.old.rule_5 (file_fault_5 geometry indexes.now k entry.now)) }
+    ensures index_numbers { OnOk result (survey.new.index_numbers.items ≡ survey.old.index_numbers.items ++ file_index_numbers geometry indexes.now entry.now) }
+    ensures data_numbers { OnOk result (survey.new.data_numbers.items ≡ survey.old.data_numbers.items ++ file_data_numbers geometry indexes.now entry.now) }
+{
+    if entry_is_used(entry) {
+        let walk = walk_file(alloc, geometry, indexes, nexts, entry)?;
+        survey_walk(survey, geometry, indexes, k, entry, &walk)?;
+    }
+    Ok(())
+}
+
+/// The files of all entries.
+pub fn survey_files(
+    survey: &mut Survey,
+    alloc: Global,
+    geometry: Geometry,
+    indexes: &[Index],
+    nexts: &[u32],
+    entries: &[Entry],
+) -> Result<(), AllocError>
+    requires geometry { IsGeometry geometry }
+    requires few { length entries.now ≤ 78 }
+    requires count { length indexes.now ≡ index_count geometry }
+    requires nexts { nexts.now ≡ nexts_of indexes.now }
+    ensures rule_4 { OnOk result (survey.new.rule_4 ≡ least survey.old.rule_4 (lowest_of (file_fault_4 geometry indexes.now) 0 entries.now)) }
+    ensures rule_5 { OnOk result (survey.new.rule_5 ≡ least survey.old.rule_5 (lowest_of (file_fault_5 geometry indexes.now) 0 entries.now)) }
+    ensures index_numbers { OnOk result (survey.new.index_numbers.items ≡ survey.old.index_numbers.items ++ flat_map (file_index_numbers geometry indexes.now) entries.now) }
+    ensures data_numbers { OnOk result (survey.new.data_numbers.items ≡ survey.old.data_numbers.items ++ flat_map (file_data_numbers geometry indexes.now) entries.now) }
+{
+    for k in 0..entries.len() {
+        survey_file(survey, alloc, geometry, indexes, nexts, k, &entries[k])?;
+    }
+    Ok(())
+}

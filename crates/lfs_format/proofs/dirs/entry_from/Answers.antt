@@ -1,0 +1,13 @@
+use Rattle.std.proofs.Common.{◌≡◌, ◌∙◌, ap, take, drop, arith, ◌-◌, length}
+use Rattle.lfs_format.specs.Words.{words_of}
+use Rattle.lfs_format.proofs.Words.{words_of-read, words_of-take}
+use Rattle.lfs_format.specs.Directory.{entry_made}
+use Rattle.lfs_format.proofs.dirs.entry_from.Goals as goal
+
+pub returns : goal.returns
+returns c =
+    let p = c.args.part.now in
+    let w : c.read_u32_into.new.dst ≡ words_of 2 p = words_of-read 2 (take 8 p) c.read_u32_into.new.dst (omega arith) c.read_u32_into.ensures ∙ words_of-take 2 8 p (omega arith) in
+    let k : length p - 8 ≡ 28 = omega arith in
+    let n : c.copy_from_slice.new.self ≡ take 28 (drop 8 p) = c.copy_from_slice.ensures.after ∙ ap (λ j. take j (drop 8 p)) k in
+    ap (λ ws. entry_made ws c.copy_from_slice.new.self) w ∙ ap (entry_made (words_of 2 p)) n

@@ -1,0 +1,90 @@
+-- Lemmas on lists that are joined at numbers, and on numbers that go upwards.
+use Rattle.std.proofs.Common.{◌≡◌, ℕ, zero, suc, ◌+◌, ◌-◌, ◌*◌, ◌<◌, ◌≤◌, List, [], ◌∷◌, ◌++◌, length, get_or, take, drop, map, refl, sym, ap, ◌∙◌, arith, append_assoc, length-append, length-take, length-drop, ⊎_elim}
+use Rattle.std.proofs.lemmas.List.{drop_at, take_at, take_all, drop_all, drop-drop, drop-append-le, take-append-le, drop-take, append-nil, get_or-append-add}
+use Rattle.std.proofs.Math.ListN.{get_or-append}
+use Rattle.std.proofs.lemmas.Bool.{cases_lt}
+use Rattle.std.specs.List.{flat_map}
+use Rattle.lfs_check.specs.Fields.{joined, numbered}
+use Rattle.lfs_check.specs.Empty.{upwards}
+
+-- a list behind one of a known length
+pub drop_past : {A : Type 0} → (xs ys : List A) (m n k : ℕ) → length xs ≡ m → n ≡ m + k → drop n (xs ++ ys) ≡ drop k ys
+drop_past xs ys m n k l e =
+    ap (λ j. drop j (xs ++ ys)) (let q : n ≡ m + k = e in q) ∙ sym (drop-drop k m (xs ++ ys)) ∙ ap (drop k) (drop_at xs ys m l)
+
+pub length_joined : {A : Type 0} → (f : ℕ → List A) (w n : ℕ) → ((k : ℕ) → k < n → length (f k) ≡ w) → length (joined f n) ≡ w * n
+unfolding joined
+length_joined f w zero all = let e : 0 ≡ w * 0 = omega arith in e
+length_joined f w (suc n) all =
+    let i = length_joined f w n (λ k h. all k (omega arith)) in let l = all n (omega arith) in let a = length-append (joined f n) (f n) in
+    let e : w * suc n ≡ w * n + w = grind arith in omega (arith, i, l, a, e)
+
+-- the list at a number is read again
+pub joined_at : {A : Type 0} → (f : ℕ → List A) (w n k : ℕ) (rest : List A) → ((k : ℕ) → k < n → length (f k) ≡ w) → k < n
+    → take w (drop (w * k) (joined f n ++ rest)) ≡ f k
+unfolding joined
+joined_at f w zero k rest all h = absurd (omega (arith, h))
+joined_at f w (suc n) k rest all h =
+    ap (λ x. take w (drop (w * k) x)) (append_assoc (joined f n) (f n) rest) ∙
+    ⊎_elim (λ lt. joined_at f w n k (f n ++ rest) (λ j m. all j (omega (arith, m))) lt)
+    (λ ge. (let e : k ≡ n = omega (arith, ge, h) in
+    let l = length_joined f w n (λ j m. all j (omega (arith, m))) in
+    ap (take w) (drop_at (joined f n) (f n ++ rest) (w * k) (l ∙ ap (λ j. w * j) (sym e))) ∙ take_at (f n) rest w (all n (omega arith)) ∙ ap f (sym e)))
+    (cases_lt k n)
+
+pub joined_same : {A : Type 0} → (f g : ℕ → List A) (n : ℕ) → ((k : ℕ) → k < n → f k ≡ g k) → joined f n ≡ joined g n
+unfolding joined
+joined_same f g zero all = refl
+joined_same f g (suc n) all = ap (λ x. x ++ f n) (joined_same f g n (λ k h. all k (omega arith))) ∙ ap (λ x. joined g n ++ x) (all n (omega arith))
+
+take-none : {A : Type 0} → (n : ℕ) → take {A = A} n [] ≡ []
+take-none zero = refl
+take-none (suc n) = refl
+
+take-add : {A : Type 0} → (m n : ℕ) (xs : List A) → take (m + n) xs ≡ take m xs ++ take n (drop m xs)
+take-add zero n xs = ap (λ k. take k xs) (let e : 0 + n ≡ n = omega arith in e)
+take-add (suc m) n [] = ap (λ k. take k []) (let e : suc m + n ≡ suc (m + n) = omega arith in e) ∙ sym (take-none n)
+take-add (suc m) n (x ∷ xs) = ap (λ k. take k (x ∷ xs)) (let e : suc m + n ≡ suc (m + n) = omega arith in e) ∙ ap (λ t. x ∷ t) (take-add m n xs)
+
+-- the pieces of a list, joined
+pub joined_pieces : {A : Type 0} → (w n : ℕ) (xs : List A) → joined (λ d. take w (drop (w * d) xs)) n ≡ take (w * n) xs
+unfolding joined
+joined_pieces w zero xs = ap (λ k. take k xs) (let e : 0 ≡ w * 0 = omega arith in e)
+joined_pieces w (suc n) xs =
+    ap (λ x. x ++ take w (drop (w * n) xs)) (joined_pieces w n xs) ∙ sym (take-add (w * n) w xs) ∙ ap (λ k. take k xs) (let e : w * n + w ≡ w * suc n = grind arith in e)
+
+pub length_upwards : (low many : ℕ) → length (upwards low many) ≡ many
+length_upwards low zero = refl
+length_upwards low (suc many) = let i = length_upwards (suc low) many in omega (arith, i)
+
+pub upwards_at : (low many j d : ℕ) → j < many → get_or (upwards low many) j d ≡ low + j
+upwards_at low zero j d h = absurd (omega (arith, h))
+upwards_at low (suc many) zero d h = omega arith
+upwards_at low (suc many) (suc j) d h = let i = upwards_at (suc low) many j d (omega arith) in omega (arith, i)
+
+pub upwards_more : (low many : ℕ) → upwards low (suc many) ≡ upwards low many ++ (low + many) ∷ []
+upwards_more low zero = ap (λ k. k ∷ []) (let e : low ≡ low + 0 = omega arith in e)
+upwards_more low (suc many) = ap (λ t. low ∷ t) (upwards_more (suc low) many ∙ ap (λ k. upwards (suc low) many ++ k ∷ []) (let e : suc low + many ≡ low + suc many = omega arith in e))
+
+-- what numbers that go upwards give, and where
+pub length_flat_upwards : (f : ℕ → List ℕ) (w low many : ℕ) → ((k : ℕ) → length (f k) ≡ w) → length (flat_map f (upwards low many)) ≡ w * many
+length_flat_upwards f w low zero all = let e : 0 ≡ w * 0 = omega arith in e
+length_flat_upwards f w low (suc many) all =
+    let i = length_flat_upwards f w (suc low) many all in let l = all low in let a = length-append (f low) (flat_map f (upwards (suc low) many)) in
+    let e : w * suc many ≡ w + w * many = grind arith in omega (arith, i, l, a, e)
+
+pub flat_upwards_at : (f : ℕ → List ℕ) (w low many j : ℕ) → ((k : ℕ) → length (f k) ≡ w) → j < many → take w (drop (w * j) (flat_map f (upwards low many))) ≡ f (low + j)
+flat_upwards_at f w low zero j all h = absurd (omega (arith, h))
+flat_upwards_at f w low (suc many) zero all h =
+    ap (λ k. take w (drop k (flat_map f (upwards low (suc many))))) (let e : w * 0 ≡ 0 = omega arith in e)
+    ∙ take_at (f low) (flat_map f (upwards (suc low) many)) w (all low) ∙ ap f (let e : low ≡ low + 0 = omega arith in e)
+flat_upwards_at f w low (suc many) (suc j) all h =
+    ap (take w) (drop_past (f low) (flat_map f (upwards (suc low) many)) w (w * suc j) (w * j) (all low) (let e : w * suc j ≡ w + w * j = grind arith in e))
+    ∙ flat_upwards_at f w (suc low) many j all (omega arith) ∙ ap f (let e : suc low + j ≡ low + suc j = omega arith in e)
+
+-- blocks that stand one after another are one part of the bytes
+pub blocks_upwards : (w : ℕ) (xs : List ℕ) (low many : ℕ) → flat_map (λ n. take w (drop (w * n) xs)) (upwards low many) ≡ take (w * many) (drop (w * low) xs)
+blocks_upwards w xs low zero = ap (λ k. take k (drop (w * low) xs)) (let e : 0 ≡ w * 0 = omega arith in e)
+blocks_upwards w xs low (suc many) =
+    ap (λ t. take w (drop (w * low) xs) ++ t) (blocks_upwards w xs (suc low) many ∙ ap (λ t. take (w * many) t) (ap (λ k. drop k xs) (let e : w * suc low ≡ w * low + w = grind arith in e) ∙ sym (drop-drop w (w * low) xs)))
+    ∙ sym (take-add w (w * many) (drop (w * low) xs)) ∙ ap (λ k. take k (drop (w * low) xs)) (let e : w + w * many ≡ w * suc many = grind arith in e)

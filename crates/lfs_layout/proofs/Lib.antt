@@ -1,0 +1,13 @@
+pub mod Joins
+pub mod Regions
+pub mod MadeParts
+pub mod MadeFields
+pub mod MadeLies
+pub mod MadeRules
+pub mod MadeFiles
+pub mod FilesRead
+pub mod CleanRoom
+pub mod CleanOpens
+pub mod MadeClean
+pub mod FilesSet
+pub mod SetImage

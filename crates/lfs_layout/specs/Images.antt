@@ -1,0 +1,27 @@
+-- Raw images and clean images.
+use Rattle.std.specs.Prelude.{ℕ, ◌≡◌, ◌+◌, ◌/◌, ◌%◌, ◌&&◌, Bool, true, false, cond, nat_eq, nat_le, List, length, None, Result, Ok, Err}
+use Rattle.xinu_base.specs.declared.NoMemory.{NoMemory}
+use Rattle.lfs_check.specs.Fields.{is_version_2}
+use Rattle.lfs_check.specs.Faults.{fault}
+use Rattle.lfs_layout.specs.Files.{File, placed_files, have_room, with_set}
+use Rattle.lfs_layout.specs.Made.{image_of, geometry_2}
+
+-- a disk without files: 8 to 65,536 whole blocks
+abbrev pub is_raw : List ℕ → Bool
+is_raw image = nat_eq (length image % 512) 0 && nat_le 4096 (length image) && nat_le (length image) 33554432
+
+-- an image that can be worked on: of version 2, and without a fault
+pub record IsCleanImage (image : List ℕ) : Type 0 where
+  pub faultless : fault image ≡ None
+  pub version : is_version_2 image ≡ true
+
+-- a clean image as it is worked on: one of version 1 is made anew with six blocks more, its files in the order of its entries
+abbrev pub opened : List ℕ → List ℕ
+opened image = cond (is_version_2 image) image (image_of (length image / 512 + 6) (placed_files image))
+
+-- what a call that sets a file answers, and what it leaves: the image has the files with this one set and as many blocks, or it
+-- is as it was
+abbrev pub Puts : List ℕ → List ℕ → File → Result Bool NoMemory → Type 0
+Puts old new file (Ok true) = (have_room (geometry_2 (length old / 512)) (with_set file (placed_files old)) ≡ true) × (placed_files new ≡ with_set file (placed_files old)) × (length new ≡ length old)
+Puts old new file (Ok false) = (have_room (geometry_2 (length old / 512)) (with_set file (placed_files old)) ≡ false) × (new ≡ old)
+Puts old new file (Err e) = new ≡ old

@@ -1,0 +1,26 @@
+//! A disk with files as a value: raw images, clean images, and what is done with them.
+//!
+//! It depends on `lfs_format`, which has the fields, and on `lfs_check`, which has the rules, the walks and the laws of how
+//! files lie; their public calls are here too. A `RawImage` is a disk without files of a size that is allowed; a `CleanImage`
+//! keeps true that its bytes have version 2 and break no rule. Every image that is written is made by one builder
+//! (`specs/Made`): each file in its order takes the lowest free blocks, and the rest is chained upwards.
+#![tactic(auto)]
+
+mod builder;
+mod clean_image;
+mod data_blocks;
+mod directory;
+mod files;
+mod index_blocks;
+mod raw_image;
+mod reading;
+
+pub use clean_image::CleanImage;
+pub use lfs_check::{CheckFault, DiskFault, Report, check};
+pub use lfs_format::{
+    Dir, Dir1, Entry, Entry1, Index, NULL, read_dir, read_dir_1, read_index, write_dir, write_index,
+};
+pub use raw_image::RawImage;
+
+#[cfg(test)]
+mod tests;
