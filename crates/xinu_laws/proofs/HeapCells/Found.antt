@@ -10,7 +10,7 @@ abbrev pub OfFound : (ℕ → Type 0) → Type 0 → Option ℕ → Type 0
 OfFound P Q (Some n) = P n
 OfFound P Q None = Q
 
--- no place of a list with one more cell in front
+-- no place of a list with one more cell before it
 nowhere_more : (k : ℕ) (c : Bool) (cells : List Bool) → NoneAt k (c ∷ cells) 0 → BeginNowhere k cells → BeginNowhere k (c ∷ cells)
 nowhere_more k c cells here more zero w = here
 nowhere_more k c cells here more (suc i) w = more i (omega arith)
@@ -44,22 +44,22 @@ greatest_more : (k : ℕ) (c : Bool) (cells : List Bool) (start : ℕ) → IsGre
 greatest_more k c cells start g = record {
   place = let w = g.place in omega arith;
   begins = g.begins;
-  greatest = behind;
+  greatest = after;
 } where
-  behind : (i : ℕ) → suc start < i → i < length (c ∷ cells) → NoneAt k (c ∷ cells) i
-  behind zero low high = absurd (omega arith)
-  behind (suc i) low high = g.greatest i (omega arith) (omega arith)
+  after : (i : ℕ) → suc start < i → i < length (c ∷ cells) → NoneAt k (c ∷ cells) i
+  after zero low high = absurd (omega arith)
+  after (suc i) low high = g.greatest i (omega arith) (omega arith)
 
 -- if k free cells begin at no place after the first, the first is the greatest start if they begin there
 greatest_here : (k : ℕ) (c : Bool) (cells : List Bool) → BeginAt k (c ∷ cells) 0 → BeginNowhere k cells → IsGreatest k (c ∷ cells) 0
 greatest_here k c cells here none = record {
   place = omega arith;
   begins = here;
-  greatest = behind;
+  greatest = after;
 } where
-  behind : (i : ℕ) → 0 < i → i < length (c ∷ cells) → NoneAt k (c ∷ cells) i
-  behind zero low high = absurd (omega arith)
-  behind (suc i) low high = none i (omega arith)
+  after : (i : ℕ) → 0 < i → i < length (c ∷ cells) → NoneAt k (c ∷ cells) i
+  after zero low high = absurd (omega arith)
+  after (suc i) low high = none i (omega arith)
 
 -- what the search for the highest says, one cell further
 highest_step : (k : ℕ) (c : Bool) (cells : List Bool) (found : Option ℕ) → OfFound (IsGreatest k cells) (BeginNowhere k cells) found → OfFound (IsGreatest k (c ∷ cells)) (BeginNowhere k (c ∷ cells)) (or_here k (c ∷ cells) found)

@@ -91,7 +91,7 @@ first_has_entry e es = subst (λ b. 0 < cond b (suc (entries_of e.0 es)) (entrie
 pub first_is_counted : (x : ℕ) (xs : List ℕ) → 0 < count_in x (x ∷ xs)
 first_is_counted x xs = subst (λ b. 0 < cond b (suc (count_in x xs)) (count_in x xs)) (sym (eq-eqb x x refl)) (omega arith)
 
--- who is counted in a list is counted if one more is in front
+-- who is counted in a list is still counted with one more before
 pub count_behind : (p x : ℕ) (xs : List ℕ) → 0 < count_in p xs → 0 < count_in p (x ∷ xs)
 count_behind p x xs h = cond_both (x == p) (suc (count_in p xs)) (count_in p xs) (λ n. 0 < n) (λ _. omega arith) (λ _. h)
 

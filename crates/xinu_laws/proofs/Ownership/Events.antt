@@ -94,11 +94,11 @@ pub apart_reacted : (o : Outcome) (old : Xinu) → (next old).outcome ≡ o → 
 apart_reacted outcome.Went old call sound apart runs idle nothing = apart_kept (kept_executed old) apart
 apart_reacted outcome.Call old call sound apart runs idle nothing =
     let s = with_executed (next old) old in
-    let asked = call_of (current_hart s) in
-    let result = called asked.number asked.args s in
+    let made = call_of (current_hart s) in
+    let result = called made.number made.args s in
     let may = may_call_next old sound runs in
-    apart_kept (kept_end_of_event old.tables.current (call_line s asked ∷ []) result (called_keeps asked.number asked.args s may))
-    (called_apart asked.number asked.args s (sound_where_called s may) (apart_kept (kept_executed old) apart) (none_held old (call_line s asked ∷ []) sound runs idle call nothing))
+    apart_kept (kept_end_of_event old.tables.current (call_line s made ∷ []) result (called_keeps made.number made.args s may))
+    (called_apart made.number made.args s (sound_where_called s may) (apart_kept (kept_executed old) apart) (none_held old (call_line s made ∷ []) sound runs idle call nothing))
 apart_reacted outcome.Exit old call sound apart runs idle nothing =
     let s = with_executed (next old) old in
     apart_kept (kept_end_of_event old.tables.current (call_line s (exit_call (current_hart s)) ∷ []) (exit s) (exit_keeps s (may_call_next old sound runs))) (apart_exit s (apart_kept (kept_executed old) apart))
