@@ -6,11 +6,10 @@ ghost use Rattle.xinu_model.specs.Memory.{number_at};
 
 use crate::faults::ImageFault;
 use byteorder::{ByteOrder, LittleEndian};
+use xinu_base::RAM_SIZE;
 
 /// The number of bytes of a header.
 pub(crate) const HEADER_SIZE: usize = 28;
-/// The number of bytes of RAM.
-const RAM_SIZE: u64 = 1_048_576;
 /// The letters `XIMG`, the first in the lowest byte.
 const MAGIC: u32 = 0x474D_4958;
 /// The greatest priority of a process.
@@ -84,7 +83,7 @@ impl Header {
     fn is_placed(&self) -> bool
         ensures placed { result ≡ files.is_placed self.now }
     {
-        self.place % 4 == 0 && self.end() <= RAM_SIZE
+        self.place % 4 == 0 && self.end() <= RAM_SIZE as u64
     }
 
     // Whether the entry is the address of a word of the content.

@@ -21,8 +21,8 @@ mod fetch;
 mod ram;
 
 pub use fetch::step;
-pub use ram::{OutOfRam, RAM_SIZE, Ram};
-pub use xinu_base::{Cause, Hart, Outcome};
+pub use ram::{OutOfRam, Ram};
+pub use xinu_base::{Cause, Hart, Outcome, RAM_SIZE};
 
 #[cfg(test)]
 mod tests;

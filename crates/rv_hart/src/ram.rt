@@ -8,10 +8,10 @@ ghost use Rattle.xinu_model.specs.Memory.{zeros, in_ram, may_access, number_at, 
 use byteorder::{ByteOrder, LittleEndian};
 use std::alloc::Global;
 use std::marker::Model;
-use xinu_base::NoMemory;
+use xinu_base::{NoMemory, RAM_SIZE};
 
-/// The number of bytes of RAM.
-pub const RAM_SIZE: usize = 0x10_0000;
+// The number of bytes of RAM.
+const SIZE: usize = RAM_SIZE as usize;
 
 /// The answer of a transfer whose range isn't in RAM.
 #[derive(Clone, Copy, Debug, PartialEq, Eq)]
@@ -36,7 +36,7 @@ impl Ram {
     pub fn new(alloc: Global) -> Result<Self, NoMemory>
         ensures { IfOk result (λ ram. ram ≡ zeros) }
     {
-        match vec![in alloc; 0u8; RAM_SIZE] {
+        match vec![in alloc; 0u8; SIZE] {
             Ok(bytes) => Ok(Ram { bytes }),
             Err(_) => Err(NoMemory),
         }
@@ -48,7 +48,7 @@ impl Ram {
         ensures { result ≡ (if may_access a 1 then Some (number_at self.now a 1) else None) }
     {
         let at = a as usize;
-        if at < RAM_SIZE {
+        if at < SIZE {
             Some(self.bytes[at])
         } else {
             None
@@ -61,7 +61,7 @@ impl Ram {
         ensures { result ≡ (if may_access a 2 then Some (number_at self.now a 2) else None) }
     {
         let at = a as usize;
-        if at % 2 == 0 && at < RAM_SIZE {
+        if at % 2 == 0 && at < SIZE {
             Some(LittleEndian::read_u16(&self.bytes[at..]))
         } else {
             None
@@ -74,7 +74,7 @@ impl Ram {
         ensures { result ≡ (if may_access a 4 then Some (number_at self.now a 4) else None) }
     {
         let at = a as usize;
-        if at % 4 == 0 && at < RAM_SIZE {
+        if at % 4 == 0 && at < SIZE {
             Some(LittleEndian::read_u32(&self.bytes[at..]))
         } else {
             None
@@ -88,7 +88,7 @@ impl Ram {
         ensures memory { self.new ≡ (if may_access a 1 then with_number self.old a 1 v else self.old) }
     {
         let at = a as usize;
-        if at < RAM_SIZE {
+        if at < SIZE {
             self.bytes[at] = v;
             return true;
         }
@@ -102,7 +102,7 @@ impl Ram {
         ensures memory { self.new ≡ (if may_access a 2 then with_number self.old a 2 v else self.old) }
     {
         let at = a as usize;
-        if at % 2 == 0 && at < RAM_SIZE {
+        if at % 2 == 0 && at < SIZE {
             put_half(&mut self.bytes, at, v);
             return true;
         }
@@ -116,7 +116,7 @@ impl Ram {
         ensures memory { self.new ≡ (if may_access a 4 then with_number self.old a 4 v else self.old) }
     {
         let at = a as usize;
-        if at % 4 == 0 && at < RAM_SIZE {
+        if at % 4 == 0 && at < SIZE {
             put_word(&mut self.bytes, at, v);
             return true;
         }
@@ -129,7 +129,7 @@ impl Ram {
         ensures memory { self.new ≡ (if in_ram a (length bytes.now) then with_bytes self.old a (length bytes.now) bytes.now else self.old) }
     {
         let at = a as usize;
-        if at > RAM_SIZE || RAM_SIZE - at < bytes.len() {
+        if at > SIZE || SIZE - at < bytes.len() {
             return Err(OutOfRam);
         }
         let end = at + bytes.len();
@@ -143,7 +143,7 @@ impl Ram {
         ensures bytes { IfOk result (λ bytes. bytes.now ≡ take n (drop a self.now)) }
     {
         let at = a as usize;
-        if at > RAM_SIZE || RAM_SIZE - at < n {
+        if at > SIZE || SIZE - at < n {
             return Err(OutOfRam);
         }
         Ok(&self.bytes[at..at + n])
