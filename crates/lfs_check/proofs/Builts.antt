@@ -11,7 +11,7 @@ use Rattle.lfs_check.specs.Meets.{null}
 use Rattle.lfs_check.specs.Laid.{Shape, FileLies, IsChain, index_in, list_of, times_in}
 use Rattle.lfs_check.specs.Clean.{LaidIn}
 use Rattle.lfs_check.specs.Checks.{need_index, need_data}
-use Rattle.lfs_check.specs.Empty.{upwards, behind}
+use Rattle.lfs_check.specs.Empty.{upwards, next_upwards}
 use Rattle.lfs_check.specs.Built.{index_need, data_need, runs, run_end, LieFrom, head_of, IsBuilt, built_places}
 use Rattle.lfs_check.proofs.Empties.{upwards-chain, upwards-times}
 
@@ -57,12 +57,12 @@ none-each need a [] k h z = refl
 none-each need a (e ∷ es) zero h z = ap (upwards a) z
 none-each need a (e ∷ es) (suc k) h z = none-each need (a + need e) es k (omega arith) z
 
-free-chain : (next : ℕ → ℕ) (low high head : ℕ) → low ≤ high → head ≡ head_of low high → ((i : ℕ) → low ≤ i → i < high → next i ≡ behind high i) → IsChain next head (upwards low (high - low))
+free-chain : (next : ℕ → ℕ) (low high head : ℕ) → low ≤ high → head ≡ head_of low high → ((i : ℕ) → low ≤ i → i < high → next i ≡ next_upwards high i) → IsChain next head (upwards low (high - low))
 free-chain next low high head le e all = ⊎_elim
     (λ (lt : low < high). (let t : nat_lt low high ≡ true = grind (arith, nat_tests) in
     let up : low + (high - low) ≡ high = omega (arith, le) in
     upwards-chain next low (high - low) head (omega (arith, lt)) (e ∙ ap (λ b. cond b low null) t)
-    (λ j h. all (low + j) (omega arith) (omega (arith, h, up)) ∙ ap (λ n. behind n (low + j)) (sym up))))
+    (λ j h. all (low + j) (omega arith) (omega (arith, h, up)) ∙ ap (λ n. next_upwards n (low + j)) (sym up))))
     (λ (ge : high ≤ low). (let t : nat_lt low high ≡ false = grind (arith, nat_tests) in
     let none : upwards low (high - low) ≡ [] = ap (upwards low) (let q : high - low ≡ 0 = omega (arith, ge) in q) in
     let P : List ℕ → Type 0 = λ xs. IsChain next head xs in

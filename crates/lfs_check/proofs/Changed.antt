@@ -9,7 +9,7 @@ use Rattle.lfs_check.specs.Laid.{Shape, index_in, entry_in, IsChain, Places, lis
 use Rattle.lfs_check.specs.Meets.{times}
 use Rattle.lfs_check.proofs.Steps.{times-at, times_in-part, times_in-two, times_in-set, at_most_one, FileLies-same, IsChain-same}
 
--- What changes where only the file of entry e does: its entry, index blocks of its own or held ones, and who owns them.
+-- What changes if only the file of entry e does: its entry, index blocks of its own or held ones, and who owns them.
 pub record Changes (d d' : Shape) (p : Places) (e : ℕ) (entry' : Entry) (chain' blocks' held_index' held_data' : List ℕ) : Type 0 where
   pub in_range : e < length d.entries
   pub entries : d'.entries ≡ slice_set d.entries e entry'

@@ -1,4 +1,4 @@
--- Where each number of a range stands once in a list, and no other, the list is as long as the range.
+-- If each number of a range is once in a list, and no other is, the list is as long as the range.
 use Rattle.std.proofs.Common.{◌≡◌, ℕ, zero, suc, ◌+◌, ◌-◌, ◌<◌, ◌≤◌, true, false, cond, not, ◌&&◌, nat_lt, nat_eq, List, [], ◌∷◌, ◌++◌, length, refl, sym, ◌∙◌, arith, ⊎_elim}
 use Rattle.std.proofs.lemmas.Bool.{cases_eq, cases_lt}
 use Rattle.std.proofs.lemmas.Bool.Decides.{nat_tests}
@@ -60,7 +60,7 @@ pub times-joined : (b : ℕ) (lists : List (List ℕ)) → times b (joined lists
 times-joined b [] = refl
 times-joined b (l ∷ lists) = let i = times-joined b lists in let a = times-append b l (joined lists) in omega (arith, i, a)
 
--- all data blocks are those of files, the free ones and those held: where none is free or held, the files fill the disk
+-- all data blocks are those of files, the free ones and those held: if none is free or held, the files fill the disk
 pub data_filled : (many low high : ℕ) (d : Shape) (p : Places) → Laid many low high d p → length (joined p.datas ++ (p.free_data ++ p.held_data)) ≡ high - low
 data_filled many low high d p l =
     length-once low high (joined p.datas ++ (p.free_data ++ p.held_data))
@@ -77,7 +77,7 @@ range_most low high (suc h) xs le once =
     (λ ge. (let b : nat_lt h low ≡ false = grind (arith, nat_tests) in let z : in_range low high h ≡ 1 = rw (a, b) refl in omega (arith, i, s, o, z, ge)))
     (cases_lt h low)
 
--- where no number outside the range stands in a list, and none twice, the list is no longer than the range
+-- if no number outside the range is in a list, and none twice, the list is no longer than the range
 pub length-most : (low high : ℕ) (xs : List ℕ) → ((b : ℕ) → times b xs ≤ in_range low high b) → length xs ≤ high - low
 length-most low high xs once =
     let all = below-all high xs (λ b le. (let o = once b in let a : nat_lt b high ≡ false = grind (arith, nat_tests) in let z : in_range low high b ≡ 0 = rw a refl in omega (arith, o, z))) in

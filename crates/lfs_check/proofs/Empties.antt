@@ -7,7 +7,7 @@ use Rattle.lfs_check.specs.Geometries.{index_count, first_data, IsGeometry}
 use Rattle.lfs_check.specs.Meets.{null, times}
 use Rattle.lfs_check.specs.Laid.{Shape, IsChain, index_in, list_of, times_in}
 use Rattle.lfs_check.specs.Clean.{LaidIn}
-use Rattle.lfs_check.specs.Empty.{upwards, IsEmpty, behind, empty_places}
+use Rattle.lfs_check.specs.Empty.{upwards, IsEmpty, next_upwards, empty_places}
 
 pub length-upwards : (low many : ℕ) → length (upwards low many) ≡ many
 length-upwards low zero = refl
@@ -18,8 +18,8 @@ upwards-at low zero j d h = absurd (omega (arith, h))
 upwards-at low (suc many) zero d h = omega arith
 upwards-at low (suc many) (suc j) d h = upwards-at (suc low) many j d (omega arith) ∙ (let q : suc low + j ≡ low + suc j = omega arith in q)
 
-upwards-behind : (low many j : ℕ) → j < many → slice_index_or (upwards low many) (suc j) null ≡ behind (low + many) (low + j)
-upwards-behind low many j h = ⊎_elim
+upwards-next_upwards : (low many j : ℕ) → j < many → slice_index_or (upwards low many) (suc j) null ≡ next_upwards (low + many) (low + j)
+upwards-next_upwards low many j h = ⊎_elim
     (λ lt. (let t : nat_lt (suc (low + j)) (low + many) ≡ true = (let q : suc (low + j) < low + many = omega (arith, lt) in grind (arith, nat_tests)) in
     upwards-at low many (suc j) null lt ∙ (let q : low + suc j ≡ suc (low + j) = omega arith in q) ∙ sym (ap (λ b. cond b (suc (low + j)) null) t)))
     (λ ge. (let t : nat_lt (suc (low + j)) (low + many) ≡ false = (let q : low + many ≤ suc (low + j) = omega (arith, ge) in grind (arith, nat_tests)) in
@@ -31,11 +31,11 @@ upwards-behind low many j h = ⊎_elim
     past (x ∷ xs) zero h = absurd (omega (arith, h))
     past (x ∷ xs) (suc n) h = past xs n (omega arith)
 
-pub upwards-chain : (next : ℕ → ℕ) (low many head : ℕ) → 0 < many → head ≡ low → ((j : ℕ) → j < many → next (low + j) ≡ behind (low + many) (low + j)) → IsChain next head (upwards low many)
+pub upwards-chain : (next : ℕ → ℕ) (low many head : ℕ) → 0 < many → head ≡ low → ((j : ℕ) → j < many → next (low + j) ≡ next_upwards (low + many) (low + j)) → IsChain next head (upwards low many)
 upwards-chain next low many head some e all = record {
   starts = e ∙ (let q : low ≡ low + 0 = omega arith in q) ∙ sym (upwards-at low many 0 null some);
   goes_on = λ j h. (let l = length-upwards low many in let lt : j < many = omega (arith, h, l) in
-      ap next (upwards-at low many j 0 lt) ∙ all j lt ∙ sym (upwards-behind low many j lt));
+      ap next (upwards-at low many j 0 lt) ∙ all j lt ∙ sym (upwards-next_upwards low many j lt));
 }
 
 pub upwards-times : (low many n : ℕ) → times n (upwards low many) ≡ cond (nat_lt n (low + many) && not (nat_lt n low)) 1 0
@@ -81,9 +81,9 @@ empty_lies g d geo e =
       datas = length-lists (length d.entries);
       file = λ k h u. absurd (false≢true (sym (e.unused k h) ∙ u));
       no_file = λ k h u. (no-list (length d.entries) k, no-list (length d.entries) k);
-      free_index = upwards-chain (λ i. (index_in d i).next) 0 (index_count g) d.header.free_index (omega arith) e.index_head (λ j h. e.nexts (0 + j) (omega arith) ∙ ap (λ n. behind n (0 + j)) (let q : index_count g ≡ 0 + index_count g = omega arith in q));
+      free_index = upwards-chain (λ i. (index_in d i).next) 0 (index_count g) d.header.free_index (omega arith) e.index_head (λ j h. e.nexts (0 + j) (omega arith) ∙ ap (λ n. next_upwards n (0 + j)) (let q : index_count g ≡ 0 + index_count g = omega arith in q));
       free_data = upwards-chain (λ b. slice_index d.links b) (first_data g) (g.blocks - first_data g) d.header.free_data (omega arith) e.data_head
-          (λ j h. e.links (first_data g + j) (omega arith) (omega (arith, h, up)) ∙ ap (λ n. behind n (first_data g + j)) (sym up));
+          (λ j h. e.links (first_data g + j) (omega arith) (omega (arith, h, up)) ∙ ap (λ n. next_upwards n (first_data g + j)) (sym up));
       one_index = λ i. (let t = upwards-times 0 (index_count g) i in let z = no-lists i (length d.entries) in
           let q : ◌≡◌ {A = ℕ} (cond (nat_lt i (0 + index_count g) && not (nat_lt i 0)) 1 0) (cond (nat_lt i (index_count g)) 1 0) =
           (let f : nat_lt i 0 ≡ false = grind (arith, nat_tests) in ap (λ n. cond (nat_lt i n && not (nat_lt i 0)) 1 0) (let s : 0 + index_count g ≡ index_count g = omega arith in s) ∙ ap (λ b. cond (nat_lt i (index_count g) && not b) 1 0) f ∙ ap (λ b. cond b 1 0) (and-true (nat_lt i (index_count g)))) in

@@ -1,4 +1,4 @@
--- Where no number is met twice, a walk ends at null.
+-- If no number is met twice, a walk ends at null.
 use Rattle.std.proofs.Common.{◌≡◌, ℕ, zero, suc, ◌+◌, ◌-◌, ◌<◌, ◌≤◌, Bool, true, false, cond, not, ◌&&◌, ◌||◌, nat_lt, nat_le, nat_eq, List, [], ◌∷◌, ◌++◌, length, slice_index, refl, sym, ap, ◌∙◌, arith, length-append, ⊎_elim}
 use Rattle.std.proofs.lemmas.Bool.{cases_lt, cases_eq, false≢true}
 use Rattle.std.proofs.lemmas.Bool.Decides.{nat_tests}
@@ -52,7 +52,7 @@ out-within low high n out = by (is_within low high n) refl
     by true e = (let w = within-of low high n e in absurd (out w.0 w.1))
     by false e = e
 
--- a number outside the range of a list doesn't stand in it
+-- a number outside the range of a list isn't in it
 pub times-out : (low high b : ℕ) (xs : List ℕ) → ((j : ℕ) → j < length xs → (low ≤ slice_index xs j) × (slice_index xs j < high)) → (low ≤ b → b < high → ⊥) → times b xs ≡ 0
 times-out low high b [] all out = refl
 times-out low high b (x ∷ xs) all out =

@@ -1,4 +1,4 @@
--- The blocks of the entries that are kept stand in them once.
+-- Each block of the entries that are kept is in them once.
 use Rattle.std.proofs.Common.{◌≡◌, ℕ, ◌+◌, ◌≤◌, Bool, true, false, cond, ◌&&◌, nat_eq, List, [], ◌∷◌, ◌++◌, refl, sym, ap, ◌∙◌, arith, ⊎_elim}
 use Rattle.std.specs.List.{flat_map}
 use Rattle.std.proofs.lemmas.Bool.{cases_lt, false≢true}
@@ -28,7 +28,7 @@ stand-at (x ∷ xs) all n s h =
 abbrev whole_part : Geometry → List Index → (Entry → List ℕ) → List Entry → List ℕ
 whole_part g ix f es = flat_map (λ e. cond (is_whole g ix e) (f e) []) es
 
--- lists of which the kept entries' stand once in all
+-- if the numbers of kept entries are once in a list, no number is twice in those of kept entries
 kept-once : (g : Geometry) (ix : List Index) (f : Entry → List ℕ) (all : List ℕ) (es before rest : List Entry) (n : ℕ)
     → ((before : List Entry) (e : Entry) → is_kept g ix es before e ≡ true → (is_whole g ix e ≡ true) × (stand_once (f e) all ≡ true))
     → (times n (flat_map f (kept_from g ix es before rest)) ≤ times n (whole_part g ix f rest)) × (1 ≤ times n (flat_map f (kept_from g ix es before rest)) → times n all ≡ 1)

@@ -1,4 +1,4 @@
--- The data numbers of a file stand in the rows of its index blocks.
+-- The data numbers of a file are in the rows of its index blocks.
 use Rattle.std.proofs.Common.{◌≡◌, ℕ, zero, suc, ◌+◌, ◌-◌, ◌*◌, ◌<◌, Bool, true, false, cond, ◌&&◌, nat_lt, nat_eq, List, [], ◌∷◌, ◌++◌, length, slice_index, take, drop, replicate, refl, sym, ap, ◌∙◌, arith, length-append, length-take, ⊎_elim}
 use Rattle.std.specs.List.{flat_map}
 use Rattle.std.proofs.lemmas.List.{take_all, drop_all, take-take, take-append-le, drop-append-le, drop-drop, take-replicate, drop-take}
@@ -19,7 +19,7 @@ and-true false b e = absurd (false≢true e)
 null-of : (b : ℕ) → nat_eq b null ≡ true → b ≡ null
 null-of b t = grind (arith, nat_tests)
 
--- numbers of which so many are wanted: these, and then nulls
+-- numbers of which the first are wanted: these, and then nulls
 pub fits-is : (g : Geometry) (w : ℕ) (xs : List ℕ) → row_fits g w xs ≡ true → xs ≡ take w xs ++ replicate (length xs - w) null
 unfolding row_fits
 fits-is g zero [] e = refl

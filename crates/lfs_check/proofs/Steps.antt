@@ -10,7 +10,7 @@ use Rattle.lfs_format.specs.Directory.{blank}
 use Rattle.lfs_check.specs.Laid.{Shape, no_index, index_in, entry_in, IsChain, Places, list_of, times_in, index_for, FileLies, Laid, with_header, data_taken, data_put, index_put, data_freed, entry_put}
 use Rattle.lfs_check.specs.Meets.{null, times}
 
--- an element of a list stands in it
+-- an element of a list is in it
 pub times-at : (xs : List ℕ) (j n : ℕ) → j < length xs → slice_index xs j ≡ n → 1 ≤ times n xs
 times-at [] j n h e = absurd (omega arith)
 times-at (x ∷ xs) zero n h e = let t : nat_eq x n ≡ true = eq-eqb x n e in rw t (omega arith)
@@ -34,7 +34,7 @@ IsChain-rest next head b rest c = record {
   goes_on = λ j h. c.goes_on (suc j) (omega arith);
 }
 
--- a number in front
+-- a number before the first
 pub IsChain-more : (next : ℕ → ℕ) (head b : ℕ) (rest : List ℕ) → IsChain next head rest → next b ≡ head → IsChain next b (b ∷ rest)
 IsChain-more next head b rest c e = record { starts = refl; goes_on = at_each }
   where
@@ -42,7 +42,7 @@ IsChain-more next head b rest c e = record { starts = refl; goes_on = at_each }
     at_each zero h = e ∙ c.starts
     at_each (suc j) h = c.goes_on j (omega arith)
 
--- a chain stays where the next of its numbers stay
+-- a chain stays if the next of its numbers stay
 pub IsChain-same : (next next' : ℕ → ℕ) (head : ℕ) (chain : List ℕ) → IsChain next head chain → ((j : ℕ) → j < length chain → next' (slice_index chain j) ≡ next (slice_index chain j)) → IsChain next' head chain
 IsChain-same next next' head chain c same = record { starts = c.starts; goes_on = λ j h. same j h ∙ c.goes_on j h }
 
@@ -172,7 +172,7 @@ Laid-data_freed many low high d p b rest e named l =
       one_data = λ n. (let one = l.one_data n in let f : times n p.held_data ≡ times n (b ∷ rest) = ap (times n) e in omega (arith, one, f));
     }
 
--- the index blocks that are full stay as they are where data blocks are appended
+-- the index blocks that are full stay as they are if data blocks are appended
 pub index_for-more : (j : ℕ) (chain blocks more : List ℕ) → 16 * j + 16 ≤ length blocks → index_for j chain (blocks ++ more) ≡ index_for j chain blocks
 index_for-more j chain blocks more h =
     let nulls = replicate 16 null in
@@ -207,7 +207,7 @@ FileLies-added d entry entry' chain blocks b j f last room below once first i_si
       (cases_eq k j);
 }
 
--- a file of another entry, where the index block of a file is written
+-- a file of another entry, when the index block of a file is written
 pub FileLies-other : (many low high : ℕ) (d : Shape) (p : Places) (e f i : ℕ) (index : Index) → Laid many low high d p → e ≢ f → 1 ≤ times i (list_of p.chains e)
     → FileLies d (entry_in d f) (list_of p.chains f) (list_of p.datas f) → FileLies (index_put d i index) (entry_in d f) (list_of p.chains f) (list_of p.datas f)
 FileLies-other many low high d p e f i index l ne has lies =
@@ -215,7 +215,7 @@ FileLies-other many low high d p e f i index l ne has lies =
     FileLies-same d (index_put d i index) (entry_in d f) (list_of p.chains f) (list_of p.datas f) lies
     (λ j h. get_or-set_other d.indexes i (slice_index (list_of p.chains f) j) index no_index (differs (list_of p.chains f) j i none h))
 
--- what changes where a data block is added to the file of an entry
+-- what changes when a data block is added to the file of an entry
 abbrev pub added : Shape → ℕ → ℕ → Entry → Index → Shape
 added d e i entry index = entry_put (index_put d i index) e entry
 

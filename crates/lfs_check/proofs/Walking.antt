@@ -34,7 +34,7 @@ Marks-more seen met size m h marks n lt =
     get_or-set_other seen m n true false other ∙ marks n lt ∙ sym (is_met-push n m met ∙ ap (λ b. is_met n met || b) e ∙ or-false (is_met n met))))
     (cases_eq n m)
 
--- the marks tell where a walk goes on
+-- the marks tell whether a walk goes on
 pub is_open-goes_on : (seen : List Bool) (met : List ℕ) (size low high n : ℕ) → high ≤ size → Marks seen met size → is_open seen low high n ≡ goes_on low high met n
 is_open-goes_on seen met size low high n h marks =
     ⊎_elim (λ lt. ap (λ b. nat_lt n high && not (nat_lt n low) && not b) (marks n (omega (arith, lt))))

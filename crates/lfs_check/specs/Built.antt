@@ -7,7 +7,7 @@ use Rattle.lfs_check.specs.Rules.{is_used}
 use Rattle.lfs_check.specs.Meets.{null}
 use Rattle.lfs_check.specs.Laid.{Shape, Places, FileLies, index_in}
 use Rattle.lfs_check.specs.Checks.{need_index, need_data}
-use Rattle.lfs_check.specs.Empty.{upwards, behind}
+use Rattle.lfs_check.specs.Empty.{upwards, next_upwards}
 
 abbrev pub index_need : Entry → ℕ
 index_need e = cond (is_used e) (need_index e) 0
@@ -15,12 +15,12 @@ index_need e = cond (is_used e) (need_index e) 0
 abbrev pub data_need : Entry → ℕ
 data_need e = cond (is_used e) (need_data e) 0
 
--- the lists of the files one behind the other, from a number on
+-- the numbers of the files one after another, from a number on
 abbrev pub runs : (Entry → ℕ) → ℕ → List Entry → List (List ℕ)
 runs need a [] = []
 runs need a (e ∷ es) = upwards a (need e) ∷ runs need (a + need e) es
 
--- the number behind the last
+-- the number after the last
 abbrev pub run_end : (Entry → ℕ) → ℕ → List Entry → ℕ
 run_end need a [] = a
 run_end need a (e ∷ es) = run_end need (a + need e) es
@@ -38,8 +38,8 @@ pub record IsBuilt (g : Geometry) (d : Shape) : Type 0 where
   pub data_room : run_end data_need (first_data g) d.entries ≤ g.blocks
   pub index_head : d.header.free_index ≡ head_of (run_end index_need 0 d.entries) (index_count g)
   pub data_head : d.header.free_data ≡ head_of (run_end data_need (first_data g) d.entries) g.blocks
-  pub nexts : (i : ℕ) → run_end index_need 0 d.entries ≤ i → i < index_count g → (index_in d i).next ≡ behind (index_count g) i
-  pub links : (b : ℕ) → run_end data_need (first_data g) d.entries ≤ b → b < g.blocks → slice_index d.links b ≡ behind g.blocks b
+  pub nexts : (i : ℕ) → run_end index_need 0 d.entries ≤ i → i < index_count g → (index_in d i).next ≡ next_upwards (index_count g) i
+  pub links : (b : ℕ) → run_end data_need (first_data g) d.entries ≤ b → b < g.blocks → slice_index d.links b ≡ next_upwards g.blocks b
 
 abbrev pub built_places : Geometry → Shape → Places
 built_places g d = record {

@@ -1,4 +1,4 @@
--- The rules 4 to 7: what the walks of a disk meet.
+-- Rules 4 to 7: what the walks of a disk meet.
 use Rattle.std.specs.Prelude.{ℕ, suc, ◌+◌, ◌-◌, ◌/◌, Bool, true, cond, ◌&&◌, nat_lt, nat_le, nat_eq, min, List, [], ◌∷◌, ◌++◌, length, map, slice_index, slice_index_or, Option, Some, None}
 use Rattle.std.specs.List.{flat_map}
 use Rattle.lfs_format.specs.declared.Entry.{Entry}
@@ -10,7 +10,7 @@ use Rattle.lfs_check.specs.Meets.{null, times, first_from}
 use Rattle.lfs_check.specs.Rules.{is_used}
 use Rattle.lfs_check.specs.Walks.{walk, walk_end}
 
--- the lower of two blocks, where there is one
+-- the lower of two blocks, if there is one
 abbrev pub least : Option ℕ → Option ℕ → Option ℕ
 least None b = b
 least (Some a) None = Some a
@@ -53,9 +53,9 @@ free_data_of g d = walk d.links (first_data g) g.blocks g.blocks [] d.header.fre
 abbrev pub free_data_end : Geometry → Shape → ℕ
 free_data_end g d = walk_end d.links (first_data g) g.blocks g.blocks [] d.header.free_data
 
--- Rule 4: each number is null or in range, and null exactly where nothing is needed.
+-- Rule 4: each number is null or in range, and null if and only if nothing is needed.
 
--- the last number met, or what stands in front
+-- the last number met, or a number for none
 abbrev pub last_or : ℕ → List ℕ → ℕ
 last_or front met = cond (nat_eq (length met) 0) front (slice_index met (length met - 1))
 
@@ -65,7 +65,7 @@ is_good_end low high end = cond (nat_eq end null) true (is_within low high end)
 abbrev pub free_data_fault : Geometry → List ℕ → ℕ → Option ℕ
 free_data_fault g met end = cond (is_good_end (first_data g) g.blocks end) None (Some (last_or 0 met))
 
--- the block in which the number that ended a walk of index blocks stands; the first number stands in this block
+-- the block that has the number that ended a walk of index blocks; the first number is in this block
 abbrev pub holder : Geometry → ℕ → List ℕ → ℕ
 holder g block met = cond (nat_eq (length met) 0) block (index_block g (slice_index met (length met - 1)))
 
@@ -78,7 +78,7 @@ is_file_end g need len end = cond (nat_lt len need) (is_within 0 (index_count g)
 abbrev pub end_fault : Geometry → ℕ → Entry → List ℕ → ℕ → Option ℕ
 end_fault g k e met end = cond (is_file_end g (need_index e) (length met) end) None (Some (holder g (entry_block g k) met))
 
--- the numbers of data blocks in an index block: so many are wanted, and the others are null
+-- the numbers of data blocks in an index block: those that are wanted, and then nulls
 abbrev pub number_fits : Geometry → ℕ → ℕ → Bool
 number_fits g wanted b = cond (nat_lt 0 wanted) (is_within (first_data g) g.blocks b) (nat_eq b null)
 
@@ -140,7 +140,7 @@ index_numbers g d = (free_index_of g d ++ free_index_end g d ∷ []) ++ flat_map
 abbrev pub data_numbers : Geometry → Shape → List ℕ
 data_numbers g d = (free_data_of g d ++ free_data_end g d ∷ []) ++ flat_map (file_data_numbers g d.indexes) d.entries
 
--- Rules 6 and 7: each number is met once. Index blocks stand in front of data blocks.
+-- Rules 6 and 7: each number is met once. Index blocks come before data blocks.
 abbrev pub in_block : Geometry → Option ℕ → Option ℕ
 in_block g None = None
 in_block g (Some i) = Some (index_block g i)

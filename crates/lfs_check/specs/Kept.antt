@@ -14,7 +14,7 @@ abbrev pub is_none : Option ℕ → Bool
 is_none None = true
 is_none (Some a) = false
 
--- whether each number stands in these lists once
+-- whether each number is in the list once
 abbrev pub stand_once : List ℕ → List ℕ → Bool
 stand_once xs all = list_all (λ n. nat_eq (times n all) 1) xs
 
@@ -37,7 +37,7 @@ whole_datas g indexes es = flat_map (λ e. cond (is_whole g indexes e) (data_in 
 abbrev pub is_hidden : Geometry → List Index → List Entry → Entry → Bool
 is_hidden g indexes before e = list_any (λ f. is_whole g indexes f && bytes_eq f.name e.name) before
 
--- a whole entry is kept where no lower whole entry has its name, and it shares no block with another whole entry
+-- a whole entry is kept if no lower whole entry has its name and it shares no block with another whole entry
 abbrev pub is_kept : Geometry → List Index → List Entry → List Entry → Entry → Bool
 is_kept g indexes es before e =
     is_whole g indexes e && not (is_hidden g indexes before e)

@@ -24,7 +24,7 @@ index_in d i = slice_index_or d.indexes i no_index
 abbrev pub entry_in : Shape → ℕ → Entry
 entry_in d e = slice_index_or d.entries e blank
 
--- a chain of numbers: it starts at the head, and each number's next is the number behind it, or null
+-- a chain of numbers: it starts at the head, and each number's next is the one after it, or null
 pub record IsChain (next : ℕ → ℕ) (head : ℕ) (chain : List ℕ) : Type 0 where
   pub starts : head ≡ slice_index_or chain 0 null
   pub goes_on : (j : ℕ) → j < length chain → next (slice_index chain j) ≡ slice_index_or chain (suc j) null
@@ -43,7 +43,7 @@ pub record Places : Type 0 where
 abbrev pub list_of : List (List ℕ) → ℕ → List ℕ
 list_of lists e = slice_index_or lists e []
 
--- how often a number stands in the lists of all files
+-- how often a number is in the lists of all files
 abbrev pub times_in : ℕ → List (List ℕ) → ℕ
 times_in n [] = 0
 times_in n (l ∷ lists) = times n l + times_in n lists

@@ -10,4 +10,3 @@ pub mod Clean
 pub mod Empty
 pub mod Built
 pub mod Kept
-pub mod Files

@@ -1,4 +1,4 @@
--- The rules 4, 6 and 7 on what walks met.
+-- What walks met, and how often.
 use Rattle.std.specs.Prelude.{ℕ, zero, suc, ◌+◌, Bool, cond, nat_lt, nat_eq, min, List, [], ◌∷◌, length, slice_index, slice_set, Option, Some, None}
 
 abbrev pub null : ℕ
@@ -9,7 +9,7 @@ abbrev pub times : ℕ → List ℕ → ℕ
 times n [] = 0
 times n (x ∷ xs) = cond (nat_eq x n) 1 0 + times n xs
 
--- the lowest number from low on, of so many, that passes the test
+-- the lowest that passes the test among numbers from low on
 unfoldable pub first_from : (ℕ → Bool) → ℕ → ℕ → Option ℕ
 first_from test low zero = None
 first_from test low (suc many) = cond (test low) (Some low) (first_from test (suc low) many)

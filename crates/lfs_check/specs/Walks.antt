@@ -5,11 +5,11 @@ use Rattle.std.specs.List.{list_any}
 abbrev pub is_met : ℕ → List ℕ → Bool
 is_met n met = list_any (λ m. nat_eq m n) met
 
--- where a walk goes on: not at a number out of range, nor at one that it has met
+-- whether a walk goes on: not at a number out of range, nor at one that it has met
 abbrev pub goes_on : ℕ → ℕ → List ℕ → ℕ → Bool
 goes_on low high met n = nat_lt n high && not (nat_lt n low) && not (is_met n met)
 
--- the numbers that a walk has met at its end, after at most so many steps from n; met are those so far. links gives the next
+-- the numbers that a walk has met at its end, after at most this many steps from n; met are those so far. links gives the next
 -- of each number
 unfoldable pub walk : List ℕ → ℕ → ℕ → ℕ → List ℕ → ℕ → List ℕ
 walk links low high zero met n = met

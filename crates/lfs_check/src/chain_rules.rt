@@ -1,4 +1,4 @@
-//! What the rules 4 and 5 say of one chain.
+//! What rules 4 and 5 say of one chain.
 
 ghost use Rattle.std.specs.Prelude.{◌≡◌, ℕ, ◌+◌, ◌-◌, ◌*◌, ◌≤◌, ◌<◌, ◌^◌, length, slice_index, slice_index_or, drop};
 ghost use Rattle.lfs_check.specs.Geometries.{index_count, first_data, IsGeometry};
@@ -9,7 +9,7 @@ use crate::geometry::{Geometry, block_of_entry, block_of_index, data_from, index
 use crate::walks::Walk;
 use lfs_format::{Entry, Index, NULL};
 
-/// The lower of two blocks, where there is one.
+/// The lower of two blocks, if there is one.
 pub fn least(a: Option<u32>, b: Option<u32>) -> Option<u32>
     ensures { result ≡ least a b }
 {
@@ -38,7 +38,7 @@ fn may_end(low: u32, high: u32, end: u32) -> bool
     }
 }
 
-// The last number met, or what stands in front.
+// The last number met, or a number for none.
 fn last_met(front: u32, met: &[u32]) -> u32
     ensures { result ≡ last_or front met.now }
 {
@@ -125,7 +125,7 @@ pub fn end_fault(geometry: Geometry, k: usize, entry: &Entry, met: &[u32], end: 
     }
 }
 
-// Whether a data number is right where so many are still wanted.
+// Whether a data number is right if this many are still wanted.
 fn is_right(geometry: Geometry, wanted: usize, number: u32) -> bool
     requires geometry { IsGeometry geometry }
     ensures { result ≡ number_fits geometry wanted number }
@@ -137,7 +137,7 @@ fn is_right(geometry: Geometry, wanted: usize, number: u32) -> bool
     }
 }
 
-// Whether the data numbers of an index block are right where so many are wanted.
+// Whether the data numbers of an index block are right if this many are wanted.
 #[tactic(auto, using(crate::proofs::Surveys::row_fits_all))]
 fn are_right(geometry: Geometry, wanted: usize, numbers: &[u32; 16]) -> bool
     requires geometry { IsGeometry geometry }

@@ -15,7 +15,7 @@ ghost use Rattle.std.specs.List.{flat_map};
 ghost use Rattle.lfs_format.specs.declared.Entry.{Entry};
 ghost use Rattle.lfs_format.specs.declared.Index.{Index};
 
-/// No rule from 4 to 7 is broken exactly where files lie on the disk with nothing held.
+/// No rule from 4 to 7 is broken if and only if files lie on the disk with nothing held.
 #[tactic(auto, using(crate::proofs::Theorems::clean_laid))]
 pub fn clean_is_laid()
     ensures { (g : Geometry) (d : Shape) → IsGeometry g → IsShape g d → Passes g d ↔ LaidIn g d (places_of g d) }

@@ -16,7 +16,7 @@ use crate::walks::{Walk, walk_chain};
 use lfs_format::{Entry, Index};
 use std::alloc::{AllocError, Global};
 
-/// What walks have met so far, and where they broke the rules 4 and 5.
+/// What walks have met so far, and where they broke rules 4 and 5.
 #[derive(Drop)]
 pub struct Survey {
     pub rule_4: Option<u32>,
@@ -130,7 +130,7 @@ fn survey_walk(
     Ok(())
 }
 
-// The file of an entry, where it is used.
+// The file of an entry, if it is used.
 #[tactic(auto, using(crate::proofs::Surveys::least_none, crate::proofs::Surveys::append_none))]
 fn survey_file(
     survey: &mut Survey,

@@ -20,7 +20,7 @@ fn put(image: &mut Vec<u8>, at: usize, word: u32) {
     }
 }
 
-// An image of so many blocks with these words, and zeros otherwise.
+// An image of a number of blocks with these words, and zeros otherwise.
 fn image_of(rt: &impl Abort, alloc: Global, blocks: u16, words: &[(usize, u32)]) -> Vec<u8> {
     let mut image = vec![in alloc; 0u8; 512 * blocks as usize].expect(rt, "memory");
     for (at, word) in words {

@@ -26,7 +26,7 @@ words_of-read n src dst l r =
     same_lists dst (words_of n src) (l ∙ sym (length-words_of n src))
     (λ k d h. (let lt : k < n = omega arith in get_or_default dst k d 0 h ∙ r k h ∙ sym (get_or-words_of n src k d lt)))
 
--- no word behind the range is read
+-- no word after the range is read
 pub words_of-take : (n m : ℕ) (bytes : List ℕ) → 4 * n ≤ m → words_of n (take m bytes) ≡ words_of n bytes
 words_of-take n m bytes h =
     same_lists (words_of n (take m bytes)) (words_of n bytes) (length-words_of n (take m bytes) ∙ sym (length-words_of n bytes))

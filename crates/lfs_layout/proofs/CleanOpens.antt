@@ -1,18 +1,17 @@
 -- The files of a clean image have room on it, and on the image of version 2 that is six blocks larger.
-use Rattle.std.proofs.Common.{◌≡◌, ℕ, zero, suc, ◌+◌, ◌-◌, ◌*◌, ◌/◌, ◌<◌, ◌≤◌, Bool, true, false, cond, not, ◌&&◌, nat_eq, nat_lt, List, [], ◌∷◌, ◌++◌, length, get_or, slice_index, take, drop, map, replicate, refl, sym, ap, ◌∙◌, subst, arith, length-append, length-take, length-drop, None, ⊎_elim, Option, Some}
+use Rattle.std.proofs.Common.{◌≡◌, ℕ, zero, suc, ◌+◌, ◌-◌, ◌*◌, ◌/◌, ◌<◌, ◌≤◌, Bool, true, false, cond, not, ◌&&◌, nat_eq, nat_lt, List, [], ◌∷◌, length, get_or, slice_index, take, drop, map, replicate, refl, sym, ap, ◌∙◌, subst, arith, length-append, length-take, length-drop, None, ⊎_elim, Option, Some}
 use Rattle.std.specs.List.{flat_map}
 use Rattle.std.proofs.lemmas.List.{get_or-map, length-map, length-replicate, drop-drop}
 use Rattle.std.proofs.lemmas.Bool.{cases_lt}
 use Rattle.std.proofs.lemmas.Bool.Decides.{nat_tests}
 use Rattle.lfs_format.specs.declared.Entry.{Entry}
 use Rattle.lfs_format.specs.declared.Entry1.{Entry1}
-use Rattle.lfs_format.specs.declared.Index.{Index}
 use Rattle.lfs_format.specs.Pieces.{pieces_of}
 use Rattle.lfs_format.specs.Directory.{entry_of, entry_1_of, dir_of, dir_1_of, blank}
 use Rattle.lfs_check.specs.declared.geometry.Geometry.{Geometry}
 use Rattle.lfs_check.specs.Geometries.{index_count, first_data, longest_name}
 use Rattle.lfs_check.specs.Meets.{times}
-use Rattle.lfs_check.specs.Rules.{is_used, has_name, block_in, first_failing, has_bad_name, in_entry_block, rule_1}
+use Rattle.lfs_check.specs.Rules.{has_name, block_in, first_failing, has_bad_name, in_entry_block}
 use Rattle.lfs_check.specs.Laid.{Shape, list_of, times_in}
 use Rattle.lfs_check.specs.Clean.{chain_in, data_in, places_of}
 use Rattle.lfs_check.specs.Fields.{is_version_2, geometry_of, fields_of, entries_of, entries_1, entries_2, joined, widened}
@@ -21,11 +20,11 @@ use Rattle.lfs_check.proofs.Steps.{times-append, times-at, times_in-part}
 use Rattle.lfs_check.proofs.Counting.{in_range, length-most}
 use Rattle.lfs_check.proofs.Theorems.{migration_room}
 use Rattle.lfs_check.proofs.Images.{image_lies, image_names, whole_blocks, image_blocks}
-use Rattle.lfs_layout.specs.Files.{File, files_in, placed_files, total_for, is_among, names_right, names_of}
-use Rattle.lfs_layout.specs.Made.{geometry_2, no_file, Room}
+use Rattle.lfs_layout.specs.Files.{placed_files, total_for, is_among, names_right, names_of}
+use Rattle.lfs_layout.specs.Made.{geometry_2, Room}
 use Rattle.lfs_layout.proofs.Joins.{length_joined}
 use Rattle.lfs_layout.proofs.Regions.{each_append}
-use Rattle.lfs_layout.proofs.CleanRoom.{Whole, AllWhole, totals, names_from, names_longer, files_few, files_wide}
+use Rattle.lfs_layout.proofs.CleanRoom.{AllWhole, totals, names_from, names_longer, files_few, files_wide}
 
 abbrev shape_of : List ℕ → Shape
 shape_of image = fields_of (geometry_of image) image

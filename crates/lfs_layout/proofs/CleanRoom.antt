@@ -1,21 +1,17 @@
 -- The files of an image need no more room than it has, and have names.
-use Rattle.std.proofs.Common.{◌≡◌, ℕ, zero, suc, ◌+◌, ◌-◌, ◌*◌, ◌/◌, ◌<◌, ◌≤◌, Bool, true, false, cond, not, ◌&&◌, ◌||◌, nat_eq, nat_lt, nat_le, List, [], ◌∷◌, ◌++◌, length, get_or, slice_index, take, drop, map, replicate, refl, sym, ap, ◌∙◌, subst, arith, length-append, length-take, length-drop, Option, Some, None, ⊎_elim, bytes_eq}
-use Rattle.std.specs.List.{flat_map, list_any}
-use Rattle.std.proofs.lemmas.List.{take_all, length-replicate, length-map}
+use Rattle.std.proofs.Common.{◌≡◌, ℕ, zero, suc, ◌*◌, ◌<◌, ◌≤◌, Bool, true, false, cond, not, ◌&&◌, ◌||◌, nat_lt, nat_le, List, [], ◌∷◌, ◌++◌, length, get_or, slice_index, take, drop, refl, sym, ap, ◌∙◌, arith, length-append, length-take, length-drop, Option, Some, None, bytes_eq}
+use Rattle.std.specs.List.{flat_map}
 use Rattle.std.proofs.lemmas.List.Folds.{list_any-append}
-use Rattle.std.proofs.lemmas.Bool.{cases_lt, false≢true}
+use Rattle.std.proofs.lemmas.Bool.{false≢true}
 use Rattle.std.proofs.lemmas.Bool.Decides.{nat_tests}
 use Rattle.lfs_format.specs.declared.Entry.{Entry}
 use Rattle.lfs_format.specs.declared.Index.{Index}
 use Rattle.lfs_format.specs.Directory.{blank}
 use Rattle.lfs_check.specs.declared.geometry.Geometry.{Geometry}
-use Rattle.lfs_check.specs.Geometries.{index_count, first_data, longest_name}
-use Rattle.lfs_check.specs.Meets.{times}
+use Rattle.lfs_check.specs.Geometries.{longest_name}
 use Rattle.lfs_check.specs.Rules.{is_used, is_name, has_name, text_length, are_zeros, first_failing, has_bad_name, block_in}
 use Rattle.lfs_check.specs.Checks.{need_index, need_data, met_of, row_of}
 use Rattle.lfs_check.specs.Clean.{chain_in, data_in}
-use Rattle.lfs_check.proofs.Steps.{times-append, times-at}
-use Rattle.lfs_check.proofs.Counting.{in_range, length-most}
 use Rattle.lfs_layout.specs.Files.{File, bytes_in, files_in, total_for, is_among, names_right, names_of}
 use Rattle.lfs_layout.specs.Made.{no_file}
 

@@ -1,10 +1,10 @@
 -- Lemmas on the files of the program: loops over them, and the numbers that an index block of one has.
-use Rattle.std.proofs.Common.{◌≡◌, ℕ, zero, suc, ◌+◌, ◌-◌, ◌*◌, ◌<◌, ◌≤◌, List, [], ◌∷◌, ◌++◌, length, get_or, slice_index_or, take, drop, map, replicate, refl, sym, ap, ◌∙◌, arith, length-append, length-take, length-drop, ⊎_elim}
+use Rattle.std.proofs.Common.{◌≡◌, ℕ, suc, ◌+◌, ◌-◌, ◌*◌, ◌<◌, ◌≤◌, List, [], ◌∷◌, ◌++◌, length, get_or, slice_index_or, take, drop, map, replicate, refl, sym, ap, ◌∙◌, arith, length-append, length-take, length-drop, ⊎_elim}
 use Rattle.std.proofs.lemmas.List.{drop_more, drop_all, get_or-map, length-map, same_lists, get_or-take, get_or-drop, get_or-append_right, get_or-replicate, get_or_past, get_or_default, length-replicate}
 use Rattle.std.proofs.Math.ListN.{get_or-append}
 use Rattle.std.proofs.lemmas.Bool.{cases_lt}
 use Rattle.std.specs.List.{flat_map}
-use Rattle.std.proofs.lemmas.List.{take_more, take_at, drop_at, drop-replicate, flat_map_more, drop-drop, take_all, append-nil, map_push}
+use Rattle.std.proofs.lemmas.List.{take_more, take_at, drop-replicate, flat_map_more, append-nil, map_push}
 use Rattle.std.proofs.lemmas.List.Concat.{flat_map-append}
 use Rattle.lfs_format.specs.declared.Index.{Index}
 use Rattle.lfs_format.specs.Indexes.{index_bytes}
@@ -12,7 +12,6 @@ use Rattle.lfs_check.specs.Laid.{no_index}
 use Rattle.lfs_check.specs.Empty.{upwards}
 use Rattle.lfs_check.specs.Meets.{null}
 use Rattle.lfs_layout.specs.declared.files.NamedFile.{NamedFile}
-use Rattle.lfs_layout.specs.Files.{File}
 use Rattle.lfs_layout.proofs.Joins.{upwards_more, drop_past}
 use Rattle.lfs_layout.specs.Made.{file_of, all_files}
 

@@ -1,16 +1,17 @@
 -- Lemmas on the files with one set.
-use Rattle.std.proofs.Common.{◌≡◌, ℕ, zero, suc, ◌+◌, ◌-◌, ◌/◌, ◌<◌, ◌≤◌, Bool, true, false, cond, not, ◌&&◌, ◌||◌, nat_eq, nat_lt, nat_le, List, [], ◌∷◌, ◌++◌, length, get_or, take, drop, replicate, refl, sym, ap, ◌∙◌, subst, arith, length-append, ⊎_elim, bytes_eq}
-use Rattle.std.specs.List.{list_any, list_all, prefix_len}
+use Rattle.std.proofs.Common.{◌≡◌, ℕ, zero, suc, ◌+◌, ◌-◌, ◌<◌, ◌≤◌, Bool, true, false, cond, not, ◌&&◌, ◌||◌, nat_eq, nat_lt, nat_le, List, [], ◌∷◌, ◌++◌, length, get_or, drop, replicate, refl, sym, ap, ◌∙◌, arith, length-append, bytes_eq, Some}
+use Rattle.std.specs.Option.{option_map}
+use Rattle.std.specs.List.{list_all, prefix_len}
 use Rattle.std.proofs.lemmas.List.{drop_at, length-replicate}
 use Rattle.std.proofs.lemmas.List.Folds.{list_any-append}
-use Rattle.std.proofs.lemmas.Bool.{cases_lt, false≢true}
+use Rattle.std.proofs.lemmas.Bool.{false≢true}
 use Rattle.std.proofs.lemmas.Bool.Decides.{nat_tests}
 use Rattle.lfs_format.specs.declared.Entry.{Entry}
 use Rattle.lfs_format.specs.declared.Index.{Index}
 use Rattle.lfs_check.specs.declared.geometry.Geometry.{Geometry}
 use Rattle.lfs_check.specs.Geometries.{index_count, first_data}
 use Rattle.lfs_check.specs.Rules.{is_used, is_name, text_length, are_zeros}
-use Rattle.lfs_layout.specs.Files.{File, bytes_in, files_in, total_for, have_room, is_among, names_right, names_of, without_name, with_set, is_text, padded_name, entries_without}
+use Rattle.lfs_layout.specs.Files.{File, bytes_in, files_in, total_for, have_room, is_among, names_right, names_of, without_name, with_set, is_text, padded_name, entries_without, bytes_of, entry_named}
 use Rattle.lfs_layout.specs.Made.{geometry_2, no_file, Room}
 use Rattle.lfs_layout.proofs.Regions.{each_append}
 
@@ -166,3 +167,16 @@ set_room n files text bytes low high w t e =
       few = (let t = two.0 in grind (arith, nat_tests));
       wide = each_append P (without_name (padded_name text) files) (f ∷ []) no_file (wide_without (padded_name text) files w) (only f (length_padded_name text (text_short text t)));
     }
+
+-- the bytes of a name are those of its first entry
+pub bytes_named : (g : Geometry) (ix : List Index) (image name : List ℕ) (es : List Entry) → bytes_of name (files_in g ix image es) ≡ option_map (bytes_in g ix image) (entry_named name es)
+bytes_named g ix image name [] = refl
+bytes_named g ix image name (e ∷ es) =
+    let f : File = record { name = e.name; bytes = bytes_in g ix image e } in
+    let i = bytes_named g ix image name es in
+    let rest = files_in g ix image es in let same = bytes_eq e.name name in
+    let P : Bool → Type 0 = λ u. bytes_of name (cond u (f ∷ rest) rest) ≡ option_map (bytes_in g ix image) (cond (u && same) (Some e) (entry_named name es)) in
+    let Q : Bool → Type 0 = λ s. cond s (Some (bytes_in g ix image e)) (bytes_of name rest) ≡ option_map (bytes_in g ix image) (cond s (Some e) (entry_named name es)) in
+    let yes : P true = (let all : (s : Bool) → Q s = λ s. elim s as (λ s. Q s) [ true ↦ refl | false ↦ i ] in all same) in
+    let all : (u : Bool) → P u = λ u. elim u as (λ u. P u) [ true ↦ yes | false ↦ i ] in
+    all (is_used e)

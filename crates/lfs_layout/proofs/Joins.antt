@@ -1,13 +1,12 @@
 -- Lemmas on lists that are joined at numbers, and on numbers that go upwards.
-use Rattle.std.proofs.Common.{◌≡◌, ℕ, zero, suc, ◌+◌, ◌-◌, ◌*◌, ◌<◌, ◌≤◌, List, [], ◌∷◌, ◌++◌, length, get_or, take, drop, map, refl, sym, ap, ◌∙◌, arith, append_assoc, length-append, length-take, length-drop, ⊎_elim}
-use Rattle.std.proofs.lemmas.List.{drop_at, take_at, take_all, drop_all, drop-drop, drop-append-le, take-append-le, drop-take, append-nil, get_or-append-add}
-use Rattle.std.proofs.Math.ListN.{get_or-append}
+use Rattle.std.proofs.Common.{◌≡◌, ℕ, zero, suc, ◌+◌, ◌*◌, ◌<◌, List, [], ◌∷◌, ◌++◌, length, get_or, take, drop, refl, sym, ap, ◌∙◌, arith, append_assoc, length-append, ⊎_elim}
+use Rattle.std.proofs.lemmas.List.{drop_at, take_at, drop-drop}
 use Rattle.std.proofs.lemmas.Bool.{cases_lt}
 use Rattle.std.specs.List.{flat_map}
-use Rattle.lfs_check.specs.Fields.{joined, numbered}
+use Rattle.lfs_check.specs.Fields.{joined}
 use Rattle.lfs_check.specs.Empty.{upwards}
 
--- a list behind one of a known length
+-- a list after one of a known length
 pub drop_past : {A : Type 0} → (xs ys : List A) (m n k : ℕ) → length xs ≡ m → n ≡ m + k → drop n (xs ++ ys) ≡ drop k ys
 drop_past xs ys m n k l e =
     ap (λ j. drop j (xs ++ ys)) (let q : n ≡ m + k = e in q) ∙ sym (drop-drop k m (xs ++ ys)) ∙ ap (drop k) (drop_at xs ys m l)
@@ -82,7 +81,7 @@ flat_upwards_at f w low (suc many) (suc j) all h =
     ap (take w) (drop_past (f low) (flat_map f (upwards (suc low) many)) w (w * suc j) (w * j) (all low) (let e : w * suc j ≡ w + w * j = grind arith in e))
     ∙ flat_upwards_at f w (suc low) many j all (omega arith) ∙ ap f (let e : suc low + j ≡ low + suc j = omega arith in e)
 
--- blocks that stand one after another are one part of the bytes
+-- blocks that come one after another are one part of the bytes
 pub blocks_upwards : (w : ℕ) (xs : List ℕ) (low many : ℕ) → flat_map (λ n. take w (drop (w * n) xs)) (upwards low many) ≡ take (w * many) (drop (w * low) xs)
 blocks_upwards w xs low zero = ap (λ k. take k (drop (w * low) xs)) (let e : 0 ≡ w * 0 = omega arith in e)
 blocks_upwards w xs low (suc many) =

@@ -1,5 +1,5 @@
 -- Images that are made are clean for their files, and so is an image that is opened.
-use Rattle.std.proofs.Common.{◌≡◌, ℕ, ◌+◌, ◌*◌, ◌/◌, ◌<◌, ◌≤◌, Bool, true, false, cond, List, [], length, refl, sym, ap, ◌∙◌, subst, arith, None}
+use Rattle.std.proofs.Common.{◌≡◌, ℕ, ◌+◌, ◌*◌, ◌/◌, ◌≤◌, Bool, true, false, cond, List, [], length, refl, ap, arith, None}
 use Rattle.lfs_check.specs.Fields.{is_version_2}
 use Rattle.lfs_check.specs.Faults.{fault}
 use Rattle.lfs_layout.specs.Files.{File, placed_files, files_of, sorted, names_right, names_of}

@@ -1,33 +1,30 @@
 -- The fields of an image that is made: read off its bytes, they are those that it was made of.
-use Rattle.std.proofs.Common.{◌≡◌, ℕ, zero, suc, ◌+◌, ◌-◌, ◌*◌, ◌/◌, ◌%◌, ◌^◌, ◌<◌, ◌≤◌, Bool, true, false, cond, not, ◌&&◌, nat_eq, nat_lt, nat_le, List, [], ◌∷◌, ◌++◌, length, get_or, slice_index, slice_index_or, take, drop, map, replicate, refl, sym, ap, ◌∙◌, subst, arith, append_assoc, length-append, length-take, length-drop, ⊎_elim}
-use Rattle.std.proofs.lemmas.List.{drop_at, take_at, take_all, drop_all, drop-drop, drop-append-le, take-append-le, drop-take, append-nil, length-replicate, same_lists, get_or_default, get_or-take, get_or-drop}
-use Rattle.std.proofs.Math.ListN.{get_or-append, get_or-map}
-use Rattle.std.proofs.lemmas.Bool.{cases_lt}
+use Rattle.std.proofs.Common.{◌≡◌, ℕ, zero, suc, ◌+◌, ◌-◌, ◌*◌, ◌/◌, ◌%◌, ◌^◌, ◌<◌, ◌≤◌, false, cond, nat_eq, List, ◌++◌, length, get_or, take, drop, replicate, sym, ap, ◌∙◌, subst, arith, length-append, length-take, length-drop}
+use Rattle.std.proofs.lemmas.List.{take_all, drop-drop, drop-take, length-replicate, same_lists, get_or_default, get_or-take, get_or-drop}
 use Rattle.std.proofs.lemmas.Bool.Decides.{nat_tests}
 use Rattle.std.specs.List.{flat_map}
 use Rattle.byteorder.specs.Endian.{little_bytes}
 use Rattle.lfs_format.specs.declared.Entry.{Entry}
 use Rattle.lfs_format.specs.declared.Index.{Index}
 use Rattle.lfs_format.specs.declared.Dir.{Dir}
-use Rattle.lfs_format.specs.Words.{word_of, words_of, word_bytes}
+use Rattle.lfs_format.specs.Words.{word_of, words_of}
 use Rattle.lfs_format.specs.Indexes.{index_of, index_of_words, index_bytes}
 use Rattle.lfs_format.specs.Directory.{dir_of, dir_bytes, dir_ending, EntryFits, blank}
 use Rattle.lfs_format.proofs.Words.{words_of-take, length-little, word_of-bytes}
 use Rattle.lfs_format.proofs.Entries.{dir_of-bytes}
 use Rattle.lfs_check.specs.declared.geometry.Geometry.{Geometry}
-use Rattle.lfs_check.specs.declared.fields.Header.{Header}
 use Rattle.lfs_check.specs.Geometries.{index_count, index_disks, first_data}
 use Rattle.lfs_check.specs.Rules.{block_in}
 use Rattle.lfs_check.specs.Laid.{no_index}
-use Rattle.lfs_check.specs.Fields.{joined, numbered, header_of, header_2, entries_of, entries_2, index_in_bytes, link_in_bytes}
-use Rattle.lfs_check.specs.Empty.{upwards, behind}
+use Rattle.lfs_check.specs.Fields.{numbered, header_of, header_2, entries_of, index_in_bytes, link_in_bytes}
+use Rattle.lfs_check.specs.Empty.{upwards, next_upwards}
 use Rattle.lfs_check.specs.Built.{head_of}
 use Rattle.lfs_check.proofs.Numbered.{length_numbered, numbered-at}
 use Rattle.lfs_layout.specs.Files.{File, total_for}
-use Rattle.lfs_layout.specs.Made.{all_entries, index_end, data_end, header_for, dir_for, all_indexes, index_disk, free_data, padded, all_data, dirs_bytes, indexes_bytes, image_of, geometry_2, no_file, Room}
+use Rattle.lfs_layout.specs.Made.{all_entries, index_end, data_end, header_for, dir_for, all_indexes, index_disk, free_data, padded, all_data, dirs_bytes, indexes_bytes, image_of, geometry_2, Room}
 use Rattle.lfs_layout.proofs.Joins.{drop_past, length_joined, joined_at, joined_same, joined_pieces, flat_upwards_at, length_flat_upwards}
 use Rattle.lfs_layout.proofs.Regions.{IndexFits, index_read, length_indexes, length_dir_bytes, dir_bytes_end, word_in_block}
-use Rattle.lfs_layout.proofs.MadeParts.{head_fits, behind_fits, length_all_entries, all_entries_fit, length_all_indexes, all_indexes_fit, length_files_data}
+use Rattle.lfs_layout.proofs.MadeParts.{head_fits, next_fits, length_all_entries, all_entries_fit, length_all_indexes, all_indexes_fit, length_files_data}
 
 dir_number_fits : (d x : ℕ) → x < 2 ^ 32 → cond (nat_eq d 0) x 0 < 2 ^ 32
 dir_number_fits zero x h = h
@@ -150,7 +147,7 @@ data_region n files r q =
 
 length_free_data : (g : Geometry) (b : ℕ) → length (free_data g b) ≡ 512
 length_free_data g b =
-    let l = length-little (behind g.blocks b) in let r = length-replicate {A = ℕ} 508 0 in let a = length-append (little_bytes 4 (behind g.blocks b)) (replicate 508 0) in omega (arith, l, r, a)
+    let l = length-little (next_upwards g.blocks b) in let r = length-replicate {A = ℕ} 508 0 in let a = length-append (little_bytes 4 (next_upwards g.blocks b)) (replicate 508 0) in omega (arith, l, r, a)
 
 pub length_image : (n : ℕ) (files : List File) → Room n files → length (image_of n files) ≡ 512 * n
 unfolding image_of
@@ -165,7 +162,7 @@ length_image n files r =
     omega (arith, p, lo, one, two, three, four, a, b, c)
 
 -- a free data block names the next
-pub link_read : (n : ℕ) (files : List File) → Room n files → (b : ℕ) → data_end (geometry_2 n) files ≤ b → b < n → link_in_bytes (image_of n files) b ≡ behind n b
+pub link_read : (n : ℕ) (files : List File) → Room n files → (b : ℕ) → data_end (geometry_2 n) files ≤ b → b < n → link_in_bytes (image_of n files) b ≡ next_upwards n b
 link_read n files r b low high =
     let g = geometry_2 n in let B = data_end g files in let t = total_for 512 files in
     let tail = flat_map (free_data g) (upwards B (n - B)) in
@@ -176,8 +173,8 @@ link_read n files r b low high =
     let lo = r.low in let hi = r.high in
     sym (word_in_block (drop (512 * b) (image_of n files))) ∙ ap (λ x. word_of (take 512 x)) here
     ∙ ap word_of (flat_upwards_at (free_data g) 512 B (n - B) (b - B) (length_free_data g) (omega (arith, low, high)))
-    ∙ word_of-bytes (behind n (B + (b - B))) (replicate 508 0) (behind_fits n (B + (b - B)) (omega (arith, hi)))
-    ∙ ap (behind n) (let e : B + (b - B) ≡ b = omega (arith, low) in e)
+    ∙ word_of-bytes (next_upwards n (B + (b - B))) (replicate 508 0) (next_fits n (B + (b - B)) (omega (arith, hi)))
+    ∙ ap (next_upwards n) (let e : B + (b - B) ≡ b = omega (arith, low) in e)
 
 -- a directory block ends with the number of the version between zeros
 pub dir_block_end : (n : ℕ) (files : List File) → Room n files → (d : ℕ) → d < 6 → drop 480 (block_in (image_of n files) d) ≡ dir_ending

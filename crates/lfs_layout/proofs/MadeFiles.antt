@@ -1,21 +1,20 @@
 -- The files of an image that is made are those that it was made of.
-use Rattle.std.proofs.Common.{◌≡◌, ℕ, zero, suc, ◌+◌, ◌-◌, ◌*◌, ◌/◌, ◌<◌, ◌≤◌, Bool, true, false, cond, nat_eq, List, [], ◌∷◌, ◌++◌, length, get_or, take, drop, map, replicate, refl, sym, ap, ◌∙◌, subst, arith, append_assoc, length-append}
+use Rattle.std.proofs.Common.{◌≡◌, ℕ, zero, suc, ◌+◌, ◌-◌, ◌*◌, ◌≤◌, true, cond, List, [], ◌∷◌, ◌++◌, length, get_or, take, drop, map, replicate, refl, sym, ap, ◌∙◌, arith, append_assoc}
 use Rattle.std.specs.List.{flat_map}
 use Rattle.std.proofs.lemmas.List.{drop_at, take_at, take-take, drop-drop}
-use Rattle.lfs_format.specs.declared.Entry.{Entry}
 use Rattle.lfs_format.specs.declared.Index.{Index}
 use Rattle.lfs_check.specs.declared.geometry.Geometry.{Geometry}
 use Rattle.lfs_check.specs.Geometries.{first_data}
-use Rattle.lfs_check.specs.Rules.{is_used, block_in}
+use Rattle.lfs_check.specs.Rules.{block_in}
 use Rattle.lfs_check.specs.Laid.{Places}
 use Rattle.lfs_check.specs.Checks.{need_data}
-use Rattle.lfs_check.specs.Fields.{geometry_of, fields_of, entries_of}
-use Rattle.lfs_check.specs.Clean.{data_in, places_of}
+use Rattle.lfs_check.specs.Fields.{fields_of, entries_of}
+use Rattle.lfs_check.specs.Clean.{data_in}
 use Rattle.lfs_check.specs.Empty.{upwards}
-use Rattle.lfs_check.specs.Built.{data_need, runs, built_places}
-use Rattle.lfs_layout.specs.Files.{File, total_for, bytes_in, files_in, placed_files, names_right, names_of}
-use Rattle.lfs_layout.specs.Made.{indexes_needed, data_needed, entry_for, entries_for, no_entry, all_entries, data_end, free_data, padded, all_data, image_of, geometry_2, Room}
-use Rattle.lfs_layout.proofs.Joins.{drop_past, blocks_upwards}
+use Rattle.lfs_check.specs.Built.{data_need, runs}
+use Rattle.lfs_layout.specs.Files.{File, bytes_in, files_in, placed_files, names_right, names_of}
+use Rattle.lfs_layout.specs.Made.{indexes_needed, data_needed, entry_for, entries_for, no_entry, data_end, free_data, padded, all_data, image_of, geometry_2, Room}
+use Rattle.lfs_layout.proofs.Joins.{blocks_upwards}
 use Rattle.lfs_layout.proofs.MadeParts.{length_padded}
 use Rattle.lfs_layout.proofs.MadeFields.{entries_read, data_region}
 use Rattle.lfs_layout.proofs.MadeLies.{AreUsed, shape_made, made_passes}

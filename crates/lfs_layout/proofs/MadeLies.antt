@@ -1,29 +1,28 @@
 -- On an image that is made files lie: each takes the lowest free blocks in the order of the entries.
-use Rattle.std.proofs.Common.{◌≡◌, ℕ, zero, suc, ◌+◌, ◌-◌, ◌*◌, ◌/◌, ◌^◌, ◌<◌, ◌≤◌, Bool, true, false, cond, not, ◌&&◌, nat_eq, nat_lt, nat_le, List, [], ◌∷◌, ◌++◌, length, get_or, slice_index, slice_index_or, take, drop, map, replicate, refl, sym, ap, ◌∙◌, subst, arith, append_assoc, length-append, ⊎_elim}
-use Rattle.std.proofs.lemmas.List.{get_or-append-add, get_or_at, get_or_past, length-map}
+use Rattle.std.proofs.Common.{◌≡◌, ℕ, zero, suc, ◌+◌, ◌-◌, ◌<◌, ◌≤◌, true, false, cond, nat_lt, List, [], ◌∷◌, ◌++◌, length, get_or, slice_index_or, map, replicate, refl, sym, ap, ◌∙◌, subst, arith}
+use Rattle.std.proofs.lemmas.List.{get_or-append-add}
 use Rattle.std.proofs.Math.ListN.{get_or-append}
-use Rattle.std.proofs.lemmas.Bool.{cases_lt, false≢true}
+use Rattle.std.proofs.lemmas.Bool.{false≢true}
 use Rattle.std.proofs.lemmas.Bool.Decides.{nat_tests}
 use Rattle.lfs_format.specs.declared.Entry.{Entry}
 use Rattle.lfs_format.specs.declared.Index.{Index}
-use Rattle.lfs_check.specs.declared.geometry.Geometry.{Geometry}
 use Rattle.lfs_check.specs.declared.fields.Header.{Header}
-use Rattle.lfs_check.specs.Geometries.{index_count, index_disks, first_data, IsGeometry}
+use Rattle.lfs_check.specs.Geometries.{index_count, first_data, IsGeometry}
 use Rattle.lfs_check.specs.Rules.{is_used}
 use Rattle.lfs_check.specs.Meets.{null}
 use Rattle.lfs_check.specs.Checks.{need_index, need_data}
-use Rattle.lfs_check.specs.Laid.{Shape, FileLies, no_index, index_in, index_for}
-use Rattle.lfs_check.specs.Fields.{numbered, fields_of, entries_of, index_in_bytes, link_in_bytes}
+use Rattle.lfs_check.specs.Laid.{Shape, no_index, index_in}
+use Rattle.lfs_check.specs.Fields.{numbered, fields_of, link_in_bytes}
 use Rattle.lfs_check.specs.Clean.{Passes, places_of}
-use Rattle.lfs_check.specs.Empty.{upwards, behind}
+use Rattle.lfs_check.specs.Empty.{upwards, next_upwards}
 use Rattle.lfs_check.specs.Built.{index_need, data_need, run_end, LieFrom, head_of, IsBuilt, built_places}
 use Rattle.lfs_check.proofs.Numbered.{length_numbered, numbered-at}
 use Rattle.lfs_check.proofs.Images.{fields_shape}
 use Rattle.lfs_check.proofs.Theorems.{built_passes}
-use Rattle.lfs_layout.specs.Files.{File, blocks_for, total_for}
-use Rattle.lfs_layout.specs.Made.{indexes_needed, data_needed, entry_for, entries_for, no_entry, all_entries, index_end, data_end, header_for, file_index, indexes_for, free_index, all_indexes, image_of, geometry_2, no_file, Room}
+use Rattle.lfs_layout.specs.Files.{File, total_for}
+use Rattle.lfs_layout.specs.Made.{indexes_needed, data_needed, entry_for, entries_for, no_entry, index_end, data_end, file_index, indexes_for, free_index, all_indexes, image_of, geometry_2, no_file, Room}
 use Rattle.lfs_layout.proofs.Joins.{length_upwards, upwards_at}
-use Rattle.lfs_layout.proofs.MadeParts.{length_indexes_for, length_all_indexes, free_index_at}
+use Rattle.lfs_layout.proofs.MadeParts.{length_indexes_for, free_index_at}
 use Rattle.lfs_layout.proofs.MadeFields.{header_read, entries_read, indexes_read, link_read}
 
 -- the first byte of each name isn't zero
@@ -124,7 +123,7 @@ made_built n files r used =
           let past : i ≡ length (indexes_for 0 (first_data g) files) + k = omega (arith, at, len) in
           ap (λ (x : Index). x.next) (in_list i ∙ ap (λ j. get_or (all_indexes g files) j no_index) past ∙ get_or-append-add (indexes_for 0 (first_data g) files) rest k no_index
           ∙ free_index_at g (index_end files) (index_count g - index_end files) k (omega (arith, lo, hi, ir)))
-          ∙ ap (behind (index_count g)) at);
+          ∙ ap (next_upwards (index_count g)) at);
       links = λ b lo hi. numbered-at (link_in_bytes (image_of n files)) n b 0 hi ∙ link_read n files r b (omega (arith, lo, dr)) hi;
     }
 

@@ -1,24 +1,22 @@
 -- The parts of an image that is made: the entries, the index blocks and the data blocks that it is made of.
-use Rattle.std.proofs.Common.{◌≡◌, ℕ, zero, suc, ◌+◌, ◌-◌, ◌*◌, ◌/◌, ◌%◌, ◌^◌, ◌<◌, ◌≤◌, Bool, true, false, cond, not, ◌&&◌, nat_eq, nat_lt, nat_le, List, [], ◌∷◌, ◌++◌, length, get_or, slice_index, slice_index_or, take, drop, map, replicate, refl, sym, ap, ◌∙◌, subst, arith, append_assoc, length-append, length-take, length-drop, ⊎_elim}
-use Rattle.std.proofs.lemmas.List.{drop_at, take_at, take_all, drop_all, drop-drop, drop-append-le, take-append-le, drop-take, append-nil, length-replicate, length-map, get_or-replicate, get_or-append-add, get_or_past}
-use Rattle.std.proofs.Math.ListN.{get_or-append, get_or-map}
-use Rattle.std.proofs.lemmas.Bool.{cases_lt, false≢true}
+use Rattle.std.proofs.Common.{◌≡◌, ℕ, zero, suc, ◌+◌, ◌-◌, ◌*◌, ◌^◌, ◌<◌, ◌≤◌, true, false, cond, nat_lt, List, [], ◌∷◌, ◌++◌, length, get_or, slice_index_or, take, drop, map, replicate, refl, sym, ap, ◌∙◌, subst, arith, length-append, length-take, ⊎_elim}
+use Rattle.std.proofs.lemmas.List.{length-replicate, length-map, get_or_past}
+use Rattle.std.proofs.lemmas.Bool.{cases_lt}
 use Rattle.std.proofs.lemmas.Bool.Decides.{nat_tests}
 use Rattle.std.specs.List.{flat_map}
 use Rattle.lfs_format.specs.declared.Entry.{Entry}
 use Rattle.lfs_format.specs.declared.Index.{Index}
-use Rattle.lfs_format.specs.Indexes.{index_words}
 use Rattle.lfs_format.specs.Directory.{EntryFits, blank}
 use Rattle.lfs_check.specs.declared.geometry.Geometry.{Geometry}
-use Rattle.lfs_check.specs.Geometries.{index_count, index_disks, first_data}
+use Rattle.lfs_check.specs.Geometries.{index_count, first_data}
 use Rattle.lfs_check.specs.Meets.{null}
-use Rattle.lfs_check.specs.Laid.{no_index, index_for}
+use Rattle.lfs_check.specs.Laid.{no_index}
 use Rattle.lfs_check.specs.Fields.{numbered}
-use Rattle.lfs_check.specs.Empty.{upwards, behind}
+use Rattle.lfs_check.specs.Empty.{upwards, next_upwards}
 use Rattle.lfs_check.specs.Built.{head_of}
 use Rattle.lfs_check.proofs.Numbered.{length_numbered, numbered-at}
-use Rattle.lfs_layout.specs.Files.{File, blocks_for, total_for}
-use Rattle.lfs_layout.specs.Made.{indexes_needed, data_needed, entry_for, entries_for, no_entry, all_entries, index_end, data_end, file_index, indexes_for, free_index, all_indexes, free_data, padded, no_file}
+use Rattle.lfs_layout.specs.Files.{File, total_for}
+use Rattle.lfs_layout.specs.Made.{indexes_needed, data_needed, entries_for, no_entry, all_entries, index_end, file_index, indexes_for, free_index, all_indexes, padded, no_file}
 use Rattle.lfs_layout.proofs.Joins.{length_upwards, upwards_at}
 use Rattle.lfs_layout.proofs.Regions.{AllFit, fit_append, fit_take, fit_drop, fit_replicate, each_append, IndexFits}
 
@@ -29,10 +27,10 @@ head_fits low high h = ⊎_elim
     (λ (ge : high ≤ low). (let t : nat_lt low high ≡ false = grind (arith, nat_tests) in let e : head_of low high ≡ null = ap (λ b. cond b low null) t in omega (arith, e)))
     (cases_lt low high)
 
-pub behind_fits : (end n : ℕ) → end < 2 ^ 32 → behind end n < 2 ^ 32
-behind_fits end n h = ⊎_elim
-    (λ (lt : suc n < end). (let t : nat_lt (suc n) end ≡ true = grind (arith, nat_tests) in let e : behind end n ≡ suc n = ap (λ b. cond b (suc n) null) t in omega (arith, e, lt, h)))
-    (λ (ge : end ≤ suc n). (let t : nat_lt (suc n) end ≡ false = grind (arith, nat_tests) in let e : behind end n ≡ null = ap (λ b. cond b (suc n) null) t in omega (arith, e)))
+pub next_fits : (end n : ℕ) → end < 2 ^ 32 → next_upwards end n < 2 ^ 32
+next_fits end n h = ⊎_elim
+    (λ (lt : suc n < end). (let t : nat_lt (suc n) end ≡ true = grind (arith, nat_tests) in let e : next_upwards end n ≡ suc n = ap (λ b. cond b (suc n) null) t in omega (arith, e, lt, h)))
+    (λ (ge : end ≤ suc n). (let t : nat_lt (suc n) end ≡ false = grind (arith, nat_tests) in let e : next_upwards end n ≡ null = ap (λ b. cond b (suc n) null) t in omega (arith, e)))
     (cases_lt (suc n) end)
 
 upwards_fit : (low many d k : ℕ) → low + many < 2 ^ 32 → d < 2 ^ 32 → get_or (upwards low many) k d < 2 ^ 32
@@ -121,7 +119,7 @@ indexes_for_fit a b (f ∷ files) p q k h =
 
 free_index_fits : (g : Geometry) (i : ℕ) → index_count g ≤ 65542 → IndexFits (free_index g i)
 free_index_fits g i h = record {
-  words = words_fit (behind (index_count g) i) 0 (replicate 16 0) (behind_fits (index_count g) i (omega (arith, h))) (omega arith) (fit_replicate 16 0 (omega arith));
+  words = words_fit (next_upwards (index_count g) i) 0 (replicate 16 0) (next_fits (index_count g) i (omega (arith, h))) (omega arith) (fit_replicate 16 0 (omega arith));
   wide = length-replicate {A = ℕ} 16 0;
 }
 

@@ -1,30 +1,28 @@
 -- An image that is made breaks no rule.
-use Rattle.std.proofs.Common.{◌≡◌, ℕ, zero, suc, ◌+◌, ◌-◌, ◌*◌, ◌/◌, ◌%◌, ◌^◌, ◌<◌, ◌≤◌, Bool, true, false, cond, not, ◌&&◌, ◌||◌, nat_eq, nat_lt, nat_le, List, [], ◌∷◌, ◌++◌, length, get_or, slice_index, take, drop, map, replicate, refl, sym, ap, ◌∙◌, subst, arith, append_assoc, length-append, Option, Some, None, ⊎_elim, bytes_eq, count_by}
-use Rattle.std.specs.List.{list_any, list_all, prefix_len}
-use Rattle.std.proofs.lemmas.List.{drop_at, take_at, drop-take, drop-drop, take_all}
+use Rattle.std.proofs.Common.{◌≡◌, ℕ, zero, suc, ◌+◌, ◌-◌, ◌*◌, ◌/◌, ◌%◌, ◌<◌, ◌≤◌, Bool, true, false, cond, not, ◌&&◌, ◌||◌, nat_eq, nat_lt, nat_le, List, [], ◌∷◌, ◌++◌, length, slice_index, take, drop, replicate, refl, sym, ap, ◌∙◌, arith, Option, Some, None, ⊎_elim, bytes_eq, count_by}
+use Rattle.std.specs.List.{prefix_len}
+use Rattle.std.proofs.lemmas.List.{drop-take, drop-drop}
 use Rattle.std.proofs.lemmas.List.Folds.{list_any-append}
 use Rattle.std.proofs.lemmas.List.Recursion.{is_count_by}
 use Rattle.std.proofs.lemmas.Slice.Eq.{bytes_eq-Decides}
 use Rattle.std.proofs.lemmas.Bool.{cases_lt, false≢true}
 use Rattle.std.proofs.lemmas.Bool.Decides.{nat_tests}
 use Rattle.lfs_format.specs.declared.Entry.{Entry}
-use Rattle.lfs_format.specs.declared.Dir.{Dir}
 use Rattle.lfs_format.specs.Words.{word_of, words_of, word_bytes}
-use Rattle.lfs_format.specs.Directory.{dir_bytes, dir_ending, dir_words}
+use Rattle.lfs_format.specs.Directory.{dir_bytes, dir_ending}
 use Rattle.lfs_format.proofs.Words.{words_of-take}
 use Rattle.lfs_check.specs.declared.geometry.Geometry.{Geometry}
 use Rattle.lfs_check.specs.declared.fields.Header.{Header}
 use Rattle.lfs_check.specs.declared.faults.DiskFault.{DiskFault}
-use Rattle.lfs_check.specs.Geometries.{first_data, index_count, room}
-use Rattle.lfs_check.specs.Meets.{first_from}
+use Rattle.lfs_check.specs.Geometries.{room}
 use Rattle.lfs_check.specs.Rules.{is_used, is_name, has_name, text_length, are_zeros, first_failing, in_entry_block, has_bad_name, is_larger, rule_0, rule_1, rule_2, rule_3, block_in, begins_right, ends_right, is_dir_block}
 use Rattle.lfs_check.specs.Checks.{rule_4, rule_5, rule_6, rule_7}
 use Rattle.lfs_check.specs.Fields.{is_version_2, geometry_of, fields_of, header_of, entries_of}
 use Rattle.lfs_check.specs.Faults.{named, first_fault, dir_fault, walks_fault, shape_fault, fault}
 use Rattle.lfs_check.proofs.Nones.{first_from-nothing}
 use Rattle.lfs_layout.specs.Files.{File, total_for, is_among, names_right, names_of}
-use Rattle.lfs_layout.specs.Made.{indexes_needed, data_needed, entry_for, entries_for, no_entry, all_entries, header_for, dir_for, image_of, geometry_2, no_file, Room}
-use Rattle.lfs_layout.proofs.Regions.{dir_bytes_end, dir_bytes_begin}
+use Rattle.lfs_layout.specs.Made.{indexes_needed, entry_for, entries_for, no_entry, all_entries, header_for, dir_for, image_of, geometry_2, Room}
+use Rattle.lfs_layout.proofs.Regions.{dir_bytes_begin}
 use Rattle.lfs_layout.proofs.MadeFields.{dir_block, dir_block_end, header_read, entries_read, length_image}
 use Rattle.lfs_layout.proofs.MadeLies.{AreUsed, shape_made, made_passes}
 

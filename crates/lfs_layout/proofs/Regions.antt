@@ -1,20 +1,16 @@
 -- The bytes of entries, index blocks and free blocks, and the blocks of an image that is made.
-use Rattle.std.proofs.Common.{◌≡◌, ℕ, zero, suc, ◌+◌, ◌-◌, ◌*◌, ◌/◌, ◌%◌, ◌^◌, ◌<◌, ◌≤◌, Bool, true, false, cond, nat_eq, nat_lt, List, [], ◌∷◌, ◌++◌, length, get_or, slice_index, slice_index_or, take, drop, map, replicate, refl, sym, ap, ◌∙◌, subst, arith, append_assoc, length-append, length-take, length-drop, ⊎_elim}
-use Rattle.std.proofs.lemmas.List.{drop_at, take_at, take_all, drop_all, drop-drop, drop-append-le, take-append-le, drop-take, append-nil, length-replicate, length-map}
-use Rattle.std.proofs.Math.ListN.{get_or-append, get_or-map}
-use Rattle.std.proofs.lemmas.Bool.{cases_lt}
+use Rattle.std.proofs.Common.{◌≡◌, ℕ, zero, suc, ◌+◌, ◌*◌, ◌^◌, ◌<◌, List, [], ◌∷◌, ◌++◌, length, get_or, slice_index, take, drop, replicate, refl, sym, ap, ◌∙◌, arith, append_assoc, length-append}
+use Rattle.std.proofs.lemmas.List.{drop_at, take_at}
 use Rattle.std.specs.List.{flat_map}
-use Rattle.byteorder.specs.Endian.{little_bytes}
 use Rattle.lfs_format.specs.declared.Entry.{Entry}
 use Rattle.lfs_format.specs.declared.Index.{Index}
 use Rattle.lfs_format.specs.declared.Dir.{Dir}
 use Rattle.lfs_format.specs.Words.{word_of, words_of, word_bytes}
 use Rattle.lfs_format.specs.Indexes.{index_of_words, index_words, index_bytes}
 use Rattle.lfs_format.specs.Directory.{entry_bytes, dir_words, dir_bytes, dir_ending, EntryFits, blank}
-use Rattle.lfs_format.proofs.Words.{length-word_bytes, words_of-bytes, words_of-take, length-little, word_of-bytes}
+use Rattle.lfs_format.proofs.Words.{length-word_bytes, words_of-bytes, words_of-take}
 use Rattle.lfs_format.proofs.Entries.{length-entry_bytes}
 use Rattle.lfs_check.specs.Laid.{no_index}
-use Rattle.lfs_layout.specs.Made.{index_disk}
 use Rattle.lfs_layout.proofs.Joins.{drop_past}
 
 -- each word of a list fits

@@ -103,6 +103,15 @@ abbrev pub bytes_of : List ℕ → List File → Option (List ℕ)
 bytes_of name [] = None
 bytes_of name (f ∷ files) = cond (bytes_eq f.name name) (Some f.bytes) (bytes_of name files)
 
+-- the bytes of the file of a text, if it can be a name and a file has it
+abbrev pub found : List ℕ → List File → Option (List ℕ)
+found text files = cond (is_text text) (bytes_of (padded_name text) files) None
+
+-- the first used entry of a name
+abbrev pub entry_named : List ℕ → List Entry → Option Entry
+entry_named name [] = None
+entry_named name (e ∷ es) = cond (is_used e && bytes_eq e.name name) (Some e) (entry_named name es)
+
 -- the entries without those of a name
 abbrev pub entries_without : List ℕ → List Entry → List Entry
 entries_without name [] = []

@@ -1,6 +1,6 @@
 -- The image of version 2 that is made of files: each in turn takes the lowest index blocks and data blocks that are still free,
 -- and the others form the free chains in the order of their numbers.
-use Rattle.std.specs.Prelude.{ℕ, ◌≡◌, ◌<◌, ◌≤◌, slice_index_or, ◌+◌, ◌-◌, ◌*◌, ◌/◌, cond, nat_eq, nat_lt, List, [], ◌∷◌, ◌++◌, drop, take, length, map, replicate}
+use Rattle.std.specs.Prelude.{ℕ, ◌≡◌, ◌<◌, ◌≤◌, slice_index_or, ◌+◌, ◌-◌, ◌*◌, cond, nat_eq, List, [], ◌∷◌, ◌++◌, drop, take, length, map, replicate}
 use Rattle.std.specs.List.{flat_map}
 use Rattle.byteorder.specs.Endian.{little_bytes}
 use Rattle.lfs_format.specs.declared.Entry.{Entry}
@@ -11,10 +11,9 @@ use Rattle.lfs_format.specs.Directory.{dir_bytes}
 use Rattle.lfs_check.specs.declared.geometry.Geometry.{Geometry}
 use Rattle.lfs_check.specs.declared.fields.Header.{Header}
 use Rattle.lfs_check.specs.Geometries.{index_count, index_disks, first_data}
-use Rattle.lfs_check.specs.Meets.{null}
 use Rattle.lfs_check.specs.Laid.{index_for}
 use Rattle.lfs_check.specs.Fields.{numbered, joined}
-use Rattle.lfs_check.specs.Empty.{upwards, behind}
+use Rattle.lfs_check.specs.Empty.{upwards, next_upwards}
 use Rattle.lfs_check.specs.Built.{head_of}
 use Rattle.lfs_layout.specs.declared.files.NamedFile.{NamedFile}
 use Rattle.lfs_layout.specs.Files.{File, blocks_for, total_for}
@@ -80,7 +79,7 @@ indexes_for a b (f ∷ files) = numbered (file_index a b f) (indexes_needed f) +
 
 -- a free index block names the one after it
 abbrev pub free_index : Geometry → ℕ → Index
-free_index g i = record { next = behind (index_count g) i; offset = 0; blocks = replicate 16 0 }
+free_index g i = record { next = next_upwards (index_count g) i; offset = 0; blocks = replicate 16 0 }
 
 -- all index blocks
 abbrev pub all_indexes : Geometry → List File → List Index
@@ -96,7 +95,7 @@ padded f = f.bytes ++ replicate (512 * data_needed f - length f.bytes) 0
 
 -- a free data block names the one after it
 abbrev pub free_data : Geometry → ℕ → List ℕ
-free_data g b = little_bytes 4 (behind g.blocks b) ++ replicate 508 0
+free_data g b = little_bytes 4 (next_upwards g.blocks b) ++ replicate 508 0
 
 -- all data blocks
 abbrev pub all_data : Geometry → List File → List ℕ

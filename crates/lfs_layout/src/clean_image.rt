@@ -1,15 +1,16 @@
 //! Clean images: disks with files on which no rule is broken.
 
-ghost use Rattle.std.specs.Prelude.{◌≡◌, ◌+◌, ◌/◌, ◌≤◌, [], true, false, None, length, List, ℕ, IfOk, MatchOption, MatchResult};
+ghost use Rattle.std.specs.Prelude.{◌≡◌, ◌+◌, ◌/◌, ◌≤◌, [], true, false, None, Some, length, List, ℕ, IfOk, MatchOption, MatchResult, not, nat_eq};
+ghost use Rattle.std.specs.List.{list_all};
 ghost use Rattle.lfs_check.specs.Fields.{is_version_2};
 ghost use Rattle.lfs_check.specs.Faults.{fault, Refuses};
-ghost use Rattle.lfs_layout.specs.Files.{files_of, placed_files, with_set, have_room, is_text, padded_name};
+ghost use Rattle.lfs_layout.specs.Files.{files_of, placed_files, with_set, have_room, is_text, padded_name, found};
 ghost use Rattle.lfs_layout.specs.Made.{image_of, all_files, geometry_2};
 ghost use Rattle.lfs_layout.specs.Images.{IsCleanImage, opened, Puts};
 
 use crate::builder::build;
 use crate::files::{NamedFile, have_room};
-use crate::reading::{read_files, read_others};
+use crate::reading::{read_files, read_named, read_others};
 use lfs_check::{CheckFault, Geometry, check, dirs_of};
 use std::alloc::{AllocError, Global};
 use std::marker::Model;
@@ -86,6 +87,20 @@ impl CleanImage {
         }
     }
 
+    /// The bytes of the file of a name; `None` if and only if the image has no such file.
+    ///
+    /// # Errors
+    ///
+    /// `NoMemory` out of memory.
+    pub fn read_file(&self, alloc: Global, name: &[u8]) -> Result<Option<Vec<u8>>, NoMemory>
+        ensures { IfOk result (λ o. MatchOption o (found name.now (placed_files self.now) ≡ None) (λ v. found name.now (placed_files self.now) ≡ Some v.items)) }
+    {
+        match find(alloc, &self.bytes, name) {
+            Ok(bytes) => Ok(bytes),
+            Err(_) => Err(NoMemory),
+        }
+    }
+
     /// The bytes of the image.
     pub fn bytes(&self) -> &[u8]
         ensures bytes { result.now ≡ self.now }
@@ -109,6 +124,33 @@ impl CleanImage {
     {
         (self.bytes.len() / 512) as u32
     }
+}
+
+/// Whether a text can be the name of a file: 1 to 27 non-zero bytes.
+pub fn is_file_name(name: &[u8]) -> bool
+    ensures { result ≡ is_text name.now }
+{
+    0 < name.len() && name.len() <= 27 && has_no_zero(name)
+}
+
+// Whether no byte is zero.
+fn has_no_zero(bytes: &[u8]) -> bool
+    ensures { result ≡ list_all (λ b. not (nat_eq b 0)) bytes.now }
+{
+    bytes.iter().all(|b| *b != 0)
+}
+
+// The bytes of the file of a name, if there is one.
+fn find(alloc: Global, image: &[u8], name: &[u8]) -> Result<Option<Vec<u8>>, AllocError>
+    requires clean { IsCleanImage image.now }
+    ensures { IfOk result (λ o. MatchOption o (found name.now (placed_files image.now) ≡ None) (λ v. found name.now (placed_files image.now) ≡ Some v.items)) }
+{
+    if !is_file_name(name) {
+        return Ok(None);
+    }
+    let blocks = (image.len() / 512) as u32;
+    let bytes = read_named(alloc, Geometry { dirs: 6, blocks }, image, &pad(name))?;
+    Ok(bytes)
 }
 
 // The image with a file set, if there is room for it.

@@ -4,7 +4,7 @@ ghost use Rattle.std.specs.Prelude.{◌≡◌, ℕ, ◌+◌, ◌-◌, ◌*◌, �
 ghost use Rattle.lfs_check.specs.Geometries.{first_data};
 ghost use Rattle.lfs_check.specs.Meets.{null};
 ghost use Rattle.lfs_check.specs.Laid.{index_for};
-ghost use Rattle.lfs_check.specs.Empty.{upwards, behind};
+ghost use Rattle.lfs_check.specs.Empty.{upwards, next_upwards};
 ghost use Rattle.lfs_check.specs.Fields.{numbered};
 ghost use Rattle.lfs_layout.specs.Made.{indexes_needed, data_needed, file_index, indexes_for, all_indexes, index_disk, file_of, all_files, geometry_2, Room};
 
@@ -44,7 +44,7 @@ pub fn make_disk(indexes: &[Index], d: usize) -> [u8; 512]
 // A free index block, which names the next below `end`.
 fn make_free(number: u32, end: u32) -> Index
     requires { number < end }
-    ensures { result ≡ record { next = behind end number; offset = 0; blocks = replicate 16 0 } }
+    ensures { result ≡ record { next = next_upwards end number; offset = 0; blocks = replicate 16 0 } }
 {
     Index {
         next: next_below(number, end),
@@ -56,12 +56,12 @@ fn make_free(number: u32, end: u32) -> Index
 /// The number after another, if it is below the end.
 pub(crate) fn next_below(number: u32, end: u32) -> u32
     requires { number < end }
-    ensures { result ≡ behind end number }
+    ensures { result ≡ next_upwards end number }
 {
     if number + 1 < end { number + 1 } else { NULL }
 }
 
-// The number at a place of a range, if it has so many.
+// The number at a place of a range, or null after its end.
 fn number_at(low: u32, many: u32, place: u32) -> u32
     requires { low + many ≤ 65542 }
     ensures { result ≡ slice_index_or (upwards low many) place null }

@@ -15,7 +15,7 @@ mod index_blocks;
 mod raw_image;
 mod reading;
 
-pub use clean_image::CleanImage;
+pub use clean_image::{CleanImage, is_file_name};
 pub use lfs_check::{CheckFault, DiskFault, Report, check};
 pub use lfs_format::{
     Dir, Dir1, Entry, Entry1, Index, NULL, read_dir, read_dir_1, read_index, write_dir, write_index,

@@ -1,12 +1,12 @@
 //! The files of an image, read off its bytes.
 
-ghost use Rattle.std.specs.Prelude.{◌≡◌, ◌*◌, ◌≤◌, ◌++◌, length, IfOk, OnOk};
+ghost use Rattle.std.specs.Prelude.{◌≡◌, ◌*◌, ◌≤◌, ◌++◌, length, IfOk, OnOk, MatchOption, None, Some};
 ghost use Rattle.std.specs.List.{flat_map};
 ghost use Rattle.lfs_check.specs.Geometries.{index_count, IsGeometry};
 ghost use Rattle.lfs_check.specs.Checks.{nexts_of};
 ghost use Rattle.lfs_check.specs.Rules.{block_in};
 ghost use Rattle.lfs_check.specs.Fields.{fields_of, entries_of};
-ghost use Rattle.lfs_layout.specs.Files.{bytes_in, files_in, without_name, entries_without};
+ghost use Rattle.lfs_layout.specs.Files.{bytes_in, files_in, without_name, entries_without, bytes_of, entry_named};
 ghost use Rattle.lfs_layout.specs.Made.{all_files};
 
 use crate::files::NamedFile;
@@ -65,6 +65,43 @@ fn entries_without(
         }
     }
     Ok(others)
+}
+
+/// The bytes of the file of a name, if there is one.
+pub fn read_named(
+    alloc: Global,
+    geometry: Geometry,
+    image: &[u8],
+    name: &[u8; 28],
+) -> Result<Option<Vec<u8>>, AllocError>
+    requires geometry { IsGeometry geometry }
+    requires whole { 512 * geometry.blocks ≤ length image.now }
+    ensures { IfOk result (λ o. MatchOption o
+        (bytes_of name.now (files_in geometry (fields_of geometry image.now).indexes image.now (entries_of geometry image.now)) ≡ None)
+        (λ v. bytes_of name.now (files_in geometry (fields_of geometry image.now).indexes image.now (entries_of geometry image.now)) ≡ Some v.items)) }
+{
+    let directory = read_directory(alloc, geometry, image)?;
+    match entry_named(&directory.entries, name) {
+        None => Ok(None),
+        Some(entry) => {
+            let indexes = read_indexes(alloc, geometry, image)?;
+            let nexts = read_nexts(alloc, &indexes)?;
+            let bytes = read_bytes(alloc, geometry, &indexes, &nexts, image, &entry)?;
+            Ok(Some(bytes))
+        }
+    }
+}
+
+// The first used entry of a name.
+fn entry_named(entries: &[Entry], name: &[u8; 28]) -> Option<Entry>
+    ensures { result ≡ entry_named name.now entries.now }
+{
+    for entry in entries {
+        if entry_is_used(entry) && entry.name == *name {
+            return Some(*entry);
+        }
+    }
+    None
 }
 
 /// The files of the used ones among entries, in their order.

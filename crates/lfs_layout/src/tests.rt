@@ -14,7 +14,7 @@ fn put(image: &mut Vec<u8>, at: usize, word: u32) {
     }
 }
 
-// An image of so many blocks with these words, and zeros otherwise.
+// An image of a number of blocks with these words, and zeros otherwise.
 fn image_of(rt: &impl Abort, alloc: Global, blocks: u16, words: &[(usize, u32)]) -> Vec<u8> {
     let mut image = vec![in alloc; 0u8; 512 * blocks as usize].expect(rt, "memory");
     for (at, word) in words {
@@ -143,7 +143,7 @@ fn raw_images_have_8_to_65536_blocks(rt: HostRuntime) {
     }
 }
 
-// An empty image of so many blocks.
+// An empty image of a number of blocks.
 fn empty(rt: &impl Abort, alloc: Global, blocks: u16) -> CleanImage {
     let blocks = u32::from(blocks);
     if blocks < 14 {
@@ -189,4 +189,51 @@ fn a_79th_file_is_refused(rt: HostRuntime) {
     assert!(rt; matches!(image.put_file(rt.alloc(), b"g", &[]), Ok(false)));
     assert!(rt; matches!(image.put_file(rt.alloc(), &[b'f', 78], &[1]), Ok(true)));
     assert!(rt; reports(&rt, rt.alloc(), image.bytes(), (78, 6, 6)));
+}
+
+// Whether the file of a name has these bytes.
+fn holds(rt: &impl Abort, alloc: Global, image: &CleanImage, name: &[u8], bytes: &[u8]) -> bool {
+    match image.read_file(alloc, name) {
+        Ok(Some(found)) => found.as_slice() == bytes,
+        Ok(None) => false,
+        Err(_) => rt.abort(),
+    }
+}
+
+// Whether there is no file of a name.
+fn lacks(rt: &impl Abort, alloc: Global, image: &CleanImage, name: &[u8]) -> bool {
+    match image.read_file(alloc, name) {
+        Ok(found) => found.is_none(),
+        Err(_) => rt.abort(),
+    }
+}
+
+#[test]
+fn files_are_read_by_their_names(rt: HostRuntime) {
+    let mut image = empty(&rt, rt.alloc(), 64);
+    let mut long = vec![in rt.alloc(); 1u8; 8192].expect(&rt, "memory");
+    long.push(2).expect(&rt, "memory");
+    assert!(rt; matches!(image.put_file(rt.alloc(), b"log", &long), Ok(true)));
+    assert!(rt;
+        matches!(
+            image.put_file(rt.alloc(), b"twenty-seven bytes are most", b"!"),
+            Ok(true)
+        )
+    );
+    assert!(rt; matches!(image.put_file(rt.alloc(), b"none", &[]), Ok(true)));
+    assert!(rt; holds(&rt, rt.alloc(), &image, b"log", &long));
+    assert!(rt;
+        holds(
+            &rt,
+            rt.alloc(),
+            &image,
+            b"twenty-seven bytes are most",
+            b"!"
+        )
+    );
+    assert!(rt; holds(&rt, rt.alloc(), &image, b"none", &[]));
+    assert!(rt; lacks(&rt, rt.alloc(), &image, b"lo"));
+    assert!(rt; lacks(&rt, rt.alloc(), &image, b"log\0"));
+    assert!(rt; lacks(&rt, rt.alloc(), &image, b""));
+    assert!(rt; lacks(&rt, rt.alloc(), &image, b"twenty-eight bytes are a lot"));
 }

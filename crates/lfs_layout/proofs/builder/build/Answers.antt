@@ -1,11 +1,11 @@
-use Rattle.std.proofs.Common.{◌≡◌, ◌≤◌, ◌+◌, ◌*◌, ◌/◌, ◌++◌, length, [], ap, sym, ◌∙◌, arith, append_assoc, List, ℕ}
+use Rattle.std.proofs.Common.{◌≡◌, ◌++◌, length, ap, ◌∙◌, arith, append_assoc, List, ℕ}
 use Rattle.lfs_format.specs.declared.Entry.{Entry}
 use Rattle.lfs_format.specs.declared.Index.{Index}
 use Rattle.lfs_format.specs.Directory.{dir_bytes}
 use Rattle.lfs_check.specs.declared.fields.Header.{Header}
 use Rattle.lfs_check.specs.Geometries.{index_disks}
 use Rattle.lfs_check.specs.Fields.{joined}
-use Rattle.lfs_layout.specs.Made.{all_files, all_entries, all_indexes, all_data, header_for, dir_for, dirs_bytes, indexes_bytes, image_of, index_disk, geometry_2}
+use Rattle.lfs_layout.specs.Made.{all_files, all_data, header_for, dir_for, dirs_bytes, indexes_bytes, image_of, index_disk, geometry_2}
 use Rattle.lfs_layout.proofs.MadeParts.{length_all_indexes}
 use Rattle.lfs_layout.proofs.builder.build.Goals as goal
 

@@ -1,8 +1,8 @@
 use Rattle.std.proofs.Common.{◌≡◌, ◌+◌, ◌/◌, length, List, cond, ap, sym, ◌∙◌, subst}
 use Rattle.lfs_check.specs.declared.geometry.Geometry.{Geometry}
-use Rattle.lfs_check.specs.Fields.{fields_of, entries_of, geometry_of}
+use Rattle.lfs_check.specs.Fields.{fields_of, entries_of}
 use Rattle.lfs_layout.specs.Files.{File, files_in, placed_files}
-use Rattle.lfs_layout.specs.Made.{all_files, image_of, Room}
+use Rattle.lfs_layout.specs.Made.{all_files, Room}
 use Rattle.lfs_layout.proofs.CleanOpens.{migrated_room}
 use Rattle.lfs_layout.proofs.clean_image.migrate.Goals as goal
 use Rattle.lfs_layout.proofs.clean_image.migrate.Goals.{After-deref}

@@ -1,4 +1,4 @@
-use Rattle.std.proofs.Common.{◌≡◌, ◌++◌, drop, replicate, length, ap, ◌∙◌}
+use Rattle.std.proofs.Common.{◌++◌, drop, replicate, length, ap, ◌∙◌}
 use Rattle.std.proofs.lemmas.List.{drop-replicate}
 use Rattle.lfs_layout.proofs.clean_image.pad.Goals as goal
 

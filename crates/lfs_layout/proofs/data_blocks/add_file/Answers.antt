@@ -1,4 +1,4 @@
-use Rattle.std.proofs.Common.{◌≡◌, ◌≤◌, ◌-◌, ◌*◌, ◌++◌, take, replicate, length, ap, sym, ◌∙◌, arith, append_assoc}
+use Rattle.std.proofs.Common.{◌≡◌, ◌-◌, ◌*◌, ◌++◌, take, replicate, length, ap, ◌∙◌, arith, append_assoc}
 use Rattle.std.proofs.lemmas.List.{take-replicate}
 use Rattle.lfs_layout.specs.Made.{data_needed, file_of}
 use Rattle.lfs_layout.proofs.data_blocks.add_file.Goals as goal

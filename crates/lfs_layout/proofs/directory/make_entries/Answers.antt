@@ -1,4 +1,4 @@
-use Rattle.std.proofs.Common.{◌≡◌, ◌≤◌, ◌-◌, ◌++◌, take, drop, replicate, length, length-drop, ap, sym, ◌∙◌, arith}
+use Rattle.std.proofs.Common.{◌≡◌, ◌-◌, ◌++◌, take, drop, replicate, length, length-drop, ap, sym, ◌∙◌, arith}
 use Rattle.std.proofs.lemmas.List.{drop-replicate, take_all, length-replicate}
 use Rattle.lfs_format.specs.declared.Entry.{Entry}
 use Rattle.lfs_layout.specs.Made.{all_files, entries_for, no_entry}

@@ -1,8 +1,7 @@
-use Rattle.std.proofs.Common.{◌≡◌, ◌≤◌, ◌<◌, ◌+◌, ◌++◌, ◌∷◌, [], drop, length, refl, ap, sym, ◌∙◌, arith, append_assoc, length-append}
-use Rattle.std.proofs.lemmas.List.{append-nil}
+use Rattle.std.proofs.Common.{◌+◌, ◌++◌, ◌∷◌, [], drop, length, ap, sym, ◌∙◌, arith, append_assoc, length-append}
 use Rattle.lfs_layout.specs.Files.{total_for}
-use Rattle.lfs_layout.specs.Made.{all_files, file_of, entry_for, entries_for, indexes_needed}
-use Rattle.lfs_layout.proofs.FilesRead.{files_more, files_all}
+use Rattle.lfs_layout.specs.Made.{all_files, file_of, entry_for, entries_for}
+use Rattle.lfs_layout.proofs.FilesRead.{files_more}
 use Rattle.lfs_layout.proofs.directory.make_used.Goals as goal
 
 pub loop-file-init : goal.loop-file-init

@@ -1,6 +1,5 @@
-use Rattle.std.proofs.Common.{◌≡◌, ◌≤◌, ◌+◌, ◌*◌, ◌^◌, drop, ap, sym, ◌∙◌, arith}
+use Rattle.std.proofs.Common.{ap, arith}
 use Rattle.lfs_layout.specs.Files.{total_for}
-use Rattle.lfs_layout.specs.Made.{all_files}
 use Rattle.lfs_layout.proofs.FilesRead.{files_more, files_all}
 use Rattle.lfs_layout.proofs.files.data_total.Goals as goal
 

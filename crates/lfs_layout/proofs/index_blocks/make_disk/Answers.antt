@@ -1,6 +1,5 @@
-use Rattle.std.proofs.Common.{◌≡◌, ◌<◌, ◌≤◌, ◌+◌, ◌*◌, ◌++◌, get_or, drop, length, ap, sym, ◌∙◌, arith, length-drop, [], replicate}
+use Rattle.std.proofs.Common.{◌+◌, ◌*◌, get_or, drop, length, ap, sym, ◌∙◌, arith, length-drop}
 use Rattle.std.proofs.lemmas.List.{get_or-drop}
-use Rattle.lfs_format.specs.Indexes.{index_bytes}
 use Rattle.lfs_check.specs.Laid.{no_index}
 use Rattle.lfs_layout.proofs.FilesRead.{disk_more, disk_all}
 use Rattle.lfs_layout.proofs.index_blocks.make_disk.Goals as goal

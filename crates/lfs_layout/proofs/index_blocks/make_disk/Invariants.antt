@@ -1,4 +1,4 @@
-use Rattle.std.proofs.Common.{◌≡◌, ◌+◌, ◌-◌, ◌*◌, ◌++◌, take, drop, length, replicate}
+use Rattle.std.proofs.Common.{◌≡◌, ◌-◌, ◌*◌, ◌++◌, take, drop, length, replicate}
 use Rattle.std.specs.List.{flat_map}
 use Rattle.lfs_format.specs.Indexes.{index_bytes}
 use Rattle.lfs_layout.proofs.index_blocks.make_disk.Given as goal

@@ -1,6 +1,6 @@
-use Rattle.std.proofs.Common.{◌≡◌, ◌≤◌, ◌+◌, ◌-◌, ◌++◌, ◌∷◌, [], suc, map, refl, ap, sym, ◌∙◌, arith, append_assoc}
+use Rattle.std.proofs.Common.{◌≡◌, ◌+◌, ◌-◌, ◌++◌, ◌∷◌, [], suc, map, ap, sym, ◌∙◌, arith, append_assoc}
 use Rattle.std.proofs.lemmas.List.{append-nil}
-use Rattle.lfs_check.specs.Geometries.{first_data, index_count}
+use Rattle.lfs_check.specs.Geometries.{first_data}
 use Rattle.lfs_check.specs.Empty.{upwards}
 use Rattle.lfs_layout.specs.Made.{all_files, indexes_for, index_end, free_index, geometry_2}
 use Rattle.lfs_layout.proofs.FilesRead.{map_upwards_more}

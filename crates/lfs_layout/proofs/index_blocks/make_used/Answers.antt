@@ -1,9 +1,9 @@
-use Rattle.std.proofs.Common.{◌≡◌, ◌≤◌, ◌<◌, ◌+◌, ◌++◌, ◌∷◌, [], drop, refl, ap, sym, ◌∙◌, arith, append_assoc}
+use Rattle.std.proofs.Common.{◌+◌, ◌++◌, drop, refl, ap, sym, ◌∙◌, arith, append_assoc}
 use Rattle.std.proofs.lemmas.List.{append-nil}
 use Rattle.lfs_check.specs.Geometries.{first_data}
 use Rattle.lfs_check.specs.Fields.{numbered}
 use Rattle.lfs_layout.specs.Files.{total_for}
-use Rattle.lfs_layout.specs.Made.{all_files, file_of, file_index, indexes_for, indexes_needed, data_needed, geometry_2}
+use Rattle.lfs_layout.specs.Made.{all_files, file_of, file_index, indexes_for, indexes_needed, geometry_2}
 use Rattle.lfs_layout.proofs.FilesRead.{files_more, files_all}
 use Rattle.lfs_layout.proofs.index_blocks.make_used.Goals as goal
 

@@ -1,4 +1,4 @@
-use Rattle.std.proofs.Common.{◌≡◌, ◌≤◌, ◌+◌, ◌++◌, drop}
+use Rattle.std.proofs.Common.{◌≡◌, ◌+◌, ◌++◌, drop}
 use Rattle.lfs_check.specs.Geometries.{first_data}
 use Rattle.lfs_layout.specs.Files.{total_for}
 use Rattle.lfs_layout.specs.Made.{all_files, indexes_for, geometry_2}

@@ -1,4 +1,4 @@
-use Rattle.std.proofs.Common.{◌≡◌, ◌≤◌, length, sym, arith}
+use Rattle.std.proofs.Common.{sym, arith}
 use Rattle.std.proofs.lemmas.List.{get_or_past}
 use Rattle.lfs_check.specs.Empty.{upwards}
 use Rattle.lfs_check.specs.Meets.{null}

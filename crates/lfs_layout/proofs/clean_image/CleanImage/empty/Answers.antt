@@ -1,4 +1,4 @@
-use Rattle.std.proofs.Common.{◌≡◌, [], List, ℕ, ap, sym, ◌∙◌, subst, refl}
+use Rattle.std.proofs.Common.{[], List, ℕ, ap, sym, ◌∙◌, subst, refl}
 use Rattle.lfs_layout.specs.Files.{files_of}
 use Rattle.lfs_layout.specs.Images.{IsCleanImage}
 use Rattle.lfs_layout.proofs.MadeClean.{made_clean, made_sorted, empty_room}
