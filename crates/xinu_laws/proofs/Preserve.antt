@@ -8,6 +8,7 @@ pub mod Processes
 pub mod Runs
 pub mod Semaphores
 pub mod Tokens
+pub mod Unused
 use Rattle.std.proofs.Common.{◌≡◌, ◌≢◌, ℕ, zero, suc, ◌<◌, Bool, cond, length, refl, sym, subst, ◌∙◌, true, false, inl, Option, Some, None, ℤ}
 use Rattle.std.proofs.lemmas.Bool.{cond_both}
 use Rattle.xinu_base.specs.declared.processes.Rest.{Rest}
@@ -37,11 +38,11 @@ current_within t k = let e = k.runs in within_table t t.current k.inside.process
 
 -- What is answered if nothing is changed.
 pub answers_preserves : (value : ℤ) → Preserves (answers value)
-answers_preserves value s c = record { tables = c.tables; harts = c.harts }
+answers_preserves value s c = record { tables = c.tables; harts = c.harts; released = tt }
 
 -- A refusal changes nothing.
 pub refused_preserves : Preserves refused
-refused_preserves s c = record { tables = c.tables; harts = c.harts }
+refused_preserves s c = record { tables = c.tables; harts = c.harts; released = tt }
 
 -- either of two ways to go on
 pub either_preserves : (b : Bool) (x y : CallResult) → (b ≡ true → IsPreserved x) → (b ≡ false → IsPreserved y) → IsPreserved (cond b x y)
@@ -63,7 +64,7 @@ blocked_preserves state left place s c alive place_of fits slot =
       slot = slot;
       if_free = λ e. absurd (alive e);
     } in
-    record { tables = inside_move t t.current x (message_at t t.current) place c.tables.inside k; harts = c.harts }
+    record { tables = inside_move t t.current x (message_at t t.current) place c.tables.inside k; harts = c.harts; released = tt }
 
 -- The current process goes on with any message, and nothing is left of its call.
 pub sound_goes_on : (message : Option ℕ) (s : Xinu) → IsSoundTables s.tables → IsSoundTables (goes_on message s).tables

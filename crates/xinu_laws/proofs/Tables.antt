@@ -1,4 +1,5 @@
 -- What holds of the tables at each moment is kept by each move: of one process, of several, at the start, at a tick, at the end of an event.
+pub mod Alive
 pub mod Changes
 pub mod Deaths
 pub mod Ends
@@ -10,3 +11,4 @@ pub mod Scheduling
 pub mod Starts
 pub mod Ticks
 pub mod Unblock
+pub mod Unused

@@ -14,21 +14,33 @@ pub mod Ports
 pub mod Processes
 pub mod Semaphores
 pub mod Table
-use Rattle.std.proofs.Common.{◌≡◌, ℕ, Bool, true, false, cond, List, Option, length, map, refl, sym, ap, ◌∙◌}
+use Rattle.std.proofs.Common.{◌≡◌, ℕ, Bool, true, false, cond, List, Option, length, map, refl, sym, ap, subst, slice_index_or, ◌∙◌}
 use Rattle.std.proofs.lemmas.Bool.{false≢true, cond_both}
+use Rattle.xinu_base.specs.declared.registers.Hart.{Hart}
 use Rattle.xinu_base.specs.declared.processes.Rest.{Rest}
 use Rattle.xinu_base.specs.declared.semaphores.Owner.{Owner}
 use Rattle.xinu_model.specs.Footprints.{Footprint}
 use Rattle.xinu_laws.specs.Frame.{Frame}
 use Rattle.xinu_model.specs.Heap.Cells.{Heap}
-use Rattle.xinu_model.specs.Machine.{Parts, Xinu, CallResult, refused}
+use Rattle.xinu_model.specs.Machine.{Parts, Xinu, CallResult, no_hart, refused}
 use Rattle.xinu_model.specs.Pools.Buffers.{Pool}
 use Rattle.xinu_model.specs.Ports.Queues.{Port}
 use Rattle.xinu_model.specs.Sound.Tables.{IsInside}
 use Rattle.xinu_model.specs.Sound.State.{IsSound}
-use Rattle.xinu_model.specs.Tables.{Tables}
-use Rattle.xinu_laws.specs.Touches.{Reach, reach, stacks_of, range_of, HasSameExtent, KeepsParts, Touches}
+use Rattle.xinu_model.specs.Tables.{Tables, state_at, is_free}
+use Rattle.xinu_laws.specs.Touches.{Reach, reach, stacks_of, range_of, HasSameExtent, KeepsFree, KeepsParts, Touches}
 use Rattle.xinu_laws.proofs.Frame.{frame_same, frame_refl, frame_trans, frame_weaker}
+
+-- Nobody dies if tables and registers stay,
+keeps_free_same : (s u : Xinu) → u.tables ≡ s.tables → u.harts ≡ s.harts → KeepsFree s u
+keeps_free_same s u e same = record {
+  was = λ p h. subst (λ (t : Tables). is_free (state_at t p) ≡ true) e h;
+  harts = λ p h. ap (λ (l : List Hart). slice_index_or l p no_hart) same;
+}
+
+-- and in one step after another.
+pub keeps_free_trans : {s u v : Xinu} → KeepsFree s u → KeepsFree u v → KeepsFree s v
+keeps_free_trans a b = record { was = λ p h. a.was p (b.was p h); harts = λ p h. b.harts p h ∙ a.harts p (b.was p h) }
 
 -- What a call does stays within a footprint.
 abbrev pub StaysIn : Footprint → (Xinu → CallResult) → Type 0
@@ -75,16 +87,17 @@ module _ {f : Footprint} where
 module _ {f : Reach} where
   -- Other tables with the same stacks.
   pub touches_tables : (s : Xinu) (t : Tables) → Frame f.mine f.asks s.tables t → stacks_of t ≡ stacks_of s.tables
+      → ((p : ℕ) → is_free (state_at t p) ≡ true → is_free (state_at s.tables p) ≡ true)
       → Touches f s (record s { tables = t })
-  touches_tables s t c e = record { frame = c; stacks = λ _. e; parts = parts_same s.parts }
+  touches_tables s t c e was = record { frame = c; stacks = λ _. e; parts = parts_same s.parts; free = λ _. record { was = was; harts = λ p _. refl } }
 
   -- Nothing is touched.
   pub touches_refl : (s : Xinu) → Touches f s s
-  touches_refl s = touches_tables s s.tables (frame_refl s.tables) refl
+  touches_refl s = touches_tables s s.tables (frame_refl s.tables) refl (λ p h. h)
 
-  -- Other parts of the state, and any memory and registers.
-  pub touches_parts : (s u : Xinu) → u.tables ≡ s.tables → KeepsParts f.parts s.parts u.parts → Touches f s u
-  touches_parts s u e k = record { frame = frame_same s.tables u.tables (ap (λ (t : Tables). t.processes) e) (ap (λ (t : Tables). t.semaphores) e); stacks = λ _. ap stacks_of e; parts = k }
+  -- Other parts of the state, and any memory.
+  pub touches_parts : (s u : Xinu) → u.tables ≡ s.tables → u.harts ≡ s.harts → KeepsParts f.parts s.parts u.parts → Touches f s u
+  touches_parts s u e same k = record { frame = frame_same s.tables u.tables (ap (λ (t : Tables). t.processes) e) (ap (λ (t : Tables). t.semaphores) e); stacks = λ _. ap stacks_of e; parts = k; free = λ _. keeps_free_same s u e same }
 
   -- One step after another.
   pub touches_trans : {s u v : Xinu} → Touches f s u → Touches f u v → Touches f s v
@@ -92,6 +105,7 @@ module _ {f : Reach} where
     frame = frame_trans s.tables u.tables v.tables a.frame b.frame;
     stacks = λ e. b.stacks e ∙ a.stacks e;
     parts = parts_trans a.parts b.parts;
+    free = λ e. keeps_free_trans (a.free e) (b.free e);
   }
 
   -- One of two ways is gone.

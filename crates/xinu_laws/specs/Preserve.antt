@@ -1,12 +1,13 @@
 -- What holds inside an event: when a process calls, and before the event of its call is closed.
-use Rattle.std.specs.Prelude.{◌≢◌, false}
+use Rattle.std.specs.Prelude.{◌≡◌, ◌≢◌, ℕ, false, List, ℤ}
+use Rattle.std.specs.List.{AllByRecursion}
 use Rattle.xinu_model.specs.Clock.{quantum_falls, wakeup, a_tick_later}
 use Rattle.xinu_model.specs.Machine.{Xinu, Answer, Returns, Waits, Gone, Panics, Silent, CallResult}
 use Rattle.xinu_model.specs.Sound.Tables.{IsInside, IsSoundTables}
 use Rattle.xinu_model.specs.Sound.Pools.{ArePools}
 use Rattle.xinu_model.specs.Sound.Ports.{ArePorts}
-use Rattle.xinu_model.specs.Sound.State.{AreHarts}
-use Rattle.xinu_model.specs.Tables.{Tables}
+use Rattle.xinu_model.specs.Sound.State.{AreHarts, AreUnused}
+use Rattle.xinu_model.specs.Tables.{Tables, state_at, is_free}
 
 -- The tables are sound if the caller goes on or the kernel panics, and else they are as inside an event.
 abbrev pub FitsAnswer : Answer → Tables → Type 0
@@ -16,14 +17,20 @@ FitsAnswer Gone t = IsInside t
 FitsAnswer Panics t = IsSoundTables t
 FitsAnswer Silent t = IsSoundTables t
 
--- What a call keeps of tables and registers before its event is closed.
+-- These replies go to processes that are alive.
+abbrev pub AreAlive : Tables → List (ℕ × ℤ) → Type 0
+AreAlive t replies = AllByRecursion (λ r. is_free (state_at t r.0) ≡ false) replies
+
+-- What a call keeps of tables and registers before its event is closed, and whom it released.
 pub record IsPreserved (result : CallResult) : Type 0 where
   pub tables : FitsAnswer result.answer result.call.state.tables
   pub harts : AreHarts result.call.state.harts
+  pub released : AreAlive result.call.state.tables result.call.released
 
--- What each call keeps: what holds of tables and registers, of the pools and of the ports.
+-- What each call keeps: what holds of tables and registers, of free numbers, of the pools and of the ports.
 pub record KeepsAll (result : CallResult) : Type 0 where
   pub preserved : IsPreserved result
+  pub unused : AreUnused result.call.state.tables result.call.state.harts
   pub pools : ArePools result.call.state.tables result.call.state.parts.pools
   pub ports : ArePorts result.call.state.tables result.call.state.parts.ports
 
@@ -36,6 +43,7 @@ pub record MayCall (s : Xinu) : Type 0 where
 -- What holds of the whole state then.
 pub record MayCallAny (s : Xinu) : Type 0 where
   pub may : MayCall s
+  pub unused : AreUnused s.tables s.harts
   pub pools : ArePools s.tables s.parts.pools
   pub ports : ArePorts s.tables s.parts.ports
 

@@ -1,5 +1,5 @@
 -- What it means that a call touches no more than its footprint allows.
-use Rattle.std.specs.Prelude.{◌≡◌, ℕ, Bool, true, false, not, List, length, map, Option, Some, None}
+use Rattle.std.specs.Prelude.{◌≡◌, ℕ, Bool, true, false, not, List, length, map, Option, Some, None, slice_index_or}
 use Rattle.xinu_base.specs.declared.processes.Process.{Process}
 use Rattle.xinu_base.specs.declared.processes.Rest.{Rest}
 use Rattle.xinu_base.specs.declared.processes.Rest.TheVariants.{Nothing, Receive, Timed, SelfSuspend, GetBuf, PtSend, PtRecv}
@@ -8,9 +8,9 @@ use Rattle.xinu_base.specs.declared.semaphores.Owner.TheVariants as owner
 use Rattle.xinu_model.specs.Footprints.{Footprint, on_tables, on_pools, on_ports}
 use Rattle.xinu_laws.specs.Frame.{Frame}
 use Rattle.xinu_model.specs.Heap.Cells.{Heap}
-use Rattle.xinu_model.specs.Machine.{Parts, Xinu}
+use Rattle.xinu_model.specs.Machine.{Parts, Xinu, no_hart}
 use Rattle.xinu_model.specs.Pools.Buffers.{Pool, pool_bytes}
-use Rattle.xinu_model.specs.Tables.{Tables}
+use Rattle.xinu_model.specs.Tables.{Tables, state_at, is_free}
 
 -- Whose semaphores a footprint leaves alone: a device's always, a pool's and a port's unless it names pools or ports.
 abbrev pub spares : Footprint → ℕ → Option Owner → Bool
@@ -65,11 +65,17 @@ pub record KeepsParts (f : Footprint) (p q : Parts) : Type 0 where
   pub ranges : f.ranges ≡ false → map range_of q.pools ≡ map range_of p.pools
   pub ports : f.ports ≡ false → (q.ports ≡ p.ports) × (q.next_port ≡ p.next_port)
 
--- From s to u nothing is touched beyond this reach.
+-- From s to u nobody dies: who is free was free, and has the registers that it had.
+pub record KeepsFree (s u : Xinu) : Type 0 where
+  pub was : (p : ℕ) → is_free (state_at u.tables p) ≡ true → is_free (state_at s.tables p) ≡ true
+  pub harts : (p : ℕ) → is_free (state_at u.tables p) ≡ true → slice_index_or u.harts p no_hart ≡ slice_index_or s.harts p no_hart
+
+-- From s to u nothing is touched beyond this reach. If it leaves stacks alone nobody dies.
 pub record Touches (f : Reach) (s u : Xinu) : Type 0 where
   pub frame : Frame f.mine f.asks s.tables u.tables
   pub stacks : f.parts.stacks ≡ false → stacks_of u.tables ≡ stacks_of s.tables
   pub parts : KeepsParts f.parts s.parts u.parts
+  pub free : f.parts.stacks ≡ false → KeepsFree s u
 
 -- From s to u the heap, the ranges of the pools and the stacks stay as they are.
 pub record KeepsPlaces (s u : Xinu) : Type 0 where

@@ -8,13 +8,14 @@ ghost use Rattle.xinu_model.specs.Calls.{calls, call_of_number, continued};
 ghost use Rattle.xinu_model.specs.Clock.{ticked};
 ghost use Rattle.xinu_model.specs.Footprints.{on_tables};
 ghost use Rattle.xinu_laws.specs.Frame.{Frame, waits_at};
-ghost use Rattle.xinu_model.specs.Machine.{Xinu, CallResult, end_of_event};
+ghost use Rattle.xinu_model.specs.Machine.{Xinu, CallResult, replies_of, end_of_event};
+ghost use Rattle.xinu_laws.specs.Preserve.{AreAlive};
 ghost use Rattle.xinu_model.specs.Rows.{CallRow, found_in};
 ghost use Rattle.xinu_model.specs.Sound.Tables.{IsInside, FitsOwner};
 ghost use Rattle.xinu_model.specs.Sound.State.{IsSound};
 ghost use Rattle.xinu_base.specs.Syscalls.{syscalls};
 ghost use Rattle.xinu_model.specs.Tables.{Tables, semaphore_at};
-ghost use Rattle.xinu_laws.specs.Touches.{Reach, reach, touched_by, Touches};
+ghost use Rattle.xinu_laws.specs.Touches.{Reach, reach, touched_by, stacks_of, KeepsParts, Touches};
 
 /// The rows have the numbers, names and arities that the transcript prints.
 pub fn rows_are_syscalls()
@@ -31,10 +32,14 @@ pub fn continuations_stay_within()
     ensures { (left : Rest) (s : Xinu) → IsSound s → Touches (reach (touched_by left)) s (continued left s).call.state }
 {}
 
-/// A tick and the end of an event touch the tables alone, whatever is left alone of semaphores and calls.
+/// A tick and the end of an event touch the tables alone, whatever is left alone of semaphores and calls, and the registers of those who get
+/// replies. If these are alive free numbers keep theirs; at a tick they are.
 pub fn ends_stay_within()
     ensures tick { (f : Reach) (s : Xinu) → IsSound s → Touches f s (ticked s).state }
-    ensures end { (f : Reach) (was : ℕ) (first : List TranscriptLine) (result : CallResult) → IsInside result.call.state.tables → Touches f result.call.state (end_of_event was first result).state }
+    ensures end { (f : Reach) (was : ℕ) (first : List TranscriptLine) (result : CallResult) → IsInside result.call.state.tables → Frame f.mine f.asks result.call.state.tables (end_of_event was first result).state.tables
+        × (f.parts.stacks ≡ false → stacks_of (end_of_event was first result).state.tables ≡ stacks_of result.call.state.tables)
+        × KeepsParts f.parts result.call.state.parts (end_of_event was first result).state.parts }
+    ensures replies { (f : Reach) (was : ℕ) (first : List TranscriptLine) (result : CallResult) → IsInside result.call.state.tables → AreAlive result.call.state.tables (replies_of result) → Touches f result.call.state (end_of_event was first result).state }
 {}
 
 /// On a semaphore that is left alone those wait who waited before and still do, in the same order.

@@ -7,9 +7,9 @@ ghost use Rattle.xinu_model.specs.Calls.{calls, call_of_number, called, continue
 ghost use Rattle.xinu_model.specs.Clock.{ticked};
 ghost use Rattle.xinu_model.specs.Events.{with_executed};
 ghost use Rattle.xinu_model.specs.Isa.Exec.{exec};
-ghost use Rattle.xinu_model.specs.Machine.{Xinu, CallResult, current_hart, refused, end_of_event};
+ghost use Rattle.xinu_model.specs.Machine.{Xinu, CallResult, current_hart, refused, replies_of, end_of_event};
 ghost use Rattle.xinu_model.specs.Process.Scheduling.{resched};
-ghost use Rattle.xinu_laws.specs.Preserve.{KeepsAll, MayCallAny, ticking};
+ghost use Rattle.xinu_laws.specs.Preserve.{AreAlive, KeepsAll, MayCallAny, ticking};
 ghost use Rattle.xinu_model.specs.Process.Death.{exit};
 ghost use Rattle.xinu_model.specs.Rows.{CallRow, found_in};
 ghost use Rattle.xinu_model.specs.Sound.Tables.{IsInside, IsSoundTables};
@@ -23,11 +23,13 @@ pub fn calls_are_rows()
     ensures other { (number : ℕ) (args : List ℕ) (s : Xinu) → is_built number ≡ false → called number args s ≡ refused s }
 {}
 
-/// In a sound state, and after an instruction, any process but the null process may call; what a call keeps holds inside an event.
+/// In a sound state, and after an instruction, any process but the null process may call; what a call keeps holds inside an event, and its
+/// replies go to processes that are alive.
 pub fn processes_may_call()
     ensures sound { (s : Xinu) → IsSound s → s.tables.current ≢ 0 → MayCallAny s }
     ensures executed { (s : Xinu) → MayCallAny s → MayCallAny (with_executed (exec (current_hart s) s.memory) s) }
     ensures inside { (result : CallResult) → KeepsAll result → IsInside result.call.state.tables }
+    ensures replies { (result : CallResult) → KeepsAll result → AreAlive result.call.state.tables (replies_of result) }
 {}
 
 /// Each call keeps what holds of tables, pools and ports: each row, whatever its arguments, and so the call of any number.

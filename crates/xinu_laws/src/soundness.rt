@@ -1,13 +1,13 @@
 //! Soundness: the machine starts in a sound state, and each event and each run keeps it so.
 
-ghost use Rattle.std.specs.Prelude.{◌≡◌, ◌<◌, length, List, ℕ, None};
+ghost use Rattle.std.specs.Prelude.{◌≡◌, ◌<◌, length, List, ℕ, None, slice_index_or};
 ghost use Rattle.xinu_base.specs.Constants.{NPROC};
 ghost use Rattle.xinu_base.specs.declared.events.End.{End};
 ghost use Rattle.xinu_base.specs.declared.events.Event.{Event};
 ghost use Rattle.xinu_base.specs.declared.lines.TranscriptLine.{TranscriptLine};
 ghost use Rattle.xinu_model.specs.Boot.{Loaded, Boots, boot};
 ghost use Rattle.xinu_model.specs.Events.{Happens};
-ghost use Rattle.xinu_model.specs.Machine.{Xinu};
+ghost use Rattle.xinu_model.specs.Machine.{Xinu, no_hart};
 ghost use Rattle.xinu_model.specs.Runs.{RunsTo};
 ghost use Rattle.xinu_base.specs.declared.processes.State.TheVariants.{Free};
 ghost use Rattle.xinu_model.specs.Sound.State.{IsSound};
@@ -28,8 +28,9 @@ pub fn runs_keep_sound()
     ensures { (events : List Event) (old : Xinu) (lines : List TranscriptLine) (new : Xinu) (end : End) → IsSound old → RunsTo old events lines new end → IsSound new }
 {}
 
-/// What is free holds what it held at the start: a process number its fixed entry and no message, a semaphore no token and no waiter.
+/// What is free holds what it held at the start: a process number its fixed entry, no message and its registers, a semaphore no token and no waiter.
 pub fn free_places_are_fixed()
     ensures processes { (s : Xinu) (p : ℕ) → IsSound s → state_at s.tables p ≡ Free → (process_at s.tables p ≡ no_process) × (message_at s.tables p ≡ None) }
+    ensures registers { (s : Xinu) (p : ℕ) → IsSound s → state_at s.tables p ≡ Free → slice_index_or s.harts p no_hart ≡ no_hart }
     ensures semaphores { (s : Xinu) (sem : ℕ) → IsSound s → (semaphore_at s.tables sem).owner ≡ None → semaphore_at s.tables sem ≡ no_semaphore }
 {}

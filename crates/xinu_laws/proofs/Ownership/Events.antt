@@ -25,7 +25,7 @@ use Rattle.xinu_model.specs.Footprints.{on_tables}
 use Rattle.xinu_laws.specs.Preserve.{MayCallAny, KeepsAll}
 use Rattle.xinu_laws.specs.Touches.{reach, touched_by, KeepsPlaces, Touches}
 use Rattle.xinu_laws.proofs.Ownership.Table.{names_places, places_stay, called_apart}
-use Rattle.xinu_laws.proofs.Preserve.Calls.{sound_where_called, inside_preserved, called_keeps, exit_keeps, continued_keeps}
+use Rattle.xinu_laws.proofs.Preserve.Calls.{sound_where_called, inside_preserved, replies_alive, called_keeps, exit_keeps, continued_keeps}
 use Rattle.xinu_laws.proofs.Preserve.Events.{may_call, may_call_after}
 use Rattle.xinu_laws.proofs.Touches.Continued.{continued_touches}
 use Rattle.xinu_laws.proofs.Touches.Events.{touches_end_of_event, touches_ticked}
@@ -35,7 +35,7 @@ use Rattle.xinu_laws.proofs.Preserve.{current_within}
 -- The end of an event leaves the places as they are.
 pub kept_end_of_event : (was : ℕ) (first : List TranscriptLine) (result : CallResult) → KeepsAll result → KeepsPlaces result.call.state (end_of_event was first result).state
 kept_end_of_event was first result k =
-    let touches : Touches (reach on_tables) result.call.state (end_of_event was first result).state = touches_end_of_event was first result (inside_preserved result k.preserved) in
+    let touches : Touches (reach on_tables) result.call.state (end_of_event was first result).state = touches_end_of_event was first result (inside_preserved result k.preserved) (replies_alive result k.preserved) in
     keeps_places touches refl refl refl
 
 -- So does a tick,

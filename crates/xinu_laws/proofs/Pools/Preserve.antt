@@ -12,8 +12,9 @@ use Rattle.xinu_model.specs.Pools.Calls.{with_pool, made_pool, is_pool_size, mkb
 use Rattle.xinu_model.specs.Pools.Buffers.{most_pools, pool_at, pool_bytes, whole_words, meets_pool, holder, with_free}
 use Rattle.xinu_model.specs.Semaphores.Counts.{free_semaphore, with_tokens}
 use Rattle.xinu_model.specs.Sound.Tables.{FitsOwner, IsInside, IsSoundTables}
-use Rattle.xinu_laws.specs.Preserve.{IsPreserved, MayCall}
+use Rattle.xinu_laws.specs.Preserve.{AreAlive, IsPreserved, MayCall}
 use Rattle.xinu_laws.proofs.Preserve.{Preserves, refused_preserves, either_preserves, goes_on_may_call, await_preserves}
+use Rattle.xinu_laws.proofs.Tables.Alive.{alive_signalled}
 use Rattle.xinu_laws.proofs.Preserve.Semaphores.{sound_found_semaphore, harts_signalled}
 use Rattle.xinu_laws.proofs.Pools.Holders.{IsHolder, holder_finds, by_holder}
 use Rattle.xinu_laws.proofs.Pools.Calls.{HavePools}
@@ -24,7 +25,7 @@ use Rattle.xinu_laws.proofs.Tables.Harts.{harts_same}
 -- a pool is made, if memory and a semaphore are found
 made_pool_preserves : (found : Option Grant) (sem : Option ℕ) (size n : ℕ) (s : Xinu) → free_semaphore s.tables ≡ sem → MayCall s → IsPreserved (made_pool found sem size n s)
 made_pool_preserves (Some grant) (Some sem) size n s e c = either_preserves (meets_pool grant.address (pool_bytes size n) s.parts.pools) (refused s) (with_pool grant sem size n s) (λ _. refused_preserves s c)
-    (λ _. record { tables = sound_found_semaphore s.tables sem n (owner.Pool (length s.parts.pools)) c.tables e (λ f. cc); harts = c.harts })
+    (λ _. record { tables = sound_found_semaphore s.tables sem n (owner.Pool (length s.parts.pools)) c.tables e (λ f. cc); harts = c.harts; released = tt })
 made_pool_preserves (Some grant) None size n s e c = refused_preserves s c
 made_pool_preserves None sem size n s e c = refused_preserves s c
 
@@ -36,7 +37,7 @@ mkbufpool_preserves size n s c = either_preserves (is_pool_size size n && nat_lt
 -- the first of some free buffers is taken
 take_first_preserves : (free : List ℕ) (i : ℕ) → Preserves (take_first free i)
 take_first_preserves [] i s c = refused_preserves s c
-take_first_preserves (a ∷ free) i s c = record { tables = c.tables; harts = c.harts }
+take_first_preserves (a ∷ free) i s c = record { tables = c.tables; harts = c.harts; released = tt }
 
 -- Call 29.
 pub getbuf_preserves : (i : ℕ) (s : Xinu) → MayCall s → HavePools s → IsPreserved (getbuf i s)
@@ -78,11 +79,20 @@ sound_freed_buffer a d o k = by_holder (λ e. IsSoundTables e.state.tables) a d 
 pub harts_freed_buffer : (a : ℕ) (d : CallState) → (freed_buffer a d).state.harts ≡ d.state.harts
 harts_freed_buffer a d = by_holder (λ e. e.state.harts ≡ d.state.harts) a d refl (λ i h. harts_put_back a i d)
 
+-- Who is released is alive.
+pub alive_put_back : (a i : ℕ) (d : CallState) → IsInside d.state.tables → AreAlive d.state.tables d.released
+    → AreAlive (put_back a i d).state.tables (put_back a i d).released
+alive_put_back a i d o h = alive_signalled (pool_at d.state.parts.pools i).semaphore (with_buffer a i d) o h
+
+pub alive_freed_buffer : (a : ℕ) (d : CallState) → IsInside d.state.tables → AreAlive d.state.tables d.released
+    → AreAlive (freed_buffer a d).state.tables (freed_buffer a d).released
+alive_freed_buffer a d o h = by_holder (λ e. AreAlive e.state.tables e.released) a d h (λ i g. alive_put_back a i d o h)
+
 -- the process gives it back to the pool that has it
 freed_by_preserves : (found : Option ℕ) (a : ℕ) (s : Xinu) → holder a s.parts.pools ≡ found → MayCall s → HavePools s → IsPreserved (freed_by found a s)
 freed_by_preserves None a s e c k = refused_preserves s c
 freed_by_preserves (Some i) a s e c k =
-    record { tables = sound_put_back a i (start s) c.tables k (holder_finds a i s.parts.pools e); harts = harts_same s.harts _ (harts_put_back a i (start s)) c.harts }
+    record { tables = sound_put_back a i (start s) c.tables k (holder_finds a i s.parts.pools e); harts = harts_same s.harts _ (harts_put_back a i (start s)) c.harts; released = alive_put_back a i (start s) c.tables.inside tt }
 
 -- Call 30.
 pub freebuf_preserves : (a : ℕ) (s : Xinu) → MayCall s → HavePools s → IsPreserved (freebuf a s)

@@ -124,7 +124,7 @@ module _ (i j : ℕ) (other : j ≢ i) where
 
   -- if a caller waits for a buffer of pool i,
   pub frame_pool_blocked : (sem : ℕ) (s : Xinu) → (semaphore_at s.tables sem).owner ≡ Some (owner.Pool i) → Frame (is_pool j) (asks_pool j) s.tables (blocked Waiting (GetBuf i) (InSemaphore sem) s).call.state.tables
-  frame_pool_blocked sem s e = (touches_blocked {f = beside_pool j} Waiting (GetBuf i) (InSemaphore sem) s (other_owner s.tables sem e) (other_number i j other)).frame
+  frame_pool_blocked sem s e = (touches_blocked {f = beside_pool j} Waiting (GetBuf i) (InSemaphore sem) s (other_owner s.tables sem e) (other_number i j other) refl).frame
 
   -- and if pool i is signalled.
   pub frame_pool_signalled : (sem : ℕ) (d : CallState) → IsInside d.state.tables → (semaphore_at d.state.tables sem).owner ≡ Some (owner.Pool i) → Frame (is_pool j) (asks_pool j) d.state.tables (signalled sem d).state.tables

@@ -3,7 +3,10 @@ use Rattle.std.proofs.Common.{◌≡◌, ℕ, List, [], ◌∷◌, Some, refl, s
 use Rattle.xinu_base.specs.declared.processes.Process.{Process}
 use Rattle.xinu_base.specs.declared.processes.State.TheVariants.{Ready}
 use Rattle.xinu_base.specs.declared.semaphores.Owner.TheVariants as owner
+use Rattle.xinu_base.specs.Constants.{OK}
 use Rattle.xinu_laws.specs.Moves.{ready_all}
+use Rattle.xinu_laws.specs.Preserve.{AreAlive}
+use Rattle.xinu_laws.proofs.Tables.Alive.{alive_emptied}
 use Rattle.xinu_model.specs.Machine.{Xinu, CallState}
 use Rattle.xinu_model.specs.Process.Scheduling.{in_state, ready}
 use Rattle.xinu_model.specs.Ports.Queues.{PortQueue}
@@ -43,6 +46,7 @@ still_no_waiters sem r d e =
 pub record IsCleared (q : ℕ) (queue : PortQueue) (d e : CallState) : Type 0 where
   pub tables : IsSoundTables e.state.tables
   pub harts : e.state.harts ≡ d.state.harts
+  pub released : AreAlive d.state.tables d.released → AreAlive e.state.tables e.released
   pub owners : (r : ℕ) → (semaphore_at e.state.tables r).owner ≡ (semaphore_at d.state.tables r).owner
   pub rests : KeepsRests d.state.tables e.state.tables
   pub no_senders : (semaphore_at e.state.tables queue.send).waiters ≡ []
@@ -60,6 +64,7 @@ port_cleared q queue d k send receive =
     record {
       tables = sound_emptied queue.receive one sound;
       harts = harts_emptied queue.receive one ∙ harts_emptied queue.send d;
+      released = λ a. alive_emptied OK queue.receive one sound.inside (alive_emptied OK queue.send d k.inside a);
       owners = λ r. owner_emptied queue.receive r one ∙ owner_emptied queue.send r d;
       rests = keeps_rests_trans d.state.tables one.state.tables two.state.tables (rests_emptied queue.send d) (rests_emptied queue.receive one);
       no_senders = still_no_waiters queue.receive queue.send one (emptied_has_no_waiters queue.send d);

@@ -73,7 +73,7 @@ port_made q n send receive s c a w unused ws fs wr fr =
     (λ j f. (let h = a.owned r q (sym (ap (λ (x : Semaphore). x.owner) (made_other t send r n by j)) ∙ f) in let h1 = h.1 in cc))
     (sym (ap (λ (x : Semaphore). x.owner) (made_other u receive r 0 by m)) ∙ e)) in
     record {
-      preserved = record { tables = kv; harts = c.harts };
+      preserved = record { tables = kv; harts = c.harts; released = tt };
       ports = ports_renewed q (Some queue) t v s.parts.ports w kv.inside touches.frame (record { rests = λ p h. refl })
           (λ x f. subst (λ (y : PortQueue). IsNewPort v q y) (let g : queue ≡ x = cc in g) new)
           (λ r f. (queue, refl, owned r f)) refl a;

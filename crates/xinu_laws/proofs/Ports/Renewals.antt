@@ -4,6 +4,7 @@ use Rattle.xinu_base.specs.declared.semaphores.Owner.TheVariants as owner
 use Rattle.xinu_model.specs.Machine.{Parts, CallState}
 use Rattle.xinu_model.specs.Ports.Queues.{PortQueue, port_at}
 use Rattle.xinu_model.specs.Footprints.{on_ports}
+use Rattle.xinu_laws.specs.Preserve.{AreAlive}
 use Rattle.xinu_laws.specs.Touches.{Reach, reach, Touches}
 use Rattle.xinu_model.specs.Ports.Calls.{renewed, deleted, emptied_port}
 use Rattle.xinu_model.specs.Semaphores.Counts.{with_semaphore, with_tokens}
@@ -28,6 +29,7 @@ use Rattle.xinu_laws.proofs.Ports.Signals.{HasPorts}
 pub record IsRenewed (q : ℕ) (d e : CallState) : Type 0 where
   pub tables : IsSoundTables e.state.tables
   pub harts : e.state.harts ≡ d.state.harts
+  pub released : AreAlive d.state.tables d.released → AreAlive e.state.tables e.released
   pub ports : HasPorts e
   pub touches : Touches (reach on_ports) d.state e.state
 
@@ -80,6 +82,7 @@ port_deleted q queue d k a here =
     record {
       tables = kv;
       harts = c.harts;
+      released = c.released;
       ports = subst (λ l. ArePorts v (renewed q None l)) (sym (ap (λ (p : Parts). p.ports) c.parts))
           (ports_renewed q None d.state.tables v d.state.parts.ports (let w = port_within q queue d.state.parts.ports here in let m = a.many in omega arith) kv.inside
           (touches (beside_ports q) (port_reached_alone q)).frame
@@ -129,6 +132,7 @@ port_reset q queue d k a here =
     record {
       tables = kv;
       harts = c.harts;
+      released = c.released;
       ports = subst (λ l. ArePorts v (renewed q (Some next) l)) (sym (ap (λ (p : Parts). p.ports) c.parts))
           (ports_renewed q (Some next) d.state.tables v d.state.parts.ports (let w = port_within q queue d.state.parts.ports here in let m = a.many in omega arith) kv.inside
           (touches (beside_ports q) (port_reached_alone q)).frame

@@ -19,7 +19,7 @@ use Rattle.xinu_model.specs.Sound.Ports.{is_ticket_of, sends_to, receives_from, 
 use Rattle.xinu_model.specs.Tables.{Tables, process_at, message_at, semaphore_at, InSemaphore}
 use Rattle.xinu_model.specs.Words.{signed}
 use Rattle.xinu_laws.proofs.Tables.Changes.{sound_token_taken}
-use Rattle.xinu_laws.specs.Preserve.{MayCall}
+use Rattle.xinu_laws.specs.Preserve.{AreAlive, MayCall}
 use Rattle.xinu_laws.proofs.Preserve.{current_within, blocked_preserves, goes_on_may_call, tables_may_call, waits_hold}
 use Rattle.xinu_laws.proofs.Preserve.Semaphores.{harts_signalled}
 use Rattle.xinu_laws.proofs.Tables.MoveTo.{semaphore_within}
@@ -29,6 +29,7 @@ use Rattle.xinu_laws.proofs.Ports.Made.{PreservesPorts, refused_on_ports}
 use Rattle.xinu_laws.proofs.Ports.Messages.{ports_take_room, ports_take_turn, ports_go_on, room_go_on, message_go_on}
 use Rattle.xinu_laws.proofs.Ports.Signals.{HasPorts, HasMessage, HasRoom}
 use Rattle.xinu_laws.proofs.Ports.Waits.{IsCallOn, ports_wait, sender_call, receiver_call}
+use Rattle.xinu_laws.proofs.Tables.Alive.{alive_signalled}
 use Rattle.xinu_laws.proofs.Tables.Harts.{harts_same}
 use Rattle.xinu_model.specs.Sound.State.{AreHarts}
 
@@ -37,10 +38,10 @@ owned_within : (q sem : ℕ) (t : Tables) → IsSoundTables t → (semaphore_at 
 owned_within q sem t k e = semaphore_within t sem k.inside.semaphores (λ f. cc)
 
 -- A signal on a semaphore of a port, which keeps what holds of the ports.
-signal_on_ports : (q sem : ℕ) (value : ℤ) (d : CallState) → IsSoundTables d.state.tables → AreHarts d.state.harts → (semaphore_at d.state.tables sem).owner ≡ Some (owner.Port q)
+signal_on_ports : (q sem : ℕ) (value : ℤ) (d : CallState) → IsSoundTables d.state.tables → AreHarts d.state.harts → AreAlive d.state.tables d.released → (semaphore_at d.state.tables sem).owner ≡ Some (owner.Port q)
     → HasPorts (signalled sem d) → PreservesPorts (returns (signalled sem d) value)
-signal_on_ports q sem value d k harts e a = record {
-  preserved = record { tables = sound_signalled sem d k (owned_within q sem d.state.tables k e) (λ f. cc); harts = harts_same d.state.harts _ (harts_signalled sem d) harts };
+signal_on_ports q sem value d k harts alive e a = record {
+  preserved = record { tables = sound_signalled sem d k (owned_within q sem d.state.tables k e) (λ f. cc); harts = harts_same d.state.harts _ (harts_signalled sem d) harts; released = alive_signalled sem d k.inside alive };
   ports = a;
 }
 
@@ -55,9 +56,9 @@ put_on_ports (Some queue) q message s c a here r =
   where
     go : (full : Bool) → HasPorts (cond full (record { call = start s; answer = Panics }) (returns (signalled queue.receive (with_messages q queue (queue.messages ++ message ∷ []) (start s))) (pos 0))).call
         → PreservesPorts (cond full (record { call = start s; answer = Panics }) (returns (signalled queue.receive (with_messages q queue (queue.messages ++ message ∷ []) (start s))) (pos 0)))
-    go true p = record { preserved = record { tables = c.tables; harts = c.harts }; ports = a }
+    go true p = record { preserved = record { tables = c.tables; harts = c.harts; released = tt }; ports = a }
     go false p =
-        let w = signal_on_ports q queue.receive (pos 0) (with_messages q queue (queue.messages ++ message ∷ []) (start s)) c.tables c.harts (a.each q queue here).receive_owner p in
+        let w = signal_on_ports q queue.receive (pos 0) (with_messages q queue (queue.messages ++ message ∷ []) (start s)) c.tables c.harts tt (a.each q queue here).receive_owner p in
         record { preserved = w.preserved; ports = w.ports }
 
 -- A sender that has its token goes on.
@@ -75,7 +76,7 @@ take_first_on_ports : (messages : List ℕ) (queue : PortQueue) (q : ℕ) (s : X
     → HasMessage s.tables q (port_at s.parts.ports q).seq queue → PreservesPorts (take_message messages queue q s)
 take_first_on_ports [] queue q s c a here e r = refused_on_ports s c a
 take_first_on_ports (message ∷ messages) queue q s c a here e r =
-    let w = signal_on_ports q queue.send (signed message) (with_messages q queue messages (start s)) c.tables c.harts (a.each q queue here).send_owner
+    let w = signal_on_ports q queue.send (signed message) (with_messages q queue messages (start s)) c.tables c.harts tt (a.each q queue here).send_owner
     (take_first_kept (message ∷ messages) queue q s here e c.tables.inside r a) in
     record { preserved = w.preserved; ports = w.ports }
 

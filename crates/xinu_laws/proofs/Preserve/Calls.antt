@@ -6,11 +6,11 @@ use Rattle.std.proofs.lemmas.Bool.{cond_both, and_parts}
 use Rattle.xinu_base.specs.Syscalls.{is_built}
 use Rattle.xinu_model.specs.Calls.{calls, call_of_number, called, continued}
 use Rattle.xinu_model.specs.Footprints.{Footprint, on_tables, on_processes, on_pools, on_ports}
-use Rattle.xinu_model.specs.Machine.{Xinu, Answer, Returns, Waits, Gone, Panics, Silent, CallResult, refused}
+use Rattle.xinu_model.specs.Machine.{Xinu, Answer, Returns, Waits, Gone, Panics, Silent, CallResult, replies_of, refused}
 use Rattle.xinu_model.specs.Messages.{go_on_receive}
 use Rattle.xinu_model.specs.Pools.Calls.{go_on_getbuf}
 use Rattle.xinu_model.specs.Ports.Calls.{go_on_ptsend, go_on_ptrecv}
-use Rattle.xinu_laws.specs.Preserve.{FitsAnswer, IsPreserved, KeepsAll, MayCall, MayCallAny}
+use Rattle.xinu_laws.specs.Preserve.{AreAlive, FitsAnswer, IsPreserved, KeepsAll, MayCall, MayCallAny}
 use Rattle.xinu_model.specs.Process.Death.{exit}
 use Rattle.xinu_model.specs.Process.Calls.{go_on_suspend}
 use Rattle.xinu_model.specs.Rows.{CallRow, found_in, done_by}
@@ -29,12 +29,14 @@ use Rattle.xinu_laws.proofs.Preserve.Semaphores.{semcreate_preserves, semdelete_
 use Rattle.xinu_laws.proofs.Pools.Calls.{pools_getbuf, pools_go_on_getbuf, pools_freebuf}
 use Rattle.xinu_laws.proofs.Pools.Preserve.{mkbufpool_preserves, getbuf_preserves, go_on_getbuf_preserves, freebuf_preserves}
 use Rattle.xinu_laws.proofs.Pools.Made.{pools_mkbufpool}
-use Rattle.xinu_laws.proofs.Ports.Deletions.{ptdelete_keeps, ptreset_keeps}
+use Rattle.xinu_laws.proofs.Ports.Deletions.{PreservesAll, ptdelete_keeps, ptreset_keeps}
 use Rattle.xinu_laws.proofs.Ports.Made.{PreservesPorts, ptcreate_on_ports}
 use Rattle.xinu_laws.proofs.Ports.Sends.{ptsend_on_ports, ptrecv_on_ports, go_on_ptsend_on_ports, go_on_ptrecv_on_ports}
 use Rattle.xinu_laws.proofs.Lists.RowByRow.{◌⨾◌}
 use Rattle.xinu_laws.proofs.Lists.CallRows.{of_row}
-use Rattle.xinu_laws.proofs.Touches.Kept.{keeps_pools, keeps_ports}
+use Rattle.xinu_laws.proofs.Touches.Kept.{keeps_pools, keeps_ports, keeps_unused}
+use Rattle.xinu_laws.proofs.Preserve.Unused.{AreUnusedAfter, exit_unused, kill_unused, create_unused}
+use Rattle.xinu_laws.proofs.Tables.Alive.{alive_callers}
 use Rattle.xinu_laws.proofs.Touches.Messages.{go_on_receive_touches}
 use Rattle.xinu_laws.proofs.Touches.Pools.{go_on_getbuf_touches}
 use Rattle.xinu_laws.proofs.Touches.Ports.{go_on_ptsend_touches, go_on_ptrecv_touches}
@@ -43,7 +45,7 @@ use Rattle.xinu_laws.proofs.Touches.Table.{Stays, calls_touch}
 
 -- a state in which a process calls is sound
 pub sound_where_called : (s : Xinu) → MayCallAny s → IsSound s
-sound_where_called s c = record { tables = c.may.tables; harts = c.may.harts; pools = c.pools; ports = c.ports }
+sound_where_called s c = record { tables = c.may.tables; harts = c.may.harts; unused = c.unused; pools = c.pools; ports = c.ports }
 
 -- however a call is answered its tables are as at each moment
 inside_by_answer : (answer : Answer) (t : Tables) → FitsAnswer answer t → IsInside t
@@ -56,15 +58,23 @@ inside_by_answer Gone t k = k
 pub inside_preserved : (h : CallResult) → IsPreserved h → IsInside h.call.state.tables
 inside_preserved h k = inside_by_answer h.answer h.call.state.tables k.tables
 
+-- the replies of a call go to processes that are alive
+pub replies_alive : (h : CallResult) → IsPreserved h → AreAlive h.call.state.tables (replies_of h)
+replies_alive h k = alive_callers h.answer h.call.state.tables h.call.released k.tables k.released
+
 -- A call that stays within a footprint keeps all, if it keeps what holds of the tables and of the parts that the footprint names.
 pub keeps_within : (f : Footprint) (s : Xinu) (h : CallResult) → MayCallAny s → Touches (reach f) s h.call.state → IsPreserved h
     → (f.pools ≡ true → ArePools h.call.state.tables h.call.state.parts.pools)
-    → (f.ports ≡ true → ArePorts h.call.state.tables h.call.state.parts.ports) → KeepsAll h
-keeps_within f s h c t preserved pools ports = record { preserved = preserved; pools = by_pools f.pools refl; ports = by_ports f.ports refl }
+    → (f.ports ≡ true → ArePorts h.call.state.tables h.call.state.parts.ports) → (f.stacks ≡ true → AreUnusedAfter h) → KeepsAll h
+keeps_within f s h c t preserved pools ports unused = record { preserved = preserved; unused = by_stacks f.stacks refl; pools = by_pools f.pools refl; ports = by_ports f.ports refl }
   where
     by_pools : (b : Bool) → f.pools ≡ b → ArePools h.call.state.tables h.call.state.parts.pools
     by_pools true e = pools e
     by_pools false e = keeps_pools e t c.pools
+
+    by_stacks : (b : Bool) → f.stacks ≡ b → AreUnusedAfter h
+    by_stacks true e = unused e
+    by_stacks false e = keeps_unused (t.free e) c.unused
 
     by_ports : (b : Bool) → f.ports ≡ b → ArePorts h.call.state.tables h.call.state.parts.ports
     by_ports true e = ports e
@@ -77,6 +87,7 @@ pub record PreservesRow (r : CallRow) : Type 0 where
       → ArePools (r.effect a s).call.state.tables (r.effect a s).call.state.parts.pools
   pub ports : r.touches.ports ≡ true → (a : ℕ → ℕ) (s : Xinu) → MayCallAny s
       → ArePorts (r.effect a s).call.state.tables (r.effect a s).call.state.parts.ports
+  pub unused : r.touches.stacks ≡ true → (a : ℕ → ℕ) (s : Xinu) → MayCallAny s → AreUnusedAfter (r.effect a s)
 
 -- whether a footprint names neither pools nor ports
 abbrev names_no_part : Footprint → Bool
@@ -88,39 +99,50 @@ unnamed true h e = absurd (cc)
 unnamed false h e = absurd (cc)
 
 module _ {r : CallRow} where
-  -- A call that touches no pool and no port.
-  of_tables : names_no_part r.touches ≡ true → ((a : ℕ → ℕ) (s : Xinu) → MayCall s → IsPreserved (r.effect a s)) → PreservesRow r
-  of_tables e preserved =
+  -- A call that touches no pool and no port, and may make processes and end them.
+  of_processes : names_no_part r.touches ≡ true → ((a : ℕ → ℕ) (s : Xinu) → MayCall s → IsPreserved (r.effect a s))
+      → ((a : ℕ → ℕ) (s : Xinu) → MayCallAny s → r.touches.stacks ≡ true → AreUnusedAfter (r.effect a s)) → PreservesRow r
+  of_processes e preserved unused =
       let h = and_parts (not r.touches.pools) (not r.touches.ports) e in
-      record { preserved = λ a s c. preserved a s c.may; pools = unnamed r.touches.pools h.0; ports = unnamed r.touches.ports h.1 }
+      record { preserved = λ a s c. preserved a s c.may; pools = unnamed r.touches.pools h.0; ports = unnamed r.touches.ports h.1; unused = λ g a s c. unused a s c g }
+
+  -- A call that touches no pool, no port and no stack.
+  of_tables : names_no_part r.touches && not r.touches.stacks ≡ true → ((a : ℕ → ℕ) (s : Xinu) → MayCall s → IsPreserved (r.effect a s)) → PreservesRow r
+  of_tables e preserved =
+      let h = and_parts (names_no_part r.touches) (not r.touches.stacks) e in
+      of_processes h.0 preserved (λ a s c g. unnamed r.touches.stacks h.1 g)
 
   -- A call that touches pools alone.
-  of_pools : not r.touches.ports ≡ true → ((a : ℕ → ℕ) (s : Xinu) → MayCallAny s → IsPreserved (r.effect a s))
+  of_pools : not r.touches.ports && not r.touches.stacks ≡ true → ((a : ℕ → ℕ) (s : Xinu) → MayCallAny s → IsPreserved (r.effect a s))
       → ((a : ℕ → ℕ) (s : Xinu) → MayCallAny s → ArePools (r.effect a s).call.state.tables (r.effect a s).call.state.parts.pools)
       → PreservesRow r
-  of_pools e preserved pools = record { preserved = preserved; pools = λ _. pools; ports = unnamed r.touches.ports e }
+  of_pools e preserved pools =
+      let h = and_parts (not r.touches.ports) (not r.touches.stacks) e in
+      record { preserved = preserved; pools = λ _. pools; ports = unnamed r.touches.ports h.0; unused = unnamed r.touches.stacks h.1 }
 
   -- A call that touches ports alone.
-  of_ports : not r.touches.pools ≡ true → ((a : ℕ → ℕ) (s : Xinu) → MayCallAny s → PreservesPorts (r.effect a s)) → PreservesRow r
-  of_ports e k = record { preserved = λ a s c. (k a s c).preserved; pools = unnamed r.touches.pools e; ports = λ _ a s c. (k a s c).ports }
+  of_ports : not r.touches.pools && not r.touches.stacks ≡ true → ((a : ℕ → ℕ) (s : Xinu) → MayCallAny s → PreservesPorts (r.effect a s)) → PreservesRow r
+  of_ports e k =
+      let h = and_parts (not r.touches.pools) (not r.touches.stacks) e in
+      record { preserved = λ a s c. (k a s c).preserved; pools = unnamed r.touches.pools h.0; ports = λ _ a s c. (k a s c).ports; unused = unnamed r.touches.stacks h.1 }
 
-  -- A call of which all is shown together.
-  of_all : ((a : ℕ → ℕ) (s : Xinu) → MayCallAny s → KeepsAll (r.effect a s)) → PreservesRow r
-  of_all k = record { preserved = λ a s c. (k a s c).preserved; pools = λ e a s c. (k a s c).pools; ports = λ e a s c. (k a s c).ports }
+  -- A call that touches both.
+  of_all : not r.touches.stacks ≡ true → ((a : ℕ → ℕ) (s : Xinu) → MayCallAny s → PreservesAll (r.effect a s)) → PreservesRow r
+  of_all h k = record { preserved = λ a s c. (k a s c).preserved; pools = λ e a s c. (k a s c).pools; ports = λ e a s c. (k a s c).ports; unused = unnamed r.touches.stacks h }
 
 -- Each call of the table.
 pub calls_preserve : AllByRecursion PreservesRow calls
 unfolding calls
 calls_preserve =
     of_tables refl (λ a. getpid_preserves) ⨾
-    of_tables refl (λ a. create_preserves (a 0) (a 1) (half (a 2)) (a 3) (a 4) (a 5)) ⨾
+    of_processes refl (λ a. create_preserves (a 0) (a 1) (half (a 2)) (a 3) (a 4) (a 5)) (λ a s c _. create_unused (a 0) (a 1) (half (a 2)) (a 3) (a 4) (a 5) s c) ⨾
     of_tables refl (λ a. resume_preserves (a 0)) ⨾
     of_tables refl (λ a. suspend_preserves (a 0)) ⨾
-    of_tables refl (λ a. kill_preserves (a 0)) ⨾
+    of_processes refl (λ a. kill_preserves (a 0)) (λ a s c _. kill_unused (a 0) s c) ⨾
     of_tables refl (λ a. yield_preserves) ⨾
     of_tables refl (λ a. chprio_preserves (a 0) (half (a 1))) ⨾
     of_tables refl (λ a. getprio_preserves (a 0)) ⨾
-    of_tables refl (λ a. exit_preserves) ⨾
+    of_processes refl (λ a. exit_preserves) (λ a s c _. exit_unused s c) ⨾
     of_tables refl (λ a. getmem_preserves (a 0)) ⨾
     of_tables refl (λ a. freemem_preserves (a 0) (a 1)) ⨾
     of_tables refl (λ a. getstk_preserves (a 0)) ⨾
@@ -143,8 +165,8 @@ calls_preserve =
     of_pools refl (λ a s c. getbuf_preserves (a 0) s c.may c.pools) (λ a s c. pools_getbuf (a 0) s c.may.tables c.pools) ⨾
     of_pools refl (λ a s c. freebuf_preserves (a 0) s c.may c.pools) (λ a s c. pools_freebuf (a 0) s c.may.tables.inside c.pools) ⨾
     of_ports refl (λ a s c. ptcreate_on_ports (signed (a 0)) s c.may c.ports) ⨾
-    of_all (λ a s c. ptdelete_keeps (a 0) (a 1) s c.may c.pools c.ports) ⨾
-    of_all (λ a s c. ptreset_keeps (a 0) (a 1) s c.may c.pools c.ports) ⨾
+    of_all refl (λ a s c. ptdelete_keeps (a 0) (a 1) s c.may c.pools c.ports) ⨾
+    of_all refl (λ a s c. ptreset_keeps (a 0) (a 1) s c.may c.pools c.ports) ⨾
     of_ports refl (λ a s c. ptsend_on_ports (a 0) (a 1) s c.may c.ports) ⨾
     of_ports refl (λ a s c. ptrecv_on_ports (a 0) s c.may c.ports) ⨾
     tt
@@ -155,11 +177,11 @@ pub row_keeps : (number : ℕ) (r : CallRow) → found_in calls number ≡ Some 
 row_keeps number r e a s c =
     let t = of_row Stays calls calls_touch number r e in
     let k = of_row PreservesRow calls calls_preserve number r e in
-    keeps_within r.touches s (r.effect a s) c (t a s (sound_where_called s c)) (k.preserved a s c) (λ h. k.pools h a s c) (λ h. k.ports h a s c)
+    keeps_within r.touches s (r.effect a s) c (t a s (sound_where_called s c)) (k.preserved a s c) (λ h. k.pools h a s c) (λ h. k.ports h a s c) (λ h. k.unused h a s c)
 
 -- a refusal,
 pub refused_keeps_all : (s : Xinu) → MayCallAny s → KeepsAll (refused s)
-refused_keeps_all s c = record { preserved = record { tables = c.may.tables; harts = c.may.harts }; pools = c.pools; ports = c.ports }
+refused_keeps_all s c = record { preserved = record { tables = c.may.tables; harts = c.may.harts; released = tt }; unused = c.unused; pools = c.pools; ports = c.ports }
 
 -- the call of any number, whether it is built or not,
 pub call_keeps : (number : ℕ) (args : List ℕ) (s : Xinu) → MayCallAny s → KeepsAll (call_of_number number args s)
@@ -174,18 +196,18 @@ called_keeps number args s c = cond_both (is_built number) (call_of_number numbe
 
 -- the death of the caller,
 pub exit_keeps : (s : Xinu) → MayCallAny s → KeepsAll (exit s)
-exit_keeps s c = keeps_within on_processes s (exit s) c (exit_touches s (sound_where_called s c)) (exit_preserves s c.may) (λ e. absurd (cc)) (λ e. absurd (cc))
+exit_keeps s c = keeps_within on_processes s (exit s) c (exit_touches s (sound_where_called s c)) (exit_preserves s c.may) (λ e. absurd (cc)) (λ e. absurd (cc)) (λ _. exit_unused s c)
 
 -- and what is left of any call that waited.
 pub continued_keeps : (s : Xinu) → MayCallAny s → KeepsAll (continued (process_at s.tables s.tables.current).rest s)
 continued_keeps s c =
     let k = sound_where_called s c in
     continued_holds KeepsAll (process_at s.tables s.tables.current).rest s
-    (keeps_within on_tables s (go_on_receive s) c (go_on_receive_touches s k) (go_on_receive_preserves s c.may) (λ e. absurd (cc)) (λ e. absurd (cc)))
-    (keeps_within on_tables s (go_on_suspend s) c (go_on_suspend_touches s k) (go_on_suspend_preserves s c.may) (λ e. absurd (cc)) (λ e. absurd (cc)))
-    (λ i e. keeps_within on_pools s (go_on_getbuf i s) c (go_on_getbuf_touches i s k) (go_on_getbuf_preserves i s c.may) (λ _. pools_go_on_getbuf i s c.may.tables c.pools e) (λ g. absurd (cc)))
+    (keeps_within on_tables s (go_on_receive s) c (go_on_receive_touches s k) (go_on_receive_preserves s c.may) (λ e. absurd (cc)) (λ e. absurd (cc)) (λ e. absurd (cc)))
+    (keeps_within on_tables s (go_on_suspend s) c (go_on_suspend_touches s k) (go_on_suspend_preserves s c.may) (λ e. absurd (cc)) (λ e. absurd (cc)) (λ e. absurd (cc)))
+    (λ i e. keeps_within on_pools s (go_on_getbuf i s) c (go_on_getbuf_touches i s k) (go_on_getbuf_preserves i s c.may) (λ _. pools_go_on_getbuf i s c.may.tables c.pools e) (λ g. absurd (cc)) (λ g. absurd (cc)))
     (λ ticket message e. let p = go_on_ptsend_on_ports ticket message s c.may c.ports e in
-    keeps_within on_ports s (go_on_ptsend ticket message s) c (go_on_ptsend_touches ticket message s k) p.preserved (λ g. absurd (cc)) (λ _. p.ports))
+    keeps_within on_ports s (go_on_ptsend ticket message s) c (go_on_ptsend_touches ticket message s k) p.preserved (λ g. absurd (cc)) (λ _. p.ports) (λ g. absurd (cc)))
     (λ ticket e. let p = go_on_ptrecv_on_ports ticket s c.may c.ports e in
-    keeps_within on_ports s (go_on_ptrecv ticket s) c (go_on_ptrecv_touches ticket s k) p.preserved (λ g. absurd (cc)) (λ _. p.ports))
-    (record { preserved = record { tables = c.may.tables; harts = c.may.harts }; pools = c.pools; ports = c.ports })
+    keeps_within on_ports s (go_on_ptrecv ticket s) c (go_on_ptrecv_touches ticket s k) p.preserved (λ g. absurd (cc)) (λ _. p.ports) (λ g. absurd (cc)))
+    (record { preserved = record { tables = c.may.tables; harts = c.may.harts; released = tt }; unused = c.unused; pools = c.pools; ports = c.ports })

@@ -19,8 +19,8 @@ use Rattle.xinu_model.specs.Runs.{RunsTo}
 use Rattle.xinu_model.specs.Sound.State.{IsSound}
 use Rattle.xinu_model.specs.Tables.{process_at}
 use Rattle.xinu_laws.proofs.Pools.Start.{pools_start}
-use Rattle.xinu_laws.proofs.Touches.Events.{touches_end_of_event, touches_ticked}
-use Rattle.xinu_laws.proofs.Touches.Kept.{keeps_pools, keeps_ports}
+use Rattle.xinu_laws.proofs.Touches.Events.{touches_end_of_event, released_by_tick, touches_ticking, touches_ticked}
+use Rattle.xinu_laws.proofs.Touches.Kept.{keeps_pools, keeps_ports, keeps_unused}
 use Rattle.xinu_model.specs.Footprints.{on_tables}
 use Rattle.xinu_laws.specs.Touches.{reach, Touches}
 use Rattle.xinu_laws.proofs.Tables.Ends.{sound_end_of_event, harts_end_of_event, harts_ticked, executed_may_call}
@@ -28,8 +28,10 @@ use Rattle.xinu_laws.proofs.Ports.Start.{ports_start}
 use Rattle.xinu_laws.proofs.Tables.Unblock.{unblock_all_ready}
 use Rattle.xinu_laws.proofs.Preserve.Runs.{IsKept, runs_keep}
 use Rattle.xinu_laws.specs.Preserve.{MayCallAny, KeepsAll, ticking}
-use Rattle.xinu_laws.proofs.Preserve.Calls.{inside_preserved, called_keeps, exit_keeps, continued_keeps}
+use Rattle.xinu_laws.proofs.Preserve.Calls.{inside_preserved, replies_alive, called_keeps, exit_keeps, continued_keeps}
+use Rattle.xinu_laws.proofs.Preserve.Unused.{unused_start}
 use Rattle.xinu_laws.proofs.Tables.Starts.{sound_start}
+use Rattle.xinu_laws.proofs.Tables.Unused.{unused_executed}
 use Rattle.xinu_model.proofs.ZeroRegister.{zero_register_of_step}
 use Rattle.xinu_laws.proofs.Tables.Ticks.{sound_ticked}
 use Rattle.xinu_laws.proofs.Tables.Harts.{harts_same}
@@ -38,27 +40,28 @@ use Rattle.xinu_laws.proofs.Tables.Harts.{harts_same}
 pub state_end_of_event : (was : ℕ) (first : List TranscriptLine) (result : CallResult) → KeepsAll result → IsSound (end_of_event was first result).state
 state_end_of_event was first result k =
     let tables = sound_end_of_event was first result k.preserved in
-    let touches : Touches (reach on_tables) result.call.state (end_of_event was first result).state = touches_end_of_event was first result (inside_preserved result k.preserved) in
+    let touches : Touches (reach on_tables) result.call.state (end_of_event was first result).state = touches_end_of_event was first result (inside_preserved result k.preserved) (replies_alive result k.preserved) in
     record {
       tables = tables;
       harts = harts_end_of_event was first result k.preserved;
+      unused = keeps_unused (touches.free refl) k.unused;
       pools = keeps_pools refl touches k.pools;
       ports = keeps_ports refl touches tables.inside k.ports;
     }
 
 -- a process that isn't the null process may call in a sound state
 pub may_call : (s : Xinu) → IsSound s → s.tables.current ≢ 0 → MayCallAny s
-may_call s k n = record { may = record { tables = k.tables; harts = k.harts; not_null = n }; pools = k.pools; ports = k.ports }
+may_call s k n = record { may = record { tables = k.tables; harts = k.harts; not_null = n }; unused = k.unused; pools = k.pools; ports = k.ports }
 
 -- and after an instruction of it
 pub may_call_after : (s : Xinu) → MayCallAny s → MayCallAny (with_executed (exec (current_hart s) s.memory) s)
 may_call_after s c =
     let zero = (zero_register_of_step (current_hart s) s.memory).zero (c.may.harts.zero s.tables.current) in
-    record { may = executed_may_call (exec (current_hart s) s.memory) s zero c.may; pools = c.pools; ports = c.ports }
+    record { may = executed_may_call (exec (current_hart s) s.memory) s zero c.may; unused = unused_executed s.tables s.harts (exec (current_hart s) s.memory).hart c.may.tables c.unused; pools = c.pools; ports = c.ports }
 
 -- What comes of an instruction keeps the state sound.
 state_reacted : (o : Outcome) (s : Xinu) → MayCallAny s → IsSound (reacted o s).state
-state_reacted outcome.Went s c = record { tables = c.may.tables; harts = c.may.harts; pools = c.pools; ports = c.ports }
+state_reacted outcome.Went s c = record { tables = c.may.tables; harts = c.may.harts; unused = c.unused; pools = c.pools; ports = c.ports }
 state_reacted outcome.Call s c =
     let call = call_of (current_hart s) in
     state_end_of_event s.tables.current (call_line s call ∷ []) (called call.number call.args s) (called_keeps call.number call.args s c)
@@ -86,6 +89,7 @@ state_ticked s k =
     record {
       tables = tables;
       harts = harts_ticked s k.harts;
+      unused = keeps_unused (touches.free refl) k.unused;
       pools = keeps_pools refl touches k.pools;
       ports = keeps_ports refl touches tables.inside k.ports;
     }
@@ -94,8 +98,10 @@ state_ticked s k =
 pub ticking_keeps : (s : Xinu) → IsSound s → KeepsAll (ticking s)
 ticking_keeps s k =
     let t = state_ticked s k in
+    let touches : Touches (reach on_tables) s (ticking s).call.state = touches_ticking s k.tables in
     record {
-      preserved = record { tables = t.tables; harts = harts_same s.harts _ (ap (λ (x : Xinu). x.harts) (unblock_all_ready (due (s.tables.ticks + 1) s.tables.sleepers) (start s))) k.harts };
+      preserved = record { tables = t.tables; harts = harts_same s.harts _ (ap (λ (x : Xinu). x.harts) (unblock_all_ready (due (s.tables.ticks + 1) s.tables.sleepers) (start s))) k.harts; released = released_by_tick s k.tables };
+      unused = keeps_unused (touches.free refl) k.unused;
       pools = t.pools;
       ports = t.ports;
     }
@@ -118,4 +124,4 @@ sound_run = runs_keep IsSound sound_happens
 pub sound_boot : (images : List Loaded) (start : Xinu) → length images < 64 → boot images ≡ Boots start → IsSound start
 sound_boot images start few e =
     let tables = sound_start images start few e in
-    record { tables = tables.tables; harts = tables.harts; pools = pools_start images start e; ports = ports_start images start e }
+    record { tables = tables.tables; harts = tables.harts; unused = unused_start images start few e; pools = pools_start images start e; ports = ports_start images start e }

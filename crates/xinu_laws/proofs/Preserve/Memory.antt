@@ -8,17 +8,17 @@ use Rattle.xinu_laws.proofs.Preserve.{Preserves, refused_preserves}
 -- what was granted
 granted_preserves : (found : Option Grant) → Preserves (granted found)
 granted_preserves None = refused_preserves
-granted_preserves (Some grant) = λ s c. record { tables = c.tables; harts = c.harts }
+granted_preserves (Some grant) = λ s c. record { tables = c.tables; harts = c.harts; released = tt }
 
 -- the stack that was found
 stacked_preserves : (found : Option Stack) → Preserves (stacked found)
 stacked_preserves None = refused_preserves
-stacked_preserves (Some stack) = λ s c. record { tables = c.tables; harts = c.harts }
+stacked_preserves (Some stack) = λ s c. record { tables = c.tables; harts = c.harts; released = tt }
 
 -- what was given back
 given_back_preserves : (found : Option Heap) → Preserves (given_back found)
 given_back_preserves None = refused_preserves
-given_back_preserves (Some free) = λ s c. record { tables = c.tables; harts = c.harts }
+given_back_preserves (Some free) = λ s c. record { tables = c.tables; harts = c.harts; released = tt }
 
 -- Call 10.
 pub getmem_preserves : (n : ℕ) → Preserves (getmem n)

@@ -1,15 +1,15 @@
 -- The calls on messages and the clock keep what holds of the tables.
-use Rattle.std.proofs.Common.{◌≡◌, ℕ, zero, suc, ◌+◌, ◌*◌, ◌/◌, ◌<◌, refl, sym, ap, arith, Option, Some, None, ℤ, pos, negsuc}
+use Rattle.std.proofs.Common.{◌≡◌, ℕ, zero, suc, ◌+◌, ◌*◌, ◌/◌, ◌<◌, refl, sym, ap, subst, arith, Option, Some, None, ℤ, pos, negsuc}
 use Rattle.std.specs.Prelude.{max, nat_lt}
 use Rattle.xinu_base.specs.declared.processes.Rest.TheVariants as rest
 use Rattle.xinu_base.specs.declared.processes.State.TheVariants.{Receiving, Sleeping, Timed}
 use Rattle.xinu_model.specs.Clock.{yield, sleepms, sleep, clktime}
 use Rattle.xinu_model.specs.Machine.{Xinu, CallResult, start, goes_on}
 use Rattle.xinu_base.specs.Constants.{TIMEOUT}
-use Rattle.xinu_model.specs.Messages.{can_get, received, held, send, receive, recvclr, recvtime, go_on_receive}
+use Rattle.xinu_model.specs.Messages.{can_get, delivered, received, held, send, receive, recvclr, recvtime, go_on_receive}
 use Rattle.xinu_model.specs.Tables.{Nowhere, InSleepers}
 use Rattle.xinu_laws.proofs.Tables.Deaths.{can_get_alive, sound_delivered, delivered_changes}
-use Rattle.xinu_laws.specs.Preserve.{IsPreserved, MayCall}
+use Rattle.xinu_laws.specs.Preserve.{AreAlive, IsPreserved, MayCall}
 use Rattle.xinu_laws.proofs.Preserve.{Preserves, refused_preserves, answers_preserves, either_preserves, blocked_preserves, goes_on_may_call}
 use Rattle.xinu_laws.proofs.Tables.Harts.{harts_same}
 
@@ -19,13 +19,14 @@ send_preserves p message s c = either_preserves (can_get p s.tables) _ _
     (λ b. record {
       tables = sound_delivered p message (start s) c.tables (can_get_alive s.tables p b);
       harts = harts_same s.harts _ (ap (λ (x : Xinu). x.harts) (delivered_changes p message (start s)).state) c.harts;
+      released = subst (AreAlive (delivered p message (start s)).state.tables) (sym (delivered_changes p message (start s)).released) tt;
     })
     (λ _. refused_preserves s c)
 
 -- the caller's message is taken, or it goes another way that is fine if it holds none
 received_preserves : (message : Option ℕ) (otherwise : CallResult) (s : Xinu) → message ≡ held s → MayCall s → (held s ≡ None → IsPreserved otherwise) → IsPreserved (received message otherwise s)
 received_preserves None otherwise s e c f = f (sym e)
-received_preserves (Some message) otherwise s e c f = let k = goes_on_may_call None s c in record { tables = k.tables; harts = k.harts }
+received_preserves (Some message) otherwise s e c f = let k = goes_on_may_call None s c in record { tables = k.tables; harts = k.harts; released = tt }
 
 -- Call 22.
 pub receive_preserves : Preserves receive
@@ -51,7 +52,7 @@ go_on_receive_preserves s c = received_preserves (held s) _ s refl c (λ _. answ
 
 -- Call 6.
 pub yield_preserves : Preserves yield
-yield_preserves s c = record { tables = c.tables; harts = c.harts }
+yield_preserves s c = record { tables = c.tables; harts = c.harts; released = tt }
 
 -- Call 26.
 pub sleepms_preserves : (ticks : ℤ) → Preserves (sleepms ticks)

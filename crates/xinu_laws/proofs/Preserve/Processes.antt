@@ -18,7 +18,7 @@ use Rattle.xinu_model.specs.Process.Death.{exit}
 use Rattle.xinu_model.specs.Sound.Tables.{CanRun, HoldsFor, FitsMessage, IsInside, IsSoundTables}
 use Rattle.xinu_model.specs.Tables.{Tables, process_at, state_at, message_at, is_free, move_to, Nowhere, InReady}
 use Rattle.xinu_laws.proofs.Tables.Changes.{sound_process}
-use Rattle.xinu_laws.proofs.Tables.Deaths.{free_of, not_free, inside_killed, sound_killed, harts_killed}
+use Rattle.xinu_laws.proofs.Tables.Deaths.{free_of, not_free, inside_killed, sound_killed, harts_killed, nobody_answered}
 use Rattle.xinu_laws.specs.Preserve.{IsPreserved, MayCall}
 use Rattle.xinu_laws.proofs.Preserve.{Preserves, current_within, refused_preserves, answers_preserves, either_preserves, blocked_preserves, goes_on_may_call}
 use Rattle.xinu_laws.proofs.Tables.Scheduling.{holds_at, null_rest_at, inside_last_process, sound_move, sound_ready, idle_differs}
@@ -88,6 +88,7 @@ created_preserves : (number : Option ℕ) (stack : Option Stack) (entry size : �
 created_preserves (Some p) (Some stack) entry size priority name x y s e c = record {
   tables = sound_made_process s.tables p (new_process name priority s.tables.current stack.top size) c.tables (free_process_within s.tables p e) (free_process_free s.tables p e) refl refl;
   harts = harts_set s.harts p (new_hart entry stack.top x y) refl c.harts;
+  released = tt;
 }
 created_preserves (Some p) None entry size priority name x y s e c = refused_preserves s c
 created_preserves None stack entry size priority name x y s e c = refused_preserves s c
@@ -104,6 +105,7 @@ resume_preserves p s c = either_preserves (is_suspended (state_at s.tables p)) _
     record {
       tables = sound_ready s.tables p c.tables (record { alive = λ f. cc; idle = λ f. cc; holds = holds_at s.tables p c.tables.inside (λ f. cc) });
       harts = c.harts;
+      released = tt;
     })
     (λ _. refused_preserves s c)
 
@@ -125,7 +127,7 @@ sound_suspended t p k n e =
 pub suspend_preserves : (p : ℕ) → Preserves (suspend p)
 suspend_preserves p s c = either_preserves (p == 0) _ _ (λ _. refused_preserves s c)
     (λ n. either_preserves (is_ready (state_at s.tables p)) _ _
-    (λ b. record { tables = sound_suspended s.tables p c.tables (eqb-false p 0 n) (is_ready_of (state_at s.tables p) b); harts = c.harts })
+    (λ b. record { tables = sound_suspended s.tables p c.tables (eqb-false p 0 n) (is_ready_of (state_at s.tables p) b); harts = c.harts; released = tt })
     (λ _. either_preserves (p == s.tables.current) _ _
     (λ _. blocked_preserves Suspended SelfSuspend Nowhere s c (λ e. cc) (refl, refl, refl) tt tt)
     (λ _. refused_preserves s c)))
@@ -135,6 +137,7 @@ pub exit_preserves : Preserves exit
 exit_preserves s c = record {
   tables = inside_killed s.tables.current (start s) c.tables.inside (current_within s.tables c.tables) c.not_null;
   harts = harts_killed s.tables.current (start s) c.harts;
+  released = nobody_answered s.tables.current s;
 }
 
 -- Call 5.
@@ -145,6 +148,7 @@ kill_preserves p s c = either_preserves ((p == 0) || is_free (state_at s.tables 
     (λ other. record {
       tables = sound_killed p (start s) c.tables (within_table s.tables p c.tables.inside.processes (not_free (state_at s.tables p) parts.1)) (eqb-false p 0 parts.0) (eqb-false p s.tables.current other);
       harts = harts_killed p (start s) c.harts;
+      released = nobody_answered p s;
     }))
 
 -- A ready process enters the ready list again by another priority.
@@ -177,7 +181,7 @@ sound_with_priority t p priority k alive =
 -- Call 7.
 pub chprio_preserves : (p : ℕ) (priority : ℤ) → Preserves (chprio p priority)
 chprio_preserves p priority s c = either_preserves (is_free (state_at s.tables p)) _ _ (λ _. refused_preserves s c)
-    (λ b. record { tables = sound_with_priority s.tables p priority c.tables (not_free (state_at s.tables p) b); harts = c.harts })
+    (λ b. record { tables = sound_with_priority s.tables p priority c.tables (not_free (state_at s.tables p) b); harts = c.harts; released = tt })
 
 -- Call 8.
 pub getprio_preserves : (p : ℕ) → Preserves (getprio p)

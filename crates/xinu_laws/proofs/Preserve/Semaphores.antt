@@ -2,7 +2,7 @@
 use Rattle.std.proofs.Common.{◌≡◌, ◌≢◌, ℕ, ◌+◌, ◌<◌, ◌≤◌, true, ◌&&◌, List, [], ◌∷◌, take, refl, sym, ap, subst, ◌∙◌, inr, Option, Some, None, ℤ, pos, negsuc}
 use Rattle.std.specs.Prelude.{int_lt, ◌+ℤ◌, is_some, not}
 use Rattle.std.proofs.lemmas.Bool.{and_parts}
-use Rattle.xinu_base.specs.Constants.{SYSERR}
+use Rattle.xinu_base.specs.Constants.{OK, SYSERR}
 use Rattle.xinu_base.specs.declared.processes.Rest.TheVariants.{Nothing}
 use Rattle.xinu_base.specs.declared.semaphores.Owner.{Owner}
 use Rattle.xinu_base.specs.declared.semaphores.Owner.TheVariants.{Image, Pool, Port, Device}
@@ -19,6 +19,7 @@ use Rattle.xinu_laws.proofs.Tables.MoveTo.{semaphore_within}
 use Rattle.xinu_laws.proofs.Tables.Unblock.{unblock_all_ready, emptied_alike, owner_emptied, sound_emptied, emptied_has_no_waiters, sound_signalled, sound_signalled_times}
 use Rattle.xinu_laws.proofs.Lists.Searches.{search_passes, search_within}
 use Rattle.xinu_laws.proofs.Tables.Harts.{harts_same}
+use Rattle.xinu_laws.proofs.Tables.Alive.{alive_signalled, alive_signalled_times, alive_emptied}
 
 -- whose semaphore a process may name
 images_of : (by : Option Owner) → is_images by ≡ true → by ≡ Some Image
@@ -56,7 +57,7 @@ sound_found_semaphore t sem tokens by k e n =
 -- a semaphore that is made if one was found
 made_semaphore_preserves : (n : ℕ) (found : Option ℕ) (x : Xinu) → free_semaphore x.tables ≡ found → MayCall x → IsPreserved (made_semaphore n found x)
 made_semaphore_preserves n None x e c = refused_preserves x c
-made_semaphore_preserves n (Some s) x e c = record { tables = sound_found_semaphore x.tables s n Image c.tables e (λ f. cc); harts = c.harts }
+made_semaphore_preserves n (Some s) x e c = record { tables = sound_found_semaphore x.tables s n Image c.tables e (λ f. cc); harts = c.harts; released = tt }
 
 -- Call 14.
 pub semcreate_preserves : (count : ℤ) → Preserves (semcreate count)
@@ -77,6 +78,7 @@ semdelete_preserves sem x c = either_preserves (is_good sem x.tables) _ _
       tables = subst (λ (u : Xinu). IsSoundTables (with_semaphore sem no_semaphore u.tables)) (sym same)
           (sound_given_up d.state.tables sem (sound_emptied sem (start x) c.tables) g.within g.no_device (emptied_has_no_waiters sem (start x)));
       harts = harts_same x.harts _ (ap (λ (u : Xinu). u.harts) same ∙ harts_emptied sem (start x)) c.harts;
+      released = alive_emptied SYSERR sem (start x) c.tables.inside tt;
     })
     (λ _. refused_preserves x c)
 
@@ -89,6 +91,7 @@ semreset_preserves sem (pos n) = λ x c. either_preserves (is_good sem x.tables)
     record {
       tables = sound_tokens d.state.tables sem n (sound_emptied sem (start x) c.tables) g.within (λ f. let o = owner_emptied sem sem (start x) in let e = g.owner in cc) (inr (emptied_has_no_waiters sem (start x)));
       harts = harts_same x.harts _ (harts_emptied sem (start x)) c.harts;
+      released = alive_emptied OK sem (start x) c.tables.inside tt;
     })
     (λ _. refused_preserves x c)
 
@@ -117,7 +120,7 @@ signal_preserves sem x c =
     let less = int_lt (count_of (semaphore_at x.tables sem)) most_tokens in
     either_preserves (is_good sem x.tables && less) _ _
     (λ b. let g = good_semaphore x.tables sem c.tables.inside (and_parts (is_good sem x.tables) less b).0 in
-    record { tables = sound_signalled sem (start x) c.tables g.within (λ f. let e = g.owner in cc); harts = harts_same x.harts _ (harts_signalled sem (start x)) c.harts })
+    record { tables = sound_signalled sem (start x) c.tables g.within (λ f. let e = g.owner in cc); harts = harts_same x.harts _ (harts_signalled sem (start x)) c.harts; released = alive_signalled sem (start x) c.tables.inside tt })
     (λ _. refused_preserves x c)
 
 -- Call 20.
@@ -130,5 +133,6 @@ signaln_preserves sem (pos n) = λ x c.
     record {
       tables = sound_signalled_times sem n (start x) c.tables g.within (λ f. let e = g.owner in cc);
       harts = harts_same x.harts _ (ap (λ (y : Xinu). y.harts) (unblock_all_ready (take n (semaphore_at x.tables sem).waiters) (start x))) c.harts;
+      released = alive_signalled_times sem n (start x) c.tables.inside tt;
     })
     (λ _. refused_preserves x c)

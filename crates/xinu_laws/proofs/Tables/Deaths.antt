@@ -1,5 +1,5 @@
 -- A message that is sent and the death of a process keep what holds of the tables.
-use Rattle.std.proofs.Common.{◌≡◌, ◌≢◌, ℕ, ◌<◌, true, false, refl, ap, ◌∙◌, Option, Some, None, rules}
+use Rattle.std.proofs.Common.{◌≡◌, ◌≢◌, ℕ, ◌<◌, true, false, refl, sym, ap, subst, ◌∙◌, Option, Some, None, rules}
 use Rattle.std.specs.Prelude.{slice_set, not, is_some}
 use Rattle.std.proofs.lemmas.Bool.{cond_both, and_parts, not-true}
 use Rattle.xinu_base.specs.declared.processes.Rest.{Rest}
@@ -7,7 +7,8 @@ use Rattle.xinu_base.specs.declared.processes.Rest.TheVariants as rest
 use Rattle.xinu_base.specs.declared.processes.State.{State}
 use Rattle.xinu_base.specs.declared.processes.State.TheVariants.{Free, Current, Ready, Receiving, Sleeping, Suspended, Waiting, Timed}
 use Rattle.xinu_laws.specs.Moves.{CanMove}
-use Rattle.xinu_model.specs.Machine.{Xinu, no_hart, CallState, with_tables}
+use Rattle.xinu_laws.specs.Preserve.{AreAlive}
+use Rattle.xinu_model.specs.Machine.{Xinu, no_hart, CallState, start, with_tables}
 use Rattle.xinu_model.specs.Messages.{listens, can_get, delivered, sent}
 use Rattle.xinu_model.specs.Process.Scheduling.{in_state}
 use Rattle.xinu_model.specs.Process.Death.{killed}
@@ -99,19 +100,20 @@ pub sound_sent : (p message : ℕ) (d : CallState) → IsSoundTables d.state.tab
 sound_sent p message d k =
     cond_both (can_get p d.state.tables) (delivered p message d) d (λ e. IsSoundTables e.state.tables) (λ b. sound_delivered p message d k (can_get_alive d.state.tables p b)) (λ _. k)
 
--- a delivery changes the tables alone, and not who is current
+-- a delivery changes the tables alone, not who is current, and answers nobody
 pub record ChangesTables (d e : CallState) : Type 0 where
   pub state : e.state ≡ record d.state { tables = e.state.tables }
   pub current : e.state.tables.current ≡ d.state.tables.current
+  pub released : e.released ≡ d.released
 
 -- A message changes the tables alone.
 pub delivered_changes : (p message : ℕ) (d : CallState) → ChangesTables d (delivered p message d)
-delivered_changes p message d = by_delivery p message d (ChangesTables d) (λ _. record { state = refl; current = refl }) (λ _. record { state = refl; current = refl })
+delivered_changes p message d = by_delivery p message d (ChangesTables d) (λ _. record { state = refl; current = refl; released = refl }) (λ _. record { state = refl; current = refl; released = refl })
 
 -- and so does one that is sent or refused
 pub sent_changes : (p message : ℕ) (d : CallState) → ChangesTables d (sent p message d)
 sent_changes p message d =
-    cond_both (can_get p d.state.tables) (delivered p message d) d (ChangesTables d) (λ _. delivered_changes p message d) (λ _. record { state = refl; current = refl })
+    cond_both (can_get p d.state.tables) (delivered p message d) d (ChangesTables d) (λ _. delivered_changes p message d) (λ _. record { state = refl; current = refl; released = refl })
 
 -- a process that isn't the null process can be taken out
 pub can_move_free : (t : Tables) (p : ℕ) → p < 64 → p ≢ 0 → CanMove t p no_process None Nowhere
@@ -135,3 +137,7 @@ pub harts_killed : (p : ℕ) (d : CallState) → AreHarts d.state.harts → AreH
 harts_killed p d a =
     let parent = (process_at d.state.tables p).parent in
     harts_set (sent parent p d).state.harts p no_hart refl (harts_same d.state.harts _ (ap (λ (s : Xinu). s.harts) (sent_changes parent p d).state) a)
+
+-- A death answers nobody.
+pub nobody_answered : (p : ℕ) (s : Xinu) → AreAlive (killed p (start s)).state.tables (killed p (start s)).released
+nobody_answered p s = subst (AreAlive (killed p (start s)).state.tables) (sym (sent_changes (process_at s.tables p).parent p (start s)).released) tt

@@ -9,7 +9,7 @@ use Rattle.xinu_base.specs.declared.semaphores.Owner.TheVariants.{Device}
 use Rattle.xinu_laws.specs.Moves.{CanBeReady, CanMove}
 use Rattle.xinu_model.specs.Boot.{Loaded, first_overlap, device_semaphore, first_semaphores, null_tables, loaded_machine, image_process, with_image, all_ready, Start, Boots, Overlaps, NoRoom, and_then, where_stack, all_made, all_started, unless_overlap, boot}
 use Rattle.xinu_model.specs.Heap.Cells.{Stack, take_stack}
-use Rattle.xinu_model.specs.Machine.{Xinu}
+use Rattle.xinu_model.specs.Machine.{Xinu, no_hart}
 use Rattle.xinu_model.specs.Process.Scheduling.{in_state, ready}
 use Rattle.xinu_model.specs.Process.Creation.{stack_size, new_hart}
 use Rattle.xinu_model.specs.Sound.Tables.{count_in, waits_of, ready_places, waiting_places, sleeping_places, HasOneKind, FitsOwner, FitsMessage, IsInside, IsFixed, IsUnused, IsSoundTables}
@@ -17,7 +17,8 @@ use Rattle.xinu_model.specs.Tables.{no_process, Semaphore, no_semaphore, Tables,
 use Rattle.xinu_laws.proofs.Tables.Scheduling.{holds_at, inside_last_process, sound_move, sound_ready, sound_resched}
 use Rattle.xinu_laws.proofs.Tables.MoveTo.{by_number, state_move_same, state_move_other}
 use Rattle.xinu_laws.proofs.Tables.Harts.{harts_set, harts_of_none}
-use Rattle.xinu_model.specs.Sound.State.{AreHarts}
+use Rattle.xinu_laws.proofs.Tables.Unused.{unused_made}
+use Rattle.xinu_model.specs.Sound.State.{AreHarts, AreUnused}
 
 -- in a table of one thing each place holds it
 pub same_everywhere : {A : Type 0} (n p : ℕ) (x : A) → get_or (replicate n x) p x ≡ x
@@ -118,11 +119,12 @@ pub record AreMade (i : ℕ) (s : Xinu) : Type 0 where
   pub tables : IsSoundTables s.tables
   pub current : s.tables.current ≡ 0
   pub harts : AreHarts s.harts
+  pub unused : AreUnused s.tables s.harts
   pub suspended : (j : ℕ) → 0 < j → j < i → state_at s.tables j ≡ Suspended
 
 -- none is at first
-none_made : (images : List Loaded) → AreMade 1 (loaded_machine images)
-none_made images = record { tables = record { inside = inside_null; runs = refl }; current = refl; harts = record { many = refl; zero = λ p. harts_of_none p 64 }; suspended = λ j z h. absurd (omega arith) }
+pub none_made : (images : List Loaded) → AreMade 1 (loaded_machine images)
+none_made images = record { tables = record { inside = inside_null; runs = refl }; current = refl; harts = record { many = refl; zero = λ p. harts_of_none p 64 }; unused = λ p h. same_everywhere 64 p no_hart; suspended = λ j z h. absurd (omega arith) }
 
 -- the process of the next image is made
 next_made : (i : ℕ) (image : Loaded) (stack : Stack) (s : Xinu) → AreMade i s → 0 < i → i < 64 → AreMade (i + 1) (with_image i image stack s)
@@ -136,6 +138,7 @@ next_made i image stack s m z w =
       tables = record { inside = inside_last_process (move_to i x None Nowhere t) i k.inside; runs = k.runs };
       current = e;
       harts = harts_set s.harts i (new_hart image.entry stack.top 0 0) refl m.harts;
+      unused = unused_made t s.harts i x (new_hart image.entry stack.top 0 0) m.tables.inside.processes w refl m.unused;
       suspended = λ j zero_less h. by_number j i (λ r. r ≡ j → state_at (move_to i x None Nowhere t) r ≡ Suspended)
           (λ _. state_move_same t i x None Nowhere m.tables.inside.processes w)
           (λ n _. state_move_other t j i x None Nowhere n ∙ m.suspended j zero_less (omega arith)) refl;

@@ -29,7 +29,7 @@ module _ {f : Reach} where
   touches_all_ready (image ∷ images) i s may =
       let t = s.tables in
       let u = record s { tables = ready i t } in
-      let first : Touches f s u = touches_moved s i Ready (message_at t i) InReady tt refl (may i) in
+      let first : Touches f s u = touches_moved s i Ready (message_at t i) InReady tt refl refl (may i) in
       touches_trans first (touches_all_ready images (i + 1) u (λ p. may_ready_framed s u p first (may p)))
 
   -- The processes of the images become ready.
@@ -73,6 +73,7 @@ module _ {f : Reach} (g : HasStart f) where
       record {
         frame = frame_trans t u (record u { last_process = i }) (frame_move t i x None Nowhere tt (λ h. absurd (both_ways (f.asks Nothing) g.nothing h)) refl) (frame_same u (record u { last_process = i }) refl refl);
         stacks = named g.stacks;
+        free = named g.stacks;
         parts = parts_heap g.heap s.parts stack.heap (extent_marked found.taken);
       }
 

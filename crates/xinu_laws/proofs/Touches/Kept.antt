@@ -1,5 +1,5 @@
 -- What a step keeps of the parts that its footprint doesn't name.
-use Rattle.std.proofs.Common.{◌≡◌, ℕ, true, false, not, Option, Some, sym, ap, subst}
+use Rattle.std.proofs.Common.{◌≡◌, ℕ, true, false, not, Option, Some, sym, ap, subst, ◌∙◌}
 use Rattle.std.proofs.lemmas.Bool.{false≢true}
 use Rattle.xinu_base.specs.declared.processes.Rest.{Rest}
 use Rattle.xinu_base.specs.declared.processes.Rest.TheVariants.{GetBuf, PtSend, PtRecv}
@@ -10,7 +10,8 @@ use Rattle.xinu_model.specs.Machine.{Xinu}
 use Rattle.xinu_model.specs.Sound.Tables.{IsInside}
 use Rattle.xinu_model.specs.Sound.Pools.{ArePools}
 use Rattle.xinu_model.specs.Sound.Ports.{ArePorts}
-use Rattle.xinu_laws.specs.Touches.{Reach, reach, spares, spares_rest, KeepsPlaces, Touches}
+use Rattle.xinu_model.specs.Sound.State.{AreUnused}
+use Rattle.xinu_laws.specs.Touches.{Reach, reach, spares, spares_rest, KeepsFree, KeepsPlaces, Touches}
 use Rattle.xinu_laws.proofs.Frame.{frame_weaker}
 use Rattle.xinu_laws.proofs.Pools.Frame.{is_pools, asks_buffer, are_pools_framed}
 use Rattle.xinu_laws.proofs.Ports.Kept.{is_ports, asks_port, ports_framed}
@@ -46,6 +47,10 @@ module _ {f : Footprint} {s u : Xinu} where
       → ArePorts u.tables u.parts.ports
   keeps_ports e t o k = subst (ArePorts u.tables) (sym (t.parts.ports e).0)
       (ports_framed s.tables u.tables s.parts.ports o (frame_weaker s.tables u.tables (ports_spared f e) (messages_spared f e) t.frame) k)
+
+-- If nobody dies free numbers keep their registers.
+pub keeps_unused : {s u : Xinu} → KeepsFree s u → AreUnused s.tables s.harts → AreUnused u.tables u.harts
+keeps_unused k a p h = k.harts p h ∙ a p (k.was p h)
 
 -- A step that may change neither the heap nor stacks nor where pools lie keeps the places of all.
 pub keeps_places : {f : Reach} {s u : Xinu} → Touches f s u → f.parts.heap ≡ false → f.parts.stacks ≡ false → f.parts.ranges ≡ false

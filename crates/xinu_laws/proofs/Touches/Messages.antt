@@ -24,7 +24,7 @@ send_touches p message s i = touches_if s (can_get p s.tables) _ (λ _. touches_
 
 -- Call 22.
 pub receive_touches : StaysIn on_tables receive
-receive_touches s i = received_touches (held s) (blocked Receiving rest.Receive Nowhere s) s (touches_blocked Receiving rest.Receive Nowhere s tt refl)
+receive_touches s i = received_touches (held s) (blocked Receiving rest.Receive Nowhere s) s (touches_blocked Receiving rest.Receive Nowhere s tt refl refl)
 
 -- Call 23.
 pub recvclr_touches : StaysIn on_tables recvclr
@@ -34,7 +34,7 @@ recvclr_touches s i = received_touches (held s) (returns (start s) (pos 0)) s (t
 pub recvtime_touches : (ticks : ℤ) → StaysIn on_tables (recvtime ticks)
 recvtime_touches (negsuc n) s i = touches_refl s
 recvtime_touches (pos n) s i =
-    let place = InSleepers (s.tables.ticks + max 1 n) in received_touches (held s) (blocked Timed rest.Timed place s) s (touches_blocked Timed rest.Timed place s tt refl)
+    let place = InSleepers (s.tables.ticks + max 1 n) in received_touches (held s) (blocked Timed rest.Timed place s) s (touches_blocked Timed rest.Timed place s tt refl refl)
 
 -- The calls 22 and 24 go on.
 pub go_on_receive_touches : StaysIn on_tables go_on_receive

@@ -16,13 +16,14 @@ use Rattle.xinu_model.specs.Semaphores.Counts.{with_semaphore, with_tokens, make
 use Rattle.xinu_model.specs.Semaphores.Waiting.{signal_first, signalled, signalled_times, emptied, take_token}
 use Rattle.xinu_model.specs.Sound.Tables.{count_in, FitsOwner, IsInside}
 use Rattle.xinu_model.specs.Sound.Pools.{is_waiting}
-use Rattle.xinu_model.specs.Tables.{Semaphore, Tables, process_at, state_at, message_at, semaphore_at, Place, Nowhere, InReady, InSemaphore, move_to, no_process}
+use Rattle.xinu_model.specs.Tables.{Semaphore, Tables, process_at, state_at, message_at, semaphore_at, is_free, Place, Nowhere, InReady, InSemaphore, move_to, no_process}
 use Rattle.xinu_laws.specs.Touches.{Reach, stack_of, Touches}
 use Rattle.xinu_laws.proofs.Lists.Maps.{map_set_same}
 use Rattle.xinu_laws.proofs.Lists.Counts.{times-append, first_is_counted, count_behind}
 use Rattle.xinu_laws.proofs.Frame.{frame_same}
 use Rattle.xinu_laws.proofs.Frame.MoveTo.{IsFramePlace, IsFrameChange, frame_move}
 use Rattle.xinu_laws.proofs.Frame.Semaphores.{others_framed, frame_semaphore, frame_make_semaphore}
+use Rattle.xinu_laws.proofs.Tables.Alive.{was_free}
 use Rattle.xinu_laws.proofs.Touches.{touches_tables, touches_refl, touches_trans}
 
 -- Process p can become ready: if it is in a call that is left alone, it doesn't wait.
@@ -71,26 +72,28 @@ module _ {f : Reach} where
   -- A process moves with its stack.
   pub touches_move : (s : Xinu) (q : ℕ) (x : Process) (m : Option ℕ) (place : Place) → IsFramePlace f.mine s.tables place
       → IsFrameChange f.asks (process_at s.tables q) x
-      → waits_in f.asks x ≡ false → stack_of x ≡ stack_of (process_at s.tables q) → Touches f s (record s { tables = move_to q x m place s.tables })
-  touches_move s q x m place p c idle stack =
-      let t = s.tables in touches_tables s (move_to q x m place t) (frame_move t q x m place p c idle) (map_set_same stack_of t.processes q x no_process stack)
+      → waits_in f.asks x ≡ false → stack_of x ≡ stack_of (process_at s.tables q)
+      → (is_free x.state ≡ true → is_free (state_at s.tables q) ≡ true) → Touches f s (record s { tables = move_to q x m place s.tables })
+  touches_move s q x m place p c idle stack old =
+      let t = s.tables in touches_tables s (move_to q x m place t) (frame_move t q x m place p c idle) (map_set_same stack_of t.processes q x no_process stack) (was_free t.processes q x old)
 
   -- A process goes to another state, in which it doesn't wait.
   pub touches_moved : (s : Xinu) (q : ℕ) (state : State) (m : Option ℕ) (place : Place) → IsFramePlace f.mine s.tables place
-      → is_waiting state ≡ false → MayReady f.asks s.tables q
+      → is_waiting state ≡ false → is_free state ≡ false → MayReady f.asks s.tables q
       → Touches f s (record s { tables = move_to q (in_state state (process_at s.tables q)) m place s.tables })
-  touches_moved s q state m place p e w =
-      let x = process_at s.tables q in touches_move s q (in_state state x) m place p (λ h. (refl, e ∙ sym (w.idle h))) (ap (λ b. b && f.asks x.rest) e) refl
+  touches_moved s q state m place p e alive w =
+      let x = process_at s.tables q in touches_move s q (in_state state x) m place p (λ h. (refl, e ∙ sym (w.idle h))) (ap (λ b. b && f.asks x.rest) e) refl (λ h. absurd (both_ways (is_free state) alive h))
 
   -- A process goes anywhere, in a call that isn't left alone.
   pub touches_unasked : (s : Xinu) (q : ℕ) (x : Process) (m : Option ℕ) (place : Place) → IsFramePlace f.mine s.tables place
       → f.asks x.rest ≡ false
-      → stack_of x ≡ stack_of (process_at s.tables q) → Touches f s (record s { tables = move_to q x m place s.tables })
+      → stack_of x ≡ stack_of (process_at s.tables q) → (is_free x.state ≡ true → is_free (state_at s.tables q) ≡ true)
+      → Touches f s (record s { tables = move_to q x m place s.tables })
   touches_unasked s q x m place p e = touches_move s q x m place p (λ h. absurd (both_ways (f.asks x.rest) e h)) (unasked (is_waiting x.state) (f.asks x.rest) e)
 
   -- A process is unblocked.
   pub touches_unblock : (p : ℕ) (d : CallState) → MayReady f.asks d.state.tables p → Touches f d.state (unblock p d).state
-  touches_unblock p d w = touches_moved d.state p Ready (message_at d.state.tables p) InReady tt refl w
+  touches_unblock p d w = touches_moved d.state p Ready (message_at d.state.tables p) InReady tt refl refl w
 
   -- Processes are unblocked, one after another.
   pub touches_unblock_all : (ps : List ℕ) (d : CallState) → ((p : ℕ) → 0 < count_in p ps → MayReady f.asks d.state.tables p)
@@ -101,14 +104,14 @@ module _ {f : Reach} where
       touches_trans first (touches_unblock_all ps (unblock p d) (λ q h. may_ready_framed d.state (unblock p d).state q first (w q (count_behind q p ps h))))
 
   -- The caller waits, in a call that isn't left alone.
-  pub touches_blocked : (state : State) (rest : Rest) (place : Place) (s : Xinu) → IsFramePlace f.mine s.tables place → f.asks rest ≡ false
+  pub touches_blocked : (state : State) (rest : Rest) (place : Place) (s : Xinu) → IsFramePlace f.mine s.tables place → f.asks rest ≡ false → is_free state ≡ false
       → Touches f s (blocked state rest place s).call.state
-  touches_blocked state rest place s p e =
-      let t = s.tables in touches_unasked s t.current (record (process_at t t.current) { state = state; rest = rest }) (message_at t t.current) place p e refl
+  touches_blocked state rest place s p e alive =
+      let t = s.tables in touches_unasked s t.current (record (process_at t t.current) { state = state; rest = rest }) (message_at t t.current) place p e refl (λ h. absurd (both_ways (is_free state) alive h))
 
   -- The caller goes on.
   pub touches_goes_on : f.asks Nothing ≡ false → (message : Option ℕ) (s : Xinu) → Touches f s (goes_on message s)
-  touches_goes_on e message s = let t = s.tables in touches_unasked s t.current (record (process_at t t.current) { rest = Nothing }) message Nowhere tt e refl
+  touches_goes_on e message s = let t = s.tables in touches_unasked s t.current (record (process_at t t.current) { rest = Nothing }) message Nowhere tt e refl (λ h. h)
 
   -- A message is delivered.
   pub touches_delivered : (p message : ℕ) (d : CallState) → Touches f d.state (delivered p message d).state
@@ -117,8 +120,8 @@ module _ {f : Reach} where
       let u = record t { messages = set t.messages p (Some message) } in
       cond_both (listens (state_at t p)) (record (with_tables (move_to p (in_state Ready (process_at t p)) (Some message) InReady t) d) { owes_resched = true }) (with_tables u d)
       (λ e. Touches f d.state e.state)
-      (λ b. touches_moved d.state p Ready (Some message) InReady tt refl (may_ready_idle f.asks t p (listens_idle (state_at t p) b)))
-      (λ _. touches_tables d.state u (frame_same t u refl refl) refl)
+      (λ b. touches_moved d.state p Ready (Some message) InReady tt refl refl (may_ready_idle f.asks t p (listens_idle (state_at t p) b)))
+      (λ _. touches_tables d.state u (frame_same t u refl refl) refl (λ q h. h))
 
   -- A message is sent, or refused.
   pub touches_sent : (p message : ℕ) (d : CallState) → Touches f d.state (sent p message d).state
@@ -128,7 +131,7 @@ module _ {f : Reach} where
   -- A semaphore changes.
   pub touches_semaphore : (s : Xinu) (r : ℕ) (x : Semaphore) → f.mine r (semaphore_at s.tables r).owner ≡ false → f.mine r x.owner ≡ false
       → Touches f s (record s { tables = with_semaphore r x s.tables })
-  touches_semaphore s r x old new = touches_tables s (with_semaphore r x s.tables) (frame_semaphore s.tables r x old new) refl
+  touches_semaphore s r x old new = touches_tables s (with_semaphore r x s.tables) (frame_semaphore s.tables r x old new) refl (λ p h. h)
 
   -- Its tokens change.
   pub touches_tokens : (s : Xinu) (r n : ℕ) → f.mine r (semaphore_at s.tables r).owner ≡ false
@@ -139,7 +142,7 @@ module _ {f : Reach} where
   pub touches_make_semaphore : (s : Xinu) (r : ℕ) (by : Owner) (n : ℕ) → f.mine r (semaphore_at s.tables r).owner ≡ false
       → f.mine r (Some by) ≡ false
       → Touches f s (record s { tables = make_semaphore r by n s.tables })
-  touches_make_semaphore s r by n old new = touches_tables s (make_semaphore r by n s.tables) (frame_make_semaphore s.tables r by n old new) refl
+  touches_make_semaphore s r by n old new = touches_tables s (make_semaphore r by n s.tables) (frame_make_semaphore s.tables r by n old new) refl (λ p h. h)
 
   -- One signal, by who waits.
   touches_signal_first : (sem : ℕ) (l : List ℕ) (d : CallState) → f.mine sem (semaphore_at d.state.tables sem).owner ≡ false
@@ -174,7 +177,7 @@ module _ {f : Reach} where
   pub touches_take_token : (tokens sem : ℕ) (rest : Rest) (then_ : Xinu → CallResult) (s : Xinu)
       → f.mine sem (semaphore_at s.tables sem).owner ≡ false → f.asks rest ≡ false
       → ((n : ℕ) → tokens ≡ suc n → Touches f s (then_ (record s { tables = with_tokens sem n s.tables })).call.state) → Touches f s (take_token tokens sem rest then_ s).call.state
-  touches_take_token zero sem rest then_ s e left go = touches_blocked Waiting rest (InSemaphore sem) s e left
+  touches_take_token zero sem rest then_ s e left go = touches_blocked Waiting rest (InSemaphore sem) s e left refl
   touches_take_token (suc n) sem rest then_ s e left go = go n refl
 
 -- a signal changes the tables alone

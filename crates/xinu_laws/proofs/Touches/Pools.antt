@@ -80,7 +80,7 @@ module _ {f : Reach} (a : HasPools f) where
   -- the free buffers of a pool change, and perhaps memory
   touches_free : (s : Xinu) (memory : List ℕ) (i : ℕ) (pool : Pool) → range_of pool ≡ range_of (pool_at s.parts.pools i)
       → Touches f s (record s { memory = memory; parts = record s.parts { pools = set s.parts.pools i pool } })
-  touches_free s memory i pool e = touches_parts s _ refl (parts_pools a.parts s.parts (set s.parts.pools i pool) (map_set_same range_of s.parts.pools i pool no_pool e))
+  touches_free s memory i pool e = touches_parts s _ refl refl (parts_pools a.parts s.parts (set s.parts.pools i pool) (map_set_same range_of s.parts.pools i pool no_pool e))
 
   -- A held buffer is put back.
   put_back_touches : (b i : ℕ) (d : CallState) → IsInside d.state.tables → OwnSemaphores d.state.tables d.state.parts.pools
@@ -161,7 +161,7 @@ made_pool_touches (Some grant) (Some sem) size n s e g =
     let t : Touches (reach on_new_pool) s (record s { tables = make_semaphore sem (owner.Pool i) n s.tables }) =
     touches_make_semaphore s sem (owner.Pool i) n (ap ((reach on_new_pool).mine sem) (free_semaphore_free s.tables sem e)) refl in
     let m = getmem_grants (pool_bytes size n) s.parts.heap grant g in
-    record { frame = t.frame; stacks = t.stacks; parts = parts_new_pool refl refl refl s.parts grant.heap _ (extent_marked m.taken) })
+    record { frame = t.frame; stacks = t.stacks; free = λ e. record { was = (t.free e).was; harts = (t.free e).harts }; parts = parts_new_pool refl refl refl s.parts grant.heap _ (extent_marked m.taken) })
 made_pool_touches (Some grant) None size n s e g = touches_refl s
 made_pool_touches None sem size n s e g = touches_refl s
 

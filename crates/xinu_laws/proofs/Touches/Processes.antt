@@ -22,6 +22,7 @@ use Rattle.xinu_laws.proofs.HeapCells.Taken.{getstk_finds}
 use Rattle.xinu_laws.proofs.HeapCells.Extent.{extent_marked, extent_freestk, extent_unless}
 use Rattle.xinu_laws.proofs.Frame.{frame_same, frame_trans}
 use Rattle.xinu_laws.proofs.Frame.MoveTo.{frame_move, frame_process}
+use Rattle.xinu_laws.proofs.Tables.Alive.{was_free}
 use Rattle.xinu_laws.proofs.Touches.{StaysIn, named, parts_heap, touches_tables, touches_refl, touches_trans, touches_either, touches_if}
 use Rattle.xinu_laws.proofs.Touches.Moves.{may_ready_idle, touches_move, touches_moved, touches_blocked, touches_goes_on, touches_unblock, touches_sent}
 
@@ -49,8 +50,8 @@ suspend_touches p s i =
     let t = s.tables in
     touches_either s (p == 0) (refused s) _ (λ _. touches_refl s)
     (λ _. touches_either s (is_ready (state_at t p)) _ _
-    (λ b. touches_moved s p Suspended (message_at t p) Nowhere tt refl (may_ready_idle (reach on_tables).asks t p (idle_ready (state_at t p) b)))
-    (λ _. touches_if s (p == t.current) _ (λ _. touches_blocked Suspended SelfSuspend Nowhere s tt refl)))
+    (λ b. touches_moved s p Suspended (message_at t p) Nowhere tt refl refl (may_ready_idle (reach on_tables).asks t p (idle_ready (state_at t p) b)))
+    (λ _. touches_if s (p == t.current) _ (λ _. touches_blocked Suspended SelfSuspend Nowhere s tt refl refl)))
 
 -- a process gets another priority
 with_priority_touches : (p : ℕ) (priority : ℤ) (s : Xinu) → Touches (reach on_tables) s (record s { tables = with_priority p priority s.tables })
@@ -59,8 +60,8 @@ with_priority_touches p priority s =
     let x = record (process_at t p) { priority = priority } in
     let u = record t { processes = set t.processes p x } in
     cond_both (is_ready (state_at t p)) (move_to p x (message_at t p) InReady t) u (λ v. Touches (reach on_tables) s (record s { tables = v }))
-    (λ b. touches_move s p x (message_at t p) InReady tt (λ h. (refl, refl)) (ap (λ k. k && (reach on_tables).asks x.rest) (idle_ready (state_at t p) b)) refl)
-    (λ _. touches_tables s u (frame_process t p x (λ h. (refl, refl))) (map_set_same stack_of t.processes p x no_process refl))
+    (λ b. touches_move s p x (message_at t p) InReady tt (λ h. (refl, refl)) (ap (λ k. k && (reach on_tables).asks x.rest) (idle_ready (state_at t p) b)) refl (λ h. h))
+    (λ _. touches_tables s u (frame_process t p x (λ h. (refl, refl))) (map_set_same stack_of t.processes p x no_process refl) (was_free t.processes p x (λ h. h)))
 
 -- Call 7.
 pub chprio_touches : (p : ℕ) (priority : ℤ) → StaysIn on_tables (chprio p priority)
@@ -79,6 +80,7 @@ killed_touches p d =
     touches_trans (touches_sent x.parent p d) (record {
       frame = frame_move told.state.tables p no_process None Nowhere tt (λ h. absurd (cc)) refl;
       stacks = named refl;
+      free = named refl;
       parts = parts_heap refl told.state.parts _ (extent_unless (heap.free_stack x.stack x.stack_size told.state.parts.heap) told.state.parts.heap (extent_freestk x.stack x.stack_size told.state.parts.heap));
     })
 
@@ -103,6 +105,7 @@ created_touches (Some p) (Some stack) entry size priority name x y s e =
     record {
       frame = frame_trans t u (record u { last_process = p }) (frame_move t p made None Nowhere tt (λ h. absurd (cc)) refl) (frame_same u (record u { last_process = p }) refl refl);
       stacks = named refl;
+      free = named refl;
       parts = parts_heap refl s.parts stack.heap (extent_marked g.taken);
     }
 created_touches (Some p) None entry size priority name x y s e = touches_refl s

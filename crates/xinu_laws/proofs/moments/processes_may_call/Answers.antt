@@ -1,4 +1,4 @@
-use Rattle.xinu_laws.proofs.Preserve.Calls.{inside_preserved}
+use Rattle.xinu_laws.proofs.Preserve.Calls.{inside_preserved, replies_alive}
 use Rattle.xinu_laws.proofs.Preserve.Events.{may_call, may_call_after}
 use Rattle.xinu_laws.proofs.moments.processes_may_call.Goals as goal
 
@@ -10,3 +10,6 @@ returns-clause-executed c = may_call_after
 
 pub returns-clause-inside : goal.returns-clause-inside
 returns-clause-inside c = λ result k. inside_preserved result k.preserved
+
+pub returns-clause-replies : goal.returns-clause-replies
+returns-clause-replies c = λ result k. replies_alive result k.preserved
