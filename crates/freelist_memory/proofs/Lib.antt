@@ -1,0 +1,5 @@
+pub mod Cells
+pub mod Order
+pub mod Changes
+pub mod Found
+pub mod Taken

@@ -1,0 +1,9 @@
+//! The heap.
+#![tactic(auto)]
+
+mod blocks;
+mod list;
+
+
+
+
