@@ -172,3 +172,15 @@ pub cut_high : (k last : ℕ) (bs : List FreeBlock) (i : ℕ) → i < length bs 
     → IsCut bs (take i bs ++ kept (rest_below k (block_at bs i)) (drop (suc i) bs)) ((block_at bs i).first + ((block_at bs i).count - k)) k last
 cut_high k last bs i w v h =
     of_parts bs i ((block_at bs i).first + ((block_at bs i).count - k)) k last (take i bs ++ kept (rest_below k (block_at bs i)) (drop (suc i) bs)) w (cut_high_parts k last (block_at bs i) (take i bs) (drop (suc i) bs) v) h
+
+-- The cells around a block of a list.
+pub cells_around : (bs : List FreeBlock) (i last : ℕ) → i < length bs → AreBlocks 0 bs (last + 1)
+    → (cells_of 0 bs last ≡ cells_of 0 (take i bs) (block_at bs i).first ++ (replicate (block_at bs i).count true ++ cells_of ((block_at bs i).first + (block_at bs i).count) (drop (suc i) bs) last)) × (length (cells_of 0 (take i bs) (block_at bs i).first) ≡ (block_at bs i).first)
+cells_around bs i last w h =
+    let b = block_at bs i in
+    let P : List FreeBlock → Type 0 = λ l. AreBlocks 0 l (last + 1) in
+    let parts = blocks_split 0 (take i bs) b (drop (suc i) bs) (last + 1) (subst P (blocks_around bs i w) h) in
+    let order = blocks_order (b.first + b.count + 1) (drop (suc i) bs) (last + 1) parts.1.2 in
+    let before = within_blocks 0 0 (take i bs) b.first b.first (omega arith) (omega arith) (omega arith) parts.0 in
+    let after = within_blocks (b.first + b.count) (b.first + b.count + 1) (drop (suc i) bs) (last + 1) last (omega arith) (omega arith) (omega arith) parts.1.2 in
+    (ap (λ l. cells_of 0 l last) (blocks_around bs i w) ∙ cells_with b.first b.count (take i bs) (drop (suc i) bs) last before after, cells_before b.first (take i bs) before)

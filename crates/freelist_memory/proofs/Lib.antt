@@ -3,3 +3,6 @@ pub mod Order
 pub mod Changes
 pub mod Found
 pub mod Taken
+pub mod Gaps
+pub mod Puts
+pub mod Listed

@@ -85,3 +85,9 @@ pub set_around : (bs : List FreeBlock) (i : ℕ) (b : FreeBlock) → i < length 
 set_around [] i b w = absurd (omega arith)
 set_around (a ∷ bs) zero b w = refl
 set_around (a ∷ bs) (suc i) b w = ap (λ l. a ∷ l) (set_around bs i b (omega arith))
+
+-- A block has a cell.
+pub block_some : (from : ℕ) (bs : List FreeBlock) (to i : ℕ) → AreBlocks from bs to → i < length bs → 0 < (block_at bs i).count
+block_some from [] to i h w = absurd (omega arith)
+block_some from (b ∷ bs) to zero h w = h.1
+block_some from (b ∷ bs) to (suc i) h w = block_some (b.first + b.count + 1) bs to i h.2 (omega arith)

@@ -1,5 +1,5 @@
 -- The free list: blocks of free cells by place, with a taken cell between any two.
-use Rattle.std.specs.Prelude.{ℕ, ◌+◌, ◌-◌, ◌<◌, ◌≤◌, Bool, true, false, List, [], ◌∷◌, ◌++◌, replicate, slice_index_or, ◌==◌, if◌then◌else◌}
+use Rattle.std.specs.Prelude.{ℕ, ◌+◌, ◌-◌, ◌*◌, ◌<◌, ◌≤◌, Bool, true, false, List, [], ◌∷◌, ◌++◌, replicate, slice_index_or, ◌==◌, if◌then◌else◌}
 use Rattle.freelist_memory.specs.declared.blocks.FreeBlock.{FreeBlock}
 
 -- the block at a place of the list
@@ -19,3 +19,7 @@ AreBlocks from (b ∷ bs) to = (from ≤ b.first) × (0 < b.count) × AreBlocks 
 -- a block before others, unless it has no cell
 abbrev pub kept : FreeBlock → List FreeBlock → List FreeBlock
 kept b bs = if b.count == 0 then bs else b ∷ bs
+
+-- a block by its address and its bytes, if the cells begin at `low`
+abbrev pub bytes_of : ℕ → FreeBlock → ℕ × ℕ
+bytes_of low b = (low + 8 * b.first, 8 * b.count)

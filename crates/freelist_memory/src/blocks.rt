@@ -2,7 +2,9 @@
 //!
 //! A search walks the list once; none takes memory.
 
-ghost use Rattle.std.specs.Prelude.{◌+◌, ◌≤◌, length, IfNone, IfSome};
+ghost use Rattle.std.specs.Prelude.{◌≡◌, ℕ, ◌+◌, ◌<◌, ◌≤◌, length, IfNone, IfSome, sum_by, ◌^◌};
+ghost use Rattle.freelist_memory.specs.Blocks.{block_at};
+ghost use Rattle.freelist_memory.specs.Gaps.{ceiling_at, floor_at};
 ghost use Rattle.freelist_memory.specs.Searches.{AreBelow, AreShort, IsHighest, IsLowest};
 
 /// A free block: cells in a row, all free.
@@ -12,6 +14,16 @@ pub(crate) struct FreeBlock {
     pub(crate) first: u32,
     /// How many cells it has.
     pub(crate) count: u32,
+}
+
+impl FreeBlock {
+    /// The cell after its last.
+    pub(crate) fn end(&self) -> u32
+        requires fits { self.now.first + self.now.count < 1000000000 }
+        ensures end { result ≡ self.now.first + self.now.count }
+    {
+        self.first + self.count
+    }
 }
 
 /// The place of the first block that has `count` cells. `None` if and only if none has.
@@ -50,4 +62,41 @@ pub(crate) fn place_of(blocks: &[FreeBlock], cell: u32) -> usize
         }
     }
     blocks.len()
+}
+
+/// A place between the blocks of a list, and the room there.
+#[derive(Clone, Copy, Debug, PartialEq, Eq)]
+pub(crate) struct Gap {
+    /// How many blocks are before it.
+    pub(crate) at: usize,
+    /// The least cell at which a block doesn't touch the one before it.
+    pub(crate) low: u32,
+    /// The first cell of the block after it, or one that is past all.
+    pub(crate) high: u32,
+}
+
+/// The place of a cell between the blocks: after those that begin below it. There are `cells` cells.
+pub(crate) fn gap_at(blocks: &[FreeBlock], cell: u32, cells: u32) -> Gap
+    requires few { cells < 1000000 }
+    requires ends { (i : ℕ) → i < length blocks.now → (block_at blocks.now i).first + (block_at blocks.now i).count ≤ cells }
+    ensures place { AreBelow cell blocks.now result.at }
+    ensures low { result.low ≡ floor_at result.at blocks.now }
+    ensures high { result.high ≡ ceiling_at result.at blocks.now (cells + 1) }
+{
+    let at = place_of(blocks, cell);
+    let low = if at == 0 { 0 } else { blocks[at - 1].end() + 1 };
+    let high = if at < blocks.len() {
+        blocks[at].first
+    } else {
+        cells + 1
+    };
+    Gap { at, low, high }
+}
+
+/// How many cells the blocks have.
+pub(crate) fn count_of(blocks: &[FreeBlock]) -> u32
+    requires few { sum_by (λ b. b.count) blocks.now < 2 ^ 32 }
+    ensures sum { result ≡ sum_by (λ b. b.count) blocks.now }
+{
+    blocks.iter().map(|block| block.count).sum()
 }

@@ -2,7 +2,10 @@
 #![tactic(auto)]
 
 mod blocks;
+mod heap;
 mod list;
+
+pub use heap::Heap;
 
 
 

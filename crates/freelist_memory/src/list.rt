@@ -3,11 +3,12 @@
 //! It depends on the searches of `blocks`. It keeps true that the blocks are in order, with a taken cell between any two, and that
 //! there is room for as many as there can be, so that only a new list takes memory.
 
-ghost use Rattle.std.specs.Prelude.{◌≡◌, ◌+◌, ◌<◌, ◌≤◌, ◌++◌, true, false, length, take, drop, replicate, vec_len, vec_capacity, IfOk, IfNone, IfSome, if◌then◌else◌};
-ghost use Rattle.xinu_model.specs.Heap.Cells.{begins_with, highest_free, lowest_free, marked};
-ghost use Rattle.freelist_memory.specs.Blocks.{block_at, kept};
+ghost use Rattle.std.specs.Prelude.{◌≡◌, ℕ, ◌+◌, ◌<◌, ◌≤◌, ◌++◌, true, false, length, take, drop, replicate, vec_len, vec_capacity, IfOk, IfNone, IfSome, if◌then◌else◌, ◌^◌, ◌-◌, ◌/◌, count_by, find, nat_le, option_map};
+ghost use Rattle.xinu_model.specs.Heap.Cells.{begins_with, blocks_from, highest_free, lowest_free, marked};
+ghost use Rattle.freelist_memory.specs.Blocks.{bytes_of, kept};
+ghost use Rattle.freelist_memory.specs.Gaps.{Fits, IsGiven};
 
-use crate::blocks::{FreeBlock, highest, lowest, place_of};
+use crate::blocks::{FreeBlock, Gap, count_of, gap_at, highest, lowest, place_of};
 use std::alloc::Global;
 use std::marker::Model;
 use xinu_base::NoMemory;
@@ -95,8 +96,51 @@ impl FreeList {
             first: block.first,
             count: block.count - count,
         };
+        let first = block.first + rest.count;
         cut(&mut self.blocks, at, rest);
-        Some(block.first + rest.count)
+        Some(first)
+    }
+
+    /// Frees `count` cells from `first` on, as a block of their own or as a part of the blocks that they touch. False, and nothing
+    /// changes, if and only if one of them is free already or isn't there.
+    pub(crate) fn give(&mut self, first: u32, count: u32) -> bool
+        requires some { 0 < count }
+        requires fits { first + count < 2 ^ 32 }
+        ensures taken { result ≡ begins_with false count (drop first self.old) }
+        ensures many { length self.new ≡ length self.old }
+        ensures given { self.new ≡ (if result then marked true first count self.old else self.old) }
+    {
+        let end = first + count;
+        if end > self.cells {
+            return false;
+        }
+        let gap = gap_at(&self.blocks, first, self.cells);
+        if first + 1 < gap.low || gap.high < end {
+            return false;
+        }
+        put(&mut self.blocks, gap, FreeBlock { first, count });
+        true
+    }
+
+    /// How many cells are free.
+    pub(crate) fn total(&self) -> u32
+        ensures total { result ≡ count_by (λ c. c) self.now }
+        ensures most { result ≤ length self.now }
+    {
+        count_of(&self.blocks)
+    }
+
+    /// The first block that begins at a cell or above. `None` if and only if there is none.
+    pub(crate) fn block_from(&self, cell: u32) -> Option<FreeBlock>
+        ensures found { (low a : ℕ) → (a - low + 7) / 8 ≡ cell → find (λ b. nat_le a b.0) (blocks_from low self.now) ≡ option_map (bytes_of low) result }
+        ensures within { IfSome result (λ b. b.first + b.count ≤ length self.now) }
+    {
+        let at = place_of(&self.blocks, cell);
+        if at < self.blocks.len() {
+            Some(self.blocks[at])
+        } else {
+            None
+        }
     }
 }
 
@@ -110,5 +154,40 @@ fn cut(blocks: &mut Vec<FreeBlock>, at: usize, rest: FreeBlock)
         blocks.remove(at);
     } else {
         blocks[at] = rest;
+    }
+}
+
+// Puts a block into a gap between the blocks. If it touches one of them, or two, there is one block in place of all.
+fn put(blocks: &mut Vec<FreeBlock>, gap: Gap, block: FreeBlock)
+    requires fits { (last : ℕ) × Fits blocks.old.items gap block (vec_capacity blocks.old) last }
+    ensures given { (last : ℕ) → Fits blocks.old.items gap block (vec_capacity blocks.old) last → IsGiven blocks.old.items blocks.new.items block.first block.count last }
+    ensures capacity { vec_capacity blocks.new ≡ vec_capacity blocks.old }
+{
+    let touches_after = block.end() == gap.high;
+    if block.first + 1 != gap.low {
+        if touches_after {
+            let after = blocks[gap.at];
+            blocks[gap.at] = FreeBlock {
+                first: block.first,
+                count: block.count + after.count,
+            };
+        } else {
+            blocks.insert(gap.at, block).unwrap();
+        }
+        return;
+    }
+    let before = blocks[gap.at - 1];
+    let count = before.count + block.count;
+    if touches_after {
+        let after = blocks.remove(gap.at);
+        blocks[gap.at - 1] = FreeBlock {
+            first: before.first,
+            count: count + after.count,
+        };
+    } else {
+        blocks[gap.at - 1] = FreeBlock {
+            first: before.first,
+            count,
+        };
     }
 }

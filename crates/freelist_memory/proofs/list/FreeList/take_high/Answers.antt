@@ -7,7 +7,6 @@ use Rattle.freelist_memory.specs.declared.blocks.FreeBlock.{FreeBlock}
 use Rattle.freelist_memory.proofs.Found.{highest_nowhere}
 use Rattle.freelist_memory.proofs.Taken.{cells_many, IsHighTaken, high_taken, read_end}
 use Rattle.freelist_memory.proofs.list.FreeList.take_high.Goals as goal
-use Rattle.freelist_memory.proofs.list.FreeList.take_high.Goals.{After-cut}
 
 -- no block is long enough
 pub returns-in_default-clause-found : goal.returns-in_default-clause-found
@@ -19,8 +18,8 @@ returns-in_default-clause-found c =
     ap (highest_free k) (sym c.self.view_is) ∙ highest_nowhere k 0 0 c.self.inside.blocks.items (last + 1) last c.requires.some c.self.invariant.blocks none
 
 -- the block that was found is among the cells
-pub overflow_add-result : goal.overflow_add-result
-overflow_add-result c =
+pub overflow_add-first : goal.overflow_add-first
+overflow_add-first c =
     let P : List FreeBlock → Type 0 = λ l. IsHighest c.args.count l c.in-Some.at in
     let f = subst P c.deref.ensures.value c.in-Some.ensures.found in
     let end = read_end c.args.count c.self.inside.cells c.self.inside.blocks.items c.in-Some.at c.index-block.result.now f.place f.long c.index-block.ensures c.self.invariant.blocks in
@@ -28,7 +27,7 @@ overflow_add-result c =
     omega arith
 
 -- what was taken
-taken : (c : After-cut) → IsHighTaken c.args.count c.self.inside.cells c.self.inside.blocks.items c.index-block.result.now c.cut.new.blocks.items
+taken : (c : goal.After-cut) → IsHighTaken c.args.count c.self.inside.cells c.self.inside.blocks.items c.index-block.result.now c.cut.new.blocks.items
 taken c =
     let P : List FreeBlock → Type 0 = λ l. IsHighest c.args.count l c.in-Some.at in
     let f = subst P c.deref.ensures.value c.in-Some.ensures.found in
