@@ -1,7 +1,7 @@
 -- Cells between the blocks of a list: they are taken, and what a list is that has them too. Other cells aren't taken.
-use Rattle.std.proofs.Common.{◌≡◌, ℕ, zero, suc, ◌+◌, ◌-◌, ◌<◌, ◌≤◌, Bool, true, false, List, [], ◌∷◌, ◌++◌, length, take, drop, append_assoc, length-append, refl, sym, ap, ◌∙◌, subst, arith, ⊎_elim}
+use Rattle.std.proofs.Common.{◌≡◌, ℕ, zero, suc, ◌+◌, ◌-◌, ◌<◌, ◌≤◌, Bool, true, false, List, [], ◌∷◌, ◌++◌, length, take, drop, append_assoc, refl, sym, ap, ◌∙◌, subst, arith, ⊎_elim}
 use Rattle.std.specs.Prelude.{replicate, slice_set}
-use Rattle.std.specs.List.{insert, remove}
+use Rattle.std.specs.List.{remove}
 use Rattle.std.proofs.lemmas.List.{take-append-drop, length-drop, drop-drop}
 use Rattle.std.proofs.Math.Seq.{drop-append-add, drop-cons, take-suc}
 use Rattle.std.proofs.lemmas.Bool.{cases_lt}
@@ -10,9 +10,9 @@ use Rattle.freelist_memory.specs.Blocks.{block_at, cells_of, AreBlocks}
 use Rattle.freelist_memory.specs.Gaps.{floor_at, ceiling_at, IsGap, IsGiven}
 use Rattle.freelist_memory.specs.Searches.{AreBelow}
 use Rattle.freelist_memory.specs.declared.blocks.FreeBlock.{FreeBlock}
-use Rattle.freelist_memory.proofs.Cells.{AreWithin, blocks_order, cells_joined}
+use Rattle.freelist_memory.proofs.Cells.{AreWithin, cells_joined}
 use Rattle.freelist_memory.proofs.Changes.{block_freed, gap_taken, cells_around}
-use Rattle.freelist_memory.proofs.Order.{within_blocks, blocks_split, blocks_joined, blocks_lower, blocks_around, block_order, block_some, set_around}
+use Rattle.freelist_memory.proofs.Order.{within_blocks, blocks_split, blocks_joined, blocks_lower, blocks_around, block_order, block_some}
 use Rattle.freelist_memory.proofs.Taken.{cells_many}
 
 -- a place that there is
@@ -204,12 +204,13 @@ cell_free bs i d last h w v =
     let around = cells_around bs i last w h in
     let front = cells_of 0 (take i bs) b.first in
     let rest = cells_of (b.first + b.count) (drop (suc i) bs) last in
-    let row = row_at d b.count rest v in
-    (row.0,
-    ap (drop (b.first + d)) around.0
-    ∙ ap (λ n. drop (n + d) (front ++ (replicate b.count true ++ rest))) (sym around.1)
-    ∙ drop-append-add front (replicate b.count true ++ rest) d
-    ∙ row.1)
+    let row = row_at d b.count rest v in (
+      row.0,
+      ap (drop (b.first + d)) around.0
+          ∙ ap (λ n. drop (n + d) (front ++ (replicate b.count true ++ rest))) (sym around.1)
+          ∙ drop-append-add front (replicate b.count true ++ rest) d
+          ∙ row.1,
+    )
 
 -- Cells of which one is a block's aren't all taken.
 pub meets_begins : (bs : List FreeBlock) (i first k last j : ℕ) → AreBlocks 0 bs (last + 1) → i < length bs → first ≤ j → j < first + k → (block_at bs i).first ≤ j → j < (block_at bs i).first + (block_at bs i).count

@@ -1,11 +1,11 @@
 -- The free blocks that the cells show, and how many cells are free: those of the list.
-use Rattle.std.proofs.Common.{◌≡◌, ℕ, zero, suc, ◌+◌, ◌-◌, ◌*◌, ◌/◌, ◌<◌, ◌≤◌, ◌==◌, Bool, true, false, List, [], ◌∷◌, ◌++◌, length, get_or, map, Option, Some, None, refl, sym, ap, ◌∙◌, subst, cond, arith}
+use Rattle.std.proofs.Common.{◌≡◌, ℕ, zero, suc, ◌+◌, ◌-◌, ◌*◌, ◌/◌, ◌<◌, ◌≤◌, Bool, true, false, List, [], ◌∷◌, ◌++◌, length, get_or, map, Some, None, refl, sym, ap, ◌∙◌, subst, cond, arith}
 use Rattle.std.specs.Prelude.{replicate, nat_le, find, option_map, count_by, sum_by, slice_get}
 use Rattle.std.proofs.lemmas.Bool.{le-leb, lt-leb, eq-eqb, ne_eqb}
 use Rattle.std.proofs.lemmas.List.Sums.{sum_by-append, sum_by-cons}
 use Rattle.std.proofs.lemmas.List.Folds.{sum_by-replicate}
 use Rattle.xinu_model.specs.Heap.Cells.{Block, with_cell, blocks_from}
-use Rattle.freelist_memory.specs.Blocks.{block_at, bytes_of, cells_of, AreBlocks}
+use Rattle.freelist_memory.specs.Blocks.{bytes_of, cells_of, AreBlocks}
 use Rattle.freelist_memory.specs.Searches.{AreBelow}
 use Rattle.freelist_memory.specs.declared.blocks.FreeBlock.{FreeBlock}
 
@@ -91,8 +91,8 @@ shown_blocks low at from (b ∷ bs) to last w h =
     shown_taken (low + 8 * at) (b.first - at) (replicate b.count true ++ rest)
     ∙ ap (λ i. blocks_from i (replicate b.count true ++ rest)) start
     ∙ shown_free (low + 8 * b.first) b.count rest (map (bytes_of low) bs) h.1
-        (ap (λ i. blocks_from i rest) (sym end) ∙ shown_blocks low (b.first + b.count) (b.first + b.count + 1) bs to last (omega arith) h.2)
-        (subst P end (shown_above low (b.first + b.count) bs to h.2))
+    (ap (λ i. blocks_from i rest) (sym end) ∙ shown_blocks low (b.first + b.count) (b.first + b.count + 1) bs to last (omega arith) h.2)
+    (subst P end (shown_above low (b.first + b.count) bs to h.2))
 
 -- the first block at an address or above
 find_shown : (low a cell : ℕ) (bs : List FreeBlock) (at : ℕ) → (a - low + 7) / 8 ≡ cell → AreBelow cell bs at → find (λ b. nat_le a b.0) (map (bytes_of low) bs) ≡ option_map (bytes_of low) (slice_get bs at)

@@ -1,13 +1,12 @@
 -- What putting a block into a gap writes: the block alone, or one block in place of those that touch.
-use Rattle.std.proofs.Common.{◌≡◌, ℕ, zero, suc, ◌+◌, ◌-◌, ◌/◌, ◌<◌, ◌≤◌, List, ◌∷◌, ◌++◌, length, take, drop, get_or, add_assoc, refl, sym, ap, ◌∙◌, subst, arith, ⊎_elim}
+use Rattle.std.proofs.Common.{◌≡◌, ℕ, zero, suc, ◌+◌, ◌-◌, ◌/◌, ◌<◌, ◌≤◌, List, ◌∷◌, ◌++◌, length, take, drop, get_or, add_assoc, sym, ap, ◌∙◌, subst, arith, ⊎_elim}
 use Rattle.std.specs.Prelude.{slice_set}
 use Rattle.std.specs.List.{insert, remove}
 use Rattle.std.proofs.lemmas.Bool.{cases_lt}
 use Rattle.std.proofs.lemmas.List.Edits.{length-insert}
 use Rattle.freelist_memory.specs.Blocks.{block_at, AreBlocks}
-use Rattle.freelist_memory.specs.Gaps.{floor_at, ceiling_at, IsGap, IsGiven, Fits}
+use Rattle.freelist_memory.specs.Gaps.{floor_at, ceiling_at, IsGap, IsGiven}
 use Rattle.freelist_memory.specs.declared.blocks.FreeBlock.{FreeBlock}
-use Rattle.freelist_memory.specs.declared.blocks.Gap.{Gap}
 use Rattle.freelist_memory.proofs.Order.{set_around, block_end, blocks_length}
 use Rattle.freelist_memory.proofs.Gaps.{ceiling_in, ceiling_past, given_alone, given_below, given_above, given_between, set_removed}
 use Rattle.freelist_memory.proofs.Taken.{block_read}

@@ -1,5 +1,5 @@
 -- What a taking of cells shows: where they were found, and what is left.
-use Rattle.std.proofs.Common.{◌≡◌, ℕ, suc, ◌+◌, ◌-◌, ◌<◌, ◌≤◌, List, ◌++◌, length, take, drop, get_or, Some, refl, sym, ap, ◌∙◌, subst, add-one, arith}
+use Rattle.std.proofs.Common.{◌≡◌, ℕ, ◌+◌, ◌-◌, ◌<◌, ◌≤◌, List, ◌++◌, length, take, drop, get_or, Some, sym, ap, ◌∙◌, subst, add-one, arith}
 use Rattle.std.proofs.lemmas.List.{get_or_default}
 use Rattle.xinu_model.specs.Heap.Cells.{lowest_free, highest_free}
 use Rattle.freelist_memory.specs.Blocks.{block_at, cells_of, AreBlocks, kept}

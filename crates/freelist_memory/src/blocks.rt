@@ -8,7 +8,7 @@ ghost use Rattle.freelist_memory.specs.Gaps.{ceiling_at, floor_at};
 ghost use Rattle.freelist_memory.specs.Searches.{AreBelow, AreShort, IsHighest, IsLowest};
 
 /// A free block: cells in a row, all free.
-#[derive(Clone, Copy, Debug, PartialEq, Eq)]
+#[derive(Clone, Copy)]
 pub(crate) struct FreeBlock {
     /// Its first cell.
     pub(crate) first: u32,
@@ -19,7 +19,7 @@ pub(crate) struct FreeBlock {
 impl FreeBlock {
     /// The cell after its last.
     pub(crate) fn end(&self) -> u32
-        requires fits { self.now.first + self.now.count < 1000000000 }
+        requires fits { self.now.first + self.now.count < 2 ^ 32 }
         ensures end { result ≡ self.now.first + self.now.count }
     {
         self.first + self.count
@@ -65,7 +65,7 @@ pub(crate) fn place_of(blocks: &[FreeBlock], cell: u32) -> usize
 }
 
 /// A place between the blocks of a list, and the room there.
-#[derive(Clone, Copy, Debug, PartialEq, Eq)]
+#[derive(Clone, Copy)]
 pub(crate) struct Gap {
     /// How many blocks are before it.
     pub(crate) at: usize,
@@ -77,7 +77,7 @@ pub(crate) struct Gap {
 
 /// The place of a cell between the blocks: after those that begin below it. There are `cells` cells.
 pub(crate) fn gap_at(blocks: &[FreeBlock], cell: u32, cells: u32) -> Gap
-    requires few { cells < 1000000 }
+    requires few { cells + 1 < 2 ^ 32 }
     requires ends { (i : ℕ) → i < length blocks.now → (block_at blocks.now i).first + (block_at blocks.now i).count ≤ cells }
     ensures place { AreBelow cell blocks.now result.at }
     ensures low { result.low ≡ floor_at result.at blocks.now }

@@ -1,9 +1,9 @@
 -- A block put into a gap, by what it touches.
-use Rattle.std.proofs.Common.{◌≡◌, ℕ, ◌+◌, ◌-◌, ◌/◌, ◌<◌, ◌≤◌, length, List, sym, ap, ◌∙◌, subst, cond, arith}
+use Rattle.std.proofs.Common.{◌≡◌, ◌+◌, ◌-◌, ◌/◌, ◌<◌, length, List, sym, ap, ◌∙◌, subst, cond, arith}
 use Rattle.std.specs.Prelude.{slice_set}
 use Rattle.std.specs.Result.{is_ok}
 use Rattle.std.specs.List.{insert}
-use Rattle.freelist_memory.specs.Gaps.{Fits, IsGap, IsGiven}
+use Rattle.freelist_memory.specs.Gaps.{IsGiven}
 use Rattle.freelist_memory.specs.declared.blocks.FreeBlock.{FreeBlock}
 use Rattle.freelist_memory.proofs.Puts.{after_in, before_in, put_alone, put_below, put_above, put_between, read_within, alone_room}
 use Rattle.freelist_memory.proofs.list.put.Goals as goal
@@ -50,12 +50,12 @@ returns-else-touches_after-clause-given c last f =
     let bs = c.args.blocks.now.items in
     let P : List FreeBlock → Type 0 = λ l. IsGiven bs l c.args.block.first c.args.block.count last in
     let new : c.insert.new.self.items ≡ insert bs c.args.gap.at c.args.block =
-        c.insert.ensures.items ∙ ap (λ r. cond (is_ok r) (insert bs c.args.gap.at c.args.block) bs) c.unwrap.ensures in
+    c.insert.ensures.items ∙ ap (λ r. cond (is_ok r) (insert bs c.args.gap.at c.args.block) bs) c.unwrap.ensures in
     subst P (sym new)
     (put_alone bs c.args.gap.at c.args.block last f.gap (λ e. c.if-block-gap.true (e ∙ sym f.low)) (λ e. c.if-touches_after.false (c.end.ensures.end ∙ e ∙ sym f.high)))
 
 pub returns-else-touches_after-clause-capacity : goal.returns-else-touches_after-clause-capacity
-returns-else-touches_after-clause-capacity c = 
+returns-else-touches_after-clause-capacity c =
     let f = c.requires.fits.1 in
     let r = alone_room c.args.blocks.now.items c.args.gap.at c.args.block c.requires.fits.0 f.gap (λ e. c.if-block-gap.true (e ∙ sym f.low)) (λ e. c.if-touches_after.false (c.end.ensures.end ∙ e ∙ sym f.high)) in
     let capacity = f.room in

@@ -1,4 +1,4 @@
-use Rattle.std.proofs.Common.{◌≡◌, ℕ, ◌+◌, ◌≤◌, ap, sym, ◌∙◌, length, subst, List, arith}
+use Rattle.std.proofs.Common.{ap, sym, ◌∙◌, length, subst, List, arith}
 use Rattle.std.specs.Prelude.{find, nat_le}
 use Rattle.xinu_model.specs.Heap.Cells.{blocks_from}
 use Rattle.freelist_memory.specs.Searches.{AreBelow}

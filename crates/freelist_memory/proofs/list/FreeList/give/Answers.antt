@@ -1,13 +1,13 @@
-use Rattle.std.proofs.Common.{◌≡◌, ℕ, ◌+◌, ◌-◌, ◌<◌, ◌≤◌, length, drop, List, Bool, true, false, sym, ap, ◌∙◌, subst, arith}
+use Rattle.std.proofs.Common.{◌≡◌, ℕ, ◌+◌, ◌<◌, ◌≤◌, length, drop, List, false, sym, ap, ◌∙◌, subst, arith}
 use Rattle.std.specs.Prelude.{vec_capacity}
 use Rattle.xinu_model.specs.Heap.Cells.{begins_with}
-use Rattle.freelist_memory.specs.Blocks.{block_at, cells_of}
+use Rattle.freelist_memory.specs.Blocks.{block_at}
 use Rattle.freelist_memory.specs.declared.blocks.FreeBlock.{FreeBlock}
 use Rattle.freelist_memory.proofs.Taken.{cells_many}
 use Rattle.freelist_memory.proofs.Order.{block_end}
 use Rattle.freelist_memory.proofs.Gaps.{past_begins, gap_begins, low_refused, high_refused}
 use Rattle.freelist_memory.specs.declared.blocks.Gap.{Gap}
-use Rattle.freelist_memory.specs.Gaps.{floor_at, ceiling_at, IsGap, Fits}
+use Rattle.freelist_memory.specs.Gaps.{floor_at, ceiling_at, Fits}
 use Rattle.freelist_memory.specs.Searches.{AreBelow}
 use Rattle.freelist_memory.proofs.list.FreeList.give.Goals as goal
 use Rattle.freelist_memory.proofs.list.FreeList.give.Goals.{then-first-gap-via-then-first-gap, then-first-gap-via-else-first-gap+then-gap-end}
@@ -39,7 +39,7 @@ returns-then-first-gap-clause-taken c =
     let end = c.if-end-self.false in
     sym (ap (λ l. begins_with false k (drop c.args.first l)) (sym c.self.view_is)
     ∙ elim c.then-first-gap.branch [
-        then-first-gap-via-then-first-gap w ↦ low_refused bs g.at c.args.first k c.self.inside.cells c.self.invariant.blocks found.0 c.requires.some (let t = w.if-first-gap.true in omega arith)
+      | then-first-gap-via-then-first-gap w ↦ low_refused bs g.at c.args.first k c.self.inside.cells c.self.invariant.blocks found.0 c.requires.some (let t = w.if-first-gap.true in omega arith)
       | then-first-gap-via-else-first-gap+then-gap-end w ↦ high_refused bs g.at c.args.first k c.self.inside.cells c.self.invariant.blocks found.0 (omega arith) (let t = w.if-gap-end.true in omega arith)
     ])
 

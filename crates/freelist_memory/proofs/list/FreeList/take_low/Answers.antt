@@ -1,7 +1,5 @@
-use Rattle.std.proofs.Common.{◌≡◌, ◌+◌, ◌-◌, ◌<◌, ◌≤◌, List, length, None, false, ap, sym, ◌∙◌, subst, arith}
+use Rattle.std.proofs.Common.{◌+◌, List, length, false, ap, sym, ◌∙◌, subst, arith}
 use Rattle.xinu_model.specs.Heap.Cells.{lowest_free, marked}
-use Rattle.freelist_memory.specs.Blocks.{cells_of, AreBlocks}
-use Rattle.freelist_memory.specs.Lists.{IsFreeList}
 use Rattle.freelist_memory.specs.Searches.{AreShort, IsLowest}
 use Rattle.freelist_memory.specs.declared.blocks.FreeBlock.{FreeBlock}
 use Rattle.freelist_memory.proofs.Found.{lowest_nowhere}

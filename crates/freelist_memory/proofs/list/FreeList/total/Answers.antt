@@ -1,4 +1,4 @@
-use Rattle.std.proofs.Common.{◌≡◌, ◌+◌, ◌<◌, ◌≤◌, ◌^◌, ap, sym, ◌∙◌, length, subst, List, arith}
+use Rattle.std.proofs.Common.{ap, sym, ◌∙◌, arith}
 use Rattle.std.specs.Prelude.{count_by, sum_by}
 use Rattle.std.proofs.lemmas.List.Sums.{count_by-le-length}
 use Rattle.freelist_memory.specs.Blocks.{cells_of}
@@ -27,5 +27,5 @@ pub returns-clause-most : goal.returns-clause-most
 returns-clause-most c =
     let most = count_by-le-length (λ b. b) c.args.self.now in
     let total = c.count_of.ensures.sum ∙ ap (sum_by (λ (b : FreeBlock). b.count)) c.deref.ensures.value
-      ∙ sym (count_cells 0 c.self.inside.blocks.items c.self.inside.cells) ∙ ap (count_by (λ b. b)) c.self.view_is in
+    ∙ sym (count_cells 0 c.self.inside.blocks.items c.self.inside.cells) ∙ ap (count_by (λ b. b)) c.self.view_is in
     omega arith
