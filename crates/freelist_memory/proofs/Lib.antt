@@ -6,3 +6,4 @@ pub mod Taken
 pub mod Gaps
 pub mod Puts
 pub mod Listed
+pub mod Rest

@@ -2,7 +2,7 @@
 //!
 //! It depends on the free list, whose cells it gives addresses. It keeps true that the heap lies in RAM, from a multiple of 8 on.
 
-ghost use Rattle.std.specs.Prelude.{◌≡◌, ◌+◌, ◌-◌, ◌*◌, ◌/◌, ◌%◌, ◌≤◌, true, replicate, Some, None, IfOk, IfNone, IfSome, if◌then◌else◌, count_by, find, nat_le, unwrap_or};
+ghost use Rattle.std.specs.Prelude.{◌≡◌, ◌+◌, ◌-◌, ◌*◌, ◌/◌, ◌%◌, ◌<◌, ◌≤◌, true, replicate, Some, None, IfOk, IfNone, IfSome, if◌then◌else◌, count_by, find, nat_le, unwrap_or};
 ghost use Rattle.xinu_model.specs.Heap.Cells as heap;
 
 use crate::list::FreeList;
@@ -128,6 +128,8 @@ impl Heap {
     /// The address and the bytes of the first free block at address `a` or above. `None` if and only if there is none.
     pub fn block_from(&self, a: u32) -> Option<(u32, u32)>
         ensures first { result ≡ find (λ b. nat_le a b.0) (heap.free_blocks self.now) }
+        ensures some { IfSome result (λ b. 0 < b.1) }
+        ensures in_ram { IfSome result (λ b. b.0 + b.1 ≤ 1048576) }
     {
         let cell = a.saturating_sub(self.low).div_ceil(8);
         let Some(block) = self.cells.block_from(cell) else {

@@ -134,6 +134,7 @@ impl FreeList {
     pub(crate) fn block_from(&self, cell: u32) -> Option<FreeBlock>
         ensures found { (low a : ℕ) → (a - low + 7) / 8 ≡ cell → find (λ b. nat_le a b.0) (blocks_from low self.now) ≡ option_map (bytes_of low) result }
         ensures within { IfSome result (λ b. b.first + b.count ≤ length self.now) }
+        ensures some { IfSome result (λ b. 0 < b.count) }
     {
         let at = place_of(&self.blocks, cell);
         if at < self.blocks.len() {
