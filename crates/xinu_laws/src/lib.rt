@@ -9,7 +9,7 @@
 //! | [`moments`] | what holds at each moment of an event: each row, each continuation, a death, a tick, a resched and the end of an event keep it. The kernel's code will cite these |
 //! | [`moves`] | the moves of a process, signals and waits, as the kernel's code makes them |
 //! | [`footprints`] | the rows are the calls that a transcript names; each call touches no more than its footprint; waiters keep their order |
-//! | [`replies`] | a refused call changes a0 and pc alone, and prints its call and its reply; -1 tells a refusal, except as a value; who waited on a port is refused if and only if it was renewed |
+//! | [`replies`] | a call that is refused in its own event changes a0 and pc alone, and prints its call and its reply; -1 tells a refusal, except as a value; a deleted semaphore refuses those who wait, and every other release of them answers 0; who waited on a port is refused if and only if it was renewed |
 //! | [`signals`] | n signals at once are n signals, one after another |
 //! | [`memory`] | memory comes from the least place and a stack from the greatest, both only from what was free; refused only if there is no such place; the heap keeps its extent |
 //! | [`sharing`] | no address comes to have two owners, unless a process gives away what a pool or a stack has, and then one does |
