@@ -1,0 +1,7 @@
+use Rattle.std.proofs.Common.{ℕ, ◌<◌}
+use Rattle.freelist_memory.specs.Blocks.{block_at}
+use Rattle.freelist_memory.proofs.blocks.lowest.Given as goal
+
+-- the blocks so far are short
+abbrev pub invariant-loop-i : goal.invariant-loop-i
+invariant-loop-i l = (j : ℕ) → j < l.i → (block_at l.blocks j).count < l.count

@@ -1,0 +1,30 @@
+//! The heap and the stacks: free blocks of cells in a list by address, which merge as they are given back (book, chapter 9).
+//!
+//! A clause sees a `Heap` as the abstract machine's: where it begins, and which of its cells of eight bytes are free. Each call is an
+//! equation with the machine's own `take_memory`, `take_stack`, `free_memory` and `free_stack`. Sizes and addresses are unsigned, and
+//! no sum of them wraps.
+//!
+//! | Call | Condition | Promise |
+//! |---|---|---|
+//! | `new` | `low_aligned`, `high_aligned`: multiples of 8; `order`: low is at most high; `in_ram`: high is at most RAM's size | `free`: all cells are free; or `NoMemory`, in this call alone |
+//! | `getmem` | | `grants`: the lowest cells that are free and enough, their address; `refuses`: `None` if and only if the machine refuses; `stays`: then nothing changes; `aligned`, `in_ram`: where the bytes are |
+//! | `getstk` | | the same of the highest cells; the answer is the address of the stack's highest word |
+//! | `freemem` | | `frees`: the cells are free, false if and only if the machine refuses; `stays`: then nothing changes |
+//! | `freestk` | | the same of the stack whose highest word is at the address |
+//! | `free_total` | | `total`: the bytes of the cells that are free |
+//! | `block_from` | | `first`: the first of the machine's `free_blocks` at the address or above, `None` if and only if there is none; `some`, `in_ram`: it isn't empty, and is in RAM |
+//!
+//! The code keeps the free blocks alone: by place, none empty, and a taken cell between any two (`AreBlocks` in `specs/Blocks.antt`,
+//! `cells_of` what they stand for). So n cells have at most (n + 1) / 2 blocks, and the n / 2 + 1 records that `new` takes are enough:
+//! no other call takes memory. Each call costs time in proportion to the number of free blocks. `proofs/Rest.antt` has the laws for a
+//! loop that takes one block after another by `block_from`. The crate depends on `xinu_base` and on the definitions of `xinu_model`.
+#![tactic(auto)]
+
+mod blocks;
+mod heap;
+mod list;
+
+pub use heap::Heap;
+
+#[cfg(test)]
+mod tests;
