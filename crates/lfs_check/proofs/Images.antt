@@ -71,8 +71,8 @@ image_lies image e =
 pub image_size : (image : List ℕ) → fault image ≡ None → rule_0 (geometry_of image) image ≡ None
 image_size image e = named-none 0 (rule_0 (geometry_of image) image) (first-nones (named 0 (rule_0 (geometry_of image) image)) _ e).0
 
-pub whole_blocks : (image : List ℕ) → fault image ≡ None → length image ≡ 512 * (length image / 512)
-whole_blocks image e =
+pub sized_blocks : (image : List ℕ) → rule_0 (geometry_of image) image ≡ None → length image ≡ 512 * (length image / 512)
+sized_blocks image r0 =
     let n = length image in
     let P : Bool → Type 0 = λ v. rule_0 (record { dirs = cond v 6 1; blocks = n / 512 }) image ≡ None → n % 512 ≡ 0 in
     let yes : P true = λ r. (let a = nat_eq (n % 512) 0 in let b = nat_le (512 * 14) n in let c = nat_le n (512 * 65542) in
@@ -80,7 +80,10 @@ whole_blocks image e =
     let no : P false = λ r. (let a = nat_eq (n % 512) 0 in let b = nat_le (512 * 8) n in let c = nat_le n (512 * 65536) in
     let t : a ≡ true = (both a b (both (a && b) c (cond-none (a && b && c) 0 r)).0).0 in grind (arith, nat_tests)) in
     let all : (v : Bool) → P v = λ v. elim v as (λ v. P v) [ true ↦ yes | false ↦ no ] in
-    let z = all (is_version_2 image) (image_size image e) in omega (arith, z)
+    let z = all (is_version_2 image) r0 in omega (arith, z)
+
+pub whole_blocks : (image : List ℕ) → fault image ≡ None → length image ≡ 512 * (length image / 512)
+whole_blocks image e = sized_blocks image (image_size image e)
 
 pub image_names : (image : List ℕ) → fault image ≡ None → rule_1 (geometry_of image) (entries_of (geometry_of image) image) ≡ None
 image_names image e =
@@ -89,11 +92,14 @@ image_names image e =
     named-none 1 (rule_1 g d.entries) (first-nones (named 1 (rule_1 g d.entries)) _ dirs).0
 
 -- and as many blocks as its version allows
-pub image_blocks : (image : List ℕ) → fault image ≡ None → (cond (is_version_2 image) 14 8 ≤ length image / 512) × (length image / 512 ≤ cond (is_version_2 image) 65542 65536)
-image_blocks image e =
+pub sized_most : (image : List ℕ) → rule_0 (geometry_of image) image ≡ None → (cond (is_version_2 image) 14 8 ≤ length image / 512) × (length image / 512 ≤ cond (is_version_2 image) 65542 65536)
+sized_most image r0 =
     let n = length image in
     let P : Bool → Type 0 = λ v. rule_0 (record { dirs = cond v 6 1; blocks = n / 512 }) image ≡ None → (cond v 14 8 ≤ n / 512) × (n / 512 ≤ cond v 65542 65536) in
     let yes : P true = λ r. (let f = size_facts 14 65542 n (cond-none _ 0 r) in (omega (arith, f.0), omega (arith, f.1))) in
     let no : P false = λ r. (let f = size_facts 8 65536 n (cond-none _ 0 r) in (omega (arith, f.0), omega (arith, f.1))) in
     let all : (v : Bool) → P v = λ v. elim v as (λ v. P v) [ true ↦ yes | false ↦ no ] in
-    all (is_version_2 image) (image_size image e)
+    all (is_version_2 image) r0
+
+pub image_blocks : (image : List ℕ) → fault image ≡ None → (cond (is_version_2 image) 14 8 ≤ length image / 512) × (length image / 512 ≤ cond (is_version_2 image) 65542 65536)
+image_blocks image e = sized_most image (image_size image e)

@@ -19,3 +19,4 @@ pub mod Theorems
 pub mod Builts
 pub mod Keeping
 pub mod Images
+pub mod KeptRead

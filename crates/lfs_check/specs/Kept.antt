@@ -1,10 +1,10 @@
 -- Which files of a disk with faults are kept.
-use Rattle.std.specs.Prelude.{ℕ, Bool, true, false, cond, not, ◌&&◌, nat_eq, List, [], ◌∷◌, ◌++◌, length, Option, Some, None, bytes_eq}
+use Rattle.std.specs.Prelude.{ℕ, Bool, true, false, cond, not, ◌&&◌, nat_eq, List, [], ◌∷◌, ◌++◌, length, slice_index, Option, Some, None, bytes_eq}
 use Rattle.std.specs.List.{flat_map, list_all, list_any}
 use Rattle.lfs_format.specs.declared.Entry.{Entry}
 use Rattle.lfs_format.specs.declared.Index.{Index}
 use Rattle.lfs_check.specs.declared.geometry.Geometry.{Geometry}
-use Rattle.lfs_check.specs.Rules.{is_used, is_name, is_larger}
+use Rattle.lfs_check.specs.Rules.{is_used, is_name, is_larger, has_name}
 use Rattle.lfs_check.specs.Geometries.{longest_name, room}
 use Rattle.lfs_check.specs.Meets.{null, times}
 use Rattle.lfs_check.specs.Checks.{met_of, end_of, need_index, need_data, rows_fault, offsets_fault}
@@ -18,13 +18,22 @@ is_none (Some a) = false
 abbrev pub stand_once : List ℕ → List ℕ → Bool
 stand_once xs all = list_all (λ n. nat_eq (times n all) 1) xs
 
--- an entry whose own fields and blocks are right: the walk of its file is whole, and no block is met twice in it
-abbrev pub is_whole : Geometry → List Index → Entry → Bool
-is_whole g indexes e =
-    is_used e && is_name (longest_name g) e.name && not (is_larger (room g) e)
-    && nat_eq (length (met_of g indexes e)) (need_index e) && nat_eq (end_of g indexes e) null
+-- an entry with a name and a size that can be
+abbrev pub has_sound_fields : Geometry → Entry → Bool
+has_sound_fields g e = is_used e && is_name (longest_name g) e.name && not (is_larger (room g) e)
+
+-- an entry whose walk meets the index blocks that its size needs and then null, each with its offset and the right numbers
+abbrev pub has_sound_walk : Geometry → List Index → Entry → Bool
+has_sound_walk g indexes e =
+    nat_eq (length (met_of g indexes e)) (need_index e) && nat_eq (end_of g indexes e) null
     && is_none (rows_fault g indexes (need_data e) (met_of g indexes e)) && is_none (offsets_fault g indexes 0 (met_of g indexes e))
-    && stand_once (data_in g indexes e) (data_in g indexes e)
+
+abbrev pub is_sound : Geometry → List Index → Entry → Bool
+is_sound g indexes e = has_sound_fields g e && has_sound_walk g indexes e
+
+-- a whole entry is sound, and no data block is met twice in it
+abbrev pub is_whole : Geometry → List Index → Entry → Bool
+is_whole g indexes e = is_sound g indexes e && stand_once (data_in g indexes e) (data_in g indexes e)
 
 -- the blocks of all whole entries
 abbrev pub whole_chains : Geometry → List Index → List Entry → List ℕ
@@ -50,3 +59,18 @@ kept_from g indexes es before (e ∷ rest) = cond (is_kept g indexes es before e
 
 abbrev pub kept : Geometry → List Index → List Entry → List Entry
 kept g indexes es = kept_from g indexes es [] es
+
+-- the whole entries, in their order
+abbrev pub whole_entries : Geometry → List Index → List Entry → List Entry
+whole_entries g indexes [] = []
+whole_entries g indexes (e ∷ es) = cond (is_whole g indexes e) (e ∷ whole_entries g indexes es) (whole_entries g indexes es)
+
+-- the same by counts of the blocks
+abbrev pub counted_once : List ℕ → List ℕ → Bool
+counted_once xs counts = list_all (λ n. nat_eq (slice_index counts n) 1) xs
+
+abbrev pub kept_counted : Geometry → List Index → List ℕ → List ℕ → List Entry → List Entry → List Entry
+kept_counted g indexes chains datas before [] = []
+kept_counted g indexes chains datas before (e ∷ es) =
+    cond (not (has_name before e.name) && counted_once (chain_in g indexes e) chains && counted_once (data_in g indexes e) datas)
+    (e ∷ kept_counted g indexes chains datas (before ++ e ∷ []) es) (kept_counted g indexes chains datas (before ++ e ∷ []) es)

@@ -13,6 +13,7 @@ mod fields;
 mod geometry;
 mod laws;
 mod meets;
+mod repair;
 mod rules;
 mod survey;
 mod walks;
@@ -28,7 +29,8 @@ pub use laws::{
     built_is_clean, clean_image_lies, clean_is_laid, empty_is_clean, kept_are_apart,
     migration_fits, places_are_read,
 };
-pub use rules::{entry_is_used, size_fault};
+pub use repair::kept_entries;
+pub use rules::{entry_is_used, size_fault, used_count};
 pub use survey::file_blocks;
 
 #[cfg(test)]

@@ -120,7 +120,7 @@ fn has_bad_name(geometry: Geometry, entries: &[Entry], e: usize) -> bool
 
 // Whether a used entry has the name.
 #[tactic(auto, unfolding(crate::specs::Rules::has_name))]
-fn is_repeated(entries: &[Entry], name: &[u8; 28]) -> bool
+pub(crate) fn is_repeated(entries: &[Entry], name: &[u8; 28]) -> bool
     ensures { result ≡ has_name entries.now name.now }
 {
     for entry in entries {
@@ -131,8 +131,8 @@ fn is_repeated(entries: &[Entry], name: &[u8; 28]) -> bool
     false
 }
 
-// How many entries are used.
-pub(crate) fn used_count(entries: &[Entry]) -> usize
+/// How many entries are used.
+pub fn used_count(entries: &[Entry]) -> usize
     ensures { result ≡ count_by is_used entries.now }
 {
     entries.iter().filter(|e| entry_is_used(e)).count()

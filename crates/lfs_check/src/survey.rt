@@ -5,7 +5,7 @@ ghost use Rattle.std.specs.List.{flat_map};
 ghost use Rattle.lfs_check.specs.Geometries.{index_count, IsGeometry};
 ghost use Rattle.lfs_check.specs.Checks.{least, need_index, need_data, nexts_of, met_of, end_of, end_fault, rows_fault, offsets_fault, file_fault_4, file_fault_5, file_index_numbers, file_data_numbers, row_of, lowest_of};
 ghost use Rattle.lfs_check.specs.Rules.{is_used};
-ghost use Rattle.lfs_check.specs.Clean.{data_in};
+ghost use Rattle.lfs_check.specs.Clean.{chain_in, data_in};
 
 use crate::chain_rules::{
     data_needed, end_fault, indexes_needed, least, offsets_fault, rows_fault,
@@ -47,8 +47,30 @@ pub fn file_blocks(
     Ok(numbers)
 }
 
-// Walks the index blocks of the file of an entry.
-fn walk_file(
+/// The index blocks of the file of an entry.
+pub fn file_chain(
+    alloc: Global,
+    geometry: Geometry,
+    indexes: &[Index],
+    nexts: &[u32],
+    entry: &Entry,
+) -> Result<Vec<u32>, AllocError>
+    requires geometry { IsGeometry geometry }
+    requires count { length indexes.now ≡ index_count geometry }
+    requires nexts { nexts.now ≡ nexts_of indexes.now }
+    ensures { IfOk result (λ v. v.items ≡ chain_in geometry indexes.now entry.now) }
+{
+    if entry_is_used(entry) {
+        let walk = walk_file(alloc, geometry, indexes, nexts, entry)?;
+        let Walk { met, end: _ } = walk;
+        Ok(met)
+    } else {
+        Ok(Vec::new(alloc))
+    }
+}
+
+/// Walks the index blocks of the file of an entry.
+pub fn walk_file(
     alloc: Global,
     geometry: Geometry,
     indexes: &[Index],

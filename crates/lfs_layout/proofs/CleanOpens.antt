@@ -87,7 +87,7 @@ in_block_none : (g : Geometry) (o : Option ℕ) → in_entry_block g o ≡ None 
 in_block_none g None e = refl
 in_block_none g (Some k) e = absurd (cc (e))
 
-longest_most : (g : Geometry) → longest_name g ≤ 27
+pub longest_most : (g : Geometry) → longest_name g ≤ 27
 longest_most g =
     let P : Bool → Type 0 = λ v. cond v 15 27 ≤ 27 in
     let all : (v : Bool) → P v = λ v. elim v as (λ v. P v) [ true ↦ omega arith | false ↦ omega arith ] in
@@ -123,7 +123,7 @@ length_block image n b l h = let t = length-take 512 (drop (512 * b) image) in l
 abbrev no_entry_1 : Entry1
 no_entry_1 = record { size = 0; first = 0; name = [] }
 
-wide_1 : (image : List ℕ) (n : ℕ) → length image ≡ 512 * n → 1 ≤ n → (length (entries_1 image) ≡ 20) × ((k : ℕ) → k < length (entries_1 image) → length (get_or (entries_1 image) k blank).name ≡ 28)
+pub wide_1 : (image : List ℕ) (n : ℕ) → length image ≡ 512 * n → 1 ≤ n → (length (entries_1 image) ≡ 20) × ((k : ℕ) → k < length (entries_1 image) → length (get_or (entries_1 image) k blank).name ≡ 28)
 unfolding dir_1_of
 wide_1 image n l h =
     let b = block_in image 0 in let bl = length_block image n 0 l (omega arith) in
@@ -150,7 +150,7 @@ unfolding joined
 joined_each P f zero all k h = absurd (omega (arith, h))
 joined_each P f (suc n) all k h = each_append P (joined f n) (f n) blank (joined_each P f n (λ d m. all d (omega (arith, m)))) (all n (omega arith)) k h
 
-wide_2 : (image : List ℕ) (n : ℕ) → length image ≡ 512 * n → 6 ≤ n → (length (entries_2 image) ≡ 78) × ((k : ℕ) → k < length (entries_2 image) → length (get_or (entries_2 image) k blank).name ≡ 28)
+pub wide_2 : (image : List ℕ) (n : ℕ) → length image ≡ 512 * n → 6 ≤ n → (length (entries_2 image) ≡ 78) × ((k : ℕ) → k < length (entries_2 image) → length (get_or (entries_2 image) k blank).name ≡ 28)
 wide_2 image n l h =
     let f : ℕ → List Entry = λ d. (dir_of (block_in image d)).entries in
     let P : Entry → Type 0 = λ e. length e.name ≡ 28 in

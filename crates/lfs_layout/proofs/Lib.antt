@@ -11,3 +11,5 @@ pub mod CleanOpens
 pub mod MadeClean
 pub mod FilesSet
 pub mod SetImage
+pub mod KeptFiles
+pub mod Repairs

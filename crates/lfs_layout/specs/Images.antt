@@ -1,9 +1,10 @@
 -- Raw images and clean images.
 use Rattle.std.specs.Prelude.{ℕ, ◌≡◌, ◌+◌, ◌/◌, ◌%◌, ◌&&◌, Bool, true, false, cond, nat_eq, nat_le, List, length, None, Result, Ok, Err}
 use Rattle.xinu_base.specs.declared.NoMemory.{NoMemory}
-use Rattle.lfs_check.specs.Fields.{is_version_2}
+use Rattle.lfs_check.specs.Fields.{is_version_2, geometry_of, fields_of, entries_of}
+use Rattle.lfs_check.specs.Kept.{kept}
 use Rattle.lfs_check.specs.Faults.{fault}
-use Rattle.lfs_layout.specs.Files.{File, placed_files, have_room, with_set}
+use Rattle.lfs_layout.specs.Files.{File, files_in, placed_files, have_room, with_set}
 use Rattle.lfs_layout.specs.Made.{image_of, geometry_2}
 
 -- a disk without files: 8 to 65,536 whole blocks
@@ -25,3 +26,16 @@ abbrev pub Puts : List ℕ → List ℕ → File → Result Bool NoMemory → Ty
 Puts old new file (Ok true) = (have_room (geometry_2 (length old / 512)) (with_set file (placed_files old)) ≡ true) × (placed_files new ≡ with_set file (placed_files old)) × (length new ≡ length old)
 Puts old new file (Ok false) = (have_room (geometry_2 (length old / 512)) (with_set file (placed_files old)) ≡ false) × (new ≡ old)
 Puts old new file (Err e) = new ≡ old
+
+-- the files of the entries of an image that are kept
+abbrev pub kept_files : List ℕ → List File
+kept_files image =
+    files_in (geometry_of image) (fields_of (geometry_of image) image).indexes image (kept (geometry_of image) (fields_of (geometry_of image) image).indexes (entries_of (geometry_of image) image))
+
+-- how many blocks the repaired image has: as many, and six more if it had version 1
+abbrev pub repaired_blocks : List ℕ → ℕ
+repaired_blocks image = length image / 512 + cond (is_version_2 image) 0 6
+
+-- the repaired image
+abbrev pub repaired : List ℕ → List ℕ
+repaired image = image_of (repaired_blocks image) (kept_files image)

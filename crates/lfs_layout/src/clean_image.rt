@@ -48,6 +48,14 @@ impl CleanImage {
         }
     }
 
+    /// The clean image that was made.
+    pub(crate) fn made(bytes: Vec<u8>) -> CleanImage
+        requires { IsCleanImage bytes.items }
+        ensures { result ≡ bytes.items }
+    {
+        CleanImage { bytes }
+    }
+
     /// An image without files.
     ///
     /// # Errors

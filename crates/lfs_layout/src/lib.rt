@@ -12,6 +12,7 @@ mod data_blocks;
 mod directory;
 mod files;
 mod index_blocks;
+mod mend;
 mod raw_image;
 mod reading;
 
@@ -20,6 +21,7 @@ pub use lfs_check::{CheckFault, DiskFault, Report, check};
 pub use lfs_format::{
     Dir, Dir1, Entry, Entry1, Index, NULL, read_dir, read_dir_1, read_index, write_dir, write_index,
 };
+pub use mend::{Repaired, repair};
 pub use raw_image::RawImage;
 
 #[cfg(test)]

@@ -2,7 +2,7 @@
 
 mod migration;
 
-use crate::{CheckFault, CleanImage, RawImage, check};
+use crate::{CheckFault, CleanImage, RawImage, check, repair};
 use byteorder::{ByteOrder, LittleEndian};
 use std::alloc::Global;
 use std::process::Abort;
@@ -236,4 +236,56 @@ fn files_are_read_by_their_names(rt: HostRuntime) {
     assert!(rt; lacks(&rt, rt.alloc(), &image, b"log\0"));
     assert!(rt; lacks(&rt, rt.alloc(), &image, b""));
     assert!(rt; lacks(&rt, rt.alloc(), &image, b"twenty-eight bytes are a lot"));
+}
+
+#[test]
+fn repair_keeps_what_shares_no_block(rt: HostRuntime) {
+    let mut image = empty(&rt, rt.alloc(), 256);
+    let long = vec![in rt.alloc(); 5u8; 600].expect(&rt, "memory");
+    assert!(rt; matches!(image.put_file(rt.alloc(), b"a", b"1"), Ok(true)));
+    assert!(rt; matches!(image.put_file(rt.alloc(), b"b", b"2"), Ok(true)));
+    assert!(rt; matches!(image.put_file(rt.alloc(), b"c", &long), Ok(true)));
+    let mut bytes = image.into_bytes();
+    let first = word_at(&bytes, 512 * 6 + 8);
+    put(&mut bytes, 512 * 6 + 72 + 8, first);
+    assert!(rt; matches!(check(rt.alloc(), &bytes), Err(CheckFault::Broken(_))));
+    match repair(rt.alloc(), &bytes) {
+        Ok(repaired) => {
+            assert!(rt; repaired.kept == 1);
+            assert!(rt; repaired.dropped == 2);
+            assert!(rt; reports(&rt, rt.alloc(), repaired.image.bytes(), (1, 244, 27)));
+            assert!(rt; holds(&rt, rt.alloc(), &repaired.image, b"c", &long));
+        }
+        Err(_) => rt.abort(),
+    }
+}
+
+#[test]
+fn repair_keeps_all_files_of_a_clean_image(rt: HostRuntime) {
+    let old = image_of(&rt, rt.alloc(), 12, &migration::OLD);
+    let new = image_of(&rt, rt.alloc(), 18, &migration::NEW);
+    match repair(rt.alloc(), &old) {
+        Ok(repaired) => {
+            assert!(rt; repaired.kept == 3);
+            assert!(rt; repaired.dropped == 0);
+            assert!(rt; repaired.image.bytes() == new.as_slice());
+        }
+        Err(_) => rt.abort(),
+    }
+}
+
+#[test]
+fn repair_refuses_what_is_no_disk(rt: HostRuntime) {
+    match repair(rt.alloc(), &image_of(&rt, rt.alloc(), 7, &[])) {
+        Err(CheckFault::Broken(fault)) => assert!(rt; fault.rule == 0 && fault.block == 0),
+        _ => rt.abort(),
+    }
+    match repair(rt.alloc(), &image_of(&rt, rt.alloc(), 8, &[])) {
+        Ok(repaired) => {
+            assert!(rt; repaired.kept == 0);
+            assert!(rt; repaired.dropped == 0);
+            assert!(rt; reports(&rt, rt.alloc(), repaired.image.bytes(), (0, 7, 7)));
+        }
+        Err(_) => rt.abort(),
+    }
 }
