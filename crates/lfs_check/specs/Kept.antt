@@ -22,7 +22,7 @@ stand_once xs all = list_all (λ n. nat_eq (times n all) 1) xs
 abbrev pub has_sound_fields : Geometry → Entry → Bool
 has_sound_fields g e = is_used e && is_name (longest_name g) e.name && not (is_larger (room g) e)
 
--- an entry whose walk meets the index blocks that its size needs and then null, each with its offset and the right numbers
+-- an entry with exactly the index blocks of its size in its chain, which ends with null, and the right offset and numbers in each
 abbrev pub has_sound_walk : Geometry → List Index → Entry → Bool
 has_sound_walk g indexes e =
     nat_eq (length (met_of g indexes e)) (need_index e) && nat_eq (end_of g indexes e) null

@@ -27,8 +27,8 @@ pub struct Repaired {
 /// Makes a clean image of version 2 of the files of an image that can be kept. It has as many blocks, and six more if the image
 /// had version 1.
 ///
-/// A used entry is whole if its name and size can be, its chain is just what its size needs and no block is met twice in it. It is
-/// kept if it is whole, no lower whole entry has its name, and it shares no block with another whole entry.
+/// A used entry is whole if its name and size can be, its chain is just what its size needs and no block is met twice in it. A
+/// whole entry is kept unless one before it has its name, or another shares one of its blocks.
 ///
 /// # Errors
 ///

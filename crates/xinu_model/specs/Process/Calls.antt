@@ -74,8 +74,7 @@ with_priority p priority t =
     let x = record (process_at t p) { priority = priority } in
     if is_ready x.state then move_to p x (message_at t p) InReady t else record t { processes = slice_set t.processes p x }
 
--- call 7: p has another priority, and if it is ready or current the caller asks for a resched; the one that it had; refused if p
--- is free
+-- call 7: p gets this priority, and a resched is owed if p is ready or current; the answer is the one before; refused if p is free
 abbrev pub chprio : ℕ → ℤ → Xinu → CallResult
 chprio p priority s =
     let t = s.tables in
