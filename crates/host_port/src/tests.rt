@@ -132,8 +132,9 @@ fn real_host_reads_what_it_wrote(rt: HostRuntime) -> Result<(), Fail> {
     for (number, (channel, name)) in files.iter().enumerate() {
         let bytes = long_bytes(alloc, number as u8)?;
         assert_eq!(rt; host.name_out(*channel, name), Ok(()), "{name}");
-        assert_eq!(rt; host.emit(*channel, &bytes[..7]), Ok(()), "{name}");
-        assert_eq!(rt; host.emit(*channel, &bytes[7..]), Ok(()), "{name}");
+        let half = bytes.len() / 2;
+        assert_eq!(rt; host.emit(*channel, &bytes[..half]), Ok(()), "{name}");
+        assert_eq!(rt; host.emit(*channel, &bytes[half..]), Ok(()), "{name}");
     }
     for (number, (_, name)) in files.iter().enumerate() {
         let bytes = long_bytes(alloc, number as u8)?;
