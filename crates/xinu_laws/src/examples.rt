@@ -12,7 +12,7 @@ ghost use Rattle.xinu_laws.specs.Examples.Messages as message_examples;
 ghost use Rattle.xinu_laws.specs.Examples.Clock as clock_examples;
 ghost use Rattle.xinu_laws.specs.Examples.Pools as pool_examples;
 ghost use Rattle.xinu_laws.specs.Examples.Ports as port_examples;
-ghost use Rattle.xinu_laws.specs.Examples.Played.{outcome_of, last_tables, printed, transcript};
+ghost use Rattle.xinu_laws.specs.Examples.Played.{outcome_of, last_tables, printed, played_transcript};
 ghost use Rattle.xinu_model.specs.Memory.{number_at};
 ghost use Rattle.xinu_model.specs.Text.{pool_lines, port_lines, semaphore_lines, sleeper_line};
 
@@ -28,10 +28,10 @@ pub fn processes()
 
 /// Another priority: above the caller's, below the null process's, for the null process itself, the same again.
 pub fn priorities()
-    ensures raised_above_caller { transcript priority_examples.raised_above_caller ≡ priority_examples.raised_above_caller_transcript }
-    ensures lowered_below_null { transcript priority_examples.lowered_below_null ≡ priority_examples.lowered_below_null_transcript }
-    ensures raised_null { transcript priority_examples.raised_null ≡ priority_examples.raised_null_transcript }
-    ensures entered_again { transcript priority_examples.entered_again ≡ priority_examples.entered_again_transcript }
+    ensures raised_above_caller { played_transcript priority_examples.raised_above_caller ≡ priority_examples.raised_above_caller_transcript }
+    ensures lowered_below_null { played_transcript priority_examples.lowered_below_null ≡ priority_examples.lowered_below_null_transcript }
+    ensures raised_null { played_transcript priority_examples.raised_null ≡ priority_examples.raised_null_transcript }
+    ensures entered_again { played_transcript priority_examples.entered_again ≡ priority_examples.entered_again_transcript }
     ensures yields_to_equals { printed priority_examples.yields_to_equals ≡ priority_examples.yields_to_equals_lines }
 {}
 
@@ -46,7 +46,7 @@ pub fn semaphores()
     ensures semaphore_with_a_kill { printed semaphore_examples.semaphore_with_a_kill ≡ semaphore_examples.semaphore_with_a_kill_lines }
     ensures reset_releases { printed semaphore_examples.reset_releases ≡ semaphore_examples.reset_releases_lines }
     ensures all_semaphores { printed semaphore_examples.all_semaphores ≡ semaphore_examples.all_semaphores_lines }
-    ensures deleted_semaphore { transcript semaphore_examples.deleted_semaphore ≡ semaphore_examples.deleted_semaphore_transcript }
+    ensures deleted_semaphore { played_transcript semaphore_examples.deleted_semaphore ≡ semaphore_examples.deleted_semaphore_transcript }
 {}
 
 /// Messages: a slot that is full, a slot that is taken back.

@@ -111,9 +111,9 @@ abbrev pub last_tables : Example → List TranscriptLine
 last_tables example = tables_of (outcome_of example).state
 
 -- how it ended: in a panic, since no process but the null process was left, or with its last turn
-abbrev pub ended : Played → End
-ended x = unwrap_or (end_with x.panicked (is_over x.state)) Schedule
+abbrev pub played_end : Played → End
+played_end x = unwrap_or (end_with x.panicked (is_over x.state)) Schedule
 
 -- the whole of what it prints: its lines, the tables of its last state, and its end
-abbrev pub transcript : Example → List TranscriptLine
-transcript example = printed example ++ last_tables example ++ line.End (ended (outcome_of example)) ∷ []
+abbrev pub played_transcript : Example → List TranscriptLine
+played_transcript example = printed example ++ last_tables example ++ line.End (played_end (outcome_of example)) ∷ []
