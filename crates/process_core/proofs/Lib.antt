@@ -1,0 +1,10 @@
+pub mod Semaphores
+pub mod Without
+pub mod Sleepers
+pub mod Removals
+pub mod Moves
+pub mod Fitting
+pub mod Rescheds
+pub mod Searches
+pub mod Starts
+pub mod Names

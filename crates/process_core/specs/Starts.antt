@@ -1,0 +1,24 @@
+-- The process table at the start, and what a new process is.
+use Rattle.std.specs.Prelude.{ℕ, List, ◌++◌, take, replicate, Bool, true, false}
+use Rattle.xinu_base.specs.declared.processes.Rest.{Rest}
+use Rattle.xinu_base.specs.declared.processes.Rest.TheVariants.{Nothing}
+use Rattle.xinu_model.specs.Boot.{null_tables}
+use Rattle.process_core.specs.Tables.{ProcessTable}
+
+-- the process table of the machine before any image is loaded: the null process alone, which runs
+abbrev pub first_table : ProcessTable
+first_table = record {
+  processes = null_tables.processes;
+  current = null_tables.current;
+  quantum = null_tables.quantum;
+  last_process = null_tables.last_process;
+}
+
+-- a name with zeros after its end, fifteen bytes in all
+abbrev pub padded : List ℕ → List ℕ
+padded name = take 15 (name ++ replicate 15 0)
+
+-- whether nothing is left of a call
+abbrev pub is_nothing : Rest → Bool
+is_nothing Nothing = true
+is_nothing _ = false

@@ -1,0 +1,36 @@
+//! The processes: their table, who runs, and who becomes ready (book, chapters 4 to 6).
+//!
+//! A clause sees a `Procs` as a `ProcessTable`: the processes by number, the current one, what is left of the quantum, and the last
+//! number given. Together with the lists of a queue table it stands for the abstract machine's tables: `tables_of lists procs beside`
+//! in `specs/Tables.antt`, where `beside` is everything else that the tables have. Each call that takes lists is an equation with the
+//! machine's own step, for every `beside`; it requires that lists and processes fit (`Fits` in `specs/Fits.antt`) and ensures it again.
+//! Queue 128 is the ready list, queue 129 has the sleepers.
+//!
+//! | Call | Condition | Promise |
+//! |---|---|---|
+//! | `new` | | `starts`: the machine's table at the start; `never`: it has always room; `fits`: it fits new lists |
+//! | `current`, `quantum`, `state_of`, `priority_of`, `parent_of`, `name_of`, `name_field_of`, `stack_of`, `rest_of`, `is_running`, `is_done` | | what their names say of the table |
+//! | `alive` | | `count`: the processes but the null process; `over`: 0 if and only if the machine says that none is left |
+//! | `set_rest` | | `procs`: another rest, and nothing else |
+//! | `set_priority` | `fits` | `prioritized`: the machine's `with_priority` |
+//! | `place_free` | | `found`: the number that the machine's search finds; `free`: it is free; `full`: `None` if and only if none is free |
+//! | `make` | `free`: the number is free; `short`: a name of at most 15 bytes | `made`: the machine's new process, suspended; the search goes on after it |
+//! | `ready_defer` | `absent`: p is in no list; `fits` | `readied`: the machine's `ready`, without a resched |
+//! | `block` | `runs`: the current process runs; `blocks`: it is to wait or to be suspended | `blocked`: the machine moves it out of all lists in this state |
+//! | `resched` | `fits` | `resched`: the machine's own; `answer`: the process that became current, `None` if and only if the current one keeps the processor |
+//! | `suspend_ready` | `ready`: p is ready; `fits` | `suspended`: the machine moves it out of all lists, suspended |
+//! | `free_part` | `absent`, `fits` | `freed`: the entry is what it was at the start |
+//! | `quantum_tick` | | `falls`: true if and only if the quantum came to 0 and is renewed |
+//!
+//! Beside the equation each call says which columns change: `procs` the table, `lists` the lists, `others` the queues that stay.
+//! `proofs/Moves.antt` and `proofs/Removals.antt` have the laws by which the crates above compose moves (out of a list, then to a place),
+//! `proofs/Fitting.antt` those by which they keep the fit, `proofs/Sleepers.antt` the sleepers as the calls on a delta list leave them,
+//! and `proofs/Inside.antt` draws the fit from what always holds. The crate depends on `queue_table` and the definitions of `xinu_model`.
+#![tactic(auto)]
+
+mod creation;
+mod procs;
+mod scheduling;
+
+pub use procs::{Procs, pid_at};
+pub use scheduling::{READY, SLEEPERS};

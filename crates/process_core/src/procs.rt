@@ -1,0 +1,248 @@
+//! The process table, and what is read and written of one entry (book, chapter 4, `process.h`).
+//!
+//! It depends on nothing else of the crate. No fact is kept of it: what fits is said of it and the lists together.
+
+ghost use Rattle.std.specs.Prelude.{◌≡◌, ◌<◌, ◌↔◌, ◌==◌, not, IsTrue, IfOk, IfErr, count_by, drop, replicate, []};
+ghost use Rattle.std.specs.List.{list_all};
+ghost use Rattle.process_core.specs.Fits.{Fits};
+ghost use Rattle.process_core.specs.Starts.{first_table};
+ghost use Rattle.process_core.specs.Tables.{process_in, with_process, with_state};
+ghost use Rattle.xinu_model.specs.Process.Creation.{before_zero};
+ghost use Rattle.xinu_model.specs.Process.Scheduling.{is_current};
+ghost use Rattle.xinu_model.specs.Process.Calls.{is_ready};
+ghost use Rattle.xinu_model.specs.Tables.{is_free, no_process};
+
+use std::alloc::Global;
+use std::marker::Model;
+use xinu_base::{NoMemory, Pid, Process, QUANTUM, Rest, State};
+
+/// State, priority, parent, name, stack and rest of each process, the current one and the quantum.
+#[derive(Drop)]
+pub struct Procs {
+    // The processes, by number.
+    pub(crate) entries: [Process; 64],
+    // The current process.
+    pub(crate) current: Pid,
+    // The ticks that are left of the quantum.
+    pub(crate) quantum: u8,
+    // The last number given.
+    pub(crate) last: Pid,
+}
+
+impl Model for Procs {
+    ghost use Rattle.process_core.specs.Tables.{ProcessTable};
+
+    ghost Value = { ProcessTable };
+
+    ghost view = { λ p. record { processes = p.entries; current = p.current; quantum = p.quantum; last_process = p.last } };
+}
+
+impl Procs {
+    /// The null process alone, current, with priority 0 and the name `prnull`. The table is part of the value, so there is always
+    /// room for it.
+    pub fn new(_alloc: Global) -> Result<Self, NoMemory>
+        ensures starts { IfOk result (λ s. s ≡ first_table) }
+        ensures never { IfErr result (λ _. ⊥) }
+        ensures fits { IfOk result (λ s. Fits (replicate 130 []) s.processes) }
+    {
+        let mut entries = [free_entry(); 64];
+        entries[0].state = State::Current;
+        entries[0].name = *b"prnull\0\0\0\0\0\0\0\0\0";
+        Ok(Procs {
+            entries,
+            current: Pid::default(),
+            quantum: QUANTUM,
+            last: Pid::default(),
+        })
+    }
+
+    /// The current process.
+    pub fn current(&self) -> Pid
+        ensures current { result ≡ self.now.current }
+    {
+        self.current
+    }
+
+    /// The ticks that are left of the quantum.
+    pub fn quantum(&self) -> u8
+        ensures quantum { result ≡ self.now.quantum }
+    {
+        self.quantum
+    }
+
+    /// How many processes there are but the null process.
+    pub fn alive(&self) -> usize
+        ensures count { result ≡ count_by (λ x. not (is_free x.state)) (drop 1 self.now.processes) }
+        ensures over { (result == 0) ≡ list_all (λ x. is_free x.state) (drop 1 self.now.processes) }
+    {
+        let processes = &self.entries[..];
+        count_alive(&processes[1..])
+    }
+
+    /// What `p` is doing.
+    pub fn state_of(&self, p: Pid) -> State
+        ensures state { result ≡ (process_in self.now.processes p).state }
+    {
+        self.entries[p.index()].state
+    }
+
+    /// The priority of `p`.
+    pub fn priority_of(&self, p: Pid) -> i16
+        ensures priority { result ≡ (process_in self.now.processes p).priority }
+    {
+        self.entries[p.index()].priority
+    }
+
+    /// The process that made `p`.
+    pub fn parent_of(&self, p: Pid) -> Pid
+        ensures parent { result ≡ (process_in self.now.processes p).parent }
+    {
+        self.entries[p.index()].parent
+    }
+
+    /// The name of `p`, at most 15 bytes.
+    pub fn name_of(&self, p: Pid) -> &[u8]
+        ensures name { result.now ≡ before_zero (process_in self.now.processes p).name }
+    {
+        before_first_zero(&self.entries[p.index()].name)
+    }
+
+    /// The name of `p` as the table has it, with zeros after its end.
+    pub fn name_field_of(&self, p: Pid) -> [u8; 15]
+        ensures name { result ≡ (process_in self.now.processes p).name }
+    {
+        self.entries[p.index()].name
+    }
+
+    /// The stack of `p`: the address of its highest word, and its size in bytes.
+    pub fn stack_of(&self, p: Pid) -> (u32, u32)
+        ensures top { result.0 ≡ (process_in self.now.processes p).stack }
+        ensures size { result.1 ≡ (process_in self.now.processes p).stack_size }
+    {
+        let process = &self.entries[p.index()];
+        (process.stack, process.stack_size)
+    }
+
+    /// What is left of the call of `p`.
+    pub fn rest_of(&self, p: Pid) -> Rest
+        ensures rest { result ≡ (process_in self.now.processes p).rest }
+    {
+        self.entries[p.index()].rest
+    }
+
+    /// Whether the current process is in state current: it neither waits nor is suspended or dead.
+    pub fn is_running(&self) -> bool
+        ensures running { result ≡ is_current (process_in self.now.processes self.now.current).state }
+    {
+        matches!(self.entries[self.current.index()].state, State::Current)
+    }
+
+    /// Whether nothing is left of the current process's call, so that its next step is an instruction. The rest isn't copied.
+    pub fn is_done(&self) -> bool
+        ensures done { IsTrue result ↔ ((process_in self.now.processes self.now.current).rest ≡ Rest.Nothing) }
+    {
+        matches!(self.entries[self.current.index()].rest, Rest::Nothing)
+    }
+
+    /// Sets what is left of the call of `p`.
+    pub fn set_rest(&mut self, p: Pid, rest: Rest)
+        ensures procs { self.new ≡ with_process p (record (process_in self.old.processes p) { rest = rest }) self.old }
+    {
+        self.entries[p.index()].rest = rest;
+    }
+
+    /// Puts `process` at the number of `p`.
+    pub(crate) fn set_process(&mut self, p: Pid, process: Process)
+        ensures procs { self.new ≡ with_process p process self.old }
+    {
+        self.entries[p.index()] = process;
+    }
+
+    /// Sets the state of `p`.
+    pub(crate) fn set_state(&mut self, p: Pid, state: State)
+        ensures procs { self.new ≡ with_state p state self.old }
+    {
+        self.entries[p.index()].state = state;
+    }
+
+    /// Makes `p` the current process, with a fresh quantum.
+    pub(crate) fn set_current(&mut self, p: Pid)
+        ensures procs { self.new ≡ record (with_state p State.Current self.old) { current = p; quantum = 2 } }
+    {
+        self.entries[p.index()].state = State::Current;
+        self.current = p;
+        self.quantum = QUANTUM;
+    }
+
+    /// Sets the priority of `p`, and leaves its key.
+    pub(crate) fn set_key_priority(&mut self, p: Pid, priority: i16)
+        ensures procs { self.new ≡ with_process p (record (process_in self.old.processes p) { priority = priority }) self.old }
+    {
+        self.entries[p.index()].priority = priority;
+    }
+
+    /// Whether the number of `p` is free.
+    pub(crate) fn is_free(&self, p: Pid) -> bool
+        ensures free { result ≡ is_free (process_in self.now.processes p).state }
+    {
+        matches!(self.entries[p.index()].state, State::Free)
+    }
+
+    /// Whether `p` is ready.
+    pub(crate) fn is_ready(&self, p: Pid) -> bool
+        ensures ready { result ≡ is_ready (process_in self.now.processes p).state }
+    {
+        matches!(self.entries[p.index()].state, State::Ready)
+    }
+}
+
+/// The process of a number below 64.
+pub fn pid_at(number: usize) -> Pid
+    requires below { number < 64 }
+    ensures process { result ≡ number }
+{
+    Pid::from_word(number as u32).unwrap()
+}
+
+/// What is at a free number.
+pub(crate) fn free_entry() -> Process
+    ensures entry { result ≡ no_process }
+{
+    Process {
+        state: State::Free,
+        priority: 0,
+        parent: Pid::default(),
+        name: [0; 15],
+        stack: 0,
+        stack_size: 0,
+        rest: Rest::Nothing,
+    }
+}
+
+// How many of these aren't free.
+fn count_alive(processes: &[Process]) -> usize
+    ensures count { result ≡ count_by (λ x. not (is_free x.state)) processes.now }
+    ensures over { (result == 0) ≡ list_all (λ x. is_free x.state) processes.now }
+{
+    let mut count = 0;
+    for process in processes {
+        if !matches!(process.state, State::Free) {
+            count += 1;
+        }
+    }
+    count
+}
+
+// The bytes before the first zero.
+fn before_first_zero(bytes: &[u8]) -> &[u8]
+    ensures front { result.now ≡ before_zero bytes.now }
+{
+    let mut end = 0;
+    for b in bytes {
+        if *b == 0 {
+            break;
+        }
+        end += 1;
+    }
+    &bytes[..end]
+}
