@@ -38,7 +38,7 @@ fits_moved ls ls' ps p x o f lt by here others may is_ready =
     }
 
 -- who may be in a queue by another state that is equal
-may_be_in : (q : ℕ) (a b : State) → a ≡ b → MayBeIn q a → MayBeIn q b
+pub may_be_in : (q : ℕ) (a b : State) → a ≡ b → MayBeIn q a → MayBeIn q b
 may_be_in q a b e m = let F : State → Type 0 = λ s. MayBeIn q s in subst F e m
 
 -- as many lists as before

@@ -8,3 +8,4 @@ pub mod Rescheds
 pub mod Searches
 pub mod Starts
 pub mod Names
+pub mod Inside

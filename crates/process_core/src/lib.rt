@@ -34,3 +34,6 @@ mod scheduling;
 
 pub use procs::{Procs, pid_at};
 pub use scheduling::{READY, SLEEPERS};
+
+#[cfg(test)]
+mod tests;
