@@ -9,3 +9,4 @@ pub mod Searches
 pub mod Starts
 pub mod Names
 pub mod Inside
+pub mod Steps
