@@ -13,3 +13,5 @@ pub mod FilesSet
 pub mod SetImage
 pub mod KeptFiles
 pub mod Repairs
+pub mod Ordered
+pub mod Listed

@@ -12,6 +12,7 @@ mod data_blocks;
 mod directory;
 mod files;
 mod index_blocks;
+mod listing;
 mod mend;
 mod raw_image;
 mod reading;
