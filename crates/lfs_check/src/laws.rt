@@ -1,6 +1,6 @@
 //! What the rules say of disks.
 
-ghost use Rattle.std.specs.Prelude.{ℕ, ◌≡◌, ◌≤◌, ◌+◌, ◌-◌, ◌*◌, ◌/◌, List, [], ◌↔◌, None};
+ghost use Rattle.std.specs.Prelude.{ℕ, ◌≡◌, ◌≤◌, ◌+◌, ◌-◌, ◌*◌, ◌/◌, List, [], ◌↔◌, None, filter};
 ghost use Rattle.lfs_check.specs.declared.geometry.Geometry.{Geometry};
 ghost use Rattle.lfs_check.specs.Geometries.{IsGeometry};
 ghost use Rattle.lfs_check.specs.Laid.{Shape, Places};
@@ -8,7 +8,8 @@ ghost use Rattle.lfs_check.specs.Clean.{chain_in, data_in, places_of, IsShape, P
 ghost use Rattle.lfs_check.specs.Meets.{times};
 ghost use Rattle.lfs_check.specs.Kept.{kept};
 ghost use Rattle.lfs_check.specs.Faults.{fault};
-ghost use Rattle.lfs_check.specs.Fields.{fields_of, geometry_of};
+ghost use Rattle.lfs_check.specs.Fields.{fields_of, geometry_of, entries_of};
+ghost use Rattle.lfs_check.specs.Rules.{is_used};
 ghost use Rattle.lfs_check.specs.Empty.{IsEmpty};
 ghost use Rattle.lfs_check.specs.Built.{IsBuilt, built_places};
 ghost use Rattle.std.specs.List.{flat_map};
@@ -49,6 +50,12 @@ pub fn migration_fits()
 #[tactic(auto, using(crate::proofs::Keeping::kept_apart))]
 pub fn kept_are_apart()
     ensures { (g : Geometry) (ix : List Index) (es : List Entry) (n : ℕ) → (times n (flat_map (chain_in g ix) (kept g ix es)) ≤ 1) × (times n (flat_map (data_in g ix) (kept g ix es)) ≤ 1) }
+{}
+
+/// Of an image without a fault, of either version, all used entries are kept.
+#[tactic(auto, using(crate::proofs::KeepsAll::keeps_all))]
+pub fn clean_image_keeps_all()
+    ensures { (image : List ℕ) → fault image ≡ None → kept (geometry_of image) (fields_of (geometry_of image) image).indexes (entries_of (geometry_of image) image) ≡ filter is_used (entries_of (geometry_of image) image) }
 {}
 
 /// On an image without a fault files lie, with nothing held.

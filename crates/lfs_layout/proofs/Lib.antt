@@ -13,3 +13,6 @@ pub mod FilesSet
 pub mod SetImage
 pub mod KeptFiles
 pub mod Repairs
+pub mod Ordered
+pub mod Listed
+pub mod ImageLaws

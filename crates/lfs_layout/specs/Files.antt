@@ -1,5 +1,5 @@
 -- The files of an image, and the images that are clean for files.
-use Rattle.std.specs.Prelude.{ℕ, ◌+◌, ◌-◌, ◌/◌, ◌≡◌, ◌&&◌, Bool, true, false, cond, nat_eq, nat_lt, nat_le, List, [], ◌∷◌, ◌++◌, length, map, take, replicate, Option, Some, None, not, bytes_eq}
+use Rattle.std.specs.Prelude.{ℕ, ◌+◌, ◌-◌, ◌/◌, ◌≡◌, ◌&&◌, Bool, true, false, cond, nat_eq, nat_lt, nat_le, List, [], ◌∷◌, ◌++◌, length, map, take, replicate, Option, Some, None, not, bytes_eq, count_by}
 use Rattle.std.specs.List.{flat_map, list_any, list_all}
 use Rattle.lfs_format.specs.declared.Entry.{Entry}
 use Rattle.lfs_format.specs.declared.Index.{Index}
@@ -52,6 +52,14 @@ sorted (f ∷ files) = with_file f (sorted files)
 -- the files of an image, in the order of their names
 abbrev pub files_of : List ℕ → List File
 files_of image = sorted (placed_files image)
+
+-- what a listing shows of files: their names without the zeros after them, and how many bytes they have
+abbrev pub listing : List File → List (List ℕ × ℕ)
+listing files = map (λ (f : File). (text_of f.name, length f.bytes)) files
+
+-- how many used entries have a name that comes before this one
+abbrev pub names_before : List Entry → List ℕ → ℕ
+names_before entries name = count_by (λ (e : Entry). is_used e && is_before e.name name) entries
 
 -- an image is clean for files if it breaks no rule and reading its entries gives these files
 pub record Clean (image : List ℕ) (files : List File) : Type 0 where

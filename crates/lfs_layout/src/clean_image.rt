@@ -1,16 +1,18 @@
 //! Clean images: disks with files on which no rule is broken.
 
-ghost use Rattle.std.specs.Prelude.{◌≡◌, ◌+◌, ◌/◌, ◌≤◌, [], true, false, None, Some, length, List, ℕ, IfOk, MatchOption, MatchResult, not, nat_eq};
+ghost use Rattle.std.specs.Prelude.{◌≡◌, ◌+◌, ◌/◌, ◌≤◌, [], true, false, None, Some, length, List, ℕ, IfOk, MatchOption, MatchResult, not, nat_eq, nat_lt, is_some, slice_get};
 ghost use Rattle.std.specs.List.{list_all};
 ghost use Rattle.lfs_check.specs.Fields.{is_version_2};
 ghost use Rattle.lfs_check.specs.Faults.{fault, Refuses};
-ghost use Rattle.lfs_layout.specs.Files.{files_of, placed_files, with_set, have_room, is_text, padded_name, found};
+ghost use Rattle.lfs_layout.specs.Files.{files_of, placed_files, with_set, have_room, is_text, padded_name, found, listing};
 ghost use Rattle.lfs_layout.specs.Made.{image_of, all_files, geometry_2};
 ghost use Rattle.lfs_layout.specs.Images.{IsCleanImage, opened, Puts};
 
 use crate::builder::build;
 use crate::files::{NamedFile, have_room};
+use crate::listing;
 use crate::reading::{read_files, read_named, read_others};
+use arrayvec::ArrayVec;
 use lfs_check::{CheckFault, Geometry, check, dirs_of};
 use std::alloc::{AllocError, Global};
 use std::marker::Model;
@@ -93,6 +95,15 @@ impl CleanImage {
             Ok(None) => Ok(false),
             Err(_) => Err(NoMemory),
         }
+    }
+
+    /// Name and size in bytes of the `k`-th file in the order of names, from 0; `None` if and only if `k` isn't below the number
+    /// of files. The name is without the zeros after it.
+    pub fn file_at(&self, k: usize) -> Option<(ArrayVec<u8, 27>, u32)>
+        ensures file { MatchOption result (slice_get (listing (files_of self.now)) k ≡ None) (λ f. slice_get (listing (files_of self.now)) k ≡ Some (f.0.items, f.1)) }
+        ensures within { is_some result ≡ nat_lt k (length (files_of self.now)) }
+    {
+        listing::file_at(&self.bytes, k)
     }
 
     /// The bytes of the file of a name; `None` if and only if the image has no such file.

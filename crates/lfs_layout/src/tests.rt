@@ -238,6 +238,34 @@ fn files_are_read_by_their_names(rt: HostRuntime) {
     assert!(rt; lacks(&rt, rt.alloc(), &image, b"twenty-eight bytes are a lot"));
 }
 
+// Whether the k-th file in the order of names has this name and this size.
+fn lists(image: &CleanImage, k: usize, name: &[u8], size: u32) -> bool {
+    match image.file_at(k) {
+        Some((text, bytes)) => text.as_slice() == name && bytes == size,
+        None => false,
+    }
+}
+
+#[test]
+fn files_are_listed_in_the_order_of_their_names(rt: HostRuntime) {
+    let mut image = empty(&rt, rt.alloc(), 64);
+    assert!(rt; image.file_at(0).is_none());
+    assert!(rt; matches!(image.put_file(rt.alloc(), b"log", &[1]), Ok(true)));
+    assert!(rt;
+        matches!(
+            image.put_file(rt.alloc(), b"twenty-seven bytes are most", &[1, 2]),
+            Ok(true)
+        )
+    );
+    assert!(rt; matches!(image.put_file(rt.alloc(), b"lo", &[1, 2, 3]), Ok(true)));
+    assert!(rt; matches!(image.put_file(rt.alloc(), b"\xff", &[]), Ok(true)));
+    assert!(rt; lists(&image, 0, b"lo", 3));
+    assert!(rt; lists(&image, 1, b"log", 1));
+    assert!(rt; lists(&image, 2, b"twenty-seven bytes are most", 2));
+    assert!(rt; lists(&image, 3, b"\xff", 0));
+    assert!(rt; image.file_at(4).is_none());
+}
+
 #[test]
 fn repair_keeps_what_shares_no_block(rt: HostRuntime) {
     let mut image = empty(&rt, rt.alloc(), 256);
