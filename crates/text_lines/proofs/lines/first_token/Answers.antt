@@ -1,8 +1,8 @@
 -- The blanks at the front are left out.
 use Rattle.std.proofs.Common.{sym, ◌∙◌}
 use Rattle.std.proofs.lemmas.List.{take_rest}
-use Rattle.schedule_file.proofs.TokenLemmas.{tokens_of-from, tokens_of-blanks, starts_at}
-use Rattle.schedule_file.proofs.lines.first_token.Goals as goal
+use Rattle.text_lines.proofs.TokenLemmas.{tokens_of-from, tokens_of-blanks, starts_at}
+use Rattle.text_lines.proofs.lines.first_token.Goals as goal
 
 pub returns-in_err-start-clause-tokens : goal.returns-in_err-start-clause-tokens
 returns-in_err-start-clause-tokens c =

@@ -1,8 +1,8 @@
 -- The first line feed ends the first line.
 use Rattle.std.proofs.Common.{◌+◌, ◌-◌, length, drop, sym, arith, length-drop}
 use Rattle.std.proofs.lemmas.List.{take_all}
-use Rattle.schedule_file.proofs.LineLemmas.{lines_of-feed, lines_of-last}
-use Rattle.schedule_file.proofs.lines.first_line.Goals as goal
+use Rattle.text_lines.proofs.LineLemmas.{lines_of-feed, lines_of-last}
+use Rattle.text_lines.proofs.lines.first_line.Goals as goal
 
 pub returns-in-Some-clause-lines : goal.returns-in-Some-clause-lines
 returns-in-Some-clause-lines c =

@@ -6,8 +6,8 @@ use Rattle.std.proofs.lemmas.List.Splits.{slice_split_first, slice_split_none, s
 use Rattle.std.proofs.lemmas.List.Elements.{All-from_get_or}
 use Rattle.std.proofs.lemmas.List.Sums.{fails_before_first}
 use Rattle.std.proofs.lemmas.Bool.{lt-ltb}
-use Rattle.schedule_file.proofs.SearchLemmas.{found_at, found_within, found_none}
-use Rattle.schedule_file.specs.Lines.{is_blank, is_token, tokens_of}
+use Rattle.text_lines.proofs.SearchLemmas.{found_at, found_within, found_none}
+use Rattle.text_lines.specs.Lines.{is_blank, is_token, tokens_of}
 
 -- a byte that isn't blank
 abbrev is_solid : ℕ → Bool

@@ -1,7 +1,7 @@
 -- The line is the bytes before the last one, and the last one.
 use Rattle.std.proofs.Common.{sym}
-use Rattle.schedule_file.proofs.LineLemmas.{without_return-drops, without_return-keeps}
-use Rattle.schedule_file.proofs.lines.without_return.Goals as goal
+use Rattle.text_lines.proofs.LineLemmas.{without_return-drops, without_return-keeps}
+use Rattle.text_lines.proofs.lines.without_return.Goals as goal
 
 pub returns-then-last-eq13 : goal.returns-then-last-eq13
 returns-then-last-eq13 c = record {

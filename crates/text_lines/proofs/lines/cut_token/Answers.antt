@@ -1,8 +1,8 @@
 -- The first blank ends the token.
 use Rattle.std.proofs.Common.{◌+◌, sym}
 use Rattle.std.proofs.lemmas.List.{take_rest}
-use Rattle.schedule_file.proofs.TokenLemmas.{tokens_of-cut, tokens_of-last, some_there}
-use Rattle.schedule_file.proofs.lines.cut_token.Goals as goal
+use Rattle.text_lines.proofs.TokenLemmas.{tokens_of-cut, tokens_of-last, some_there}
+use Rattle.text_lines.proofs.lines.cut_token.Goals as goal
 
 pub returns-in-Some-clause-tokens : goal.returns-in-Some-clause-tokens
 returns-in-Some-clause-tokens c =

@@ -5,8 +5,8 @@ use Rattle.std.proofs.lemmas.List.Splits.{slice_split_first, slice_split_none, l
 use Rattle.std.proofs.lemmas.List.Elements.{All-from_get_or}
 use Rattle.std.proofs.lemmas.List.Sums.{fails_before_first}
 use Rattle.std.proofs.lemmas.Bool.Decides.{nat_tests}
-use Rattle.schedule_file.proofs.SearchLemmas.{found_at, found_within, found_none}
-use Rattle.schedule_file.specs.Lines.{whole_lines, lines_of, without_return}
+use Rattle.text_lines.proofs.SearchLemmas.{found_at, found_within, found_none}
+use Rattle.text_lines.specs.Lines.{whole_lines, lines_of, without_return}
 
 -- a carriage return at the end of a line is left out
 pub without_return-drops : (line front : List ℕ) (last : ℕ) → line ≡ front ++ last ∷ [] → last ≡ 13 → without_return line ≡ front

@@ -2,10 +2,10 @@
 
 ghost use Rattle.std.specs.Prelude.{ℕ, ◌≡◌, ◌<◌, ◌==◌, [], ◌∷◌, length, not, MatchOption, IfSome};
 ghost use Rattle.std.specs.List.{position};
-ghost use Rattle.schedule_file.specs.Lines as lines;
+ghost use Rattle.text_lines.specs.Lines as lines;
 
 /// The first line of a text that isn't empty, and the text after its line feed.
-pub(crate) fn first_line(text: &[u8]) -> (&[u8], &[u8])
+pub fn first_line(text: &[u8]) -> (&[u8], &[u8])
     requires something { 0 < length text.now }
     ensures lines { lines.lines_of text.now ≡ result.0.now ∷ lines.lines_of result.1.now }
     ensures shorter { length result.1.now < length text.now }
@@ -17,7 +17,7 @@ pub(crate) fn first_line(text: &[u8]) -> (&[u8], &[u8])
 }
 
 /// The first token of a line, and the line after the blank that ends it. There is none in a line of blanks.
-pub(crate) fn first_token(line: &[u8]) -> Option<(&[u8], &[u8])>
+pub fn first_token(line: &[u8]) -> Option<(&[u8], &[u8])>
     ensures tokens { MatchOption result (lines.tokens_of line.now ≡ []) (λ cut. lines.tokens_of line.now ≡ cut.0.now ∷ lines.tokens_of cut.1.now) }
     ensures something { IfSome result (λ cut. 0 < length cut.0.now) }
     ensures shorter { IfSome result (λ cut. length cut.1.now < length line.now) }
