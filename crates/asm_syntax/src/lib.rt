@@ -1,0 +1,4 @@
+//! What a line of assembler says.
+#![tactic(auto)]
+
+mod tokens;
