@@ -5,3 +5,4 @@ pub mod Meanings
 pub mod Values
 pub mod Statements
 pub mod CodeTokens
+pub mod CodeOperands

@@ -1,5 +1,5 @@
 -- Names and numbers.
-use Rattle.std.specs.Prelude.{ℕ, min, ◌==◌, nat_le, nat_lt, Bool, false, if◌then◌else◌, ◌&&◌, ◌||◌, ℤ, pos, neg_ℤ, List, [], ◌∷◌, length, drop, slice_index, Option, Some, None}
+use Rattle.std.specs.Prelude.{ℕ, min, ◌==◌, nat_le, nat_lt, Bool, false, if◌then◌else◌, ◌&&◌, ◌||◌, ℤ, pos, neg_ℤ, List, [], ◌∷◌, length, Option, Some, None}
 use Rattle.std.specs.List.{list_all}
 use Rattle.std.specs.Str.Parse.{digits_value}
 
@@ -42,10 +42,16 @@ abbrev pub signed_as : (ℕ → ℤ) → Option ℕ → Option ℤ
 signed_as sign None = None
 signed_as sign (Some n) = Some (sign n)
 
--- a number: decimal digits, with a `-` before them if it is negative, or `0x` and hexadecimal digits
+-- decimal digits, or `0x` and hexadecimal digits
+abbrev pub unsigned_in : List ℕ → Option ℤ
+unsigned_in [] = None
+unsigned_in (b ∷ []) = signed_as pos (digits_in 10 is_digit (b ∷ []))
+unsigned_in (b ∷ c ∷ word) =
+    if (b == 48) && (c == 120) then signed_as pos (digits_in 16 is_hexadecimal word)
+    else signed_as pos (digits_in 10 is_digit (b ∷ c ∷ word))
+
+-- a number, with a `-` before it if it is negative; then it is decimal
 abbrev pub number_in : List ℕ → Option ℤ
 number_in [] = None
 number_in (b ∷ word) =
-    if b == 45 then signed_as (λ n. neg_ℤ (pos n)) (digits_in 10 is_digit word)
-    else if (b == 48) && (slice_index word 0 == 120) then signed_as pos (digits_in 16 is_hexadecimal (drop 1 word))
-    else signed_as pos (digits_in 10 is_digit (b ∷ word))
+    if b == 45 then signed_as (λ n. neg_ℤ (pos n)) (digits_in 10 is_digit word) else unsigned_in (b ∷ word)

@@ -1,6 +1,6 @@
 -- The operands of a statement: names, numbers, a number before a register in parentheses, quoted texts.
 use Rattle.std.specs.Prelude.{ℕ, ◌+◌, ◌-◌, ◌==◌, nat_lt, Bool, if◌then◌else◌, ◌&&◌, ℤ, List, [], ◌∷◌, length, take, drop, slice_index, Option, Some, None}
-use Rattle.std.specs.List.{position_or_len}
+use Rattle.std.specs.List.{position}
 use Rattle.asm_syntax.specs.Numbers.{is_name, number_in}
 use Rattle.asm_syntax.specs.Tokens.{Token, Blank, Colon, Comma, Word, Quoted, Unclosed}
 
@@ -12,22 +12,31 @@ pub data Operand : Type 0 where
   NamedOffset : Operand
   Text : List ℕ → Operand
 
--- what is written before parentheses, and the name in them
-abbrev pub offset_of : Option ℤ → List ℕ → List ℕ → Option Operand
-offset_of (Some n) front name = if is_name name then Some (Offset n name) else None
-offset_of None front name = if is_name front && is_name name then Some NamedOffset else None
+-- a number, or else a name, before parentheses
+abbrev pub offset_before : Option ℤ → List ℕ → List ℕ → Option Operand
+offset_before (Some n) front name = Some (Offset n name)
+offset_before None front name = if is_name front then Some NamedOffset else None
 
--- a word whose first parenthesis is at place i, and whose last byte closes it
-abbrev pub offset_in : List ℕ → ℕ → Option Operand
-offset_in word i =
+-- what is written before parentheses, and the name in them
+abbrev pub offset_of : List ℕ → List ℕ → Option Operand
+offset_of front name = if is_name name then offset_before (number_in front) front name else None
+
+-- a word whose first parenthesis is at this place, and whose last byte closes it
+abbrev pub offset_at : List ℕ → Option ℕ → Option Operand
+offset_at word None = None
+offset_at word (Some i) =
     if nat_lt (i + 1) (length word) && (slice_index word (length word - 1) == 41)
-    then offset_of (number_in (take i word)) (take i word) (take (length word - 1 - (i + 1)) (drop (i + 1) word))
+    then offset_of (take i word) (take (length word - 1 - (i + 1)) (drop (i + 1) word))
     else None
+
+-- a word with parentheses
+abbrev pub offset_in : List ℕ → Option Operand
+offset_in word = offset_at word (position (λ b. b == 40) word)
 
 -- a word that is a number, or else has parentheses
 abbrev pub number_or_offset : Option ℤ → List ℕ → Option Operand
 number_or_offset (Some n) word = Some (Number n)
-number_or_offset None word = offset_in word (position_or_len (λ b. b == 40) word)
+number_or_offset None word = offset_in word
 
 -- the operand that a word is
 abbrev pub operand_in : List ℕ → Option Operand
