@@ -4,3 +4,4 @@ pub mod Forms
 pub mod Immediates
 pub mod Placed
 pub mod RowByFields
+pub mod RowNames

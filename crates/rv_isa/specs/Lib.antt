@@ -1,3 +1,4 @@
 pub mod RowFields
 pub mod Table
 pub mod Words
+pub mod Encoding

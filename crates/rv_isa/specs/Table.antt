@@ -1,6 +1,7 @@
 -- The table of the code beside that of the definition.
-use Rattle.std.specs.Prelude.{◌≡◌, ℕ, true, List, codes}
-use Rattle.xinu_model.specs.Isa.Instructions.{Name, Row, Form, has_bits, FormU, FormJ, FormI, FormB, FormS, FormShift, FormR, FormFence, FormWhole, Lui, Auipc, Jal, Jalr, Beq, Bne, Blt, Bge, Bltu, Bgeu, Lb, Lh, Lw, Lbu, Lhu, Sb, Sh, Sw, Addi, Slti, Sltiu, Xori, Ori, Andi, Slli, Srli, Srai, Add, Sub, Sll, Slt, Sltu, Xor, Srl, Sra, Or, And, Fence, Ecall, Ebreak}
+use Rattle.std.specs.Prelude.{◌≡◌, ℕ, true, List, [], ◌∷◌, map, if◌then◌else◌, Option, None, Some, codes}
+use Rattle.std.specs.Str.{bytes_eq}
+use Rattle.xinu_model.specs.Isa.Instructions.{Name, Row, Form, has_bits, rows, FormU, FormJ, FormI, FormB, FormS, FormShift, FormR, FormFence, FormWhole, Lui, Auipc, Jal, Jalr, Beq, Bne, Blt, Bge, Bltu, Bgeu, Lb, Lh, Lw, Lbu, Lhu, Sb, Sh, Sw, Addi, Slti, Sltiu, Xori, Ori, Andi, Slli, Srli, Srai, Add, Sub, Sll, Slt, Sltu, Xor, Srl, Sra, Or, And, Fence, Ecall, Ebreak}
 use Rattle.rv_isa.specs.declared.rows.Row.{Row as CodeRow}
 use Rattle.rv_isa.specs.declared.rows.Form.{Form as CodeForm}
 use Rattle.rv_isa.specs.declared.rows.Form.TheVariants.{U, J, I, B, S, Shift, R, Fence as FenceForm, Whole}
@@ -78,3 +79,12 @@ defined r = record { mnemonic = mnemonic r.name; mask = r.mask; bits = r.bits; f
 -- no word has the bits of both rows
 abbrev pub NoWordHasBoth : Row → Row → Type 0
 NoWordHasBoth r s = (word : ℕ) → has_bits word r ≡ true → has_bits word s ≡ true → ⊥
+
+-- the first of these rows with this mnemonic
+abbrev pub row_among : List Seen → List ℕ → Option Seen
+row_among [] name = None
+row_among (row ∷ more) name = if bytes_eq row.mnemonic name then Some row else row_among more name
+
+-- the row of a mnemonic
+unfoldable pub row_named : List ℕ → Option Seen
+row_named name = row_among (map defined rows) name

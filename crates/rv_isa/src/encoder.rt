@@ -2,8 +2,9 @@
 //!
 //! Each function below `encode` puts the fields of one form in their places; a macro writes the arms of `encode`.
 
-ghost use Rattle.std.specs.Prelude.{◌≡◌, ◌<◌, pos, Some, true};
+ghost use Rattle.std.specs.Prelude.{◌≡◌, ◌<◌, ◌+◌, ◌*◌, pos, Some, true};
 ghost use Rattle.xinu_model.specs.Isa.Instructions.{FormU, FormJ, FormI, FormB, FormS, FormShift, FormR};
+ghost use Rattle.rv_isa.specs.Encoding.{word_with, word_of};
 ghost use Rattle.rv_isa.specs.RowFields.{funct3_of, funct7_of};
 ghost use Rattle.rv_isa.specs.Words.{instruction_of, IsWordOf, is_valid, is_valid_u, is_valid_j, is_valid_i, is_valid_b, is_valid_s, is_valid_shift, is_valid_r};
 
@@ -39,6 +40,7 @@ macro_rules! each_form {
 pub fn encode(i: &Instr) -> u32
     requires { is_valid i.now ≡ true }
     ensures word { instruction_of result ≡ Some i.now }
+    ensures fields { result ≡ word_of i.now }
     ensures fence { i.now ≡ Instr.Fence → result ≡ 0x0ff0000f }
 {
     each_form!(
@@ -58,7 +60,8 @@ pub fn encode(i: &Instr) -> u32
 fn form_u(opcode: u32, rd: u8, imm: i32) -> u32
     requires opcode { opcode < 128 }
     requires valid { is_valid_u rd imm ≡ true }
-    ensures { IsWordOf FormU result opcode (funct3_of result) (funct7_of result) rd 0 0 imm }
+    ensures word { IsWordOf FormU result opcode (funct3_of result) (funct7_of result) rd 0 0 imm }
+    ensures fields { result ≡ word_with opcode FormU rd 0 0 imm }
 {
     opcode + rd as u32 * 0x80 + imm.cast_unsigned()
 }
@@ -67,7 +70,8 @@ fn form_u(opcode: u32, rd: u8, imm: i32) -> u32
 fn form_j(opcode: u32, rd: u8, imm: i32) -> u32
     requires opcode { opcode < 128 }
     requires valid { is_valid_j rd imm ≡ true }
-    ensures { IsWordOf FormJ result opcode (funct3_of result) (funct7_of result) rd 0 0 imm }
+    ensures word { IsWordOf FormJ result opcode (funct3_of result) (funct7_of result) rd 0 0 imm }
+    ensures fields { result ≡ word_with opcode FormJ rd 0 0 imm }
 {
     let bits = imm.cast_unsigned();
     let offset = bits / 0x10_0000 % 2 * 0x8000_0000
@@ -82,7 +86,8 @@ fn form_i(opcode: u32, funct3: u32, rd: u8, rs1: u8, imm: i32) -> u32
     requires opcode { opcode < 128 }
     requires funct3 { funct3 < 8 }
     requires valid { is_valid_i rd rs1 imm ≡ true }
-    ensures { IsWordOf FormI result opcode funct3 (funct7_of result) rd rs1 0 imm }
+    ensures word { IsWordOf FormI result opcode funct3 (funct7_of result) rd rs1 0 imm }
+    ensures fields { result ≡ word_with (opcode + funct3 * 0x1000) FormI rd rs1 0 imm }
 {
     let bits = imm.cast_unsigned() % 0x1000 * 0x10_0000;
     opcode + rd as u32 * 0x80 + funct3 * 0x1000 + rs1 as u32 * 0x8000 + bits
@@ -93,7 +98,8 @@ fn form_b(opcode: u32, funct3: u32, rs1: u8, rs2: u8, imm: i32) -> u32
     requires opcode { opcode < 128 }
     requires funct3 { funct3 < 8 }
     requires valid { is_valid_b rs1 rs2 imm ≡ true }
-    ensures { IsWordOf FormB result opcode funct3 (funct7_of result) 0 rs1 rs2 imm }
+    ensures word { IsWordOf FormB result opcode funct3 (funct7_of result) 0 rs1 rs2 imm }
+    ensures fields { result ≡ word_with (opcode + funct3 * 0x1000) FormB 0 rs1 rs2 imm }
 {
     let bits = imm.cast_unsigned();
     let high = bits / 0x1000 % 2 * 0x8000_0000 + bits / 0x20 % 0x40 * 0x200_0000;
@@ -106,7 +112,8 @@ fn form_s(opcode: u32, funct3: u32, rs1: u8, rs2: u8, imm: i32) -> u32
     requires opcode { opcode < 128 }
     requires funct3 { funct3 < 8 }
     requires valid { is_valid_s rs1 rs2 imm ≡ true }
-    ensures { IsWordOf FormS result opcode funct3 (funct7_of result) 0 rs1 rs2 imm }
+    ensures word { IsWordOf FormS result opcode funct3 (funct7_of result) 0 rs1 rs2 imm }
+    ensures fields { result ≡ word_with (opcode + funct3 * 0x1000) FormS 0 rs1 rs2 imm }
 {
     let bits = imm.cast_unsigned();
     let high = bits / 0x20 % 0x80 * 0x200_0000;
@@ -120,7 +127,8 @@ fn form_shift(opcode: u32, funct3: u32, funct7: u32, rd: u8, rs1: u8, imm: i32) 
     requires funct3 { funct3 < 8 }
     requires funct7 { funct7 < 128 }
     requires valid { is_valid_shift rd rs1 imm ≡ true }
-    ensures { IsWordOf FormShift result opcode funct3 funct7 rd rs1 0 imm }
+    ensures word { IsWordOf FormShift result opcode funct3 funct7 rd rs1 0 imm }
+    ensures fields { result ≡ word_with (opcode + funct3 * 0x1000 + funct7 * 0x2000000) FormShift rd rs1 0 imm }
 {
     let amount = imm.cast_unsigned() * 0x10_0000;
     opcode + rd as u32 * 0x80 + funct3 * 0x1000 + rs1 as u32 * 0x8000 + amount + funct7 * 0x200_0000
@@ -132,7 +140,8 @@ fn form_r(opcode: u32, funct3: u32, funct7: u32, rd: u8, rs1: u8, rs2: u8) -> u3
     requires funct3 { funct3 < 8 }
     requires funct7 { funct7 < 128 }
     requires valid { is_valid_r rd rs1 rs2 ≡ true }
-    ensures { IsWordOf FormR result opcode funct3 funct7 rd rs1 rs2 (pos 0) }
+    ensures word { IsWordOf FormR result opcode funct3 funct7 rd rs1 rs2 (pos 0) }
+    ensures fields { result ≡ word_with (opcode + funct3 * 0x1000 + funct7 * 0x2000000) FormR rd rs1 rs2 (pos 0) }
 {
     let sources = rs1 as u32 * 0x8000 + rs2 as u32 * 0x10_0000;
     opcode + rd as u32 * 0x80 + funct3 * 0x1000 + sources + funct7 * 0x200_0000

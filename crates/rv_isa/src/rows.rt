@@ -1,9 +1,11 @@
 //! The table of instructions: for each its mnemonic, its bits under a mask, and how its fields lie in the word.
 
-ghost use Rattle.std.specs.Prelude.{◌≡◌, map};
-ghost use Rattle.std.specs.List.{AllPairs};
+ghost use Rattle.std.specs.Prelude.{◌≡◌, ◌≤◌, map, MatchOption, IfSome, Some, None};
+ghost use Rattle.std.specs.List.{All, AllPairs};
 ghost use Rattle.xinu_model.specs.Isa.Instructions.{rows};
-ghost use Rattle.rv_isa.specs.Table.{NoWordHasBoth, seen, defined};
+ghost use Rattle.rv_isa.specs.Encoding.{HasWords, fixed};
+ghost use Rattle.rv_isa.specs.Table as spec;
+ghost use Rattle.rv_isa.specs.Table.{NoWordHasBoth, seen, defined, form_of};
 
 /// How the fields of an instruction lie in its word.
 #[derive(Clone, Copy, Debug, PartialEq, Eq)]
@@ -102,6 +104,25 @@ pub fn table() -> [Row; 40]
 {
     ROWS
 }
+
+/// The row of a mnemonic.
+pub fn row_named(name: &[u8]) -> Option<Row>
+    ensures row { MatchOption result (spec.row_named name.now ≡ None) (λ row. spec.row_named name.now ≡ Some (seen row)) }
+    ensures bits { IfSome result (λ row. row.bits ≤ fixed (form_of row.form)) }
+{
+    let rows = table();
+    for row in &rows {
+        if row.name.as_bytes() == name {
+            return Some(*row);
+        }
+    }
+    None
+}
+
+/// The words of each row's instruction are the row's bits and the fields in their places.
+pub fn rows_have_words()
+    ensures { All HasWords rows }
+{}
 
 /// No word has the bits of two rows.
 pub fn rows_apart()

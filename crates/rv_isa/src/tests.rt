@@ -1,6 +1,9 @@
 //! Words that assemblers write, the ends of the ranges, and the table against `decode`.
 
-use crate::{Instr, ROWS, decode, encode, rows_apart, table, valid};
+use crate::{
+    Form, Instr, ROWS, decode, encode, row_named, rows_apart, rows_have_words, table, valid,
+    word_with,
+};
 use std::process::Abort;
 
 fn is_written(rt: &impl Abort, word: u32, instr: Instr) {
@@ -129,4 +132,27 @@ fn decode_follows_the_table(rt: HostRuntime) {
             assert_eq!(rt; decode(word).is_some(), has_row(word), "{word}");
         }
     }
+}
+
+#[test]
+fn rows_are_found_by_name(rt: HostRuntime) {
+    rows_have_words();
+    for row in ROWS {
+        assert!(rt; row_named(row.name.as_bytes()).is_some_and(|found| found.bits == row.bits));
+    }
+    assert!(rt; row_named(b"addis".as_slice()).is_none());
+    assert!(rt; row_named(b"ADD".as_slice()).is_none());
+    // Words that assemblers write.
+    assert_eq!(rt; word_with(0x23, Form::S, 0, 6, 5, 0xffff_fffc), 0xfe53_0e23);
+    assert_eq!(rt; word_with(0x6f, Form::J, 7, 0, 0, 0xffff_fffc), 0xffdf_f3ef);
+    assert_eq!(rt; word_with(0x63, Form::B, 0, 6, 5, 0xffff_fffc), 0xfe53_0ee3);
+    assert_eq!(rt; word_with(0x37, Form::U, 7, 0, 0, 0x7fff_f000), 0x7fff_f3b7);
+    assert_eq!(rt;
+        word_with(0x4000_5013, Form::Shift, 7, 6, 0, 31),
+        0x41f3_5393
+    );
+    assert_eq!(rt; word_with(0x67, Form::I, 7, 6, 0, 9), 0x0093_03e7);
+    assert_eq!(rt; word_with(0x4000_0033, Form::R, 7, 6, 5, 0), 0x4053_03b3);
+    assert_eq!(rt; word_with(0xf, Form::Fence, 0, 0, 0, 0), 0x0ff0_000f);
+    assert_eq!(rt; word_with(0x73, Form::Whole, 0, 0, 0, 0), 0x0000_0073);
 }

@@ -1,6 +1,3 @@
-pub mod SearchLemmas
-pub mod LineLemmas
-pub mod TokenLemmas
 pub mod DigitLemmas
 pub mod PlaceLemmas
 pub mod RoundLemmas

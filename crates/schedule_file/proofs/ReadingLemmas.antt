@@ -4,7 +4,7 @@ use Rattle.std.specs.Prelude.{is_none, unwrap_or, IfSome}
 use Rattle.std.specs.List.{flat_map}
 use Rattle.std.proofs.lemmas.Bool.{lt-ltb, le-ltb, le-leb, lt-leb}
 use Rattle.xinu_base.specs.declared.events.Event.{Event}
-use Rattle.schedule_file.specs.Lines.{lines_of}
+use Rattle.text_lines.specs.Lines.{lines_of}
 use Rattle.schedule_file.specs.Numbers.{most_events}
 use Rattle.schedule_file.specs.ScheduleFiles.{is_bad, events_at, first_from, sums, Reading, Reads, Bad, Many, judged, reading, Names}
 use Rattle.schedule_file.specs.Repeats.{IsFaultOf}

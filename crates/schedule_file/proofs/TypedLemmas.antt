@@ -2,7 +2,7 @@
 use Rattle.std.proofs.Common.{◌≡◌, ℕ, ◌+◌, ◌≤◌, ◌==◌, nat_le, Bool, true, false, cond, List, [], ◌++◌, length, Option, Some, None, refl, ap, ◌∙◌, arith, append-nil, ◌&&◌}
 use Rattle.std.proofs.lemmas.Bool.{le-leb}
 use Rattle.std.proofs.lemmas.Bool.Decides.{nat_tests}
-use Rattle.schedule_file.specs.Lines.{tokens_of}
+use Rattle.text_lines.specs.Lines.{tokens_of}
 use Rattle.schedule_file.specs.Numbers.{bytes_in, typed_in}
 
 -- bytes after others

@@ -5,7 +5,7 @@ use Rattle.xinu_base.specs.declared.events.Event.{Event}
 use Rattle.xinu_base.specs.declared.events.Event.TheVariants.{Step, Tick, Key, Tx, Disk0, Disk1, Fail0, Fail1, Dump}
 use Rattle.schedule_file.specs.declared.kinds.Kind.{Kind}
 use Rattle.schedule_file.specs.declared.kinds.Kind.TheVariants.{Counted, Rounds, Typed, Once}
-use Rattle.schedule_file.specs.Lines.{tokens_of}
+use Rattle.text_lines.specs.Lines.{tokens_of}
 use Rattle.schedule_file.specs.Numbers.{one_count, typed_in}
 
 -- one round of the machine: steps, transmissions, completions of the file system's disk and of the raw disk, and a tick

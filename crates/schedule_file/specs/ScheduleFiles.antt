@@ -4,7 +4,7 @@ use Rattle.std.specs.List.{flat_map}
 use Rattle.xinu_base.specs.declared.events.Event.{Event}
 use Rattle.schedule_file.specs.declared.faults.ScheduleFault.{ScheduleFault}
 use Rattle.schedule_file.specs.declared.faults.ScheduleFault.TheVariants.{BadLine, TooMany, NoMemory}
-use Rattle.schedule_file.specs.Lines.{lines_of}
+use Rattle.text_lines.specs.Lines.{lines_of}
 use Rattle.schedule_file.specs.Numbers.{most_events}
 use Rattle.schedule_file.specs.LineKinds.{line_events}
 

@@ -11,13 +11,12 @@
 //! | [`Schedule::next_event`] | `next`: the first event that is still to come; `None` if and only if there is none. It takes no memory |
 //!
 //! A [`Schedule`] is seen as the list of the events still to come. A schedule may have 1000000000 events, so repeats are kept of it and no
-//! single events: one for each line, and one for each typed character. The reader depends on `xinu_base` and `arrayvec` alone.
+//! single events: one for each line, and one for each typed character. The reader depends on `xinu_base`, `text_lines` and `arrayvec` alone.
 #![tactic(auto)]
 
 mod faults;
 mod kinds;
 mod line_events;
-mod lines;
 mod numbers;
 mod repeats;
 mod schedules;

@@ -3,17 +3,17 @@
 ghost use Rattle.std.specs.Prelude.{ℕ, ◌≡◌, ◌+◌, ◌≤◌, ◌<◌, ◌^◌, ◌++◌, List, Some, None, length, map, replicate, MatchOption, IfSome, OnOk};
 ghost use Rattle.std.specs.List.{All};
 ghost use Rattle.xinu_base.specs.declared.events.Event.TheVariants.{Key};
-ghost use Rattle.schedule_file.specs.Lines.{tokens_of};
+ghost use Rattle.text_lines.specs.Lines.{tokens_of};
 ghost use Rattle.schedule_file.specs.LineKinds.{line_events, events_by, rounds};
 ghost use Rattle.schedule_file.specs.Numbers as numbers;
 ghost use Rattle.schedule_file.specs.Repeats.{events_of, HasEvents, IsRepeat, repeats_events};
 
 use crate::kinds::{Kind, kind_of};
-use crate::lines::first_token;
 use crate::numbers::{byte_in, count_written};
 use crate::repeats::Repeat;
 use arrayvec::ArrayVec;
 use std::alloc::AllocError;
+use text_lines::first_token;
 use xinu_base::Event;
 
 /// What a line asks for.

@@ -8,11 +8,11 @@ ghost use Rattle.schedule_file.specs.Repeats.{IsRepeat, IsFaultOf, repeats_event
 
 use crate::faults::ScheduleFault;
 use crate::line_events::line_events_of;
-use crate::lines::first_line;
 use crate::numbers::MOST_EVENTS;
 use crate::repeats::Repeat;
 use std::alloc::Global;
 use std::marker::Model;
+use text_lines::first_line;
 use xinu_base::Event;
 
 /// The events of a schedule that are still to come. A clause sees their list.

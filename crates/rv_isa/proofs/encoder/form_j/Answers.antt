@@ -2,5 +2,5 @@ use Rattle.std.proofs.Common.{refl}
 use Rattle.rv_isa.proofs.Forms.{same_bits, word_j}
 use Rattle.rv_isa.proofs.encoder.form_j.Goals as goal
 
-pub returns : goal.returns
-returns c = λ row is form. word_j c.args.opcode c.args.rd c.args.imm c.cast_unsigned-bits.result _ row c.requires.opcode c.requires.valid (same_bits c.args.imm c.cast_unsigned-bits.result c.ranges.imm c.cast_unsigned-bits.ensures) refl is form
+pub returns-clause-word : goal.returns-clause-word
+returns-clause-word c = λ row is form. word_j c.args.opcode c.args.rd c.args.imm c.cast_unsigned-bits.result _ row c.requires.opcode c.requires.valid (same_bits c.args.imm c.cast_unsigned-bits.result c.ranges.imm c.cast_unsigned-bits.ensures) refl is form

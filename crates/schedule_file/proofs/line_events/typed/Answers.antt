@@ -1,5 +1,5 @@
 -- All tokens were read.
-use Rattle.schedule_file.specs.Lines.{tokens_of}
+use Rattle.text_lines.specs.Lines.{tokens_of}
 use Rattle.schedule_file.proofs.TypedLemmas.{typed_in-all}
 use Rattle.schedule_file.proofs.line_events.typed.Goals as goal
 

@@ -1,6 +1,6 @@
 -- The bytes of the tokens so far come before those of the tokens that are left.
 use Rattle.std.proofs.Common.{◌≡◌, ◌+◌, ◌≤◌, length}
-use Rattle.schedule_file.specs.Lines.{tokens_of}
+use Rattle.text_lines.specs.Lines.{tokens_of}
 use Rattle.schedule_file.specs.Numbers.{bytes_in}
 use Rattle.schedule_file.proofs.TypedLemmas.{behind}
 use Rattle.schedule_file.proofs.line_events.typed.Given as goal

@@ -1,7 +1,7 @@
 -- Each line is read after those before it.
 use Rattle.std.proofs.Common.{◌+◌, refl, arith, length-append}
 use Rattle.std.proofs.lemmas.Result.{err_from_is_err_and}
-use Rattle.schedule_file.specs.Lines.{lines_of}
+use Rattle.text_lines.specs.Lines.{lines_of}
 use Rattle.schedule_file.specs.ScheduleFiles.{events_at}
 use Rattle.schedule_file.specs.Repeats.{repeats_events}
 use Rattle.schedule_file.proofs.ReadingLemmas.{read_on-start, names_fault, reads_more}

@@ -1,7 +1,7 @@
 -- What the text reads as is what the lines that are left read as, after the events so far.
 use Rattle.std.proofs.Common.{◌≡◌, ◌+◌, ◌≤◌, length}
 use Rattle.std.specs.List.{All}
-use Rattle.schedule_file.specs.Lines.{lines_of}
+use Rattle.text_lines.specs.Lines.{lines_of}
 use Rattle.schedule_file.specs.ScheduleFiles.{reading}
 use Rattle.schedule_file.specs.Repeats.{IsRepeat, repeats_events}
 use Rattle.schedule_file.proofs.ReadingLemmas.{read_on}

@@ -1,0 +1,3 @@
+pub mod TokenLemmas
+pub mod NumberLemmas
+pub mod OperandLemmas

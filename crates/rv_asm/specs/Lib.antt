@@ -1,0 +1,4 @@
+pub mod Layouts
+pub mod Faults
+pub mod Assembly
+pub mod Examples

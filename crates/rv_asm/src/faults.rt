@@ -1,0 +1,17 @@
+//! Why a text isn't assembled.
+
+/// The first fault of a text. Lines are counted from 1.
+#[derive(Clone, Copy, Debug, PartialEq, Eq)]
+pub enum AsmFault {
+    /// The line has no form of the language, or a directive is repeated or late. Line 0: no line has a fault, but there is too little
+    /// content for an image.
+    BadLine(u32),
+    /// An instruction, directive, register, call or label isn't known, or a name is written in place of a number.
+    UnknownName(u32),
+    /// A number, an offset or an address doesn't fit its field, RAM or an image file.
+    OutOfRange(u32),
+    /// A label has the name of an earlier one.
+    DoubleLabel(u32),
+    /// There was no memory for the image file or the labels.
+    NoMemory,
+}
