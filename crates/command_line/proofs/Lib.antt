@@ -7,3 +7,5 @@ pub mod Law
 pub mod Values
 pub mod Program
 pub mod Parse
+pub mod Told
+pub mod Digits

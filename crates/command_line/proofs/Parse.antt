@@ -1,32 +1,46 @@
--- The law at the program's own commands: what the parser's matches and its refusals say.
-use Rattle.std.proofs.Common.{◌≡◌, ◌∙◌, ◌⊎◌, inl, inr, Bool, true, false, cond, codes, List, [], ◌∷◌, Option, Some, None, refl, sym, ap, subst, fold, bytes_eq, option_and_then}
-use Rattle.clap.specs.Walk.{Row, with_default}
+-- The law at the program's own commands and actions: what the parser's matches and its refusals say.
+use Rattle.std.proofs.Common.{◌≡◌, ◌∙◌, ◌⊎◌, inl, inr, Bool, true, false, cond, if◌then◌else◌, codes, List, [], ◌∷◌, Option, Some, None, refl, sym, ap, subst, fold, bytes_eq, option_and_then}
+use Rattle.clap.specs.Walk.{Row, first_of, with_default}
 use Rattle.clap.specs.Simple.{built, subcommand_of}
 use Rattle.clap.specs.Kinds.{IsAmong, Kinds}
-use Rattle.clap.specs.Faults.{fault_of, is_simple_and_free}
+use Rattle.clap.specs.Faults.{fault_of}
 use Rattle.clap.specs.declared.error.kind.ErrorKind.{ErrorKind}
 use Rattle.clap.specs.declared.error.kind.ErrorKind.TheVariants.{OutOfMemory}
-use Rattle.command_line.specs.Reading.{CommandRow, Request, Taken, Text, command_named, request_of}
-use Rattle.command_line.specs.Commands.{command_of, commands, run_from, run_options}
-use Rattle.command_line.specs.Parser.{command_in, parser_app, run_in}
+use Rattle.command_line.specs.Reading.{CommandRow, Request, Taken, Text, command_named, option_value, request_of}
+use Rattle.command_line.specs.RunArgs.{run_from, run_options}
+use Rattle.command_line.specs.DiskArgs.{DiskAction, action_from, action_of, actions, check_of, get_of, ls_of, mkfs_of, out_options, printing, put_of, repair_of, writing}
+use Rattle.command_line.specs.Commands.{commands, run_command_of}
+use Rattle.command_line.specs.Parser.{action_command_in, args_in, disk_app, run_app, run_command_in, run_in}
 use Rattle.command_line.proofs.Table.{rules}
 use Rattle.command_line.proofs.Rows.{Holds}
 use Rattle.command_line.proofs.Law.{AllUtf8}
 use Rattle.command_line.proofs.Values.{value_read, args_read}
 use Rattle.command_line.proofs.Program.{Enters, ProgramVerdict, app, program_law}
 
-is_built : built parser_app ≡ app (codes "xinu_run") commands
-is_built = refl
+run_is_built : built run_app ≡ app (codes "xinu_run") commands
+run_is_built = refl
 
-pub is_exact : is_simple_and_free parser_app ≡ true
-is_exact = refl
+disk_is_built : built disk_app ≡ app (codes "disk") actions
+disk_is_built = refl
 
--- ---- what is taken from the matches
+-- ---- what matches and refusals say, for every table of commands
 
-run_taken : (rows : List Row) (t : Taken) → Holds run_options rows t → run_from t ≡ run_in (fold with_default rows (rules run_options))
-run_taken rows t h = rw (value_read run_options rows t h (codes "schedule") _ refl refl refl refl, args_read run_options rows t h refl) refl
+module _ {C : Type 0} (table : List CommandRow) (from : Request → Option C) (into : Option (Text × List Row) → Option C) where
+  matched : (kinds : Kinds) (sub : Option (Text × List Row)) (x : Option Request) → ((r : Request) → Enters table r sub → from r ≡ into sub) → kinds ≡ []
+      → ProgramVerdict table kinds sub x → option_and_then from x ≡ into sub
+  matched kinds sub None taken none bad = absurd (bad none)
+  matched kinds sub (Some r) taken none v = taken r v.1
 
--- the program has one command
+  unmatched : (kinds : Kinds) (sub : Option (Text × List Row)) (x : Option Request) → (kinds ≡ [] → ⊥) → ProgramVerdict table kinds sub x → option_and_then from x ≡ None
+  unmatched kinds sub None bad v = refl
+  unmatched kinds sub (Some r) bad v = absurd (bad v.0)
+
+-- ---- the run
+
+run_read : (rows : List Row) (t : Taken) → Holds run_options rows t → run_from t ≡ run_in (fold with_default rows (rules run_options))
+run_read rows t h = rw (value_read run_options rows t h (codes "schedule") _ refl refl refl refl, args_read run_options rows t h refl) refl
+
+-- there is one such command
 one_command : (name : Text) (row : CommandRow) → command_named commands name ≡ Some row → row ≡ record { name = codes "run"; options = run_options }
 one_command name row e = go (bytes_eq (codes "run") name) e
   where
@@ -34,28 +48,84 @@ one_command name row e = go (bytes_eq (codes "run") name) e
     go true h = cc
     go false h = absurd (cc)
 
-taken : (r : Request) (sub : Option (Text × List Row)) → Enters commands r sub → run_from r.taken ≡ command_in sub
-taken r sub h =
-    subst (λ (c : CommandRow). Holds c.options h.rows r.taken → run_from r.taken ≡ run_in (fold with_default h.rows (rules c.options))) (sym (one_command r.command h.row h.named)) (run_taken h.rows r.taken) h.holds
-    ∙ ap command_in (sym h.entered)
+run_taken : (sub : Option (Text × List Row)) (r : Request) → Enters commands r sub → run_from r.taken ≡ run_command_in sub
+run_taken sub r h =
+    subst (λ (c : CommandRow). Holds c.options h.rows r.taken → run_from r.taken ≡ run_in (fold with_default h.rows (rules c.options))) (sym (one_command r.command h.row h.named)) (run_read h.rows r.taken) h.holds
+    ∙ ap run_command_in (sym h.entered)
 
--- ---- the two answers of a parse
+-- matches give the run
+pub run_matched : (args : List Text) → AllUtf8 args → fault_of run_app args ≡ [] → (sub : Option (Text × List Row)) → sub ≡ subcommand_of run_app args
+    → run_command_of args ≡ run_command_in sub
+run_matched args u none sub is =
+    matched commands (λ r. run_from r.taken) run_command_in (fault_of run_app args) (subcommand_of run_app args) (request_of commands args) (run_taken (subcommand_of run_app args)) none
+    (program_law (codes "xinu_run") commands refl args u) ∙ ap run_command_in (sym is)
 
--- matches give the command
-pub parsed : (args : List Text) → AllUtf8 args → fault_of parser_app args ≡ [] → (sub : Option (Text × List Row)) → sub ≡ subcommand_of parser_app args → command_of args ≡ command_in sub
-parsed args u none sub is = go (request_of commands args) (program_law (codes "xinu_run") commands refl args u)
-  where
-    go : (x : Option Request) → ProgramVerdict commands (fault_of parser_app args) (subcommand_of parser_app args) x → option_and_then (λ r. run_from r.taken) x ≡ command_in sub
-    go None bad = absurd (bad none)
-    go (Some r) v = taken r _ v.1 ∙ ap command_in (sym is)
+-- if a kind of error comes, there is no run
+pub run_unmatched : (args : List Text) → AllUtf8 args → (fault_of run_app args ≡ [] → ⊥) → run_command_of args ≡ None
+run_unmatched args u bad =
+    unmatched commands (λ r. run_from r.taken) run_command_in (fault_of run_app args) (subcommand_of run_app args) (request_of commands args) bad (program_law (codes "xinu_run") commands refl args u)
 
--- if a kind of error comes, there is no command
-pub refusal : (args : List Text) → AllUtf8 args → (fault_of parser_app args ≡ [] → ⊥) → command_of args ≡ None
-refusal args u bad = go (request_of commands args) (program_law (codes "xinu_run") commands refl args u)
-  where
-    go : (x : Option Request) → ProgramVerdict commands (fault_of parser_app args) (subcommand_of parser_app args) x → option_and_then (λ r. run_from r.taken) x ≡ None
-    go None v = refl
-    go (Some r) v = absurd (bad v.0)
+-- ---- the actions of a disk
+
+-- the action that tests on its name choose
+abbrev chosen : Bool → Bool → Bool → Bool → Bool → Bool → Option Text → List Text → Option DiskAction
+chosen a b c d e f out args =
+    if a then mkfs_of out args else (if b then ls_of args else (if c then get_of out args else (if d then put_of out args else (if e then check_of args else (if f then repair_of out args else None)))))
+
+module _ (rows : List Row) (t : Taken) where
+  -- what the matches hold by the options of a row
+  abbrev out_in : CommandRow → Option Text
+  out_in c = first_of (codes "out") (fold with_default rows (rules c.options))
+
+  abbrev args_at : CommandRow → List Text
+  args_at c = args_in (fold with_default rows (rules c.options))
+
+  -- what holds of the row that was found
+  at_row : (c row : CommandRow) → Some c ≡ Some row → (P : CommandRow → Type 0) → (Holds c.options rows t → P c) → Holds row.options rows t → P row
+  at_row c row is P read h =
+      let same : c ≡ row = cc in
+      subst (λ (r : CommandRow). Holds r.options rows t → P r) same read h
+
+  writing_read : (of : Option Text → List Text → Option DiskAction) → Holds out_options rows t
+      → of (option_value (codes "out") t) t.positional ≡ of (first_of (codes "out") (fold with_default rows (rules out_options))) (args_in (fold with_default rows (rules out_options)))
+  writing_read of h = rw (value_read out_options rows t h (codes "out") _ refl refl refl refl, args_read out_options rows t h refl) refl
+
+  printing_read : (of : List Text → Option DiskAction) → Holds [] rows t → of t.positional ≡ of (args_in (fold with_default rows (rules [])))
+  printing_read of h = rw (args_read [] rows t h refl) refl
+
+  -- the action by the tests on its name, in the order of the table
+  by_tests : (a b c d e f : Bool) (row : CommandRow)
+      → cond a (Some (writing (codes "mkfs"))) (cond b (Some (printing (codes "ls"))) (cond c (Some (writing (codes "get"))) (cond d (Some (writing (codes "put")))
+      (cond e (Some (printing (codes "check"))) (cond f (Some (writing (codes "repair"))) None))))) ≡ Some row
+      → Holds row.options rows t
+      → chosen a b c d e f (option_value (codes "out") t) t.positional
+      ≡ chosen a b c d e f (first_of (codes "out") (fold with_default rows (rules row.options))) (args_in (fold with_default rows (rules row.options)))
+  by_tests true b c d e f row is h = at_row (writing (codes "mkfs")) row is (λ r. mkfs_of (option_value (codes "out") t) t.positional ≡ mkfs_of (out_in r) (args_at r)) (writing_read mkfs_of) h
+  by_tests false true c d e f row is h = at_row (printing (codes "ls")) row is (λ r. ls_of t.positional ≡ ls_of (args_at r)) (printing_read ls_of) h
+  by_tests false false true d e f row is h = at_row (writing (codes "get")) row is (λ r. get_of (option_value (codes "out") t) t.positional ≡ get_of (out_in r) (args_at r)) (writing_read get_of) h
+  by_tests false false false true e f row is h = at_row (writing (codes "put")) row is (λ r. put_of (option_value (codes "out") t) t.positional ≡ put_of (out_in r) (args_at r)) (writing_read put_of) h
+  by_tests false false false false true f row is h = at_row (printing (codes "check")) row is (λ r. check_of t.positional ≡ check_of (args_at r)) (printing_read check_of) h
+  by_tests false false false false false true row is h =
+      at_row (writing (codes "repair")) row is (λ r. repair_of (option_value (codes "out") t) t.positional ≡ repair_of (out_in r) (args_at r)) (writing_read repair_of) h
+  by_tests false false false false false false row is h = absurd (cc)
+
+action_taken : (sub : Option (Text × List Row)) (r : Request) → Enters actions r sub → action_from r ≡ action_command_in sub
+action_taken sub r h =
+    by_tests h.rows r.taken (bytes_eq (codes "mkfs") r.command) (bytes_eq (codes "ls") r.command) (bytes_eq (codes "get") r.command) (bytes_eq (codes "put") r.command)
+    (bytes_eq (codes "check") r.command) (bytes_eq (codes "repair") r.command) h.row h.named h.holds
+    ∙ ap action_command_in (sym h.entered)
+
+-- matches give the action
+pub action_matched : (args : List Text) → AllUtf8 args → fault_of disk_app args ≡ [] → (sub : Option (Text × List Row)) → sub ≡ subcommand_of disk_app args
+    → action_of args ≡ action_command_in sub
+action_matched args u none sub is =
+    matched actions action_from action_command_in (fault_of disk_app args) (subcommand_of disk_app args) (request_of actions args) (action_taken (subcommand_of disk_app args)) none
+    (program_law (codes "disk") actions refl args u) ∙ ap action_command_in (sym is)
+
+-- if a kind of error comes, there is no action
+pub action_unmatched : (args : List Text) → AllUtf8 args → (fault_of disk_app args ≡ [] → ⊥) → action_of args ≡ None
+action_unmatched args u bad =
+    unmatched actions action_from action_command_in (fault_of disk_app args) (subcommand_of disk_app args) (request_of actions args) bad (program_law (codes "disk") actions refl args u)
 
 -- an error other than out of memory has a kind
 pub has_kind : (k : ErrorKind) (kinds : Kinds) → (k ≡ OutOfMemory → ⊥) → (k ≡ OutOfMemory) ⊎ IsAmong k kinds → kinds ≡ [] → ⊥

@@ -5,8 +5,7 @@ use Rattle.std.specs.Option.{option_map_or}
 use Rattle.std.proofs.lemmas.List.Folds.{find-append}
 use Rattle.clap.specs.Walk.{Row, at_row, first_of, has_row, more_values, reading_by, with_default}
 use Rattle.clap.specs.declared.parser.matches.ValueSource.TheVariants.{DefaultValue}
-use Rattle.command_line.specs.Reading.{OptionRow, Taken, Text, given, row_named}
-use Rattle.command_line.specs.Commands.{option_value}
+use Rattle.command_line.specs.Reading.{OptionRow, Taken, Text, given, option_value, row_named}
 use Rattle.command_line.specs.Parser.{args_in}
 use Rattle.command_line.proofs.Table.{ready, rules, arg_id}
 use Rattle.command_line.proofs.Rows.{Holds, at_row_none, find_row, has_found, not_true, or_none, row_made, args_row}

@@ -1,4 +1,6 @@
 pub mod Reading
+pub mod RunArgs
+pub mod DiskArgs
 pub mod Commands
 pub mod Names
 pub mod Parser

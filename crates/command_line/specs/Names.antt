@@ -1,7 +1,25 @@
 -- The command of the code, as the names that it holds.
 use Rattle.std.specs.Prelude.{map}
-use Rattle.command_line.specs.Commands.{Command as CommandNames}
+use Rattle.command_line.specs.RunArgs.{RunFiles as RunNames}
+use Rattle.command_line.specs.DiskArgs.{DiskAction as ActionNames, Mkfs, Ls, Get, Put, Check, Repair}
+use Rattle.command_line.specs.Commands.{Command as CommandNames, Run, Disk}
+use Rattle.command_line.specs.declared.run_args.RunFiles.{RunFiles}
+use Rattle.command_line.specs.declared.disk_args.DiskAction.{DiskAction}
+use Rattle.command_line.specs.declared.disk_args.DiskAction.TheVariants as action
 use Rattle.command_line.specs.declared.command.Command.{Command}
+use Rattle.command_line.specs.declared.command.Command.TheVariants as command
 
-abbrev pub names_in : Command → CommandNames
-names_in c = record { schedule = c.schedule.now; images = map (λ s. s.now) c.images.items }
+abbrev pub run_names : RunFiles → RunNames
+run_names r = record { schedule = r.schedule.now; images = map (λ s. s.now) r.images.items }
+
+abbrev pub action_names : DiskAction → ActionNames
+action_names (action.Mkfs blocks out) = Mkfs blocks out.now
+action_names (action.Ls image) = Ls image.now
+action_names (action.Get image name out) = Get image.now name.now out.now
+action_names (action.Put image name source out) = Put image.now name.now source.now out.now
+action_names (action.Check image) = Check image.now
+action_names (action.Repair image out) = Repair image.now out.now
+
+abbrev pub command_names : Command → CommandNames
+command_names (command.Run r) = Run (run_names r)
+command_names (command.Disk a) = Disk (action_names a)

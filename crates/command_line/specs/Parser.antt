@@ -5,8 +5,10 @@ use Rattle.std.specs.Option.{unwrap_or}
 use Rattle.clap.specs.Walk.{Row, Rule, all_of, first_of}
 use Rattle.clap.specs.Simple.{App, new_rule, new_shape, with_subcommand}
 use Rattle.clap.specs.declared.builder.action.ArgAction.TheVariants.{Set, Append, SetTrue}
-use Rattle.command_line.specs.Reading.{OptionRow, Text}
-use Rattle.command_line.specs.Commands.{Command, run_of, run_options}
+use Rattle.command_line.specs.Reading.{CommandRow, OptionRow, Text}
+use Rattle.command_line.specs.RunArgs.{RunFiles, run_of}
+use Rattle.command_line.specs.DiskArgs.{DiskAction, action_named, actions}
+use Rattle.command_line.specs.Commands.{commands}
 
 -- an option: it is used once
 abbrev pub option_rule : OptionRow → Rule
@@ -24,16 +26,16 @@ told_rules [] = arg_rule ∷ []
 told_rules (o ∷ os) = option_rule o ∷ told_rules os
 
 -- a command by itself, before it is built
-abbrev pub command_app : Text → List OptionRow → App
-command_app name os = record {
-  top = record (new_shape name) { rules = told_rules os };
+abbrev pub command_app : CommandRow → App
+command_app c = record {
+  top = record (new_shape c.name) { rules = told_rules c.options };
   subs = [];
 }
 
--- the program, with no command yet: nothing but a command's name may come first
-abbrev pub program_app : App
-program_app = record {
-  top = record (new_shape (codes "xinu_run")) {
+-- a program with no command yet: nothing but a command's name may come first
+abbrev pub program_app : Text → App
+program_app name = record {
+  top = record (new_shape name) {
     no_binary_name = true;
     disable_help_flag = true;
     disable_help_subcommand = true;
@@ -43,17 +45,32 @@ program_app = record {
   subs = [];
 }
 
-abbrev pub parser_app : App
-parser_app = with_subcommand program_app (command_app (codes "run") run_options).top
+abbrev pub with_commands : App → List CommandRow → App
+with_commands app [] = app
+with_commands app (c ∷ cs) = with_commands (with_subcommand app (command_app c).top) cs
+
+-- the program, and `disk` with its actions
+abbrev pub run_app : App
+run_app = with_commands (program_app (codes "xinu_run")) commands
+
+abbrev pub disk_app : App
+disk_app = with_commands (program_app (codes "disk")) actions
 
 -- ---- what is taken from the matches of a command
 
 abbrev pub args_in : List Row → List Text
 args_in rows = unwrap_or (all_of (codes "arg") rows) []
 
-abbrev pub run_in : List Row → Option Command
+abbrev pub run_in : List Row → Option RunFiles
 run_in rows = run_of (first_of (codes "schedule") rows) (args_in rows)
 
--- the command that the matches give
-abbrev pub command_in : Option (Text × List Row) → Option Command
-command_in found = option_and_then (λ p. run_in p.1) found
+-- the run that the matches give
+abbrev pub run_command_in : Option (Text × List Row) → Option RunFiles
+run_command_in found = option_and_then (λ p. run_in p.1) found
+
+abbrev pub action_in : Text → List Row → Option DiskAction
+action_in name rows = action_named name (first_of (codes "out") rows) (args_in rows)
+
+-- the action that the matches give
+abbrev pub action_command_in : Option (Text × List Row) → Option DiskAction
+action_command_in found = option_and_then (λ p. action_in p.0 p.1) found

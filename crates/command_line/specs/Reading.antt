@@ -1,5 +1,5 @@
 -- How the arguments after a command's name are read from the left, by a table of the options that the command has.
-use Rattle.std.specs.Prelude.{◌==◌, ◌++◌, ℕ, Bool, List, [], ◌∷◌, Option, Some, None}
+use Rattle.std.specs.Prelude.{◌==◌, ◌++◌, ℕ, Bool, true, List, [], ◌∷◌, Option, Some, None}
 use Rattle.std.specs.Prelude.{if◌then◌else◌, find, fold, bytes_eq, is_some, option_map, option_and_then}
 use Rattle.std.specs.List.{list_any, before_first, after_first}
 
@@ -10,6 +10,10 @@ Text = List ℕ
 pub record OptionRow : Type 0 where
   pub name : Text
   pub takes_value : Bool
+
+-- the option `--name VALUE`
+abbrev pub value_option : Text → OptionRow
+value_option name = record { name = name; takes_value = true }
 
 -- what an argument is before the first `--`
 pub data ArgForm : Type 0 where
@@ -64,6 +68,10 @@ row_named table name = find (λ o. bytes_eq o.name name) table
 -- the option of this name among those that were given, with its value
 abbrev pub given : Text → Taken → Option (OptionRow × Text)
 given name t = find (λ p. bytes_eq p.0.name name) t.options
+
+-- the value of an option that was given
+abbrev pub option_value : Text → Taken → Option Text
+option_value name t = option_map (λ p. p.1) (given name t)
 
 abbrev pub with_positional : Text → Taken → Taken
 with_positional arg t = record t { positional = t.positional ++ arg ∷ [] }

@@ -1,23 +1,29 @@
 //! The arguments of the command line.
 //!
-//! [`command_of`] reads them with `clap` and then by tests of its own: how many images there are, which options are needed, and that no
-//! name is empty. `specs/Reading.antt` reads the arguments from the left by a table of options; `specs/Commands.antt` has the program's
-//! commands.
+//! [`command_of`] reads them with `clap` and then by tests of its own: how many there are, which options are needed, that no name is empty, and
+//! what a number is. `specs/Reading.antt` reads the arguments from the left by a table of options; `specs/RunArgs.antt` and `specs/DiskArgs.antt`
+//! have the tables, and `specs/Commands.antt` the commands.
 //!
 //! | Call | Promise |
 //! |---|---|
-//! | [`command_of`] | `command`: an answered command is the one that the definition gives; `no_command`: the answer is no command only if the definition gives none; `an_image`, `few_images`. `NoMemory` is free |
+//! | [`command_of`] | `command`: an answered command is the one that the definition gives; `no_command`: the answer is no command only if the definition gives none. `NoMemory` is free |
 //!
 //! One law, by induction over the arguments, says that clap's matches are that reading, for every table whose options have other names than the
-//! positional argument (`proofs/Law.antt`, `proofs/Program.antt`). The crate depends on `clap` alone.
+//! positional argument (`proofs/Law.antt`, `proofs/Program.antt`). It serves the commands and the actions of `disk`. The crate depends on `clap`, and on
+//! `lfs_layout` for what can be the name of a file on a disk.
 #![tactic(auto)]
 
 mod command;
+mod disk_args;
+mod matches;
 mod parser;
 mod refusal;
+mod run_args;
 
 pub use command::{Command, command_of};
+pub use disk_args::DiskAction;
 pub use refusal::ArgsFault;
+pub use run_args::RunFiles;
 
 #[cfg(test)]
 mod tests;

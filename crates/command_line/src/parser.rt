@@ -1,17 +1,120 @@
 //! The program's arguments as `clap` reads them.
 
-ghost use Rattle.std.specs.Prelude.{◌≡◌, IfOk, IsErrOf, None, false, codes, map};
+ghost use Rattle.std.specs.Prelude.{◌≡◌, ◌∷◌, [], IfOk, IsErrOf, None, true, false, codes, map};
 ghost use Rattle.std.specs.String.{string_bytes};
-ghost use Rattle.clap.specs.Words.{app_of, rule_of, subcommand_rows_of};
+ghost use Rattle.clap.specs.Words.{app_of, fault_of, is_simple, is_simple_and_free, rule_of, subcommand_of, subcommand_rows_of};
 ghost use Rattle.clap.specs.declared.builder.command.Command.TheViews.{out-Command as fields_of};
-ghost use Rattle.command_line.specs.Commands.{command_of, run_options, value_option};
-ghost use Rattle.command_line.specs.Parser.{command_app, command_in, option_rule, parser_app, program_app, arg_rule};
+ghost use Rattle.command_line.specs.Reading.{value_option};
+ghost use Rattle.command_line.specs.RunArgs.{run_options};
+ghost use Rattle.command_line.specs.DiskArgs as disk;
+ghost use Rattle.command_line.specs.Commands.{run_command_of};
+ghost use Rattle.command_line.specs.Parser.{action_command_in, arg_rule, command_app, disk_app, option_rule, program_app, run_app, run_command_in};
 ghost use Rattle.command_line.specs.declared.refusal.ArgsFault.TheVariants as fault;
 
 use crate::refusal::ArgsFault;
 use clap::error::ErrorKind;
 use clap::{Arg, ArgAction, ArgMatches, Command};
 use std::alloc::{AllocError, Global};
+
+/// The matches of arguments whose first names the command `run`, or why there are none.
+pub(crate) fn run_matches<'a>(
+    alloc: Global,
+    args: &'a [String],
+) -> Result<ArgMatches<'a>, ArgsFault>
+    ensures files { IfOk result (λ m. run_command_of (map string_bytes args.entry.now) ≡ run_command_in (subcommand_rows_of m)) }
+    ensures no_command { IsErrOf result fault.NoCommand → run_command_of (map string_bytes args.entry.now) ≡ None }
+{
+    matches_by(run_parser(alloc)?, args)
+}
+
+/// The matches of arguments whose first names an action of `disk`, or why there are none.
+pub(crate) fn action_matches<'a>(
+    alloc: Global,
+    args: &'a [String],
+) -> Result<ArgMatches<'a>, ArgsFault>
+    ensures action { IfOk result (λ m. disk.action_of (map string_bytes args.entry.now) ≡ action_command_in (subcommand_rows_of m)) }
+    ensures no_command { IsErrOf result fault.NoCommand → disk.action_of (map string_bytes args.entry.now) ≡ None }
+{
+    matches_by(disk_parser(alloc)?, args)
+}
+
+// The matches of arguments by a parser, or why there are none.
+fn matches_by<'a>(parser: Command<'a>, args: &'a [String]) -> Result<ArgMatches<'a>, ArgsFault>
+    requires simple { is_simple (app_of parser) ≡ true }
+    requires free { is_simple_and_free (app_of parser) ≡ true }
+    ensures faultless { IfOk result (λ m. fault_of (app_of parser.entry) (map string_bytes args.entry.now) ≡ []) }
+    ensures rows { IfOk result (λ m. subcommand_rows_of m ≡ subcommand_of (app_of parser.entry) (map string_bytes args.entry.now)) }
+    ensures faulty { IsErrOf result fault.NoCommand → fault_of (app_of parser.entry) (map string_bytes args.entry.now) ≡ [] → ⊥ }
+{
+    match parser.try_get_matches_from(args) {
+        Ok(matches) => Ok(matches),
+        Err(error) => match error.kind() {
+            ErrorKind::OutOfMemory => Err(ArgsFault::NoMemory),
+            _ => Err(ArgsFault::NoCommand),
+        },
+    }
+}
+
+// The program with its commands. The parser knows of names and of values, and of no count.
+fn run_parser<'a>(alloc: Global) -> Result<Command<'a>, AllocError>
+    ensures told { IfOk result (λ c. app_of c ≡ run_app) }
+{
+    program(alloc, "xinu_run").subcommand(run_command(alloc)?)
+}
+
+// The command `disk` with its actions.
+fn disk_parser<'a>(alloc: Global) -> Result<Command<'a>, AllocError>
+    ensures told { IfOk result (λ c. app_of c ≡ disk_app) }
+{
+    program(alloc, "disk")
+        .subcommand(writing(alloc, "mkfs")?)?
+        .subcommand(printing(alloc, "ls")?)?
+        .subcommand(writing(alloc, "get")?)?
+        .subcommand(writing(alloc, "put")?)?
+        .subcommand(printing(alloc, "check")?)?
+        .subcommand(writing(alloc, "repair")?)
+}
+
+// A program: its first argument is a command's name, and it has no flag of its own, not even for help.
+fn program<'a>(alloc: Global, name: &'a str) -> Command<'a>
+    ensures told { app_of result ≡ program_app name.now }
+    ensures local { (fields_of result).has_globals ≡ false }
+{
+    Command::new(alloc, name)
+        .no_binary_name(true)
+        .disable_help_flag(true)
+        .disable_help_subcommand(true)
+        .disable_version_flag(true)
+        .subcommand_required(true)
+}
+
+// The command `run`, with its options.
+fn run_command<'a>(alloc: Global) -> Result<Command<'a>, AllocError>
+    ensures told { IfOk result (λ c. app_of c ≡ command_app (record { name = codes "run"; options = run_options })) }
+    ensures local { IfOk result (λ c. (fields_of c).has_globals ≡ false) }
+{
+    Command::new(alloc, "run")
+        .arg(valued(alloc, "schedule"))?
+        .arg(args(alloc))
+}
+
+// An action that writes a file.
+fn writing<'a>(alloc: Global, name: &'a str) -> Result<Command<'a>, AllocError>
+    ensures told { IfOk result (λ c. app_of c ≡ command_app (disk.writing name.entry.now)) }
+    ensures local { IfOk result (λ c. (fields_of c).has_globals ≡ false) }
+{
+    Command::new(alloc, name)
+        .arg(valued(alloc, "out"))?
+        .arg(args(alloc))
+}
+
+// An action that only prints.
+fn printing<'a>(alloc: Global, name: &'a str) -> Result<Command<'a>, AllocError>
+    ensures told { IfOk result (λ c. app_of c ≡ command_app (disk.printing name.entry.now)) }
+    ensures local { IfOk result (λ c. (fields_of c).has_globals ≡ false) }
+{
+    Command::new(alloc, name).arg(args(alloc))
+}
 
 // The option `--name VALUE`.
 fn valued<'a>(alloc: Global, name: &'a str) -> Arg<'a>
@@ -27,48 +130,4 @@ fn args<'a>(alloc: Global) -> Arg<'a>
     ensures local { result.global ≡ false }
 {
     Arg::new(alloc, "arg").action(ArgAction::Append)
-}
-
-// The command `run`, with its options.
-fn run_parser<'a>(alloc: Global) -> Result<Command<'a>, AllocError>
-    ensures told { IfOk result (λ c. app_of c ≡ command_app (codes "run") run_options) }
-    ensures local { IfOk result (λ c. (fields_of c).has_globals ≡ false) }
-{
-    Command::new(alloc, "run")
-        .arg(valued(alloc, "schedule"))?
-        .arg(args(alloc))
-}
-
-// The program: its first argument is a command's name, and it has no flag of its own, not even for help.
-fn program<'a>(alloc: Global) -> Command<'a>
-    ensures told { app_of result ≡ program_app }
-    ensures local { (fields_of result).has_globals ≡ false }
-{
-    Command::new(alloc, "xinu_run")
-        .no_binary_name(true)
-        .disable_help_flag(true)
-        .disable_help_subcommand(true)
-        .disable_version_flag(true)
-        .subcommand_required(true)
-}
-
-// The program with its commands. The parser knows of names and of values, and of no count.
-fn parser<'a>(alloc: Global) -> Result<Command<'a>, AllocError>
-    ensures told { IfOk result (λ c. app_of c ≡ parser_app) }
-{
-    program(alloc).subcommand(run_parser(alloc)?)
-}
-
-/// The matches of the arguments, or why there are none.
-pub(crate) fn matches_of<'a>(alloc: Global, args: &'a [String]) -> Result<ArgMatches<'a>, ArgsFault>
-    ensures command { IfOk result (λ m. command_of (map string_bytes args.entry.now) ≡ command_in (subcommand_rows_of m)) }
-    ensures no_command { IsErrOf result fault.NoCommand → command_of (map string_bytes args.entry.now) ≡ None }
-{
-    match parser(alloc)?.try_get_matches_from(args) {
-        Ok(matches) => Ok(matches),
-        Err(error) => match error.kind() {
-            ErrorKind::OutOfMemory => Err(ArgsFault::NoMemory),
-            _ => Err(ArgsFault::NoCommand),
-        },
-    }
 }

@@ -1,6 +1,7 @@
 //! Lists of arguments, each with the command that it gives.
 
 use crate::command::{Command, command_of};
+use crate::disk_args::DiskAction;
 use crate::refusal::ArgsFault;
 use std::alloc::Global;
 use std::test::Fail;
@@ -40,11 +41,63 @@ fn these_args_give_a_run(rt: HostRuntime) -> Result<(), Fail> {
     ] {
         let args = strings(rt.alloc(), args)?;
         match command_of(rt.alloc(), args.as_slice()) {
-            Ok(command) => {
-                assert_eq!(rt; command.schedule, schedule);
-                assert_eq!(rt; command.images.as_slice(), [image].as_slice());
+            Ok(Command::Run(files)) => {
+                assert_eq!(rt; files.schedule, schedule);
+                assert_eq!(rt; files.images.as_slice(), [image].as_slice());
             }
-            Err(_) => return Err("a command")?,
+            _ => return Err("a run")?,
+        }
+    }
+    Ok(())
+}
+
+// An action as a line of words.
+fn words(alloc: Global, action: DiskAction<'_>) -> Result<String, Fail> {
+    Ok(match action {
+        DiskAction::Mkfs { blocks, out } => format!(in alloc; "mkfs {blocks} {out}")?,
+        DiskAction::Ls { image } => format!(in alloc; "ls {image}")?,
+        DiskAction::Get { image, name, out } => format!(in alloc; "get {image} {name} {out}")?,
+        DiskAction::Put {
+            image,
+            name,
+            source,
+            out,
+        } => format!(in alloc; "put {image} {name} {source} {out}")?,
+        DiskAction::Check { image } => format!(in alloc; "check {image}")?,
+        DiskAction::Repair { image, out } => format!(in alloc; "repair {image} {out}")?,
+    })
+}
+
+#[test]
+fn these_args_give_an_action(rt: HostRuntime) -> Result<(), Fail> {
+    for (args, action) in [
+        (["mkfs", "256", "--out", "d"].as_slice(), "mkfs 256 d"),
+        (&["mkfs", "--out=d", "14"], "mkfs 14 d"),
+        (&["mkfs", "00014", "--out", "d"], "mkfs 14 d"),
+        (&["mkfs", "65542", "--out", "d"], "mkfs 65542 d"),
+        (&["ls", "d"], "ls d"),
+        (&["ls", "--", "--out"], "ls --out"),
+        (&["ls", "-"], "ls -"),
+        (&["get", "d", "log", "--out", "f"], "get d log f"),
+        (&["get", "--out", "f", "d", "--", "-x"], "get d -x f"),
+        (
+            &["get", "d", "abcdefghijklmnopqrstuvwxyz0", "--out", "f"],
+            "get d abcdefghijklmnopqrstuvwxyz0 f",
+        ),
+        (&["put", "d", "log", "s", "--out", "e"], "put d log s e"),
+        (&["put", "d", "--out=e", "a b", "d"], "put d a b d e"),
+        (&["check", "d"], "check d"),
+        (&["repair", "d", "--out", "d"], "repair d d"),
+    ] {
+        let mut all = Vec::new(rt.alloc());
+        all.push("disk")?;
+        all.extend_from_slice(args)?;
+        let args = strings(rt.alloc(), all.as_slice())?;
+        match command_of(rt.alloc(), args.as_slice()) {
+            Ok(Command::Disk(found)) => {
+                assert_eq!(rt; words(rt.alloc(), found)?.as_str(), action);
+            }
+            _ => return Err(action)?,
         }
     }
     Ok(())
@@ -105,10 +158,81 @@ fn these_args_give_no_command(rt: HostRuntime) -> Result<(), Fail> {
         &["run", "--schedule=", "i"],
         &["run", "--schedule", "s", ""],
         &["run", "--schedule", "s", "--", ""],
+        // a disk without an action, or with another one
+        &["disk"],
+        &["Disk", "check", "d"],
+        &["--", "disk", "check", "d"],
+        &["disk", "disk", "check", "d"],
+        &["disk", "fsck", "d"],
+        &["disk", "chec", "d"],
+        &["disk", "--", "check", "d"],
+        &["disk", "--help"],
+        &["disk", "help"],
+        &["disk", "check", "--help"],
+        &["disk", "check", "-h"],
+        // too few arguments for an action, or too many
+        &["disk", "mkfs", "--out", "d"],
+        &["disk", "mkfs", "14", "15", "--out", "d"],
+        &["disk", "ls"],
+        &["disk", "ls", "d", "e"],
+        &["disk", "get", "d", "--out", "f"],
+        &["disk", "get", "d", "a", "b", "--out", "f"],
+        &["disk", "put", "d", "a", "--out", "e"],
+        &["disk", "put", "d", "a", "s", "t", "--out", "e"],
+        &["disk", "check"],
+        &["disk", "check", "d", "e"],
+        &["disk", "repair", "--out", "d"],
+        &["disk", "repair", "d", "e", "--out", "d"],
+        // an option that an action hasn't, lacks or has twice
+        &["disk", "ls", "d", "--out", "e"],
+        &["disk", "check", "d", "--out=e"],
+        &["disk", "mkfs", "14"],
+        &["disk", "mkfs", "14", "--out"],
+        &["disk", "get", "d", "a"],
+        &["disk", "put", "d", "a", "s"],
+        &["disk", "repair", "d"],
+        &["disk", "repair", "d", "--out", "e", "--out", "e"],
+        &["disk", "repair", "d", "--schedule", "s"],
+        // names that are empty or can't be those of a file on a disk
+        &["disk", "mkfs", "14", "--out", ""],
+        &["disk", "ls", ""],
+        &["disk", "get", "", "a", "--out", "f"],
+        &["disk", "get", "d", "", "--out", "f"],
+        &["disk", "get", "d", "a", "--out="],
+        &[
+            "disk",
+            "get",
+            "d",
+            "abcdefghijklmnopqrstuvwxyz01",
+            "--out",
+            "f",
+        ],
+        &[
+            "disk",
+            "get",
+            "d",
+            "abcdefghijklmnopqrstuvwxyzé",
+            "--out",
+            "f",
+        ],
+        &["disk", "put", "d", "a\0", "s", "--out", "e"],
+        &["disk", "put", "d", "a", "", "--out", "e"],
+        &["disk", "check", ""],
+        &["disk", "repair", "", "--out", "e"],
+        &["disk", "repair", "d", "--out", ""],
+        // numbers of blocks that no disk has
+        &["disk", "mkfs", "", "--out", "d"],
+        &["disk", "mkfs", "13", "--out", "d"],
+        &["disk", "mkfs", "65543", "--out", "d"],
+        &["disk", "mkfs", "99999", "--out", "d"],
+        &["disk", "mkfs", "000014", "--out", "d"],
+        &["disk", "mkfs", "+14", "--out", "d"],
+        &["disk", "mkfs", "14 ", "--out", "d"],
+        &["disk", "mkfs", "0x14", "--out", "d"],
     ] {
         let args = strings(rt.alloc(), args)?;
         match command_of(rt.alloc(), args.as_slice()) {
-            Ok(Command { schedule, .. }) => return Err(schedule)?,
+            Ok(_) => return Err("a command")?,
             Err(fault) => assert_eq!(rt; fault, ArgsFault::NoCommand),
         }
     }

@@ -3,8 +3,8 @@ use Rattle.std.proofs.Common.{◌∙◌, List, ℕ, Bor, rules, sym, tests}
 use Rattle.std.proofs.lemmas.Iterator.{YieldsList-from_slice}
 use Rattle.std.proofs.lemmas.Iterator.Search.{all_from_yields_List}
 use Rattle.std.proofs.lemmas.List.Folds.{list_all-map}
-use Rattle.command_line.specs.Commands.{is_file_name}
-use Rattle.command_line.proofs.command.are_file_names.Goals as goal
+use Rattle.command_line.specs.RunArgs.{is_file_name}
+use Rattle.command_line.proofs.matches.are_file_names.Goals as goal
 
 pub returns : goal.returns
 returns c = record {

@@ -1,0 +1,12 @@
+use Rattle.command_line.proofs.Told.{is_told, last_one, one_more}
+use Rattle.command_line.proofs.parser.disk_parser.Goals as goal
+
+pub returns : goal.returns
+returns c =
+    let none = is_told _ _ c.program.ensures.told c.program.ensures.local in
+    let one = one_more _ _ _ _ _ c.in_ok-subcommand.ensures none (is_told _ _ c.in_ok-writing.ensures.told c.in_ok-writing.ensures.local) in
+    let two = one_more _ _ _ _ _ c.in_ok-subcommand-2.ensures one (is_told _ _ c.in_ok-printing.ensures.told c.in_ok-printing.ensures.local) in
+    let three = one_more _ _ _ _ _ c.in_ok-subcommand-3.ensures two (is_told _ _ c.in_ok-writing-2.ensures.told c.in_ok-writing-2.ensures.local) in
+    let four = one_more _ _ _ _ _ c.in_ok-subcommand-4.ensures three (is_told _ _ c.in_ok-writing-3.ensures.told c.in_ok-writing-3.ensures.local) in
+    let five = one_more _ _ _ _ _ c.in_ok-subcommand-5.ensures four (is_told _ _ c.in_ok-printing-2.ensures.told c.in_ok-printing-2.ensures.local) in
+    record { told = last_one _ _ _ _ _ c.subcommand-6.ensures five (is_told _ _ c.in_ok-writing-4.ensures.told c.in_ok-writing-4.ensures.local) }
