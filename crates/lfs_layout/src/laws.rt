@@ -1,10 +1,10 @@
 //! What always holds of images and their files.
 
 ghost use Rattle.std.specs.Prelude.{ℕ, ◌≡◌, ◌≤◌, ◌<◌, false, List, None, count_by, length};
-ghost use Rattle.lfs_check.specs.Rules.{is_used};
-ghost use Rattle.lfs_check.specs.Fields.{geometry_of, fields_of, entries_of};
+ghost use Rattle.lfs_check.specs.Rules.{entry_is_used};
+ghost use Rattle.lfs_check.specs.Fields.{geometry_of, fields_of, directory_entries};
 ghost use Rattle.lfs_check.specs.Faults.{fault, report};
-ghost use Rattle.lfs_check.specs.Kept.{kept};
+ghost use Rattle.lfs_check.specs.Kept.{kept_entries};
 ghost use Rattle.lfs_layout.specs.Files.{File, files_of, with_set, have_room};
 ghost use Rattle.lfs_layout.specs.Made.{geometry_2};
 ghost use Rattle.lfs_layout.specs.Images.{repaired};
@@ -14,8 +14,8 @@ ghost use Rattle.lfs_layout.specs.Images.{repaired};
 #[tactic(auto, using(crate::proofs::ImageLaws::repaired_files, crate::proofs::ImageLaws::all_kept, crate::proofs::ImageLaws::used_files))]
 pub fn repair_keeps_a_clean_image()
     ensures files { (image : List ℕ) → fault image ≡ None → files_of (repaired image) ≡ files_of image }
-    ensures kept { (image : List ℕ) → fault image ≡ None → length (kept (geometry_of image) (fields_of (geometry_of image) image).indexes (entries_of (geometry_of image) image)) ≡ length (files_of image) }
-    ensures used { (image : List ℕ) → fault image ≡ None → count_by is_used (entries_of (geometry_of image) image) ≡ length (files_of image) }
+    ensures kept { (image : List ℕ) → fault image ≡ None → length (kept_entries (geometry_of image) (fields_of (geometry_of image) image).indexes (directory_entries (geometry_of image) image)) ≡ length (files_of image) }
+    ensures used { (image : List ℕ) → fault image ≡ None → count_by entry_is_used (directory_entries (geometry_of image) image) ≡ length (files_of image) }
 {}
 
 /// The report of an image without a fault has the number of its files.
