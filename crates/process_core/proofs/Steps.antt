@@ -1,8 +1,7 @@
 -- Two calls, one after the other, make one move of the machine.
-use Rattle.std.proofs.Common.{◌≡◌, ◌≢◌, ◌∙◌, ℕ, ◌<◌, false, List, length, set, get_or, refl, sym, ap, subst, arith, Option, None, get_or-set_same}
+use Rattle.std.proofs.Common.{◌≡◌, ◌≢◌, ◌∙◌, ℕ, ◌<◌, false, List, set, get_or, refl, ap, subst, Option, None}
 use Rattle.std.proofs.lemmas.List.{set-get_or, set-set}
 use Rattle.xinu_base.specs.declared.processes.Process.{Process}
-use Rattle.xinu_base.specs.declared.processes.State.{State}
 use Rattle.xinu_base.specs.declared.processes.State.TheVariants.{Ready}
 use Rattle.queue_table.specs.Lists.{Entry, all_delta_without, all_without, is_listed, list_at}
 use Rattle.xinu_model.specs.Process.Scheduling.{in_state, ready}
@@ -10,7 +9,7 @@ use Rattle.xinu_model.specs.Tables.{Tables, Place, Nowhere, InReady, no_process,
 use Rattle.process_core.specs.Fits.{Fits}
 use Rattle.process_core.specs.Tables.{ProcessTable, Beside, process_in, tables_of, with_message, with_process}
 use Rattle.process_core.proofs.Fitting.{fits_taken, fits_taken_sleeper}
-use Rattle.process_core.proofs.Moves.{move_twice, ready-left}
+use Rattle.process_core.proofs.Moves.{move_twice}
 
 -- the tables if p holds another message
 pub tables-with_message : (ls : List (List Entry)) (s : ProcessTable) (b : Beside) (p : ℕ) (m : Option ℕ)
