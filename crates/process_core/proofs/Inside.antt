@@ -69,7 +69,8 @@ one_of_total f (x ∷ xs) zero d z = omega arith
 one_of_total f (x ∷ xs) (suc i) d z = let e = one_of_total f xs i d z in omega arith
 
 -- whoever is in the queue of a semaphore is counted among the waiters
-waits_least : (p q : ℕ) (ls : List (List Entry)) (ms : List Mark) → q < 128 → length ms ≡ 128 → entries_of p (list_at ls q) ≤ waits_of p (semaphores_of (take 128 ls) ms)
+waits_least : (p q : ℕ) (ls : List (List Entry)) (ms : List Mark) → q < 128 → length ms ≡ 128
+    → entries_of p (list_at ls q) ≤ waits_of p (semaphores_of (take 128 ls) ms)
 waits_least p q ls ms lt n =
     let f : Semaphore → ℕ = λ x. count_in p x.waiters in
     let g = one_of_total f (semaphores_of (take 128 ls) ms) q no_semaphore refl in
@@ -137,7 +138,8 @@ inside_fits t s b o =
                   let e : q ≡ 129 = omega (arith, n, w.0, queues_of t) in
                   let F : ℕ → Type 0 = λ q. is_listed p (list_at ls q) ≡ true in
                   let M : ℕ → Type 0 = λ q. MayBeIn q (process_in s.processes p).state in
-                  let m2 : 0 < entries_of p (delays (list_at ls 129)) = counted p (delays (list_at ls 129)) (is_listed-delays p (list_at ls 129) ∙ subst F e w.1) in
+                  let m2 : 0 < entries_of p (delays (list_at ls 129))
+                  = counted p (delays (list_at ls 129)) (is_listed-delays p (list_at ls 129) ∙ subst F e w.1) in
                   subst M (sym e) (sleeping_if_counted _ (omega (arith, m2, sleepers_counted p b.ticks (list_at ls 129), o.sleeping p))))
             ]
           ]);

@@ -36,10 +36,13 @@ marked : (x : Semaphore) → x.waiters ≡ [] → semaphore_of [] (mark_of x) �
 marked x h = ap (λ w. record { owner = x.owner; tokens = x.tokens; waiters = w }) (sym h)
 
 -- semaphores without waiters are their marks with empty lists
-pub semaphores_marked : (n : ℕ) (l : List Semaphore) → AllByRecursion (λ (x : Semaphore). x.waiters ≡ []) l → semaphores_of (replicate n []) (map mark_of l) ≡ l
+pub semaphores_marked : (n : ℕ) (l : List Semaphore) → AllByRecursion (λ (x : Semaphore). x.waiters ≡ []) l
+    → semaphores_of (replicate n []) (map mark_of l) ≡ l
 semaphores_marked n [] h = refl
-semaphores_marked zero (x ∷ l) h = ap (λ y. y ∷ semaphores_of [] (map mark_of l)) (marked x h.0) ∙ ap (λ r. x ∷ r) (semaphores_marked zero l h.1)
-semaphores_marked (suc n) (x ∷ l) h = ap (λ y. y ∷ semaphores_of (replicate n []) (map mark_of l)) (marked x h.0) ∙ ap (λ r. x ∷ r) (semaphores_marked n l h.1)
+semaphores_marked zero (x ∷ l) h = ap (λ y. y ∷ semaphores_of [] (map mark_of l)) (marked x h.0)
+    ∙ ap (λ r. x ∷ r) (semaphores_marked zero l h.1)
+semaphores_marked (suc n) (x ∷ l) h = ap (λ y. y ∷ semaphores_of (replicate n []) (map mark_of l)) (marked x h.0)
+    ∙ ap (λ r. x ∷ r) (semaphores_marked n l h.1)
 
 -- nobody waits on semaphores that aren't in use
 none_wait : (n : ℕ) → AllByRecursion (λ (x : Semaphore). x.waiters ≡ []) (replicate n no_semaphore)
