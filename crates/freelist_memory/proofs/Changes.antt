@@ -5,7 +5,7 @@ use Rattle.std.proofs.lemmas.Bool.{cond_both, eqb-true, eqb-false}
 use Rattle.std.proofs.Math.Seq.{take-append_seam, drop-append-add}
 use Rattle.xinu_model.specs.Heap.Cells.{marked, begins_with}
 use Rattle.xinu_model.proofs.Heap.{drop_equal}
-use Rattle.freelist_memory.specs.Blocks.{block_at, cells_of, AreBlocks, kept}
+use Rattle.freelist_memory.specs.Blocks.{block_at, cells_of, AreBlocks, unless_empty}
 use Rattle.freelist_memory.specs.declared.blocks.FreeBlock.{FreeBlock}
 use Rattle.freelist_memory.proofs.Cells.{AreWithin, blocks_order, cells_later, cells_parts, cells_length, cells_joined}
 use Rattle.freelist_memory.proofs.Order.{within_lower, within_higher, within_joined, within_blocks, blocks_split, blocks_joined, blocks_lower, blocks_around}
@@ -75,7 +75,7 @@ gap_taken first k pre bs last h g =
     ∙ begins_row false k q
 
 -- a block without cells is no block
-kept_cells : (b : FreeBlock) (pre bs : List FreeBlock) (last : ℕ) → AreWithin 0 pre b.first → AreWithin (b.first + b.count) bs last → cells_of 0 (pre ++ kept b bs) last ≡ cells_of 0 (pre ++ b ∷ bs) last
+kept_cells : (b : FreeBlock) (pre bs : List FreeBlock) (last : ℕ) → AreWithin 0 pre b.first → AreWithin (b.first + b.count) bs last → cells_of 0 (pre ++ unless_empty b bs) last ≡ cells_of 0 (pre ++ b ∷ bs) last
 kept_cells b pre bs last h g =
     cond_both (b.count == 0) bs (b ∷ bs) (λ l. cells_of 0 (pre ++ l) last ≡ cells_of 0 (pre ++ b ∷ bs) last)
     (λ t. cells_without b.first b.count pre bs last h g
@@ -85,7 +85,7 @@ kept_cells b pre bs last h g =
     (λ _. refl)
 
 -- what is kept of a block is in order
-kept_blocks : (from : ℕ) (b : FreeBlock) (bs : List FreeBlock) (to : ℕ) → from ≤ b.first → AreBlocks (b.first + b.count + 1) bs to → AreBlocks from (kept b bs) to
+kept_blocks : (from : ℕ) (b : FreeBlock) (bs : List FreeBlock) (to : ℕ) → from ≤ b.first → AreBlocks (b.first + b.count + 1) bs to → AreBlocks from (unless_empty b bs) to
 kept_blocks from b bs to w h =
     cond_both (b.count == 0) bs (b ∷ bs) (λ l. AreBlocks from l to)
     (λ _. blocks_lower from (b.first + b.count + 1) bs to (omega arith) h)
@@ -106,7 +106,7 @@ pub record IsCut (bs new : List FreeBlock) (start k last : ℕ) : Type 0 where
 
 -- a block is cut at its low end
 cut_low_parts : (k last : ℕ) (b : FreeBlock) (pre bs : List FreeBlock) → k ≤ b.count → AreBlocks 0 (pre ++ b ∷ bs) (last + 1)
-    → IsCut (pre ++ b ∷ bs) (pre ++ kept (rest_above k b) bs) b.first k last
+    → IsCut (pre ++ b ∷ bs) (pre ++ unless_empty (rest_above k b) bs) b.first k last
 cut_low_parts k last b pre bs w h =
     let parts = blocks_split 0 pre b bs (last + 1) h in
     let high = parts.1.2 in
@@ -118,7 +118,7 @@ cut_low_parts k last b pre bs w h =
     let within : AreWithin 0 pre b.first = within_blocks 0 0 pre b.first b.first (omega arith) (omega arith) (omega arith) parts.0 in
     let above : AreWithin (b.first + k) (rest_above k b ∷ bs) last = (omega arith, within_blocks (b.first + k + (b.count - k)) (b.first + k + (b.count - k) + 1) bs (last + 1) last (omega arith) (let o = blocks_order (b.first + k + (b.count - k) + 1) bs (last + 1) high_rest in omega arith) (omega arith) high_rest) in
     record {
-      blocks = blocks_joined 0 b.first pre (kept (rest_above k b) bs) (last + 1) parts.0 (kept_blocks b.first (rest_above k b) bs (last + 1) (omega arith) high_rest);
+      blocks = blocks_joined 0 b.first pre (unless_empty (rest_above k b) bs) (last + 1) parts.0 (kept_blocks b.first (rest_above k b) bs (last + 1) (omega arith) high_rest);
       cells =
           kept_cells (rest_above k b) pre bs last (within_higher 0 pre b.first (b.first + k) (omega arith) within) above.1
           ∙ block_taken b.first k pre (rest_above k b ∷ bs) last within above
@@ -128,7 +128,7 @@ cut_low_parts k last b pre bs w h =
 
 -- a block is cut at its high end
 cut_high_parts : (k last : ℕ) (b : FreeBlock) (pre bs : List FreeBlock) → k ≤ b.count → AreBlocks 0 (pre ++ b ∷ bs) (last + 1)
-    → IsCut (pre ++ b ∷ bs) (pre ++ kept (rest_below k b) bs) (b.first + (b.count - k)) k last
+    → IsCut (pre ++ b ∷ bs) (pre ++ unless_empty (rest_below k b) bs) (b.first + (b.count - k)) k last
 cut_high_parts k last b pre bs w h =
     let parts = blocks_split 0 pre b bs (last + 1) h in
     let high = parts.1.2 in
@@ -142,7 +142,7 @@ cut_high_parts k last b pre bs w h =
     let above : AreWithin (b.first + (b.count - k) + k) bs last = within_blocks (b.first + (b.count - k) + k) (b.first + b.count + 1) bs (last + 1) last (omega arith) (omega arith) (omega arith) high in
     let below : AreWithin 0 (pre ++ rest_below k b ∷ []) (b.first + (b.count - k)) = within_joined 0 b.first pre (rest_below k b ∷ []) (b.first + (b.count - k)) within (let w : b.first ≤ b.first = omega arith in let v : b.first + (b.count - k) ≤ b.first + (b.count - k) = omega arith in (w, v)) in
     record {
-      blocks = blocks_joined 0 b.first pre (kept (rest_below k b) bs) (last + 1) parts.0 (kept_blocks b.first (rest_below k b) bs (last + 1) (omega arith) high_rest);
+      blocks = blocks_joined 0 b.first pre (unless_empty (rest_below k b) bs) (last + 1) parts.0 (kept_blocks b.first (rest_below k b) bs (last + 1) (omega arith) high_rest);
       cells =
           kept_cells (rest_below k b) pre bs last within after
           ∙ ap (λ l. cells_of 0 l last) (sym (append_assoc pre (rest_below k b ∷ []) bs))
@@ -163,15 +163,15 @@ of_parts bs i start k last new w cut h =
 
 -- k cells are taken from the low end of the block at i.
 pub cut_low : (k last : ℕ) (bs : List FreeBlock) (i : ℕ) → i < length bs → k ≤ (block_at bs i).count → AreBlocks 0 bs (last + 1)
-    → IsCut bs (take i bs ++ kept (rest_above k (block_at bs i)) (drop (suc i) bs)) (block_at bs i).first k last
+    → IsCut bs (take i bs ++ unless_empty (rest_above k (block_at bs i)) (drop (suc i) bs)) (block_at bs i).first k last
 cut_low k last bs i w v h =
-    of_parts bs i (block_at bs i).first k last (take i bs ++ kept (rest_above k (block_at bs i)) (drop (suc i) bs)) w (cut_low_parts k last (block_at bs i) (take i bs) (drop (suc i) bs) v) h
+    of_parts bs i (block_at bs i).first k last (take i bs ++ unless_empty (rest_above k (block_at bs i)) (drop (suc i) bs)) w (cut_low_parts k last (block_at bs i) (take i bs) (drop (suc i) bs) v) h
 
 -- k cells are taken from the high end of the block at i.
 pub cut_high : (k last : ℕ) (bs : List FreeBlock) (i : ℕ) → i < length bs → k ≤ (block_at bs i).count → AreBlocks 0 bs (last + 1)
-    → IsCut bs (take i bs ++ kept (rest_below k (block_at bs i)) (drop (suc i) bs)) ((block_at bs i).first + ((block_at bs i).count - k)) k last
+    → IsCut bs (take i bs ++ unless_empty (rest_below k (block_at bs i)) (drop (suc i) bs)) ((block_at bs i).first + ((block_at bs i).count - k)) k last
 cut_high k last bs i w v h =
-    of_parts bs i ((block_at bs i).first + ((block_at bs i).count - k)) k last (take i bs ++ kept (rest_below k (block_at bs i)) (drop (suc i) bs)) w (cut_high_parts k last (block_at bs i) (take i bs) (drop (suc i) bs) v) h
+    of_parts bs i ((block_at bs i).first + ((block_at bs i).count - k)) k last (take i bs ++ unless_empty (rest_below k (block_at bs i)) (drop (suc i) bs)) w (cut_high_parts k last (block_at bs i) (take i bs) (drop (suc i) bs) v) h
 
 -- The cells around a block of a list.
 pub cells_around : (bs : List FreeBlock) (i last : ℕ) → i < length bs → AreBlocks 0 bs (last + 1)

@@ -5,7 +5,7 @@ use Rattle.std.proofs.lemmas.Bool.{le-leb, lt-leb, eq-eqb, ne_eqb}
 use Rattle.std.proofs.lemmas.List.Sums.{sum_by-append, sum_by-cons}
 use Rattle.std.proofs.lemmas.List.Folds.{sum_by-replicate}
 use Rattle.xinu_model.specs.Heap.Cells.{Block, with_cell, blocks_from}
-use Rattle.freelist_memory.specs.Blocks.{bytes_of, cells_of, AreBlocks}
+use Rattle.freelist_memory.specs.Blocks.{span_of, cells_of, AreBlocks}
 use Rattle.freelist_memory.specs.Searches.{AreBelow}
 use Rattle.freelist_memory.specs.declared.blocks.FreeBlock.{FreeBlock}
 
@@ -75,36 +75,36 @@ shown_free a (suc (suc n)) l blocks z e h =
     ∙ ap (λ i. (a, i) ∷ blocks) (let f : 8 * suc n + 8 ≡ 8 * suc (suc n) = omega arith in f)
 
 -- the blocks of a list are above where they may begin
-shown_above : (low at : ℕ) (bs : List FreeBlock) (to : ℕ) → AreBlocks (at + 1) bs to → IsAbove (low + 8 * at) (map (bytes_of low) bs)
+shown_above : (low at : ℕ) (bs : List FreeBlock) (to : ℕ) → AreBlocks (at + 1) bs to → IsAbove (low + 8 * at) (map (span_of low) bs)
 shown_above low at [] to h = tt
 shown_above low at (b ∷ bs) to h = let w = h.0 in omega arith
 
 -- The cells show the blocks of the list.
-pub shown_blocks : (low at from : ℕ) (bs : List FreeBlock) (to last : ℕ) → at ≤ from → AreBlocks from bs to → blocks_from (low + 8 * at) (cells_of at bs last) ≡ map (bytes_of low) bs
+pub shown_blocks : (low at from : ℕ) (bs : List FreeBlock) (to last : ℕ) → at ≤ from → AreBlocks from bs to → blocks_from (low + 8 * at) (cells_of at bs last) ≡ map (span_of low) bs
 shown_blocks low at from [] to last w h = shown_end (low + 8 * at) (last - at)
 shown_blocks low at from (b ∷ bs) to last w h =
     let v = h.0 in
     let rest = cells_of (b.first + b.count) bs last in
     let start : low + 8 * at + 8 * (b.first - at) ≡ low + 8 * b.first = omega arith in
     let end : low + 8 * (b.first + b.count) ≡ low + 8 * b.first + 8 * b.count = omega arith in
-    let P : ℕ → Type 0 = λ i. IsAbove i (map (bytes_of low) bs) in
+    let P : ℕ → Type 0 = λ i. IsAbove i (map (span_of low) bs) in
     shown_taken (low + 8 * at) (b.first - at) (replicate b.count true ++ rest)
     ∙ ap (λ i. blocks_from i (replicate b.count true ++ rest)) start
-    ∙ shown_free (low + 8 * b.first) b.count rest (map (bytes_of low) bs) h.1
+    ∙ shown_free (low + 8 * b.first) b.count rest (map (span_of low) bs) h.1
     (ap (λ i. blocks_from i rest) (sym end) ∙ shown_blocks low (b.first + b.count) (b.first + b.count + 1) bs to last (omega arith) h.2)
     (subst P end (shown_above low (b.first + b.count) bs to h.2))
 
 -- the first block at an address or above
-find_shown : (low a cell : ℕ) (bs : List FreeBlock) (at : ℕ) → (a - low + 7) / 8 ≡ cell → AreBelow cell bs at → find (λ b. nat_le a b.0) (map (bytes_of low) bs) ≡ option_map (bytes_of low) (slice_get bs at)
+find_shown : (low a cell : ℕ) (bs : List FreeBlock) (at : ℕ) → (a - low + 7) / 8 ≡ cell → AreBelow cell bs at → find (λ b. nat_le a b.0) (map (span_of low) bs) ≡ option_map (span_of low) (slice_get bs at)
 find_shown low a cell [] at e h = refl
 find_shown low a cell (b ∷ bs) zero e h =
     let next = h.next (omega arith) in
-    ap (λ t. cond t (Some (bytes_of low b)) (find (λ b. nat_le a b.0) (map (bytes_of low) bs))) (le-leb a (low + 8 * b.first) (omega arith))
+    ap (λ t. cond t (Some (span_of low b)) (find (λ b. nat_le a b.0) (map (span_of low) bs))) (le-leb a (low + 8 * b.first) (omega arith))
 find_shown low a cell (b ∷ bs) (suc i) e h =
     let below = h.below 0 (omega arith) in
     let within = h.within in
     let rest : AreBelow cell bs i = record { within = omega arith; below = λ j w. h.below (suc j) (omega arith); next = λ w. h.next (omega arith) } in
-    ap (λ t. cond t (Some (bytes_of low b)) (find (λ b. nat_le a b.0) (map (bytes_of low) bs))) (lt-leb a (low + 8 * b.first) (omega arith))
+    ap (λ t. cond t (Some (span_of low b)) (find (λ b. nat_le a b.0) (map (span_of low) bs))) (lt-leb a (low + 8 * b.first) (omega arith))
     ∙ find_shown low a cell bs i e rest
 
 -- the element that was read
@@ -121,7 +121,7 @@ got_past (a ∷ bs) (suc i) w = got_past bs i (omega arith)
 
 -- the first block that the cells show at an address or above
 find_cells : (low a cell : ℕ) (bs : List FreeBlock) (at last : ℕ) → (a - low + 7) / 8 ≡ cell → AreBelow cell bs at → AreBlocks 0 bs (last + 1)
-    → find (λ b. nat_le a b.0) (blocks_from low (cells_of 0 bs last)) ≡ option_map (bytes_of low) (slice_get bs at)
+    → find (λ b. nat_le a b.0) (blocks_from low (cells_of 0 bs last)) ≡ option_map (span_of low) (slice_get bs at)
 find_cells low a cell bs at last e h g =
     let first : low ≡ low + 8 * 0 = omega arith in
     ap (λ i. find (λ b. nat_le a b.0) (blocks_from i (cells_of 0 bs last))) first
@@ -130,10 +130,10 @@ find_cells low a cell bs at last e h g =
 
 -- It is the one that was read.
 pub find_read : (low a cell : ℕ) (bs : List FreeBlock) (at : ℕ) (b : FreeBlock) (last : ℕ) → (a - low + 7) / 8 ≡ cell → AreBelow cell bs at → AreBlocks 0 bs (last + 1) → at < length bs → b ≡ get_or bs at b
-    → find (λ b. nat_le a b.0) (blocks_from low (cells_of 0 bs last)) ≡ Some (bytes_of low b)
-find_read low a cell bs at b last e h g w r = find_cells low a cell bs at last e h g ∙ ap (option_map (bytes_of low)) (got_read bs at b w r)
+    → find (λ b. nat_le a b.0) (blocks_from low (cells_of 0 bs last)) ≡ Some (span_of low b)
+find_read low a cell bs at b last e h g w r = find_cells low a cell bs at last e h g ∙ ap (option_map (span_of low)) (got_read bs at b w r)
 
 -- There is none.
 pub find_none : (low a cell : ℕ) (bs : List FreeBlock) (at last : ℕ) → (a - low + 7) / 8 ≡ cell → AreBelow cell bs at → AreBlocks 0 bs (last + 1) → length bs ≤ at
     → find (λ b. nat_le a b.0) (blocks_from low (cells_of 0 bs last)) ≡ None
-find_none low a cell bs at last e h g w = find_cells low a cell bs at last e h g ∙ ap (option_map (bytes_of low)) (got_past bs at w)
+find_none low a cell bs at last e h g w = find_cells low a cell bs at last e h g ∙ ap (option_map (span_of low)) (got_past bs at w)

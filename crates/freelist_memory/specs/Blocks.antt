@@ -17,9 +17,9 @@ AreBlocks from [] to = from ≤ to
 AreBlocks from (b ∷ bs) to = (from ≤ b.first) × (0 < b.count) × AreBlocks (b.first + b.count + 1) bs to
 
 -- a block before others, unless it has no cell
-abbrev pub kept : FreeBlock → List FreeBlock → List FreeBlock
-kept b bs = if b.count == 0 then bs else b ∷ bs
+abbrev pub unless_empty : FreeBlock → List FreeBlock → List FreeBlock
+unless_empty b bs = if b.count == 0 then bs else b ∷ bs
 
 -- a block by its address and its bytes, if the cells begin at `low`
-abbrev pub bytes_of : ℕ → FreeBlock → ℕ × ℕ
-bytes_of low b = (low + 8 * b.first, 8 * b.count)
+abbrev pub span_of : ℕ → FreeBlock → ℕ × ℕ
+span_of low b = (low + 8 * b.first, 8 * b.count)

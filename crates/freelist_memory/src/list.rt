@@ -5,7 +5,7 @@
 
 ghost use Rattle.std.specs.Prelude.{◌≡◌, ℕ, ◌+◌, ◌<◌, ◌≤◌, ◌++◌, true, false, length, take, drop, replicate, vec_len, vec_capacity, IfOk, IfNone, IfSome, if◌then◌else◌, ◌^◌, ◌-◌, ◌/◌, count_by, find, nat_le, option_map};
 ghost use Rattle.xinu_model.specs.Heap.Cells.{begins_with, blocks_from, highest_free, lowest_free, marked};
-ghost use Rattle.freelist_memory.specs.Blocks.{bytes_of, kept};
+ghost use Rattle.freelist_memory.specs.Blocks.{span_of, unless_empty};
 ghost use Rattle.freelist_memory.specs.Gaps.{Fits, IsGiven};
 
 use crate::blocks::{FreeBlock, Gap, count_of, gap_at, highest, lowest, place_of};
@@ -132,7 +132,7 @@ impl FreeList {
 
     /// The first block that begins at a cell or above. `None` if and only if there is none.
     pub(crate) fn block_from(&self, cell: u32) -> Option<FreeBlock>
-        ensures found { (low a : ℕ) → (a - low + 7) / 8 ≡ cell → find (λ b. nat_le a b.0) (blocks_from low self.now) ≡ option_map (bytes_of low) result }
+        ensures found { (low a : ℕ) → (a - low + 7) / 8 ≡ cell → find (λ b. nat_le a b.0) (blocks_from low self.now) ≡ option_map (span_of low) result }
         ensures within { IfSome result (λ b. b.first + b.count ≤ length self.now) }
         ensures some { IfSome result (λ b. 0 < b.count) }
     {
@@ -148,7 +148,7 @@ impl FreeList {
 // Leaves of a block what wasn't taken of it, or nothing if all was.
 fn cut(blocks: &mut Vec<FreeBlock>, at: usize, rest: FreeBlock)
     requires at_in { at < length blocks.old.items }
-    ensures list { blocks.new.items ≡ take at blocks.old.items ++ kept rest (drop (at + 1) blocks.old.items) }
+    ensures list { blocks.new.items ≡ take at blocks.old.items ++ unless_empty rest (drop (at + 1) blocks.old.items) }
     ensures capacity { vec_capacity blocks.new ≡ vec_capacity blocks.old }
 {
     if rest.count == 0 {

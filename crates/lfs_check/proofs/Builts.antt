@@ -5,14 +5,14 @@ use Rattle.std.proofs.lemmas.Bool.Decides.{nat_tests}
 use Rattle.lfs_format.specs.declared.Entry.{Entry}
 use Rattle.lfs_check.specs.declared.geometry.Geometry.{Geometry}
 use Rattle.lfs_check.specs.Geometries.{index_count, first_data, IsGeometry}
-use Rattle.lfs_check.specs.Rules.{is_used}
-use Rattle.lfs_format.specs.Directory.{blank}
+use Rattle.lfs_check.specs.Rules.{entry_is_used}
+use Rattle.lfs_format.specs.Directory.{void_entry}
 use Rattle.lfs_check.specs.Meets.{null}
-use Rattle.lfs_check.specs.Laid.{Shape, FileLies, IsChain, index_in, list_of, times_in}
+use Rattle.lfs_check.specs.Laid.{Shape, FileLies, IsChain, index_in, numbers_at, times_in}
 use Rattle.lfs_check.specs.Clean.{LaidIn}
 use Rattle.lfs_check.specs.Checks.{need_index, need_data}
 use Rattle.lfs_check.specs.Empty.{upwards, next_upwards}
-use Rattle.lfs_check.specs.Built.{index_need, data_need, runs, run_end, LieFrom, head_of, IsBuilt, built_places}
+use Rattle.lfs_check.specs.Built.{index_need, data_need, runs, run_end, LieFrom, chain_head, IsBuilt, built_places}
 use Rattle.lfs_check.proofs.Empties.{upwards-chain, upwards-times}
 
 length-runs : (need : Entry → ℕ) (a : ℕ) (es : List Entry) → length (runs need a es) ≡ length es
@@ -43,8 +43,8 @@ times-runs need a n (e ∷ es) =
     let m = within-more a (a + need e) (run_end need (a + need e) es) n (omega arith) (run-up need (a + need e) es) in
     omega (arith, i, u, m)
 
-lies-each : (d : Shape) (a b : ℕ) (es : List Entry) → LieFrom d a b es → (k : ℕ) → k < length es → is_used (get_or es k blank) ≡ true
-    → FileLies d (get_or es k blank) (list_of (runs index_need a es) k) (list_of (runs data_need b es) k)
+lies-each : (d : Shape) (a b : ℕ) (es : List Entry) → LieFrom d a b es → (k : ℕ) → k < length es → entry_is_used (get_or es k void_entry) ≡ true
+    → FileLies d (get_or es k void_entry) (numbers_at (runs index_need a es) k) (numbers_at (runs data_need b es) k)
 lies-each d a b [] l k h u = absurd (omega (arith, h))
 lies-each d a b (e ∷ es) l zero h u =
     let P : ℕ → Type 0 = λ n. FileLies d e (upwards a n) (upwards b (data_need e)) in
@@ -52,12 +52,12 @@ lies-each d a b (e ∷ es) l zero h u =
     subst P (sym (ap (λ c. cond c (need_index e) 0) u)) (subst Q (sym (ap (λ c. cond c (need_data e) 0) u)) (l.0 u))
 lies-each d a b (e ∷ es) l (suc k) h u = lies-each d (a + index_need e) (b + data_need e) es l.1 k (omega arith) u
 
-none-each : (need : Entry → ℕ) (a : ℕ) (es : List Entry) (k : ℕ) → k < length es → need (get_or es k blank) ≡ 0 → list_of (runs need a es) k ≡ []
+none-each : (need : Entry → ℕ) (a : ℕ) (es : List Entry) (k : ℕ) → k < length es → need (get_or es k void_entry) ≡ 0 → numbers_at (runs need a es) k ≡ []
 none-each need a [] k h z = refl
 none-each need a (e ∷ es) zero h z = ap (upwards a) z
 none-each need a (e ∷ es) (suc k) h z = none-each need (a + need e) es k (omega arith) z
 
-free-chain : (next : ℕ → ℕ) (low high head : ℕ) → low ≤ high → head ≡ head_of low high → ((i : ℕ) → low ≤ i → i < high → next i ≡ next_upwards high i) → IsChain next head (upwards low (high - low))
+free-chain : (next : ℕ → ℕ) (low high head : ℕ) → low ≤ high → head ≡ chain_head low high → ((i : ℕ) → low ≤ i → i < high → next i ≡ next_upwards high i) → IsChain next head (upwards low (high - low))
 free-chain next low high head le e all = ⊎_elim
     (λ (lt : low < high). (let t : nat_lt low high ≡ true = grind (arith, nat_tests) in
     let up : low + (high - low) ≡ high = omega (arith, le) in
@@ -81,7 +81,7 @@ built_lies g d geo b =
       chains = length-runs index_need 0 es;
       datas = length-runs data_need (first_data g) es;
       file = λ k h u. lies-each d 0 (first_data g) es b.files k h u;
-      no_file = λ k h u. (none-each index_need 0 es k h (ap (λ c. cond c (need_index (get_or es k blank)) 0) u), none-each data_need (first_data g) es k h (ap (λ c. cond c (need_data (get_or es k blank)) 0) u));
+      no_file = λ k h u. (none-each index_need 0 es k h (ap (λ c. cond c (need_index (get_or es k void_entry)) 0) u), none-each data_need (first_data g) es k h (ap (λ c. cond c (need_data (get_or es k void_entry)) 0) u));
       free_index = free-chain (λ i. (index_in d i).next) A (index_count g) d.header.free_index ra b.index_head b.nexts;
       free_data = free-chain (λ n. slice_index d.links n) B g.blocks d.header.free_data rb b.data_head b.links;
       one_index = λ i. (let t = times-runs index_need 0 i es in let u = upwards-times A (index_count g - A) i in let m = within-more 0 A (index_count g) i (omega arith) ra in

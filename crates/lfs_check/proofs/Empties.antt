@@ -4,8 +4,8 @@ use Rattle.std.proofs.lemmas.Bool.{cases_lt, cases_eq, false≢true}
 use Rattle.std.proofs.lemmas.Bool.Decides.{nat_tests}
 use Rattle.lfs_check.specs.declared.geometry.Geometry.{Geometry}
 use Rattle.lfs_check.specs.Geometries.{index_count, first_data, IsGeometry}
-use Rattle.lfs_check.specs.Meets.{null, times}
-use Rattle.lfs_check.specs.Laid.{Shape, IsChain, index_in, list_of, times_in}
+use Rattle.lfs_check.specs.Meets.{null, times_met}
+use Rattle.lfs_check.specs.Laid.{Shape, IsChain, index_in, numbers_at, times_in}
 use Rattle.lfs_check.specs.Clean.{LaidIn}
 use Rattle.lfs_check.specs.Empty.{upwards, IsEmpty, next_upwards, empty_places}
 
@@ -38,7 +38,7 @@ upwards-chain next low many head some e all = record {
       ap next (upwards-at low many j 0 lt) ∙ all j lt ∙ sym (upwards-next_upwards low many j lt));
 }
 
-pub upwards-times : (low many n : ℕ) → times n (upwards low many) ≡ cond (nat_lt n (low + many) && not (nat_lt n low)) 1 0
+pub upwards-times : (low many n : ℕ) → times_met n (upwards low many) ≡ cond (nat_lt n (low + many) && not (nat_lt n low)) 1 0
 upwards-times low zero n = ⊎_elim
     (λ lt. (let a : nat_lt n (low + 0) ≡ true = (let q : n < low + 0 = omega (arith, lt) in grind (arith, nat_tests)) in let b : nat_lt n low ≡ true = grind (arith, nat_tests) in rw (a, b) refl))
     (λ ge. (let a : nat_lt n (low + 0) ≡ false = (let q : low + 0 ≤ n = omega (arith, ge) in grind (arith, nat_tests)) in rw a refl)) (cases_lt n low)
@@ -48,13 +48,13 @@ upwards-times low (suc many) n =
     ⊎_elim
     (λ (same : n ≡ low). (let a : nat_eq low n ≡ true = grind (arith, nat_tests) in let b : nat_lt n (low + suc many) ≡ true = (let q : n < low + suc many = omega (arith, same) in grind (arith, nat_tests)) in
     let c : nat_lt n low ≡ false = (let q : low ≤ n = omega (arith, same) in grind (arith, nat_tests)) in let d : nat_lt n (suc low) ≡ true = (let q : n < suc low = omega (arith, same) in grind (arith, nat_tests)) in
-    let z : times n (upwards (suc low) many) ≡ 0 = i ∙ rw (e, b, d) refl in
-    let l : cond (nat_eq low n) 1 0 + times n (upwards (suc low) many) ≡ 1 = rw a (omega (arith, z)) in
+    let z : times_met n (upwards (suc low) many) ≡ 0 = i ∙ rw (e, b, d) refl in
+    let l : cond (nat_eq low n) 1 0 + times_met n (upwards (suc low) many) ≡ 1 = rw a (omega (arith, z)) in
     l ∙ (let r : ◌≡◌ {A = ℕ} 1 (cond (nat_lt n (low + suc many) && not (nat_lt n low)) 1 0) = rw (b, c) refl in r)))
     (λ other. (let a : nat_eq low n ≡ false = (let ne : low ≡ n → ⊥ = λ s. other (sym s) in grind (arith, nat_tests)) in
     let same : nat_lt n (suc low) ≡ nat_lt n low = ⊎_elim (λ lt. (let x : nat_lt n low ≡ true = grind (arith, nat_tests) in let y : nat_lt n (suc low) ≡ true = (let q : n < suc low = omega (arith, lt) in grind (arith, nat_tests)) in y ∙ sym x))
     (λ ge. (let x : nat_lt n low ≡ false = grind (arith, nat_tests) in let y : nat_lt n (suc low) ≡ false = (let q : suc low ≤ n = omega (arith, ge, other) in grind (arith, nat_tests)) in y ∙ sym x)) (cases_lt n low) in
-    let l : cond (nat_eq low n) 1 0 + times n (upwards (suc low) many) ≡ times n (upwards (suc low) many) = rw a (omega arith) in
+    let l : cond (nat_eq low n) 1 0 + times_met n (upwards (suc low) many) ≡ times_met n (upwards (suc low) many) = rw a (omega arith) in
     l ∙ i ∙ ap (λ x. cond (x && not (nat_lt n (suc low))) 1 0) e ∙ ap (λ x. cond (nat_lt n (low + suc many) && not x) 1 0) same))
     (cases_eq n low)
 
@@ -62,7 +62,7 @@ no-lists : (n k : ℕ) → times_in n (replicate k []) ≡ 0
 no-lists n zero = refl
 no-lists n (suc k) = (let i = no-lists n k in omega (arith, i))
 
-no-list : (k e : ℕ) → list_of (replicate k []) e ≡ []
+no-list : (k e : ℕ) → numbers_at (replicate k []) e ≡ []
 no-list zero e = refl
 no-list (suc k) zero = refl
 no-list (suc k) (suc e) = no-list k e

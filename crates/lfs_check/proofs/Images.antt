@@ -8,16 +8,16 @@ use Rattle.lfs_check.specs.declared.faults.DiskFault.{DiskFault}
 use Rattle.lfs_check.specs.Geometries.{index_count, IsGeometry}
 use Rattle.lfs_format.specs.Words.{words_of}
 use Rattle.lfs_check.specs.Laid.{no_index}
-use Rattle.lfs_check.specs.Rules.{rule_0, rule_1}
-use Rattle.lfs_check.specs.Faults.{fault, first_fault, named}
-use Rattle.lfs_check.specs.Fields.{entries_of, fields_of, geometry_of, is_version_2, index_in_bytes, link_in_bytes, index_place}
+use Rattle.lfs_check.specs.Rules.{rule_0, rule_1, rule_2, rule_3}
+use Rattle.lfs_check.specs.Faults.{fault, either_fault, named}
+use Rattle.lfs_check.specs.Fields.{directory_entries, fields_of, geometry_of, is_version_2, index_in_bytes, link_in_bytes, index_place}
 use Rattle.lfs_check.specs.Clean.{IsShape, Passes, places_of, LaidIn}
 use Rattle.lfs_format.proofs.Words.{length-words_of}
 use Rattle.lfs_check.proofs.Numbered.{length_numbered, numbered-at}
 use Rattle.lfs_check.proofs.Nones.{cond-none}
 use Rattle.lfs_check.proofs.Cleans.{passes_lies}
 
-first-nones : (a b : Option DiskFault) → first_fault a b ≡ None → (a ≡ None) × (b ≡ None)
+first-nones : (a b : Option DiskFault) → either_fault a b ≡ None → (a ≡ None) × (b ≡ None)
 first-nones None b e = (refl, e)
 first-nones (Some a) b e = absurd (cc (e))
 
@@ -85,11 +85,25 @@ sized_blocks image r0 =
 pub whole_blocks : (image : List ℕ) → fault image ≡ None → length image ≡ 512 * (length image / 512)
 whole_blocks image e = sized_blocks image (image_size image e)
 
-pub image_names : (image : List ℕ) → fault image ≡ None → rule_1 (geometry_of image) (entries_of (geometry_of image) image) ≡ None
+pub image_names : (image : List ℕ) → fault image ≡ None → rule_1 (geometry_of image) (directory_entries (geometry_of image) image) ≡ None
 image_names image e =
     let g = geometry_of image in let d = fields_of g image in
     let dirs = (first-nones _ _ (first-nones (named 0 (rule_0 g image)) _ e).1).0 in
     named-none 1 (rule_1 g d.entries) (first-nones (named 1 (rule_1 g d.entries)) _ dirs).0
+
+-- and sizes that can be
+pub image_sizes : (image : List ℕ) → fault image ≡ None → rule_3 (geometry_of image) (directory_entries (geometry_of image) image) ≡ None
+image_sizes image e =
+    let g = geometry_of image in let d = fields_of g image in
+    let dirs = (first-nones _ _ (first-nones (named 0 (rule_0 g image)) _ e).1).0 in
+    named-none 3 (rule_3 g d.entries) (first-nones (named 2 (rule_2 g d.header d.entries image)) _ (first-nones (named 1 (rule_1 g d.entries)) _ dirs).1).1
+
+-- and the number of its files
+pub image_counts : (image : List ℕ) → fault image ≡ None → rule_2 (geometry_of image) (fields_of (geometry_of image) image).header (directory_entries (geometry_of image) image) image ≡ None
+image_counts image e =
+    let g = geometry_of image in let d = fields_of g image in
+    let dirs = (first-nones _ _ (first-nones (named 0 (rule_0 g image)) _ e).1).0 in
+    named-none 2 (rule_2 g d.header d.entries image) (first-nones (named 2 (rule_2 g d.header d.entries image)) _ (first-nones (named 1 (rule_1 g d.entries)) _ dirs).1).0
 
 -- and as many blocks as its version allows
 pub sized_most : (image : List ℕ) → rule_0 (geometry_of image) image ≡ None → (cond (is_version_2 image) 14 8 ≤ length image / 512) × (length image / 512 ≤ cond (is_version_2 image) 65542 65536)

@@ -20,3 +20,4 @@ pub mod Builts
 pub mod Keeping
 pub mod Images
 pub mod KeptRead
+pub mod KeepsAll

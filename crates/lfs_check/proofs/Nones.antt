@@ -5,9 +5,9 @@ use Rattle.std.proofs.lemmas.Bool.Decides.{nat_tests}
 use Rattle.lfs_format.specs.declared.Entry.{Entry}
 use Rattle.lfs_format.specs.declared.Index.{Index}
 use Rattle.lfs_check.specs.declared.geometry.Geometry.{Geometry}
-use Rattle.lfs_format.specs.Directory.{blank}
-use Rattle.lfs_check.specs.Meets.{times, first_from}
-use Rattle.lfs_check.specs.Checks.{least, either, in_block, lowest_of, row_fits, row_of, row_fault, rows_fault, offset_fault, offsets_fault}
+use Rattle.lfs_format.specs.Directory.{void_entry}
+use Rattle.lfs_check.specs.Meets.{times_met, lowest_from}
+use Rattle.lfs_check.specs.Checks.{least, either, in_block, lowest_of, row_fits, data_row, row_fault, rows_fault, offset_fault, offsets_fault}
 
 pub least-nones : (a b : Option ℕ) → least a b ≡ None → (a ≡ None) × (b ≡ None)
 least-nones None b e = (refl, e)
@@ -24,36 +24,36 @@ cond-none false x e = absurd (cc (e))
 pub cond-true : (b : Bool) (x : ℕ) → b ≡ true → cond b None (Some x) ≡ None
 cond-true b x e = ap (λ c. cond c None (Some x)) e
 
-pub lowest-each : (f : ℕ → Entry → Option ℕ) (es : List Entry) (k : ℕ) → lowest_of f k es ≡ None → (j : ℕ) → j < length es → f (k + j) (get_or es j blank) ≡ None
+pub lowest-each : (f : ℕ → Entry → Option ℕ) (es : List Entry) (k : ℕ) → lowest_of f k es ≡ None → (j : ℕ) → j < length es → f (k + j) (get_or es j void_entry) ≡ None
 unfolding lowest_of
 lowest-each f [] k e j h = absurd (omega (arith, h))
 lowest-each f (x ∷ es) k e zero h = ap (λ n. f n x) (let q : k + 0 ≡ k = omega arith in q) ∙ (least-nones (f k x) (lowest_of f (suc k) es) e).0
 lowest-each f (x ∷ es) k e (suc j) h =
-    ap (λ n. f n (get_or es j blank)) (let q : k + suc j ≡ suc k + j = omega arith in q) ∙ lowest-each f es (suc k) (least-nones (f k x) (lowest_of f (suc k) es) e).1 j (omega arith)
+    ap (λ n. f n (get_or es j void_entry)) (let q : k + suc j ≡ suc k + j = omega arith in q) ∙ lowest-each f es (suc k) (least-nones (f k x) (lowest_of f (suc k) es) e).1 j (omega arith)
 
-pub lowest-none : (f : ℕ → Entry → Option ℕ) (es : List Entry) (k : ℕ) → ((j : ℕ) → j < length es → f (k + j) (get_or es j blank) ≡ None) → lowest_of f k es ≡ None
+pub lowest-none : (f : ℕ → Entry → Option ℕ) (es : List Entry) (k : ℕ) → ((j : ℕ) → j < length es → f (k + j) (get_or es j void_entry) ≡ None) → lowest_of f k es ≡ None
 unfolding lowest_of
 lowest-none f [] k all = refl
 lowest-none f (x ∷ es) k all =
     both-none (f k x) (lowest_of f (suc k) es) (ap (λ n. f n x) (let q : k ≡ k + 0 = omega arith in q) ∙ all 0 (omega arith))
-    (lowest-none f es (suc k) (λ j h. ap (λ n. f n (get_or es j blank)) (let q : suc k + j ≡ k + suc j = omega arith in q) ∙ all (suc j) (omega arith)))
+    (lowest-none f es (suc k) (λ j h. ap (λ n. f n (get_or es j void_entry)) (let q : suc k + j ≡ k + suc j = omega arith in q) ∙ all (suc j) (omega arith)))
 
-pub rows-each : (g : Geometry) (ix : List Index) (wanted : ℕ) (met : List ℕ) → rows_fault g ix wanted met ≡ None → (j : ℕ) → j < length met → row_fits g (wanted - 16 * j) (row_of ix (slice_index met j)) ≡ true
+pub rows-each : (g : Geometry) (ix : List Index) (wanted : ℕ) (met : List ℕ) → rows_fault g ix wanted met ≡ None → (j : ℕ) → j < length met → row_fits g (wanted - 16 * j) (data_row ix (slice_index met j)) ≡ true
 unfolding rows_fault
 rows-each g ix wanted [] e j h = absurd (omega (arith, h))
 rows-each g ix wanted (m ∷ met) e zero h =
-    ap (λ w. row_fits g w (row_of ix m)) (let q : wanted - 16 * 0 ≡ wanted = omega arith in q) ∙ cond-none (row_fits g wanted (row_of ix m)) _ (least-nones (row_fault g ix wanted m) (rows_fault g ix (wanted - 16) met) e).0
+    ap (λ w. row_fits g w (data_row ix m)) (let q : wanted - 16 * 0 ≡ wanted = omega arith in q) ∙ cond-none (row_fits g wanted (data_row ix m)) _ (least-nones (row_fault g ix wanted m) (rows_fault g ix (wanted - 16) met) e).0
 rows-each g ix wanted (m ∷ met) e (suc j) h =
-    ap (λ w. row_fits g w (row_of ix (slice_index met j))) (let q : wanted - 16 * suc j ≡ wanted - 16 - 16 * j = omega arith in q)
+    ap (λ w. row_fits g w (data_row ix (slice_index met j))) (let q : wanted - 16 * suc j ≡ wanted - 16 - 16 * j = omega arith in q)
     ∙ rows-each g ix (wanted - 16) met (least-nones (row_fault g ix wanted m) (rows_fault g ix (wanted - 16) met) e).1 j (omega arith)
 
-pub rows-none : (g : Geometry) (ix : List Index) (wanted : ℕ) (met : List ℕ) → ((j : ℕ) → j < length met → row_fits g (wanted - 16 * j) (row_of ix (slice_index met j)) ≡ true) → rows_fault g ix wanted met ≡ None
+pub rows-none : (g : Geometry) (ix : List Index) (wanted : ℕ) (met : List ℕ) → ((j : ℕ) → j < length met → row_fits g (wanted - 16 * j) (data_row ix (slice_index met j)) ≡ true) → rows_fault g ix wanted met ≡ None
 unfolding rows_fault
 rows-none g ix wanted [] all = refl
 rows-none g ix wanted (m ∷ met) all =
     both-none (row_fault g ix wanted m) (rows_fault g ix (wanted - 16) met)
-    (cond-true (row_fits g wanted (row_of ix m)) _ (ap (λ w. row_fits g w (row_of ix m)) (let q : wanted ≡ wanted - 16 * 0 = omega arith in q) ∙ all 0 (omega arith)))
-    (rows-none g ix (wanted - 16) met (λ j h. ap (λ w. row_fits g w (row_of ix (slice_index met j))) (let q : wanted - 16 - 16 * j ≡ wanted - 16 * suc j = omega arith in q) ∙ all (suc j) (omega arith)))
+    (cond-true (row_fits g wanted (data_row ix m)) _ (ap (λ w. row_fits g w (data_row ix m)) (let q : wanted ≡ wanted - 16 * 0 = omega arith in q) ∙ all 0 (omega arith)))
+    (rows-none g ix (wanted - 16) met (λ j h. ap (λ w. row_fits g w (data_row ix (slice_index met j))) (let q : wanted - 16 - 16 * j ≡ wanted - 16 * suc j = omega arith in q) ∙ all (suc j) (omega arith)))
 
 eq-of : (a b : ℕ) → nat_eq a b ≡ true → a ≡ b
 eq-of a b t = grind (arith, nat_tests)
@@ -75,21 +75,21 @@ offsets-none g ix offset (m ∷ met) all =
     both-none (offset_fault g ix offset m) (offsets_fault g ix (offset + 8192) met) (cond-true _ _ t)
     (offsets-none g ix (offset + 8192) met (λ j h. all (suc j) (omega arith) ∙ (let q : offset + 8192 * suc j ≡ offset + 8192 + 8192 * j = omega arith in q)))
 
-pub first_from-each : (test : ℕ → Bool) (low many : ℕ) → first_from test low many ≡ None → (n : ℕ) → low ≤ n → n < low + many → test n ≡ false
-unfolding first_from
+pub first_from-each : (test : ℕ → Bool) (low many : ℕ) → lowest_from test low many ≡ None → (n : ℕ) → low ≤ n → n < low + many → test n ≡ false
+unfolding lowest_from
 first_from-each test low zero e n a b = absurd (omega (arith, a, b))
 first_from-each test low (suc many) e n a b =
-    let P : Bool → Type 0 = λ t. test low ≡ t → cond t (Some low) (first_from test (suc low) many) ≡ None → test n ≡ false in
+    let P : Bool → Type 0 = λ t. test low ≡ t → cond t (Some low) (lowest_from test (suc low) many) ≡ None → test n ≡ false in
     let yes : P true = λ t f. absurd (cc (f)) in
     let no : P false = λ t f. ⊎_elim (λ s. ap test s ∙ t) (λ o. first_from-each test (suc low) many f n (omega (arith, a, o)) (omega arith)) (cases_eq n low) in
     let all : (t : Bool) → P t = λ t. elim t as (λ t. P t) [ true ↦ yes | false ↦ no ] in
     all (test low) refl e
 
-pub first_from-nothing : (test : ℕ → Bool) (low many : ℕ) → ((n : ℕ) → low ≤ n → n < low + many → test n ≡ false) → first_from test low many ≡ None
-unfolding first_from
+pub first_from-nothing : (test : ℕ → Bool) (low many : ℕ) → ((n : ℕ) → low ≤ n → n < low + many → test n ≡ false) → lowest_from test low many ≡ None
+unfolding lowest_from
 first_from-nothing test low zero all = refl
 first_from-nothing test low (suc many) all =
-    ap (λ t. cond t (Some low) (first_from test (suc low) many)) (all low (omega arith) (omega arith)) ∙ first_from-nothing test (suc low) many (λ n a b. all n (omega arith) (omega arith))
+    ap (λ t. cond t (Some low) (lowest_from test (suc low) many)) (all low (omega arith) (omega arith)) ∙ first_from-nothing test (suc low) many (λ n a b. all n (omega arith) (omega arith))
 
 pub block-nones : (g : Geometry) (a b : Option ℕ) → either (in_block g a) b ≡ None → (a ≡ None) × (b ≡ None)
 block-nones g None b e = (refl, e)
@@ -98,14 +98,14 @@ block-nones g (Some a) b e = absurd (cc (e))
 pub block-none : (g : Geometry) (a b : Option ℕ) → a ≡ None → b ≡ None → either (in_block g a) b ≡ None
 block-none g a b e f = ap (λ x. either (in_block g x) b) e ∙ f
 
-pub not-twice : (n : ℕ) (xs : List ℕ) → nat_le 2 (times n xs) ≡ false → times n xs ≤ 1
-not-twice n xs t = ⊎_elim (λ lt. omega (arith, lt)) (λ ge. (let y : nat_le 2 (times n xs) ≡ true = grind (arith, nat_tests) in absurd (false≢true (sym t ∙ y)))) (cases_lt (times n xs) 2)
+pub not-twice : (n : ℕ) (xs : List ℕ) → nat_le 2 (times_met n xs) ≡ false → times_met n xs ≤ 1
+not-twice n xs t = ⊎_elim (λ lt. omega (arith, lt)) (λ ge. (let y : nat_le 2 (times_met n xs) ≡ true = grind (arith, nat_tests) in absurd (false≢true (sym t ∙ y)))) (cases_lt (times_met n xs) 2)
 
-pub not-never : (n : ℕ) (xs : List ℕ) → nat_le (times n xs) 0 ≡ false → 1 ≤ times n xs
-not-never n xs t = ⊎_elim (λ lt. (let z : times n xs ≤ 0 = omega (arith, lt) in let y : nat_le (times n xs) 0 ≡ true = grind (arith, nat_tests) in absurd (false≢true (sym t ∙ y)))) (λ ge. ge) (cases_lt (times n xs) 1)
+pub not-never : (n : ℕ) (xs : List ℕ) → nat_le (times_met n xs) 0 ≡ false → 1 ≤ times_met n xs
+not-never n xs t = ⊎_elim (λ lt. (let z : times_met n xs ≤ 0 = omega (arith, lt) in let y : nat_le (times_met n xs) 0 ≡ true = grind (arith, nat_tests) in absurd (false≢true (sym t ∙ y)))) (λ ge. ge) (cases_lt (times_met n xs) 1)
 
-pub is-once : (n : ℕ) (xs : List ℕ) → times n xs ≡ 1 → (nat_le 2 (times n xs) ≡ false) × (nat_le (times n xs) 0 ≡ false)
+pub is-once : (n : ℕ) (xs : List ℕ) → times_met n xs ≡ 1 → (nat_le 2 (times_met n xs) ≡ false) × (nat_le (times_met n xs) 0 ≡ false)
 is-once n xs e = (
-  (let a : times n xs < 2 = omega (arith, e) in grind (arith, nat_tests)),
-  (let a : 0 < times n xs = omega (arith, e) in grind (arith, nat_tests)),
+  (let a : times_met n xs < 2 = omega (arith, e) in grind (arith, nat_tests)),
+  (let a : 0 < times_met n xs = omega (arith, e) in grind (arith, nat_tests)),
 )

@@ -8,8 +8,8 @@ use Rattle.std.proofs.lemmas.Bool.Decides.{nat_tests}
 use Rattle.lfs_format.specs.declared.Index.{Index}
 use Rattle.lfs_check.specs.declared.geometry.Geometry.{Geometry}
 use Rattle.lfs_check.specs.Geometries.{first_data}
-use Rattle.lfs_check.specs.Meets.{null, times}
-use Rattle.lfs_check.specs.Checks.{row_fits, row_of, number_fits, is_within}
+use Rattle.lfs_check.specs.Meets.{null, times_met}
+use Rattle.lfs_check.specs.Checks.{row_fits, data_row, number_fits, is_between}
 use Rattle.lfs_check.proofs.Steps.{times-append}
 
 and-true : (a b : Bool) → a && b ≡ true → (a ≡ true) × (b ≡ true)
@@ -34,16 +34,16 @@ fits-is g (suc w) (x ∷ xs) e =
     ap (λ l. x ∷ l) i ∙ ap (λ k. x ∷ (take w xs ++ replicate k null)) (let q : length xs - w ≡ length (x ∷ xs) - suc w = omega arith in q)
 
 -- those wanted are in range
-pub fits-range : (g : Geometry) (w : ℕ) (xs : List ℕ) → row_fits g w xs ≡ true → (b : ℕ) → is_within (first_data g) g.blocks b ≡ false → times b (take w xs) ≡ 0
+pub fits-range : (g : Geometry) (w : ℕ) (xs : List ℕ) → row_fits g w xs ≡ true → (b : ℕ) → is_between (first_data g) g.blocks b ≡ false → times_met b (take w xs) ≡ 0
 unfolding row_fits
 fits-range g zero xs e b out = refl
 fits-range g (suc w) [] e b out = refl
 fits-range g (suc w) (x ∷ xs) e b out =
     let both = and-true (number_fits g (suc w) x) (row_fits g (suc w - 1) xs) e in
     let i = fits-range g w xs (ap (λ k. row_fits g k xs) (let q : w ≡ suc w - 1 = omega arith in q) ∙ both.1) b out in
-    let inside : is_within (first_data g) g.blocks x ≡ true = sym (ap (λ t. cond t (is_within (first_data g) g.blocks x) (nat_eq x null)) (let q : nat_lt 0 (suc w) ≡ true = grind (arith, nat_tests) in q)) ∙ both.0 in
-    let P : Bool → Type 0 = λ t. nat_eq x b ≡ t → cond t 1 0 + times b (take w xs) ≡ 0 in
-    let yes : P true = λ t. (let same : x ≡ b = grind (arith, nat_tests) in absurd (false≢true (sym out ∙ ap (is_within (first_data g) g.blocks) (sym same) ∙ inside))) in
+    let inside : is_between (first_data g) g.blocks x ≡ true = sym (ap (λ t. cond t (is_between (first_data g) g.blocks x) (nat_eq x null)) (let q : nat_lt 0 (suc w) ≡ true = grind (arith, nat_tests) in q)) ∙ both.0 in
+    let P : Bool → Type 0 = λ t. nat_eq x b ≡ t → cond t 1 0 + times_met b (take w xs) ≡ 0 in
+    let yes : P true = λ t. (let same : x ≡ b = grind (arith, nat_tests) in absurd (false≢true (sym out ∙ ap (is_between (first_data g) g.blocks) (sym same) ∙ inside))) in
     let no : P false = λ t. omega (arith, i) in
     let all : (t : Bool) → P t = λ t. elim t as (λ t. P t) [ true ↦ yes | false ↦ no ] in
     all (nat_eq x b) refl
@@ -57,21 +57,21 @@ fits-append g w (x ∷ xs) ys a b =
     ap (λ t. t && row_fits g (w - 1) (xs ++ ys)) both.0 ∙ i
 
 -- rows of 16
-pub length-rows : (ix : List Index) (met : List ℕ) → ((j : ℕ) → j < length met → length (row_of ix (slice_index met j)) ≡ 16) → length (flat_map (row_of ix) met) ≡ 16 * length met
+pub length-rows : (ix : List Index) (met : List ℕ) → ((j : ℕ) → j < length met → length (data_row ix (slice_index met j)) ≡ 16) → length (flat_map (data_row ix) met) ≡ 16 * length met
 length-rows ix [] all = refl
 length-rows ix (m ∷ met) all =
     let i = length-rows ix met (λ j h. all (suc j) (omega arith)) in let h = all 0 (omega arith) in
-    length-append (row_of ix m) (flat_map (row_of ix) met) ∙ (omega (arith, i, h))
+    length-append (data_row ix m) (flat_map (data_row ix) met) ∙ (omega (arith, i, h))
 
-pub rows-fit : (g : Geometry) (ix : List Index) (w : ℕ) (met : List ℕ) → ((j : ℕ) → j < length met → length (row_of ix (slice_index met j)) ≡ 16)
-    → ((j : ℕ) → j < length met → row_fits g (w - 16 * j) (row_of ix (slice_index met j)) ≡ true) → row_fits g w (flat_map (row_of ix) met) ≡ true
+pub rows-fit : (g : Geometry) (ix : List Index) (w : ℕ) (met : List ℕ) → ((j : ℕ) → j < length met → length (data_row ix (slice_index met j)) ≡ 16)
+    → ((j : ℕ) → j < length met → row_fits g (w - 16 * j) (data_row ix (slice_index met j)) ≡ true) → row_fits g w (flat_map (data_row ix) met) ≡ true
 unfolding row_fits
 rows-fit g ix w [] wide all = refl
 rows-fit g ix w (m ∷ met) wide all =
-    let n : length (row_of ix m) ≡ 16 = wide 0 (omega arith) in
-    fits-append g w (row_of ix m) (flat_map (row_of ix) met) (ap (λ k. row_fits g k (row_of ix m)) (let q : w ≡ w - 16 * 0 = omega arith in q) ∙ all 0 (omega arith))
-    (ap (λ k. row_fits g k (flat_map (row_of ix) met)) (let q : w - length (row_of ix m) ≡ w - 16 = omega (arith, n) in q)
-    ∙ rows-fit g ix (w - 16) met (λ j h. wide (suc j) (omega arith)) (λ j h. ap (λ k. row_fits g k (row_of ix (slice_index met j))) (let q : w - 16 - 16 * j ≡ w - 16 * suc j = omega arith in q) ∙ all (suc j) (omega arith)))
+    let n : length (data_row ix m) ≡ 16 = wide 0 (omega arith) in
+    fits-append g w (data_row ix m) (flat_map (data_row ix) met) (ap (λ k. row_fits g k (data_row ix m)) (let q : w ≡ w - 16 * 0 = omega arith in q) ∙ all 0 (omega arith))
+    (ap (λ k. row_fits g k (flat_map (data_row ix) met)) (let q : w - length (data_row ix m) ≡ w - 16 = omega (arith, n) in q)
+    ∙ rows-fit g ix (w - 16) met (λ j h. wide (suc j) (omega arith)) (λ j h. ap (λ k. row_fits g k (data_row ix (slice_index met j))) (let q : w - 16 - 16 * j ≡ w - 16 * suc j = omega arith in q) ∙ all (suc j) (omega arith)))
 
 drop-take-sub : (n w : ℕ) (xs : List ℕ) → drop n (take w xs) ≡ take (w - n) (drop n xs)
 drop-take-sub n w xs = ⊎_elim
@@ -79,13 +79,13 @@ drop-take-sub n w xs = ⊎_elim
     (λ ge. ap (λ k. drop n (take k xs)) (let q : w ≡ n + (w - n) = omega (arith, ge) in q) ∙ drop-take n (w - n) xs) (cases_lt w n)
 
 -- each row is what an index block of the file has
-pub rows-are : (g : Geometry) (ix : List Index) (w : ℕ) (met : List ℕ) → ((j : ℕ) → j < length met → length (row_of ix (slice_index met j)) ≡ 16)
-    → ((j : ℕ) → j < length met → row_fits g (w - 16 * j) (row_of ix (slice_index met j)) ≡ true)
-    → (j : ℕ) → j < length met → row_of ix (slice_index met j) ≡ take 16 (drop (16 * j) (take w (flat_map (row_of ix) met)) ++ replicate 16 null)
+pub rows-are : (g : Geometry) (ix : List Index) (w : ℕ) (met : List ℕ) → ((j : ℕ) → j < length met → length (data_row ix (slice_index met j)) ≡ 16)
+    → ((j : ℕ) → j < length met → row_fits g (w - 16 * j) (data_row ix (slice_index met j)) ≡ true)
+    → (j : ℕ) → j < length met → data_row ix (slice_index met j) ≡ take 16 (drop (16 * j) (take w (flat_map (data_row ix) met)) ++ replicate 16 null)
 rows-are g ix w [] wide all j h = absurd (omega (arith, h))
 rows-are g ix w (m ∷ met) wide all zero h =
-    let row = row_of ix m in
-    let rest = flat_map (row_of ix) met in
+    let row = data_row ix m in
+    let rest = flat_map (data_row ix) met in
     let n : length row ≡ 16 = wide 0 (omega arith) in
     let fit : row_fits g w row ≡ true = ap (λ k. row_fits g k row) (let q : w ≡ w - 16 * 0 = omega arith in q) ∙ all 0 (omega arith) in
     let nulls = replicate 16 null in
@@ -102,25 +102,25 @@ rows-are g ix w (m ∷ met) wide all zero h =
     (cases_lt w 16) in
     sym (ap (λ k. take 16 (drop k (take w (row ++ rest)) ++ nulls)) (let q : 16 * 0 ≡ 0 = omega arith in q) ∙ goal_is)
 rows-are g ix w (m ∷ met) wide all (suc j) h =
-    let row = row_of ix m in
-    let rest = flat_map (row_of ix) met in
+    let row = data_row ix m in
+    let rest = flat_map (data_row ix) met in
     let n : length row ≡ 16 = wide 0 (omega arith) in
     let skip : drop (16 * suc j) (take w (row ++ rest)) ≡ drop (16 * j) (take (w - 16) rest) =
     ap (λ k. drop k (take w (row ++ rest))) (let q : 16 * suc j ≡ 16 + 16 * j = omega arith in q) ∙ sym (drop-drop (16 * j) 16 (take w (row ++ rest)))
     ∙ ap (drop (16 * j)) (drop-take-sub 16 w (row ++ rest) ∙ ap (take (w - 16)) (drop-append-le 16 row rest (omega (arith, n)) ∙ ap (λ l. l ++ rest) (drop_all 16 row (omega (arith, n))))) in
-    rows-are g ix (w - 16) met (λ j h. wide (suc j) (omega arith)) (λ j h. ap (λ k. row_fits g k (row_of ix (slice_index met j))) (let q : w - 16 - 16 * j ≡ w - 16 * suc j = omega arith in q) ∙ all (suc j) (omega arith)) j (omega arith)
+    rows-are g ix (w - 16) met (λ j h. wide (suc j) (omega arith)) (λ j h. ap (λ k. row_fits g k (data_row ix (slice_index met j))) (let q : w - 16 - 16 * j ≡ w - 16 * suc j = omega arith in q) ∙ all (suc j) (omega arith)) j (omega arith)
     ∙ ap (λ l. take 16 (l ++ replicate 16 null)) (sym skip)
 
-pub times-nulls : (b k : ℕ) → b < null → times b (replicate k null) ≡ 0
+pub times-nulls : (b k : ℕ) → b < null → times_met b (replicate k null) ≡ 0
 times-nulls b zero h = refl
 times-nulls b (suc k) h = let t : nat_eq null b ≡ false = grind (arith, nat_tests) in let i = times-nulls b k h in rw t (omega (arith, i))
 
 -- the numbers in range are those of the file
-pub fits-times : (g : Geometry) (w : ℕ) (xs : List ℕ) → row_fits g w xs ≡ true → (b : ℕ) → b < null → times b xs ≡ times b (take w xs)
-fits-times g w xs e b h = ap (times b) (fits-is g w xs e) ∙ times-append b (take w xs) (replicate (length xs - w) null) ∙ (let z = times-nulls b (length xs - w) h in omega (arith, z))
+pub fits-times : (g : Geometry) (w : ℕ) (xs : List ℕ) → row_fits g w xs ≡ true → (b : ℕ) → b < null → times_met b xs ≡ times_met b (take w xs)
+fits-times g w xs e b h = ap (times_met b) (fits-is g w xs e) ∙ times-append b (take w xs) (replicate (length xs - w) null) ∙ (let z = times-nulls b (length xs - w) h in omega (arith, z))
 
 -- and such a row fits
-pub fits-made : (g : Geometry) (xs : List ℕ) (k m : ℕ) → ((j : ℕ) → j < length xs → is_within (first_data g) g.blocks (slice_index xs j) ≡ true) → row_fits g (length xs) (take k (xs ++ replicate m null)) ≡ true
+pub fits-made : (g : Geometry) (xs : List ℕ) (k m : ℕ) → ((j : ℕ) → j < length xs → is_between (first_data g) g.blocks (slice_index xs j) ≡ true) → row_fits g (length xs) (take k (xs ++ replicate m null)) ≡ true
 unfolding row_fits
 fits-made g [] zero m all = refl
 fits-made g [] (suc k) zero all = refl
@@ -128,5 +128,5 @@ fits-made g [] (suc k) (suc m) all = fits-made g [] k m all
 fits-made g (x ∷ xs) zero m all = refl
 fits-made g (x ∷ xs) (suc k) m all =
     let i = fits-made g xs k m (λ j h. all (suc j) (omega arith)) in
-    let here : number_fits g (length (x ∷ xs)) x ≡ true = ap (λ t. cond t (is_within (first_data g) g.blocks x) (nat_eq x null)) (let q : nat_lt 0 (length (x ∷ xs)) ≡ true = grind (arith, nat_tests) in q) ∙ all 0 (omega arith) in
+    let here : number_fits g (length (x ∷ xs)) x ≡ true = ap (λ t. cond t (is_between (first_data g) g.blocks x) (nat_eq x null)) (let q : nat_lt 0 (length (x ∷ xs)) ≡ true = grind (arith, nat_tests) in q) ∙ all 0 (omega arith) in
     ap (λ t. t && row_fits g (length (x ∷ xs) - 1) (take k (xs ++ replicate m null))) here ∙ ap (λ n. row_fits g n (take k (xs ++ replicate m null))) (let q : length (x ∷ xs) - 1 ≡ length xs = omega arith in q) ∙ i

@@ -5,18 +5,18 @@ use Rattle.std.proofs.lemmas.List.{drop-append-le, take-append-le}
 use Rattle.std.proofs.lemmas.Bool.{cases_eq, false≢true}
 use Rattle.lfs_format.specs.declared.Entry.{Entry}
 use Rattle.lfs_format.specs.declared.Index.{Index}
-use Rattle.lfs_check.specs.Rules.{is_used}
-use Rattle.lfs_format.specs.Directory.{blank}
-use Rattle.lfs_check.specs.Laid.{Shape, no_index, index_in, entry_in, IsChain, Places, list_of, times_in, index_for, FileLies, Laid, with_header, data_taken, data_put, index_put, data_freed, entry_put}
-use Rattle.lfs_check.specs.Meets.{null, times}
+use Rattle.lfs_check.specs.Rules.{entry_is_used}
+use Rattle.lfs_format.specs.Directory.{void_entry}
+use Rattle.lfs_check.specs.Laid.{Shape, no_index, index_in, entry_in, IsChain, Places, numbers_at, times_in, index_for, FileLies, Laid, with_header, data_taken, data_put, index_put, data_freed, entry_put}
+use Rattle.lfs_check.specs.Meets.{null, times_met}
 
 -- an element of a list is in it
-pub times-at : (xs : List ℕ) (j n : ℕ) → j < length xs → slice_index xs j ≡ n → 1 ≤ times n xs
+pub times-at : (xs : List ℕ) (j n : ℕ) → j < length xs → slice_index xs j ≡ n → 1 ≤ times_met n xs
 times-at [] j n h e = absurd (omega arith)
 times-at (x ∷ xs) zero n h e = let t : nat_eq x n ≡ true = eq-eqb x n e in rw t (omega arith)
 times-at (x ∷ xs) (suc j) n h e = let i = times-at xs j n (omega arith) e in omega (arith, i)
 
-pub times-two : (xs : List ℕ) (j k n : ℕ) → j ≢ k → j < length xs → k < length xs → slice_index xs j ≡ n → slice_index xs k ≡ n → 2 ≤ times n xs
+pub times-two : (xs : List ℕ) (j k n : ℕ) → j ≢ k → j < length xs → k < length xs → slice_index xs j ≡ n → slice_index xs k ≡ n → 2 ≤ times_met n xs
 times-two [] j k n ne h i e f = absurd (omega arith)
 times-two (x ∷ xs) zero zero n ne h i e f = absurd (ne refl)
 times-two (x ∷ xs) zero (suc k) n ne h i e f = let t : nat_eq x n ≡ true = eq-eqb x n e in let one = times-at xs k n (omega arith) f in rw t (omega (arith, one))
@@ -24,7 +24,7 @@ times-two (x ∷ xs) (suc j) zero n ne h i e f = let t : nat_eq x n ≡ true = e
 times-two (x ∷ xs) (suc j) (suc k) n ne h i e f = let two = times-two xs j k n (λ s. ne (ap suc s)) (omega arith) (omega arith) e f in omega (arith, two)
 
 -- no other number of a chain is met
-pub differs : (xs : List ℕ) (j n : ℕ) → times n xs ≡ 0 → j < length xs → slice_index xs j ≢ n
+pub differs : (xs : List ℕ) (j n : ℕ) → times_met n xs ≡ 0 → j < length xs → slice_index xs j ≢ n
 differs xs j n z h e = let t = times-at xs j n h e in omega (arith, t, z)
 
 -- the chain without its first
@@ -46,18 +46,18 @@ IsChain-more next head b rest c e = record { starts = refl; goes_on = at_each }
 pub IsChain-same : (next next' : ℕ → ℕ) (head : ℕ) (chain : List ℕ) → IsChain next head chain → ((j : ℕ) → j < length chain → next' (slice_index chain j) ≡ next (slice_index chain j)) → IsChain next' head chain
 IsChain-same next next' head chain c same = record { starts = c.starts; goes_on = λ j h. same j h ∙ c.goes_on j h }
 
-pub times-append : (n : ℕ) (xs ys : List ℕ) → times n (xs ++ ys) ≡ times n xs + times n ys
+pub times-append : (n : ℕ) (xs ys : List ℕ) → times_met n (xs ++ ys) ≡ times_met n xs + times_met n ys
 times-append n [] ys = omega arith
 times-append n (x ∷ xs) ys = let i = times-append n xs ys in omega (arith, i)
 
 -- one list of several
-pub times_in-part : (n : ℕ) (lists : List (List ℕ)) (e : ℕ) → times n (list_of lists e) ≤ times_in n lists
+pub times_in-part : (n : ℕ) (lists : List (List ℕ)) (e : ℕ) → times_met n (numbers_at lists e) ≤ times_in n lists
 times_in-part n [] e = omega arith
 times_in-part n (l ∷ lists) zero = omega arith
 times_in-part n (l ∷ lists) (suc e) = let i = times_in-part n lists e in omega (arith, i)
 
 -- two lists of several
-pub times_in-two : (n : ℕ) (lists : List (List ℕ)) (e f : ℕ) → e ≢ f → times n (list_of lists e) + times n (list_of lists f) ≤ times_in n lists
+pub times_in-two : (n : ℕ) (lists : List (List ℕ)) (e f : ℕ) → e ≢ f → times_met n (numbers_at lists e) + times_met n (numbers_at lists f) ≤ times_in n lists
 times_in-two n [] e f ne = omega arith
 times_in-two n (l ∷ lists) zero zero ne = absurd (ne refl)
 times_in-two n (l ∷ lists) zero (suc f) ne = let i = times_in-part n lists f in omega (arith, i)
@@ -65,7 +65,7 @@ times_in-two n (l ∷ lists) (suc e) zero ne = let i = times_in-part n lists e i
 times_in-two n (l ∷ lists) (suc e) (suc f) ne = let i = times_in-two n lists e f (λ s. ne (ap suc s)) in omega (arith, i)
 
 -- another list in the place of one
-pub times_in-set : (n : ℕ) (lists : List (List ℕ)) (e : ℕ) (l' : List ℕ) → e < length lists → times_in n (slice_set lists e l') + times n (list_of lists e) ≡ times_in n lists + times n l'
+pub times_in-set : (n : ℕ) (lists : List (List ℕ)) (e : ℕ) (l' : List ℕ) → e < length lists → times_in n (slice_set lists e l') + times_met n (numbers_at lists e) ≡ times_in n lists + times_met n l'
 times_in-set n [] e l' h = absurd (omega arith)
 times_in-set n (l ∷ lists) zero l' h = omega arith
 times_in-set n (l ∷ lists) (suc e) l' h = let i = times_in-set n lists e l' (omega arith) in omega (arith, i)
@@ -88,24 +88,24 @@ Laid-data_taken many low high d p b rest e l =
       free_index = l.free_index;
       free_data = IsChain-rest (λ n. slice_index d.links n) d.header.free_data b rest c;
       one_index = l.one_index;
-      one_data = λ n. (let one = l.one_data n in let f : times n p.free_data ≡ times n (b ∷ rest) = ap (times n) e in omega (arith, one, f));
+      one_data = λ n. (let one = l.one_data n in let f : times_met n p.free_data ≡ times_met n (b ∷ rest) = ap (times_met n) e in omega (arith, one, f));
     }
 
 -- a block that is held is in no other place
-pub held_data_alone : (many low high : ℕ) (d : Shape) (p : Places) (b : ℕ) → Laid many low high d p → 1 ≤ times b p.held_data → (times b p.free_data ≡ 0) × (times_in b p.datas ≡ 0)
+pub held_data_alone : (many low high : ℕ) (d : Shape) (p : Places) (b : ℕ) → Laid many low high d p → 1 ≤ times_met b p.held_data → (times_met b p.free_data ≡ 0) × (times_in b p.datas ≡ 0)
 held_data_alone many low high d p b l h =
     let one = l.one_data b in
     let most = at_most_one (nat_lt b high && not (nat_lt b low)) in
     (omega (arith, one, most), omega (arith, one, most))
 
-pub held_index_alone : (many low high : ℕ) (d : Shape) (p : Places) (i : ℕ) → Laid many low high d p → 1 ≤ times i p.held_index → (times i p.free_index ≡ 0) × (times_in i p.chains ≡ 0)
+pub held_index_alone : (many low high : ℕ) (d : Shape) (p : Places) (i : ℕ) → Laid many low high d p → 1 ≤ times_met i p.held_index → (times_met i p.free_index ≡ 0) × (times_in i p.chains ≡ 0)
 held_index_alone many low high d p i l h =
     let one = l.one_index i in
     let most = at_most_one (nat_lt i many) in
     (omega (arith, one, most), omega (arith, one, most))
 
 -- writing a block that isn't free, as its fields tell
-pub Laid-link : (many low high : ℕ) (d : Shape) (p : Places) (b word : ℕ) → times b p.free_data ≡ 0 → Laid many low high d p → Laid many low high (data_put d b word) p
+pub Laid-link : (many low high : ℕ) (d : Shape) (p : Places) (b word : ℕ) → times_met b p.free_data ≡ 0 → Laid many low high d p → Laid many low high (data_put d b word) p
 Laid-link many low high d p b word away l =
     record {
       chains = l.chains;
@@ -120,7 +120,7 @@ Laid-link many low high d p b word away l =
     }
 
 -- writing a block that is held
-pub Laid-data_put : (many low high : ℕ) (d : Shape) (p : Places) (b word : ℕ) → 1 ≤ times b p.held_data → Laid many low high d p → Laid many low high (data_put d b word) p
+pub Laid-data_put : (many low high : ℕ) (d : Shape) (p : Places) (b word : ℕ) → 1 ≤ times_met b p.held_data → Laid many low high d p → Laid many low high (data_put d b word) p
 Laid-data_put many low high d p b word h l =
     let away = held_data_alone many low high d p b l h in
     record {
@@ -136,7 +136,7 @@ Laid-data_put many low high d p b word h l =
     }
 
 -- writing an index block that is held
-pub Laid-index_put : (many low high : ℕ) (d : Shape) (p : Places) (i : ℕ) (index : Index) → 1 ≤ times i p.held_index → Laid many low high d p → Laid many low high (index_put d i index) p
+pub Laid-index_put : (many low high : ℕ) (d : Shape) (p : Places) (i : ℕ) (index : Index) → 1 ≤ times_met i p.held_index → Laid many low high d p → Laid many low high (index_put d i index) p
 Laid-index_put many low high d p i index h l =
     let away = held_index_alone many low high d p i l h in
     record {
@@ -146,8 +146,8 @@ Laid-index_put many low high d p i index h l =
         indexes = (l.file n k u).indexes;
         datas = (l.file n k u).datas;
         first = (l.file n k u).first;
-        each = λ j m. (let none : times i (list_of p.chains n) ≡ 0 = (let part = times_in-part i p.chains n in omega (arith, part, away.1)) in
-            get_or-set_other d.indexes i (slice_index (list_of p.chains n) j) index no_index (differs (list_of p.chains n) j i none m) ∙ (l.file n k u).each j m);
+        each = λ j m. (let none : times_met i (numbers_at p.chains n) ≡ 0 = (let part = times_in-part i p.chains n in omega (arith, part, away.1)) in
+            get_or-set_other d.indexes i (slice_index (numbers_at p.chains n) j) index no_index (differs (numbers_at p.chains n) j i none m) ∙ (l.file n k u).each j m);
       };
       no_file = l.no_file;
       free_index = IsChain-same (λ n. (index_in d n).next) (λ n. (index_in (index_put d i index) n).next) d.header.free_index p.free_index l.free_index
@@ -169,7 +169,7 @@ Laid-data_freed many low high d p b rest e named l =
       free_index = l.free_index;
       free_data = IsChain-more (λ n. slice_index d.links n) d.header.free_data b p.free_data l.free_data named;
       one_index = l.one_index;
-      one_data = λ n. (let one = l.one_data n in let f : times n p.held_data ≡ times n (b ∷ rest) = ap (times n) e in omega (arith, one, f));
+      one_data = λ n. (let one = l.one_data n in let f : times_met n p.held_data ≡ times_met n (b ∷ rest) = ap (times_met n) e in omega (arith, one, f));
     }
 
 -- the index blocks that are full stay as they are if data blocks are appended
@@ -190,7 +190,7 @@ FileLies-same d d' entry chain blocks f same = record { indexes = f.indexes; dat
 
 -- the file of an entry to which a data block was added, in an index block with room
 pub FileLies-added : (d : Shape) (entry entry' : Entry) (chain blocks : List ℕ) (b j : ℕ) → FileLies d entry chain blocks
-    → suc j ≡ length chain → length blocks < 16 * length chain → slice_index chain j < length d.indexes → times (slice_index chain j) chain ≤ 1
+    → suc j ≡ length chain → length blocks < 16 * length chain → slice_index chain j < length d.indexes → times_met (slice_index chain j) chain ≤ 1
     → entry'.first ≡ entry.first → (entry'.size + 8191) / 8192 ≡ length chain → (entry'.size + 511) / 512 ≡ length blocks + 1
     → FileLies (index_put d (slice_index chain j) (index_for j chain (blocks ++ b ∷ []))) entry' chain (blocks ++ b ∷ [])
 FileLies-added d entry entry' chain blocks b j f last room below once first i_size d_size = record {
@@ -208,36 +208,36 @@ FileLies-added d entry entry' chain blocks b j f last room below once first i_si
 }
 
 -- a file of another entry, when the index block of a file is written
-pub FileLies-other : (many low high : ℕ) (d : Shape) (p : Places) (e f i : ℕ) (index : Index) → Laid many low high d p → e ≢ f → 1 ≤ times i (list_of p.chains e)
-    → FileLies d (entry_in d f) (list_of p.chains f) (list_of p.datas f) → FileLies (index_put d i index) (entry_in d f) (list_of p.chains f) (list_of p.datas f)
+pub FileLies-other : (many low high : ℕ) (d : Shape) (p : Places) (e f i : ℕ) (index : Index) → Laid many low high d p → e ≢ f → 1 ≤ times_met i (numbers_at p.chains e)
+    → FileLies d (entry_in d f) (numbers_at p.chains f) (numbers_at p.datas f) → FileLies (index_put d i index) (entry_in d f) (numbers_at p.chains f) (numbers_at p.datas f)
 FileLies-other many low high d p e f i index l ne has lies =
-    let none : times i (list_of p.chains f) ≡ 0 = (let two = times_in-two i p.chains e f ne in let one = l.one_index i in let most = at_most_one (nat_lt i many) in omega (arith, two, one, most, has)) in
-    FileLies-same d (index_put d i index) (entry_in d f) (list_of p.chains f) (list_of p.datas f) lies
-    (λ j h. get_or-set_other d.indexes i (slice_index (list_of p.chains f) j) index no_index (differs (list_of p.chains f) j i none h))
+    let none : times_met i (numbers_at p.chains f) ≡ 0 = (let two = times_in-two i p.chains e f ne in let one = l.one_index i in let most = at_most_one (nat_lt i many) in omega (arith, two, one, most, has)) in
+    FileLies-same d (index_put d i index) (entry_in d f) (numbers_at p.chains f) (numbers_at p.datas f) lies
+    (λ j h. get_or-set_other d.indexes i (slice_index (numbers_at p.chains f) j) index no_index (differs (numbers_at p.chains f) j i none h))
 
 -- what changes when a data block is added to the file of an entry
 abbrev pub added : Shape → ℕ → ℕ → Entry → Index → Shape
 added d e i entry index = entry_put (index_put d i index) e entry
 
 pub Laid-data_added : (many low high : ℕ) (d : Shape) (p : Places) (e j b : ℕ) (rest : List ℕ) (entry' : Entry) → Laid many low high d p
-    → e < length d.entries → is_used (entry_in d e) ≡ true → is_used entry' ≡ true
-    → p.held_data ≡ b ∷ rest → suc j ≡ length (list_of p.chains e) → length (list_of p.datas e) < 16 * length (list_of p.chains e)
-    → slice_index (list_of p.chains e) j < length d.indexes
-    → entry'.first ≡ (entry_in d e).first → (entry'.size + 8191) / 8192 ≡ length (list_of p.chains e) → (entry'.size + 511) / 512 ≡ length (list_of p.datas e) + 1
-    → Laid many low high (added d e (slice_index (list_of p.chains e) j) entry' (index_for j (list_of p.chains e) (list_of p.datas e ++ b ∷ [])))
-    (record p { datas = slice_set p.datas e (list_of p.datas e ++ b ∷ []); held_data = rest })
+    → e < length d.entries → entry_is_used (entry_in d e) ≡ true → entry_is_used entry' ≡ true
+    → p.held_data ≡ b ∷ rest → suc j ≡ length (numbers_at p.chains e) → length (numbers_at p.datas e) < 16 * length (numbers_at p.chains e)
+    → slice_index (numbers_at p.chains e) j < length d.indexes
+    → entry'.first ≡ (entry_in d e).first → (entry'.size + 8191) / 8192 ≡ length (numbers_at p.chains e) → (entry'.size + 511) / 512 ≡ length (numbers_at p.datas e) + 1
+    → Laid many low high (added d e (slice_index (numbers_at p.chains e) j) entry' (index_for j (numbers_at p.chains e) (numbers_at p.datas e ++ b ∷ [])))
+    (record p { datas = slice_set p.datas e (numbers_at p.datas e ++ b ∷ []); held_data = rest })
 Laid-data_added many low high d p e j b rest entry' l h used used' held last room below first i_size d_size =
-    let chain = list_of p.chains e in
-    let blocks = list_of p.datas e in
+    let chain = numbers_at p.chains e in
+    let blocks = numbers_at p.datas e in
     let i = slice_index chain j in
     let index = index_for j chain (blocks ++ b ∷ []) in
     let d' = added d e i entry' index in
-    let has : 1 ≤ times i chain = times-at chain j i (omega arith) refl in
+    let has : 1 ≤ times_met i chain = times-at chain j i (omega arith) refl in
     let part = times_in-part i p.chains e in
     let all = l.one_index i in
     let most = at_most_one (nat_lt i many) in
-    let once : times i chain ≤ 1 = omega (arith, part, all, most) in
-    let free : times i p.free_index ≡ 0 = omega (arith, part, all, most, has) in
+    let once : times_met i chain ≤ 1 = omega (arith, part, all, most) in
+    let free : times_met i p.free_index ≡ 0 = omega (arith, part, all, most, has) in
     let in_datas : e < length p.datas = omega (arith, l.datas, h) in
     let len : length d'.entries ≡ length d.entries = length-set d.entries e entry' in
     let mine : FileLies d' entry' chain (blocks ++ b ∷ []) = (let m = FileLies-added d (entry_in d e) entry' chain blocks b j (l.file e h used) last room below once first i_size d_size in record { indexes = m.indexes; datas = m.datas; first = m.first; each = m.each }) in
@@ -245,69 +245,69 @@ Laid-data_added many low high d p e j b rest entry' l h used used' held last roo
       chains = l.chains ∙ sym len;
       datas = length-set p.datas e (blocks ++ b ∷ []) ∙ l.datas ∙ sym len;
       file = λ f k u. ⊎_elim
-          (λ same. (let P : ℕ → Type 0 = λ n. FileLies d' (entry_in d' n) (list_of p.chains n) (list_of (slice_set p.datas e (blocks ++ b ∷ [])) n) in
-          let at_e : entry_in d' e ≡ entry' = get_or-set_same d.entries e entry' blank h in
-          let data_e : list_of (slice_set p.datas e (blocks ++ b ∷ [])) e ≡ blocks ++ b ∷ [] = get_or-set_same p.datas e (blocks ++ b ∷ []) [] in_datas in
-          let Q : Entry → Type 0 = λ x. FileLies d' x chain (list_of (slice_set p.datas e (blocks ++ b ∷ [])) e) in
+          (λ same. (let P : ℕ → Type 0 = λ n. FileLies d' (entry_in d' n) (numbers_at p.chains n) (numbers_at (slice_set p.datas e (blocks ++ b ∷ [])) n) in
+          let at_e : entry_in d' e ≡ entry' = get_or-set_same d.entries e entry' void_entry h in
+          let data_e : numbers_at (slice_set p.datas e (blocks ++ b ∷ [])) e ≡ blocks ++ b ∷ [] = get_or-set_same p.datas e (blocks ++ b ∷ []) [] in_datas in
+          let Q : Entry → Type 0 = λ x. FileLies d' x chain (numbers_at (slice_set p.datas e (blocks ++ b ∷ [])) e) in
           let R : List ℕ → Type 0 = λ x. FileLies d' entry' chain x in
           subst P (sym same) (subst Q (sym at_e) (subst R (sym data_e) mine))))
           (λ other. (let ne : e ≢ f = λ s. other (sym s) in
-          let at_f : entry_in d' f ≡ entry_in d f = get_or-set_other d.entries e f entry' blank other in
-          let data_f : list_of (slice_set p.datas e (blocks ++ b ∷ [])) f ≡ list_of p.datas f = get_or-set_other p.datas e f (blocks ++ b ∷ []) [] other in
-          let used_f : is_used (entry_in d f) ≡ true = ap is_used (sym at_f) ∙ u in
+          let at_f : entry_in d' f ≡ entry_in d f = get_or-set_other d.entries e f entry' void_entry other in
+          let data_f : numbers_at (slice_set p.datas e (blocks ++ b ∷ [])) f ≡ numbers_at p.datas f = get_or-set_other p.datas e f (blocks ++ b ∷ []) [] other in
+          let used_f : entry_is_used (entry_in d f) ≡ true = ap entry_is_used (sym at_f) ∙ u in
           let lies = FileLies-other many low high d p e f i index l ne has (l.file f (omega (arith, k, len)) used_f) in
-          let lies' : FileLies d' (entry_in d f) (list_of p.chains f) (list_of p.datas f) = record { indexes = lies.indexes; datas = lies.datas; first = lies.first; each = lies.each } in
-          let Q : Entry → Type 0 = λ x. FileLies d' x (list_of p.chains f) (list_of (slice_set p.datas e (blocks ++ b ∷ [])) f) in
-          let R : List ℕ → Type 0 = λ x. FileLies d' (entry_in d f) (list_of p.chains f) x in
+          let lies' : FileLies d' (entry_in d f) (numbers_at p.chains f) (numbers_at p.datas f) = record { indexes = lies.indexes; datas = lies.datas; first = lies.first; each = lies.each } in
+          let Q : Entry → Type 0 = λ x. FileLies d' x (numbers_at p.chains f) (numbers_at (slice_set p.datas e (blocks ++ b ∷ [])) f) in
+          let R : List ℕ → Type 0 = λ x. FileLies d' (entry_in d f) (numbers_at p.chains f) x in
           subst Q (sym at_f) (subst R (sym data_f) lies')))
           (cases_eq f e);
       no_file = λ f k u. ⊎_elim
-          (λ same. absurd (false≢true (sym u ∙ ap (λ n. is_used (entry_in d' n)) same ∙ ap is_used (get_or-set_same d.entries e entry' blank h) ∙ used')))
-          (λ other. (let at_f : entry_in d' f ≡ entry_in d f = get_or-set_other d.entries e f entry' blank other in
-          let no = l.no_file f (omega (arith, k, len)) (ap is_used (sym at_f) ∙ u) in
+          (λ same. absurd (false≢true (sym u ∙ ap (λ n. entry_is_used (entry_in d' n)) same ∙ ap entry_is_used (get_or-set_same d.entries e entry' void_entry h) ∙ used')))
+          (λ other. (let at_f : entry_in d' f ≡ entry_in d f = get_or-set_other d.entries e f entry' void_entry other in
+          let no = l.no_file f (omega (arith, k, len)) (ap entry_is_used (sym at_f) ∙ u) in
           (no.0, get_or-set_other p.datas e f (blocks ++ b ∷ []) [] other ∙ no.1)))
           (cases_eq f e);
       free_index = IsChain-same (λ n. (index_in d n).next) (λ n. (index_in d' n).next) d.header.free_index p.free_index l.free_index
           (λ k m. ap (λ (x : Index). x.next) (get_or-set_other d.indexes i (slice_index p.free_index k) index no_index (differs p.free_index k i free m)));
       free_data = l.free_data;
       one_index = l.one_index;
-      one_data = λ n. (let one = l.one_data n in let f : times n p.held_data ≡ times n (b ∷ rest) = ap (times n) held in
+      one_data = λ n. (let one = l.one_data n in let f : times_met n p.held_data ≡ times_met n (b ∷ rest) = ap (times_met n) held in
           let s = times_in-set n p.datas e (blocks ++ b ∷ []) in_datas in let a = times-append n blocks (b ∷ []) in omega (arith, one, f, s, a));
     }
 
 -- an empty file in an unused entry
 pub Laid-created : (many low high : ℕ) (d : Shape) (p : Places) (e count : ℕ) (entry' : Entry) → Laid many low high d p
-    → e < length d.entries → is_used (entry_in d e) ≡ false → entry'.size ≡ 0 → entry'.first ≡ null
+    → e < length d.entries → entry_is_used (entry_in d e) ≡ false → entry'.size ≡ 0 → entry'.first ≡ null
     → Laid many low high (with_header (entry_put d e entry') (record d.header { files = count })) p
 Laid-created many low high d p e count entry' l h unused size first =
     let d' = with_header (entry_put d e entry') (record d.header { files = count }) in
     let len : length d'.entries ≡ length d.entries = length-set d.entries e entry' in
-    let at_e : entry_in d' e ≡ entry' = get_or-set_same d.entries e entry' blank h in
+    let at_e : entry_in d' e ≡ entry' = get_or-set_same d.entries e entry' void_entry h in
     let none = l.no_file e h unused in
     record {
       chains = l.chains ∙ sym len;
       datas = l.datas ∙ sym len;
       file = λ f k u. ⊎_elim
-          (λ same. (let P : ℕ → Type 0 = λ n. FileLies d' (entry_in d' n) (list_of p.chains n) (list_of p.datas n) in
-          let Q : Entry → Type 0 = λ x. FileLies d' x (list_of p.chains e) (list_of p.datas e) in
-          let c : length (list_of p.chains e) ≡ 0 = ap length none.0 in
-          let b : length (list_of p.datas e) ≡ 0 = ap length none.1 in
-          let mine : FileLies d' entry' (list_of p.chains e) (list_of p.datas e) = record {
+          (λ same. (let P : ℕ → Type 0 = λ n. FileLies d' (entry_in d' n) (numbers_at p.chains n) (numbers_at p.datas n) in
+          let Q : Entry → Type 0 = λ x. FileLies d' x (numbers_at p.chains e) (numbers_at p.datas e) in
+          let c : length (numbers_at p.chains e) ≡ 0 = ap length none.0 in
+          let b : length (numbers_at p.datas e) ≡ 0 = ap length none.1 in
+          let mine : FileLies d' entry' (numbers_at p.chains e) (numbers_at p.datas e) = record {
             indexes = omega (arith, c, size);
             datas = omega (arith, b, size);
             first = first ∙ sym (ap (λ xs. slice_index_or xs 0 null) none.0);
             each = λ j m. absurd (omega (arith, m, c));
           } in
           subst P (sym same) (subst Q (sym at_e) mine)))
-          (λ other. (let at_f : entry_in d' f ≡ entry_in d f = get_or-set_other d.entries e f entry' blank other in
-          let lies = l.file f (omega (arith, k, len)) (ap is_used (sym at_f) ∙ u) in
-          let lies' : FileLies d' (entry_in d f) (list_of p.chains f) (list_of p.datas f) = record { indexes = lies.indexes; datas = lies.datas; first = lies.first; each = lies.each } in
-          let Q : Entry → Type 0 = λ x. FileLies d' x (list_of p.chains f) (list_of p.datas f) in
+          (λ other. (let at_f : entry_in d' f ≡ entry_in d f = get_or-set_other d.entries e f entry' void_entry other in
+          let lies = l.file f (omega (arith, k, len)) (ap entry_is_used (sym at_f) ∙ u) in
+          let lies' : FileLies d' (entry_in d f) (numbers_at p.chains f) (numbers_at p.datas f) = record { indexes = lies.indexes; datas = lies.datas; first = lies.first; each = lies.each } in
+          let Q : Entry → Type 0 = λ x. FileLies d' x (numbers_at p.chains f) (numbers_at p.datas f) in
           subst Q (sym at_f) lies'))
           (cases_eq f e);
       no_file = λ f k u. ⊎_elim
-          (λ same. (let P : ℕ → Type 0 = λ n. (list_of p.chains n ≡ []) × (list_of p.datas n ≡ []) in subst P (sym same) none))
-          (λ other. l.no_file f (omega (arith, k, len)) (ap is_used (sym (get_or-set_other d.entries e f entry' blank other)) ∙ u))
+          (λ same. (let P : ℕ → Type 0 = λ n. (numbers_at p.chains n ≡ []) × (numbers_at p.datas n ≡ []) in subst P (sym same) none))
+          (λ other. l.no_file f (omega (arith, k, len)) (ap entry_is_used (sym (get_or-set_other d.entries e f entry' void_entry other)) ∙ u))
           (cases_eq f e);
       free_index = l.free_index;
       free_data = l.free_data;

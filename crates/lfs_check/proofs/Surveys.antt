@@ -56,15 +56,15 @@ pub lowest_of-all : (fault : ℕ → Entry → Option ℕ) (es : List Entry) (k 
 unfolding lowest_of
 lowest_of-all fault es k found h = ap (λ m. least found (lowest_of fault k m)) (drop_all k es h) ∙ least_none found
 
-pub lowest_of-more : (fault : ℕ → Entry → Option ℕ) (es : List Entry) (k : ℕ) (blank : Entry) (found : Option ℕ) → k < length es
-    → least found (lowest_of fault k (drop k es)) ≡ least (least found (fault k (get_or es k blank))) (lowest_of fault (k + 1) (drop (k + 1) es))
+pub lowest_of-more : (fault : ℕ → Entry → Option ℕ) (es : List Entry) (k : ℕ) (void_entry : Entry) (found : Option ℕ) → k < length es
+    → least found (lowest_of fault k (drop k es)) ≡ least (least found (fault k (get_or es k void_entry))) (lowest_of fault (k + 1) (drop (k + 1) es))
 unfolding lowest_of
-lowest_of-more fault es k blank found h =
-    ap (λ m. least found (lowest_of fault k m)) (drop_more es k blank h) ∙ sym (least-assoc found _ _) ∙ ap (λ n. least (least found (fault k (get_or es k blank))) (lowest_of fault n (drop (k + 1) es))) (let e : suc k ≡ k + 1 = omega arith in e)
+lowest_of-more fault es k void_entry found h =
+    ap (λ m. least found (lowest_of fault k m)) (drop_more es k void_entry h) ∙ sym (least-assoc found _ _) ∙ ap (λ n. least (least found (fault k (get_or es k void_entry))) (lowest_of fault n (drop (k + 1) es))) (let e : suc k ≡ k + 1 = omega arith in e)
 
-pub numbers-more : (f : Entry → List ℕ) (es : List Entry) (k : ℕ) (blank : Entry) (met : List ℕ) → k < length es
-    → met ++ flat_map f (drop k es) ≡ (met ++ f (get_or es k blank)) ++ flat_map f (drop (k + 1) es)
-numbers-more f es k blank met h = ap (λ m. met ++ flat_map f m) (drop_more es k blank h) ∙ sym (append_assoc met (f (get_or es k blank)) (flat_map f (drop (k + 1) es)))
+pub numbers-more : (f : Entry → List ℕ) (es : List Entry) (k : ℕ) (void_entry : Entry) (met : List ℕ) → k < length es
+    → met ++ flat_map f (drop k es) ≡ (met ++ f (get_or es k void_entry)) ++ flat_map f (drop (k + 1) es)
+numbers-more f es k void_entry met h = ap (λ m. met ++ flat_map f m) (drop_more es k void_entry h) ∙ sym (append_assoc met (f (get_or es k void_entry)) (flat_map f (drop (k + 1) es)))
 
 pub numbers-all : (f : Entry → List ℕ) (es : List Entry) (k : ℕ) (met : List ℕ) → length es ≤ k → met ++ flat_map f (drop k es) ≡ met
 numbers-all f es k met h = ap (λ m. met ++ flat_map f m) (drop_all k es h) ∙ append-nil met

@@ -5,7 +5,7 @@ use Rattle.std.proofs.lemmas.List.{get_or_at}
 use Rattle.std.proofs.Math.ListN.{get_or-append}
 use Rattle.std.proofs.lemmas.Bool.{cases_eq, cases_lt, false≢true}
 use Rattle.std.proofs.lemmas.Bool.Decides.{nat_tests}
-use Rattle.lfs_check.specs.Walks.{walk, walk_end, is_met, goes_on, is_open}
+use Rattle.lfs_check.specs.Walks.{walk, walk_end, is_met, walk_goes_on, is_open}
 
 -- the marks are those of the numbers met
 abbrev pub Marks : List Bool → List ℕ → ℕ → Type 0
@@ -35,12 +35,12 @@ Marks-more seen met size m h marks n lt =
     (cases_eq n m)
 
 -- the marks tell whether a walk goes on
-pub is_open-goes_on : (seen : List Bool) (met : List ℕ) (size low high n : ℕ) → high ≤ size → Marks seen met size → is_open seen low high n ≡ goes_on low high met n
+pub is_open-goes_on : (seen : List Bool) (met : List ℕ) (size low high n : ℕ) → high ≤ size → Marks seen met size → is_open seen low high n ≡ walk_goes_on low high met n
 is_open-goes_on seen met size low high n h marks =
     ⊎_elim (λ lt. ap (λ b. nat_lt n high && not (nat_lt n low) && not b) (marks n (omega (arith, lt))))
     (λ ge. (let e : nat_lt n high ≡ false = grind (arith, nat_tests) in rw e refl)) (cases_lt n high)
 
-pub walk-stop : (links : List ℕ) (low high left : ℕ) (met : List ℕ) (n : ℕ) → goes_on low high met n ≡ false
+pub walk-stop : (links : List ℕ) (low high left : ℕ) (met : List ℕ) (n : ℕ) → walk_goes_on low high met n ≡ false
     → (walk links low high left met n ≡ met) × (walk_end links low high left met n ≡ n)
 unfolding walk walk_end
 walk-stop links low high zero met n g = (refl, refl)
@@ -52,7 +52,7 @@ unfolding walk walk_end
 walk-none links low high zero met n g = (refl, refl)
 walk-none links low high (suc left) met n g = absurd (omega arith)
 
-pub walk-more : (links : List ℕ) (low high left : ℕ) (met : List ℕ) (n : ℕ) → 0 < left → goes_on low high met n ≡ true
+pub walk-more : (links : List ℕ) (low high left : ℕ) (met : List ℕ) (n : ℕ) → 0 < left → walk_goes_on low high met n ≡ true
     → (walk links low high left met n ≡ walk links low high (left - 1) (met ++ n ∷ []) (slice_index links n))
     × (walk_end links low high left met n ≡ walk_end links low high (left - 1) (met ++ n ∷ []) (slice_index links n))
 unfolding walk walk_end
@@ -61,15 +61,15 @@ walk-more links low high (suc left) met n lt g =
     let e : left ≡ suc left - 1 = omega arith in
     rw g (ap (λ j. walk links low high j (met ++ n ∷ []) (slice_index links n)) e, ap (λ j. walk_end links low high j (met ++ n ∷ []) (slice_index links n)) e)
 
-pub goes_on-below : (low high n : ℕ) (met : List ℕ) → goes_on low high met n ≡ true → n < high
+pub goes_on-below : (low high n : ℕ) (met : List ℕ) → walk_goes_on low high met n ≡ true → n < high
 goes_on-below low high n met g =
     ⊎_elim (λ lt. lt) (λ ge. (let e : nat_lt n high ≡ false = grind (arith, nat_tests) in
-    let f : goes_on low high met n ≡ false = rw e refl in absurd (false≢true (sym f ∙ g)))) (cases_lt n high)
+    let f : walk_goes_on low high met n ≡ false = rw e refl in absurd (false≢true (sym f ∙ g)))) (cases_lt n high)
 
-goes_on-in : (low high n : ℕ) (met : List ℕ) → goes_on low high met n ≡ true → (low ≤ n) × (n < high)
+goes_on-in : (low high n : ℕ) (met : List ℕ) → walk_goes_on low high met n ≡ true → (low ≤ n) × (n < high)
 goes_on-in low high n met g = (
   ⊎_elim (λ lt. (let e : nat_lt n low ≡ true = grind (arith, nat_tests) in
-      let f : goes_on low high met n ≡ false = rw e (no (nat_lt n high)) in absurd (false≢true (sym f ∙ g)))) (λ ge. ge) (cases_lt n low),
+      let f : walk_goes_on low high met n ≡ false = rw e (no (nat_lt n high)) in absurd (false≢true (sym f ∙ g)))) (λ ge. ge) (cases_lt n low),
   goes_on-below low high n met g,
 )
   where
@@ -83,14 +83,14 @@ walk-range : (links : List ℕ) (low high steps : ℕ) (met : List ℕ) (n : ℕ
 unfolding walk
 walk-range links low high zero met n all = all
 walk-range links low high (suc steps) met n all =
-    let P : Bool → Type 0 = λ b. goes_on low high met n ≡ b → (j : ℕ) → j < length (cond b (walk links low high steps (met ++ n ∷ []) (slice_index links n)) met)
+    let P : Bool → Type 0 = λ b. walk_goes_on low high met n ≡ b → (j : ℕ) → j < length (cond b (walk links low high steps (met ++ n ∷ []) (slice_index links n)) met)
     → (low ≤ slice_index (cond b (walk links low high steps (met ++ n ∷ []) (slice_index links n)) met) j) × (slice_index (cond b (walk links low high steps (met ++ n ∷ []) (slice_index links n)) met) j < high) in
     let yes : P true = λ g. walk-range links low high steps (met ++ n ∷ []) (slice_index links n) (more g) in
     let no : P false = λ g. all in
     let split : (b : Bool) → P b = λ b. elim b as (λ b. P b) [ true ↦ yes | false ↦ no ] in
-    split (goes_on low high met n) refl
+    split (walk_goes_on low high met n) refl
   where
-    more : goes_on low high met n ≡ true → (j : ℕ) → j < length (met ++ n ∷ []) → (low ≤ slice_index (met ++ n ∷ []) j) × (slice_index (met ++ n ∷ []) j < high)
+    more : walk_goes_on low high met n ≡ true → (j : ℕ) → j < length (met ++ n ∷ []) → (low ≤ slice_index (met ++ n ∷ []) j) × (slice_index (met ++ n ∷ []) j < high)
     more g j h = let r = goes_on-in low high n met g in
         ⊎_elim (λ lt. (let e : slice_index (met ++ n ∷ []) j ≡ slice_index met j = get_or-append met (n ∷ []) 0 j lt in let a = all j lt in (omega (arith, a.0, e), omega (arith, a.1, e))))
         (λ ge. (let e : slice_index (met ++ n ∷ []) j ≡ n = get_or_at met n [] 0 j (omega (arith, h, ge, length-append met (n ∷ []))) in (omega (arith, r.0, e), omega (arith, r.1, e)))) (cases_lt j (length met))
@@ -111,7 +111,7 @@ walk-short links low high (suc steps) met n =
     let l = length-append met (n ∷ []) in
     let P : Bool → Type 0 = λ b. length (cond b (walk links low high steps (met ++ n ∷ []) (slice_index links n)) met) ≤ length met + suc steps in
     let split : (b : Bool) → P b = λ b. elim b as (λ b. P b) [ true ↦ omega (arith, i, l) | false ↦ omega arith ] in
-    split (goes_on low high met n)
+    split (walk_goes_on low high met n)
 
 pub walk-few : (links : List ℕ) (low high steps n : ℕ) → length (walk links low high steps [] n) ≤ steps
 walk-few links low high steps n = omega (arith, walk-short links low high steps [] n)

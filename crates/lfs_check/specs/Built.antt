@@ -3,17 +3,17 @@ use Rattle.std.specs.Prelude.{ℕ, ◌≡◌, ◌+◌, ◌-◌, ◌≤◌, ◌<�
 use Rattle.lfs_format.specs.declared.Entry.{Entry}
 use Rattle.lfs_check.specs.declared.geometry.Geometry.{Geometry}
 use Rattle.lfs_check.specs.Geometries.{index_count, first_data}
-use Rattle.lfs_check.specs.Rules.{is_used}
+use Rattle.lfs_check.specs.Rules.{entry_is_used}
 use Rattle.lfs_check.specs.Meets.{null}
 use Rattle.lfs_check.specs.Laid.{Shape, Places, FileLies, index_in}
 use Rattle.lfs_check.specs.Checks.{need_index, need_data}
 use Rattle.lfs_check.specs.Empty.{upwards, next_upwards}
 
 abbrev pub index_need : Entry → ℕ
-index_need e = cond (is_used e) (need_index e) 0
+index_need e = cond (entry_is_used e) (need_index e) 0
 
 abbrev pub data_need : Entry → ℕ
-data_need e = cond (is_used e) (need_data e) 0
+data_need e = cond (entry_is_used e) (need_data e) 0
 
 -- the numbers of the files one after another, from a number on
 abbrev pub runs : (Entry → ℕ) → ℕ → List Entry → List (List ℕ)
@@ -27,17 +27,17 @@ run_end need a (e ∷ es) = run_end need (a + need e) es
 
 abbrev pub LieFrom : Shape → ℕ → ℕ → List Entry → Type 0
 LieFrom d a b [] = Unit {0}
-LieFrom d a b (e ∷ es) = (is_used e ≡ true → FileLies d e (upwards a (need_index e)) (upwards b (need_data e))) × LieFrom d (a + index_need e) (b + data_need e) es
+LieFrom d a b (e ∷ es) = (entry_is_used e ≡ true → FileLies d e (upwards a (need_index e)) (upwards b (need_data e))) × LieFrom d (a + index_need e) (b + data_need e) es
 
-abbrev pub head_of : ℕ → ℕ → ℕ
-head_of n end = cond (nat_lt n end) n null
+abbrev pub chain_head : ℕ → ℕ → ℕ
+chain_head n end = cond (nat_lt n end) n null
 
 pub record IsBuilt (g : Geometry) (d : Shape) : Type 0 where
   pub files : LieFrom d 0 (first_data g) d.entries
   pub index_room : run_end index_need 0 d.entries ≤ index_count g
   pub data_room : run_end data_need (first_data g) d.entries ≤ g.blocks
-  pub index_head : d.header.free_index ≡ head_of (run_end index_need 0 d.entries) (index_count g)
-  pub data_head : d.header.free_data ≡ head_of (run_end data_need (first_data g) d.entries) g.blocks
+  pub index_head : d.header.free_index ≡ chain_head (run_end index_need 0 d.entries) (index_count g)
+  pub data_head : d.header.free_data ≡ chain_head (run_end data_need (first_data g) d.entries) g.blocks
   pub nexts : (i : ℕ) → run_end index_need 0 d.entries ≤ i → i < index_count g → (index_in d i).next ≡ next_upwards (index_count g) i
   pub links : (b : ℕ) → run_end data_need (first_data g) d.entries ≤ b → b < g.blocks → slice_index d.links b ≡ next_upwards g.blocks b
 

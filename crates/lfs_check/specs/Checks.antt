@@ -6,8 +6,8 @@ use Rattle.lfs_format.specs.declared.Index.{Index}
 use Rattle.lfs_check.specs.declared.geometry.Geometry.{Geometry}
 use Rattle.lfs_check.specs.Geometries.{index_count, index_block, entry_block, first_data}
 use Rattle.lfs_check.specs.Laid.{Shape, no_index}
-use Rattle.lfs_check.specs.Meets.{null, times, first_from}
-use Rattle.lfs_check.specs.Rules.{is_used}
+use Rattle.lfs_check.specs.Meets.{null, times_met, lowest_from}
+use Rattle.lfs_check.specs.Rules.{entry_is_used}
 use Rattle.lfs_check.specs.Walks.{walk, walk_end}
 
 -- the lower of two blocks, if there is one
@@ -27,8 +27,8 @@ need_index e = (e.size + 8191) / 8192
 abbrev pub need_data : Entry → ℕ
 need_data e = (e.size + 511) / 512
 
-abbrev pub is_within : ℕ → ℕ → ℕ → Bool
-is_within low high n = nat_le low n && nat_lt n high
+abbrev pub is_between : ℕ → ℕ → ℕ → Bool
+is_between low high n = nat_le low n && nat_lt n high
 
 -- the next of each index block
 abbrev pub nexts_of : List Index → List ℕ
@@ -38,8 +38,8 @@ nexts_of indexes = map (λ (i : Index). i.next) indexes
 abbrev pub met_of : Geometry → List Index → Entry → List ℕ
 met_of g indexes e = walk (nexts_of indexes) 0 (index_count g) (need_index e) [] e.first
 
-abbrev pub end_of : Geometry → List Index → Entry → ℕ
-end_of g indexes e = walk_end (nexts_of indexes) 0 (index_count g) (need_index e) [] e.first
+abbrev pub end_of_walk : Geometry → List Index → Entry → ℕ
+end_of_walk g indexes e = walk_end (nexts_of indexes) 0 (index_count g) (need_index e) [] e.first
 
 abbrev pub free_index_of : Geometry → Shape → List ℕ
 free_index_of g d = walk (nexts_of d.indexes) 0 (index_count g) (index_count g) [] d.header.free_index
@@ -60,27 +60,27 @@ abbrev pub last_or : ℕ → List ℕ → ℕ
 last_or front met = cond (nat_eq (length met) 0) front (slice_index met (length met - 1))
 
 abbrev pub is_good_end : ℕ → ℕ → ℕ → Bool
-is_good_end low high end = cond (nat_eq end null) true (is_within low high end)
+is_good_end low high end = cond (nat_eq end null) true (is_between low high end)
 
 abbrev pub free_data_fault : Geometry → List ℕ → ℕ → Option ℕ
 free_data_fault g met end = cond (is_good_end (first_data g) g.blocks end) None (Some (last_or 0 met))
 
 -- the block that has the number that ended a walk of index blocks; the first number is in this block
-abbrev pub holder : Geometry → ℕ → List ℕ → ℕ
-holder g block met = cond (nat_eq (length met) 0) block (index_block g (slice_index met (length met - 1)))
+abbrev pub end_holder : Geometry → ℕ → List ℕ → ℕ
+end_holder g block met = cond (nat_eq (length met) 0) block (index_block g (slice_index met (length met - 1)))
 
 abbrev pub free_index_fault : Geometry → List ℕ → ℕ → Option ℕ
-free_index_fault g met end = cond (is_good_end 0 (index_count g) end) None (Some (holder g 0 met))
+free_index_fault g met end = cond (is_good_end 0 (index_count g) end) None (Some (end_holder g 0 met))
 
 abbrev pub is_file_end : Geometry → ℕ → ℕ → ℕ → Bool
-is_file_end g need len end = cond (nat_lt len need) (is_within 0 (index_count g) end) (nat_eq end null)
+is_file_end g need len end = cond (nat_lt len need) (is_between 0 (index_count g) end) (nat_eq end null)
 
 abbrev pub end_fault : Geometry → ℕ → Entry → List ℕ → ℕ → Option ℕ
-end_fault g k e met end = cond (is_file_end g (need_index e) (length met) end) None (Some (holder g (entry_block g k) met))
+end_fault g k e met end = cond (is_file_end g (need_index e) (length met) end) None (Some (end_holder g (entry_block g k) met))
 
 -- the numbers of data blocks in an index block: those that are wanted, and then nulls
 abbrev pub number_fits : Geometry → ℕ → ℕ → Bool
-number_fits g wanted b = cond (nat_lt 0 wanted) (is_within (first_data g) g.blocks b) (nat_eq b null)
+number_fits g wanted b = cond (nat_lt 0 wanted) (is_between (first_data g) g.blocks b) (nat_eq b null)
 
 unfoldable pub row_fits : Geometry → ℕ → List ℕ → Bool
 row_fits g wanted [] = true
@@ -105,19 +105,19 @@ offsets_fault g indexes offset (i ∷ met) =
 
 -- what the file of entry k adds to the faults of rules 4 and 5, and to the numbers met
 abbrev pub file_fault_4 : Geometry → List Index → ℕ → Entry → Option ℕ
-file_fault_4 g indexes k e = cond (is_used e) (least (end_fault g k e (met_of g indexes e) (end_of g indexes e)) (rows_fault g indexes (need_data e) (met_of g indexes e))) None
+file_fault_4 g indexes k e = cond (entry_is_used e) (least (end_fault g k e (met_of g indexes e) (end_of_walk g indexes e)) (rows_fault g indexes (need_data e) (met_of g indexes e))) None
 
 abbrev pub file_fault_5 : Geometry → List Index → ℕ → Entry → Option ℕ
-file_fault_5 g indexes k e = cond (is_used e) (offsets_fault g indexes 0 (met_of g indexes e)) None
+file_fault_5 g indexes k e = cond (entry_is_used e) (offsets_fault g indexes 0 (met_of g indexes e)) None
 
-abbrev pub row_of : List Index → ℕ → List ℕ
-row_of indexes i = (slice_index_or indexes i no_index).blocks
+abbrev pub data_row : List Index → ℕ → List ℕ
+data_row indexes i = (slice_index_or indexes i no_index).blocks
 
 abbrev pub file_index_numbers : Geometry → List Index → Entry → List ℕ
-file_index_numbers g indexes e = cond (is_used e) (met_of g indexes e ++ end_of g indexes e ∷ []) []
+file_index_numbers g indexes e = cond (entry_is_used e) (met_of g indexes e ++ end_of_walk g indexes e ∷ []) []
 
 abbrev pub file_data_numbers : Geometry → List Index → Entry → List ℕ
-file_data_numbers g indexes e = cond (is_used e) (flat_map (row_of indexes) (met_of g indexes e)) []
+file_data_numbers g indexes e = cond (entry_is_used e) (flat_map (data_row indexes) (met_of g indexes e)) []
 
 -- the lowest fault of the entries, which are numbered from k on
 unfoldable pub lowest_of : (ℕ → Entry → Option ℕ) → ℕ → List Entry → Option ℕ
@@ -146,10 +146,10 @@ in_block g None = None
 in_block g (Some i) = Some (index_block g i)
 
 abbrev pub first_block : Geometry → (ℕ → Bool) → (ℕ → Bool) → Option ℕ
-first_block g index_test data_test = either (in_block g (first_from index_test 0 (index_count g))) (first_from data_test (first_data g) (g.blocks - first_data g))
+first_block g index_test data_test = either (in_block g (lowest_from index_test 0 (index_count g))) (lowest_from data_test (first_data g) (g.blocks - first_data g))
 
 abbrev pub rule_6 : Geometry → Shape → Option ℕ
-rule_6 g d = first_block g (λ i. nat_le 2 (times i (index_numbers g d))) (λ b. nat_le 2 (times b (data_numbers g d)))
+rule_6 g d = first_block g (λ i. nat_le 2 (times_met i (index_numbers g d))) (λ b. nat_le 2 (times_met b (data_numbers g d)))
 
 abbrev pub rule_7 : Geometry → Shape → Option ℕ
-rule_7 g d = first_block g (λ i. nat_le (times i (index_numbers g d)) 0) (λ b. nat_le (times b (data_numbers g d)) 0)
+rule_7 g d = first_block g (λ i. nat_le (times_met i (index_numbers g d)) 0) (λ b. nat_le (times_met b (data_numbers g d)) 0)

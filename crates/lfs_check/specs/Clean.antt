@@ -5,15 +5,15 @@ use Rattle.lfs_format.specs.declared.Entry.{Entry}
 use Rattle.lfs_format.specs.declared.Index.{Index}
 use Rattle.lfs_check.specs.declared.geometry.Geometry.{Geometry}
 use Rattle.lfs_check.specs.Geometries.{index_count, first_data}
-use Rattle.lfs_check.specs.Rules.{is_used}
+use Rattle.lfs_check.specs.Rules.{entry_is_used}
 use Rattle.lfs_check.specs.Laid.{Shape, Places, Laid}
-use Rattle.lfs_check.specs.Checks.{met_of, need_data, row_of, free_index_of, free_data_of, rule_4, rule_5, rule_6, rule_7}
+use Rattle.lfs_check.specs.Checks.{met_of, need_data, data_row, free_index_of, free_data_of, rule_4, rule_5, rule_6, rule_7}
 
 abbrev pub chain_in : Geometry → List Index → Entry → List ℕ
-chain_in g indexes e = cond (is_used e) (met_of g indexes e) []
+chain_in g indexes e = cond (entry_is_used e) (met_of g indexes e) []
 
 abbrev pub data_in : Geometry → List Index → Entry → List ℕ
-data_in g indexes e = cond (is_used e) (take (need_data e) (flat_map (row_of indexes) (met_of g indexes e))) []
+data_in g indexes e = cond (entry_is_used e) (take (need_data e) (flat_map (data_row indexes) (met_of g indexes e))) []
 
 abbrev pub places_of : Geometry → Shape → Places
 places_of g d = record {
@@ -29,7 +29,7 @@ places_of g d = record {
 pub record IsShape (g : Geometry) (d : Shape) : Type 0 where
   pub indexes : length d.indexes ≡ index_count g
   pub links : length d.links ≡ g.blocks
-  pub rows : (i : ℕ) → i < index_count g → length (row_of d.indexes i) ≡ 16
+  pub rows : (i : ℕ) → i < index_count g → length (data_row d.indexes i) ≡ 16
 
 -- no rule from 4 to 7 is broken
 pub record Passes (g : Geometry) (d : Shape) : Type 0 where

@@ -2,7 +2,7 @@
 use Rattle.std.specs.Prelude.{ℕ, zero, suc, ◌≡◌, ◌-◌, ◌≤◌, ◌<◌, false, cond, nat_lt, List, [], ◌∷◌, length, replicate, slice_index}
 use Rattle.lfs_check.specs.declared.geometry.Geometry.{Geometry}
 use Rattle.lfs_check.specs.Geometries.{index_count, first_data}
-use Rattle.lfs_check.specs.Rules.{is_used}
+use Rattle.lfs_check.specs.Rules.{entry_is_used}
 use Rattle.lfs_check.specs.Meets.{null}
 use Rattle.lfs_check.specs.Laid.{Shape, Places, index_in, entry_in}
 
@@ -17,7 +17,7 @@ next_upwards end n = cond (nat_lt (suc n) end) (suc n) null
 
 -- no entry is used, and both free chains go upwards over all numbers
 pub record IsEmpty (g : Geometry) (d : Shape) : Type 0 where
-  pub unused : (e : ℕ) → e < length d.entries → is_used (entry_in d e) ≡ false
+  pub unused : (e : ℕ) → e < length d.entries → entry_is_used (entry_in d e) ≡ false
   pub index_head : d.header.free_index ≡ 0
   pub data_head : d.header.free_data ≡ first_data g
   pub nexts : (i : ℕ) → i < index_count g → (index_in d i).next ≡ next_upwards (index_count g) i

@@ -17,26 +17,26 @@ abbrev pub named : ℕ → Option ℕ → Option DiskFault
 named rule None = None
 named rule (Some block) = Some (record { block = block; rule = rule })
 
-abbrev pub first_fault : Option DiskFault → Option DiskFault → Option DiskFault
-first_fault None b = b
-first_fault (Some a) b = Some a
+abbrev pub either_fault : Option DiskFault → Option DiskFault → Option DiskFault
+either_fault None b = b
+either_fault (Some a) b = Some a
 
 -- rules 1 to 3
 abbrev pub dir_fault : Geometry → Header → List Entry → List ℕ → Option DiskFault
 dir_fault g header entries image =
-    first_fault (named 1 (rule_1 g entries)) (first_fault (named 2 (rule_2 g header entries image)) (named 3 (rule_3 g entries)))
+    either_fault (named 1 (rule_1 g entries)) (either_fault (named 2 (rule_2 g header entries image)) (named 3 (rule_3 g entries)))
 
 -- rules 4 to 7
 abbrev pub walks_fault : Geometry → Shape → Option DiskFault
-walks_fault g d = first_fault (named 4 (rule_4 g d)) (first_fault (named 5 (rule_5 g d)) (first_fault (named 6 (rule_6 g d)) (named 7 (rule_7 g d))))
+walks_fault g d = either_fault (named 4 (rule_4 g d)) (either_fault (named 5 (rule_5 g d)) (either_fault (named 6 (rule_6 g d)) (named 7 (rule_7 g d))))
 
 -- rules 1 to 7 of a disk by its fields
 abbrev pub shape_fault : Geometry → Shape → List ℕ → Option DiskFault
-shape_fault g d image = first_fault (dir_fault g d.header d.entries image) (walks_fault g d)
+shape_fault g d image = either_fault (dir_fault g d.header d.entries image) (walks_fault g d)
 
 -- the fault of an image: the lowest rule that it breaks, and for it the lowest block
 abbrev pub fault : List ℕ → Option DiskFault
-fault image = first_fault (named 0 (rule_0 (geometry_of image) image)) (shape_fault (geometry_of image) (fields_of (geometry_of image) image) image)
+fault image = either_fault (named 0 (rule_0 (geometry_of image) image)) (shape_fault (geometry_of image) (fields_of (geometry_of image) image) image)
 
 -- the number of files, and of free blocks of both kinds
 abbrev pub counted_report : Geometry → Shape → Report
@@ -51,6 +51,6 @@ Refuses f (Broken x) = f ≡ Some x
 Refuses f NoMemory = Unit {0}
 
 -- an answer is the report if there is no fault, and else a refusal
-abbrev pub Answers : Option DiskFault → Report → Result Report CheckFault → Type 0
-Answers f r (Ok x) = (f ≡ None) × (x ≡ r)
-Answers f r (Err e) = Refuses f e
+abbrev pub IsCheckResult : Option DiskFault → Report → Result Report CheckFault → Type 0
+IsCheckResult f r (Ok x) = (f ≡ None) × (x ≡ r)
+IsCheckResult f r (Err e) = Refuses f e

@@ -26,9 +26,9 @@ abbrev pub geometry_of : List ℕ → Geometry
 geometry_of image = record { dirs = dirs_of image; blocks = length image / 512 }
 
 -- one value more at each number
-unfoldable pub numbered : {A : Type 0} → (ℕ → A) → ℕ → List A
-numbered f zero = []
-numbered f (suc n) = numbered f n ++ f n ∷ []
+unfoldable pub numbered_values : {A : Type 0} → (ℕ → A) → ℕ → List A
+numbered_values f zero = []
+numbered_values f (suc n) = numbered_values f n ++ f n ∷ []
 
 -- one list more at each number
 unfoldable pub joined : {A : Type 0} → (ℕ → List A) → ℕ → List A
@@ -46,8 +46,8 @@ abbrev pub header_2 : Dir → Header
 header_2 dir = record { free_data = dir.free_data; free_index = dir.free_index; files = dir.files }
 
 -- the counts of the directory: they are in its first block
-abbrev pub header_of : Geometry → List ℕ → Header
-header_of g image = cond (is_version_1 g) (header_1 (dir_1_of (block_in image 0))) (header_2 (dir_of (block_in image 0)))
+abbrev pub directory_header : Geometry → List ℕ → Header
+directory_header g image = cond (is_version_1 g) (header_1 (dir_1_of (block_in image 0))) (header_2 (dir_of (block_in image 0)))
 
 -- the entries of the directory block of version 1, and of the six of version 2
 abbrev pub entries_1 : List ℕ → List Entry
@@ -56,8 +56,8 @@ entries_1 image = map widened (dir_1_of (block_in image 0)).entries
 abbrev pub entries_2 : List ℕ → List Entry
 entries_2 image = joined (λ d. (dir_of (block_in image d)).entries) 6
 
-abbrev pub entries_of : Geometry → List ℕ → List Entry
-entries_of g image = cond (is_version_1 g) (entries_1 image) (entries_2 image)
+abbrev pub directory_entries : Geometry → List ℕ → List Entry
+directory_entries g image = cond (is_version_1 g) (entries_1 image) (entries_2 image)
 
 -- the byte at which an index block begins
 abbrev pub index_place : Geometry → ℕ → ℕ
@@ -73,8 +73,8 @@ link_in_bytes image n = word_of (drop (512 * n) image)
 -- an image by its fields
 abbrev pub fields_of : Geometry → List ℕ → Shape
 fields_of g image = record {
-  header = header_of g image;
-  entries = entries_of g image;
-  indexes = numbered (index_in_bytes g image) (index_count g);
-  links = numbered (link_in_bytes image) g.blocks;
+  header = directory_header g image;
+  entries = directory_entries g image;
+  indexes = numbered_values (index_in_bytes g image) (index_count g);
+  links = numbered_values (link_in_bytes image) g.blocks;
 }

@@ -4,10 +4,10 @@ use Rattle.std.specs.List.{flat_map, list_all, list_any}
 use Rattle.lfs_format.specs.declared.Entry.{Entry}
 use Rattle.lfs_format.specs.declared.Index.{Index}
 use Rattle.lfs_check.specs.declared.geometry.Geometry.{Geometry}
-use Rattle.lfs_check.specs.Rules.{is_used, is_name, is_larger, has_name}
+use Rattle.lfs_check.specs.Rules.{entry_is_used, is_name, is_larger, has_name}
 use Rattle.lfs_check.specs.Geometries.{longest_name, room}
-use Rattle.lfs_check.specs.Meets.{null, times}
-use Rattle.lfs_check.specs.Checks.{met_of, end_of, need_index, need_data, rows_fault, offsets_fault}
+use Rattle.lfs_check.specs.Meets.{null, times_met}
+use Rattle.lfs_check.specs.Checks.{met_of, end_of_walk, need_index, need_data, rows_fault, offsets_fault}
 use Rattle.lfs_check.specs.Clean.{chain_in, data_in}
 
 abbrev pub is_none : Option ℕ → Bool
@@ -16,16 +16,16 @@ is_none (Some a) = false
 
 -- whether each number is in the list once
 abbrev pub stand_once : List ℕ → List ℕ → Bool
-stand_once xs all = list_all (λ n. nat_eq (times n all) 1) xs
+stand_once xs all = list_all (λ n. nat_eq (times_met n all) 1) xs
 
 -- an entry with a name and a size that can be
 abbrev pub has_sound_fields : Geometry → Entry → Bool
-has_sound_fields g e = is_used e && is_name (longest_name g) e.name && not (is_larger (room g) e)
+has_sound_fields g e = entry_is_used e && is_name (longest_name g) e.name && not (is_larger (room g) e)
 
 -- an entry with exactly the index blocks of its size in its chain, which ends with null, and the right offset and numbers in each
 abbrev pub has_sound_walk : Geometry → List Index → Entry → Bool
 has_sound_walk g indexes e =
-    nat_eq (length (met_of g indexes e)) (need_index e) && nat_eq (end_of g indexes e) null
+    nat_eq (length (met_of g indexes e)) (need_index e) && nat_eq (end_of_walk g indexes e) null
     && is_none (rows_fault g indexes (need_data e) (met_of g indexes e)) && is_none (offsets_fault g indexes 0 (met_of g indexes e))
 
 abbrev pub is_sound : Geometry → List Index → Entry → Bool
@@ -57,8 +57,8 @@ abbrev pub kept_from : Geometry → List Index → List Entry → List Entry →
 kept_from g indexes es before [] = []
 kept_from g indexes es before (e ∷ rest) = cond (is_kept g indexes es before e) (e ∷ kept_from g indexes es (before ++ e ∷ []) rest) (kept_from g indexes es (before ++ e ∷ []) rest)
 
-abbrev pub kept : Geometry → List Index → List Entry → List Entry
-kept g indexes es = kept_from g indexes es [] es
+abbrev pub kept_entries : Geometry → List Index → List Entry → List Entry
+kept_entries g indexes es = kept_from g indexes es [] es
 
 -- the whole entries, in their order
 abbrev pub whole_entries : Geometry → List Index → List Entry → List Entry

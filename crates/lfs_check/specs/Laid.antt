@@ -3,9 +3,9 @@ use Rattle.std.specs.Prelude.{ℕ, suc, ◌≡◌, ◌+◌, ◌*◌, ◌/◌, �
 use Rattle.lfs_format.specs.declared.Entry.{Entry}
 use Rattle.lfs_check.specs.declared.fields.Header.{Header}
 use Rattle.lfs_format.specs.declared.Index.{Index}
-use Rattle.lfs_check.specs.Rules.{is_used}
-use Rattle.lfs_format.specs.Directory.{blank}
-use Rattle.lfs_check.specs.Meets.{null, times}
+use Rattle.lfs_check.specs.Rules.{entry_is_used}
+use Rattle.lfs_format.specs.Directory.{void_entry}
+use Rattle.lfs_check.specs.Meets.{null, times_met}
 
 -- a disk by its fields
 pub record Shape : Type 0 where
@@ -22,7 +22,7 @@ abbrev pub index_in : Shape → ℕ → Index
 index_in d i = slice_index_or d.indexes i no_index
 
 abbrev pub entry_in : Shape → ℕ → Entry
-entry_in d e = slice_index_or d.entries e blank
+entry_in d e = slice_index_or d.entries e void_entry
 
 -- a chain of numbers: it starts at the head, and each number's next is the one after it, or null
 pub record IsChain (next : ℕ → ℕ) (head : ℕ) (chain : List ℕ) : Type 0 where
@@ -40,13 +40,13 @@ pub record Places : Type 0 where
   pub held_index : List ℕ
   pub held_data : List ℕ
 
-abbrev pub list_of : List (List ℕ) → ℕ → List ℕ
-list_of lists e = slice_index_or lists e []
+abbrev pub numbers_at : List (List ℕ) → ℕ → List ℕ
+numbers_at lists e = slice_index_or lists e []
 
 -- how often a number is in the lists of all files
 abbrev pub times_in : ℕ → List (List ℕ) → ℕ
 times_in n [] = 0
-times_in n (l ∷ lists) = times n l + times_in n lists
+times_in n (l ∷ lists) = times_met n l + times_in n lists
 
 -- the index block j of a file
 abbrev pub index_for : ℕ → List ℕ → List ℕ → Index
@@ -67,12 +67,12 @@ pub record FileLies (d : Shape) (entry : Entry) (chain : List ℕ) (blocks : Lis
 pub record Laid (many low high : ℕ) (d : Shape) (p : Places) : Type 0 where
   pub chains : length p.chains ≡ length d.entries
   pub datas : length p.datas ≡ length d.entries
-  pub file : (e : ℕ) → e < length d.entries → is_used (entry_in d e) ≡ true → FileLies d (entry_in d e) (list_of p.chains e) (list_of p.datas e)
-  pub no_file : (e : ℕ) → e < length d.entries → is_used (entry_in d e) ≡ false → (list_of p.chains e ≡ []) × (list_of p.datas e ≡ [])
+  pub file : (e : ℕ) → e < length d.entries → entry_is_used (entry_in d e) ≡ true → FileLies d (entry_in d e) (numbers_at p.chains e) (numbers_at p.datas e)
+  pub no_file : (e : ℕ) → e < length d.entries → entry_is_used (entry_in d e) ≡ false → (numbers_at p.chains e ≡ []) × (numbers_at p.datas e ≡ [])
   pub free_index : IsChain (λ i. (index_in d i).next) d.header.free_index p.free_index
   pub free_data : IsChain (λ b. slice_index d.links b) d.header.free_data p.free_data
-  pub one_index : (i : ℕ) → times_in i p.chains + times i p.free_index + times i p.held_index ≡ cond (nat_lt i many) 1 0
-  pub one_data : (b : ℕ) → times_in b p.datas + times b p.free_data + times b p.held_data ≡ cond (nat_lt b high && not (nat_lt b low)) 1 0
+  pub one_index : (i : ℕ) → times_in i p.chains + times_met i p.free_index + times_met i p.held_index ≡ cond (nat_lt i many) 1 0
+  pub one_data : (b : ℕ) → times_in b p.datas + times_met b p.free_data + times_met b p.held_data ≡ cond (nat_lt b high && not (nat_lt b low)) 1 0
 
 -- the steps of a call on the fields
 

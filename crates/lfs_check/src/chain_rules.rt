@@ -2,7 +2,7 @@
 
 ghost use Rattle.std.specs.Prelude.{◌≡◌, ℕ, ◌+◌, ◌-◌, ◌*◌, ◌≤◌, ◌<◌, ◌^◌, length, slice_index, slice_index_or, drop};
 ghost use Rattle.lfs_check.specs.Geometries.{index_count, first_data, IsGeometry};
-ghost use Rattle.lfs_check.specs.Checks.{least, is_within, is_good_end, last_or, holder, free_data_fault, free_index_fault, is_file_end, end_fault, number_fits, row_fits, row_fault, rows_fault, offset_fault, offsets_fault, need_index, need_data};
+ghost use Rattle.lfs_check.specs.Checks.{least, is_between, is_good_end, last_or, end_holder, free_data_fault, free_index_fault, is_file_end, end_fault, number_fits, row_fits, row_fault, rows_fault, offset_fault, offsets_fault, need_index, need_data};
 ghost use Rattle.lfs_check.specs.Laid.{no_index};
 
 use crate::geometry::{Geometry, block_of_entry, block_of_index, data_from, indexes_on};
@@ -22,7 +22,7 @@ pub fn least(a: Option<u32>, b: Option<u32>) -> Option<u32>
 
 // Whether a number is in a range.
 fn is_in(low: u32, high: u32, number: u32) -> bool
-    ensures { result ≡ is_within low high number }
+    ensures { result ≡ is_between low high number }
 {
     low <= number && number < high
 }
@@ -52,7 +52,7 @@ fn last_met(front: u32, met: &[u32]) -> u32
 // The block with the number that ended a walk of index blocks.
 fn holder_of(geometry: Geometry, block: u32, met: &[u32]) -> u32
     requires geometry { IsGeometry geometry }
-    ensures { result ≡ holder geometry block met.now }
+    ensures { result ≡ end_holder geometry block met.now }
 {
     if met.len() == 0 {
         block

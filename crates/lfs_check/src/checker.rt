@@ -3,8 +3,8 @@
 ghost use Rattle.std.specs.Prelude.{◌≡◌, ◌+◌, ◌*◌, ◌≤◌, ◌++◌, ◌∷◌, [], length, IfOk, None};
 ghost use Rattle.lfs_check.specs.Geometries.{index_count, IsGeometry};
 ghost use Rattle.lfs_check.specs.Checks.{nexts_of, rule_4, rule_5, rule_6, rule_7, free_data_fault, free_index_fault, least, free_data_of, free_index_of, free_data_end, free_index_end, index_numbers, data_numbers};
-ghost use Rattle.lfs_check.specs.Fields.{fields_of, header_of, entries_of, geometry_of};
-ghost use Rattle.lfs_check.specs.Faults.{named, first_fault, Answers, dir_fault, walks_fault, shape_fault, counted_report, fault, report};
+ghost use Rattle.lfs_check.specs.Fields.{fields_of, directory_header, directory_entries, geometry_of};
+ghost use Rattle.lfs_check.specs.Faults.{named, either_fault, IsCheckResult, dir_fault, walks_fault, shape_fault, counted_report, fault, report};
 
 use crate::chain_rules::{free_data_fault, free_index_fault, least};
 use crate::faults::{CheckFault, DiskFault, Report, fault_at, first_of_two};
@@ -24,7 +24,7 @@ use std::alloc::{AllocError, Global};
 /// `Broken` with the lowest rule that the image breaks and for it the lowest block, exactly if it breaks one; `NoMemory` out of
 /// memory.
 pub fn check(alloc: Global, bytes: &[u8]) -> Result<Report, CheckFault>
-    ensures { Answers (fault bytes.now) (report bytes.now) result }
+    ensures { IsCheckResult (fault bytes.now) (report bytes.now) result }
 {
     let dirs = dirs_of(bytes);
     if bytes.len() > 65542 * 512 {
@@ -42,7 +42,7 @@ pub fn check(alloc: Global, bytes: &[u8]) -> Result<Report, CheckFault>
 fn check_fields(alloc: Global, geometry: Geometry, bytes: &[u8]) -> Result<Report, CheckFault>
     requires geometry { IsGeometry geometry }
     requires whole { 512 * geometry.blocks ≤ length bytes.now }
-    ensures { Answers (shape_fault geometry (fields_of geometry bytes.now) bytes.now) (counted_report geometry (fields_of geometry bytes.now)) result }
+    ensures { IsCheckResult (shape_fault geometry (fields_of geometry bytes.now) bytes.now) (counted_report geometry (fields_of geometry bytes.now)) result }
 {
     let directory = read_directory(alloc, geometry, bytes)?;
     check_parts(alloc, geometry, directory.header, &directory.entries, bytes)
@@ -58,10 +58,10 @@ fn check_parts(
 ) -> Result<Report, CheckFault>
     requires geometry { IsGeometry geometry }
     requires whole { 512 * geometry.blocks ≤ length bytes.now }
-    requires header { header ≡ header_of geometry bytes.now }
-    requires entries { entries.now ≡ entries_of geometry bytes.now }
+    requires header { header ≡ directory_header geometry bytes.now }
+    requires entries { entries.now ≡ directory_entries geometry bytes.now }
     requires few { length entries.now ≤ 78 }
-    ensures { Answers (shape_fault geometry (fields_of geometry bytes.now) bytes.now) (counted_report geometry (fields_of geometry bytes.now)) result }
+    ensures { IsCheckResult (shape_fault geometry (fields_of geometry bytes.now) bytes.now) (counted_report geometry (fields_of geometry bytes.now)) result }
 {
     match fault_of_dir(geometry, header, entries, bytes) {
         Some(fault) => Err(CheckFault::Broken(fault)),
@@ -99,10 +99,10 @@ fn check_walks(
 ) -> Result<Report, CheckFault>
     requires geometry { IsGeometry geometry }
     requires whole { 512 * geometry.blocks ≤ length bytes.now }
-    requires header { header ≡ header_of geometry bytes.now }
-    requires entries { entries.now ≡ entries_of geometry bytes.now }
+    requires header { header ≡ directory_header geometry bytes.now }
+    requires entries { entries.now ≡ directory_entries geometry bytes.now }
     requires few { length entries.now ≤ 78 }
-    ensures { Answers (walks_fault geometry (fields_of geometry bytes.now)) (counted_report geometry (fields_of geometry bytes.now)) result }
+    ensures { IsCheckResult (walks_fault geometry (fields_of geometry bytes.now)) (counted_report geometry (fields_of geometry bytes.now)) result }
 {
     let indexes = read_indexes(alloc, geometry, bytes)?;
     let links = read_links(alloc, geometry, bytes)?;
@@ -240,7 +240,7 @@ fn begin_survey(
 
 // The fault of rules 4 to 7, by what the walks said.
 fn fault_of_walks(walked: &Walked) -> Option<DiskFault>
-    ensures { result ≡ first_fault (named 4 walked.now.rule_4) (first_fault (named 5 walked.now.rule_5) (first_fault (named 6 walked.now.rule_6) (named 7 walked.now.rule_7))) }
+    ensures { result ≡ either_fault (named 4 walked.now.rule_4) (either_fault (named 5 walked.now.rule_5) (either_fault (named 6 walked.now.rule_6) (named 7 walked.now.rule_7))) }
 {
     let four = fault_at(4, walked.rule_4);
     let five = fault_at(5, walked.rule_5);
@@ -253,7 +253,7 @@ fn fault_of_walks(walked: &Walked) -> Option<DiskFault>
 
 // The report, if there is no fault.
 fn answered(found: Option<DiskFault>, report: Report) -> Result<Report, CheckFault>
-    ensures { Answers found report result }
+    ensures { IsCheckResult found report result }
 {
     match found {
         None => Ok(report),

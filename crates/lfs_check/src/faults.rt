@@ -1,7 +1,7 @@
 //! What the checker answers.
 
 ghost use Rattle.std.specs.Prelude.{◌≡◌};
-ghost use Rattle.lfs_check.specs.Faults.{named, first_fault};
+ghost use Rattle.lfs_check.specs.Faults.{named, either_fault};
 
 use std::alloc::AllocError;
 
@@ -49,7 +49,7 @@ pub(crate) fn fault_at(rule: u8, found: Option<u32>) -> Option<DiskFault>
 
 // The first of two faults, if there is one.
 pub(crate) fn first_of_two(a: Option<DiskFault>, b: Option<DiskFault>) -> Option<DiskFault>
-    ensures { result ≡ first_fault a b }
+    ensures { result ≡ either_fault a b }
 {
     match a {
         None => b,

@@ -5,7 +5,7 @@ ghost use Rattle.lfs_format.specs.Words.{word_of};
 ghost use Rattle.lfs_check.specs.Geometries.{index_count, IsGeometry};
 ghost use Rattle.lfs_check.specs.Checks.{nexts_of};
 ghost use Rattle.lfs_check.specs.Rules.{block_in};
-ghost use Rattle.lfs_check.specs.Fields.{dirs_of, widened, header_of, entries_of, entries_1, entries_2, index_in_bytes, link_in_bytes, numbered};
+ghost use Rattle.lfs_check.specs.Fields.{dirs_of, widened, directory_header, directory_entries, entries_1, entries_2, index_in_bytes, link_in_bytes, numbered_values};
 
 use crate::geometry::{Geometry, block_of_index, indexes_on};
 use byteorder::{ByteOrder, LittleEndian};
@@ -46,8 +46,8 @@ pub fn read_directory(
 ) -> Result<Directory, AllocError>
     requires geometry { IsGeometry geometry }
     requires whole { 512 * geometry.blocks ≤ length bytes.now }
-    ensures header { IfOk result (λ d. d.header ≡ header_of geometry bytes.now) }
-    ensures entries { IfOk result (λ d. d.entries.items ≡ entries_of geometry bytes.now) }
+    ensures header { IfOk result (λ d. d.header ≡ directory_header geometry bytes.now) }
+    ensures entries { IfOk result (λ d. d.entries.items ≡ directory_entries geometry bytes.now) }
     ensures few { IfOk result (λ d. length d.entries.items ≤ 78) }
 {
     let header = read_header(geometry, bytes);
@@ -69,7 +69,7 @@ pub fn read_indexes(
 ) -> Result<Vec<Index>, AllocError>
     requires geometry { IsGeometry geometry }
     requires whole { 512 * geometry.blocks ≤ length bytes.now }
-    ensures items { IfOk result (λ v. v.items ≡ numbered (index_in_bytes geometry bytes.now) (index_count geometry)) }
+    ensures items { IfOk result (λ v. v.items ≡ numbered_values (index_in_bytes geometry bytes.now) (index_count geometry)) }
     ensures len { IfOk result (λ v. length v.items ≡ index_count geometry) }
 {
     let mut indexes = Vec::new(alloc);
@@ -96,7 +96,7 @@ pub fn read_nexts(alloc: Global, indexes: &[Index]) -> Result<Vec<u32>, AllocErr
 pub fn read_links(alloc: Global, geometry: Geometry, bytes: &[u8]) -> Result<Vec<u32>, AllocError>
     requires geometry { IsGeometry geometry }
     requires whole { 512 * geometry.blocks ≤ length bytes.now }
-    ensures items { IfOk result (λ v. v.items ≡ numbered (link_in_bytes bytes.now) geometry.blocks) }
+    ensures items { IfOk result (λ v. v.items ≡ numbered_values (link_in_bytes bytes.now) geometry.blocks) }
     ensures len { IfOk result (λ v. length v.items ≡ geometry.blocks) }
 {
     let mut links = Vec::new(alloc);
@@ -128,7 +128,7 @@ fn version_in(bytes: &[u8]) -> u32
 // The counts of the directory.
 fn read_header(geometry: Geometry, bytes: &[u8]) -> Header
     requires { 512 ≤ length bytes.now }
-    ensures { result ≡ header_of geometry bytes.now }
+    ensures { result ≡ directory_header geometry bytes.now }
 {
     let block = block_at(bytes, 0);
     if geometry.dirs == 1 {

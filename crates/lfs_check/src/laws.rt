@@ -1,14 +1,15 @@
 //! What the rules say of disks.
 
-ghost use Rattle.std.specs.Prelude.{ℕ, ◌≡◌, ◌≤◌, ◌+◌, ◌-◌, ◌*◌, ◌/◌, List, [], ◌↔◌, None};
+ghost use Rattle.std.specs.Prelude.{ℕ, ◌≡◌, ◌≤◌, ◌+◌, ◌-◌, ◌*◌, ◌/◌, List, [], ◌↔◌, None, filter};
 ghost use Rattle.lfs_check.specs.declared.geometry.Geometry.{Geometry};
 ghost use Rattle.lfs_check.specs.Geometries.{IsGeometry};
 ghost use Rattle.lfs_check.specs.Laid.{Shape, Places};
 ghost use Rattle.lfs_check.specs.Clean.{chain_in, data_in, places_of, IsShape, Passes, LaidIn};
-ghost use Rattle.lfs_check.specs.Meets.{times};
-ghost use Rattle.lfs_check.specs.Kept.{kept};
+ghost use Rattle.lfs_check.specs.Meets.{times_met};
+ghost use Rattle.lfs_check.specs.Kept.{kept_entries};
 ghost use Rattle.lfs_check.specs.Faults.{fault};
-ghost use Rattle.lfs_check.specs.Fields.{fields_of, geometry_of};
+ghost use Rattle.lfs_check.specs.Fields.{fields_of, geometry_of, directory_entries};
+ghost use Rattle.lfs_check.specs.Rules.{entry_is_used};
 ghost use Rattle.lfs_check.specs.Empty.{IsEmpty};
 ghost use Rattle.lfs_check.specs.Built.{IsBuilt, built_places};
 ghost use Rattle.std.specs.List.{flat_map};
@@ -48,7 +49,13 @@ pub fn migration_fits()
 /// No block is in the chains of two kept entries, nor twice in one.
 #[tactic(auto, using(crate::proofs::Keeping::kept_apart))]
 pub fn kept_are_apart()
-    ensures { (g : Geometry) (ix : List Index) (es : List Entry) (n : ℕ) → (times n (flat_map (chain_in g ix) (kept g ix es)) ≤ 1) × (times n (flat_map (data_in g ix) (kept g ix es)) ≤ 1) }
+    ensures { (g : Geometry) (ix : List Index) (es : List Entry) (n : ℕ) → (times_met n (flat_map (chain_in g ix) (kept_entries g ix es)) ≤ 1) × (times_met n (flat_map (data_in g ix) (kept_entries g ix es)) ≤ 1) }
+{}
+
+/// Of an image without a fault, of either version, all used entries are kept.
+#[tactic(auto, using(crate::proofs::KeepsAll::keeps_all))]
+pub fn clean_image_keeps_all()
+    ensures { (image : List ℕ) → fault image ≡ None → kept_entries (geometry_of image) (fields_of (geometry_of image) image).indexes (directory_entries (geometry_of image) image) ≡ filter entry_is_used (directory_entries (geometry_of image) image) }
 {}
 
 /// On an image without a fault files lie, with nothing held.

@@ -26,8 +26,8 @@ pub use fields::{
 };
 pub use geometry::{Geometry, block_of_entry, block_of_index, data_from, indexes_on};
 pub use laws::{
-    built_is_clean, clean_image_lies, clean_is_laid, empty_is_clean, kept_are_apart,
-    migration_fits, places_are_read,
+    built_is_clean, clean_image_keeps_all, clean_image_lies, clean_is_laid, empty_is_clean,
+    kept_are_apart, migration_fits, places_are_read,
 };
 pub use repair::kept_entries;
 pub use rules::{entry_is_used, size_fault, used_count};

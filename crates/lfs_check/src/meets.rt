@@ -2,7 +2,7 @@
 
 ghost use Rattle.std.specs.Prelude.{◌≡◌, ℕ, ◌+◌, ◌-◌, ◌*◌, ◌≤◌, ◌<◌, length, IfOk, min, slice_index, nat_le, ◌^◌};
 ghost use Rattle.lfs_check.specs.Geometries.{index_count, IsGeometry};
-ghost use Rattle.lfs_check.specs.Meets.{times, first_from, counted};
+ghost use Rattle.lfs_check.specs.Meets.{times_met, lowest_from, counted_more};
 ghost use Rattle.lfs_check.specs.Checks.{first_block};
 
 use crate::geometry::{Geometry, block_of_index, data_from, indexes_on};
@@ -23,8 +23,8 @@ pub fn count_all(
     blocks: &[u32],
 ) -> Result<Met, AllocError>
     requires geometry { IsGeometry geometry }
-    ensures rule_6 { IfOk result (λ m. m.rule_6 ≡ first_block geometry (λ i. nat_le 2 (times i indexes.now)) (λ b. nat_le 2 (times b blocks.now))) }
-    ensures rule_7 { IfOk result (λ m. m.rule_7 ≡ first_block geometry (λ i. nat_le (times i indexes.now) 0) (λ b. nat_le (times b blocks.now) 0)) }
+    ensures rule_6 { IfOk result (λ m. m.rule_6 ≡ first_block geometry (λ i. nat_le 2 (times_met i indexes.now)) (λ b. nat_le 2 (times_met b blocks.now))) }
+    ensures rule_7 { IfOk result (λ m. m.rule_7 ≡ first_block geometry (λ i. nat_le (times_met i indexes.now) 0) (λ b. nat_le (times_met b blocks.now) 0)) }
 {
     let index_counts = count_meets(alloc, indexes, indexes_on(geometry))?;
     let block_counts = count_meets(alloc, blocks, geometry.blocks)?;
@@ -37,7 +37,7 @@ pub fn count_all(
 /// How often each number below `high` was met: 0, 1, or 2 for more.
 pub fn count_meets(alloc: Global, met: &[u32], high: u32) -> Result<Vec<u8>, AllocError>
     ensures len { IfOk result (λ c. length c.items ≡ high) }
-    ensures each { IfOk result (λ c. (n : ℕ) → n < high → slice_index c.items n ≡ min 2 (times n met.now)) }
+    ensures each { IfOk result (λ c. (n : ℕ) → n < high → slice_index c.items n ≡ min 2 (times_met n met.now)) }
 {
     let mut counts = vec![in alloc; 0u8; high as usize]?;
     for m in met {
@@ -48,7 +48,7 @@ pub fn count_meets(alloc: Global, met: &[u32], high: u32) -> Result<Vec<u8>, All
 
 // Counts one meet of a number, up to 2.
 fn count_one(counts: &mut Vec<u8>, at: usize)
-    ensures { counts.new.items ≡ counted counts.old.items at }
+    ensures { counts.new.items ≡ counted_more counts.old.items at }
 {
     if at < counts.len() {
         let count = counts[at];
@@ -60,7 +60,7 @@ fn count_one(counts: &mut Vec<u8>, at: usize)
 pub fn twice_fault(counts: &[u8], low: u32, many: u32) -> Option<u32>
     requires room { low + many ≤ length counts.now }
     requires small { length counts.now < 2 ^ 32 }
-    ensures { result ≡ first_from (λ n. nat_le 2 (slice_index counts.now n)) low many }
+    ensures { result ≡ lowest_from (λ n. nat_le 2 (slice_index counts.now n)) low many }
 {
     for i in 0..many {
         if counts[(low + i) as usize] >= 2 {
@@ -74,7 +74,7 @@ pub fn twice_fault(counts: &[u8], low: u32, many: u32) -> Option<u32>
 pub fn missing_fault(counts: &[u8], low: u32, many: u32) -> Option<u32>
     requires room { low + many ≤ length counts.now }
     requires small { length counts.now < 2 ^ 32 }
-    ensures { result ≡ first_from (λ n. nat_le (slice_index counts.now n) 0) low many }
+    ensures { result ≡ lowest_from (λ n. nat_le (slice_index counts.now n) 0) low many }
 {
     for i in 0..many {
         if counts[(low + i) as usize] == 0 {

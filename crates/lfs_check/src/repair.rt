@@ -4,10 +4,10 @@ ghost use Rattle.std.specs.Prelude.{◌≡◌, ◌≤◌, ◌<◌, ◌^◌, [], 
 ghost use Rattle.std.specs.List.{flat_map};
 ghost use Rattle.lfs_check.specs.Geometries.{index_count, room, IsGeometry};
 ghost use Rattle.lfs_check.specs.Rules.{is_larger};
-ghost use Rattle.lfs_check.specs.Meets.{times};
-ghost use Rattle.lfs_check.specs.Checks.{nexts_of, met_of, end_of, row_of};
+ghost use Rattle.lfs_check.specs.Meets.{times_met};
+ghost use Rattle.lfs_check.specs.Checks.{nexts_of, met_of, end_of_walk, data_row};
 ghost use Rattle.lfs_check.specs.Clean.{chain_in, data_in};
-ghost use Rattle.lfs_check.specs.Kept.{has_sound_fields, has_sound_walk, is_whole, is_none, whole_entries, kept, kept_counted, counted_once};
+ghost use Rattle.lfs_check.specs.Kept.{has_sound_fields, has_sound_walk, is_whole, is_none, whole_entries, kept_entries, kept_counted, counted_once};
 
 use crate::chain_rules::{data_needed, indexes_needed, offsets_fault, rows_fault};
 use crate::geometry::{Geometry, data_from, indexes_on};
@@ -30,8 +30,8 @@ pub fn kept_entries(
     requires geometry { IsGeometry geometry }
     requires count { length indexes.now ≡ index_count geometry }
     requires nexts { nexts.now ≡ nexts_of indexes.now }
-    requires rows { (i : ℕ) → i < index_count geometry → length (row_of indexes.now i) ≡ 16 }
-    ensures { IfOk result (λ v. v.items ≡ kept geometry indexes.now entries.now) }
+    requires rows { (i : ℕ) → i < index_count geometry → length (data_row indexes.now i) ≡ 16 }
+    ensures { IfOk result (λ v. v.items ≡ kept_entries geometry indexes.now entries.now) }
 {
     let wholes = find_wholes(alloc, geometry, indexes, nexts, entries)?;
     let chains = count_chains(alloc, geometry, indexes, nexts, &wholes)?;
@@ -71,7 +71,7 @@ fn is_none(found: Option<u32>) -> bool
 fn has_sound_walk(geometry: Geometry, indexes: &[Index], entry: &Entry, walk: &Walk) -> bool
     requires geometry { IsGeometry geometry }
     requires met { walk.now.met.items ≡ met_of geometry indexes.now entry.now }
-    requires end { walk.now.end ≡ end_of geometry indexes.now entry.now }
+    requires end { walk.now.end ≡ end_of_walk geometry indexes.now entry.now }
     requires below { (j : ℕ) → j < length walk.now.met.items → slice_index walk.now.met.items j < length indexes.now }
     requires few { length walk.now.met.items ≤ 2 ^ 20 }
     ensures { result ≡ has_sound_walk geometry indexes.now entry.now }
@@ -93,7 +93,7 @@ fn is_whole(
     requires geometry { IsGeometry geometry }
     requires count { length indexes.now ≡ index_count geometry }
     requires nexts { nexts.now ≡ nexts_of indexes.now }
-    requires rows { (i : ℕ) → i < index_count geometry → length (row_of indexes.now i) ≡ 16 }
+    requires rows { (i : ℕ) → i < index_count geometry → length (data_row indexes.now i) ≡ 16 }
     ensures { IfOk result (λ b. b ≡ is_whole geometry indexes.now entry.now) }
 {
     if !has_sound_fields(geometry, entry) {
@@ -119,7 +119,7 @@ fn find_wholes(
     requires geometry { IsGeometry geometry }
     requires count { length indexes.now ≡ index_count geometry }
     requires nexts { nexts.now ≡ nexts_of indexes.now }
-    requires rows { (i : ℕ) → i < index_count geometry → length (row_of indexes.now i) ≡ 16 }
+    requires rows { (i : ℕ) → i < index_count geometry → length (data_row indexes.now i) ≡ 16 }
     ensures { IfOk result (λ v. v.items ≡ whole_entries geometry indexes.now entries.now) }
 {
     let mut wholes = Vec::new(alloc);
@@ -142,7 +142,7 @@ fn count_chains(
     requires geometry { IsGeometry geometry }
     requires count { length indexes.now ≡ index_count geometry }
     requires nexts { nexts.now ≡ nexts_of indexes.now }
-    ensures { IfOk result (λ c. (n : ℕ) → n < index_count geometry → slice_index c.items n ≡ min 2 (times n (flat_map (chain_in geometry indexes.now) entries.now))) }
+    ensures { IfOk result (λ c. (n : ℕ) → n < index_count geometry → slice_index c.items n ≡ min 2 (times_met n (flat_map (chain_in geometry indexes.now) entries.now))) }
 {
     let mut numbers = Vec::new(alloc);
     for entry in entries {
@@ -164,7 +164,7 @@ fn count_blocks(
     requires geometry { IsGeometry geometry }
     requires count { length indexes.now ≡ index_count geometry }
     requires nexts { nexts.now ≡ nexts_of indexes.now }
-    ensures { IfOk result (λ c. (n : ℕ) → n < geometry.blocks → slice_index c.items n ≡ min 2 (times n (flat_map (data_in geometry indexes.now) entries.now))) }
+    ensures { IfOk result (λ c. (n : ℕ) → n < geometry.blocks → slice_index c.items n ≡ min 2 (times_met n (flat_map (data_in geometry indexes.now) entries.now))) }
 {
     let mut numbers = Vec::new(alloc);
     for entry in entries {

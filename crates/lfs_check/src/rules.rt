@@ -1,9 +1,9 @@
 //! Rules 0 to 3: what the size and the directory of an image can break.
 
 ghost use Rattle.std.specs.Prelude.{◌≡◌, ℕ, ◌+◌, ◌*◌, ◌≤◌, ◌<◌, length, take, slice_index_or, count_by};
-ghost use Rattle.lfs_format.specs.Directory.{blank};
+ghost use Rattle.lfs_format.specs.Directory.{void_entry};
 ghost use Rattle.lfs_check.specs.Geometries.{longest_name, room, IsGeometry};
-ghost use Rattle.lfs_check.specs.Rules.{is_used, is_name, rule_0, rule_1, rule_2, rule_3, has_bad_name, text_length, are_zeros, has_name, is_larger, begins_right, ends_right, is_dir_block};
+ghost use Rattle.lfs_check.specs.Rules.{entry_is_used, is_name, rule_0, rule_1, rule_2, rule_3, has_bad_name, text_length, are_zeros, has_name, is_larger, begins_right, ends_right, is_dir_block};
 
 use crate::fields::{Header, block_at};
 use crate::geometry::{Geometry, block_of_entry, data_from};
@@ -73,7 +73,7 @@ pub fn file_size_fault(geometry: Geometry, entries: &[Entry]) -> Option<u32>
 
 /// Whether an entry is used.
 pub fn entry_is_used(entry: &Entry) -> bool
-    ensures { result ≡ is_used entry.now }
+    ensures { result ≡ entry_is_used entry.now }
 {
     entry.name[0] != 0
 }
@@ -111,7 +111,7 @@ pub(crate) fn is_text(geometry: Geometry, name: &[u8; 28]) -> bool
 // Whether entry `e` is used and has no name, or that of an earlier one.
 fn has_bad_name(geometry: Geometry, entries: &[Entry], e: usize) -> bool
     requires { e < length entries.now }
-    ensures { result ≡ has_bad_name geometry (take e entries.now) (slice_index_or entries.now e blank) }
+    ensures { result ≡ has_bad_name geometry (take e entries.now) (slice_index_or entries.now e void_entry) }
 {
     let entry = &entries[e];
     entry_is_used(entry)
@@ -133,7 +133,7 @@ pub(crate) fn is_repeated(entries: &[Entry], name: &[u8; 28]) -> bool
 
 /// How many entries are used.
 pub fn used_count(entries: &[Entry]) -> usize
-    ensures { result ≡ count_by is_used entries.now }
+    ensures { result ≡ count_by entry_is_used entries.now }
 {
     entries.iter().filter(|e| entry_is_used(e)).count()
 }
@@ -172,7 +172,7 @@ fn is_dir_block(geometry: Geometry, header: Header, entries: &[Entry], bytes: &[
 // Whether entry `e` is used and has a larger size.
 fn is_larger(entries: &[Entry], e: usize, most: u32) -> bool
     requires { e < length entries.now }
-    ensures { result ≡ is_larger most (slice_index_or entries.now e blank) }
+    ensures { result ≡ is_larger most (slice_index_or entries.now e void_entry) }
 {
     let entry = &entries[e];
     entry_is_used(entry) && entry.size > most

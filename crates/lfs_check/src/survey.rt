@@ -3,8 +3,8 @@
 ghost use Rattle.std.specs.Prelude.{◌≡◌, ℕ, ◌+◌, ◌*◌, ◌≤◌, ◌<◌, ◌^◌, ◌++◌, ◌∷◌, [], length, slice_index, slice_index_or, drop, IfOk, OnOk, map, None};
 ghost use Rattle.std.specs.List.{flat_map};
 ghost use Rattle.lfs_check.specs.Geometries.{index_count, IsGeometry};
-ghost use Rattle.lfs_check.specs.Checks.{least, need_index, need_data, nexts_of, met_of, end_of, end_fault, rows_fault, offsets_fault, file_fault_4, file_fault_5, file_index_numbers, file_data_numbers, row_of, lowest_of};
-ghost use Rattle.lfs_check.specs.Rules.{is_used};
+ghost use Rattle.lfs_check.specs.Checks.{least, need_index, need_data, nexts_of, met_of, end_of_walk, end_fault, rows_fault, offsets_fault, file_fault_4, file_fault_5, file_index_numbers, file_data_numbers, data_row, lowest_of};
+ghost use Rattle.lfs_check.specs.Rules.{entry_is_used};
 ghost use Rattle.lfs_check.specs.Clean.{chain_in, data_in};
 
 use crate::chain_rules::{
@@ -81,7 +81,7 @@ pub fn walk_file(
     requires count { length indexes.now ≡ index_count geometry }
     requires nexts { nexts.now ≡ nexts_of indexes.now }
     ensures met { IfOk result (λ w. w.met.items ≡ met_of geometry indexes.now entry.now) }
-    ensures end { IfOk result (λ w. w.end ≡ end_of geometry indexes.now entry.now) }
+    ensures end { IfOk result (λ w. w.end ≡ end_of_walk geometry indexes.now entry.now) }
     ensures below { IfOk result (λ w. (j : ℕ) → j < length w.met.items → slice_index w.met.items j < length indexes.now) }
     ensures few { IfOk result (λ w. length w.met.items ≤ 2 ^ 20) }
 {
@@ -107,7 +107,7 @@ pub fn add_walk(numbers: &mut Vec<u32>, walk: &Walk) -> Result<(), AllocError>
 // Appends the data numbers of an index block.
 fn add_row(numbers: &mut Vec<u32>, indexes: &[Index], i: u32) -> Result<(), AllocError>
     requires below { i < length indexes.now }
-    ensures { OnOk result (numbers.new.items ≡ numbers.old.items ++ row_of indexes.now i) }
+    ensures { OnOk result (numbers.new.items ≡ numbers.old.items ++ data_row indexes.now i) }
 {
     let index = indexes[i as usize];
     numbers.extend_from_slice(&index.blocks)?;
@@ -117,7 +117,7 @@ fn add_row(numbers: &mut Vec<u32>, indexes: &[Index], i: u32) -> Result<(), Allo
 // Appends the data numbers of index blocks.
 fn add_rows(numbers: &mut Vec<u32>, indexes: &[Index], met: &[u32]) -> Result<(), AllocError>
     requires below { (j : ℕ) → j < length met.now → slice_index met.now j < length indexes.now }
-    ensures { OnOk result (numbers.new.items ≡ numbers.old.items ++ flat_map (row_of indexes.now) met.now) }
+    ensures { OnOk result (numbers.new.items ≡ numbers.old.items ++ flat_map (data_row indexes.now) met.now) }
 {
     for j in 0..met.len() {
         add_row(numbers, indexes, met[j])?;
@@ -141,7 +141,7 @@ fn survey_walk(
     ensures rule_4 { OnOk result (survey.new.rule_4 ≡ least survey.old.rule_4 (least (end_fault geometry k entry.now walk.now.met.items walk.now.end) (rows_fault geometry indexes.now (need_data entry.now) walk.now.met.items))) }
     ensures rule_5 { OnOk result (survey.new.rule_5 ≡ least survey.old.rule_5 (offsets_fault geometry indexes.now 0 walk.now.met.items)) }
     ensures index_numbers { OnOk result (survey.new.index_numbers.items ≡ survey.old.index_numbers.items ++ (walk.now.met.items ++ walk.now.end ∷ [])) }
-    ensures data_numbers { OnOk result (survey.new.data_numbers.items ≡ survey.old.data_numbers.items ++ flat_map (row_of indexes.now) walk.now.met.items) }
+    ensures data_numbers { OnOk result (survey.new.data_numbers.items ≡ survey.old.data_numbers.items ++ flat_map (data_row indexes.now) walk.now.met.items) }
 {
     let end = end_fault(geometry, k, entry, &walk.met, walk.end);
     let rows = rows_fault(geometry, indexes, data_needed(entry), &walk.met);

@@ -9,7 +9,7 @@ use Rattle.lfs_format.specs.declared.Entry.{Entry}
 use Rattle.lfs_format.specs.declared.Dir.{Dir}
 use Rattle.lfs_format.specs.Words.{words_of, word_bytes}
 use Rattle.lfs_format.specs.Pieces.{pieces_of}
-use Rattle.lfs_format.specs.Directory.{entry_made, entry_of, entry_bytes, dir_of, dir_made, dir_words, dir_bytes, dir_ending, EntryFits, blank, entry_1_made, entry_1_of}
+use Rattle.lfs_format.specs.Directory.{entry_made, entry_of, entry_bytes, dir_of, dir_made, dir_words, dir_bytes, dir_ending, EntryFits, void_entry, entry_1_made, entry_1_of}
 use Rattle.lfs_format.proofs.Words.{words_of-take, words_of-bytes, length-word_bytes}
 
 -- a write after a front
@@ -71,7 +71,7 @@ entry_of-bytes entry rest f =
     ap (λ x. take 28 (drop 8 x)) split ∙ ap (take 28) (drop_at (word_bytes ws) (entry.name ++ rest) 8 (length-word_bytes ws)) ∙ take_at entry.name rest 28 f.name in
     ap (λ w. entry_made w (take 28 (drop 8 (entry_bytes entry ++ rest)))) words ∙ ap (entry_made ws) name
 
-pub entries_of-bytes : (entries : List Entry) (rest : List ℕ) → ((k : ℕ) → k < length entries → EntryFits (get_or entries k blank)) → pieces_of entry_of 36 (length entries) (flat_map entry_bytes entries ++ rest) ≡ entries
+pub entries_of-bytes : (entries : List Entry) (rest : List ℕ) → ((k : ℕ) → k < length entries → EntryFits (get_or entries k void_entry)) → pieces_of entry_of 36 (length entries) (flat_map entry_bytes entries ++ rest) ≡ entries
 unfolding pieces_of
 entries_of-bytes [] rest f = refl
 entries_of-bytes (e ∷ entries) rest f =
@@ -84,7 +84,7 @@ entries_of-bytes (e ∷ entries) rest f =
 
 -- a directory block that was written is read again
 pub dir_of-bytes : (dir : Dir) → dir.free_data < 2 ^ 32 → dir.free_index < 2 ^ 32 → dir.files < 2 ^ 32 → length dir.entries ≡ 13
-    → ((k : ℕ) → k < 13 → EntryFits (get_or dir.entries k blank)) → dir_of (dir_bytes dir) ≡ dir
+    → ((k : ℕ) → k < 13 → EntryFits (get_or dir.entries k void_entry)) → dir_of (dir_bytes dir) ≡ dir
 unfolding dir_of dir_bytes
 dir_of-bytes dir a b c l f =
     let ws = dir_words dir in
@@ -104,13 +104,13 @@ put_entry-is words part dst name' name e l p n =
     put_tail dst (drop 8 part) name' 8 (length (dst ++ drop 8 part) - 8) eight r ∙ ap (λ x. x ++ name') e ∙ ap (λ x. word_bytes words ++ x) n
 
 -- one entry more of a block that is written
-pub written_more : (front block part : List ℕ) (entries : List Entry) (e : ℕ) → e < length entries → 12 + 36 * e ≤ length block → part ≡ entry_bytes (get_or entries e blank) → length part ≡ 36
+pub written_more : (front block part : List ℕ) (entries : List Entry) (e : ℕ) → e < length entries → 12 + 36 * e ≤ length block → part ≡ entry_bytes (get_or entries e void_entry) → length part ≡ 36
     → take (12 + 36 * e) block ≡ front ++ flat_map entry_bytes (take e entries)
     → take (12 + 36 * (e + 1)) (put_mid (12 + 36 * e) 36 block part) ≡ front ++ flat_map entry_bytes (take (e + 1) entries)
 written_more front block part entries e lt room p l inv =
     take-put_mid (12 + 36 * e) 36 block part (12 + 36 * (e + 1)) (omega arith) room
     ∙ ap (λ x. x ++ part) inv ∙ ap (λ x. (front ++ flat_map entry_bytes (take e entries)) ++ x) p
-    ∙ flat_map_more entry_bytes front (take e entries) (get_or entries e blank) ∙ ap (λ x. front ++ flat_map entry_bytes x) (sym (take_more entries e blank lt))
+    ∙ flat_map_more entry_bytes front (take e entries) (get_or entries e void_entry) ∙ ap (λ x. front ++ flat_map entry_bytes x) (sym (take_more entries e void_entry lt))
 
 pub length-put : (a k : ℕ) (block part : List ℕ) → length part ≡ k → a + k ≤ length block → length (put_mid a k block part) ≡ length block
 length-put a k block part l h =

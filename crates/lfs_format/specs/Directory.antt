@@ -43,8 +43,8 @@ unfoldable pub dir_bytes : Dir → List ℕ
 dir_bytes dir = word_bytes (dir_words dir) ++ flat_map entry_bytes dir.entries ++ dir_ending
 
 -- an entry of zeros and no name
-abbrev pub blank : Entry
-blank = record { size = 0; first = 0; name = [] }
+abbrev pub void_entry : Entry
+void_entry = record { size = 0; first = 0; name = [] }
 
 -- what the fields of an entry hold
 pub record EntryFits (entry : Entry) : Type 0 where

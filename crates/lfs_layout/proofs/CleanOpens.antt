@@ -7,14 +7,14 @@ use Rattle.std.proofs.lemmas.Bool.Decides.{nat_tests}
 use Rattle.lfs_format.specs.declared.Entry.{Entry}
 use Rattle.lfs_format.specs.declared.Entry1.{Entry1}
 use Rattle.lfs_format.specs.Pieces.{pieces_of}
-use Rattle.lfs_format.specs.Directory.{entry_of, entry_1_of, dir_of, dir_1_of, blank}
+use Rattle.lfs_format.specs.Directory.{entry_of, entry_1_of, dir_of, dir_1_of, void_entry}
 use Rattle.lfs_check.specs.declared.geometry.Geometry.{Geometry}
 use Rattle.lfs_check.specs.Geometries.{index_count, first_data, longest_name}
-use Rattle.lfs_check.specs.Meets.{times}
+use Rattle.lfs_check.specs.Meets.{times_met}
 use Rattle.lfs_check.specs.Rules.{has_name, block_in, first_failing, has_bad_name, in_entry_block}
-use Rattle.lfs_check.specs.Laid.{Shape, list_of, times_in}
+use Rattle.lfs_check.specs.Laid.{Shape, numbers_at, times_in}
 use Rattle.lfs_check.specs.Clean.{chain_in, data_in, places_of}
-use Rattle.lfs_check.specs.Fields.{is_version_2, geometry_of, fields_of, entries_of, entries_1, entries_2, joined, widened}
+use Rattle.lfs_check.specs.Fields.{is_version_2, geometry_of, fields_of, directory_entries, entries_1, entries_2, joined, widened}
 use Rattle.lfs_check.specs.Faults.{fault}
 use Rattle.lfs_check.proofs.Steps.{times-append, times-at, times_in-part}
 use Rattle.lfs_check.proofs.Counting.{in_range, length-most}
@@ -34,17 +34,17 @@ pub all_whole : (image : List ℕ) → fault image ≡ None → AllWhole (geomet
 all_whole image e k h u =
     let g = geometry_of image in let d = shape_of image in
     let ix = d.indexes in let es = d.entries in let p = places_of g d in
-    let x = get_or es k blank in
+    let x = get_or es k void_entry in
     let l = image_lies image e in
     let f = l.file k h u in
-    let chain : list_of p.chains k ≡ chain_in g ix x = get_or-map (chain_in g ix) es k blank [] h in
-    let data_list : list_of p.datas k ≡ data_in g ix x = get_or-map (data_in g ix) es k blank [] h in
+    let chain : numbers_at p.chains k ≡ chain_in g ix x = get_or-map (chain_in g ix) es k void_entry [] h in
+    let data_list : numbers_at p.datas k ≡ data_in g ix x = get_or-map (data_in g ix) es k void_entry [] h in
     record {
       indexes = sym (ap length chain) ∙ f.indexes;
       datas = sym (ap length data_list) ∙ f.datas;
       below = λ j m. (let b = slice_index (data_in g ix x) j in
           let t = times-at (data_in g ix x) j b m refl in
-          let s : times b (list_of p.datas k) ≡ times b (data_in g ix x) = ap (times b) data_list in
+          let s : times_met b (numbers_at p.datas k) ≡ times_met b (data_in g ix x) = ap (times_met b) data_list in
           let part = times_in-part b p.datas k in let one = l.one_data b in
           ⊎_elim (λ (lt : b < g.blocks). lt)
           (λ (ge : g.blocks ≤ b). (let out : nat_lt b g.blocks ≡ false = grind (arith, nat_tests) in
@@ -53,7 +53,7 @@ all_whole image e k h u =
           (cases_lt b g.blocks));
     }
 
-times_flat : (n : ℕ) (f : Entry → List ℕ) (es : List Entry) → times n (flat_map f es) ≡ times_in n (map f es)
+times_flat : (n : ℕ) (f : Entry → List ℕ) (es : List Entry) → times_met n (flat_map f es) ≡ times_in n (map f es)
 times_flat n f [] = refl
 times_flat n f (e ∷ es) = let i = times_flat n f es in let a = times-append n (f e) (flat_map f es) in omega (arith, i, a)
 
@@ -123,7 +123,7 @@ length_block image n b l h = let t = length-take 512 (drop (512 * b) image) in l
 abbrev no_entry_1 : Entry1
 no_entry_1 = record { size = 0; first = 0; name = [] }
 
-pub wide_1 : (image : List ℕ) (n : ℕ) → length image ≡ 512 * n → 1 ≤ n → (length (entries_1 image) ≡ 20) × ((k : ℕ) → k < length (entries_1 image) → length (get_or (entries_1 image) k blank).name ≡ 28)
+pub wide_1 : (image : List ℕ) (n : ℕ) → length image ≡ 512 * n → 1 ≤ n → (length (entries_1 image) ≡ 20) × ((k : ℕ) → k < length (entries_1 image) → length (get_or (entries_1 image) k void_entry).name ≡ 28)
 unfolding dir_1_of
 wide_1 image n l h =
     let b = block_in image 0 in let bl = length_block image n 0 l (omega arith) in
@@ -132,25 +132,25 @@ wide_1 image n l h =
     let m = length-map ps widened in (
       omega (arith, len, m),
       λ k lt. (let low : k < length ps = omega (arith, m, lt) in
-          let at = get_or-map widened ps k no_entry_1 blank low ∙ ap widened (pieces_at entry_1_of 24 20 (drop 12 b) k no_entry_1 (omega (arith, low, len))) in
+          let at = get_or-map widened ps k no_entry_1 void_entry low ∙ ap widened (pieces_at entry_1_of 24 20 (drop 12 b) k no_entry_1 (omega (arith, low, len))) in
           let nm = name_length 16 (24 * k) b bl (omega (arith, low, len)) in
           let a = length-append (take 16 (drop 8 (drop (24 * k) (drop 12 b)))) (replicate 12 0) in let r = length-replicate {A = ℕ} 12 0 in
           ap (λ (e : Entry). length e.name) at ∙ (omega (arith, nm, a, r))),
     )
 
-block_wide : (image : List ℕ) (n d : ℕ) → length image ≡ 512 * n → d < n → (length (dir_of (block_in image d)).entries ≡ 13) × ((k : ℕ) → k < length (dir_of (block_in image d)).entries → length (get_or (dir_of (block_in image d)).entries k blank).name ≡ 28)
+block_wide : (image : List ℕ) (n d : ℕ) → length image ≡ 512 * n → d < n → (length (dir_of (block_in image d)).entries ≡ 13) × ((k : ℕ) → k < length (dir_of (block_in image d)).entries → length (get_or (dir_of (block_in image d)).entries k void_entry).name ≡ 28)
 unfolding dir_of
 block_wide image n d l h =
     let b = block_in image d in let bl = length_block image n d l h in
     let len = length_pieces entry_of 36 13 (drop 12 b) in
-    (len, λ k lt. ap (λ (e : Entry). length e.name) (pieces_at entry_of 36 13 (drop 12 b) k blank (omega (arith, lt, len))) ∙ name_length 28 (36 * k) b bl (omega (arith, lt, len)))
+    (len, λ k lt. ap (λ (e : Entry). length e.name) (pieces_at entry_of 36 13 (drop 12 b) k void_entry (omega (arith, lt, len))) ∙ name_length 28 (36 * k) b bl (omega (arith, lt, len)))
 
-joined_each : (P : Entry → Type 0) (f : ℕ → List Entry) (n : ℕ) → ((d : ℕ) → d < n → (k : ℕ) → k < length (f d) → P (get_or (f d) k blank)) → (k : ℕ) → k < length (joined f n) → P (get_or (joined f n) k blank)
+joined_each : (P : Entry → Type 0) (f : ℕ → List Entry) (n : ℕ) → ((d : ℕ) → d < n → (k : ℕ) → k < length (f d) → P (get_or (f d) k void_entry)) → (k : ℕ) → k < length (joined f n) → P (get_or (joined f n) k void_entry)
 unfolding joined
 joined_each P f zero all k h = absurd (omega (arith, h))
-joined_each P f (suc n) all k h = each_append P (joined f n) (f n) blank (joined_each P f n (λ d m. all d (omega (arith, m)))) (all n (omega arith)) k h
+joined_each P f (suc n) all k h = each_append P (joined f n) (f n) void_entry (joined_each P f n (λ d m. all d (omega (arith, m)))) (all n (omega arith)) k h
 
-pub wide_2 : (image : List ℕ) (n : ℕ) → length image ≡ 512 * n → 6 ≤ n → (length (entries_2 image) ≡ 78) × ((k : ℕ) → k < length (entries_2 image) → length (get_or (entries_2 image) k blank).name ≡ 28)
+pub wide_2 : (image : List ℕ) (n : ℕ) → length image ≡ 512 * n → 6 ≤ n → (length (entries_2 image) ≡ 78) × ((k : ℕ) → k < length (entries_2 image) → length (get_or (entries_2 image) k void_entry).name ≡ 28)
 wide_2 image n l h =
     let f : ℕ → List Entry = λ d. (dir_of (block_in image d)).entries in
     let P : Entry → Type 0 = λ e. length e.name ≡ 28 in
@@ -169,9 +169,9 @@ migrated_room image e v =
     let low : 8 ≤ n = (let P : Bool → Type 0 = λ b. cond b 14 8 ≤ n in subst P v size.0) in
     let high : n ≤ 65536 = (let P : Bool → Type 0 = λ b. n ≤ cond b 65542 65536 in subst P v size.1) in
     let w = wide_1 image n (whole_blocks image e) (omega (arith, low)) in
-    let es : d.entries ≡ entries_1 image = ap (λ g. entries_of g image) geo in
+    let es : d.entries ≡ entries_1 image = ap (λ g. directory_entries g image) geo in
     let few : length d.entries ≡ 20 = ap length es ∙ w.0 in
-    let Q : List Entry → Type 0 = λ xs. (k : ℕ) → k < length xs → length (get_or xs k blank).name ≡ 28 in
+    let Q : List Entry → Type 0 = λ xs. (k : ℕ) → k < length xs → length (get_or xs k void_entry).name ≡ 28 in
     let m = migration_room n in
     record {
       low = omega (arith, low);
@@ -191,9 +191,9 @@ placed_room image e v =
     let low : 14 ≤ n = (let P : Bool → Type 0 = λ b. cond b 14 8 ≤ n in subst P v size.0) in
     let high : n ≤ 65542 = (let P : Bool → Type 0 = λ b. n ≤ cond b 65542 65536 in subst P v size.1) in
     let w = wide_2 image n (whole_blocks image e) (omega (arith, low)) in
-    let es : d.entries ≡ entries_2 image = ap (λ g. entries_of g image) geo in
+    let es : d.entries ≡ entries_2 image = ap (λ g. directory_entries g image) geo in
     let few : length d.entries ≡ 78 = ap length es ∙ w.0 in
-    let Q : List Entry → Type 0 = λ xs. (k : ℕ) → k < length xs → length (get_or xs k blank).name ≡ 28 in
+    let Q : List Entry → Type 0 = λ xs. (k : ℕ) → k < length xs → length (get_or xs k void_entry).name ≡ 28 in
     record {
       low = low;
       high = high;

@@ -10,8 +10,8 @@ use Rattle.lfs_format.specs.declared.Entry.{Entry}
 use Rattle.lfs_format.specs.declared.Index.{Index}
 use Rattle.lfs_check.specs.declared.geometry.Geometry.{Geometry}
 use Rattle.lfs_check.specs.Geometries.{index_count, first_data}
-use Rattle.lfs_check.specs.Rules.{is_used, is_name, text_length, are_zeros}
-use Rattle.lfs_layout.specs.Files.{File, bytes_in, files_in, total_for, have_room, is_among, names_right, names_of, without_name, with_set, is_text, padded_name, entries_without, bytes_of, entry_named}
+use Rattle.lfs_check.specs.Rules.{entry_is_used, is_name, text_length, are_zeros}
+use Rattle.lfs_layout.specs.Files.{File, content_of, files_in, total_for, have_room, is_among, names_right, names_of, without_name, with_set, is_text, padded_name, other_entries, content_named, entry_named}
 use Rattle.lfs_layout.specs.Made.{geometry_2, no_file, Room}
 use Rattle.lfs_layout.proofs.Regions.{each_append}
 
@@ -32,21 +32,21 @@ or-nil a true = refl
 or-nil a false = refl
 
 -- the files of the entries without those of a name
-pub files_without : (g : Geometry) (ix : List Index) (image name : List ℕ) (es : List Entry) → files_in g ix image (entries_without name es) ≡ without_name name (files_in g ix image es)
+pub files_without : (g : Geometry) (ix : List Index) (image name : List ℕ) (es : List Entry) → files_in g ix image (other_entries name es) ≡ without_name name (files_in g ix image es)
 files_without g ix image name [] = refl
 files_without g ix image name (e ∷ es) =
-    let f : File = record { name = e.name; bytes = bytes_in g ix image e } in
+    let f : File = record { name = e.name; bytes = content_of g ix image e } in
     let i = files_without g ix image name es in
-    let rest = files_in g ix image es in let others = entries_without name es in
+    let rest = files_in g ix image es in let others = other_entries name es in
     let same = bytes_eq e.name name in
-    let P : Bool → Type 0 = λ b. bytes_eq e.name name ≡ b → files_in g ix image (cond b others (e ∷ others)) ≡ without_name name (cond (is_used e) (f ∷ rest) rest) in
+    let P : Bool → Type 0 = λ b. bytes_eq e.name name ≡ b → files_in g ix image (cond b others (e ∷ others)) ≡ without_name name (cond (entry_is_used e) (f ∷ rest) rest) in
     let skip : (u : Bool) → same ≡ true → without_name name (cond u (f ∷ rest) rest) ≡ without_name name rest = λ u s.
     elim u as (λ u. without_name name (cond u (f ∷ rest) rest) ≡ without_name name rest) [ true ↦ ap (λ b. cond b (without_name name rest) (f ∷ without_name name rest)) s | false ↦ refl ] in
     let keep : (u : Bool) → same ≡ false → cond u (f ∷ files_in g ix image others) (files_in g ix image others) ≡ without_name name (cond u (f ∷ rest) rest) = λ u s.
     elim u as (λ u. cond u (f ∷ files_in g ix image others) (files_in g ix image others) ≡ without_name name (cond u (f ∷ rest) rest))
     [ true ↦ ap (λ fs. f ∷ fs) i ∙ sym (ap (λ b. cond b (without_name name rest) (f ∷ without_name name rest)) s) | false ↦ i ] in
-    let yes : P true = λ s. i ∙ sym (skip (is_used e) s) in
-    let no : P false = λ s. keep (is_used e) s in
+    let yes : P true = λ s. i ∙ sym (skip (entry_is_used e) s) in
+    let no : P false = λ s. keep (entry_is_used e) s in
     let all : (b : Bool) → P b = λ b. elim b as (λ b. P b) [ true ↦ yes | false ↦ no ] in
     all same refl
 
@@ -169,14 +169,14 @@ set_room n files text bytes low high w t e =
     }
 
 -- the bytes of a name are those of its first entry
-pub bytes_named : (g : Geometry) (ix : List Index) (image name : List ℕ) (es : List Entry) → bytes_of name (files_in g ix image es) ≡ option_map (bytes_in g ix image) (entry_named name es)
+pub bytes_named : (g : Geometry) (ix : List Index) (image name : List ℕ) (es : List Entry) → content_named name (files_in g ix image es) ≡ option_map (content_of g ix image) (entry_named name es)
 bytes_named g ix image name [] = refl
 bytes_named g ix image name (e ∷ es) =
-    let f : File = record { name = e.name; bytes = bytes_in g ix image e } in
+    let f : File = record { name = e.name; bytes = content_of g ix image e } in
     let i = bytes_named g ix image name es in
     let rest = files_in g ix image es in let same = bytes_eq e.name name in
-    let P : Bool → Type 0 = λ u. bytes_of name (cond u (f ∷ rest) rest) ≡ option_map (bytes_in g ix image) (cond (u && same) (Some e) (entry_named name es)) in
-    let Q : Bool → Type 0 = λ s. cond s (Some (bytes_in g ix image e)) (bytes_of name rest) ≡ option_map (bytes_in g ix image) (cond s (Some e) (entry_named name es)) in
+    let P : Bool → Type 0 = λ u. content_named name (cond u (f ∷ rest) rest) ≡ option_map (content_of g ix image) (cond (u && same) (Some e) (entry_named name es)) in
+    let Q : Bool → Type 0 = λ s. cond s (Some (content_of g ix image e)) (content_named name rest) ≡ option_map (content_of g ix image) (cond s (Some e) (entry_named name es)) in
     let yes : P true = (let all : (s : Bool) → Q s = λ s. elim s as (λ s. Q s) [ true ↦ refl | false ↦ i ] in all same) in
     let all : (u : Bool) → P u = λ u. elim u as (λ u. P u) [ true ↦ yes | false ↦ i ] in
-    all (is_used e)
+    all (entry_is_used e)

@@ -1,27 +1,27 @@
 -- The files of the entries that are kept have room, and names that are apart.
-use Rattle.std.proofs.Common.{◌≡◌, ℕ, zero, suc, ◌+◌, ◌-◌, ◌*◌, ◌/◌, ◌<◌, ◌≤◌, Bool, true, false, cond, not, ◌&&◌, ◌||◌, nat_eq, nat_lt, nat_le, List, [], ◌∷◌, ◌++◌, length, get_or, slice_index, take, drop, map, refl, sym, ap, ◌∙◌, subst, arith, length-append, length-take, Option, Some, None, ⊎_elim, bytes_eq}
+use Rattle.std.proofs.Common.{◌≡◌, ℕ, zero, suc, ◌+◌, ◌-◌, ◌*◌, ◌<◌, ◌≤◌, Bool, true, false, cond, not, ◌&&◌, ◌||◌, nat_eq, nat_lt, nat_le, List, [], ◌∷◌, ◌++◌, length, get_or, slice_index, take, refl, sym, ap, ◌∙◌, arith, length-take, Option, Some, None, ⊎_elim, bytes_eq}
 use Rattle.std.specs.List.{flat_map, list_any}
 use Rattle.std.proofs.lemmas.List.Folds.{list_any-append}
 use Rattle.std.proofs.lemmas.Bool.{cases_lt, false≢true}
 use Rattle.std.proofs.lemmas.Bool.Decides.{nat_tests}
 use Rattle.lfs_format.specs.declared.Entry.{Entry}
 use Rattle.lfs_format.specs.declared.Index.{Index}
-use Rattle.lfs_format.specs.Directory.{blank}
+use Rattle.lfs_format.specs.Directory.{void_entry}
 use Rattle.lfs_check.specs.declared.geometry.Geometry.{Geometry}
 use Rattle.lfs_check.specs.Geometries.{index_count, first_data, longest_name, room}
-use Rattle.lfs_check.specs.Meets.{times, null}
-use Rattle.lfs_check.specs.Rules.{is_used, is_name, is_larger}
-use Rattle.lfs_check.specs.Checks.{met_of, end_of, need_index, need_data, nexts_of, row_of, row_fits, rows_fault, offsets_fault, is_within}
+use Rattle.lfs_check.specs.Meets.{times_met, null}
+use Rattle.lfs_check.specs.Rules.{entry_is_used, is_name, is_larger}
+use Rattle.lfs_check.specs.Checks.{met_of, end_of_walk, need_index, need_data, nexts_of, data_row, row_fits, rows_fault, offsets_fault, is_between}
 use Rattle.lfs_check.specs.Clean.{chain_in, data_in}
-use Rattle.lfs_check.specs.Kept.{is_none, stand_once, has_sound_fields, has_sound_walk, is_whole, whole_chains, whole_datas, is_hidden, is_kept, kept_from, kept}
+use Rattle.lfs_check.specs.Kept.{is_none, stand_once, has_sound_fields, has_sound_walk, is_whole, whole_chains, whole_datas, is_hidden, is_kept, kept_from, kept_entries}
 use Rattle.lfs_check.proofs.Walking.{walk-within}
 use Rattle.lfs_check.proofs.Nones.{rows-each}
 use Rattle.lfs_check.proofs.Rows.{fits-range, length-rows, rows-fit}
 use Rattle.lfs_check.proofs.Steps.{times-append, times-at}
 use Rattle.lfs_check.proofs.Counting.{in_range, length-most}
 use Rattle.lfs_check.proofs.Keeping.{kept_apart}
-use Rattle.lfs_layout.specs.Files.{File, bytes_in, files_in, total_for, is_among, names_right, names_of}
-use Rattle.lfs_layout.proofs.CleanRoom.{Whole, AllWhole, totals}
+use Rattle.lfs_layout.specs.Files.{File, content_of, files_in, total_for, is_among, names_right, names_of}
+use Rattle.lfs_layout.proofs.CleanRoom.{Whole, totals}
 
 and-true : (a b : Bool) → a && b ≡ true → (a ≡ true) × (b ≡ true)
 and-true true b e = (refl, e)
@@ -37,15 +37,15 @@ none-is (Some a) e = absurd (false≢true e)
 
 -- what is known of a whole entry
 record WholeFacts (g : Geometry) (ix : List Index) (e : Entry) : Type 0 where
-  used : is_used e ≡ true
+  used : entry_is_used e ≡ true
   name : is_name (longest_name g) e.name ≡ true
   len : length (met_of g ix e) ≡ need_index e
   rows : rows_fault g ix (need_data e) (met_of g ix e) ≡ None
 
 whole_facts : (g : Geometry) (ix : List Index) (e : Entry) → is_whole g ix e ≡ true → WholeFacts g ix e
 whole_facts g ix e w =
-    let a = is_used e in let b = is_name (longest_name g) e.name in let c = not (is_larger (room g) e) in
-    let d = nat_eq (length (met_of g ix e)) (need_index e) in let f = nat_eq (end_of g ix e) null in
+    let a = entry_is_used e in let b = is_name (longest_name g) e.name in let c = not (is_larger (room g) e) in
+    let d = nat_eq (length (met_of g ix e)) (need_index e) in let f = nat_eq (end_of_walk g ix e) null in
     let h = is_none (rows_fault g ix (need_data e) (met_of g ix e)) in let i = is_none (offsets_fault g ix 0 (met_of g ix e)) in
     let sound = and-true (has_sound_fields g e && has_sound_walk g ix e) (stand_once (data_in g ix e) (data_in g ix e)) w in
     let s = and-true (has_sound_fields g e) (has_sound_walk g ix e) sound.0 in
@@ -62,39 +62,39 @@ whole_facts g ix e w =
 
 -- rows of sixteen numbers
 abbrev pub Rows : Geometry → List Index → Type 0
-Rows g ix = (i : ℕ) → i < index_count g → length (row_of ix i) ≡ 16
+Rows g ix = (i : ℕ) → i < index_count g → length (data_row ix i) ≡ 16
 
-rows_of : (g : Geometry) (ix : List Index) (e : Entry) → Rows g ix → (j : ℕ) → j < length (met_of g ix e) → length (row_of ix (slice_index (met_of g ix e) j)) ≡ 16
+rows_of : (g : Geometry) (ix : List Index) (e : Entry) → Rows g ix → (j : ℕ) → j < length (met_of g ix e) → length (data_row ix (slice_index (met_of g ix e) j)) ≡ 16
 rows_of g ix e r j h = r (slice_index (met_of g ix e) j) (walk-within (nexts_of ix) 0 (index_count g) (need_index e) e.first j h).1
 
-data_fits : (g : Geometry) (ix : List Index) (e : Entry) → Rows g ix → WholeFacts g ix e → row_fits g (need_data e) (flat_map (row_of ix) (met_of g ix e)) ≡ true
+data_fits : (g : Geometry) (ix : List Index) (e : Entry) → Rows g ix → WholeFacts g ix e → row_fits g (need_data e) (flat_map (data_row ix) (met_of g ix e)) ≡ true
 data_fits g ix e r f = rows-fit g ix (need_data e) (met_of g ix e) (rows_of g ix e r) (rows-each g ix (need_data e) (met_of g ix e) f.rows)
 
 -- no number out of range is among its data blocks, or its index blocks
-data_none : (g : Geometry) (ix : List Index) (e : Entry) (b : ℕ) → Rows g ix → is_whole g ix e ≡ true → is_within (first_data g) g.blocks b ≡ false → times b (data_in g ix e) ≡ 0
+data_none : (g : Geometry) (ix : List Index) (e : Entry) (b : ℕ) → Rows g ix → is_whole g ix e ≡ true → is_between (first_data g) g.blocks b ≡ false → times_met b (data_in g ix e) ≡ 0
 data_none g ix e b r w out =
     let f = whole_facts g ix e w in
-    ap (λ v. times b (cond v (take (need_data e) (flat_map (row_of ix) (met_of g ix e))) [])) f.used ∙ fits-range g (need_data e) (flat_map (row_of ix) (met_of g ix e)) (data_fits g ix e r f) b out
+    ap (λ v. times_met b (cond v (take (need_data e) (flat_map (data_row ix) (met_of g ix e))) [])) f.used ∙ fits-range g (need_data e) (flat_map (data_row ix) (met_of g ix e)) (data_fits g ix e r f) b out
 
-times_none : (i high : ℕ) (xs : List ℕ) → high ≤ i → ((j : ℕ) → j < length xs → slice_index xs j < high) → times i xs ≡ 0
+times_none : (i high : ℕ) (xs : List ℕ) → high ≤ i → ((j : ℕ) → j < length xs → slice_index xs j < high) → times_met i xs ≡ 0
 times_none i high [] h all = refl
 times_none i high (x ∷ xs) h all =
     let low = all 0 (omega arith) in let t : nat_eq x i ≡ false = grind (arith, nat_tests) in
     let n = times_none i high xs h (λ j m. all (suc j) (omega (arith, m))) in
-    ap (λ v. cond v 1 0 + times i xs) t ∙ (omega (arith, n))
+    ap (λ v. cond v 1 0 + times_met i xs) t ∙ (omega (arith, n))
 
-chain_none : (g : Geometry) (ix : List Index) (e : Entry) (i : ℕ) → index_count g ≤ i → times i (chain_in g ix e) ≡ 0
+chain_none : (g : Geometry) (ix : List Index) (e : Entry) (i : ℕ) → index_count g ≤ i → times_met i (chain_in g ix e) ≡ 0
 chain_none g ix e i h =
-    let P : Bool → Type 0 = λ v. times i (cond v (met_of g ix e) []) ≡ 0 in
+    let P : Bool → Type 0 = λ v. times_met i (cond v (met_of g ix e) []) ≡ 0 in
     let all : (v : Bool) → P v = λ v. elim v as (λ v. P v)
     [ true ↦ times_none i (index_count g) (met_of g ix e) h (λ j m. (walk-within (nexts_of ix) 0 (index_count g) (need_index e) e.first j m).1) | false ↦ refl ] in
-    all (is_used e)
+    all (entry_is_used e)
 
 -- a whole entry's blocks are as many as its size needs
 pub whole_is : (g : Geometry) (ix : List Index) (e : Entry) → Rows g ix → is_whole g ix e ≡ true → Whole g ix g.blocks e
 whole_is g ix e r w =
     let f = whole_facts g ix e w in
-    let all = flat_map (row_of ix) (met_of g ix e) in
+    let all = flat_map (data_row ix) (met_of g ix e) in
     let l = length-rows ix (met_of g ix e) (rows_of g ix e r) in let n = f.len in
     let t = length-take (need_data e) all in
     let d : length (data_in g ix e) ≡ length (take (need_data e) all) = ap (λ v. length (cond v (take (need_data e) all) [])) f.used in
@@ -104,7 +104,7 @@ whole_is g ix e r w =
       below = λ j h. (let b = slice_index (data_in g ix e) j in let here = times-at (data_in g ix e) j b h refl in
           ⊎_elim (λ (lt : b < g.blocks). lt)
           (λ (ge : g.blocks ≤ b). (let t : nat_lt b g.blocks ≡ false = grind (arith, nat_tests) in
-          let out : is_within (first_data g) g.blocks b ≡ false = within_no (nat_le (first_data g) b) (nat_lt b g.blocks) t in
+          let out : is_between (first_data g) g.blocks b ≡ false = within_no (nat_le (first_data g) b) (nat_lt b g.blocks) t in
           let z = data_none g ix e b r w out in absurd (omega (arith, here, z))))
           (cases_lt b g.blocks));
     }
@@ -114,12 +114,12 @@ whole_is g ix e r w =
     within_no false y e = refl
 
 -- the entries that are kept are whole
-pub kept_whole : (g : Geometry) (ix : List Index) (es before rest : List Entry) → (k : ℕ) → k < length (kept_from g ix es before rest) → is_whole g ix (get_or (kept_from g ix es before rest) k blank) ≡ true
+pub kept_whole : (g : Geometry) (ix : List Index) (es before rest : List Entry) → (k : ℕ) → k < length (kept_from g ix es before rest) → is_whole g ix (get_or (kept_from g ix es before rest) k void_entry) ≡ true
 kept_whole g ix es before [] k h = absurd (omega (arith, h))
 kept_whole g ix es before (e ∷ rest) k h =
     let K = kept_from g ix es (before ++ e ∷ []) rest in
     let i = kept_whole g ix es (before ++ e ∷ []) rest in
-    let Q : List Entry → Type 0 = λ xs. (k : ℕ) → k < length xs → is_whole g ix (get_or xs k blank) ≡ true in
+    let Q : List Entry → Type 0 = λ xs. (k : ℕ) → k < length xs → is_whole g ix (get_or xs k void_entry) ≡ true in
     let P : Bool → Type 0 = λ b. is_kept g ix es before e ≡ b → Q (cond b (e ∷ K) K) in
     let yes : P true = λ s. push e K (whole_of s) i in
     let no : P false = λ s. i in
@@ -132,39 +132,39 @@ kept_whole g ix es before (e ∷ rest) k h =
         let c = stand_once (chain_in g ix e) (whole_chains g ix es) in let d = stand_once (data_in g ix e) (whole_datas g ix es) in
         (and-true a b (and-true (a && b) c (and-true (a && b && c) d s).0).0).0
 
-    push : (x : Entry) (xs : List Entry) → is_whole g ix x ≡ true → ((k : ℕ) → k < length xs → is_whole g ix (get_or xs k blank) ≡ true) → (k : ℕ) → k < length (x ∷ xs) → is_whole g ix (get_or (x ∷ xs) k blank) ≡ true
+    push : (x : Entry) (xs : List Entry) → is_whole g ix x ≡ true → ((k : ℕ) → k < length xs → is_whole g ix (get_or xs k void_entry) ≡ true) → (k : ℕ) → k < length (x ∷ xs) → is_whole g ix (get_or (x ∷ xs) k void_entry) ≡ true
     push x xs w all zero m = w
     push x xs w all (suc j) m = all j (omega (arith, m))
 
-flat_none : (f : Entry → List ℕ) (n : ℕ) (es : List Entry) → ((k : ℕ) → k < length es → times n (f (get_or es k blank)) ≡ 0) → times n (flat_map f es) ≡ 0
+flat_none : (f : Entry → List ℕ) (n : ℕ) (es : List Entry) → ((k : ℕ) → k < length es → times_met n (f (get_or es k void_entry)) ≡ 0) → times_met n (flat_map f es) ≡ 0
 flat_none f n [] all = refl
 flat_none f n (e ∷ es) all =
     let i = flat_none f n es (λ k h. all (suc k) (omega (arith, h))) in let o = all 0 (omega arith) in let a = times-append n (f e) (flat_map f es) in omega (arith, i, o, a)
 
 -- so their files need no more room than there is
 pub kept_totals : (g : Geometry) (ix : List Index) (image : List ℕ) (es : List Entry) → Rows g ix → length image ≡ 512 * g.blocks
-    → (total_for 512 (files_in g ix image (kept g ix es)) ≤ g.blocks - first_data g) × (total_for 8192 (files_in g ix image (kept g ix es)) ≤ index_count g)
+    → (total_for 512 (files_in g ix image (kept_entries g ix es)) ≤ g.blocks - first_data g) × (total_for 8192 (files_in g ix image (kept_entries g ix es)) ≤ index_count g)
 kept_totals g ix image es r l =
-    let K = kept g ix es in
-    let whole : (k : ℕ) → k < length K → is_whole g ix (get_or K k blank) ≡ true = kept_whole g ix es [] es in
-    let t = totals g ix image g.blocks K l (λ k h u. whole_is g ix (get_or K k blank) r (whole k h)) in
+    let K = kept_entries g ix es in
+    let whole : (k : ℕ) → k < length K → is_whole g ix (get_or K k void_entry) ≡ true = kept_whole g ix es [] es in
+    let t = totals g ix image g.blocks K l (λ k h u. whole_is g ix (get_or K k void_entry) r (whole k h)) in
     let datas = length-most (first_data g) g.blocks (flat_map (data_in g ix) K)
     (λ b. (let one = (kept_apart g ix es b).1 in
-    let P : Bool → Type 0 = λ v. nat_lt b g.blocks && not (nat_lt b (first_data g)) ≡ v → times b (flat_map (data_in g ix) K) ≤ cond v 1 0 in
+    let P : Bool → Type 0 = λ v. nat_lt b g.blocks && not (nat_lt b (first_data g)) ≡ v → times_met b (flat_map (data_in g ix) K) ≤ cond v 1 0 in
     let yes : P true = λ s. one in
-    let no : P false = λ s. (let z = flat_none (data_in g ix) b K (λ k h. data_none g ix (get_or K k blank) b r (whole k h) (within_is (first_data g) g.blocks b s)) in omega (arith, z)) in
+    let no : P false = λ s. (let z = flat_none (data_in g ix) b K (λ k h. data_none g ix (get_or K k void_entry) b r (whole k h) (within_is (first_data g) g.blocks b s)) in omega (arith, z)) in
     let all : (v : Bool) → P v = λ v. elim v as (λ v. P v) [ true ↦ yes | false ↦ no ] in
     all (nat_lt b g.blocks && not (nat_lt b (first_data g))) refl)) in
     let chains = length-most 0 (index_count g) (flat_map (chain_in g ix) K)
     (λ i. (let one = (kept_apart g ix es i).0 in
     ⊎_elim (λ (lt : i < index_count g). (let a : nat_lt i (index_count g) ≡ true = grind (arith, nat_tests) in let b : nat_lt i 0 ≡ false = grind (arith, nat_tests) in
     let z : in_range 0 (index_count g) i ≡ 1 = ap (λ v. cond (v && not (nat_lt i 0)) 1 0) a ∙ ap (λ v. cond (not v) 1 0) b in omega (arith, one, z)))
-    (λ (ge : index_count g ≤ i). (let z = flat_none (chain_in g ix) i K (λ k h. chain_none g ix (get_or K k blank) i ge) in omega (arith, z)))
+    (λ (ge : index_count g ≤ i). (let z = flat_none (chain_in g ix) i K (λ k h. chain_none g ix (get_or K k void_entry) i ge) in omega (arith, z)))
     (cases_lt i (index_count g)))) in
     let one = t.0 in let two = t.1 in
     (omega (arith, one, datas), omega (arith, two, chains))
   where
-    within_is : (low high b : ℕ) → nat_lt b high && not (nat_lt b low) ≡ false → is_within low high b ≡ false
+    within_is : (low high b : ℕ) → nat_lt b high && not (nat_lt b low) ≡ false → is_between low high b ≡ false
     within_is low high b s = ⊎_elim
         (λ (lt : b < low). (let t : nat_le low b ≡ false = grind (arith, nat_tests) in ap (λ v. v && nat_lt b high) t))
         (λ (ge : low ≤ b). (let t : nat_le low b ≡ true = grind (arith, nat_tests) in let u : nat_lt b low ≡ false = grind (arith, nat_tests) in
@@ -207,7 +207,7 @@ kept_names g ix image es before names (e ∷ rest) h =
     let two = and-true a b (and-true (a && b) c (and-true (a && b && c) d s).0).0 in
     let f = whole_facts g ix e two.0 in
     let fresh = h e.name (not-true (is_hidden g ix before e) two.1) in
-    let file : File = record { name = e.name; bytes = bytes_in g ix image e } in
+    let file : File = record { name = e.name; bytes = content_of g ix image e } in
     let more : (x : List ℕ) → whole_named g ix (before ++ e ∷ []) x ≡ false → is_among (names ++ e.name ∷ []) x ≡ false = λ x q. (
     let p = or-no (whole_named g ix before x) (a && bytes_eq e.name x) (sym (named_push g ix before e x) ∙ q) in
     among_push names e.name x ∙ ap (λ v. v || bytes_eq e.name x) (h x p.0) ∙ (sym (ap (λ v. v && bytes_eq e.name x) two.0) ∙ p.1)) in
@@ -233,21 +233,21 @@ kept_few g ix es before (e ∷ rest) =
     let all : (b : Bool) → P b = λ b. elim b as (λ b. P b) [ true ↦ omega (arith, i) | false ↦ omega (arith, i) ] in
     all (is_kept g ix es before e)
 
-pub kept_wide : (g : Geometry) (ix : List Index) (es before rest : List Entry) → ((k : ℕ) → k < length rest → length (get_or rest k blank).name ≡ 28)
-    → (k : ℕ) → k < length (kept_from g ix es before rest) → length (get_or (kept_from g ix es before rest) k blank).name ≡ 28
+pub kept_wide : (g : Geometry) (ix : List Index) (es before rest : List Entry) → ((k : ℕ) → k < length rest → length (get_or rest k void_entry).name ≡ 28)
+    → (k : ℕ) → k < length (kept_from g ix es before rest) → length (get_or (kept_from g ix es before rest) k void_entry).name ≡ 28
 kept_wide g ix es before [] w k h = absurd (omega (arith, h))
 kept_wide g ix es before (e ∷ rest) w k h =
     let K = kept_from g ix es (before ++ e ∷ []) rest in
     let i = kept_wide g ix es (before ++ e ∷ []) rest (λ j m. w (suc j) (omega (arith, m))) in
-    let P : Bool → Type 0 = λ b. (k : ℕ) → k < length (cond b (e ∷ K) K) → length (get_or (cond b (e ∷ K) K) k blank).name ≡ 28 in
+    let P : Bool → Type 0 = λ b. (k : ℕ) → k < length (cond b (e ∷ K) K) → length (get_or (cond b (e ∷ K) K) k void_entry).name ≡ 28 in
     let all : (b : Bool) → P b = λ b. elim b as (λ b. P b) [ true ↦ push e K (w 0 (omega arith)) i | false ↦ i ] in
     all (is_kept g ix es before e) k h
   where
-    push : (x : Entry) (xs : List Entry) → length x.name ≡ 28 → ((k : ℕ) → k < length xs → length (get_or xs k blank).name ≡ 28) → (k : ℕ) → k < length (x ∷ xs) → length (get_or (x ∷ xs) k blank).name ≡ 28
+    push : (x : Entry) (xs : List Entry) → length x.name ≡ 28 → ((k : ℕ) → k < length xs → length (get_or xs k void_entry).name ≡ 28) → (k : ℕ) → k < length (x ∷ xs) → length (get_or (x ∷ xs) k void_entry).name ≡ 28
     push x xs w all zero m = w
     push x xs w all (suc j) m = all j (omega (arith, m))
 
-pub kept_is_used : (g : Geometry) (ix : List Index) (es before : List Entry) (e : Entry) → is_kept g ix es before e ≡ true → is_used e ≡ true
+pub kept_is_used : (g : Geometry) (ix : List Index) (es before : List Entry) (e : Entry) → is_kept g ix es before e ≡ true → entry_is_used e ≡ true
 kept_is_used g ix es before e s =
     let a = is_whole g ix e in let b = not (is_hidden g ix before e) in
     let c = stand_once (chain_in g ix e) (whole_chains g ix es) in let d = stand_once (data_in g ix e) (whole_datas g ix es) in

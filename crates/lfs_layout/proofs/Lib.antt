@@ -15,3 +15,4 @@ pub mod KeptFiles
 pub mod Repairs
 pub mod Ordered
 pub mod Listed
+pub mod ImageLaws

@@ -1,5 +1,5 @@
 -- The k-th file of a clean image in the order of names, found among its entries.
-use Rattle.std.proofs.Common.{◌≡◌, ℕ, suc, ◌+◌, ◌*◌, ◌/◌, ◌<◌, ◌≤◌, Bool, true, false, cond, not, ◌&&◌, nat_eq, nat_lt, nat_le, List, [], ◌∷◌, ◌++◌, length, get_or, map, refl, sym, ap, ◌∙◌, subst, arith, Option, Some, None, count_by, slice_get, is_some, zero}
+use Rattle.std.proofs.Common.{◌≡◌, ℕ, suc, ◌+◌, ◌*◌, ◌/◌, ◌≤◌, Bool, true, false, cond, not, ◌&&◌, nat_eq, nat_lt, nat_le, List, [], ◌∷◌, ◌++◌, length, map, refl, sym, ap, ◌∙◌, arith, Option, Some, count_by, slice_get, is_some, zero}
 use Rattle.std.specs.List.{find}
 use Rattle.std.specs.Option.{option_map}
 use Rattle.std.proofs.lemmas.Option.{slice_get-map}
@@ -8,12 +8,11 @@ use Rattle.std.proofs.lemmas.Bool.{false≢true}
 use Rattle.std.proofs.lemmas.Bool.Decides.{nat_tests}
 use Rattle.lfs_format.specs.declared.Entry.{Entry}
 use Rattle.lfs_format.specs.declared.Index.{Index}
-use Rattle.lfs_format.specs.Directory.{blank}
 use Rattle.lfs_check.specs.declared.geometry.Geometry.{Geometry}
-use Rattle.lfs_check.specs.Rules.{is_used, is_name, text_length, are_zeros}
-use Rattle.lfs_check.specs.Fields.{geometry_of, fields_of, entries_of, entries_2}
+use Rattle.lfs_check.specs.Rules.{entry_is_used, is_name, text_length}
+use Rattle.lfs_check.specs.Fields.{geometry_of, fields_of, directory_entries, entries_2}
 use Rattle.lfs_check.proofs.Images.{whole_blocks}
-use Rattle.lfs_layout.specs.Files.{File, text_of, bytes_in, files_in, placed_files, files_of, listing, is_before, names_before, is_among, names_right, names_of}
+use Rattle.lfs_layout.specs.Files.{File, bare_name, content_of, files_in, placed_files, files_of, listing, is_before, names_before, is_among, names_right, names_of}
 use Rattle.lfs_layout.specs.Images.{IsCleanImage}
 use Rattle.lfs_layout.proofs.CleanRoom.{AllWhole, length_bytes}
 use Rattle.lfs_layout.proofs.CleanOpens.{all_whole, placed_names, placed_room}
@@ -28,10 +27,10 @@ either-way true P t f = t refl
 either-way false P t f = f refl
 
 abbrev entry_shown : Entry → List ℕ × ℕ
-entry_shown e = (text_of e.name, e.size)
+entry_shown e = (bare_name e.name, e.size)
 
 abbrev file_shown : File → List ℕ × ℕ
-file_shown f = (text_of f.name, length f.bytes)
+file_shown f = (bare_name f.name, length f.bytes)
 
 -- the names of used entries are those of the files
 names_counted : (g : Geometry) (ix : List Index) (image name : List ℕ) (es : List Entry)
@@ -39,37 +38,37 @@ names_counted : (g : Geometry) (ix : List Index) (image name : List ℕ) (es : L
 names_counted g ix image name [] = refl
 names_counted g ix image name (e ∷ es) =
     let i = names_counted g ix image name es in
-    let f : File = record { name = e.name; bytes = bytes_in g ix image e } in let rest = files_in g ix image es in
-    sum_by-cons (λ (h : Entry). cond (is_used h && is_before h.name name) 1 0) e es
-    ∙ either-way (is_used e) (λ u. cond (u && is_before e.name name) 1 0 + names_before es name ≡ count_by (λ (h : File). is_before h.name name) (cond u (f ∷ rest) rest))
+    let f : File = record { name = e.name; bytes = content_of g ix image e } in let rest = files_in g ix image es in
+    sum_by-cons (λ (h : Entry). cond (entry_is_used h && is_before h.name name) 1 0) e es
+    ∙ either-way (entry_is_used e) (λ u. cond (u && is_before e.name name) 1 0 + names_before es name ≡ count_by (λ (h : File). is_before h.name name) (cond u (f ∷ rest) rest))
     (λ s. ap (λ n. cond (is_before e.name name) 1 0 + n) i ∙ sym (sum_by-cons (λ (h : File). cond (is_before h.name name) 1 0) f rest))
     (λ s. (let z : 0 + names_before es name ≡ names_before es name = omega arith in z) ∙ i)
 
 -- what an entry that is found shows is what its file shows
 found_shows : (g : Geometry) (ix : List Index) (image : List ℕ) (n : ℕ) (q : List ℕ → Bool) (es : List Entry) → length image ≡ 512 * n → AllWhole g ix n es
-    → option_map file_shown (find (λ (f : File). q f.name) (files_in g ix image es)) ≡ option_map entry_shown (find (λ (e : Entry). is_used e && q e.name) es)
+    → option_map file_shown (find (λ (f : File). q f.name) (files_in g ix image es)) ≡ option_map entry_shown (find (λ (e : Entry). entry_is_used e && q e.name) es)
 found_shows g ix image n q [] l all = refl
 found_shows g ix image n q (e ∷ es) l all =
     let i = found_shows g ix image n q es l (λ k h. all (suc k) (omega (arith, h))) in
-    let f : File = record { name = e.name; bytes = bytes_in g ix image e } in let rest = files_in g ix image es in
-    let later = find (λ (e : Entry). is_used e && q e.name) es in
-    either-way (is_used e)
-    (λ u. is_used e ≡ u → option_map file_shown (find (λ (f : File). q f.name) (cond u (f ∷ rest) rest)) ≡ option_map entry_shown (cond (u && q e.name) (Some e) later))
+    let f : File = record { name = e.name; bytes = content_of g ix image e } in let rest = files_in g ix image es in
+    let later = find (λ (e : Entry). entry_is_used e && q e.name) es in
+    either-way (entry_is_used e)
+    (λ u. entry_is_used e ≡ u → option_map file_shown (find (λ (f : File). q f.name) (cond u (f ∷ rest) rest)) ≡ option_map entry_shown (cond (u && q e.name) (Some e) later))
     (λ _ u. either-way (q e.name)
     (λ v. option_map file_shown (cond v (Some f) (find (λ (f : File). q f.name) rest)) ≡ option_map entry_shown (cond v (Some e) later))
-    (λ s. ap (λ m. Some (text_of e.name, m)) (length_bytes g ix image n e l (all 0 (omega arith) u)))
+    (λ s. ap (λ m. Some (bare_name e.name, m)) (length_bytes g ix image n e l (all 0 (omega arith) u)))
     (λ s. i))
     (λ _ u. i)
     refl
 
 -- an entry that is found has a name
 found_named : (g : Geometry) (ix : List Index) (image : List ℕ) (longest : ℕ) (before : List (List ℕ)) (q : Entry → Bool) (es : List Entry) (x : Entry)
-    → names_right longest before (names_of (files_in g ix image es)) ≡ true → find (λ (e : Entry). is_used e && q e) es ≡ Some x → is_name longest x.name ≡ true
+    → names_right longest before (names_of (files_in g ix image es)) ≡ true → find (λ (e : Entry). entry_is_used e && q e) es ≡ Some x → is_name longest x.name ≡ true
 found_named g ix image longest before q [] x r e = absurd (cc)
 found_named g ix image longest before q (y ∷ es) x r e =
-    let f : File = record { name = y.name; bytes = bytes_in g ix image y } in let rest = files_in g ix image es in
-    let later = find (λ (e : Entry). is_used e && q e) es in
-    either-way (is_used y)
+    let f : File = record { name = y.name; bytes = content_of g ix image y } in let rest = files_in g ix image es in
+    let later = find (λ (e : Entry). entry_is_used e && q e) es in
+    either-way (entry_is_used y)
     (λ u. names_right longest before (names_of (cond u (f ∷ rest) rest)) ≡ true → cond (u && q y) (Some y) later ≡ Some x → is_name longest x.name ≡ true)
     (λ _ r e. (
     let one = and-true (is_name longest y.name && not (is_among before y.name)) (names_right longest (before ++ y.name ∷ []) (names_of rest)) r in
@@ -89,20 +88,20 @@ name_short longest name e =
     let t = two.1 in grind (arith, nat_tests)
 
 -- a clean image has the entries of version 2
-pub clean_entries : (image : List ℕ) → IsCleanImage image → entries_of (geometry_of image) image ≡ entries_2 image
-clean_entries image c = ap (λ b. let g : Geometry = record { dirs = cond b 6 1; blocks = length image / 512 } in entries_of g image) c.version
+pub clean_entries : (image : List ℕ) → IsCleanImage image → directory_entries (geometry_of image) image ≡ entries_2 image
+clean_entries image c = ap (λ b. let g : Geometry = record { dirs = cond b 6 1; blocks = length image / 512 } in directory_entries g image) c.version
 
 -- it has at least fourteen blocks
 pub clean_size : (image : List ℕ) → IsCleanImage image → 3072 ≤ length image
 clean_size image c = (let r = (placed_room image c.faultless c.version).low in omega (arith, r))
 
 abbrev pub nth : List Entry → ℕ → Option Entry
-nth es k = find (λ (e : Entry). is_used e && nat_eq (names_before es e.name) k) es
+nth es k = find (λ (e : Entry). entry_is_used e && nat_eq (names_before es e.name) k) es
 
 -- the k-th file shows what the entry shows that k names come before
-pub listed_at : (image : List ℕ) (k : ℕ) → IsCleanImage image → slice_get (listing (files_of image)) k ≡ option_map (λ (e : Entry). (text_of e.name, e.size)) (find (λ (e : Entry). is_used e && nat_eq (names_before (entries_2 image) e.name) k) (entries_2 image))
+pub listed_at : (image : List ℕ) (k : ℕ) → IsCleanImage image → slice_get (listing (files_of image)) k ≡ option_map (λ (e : Entry). (bare_name e.name, e.size)) (find (λ (e : Entry). entry_is_used e && nat_eq (names_before (entries_2 image) e.name) k) (entries_2 image))
 listed_at image k c =
-    let g = geometry_of image in let ix = (fields_of g image).indexes in let es = entries_of g image in
+    let g = geometry_of image in let ix = (fields_of g image).indexes in let es = directory_entries g image in
     let files = placed_files image in
     let q : List ℕ → Bool = λ name. nat_eq (names_before es name) k in
     let same : (f : File) → nat_eq (count_by (λ (h : File). is_before h.name f.name) files) k ≡ q f.name = λ f. ap (λ m. nat_eq m k) (sym (names_counted g ix image f.name es)) in
@@ -116,9 +115,9 @@ listed_at image k c =
     find_alike p q (f ∷ files) h = ap (λ v. cond v (Some f) (find p files)) (h f) ∙ ap (λ o. cond (q f) (Some f) o) (find_alike p q files h)
 
 -- the name of the entry that is found fits
-pub nth_short : (image : List ℕ) (k : ℕ) (x : Entry) → IsCleanImage image → find (λ (e : Entry). is_used e && nat_eq (names_before (entries_2 image) e.name) k) (entries_2 image) ≡ Some x → text_length x.name ≤ 27
+pub nth_short : (image : List ℕ) (k : ℕ) (x : Entry) → IsCleanImage image → find (λ (e : Entry). entry_is_used e && nat_eq (names_before (entries_2 image) e.name) k) (entries_2 image) ≡ Some x → text_length x.name ≤ 27
 nth_short image k x c e =
-    let g = geometry_of image in let ix = (fields_of g image).indexes in let es = entries_of g image in
+    let g = geometry_of image in let ix = (fields_of g image).indexes in let es = directory_entries g image in
     let f : nth es k ≡ Some x = ap (λ xs. nth xs k) (clean_entries image c) ∙ e in
     name_short 27 x.name (found_named g ix image 27 [] (λ (e : Entry). nat_eq (names_before es e.name) k) es x (placed_names image c.faultless) f)
 
@@ -129,4 +128,4 @@ shown_within h (x ∷ xs) zero = (let l : nat_lt 0 (suc (length xs)) ≡ true = 
 shown_within h (x ∷ xs) (suc k) = shown_within h xs k ∙ (let l : nat_lt k (length xs) ≡ nat_lt (suc k) (suc (length xs)) = grind (arith, nat_tests) in l)
 
 pub listed_within : (files : List File) (k : ℕ) → is_some (slice_get (listing files) k) ≡ nat_lt k (length files)
-listed_within files k = shown_within (λ (f : File). (text_of f.name, length f.bytes)) files k
+listed_within files k = shown_within (λ (f : File). (bare_name f.name, length f.bytes)) files k

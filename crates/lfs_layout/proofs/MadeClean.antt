@@ -3,17 +3,17 @@ use Rattle.std.proofs.Common.{◌≡◌, ℕ, ◌+◌, ◌*◌, ◌/◌, ◌≤�
 use Rattle.lfs_check.specs.Fields.{is_version_2}
 use Rattle.lfs_check.specs.Faults.{fault}
 use Rattle.lfs_layout.specs.Files.{File, placed_files, files_of, sorted, names_right, names_of}
-use Rattle.lfs_layout.specs.Made.{image_of, Room}
+use Rattle.lfs_layout.specs.Made.{image_with, Room}
 use Rattle.lfs_layout.specs.Images.{IsCleanImage, opened}
 use Rattle.lfs_layout.proofs.MadeFields.{length_image}
 use Rattle.lfs_layout.proofs.MadeRules.{version_is_2, made_faultless}
 use Rattle.lfs_layout.proofs.MadeFiles.{made_files}
 use Rattle.lfs_layout.proofs.CleanOpens.{migrated_room, placed_names}
 
-pub made_clean : (n : ℕ) (files : List File) → Room n files → names_right 27 [] (names_of files) ≡ true → IsCleanImage (image_of n files)
+pub made_clean : (n : ℕ) (files : List File) → Room n files → names_right 27 [] (names_of files) ≡ true → IsCleanImage (image_with n files)
 made_clean n files r e = record { faultless = made_faultless n files r e; version = version_is_2 n files r }
 
-pub made_sorted : (n : ℕ) (files : List File) → Room n files → names_right 27 [] (names_of files) ≡ true → files_of (image_of n files) ≡ sorted files
+pub made_sorted : (n : ℕ) (files : List File) → Room n files → names_right 27 [] (names_of files) ≡ true → files_of (image_with n files) ≡ sorted files
 made_sorted n files r e = ap sorted (made_files n files r e)
 
 pub empty_room : (n : ℕ) → 14 ≤ n → n ≤ 65542 → Room n []
@@ -22,7 +22,7 @@ empty_room n low high = record { low = low; high = high; data_room = omega arith
 -- an image that is opened is clean, for the same files
 pub opened_clean : (image : List ℕ) → fault image ≡ None → IsCleanImage (opened image)
 opened_clean image e =
-    let P : Bool → Type 0 = λ v. is_version_2 image ≡ v → IsCleanImage (cond v image (image_of (length image / 512 + 6) (placed_files image))) in
+    let P : Bool → Type 0 = λ v. is_version_2 image ≡ v → IsCleanImage (cond v image (image_with (length image / 512 + 6) (placed_files image))) in
     let yes : P true = λ v. record { faultless = e; version = v } in
     let no : P false = λ v. made_clean (length image / 512 + 6) (placed_files image) (migrated_room image e v) (placed_names image e) in
     let all : (v : Bool) → P v = λ v. elim v as (λ v. P v) [ true ↦ yes | false ↦ no ] in
@@ -30,7 +30,7 @@ opened_clean image e =
 
 pub opened_files : (image : List ℕ) → fault image ≡ None → files_of (opened image) ≡ files_of image
 opened_files image e =
-    let P : Bool → Type 0 = λ v. is_version_2 image ≡ v → files_of (cond v image (image_of (length image / 512 + 6) (placed_files image))) ≡ files_of image in
+    let P : Bool → Type 0 = λ v. is_version_2 image ≡ v → files_of (cond v image (image_with (length image / 512 + 6) (placed_files image))) ≡ files_of image in
     let yes : P true = λ v. refl in
     let no : P false = λ v. made_sorted (length image / 512 + 6) (placed_files image) (migrated_room image e v) (placed_names image e) in
     let all : (v : Bool) → P v = λ v. elim v as (λ v. P v) [ true ↦ yes | false ↦ no ] in
@@ -40,7 +40,7 @@ opened_files image e =
 pub opened_length : (image : List ℕ) → fault image ≡ None → length (opened image) ≡ cond (is_version_2 image) (length image) (512 * (length image / 512 + 6))
 opened_length image e =
     let n = length image / 512 + 6 in
-    let P : Bool → Type 0 = λ v. is_version_2 image ≡ v → length (cond v image (image_of n (placed_files image))) ≡ cond v (length image) (512 * n) in
+    let P : Bool → Type 0 = λ v. is_version_2 image ≡ v → length (cond v image (image_with n (placed_files image))) ≡ cond v (length image) (512 * n) in
     let yes : P true = λ v. refl in
     let no : P false = λ v. length_image n (placed_files image) (migrated_room image e v) in
     let all : (v : Bool) → P v = λ v. elim v as (λ v. P v) [ true ↦ yes | false ↦ no ] in

@@ -8,28 +8,28 @@ use Rattle.lfs_format.specs.declared.Entry.{Entry}
 use Rattle.lfs_format.specs.declared.Index.{Index}
 use Rattle.lfs_check.specs.declared.fields.Header.{Header}
 use Rattle.lfs_check.specs.Geometries.{index_count, first_data, IsGeometry}
-use Rattle.lfs_check.specs.Rules.{is_used}
+use Rattle.lfs_check.specs.Rules.{entry_is_used}
 use Rattle.lfs_check.specs.Meets.{null}
 use Rattle.lfs_check.specs.Checks.{need_index, need_data}
 use Rattle.lfs_check.specs.Laid.{Shape, no_index, index_in}
-use Rattle.lfs_check.specs.Fields.{numbered, fields_of, link_in_bytes}
+use Rattle.lfs_check.specs.Fields.{numbered_values, fields_of, link_in_bytes}
 use Rattle.lfs_check.specs.Clean.{Passes, places_of}
 use Rattle.lfs_check.specs.Empty.{upwards, next_upwards}
-use Rattle.lfs_check.specs.Built.{index_need, data_need, run_end, LieFrom, head_of, IsBuilt, built_places}
+use Rattle.lfs_check.specs.Built.{index_need, data_need, run_end, LieFrom, chain_head, IsBuilt, built_places}
 use Rattle.lfs_check.proofs.Numbered.{length_numbered, numbered-at}
 use Rattle.lfs_check.proofs.Images.{fields_shape}
 use Rattle.lfs_check.proofs.Theorems.{built_passes}
 use Rattle.lfs_layout.specs.Files.{File, total_for}
-use Rattle.lfs_layout.specs.Made.{indexes_needed, data_needed, entry_for, entries_for, no_entry, index_end, data_end, file_index, indexes_for, free_index, all_indexes, image_of, geometry_2, no_file, Room}
+use Rattle.lfs_layout.specs.Made.{indexes_needed, data_needed, entry_for, entries_for, no_entry, index_end, data_end, file_index, indexes_for, free_index, all_indexes, image_with, geometry_2, no_file, Room}
 use Rattle.lfs_layout.proofs.Joins.{length_upwards, upwards_at}
 use Rattle.lfs_layout.proofs.MadeParts.{length_indexes_for, free_index_at}
 use Rattle.lfs_layout.proofs.MadeFields.{header_read, entries_read, indexes_read, link_read}
 
 -- the first byte of each name isn't zero
 abbrev pub AreUsed : List File → Type 0
-AreUsed files = (k : ℕ) → k < length files → is_used (entry_for 0 (get_or files k no_file)) ≡ true
+AreUsed files = (k : ℕ) → k < length files → entry_is_used (entry_for 0 (get_or files k no_file)) ≡ true
 
-used_none : is_used no_entry ≡ false
+used_none : entry_is_used no_entry ≡ false
 used_none = refl
 
 -- the needs of entries are those of their files
@@ -53,7 +53,7 @@ data_run b i (f ∷ files) m used =
     ∙ data_run (b + data_needed f) (i + indexes_needed f) files m (λ k h. used (suc k) (omega (arith, h)))
     ∙ (let q : b + data_needed f + total_for 512 files ≡ b + total_for 512 (f ∷ files) = omega arith in q)
 
-first_is : (a n : ℕ) → head_of a (a + n) ≡ slice_index_or (upwards a n) 0 null
+first_is : (a n : ℕ) → chain_head a (a + n) ≡ slice_index_or (upwards a n) 0 null
 first_is a zero = (let t : nat_lt a (a + 0) ≡ false = (let h : a + 0 ≤ a = omega arith in grind (arith, nat_tests)) in ap (λ b. cond b a null) t)
 first_is a (suc n) = (let t : nat_lt a (a + suc n) ≡ true = (let h : a < a + suc n = omega arith in grind (arith, nat_tests)) in ap (λ b. cond b a null) t)
 
@@ -72,7 +72,7 @@ lie-files d a b [] m used all = lie-none d a b m
 lie-files d a b (f ∷ files) m used all =
     let n = indexes_needed f in let w = data_needed f in
     let chain = upwards a n in let blocks = upwards b w in
-    let mine = numbered (file_index a b f) n in
+    let mine = numbered_values (file_index a b f) n in
     let len = length_numbered (file_index a b f) n in
     let u = used 0 (omega arith) in
     let P : ℕ → Type 0 = λ k. LieFrom d k (b + data_need (entry_for a f)) (entries_for (a + n) files ++ replicate m no_entry) in
@@ -95,7 +95,7 @@ lie-files d a b (f ∷ files) m used all =
     )
 
 abbrev pub shape_made : ℕ → List File → Shape
-shape_made n files = fields_of (geometry_2 n) (image_of n files)
+shape_made n files = fields_of (geometry_2 n) (image_with n files)
 
 -- the image is built of its files
 pub made_built : (n : ℕ) (files : List File) → Room n files → AreUsed files → IsBuilt (geometry_2 n) (shape_made n files)
@@ -117,14 +117,14 @@ made_built n files r used =
           ∙ get_or-append (indexes_for 0 (first_data g) files) rest no_index j (omega (arith, len, h))));
       index_room = omega (arith, ir, iroom);
       data_room = omega (arith, dr, droom, low);
-      index_head = ap (λ (h : Header). h.free_index) hs ∙ ap (λ k. head_of k (index_count g)) (sym ir);
-      data_head = ap (λ (h : Header). h.free_data) hs ∙ ap (λ k. head_of k n) (sym dr);
+      index_head = ap (λ (h : Header). h.free_index) hs ∙ ap (λ k. chain_head k (index_count g)) (sym ir);
+      data_head = ap (λ (h : Header). h.free_data) hs ∙ ap (λ k. chain_head k n) (sym dr);
       nexts = λ i lo hi. (let k = i - index_end files in let at : index_end files + k ≡ i = omega (arith, lo, ir) in
           let past : i ≡ length (indexes_for 0 (first_data g) files) + k = omega (arith, at, len) in
           ap (λ (x : Index). x.next) (in_list i ∙ ap (λ j. get_or (all_indexes g files) j no_index) past ∙ get_or-append-add (indexes_for 0 (first_data g) files) rest k no_index
           ∙ free_index_at g (index_end files) (index_count g - index_end files) k (omega (arith, lo, hi, ir)))
           ∙ ap (next_upwards (index_count g)) at);
-      links = λ b lo hi. numbered-at (link_in_bytes (image_of n files)) n b 0 hi ∙ link_read n files r b (omega (arith, lo, dr)) hi;
+      links = λ b lo hi. numbered-at (link_in_bytes (image_with n files)) n b 0 hi ∙ link_read n files r b (omega (arith, lo, dr)) hi;
     }
 
 pub made_geometry : (n : ℕ) (files : List File) → Room n files → IsGeometry (geometry_2 n)
@@ -133,4 +133,4 @@ made_geometry n files r = record { dirs = omega arith; few = (let l = r.low in o
 -- so it breaks no rule from 4 to 7, and whose its blocks are is known
 pub made_passes : (n : ℕ) (files : List File) → Room n files → AreUsed files → Passes (geometry_2 n) (shape_made n files) × (places_of (geometry_2 n) (shape_made n files) ≡ built_places (geometry_2 n) (shape_made n files))
 made_passes n files r used =
-    built_passes (geometry_2 n) (shape_made n files) (made_geometry n files r) (fields_shape (geometry_2 n) (image_of n files)) (made_built n files r used)
+    built_passes (geometry_2 n) (shape_made n files) (made_geometry n files r) (fields_shape (geometry_2 n) (image_with n files)) (made_built n files r used)

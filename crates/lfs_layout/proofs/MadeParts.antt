@@ -6,14 +6,14 @@ use Rattle.std.proofs.lemmas.Bool.Decides.{nat_tests}
 use Rattle.std.specs.List.{flat_map}
 use Rattle.lfs_format.specs.declared.Entry.{Entry}
 use Rattle.lfs_format.specs.declared.Index.{Index}
-use Rattle.lfs_format.specs.Directory.{EntryFits, blank}
+use Rattle.lfs_format.specs.Directory.{EntryFits, void_entry}
 use Rattle.lfs_check.specs.declared.geometry.Geometry.{Geometry}
 use Rattle.lfs_check.specs.Geometries.{index_count, first_data}
 use Rattle.lfs_check.specs.Meets.{null}
 use Rattle.lfs_check.specs.Laid.{no_index}
-use Rattle.lfs_check.specs.Fields.{numbered}
+use Rattle.lfs_check.specs.Fields.{numbered_values}
 use Rattle.lfs_check.specs.Empty.{upwards, next_upwards}
-use Rattle.lfs_check.specs.Built.{head_of}
+use Rattle.lfs_check.specs.Built.{chain_head}
 use Rattle.lfs_check.proofs.Numbered.{length_numbered, numbered-at}
 use Rattle.lfs_layout.specs.Files.{File, total_for}
 use Rattle.lfs_layout.specs.Made.{indexes_needed, data_needed, entries_for, no_entry, all_entries, index_end, file_index, indexes_for, free_index, all_indexes, padded, no_file}
@@ -21,10 +21,10 @@ use Rattle.lfs_layout.proofs.Joins.{length_upwards, upwards_at}
 use Rattle.lfs_layout.proofs.Regions.{AllFit, fit_append, fit_take, fit_drop, fit_replicate, each_append, IndexFits}
 
 -- numbers that fit in a word
-pub head_fits : (low high : ℕ) → high < 2 ^ 32 → head_of low high < 2 ^ 32
+pub head_fits : (low high : ℕ) → high < 2 ^ 32 → chain_head low high < 2 ^ 32
 head_fits low high h = ⊎_elim
-    (λ (lt : low < high). (let t : nat_lt low high ≡ true = grind (arith, nat_tests) in let e : head_of low high ≡ low = ap (λ b. cond b low null) t in omega (arith, e, lt, h)))
-    (λ (ge : high ≤ low). (let t : nat_lt low high ≡ false = grind (arith, nat_tests) in let e : head_of low high ≡ null = ap (λ b. cond b low null) t in omega (arith, e)))
+    (λ (lt : low < high). (let t : nat_lt low high ≡ true = grind (arith, nat_tests) in let e : chain_head low high ≡ low = ap (λ b. cond b low null) t in omega (arith, e, lt, h)))
+    (λ (ge : high ≤ low). (let t : nat_lt low high ≡ false = grind (arith, nat_tests) in let e : chain_head low high ≡ null = ap (λ b. cond b low null) t in omega (arith, e)))
     (cases_lt low high)
 
 pub next_fits : (end n : ℕ) → end < 2 ^ 32 → next_upwards end n < 2 ^ 32
@@ -53,7 +53,7 @@ size_fits : (f : File) (most : ℕ) → data_needed f ≤ most → most ≤ 6554
 size_fits f most h k = omega (arith, h, k)
 
 entries_for_fit : (a : ℕ) (files : List File) → total_for 512 files ≤ 65542 → a + total_for 8192 files ≤ 65542 → ((k : ℕ) → k < length files → length (get_or files k no_file).name ≡ 28)
-    → (k : ℕ) → k < length (entries_for a files) → EntryFits (get_or (entries_for a files) k blank)
+    → (k : ℕ) → k < length (entries_for a files) → EntryFits (get_or (entries_for a files) k void_entry)
 entries_for_fit a [] p q wide k h = absurd (omega (arith, h))
 entries_for_fit a (f ∷ files) p q wide zero h = record {
   size = size_fits f 65542 (omega (arith, p)) (omega arith);
@@ -66,23 +66,23 @@ entries_for_fit a (f ∷ files) p q wide (suc k) h =
 no_entry_fits : EntryFits no_entry
 no_entry_fits = record { size = omega arith; first = omega arith; name = length-replicate {A = ℕ} 28 0 }
 
-none_fit : (n k : ℕ) → k < length (replicate n no_entry) → EntryFits (get_or (replicate n no_entry) k blank)
+none_fit : (n k : ℕ) → k < length (replicate n no_entry) → EntryFits (get_or (replicate n no_entry) k void_entry)
 none_fit zero k h = absurd (omega (arith, h))
 none_fit (suc n) zero h = no_entry_fits
 none_fit (suc n) (suc k) h = none_fit n k (omega (arith, h))
 
 pub all_entries_fit : (files : List File) → total_for 512 files ≤ 65542 → total_for 8192 files ≤ 65542 → ((k : ℕ) → k < length files → length (get_or files k no_file).name ≡ 28)
-    → (k : ℕ) → k < length (all_entries files) → EntryFits (get_or (all_entries files) k blank)
+    → (k : ℕ) → k < length (all_entries files) → EntryFits (get_or (all_entries files) k void_entry)
 all_entries_fit files p q wide =
     let P : Entry → Type 0 = λ e. EntryFits e in
-    each_append P (entries_for 0 files) (replicate (78 - length files) no_entry) blank (entries_for_fit 0 files p (omega (arith, q)) wide) (none_fit (78 - length files))
+    each_append P (entries_for 0 files) (replicate (78 - length files) no_entry) void_entry (entries_for_fit 0 files p (omega (arith, q)) wide) (none_fit (78 - length files))
 
 -- the index blocks of files
 pub length_indexes_for : (a b : ℕ) (files : List File) → length (indexes_for a b files) ≡ total_for 8192 files
 length_indexes_for a b [] = refl
 length_indexes_for a b (f ∷ files) =
     let i = length_indexes_for (a + indexes_needed f) (b + data_needed f) files in let n = length_numbered (file_index a b f) (indexes_needed f) in
-    let l = length-append (numbered (file_index a b f) (indexes_needed f)) (indexes_for (a + indexes_needed f) (b + data_needed f) files) in omega (arith, i, n, l)
+    let l = length-append (numbered_values (file_index a b f) (indexes_needed f)) (indexes_for (a + indexes_needed f) (b + data_needed f) files) in omega (arith, i, n, l)
 
 pub length_all_indexes : (g : Geometry) (files : List File) → total_for 8192 files ≤ index_count g → length (all_indexes g files) ≡ index_count g
 length_all_indexes g files h =
@@ -112,7 +112,7 @@ indexes_for_fit : (a b : ℕ) (files : List File) → a + total_for 8192 files �
 indexes_for_fit a b [] p q k h = absurd (omega (arith, h))
 indexes_for_fit a b (f ∷ files) p q k h =
     let P : Index → Type 0 = λ i. IndexFits i in
-    each_append P (numbered (file_index a b f) (indexes_needed f)) (indexes_for (a + indexes_needed f) (b + data_needed f) files) no_index
+    each_append P (numbered_values (file_index a b f) (indexes_needed f)) (indexes_for (a + indexes_needed f) (b + data_needed f) files) no_index
     (λ k h. (let l = length_numbered (file_index a b f) (indexes_needed f) in let lt : k < indexes_needed f = omega (arith, l, h) in
     subst P (sym (numbered-at (file_index a b f) (indexes_needed f) k no_index lt)) (file_index_fits a b f k (omega (arith, p)) (omega (arith, q)) lt)))
     (indexes_for_fit (a + indexes_needed f) (b + data_needed f) files (omega (arith, p)) (omega (arith, q))) k h

@@ -15,13 +15,13 @@ use Rattle.lfs_check.specs.declared.geometry.Geometry.{Geometry}
 use Rattle.lfs_check.specs.declared.fields.Header.{Header}
 use Rattle.lfs_check.specs.declared.faults.DiskFault.{DiskFault}
 use Rattle.lfs_check.specs.Geometries.{room}
-use Rattle.lfs_check.specs.Rules.{is_used, is_name, has_name, text_length, are_zeros, first_failing, in_entry_block, has_bad_name, is_larger, rule_0, rule_1, rule_2, rule_3, block_in, begins_right, ends_right, is_dir_block}
+use Rattle.lfs_check.specs.Rules.{entry_is_used, is_name, has_name, text_length, are_zeros, first_failing, in_entry_block, has_bad_name, is_larger, rule_0, rule_1, rule_2, rule_3, block_in, begins_right, ends_right, is_dir_block}
 use Rattle.lfs_check.specs.Checks.{rule_4, rule_5, rule_6, rule_7}
-use Rattle.lfs_check.specs.Fields.{is_version_2, geometry_of, fields_of, header_of, entries_of}
-use Rattle.lfs_check.specs.Faults.{named, first_fault, dir_fault, walks_fault, shape_fault, fault}
+use Rattle.lfs_check.specs.Fields.{is_version_2, geometry_of, fields_of, directory_header, directory_entries}
+use Rattle.lfs_check.specs.Faults.{named, either_fault, dir_fault, walks_fault, shape_fault, fault}
 use Rattle.lfs_check.proofs.Nones.{first_from-nothing}
 use Rattle.lfs_layout.specs.Files.{File, total_for, is_among, names_right, names_of}
-use Rattle.lfs_layout.specs.Made.{indexes_needed, entry_for, entries_for, no_entry, all_entries, header_for, dir_for, image_of, geometry_2, Room}
+use Rattle.lfs_layout.specs.Made.{indexes_needed, entry_for, entries_for, no_entry, all_entries, header_for, dir_for, image_with, geometry_2, Room}
 use Rattle.lfs_layout.proofs.Regions.{dir_bytes_begin}
 use Rattle.lfs_layout.proofs.MadeFields.{dir_block, dir_block_end, header_read, entries_read, length_image}
 use Rattle.lfs_layout.proofs.MadeLies.{AreUsed, shape_made, made_passes}
@@ -35,32 +35,32 @@ not-true true e = absurd (false≢true e)
 not-true false e = refl
 
 -- its version, its size and its geometry
-version_read : (n : ℕ) (files : List File) → Room n files → word_of (drop 492 (image_of n files)) ≡ 2
+version_read : (n : ℕ) (files : List File) → Room n files → word_of (drop 492 (image_with n files)) ≡ 2
 unfolding words_of dir_ending
 version_read n files r =
-    let x = image_of n files in
+    let x = image_with n files in
     let cut : take 20 (drop 492 x) ≡ drop 492 (take 512 x) = sym (drop-take 492 20 x) in
     let block : take 512 x ≡ block_in x 0 = ap (λ k. take 512 (drop k x)) (let e : 0 ≡ 512 * 0 = omega arith in e) in
     ap (λ ws. slice_index ws 0) (sym (words_of-take 1 20 (drop 492 x) (omega arith))) ∙ ap word_of (cut ∙ ap (drop 492) block ∙ sym (drop-drop 12 480 (block_in x 0)) ∙ ap (drop 12) (dir_block_end n files r 0 (omega arith)))
 
-pub version_is_2 : (n : ℕ) (files : List File) → Room n files → is_version_2 (image_of n files) ≡ true
+pub version_is_2 : (n : ℕ) (files : List File) → Room n files → is_version_2 (image_with n files) ≡ true
 version_is_2 n files r =
-    let size = length (image_of n files) in
+    let size = length (image_with n files) in
     let l = length_image n files r in let low = r.low in
     let a : nat_eq (size % 512) 0 ≡ true = (let e : size % 512 ≡ 0 = omega (arith, l) in grind (arith, nat_tests)) in
     let b : nat_le 4096 size ≡ true = (let e : 4096 ≤ size = omega (arith, l, low) in grind (arith, nat_tests)) in
-    let c : nat_eq (word_of (drop 492 (image_of n files))) 2 ≡ true = ap (λ w. nat_eq w 2) (version_read n files r) in
-    ap (λ v. v && nat_le 4096 size && nat_eq (word_of (drop 492 (image_of n files))) 2) a ∙ ap (λ v. v && nat_eq (word_of (drop 492 (image_of n files))) 2) b ∙ c
+    let c : nat_eq (word_of (drop 492 (image_with n files))) 2 ≡ true = ap (λ w. nat_eq w 2) (version_read n files r) in
+    ap (λ v. v && nat_le 4096 size && nat_eq (word_of (drop 492 (image_with n files))) 2) a ∙ ap (λ v. v && nat_eq (word_of (drop 492 (image_with n files))) 2) b ∙ c
 
-pub made_geometry_is : (n : ℕ) (files : List File) → Room n files → geometry_of (image_of n files) ≡ geometry_2 n
+pub made_geometry_is : (n : ℕ) (files : List File) → Room n files → geometry_of (image_with n files) ≡ geometry_2 n
 made_geometry_is n files r =
     let l = length_image n files r in
-    ap (λ v. let g : Geometry = record { dirs = cond v 6 1; blocks = length (image_of n files) / 512 } in g) (version_is_2 n files r)
-    ∙ ap (λ k. let g : Geometry = record { dirs = 6; blocks = k } in g) (let e : length (image_of n files) / 512 ≡ n = omega (arith, l) in e)
+    ap (λ v. let g : Geometry = record { dirs = cond v 6 1; blocks = length (image_with n files) / 512 } in g) (version_is_2 n files r)
+    ∙ ap (λ k. let g : Geometry = record { dirs = 6; blocks = k } in g) (let e : length (image_with n files) / 512 ≡ n = omega (arith, l) in e)
 
-made_rule_0 : (n : ℕ) (files : List File) → Room n files → rule_0 (geometry_2 n) (image_of n files) ≡ None
+made_rule_0 : (n : ℕ) (files : List File) → Room n files → rule_0 (geometry_2 n) (image_with n files) ≡ None
 made_rule_0 n files r =
-    let size = length (image_of n files) in
+    let size = length (image_with n files) in
     let l = length_image n files r in let low = r.low in let high = r.high in
     let a : nat_eq (size % 512) 0 ≡ true = (let e : size % 512 ≡ 0 = omega (arith, l) in grind (arith, nat_tests)) in
     let b : nat_le (512 * 14) size ≡ true = (let e : 512 * 14 ≤ size = omega (arith, l, low) in grind (arith, nat_tests)) in
@@ -105,7 +105,7 @@ names_pass n before names a (f ∷ files) m same e =
     let test : has_bad_name (geometry_2 n) before (entry_for a f) ≡ false =
     ap (λ v. v && (not (is_name 27 f.name) || has_name before f.name)) used ∙ ap (λ v. not v || has_name before f.name) two.0 ∙ fresh in
     let more : (x : List ℕ) → has_name (before ++ entry_for a f ∷ []) x ≡ is_among (names ++ f.name ∷ []) x = λ x.
-    list_any-append (λ (g : Entry). is_used g && bytes_eq g.name x) before (entry_for a f ∷ []) ∙ or-nil (has_name before x) (is_used (entry_for a f) && bytes_eq f.name x)
+    list_any-append (λ (g : Entry). entry_is_used g && bytes_eq g.name x) before (entry_for a f ∷ []) ∙ or-nil (has_name before x) (entry_is_used (entry_for a f) && bytes_eq f.name x)
     ∙ ap (λ v. has_name before x || (v && bytes_eq f.name x)) used ∙ ap (λ v. v || bytes_eq f.name x) (same x)
     ∙ sym (list_any-append (λ y. bytes_eq y x) names (f.name ∷ []) ∙ or-nil (is_among names x) (bytes_eq f.name x)) in
     ap (λ v. cond v (Some (length before)) (first_failing (has_bad_name (geometry_2 n)) (before ++ entry_for a f ∷ []) (entries_for (a + indexes_needed f) files ++ replicate m no_entry))) test
@@ -115,14 +115,14 @@ no_names : (x : List ℕ) → has_name [] x ≡ is_among [] x
 unfolding has_name
 no_names x = refl
 
-made_rule_1 : (n : ℕ) (files : List File) → Room n files → names_right 27 [] (names_of files) ≡ true → rule_1 (geometry_2 n) (entries_of (geometry_2 n) (image_of n files)) ≡ None
+made_rule_1 : (n : ℕ) (files : List File) → Room n files → names_right 27 [] (names_of files) ≡ true → rule_1 (geometry_2 n) (directory_entries (geometry_2 n) (image_with n files)) ≡ None
 made_rule_1 n files r e =
     ap (rule_1 (geometry_2 n)) (entries_read n files r) ∙ ap (in_entry_block (geometry_2 n)) (names_pass n [] [] 0 files (78 - length files) no_names e)
 
 -- counts
 abbrev used_in : List Entry → ℕ
 used_in [] = 0
-used_in (e ∷ es) = cond (is_used e) (1 + used_in es) (used_in es)
+used_in (e ∷ es) = cond (entry_is_used e) (1 + used_in es) (used_in es)
 
 none_used : (m : ℕ) → used_in (replicate m no_entry) ≡ 0
 none_used zero = refl
@@ -135,9 +135,9 @@ files_used a (f ∷ files) m used =
     let rest = used_in (entries_for (a + indexes_needed f) files ++ replicate m no_entry) in
     ap (λ v. cond v (1 + rest) rest) (used 0 (omega arith)) ∙ (omega (arith, i))
 
-count_read : (n : ℕ) (files : List File) → Room n files → AreUsed files → count_by is_used (entries_of (geometry_2 n) (image_of n files)) ≡ length files
+count_read : (n : ℕ) (files : List File) → Room n files → AreUsed files → count_by entry_is_used (directory_entries (geometry_2 n) (image_with n files)) ≡ length files
 count_read n files r used =
-    ap (count_by is_used) (entries_read n files r) ∙ sym (is_count_by used_in is_used refl (λ e es. refl) (all_entries files)) ∙ files_used 0 files (78 - length files) used
+    ap (count_by entry_is_used) (entries_read n files r) ∙ sym (is_count_by used_in entry_is_used refl (λ e es. refl) (all_entries files)) ∙ files_used 0 files (78 - length files) used
 
 begin_zeros : (header : Header) (entries : List Entry) (d : ℕ) → 0 < d → are_zeros (take 12 (dir_bytes (dir_for header entries d))) ≡ true
 unfolding word_bytes
@@ -147,24 +147,24 @@ begin_zeros header entries d h =
     ap are_zeros (dir_bytes_begin dir) ∙ ap (λ v. are_zeros (word_bytes (cond v header.free_data 0 ∷ cond v header.free_index 0 ∷ cond v header.files 0 ∷ []))) t
 
 dir_right : (n : ℕ) (files : List File) → Room n files → AreUsed files → (d : ℕ) → d < 6
-    → is_dir_block (geometry_2 n) (header_of (geometry_2 n) (image_of n files)) (entries_of (geometry_2 n) (image_of n files)) (image_of n files) d ≡ true
+    → is_dir_block (geometry_2 n) (directory_header (geometry_2 n) (image_with n files)) (directory_entries (geometry_2 n) (image_with n files)) (image_with n files) d ≡ true
 dir_right n files r used d h =
-    let g = geometry_2 n in let image = image_of n files in
-    let header = header_of g image in let es = entries_of g image in
+    let g = geometry_2 n in let image = image_with n files in
+    let header = directory_header g image in let es = directory_entries g image in
     let ends : ends_right g (block_in image d) ≡ true = ap (λ b. bytes_eq b dir_ending) (dir_block_end n files r d h) ∙ (bytes_eq-Decides dir_ending dir_ending).1 refl in
-    let counts : count_by is_used es ≡ header.files = count_read n files r used ∙ sym (ap (λ (x : Header). x.files) (header_read n files r)) in
+    let counts : count_by entry_is_used es ≡ header.files = count_read n files r used ∙ sym (ap (λ (x : Header). x.files) (header_read n files r)) in
     let begins : begins_right header es (block_in image d) d ≡ true =
-    ⊎_elim (λ (lt : d < 1). (let t : nat_eq d 0 ≡ true = grind (arith, nat_tests) in let q : nat_eq (count_by is_used es) header.files ≡ true = grind (arith, nat_tests) in
-    ap (λ v. cond v (nat_eq (count_by is_used es) header.files) (are_zeros (take 12 (block_in image d)))) t ∙ q))
+    ⊎_elim (λ (lt : d < 1). (let t : nat_eq d 0 ≡ true = grind (arith, nat_tests) in let q : nat_eq (count_by entry_is_used es) header.files ≡ true = grind (arith, nat_tests) in
+    ap (λ v. cond v (nat_eq (count_by entry_is_used es) header.files) (are_zeros (take 12 (block_in image d)))) t ∙ q))
     (λ (ge : 1 ≤ d). (let t : nat_eq d 0 ≡ false = grind (arith, nat_tests) in
-    ap (λ v. cond v (nat_eq (count_by is_used es) header.files) (are_zeros (take 12 (block_in image d)))) t
+    ap (λ v. cond v (nat_eq (count_by entry_is_used es) header.files) (are_zeros (take 12 (block_in image d)))) t
     ∙ ap (λ b. are_zeros (take 12 b)) (dir_block n files r d h) ∙ begin_zeros (header_for g files) (all_entries files) d ge))
     (cases_lt d 1) in
     ap (λ v. v && ends_right g (block_in image d)) begins ∙ ends
 
-made_rule_2 : (n : ℕ) (files : List File) → Room n files → AreUsed files → rule_2 (geometry_2 n) (header_of (geometry_2 n) (image_of n files)) (entries_of (geometry_2 n) (image_of n files)) (image_of n files) ≡ None
+made_rule_2 : (n : ℕ) (files : List File) → Room n files → AreUsed files → rule_2 (geometry_2 n) (directory_header (geometry_2 n) (image_with n files)) (directory_entries (geometry_2 n) (image_with n files)) (image_with n files) ≡ None
 made_rule_2 n files r used =
-    first_from-nothing (λ d. not (is_dir_block (geometry_2 n) (header_of (geometry_2 n) (image_of n files)) (entries_of (geometry_2 n) (image_of n files)) (image_of n files) d)) 0 6
+    first_from-nothing (λ d. not (is_dir_block (geometry_2 n) (directory_header (geometry_2 n) (image_with n files)) (directory_entries (geometry_2 n) (image_with n files)) (image_with n files) d)) 0 6
     (λ d low high. ap not (dir_right n files r used d (omega (arith, high))))
 
 -- sizes
@@ -183,23 +183,23 @@ sizes_pass most before a (f ∷ files) m used h =
     ap (λ v. cond (v && nat_lt most (length f.bytes)) (Some (length before)) rest) (used 0 (omega arith)) ∙ ap (λ v. cond v (Some (length before)) rest) t
     ∙ sizes_pass most (before ++ entry_for a f ∷ []) (a + indexes_needed f) files m (λ k l. used (suc k) (omega (arith, l))) (omega (arith, h))
 
-made_rule_3 : (n : ℕ) (files : List File) → Room n files → AreUsed files → rule_3 (geometry_2 n) (entries_of (geometry_2 n) (image_of n files)) ≡ None
+made_rule_3 : (n : ℕ) (files : List File) → Room n files → AreUsed files → rule_3 (geometry_2 n) (directory_entries (geometry_2 n) (image_with n files)) ≡ None
 made_rule_3 n files r used =
     let d = r.data_room in
     ap (rule_3 (geometry_2 n)) (entries_read n files r) ∙ ap (in_entry_block (geometry_2 n)) (sizes_pass (room (geometry_2 n)) [] 0 files (78 - length files) used (omega (arith, d)))
 
-first-none : (a b : Option DiskFault) → a ≡ None → b ≡ None → first_fault a b ≡ None
-first-none a b p q = ap (λ x. first_fault x b) p ∙ q
+first-none : (a b : Option DiskFault) → a ≡ None → b ≡ None → either_fault a b ≡ None
+first-none a b p q = ap (λ x. either_fault x b) p ∙ q
 
 -- an image that is made has no fault
-pub made_faultless : (n : ℕ) (files : List File) → Room n files → names_right 27 [] (names_of files) ≡ true → fault (image_of n files) ≡ None
+pub made_faultless : (n : ℕ) (files : List File) → Room n files → names_right 27 [] (names_of files) ≡ true → fault (image_with n files) ≡ None
 made_faultless n files r e =
-    let g = geometry_2 n in let image = image_of n files in let d = shape_made n files in
+    let g = geometry_2 n in let image = image_with n files in let d = shape_made n files in
     let used = used_names [] files e in
     let p = (made_passes n files r used).0 in
     let walks : walks_fault g d ≡ None =
     first-none (named 4 (rule_4 g d)) _ (ap (named 4) p.four) (first-none (named 5 (rule_5 g d)) _ (ap (named 5) p.five) (first-none (named 6 (rule_6 g d)) (named 7 (rule_7 g d)) (ap (named 6) p.six) (ap (named 7) p.seven))) in
     let dirs : dir_fault g d.header d.entries image ≡ None =
     first-none (named 1 (rule_1 g d.entries)) _ (ap (named 1) (made_rule_1 n files r e)) (first-none (named 2 (rule_2 g d.header d.entries image)) (named 3 (rule_3 g d.entries)) (ap (named 2) (made_rule_2 n files r used)) (ap (named 3) (made_rule_3 n files r used))) in
-    ap (λ h. first_fault (named 0 (rule_0 h image)) (shape_fault h (fields_of h image) image)) (made_geometry_is n files r)
+    ap (λ h. either_fault (named 0 (rule_0 h image)) (shape_fault h (fields_of h image) image)) (made_geometry_is n files r)
     ∙ first-none (named 0 (rule_0 g image)) (shape_fault g d image) (ap (named 0) (made_rule_0 n files r)) (first-none (dir_fault g d.header d.entries image) (walks_fault g d) dirs walks)

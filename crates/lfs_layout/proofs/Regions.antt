@@ -7,7 +7,7 @@ use Rattle.lfs_format.specs.declared.Index.{Index}
 use Rattle.lfs_format.specs.declared.Dir.{Dir}
 use Rattle.lfs_format.specs.Words.{word_of, words_of, word_bytes}
 use Rattle.lfs_format.specs.Indexes.{index_of_words, index_words, index_bytes}
-use Rattle.lfs_format.specs.Directory.{entry_bytes, dir_words, dir_bytes, dir_ending, EntryFits, blank}
+use Rattle.lfs_format.specs.Directory.{entry_bytes, dir_words, dir_bytes, dir_ending, EntryFits, void_entry}
 use Rattle.lfs_format.proofs.Words.{length-word_bytes, words_of-bytes, words_of-take}
 use Rattle.lfs_format.proofs.Entries.{length-entry_bytes}
 use Rattle.lfs_check.specs.Laid.{no_index}
@@ -77,14 +77,14 @@ length_indexes (y ∷ ys) all =
     let i = length_indexes ys (λ j m. all (suc j) (omega (arith, m))) in let l = length_index_bytes y (all 0 (omega arith)) in
     let a = length-append (index_bytes y) (flat_map index_bytes ys) in omega (arith, i, l, a)
 
-pub length_entries : (es : List Entry) → ((k : ℕ) → k < length es → EntryFits (get_or es k blank)) → length (flat_map entry_bytes es) ≡ 36 * length es
+pub length_entries : (es : List Entry) → ((k : ℕ) → k < length es → EntryFits (get_or es k void_entry)) → length (flat_map entry_bytes es) ≡ 36 * length es
 length_entries [] all = refl
 length_entries (e ∷ es) all =
     let i = length_entries es (λ j m. all (suc j) (omega (arith, m))) in let l = length-entry_bytes e (all 0 (omega arith)) in
     let a = length-append (entry_bytes e) (flat_map entry_bytes es) in omega (arith, i, l, a)
 
 -- a directory block fills a block
-pub length_dir_bytes : (dir : Dir) → length dir.entries ≡ 13 → ((k : ℕ) → k < 13 → EntryFits (get_or dir.entries k blank)) → length (dir_bytes dir) ≡ 512
+pub length_dir_bytes : (dir : Dir) → length dir.entries ≡ 13 → ((k : ℕ) → k < 13 → EntryFits (get_or dir.entries k void_entry)) → length (dir_bytes dir) ≡ 512
 unfolding dir_bytes dir_ending
 length_dir_bytes dir l all =
     let w = length-word_bytes (dir_words dir) in let e = length_entries dir.entries (λ k h. all k (omega (arith, h, l))) in
@@ -93,7 +93,7 @@ length_dir_bytes dir l all =
     omega (arith, w, e, a, b, l)
 
 -- a directory block ends so
-pub dir_bytes_end : (dir : Dir) → length dir.entries ≡ 13 → ((k : ℕ) → k < 13 → EntryFits (get_or dir.entries k blank)) → drop 480 (dir_bytes dir) ≡ dir_ending
+pub dir_bytes_end : (dir : Dir) → length dir.entries ≡ 13 → ((k : ℕ) → k < 13 → EntryFits (get_or dir.entries k void_entry)) → drop 480 (dir_bytes dir) ≡ dir_ending
 unfolding dir_bytes
 dir_bytes_end dir l all =
     let w = length-word_bytes (dir_words dir) in let e = length_entries dir.entries (λ k h. all k (omega (arith, h, l))) in

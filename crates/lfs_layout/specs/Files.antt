@@ -5,8 +5,8 @@ use Rattle.lfs_format.specs.declared.Entry.{Entry}
 use Rattle.lfs_format.specs.declared.Index.{Index}
 use Rattle.lfs_check.specs.declared.geometry.Geometry.{Geometry}
 use Rattle.lfs_check.specs.Geometries.{index_count, first_data}
-use Rattle.lfs_check.specs.Rules.{is_used, is_name, text_length, block_in}
-use Rattle.lfs_check.specs.Fields.{geometry_of, fields_of, entries_of}
+use Rattle.lfs_check.specs.Rules.{entry_is_used, is_name, text_length, block_in}
+use Rattle.lfs_check.specs.Fields.{geometry_of, fields_of, directory_entries}
 use Rattle.lfs_check.specs.Clean.{data_in}
 use Rattle.lfs_check.specs.Faults.{fault}
 
@@ -16,22 +16,22 @@ pub record File : Type 0 where
   pub bytes : List ℕ
 
 -- a name without the zeros after it
-abbrev pub text_of : List ℕ → List ℕ
-text_of name = take (text_length name) name
+abbrev pub bare_name : List ℕ → List ℕ
+bare_name name = take (text_length name) name
 
 -- the bytes of the file of an entry: those of its data blocks, as many as its size says
-abbrev pub bytes_in : Geometry → List Index → List ℕ → Entry → List ℕ
-bytes_in g indexes image e = take e.size (flat_map (block_in image) (data_in g indexes e))
+abbrev pub content_of : Geometry → List Index → List ℕ → Entry → List ℕ
+content_of g indexes image e = take e.size (flat_map (block_in image) (data_in g indexes e))
 
 -- the files of the used entries, in the order of the entries
 abbrev pub files_in : Geometry → List Index → List ℕ → List Entry → List File
 files_in g indexes image [] = []
 files_in g indexes image (e ∷ es) =
-    cond (is_used e) (record { name = e.name; bytes = bytes_in g indexes image e } ∷ files_in g indexes image es) (files_in g indexes image es)
+    cond (entry_is_used e) (record { name = e.name; bytes = content_of g indexes image e } ∷ files_in g indexes image es) (files_in g indexes image es)
 
 -- the files of an image, in the order of its entries
 abbrev pub placed_files : List ℕ → List File
-placed_files image = files_in (geometry_of image) (fields_of (geometry_of image) image).indexes image (entries_of (geometry_of image) image)
+placed_files image = files_in (geometry_of image) (fields_of (geometry_of image) image).indexes image (directory_entries (geometry_of image) image)
 
 -- whether a name comes before another, byte by byte
 abbrev pub is_before : List ℕ → List ℕ → Bool
@@ -55,11 +55,11 @@ files_of image = sorted (placed_files image)
 
 -- what a listing shows of files: their names without the zeros after them, and how many bytes they have
 abbrev pub listing : List File → List (List ℕ × ℕ)
-listing files = map (λ (f : File). (text_of f.name, length f.bytes)) files
+listing files = map (λ (f : File). (bare_name f.name, length f.bytes)) files
 
 -- how many used entries have a name that comes before this one
 abbrev pub names_before : List Entry → List ℕ → ℕ
-names_before entries name = count_by (λ (e : Entry). is_used e && is_before e.name name) entries
+names_before entries name = count_by (λ (e : Entry). entry_is_used e && is_before e.name name) entries
 
 -- an image is clean for files if it breaks no rule and reading its entries gives these files
 pub record Clean (image : List ℕ) (files : List File) : Type 0 where
@@ -107,20 +107,20 @@ abbrev pub padded_name : List ℕ → List ℕ
 padded_name text = text ++ replicate (28 - length text) 0
 
 -- the bytes of the file of a name
-abbrev pub bytes_of : List ℕ → List File → Option (List ℕ)
-bytes_of name [] = None
-bytes_of name (f ∷ files) = cond (bytes_eq f.name name) (Some f.bytes) (bytes_of name files)
+abbrev pub content_named : List ℕ → List File → Option (List ℕ)
+content_named name [] = None
+content_named name (f ∷ files) = cond (bytes_eq f.name name) (Some f.bytes) (content_named name files)
 
 -- the bytes of the file of a text, if it can be a name and a file has it
 abbrev pub found : List ℕ → List File → Option (List ℕ)
-found text files = cond (is_text text) (bytes_of (padded_name text) files) None
+found text files = cond (is_text text) (content_named (padded_name text) files) None
 
 -- the first used entry of a name
 abbrev pub entry_named : List ℕ → List Entry → Option Entry
 entry_named name [] = None
-entry_named name (e ∷ es) = cond (is_used e && bytes_eq e.name name) (Some e) (entry_named name es)
+entry_named name (e ∷ es) = cond (entry_is_used e && bytes_eq e.name name) (Some e) (entry_named name es)
 
 -- the entries without those of a name
-abbrev pub entries_without : List ℕ → List Entry → List Entry
-entries_without name [] = []
-entries_without name (e ∷ es) = cond (bytes_eq e.name name) (entries_without name es) (e ∷ entries_without name es)
+abbrev pub other_entries : List ℕ → List Entry → List Entry
+other_entries name [] = []
+other_entries name (e ∷ es) = cond (bytes_eq e.name name) (other_entries name es) (e ∷ other_entries name es)

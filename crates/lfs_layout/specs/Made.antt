@@ -12,9 +12,9 @@ use Rattle.lfs_check.specs.declared.geometry.Geometry.{Geometry}
 use Rattle.lfs_check.specs.declared.fields.Header.{Header}
 use Rattle.lfs_check.specs.Geometries.{index_count, index_disks, first_data}
 use Rattle.lfs_check.specs.Laid.{index_for}
-use Rattle.lfs_check.specs.Fields.{numbered, joined}
+use Rattle.lfs_check.specs.Fields.{numbered_values, joined}
 use Rattle.lfs_check.specs.Empty.{upwards, next_upwards}
-use Rattle.lfs_check.specs.Built.{head_of}
+use Rattle.lfs_check.specs.Built.{chain_head}
 use Rattle.lfs_layout.specs.declared.files.NamedFile.{NamedFile}
 use Rattle.lfs_layout.specs.Files.{File, blocks_for, total_for}
 
@@ -31,7 +31,7 @@ data_needed f = blocks_for 512 f
 
 -- the entries of files, of which the first takes index blocks from a on
 abbrev pub entry_for : ℕ → File → Entry
-entry_for a f = record { size = length f.bytes; first = head_of a (a + indexes_needed f); name = f.name }
+entry_for a f = record { size = length f.bytes; first = chain_head a (a + indexes_needed f); name = f.name }
 
 abbrev pub entries_for : ℕ → List File → List Entry
 entries_for a [] = []
@@ -55,8 +55,8 @@ data_end g files = first_data g + total_for 512 files
 -- the counts
 abbrev pub header_for : Geometry → List File → Header
 header_for g files = record {
-  free_data = head_of (data_end g files) g.blocks;
-  free_index = head_of (index_end files) (index_count g);
+  free_data = chain_head (data_end g files) g.blocks;
+  free_index = chain_head (index_end files) (index_count g);
   files = length files;
 }
 
@@ -75,7 +75,7 @@ file_index a b f j = index_for j (upwards a (indexes_needed f)) (upwards b (data
 
 abbrev pub indexes_for : ℕ → ℕ → List File → List Index
 indexes_for a b [] = []
-indexes_for a b (f ∷ files) = numbered (file_index a b f) (indexes_needed f) ++ indexes_for (a + indexes_needed f) (b + data_needed f) files
+indexes_for a b (f ∷ files) = numbered_values (file_index a b f) (indexes_needed f) ++ indexes_for (a + indexes_needed f) (b + data_needed f) files
 
 -- a free index block names the one after it
 abbrev pub free_index : Geometry → ℕ → Index
@@ -109,8 +109,8 @@ abbrev pub indexes_bytes : Geometry → List File → List ℕ
 indexes_bytes g files = joined (index_disk (all_indexes g files)) (index_disks g)
 
 -- the image of n blocks with these files
-unfoldable pub image_of : ℕ → List File → List ℕ
-image_of n files = dirs_bytes (geometry_2 n) files ++ (indexes_bytes (geometry_2 n) files ++ all_data (geometry_2 n) files)
+unfoldable pub image_with : ℕ → List File → List ℕ
+image_with n files = dirs_bytes (geometry_2 n) files ++ (indexes_bytes (geometry_2 n) files ++ all_data (geometry_2 n) files)
 
 -- a file without bytes, whose name is no name
 abbrev pub no_file : File

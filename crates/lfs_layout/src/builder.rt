@@ -3,7 +3,7 @@
 ghost use Rattle.std.specs.Prelude.{◌≡◌, ◌*◌, ◌≤◌, ◌++◌, length, IfOk, OnOk};
 ghost use Rattle.lfs_format.specs.Directory.{dir_bytes};
 ghost use Rattle.lfs_check.specs.Fields.{joined};
-ghost use Rattle.lfs_layout.specs.Made.{all_files, dir_for, image_of, index_disk, Room};
+ghost use Rattle.lfs_layout.specs.Made.{all_files, dir_for, image_with, index_disk, Room};
 
 use crate::data_blocks::add_data;
 use crate::directory::{make_dir, make_entries, make_header};
@@ -16,7 +16,7 @@ use std::alloc::{AllocError, Global};
 /// The image of version 2 with these files, each of which takes the lowest free blocks.
 pub fn build(alloc: Global, blocks: u32, files: &[NamedFile]) -> Result<Vec<u8>, AllocError>
     requires { Room blocks (all_files files.now) }
-    ensures { IfOk result (λ v. v.items ≡ image_of blocks (all_files files.now)) }
+    ensures { IfOk result (λ v. v.items ≡ image_with blocks (all_files files.now)) }
 {
     let header = make_header(blocks, files);
     let entries = make_entries(alloc, blocks, files)?;

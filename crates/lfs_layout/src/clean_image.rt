@@ -5,7 +5,7 @@ ghost use Rattle.std.specs.List.{list_all};
 ghost use Rattle.lfs_check.specs.Fields.{is_version_2};
 ghost use Rattle.lfs_check.specs.Faults.{fault, Refuses};
 ghost use Rattle.lfs_layout.specs.Files.{files_of, placed_files, with_set, have_room, is_text, padded_name, found, listing};
-ghost use Rattle.lfs_layout.specs.Made.{image_of, all_files, geometry_2};
+ghost use Rattle.lfs_layout.specs.Made.{image_with, all_files, geometry_2};
 ghost use Rattle.lfs_layout.specs.Images.{IsCleanImage, opened, Puts};
 
 use crate::builder::build;
@@ -66,7 +66,7 @@ impl CleanImage {
     pub fn empty(alloc: Global, blocks: u32) -> Result<CleanImage, NoMemory>
         requires low { 14 ≤ blocks }
         requires high { blocks ≤ 65542 }
-        ensures image { IfOk result (λ c. c ≡ image_of blocks []) }
+        ensures image { IfOk result (λ c. c ≡ image_with blocks []) }
         ensures files { IfOk result (λ c. files_of c ≡ []) }
     {
         match build(alloc, blocks, &[]) {
@@ -184,7 +184,7 @@ fn replaced(
     ensures { IfOk result (λ o. MatchOption o
         (have_room (geometry_2 (length image.now / 512)) (with_set (record { name = padded_name name.now; bytes = bytes.now }) (placed_files image.now)) ≡ false)
         (λ v. (have_room (geometry_2 (length image.now / 512)) (with_set (record { name = padded_name name.now; bytes = bytes.now }) (placed_files image.now)) ≡ true)
-        × (v.items ≡ image_of (length image.now / 512) (with_set (record { name = padded_name name.now; bytes = bytes.now }) (placed_files image.now))))) }
+        × (v.items ≡ image_with (length image.now / 512) (with_set (record { name = padded_name name.now; bytes = bytes.now }) (placed_files image.now))))) }
 {
     let blocks = (image.len() / 512) as u32;
     let files = files_with(alloc, blocks, image, name, bytes)?;
@@ -244,7 +244,7 @@ fn open(alloc: Global, bytes: Vec<u8>) -> Result<CleanImage, CheckFault>
 fn migrate(alloc: Global, bytes: &[u8]) -> Result<Vec<u8>, AllocError>
     requires faultless { fault bytes.now ≡ None }
     requires version { is_version_2 bytes.now ≡ false }
-    ensures { IfOk result (λ v. v.items ≡ image_of (length bytes.now / 512 + 6) (placed_files bytes.now)) }
+    ensures { IfOk result (λ v. v.items ≡ image_with (length bytes.now / 512 + 6) (placed_files bytes.now)) }
 {
     let blocks = (bytes.len() / 512) as u32;
     let files = read_files(alloc, Geometry { dirs: 1, blocks }, bytes)?;

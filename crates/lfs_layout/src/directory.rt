@@ -2,7 +2,7 @@
 
 ghost use Rattle.std.specs.Prelude.{◌≡◌, ℕ, ◌+◌, ◌-◌, ◌≤◌, ◌<◌, ◌^◌, length, IfOk};
 ghost use Rattle.lfs_format.specs.Directory.{dir_bytes};
-ghost use Rattle.lfs_check.specs.Built.{head_of};
+ghost use Rattle.lfs_check.specs.Built.{chain_head};
 ghost use Rattle.lfs_layout.specs.Files.{total_for};
 ghost use Rattle.lfs_layout.specs.Made.{indexes_needed, entry_for, entries_for, no_entry, all_entries, header_for, dir_for, file_of, all_files, geometry_2, Room};
 
@@ -61,7 +61,7 @@ pub fn make_dir(header: Header, entries: &[Entry], d: usize) -> [u8; 512]
 
 // The first number of a range, if there is one.
 fn head_of(low: u32, high: u32) -> u32
-    ensures { result ≡ head_of low high }
+    ensures { result ≡ chain_head low high }
 {
     if low < high { low } else { NULL }
 }

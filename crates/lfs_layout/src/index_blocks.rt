@@ -5,7 +5,7 @@ ghost use Rattle.lfs_check.specs.Geometries.{first_data};
 ghost use Rattle.lfs_check.specs.Meets.{null};
 ghost use Rattle.lfs_check.specs.Laid.{index_for};
 ghost use Rattle.lfs_check.specs.Empty.{upwards, next_upwards};
-ghost use Rattle.lfs_check.specs.Fields.{numbered};
+ghost use Rattle.lfs_check.specs.Fields.{numbered_values};
 ghost use Rattle.lfs_layout.specs.Made.{indexes_needed, data_needed, file_index, indexes_for, all_indexes, index_disk, file_of, all_files, geometry_2, Room};
 
 use crate::files::{NamedFile, data_needed, index_total, indexes_needed};
@@ -97,7 +97,7 @@ fn add_indexes(
 ) -> Result<(), AllocError>
     requires indexes { first + indexes_needed (file_of file.now) ≤ 65542 }
     requires blocks { data_first + data_needed (file_of file.now) ≤ 65542 }
-    ensures { OnOk result (indexes.new.items ≡ indexes.old.items ++ numbered (file_index first data_first (file_of file.now)) (indexes_needed (file_of file.now))) }
+    ensures { OnOk result (indexes.new.items ≡ indexes.old.items ++ numbered_values (file_index first data_first (file_of file.now)) (indexes_needed (file_of file.now))) }
 {
     let count = indexes_needed(file) as u32;
     let data_count = data_needed(file) as u32;

@@ -12,12 +12,14 @@ mod data_blocks;
 mod directory;
 mod files;
 mod index_blocks;
+mod laws;
 mod listing;
 mod mend;
 mod raw_image;
 mod reading;
 
 pub use clean_image::{CleanImage, is_file_name};
+pub use laws::{files_are_reported, long_files_have_no_room, repair_keeps_a_clean_image};
 pub use lfs_check::{CheckFault, DiskFault, Report, check};
 pub use lfs_format::{
     Dir, Dir1, Entry, Entry1, Index, NULL, read_dir, read_dir_1, read_index, write_dir, write_index,

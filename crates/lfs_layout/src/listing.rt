@@ -3,9 +3,9 @@
 ghost use Rattle.std.specs.Prelude.{◌≡◌, ◌*◌, ◌≤◌, ◌&&◌, length, is_some, nat_eq, nat_lt, slice_get, Some, None, MatchOption};
 ghost use Rattle.std.specs.List.{find};
 ghost use Rattle.lfs_format.specs.declared.Entry.{Entry};
-ghost use Rattle.lfs_check.specs.Rules.{is_used, text_length};
+ghost use Rattle.lfs_check.specs.Rules.{entry_is_used, text_length};
 ghost use Rattle.lfs_check.specs.Fields.{entries_2};
-ghost use Rattle.lfs_layout.specs.Files.{files_of, listing, text_of, is_before, names_before};
+ghost use Rattle.lfs_layout.specs.Files.{files_of, listing, bare_name, is_before, names_before};
 ghost use Rattle.lfs_layout.specs.Images.{IsCleanImage};
 
 use arrayvec::ArrayVec;
@@ -45,7 +45,7 @@ fn entries_in(image: &[u8]) -> [Entry; 78]
 
 // The used entry whose name comes after those of exactly `k` used entries.
 fn nth_entry(entries: &[Entry], k: usize) -> Option<Entry>
-    ensures { result ≡ find (λ (e : Entry). is_used e && nat_eq (names_before entries.now e.name) k) entries.now }
+    ensures { result ≡ find (λ (e : Entry). entry_is_used e && nat_eq (names_before entries.now e.name) k) entries.now }
 {
     for entry in entries {
         if entry_is_used(entry) && names_before(entries, &entry.name) == k {
@@ -75,7 +75,7 @@ fn is_before(name: &[u8; 28], other: &[u8; 28]) -> bool
 // A name without the zeros after it.
 fn text_of(name: &[u8; 28]) -> ArrayVec<u8, 27>
     requires { text_length name.now ≤ 27 }
-    ensures { result.items ≡ text_of name.now }
+    ensures { result.items ≡ bare_name name.now }
 {
     let mut text = ArrayVec::new();
     for byte in name {

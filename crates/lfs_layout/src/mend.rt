@@ -1,10 +1,10 @@
 //! Repair: the image that is made of the files that can be kept.
 
 ghost use Rattle.std.specs.Prelude.{◌≡◌, ◌+◌, ◌≤◌, None, length, count_by, IfOk, MatchResult, if◌then◌else◌, ◌==◌};
-ghost use Rattle.lfs_check.specs.Rules.{is_used, rule_0};
-ghost use Rattle.lfs_check.specs.Fields.{geometry_of, fields_of, entries_of};
+ghost use Rattle.lfs_check.specs.Rules.{entry_is_used, rule_0};
+ghost use Rattle.lfs_check.specs.Fields.{geometry_of, fields_of, directory_entries};
 ghost use Rattle.lfs_check.specs.Faults.{named, Refuses};
-ghost use Rattle.lfs_check.specs.Kept.{kept};
+ghost use Rattle.lfs_check.specs.Kept.{kept_entries};
 ghost use Rattle.lfs_layout.specs.Images.{repaired};
 
 use crate::builder::build;
@@ -35,8 +35,8 @@ pub struct Repaired {
 /// `Broken` with rule 0 if and only if the image breaks it; `NoMemory` out of memory.
 pub fn repair(alloc: Global, bytes: &[u8]) -> Result<Repaired, CheckFault>
     ensures image { MatchResult result (λ r. (rule_0 (geometry_of bytes.now) bytes.now ≡ None) × (r.image ≡ repaired bytes.now)) (λ e. Refuses (named 0 (rule_0 (geometry_of bytes.now) bytes.now)) e) }
-    ensures kept { IfOk result (λ r. r.kept ≡ length (kept (geometry_of bytes.now) (fields_of (geometry_of bytes.now) bytes.now).indexes (entries_of (geometry_of bytes.now) bytes.now))) }
-    ensures dropped { IfOk result (λ r. r.kept + r.dropped ≡ count_by is_used (entries_of (geometry_of bytes.now) bytes.now)) }
+    ensures kept { IfOk result (λ r. r.kept ≡ length (kept_entries (geometry_of bytes.now) (fields_of (geometry_of bytes.now) bytes.now).indexes (directory_entries (geometry_of bytes.now) bytes.now))) }
+    ensures dropped { IfOk result (λ r. r.kept + r.dropped ≡ count_by entry_is_used (directory_entries (geometry_of bytes.now) bytes.now)) }
 {
     let dirs = dirs_of(bytes);
     if bytes.len() > 65542 * 512 {
@@ -58,8 +58,8 @@ fn rebuild(alloc: Global, geometry: Geometry, bytes: &[u8]) -> Result<Repaired, 
     requires geometry { geometry ≡ geometry_of bytes.now }
     requires size { rule_0 (geometry_of bytes.now) bytes.now ≡ None }
     ensures image { IfOk result (λ r. r.image ≡ repaired bytes.now) }
-    ensures kept { IfOk result (λ r. r.kept ≡ length (kept (geometry_of bytes.now) (fields_of (geometry_of bytes.now) bytes.now).indexes (entries_of (geometry_of bytes.now) bytes.now))) }
-    ensures dropped { IfOk result (λ r. r.kept + r.dropped ≡ count_by is_used (entries_of (geometry_of bytes.now) bytes.now)) }
+    ensures kept { IfOk result (λ r. r.kept ≡ length (kept_entries (geometry_of bytes.now) (fields_of (geometry_of bytes.now) bytes.now).indexes (directory_entries (geometry_of bytes.now) bytes.now))) }
+    ensures dropped { IfOk result (λ r. r.kept + r.dropped ≡ count_by entry_is_used (directory_entries (geometry_of bytes.now) bytes.now)) }
 {
     let directory = read_directory(alloc, geometry, bytes)?;
     let indexes = read_indexes(alloc, geometry, bytes)?;

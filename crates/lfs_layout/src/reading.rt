@@ -5,8 +5,8 @@ ghost use Rattle.std.specs.List.{flat_map};
 ghost use Rattle.lfs_check.specs.Geometries.{index_count, IsGeometry};
 ghost use Rattle.lfs_check.specs.Checks.{nexts_of};
 ghost use Rattle.lfs_check.specs.Rules.{block_in};
-ghost use Rattle.lfs_check.specs.Fields.{fields_of, entries_of};
-ghost use Rattle.lfs_layout.specs.Files.{bytes_in, files_in, without_name, entries_without, bytes_of, entry_named};
+ghost use Rattle.lfs_check.specs.Fields.{fields_of, directory_entries};
+ghost use Rattle.lfs_layout.specs.Files.{content_of, files_in, without_name, other_entries, content_named, entry_named};
 ghost use Rattle.lfs_layout.specs.Made.{all_files};
 
 use crate::files::NamedFile;
@@ -22,7 +22,7 @@ pub fn read_files(
 ) -> Result<Vec<NamedFile>, AllocError>
     requires geometry { IsGeometry geometry }
     requires whole { 512 * geometry.blocks ≤ length image.now }
-    ensures { IfOk result (λ v. all_files v.items ≡ files_in geometry (fields_of geometry image.now).indexes image.now (entries_of geometry image.now)) }
+    ensures { IfOk result (λ v. all_files v.items ≡ files_in geometry (fields_of geometry image.now).indexes image.now (directory_entries geometry image.now)) }
 {
     let directory = read_directory(alloc, geometry, image)?;
     let indexes = read_indexes(alloc, geometry, image)?;
@@ -40,7 +40,7 @@ pub fn read_others(
 ) -> Result<Vec<NamedFile>, AllocError>
     requires geometry { IsGeometry geometry }
     requires whole { 512 * geometry.blocks ≤ length image.now }
-    ensures { IfOk result (λ v. all_files v.items ≡ without_name name.now (files_in geometry (fields_of geometry image.now).indexes image.now (entries_of geometry image.now))) }
+    ensures { IfOk result (λ v. all_files v.items ≡ without_name name.now (files_in geometry (fields_of geometry image.now).indexes image.now (directory_entries geometry image.now))) }
 {
     let directory = read_directory(alloc, geometry, image)?;
     let indexes = read_indexes(alloc, geometry, image)?;
@@ -56,7 +56,7 @@ fn entries_without(
     entries: &[Entry],
     name: &[u8; 28],
 ) -> Result<Vec<Entry>, AllocError>
-    ensures { IfOk result (λ v. v.items ≡ entries_without name.now entries.now) }
+    ensures { IfOk result (λ v. v.items ≡ other_entries name.now entries.now) }
 {
     let mut others = Vec::new(alloc);
     for entry in entries {
@@ -77,8 +77,8 @@ pub fn read_named(
     requires geometry { IsGeometry geometry }
     requires whole { 512 * geometry.blocks ≤ length image.now }
     ensures { IfOk result (λ o. MatchOption o
-        (bytes_of name.now (files_in geometry (fields_of geometry image.now).indexes image.now (entries_of geometry image.now)) ≡ None)
-        (λ v. bytes_of name.now (files_in geometry (fields_of geometry image.now).indexes image.now (entries_of geometry image.now)) ≡ Some v.items)) }
+        (content_named name.now (files_in geometry (fields_of geometry image.now).indexes image.now (directory_entries geometry image.now)) ≡ None)
+        (λ v. content_named name.now (files_in geometry (fields_of geometry image.now).indexes image.now (directory_entries geometry image.now)) ≡ Some v.items)) }
 {
     let directory = read_directory(alloc, geometry, image)?;
     match entry_named(&directory.entries, name) {
@@ -143,7 +143,7 @@ pub fn read_bytes(
     requires geometry { IsGeometry geometry }
     requires count { length indexes.now ≡ index_count geometry }
     requires nexts { nexts.now ≡ nexts_of indexes.now }
-    ensures { IfOk result (λ v. v.items ≡ bytes_in geometry indexes.now image.now entry.now) }
+    ensures { IfOk result (λ v. v.items ≡ content_of geometry indexes.now image.now entry.now) }
 {
     let numbers = file_blocks(alloc, geometry, indexes, nexts, entry)?;
     let mut bytes = Vec::new(alloc);

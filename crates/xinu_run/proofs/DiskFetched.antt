@@ -5,7 +5,7 @@ use Rattle.std.specs.Prelude.{option_map}
 use Rattle.lfs_check.specs.declared.geometry.Geometry.{Geometry}
 use Rattle.lfs_check.specs.declared.faults.DiskFault.{DiskFault}
 use Rattle.lfs_check.specs.Fields.{fields_of, geometry_of, is_version_2}
-use Rattle.lfs_check.specs.Faults.{first_fault, named, shape_fault}
+use Rattle.lfs_check.specs.Faults.{either_fault, named, shape_fault}
 use Rattle.lfs_check.specs.Geometries.{fewest_blocks, first_data, index_count, most_blocks}
 use Rattle.lfs_check.specs.Rules.{rule_0}
 use Rattle.lfs_layout.specs.Files.{File, blocks_for, have_room, padded_name, placed_files, total_for, with_set, without_name}
@@ -44,7 +44,7 @@ size_fault-long bytes long = ap (named 0) (rule_0-long bytes long)
 
 disk_fault-long : (bytes : List ℕ) → 33557504 < length bytes → disk_fault bytes ≡ Some too_long
 unfolding disk_fault
-disk_fault-long bytes long = ap (λ (r : Option ℕ). first_fault (named 0 r) (shape_fault (geometry_of bytes) (fields_of (geometry_of bytes) bytes) bytes)) (rule_0-long bytes long)
+disk_fault-long bytes long = ap (λ (r : Option ℕ). either_fault (named 0 r) (shape_fault (geometry_of bytes) (fields_of (geometry_of bytes) bytes) bytes)) (rule_0-long bytes long)
 
 -- ---- what was fetched of a disk has its verdict
 

@@ -3,16 +3,16 @@ use Rattle.std.proofs.Common.{◌≡◌, ◌∙◌, ◌+◌, ◌-◌, ◌/◌, �
 use Rattle.std.specs.Prelude.{option_map, Result, Ok, Err, MatchOption}
 use Rattle.std.specs.Fmt.{decimal}
 use Rattle.command_line.specs.Reading.{Text}
-use Rattle.lfs_check.specs.Fields.{entries_of, fields_of, geometry_of}
-use Rattle.lfs_check.specs.Kept.{kept}
+use Rattle.lfs_check.specs.Fields.{directory_entries, fields_of, geometry_of}
+use Rattle.lfs_check.specs.Kept.{kept_entries}
 use Rattle.lfs_check.specs.Faults.{Refuses as RefusesBy, fault, named, report}
-use Rattle.lfs_check.specs.Rules.{is_used, rule_0}
+use Rattle.lfs_check.specs.Rules.{entry_is_used, rule_0}
 use Rattle.lfs_check.specs.declared.faults.CheckFault.{CheckFault}
 use Rattle.lfs_check.specs.declared.faults.CheckFault.TheVariants as check
 use Rattle.lfs_check.specs.declared.faults.DiskFault.{DiskFault}
 use Rattle.lfs_layout.specs.Files.{File, found, have_room, padded_name, placed_files, with_set}
 use Rattle.lfs_layout.specs.Images.{Puts, opened, repaired}
-use Rattle.lfs_layout.specs.Made.{geometry_2, image_of}
+use Rattle.lfs_layout.specs.Made.{geometry_2, image_with}
 use Rattle.xinu_run.specs.DiskVerdict.{check_verdict, disk_fault, disk_with, dropped_count, file_lines, file_on, get_verdict, kept_count, ls_verdict, mkfs_verdict, put_verdict, repair_line, repair_verdict, report_line, rule_broken, set_verdict, size_fault, with_disk}
 use Rattle.xinu_run.specs.Work.{Verdict, Refuses, Does, Outputs, if_some, unless_fault}
 use Rattle.xinu_run.specs.declared.refusals.Refusal.{Refusal}
@@ -34,7 +34,7 @@ missing cause o next is = ap (λ o. if_some cause o next) is
 
 -- ---- a disk without files
 
-pub mkfs_does : (blocks : ℕ) → mkfs_verdict blocks ≡ Does (Outputs [] (Some (image_of blocks [])) None)
+pub mkfs_does : (blocks : ℕ) → mkfs_verdict blocks ≡ Does (Outputs [] (Some (image_with blocks [])) None)
 unfolding mkfs_verdict
 mkfs_does blocks = refl
 
@@ -84,13 +84,13 @@ abbrev pub files_with : List ℕ → List ℕ → List ℕ → List File
 files_with name source d = with_set (record { name = padded_name name; bytes = source }) (placed_files d)
 
 fits : (name source d : List ℕ) → have_room (geometry_2 (length d / 512)) (files_with name source d) ≡ true
-    → disk_with name source d ≡ Some (image_of (length d / 512) (files_with name source d))
+    → disk_with name source d ≡ Some (image_with (length d / 512) (files_with name source d))
 unfolding disk_with
-fits name source d room = ap (λ b. cond b (Some (image_of (length d / 512) (files_with name source d))) None) room
+fits name source d room = ap (λ b. cond b (Some (image_with (length d / 512) (files_with name source d))) None) room
 
 fits_not : (name source d : List ℕ) → have_room (geometry_2 (length d / 512)) (files_with name source d) ≡ false → disk_with name source d ≡ None
 unfolding disk_with
-fits_not name source d full = ap (λ b. cond b (Some (image_of (length d / 512) (files_with name source d))) None) full
+fits_not name source d full = ap (λ b. cond b (Some (image_with (length d / 512) (files_with name source d))) None) full
 
 pub set_done : (name source d made : List ℕ) → disk_with name source d ≡ Some made → set_verdict name source d ≡ Does (Outputs [] (Some made) None)
 unfolding set_verdict
@@ -101,8 +101,8 @@ unfolding set_verdict
 set_full name source d is = missing refusal.DoesNotFit (disk_with name source d) (λ made. Does (Outputs [] (Some made) None)) is
 
 pub set_does : (name source d : List ℕ) → have_room (geometry_2 (length d / 512)) (files_with name source d) ≡ true
-    → set_verdict name source d ≡ Does (Outputs [] (Some (image_of (length d / 512) (files_with name source d))) None)
-set_does name source d room = set_done name source d (image_of (length d / 512) (files_with name source d)) (fits name source d room)
+    → set_verdict name source d ≡ Does (Outputs [] (Some (image_with (length d / 512) (files_with name source d))) None)
+set_does name source d room = set_done name source d (image_with (length d / 512) (files_with name source d)) (fits name source d room)
 
 pub set_refused : (name source d : List ℕ) → have_room (geometry_2 (length d / 512)) (files_with name source d) ≡ false
     → set_verdict name source d ≡ Refuses refusal.DoesNotFit
@@ -143,12 +143,12 @@ unfolding repair_verdict
 repair_broken disk f is = ap (λ (f : Option DiskFault). unless_fault (option_map rule_broken f) (Some disk) (λ d. Does (Outputs (repair_line d) (Some (repaired d)) None))) is
 
 -- the line of a repaired disk, by what the layer below counts
-pub repair_counts : (disk : List ℕ) (kept_n dropped_n : ℕ) → kept_n ≡ length (kept (geometry_of disk) (fields_of (geometry_of disk) disk).indexes (entries_of (geometry_of disk) disk))
-    → kept_n + dropped_n ≡ count_by is_used (entries_of (geometry_of disk) disk)
+pub repair_counts : (disk : List ℕ) (kept_n dropped_n : ℕ) → kept_n ≡ length (kept_entries (geometry_of disk) (fields_of (geometry_of disk) disk).indexes (directory_entries (geometry_of disk) disk))
+    → kept_n + dropped_n ≡ count_by entry_is_used (directory_entries (geometry_of disk) disk)
     → codes "kept " ++ decimal kept_n ++ codes " dropped " ++ decimal dropped_n ++ codes "\n" ≡ repair_line disk
 unfolding kept_count dropped_count
 repair_counts disk kept_n dropped_n kept_is sum_is =
-    let used = count_by is_used (entries_of (geometry_of disk) disk) in
+    let used = count_by entry_is_used (directory_entries (geometry_of disk) disk) in
     let dropped : dropped_n ≡ used - kept_n = omega arith in
     ap₂ (λ a b. codes "kept " ++ decimal a ++ codes " dropped " ++ decimal b ++ codes "\n") kept_is (dropped ∙ ap (λ n. used - n) kept_is)
 

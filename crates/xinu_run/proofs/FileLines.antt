@@ -9,7 +9,7 @@ use Rattle.std.proofs.lemmas.Option.{get_or_from_slice_get, slice_get_cases, sli
 use Rattle.host_port.specs.Outside.{Outside}
 use Rattle.host_port.specs.Printing.{Printing, Prints}
 use Rattle.host_port.proofs.Prints.{prints_both, prints_nothing}
-use Rattle.lfs_layout.specs.Files.{File, files_of, is_before, listing, placed_files, sorted, text_of, with_file}
+use Rattle.lfs_layout.specs.Files.{File, files_of, is_before, listing, placed_files, sorted, bare_name, with_file}
 use Rattle.lfs_layout.specs.Images.{IsCleanImage}
 use Rattle.lfs_layout.proofs.CleanOpens.{placed_room}
 use Rattle.xinu_run.specs.DiskVerdict.{file_line, file_lines}
@@ -35,7 +35,7 @@ length_sorted (f ∷ files) = (let one = length_with f (sorted files) in let res
 few_files : (d : List ℕ) → IsCleanImage d → length (listing (files_of d)) ≤ 78
 few_files d c =
     let few = (placed_room d c.faultless c.version).few in
-    let one = length-map {B = List ℕ × ℕ} (files_of d) (λ (f : File). (text_of f.name, length f.bytes)) in
+    let one = length-map {B = List ℕ × ℕ} (files_of d) (λ (f : File). (bare_name f.name, length f.bytes)) in
     let all = length_sorted (placed_files d) in omega (arith, few, one, all)
 
 -- ---- the lines

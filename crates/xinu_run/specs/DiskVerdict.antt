@@ -4,15 +4,15 @@ use Rattle.std.specs.List.{flat_map}
 use Rattle.std.specs.Fmt.{decimal}
 use Rattle.command_line.specs.Reading.{Text}
 use Rattle.xinu_base.specs.Hexadecimal.{hex_of}
-use Rattle.lfs_check.specs.Fields.{geometry_of, fields_of, entries_of}
+use Rattle.lfs_check.specs.Fields.{geometry_of, fields_of, directory_entries}
 use Rattle.lfs_check.specs.Faults.{fault, named, report}
-use Rattle.lfs_check.specs.Kept.{kept}
-use Rattle.lfs_check.specs.Rules.{is_used, rule_0}
+use Rattle.lfs_check.specs.Kept.{kept_entries}
+use Rattle.lfs_check.specs.Rules.{entry_is_used, rule_0}
 use Rattle.lfs_check.specs.declared.faults.DiskFault.{DiskFault}
 use Rattle.lfs_check.specs.declared.faults.Report.{Report}
 use Rattle.lfs_layout.specs.Files.{files_of, found, have_room, listing, padded_name, placed_files, with_set}
 use Rattle.lfs_layout.specs.Images.{opened, repaired}
-use Rattle.lfs_layout.specs.Made.{geometry_2, image_of}
+use Rattle.lfs_layout.specs.Made.{geometry_2, image_with}
 use Rattle.xinu_run.specs.Work.{Verdict, Does, Outputs, if_some, unless_fault}
 use Rattle.xinu_run.specs.declared.refusals.Refusal.{Refusal}
 use Rattle.xinu_run.specs.declared.refusals.Refusal.TheVariants as refusal
@@ -51,10 +51,10 @@ report_line r = codes "clean " ++ decimal r.files ++ codes " " ++ decimal r.free
 
 -- how many entries of a disk are kept, and how many other used ones are dropped
 unfoldable pub kept_count : List ℕ → ℕ
-kept_count disk = length (kept (geometry_of disk) (fields_of (geometry_of disk) disk).indexes (entries_of (geometry_of disk) disk))
+kept_count disk = length (kept_entries (geometry_of disk) (fields_of (geometry_of disk) disk).indexes (directory_entries (geometry_of disk) disk))
 
 unfoldable pub dropped_count : List ℕ → ℕ
-dropped_count disk = count_by is_used (entries_of (geometry_of disk) disk) - kept_count disk
+dropped_count disk = count_by entry_is_used (directory_entries (geometry_of disk) disk) - kept_count disk
 
 abbrev pub repair_line : List ℕ → List ℕ
 repair_line disk = codes "kept " ++ decimal (kept_count disk) ++ codes " dropped " ++ decimal (dropped_count disk) ++ codes "\n"
@@ -63,7 +63,7 @@ repair_line disk = codes "kept " ++ decimal (kept_count disk) ++ codes " dropped
 
 -- a disk without files
 unfoldable pub mkfs_verdict : ℕ → Verdict
-mkfs_verdict blocks = Does (Outputs [] (Some (image_of blocks [])) None)
+mkfs_verdict blocks = Does (Outputs [] (Some (image_with blocks [])) None)
 
 -- the files of a disk
 unfoldable pub ls_verdict : List ℕ → Verdict
@@ -81,7 +81,7 @@ get_verdict name disk = with_disk disk (λ d. if_some refusal.NoSuchFile (file_o
 unfoldable pub disk_with : Text → List ℕ → List ℕ → Option (List ℕ)
 disk_with name bytes d =
     let files = with_set (record { name = padded_name name; bytes = bytes }) (placed_files d) in
-    if have_room (geometry_2 (length d / 512)) files then Some (image_of (length d / 512) files) else None
+    if have_room (geometry_2 (length d / 512)) files then Some (image_with (length d / 512) files) else None
 
 unfoldable pub set_verdict : Text → List ℕ → List ℕ → Verdict
 set_verdict name source d = if_some refusal.DoesNotFit (disk_with name source d) (λ made. Does (Outputs [] (Some made) None))

@@ -1,6 +1,6 @@
 use Rattle.std.proofs.Common.{◌≡◌, ◌+◌, ◌-◌, nat_le, slice_index}
-use Rattle.lfs_check.specs.Meets.{first_from}
+use Rattle.lfs_check.specs.Meets.{lowest_from}
 use Rattle.lfs_check.proofs.meets.twice_fault.Given as goal
 
 abbrev pub invariant-loop-i : goal.invariant-loop-i
-invariant-loop-i l = first_from (λ n. nat_le 2 (slice_index l.counts n)) (l.low + l.i) (l.many - l.i) ≡ first_from (λ n. nat_le 2 (slice_index l.counts n)) l.low l.many
+invariant-loop-i l = lowest_from (λ n. nat_le 2 (slice_index l.counts n)) (l.low + l.i) (l.many - l.i) ≡ lowest_from (λ n. nat_le 2 (slice_index l.counts n)) l.low l.many

@@ -2,7 +2,7 @@ use Rattle.std.proofs.Common.{◌≡◌, ◌∙◌, ◌+◌, ◌*◌, ap, sym, t
 use Rattle.std.proofs.lemmas.List.{take_at, append-nil}
 use Rattle.lfs_format.specs.Words.{word_bytes}
 use Rattle.lfs_format.proofs.Words.{length-word_bytes}
-use Rattle.lfs_format.specs.Directory.{dir_words, dir_bytes, dir_of, dir_ending, EntryFits, blank}
+use Rattle.lfs_format.specs.Directory.{dir_words, dir_bytes, dir_of, dir_ending, EntryFits, void_entry}
 use Rattle.lfs_format.proofs.Entries.{length-entry_bytes, dir_of-bytes, written_more, written_all, length-put}
 use borrow.Rule.Slice.PartMut.{put_mid}
 use Rattle.lfs_format.proofs.dirs.write_dir.Goals as goal
@@ -23,8 +23,8 @@ loop-e-preserved c =
     let e = c.loop-e.e in
     let lt : e < length c.args.dir.now.entries = omega (arith, c.put_words.ensures.len) in
     let part = c.put_entry.new.part in
-    let fits : EntryFits (get_or c.args.dir.now.entries e blank) = record { size = c.put_entry.ensures.words 0; first = c.put_entry.ensures.words 1; name = c.put_entry.ensures.name } in
-    let len : length part ≡ 36 = ap length c.put_entry.ensures.bytes ∙ length-entry_bytes (get_or c.args.dir.now.entries e blank) fits in
+    let fits : EntryFits (get_or c.args.dir.now.entries e void_entry) = record { size = c.put_entry.ensures.words 0; first = c.put_entry.ensures.words 1; name = c.put_entry.ensures.name } in
+    let len : length part ≡ 36 = ap length c.put_entry.ensures.bytes ∙ length-entry_bytes (get_or c.args.dir.now.entries e void_entry) fits in
     let k : (48 + 36 * e) - (12 + 36 * e) ≡ 36 = omega arith in
     record {
       len = ap (λ n. length (put_mid (12 + 36 * e) n c.loop-e.block part)) k ∙ length-put (12 + 36 * e) 36 c.loop-e.block part len (omega (arith, i.len)) ∙ i.len;

@@ -5,7 +5,7 @@ use Rattle.lfs_format.specs.Directory.{dir_bytes}
 use Rattle.lfs_check.specs.declared.fields.Header.{Header}
 use Rattle.lfs_check.specs.Geometries.{index_disks}
 use Rattle.lfs_check.specs.Fields.{joined}
-use Rattle.lfs_layout.specs.Made.{all_files, all_data, header_for, dir_for, dirs_bytes, indexes_bytes, image_of, index_disk, geometry_2}
+use Rattle.lfs_layout.specs.Made.{all_files, all_data, header_for, dir_for, dirs_bytes, indexes_bytes, image_with, index_disk, geometry_2}
 use Rattle.lfs_layout.proofs.MadeParts.{length_all_indexes}
 use Rattle.lfs_layout.proofs.builder.build.Goals as goal
 
@@ -16,7 +16,7 @@ add_disks-requires c =
     omega (arith, l, e)
 
 pub returns : goal.returns
-unfolding image_of
+unfolding image_with
 returns c =
     let g = geometry_2 c.args.blocks in let L = all_files c.args.files.now in
     let dirs : Header → List Entry → List ℕ = λ h es. joined (λ d. dir_bytes (dir_for h es d)) 6 in

@@ -1,7 +1,7 @@
 use Rattle.std.proofs.Common.{◌≡◌, ◌+◌, ◌/◌, Bool, true, false, cond, List, ℕ, length, refl, ap, sym, ◌∙◌, subst}
 use Rattle.lfs_check.specs.Fields.{is_version_2, dirs_of}
 use Rattle.lfs_layout.specs.Files.{placed_files}
-use Rattle.lfs_layout.specs.Made.{image_of}
+use Rattle.lfs_layout.specs.Made.{image_with}
 use Rattle.lfs_layout.specs.Images.{IsCleanImage}
 use Rattle.lfs_layout.proofs.CleanOpens.{migrated_room, placed_names}
 use Rattle.lfs_layout.proofs.MadeClean.{made_clean}
@@ -15,6 +15,6 @@ pub invariant_of-result-in-Ok : goal.invariant_of-result-in-Ok
 invariant_of-result-in-Ok c =
     let image = c.args.bytes.items in
     let old : is_version_2 image ≡ false = not_six (is_version_2 image) (λ e. c.if-dirs_of-eq6.false (c.dirs_of.ensures ∙ ap dirs_of c.deref.ensures.value ∙ e)) in
-    let made : c.in-Ok.bytes.items ≡ image_of (length image / 512 + 6) (placed_files image) = c.in-Ok.ensures ∙ ap (λ im. image_of (length im / 512 + 6) (placed_files im)) c.deref-2.ensures.value in
+    let made : c.in-Ok.bytes.items ≡ image_with (length image / 512 + 6) (placed_files image) = c.in-Ok.ensures ∙ ap (λ im. image_with (length im / 512 + 6) (placed_files im)) c.deref-2.ensures.value in
     let P : List ℕ → Type 0 = λ im. IsCleanImage im in
     subst P (sym made) (made_clean (length image / 512 + 6) (placed_files image) (migrated_room image c.requires old) (placed_names image c.requires))

@@ -2,7 +2,7 @@ use Rattle.std.proofs.Common.{◌≡◌, ◌++◌, ◌∷◌, [], ap, sym, ◌�
 use Rattle.std.proofs.lemmas.List.{append-nil}
 use Rattle.lfs_check.specs.Empty.{upwards}
 use Rattle.lfs_check.specs.Laid.{index_for}
-use Rattle.lfs_check.specs.Fields.{numbered}
+use Rattle.lfs_check.specs.Fields.{numbered_values}
 use Rattle.lfs_check.proofs.Numbered.{numbered_more, numbered_none}
 use Rattle.lfs_layout.specs.Made.{file_of, file_index, indexes_needed}
 use Rattle.lfs_layout.proofs.index_blocks.add_indexes.Goals as goal
@@ -17,4 +17,4 @@ loop-j-preserved c =
     let one : c.make_index.result ≡ file_index a b f j =
     c.make_index.ensures ∙ ap (λ n. index_for j (upwards a n) (upwards b c.data_needed-data_count.result)) c.indexes_needed-count.ensures.need ∙ ap (λ n. index_for j (upwards a (indexes_needed f)) (upwards b n)) c.data_needed-data_count.ensures.need in
     c.in_ok-push.ensures.items ∙ ap (λ x. c.loop-j.indexes.items ++ x ∷ []) one ∙ ap (λ xs. xs ++ file_index a b f j ∷ []) c.loop-j.invariant
-    ∙ append_assoc start (numbered (file_index a b f) j) (file_index a b f j ∷ []) ∙ ap (λ xs. start ++ xs) (sym (numbered_more (file_index a b f) j))
+    ∙ append_assoc start (numbered_values (file_index a b f) j) (file_index a b f j ∷ []) ∙ ap (λ xs. start ++ xs) (sym (numbered_more (file_index a b f) j))

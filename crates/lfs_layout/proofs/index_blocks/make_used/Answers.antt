@@ -1,7 +1,7 @@
 use Rattle.std.proofs.Common.{◌+◌, ◌++◌, drop, refl, ap, sym, ◌∙◌, arith, append_assoc}
 use Rattle.std.proofs.lemmas.List.{append-nil}
 use Rattle.lfs_check.specs.Geometries.{first_data}
-use Rattle.lfs_check.specs.Fields.{numbered}
+use Rattle.lfs_check.specs.Fields.{numbered_values}
 use Rattle.lfs_layout.specs.Files.{total_for}
 use Rattle.lfs_layout.specs.Made.{all_files, file_of, file_index, indexes_for, indexes_needed, geometry_2}
 use Rattle.lfs_layout.proofs.FilesRead.{files_more, files_all}
@@ -52,7 +52,7 @@ loop-file-preserved c =
     let m = ap (total_for 8192) step in let n = ap (total_for 512) step in
     let s = i.numbers in let d = i.data_numbers in let need = c.indexes_needed.ensures.need in let wide = c.data_needed.ensures.need in
     let a = c.loop-file.first in let b = c.loop-file.data_first in let old = c.loop-file.indexes.items in
-    let mine = numbered (file_index a b f) (indexes_needed f) in
+    let mine = numbered_values (file_index a b f) (indexes_needed f) in
     record {
       items = ap (λ xs. xs ++ indexes_for (a + c.indexes_needed.result) (b + c.data_needed.result) rest) c.in_ok-add_indexes.ensures
           ∙ append_assoc old mine (indexes_for (a + c.indexes_needed.result) (b + c.data_needed.result) rest)

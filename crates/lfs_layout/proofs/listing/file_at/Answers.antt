@@ -1,12 +1,12 @@
 use Rattle.std.proofs.Common.{◌≡◌, List, ℕ, ap, sym, ◌∙◌, Some, None, is_some, slice_get}
 use Rattle.std.specs.Option.{option_map}
 use Rattle.lfs_format.specs.declared.Entry.{Entry}
-use Rattle.lfs_layout.specs.Files.{text_of, files_of, listing}
+use Rattle.lfs_layout.specs.Files.{bare_name, files_of, listing}
 use Rattle.lfs_layout.proofs.Listed.{nth, listed_at, listed_within, nth_short}
 use Rattle.lfs_layout.proofs.listing.file_at.Goals as goal
 
 abbrev shown : Entry → List ℕ × ℕ
-shown e = (text_of e.name, e.size)
+shown e = (bare_name e.name, e.size)
 
 pub text_of-requires : goal.text_of-requires
 text_of-requires c =

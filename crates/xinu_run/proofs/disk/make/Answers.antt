@@ -3,7 +3,7 @@ use Rattle.command_line.specs.Commands.{Disk}
 use Rattle.command_line.specs.DiskArgs.{Mkfs}
 use Rattle.host_port.specs.Outside.{naming}
 use Rattle.host_port.specs.declared.host.Channel.TheVariants.{Disk1}
-use Rattle.lfs_layout.specs.Made.{image_of}
+use Rattle.lfs_layout.specs.Made.{image_with}
 use Rattle.xinu_run.specs.DiskVerdict.{mkfs_verdict}
 use Rattle.xinu_run.specs.Stages.{Performs, SendsOutput, refusal_of}
 use Rattle.xinu_run.specs.Work.{output_of}
@@ -31,5 +31,5 @@ returns g c =
     let sends = subst P (c.bytes.ensures.bytes ∙ c.in_ok-image.ensures.image) c.send_file.ensures.sends in
     record {
       performs = performs_by (Mkfs c.args.blocks c.args.out.now) [] [] ended h k
-          (sent_stage (mkfs_verdict c.args.blocks) [] (Some (image_of c.args.blocks [])) None calls ended h k (mkfs_does c.args.blocks) sends);
+          (sent_stage (mkfs_verdict c.args.blocks) [] (Some (image_with c.args.blocks [])) None calls ended h k (mkfs_does c.args.blocks) sends);
     }

@@ -1,0 +1,112 @@
+-- Laws of images and their files.
+use Rattle.std.proofs.Common.{◌≡◌, ℕ, suc, ◌+◌, ◌-◌, ◌<◌, ◌≤◌, Bool, true, false, cond, not, ◌&&◌, nat_eq, nat_le, List, [], ◌∷◌, ◌++◌, length, filter, count_by, refl, sym, ap, ◌∙◌, arith, None}
+use Rattle.std.proofs.lemmas.Bool.{false≢true}
+use Rattle.std.proofs.lemmas.Bool.Decides.{nat_tests}
+use Rattle.std.proofs.lemmas.List.Sums.{sum_by-cons, length-filter}
+use Rattle.lfs_format.specs.declared.Entry.{Entry}
+use Rattle.lfs_format.specs.declared.Index.{Index}
+use Rattle.lfs_check.specs.declared.geometry.Geometry.{Geometry}
+use Rattle.lfs_check.specs.Geometries.{index_count, first_data}
+use Rattle.lfs_check.specs.Rules.{entry_is_used, begins_right, ends_right, is_dir_block, block_in}
+use Rattle.lfs_check.specs.Fields.{is_version_2, geometry_of, fields_of, directory_entries}
+use Rattle.lfs_check.specs.Faults.{fault, report}
+use Rattle.lfs_check.specs.Kept.{kept_entries}
+use Rattle.lfs_check.proofs.Nones.{first_from-each}
+use Rattle.lfs_check.proofs.Images.{image_size, image_counts}
+use Rattle.lfs_check.proofs.KeepsAll.{keeps_all}
+use Rattle.lfs_layout.specs.Files.{File, content_of, files_in, placed_files, files_of, is_before, with_file, sorted, blocks_for, total_for, have_room, without_name, with_set}
+use Rattle.lfs_layout.specs.Made.{geometry_2}
+use Rattle.lfs_layout.specs.Images.{kept_files, repaired, repaired_blocks}
+use Rattle.lfs_layout.proofs.MadeClean.{made_sorted}
+use Rattle.lfs_layout.proofs.Repairs.{repaired_room, repaired_names}
+
+either-way : (b : Bool) (P : Bool → Type 0) → (b ≡ true → P true) → (b ≡ false → P false) → P b
+either-way true P t f = t refl
+either-way false P t f = f refl
+
+-- unused entries have no files
+files_used : (g : Geometry) (ix : List Index) (image : List ℕ) (es : List Entry) → files_in g ix image (filter entry_is_used es) ≡ files_in g ix image es
+files_used g ix image [] = refl
+files_used g ix image (e ∷ es) =
+    let i = files_used g ix image es in
+    let f : File = record { name = e.name; bytes = content_of g ix image e } in
+    either-way (entry_is_used e) (λ u. entry_is_used e ≡ u → files_in g ix image (cond u (e ∷ filter entry_is_used es) (filter entry_is_used es)) ≡ cond u (f ∷ files_in g ix image es) (files_in g ix image es))
+    (λ _ u. ap (λ v. cond v (f ∷ files_in g ix image (filter entry_is_used es)) (files_in g ix image (filter entry_is_used es))) u ∙ ap (λ fs. f ∷ fs) i)
+    (λ _ u. i)
+    refl
+
+files_counted : (g : Geometry) (ix : List Index) (image : List ℕ) (es : List Entry) → length (files_in g ix image es) ≡ count_by entry_is_used es
+files_counted g ix image [] = refl
+files_counted g ix image (e ∷ es) =
+    let i = files_counted g ix image es in
+    let f : File = record { name = e.name; bytes = content_of g ix image e } in let rest = files_in g ix image es in
+    either-way (entry_is_used e) (λ u. length (cond u (f ∷ rest) rest) ≡ cond u 1 0 + count_by entry_is_used es) (λ _. omega (arith, i)) (λ _. omega (arith, i))
+    ∙ sym (sum_by-cons (λ (h : Entry). cond (entry_is_used h) 1 0) e es)
+
+length-with : (f : File) (files : List File) → length (with_file f files) ≡ suc (length files)
+length-with f [] = refl
+length-with f (g ∷ files) =
+    let i = length-with f files in
+    either-way (is_before f.name g.name) (λ v. length (cond v (f ∷ g ∷ files) (g ∷ with_file f files)) ≡ suc (suc (length files))) (λ _. refl) (λ _. omega (arith, i))
+
+length-sorted : (files : List File) → length (sorted files) ≡ length files
+length-sorted [] = refl
+length-sorted (f ∷ files) = let i = length-sorted files in let w = length-with f (sorted files) in omega (arith, i, w)
+
+pub used_files : (image : List ℕ) → fault image ≡ None → count_by entry_is_used (directory_entries (geometry_of image) image) ≡ length (files_of image)
+used_files image e =
+    let g = geometry_of image in
+    sym (length-sorted (placed_files image) ∙ files_counted g (fields_of g image).indexes image (directory_entries g image))
+
+pub all_kept : (image : List ℕ) → fault image ≡ None
+    → length (kept_entries (geometry_of image) (fields_of (geometry_of image) image).indexes (directory_entries (geometry_of image) image)) ≡ length (files_of image)
+all_kept image e = ap length (keeps_all image e) ∙ length-filter entry_is_used (directory_entries (geometry_of image) image) ∙ used_files image e
+
+pub repaired_files : (image : List ℕ) → fault image ≡ None → files_of (repaired image) ≡ files_of image
+repaired_files image e =
+    let g = geometry_of image in let ix = (fields_of g image).indexes in
+    made_sorted (repaired_blocks image) (kept_files image) (repaired_room image (image_size image e)) (repaired_names image)
+    ∙ ap (λ es. sorted (files_in g ix image es)) (keeps_all image e) ∙ ap sorted (files_used g ix image (directory_entries g image))
+
+-- the report
+
+and-true : (a b : Bool) → a && b ≡ true → (a ≡ true) × (b ≡ true)
+and-true true b e = (refl, e)
+and-true false b e = absurd (false≢true e)
+
+not-false : (a : Bool) → not a ≡ false → a ≡ true
+not-false true e = refl
+not-false false e = absurd (false≢true (sym e))
+
+pub reported_files : (image : List ℕ) → fault image ≡ None → (report image).files ≡ length (files_of image)
+reported_files image e =
+    let g = geometry_of image in let d = fields_of g image in
+    let some : 0 < g.dirs = either-way (is_version_2 image) (λ v. 0 < cond v 6 1) (λ _. omega arith) (λ _. omega arith) in
+    let first = not-false (is_dir_block g d.header d.entries image 0) (first_from-each (λ k. not (is_dir_block g d.header d.entries image k)) 0 g.dirs (image_counts image e) 0 (omega arith) (omega (arith, some))) in
+    let t : nat_eq (count_by entry_is_used d.entries) d.header.files ≡ true = (and-true (begins_right d.header d.entries (block_in image 0) 0) (ends_right g (block_in image 0)) first).0 in
+    let same : count_by entry_is_used d.entries ≡ d.header.files = eq_of (count_by entry_is_used d.entries) d.header.files t in
+    sym same ∙ used_files image e
+  where
+    eq_of : (a b : ℕ) → nat_eq a b ≡ true → a ≡ b
+    eq_of a b t = grind (arith, nat_tests)
+
+-- a file that is too long
+
+last_counts : (width : ℕ) (files : List File) (f : File) → blocks_for width f ≤ total_for width (files ++ f ∷ [])
+last_counts width [] f = omega arith
+last_counts width (x ∷ files) f = let i = last_counts width files f in omega (arith, i)
+
+pub long_no_room : (n : ℕ) (file : File) (files : List File) → n ≤ 65542 → 33557504 < length file.bytes → have_room (geometry_2 n) (with_set file files) ≡ false
+long_no_room n file files most long =
+    let all = with_set file files in let g = geometry_2 n in
+    let need : 65543 ≤ blocks_for 512 file = omega (arith, long) in
+    let low : blocks_for 512 file ≤ total_for 512 all = last_counts 512 (without_name file.name files) file in
+    let over : g.blocks - first_data g < total_for 512 all = omega (arith, need, low, most) in
+    none (nat_le (length all) 78) (nat_le (total_for 512 all) (g.blocks - first_data g)) (nat_le (total_for 8192 all) (index_count g)) (more (total_for 512 all) (g.blocks - first_data g) over)
+  where
+    more : (a b : ℕ) → b < a → nat_le a b ≡ false
+    more a b h = grind (arith, nat_tests)
+
+    none : (a b c : Bool) → b ≡ false → a && b && c ≡ false
+    none true b c e = ap (λ v. v && c) e
+    none false b c e = refl
