@@ -40,7 +40,7 @@ actions = writing (codes "mkfs") ∷ printing (codes "ls") ∷ writing (codes "g
 
 -- ---- what each action asks beside
 
--- 1 to 5 decimal digits with a value from 14 to 65542
+-- one to five decimal digits; the value is at least 14 and at most 65542
 abbrev pub is_block_count : Text → Bool
 is_block_count digits = list_all is_ascii_digit digits && (nat_lt 0 (length digits) && (nat_le (length digits) 5
     && (nat_le 14 (digits_value 10 digits) && nat_le (digits_value 10 digits) 65542)))

@@ -23,7 +23,7 @@ opened image = cond (is_version_2 image) image (image_with (length image / 512 +
 -- what a call that sets a file answers, and what it leaves: the image that is made of the files with this one set, on as many blocks, or
 -- the image as it was
 abbrev pub Puts : List ℕ → List ℕ → File → Result Bool NoMemory → Type 0
-Puts old new file (Ok true) = (have_room (geometry_2 (length old / 512)) (with_set file (placed_files old)) ≡ true) × (placed_files new ≡ with_set file (placed_files old)) × (length new ≡ length old) × (new ≡ image_of (length old / 512) (with_set file (placed_files old)))
+Puts old new file (Ok true) = (have_room (geometry_2 (length old / 512)) (with_set file (placed_files old)) ≡ true) × (placed_files new ≡ with_set file (placed_files old)) × (length new ≡ length old) × (new ≡ image_with (length old / 512) (with_set file (placed_files old)))
 Puts old new file (Ok false) = (have_room (geometry_2 (length old / 512)) (with_set file (placed_files old)) ≡ false) × (new ≡ old)
 Puts old new file (Err e) = new ≡ old
 

@@ -1,8 +1,10 @@
 -- What is left of a command: refused arguments, a host that failed, and the text of a refusal.
 use Rattle.std.proofs.Common.{◌≡◌, ◌≤◌, ℕ, List, [], ◌∷◌, take, Option, Some, None, refl, sym, ap, subst, ◌∙◌, arith}
 use Rattle.std.specs.Prelude.{Result, Ok, Err, IsErr, IsErrAnd}
-use Rattle.command_line.specs.Commands.{Command}
+use Rattle.command_line.specs.Commands.{Command, Run}
 use Rattle.command_line.specs.Reading.{Text}
+use Rattle.command_line.specs.declared.refusal.ArgsFault.{ArgsFault}
+use Rattle.command_line.specs.declared.refusal.ArgsFault.TheVariants as args
 use Rattle.host_port.specs.declared.host.Channel.TheVariants.{Fault}
 use Rattle.host_port.specs.declared.host.HostFault.{HostFault}
 use Rattle.host_port.specs.declared.host.HostFault.TheVariants as host
@@ -10,15 +12,18 @@ use Rattle.host_port.specs.HostCalls.{Rose}
 use Rattle.host_port.specs.Outside.{Outside, HostCall, appended, with_calls, counted, grown}
 use Rattle.machine.specs.Printed.{Booted}
 use Rattle.xinu_model.specs.Machine.{Xinu}
-use Rattle.xinu_run.specs.Conversions.{host_refusal}
-use Rattle.xinu_run.specs.Fetches.{fetches_of}
+use Rattle.xinu_run.specs.Conversions.{args_refusal, host_refusal}
+use Rattle.xinu_run.specs.Calls.{calls_of}
 use Rattle.xinu_run.specs.Refusals.{TellsRefusal, text_of}
-use Rattle.xinu_run.specs.Stages.{IsArgsCause, KeepsFiles, left_of, refusal_of}
-use Rattle.xinu_run.specs.Theorem.{Answers, Carries, HasFetched, IsUnsent, Obeys}
-use Rattle.xinu_run.specs.Verdict.{Verdict, Refuses, Does, Runs, file_bytes, run_verdict, verdict}
+use Rattle.xinu_run.specs.Stages.{KeepsFiles, Performs, left_of, refusal_of}
+use Rattle.xinu_run.specs.RunVerdict.{run_verdict}
+use Rattle.xinu_run.specs.Theorem.{Answers, Carries, HasCalled, IsUnsent, Obeys}
+use Rattle.xinu_run.specs.Verdict.{file_bytes, verdict}
+use Rattle.xinu_run.specs.Work.{Verdict, Refuses, Does, Runs, Outputs}
 use Rattle.xinu_run.specs.declared.refusals.Refusal.{Refusal}
 use Rattle.xinu_run.specs.declared.refusals.Refusal.TheVariants as refusal
 use Rattle.xinu_run.proofs.Carried.{carries_nothing, carries_within, unsent_refl}
+use Rattle.xinu_run.proofs.Called.{keeps_refl, nothing_called}
 use Rattle.xinu_run.proofs.Files.{run_keeps, unseen_by}
 
 -- What holds of a refusal holds of a result that is this refusal.
@@ -29,22 +34,31 @@ of_err (Err x) cause P err is holds =
     let Q : Refusal → Type 0 = λ y. P (Some y) None in subst Q (sym is) holds
 
 -- arguments that are refused
-pub args_refuse : (r : Refusal) (command : Option Command) (h : Outside) → IsArgsCause r command → Obeys command (Some r) None h h
-args_refuse refusal.Usage command h cause =
-    let P : Option Command → Type 0 = λ c. Obeys c (Some refusal.Usage) None h h in
-    subst P (sym cause) (record { unseen = unseen_by [] []; carries = carries_nothing (Refuses refusal.Usage) refusal.Usage h h refl (unsent_refl h) })
-args_refuse refusal.HostFault command h cause = absurd cause
-args_refuse (refusal.Image n f) command h cause = absurd cause
-args_refuse (refusal.Schedule l) command h cause = absurd cause
-args_refuse refusal.NoMemory command h cause = record {
-  unseen = unseen_by [] [];
-  carries = carries_nothing (verdict command h.file (unseen_by [] [])) refusal.NoMemory h h tt (unsent_refl h);
+args_refuse_of : (f : ArgsFault) (command : Option Command) (h : Outside) → (f ≡ args.NoCommand → command ≡ None) → Performs command (Some (args_refusal f)) None h h
+args_refuse_of args.NoCommand command h cause =
+    let P : Option Command → Type 0 = λ c. Performs c (Some refusal.Usage) None h h in
+    subst P (sym (cause refl)) (record {
+      obeys = record { unseen = unseen_by [] []; carries = carries_nothing (Refuses refusal.Usage) refusal.Usage h h refl (unsent_refl h) };
+      calls = nothing_called [] refusal.Usage h;
+      keeps = keeps_refl h;
+    })
+args_refuse_of args.NoMemory command h cause = record {
+  obeys = record {
+    unseen = unseen_by [] [];
+    carries = carries_nothing (verdict command h.file (unseen_by [] [])) refusal.NoMemory h h tt (unsent_refl h);
+  };
+  calls = nothing_called (calls_of command) refusal.NoMemory h;
+  keeps = keeps_refl h;
 }
-args_refuse (refusal.NoRoom n) command h cause = absurd cause
+
+pub args_refuse : (f : ArgsFault) (r : Refusal) (command : Option Command) (h : Outside) → r ≡ args_refusal f → (f ≡ args.NoCommand → command ≡ None)
+    → Performs command (Some r) None h h
+args_refuse f r command h is cause =
+    let P : Refusal → Type 0 = λ x. Performs command (Some x) None h h in subst P (sym is) (args_refuse_of f command h cause)
 
 -- a file that the host didn't fetch
 pub host_refuses : (f : HostFault) (s i : Text) (h j k : Outside) → (f ≡ host.Failed → Rose j.faults k.faults) → h.faults ≤ j.faults
-    → IsUnsent h k → Obeys (Some (record { schedule = s; images = i ∷ [] })) (Some (host_refusal f)) None h k
+    → IsUnsent h k → Obeys (Some (Run (record { schedule = s; images = i ∷ [] }))) (Some (host_refusal f)) None h k
 host_refuses host.Failed s i h j k cause earlier unsent =
     let rose : Rose h.faults k.faults = (let later : Rose j.faults k.faults = cause refl in omega arith) in record {
       unseen = unseen_by [] [];
@@ -68,18 +82,18 @@ fetched_unsent h k calls m is = record {
 pub done_status : (v : Verdict) (left : Option Xinu) (h k : Outside) (c : Carries v None left h k) → 0 ≡ c.output.status
 done_status (Refuses cause) left h k c = (let work = c.deserved.1 in cc)
 done_status (Does (Runs start events)) left h k c = sym (ap (λ o. o.status) c.sends.writes.written)
+done_status (Does (Outputs out disk1 file)) left h k c = sym (ap (λ o. o.status) c.sends.writes.written)
 
 -- A command that was done answers 0.
-pub done_answers : (command : Option Command) (left : Option Xinu) (h k : Outside) → Obeys command None left h k
-    → HasFetched (fetches_of command) None h k → KeepsFiles h k → Answers 0 command h k left
-done_answers command left h k obeys fetched keeps = record {
+pub done_answers : (command : Option Command) (left : Option Xinu) (h k : Outside) → Performs command None left h k → Answers 0 command h k left
+done_answers command left h k p = record {
   ended = None;
-  obeys = obeys;
-  status = done_status (verdict command h.file obeys.unseen) left h k obeys.carries;
-  message = keeps.fault;
-  fetched = fetched;
-  files = keeps.file;
-  faults = keeps.later;
+  obeys = p.obeys;
+  status = done_status (verdict command h.file p.obeys.unseen) left h k p.obeys.carries;
+  message = p.keeps.fault;
+  calls = p.calls;
+  files = p.keeps.file;
+  faults = p.keeps.later;
 }
 
 -- The text of a refusal sends nothing on the other channels.
@@ -92,10 +106,10 @@ text_unsent j k text is = record {
 }
 
 -- A command that was refused answers the status of the refusal, once its text was sent.
-pub refused_answers : (command : Option Command) (r : Refusal) (exit : ℕ) (h j k : Outside) → Obeys command (Some r) None h j
-    → HasFetched (fetches_of command) (Some r) h j → KeepsFiles h j → TellsRefusal r exit j k → Answers exit command h k None
-refused_answers command r exit h j k obeys fetched keeps refused =
-    let sent = refused.part.1 in record {
+pub refused_answers : (command : Option Command) (r : Refusal) (exit : ℕ) (h j k : Outside) → Performs command (Some r) None h j → TellsRefusal r exit j k
+    → Answers exit command h k None
+refused_answers command r exit h j k p refused =
+    let sent = refused.part.1 in let obeys = p.obeys in let keeps = p.keeps in record {
       ended = Some r;
       obeys = record {
         unseen = obeys.unseen;
@@ -108,8 +122,8 @@ refused_answers command r exit h j k obeys fetched keeps refused =
             let calm : Rose j.faults k.faults → ⊥ = λ rose. unrisen (let earlier = keeps.later in omega arith) in
             ap (λ (x : Outside). x.fault) (refused.whole other calm) ∙ ap (λ (o : Option (List ℕ)). grown o (text_of r)) keeps.fault;
       };
-      fetched = record {
-        some = (fetched.some.0, ap (λ (x : Outside). x.calls) sent ∙ fetched.some.1);
+      calls = record {
+        some = (p.calls.some.0, ap (λ (x : Outside). x.calls) sent ∙ p.calls.some.1);
         all = λ none. absurd (cc);
       };
       files = ap (λ (x : Outside). x.file) sent ∙ keeps.file;

@@ -12,12 +12,26 @@ use Rattle.xinu_model.specs.Text.{shown, text}
 use Rattle.xinu_model.proofs.Runs.{some_run}
 use Rattle.xinu_run.specs.Conversions.{host_refusal}
 use Rattle.xinu_run.specs.Theorem.{Carries, Deserved, IsPart, IsPartSent, IsSent, IsUnsent, IsWhole, Sends, WorkSends}
-use Rattle.xinu_run.specs.Verdict.{Output, Verdict, Refuses, Does, Runs, only_printed, transcript}
+use Rattle.xinu_run.specs.Work.{Output, Verdict, Refuses, Does, Runs, Outputs, only_printed, output_of, transcript}
 use Rattle.xinu_run.specs.declared.refusals.Refusal.{Refusal}
 use Rattle.xinu_run.specs.declared.refusals.Refusal.TheVariants as refusal
 use Rattle.xinu_run.proofs.Printed.{PrintsTranscript}
 
 -- ---- nothing was sent
+
+-- nothing was sent of a file, if its channel stayed
+part_unsent : (bytes old new : Option (List ℕ)) → new ≡ old → IsPart bytes old new
+part_unsent None old new same = same
+part_unsent (Some bytes) old new same = inl same
+
+-- of any output nothing was sent yet
+pub nothing_sent : (output : Output) (h k : Outside) → IsUnsent h k → IsPartSent output h k
+nothing_sent output h k unsent = record {
+  out = (0, unsent.out ∙ sym (grown-nil h.out));
+  disk0 = part_unsent output.disk0 h.disk0 k.disk0 unsent.disk0;
+  disk1 = part_unsent output.disk1 h.disk1 k.disk1 unsent.disk1;
+  image = part_unsent output.image h.image k.image unsent.image;
+}
 
 -- A command that is refused before anything was sent is carried out whatever its verdict is, since there is a run through all events.
 pub carries_nothing : (v : Verdict) (cause : Refusal) (h k : Outside) → Deserved v (Some cause) h k → IsUnsent h k
@@ -31,12 +45,24 @@ carries_nothing (Does (Runs start events)) cause h k deserved unsent =
       sends = record {
         last = Some run.1;
         writes = record { lines = run.0; state = run.1; end = run.2; runs = run.3; written = refl; last = refl };
-        part = record { out = (0, unsent.out ∙ sym (grown-nil h.out)); disk0 = unsent.disk0; disk1 = unsent.disk1; image = unsent.image };
+        part = nothing_sent (only_printed 0 (text (transcript start run.0 run.1 run.2))) h k unsent;
         whole = λ none. absurd (cc);
         leaves = λ none. absurd (cc);
       };
       refused = λ some. refl;
     }
+carries_nothing (Does (Outputs out disk1 file)) cause h k deserved unsent = record {
+  output = output_of out disk1 file;
+  deserved = deserved;
+  sends = record {
+    last = None;
+    writes = record { written = refl; last = refl };
+    part = nothing_sent (output_of out disk1 file) h k unsent;
+    whole = λ none. absurd (cc);
+    leaves = λ none. absurd (cc);
+  };
+  refused = λ some. refl;
+}
 
 -- nothing changed on a channel
 pub unsent_refl : (h : Outside) → IsUnsent h h
@@ -61,21 +87,18 @@ carries_as v w ended left h k same carries =
 deserved_within : (v : Verdict) (ended : Option Refusal) (h i j k : Outside) → h.faults ≤ i.faults → j.faults ≤ k.faults
     → Deserved v ended i j → Deserved v ended h k
 deserved_within v None h i j k before after deserved = deserved
-deserved_within v (Some refusal.Usage) h i j k before after deserved = deserved
 deserved_within v (Some refusal.HostFault) h i j k before after deserved =
     (deserved.0, (let rose : Rose i.faults j.faults = deserved.1 in omega arith))
-deserved_within v (Some (refusal.Image n f)) h i j k before after deserved = deserved
-deserved_within v (Some (refusal.Schedule l)) h i j k before after deserved = deserved
 deserved_within v (Some refusal.NoMemory) h i j k before after deserved = tt
-deserved_within v (Some (refusal.NoRoom n)) h i j k before after deserved = deserved
+deserved_within v (Some other) h i j k before after deserved = deserved
 
-whole_within : (bytes h i j k : Option (List ℕ)) → i ≡ h → k ≡ j → IsWhole bytes i j → IsWhole bytes h k
+pub whole_within : (bytes h i j k : Option (List ℕ)) → i ≡ h → k ≡ j → IsWhole bytes i j → IsWhole bytes h k
 whole_within bytes h i j k before after whole =
     let P : Option (List ℕ) → Type 0 = λ x. IsWhole bytes x j in
     let Q : Option (List ℕ) → Type 0 = λ x. IsWhole bytes h x in
     subst Q (sym after) (subst P before whole)
 
-part_within : (bytes h i j k : Option (List ℕ)) → i ≡ h → k ≡ j → IsPart bytes i j → IsPart bytes h k
+pub part_within : (bytes h i j k : Option (List ℕ)) → i ≡ h → k ≡ j → IsPart bytes i j → IsPart bytes h k
 part_within bytes h i j k before after part =
     let P : Option (List ℕ) → Type 0 = λ x. IsPart bytes x j in
     let Q : Option (List ℕ) → Type 0 = λ x. IsPart bytes h x in

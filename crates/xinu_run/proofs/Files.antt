@@ -2,6 +2,7 @@
 use Rattle.std.proofs.Common.{◌≡◌, ◌≢◌, ◌≤◌, ◌+◌, ℕ, List, [], ◌∷◌, length, take, Option, Some, None, refl, sym, ap, subst, ◌∙◌, arith, inl, inr}
 use Rattle.std.proofs.lemmas.List.{take_all}
 use Rattle.std.specs.Prelude.{MatchOption, ⊤, Err, option_map}
+use Rattle.command_line.specs.Commands.{Run}
 use Rattle.command_line.specs.Reading.{Text}
 use Rattle.host_port.specs.Outside.{Outside}
 use Rattle.image_loader.specs.ImageFiles.{image_in}
@@ -18,7 +19,9 @@ use Rattle.xinu_run.specs.Conversions.{boot_refusal, schedule_refusal}
 use Rattle.xinu_run.specs.InputFaults.{ReadsAs, schedule_fault, image_fault}
 use Rattle.xinu_run.specs.Stages.{HoldsFault, HoldsSchedule, IsScheduleCause}
 use Rattle.xinu_run.specs.Theorem.{Carries, IsUnsent, Obeys}
-use Rattle.xinu_run.specs.Verdict.{Input, ScheduleInput, ImageInput, Verdict, Refuses, unless_fault, file_bytes, run_verdict, start_verdict, boot_verdict, images_verdict}
+use Rattle.xinu_run.specs.RunVerdict.{run_verdict, start_verdict, boot_verdict, images_verdict}
+use Rattle.xinu_run.specs.Verdict.{Input, ScheduleInput, ImageInput, DiskInput, SourceInput, file_bytes}
+use Rattle.xinu_run.specs.Work.{Verdict, Refuses, unless_fault}
 use Rattle.xinu_run.specs.declared.refusals.Refusal.{Refusal}
 use Rattle.xinu_run.specs.declared.refusals.Refusal.TheVariants as refusal
 use Rattle.xinu_run.proofs.Carried.{carries_as, carries_nothing, carries_within, unsent_refl}
@@ -118,7 +121,7 @@ boot_verdict_at events images s is = ap (start_verdict events) is
 
 -- ---- no stage finds that there is no command
 
-unless_fault_keeps : {T : Type 0} (fault : Option Refusal) (read : Option T) (next : T → Verdict) → fault ≢ Some refusal.Usage
+pub unless_fault_keeps : {T : Type 0} (fault : Option Refusal) (read : Option T) (next : T → Verdict) → fault ≢ Some refusal.Usage
     → ((x : T) → next x ≢ Refuses refusal.Usage) → unless_fault fault read next ≢ Refuses refusal.Usage
 unless_fault_keeps (Some cause) read next other rest is =
     let same : cause ≡ refusal.Usage = cc in other (ap Some same)
@@ -160,16 +163,16 @@ run_keeps schedule images is =
 abbrev pub unseen_by : List ℕ → List ℕ → Input → List ℕ
 unseen_by schedule image ScheduleInput = schedule
 unseen_by schedule image (ImageInput i) = image
+unseen_by schedule image DiskInput = []
+unseen_by schedule image SourceInput = []
 
 -- why a schedule isn't run, before its image was fetched
 pub schedule_refuses : (r : Refusal) (s i : Text) (h k : Outside) → IsScheduleCause r (h.file s) h k → IsUnsent h k
-    → Obeys (Some (record { schedule = s; images = i ∷ [] })) (Some r) None h k
-schedule_refuses refusal.Usage s i h k cause unsent = absurd cause
+    → Obeys (Some (Run (record { schedule = s; images = i ∷ [] }))) (Some r) None h k
 schedule_refuses refusal.HostFault s i h k cause unsent = record {
   unseen = unseen_by [] [];
   carries = carries_nothing (run_verdict (file_bytes (h.file s) []) (file_bytes (h.file i) [] ∷ [])) refusal.HostFault h k (run_keeps (file_bytes (h.file s) []) (file_bytes (h.file i) [] ∷ []), cause) unsent;
 }
-schedule_refuses (refusal.Image n f) s i h k cause unsent = absurd cause
 schedule_refuses (refusal.Schedule l) s i h k cause unsent =
     let holds : HoldsFault (h.file s) l = cause in record {
       unseen = unseen_by holds.unseen [];
@@ -179,13 +182,13 @@ schedule_refuses refusal.NoMemory s i h k cause unsent = record {
   unseen = unseen_by [] [];
   carries = carries_nothing (run_verdict (file_bytes (h.file s) []) (file_bytes (h.file i) [] ∷ [])) refusal.NoMemory h k tt unsent;
 }
-schedule_refuses (refusal.NoRoom n) s i h k cause unsent = absurd cause
+schedule_refuses other s i h k cause unsent = absurd cause
 
 -- The verdict on the fetched image is the verdict on the command, if the schedule was read.
 pub files_obey : (s i : Text) (events : List Event) (items : List ℕ) (ended : Option Refusal) (left : Option Xinu) (h j k : Outside)
     → HoldsSchedule (h.file s) events → length items ≤ 1048577 → MatchOption (h.file i) ⊤ (λ bytes. items ≡ take 1048577 bytes)
     → IsUnsent h j → h.faults ≤ j.faults → Carries (images_verdict 1 (items ∷ []) (boot_verdict events)) ended left j k
-    → Obeys (Some (record { schedule = s; images = i ∷ [] })) ended left h k
+    → Obeys (Some (Run (record { schedule = s; images = i ∷ [] }))) ended left h k
 files_obey s i events items ended left h j k holds few fetched unsent earlier carries =
     let bytes = file_bytes (h.file i) items in
     let same : run_verdict (file_bytes (h.file s) holds.unseen) (bytes ∷ []) ≡ images_verdict 1 (items ∷ []) (boot_verdict events) =

@@ -13,7 +13,7 @@ use Rattle.xinu_model.specs.Machine.{Xinu}
 use Rattle.xinu_model.specs.Runs.{RunsTo}
 use Rattle.xinu_model.specs.Text.{shown, tables_of}
 use Rattle.xinu_run.specs.Transcripts.{RunPrints}
-use Rattle.xinu_run.specs.Verdict.{transcript}
+use Rattle.xinu_run.specs.Work.{transcript}
 
 -- nothing is both there and not
 pub some_is_none : {X : Type 0} (x : Option X) → IsSome x → x ≡ None → ⊥

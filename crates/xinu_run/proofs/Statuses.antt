@@ -1,9 +1,9 @@
 -- Why the exit statuses mean what they do.
 use Rattle.std.proofs.lemmas.Bool.{cases_eq}
 use Rattle.std.specs.List.{list_any}
-use Rattle.std.proofs.Common.{inl, inr, ◌==◌, IsTrue, ◌≡◌, ◌≢◌, ◌↔◌, ℕ, Bool, true, false, nat_le, if◌then◌else◌, List, [], ◌∷◌, length, Option, Some, None, IsSome, refl, sym, ap, ◌∙◌}
+use Rattle.std.proofs.Common.{inl, inr, ◌==◌, IsTrue, ◌≡◌, ◌≢◌, ◌↔◌, ℕ, Bool, true, false, nat_le, if◌then◌else◌, List, [], ◌∷◌, length, Option, Some, None, IsSome, refl, sym, ap, subst, ◌∙◌}
 use Rattle.std.specs.Prelude.{option_map}
-use Rattle.command_line.specs.Commands.{Command}
+use Rattle.command_line.specs.Commands.{Command, Run, Disk}
 use Rattle.command_line.specs.Reading.{Text}
 use Rattle.host_port.specs.HostCalls.{Rose}
 use Rattle.host_port.specs.Outside.{Outside}
@@ -19,12 +19,16 @@ use Rattle.xinu_model.specs.Process.Creation.{stack_size}
 use Rattle.xinu_run.specs.InputFaults.{fault_line, longest_image, longest_schedule, schedule_fault, image_fault}
 use Rattle.xinu_run.specs.Statuses.{SaysOfFiles, start_with, status_due, statuses}
 use Rattle.xinu_run.specs.Theorem.{Answers, Carries, IsStatus}
-use Rattle.xinu_run.specs.Verdict.{ScheduleInput, ImageInput, Verdict, Refuses, Does, Runs, file_bytes, run_verdict, boot_verdict, start_verdict, verdict, images_verdict}
+use Rattle.xinu_run.specs.Refusals.{status_of}
+use Rattle.xinu_run.specs.RunVerdict.{run_verdict, boot_verdict, start_verdict, images_verdict}
+use Rattle.xinu_run.specs.Verdict.{Input, ScheduleInput, ImageInput, file_bytes, verdict}
+use Rattle.xinu_run.specs.Work.{Verdict, Refuses, Does}
 use Rattle.xinu_run.specs.declared.refusals.Refusal.{Refusal}
 use Rattle.xinu_run.specs.declared.refusals.Refusal.TheVariants as refusal
 use Rattle.xinu_run.proofs.Answered.{done_status}
 use Rattle.xinu_run.proofs.Files.{image_read, image_refused, run_keeps, schedule_read, schedule_refused, boot_verdict_at}
 use Rattle.xinu_run.proofs.Printed.{some_is_none}
+use Rattle.xinu_run.proofs.Staged.{action_keeps}
 
 -- ---- which statuses there are
 
@@ -32,15 +36,21 @@ use Rattle.xinu_run.proofs.Printed.{some_is_none}
 abbrev IsListed : ℕ → Type 0
 IsListed exit = IsTrue (list_any (λ n. exit == n) statuses)
 
+cause_listed : (cause : Refusal) → IsListed (status_of cause)
+cause_listed refusal.Usage = refl
+cause_listed refusal.HostFault = refl
+cause_listed (refusal.Image i f) = refl
+cause_listed (refusal.Schedule l) = refl
+cause_listed (refusal.Disk d b r) = refl
+cause_listed refusal.NoMemory = refl
+cause_listed (refusal.NoRoom i) = refl
+cause_listed refusal.NoSuchFile = refl
+cause_listed refusal.DoesNotFit = refl
+
 listed_by : (v : Verdict) (ended : Option Refusal) (left : Option Xinu) (exit : ℕ) (h k : Outside) (c : Carries v ended left h k) → IsStatus ended c.output exit → exit ≢ 7 → IsListed exit
 listed_by v None left exit h k c status memory =
     let zero : exit ≡ 0 = status ∙ sym (done_status v left h k c) in rw zero refl
-listed_by v (Some refusal.Usage) left exit h k c status memory = rw (status memory) refl
-listed_by v (Some refusal.HostFault) left exit h k c status memory = rw (status memory) refl
-listed_by v (Some (refusal.Image i f)) left exit h k c status memory = rw (status memory) refl
-listed_by v (Some (refusal.Schedule l)) left exit h k c status memory = rw (status memory) refl
-listed_by v (Some refusal.NoMemory) left exit h k c status memory = rw (status memory) refl
-listed_by v (Some (refusal.NoRoom i)) left exit h k c status memory = rw (status memory) refl
+listed_by v (Some cause) left exit h k c status memory = subst IsListed (sym (status memory)) (cause_listed cause)
 
 pub listed : (exit : ℕ) (command : Option Command) (old new : Outside) (left : Option Xinu) → Answers exit command old new left → IsTrue (list_any (λ n. exit == n) statuses)
 listed exit command old new left a =
@@ -53,18 +63,15 @@ listed exit command old new left a =
 
 done_due : (v : Verdict) → (left : Option Xinu) (h k : Outside) (c : Carries v None left h k) → 0 ≡ status_due v
 done_due (Refuses cause) left h k c = (let work = c.deserved.1 in cc)
-done_due (Does (Runs start events)) left h k c = refl
+done_due (Does work) left h k c = refl
 
 carried_due : (v : Verdict) (ended : Option Refusal) (left : Option Xinu) (exit : ℕ) (h k : Outside) (c : Carries v ended left h k)
     → IsStatus ended c.output exit → exit ≢ 7 → exit ≢ 3 → exit ≡ status_due v
 carried_due v None left exit h k c status memory fault =
     status ∙ sym (done_status v left h k c) ∙ done_due v left h k c
-carried_due v (Some refusal.Usage) left exit h k c status memory fault = status memory ∙ sym (ap status_due c.deserved)
 carried_due v (Some refusal.HostFault) left exit h k c status memory fault = absurd (fault (status memory))
-carried_due v (Some (refusal.Image i f)) left exit h k c status memory fault = status memory ∙ sym (ap status_due c.deserved)
-carried_due v (Some (refusal.Schedule l)) left exit h k c status memory fault = status memory ∙ sym (ap status_due c.deserved)
 carried_due v (Some refusal.NoMemory) left exit h k c status memory fault = absurd (memory (status memory))
-carried_due v (Some (refusal.NoRoom i)) left exit h k c status memory fault = status memory ∙ sym (ap status_due c.deserved)
+carried_due v (Some other) left exit h k c status memory fault = status memory ∙ sym (ap status_due c.deserved)
 
 pub due : (exit : ℕ) (command : Option Command) (old new : Outside) (left : Option Xinu) (a : Answers exit command old new left)
     → exit ≢ 7 → exit ≢ 3 → exit ≡ status_due (verdict command old.file a.obeys.unseen)
@@ -72,15 +79,15 @@ due exit command old new left a = carried_due (verdict command old.file a.obeys.
 
 -- ---- no command
 
+command_keeps : (c : Command) (file : Text → Option (List ℕ)) (unseen : Input → List ℕ) → verdict (Some c) file unseen ≢ Refuses refusal.Usage
+command_keeps (Run r) file unseen = run_keeps (file_bytes (file r.schedule) (unseen ScheduleInput)) _
+command_keeps (Disk action) file unseen = action_keeps action _
+
 -- Only the verdict that there is no command calls for the status 2.
 usage_alone : (v : Verdict) → v ≢ Refuses refusal.Usage → 2 ≢ status_due v
 usage_alone (Refuses refusal.Usage) other is = other refl
-usage_alone (Refuses refusal.HostFault) other is = cc
-usage_alone (Refuses (refusal.Image i f)) other is = cc
-usage_alone (Refuses (refusal.Schedule l)) other is = cc
-usage_alone (Refuses refusal.NoMemory) other is = cc
-usage_alone (Refuses (refusal.NoRoom i)) other is = cc
-usage_alone (Does (Runs start events)) other is = cc
+usage_alone (Refuses cause) other is = cc
+usage_alone (Does work) other is = cc
 
 -- A command that is no command ends with status 2 or 7.
 refused_usage : (ended : Option Refusal) (left : Option Xinu) (exit : ℕ) (h k : Outside) (c : Carries (Refuses refusal.Usage) ended left h k)
@@ -88,17 +95,15 @@ refused_usage : (ended : Option Refusal) (left : Option Xinu) (exit : ℕ) (h k 
 refused_usage None left exit h k c status memory = (let work = c.deserved.1 in cc)
 refused_usage (Some refusal.Usage) left exit h k c status memory = status memory
 refused_usage (Some refusal.HostFault) left exit h k c status memory = absurd (c.deserved.0 refl)
-refused_usage (Some (refusal.Image i f)) left exit h k c status memory = (let same = c.deserved in cc)
-refused_usage (Some (refusal.Schedule l)) left exit h k c status memory = (let same = c.deserved in cc)
 refused_usage (Some refusal.NoMemory) left exit h k c status memory = absurd (memory (status memory))
-refused_usage (Some (refusal.NoRoom i)) left exit h k c status memory = (let same = c.deserved in cc)
+refused_usage (Some other) left exit h k c status memory = (let same = c.deserved in cc)
 
 pub usage : (exit : ℕ) (command : Option Command) (old new : Outside) (left : Option Xinu) → Answers exit command old new left → exit ≢ 7
     → exit ≡ 2 ↔ (command ≡ None)
 usage exit None old new left a memory =
     (λ is. refl, λ none. refused_usage a.ended left exit old new a.obeys.carries a.status memory)
 usage exit (Some c) old new left a memory = (
-  λ is. absurd (usage_alone (verdict (Some c) old.file a.obeys.unseen) (run_keeps (file_bytes (old.file c.schedule) (a.obeys.unseen ScheduleInput)) _)
+  λ is. absurd (usage_alone (verdict (Some c) old.file a.obeys.unseen) (command_keeps c old.file a.obeys.unseen)
       (sym is ∙ due exit (Some c) old new left a memory (λ three. cc))),
   λ none. cc,
 )
@@ -108,12 +113,8 @@ usage exit (Some c) old new left a memory = (
 carried_fault : (v : Verdict) (ended : Option Refusal) (left : Option Xinu) (exit : ℕ) (h k : Outside) (c : Carries v ended left h k)
     → IsStatus ended c.output exit → exit ≡ 3 → (v ≢ Refuses refusal.Usage) × Rose h.faults k.faults
 carried_fault v None left exit h k c status three = (let zero = status ∙ sym (done_status v left h k c) in absurd (cc))
-carried_fault v (Some refusal.Usage) left exit h k c status three = (let two = status (λ seven. cc) in absurd (cc))
 carried_fault v (Some refusal.HostFault) left exit h k c status three = c.deserved
-carried_fault v (Some (refusal.Image i f)) left exit h k c status three = (let four = status (λ seven. cc) in absurd (cc))
-carried_fault v (Some (refusal.Schedule l)) left exit h k c status three = (let five = status (λ seven. cc) in absurd (cc))
-carried_fault v (Some refusal.NoMemory) left exit h k c status three = (let seven = status (λ seven. cc) in absurd (cc))
-carried_fault v (Some (refusal.NoRoom i)) left exit h k c status three = (let eight = status (λ seven. cc) in absurd (cc))
+carried_fault v (Some other) left exit h k c status three = (let is = status (λ seven. cc) in absurd (cc))
 
 pub faults_counted : (exit : ℕ) (command : Option Command) (old new : Outside) (left : Option Xinu) → Answers exit command old new left
     → exit ≡ 3 → IsSome command × Rose old.faults new.faults
@@ -234,9 +235,9 @@ says_by_schedule exit s b None good is =
     says_by_image exit s b read.0 (image_fault b) good refl
     (is ∙ ap status_due (schedule_read s read.0 (b ∷ []) (record { good = good; reads = read.1 })))
 
-pub says_of_files : (exit : ℕ) (schedule image : Text) (old new : Outside) (left : Option Xinu) (a : Answers exit (Some (record { schedule = schedule; images = image ∷ [] })) old new left)
+pub says_of_files : (exit : ℕ) (schedule image : Text) (old new : Outside) (left : Option Xinu) (a : Answers exit (Some (Run (record { schedule = schedule; images = image ∷ [] }))) old new left)
     → exit ≢ 7 → exit ≢ 3
     → SaysOfFiles exit (file_bytes (old.file schedule) (a.obeys.unseen ScheduleInput)) (file_bytes (old.file image) (a.obeys.unseen (ImageInput 1)))
 says_of_files exit schedule image old new left a memory fault =
     says_by_schedule exit (file_bytes (old.file schedule) (a.obeys.unseen ScheduleInput)) (file_bytes (old.file image) (a.obeys.unseen (ImageInput 1))) (schedule_fault (file_bytes (old.file schedule) (a.obeys.unseen ScheduleInput))) refl
-    (due exit (Some (record { schedule = schedule; images = image ∷ [] })) old new left a memory fault)
+    (due exit (Some (Run (record { schedule = schedule; images = image ∷ [] }))) old new left a memory fault)

@@ -5,8 +5,11 @@ use Rattle.host_port.specs.declared.host.HostFault.{HostFault}
 use Rattle.host_port.specs.declared.host.HostFault.TheVariants as host
 use Rattle.machine.specs.declared.boot.BootFault.{BootFault}
 use Rattle.machine.specs.declared.boot.BootFault.TheVariants as boot
+use Rattle.lfs_check.specs.declared.faults.CheckFault.{CheckFault}
+use Rattle.lfs_check.specs.declared.faults.CheckFault.TheVariants as check
 use Rattle.schedule_file.specs.declared.faults.ScheduleFault.{ScheduleFault}
 use Rattle.schedule_file.specs.declared.faults.ScheduleFault.TheVariants as schedule
+use Rattle.xinu_run.specs.DiskVerdict.{rule_broken}
 use Rattle.xinu_run.specs.declared.refusals.Refusal.{Refusal}
 use Rattle.xinu_run.specs.declared.refusals.Refusal.TheVariants as refusal
 
@@ -30,3 +33,8 @@ schedule_refusal schedule.NoMemory = refusal.NoMemory
 abbrev pub boot_refusal : BootFault → Refusal
 boot_refusal (boot.NoRoom image) = refusal.NoRoom image
 boot_refusal boot.NoMemory = refusal.NoMemory
+
+-- the refusal that a disk which isn't accepted gives
+abbrev pub check_refusal : CheckFault → Refusal
+check_refusal (check.Broken f) = rule_broken f
+check_refusal check.NoMemory = refusal.NoMemory

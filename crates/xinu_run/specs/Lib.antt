@@ -1,9 +1,12 @@
+pub mod Calls
 pub mod Conversions
-pub mod Fetches
+pub mod DiskVerdict
 pub mod InputFaults
 pub mod Refusals
+pub mod RunVerdict
 pub mod Stages
 pub mod Statuses
 pub mod Theorem
 pub mod Transcripts
 pub mod Verdict
+pub mod Work

@@ -13,8 +13,11 @@ status_of refusal.Usage = 2
 status_of refusal.HostFault = 3
 status_of (refusal.Image i f) = 4
 status_of (refusal.Schedule l) = 5
+status_of (refusal.Disk d b r) = 6
 status_of refusal.NoMemory = 7
 status_of (refusal.NoRoom i) = 8
+status_of refusal.NoSuchFile = 12
+status_of refusal.DoesNotFit = 13
 
 -- the text
 abbrev pub text_of : Refusal → List ℕ
@@ -22,8 +25,11 @@ text_of refusal.Usage = codes "xinu: usage\n"
 text_of refusal.HostFault = codes "xinu: host fault\n"
 text_of (refusal.Image i f) = codes "xinu: image " ++ decimal i ++ codes " fault " ++ decimal f ++ codes "\n"
 text_of (refusal.Schedule l) = codes "xinu: schedule line " ++ decimal l ++ codes "\n"
+text_of (refusal.Disk d b r) = codes "xinu: disk " ++ decimal d ++ codes " block " ++ decimal b ++ codes " rule " ++ decimal r ++ codes "\n"
 text_of refusal.NoMemory = codes "xinu: no memory\n"
 text_of (refusal.NoRoom i) = codes "xinu: no room for image " ++ decimal i ++ codes "\n"
+text_of refusal.NoSuchFile = codes "xinu: no such file\n"
+text_of refusal.DoesNotFit = codes "xinu: does not fit\n"
 
 -- A prefix of the text was sent, and but for the count of faults nothing else changed; it is the whole text unless a fault came or
 -- memory ran out.

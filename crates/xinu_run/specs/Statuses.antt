@@ -1,20 +1,26 @@
 -- What the exit statuses say of a command's files.
 use Rattle.std.specs.Prelude.{◌≡◌, ◌↔◌, ℕ, List, [], ◌∷◌, Option, Some, None, IsSome, option_map}
+use Rattle.command_line.specs.DiskArgs.{DiskAction, Mkfs, Ls, Get, Put, Check, Repair}
+use Rattle.command_line.specs.Reading.{Text}
 use Rattle.image_loader.specs.ImageFiles.{image_in}
+use Rattle.lfs_check.specs.declared.faults.DiskFault.{DiskFault}
+use Rattle.lfs_layout.specs.Images.{opened}
 use Rattle.xinu_model.specs.Boot.{Start, Boots, NoRoom, boot}
 use Rattle.xinu_model.specs.Machine.{Xinu}
+use Rattle.xinu_run.specs.DiskVerdict.{disk_fault, disk_with, file_on, size_fault}
 use Rattle.xinu_run.specs.InputFaults.{schedule_fault, image_fault}
 use Rattle.xinu_run.specs.Refusals.{status_of}
-use Rattle.xinu_run.specs.Verdict.{Verdict, Refuses, Does, Runs}
+use Rattle.xinu_run.specs.Verdict.{Input, DiskInput, SourceInput}
+use Rattle.xinu_run.specs.Work.{Verdict, Refuses, Does}
 
 -- the exit statuses
 abbrev pub statuses : List ℕ
-statuses = 0 ∷ 2 ∷ 3 ∷ 4 ∷ 5 ∷ 7 ∷ 8 ∷ []
+statuses = 0 ∷ 2 ∷ 3 ∷ 4 ∷ 5 ∷ 6 ∷ 7 ∷ 8 ∷ 12 ∷ 13 ∷ []
 
 -- the exit status that a verdict calls for
 abbrev pub status_due : Verdict → ℕ
 status_due (Refuses cause) = status_of cause
-status_due (Does (Runs start events)) = 0
+status_due (Does work) = 0
 
 -- how the machine starts with the image of a file, if the file is an image
 unfoldable pub start_with : List ℕ → Option Start
@@ -38,3 +44,31 @@ pub record SaysOfFiles (exit : ℕ) (schedule image : List ℕ) : Type 0 where
   pub bad_schedule : exit ≡ 5 ↔ IsSome (schedule_fault schedule)
   pub bad_image : exit ≡ 4 ↔ ((schedule_fault schedule ≡ None) × IsSome (image_fault image))
   pub no_room : exit ≡ 8 ↔ ((schedule_fault schedule ≡ None) × HasNoRoom image)
+
+-- ---- actions on a disk
+
+-- the rule that the disk of an action breaks: of a disk that is repaired rule 0 alone
+abbrev pub action_fault : DiskAction → (Input → Text → List ℕ) → Option DiskFault
+action_fault (Mkfs blocks out) held = None
+action_fault (Ls image) held = disk_fault (held DiskInput image)
+action_fault (Get image name out) held = disk_fault (held DiskInput image)
+action_fault (Put image name source out) held = disk_fault (held DiskInput image)
+action_fault (Check image) held = disk_fault (held DiskInput image)
+action_fault (Repair image out) held = size_fault (held DiskInput image)
+
+-- An action asks for a file that its disk doesn't have.
+abbrev pub LacksFile : DiskAction → (Input → Text → List ℕ) → Type 0
+LacksFile (Get image name out) held = file_on name (opened (held DiskInput image)) ≡ None
+LacksFile _ held = ⊥
+
+-- An action sets a file for which its disk has no room.
+abbrev pub LacksRoom : DiskAction → (Input → Text → List ℕ) → Type 0
+LacksRoom (Put image name source out) held = disk_with name (held SourceInput source) (opened (held DiskInput image)) ≡ None
+LacksRoom _ held = ⊥
+
+-- What the exit status of an action says of its files, if it is neither 3 nor 7.
+pub record SaysOfDisk (exit : ℕ) (action : DiskAction) (held : Input → Text → List ℕ) : Type 0 where
+  pub done : exit ≡ 0 ↔ ((action_fault action held ≡ None) × (LacksFile action held → ⊥) × (LacksRoom action held → ⊥))
+  pub bad_disk : exit ≡ 6 ↔ IsSome (action_fault action held)
+  pub no_file : exit ≡ 12 ↔ ((action_fault action held ≡ None) × LacksFile action held)
+  pub no_room : exit ≡ 13 ↔ ((action_fault action held ≡ None) × LacksRoom action held)

@@ -1,12 +1,13 @@
--- The main theorem's statement: what the top call does. Read `Answers`, at the end, first; `verdict` and `Writes` are in Verdict.antt.
+-- The main theorem's statement: what the top call does. Read `Answers`, at the end, first; `verdict` is in Verdict.antt, `Writes` in Work.antt.
 use Rattle.std.specs.Prelude.{◌≡◌, ◌≢◌, ◌≤◌, ◌⊎◌, ℕ, List, take, Option, Some, None, IsSome}
 use Rattle.command_line.specs.Commands.{Command}
 use Rattle.host_port.specs.HostCalls.{Rose}
 use Rattle.host_port.specs.Outside.{Outside, HostCall, emptied_channel, grown}
 use Rattle.xinu_model.specs.Machine.{Xinu}
-use Rattle.xinu_run.specs.Fetches.{fetches_of}
+use Rattle.xinu_run.specs.Calls.{calls_of}
 use Rattle.xinu_run.specs.Refusals.{status_of, text_of}
-use Rattle.xinu_run.specs.Verdict.{Input, Output, Verdict, Refuses, Does, Work, Writes, verdict}
+use Rattle.xinu_run.specs.Verdict.{Input, verdict}
+use Rattle.xinu_run.specs.Work.{Output, Verdict, Refuses, Does, Work, Writes}
 use Rattle.xinu_run.specs.declared.refusals.Refusal.{Refusal}
 use Rattle.xinu_run.specs.declared.refusals.Refusal.TheVariants as refusal
 
@@ -89,18 +90,19 @@ abbrev pub IsMessage : Option Refusal → ℕ → Outside → Outside → Type 0
 IsMessage None exit old new = new.fault ≡ old.fault
 IsMessage (Some cause) exit old new = SendsText cause exit old new
 
--- The files that the command names were fetched in order, all of them if it was done.
-pub record HasFetched (calls : List HostCall) (ended : Option Refusal) (old new : Outside) : Type 0 where
+-- The files that the command names were fetched, and named for their channels, in order; all of them if it was done.
+pub record HasCalled (calls : List HostCall) (ended : Option Refusal) (old new : Outside) : Type 0 where
   pub some : (n : ℕ) × (new.calls ≡ grown old.calls (take n calls))
   pub all : ended ≡ None → new.calls ≡ grown old.calls calls
 
 -- The theorem. The command was done, or refused for a cause, as it deserves by the bytes of its files (`obeys`). Its status and its
--- message say which. It fetched the files that it names; it changed no file, and the count of faults never falls.
+-- message say which. It asked the host for the files that it names, in order; no file that can be observed changed, and the count of
+-- faults never falls.
 pub record Answers (exit : ℕ) (command : Option Command) (old new : Outside) (left : Option Xinu) : Type 0 where
   pub ended : Option Refusal
   pub obeys : Obeys command ended left old new
   pub status : IsStatus ended obeys.carries.output exit
   pub message : IsMessage ended exit old new
-  pub fetched : HasFetched (fetches_of command) ended old new
+  pub calls : HasCalled (calls_of command) ended old new
   pub files : new.file ≡ old.file
   pub faults : old.faults ≤ new.faults

@@ -2,16 +2,17 @@
 
 ghost use Rattle.std.specs.Prelude.{◌≡◌, ◌≢◌, ◌↔◌, ◌==◌, ◌∷◌, [], ℕ, IsTrue, Option, Some, None, IsSome};
 ghost use Rattle.std.specs.List.{list_any};
-ghost use Rattle.command_line.specs.Commands.{Command};
+ghost use Rattle.command_line.specs.Commands.{Command, Run, Disk};
+ghost use Rattle.command_line.specs.DiskArgs.{DiskAction};
 ghost use Rattle.command_line.specs.Reading.{Text};
 ghost use Rattle.host_port.specs.HostCalls.{Rose};
 ghost use Rattle.host_port.specs.Outside.{Outside};
 ghost use Rattle.xinu_model.specs.Machine.{Xinu};
-ghost use Rattle.xinu_run.specs.Statuses.{SaysOfFiles, status_due, statuses};
+ghost use Rattle.xinu_run.specs.Statuses.{SaysOfDisk, SaysOfFiles, status_due, statuses};
 ghost use Rattle.xinu_run.specs.Theorem.{Answers};
 ghost use Rattle.xinu_run.specs.Verdict.{ScheduleInput, ImageInput, file_bytes, verdict};
 
-/// The exit status is 0, 2, 3, 4, 5, 7 or 8.
+/// The exit status is 0, 2, 3, 4, 5, 6, 7, 8, 12 or 13.
 pub fn statuses_are_these()
     ensures { (exit : ℕ) (command : Option Command) (old new : Outside) (left : Option Xinu) → Answers exit command old new left → IsTrue (list_any (λ n. exit == n) statuses) }
 {}
@@ -31,8 +32,14 @@ pub fn host_faults_are_counted()
     ensures { (exit : ℕ) (command : Option Command) (old new : Outside) (left : Option Xinu) → Answers exit command old new left → exit ≡ 3 → IsSome command × Rose old.faults new.faults }
 {}
 
-/// The exit status is 5 if and only if the schedule file has a fault; if it has none, 4 if and only if the image file has one; if both
+/// The exit status of a run is 5 if and only if the schedule file has a fault; if it has none, 4 if and only if the image file has one; if both
 /// have none, 8 if and only if the heap has no room for the stack of the image, and else 0: unless the host failed or memory ran out.
 pub fn statuses_say_of_files()
-    ensures { (exit : ℕ) (schedule image : Text) (old new : Outside) (left : Option Xinu) (a : Answers exit (Some (record { schedule = schedule; images = image ∷ [] })) old new left) → exit ≢ 7 → exit ≢ 3 → SaysOfFiles exit (file_bytes (old.file schedule) (a.obeys.unseen ScheduleInput)) (file_bytes (old.file image) (a.obeys.unseen (ImageInput 1))) }
+    ensures { (exit : ℕ) (schedule image : Text) (old new : Outside) (left : Option Xinu) (a : Answers exit (Some (Run (record { schedule = schedule; images = image ∷ [] }))) old new left) → exit ≢ 7 → exit ≢ 3 → SaysOfFiles exit (file_bytes (old.file schedule) (a.obeys.unseen ScheduleInput)) (file_bytes (old.file image) (a.obeys.unseen (ImageInput 1))) }
+{}
+
+/// The exit status of an action on a disk is 6 if and only if the disk breaks a rule; if it breaks none, 12 if and only if it lacks the file
+/// that is asked for, 13 if and only if it has no room for the file that is set, and else 0: unless the host failed or memory ran out.
+pub fn statuses_say_of_disks()
+    ensures { (exit : ℕ) (action : DiskAction) (old new : Outside) (left : Option Xinu) (a : Answers exit (Some (Disk action)) old new left) → exit ≢ 7 → exit ≢ 3 → SaysOfDisk exit action (λ input name. file_bytes (old.file name) (a.obeys.unseen input)) }
 {}

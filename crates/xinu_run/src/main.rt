@@ -1,14 +1,17 @@
-//! The program: it runs an image under a schedule and prints the transcript.
+//! The program: it runs an image under a schedule and prints the transcript, and it makes, checks and changes disks with files.
 //!
-//! `xinu_run run --schedule FILE IMAGE` is its one command. The work is done by the top call, [`xinu`], over the host of the program; the
+//! Its commands are `run --schedule FILE IMAGE`, and `disk` with six actions: `mkfs`, `ls`, `get`, `put`, `check` and `repair`. The work is done by the top call, [`xinu`], over the host of the program; the
 //! status that it answers is the program's. `specs/Theorem.antt` says what the top call does.
 #![tactic(auto)]
 
-mod args;
 mod commands;
+mod disk;
+mod disk_lines;
 pub mod laws;
 mod refusals;
+mod run_command;
 mod runs;
+mod sending;
 #[cfg(test)]
 mod tests;
 mod top;

@@ -1,12 +1,16 @@
 //! The refusals of a command, each with its status and its text.
 
-ghost use Rattle.std.specs.Prelude.{◌≡◌};
+ghost use Rattle.std.specs.Prelude.{◌≡◌, ◌<◌, ◌≤◌, ◌++◌, length, codes};
+ghost use Rattle.std.specs.Fmt.{decimal};
 ghost use Rattle.xinu_run.specs.Refusals.{TellsRefusal, status_of, text_of};
+ghost use Rattle.xinu_run.specs.declared.refusals.Refusal.TheVariants as refusal;
 
 use command_line::ArgsFault;
 use host_port::{Channel, Host, HostFault, Line};
+use lfs_layout::CheckFault;
 use machine::BootFault;
 use schedule_file::ScheduleFault;
+use xinu_base::NoMemory;
 
 /// Why a command wasn't carried out.
 #[derive(Clone, Copy, Debug, PartialEq, Eq)]
@@ -20,8 +24,14 @@ pub(crate) enum Refusal {
     Image { image: u8, fault: u8 },
     /// The schedule file has a fault at this line, counted from 1; it is too long if this is 0.
     Schedule(u32),
+    /// The disk with this number breaks this rule at this block; 1 is the disk with files.
+    Disk { disk: u8, block: u32, rule: u8 },
     /// The heap has no room for the stack of the image with this number, counted from 1.
     NoRoom(u8),
+    /// The disk has no file of the name.
+    NoSuchFile,
+    /// The disk has no room for the file.
+    DoesNotFit,
     /// Memory ran out.
     NoMemory,
 }
@@ -82,6 +92,35 @@ impl From<BootFault> for Refusal {
     }
 }
 
+impl From<CheckFault> for Refusal {
+    ghost use Rattle.std.specs.Prelude.{◌≡◌};
+    ghost use Rattle.xinu_run.specs.Conversions.{check_refusal};
+
+    ghost from_gives = { λ f r. r ≡ check_refusal f };
+
+    fn from(fault: CheckFault) -> Refusal {
+        match fault {
+            CheckFault::Broken(fault) => Refusal::Disk {
+                disk: 1,
+                block: fault.block,
+                rule: fault.rule,
+            },
+            CheckFault::NoMemory => Refusal::NoMemory,
+        }
+    }
+}
+
+impl From<NoMemory> for Refusal {
+    ghost use Rattle.std.specs.Prelude.{◌≡◌};
+    ghost use Rattle.xinu_run.specs.declared.refusals.Refusal.TheVariants.{NoMemory};
+
+    ghost from_gives = { λ _ r. r ≡ NoMemory };
+
+    fn from(_e: NoMemory) -> Refusal {
+        Refusal::NoMemory
+    }
+}
+
 /// Sends the text of a refusal, and answers its exit status, or 7 if memory runs out meanwhile. A host that fails is ignored here.
 pub(crate) fn refuse<H: Host>(refusal: Refusal, host: &mut H) -> u8
     ensures { TellsRefusal refusal result (H.view host.old) (H.view host.new) }
@@ -101,8 +140,11 @@ fn status(refusal: Refusal) -> u8
         Refusal::HostFault => 3,
         Refusal::Image { .. } => 4,
         Refusal::Schedule(_) => 5,
+        Refusal::Disk { .. } => 6,
         Refusal::NoMemory => 7,
         Refusal::NoRoom(_) => 8,
+        Refusal::NoSuchFile => 12,
+        Refusal::DoesNotFit => 13,
     }
 }
 
@@ -110,26 +152,63 @@ fn status(refusal: Refusal) -> u8
 fn line_of(refusal: Refusal) -> Line
     ensures text { result ≡ text_of refusal }
 {
-    let mut line = Line::new();
     match refusal {
-        Refusal::Usage => line.word("xinu: usage"),
-        Refusal::HostFault => line.word("xinu: host fault"),
-        Refusal::Image { image, fault } => {
-            line.word("xinu: image");
-            line.number(image as i64);
-            line.word("fault");
-            line.number(fault as i64);
-        }
-        Refusal::Schedule(number) => {
-            line.word("xinu: schedule line");
-            line.number(number as i64);
-        }
-        Refusal::NoMemory => line.word("xinu: no memory"),
-        Refusal::NoRoom(image) => {
-            line.word("xinu: no room for image");
-            line.number(image as i64);
-        }
+        Refusal::Usage => text_line("xinu: usage"),
+        Refusal::HostFault => text_line("xinu: host fault"),
+        Refusal::Image { image, fault } => image_line(image, fault),
+        Refusal::Schedule(number) => number_line("xinu: schedule line", number),
+        Refusal::Disk { disk, block, rule } => disk_line(disk, block, rule),
+        Refusal::NoMemory => text_line("xinu: no memory"),
+        Refusal::NoRoom(image) => number_line("xinu: no room for image", image as u32),
+        Refusal::NoSuchFile => text_line("xinu: no such file"),
+        Refusal::DoesNotFit => text_line("xinu: does not fit"),
     }
+}
+
+fn text_line(text: &str) -> Line
+    requires { length text.now ≤ 40 }
+    ensures { result ≡ text.now ++ codes "\n" }
+{
+    let mut line = Line::new();
+    line.word(text);
+    line.end();
+    line
+}
+
+fn number_line(text: &str, number: u32) -> Line
+    requires some { 0 < length text.now }
+    requires few { length text.now ≤ 40 }
+    ensures { result ≡ text.now ++ codes " " ++ decimal number ++ codes "\n" }
+{
+    let mut line = Line::new();
+    line.word(text);
+    line.number(number as i64);
+    line.end();
+    line
+}
+
+fn image_line(image: u8, fault: u8) -> Line
+    ensures { result ≡ text_of (refusal.Image image fault) }
+{
+    let mut line = Line::new();
+    line.word("xinu: image");
+    line.number(image as i64);
+    line.word("fault");
+    line.number(fault as i64);
+    line.end();
+    line
+}
+
+fn disk_line(disk: u8, block: u32, rule: u8) -> Line
+    ensures { result ≡ text_of (refusal.Disk disk block rule) }
+{
+    let mut line = Line::new();
+    line.word("xinu: disk");
+    line.number(disk as i64);
+    line.word("block");
+    line.number(block as i64);
+    line.word("rule");
+    line.number(rule as i64);
     line.end();
     line
 }

@@ -8,7 +8,7 @@ ghost use Rattle.xinu_model.specs.Text.{shown};
 ghost use Rattle.xinu_run.specs.Stages.{KeepsFiles, left_of, refusal_of};
 ghost use Rattle.xinu_run.specs.Theorem.{Carries};
 ghost use Rattle.xinu_run.specs.Transcripts.{RunPrints};
-ghost use Rattle.xinu_run.specs.Verdict.{boot_verdict};
+ghost use Rattle.xinu_run.specs.RunVerdict.{boot_verdict};
 
 use crate::refusals::Refusal;
 use host_port::{Host, Line, Printer};
@@ -32,7 +32,7 @@ pub(crate) fn run_image<H: Host>(
 ) -> Result<Machine, Refusal>
     requires few { length schedule ≤ 1000000000 }
     ensures carries { Carries (boot_verdict schedule (loaded_of image.now ∷ [])) (refusal_of result) (left_of result) (H.view host.old) (H.view host.new) }
-    ensures fetched { (H.view host.new).calls ≡ (H.view host.old).calls }
+    ensures calls { (H.view host.new).calls ≡ (H.view host.old).calls }
     ensures keeps { KeepsFiles (H.view host.old) (H.view host.new) }
 {
     let mut machine = match Machine::boot(alloc, slice::from_ref(image)) {

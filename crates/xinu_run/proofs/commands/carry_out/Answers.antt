@@ -1,13 +1,23 @@
-use Rattle.std.proofs.Common.{map}
+use Rattle.std.proofs.Common.{◌≡◌, ◌∙◌, Option, Some, None, ap, sym, subst, map, length}
+use Rattle.std.specs.Prelude.{Err}
 use Rattle.std.specs.String.{string_bytes}
-use Rattle.command_line.specs.Commands.{command_of}
-use Rattle.xinu_run.specs.Theorem.{Obeys}
-use Rattle.xinu_run.proofs.Answered.{args_refuse, of_err}
+use Rattle.std.proofs.lemmas.List.{length-map}
+use Rattle.command_line.specs.Commands.{Command, command_of}
+use Rattle.command_line.specs.Names.{action_names, command_names, run_names}
+use Rattle.xinu_run.specs.Stages.{Performs, last_of, left_of, refusal_of}
+use Rattle.xinu_run.proofs.Answered.{args_refuse}
+use Rattle.xinu_run.proofs.Possible.{one_image, possible}
 use Rattle.xinu_run.proofs.commands.carry_out.Goals as goal
 
-pub returns-in_err-files-clause-obeys : goal.returns-in_err-files-clause-obeys
-returns-in_err-files-clause-obeys g c =
-    let command = command_of (map string_bytes c.args.args.now) in
-    let h = g.H.Host.view c.args.host.now in
-    of_err c.from_residual.result c.in_err-files.field-0.0 (λ ended left. Obeys command ended left h h) c.from_residual.ensures.0 c.from_residual.ensures.1
-    (args_refuse c.in_err-files.field-0.0 command h c.in_err-files.ensures.refused)
+pub returns-in-Err : goal.returns-in-Err
+returns-in-Err g c = record {
+  performs = args_refuse c.in-Err.fault c.from.result (command_of (map string_bytes c.args.args.now)) (g.H.Host.view c.args.host.now) c.from.ensures (λ is. c.in-Err.ensures.no_command (ap Err is));
+}
+
+pub run-requires : goal.run-requires
+run-requires g c =
+    let files = c.in-Run.files in
+    record { one_image = sym (length-map files.images.items (λ s. s.now)) ∙ one_image (map string_bytes c.args.args.now) (run_names files) (c.in-Ok.ensures.command ∙ ap (λ x. Some (command_names x)) c.in-Run.is) }
+
+pub act-requires : goal.act-requires
+act-requires g c = record { possible = possible (map string_bytes c.args.args.now) (action_names c.in-Disk.action) (c.in-Ok.ensures.command ∙ ap (λ x. Some (command_names x)) c.in-Disk.is) }

@@ -33,5 +33,5 @@ returns-in-Ok-Some c =
       sym (ap (λ im. have_room (geometry_2 (length im / 512)) (with_set f (placed_files im))) v) ∙ room,
       ap placed_files made ∙ made_files n all r (put_names image text bytes c.self.invariant c.requires) ∙ ap (λ im. with_set f (placed_files im)) v,
       ap length made ∙ length_image n all r ∙ sym (whole_blocks image c.self.invariant.faultless) ∙ ap length v,
-      made ∙ ap (λ im. image_of (length im / 512) (with_set f (placed_files im))) v,
+      made ∙ ap (λ im. image_with (length im / 512) (with_set f (placed_files im))) v,
     )

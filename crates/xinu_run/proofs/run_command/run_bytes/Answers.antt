@@ -1,10 +1,10 @@
 use Rattle.std.proofs.Common.{◌∙◌, [], sym, ap, arith, Some, None}
 use Rattle.image_loader.specs.Images.{loaded_of}
-use Rattle.xinu_run.specs.Verdict.{boot_verdict}
+use Rattle.xinu_run.specs.RunVerdict.{boot_verdict}
 use Rattle.xinu_run.proofs.Carried.{carries_as, carries_nothing, unsent_refl}
 use Rattle.xinu_run.proofs.Files.{image_read, image_refused}
 use Rattle.xinu_run.proofs.InputFaults.{image_fault-long, image_fault-short}
-use Rattle.xinu_run.proofs.commands.run_bytes.Goals as goal
+use Rattle.xinu_run.proofs.run_command.run_bytes.Goals as goal
 
 pub returns-then-bytes-gt-LONGEST_IMAGE-clause-carries :
     goal.returns-then-bytes-gt-LONGEST_IMAGE-clause-carries

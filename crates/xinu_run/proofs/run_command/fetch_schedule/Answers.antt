@@ -3,7 +3,7 @@ use Rattle.std.specs.Prelude.{MatchOption, ⊤}
 use Rattle.schedule_file.specs.ScheduleFiles.{Reads}
 use Rattle.xinu_run.proofs.Files.{holds_events, holds_fault, schedule_cause}
 use Rattle.xinu_run.proofs.InputFaults.{schedule_fault-long, schedule_fault-short}
-use Rattle.xinu_run.proofs.commands.fetch_schedule.Goals as goal
+use Rattle.xinu_run.proofs.run_command.fetch_schedule.Goals as goal
 
 pub returns-then-len-gt-LONGEST_SCHEDULE-clause-refused :
     goal.returns-then-len-gt-LONGEST_SCHEDULE-clause-refused

@@ -1,0 +1,129 @@
+-- What the arguments make sure of: a run has one image, and an action on a disk is possible.
+use Rattle.std.proofs.Common.{◌≡◌, ◌<◌, ◌≤◌, ℕ, nat_lt, nat_le, Bool, true, false, ◌&&◌, if◌then◌else◌, List, [], ◌∷◌, length, get_or, bytes_eq, Option, Some, None, refl, sym, ap, subst, ◌∙◌, arith, codes, map}
+use Rattle.std.specs.Prelude.{option_map}
+use Rattle.std.proofs.lemmas.List.{length-map}
+use Rattle.std.specs.List.{list_all}
+use Rattle.std.specs.Char.{is_ascii_digit}
+use Rattle.std.specs.Str.Parse.{digits_value}
+use Rattle.std.proofs.lemmas.Bool.{and_parts, ltb-true, leb-true}
+use Rattle.std.proofs.lemmas.Option.{option_and_then_some}
+use Rattle.lfs_layout.specs.Files.{is_text}
+use Rattle.command_line.specs.Commands.{Command, Run, Disk, command_of, commands, run_command_of}
+use Rattle.command_line.specs.DiskArgs.{DiskAction, Mkfs, Ls, Get, Put, Check, Repair, action_from, action_named, action_of, actions, check_of, get_of, is_block_count, ls_of, mkfs_of, put_of, repair_of}
+use Rattle.command_line.specs.Reading.{Request, Text, option_value, request_of}
+use Rattle.command_line.specs.RunArgs.{RunFiles, is_file_name, run_from, run_of}
+use Rattle.xinu_run.specs.Stages.{IsBlockCount, IsPossible}
+
+-- a value that is there if a test holds
+some_if : {X : Type 0} (b : Bool) (x y : X) → (if b then Some x else None) ≡ Some y → (b ≡ true) × (x ≡ y)
+some_if true x y is = (refl, cc)
+some_if false x y is = cc
+
+-- ---- a run has one image
+
+run_given : (args : List Text) (r : RunFiles) → command_of args ≡ Some (Run r) → run_command_of args ≡ Some r
+run_given [] r is = absurd (cc)
+run_given (first ∷ args) r is = go (bytes_eq (codes "disk") first) (action_of args) (run_command_of (first ∷ args)) is
+  where
+    go : (b : Bool) (a : Option DiskAction) (x : Option RunFiles) → (if b then option_map Disk a else option_map Run x) ≡ Some (Run r) → x ≡ Some r
+    go true (Some a) x is = absurd (cc)
+    go true None x is = absurd (cc)
+    go false a (Some y) is = cc
+    go false a None is = absurd (cc)
+
+one_of_run : (schedule : Option Text) (images : List Text) (r : RunFiles) → run_of schedule images ≡ Some r → length r.images ≡ 1
+one_of_run None images r is = cc
+one_of_run (Some schedule) images r is =
+    let files : RunFiles = record { schedule = schedule; images = images } in
+    let holds = some_if (is_file_name schedule && (list_all is_file_name images && (nat_lt 0 (length images) && nat_le (length images) 1))) files r is in
+    let counts = and_parts (nat_lt 0 (length images)) (nat_le (length images) 1) (and_parts (list_all is_file_name images) _ (and_parts (is_file_name schedule) _ holds.0).1).1 in
+    let some : 0 < length images = ltb-true 0 (length images) counts.0 in
+    let few : length images ≤ 1 = leb-true (length images) 1 counts.1 in
+    let same : length images ≡ length r.images = ap (λ (x : RunFiles). length x.images) holds.1 in
+    omega arith
+
+pub one_image : (args : List Text) (r : RunFiles) → command_of args ≡ Some (Run r) → length r.images ≡ 1
+one_image args r is =
+    option_and_then_some (λ (q : Request). run_from q.taken) (request_of commands args) r (run_given args r is)
+    (λ q calls run. one_of_run (option_value (codes "schedule") q.taken) q.taken.positional r run)
+
+-- a list of one is its first
+pub one_item : {A : Type 0} (xs : List A) (x : A) → length xs ≡ 1 → x ≡ get_or xs 0 x → xs ≡ x ∷ []
+one_item [] x is first = absurd (omega arith)
+one_item (y ∷ []) x is first = ap (λ a. a ∷ []) (sym first)
+one_item (y ∷ z ∷ xs) x is first = absurd (omega arith)
+
+-- ---- an action is possible
+
+action_given : (args : List Text) (a : DiskAction) → command_of args ≡ Some (Disk a) → (rest : List Text) × (action_of rest ≡ Some a)
+action_given [] a is = absurd (cc)
+action_given (first ∷ args) a is = (args, go (bytes_eq (codes "disk") first) (action_of args) (run_command_of (first ∷ args)) is)
+  where
+    go : (b : Bool) (x : Option DiskAction) (r : Option RunFiles) → (if b then option_map Disk x else option_map Run r) ≡ Some (Disk a) → x ≡ Some a
+    go true (Some y) r is = cc
+    go true None r is = absurd (cc)
+    go false x (Some y) is = absurd (cc)
+    go false x None is = absurd (cc)
+
+mkfs_possible : (out : Option Text) (args : List Text) (a : DiskAction) → mkfs_of out args ≡ Some a → IsPossible a
+mkfs_possible None args a is = absurd (cc)
+mkfs_possible (Some out) [] a is = absurd (cc)
+mkfs_possible (Some out) (x ∷ y ∷ more) a is = absurd (cc)
+mkfs_possible (Some out) (blocks ∷ []) a is =
+    let n = digits_value 10 blocks in
+    let holds = some_if (is_block_count blocks && is_file_name out) (Mkfs n out) a is in
+    let count = (and_parts (is_block_count blocks) (is_file_name out) holds.0).0 in
+    let range = and_parts (nat_le 14 n) (nat_le n 65542) (and_parts (nat_le (length blocks) 5) _ (and_parts (nat_lt 0 (length blocks)) _ (and_parts (list_all is_ascii_digit blocks) _ count).1).1).1 in
+    let within : IsBlockCount n = record { low = leb-true 14 n range.0; high = leb-true n 65542 range.1 } in
+    subst IsPossible holds.1 within
+
+ls_possible : (args : List Text) (a : DiskAction) → ls_of args ≡ Some a → IsPossible a
+ls_possible [] a is = absurd (cc)
+ls_possible (x ∷ y ∷ more) a is = absurd (cc)
+ls_possible (image ∷ []) a is = subst IsPossible (some_if (is_file_name image) (Ls image) a is).1 tt
+
+get_possible : (out : Option Text) (args : List Text) (a : DiskAction) → get_of out args ≡ Some a → IsPossible a
+get_possible None args a is = absurd (cc)
+get_possible (Some out) [] a is = absurd (cc)
+get_possible (Some out) (x ∷ []) a is = absurd (cc)
+get_possible (Some out) (x ∷ y ∷ z ∷ more) a is = absurd (cc)
+get_possible (Some out) (image ∷ name ∷ []) a is = subst IsPossible (some_if (is_file_name image && (is_text name && is_file_name out)) (Get image name out) a is).1 tt
+
+put_possible : (out : Option Text) (args : List Text) (a : DiskAction) → put_of out args ≡ Some a → IsPossible a
+put_possible None args a is = absurd (cc)
+put_possible (Some out) [] a is = absurd (cc)
+put_possible (Some out) (x ∷ []) a is = absurd (cc)
+put_possible (Some out) (x ∷ y ∷ []) a is = absurd (cc)
+put_possible (Some out) (x ∷ y ∷ z ∷ w ∷ more) a is = absurd (cc)
+put_possible (Some out) (image ∷ name ∷ source ∷ []) a is =
+    let holds = some_if (is_file_name image && (is_text name && (is_file_name source && is_file_name out))) (Put image name source out) a is in
+    subst IsPossible holds.1 (and_parts (is_text name) _ (and_parts (is_file_name image) _ holds.0).1).0
+
+check_possible : (args : List Text) (a : DiskAction) → check_of args ≡ Some a → IsPossible a
+check_possible [] a is = absurd (cc)
+check_possible (x ∷ y ∷ more) a is = absurd (cc)
+check_possible (image ∷ []) a is = subst IsPossible (some_if (is_file_name image) (Check image) a is).1 tt
+
+repair_possible : (out : Option Text) (args : List Text) (a : DiskAction) → repair_of out args ≡ Some a → IsPossible a
+repair_possible None args a is = absurd (cc)
+repair_possible (Some out) [] a is = absurd (cc)
+repair_possible (Some out) (x ∷ y ∷ more) a is = absurd (cc)
+repair_possible (Some out) (image ∷ []) a is = subst IsPossible (some_if (is_file_name image && is_file_name out) (Repair image out) a is).1 tt
+
+by_tests : (b c d e f g : Bool) (out : Option Text) (args : List Text) (a : DiskAction)
+    → (if b then mkfs_of out args else (if c then ls_of args else (if d then get_of out args else (if e then put_of out args else (if f then check_of args else (if g then repair_of out args else None)))))) ≡ Some a
+    → IsPossible a
+by_tests true c d e f g out args a is = mkfs_possible out args a is
+by_tests false true d e f g out args a is = ls_possible args a is
+by_tests false false true e f g out args a is = get_possible out args a is
+by_tests false false false true f g out args a is = put_possible out args a is
+by_tests false false false false true g out args a is = check_possible args a is
+by_tests false false false false false true out args a is = repair_possible out args a is
+by_tests false false false false false false out args a is = absurd (cc)
+
+pub possible : (args : List Text) (a : DiskAction) → command_of args ≡ Some (Disk a) → IsPossible a
+possible args a is =
+    let given = action_given args a is in
+    option_and_then_some action_from (request_of actions given.0) a given.1
+    (λ q calls from. by_tests (bytes_eq (codes "mkfs") q.command) (bytes_eq (codes "ls") q.command) (bytes_eq (codes "get") q.command) (bytes_eq (codes "put") q.command)
+    (bytes_eq (codes "check") q.command) (bytes_eq (codes "repair") q.command) (option_value (codes "out") q.taken) q.taken.positional a from)
