@@ -1,3 +1,6 @@
 pub mod TokenLemmas
 pub mod NumberLemmas
 pub mod OperandLemmas
+pub mod CallLemmas
+pub mod TextLemmas
+pub mod MeaningLemmas

@@ -6,3 +6,4 @@ pub mod Values
 pub mod Statements
 pub mod CodeTokens
 pub mod CodeOperands
+pub mod CodeMeanings
