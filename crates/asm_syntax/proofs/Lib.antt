@@ -4,3 +4,4 @@ pub mod OperandLemmas
 pub mod CallLemmas
 pub mod TextLemmas
 pub mod MeaningLemmas
+pub mod FittingLemmas

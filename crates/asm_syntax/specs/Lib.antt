@@ -7,3 +7,5 @@ pub mod Statements
 pub mod CodeTokens
 pub mod CodeOperands
 pub mod CodeMeanings
+pub mod CodeValues
+pub mod CodeStatements
