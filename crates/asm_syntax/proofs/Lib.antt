@@ -5,3 +5,4 @@ pub mod CallLemmas
 pub mod TextLemmas
 pub mod MeaningLemmas
 pub mod FittingLemmas
+pub mod LineLemmas

@@ -9,3 +9,4 @@ pub mod CodeOperands
 pub mod CodeMeanings
 pub mod CodeValues
 pub mod CodeStatements
+pub mod CodeLines
