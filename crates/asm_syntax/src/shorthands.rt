@@ -23,7 +23,8 @@ pub(crate) fn load_number<'a>(operands: &[Operand<'a>]) -> Statement<'a>
             (Fit::Wrong, _) | (_, Fit::Wrong) => Statement::Malformed,
             (Fit::Fits(rd), Fit::Fits(n)) => {
                 if -2_147_483_648 <= n && n <= 4_294_967_295 {
-                    Statement::Two(load(rd, word_of(n)))
+                    let (upper, lower) = load(rd, word_of(n));
+                    Statement::Two(upper, lower)
                 } else {
                     Statement::Excessive
                 }
@@ -114,7 +115,7 @@ pub(crate) fn system_call<'a>(operands: &[Operand<'a>]) -> Statement<'a>
         [a] => match call(a) {
             Fit::Wrong => Statement::Malformed,
             Fit::Unknown => Statement::Unresolved,
-            Fit::Fits(n) => Statement::Two([word_with(0x13, Form::I, 17, 0, 0, n), 0x73]),
+            Fit::Fits(n) => Statement::Two(word_with(0x13, Form::I, 17, 0, 0, n), 0x73),
         },
         _ => Statement::Malformed,
     }

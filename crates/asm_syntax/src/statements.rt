@@ -14,7 +14,7 @@ pub enum Statement<'a> {
     /// An instruction.
     One(u32),
     /// Two instructions.
-    Two([u32; 2]),
+    Two(u32, u32),
     /// A branch to a label: its fixed bits and its registers.
     Branch {
         /// The fixed bits.

@@ -3,7 +3,10 @@
 
 mod examples;
 mod faults;
+mod labels;
 mod laws;
+mod layouts;
+mod sizes;
 
 pub use examples::worked_examples;
 pub use faults::AsmFault;
