@@ -1,5 +1,5 @@
 -- What a text is assembled to: an image file, or its first fault.
-use Rattle.std.specs.Prelude.{◌≡◌, ℕ, ◌+◌, ◌-◌, ◌%◌, ◌==◌, nat_lt, Bool, true, false, ◌&&◌, ◌||◌, List, [], ◌∷◌, ◌++◌, length, map, replicate, Option, Some, None, is_none, unwrap_or}
+use Rattle.std.specs.Prelude.{◌≡◌, ℕ, pos, ◌+◌, ◌-◌, ◌%◌, ◌==◌, nat_lt, Bool, true, false, ◌&&◌, ◌||◌, List, [], ◌∷◌, ◌++◌, length, map, replicate, Option, Some, None, is_none, unwrap_or}
 use Rattle.std.specs.List.{flat_map}
 use Rattle.text_lines.specs.Lines.{lines_of}
 use Rattle.xinu_model.specs.Isa.Instructions.{FormB, FormJ}
@@ -15,9 +15,9 @@ abbrev pub bytes_at : Labels → ℕ → Statement → List ℕ
 bytes_at labels at (Code words) = flat_map word_bytes words
 bytes_at labels at (Branch bits rs1 rs2 l) = word_bytes (bits + placed FormB 0 rs1 rs2 (word_of (offset_to labels at l)))
 bytes_at labels at (JumpTo rd l) = word_bytes (0x6f + placed FormJ rd 0 0 (word_of (offset_to labels at l)))
-bytes_at labels at (AddressOf rd l) = flat_map word_bytes (load rd (address labels l))
+bytes_at labels at (AddressOf rd l) = flat_map word_bytes (load rd (word_of (pos (address labels l))))
 bytes_at labels at (Bytes bytes) = bytes
-bytes_at labels at (WordAt l) = word_bytes (address labels l)
+bytes_at labels at (WordAt l) = word_bytes (word_of (pos (address labels l)))
 bytes_at labels at (Zeros n) = replicate n 0
 bytes_at labels at Align = replicate ((4 - at % 4) % 4) 0
 bytes_at labels at statement = []

@@ -38,14 +38,20 @@ is_excessive (Stack n) at = nat_lt 4294967295 n
 is_excessive statement at =
     (is_code statement && not (at % 4 == 0)) || (nat_lt 0 (size_at at statement) && nat_lt 1048576 (at + size_at at statement))
 
+-- the first of a line's faults that is there
+abbrev pub fault_by : Bool → Bool → Bool → Bool → ℕ → Option AsmFault
+fault_by bad double unknown excessive k =
+    if bad then Some (BadLine k)
+    else if double then Some (DoubleLabel k)
+    else if unknown then Some (UnknownName k)
+    else if excessive then Some (OutOfRange k)
+    else None
+
 -- the fault of line k by itself, given all labels of the text and what the lines before it have set
 abbrev pub fault_of : Labels → ℕ → Line → Layout → Option AsmFault
 fault_of labels k line s =
-    if is_bad line.statement (after_labels line.labels s) then Some (BadLine k)
-    else if is_double line.labels s.at s.labels then Some (DoubleLabel k)
-    else if is_unknown labels line.statement then Some (UnknownName k)
-    else if is_excessive line.statement s.at then Some (OutOfRange k)
-    else None
+    fault_by (is_bad line.statement (after_labels line.labels s)) (is_double line.labels s.at s.labels) (is_unknown labels line.statement)
+    (is_excessive line.statement s.at) k
 
 -- a fault, or else another
 abbrev pub fault_or : Option AsmFault → Option AsmFault → Option AsmFault

@@ -1,8 +1,10 @@
 //! The assembler.
 #![tactic(auto)]
 
+mod bytes;
 mod examples;
 mod faults;
+mod judging;
 mod labels;
 mod laws;
 mod layouts;
