@@ -4,3 +4,5 @@ pub mod LoadLemmas
 pub mod LabelLemmas
 pub mod TextLemmas
 pub mod LabelledLayouts
+pub mod PassLemmas
+pub mod AssemblyLemmas

@@ -86,10 +86,14 @@ unfoldable pub assembly : List ℕ → Assembly
 assembly text =
     assembled_lines (lines_in text) (after_all (lines_in text) start) (content (after_all (lines_in text) start).labels (lines_in text) start)
 
--- a fault is that of the text; out of memory says nothing of it
+-- a fault is the one that an assembly fails with; out of memory says nothing of it
+abbrev pub IsFault : AsmFault → Assembly → Type 0
+IsFault (BadLine k) a = a ≡ Fails (BadLine k)
+IsFault (UnknownName k) a = a ≡ Fails (UnknownName k)
+IsFault (OutOfRange k) a = a ≡ Fails (OutOfRange k)
+IsFault (DoubleLabel k) a = a ≡ Fails (DoubleLabel k)
+IsFault NoMemory a = Unit {0}
+
+-- a fault is that of a text
 abbrev pub IsFaultOf : AsmFault → List ℕ → Type 0
-IsFaultOf (BadLine k) text = assembly text ≡ Fails (BadLine k)
-IsFaultOf (UnknownName k) text = assembly text ≡ Fails (UnknownName k)
-IsFaultOf (OutOfRange k) text = assembly text ≡ Fails (OutOfRange k)
-IsFaultOf (DoubleLabel k) text = assembly text ≡ Fails (DoubleLabel k)
-IsFaultOf NoMemory text = Unit {0}
+IsFaultOf fault text = IsFault fault (assembly text)

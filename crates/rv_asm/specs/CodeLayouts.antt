@@ -13,6 +13,11 @@ seen_name (Some name) = Some name.now
 -- the layout that the code has
 abbrev pub seen_layout : Layout → spec.Layout
 seen_layout l = record {
-  place = l.place; entry = seen_name l.entry; priority = l.priority; stack = l.stack;
-  labels = found l.labels; begun = l.begun; at = l.at;
+  place = l.place;
+  entry = seen_name l.entry;
+  priority = l.priority;
+  stack = l.stack;
+  labels = found l.labels;
+  begun = l.begun;
+  at = l.at;
 }

@@ -83,9 +83,12 @@ is_astray labels place end at (Entry l) =
     not ((address labels l % 4 == 0) && nat_le place (address labels l) && nat_le (address labels l + 4) end)
 is_astray labels place end at statement = false
 
--- the fault of the first line of which that is so
+-- the fault of an offset or an entry on line k
+abbrev pub astray_at : Labels → ℕ → ℕ → ℕ → ℕ → Statement → Option AsmFault
+astray_at labels place end k at statement = if is_astray labels place end at statement then Some (OutOfRange k) else None
+
+-- the first of these faults; the lines are numbered from k on
 abbrev pub first_astray : Labels → ℕ → ℕ → ℕ → List Line → Layout → Option AsmFault
 first_astray labels place end k [] s = None
 first_astray labels place end k (line ∷ lines) s =
-    if is_astray labels place end s.at line.statement then Some (OutOfRange k)
-    else first_astray labels place end (k + 1) lines (after line s)
+    fault_or (astray_at labels place end k s.at line.statement) (first_astray labels place end (k + 1) lines (after line s))

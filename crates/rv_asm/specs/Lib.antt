@@ -4,3 +4,4 @@ pub mod Assembly
 pub mod Examples
 pub mod CodeLabels
 pub mod CodeLayouts
+pub mod CodeAssembly

@@ -10,6 +10,6 @@ returns-in_ok-insert c =
     let none : found c.args.self.now c.args.name.now ≡ None = search rules in
     record {
       pushed = found-put c.args.self.now (record { addresses = c.insert.new.self }) c.args.name.now c.args.address
-      (hash_map_updates_str c.args.name.now c.args.self.now.addresses c.insert.new.self _ c.in_ok-insert.ensures.updates)
-      none;
+          (hash_map_updates_str c.args.name.now c.args.self.now.addresses c.insert.new.self _ c.in_ok-insert.ensures.updates)
+          none;
     }
