@@ -6,3 +6,7 @@ pub mod Values
 pub mod Statements
 pub mod CodeTokens
 pub mod CodeOperands
+pub mod CodeMeanings
+pub mod CodeValues
+pub mod CodeStatements
+pub mod CodeLines

@@ -24,16 +24,9 @@ pub data Meaning : Type 0 where
   DotPriority : Meaning
   DotStack : Meaning
 
--- the shorthands and the directives
-abbrev pub own_words : List (List ℕ × Meaning)
-own_words =
-    (codes "li", Li) ∷
-    (codes "la", La) ∷
-    (codes "mv", Mv) ∷
-    (codes "nop", Nop) ∷
-    (codes "j", Jump) ∷
-    (codes "ret", Ret) ∷
-    (codes "sys", Sys) ∷
+-- the directives
+abbrev pub directives : List (List ℕ × Meaning)
+directives =
     (codes ".word", DotWord) ∷
     (codes ".byte", DotByte) ∷
     (codes ".zero", DotZero) ∷
@@ -44,6 +37,18 @@ own_words =
     (codes ".priority", DotPriority) ∷
     (codes ".stack", DotStack) ∷
     []
+
+-- the shorthands, and then the directives
+abbrev pub own_words : List (List ℕ × Meaning)
+own_words =
+    (codes "li", Li) ∷
+    (codes "la", La) ∷
+    (codes "mv", Mv) ∷
+    (codes "nop", Nop) ∷
+    (codes "j", Jump) ∷
+    (codes "ret", Ret) ∷
+    (codes "sys", Sys) ∷
+    directives
 
 -- what is named so in a list of names
 abbrev pub named_in : {X : Type 0} → List (List ℕ × X) → List ℕ → Option X

@@ -25,10 +25,10 @@ register_of name = named_in registers name
 -- the number of the first of these calls that has a name
 abbrev pub call_among : List Syscall → List ℕ → Option ℕ
 call_among [] name = None
-call_among (call ∷ calls) name = if bytes_eq name call.name then Some call.number else call_among calls name
+call_among (call ∷ calls) name = if bytes_eq call.name name then Some call.number else call_among calls name
 
 -- the number of the call of a name
-abbrev pub call_of : List ℕ → Option ℕ
+unfoldable pub call_of : List ℕ → Option ℕ
 call_of name = call_among syscalls name
 
 -- the byte that a backslash and another byte stand for

@@ -1,7 +1,35 @@
-//! What a line of assembler says.
+//! What a line of assembler says: the labels that begin it, and the statement after them.
+//!
+//! The language is defined in `specs/`, from bytes to statements: `Tokens`, `Numbers`, `Operands`, `Meanings` (the words, and which
+//! operands each takes), `Values` (registers, calls, texts) and `Statements`, whose `line_of` is the line that bytes write. Instructions and
+//! their mnemonics are those of the table in `rv_isa`.
+//!
+//! | Call | Promise |
+//! |---|---|
+//! | [`first_label`] | `label`: the line is this label and the line that is left; `None` if and only if it begins with none |
+//! | [`statement_in`] | `statement`: the statement of a line without labels; `proper`: its registers are below 32, a text in it stands for bytes |
+//! | [`next_byte`] | `byte`: the bytes of a text are its answer and those of the text that is left |
+//! | [`load`], [`word_of`] | the two words that load a number; a number as a word in two's complement |
+//!
+//! A line is read where it lies; nothing is copied and no memory is taken.
 #![tactic(auto)]
 
+mod calls;
+mod directives;
+mod encoding;
+mod instructions;
+mod lines;
+mod meanings;
 mod numbers;
 mod operands;
+mod shorthands;
+mod statements;
+mod texts;
 mod tokens;
+mod values;
 mod words;
+
+pub use encoding::{load, word_of};
+pub use lines::{first_label, statement_in};
+pub use statements::Statement;
+pub use texts::next_byte;

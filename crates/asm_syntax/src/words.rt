@@ -7,7 +7,6 @@ ghost use Rattle.asm_syntax.specs.Meanings.{named_in};
 ghost use Rattle.asm_syntax.specs.Numbers as numbers;
 ghost use Rattle.asm_syntax.specs.Values as values;
 
-
 /// Whether a word is a name: a letter or an underscore, and then letters, digits and underscores.
 pub(crate) fn is_name(word: &[u8]) -> bool
     ensures name { result ≡ numbers.is_name word.now }

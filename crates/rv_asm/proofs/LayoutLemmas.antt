@@ -1,6 +1,6 @@
 -- What lines without a fault keep.
 use Rattle.std.proofs.Common.{◌≡◌, ℕ, ◌+◌, ◌-◌, ◌*◌, ◌%◌, ◌≤◌, ◌<◌, nat_lt, Bool, true, false, not, cond, ◌&&◌, ◌||◌, List, [], ◌∷◌, ◌++◌, length, replicate, Option, Some, None, refl, sym, ap, ◌∙◌, arith, length-append}
-use Rattle.std.specs.Prelude.{◌==◌, nat_le, unwrap_or, is_some}
+use Rattle.std.specs.Prelude.{min, ◌==◌, nat_le, unwrap_or, is_some}
 use Rattle.std.proofs.lemmas.Bool.Decides.{nat_tests}
 use Rattle.std.proofs.lemmas.Bool.{eqb-true, leb-true}
 use Rattle.std.specs.List.{flat_map}
@@ -59,11 +59,11 @@ pub both_true : (a b : Bool) → not (a && b) ≡ false → (a ≡ true) × (b �
 both_true true b is = (refl, not_false b is)
 both_true false b is = cc
 
-keeps-content : (s : Layout) (size more : ℕ) (b : Bool) → s.at + more ≤ 1048576 → (b ≡ false → more ≡ 0) → Keeps s size → Keeps (record { place = s.place; entry = s.entry; priority = s.priority; stack = s.stack; labels = s.labels; begun = s.begun || b; at = s.at + more }) (size + more)
+keeps-content : (s : Layout) (size more : ℕ) (b : Bool) → s.at + more ≤ 1048576 → (b ≡ false → more ≡ 0) → Keeps s size → Keeps (record { place = s.place; entry = s.entry; priority = s.priority; stack = s.stack; labels = s.labels; begun = s.begun || b; at = min (s.at + more) 4294967296 }) (size + more)
 keeps-content s size more b inside none keeps = record {
-  at = omega (arith, keeps.at);
+  at = omega (arith, keeps.at, inside);
   none = λ e. let parts = neither s.begun b e in omega (arith, keeps.none parts.0, none parts.1);
-  inside = inside;
+  inside = omega (arith, inside);
   aligned = keeps.aligned;
   priority_low = keeps.priority_low;
   priority_high = keeps.priority_high;
@@ -91,9 +91,9 @@ keeps-statement (Place n) s size good fit keeps =
     let aligned : n % 4 ≡ 0 = eqb-true _ _ tests.0 in
     let inside : n ≤ 1048576 = leb-true _ _ tests.1 in
     record {
-      at = omega (arith, none);
+      at = omega (arith, none, inside);
       none = λ e. omega (arith, none);
-      inside = inside;
+      inside = omega (arith, inside);
       aligned = aligned;
       priority_low = keeps.priority_low;
       priority_high = keeps.priority_high;

@@ -6,7 +6,7 @@ use Rattle.std.proofs.lemmas.Bool.{eqb-true, leb-true, and_parts}
 use Rattle.image_loader.specs.ImageFiles.{image_in}
 use Rattle.asm_syntax.specs.Statements.{Statement, Empty, Malformed, Unresolved, Excessive, Code, Branch, JumpTo, AddressOf, Bytes, WordAt, Zeros, Align, Place, Entry, Priority, Stack, Line, line_of}
 use Rattle.rv_asm.specs.Layouts.{size_at, Labels, Layout, start, after_statement, after_labels, after, after_all}
-use Rattle.rv_asm.specs.Faults.{fault_of, first_fault, fault_or, is_bad, is_double, is_unknown, is_excessive, is_astray, first_astray, address}
+use Rattle.rv_asm.specs.Faults.{fault_of, first_fault, fault_or, is_bad, is_double, is_unknown, is_excessive, is_astray, astray_at, first_astray, address}
 use Rattle.rv_asm.specs.Assembly.{bytes_at, content, entry_at, header, image_file, is_void, ended, Assembly, Makes, Fails, assembly, lines_in}
 use Rattle.rv_asm.specs.declared.faults.AsmFault.{AsmFault}
 use Rattle.rv_asm.proofs.ImageFiles.{IsSound, loaded, image_file-loads}
@@ -82,8 +82,9 @@ entry-statement labels place end at (Stack n) s good is = is
 entry-all : (labels : Labels) (place end k : ℕ) (lines : List Line) (s : Layout) → first_astray labels place end k lines s ≡ None → IsEntry labels place end s.entry → IsEntry labels place end (after_all lines s).entry
 entry-all labels place end k [] s none is = is
 entry-all labels place end k (line ∷ lines) s none is =
-    let parts = skipped (is_astray labels place end s.at line.statement) _ _ none in
-    entry-all labels place end (k + 1) lines (after line s) parts.1 (entry-statement labels place end s.at line.statement (after_labels line.labels s) parts.0 is)
+    let parts = no_fault (astray_at labels place end k s.at line.statement) (first_astray labels place end (k + 1) lines (after line s)) none in
+    let good = skipped (is_astray labels place end s.at line.statement) _ _ parts.0 in
+    entry-all labels place end (k + 1) lines (after line s) parts.1 (entry-statement labels place end s.at line.statement (after_labels line.labels s) good.0 is)
 
 -- the header that lines without a fault set is that of an image file
 sound : (s : Layout) (bytes : List ℕ) (entry : Option (List ℕ)) → entry ≡ s.entry → Keeps s (length bytes) → is_void s (length bytes) ≡ false → IsEntry s.labels (unwrap_or s.place 0) s.at entry → IsSound (record { place = unwrap_or s.place 0; size = length bytes; entry = entry_at s.labels (unwrap_or s.place 0) entry; priority = unwrap_or s.priority 20; stack = unwrap_or s.stack 4096 }) bytes

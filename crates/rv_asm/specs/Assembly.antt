@@ -1,5 +1,5 @@
 -- What a text is assembled to: an image file, or its first fault.
-use Rattle.std.specs.Prelude.{◌≡◌, ℕ, ◌+◌, ◌-◌, ◌%◌, ◌==◌, nat_lt, Bool, true, false, ◌&&◌, ◌||◌, List, [], ◌∷◌, ◌++◌, length, map, replicate, Option, Some, None, is_none, unwrap_or}
+use Rattle.std.specs.Prelude.{◌≡◌, ℕ, pos, ◌+◌, ◌-◌, ◌%◌, ◌==◌, nat_lt, Bool, true, false, ◌&&◌, ◌||◌, List, [], ◌∷◌, ◌++◌, length, map, replicate, Option, Some, None, is_none, unwrap_or}
 use Rattle.std.specs.List.{flat_map}
 use Rattle.text_lines.specs.Lines.{lines_of}
 use Rattle.xinu_model.specs.Isa.Instructions.{FormB, FormJ}
@@ -15,9 +15,9 @@ abbrev pub bytes_at : Labels → ℕ → Statement → List ℕ
 bytes_at labels at (Code words) = flat_map word_bytes words
 bytes_at labels at (Branch bits rs1 rs2 l) = word_bytes (bits + placed FormB 0 rs1 rs2 (word_of (offset_to labels at l)))
 bytes_at labels at (JumpTo rd l) = word_bytes (0x6f + placed FormJ rd 0 0 (word_of (offset_to labels at l)))
-bytes_at labels at (AddressOf rd l) = flat_map word_bytes (load rd (address labels l))
+bytes_at labels at (AddressOf rd l) = flat_map word_bytes (load rd (word_of (pos (address labels l))))
 bytes_at labels at (Bytes bytes) = bytes
-bytes_at labels at (WordAt l) = word_bytes (address labels l)
+bytes_at labels at (WordAt l) = word_bytes (word_of (pos (address labels l)))
 bytes_at labels at (Zeros n) = replicate n 0
 bytes_at labels at Align = replicate ((4 - at % 4) % 4) 0
 bytes_at labels at statement = []
@@ -86,10 +86,14 @@ unfoldable pub assembly : List ℕ → Assembly
 assembly text =
     assembled_lines (lines_in text) (after_all (lines_in text) start) (content (after_all (lines_in text) start).labels (lines_in text) start)
 
--- a fault is that of the text; out of memory says nothing of it
+-- a fault is the one that an assembly fails with; out of memory says nothing of it
+abbrev pub IsFault : AsmFault → Assembly → Type 0
+IsFault (BadLine k) a = a ≡ Fails (BadLine k)
+IsFault (UnknownName k) a = a ≡ Fails (UnknownName k)
+IsFault (OutOfRange k) a = a ≡ Fails (OutOfRange k)
+IsFault (DoubleLabel k) a = a ≡ Fails (DoubleLabel k)
+IsFault NoMemory a = Unit {0}
+
+-- a fault is that of a text
 abbrev pub IsFaultOf : AsmFault → List ℕ → Type 0
-IsFaultOf (BadLine k) text = assembly text ≡ Fails (BadLine k)
-IsFaultOf (UnknownName k) text = assembly text ≡ Fails (UnknownName k)
-IsFaultOf (OutOfRange k) text = assembly text ≡ Fails (OutOfRange k)
-IsFaultOf (DoubleLabel k) text = assembly text ≡ Fails (DoubleLabel k)
-IsFaultOf NoMemory text = Unit {0}
+IsFaultOf fault text = IsFault fault (assembly text)

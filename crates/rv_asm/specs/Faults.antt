@@ -38,14 +38,20 @@ is_excessive (Stack n) at = nat_lt 4294967295 n
 is_excessive statement at =
     (is_code statement && not (at % 4 == 0)) || (nat_lt 0 (size_at at statement) && nat_lt 1048576 (at + size_at at statement))
 
+-- the first of a line's faults that is there
+abbrev pub fault_by : Bool → Bool → Bool → Bool → ℕ → Option AsmFault
+fault_by bad double unknown excessive k =
+    if bad then Some (BadLine k)
+    else if double then Some (DoubleLabel k)
+    else if unknown then Some (UnknownName k)
+    else if excessive then Some (OutOfRange k)
+    else None
+
 -- the fault of line k by itself, given all labels of the text and what the lines before it have set
 abbrev pub fault_of : Labels → ℕ → Line → Layout → Option AsmFault
 fault_of labels k line s =
-    if is_bad line.statement (after_labels line.labels s) then Some (BadLine k)
-    else if is_double line.labels s.at s.labels then Some (DoubleLabel k)
-    else if is_unknown labels line.statement then Some (UnknownName k)
-    else if is_excessive line.statement s.at then Some (OutOfRange k)
-    else None
+    fault_by (is_bad line.statement (after_labels line.labels s)) (is_double line.labels s.at s.labels) (is_unknown labels line.statement)
+    (is_excessive line.statement s.at) k
 
 -- a fault, or else another
 abbrev pub fault_or : Option AsmFault → Option AsmFault → Option AsmFault
@@ -77,9 +83,12 @@ is_astray labels place end at (Entry l) =
     not ((address labels l % 4 == 0) && nat_le place (address labels l) && nat_le (address labels l + 4) end)
 is_astray labels place end at statement = false
 
--- the fault of the first line of which that is so
+-- the fault of an offset or an entry on line k
+abbrev pub astray_at : Labels → ℕ → ℕ → ℕ → ℕ → Statement → Option AsmFault
+astray_at labels place end k at statement = if is_astray labels place end at statement then Some (OutOfRange k) else None
+
+-- the first of these faults; the lines are numbered from k on
 abbrev pub first_astray : Labels → ℕ → ℕ → ℕ → List Line → Layout → Option AsmFault
 first_astray labels place end k [] s = None
 first_astray labels place end k (line ∷ lines) s =
-    if is_astray labels place end s.at line.statement then Some (OutOfRange k)
-    else first_astray labels place end (k + 1) lines (after line s)
+    fault_or (astray_at labels place end k s.at line.statement) (first_astray labels place end (k + 1) lines (after line s))

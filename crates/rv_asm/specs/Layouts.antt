@@ -1,5 +1,5 @@
 -- How the statements of a text lie one after another: their sizes, the addresses of the labels, and the fields of the header.
-use Rattle.std.specs.Prelude.{ℕ, ◌+◌, ◌-◌, ◌%◌, ◌*◌, nat_lt, Bool, true, false, if◌then◌else◌, ◌||◌, List, [], ◌∷◌, length, Option, Some, None}
+use Rattle.std.specs.Prelude.{ℕ, min, ◌+◌, ◌-◌, ◌%◌, ◌*◌, nat_lt, Bool, true, false, if◌then◌else◌, ◌||◌, List, [], ◌∷◌, length, Option, Some, None}
 use Rattle.std.specs.Str.{bytes_eq}
 use Rattle.asm_syntax.specs.Statements.{Statement, Empty, Malformed, Unresolved, Excessive, Code, Branch, JumpTo, AddressOf, Bytes, WordAt, Zeros, Align, Place, Entry, Priority, Stack, Line}
 
@@ -84,9 +84,13 @@ after_labels names s = record {
   at = s.at;
 }
 
+-- an address; those beyond RAM, where nothing may lie, are all this one from 4294967296 on
+abbrev pub clipped : ℕ → ℕ
+clipped at = min at 4294967296
+
 -- after a statement: content begins at the place, and each statement lies after the one before it
 abbrev pub after_statement : Statement → Layout → Layout
-after_statement (Place n) s = record { place = Some n; entry = s.entry; priority = s.priority; stack = s.stack; labels = s.labels; begun = s.begun; at = n }
+after_statement (Place n) s = record { place = Some n; entry = s.entry; priority = s.priority; stack = s.stack; labels = s.labels; begun = s.begun; at = clipped n }
 after_statement (Entry l) s = record { place = s.place; entry = Some l; priority = s.priority; stack = s.stack; labels = s.labels; begun = s.begun; at = s.at }
 after_statement (Priority n) s = record { place = s.place; entry = s.entry; priority = Some n; stack = s.stack; labels = s.labels; begun = s.begun; at = s.at }
 after_statement (Stack n) s = record { place = s.place; entry = s.entry; priority = s.priority; stack = Some n; labels = s.labels; begun = s.begun; at = s.at }
@@ -97,7 +101,7 @@ after_statement statement s = record {
   stack = s.stack;
   labels = s.labels;
   begun = s.begun || is_content statement;
-  at = s.at + size_at s.at statement;
+  at = clipped (s.at + size_at s.at statement);
 }
 
 -- after a line

@@ -2,3 +2,6 @@ pub mod Layouts
 pub mod Faults
 pub mod Assembly
 pub mod Examples
+pub mod CodeLabels
+pub mod CodeLayouts
+pub mod CodeAssembly

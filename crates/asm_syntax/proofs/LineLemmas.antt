@@ -1,0 +1,95 @@
+-- Lines that begin with a label, and those that don't.
+use Rattle.std.proofs.Common.{◌≡◌, ℕ, Bool, true, false, List, [], ◌∷◌, refl, ap, ◌∙◌}
+use Rattle.asm_syntax.specs.Numbers.{is_name}
+use Rattle.asm_syntax.specs.CodeLines.{skip, is_named, starts_with_colon}
+use Rattle.asm_syntax.specs.Statements.{Line, Statement, Malformed, Empty, line_in, unlabelled, with_label, statement_of, can_name}
+use Rattle.asm_syntax.specs.Tokens.{Token, Blank, Colon, Comma, Word, Quoted, Unclosed}
+
+-- a line of blanks
+pub line_in-empty : (ts : List Token) → skip ts ≡ [] → line_in ts ≡ unlabelled ts
+line_in-empty [] is = refl
+line_in-empty (Blank ∷ ts) is = line_in-empty ts is
+line_in-empty (Colon ∷ ts) is = cc
+line_in-empty (Comma ∷ ts) is = cc
+line_in-empty (Word w ∷ ts) is = cc
+line_in-empty (Quoted t ∷ ts) is = cc
+line_in-empty (Unclosed ∷ ts) is = cc
+
+-- a word that is no name
+not_named : (w : List ℕ) (ts : List Token) → is_name w ≡ false → line_in (Word w ∷ ts) ≡ unlabelled (Word w ∷ ts)
+not_named w [] is = refl
+not_named w (Blank ∷ ts) is = refl
+not_named w (Colon ∷ ts) is = rw is refl
+not_named w (Comma ∷ ts) is = refl
+not_named w (Word v ∷ ts) is = refl
+not_named w (Quoted t ∷ ts) is = refl
+not_named w (Unclosed ∷ ts) is = refl
+
+-- a line that doesn't begin with a name
+pub line_in-unnamed : (ts us : List Token) (t : Token) → skip ts ≡ t ∷ us → is_named t ≡ false → line_in ts ≡ unlabelled ts
+line_in-unnamed [] us t is other = refl
+line_in-unnamed (Blank ∷ ts) us t is other = line_in-unnamed ts us t is other
+line_in-unnamed (Colon ∷ ts) us t is other = refl
+line_in-unnamed (Comma ∷ ts) us t is other = refl
+line_in-unnamed (Word w ∷ ts) us t is other =
+    let same : Word w ≡ t = cc in
+    not_named w ts (ap is_named same ∙ other)
+line_in-unnamed (Quoted q ∷ ts) us t is other = refl
+line_in-unnamed (Unclosed ∷ ts) us t is other = refl
+
+-- a word that no colon follows
+no_colon : (w : List ℕ) (ts : List Token) → starts_with_colon ts ≡ false → line_in (Word w ∷ ts) ≡ unlabelled (Word w ∷ ts)
+no_colon w [] is = refl
+no_colon w (Blank ∷ ts) is = refl
+no_colon w (Colon ∷ ts) is = cc
+no_colon w (Comma ∷ ts) is = refl
+no_colon w (Word v ∷ ts) is = refl
+no_colon w (Quoted t ∷ ts) is = refl
+no_colon w (Unclosed ∷ ts) is = refl
+
+pub line_in-no_colon : (ts us : List Token) (w : List ℕ) → skip ts ≡ Word w ∷ us → starts_with_colon us ≡ false → line_in ts ≡ unlabelled ts
+line_in-no_colon [] us w is other = refl
+line_in-no_colon (Blank ∷ ts) us w is other = line_in-no_colon ts us w is other
+line_in-no_colon (Colon ∷ ts) us w is other = refl
+line_in-no_colon (Comma ∷ ts) us w is other = refl
+line_in-no_colon (Word v ∷ ts) us w is other =
+    let same : ts ≡ us = cc in
+    no_colon v ts (ap starts_with_colon same ∙ other)
+line_in-no_colon (Quoted q ∷ ts) us w is other = refl
+line_in-no_colon (Unclosed ∷ ts) us w is other = refl
+
+-- a name before a colon
+labelled : (w : List ℕ) (us : List Token) → is_name w ≡ true → line_in (Word w ∷ (Colon ∷ us)) ≡ with_label w (line_in us)
+labelled w us is = rw is refl
+
+-- a line that begins with a label
+pub line_in-label : (ts us : List Token) (w : List ℕ) → skip ts ≡ Word w ∷ (Colon ∷ us) → is_name w ≡ true → line_in ts ≡ with_label w (line_in us)
+line_in-label [] us w is name = cc
+line_in-label (Blank ∷ ts) us w is name = line_in-label ts us w is name
+line_in-label (Colon ∷ ts) us w is name = cc
+line_in-label (Comma ∷ ts) us w is name = cc
+line_in-label (Word v ∷ ts) us w is name =
+    let same : Word v ∷ ts ≡ Word w ∷ (Colon ∷ us) = is in
+    ap line_in same ∙ labelled w us name
+line_in-label (Quoted q ∷ ts) us w is name = cc
+line_in-label (Unclosed ∷ ts) us w is name = cc
+
+-- the blanks before a statement
+pub statement_of-skip : (ts : List Token) → statement_of ts ≡ statement_of (skip ts)
+statement_of-skip [] = refl
+statement_of-skip (Blank ∷ ts) = statement_of-skip ts
+statement_of-skip (Colon ∷ ts) = refl
+statement_of-skip (Comma ∷ ts) = refl
+statement_of-skip (Word w ∷ ts) = refl
+statement_of-skip (Quoted t ∷ ts) = refl
+statement_of-skip (Unclosed ∷ ts) = refl
+
+-- a word that can't name a statement
+pub statement_of-unnamed : (w : List ℕ) (ts : List Token) → can_name w ≡ false → Malformed ≡ statement_of (Word w ∷ ts)
+statement_of-unnamed w [] is = rw is refl
+statement_of-unnamed w (Blank ∷ ts) is = rw is refl
+statement_of-unnamed w (Colon ∷ ts) is = refl
+statement_of-unnamed w (Comma ∷ ts) is = refl
+statement_of-unnamed w (Word v ∷ ts) is = refl
+statement_of-unnamed w (Quoted t ∷ ts) is = refl
+statement_of-unnamed w (Unclosed ∷ ts) is = refl

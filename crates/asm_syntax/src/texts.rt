@@ -1,0 +1,54 @@
+//! Quoted texts, byte by byte.
+
+ghost use Rattle.std.specs.Prelude.{◌≡◌, ◌<◌, [], length, is_some, Some, None, MatchOption, IfSome};
+ghost use Rattle.asm_syntax.specs.Values as values;
+
+/// The first byte that a text stands for, and the text after it. There is none if the text doesn't begin with printable ASCII or with
+/// a backslash and `n`, `0`, `"` or `\`.
+pub fn next_byte(text: &[u8]) -> Option<(u8, &[u8])>
+    requires something { 0 < length text.now }
+    ensures byte { MatchOption result (values.text_bytes text.now ≡ None) (λ cut. values.text_bytes text.now ≡ values.byte_before (Some cut.0) (values.text_bytes cut.1.now)) }
+    ensures shorter { IfSome result (λ cut. length cut.1.now < length text.now) }
+{
+    match text {
+        [b'\\', c, rest @ ..] => match escape(*c) {
+            Some(b) => Some((b, rest)),
+            None => None,
+        },
+        [b'\\'] => None,
+        [b, rest @ ..] => {
+            if *b >= b' ' && *b <= b'~' {
+                Some((*b, rest))
+            } else {
+                None
+            }
+        }
+        [] => None,
+    }
+}
+
+/// Whether a text stands for bytes.
+pub(crate) fn is_text(text: &[u8]) -> bool
+    ensures bytes { result ≡ is_some (values.text_bytes text.now) }
+{
+    let mut rest = text;
+    while !rest.is_empty() {
+        match next_byte(rest) {
+            Some((_, next)) => rest = next,
+            None => return false,
+        }
+    }
+    true
+}
+
+// The byte that a backslash and another byte stand for.
+fn escape(b: u8) -> Option<u8>
+    ensures byte { result ≡ values.escape b }
+{
+    match b {
+        b'n' => Some(b'\n'),
+        b'0' => Some(0),
+        b'"' | b'\\' => Some(b),
+        _ => None,
+    }
+}
