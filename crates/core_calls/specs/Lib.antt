@@ -1,0 +1,5 @@
+pub mod Served
+pub mod KernelTables
+pub mod Results
+pub mod States
+pub mod Kernels
