@@ -1,5 +1,5 @@
 -- The replies of an event: those of released processes, and then the caller's.
-use Rattle.std.proofs.Common.{◌≡◌, ◌∙◌, ℕ, ℤ, List, [], ◌∷◌, ◌++◌, Option, Some, None, refl, sym, ap}
+use Rattle.std.proofs.Common.{◌≡◌, ◌∙◌, ℕ, ℤ, List, [], ◌∷◌, ◌++◌, Some, None, refl, sym, ap}
 use Rattle.xinu_base.specs.declared.registers.Hart.{Hart}
 use Rattle.xinu_model.specs.Machine.{and_callers, Answer, Gone, Panics, Returns, Silent, Waits, with_replies, with_reply}
 use Rattle.core_calls.specs.Results.{value_of}

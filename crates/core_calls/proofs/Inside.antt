@@ -1,10 +1,10 @@
 -- The moves of the kernel's tables keep what holds of them at each moment of an event.
-use Rattle.std.proofs.Common.{◌≡◌, ◌≢◌, ◌<◌, ◌∙◌, ◌-◌, nat_lt, ℕ, ℤ, false, set, refl, sym, ap, subst, cond, None, inl, inr}
-use Rattle.std.proofs.lemmas.Bool.{cond_both, false≢true}
+use Rattle.std.proofs.Common.{◌≡◌, ◌≢◌, ◌<◌, ◌∙◌, ◌-◌, nat_lt, ℕ, ℤ, false, set, refl, sym, ap, subst, None, inl, inr}
+use Rattle.std.proofs.lemmas.Bool.{cond_both}
 use Rattle.xinu_base.specs.declared.processes.Process.{Process}
 use Rattle.xinu_base.specs.declared.processes.Rest.TheVariants.{Nothing, SelfSuspend}
 use Rattle.xinu_base.specs.declared.processes.State.{State}
-use Rattle.xinu_base.specs.declared.processes.State.TheVariants.{Free, Current, Ready, Receiving, Suspended}
+use Rattle.xinu_base.specs.declared.processes.State.TheVariants.{Free, Current, Ready, Suspended}
 use Rattle.xinu_model.specs.Clock.{quantum_falls}
 use Rattle.xinu_model.specs.Process.Calls.{is_ready, with_priority}
 use Rattle.xinu_model.specs.Process.Scheduling.{in_state, ready, resched}
@@ -14,7 +14,7 @@ use Rattle.xinu_laws.specs.Moves.{IsPlaceOf}
 use Rattle.xinu_laws.proofs.Preserve.Processes.{is_ready_of}
 use Rattle.xinu_laws.proofs.Tables.Changes.{inside_process}
 use Rattle.xinu_laws.proofs.Tables.MoveTo.{inside_move, within_table}
-use Rattle.xinu_laws.proofs.Tables.Scheduling.{holds_at, inside_last_process, inside_quantum, inside_ready, inside_ticks, null_rest_at, sound_resched}
+use Rattle.xinu_laws.proofs.Tables.Scheduling.{holds_at, inside_last_process, inside_quantum, inside_ready, null_rest_at, sound_resched}
 
 -- a suspended process becomes ready
 pub inside_resumed : (t : Tables) (p : ℕ) → IsInside t → state_at t p ≡ Suspended → IsInside (ready p t)

@@ -1,11 +1,11 @@
 -- What holds of a kernel between two events and inside one.
-use Rattle.std.proofs.Common.{◌≡◌, ◌≢◌, ◌∙◌, [], sym, ap, subst}
+use Rattle.std.proofs.Common.{◌≢◌, [], ap, subst}
 use Rattle.core_calls.specs.Results.{idle, IsIdle, IsStart}
 use Rattle.xinu_laws.proofs.Preserve.Events.{may_call, may_call_after, state_end_of_event}
 use Rattle.xinu_laws.specs.Preserve.{KeepsAll, MayCallAny}
 use Rattle.xinu_model.specs.Events.{with_executed}
 use Rattle.xinu_model.specs.Isa.Exec.{exec}
-use Rattle.xinu_model.specs.Machine.{CallResult, current_hart, end_of_event, start, Xinu}
+use Rattle.xinu_model.specs.Machine.{CallResult, current_hart, end_of_event, Xinu}
 use Rattle.xinu_model.specs.Sound.State.{IsSound}
 
 -- a sound state is kept while no event is under way

@@ -8,3 +8,5 @@ pub mod Answered
 pub mod Kept
 pub mod Rows
 pub mod Named
+pub mod Images
+pub mod Making

@@ -1,5 +1,5 @@
 -- The rows of the table of calls that are served.
-use Rattle.std.proofs.Common.{◌≡◌, ◌∙◌, ℕ, List, true, cond, refl, sym, ap}
+use Rattle.std.proofs.Common.{◌≡◌, ◌∙◌, ℕ, List, true, cond, sym, ap}
 use Rattle.std.specs.Prelude.{slice_index}
 use Rattle.xinu_base.specs.Syscalls.{is_built}
 use Rattle.xinu_model.specs.Calls.{call_of_number, called, calls}
@@ -66,4 +66,3 @@ module _ (number : ℕ) (args : List ℕ) (s : Xinu) (r : CallResult) where
   pub row_freestk : number ≡ 13 → is_built number ≡ true → r ≡ freestk (slice_index args 0) (slice_index args 1) s → r ≡ called number args s
   unfolding calls
   row_freestk e h is = is ∙ sym (by_number 13 number args s e h)
-

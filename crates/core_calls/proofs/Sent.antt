@@ -1,5 +1,5 @@
 -- The cases of a message that is sent.
-use Rattle.std.proofs.Common.{◌≡◌, ◌∙◌, ℕ, true, false, cond, set, [], Some, refl, sym, ap, subst}
+use Rattle.std.proofs.Common.{◌≡◌, ◌∙◌, ℕ, true, false, cond, set, [], Some, sym, ap}
 use Rattle.xinu_base.specs.declared.processes.State.TheVariants.{Ready}
 use Rattle.xinu_model.specs.Machine.{CallState, first_parts, start, with_tables}
 use Rattle.xinu_model.specs.Messages.{can_get, delivered, listens, sent}

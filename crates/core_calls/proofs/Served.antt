@@ -1,5 +1,5 @@
 -- What the calls that are served leave of a call stays so, whoever moves.
-use Rattle.std.proofs.Common.{◌≡◌, ◌≢◌, ℕ, zero, suc, ◌&&◌, true, ℤ, List, [], ◌∷◌, set, get_or, Option, Some, None, nat_lt, ◌-◌, refl, int_lt}
+use Rattle.std.proofs.Common.{◌≡◌, ◌≢◌, ℕ, zero, suc, true, ℤ, List, [], ◌∷◌, set, get_or, Option, Some, None, nat_lt, ◌-◌, refl}
 use Rattle.std.proofs.lemmas.Bool.{cond_both}
 use Rattle.xinu_base.specs.declared.processes.Process.{Process}
 use Rattle.xinu_base.specs.declared.processes.Rest.{Rest}

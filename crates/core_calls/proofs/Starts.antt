@@ -1,11 +1,10 @@
 -- The tables at the start.
-use Rattle.std.proofs.Common.{◌≡◌, ◌∙◌, ℕ, zero, suc, List, [], map, replicate, take, refl, ap, subst, None, sym}
+use Rattle.std.proofs.Common.{◌≡◌, ℕ, zero, suc, [], replicate, take, refl, ap, subst, None, sym}
 use Rattle.process_core.specs.Starts.{first_table}
-use Rattle.process_core.specs.Tables.{Mark, semaphores_of, tables_of}
-use Rattle.queue_table.specs.Lists.{Entry, delays}
+use Rattle.process_core.specs.Tables.{semaphores_of, tables_of}
+use Rattle.queue_table.specs.Lists.{delays}
 use Rattle.xinu_model.specs.Boot.{first_semaphores, null_tables}
-use Rattle.xinu_model.specs.Tables.{no_process, Semaphore, Tables}
-use Rattle.xinu_base.specs.declared.processes.Rest.{Rest}
+use Rattle.xinu_model.specs.Tables.{no_process}
 use Rattle.xinu_base.specs.declared.processes.Process.{Process}
 use Rattle.std.specs.Prelude.{slice_index_or}
 use Rattle.xinu_laws.proofs.Tables.Starts.{same_everywhere}

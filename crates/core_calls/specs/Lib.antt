@@ -3,3 +3,4 @@ pub mod KernelTables
 pub mod Results
 pub mod States
 pub mod Kernels
+pub mod Booted

@@ -2,11 +2,10 @@
 use Rattle.std.specs.Prelude.{◌≡◌, ◌≢◌, ℕ, List, [], map, Option}
 use Rattle.process_core.specs.Tables.{Beside, Mark}
 use Rattle.queue_table.specs.Lists.{Entry, list_at}
-use Rattle.xinu_base.specs.declared.processes.Process.{Process}
 use Rattle.xinu_base.specs.declared.processes.Rest.{Rest}
 use Rattle.xinu_base.specs.declared.processes.Rest.TheVariants.{Nothing, SelfSuspend}
 use Rattle.xinu_model.specs.Boot.{first_semaphores, null_tables}
-use Rattle.xinu_model.specs.Tables.{no_process, process_at, Tables}
+use Rattle.xinu_model.specs.Tables.{process_at, Tables}
 
 -- the owners and tokens that the semaphores have at the start
 unfoldable pub first_marks : List Mark

@@ -1,18 +1,21 @@
 //! Call 2: a new process (book, chapters 5 and 9, `create.c`).
 
-ghost use Rattle.std.specs.Prelude.{◌≡◌, ◌≤◌, ◌%◌, ◌-◌, length, take, drop, IfSome, IfNone, true, false};
+ghost use Rattle.std.specs.Prelude.{◌≡◌, ◌≤◌, ◌%◌, ◌-◌, length, take, drop, IfSome, IfNone, None, Some, slice_set, true, false};
 ghost use Rattle.core_calls.specs.Results.{came_to, IsStart};
 ghost use Rattle.process_core.specs.Starts.{padded};
+ghost use Rattle.xinu_model.specs.Heap.Cells as cells;
 ghost use Rattle.xinu_model.specs.Memory.{in_ram};
 ghost use Rattle.xinu_model.specs.Process.Calls as model;
 ghost use Rattle.xinu_model.specs.Process.Creation as creation;
+ghost use Rattle.xinu_model.specs.Tables.{move_to, Nowhere, state_at};
 
 use crate::state::KernelState;
+use crate::tables::KernelTables;
+use freelist_memory::Heap;
 use rv_hart::{Hart, Ram};
-use xinu_base::{INITRET, MINSTK, Next, Pid, SYSERR};
+use xinu_base::{INITRET, MINSTK, Next, Pid, SYSERR, State};
 
-/// What a new process is to be: the address of its first instruction, the bytes that its stack is to have, its priority, where its
-/// name is in RAM, and its two arguments.
+/// What a new process is to be.
 #[derive(Clone, Copy)]
 pub(crate) struct Creation {
     /// The address of the first instruction.
@@ -21,41 +24,73 @@ pub(crate) struct Creation {
     pub(crate) stack: u32,
     /// The priority.
     pub(crate) priority: i16,
-    /// The address of the name.
-    pub(crate) name: u32,
     /// What is in registers a0 and a1 at the start.
     pub(crate) args: (u32, u32),
 }
 
 impl KernelState {
-    /// Call 2: a new process, which is suspended; its number. Refused if the priority is below 1, the name isn't in RAM, no number is
-    /// free or the heap has no such stack.
-    pub(crate) fn create(&mut self, new: Creation) -> Next
+    /// Call 2: a new process, which is suspended, and whose name is at an address; its number. Refused if the priority is below 1, the
+    /// name isn't in RAM, no number is free or the heap has no such stack.
+    pub(crate) fn create(&mut self, new: Creation, name: u32) -> Next
         requires start { IsStart self.old }
-        ensures create { came_to self.new result ≡ model.create new.entry new.stack new.priority new.name new.args.0 new.args.1 self.old.state }
+        ensures create { came_to self.new result ≡ model.create new.entry new.stack new.priority name new.args.0 new.args.1 self.old.state }
     {
         if new.priority < 1 {
             return Next::Returns(SYSERR);
         }
-        let Some(name) = name_at(&self.ram, new.name) else {
+        let Some(name) = name_at(&self.ram, name) else {
             return Next::Returns(SYSERR);
         };
         let Some(p) = self.tables.place_free() else {
             return Next::Returns(SYSERR);
         };
-        let Some(top) = self.heap.getstk(new.stack.max(MINSTK)) else {
-            return Next::Returns(SYSERR);
-        };
         let caller = self.tables.current();
-        let size = stack_size(new.stack);
-        self.tables.make(p, new.priority, caller, name, (top, size));
-        self.harts[p.index()] = first_hart(new.entry, top, new.args);
-        Next::Returns(p.index() as i32)
+        match make_on_stack(
+            &mut self.tables,
+            &mut self.harts,
+            &mut self.heap,
+            p,
+            caller,
+            name,
+            new,
+        ) {
+            Some(_) => Next::Returns(p.index() as i32),
+            None => Next::Returns(SYSERR),
+        }
     }
 }
 
-/// The registers with which a process begins.
-pub(crate) fn first_hart(entry: u32, top: u32, args: (u32, u32)) -> Hart
+/// Makes process `p`, whose number is free, suspended on a stack of the heap; the search for the next number begins after it. The
+/// address of the stack's highest word. `None`, and nothing changes, if and only if the heap has no such stack.
+pub(crate) fn make_on_stack(
+    tables: &mut KernelTables,
+    harts: &mut [Hart; 64],
+    heap: &mut Heap,
+    p: Pid,
+    parent: Pid,
+    name: &[u8],
+    new: Creation,
+) -> Option<u32>
+    requires free { state_at tables.old p ≡ State.Free }
+    requires short { length name.now ≤ 15 }
+    ensures stack { IfSome result (λ top. cells.take_stack (creation.stack_size new.stack) heap.old ≡ Some (record { top = top; heap = heap.new })) }
+    ensures tables { IfSome result (λ top. tables.new ≡ record (move_to p (creation.new_process (padded name.now) new.priority parent top (creation.stack_size new.stack)) None Nowhere tables.old) { last_process = p }) }
+    ensures harts { IfSome result (λ top. harts.new ≡ slice_set harts.old p (creation.new_hart new.entry top new.args.0 new.args.1)) }
+    ensures refuses { IfNone result (cells.take_stack (creation.stack_size new.stack) heap.old ≡ None) }
+    ensures same_tables { IfNone result (tables.new ≡ tables.old) }
+    ensures same_harts { IfNone result (harts.new ≡ harts.old) }
+    ensures same_heap { IfNone result (heap.new ≡ heap.old) }
+{
+    let Some(top) = heap.getstk(new.stack.max(MINSTK)) else {
+        return None;
+    };
+    tables.make(p, new.priority, parent, name, (top, stack_size(new.stack)));
+    harts[p.index()] = first_hart(new.entry, top, new.args);
+    Some(top)
+}
+
+// The registers with which a process begins.
+fn first_hart(entry: u32, top: u32, args: (u32, u32)) -> Hart
     ensures hart { result ≡ creation.new_hart entry top args.0 args.1 }
 {
     let mut regs = [0; 32];

@@ -77,7 +77,11 @@ impl KernelState {
         }
         let is_caller = p == self.tables.current();
         self.end(p);
-        if is_caller { Next::Gone } else { Next::Returns(0) }
+        if is_caller {
+            Next::Gone
+        } else {
+            Next::Returns(0)
+        }
     }
 
     /// Call 6: the caller lets the others run.

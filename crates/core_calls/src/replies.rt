@@ -14,7 +14,12 @@ use xinu_base::{Hart, Next, Pid};
 pub(crate) type Replies = ArrayVec<(Pid, i32), 64>;
 
 /// Writes the replies to released processes, and then the caller's.
-pub(crate) fn write_all(harts: &mut [Hart; 64], replies: &[(Pid, i32)], answer: Option<Next>, caller: Pid)
+pub(crate) fn write_all(
+    harts: &mut [Hart; 64],
+    replies: &[(Pid, i32)],
+    answer: Option<Next>,
+    caller: Pid,
+)
     ensures written { harts.new ≡ model.with_replies (model.and_callers (answer_so_far answer) caller replies.now) harts.old }
 {
     write_replies(harts, replies);

@@ -19,7 +19,13 @@ use xinu_base::{Pid, State};
 
 /// Sends `p` a word. True if and only if `p` waited for it, so that it is ready now and a resched is owed. Nothing changes if `p` is
 /// free or holds a word.
-pub(crate) fn deliver(lists: &mut Lists, procs: &mut Procs, slots: &mut Slots, p: Pid, m: u32) -> bool
+pub(crate) fn deliver(
+    lists: &mut Lists,
+    procs: &mut Procs,
+    slots: &mut Slots,
+    p: Pid,
+    m: u32,
+) -> bool
     requires fits { Fits (table.lists lists.old) procs.old.processes }
     requires alone { IsReadyAlone (table.lists lists.old) }
     ensures sent { (d : CallState) (ticks : ℕ) → d.state.tables ≡ tables_of (table.lists lists.old) procs.old (beside slots.old ticks) → model.sent p m d ≡ record (with_tables (tables_of (table.lists lists.new) procs.new (beside slots.new ticks)) d) { owes_resched = if result then true else d.owes_resched } }

@@ -97,13 +97,15 @@ impl KernelState {
         let a = call.args;
         match call.number {
             1 => self.getpid(),
-            2 => self.create(Creation {
-                entry: a[0],
-                stack: a[1],
-                priority: half(a[2]),
-                name: a[3],
-                args: (a[4], a[5]),
-            }),
+            2 => self.create(
+                Creation {
+                    entry: a[0],
+                    stack: a[1],
+                    priority: half(a[2]),
+                    args: (a[4], a[5]),
+                },
+                a[3],
+            ),
             3 => self.resume(a[0]),
             4 => self.suspend(a[0]),
             5 => self.kill(a[0]),

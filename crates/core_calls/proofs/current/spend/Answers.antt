@@ -1,4 +1,4 @@
-use Rattle.std.proofs.Common.{◌≡◌, ◌∙◌, ◌-◌, cond, nat_lt, ap, sym, subst}
+use Rattle.std.proofs.Common.{◌∙◌, ◌-◌, cond, nat_lt, ap, sym}
 use Rattle.queue_table.specs.Table.{lists}
 use Rattle.process_core.specs.Tables.{tables_of}
 use Rattle.xinu_model.specs.Process.Scheduling.{resched}

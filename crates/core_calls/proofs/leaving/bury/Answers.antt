@@ -1,4 +1,4 @@
-use Rattle.std.proofs.Common.{◌≡◌, ◌∙◌, None}
+use Rattle.std.proofs.Common.{◌∙◌, None}
 use Rattle.xinu_model.specs.Tables.{no_process}
 use Rattle.core_calls.specs.Served.{beside}
 use Rattle.core_calls.proofs.leaving.bury.Goals as goal

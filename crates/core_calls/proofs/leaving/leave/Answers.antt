@@ -1,6 +1,5 @@
-use Rattle.std.proofs.Common.{◌≡◌, ◌∙◌, ap, sym, subst, refl, false, true}
+use Rattle.std.proofs.Common.{◌≡◌, ◌∙◌, ap, sym, false}
 use Rattle.queue_table.specs.Table.{lists}
-use Rattle.process_core.specs.Fits.{Fits}
 use Rattle.process_core.specs.Tables.{process_in, tables_of}
 use Rattle.process_core.proofs.Moves.{move_twice}
 use Rattle.xinu_base.specs.declared.processes.State.TheVariants.{Suspended}
@@ -25,7 +24,7 @@ returns-then-is_ready-clause-absent c =
 
 pub returns-else-is_ready-clause-absent : goal.returns-else-is_ready-clause-absent
 returns-else-is_ready-clause-absent c =
-    absent (lists c.args.lists.now) c.args.procs.now.processes c.args.p c.requires.alone c.requires.fits 
+    absent (lists c.args.lists.now) c.args.procs.now.processes c.args.p c.requires.alone c.requires.fits
     (λ e. let f : is_ready (process_in c.args.procs.now.processes c.args.p).state ≡ false = sym c.is_ready.ensures.ready ∙ c.if-is_ready.false in let g = ap is_ready e in absurd (cc))
 
 pub suspend_ready-requires-clause-ready : goal.suspend_ready-requires-clause-ready

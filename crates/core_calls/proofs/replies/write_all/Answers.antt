@@ -1,7 +1,7 @@
-use Rattle.std.proofs.Common.{◌≡◌, ◌∙◌, [], ◌∷◌, sym, ap, subst, refl, rules, w32}
+use Rattle.std.proofs.Common.{◌∙◌, ap, rules, w32}
 use Rattle.std.proofs.lemmas.Int.{to_z-of_z}
 use mir.Val.{SFits}
-use Rattle.xinu_model.specs.Machine.{with_reply, with_replies}
+use Rattle.xinu_model.specs.Machine.{with_replies}
 use Rattle.core_calls.specs.Results.{answer_so_far}
 use Rattle.core_calls.proofs.Answered.{answered, unanswered}
 use Rattle.core_calls.proofs.replies.write_all.Goals as goal

@@ -1,4 +1,4 @@
-use Rattle.std.proofs.Common.{◌≡◌, ◌∙◌, Some, None, ap, rules, sym, subst}
+use Rattle.std.proofs.Common.{◌≡◌, ◌∙◌, Some, ap, sym, subst}
 use Rattle.core_calls.specs.Kernels.{kernel_result}
 use Rattle.xinu_laws.specs.Preserve.{KeepsAll}
 use Rattle.xinu_model.specs.Machine.{CallResult}

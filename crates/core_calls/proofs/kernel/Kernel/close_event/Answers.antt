@@ -1,9 +1,9 @@
-use Rattle.std.proofs.Common.{◌≡◌, ◌∙◌, None, [], ap, sym, subst}
+use Rattle.std.proofs.Common.{◌≡◌, None, [], ap, sym, subst}
 use Rattle.core_calls.specs.Kernels.{kernel_result}
 use Rattle.core_calls.specs.Results.{idle}
 use Rattle.core_calls.proofs.Kept.{closed_kept}
 use Rattle.xinu_laws.specs.Preserve.{KeepsAll}
-use Rattle.xinu_model.specs.Machine.{CallResult, CallState, end_of_event, Silent}
+use Rattle.xinu_model.specs.Machine.{CallState, end_of_event, Silent}
 use Rattle.core_calls.proofs.kernel.Kernel.close_event.Goals as goal
 
 pub invariant_of-self : goal.invariant_of-self

@@ -1,8 +1,8 @@
-use Rattle.std.proofs.Common.{◌≡◌, ◌∙◌, Some, None, ap, rules, sym, subst}
+use Rattle.std.proofs.Common.{◌≡◌, ◌∙◌, Some, ap, sym, subst}
 use Rattle.core_calls.specs.Kernels.{kernel_result}
 use Rattle.xinu_laws.specs.Preserve.{KeepsAll}
 use Rattle.xinu_model.specs.Machine.{CallResult}
-use Rattle.core_calls.proofs.Kept.{idle_may_call, idle_start}
+use Rattle.core_calls.proofs.Kept.{idle_may_call}
 use Rattle.xinu_laws.proofs.Preserve.Calls.{exit_keeps}
 use Rattle.xinu_model.specs.Process.Death.{exit}
 use Rattle.core_calls.proofs.kernel.Kernel.die.Goals as goal

@@ -1,4 +1,4 @@
-use Rattle.std.proofs.Common.{◌≡◌, ◌∙◌, Some, None, ap, rules, sym, subst}
+use Rattle.std.proofs.Common.{◌≡◌, ◌∙◌, Some, ap, sym, subst}
 use Rattle.core_calls.specs.Kernels.{kernel_result}
 use Rattle.xinu_laws.specs.Preserve.{KeepsAll}
 use Rattle.xinu_model.specs.Machine.{CallResult}
@@ -13,6 +13,6 @@ invariant_of-self c =
     let h = c.args.self.now in
     let t = h.call.state.tables in
     let old : KeepsAll h = subst KeepsAll c.self.view_is c.self.invariant.keeps in
-    let e : kernel_result (record { state = c.go_on-next.new.self; answer = Some c.go_on-next.result }) ≡ continued (process_at t t.current).rest h.call.state 
+    let e : kernel_result (record { state = c.go_on-next.new.self; answer = Some c.go_on-next.result }) ≡ continued (process_at t t.current).rest h.call.state
     = c.go_on-next.ensures.continued ∙ ap (λ (h : CallResult). continued (process_at h.call.state.tables h.call.state.tables.current).rest h.call.state) c.self.view_is in
     record { keeps = subst KeepsAll (sym e) (continued_keeps h.call.state (idle_may_call h c.requires.idle old c.requires.not_null)) }

@@ -1,7 +1,6 @@
-use Rattle.std.proofs.Common.{◌≡◌, ◌∙◌, Some, None, ap, rules, sym, subst}
+use Rattle.std.proofs.Common.{◌≡◌, rules, sym, subst}
 use Rattle.core_calls.specs.Kernels.{kernel_result}
 use Rattle.xinu_laws.specs.Preserve.{KeepsAll}
-use Rattle.xinu_model.specs.Machine.{CallResult}
 use Rattle.core_calls.specs.Results.{idle}
 use Rattle.core_calls.proofs.Kept.{executed_sound, idle_may_call, kept_idle}
 use Rattle.xinu_model.specs.Events.{with_executed}

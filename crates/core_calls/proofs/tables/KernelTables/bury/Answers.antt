@@ -1,5 +1,4 @@
-use Rattle.std.proofs.Common.{◌≡◌, sym, subst, None, false}
-use Rattle.queue_table.specs.Table.{lists}
+use Rattle.std.proofs.Common.{sym, subst, None}
 use Rattle.process_core.proofs.Inside.{inside_fits}
 use Rattle.xinu_model.specs.Sound.Tables.{IsInside}
 use Rattle.xinu_model.specs.Tables.{no_process, Nowhere}

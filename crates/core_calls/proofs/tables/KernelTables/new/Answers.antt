@@ -1,13 +1,10 @@
-use Rattle.std.proofs.Common.{◌≡◌, ◌∙◌, List, [], replicate, sym, subst, rules, None}
-use Rattle.std.proofs.lemmas.List.{get_or-replicate}
-use Rattle.queue_table.specs.Lists.{Entry, list_at}
-use Rattle.queue_table.specs.Table.{lists}
-use Rattle.process_core.specs.Starts.{first_table}
+use Rattle.std.proofs.Common.{◌≡◌, List, sym, subst}
+use Rattle.queue_table.specs.Lists.{Entry}
 use Rattle.xinu_model.specs.Boot.{null_tables}
 use Rattle.xinu_model.specs.Sound.Tables.{IsInside}
 use Rattle.xinu_laws.proofs.Tables.Starts.{inside_null}
 use Rattle.core_calls.specs.KernelTables.{kernel_tables}
-use Rattle.core_calls.specs.Served.{AreServed, beside, IsReadyAlone}
+use Rattle.core_calls.specs.Served.{AreServed, IsReadyAlone}
 use Rattle.core_calls.proofs.Starts.{alone_start, served_start, tables_start}
 use Rattle.core_calls.proofs.tables.KernelTables.new.Goals as goal
 

@@ -1,5 +1,4 @@
-use Rattle.std.proofs.Common.{◌≡◌, ◌∙◌, ap, refl, sym, subst}
-use Rattle.queue_table.specs.Table.{lists}
+use Rattle.std.proofs.Common.{ap, refl, subst}
 use Rattle.process_core.proofs.Inside.{inside_fits}
 use Rattle.xinu_model.specs.Machine.{CallState}
 use Rattle.xinu_model.specs.Sound.Tables.{IsInside}

@@ -1,9 +1,7 @@
-use Rattle.std.proofs.Common.{◌≡◌, ◌∙◌, ap, sym, subst}
+use Rattle.std.proofs.Common.{sym, subst}
 use Rattle.queue_table.specs.Table.{lists}
 use Rattle.process_core.proofs.Inside.{inside_fits}
-use Rattle.xinu_base.specs.declared.processes.State.TheVariants.{Current}
 use Rattle.xinu_model.specs.Sound.Tables.{IsInside}
-use Rattle.xinu_model.specs.Tables.{state_at}
 use Rattle.core_calls.specs.KernelTables.{kernel_tables}
 use Rattle.core_calls.specs.Served.{AreServed, beside}
 use Rattle.xinu_base.specs.declared.processes.Rest.TheVariants.{SelfSuspend}

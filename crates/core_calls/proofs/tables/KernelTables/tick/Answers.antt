@@ -1,11 +1,9 @@
-use Rattle.std.proofs.Common.{◌≡◌, ◌∙◌, ap, sym, subst, [], arith, ◌+◌, ◌<◌, w32, rules}
+use Rattle.std.proofs.Common.{◌≡◌, ◌∙◌, ap, sym, subst, [], arith, ◌+◌, ◌<◌}
 use Rattle.queue_table.specs.Table.{lists}
 use Rattle.process_core.proofs.Inside.{inside_fits}
 use Rattle.xinu_model.specs.Sound.Tables.{IsInside}
-use Rattle.xinu_model.specs.Tables.{state_at}
 use Rattle.core_calls.specs.KernelTables.{kernel_tables}
 use Rattle.core_calls.specs.Served.{AreServed, beside}
-use Rattle.process_core.specs.Tables.{tables_of}
 use Rattle.xinu_model.specs.Clock.{quantum_falls}
 use Rattle.xinu_model.specs.Tables.{Tables}
 use Rattle.core_calls.proofs.Inside.{inside_quantum_falls}
