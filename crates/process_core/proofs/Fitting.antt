@@ -32,7 +32,8 @@ fits_moved ls ls' ps p x o f lt by here others may is_ready =
         | inr n ↦ subst (M q) (sym (get_or-set_other ps p r x no_process n)) (f.placed r q (sym (others r n) ∙ at))
       ];
       ready = λ r is. elim (cases_eq r p) [
-        | inl e ↦ ap (place ls') e ∙ here ∙ is_ready (sym (ap (λ (y : Process). y.state) same) ∙ ap (λ r. (process_in (set ps p x) r).state) (sym e) ∙ is)
+        | inl e ↦ ap (place ls') e ∙ here
+            ∙ is_ready (sym (ap (λ (y : Process). y.state) same) ∙ ap (λ r. (process_in (set ps p x) r).state) (sym e) ∙ is)
         | inr n ↦ others r n ∙ f.ready r (sym (ap (λ (y : Process). y.state) (get_or-set_other ps p r x no_process n)) ∙ is)
       ];
     }
@@ -47,7 +48,8 @@ unfolding all_without
 length_without p ls = length-map ls (without p)
 
 -- p, which is in no list, is inserted into the ready list, and is ready
-pub fits_ready : (ls : List (List Entry)) (ps : List Process) (p : ℕ) (x : Process) (k : ℤ) → Fits ls ps → length ls ≡ 130 → p < 64 → place ls p ≡ None → x.state ≡ Ready
+pub fits_ready : (ls : List (List Entry)) (ps : List Process) (p : ℕ) (x : Process) (k : ℤ) → Fits ls ps → length ls ≡ 130 → p < 64
+    → place ls p ≡ None → x.state ≡ Ready
     → Fits (with_list ls 128 (ready_insert p k (list_at ls 128))) (set ps p x)
 fits_ready ls ps p x k f size lt none is =
     let l : List Entry = ready_insert p k (list_at ls 128) in
@@ -58,7 +60,8 @@ fits_ready ls ps p x k f size lt none is =
     at.0 at.1 (λ q e. may_be_in q Ready x.state (sym is) (let d : 128 ≡ q = cc in sym d)) (λ _. refl)
 
 -- p, which is in no list, is put last into the queue of a semaphore, and waits
-pub fits_waiting : (ls : List (List Entry)) (ps : List Process) (p sem : ℕ) (k : ℤ) (x : Process) → Fits ls ps → length ls ≡ 130 → p < 64 → sem < 128 → x.state ≡ Waiting → place ls p ≡ None
+pub fits_waiting : (ls : List (List Entry)) (ps : List Process) (p sem : ℕ) (k : ℤ) (x : Process) → Fits ls ps → length ls ≡ 130 → p < 64
+    → sem < 128 → x.state ≡ Waiting → place ls p ≡ None
     → Fits (with_list ls sem (list_at ls sem ++ (p, k) ∷ [])) (set ps p x)
 fits_waiting ls ps p sem k x f size lt below is none =
     let l : List Entry = list_at ls sem ++ (p, k) ∷ [] in
@@ -70,7 +73,8 @@ fits_waiting ls ps p sem k x f size lt below is none =
     (λ e. (let c : Ready ≡ Waiting = sym e ∙ is in absurd (cc)))
 
 -- p, which is in no list, is inserted into the delta list of the sleepers, and sleeps, perhaps for a message
-pub fits_sleeping : (ls : List (List Entry)) (ps : List Process) (p : ℕ) (d : ℤ) (x : Process) → Fits ls ps → length ls ≡ 130 → p < 64 → MayBeIn 129 x.state → place ls p ≡ None
+pub fits_sleeping : (ls : List (List Entry)) (ps : List Process) (p : ℕ) (d : ℤ) (x : Process) → Fits ls ps → length ls ≡ 130 → p < 64
+    → MayBeIn 129 x.state → place ls p ≡ None
     → Fits (with_list ls 129 (delta_insert p d (list_at ls 129))) (set ps p x)
 fits_sleeping ls ps p d x f size lt may none =
     let l : List Entry = delta_insert p d (list_at ls 129) in
@@ -82,7 +86,8 @@ fits_sleeping ls ps p d x f size lt may none =
     (λ e. (let F : State → Type 0 = λ s. MayBeIn 129 s in let m : 129 ≡ 128 = subst F e may in absurd (omega (arith, m))))
 
 -- p is taken out of its list, and isn't ready
-pub fits_taken : (ls : List (List Entry)) (ps : List Process) (p : ℕ) (x : Process) → Fits ls ps → p < 64 → x.state ≢ Ready → Fits (all_without p ls) (set ps p x)
+pub fits_taken : (ls : List (List Entry)) (ps : List Process) (p : ℕ) (x : Process) → Fits ls ps → p < 64 → x.state ≢ Ready
+    → Fits (all_without p ls) (set ps p x)
 fits_taken ls ps p x f lt n =
     let B : List Entry → Type 0 = λ l. IsByKey l in
     fits_moved ls (all_without p ls) ps p x None f lt
@@ -90,7 +95,8 @@ fits_taken ls ps p x f lt n =
     (place_without_same ls p) (λ r d. place_without_other ls p r d) (λ q e. absurd (cc)) (λ e. absurd (n e))
 
 -- p, which is ready, leaves the ready list and is inserted anew
-pub fits_reinserted : (ls : List (List Entry)) (ps : List Process) (p : ℕ) (x : Process) (k : ℤ) → Fits ls ps → length ls ≡ 130 → p < 64 → x.state ≡ Ready
+pub fits_reinserted : (ls : List (List Entry)) (ps : List Process) (p : ℕ) (x : Process) (k : ℤ) → Fits ls ps → length ls ≡ 130 → p < 64
+    → x.state ≡ Ready
     → Fits (with_list (all_without p ls) 128 (ready_insert p k (list_at (all_without p ls) 128))) (set ps p x)
 fits_reinserted ls ps p x k f size lt is =
     let ws = all_without p ls in
@@ -103,7 +109,8 @@ fits_reinserted ls ps p x k f size lt is =
     at.0 (λ r d. at.1 r d ∙ place_without_other ls p r d) (λ q e. may_be_in q Ready x.state (sym is) (let d : 128 ≡ q = cc in sym d)) (λ _. refl)
 
 -- p, which isn't in the ready list, is taken out of the sleepers, and isn't ready
-pub fits_taken_sleeper : (ls : List (List Entry)) (ps : List Process) (p : ℕ) (x : Process) → Fits ls ps → p < 64 → is_listed p (list_at ls 128) ≡ false → x.state ≢ Ready
+pub fits_taken_sleeper : (ls : List (List Entry)) (ps : List Process) (p : ℕ) (x : Process) → Fits ls ps → p < 64
+    → is_listed p (list_at ls 128) ≡ false → x.state ≢ Ready
     → Fits (all_delta_without p ls) (set ps p x)
 fits_taken_sleeper ls ps p x f lt away n =
     let B : List Entry → Type 0 = λ l. IsByKey l in
@@ -112,17 +119,20 @@ fits_taken_sleeper ls ps p x f lt away n =
     (place_delta_without_same ls p) (λ r d. place_delta_without_other ls p r d) (λ q e. absurd (cc)) (λ e. absurd (n e))
 
 -- p, which is in no list, becomes x, which isn't ready
-pub fits_changed : (ls : List (List Entry)) (ps : List Process) (p : ℕ) (x : Process) → Fits ls ps → p < 64 → place ls p ≡ None → x.state ≢ Ready → Fits ls (set ps p x)
+pub fits_changed : (ls : List (List Entry)) (ps : List Process) (p : ℕ) (x : Process) → Fits ls ps → p < 64 → place ls p ≡ None
+    → x.state ≢ Ready → Fits ls (set ps p x)
 fits_changed ls ps p x f lt none n = fits_moved ls ls ps p x None f lt f.by_key none (λ r d. refl) (λ q e. absurd (cc)) (λ e. absurd (n e))
 
 -- p becomes x, which is in the same state
-pub fits_same_state : (ls : List (List Entry)) (ps : List Process) (p : ℕ) (x : Process) → Fits ls ps → p < 64 → x.state ≡ (process_in ps p).state → Fits ls (set ps p x)
+pub fits_same_state : (ls : List (List Entry)) (ps : List Process) (p : ℕ) (x : Process) → Fits ls ps → p < 64
+    → x.state ≡ (process_in ps p).state → Fits ls (set ps p x)
 fits_same_state ls ps p x f lt e =
     fits_moved ls ls ps p x (place ls p) f lt f.by_key refl (λ r d. refl)
     (λ q at. may_be_in q (process_in ps p).state x.state (sym e) (f.placed p q at)) (λ is. f.ready p (sym e ∙ is))
 
 -- a process in a state that is in no queue is in no list
-pub nowhere : (ls : List (List Entry)) (ps : List Process) (p : ℕ) → Fits ls ps → ((q : ℕ) → MayBeIn q (process_in ps p).state → ⊥) → place ls p ≡ None
+pub nowhere : (ls : List (List Entry)) (ps : List Process) (p : ℕ) → Fits ls ps → ((q : ℕ) → MayBeIn q (process_in ps p).state → ⊥)
+    → place ls p ≡ None
 nowhere ls ps p f none = go (place ls p) refl
   where
     go : (o : Option ℕ) → place ls p ≡ o → place ls p ≡ None
@@ -130,7 +140,8 @@ nowhere ls ps p f none = go (place ls p) refl
     go (Some q) e = absurd (none q (f.placed p q e))
 
 -- a process that runs is in no list
-pub current_nowhere : (ls : List (List Entry)) (ps : List Process) (p : ℕ) → Fits ls ps → (process_in ps p).state ≡ Current → place ls p ≡ None
+pub current_nowhere : (ls : List (List Entry)) (ps : List Process) (p : ℕ) → Fits ls ps → (process_in ps p).state ≡ Current
+    → place ls p ≡ None
 current_nowhere ls ps p f e = nowhere ls ps p f (λ q m. may_be_in q (process_in ps p).state Current e m)
 
 -- a free number is in no list
@@ -138,11 +149,13 @@ pub free_nowhere : (ls : List (List Entry)) (ps : List Process) (p : ℕ) → Fi
 free_nowhere ls ps p f e = nowhere ls ps p f (λ q m. may_be_in q (process_in ps p).state Free e m)
 
 -- a suspended process is in no list
-pub suspended_nowhere : (ls : List (List Entry)) (ps : List Process) (p : ℕ) → Fits ls ps → (process_in ps p).state ≡ Suspended → place ls p ≡ None
+pub suspended_nowhere : (ls : List (List Entry)) (ps : List Process) (p : ℕ) → Fits ls ps → (process_in ps p).state ≡ Suspended
+    → place ls p ≡ None
 suspended_nowhere ls ps p f e = nowhere ls ps p f (λ q m. may_be_in q (process_in ps p).state Suspended e m)
 
 -- a process that waits for a message without end is in no list
-pub receiving_nowhere : (ls : List (List Entry)) (ps : List Process) (p : ℕ) → Fits ls ps → (process_in ps p).state ≡ Receiving → place ls p ≡ None
+pub receiving_nowhere : (ls : List (List Entry)) (ps : List Process) (p : ℕ) → Fits ls ps → (process_in ps p).state ≡ Receiving
+    → place ls p ≡ None
 receiving_nowhere ls ps p f e = nowhere ls ps p f (λ q m. may_be_in q (process_in ps p).state Receiving e m)
 
 -- whoever is blocked isn't ready

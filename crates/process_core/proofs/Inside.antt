@@ -28,12 +28,12 @@ by_key_falling [] h = tt
 by_key_falling (e ∷ l) h = (keys_at_most e.1 l h.0, by_key_falling l h.1)
 
 -- how many pass of those that a function gives
-times-map : {A B : Type 0} (test : B → Bool) (f : A → B) (xs : List A) → times test (map f xs) ≡ times (λ x. test (f x)) xs
+pub times-map : {A B : Type 0} (test : B → Bool) (f : A → B) (xs : List A) → times test (map f xs) ≡ times (λ x. test (f x)) xs
 times-map test f [] = refl
 times-map test f (x ∷ xs) = ap (λ n. cond (test (f x)) (suc n) n) (times-map test f xs)
 
 -- a process that isn't in a list is there 0 times
-uncounted : (p : ℕ) (l : List Entry) → is_listed p l ≡ false → entries_of p l ≡ 0
+pub uncounted : (p : ℕ) (l : List Entry) → is_listed p l ≡ false → entries_of p l ≡ 0
 uncounted p [] h = refl
 uncounted p (e ∷ l) h = elim (cases_eq p e.0) [
   | inl s ↦ (let b : eqb p e.0 ≡ true = grind (arith, nat_tests) in absurd (false≢true (sym h ∙ ap (λ b. cond b true (is_listed p l)) b)))
@@ -69,7 +69,8 @@ one_of_total f (x ∷ xs) zero d z = omega arith
 one_of_total f (x ∷ xs) (suc i) d z = let e = one_of_total f xs i d z in omega arith
 
 -- whoever is in the queue of a semaphore is counted among the waiters
-waits_least : (p q : ℕ) (ls : List (List Entry)) (ms : List Mark) → q < 128 → length ms ≡ 128 → entries_of p (list_at ls q) ≤ waits_of p (semaphores_of (take 128 ls) ms)
+waits_least : (p q : ℕ) (ls : List (List Entry)) (ms : List Mark) → q < 128 → length ms ≡ 128
+    → entries_of p (list_at ls q) ≤ waits_of p (semaphores_of (take 128 ls) ms)
 waits_least p q ls ms lt n =
     let f : Semaphore → ℕ = λ x. count_in p x.waiters in
     let g = one_of_total f (semaphores_of (take 128 ls) ms) q no_semaphore refl in
@@ -79,7 +80,7 @@ waits_least p q ls ms lt n =
     omega (arith, g, e)
 
 -- the sleepers are counted by their delays
-sleepers_counted : (p ticks : ℕ) (l : List Entry) → entries_of p (sleepers_of ticks l) ≡ entries_of p (delays l)
+pub sleepers_counted : (p ticks : ℕ) (l : List Entry) → entries_of p (sleepers_of ticks l) ≡ entries_of p (delays l)
 sleepers_counted p ticks l = times-map (λ (e : ℕ × ℕ). eqb e.0 p) (λ (e : Entry). (e.0, wake_tick ticks e.1)) (delays l)
 
 -- a process that is counted as ready is ready
@@ -137,7 +138,8 @@ inside_fits t s b o =
                   let e : q ≡ 129 = omega (arith, n, w.0, queues_of t) in
                   let F : ℕ → Type 0 = λ q. is_listed p (list_at ls q) ≡ true in
                   let M : ℕ → Type 0 = λ q. MayBeIn q (process_in s.processes p).state in
-                  let m2 : 0 < entries_of p (delays (list_at ls 129)) = counted p (delays (list_at ls 129)) (is_listed-delays p (list_at ls 129) ∙ subst F e w.1) in
+                  let m2 : 0 < entries_of p (delays (list_at ls 129))
+                  = counted p (delays (list_at ls 129)) (is_listed-delays p (list_at ls 129) ∙ subst F e w.1) in
                   subst M (sym e) (sleeping_if_counted _ (omega (arith, m2, sleepers_counted p b.ticks (list_at ls 129), o.sleeping p))))
             ]
           ]);

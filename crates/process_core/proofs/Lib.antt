@@ -10,3 +10,4 @@ pub mod Starts
 pub mod Names
 pub mod Inside
 pub mod Steps
+pub mod Placed

@@ -24,8 +24,10 @@ tables-ready ls s b l n =
     rw (here, sleep, first) refl
 
 -- the tables if p is put last into the queue of a semaphore
-pub tables-waiting : (ls : List (List Entry)) (s : ProcessTable) (b : Beside) (sem p : ℕ) (k : ℤ) → sem < 128 → sem < length b.marks → length ls ≡ 130
-    → tables_of (with_list ls sem (list_at ls sem ++ (p, k) ∷ [])) s b ≡ record (tables_of ls s b) { semaphores = semaphores_in (InSemaphore sem) p (tables_of ls s b).semaphores }
+pub tables-waiting : (ls : List (List Entry)) (s : ProcessTable) (b : Beside) (sem p : ℕ) (k : ℤ) → sem < 128 → sem < length b.marks
+    → length ls ≡ 130
+    → tables_of (with_list ls sem (list_at ls sem ++ (p, k) ∷ [])) s b
+    ≡ record (tables_of ls s b) { semaphores = semaphores_in (InSemaphore sem) p (tables_of ls s b).semaphores }
 unfolding tables_of
 tables-waiting ls s b sem p k lt marked n =
     let l = list_at ls sem ++ (p, k) ∷ [] in
@@ -63,8 +65,10 @@ tables-sleeping ls s b l n =
     rw (here, ready, first) refl
 
 -- p has left its list; inserted into the ready list by its priority it has moved there
-pub then_ready : (ls : List (List Entry)) (s : ProcessTable) (b : Beside) (t : Tables) (p : ℕ) (x : Process) (m : Option ℕ) (k : ℤ) → length ls ≡ 130 → k ≡ x.priority
-    → tables_of ls s b ≡ move_to p x m Nowhere t → tables_of (with_list ls 128 (ready_insert p k (list_at ls 128))) s b ≡ move_to p x m InReady t
+pub then_ready : (ls : List (List Entry)) (s : ProcessTable) (b : Beside) (t : Tables) (p : ℕ) (x : Process) (m : Option ℕ) (k : ℤ)
+    → length ls ≡ 130 → k ≡ x.priority
+    → tables_of ls s b ≡ move_to p x m Nowhere t
+    → tables_of (with_list ls 128 (ready_insert p k (list_at ls 128))) s b ≡ move_to p x m InReady t
 unfolding tables_of
 then_ready ls s b t p x m k n e h =
     tables-ready ls s b (ready_insert p k (list_at ls 128)) n
@@ -73,13 +77,17 @@ then_ready ls s b t p x m k n e h =
 
 -- put last into the queue of a semaphore it has moved there
 pub then_waits : (ls : List (List Entry)) (s : ProcessTable) (b : Beside) (t : Tables) (p : ℕ) (x : Process) (m : Option ℕ) (sem : ℕ) (k : ℤ) → sem < 128 → sem < length b.marks → length ls ≡ 130
-    → tables_of ls s b ≡ move_to p x m Nowhere t → tables_of (with_list ls sem (list_at ls sem ++ (p, k) ∷ [])) s b ≡ move_to p x m (InSemaphore sem) t
+    → tables_of ls s b ≡ move_to p x m Nowhere t
+    → tables_of (with_list ls sem (list_at ls sem ++ (p, k) ∷ [])) s b ≡ move_to p x m (InSemaphore sem) t
 then_waits ls s b t p x m sem k lt marked n h =
-    tables-waiting ls s b sem p k lt marked n ∙ ap (λ (u : Tables). record u { semaphores = semaphores_in (InSemaphore sem) p u.semaphores }) h
+    tables-waiting ls s b sem p k lt marked n
+    ∙ ap (λ (u : Tables). record u { semaphores = semaphores_in (InSemaphore sem) p u.semaphores }) h
 
 -- inserted into the delta list by a delay it has moved to the sleepers, to the tick that is so many ticks away
-pub then_sleeps : (ls : List (List Entry)) (s : ProcessTable) (b : Beside) (t : Tables) (p : ℕ) (x : Process) (m : Option ℕ) (n : ℕ) → IsDelta (list_at ls 129) → length ls ≡ 130
-    → tables_of ls s b ≡ move_to p x m Nowhere t → tables_of (with_list ls 129 (delta_insert p (pos n) (list_at ls 129))) s b ≡ move_to p x m (InSleepers (b.ticks + n)) t
+pub then_sleeps : (ls : List (List Entry)) (s : ProcessTable) (b : Beside) (t : Tables) (p : ℕ) (x : Process) (m : Option ℕ) (n : ℕ)
+    → IsDelta (list_at ls 129) → length ls ≡ 130
+    → tables_of ls s b ≡ move_to p x m Nowhere t
+    → tables_of (with_list ls 129 (delta_insert p (pos n) (list_at ls 129))) s b ≡ move_to p x m (InSleepers (b.ticks + n)) t
 unfolding tables_of
 then_sleeps ls s b t p x m n d size h =
     tables-sleeping ls s b (delta_insert p (pos n) (list_at ls 129)) size
@@ -103,13 +111,16 @@ waits_twice p (x ∷ l) =
     ∙ ap (λ m. semaphore_without p x ∷ m) (waits_twice p l)
 
 -- a process that leaves its list first and goes to its place then has moved once
-pub move_twice : (p : ℕ) (x y : Process) (m n : Option ℕ) (place : Place) (t : Tables) → move_to p y n place (move_to p x m Nowhere t) ≡ move_to p y n place t
+pub move_twice : (p : ℕ) (x y : Process) (m n : Option ℕ) (place : Place) (t : Tables)
+    → move_to p y n place (move_to p x m Nowhere t) ≡ move_to p y n place t
 move_twice p x y m n place t =
     let a = set-set t.processes p x y in
     let b = set-set t.messages p m n in
-    let r : entries_without p (entries_without p t.ready) ≡ entries_without p t.ready = filter_twice (λ (e : ℕ × ℤ). not (eqb e.0 p)) t.ready in
+    let r : entries_without p (entries_without p t.ready) ≡ entries_without p t.ready
+    = filter_twice (λ (e : ℕ × ℤ). not (eqb e.0 p)) t.ready in
     let w = waits_twice p t.semaphores in
-    let z : entries_without p (entries_without p t.sleepers) ≡ entries_without p t.sleepers = filter_twice (λ (e : ℕ × ℕ). not (eqb e.0 p)) t.sleepers in
+    let z : entries_without p (entries_without p t.sleepers) ≡ entries_without p t.sleepers
+    = filter_twice (λ (e : ℕ × ℕ). not (eqb e.0 p)) t.sleepers in
     rw (a, b, r, w, z) refl
 
 -- whether a process has left its list before it becomes ready makes no difference
@@ -119,5 +130,6 @@ ready-left p t =
     let m = message_at t p in
     let a : set t.processes p x ≡ t.processes = set-get_or t.processes p _ in
     let b : set t.messages p m ≡ t.messages = set-get_or t.messages p None in
-    let F : List Process → List (Option ℕ) → Tables = λ l k. move_to p (in_state Ready (get_or l p no_process)) (get_or k p None) InReady (move_to p x m Nowhere t) in
+    let F : List Process → List (Option ℕ) → Tables
+    = λ l k. move_to p (in_state Ready (get_or l p no_process)) (get_or k p None) InReady (move_to p x m Nowhere t) in
     ap (λ l. F l (set t.messages p m)) a ∙ ap (F t.processes) b ∙ move_twice p x (in_state Ready x) m m InReady t

@@ -18,12 +18,14 @@ find_here test n zero lt h = absurd (omega arith)
 find_here test n (suc k) lt h = ap (λ b. cond b (Some n) (find test (numbers_from (n + 1) k))) h
 
 -- the first number doesn't pass
-pub find_later : (test : ℕ → Bool) (n end : ℕ) → n < end → test n ≡ false → find test (numbers_from n (end - n)) ≡ find test (numbers_from (n + 1) (end - (n + 1)))
+pub find_later : (test : ℕ → Bool) (n end : ℕ) → n < end → test n ≡ false
+    → find test (numbers_from n (end - n)) ≡ find test (numbers_from (n + 1) (end - (n + 1)))
 find_later test n end lt h = go (end - n) (end - (n + 1)) (omega arith)
   where
     go : (j k : ℕ) → j ≡ k + 1 → find test (numbers_from n j) ≡ find test (numbers_from (n + 1) k)
     go zero k e = absurd (omega arith)
-    go (suc j) k e = let s : j ≡ k = omega arith in ap (λ b. cond b (Some n) (find test (numbers_from (n + 1) j))) h ∙ ap (λ j. find test (numbers_from (n + 1) j)) s
+    go (suc j) k e = let s : j ≡ k = omega arith in ap (λ b. cond b (Some n) (find test (numbers_from (n + 1) j))) h
+        ∙ ap (λ j. find test (numbers_from (n + 1) j)) s
 
 -- the first step of a search that found none
 none_step : (b : Bool) (n : ℕ) (o : Option ℕ) → cond b (Some n) o ≡ None → (b ≡ false) × (o ≡ None)
@@ -49,12 +51,15 @@ find_passes test n (suc k) p h = elim (cases_Bool (test n)) [
 ]
 
 -- a number found from the first on is what the search finds
-pub search_ahead : (test : ℕ → Bool) (size first p : ℕ) → Some p ≡ find test (numbers_from first (size - first)) → Some p ≡ search test size first
+pub search_ahead : (test : ℕ → Bool) (size first p : ℕ) → Some p ≡ find test (numbers_from first (size - first))
+    → Some p ≡ search test size first
 search_ahead test size first p h =
-    ap (λ o. option_or o (find test (numbers_from 0 (min first size)))) h ∙ sym (find-append test (numbers_from first (size - first)) (numbers_from 0 (min first size)))
+    ap (λ o. option_or o (find test (numbers_from 0 (min first size)))) h
+    ∙ sym (find-append test (numbers_from first (size - first)) (numbers_from 0 (min first size)))
 
 -- if none is found from the first on, the search finds what it finds from 0 on
-pub search_round : (test : ℕ → Bool) (size first : ℕ) (o : Option ℕ) → first ≤ size → None ≡ find test (numbers_from first (size - first)) → o ≡ find test (numbers_from 0 (first - 0))
+pub search_round : (test : ℕ → Bool) (size first : ℕ) (o : Option ℕ) → first ≤ size → None ≡ find test (numbers_from first (size - first))
+    → o ≡ find test (numbers_from 0 (first - 0))
     → o ≡ search test size first
 search_round test size first o le h e =
     let m : min first size ≡ first - 0 = omega arith in
@@ -77,12 +82,14 @@ free_by_test Waiting h = absurd (cc)
 free_by_test Timed h = absurd (cc)
 
 -- a number that is found is free
-pub found_free : (ps : List Process) (n k : ℕ) (o : Option ℕ) → o ≡ find (is_free_in ps) (numbers_from n k) → IfSome o (λ p. (process_in ps p).state ≡ Free)
+pub found_free : (ps : List Process) (n k : ℕ) (o : Option ℕ) → o ≡ find (is_free_in ps) (numbers_from n k)
+    → IfSome o (λ p. (process_in ps p).state ≡ Free)
 found_free ps n k None e = tt
 found_free ps n k (Some p) e = free_by_test (process_in ps p).state (find_passes (is_free_in ps) n k p (sym e))
 
 -- if no number is found none is free
-pub none_free : (ps : List Process) (first : ℕ) (o : Option ℕ) → first ≤ 64 → None ≡ find (is_free_in ps) (numbers_from first (64 - first)) → o ≡ find (is_free_in ps) (numbers_from 0 (first - 0))
+pub none_free : (ps : List Process) (first : ℕ) (o : Option ℕ) → first ≤ 64 → None ≡ find (is_free_in ps) (numbers_from first (64 - first))
+    → o ≡ find (is_free_in ps) (numbers_from 0 (first - 0))
     → IfNone o ((p : ℕ) → p < 64 → (process_in ps p).state ≢ Free)
 none_free ps first (Some p) le h e = tt
 none_free ps first None le h e = λ p lt f.

@@ -37,7 +37,8 @@ delays_least_due e l d h =
     (b, delays_from_least (pos 0 +ℤ e.1) l d.differences.1 (pos 1) b)
 
 -- a filter of what a map gives, by the same test of what it is given
-filter-map : {A B : Type 0} (f : A → B) (a : A → Bool) (b : B → Bool) (l : List A) (P : A → Type 0) → ((x : A) → P x → a x ≡ b (f x)) → AllByRecursion P l
+filter-map : {A B : Type 0} (f : A → B) (a : A → Bool) (b : B → Bool) (l : List A) (P : A → Type 0) → ((x : A) → P x → a x ≡ b (f x))
+    → AllByRecursion P l
     → map f (filter a l) ≡ filter b (map f l)
 filter-map f a b [] P h all = refl
 filter-map f a b (x ∷ l) P h all = elim (cases_Bool (b (f x))) [
@@ -63,7 +64,8 @@ tick_test t n (pos k) h = grind (arith, ints, nat_tests)
 tick_test t n (negsuc k) h = absurd (omega (arith, ints, h))
 
 -- an insertion by delay is one by tick
-pub sleepers_insert : (p n t : ℕ) (l : List Entry) → IsDelta l → sleepers_of t (delta_insert p (pos n) l) ≡ sleeper_insert p (t + n) (sleepers_of t l)
+pub sleepers_insert : (p n t : ℕ) (l : List Entry) → IsDelta l
+    → sleepers_of t (delta_insert p (pos n) l) ≡ sleeper_insert p (t + n) (sleepers_of t l)
 sleepers_insert p n t l d =
     let m = delays l in
     let a = all_least (pos 0) m (delays_least l d) in
@@ -91,8 +93,10 @@ later_by_one : (t : ℕ) (l : List Entry) → KeysAtLeast (pos 1) l → map (at_
 unfolding sooner
 later_by_one t [] h = refl
 later_by_one t (e ∷ l) h =
-    ap (λ w. (e.0, w) ∷ map (at_tick (t + 1)) (sooner l)) (one_later t e.1 (e.1 -ℤ pos 1) refl h.0) ∙ ap (λ m. at_tick t e ∷ m) (later_by_one t l h.1)
+    ap (λ w. (e.0, w) ∷ map (at_tick (t + 1)) (sooner l)) (one_later t e.1 (e.1 -ℤ pos 1) refl h.0)
+    ∙ ap (λ m. at_tick t e ∷ m) (later_by_one t l h.1)
 
 -- the sleepers stay as they are if a tick passes and their delays are lowered
-pub sleepers_sooner : (t : ℕ) (e : Entry) (l : List Entry) → IsDelta (e ∷ l) → pos 1 ≤ℤ e.1 → sleepers_of (t + 1) (delta_sooner (e ∷ l)) ≡ sleepers_of t (e ∷ l)
+pub sleepers_sooner : (t : ℕ) (e : Entry) (l : List Entry) → IsDelta (e ∷ l) → pos 1 ≤ℤ e.1
+    → sleepers_of (t + 1) (delta_sooner (e ∷ l)) ≡ sleepers_of t (e ∷ l)
 sleepers_sooner t e l d h = ap (map (at_tick (t + 1))) (delays-sooner (e ∷ l)) ∙ later_by_one t (delays (e ∷ l)) (delays_least_due e l d h)

@@ -12,10 +12,12 @@ swapped p q = grind (arith, nat_tests)
 -- a list without p, by the lists' word and by the machine's
 pub without_is : (p : ℕ) (l : List Entry) → without p l ≡ entries_without p l
 without_is p [] = refl
-without_is p (e ∷ l) = ap (λ b. cond b (e ∷ without p l) (without p l)) (swapped p e.0) ∙ ap (λ m. cond (not (eqb e.0 p)) (e ∷ m) m) (without_is p l)
+without_is p (e ∷ l) = ap (λ b. cond b (e ∷ without p l) (without p l)) (swapped p e.0)
+    ∙ ap (λ m. cond (not (eqb e.0 p)) (e ∷ m) m) (without_is p l)
 
 -- one process more
-numbers_step : (a b : Bool) (e : Entry) (l : List Entry) (ps : List ℕ) → a ≡ b → numbers l ≡ ps → numbers (cond a (e ∷ l) l) ≡ cond b (e.0 ∷ ps) ps
+numbers_step : (a b : Bool) (e : Entry) (l : List Entry) (ps : List ℕ) → a ≡ b → numbers l ≡ ps
+    → numbers (cond a (e ∷ l) l) ≡ cond b (e.0 ∷ ps) ps
 numbers_step true true e l ps h i = ap (λ m. e.0 ∷ m) i
 numbers_step false false e l ps h i = i
 numbers_step true false e l ps h i = absurd (cc)
@@ -27,7 +29,8 @@ numbers-without p [] = refl
 numbers-without p (e ∷ l) = numbers_step (not (eqb p e.0)) (not (eqb e.0 p)) e (without p l) (numbers_without p (numbers l)) (swapped p e.0) (numbers-without p l)
 
 -- whoever is taken out of all lists waits on no semaphore
-pub semaphores-without : (p : ℕ) (ls : List (List Entry)) (ms : List Mark) → semaphores_of (map (without p) ls) ms ≡ waits_without p (semaphores_of ls ms)
+pub semaphores-without : (p : ℕ) (ls : List (List Entry)) (ms : List Mark)
+    → semaphores_of (map (without p) ls) ms ≡ waits_without p (semaphores_of ls ms)
 semaphores-without p ls [] = refl
 semaphores-without p [] (m ∷ ms) = ap (λ l. semaphore_of [] m ∷ l) (semaphores-without p [] ms)
 semaphores-without p (l ∷ ls) (m ∷ ms) =

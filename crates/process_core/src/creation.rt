@@ -35,7 +35,8 @@ impl Procs {
         requires free { (process_in self.old.processes p).state ≡ State.Free }
         requires short { length name.now ≤ 15 }
         ensures procs { self.new ≡ record (with_process p (new_process (padded name.now) priority parent stack.0 stack.1) self.old) { last_process = p } }
-        ensures made { (ls : List (List Entry)) (b : Beside) (m : Option ℕ) → Fits ls self.old.processes → tables_of ls self.new (with_message p m b) ≡ record (move_to p (new_process (padded name.now) priority parent stack.0 stack.1) m Nowhere (tables_of ls self.old b)) { last_process = p } }
+        ensures made { (ls : List (List Entry)) (b : Beside) (m : Option ℕ) → Fits ls self.old.processes → tables_of ls self.new (with_message p m b) ≡
+            record (move_to p (new_process (padded name.now) priority parent stack.0 stack.1) m Nowhere (tables_of ls self.old b)) { last_process = p } }
         ensures fits { (ls : List (List Entry)) → Fits ls self.old.processes → Fits ls self.new.processes }
     {
         self.set_process(
@@ -58,7 +59,8 @@ impl Procs {
         requires absent { place (table.lists lists.now) p ≡ None }
         requires fits { Fits (table.lists lists.now) self.old.processes }
         ensures procs { self.new ≡ with_process p no_process self.old }
-        ensures freed { (b : Beside) (m : Option ℕ) → tables_of (table.lists lists.now) self.new (with_message p m b) ≡ move_to p no_process m Nowhere (tables_of (table.lists lists.now) self.old b) }
+        ensures freed { (b : Beside) (m : Option ℕ) → tables_of (table.lists lists.now) self.new (with_message p m b) ≡
+            move_to p no_process m Nowhere (tables_of (table.lists lists.now) self.old b) }
         ensures fits { Fits (table.lists lists.now) self.new.processes }
     {
         self.set_process(p, free_entry());

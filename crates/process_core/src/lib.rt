@@ -23,9 +23,12 @@
 //! | `quantum_tick` | | `falls`: true if and only if the quantum came to 0 and is renewed |
 //!
 //! Beside the equation each call says which columns change: `procs` the table, `lists` the lists, `others` the queues that stay.
-//! `proofs/Moves.antt` and `proofs/Removals.antt` have the laws by which the crates above compose moves (out of a list, then to a place),
-//! `proofs/Fitting.antt` those by which they keep the fit, `proofs/Sleepers.antt` the sleepers as the calls on a delta list leave them,
-//! and `proofs/Inside.antt` draws the fit from what always holds. The crate depends on `queue_table` and the definitions of `xinu_model`.
+//!
+//! For the crates above `proofs/` has the laws of moves: out of a list (`Removals`), then to a place (`Moves`), two calls that are one move
+//! of the machine (`Steps`), the sleepers as the calls on a delta list leave them (`Sleepers`); how lists and processes go on fitting
+//! (`Fitting`); and what follows from what always holds of the tables: the fit (`Inside`), and in which queue a process is (`Placed`).
+//! `Starts` says that new lists and a new table stand for the machine's start. The crate depends on `queue_table` and the definitions of
+//! `xinu_model`.
 #![tactic(auto)]
 
 mod creation;

@@ -27,7 +27,8 @@ impl Procs {
     pub fn set_priority(&mut self, lists: &mut Lists, p: Pid, n: i16)
         requires fits { Fits (table.lists lists.old) self.old.processes }
         ensures procs { self.new ≡ with_process p (record (process_in self.old.processes p) { priority = n }) self.old }
-        ensures lists { table.lists lists.new ≡ (let ls = table.lists lists.old in if is_ready (process_in self.old.processes p).state then with_list ls 128 (ready_insert p n (without p (list_at ls 128))) else ls) }
+        ensures lists { table.lists lists.new ≡ (let ls = table.lists lists.old in
+            if is_ready (process_in self.old.processes p).state then with_list ls 128 (ready_insert p n (without p (list_at ls 128))) else ls) }
         ensures prioritized { (b : Beside) → tables_of (table.lists lists.new) self.new b ≡ with_priority p n (tables_of (table.lists lists.old) self.old b) }
         ensures others { (q : ℕ) → q ≢ 128 → list_at (table.lists lists.new) q ≡ list_at (table.lists lists.old) q }
         ensures fits { Fits (table.lists lists.new) self.new.processes }
@@ -45,7 +46,8 @@ impl Procs {
         requires absent { place (table.lists lists.old) p ≡ None }
         requires fits { Fits (table.lists lists.old) self.old.processes }
         ensures procs { self.new ≡ with_state p State.Ready self.old }
-        ensures lists { table.lists lists.new ≡ with_list (table.lists lists.old) 128 (ready_insert p (process_in self.old.processes p).priority (list_at (table.lists lists.old) 128)) }
+        ensures lists { table.lists lists.new ≡ (let ls = table.lists lists.old in
+            with_list ls 128 (ready_insert p (process_in self.old.processes p).priority (list_at ls 128))) }
         ensures readied { (b : Beside) → tables_of (table.lists lists.new) self.new b ≡ model.ready p (tables_of (table.lists lists.old) self.old b) }
         ensures others { (q : ℕ) → q ≢ 128 → list_at (table.lists lists.new) q ≡ list_at (table.lists lists.old) q }
         ensures fits { Fits (table.lists lists.new) self.new.processes }
@@ -60,7 +62,8 @@ impl Procs {
         requires runs { (process_in self.old.processes self.old.current).state ≡ State.Current }
         requires blocks { IsBlocked state }
         ensures procs { self.new ≡ with_state self.old.current state self.old }
-        ensures blocked { (ls : List (List Entry)) (b : Beside) → Fits ls self.old.processes → tables_of ls self.new b ≡ (let t = tables_of ls self.old b in move_to t.current (model.in_state state (process_at t t.current)) (message_at t t.current) Nowhere t) }
+        ensures blocked { (ls : List (List Entry)) (b : Beside) → Fits ls self.old.processes → tables_of ls self.new b ≡ (let t = tables_of ls self.old b in
+            move_to t.current (model.in_state state (process_at t t.current)) (message_at t t.current) Nowhere t) }
         ensures fits { (ls : List (List Entry)) → Fits ls self.old.processes → Fits ls self.new.processes }
     {
         let current = self.current();
@@ -72,7 +75,8 @@ impl Procs {
     pub fn resched(&mut self, lists: &mut Lists) -> Option<Pid>
         requires fits { Fits (table.lists lists.old) self.old.processes }
         ensures resched { (b : Beside) → tables_of (table.lists lists.new) self.new b ≡ model.resched (tables_of (table.lists lists.old) self.old b) }
-        ensures answer { (b : Beside) → result ≡ (let t = tables_of (table.lists lists.old) self.old b in if model.keeps_cpu t.ready t then None else Some self.new.current) }
+        ensures answer { (b : Beside) → result ≡ (let t = tables_of (table.lists lists.old) self.old b in
+            if model.keeps_cpu t.ready t then None else Some self.new.current) }
         ensures switched { IfSome result (λ p. p ≡ self.new.current) }
         ensures stayed { IfNone result (self.new ≡ self.old) }
         ensures same_lists { IfNone result (table.lists lists.new ≡ table.lists lists.old) }
@@ -98,7 +102,8 @@ impl Procs {
         requires fits { Fits (table.lists lists.old) self.old.processes }
         ensures procs { self.new ≡ with_state p State.Suspended self.old }
         ensures lists { table.lists lists.new ≡ with_list (table.lists lists.old) 128 (without p (list_at (table.lists lists.old) 128)) }
-        ensures suspended { (b : Beside) → tables_of (table.lists lists.new) self.new b ≡ (let t = tables_of (table.lists lists.old) self.old b in move_to p (model.in_state State.Suspended (process_at t p)) (message_at t p) Nowhere t) }
+        ensures suspended { (b : Beside) → tables_of (table.lists lists.new) self.new b ≡ (let t = tables_of (table.lists lists.old) self.old b in
+            move_to p (model.in_state State.Suspended (process_at t p)) (message_at t p) Nowhere t) }
         ensures others { (q : ℕ) → q ≢ 128 → list_at (table.lists lists.new) q ≡ list_at (table.lists lists.old) q }
         ensures fits { Fits (table.lists lists.new) self.new.processes }
     {
@@ -130,7 +135,8 @@ impl Procs {
     // The first ready process becomes the current one, with a fresh quantum. `None` if the ready list is empty.
     fn dispatch_first(&mut self, lists: &mut Lists) -> Option<Pid>
         requires fits { Fits (table.lists lists.old) self.old.processes }
-        ensures dispatches { (b : Beside) → tables_of (table.lists lists.new) self.new b ≡ model.dispatch_first (list_at (table.lists lists.old) 128) (tables_of (table.lists lists.old) self.old b) }
+        ensures dispatches { (b : Beside) → tables_of (table.lists lists.new) self.new b ≡ (let ls = table.lists lists.old in
+            model.dispatch_first (list_at ls 128) (tables_of ls self.old b)) }
         ensures lists { table.lists lists.new ≡ with_list (table.lists lists.old) 128 (rest_of (list_at (table.lists lists.old) 128)) }
         ensures first { result ≡ first_process (list_at (table.lists lists.old) 128) }
         ensures switched { IfSome result (λ p. p ≡ self.new.current) }

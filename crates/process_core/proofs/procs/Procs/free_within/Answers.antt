@@ -5,5 +5,6 @@ use Rattle.process_core.proofs.procs.Procs.free_within.Goals as goal
 pub loop-number-preserved : goal.loop-number-preserved
 loop-number-preserved c =
     let test = is_free_in c.args.self.now.processes in
-    let f : test c.loop-number.number ≡ false = ap test (sym c.pid_at-p.ensures.process) ∙ sym c.is_free.ensures.free ∙ c.if-is_free.false in
+    let f : test c.loop-number.number ≡ false
+    = ap test (sym c.pid_at-p.ensures.process) ∙ sym c.is_free.ensures.free ∙ c.if-is_free.false in
     sym (find_later test c.loop-number.number c.args.end (omega arith) f) ∙ c.loop-number.invariant

@@ -9,13 +9,15 @@ pub returns-in-Some-clause-found : goal.returns-in-Some-clause-found
 unfolding tables_of
 returns-in-Some-clause-found c ls b =
     let s = c.args.self.now in
-    let h : Some c.in-Some.p ≡ find (is_free_in s.processes) (numbers_from (s.last_process + 1) (64 - (s.last_process + 1))) = search rules in
+    let h : Some c.in-Some.p ≡ find (is_free_in s.processes) (numbers_from (s.last_process + 1) (64 - (s.last_process + 1)))
+    = search rules in
     search_ahead (is_free_in s.processes) 64 (s.last_process + 1) c.in-Some.p h
 
 pub returns-in-Some-clause-free : goal.returns-in-Some-clause-free
 returns-in-Some-clause-free c =
     let s = c.args.self.now in
-    let h : Some c.in-Some.p ≡ find (is_free_in s.processes) (numbers_from (s.last_process + 1) (64 - (s.last_process + 1))) = search rules in
+    let h : Some c.in-Some.p ≡ find (is_free_in s.processes) (numbers_from (s.last_process + 1) (64 - (s.last_process + 1)))
+    = search rules in
     found_free s.processes (s.last_process + 1) (64 - (s.last_process + 1)) (Some c.in-Some.p) h
 
 pub returns-in-None-clause-found : goal.returns-in-None-clause-found
@@ -23,7 +25,8 @@ unfolding tables_of
 returns-in-None-clause-found c ls b =
     let s = c.args.self.now in
     let lt : s.last_process + 1 ≤ 64 = search rules in
-    let h : ◌≡◌ {A = Option ℕ} None (find (is_free_in s.processes) (numbers_from (s.last_process + 1) (64 - (s.last_process + 1)))) = search rules in
+    let h : ◌≡◌ {A = Option ℕ} None (find (is_free_in s.processes) (numbers_from (s.last_process + 1) (64 - (s.last_process + 1))))
+    = search rules in
     let e : c.free_within-in-None.result ≡ find (is_free_in s.processes) (numbers_from 0 ((s.last_process + 1) - 0)) = search rules in
     search_round (is_free_in s.processes) 64 (s.last_process + 1) c.free_within-in-None.result lt h e
 
@@ -37,6 +40,7 @@ pub returns-in-None-clause-full : goal.returns-in-None-clause-full
 returns-in-None-clause-full c =
     let s = c.args.self.now in
     let lt : s.last_process + 1 ≤ 64 = search rules in
-    let h : ◌≡◌ {A = Option ℕ} None (find (is_free_in s.processes) (numbers_from (s.last_process + 1) (64 - (s.last_process + 1)))) = search rules in
+    let h : ◌≡◌ {A = Option ℕ} None (find (is_free_in s.processes) (numbers_from (s.last_process + 1) (64 - (s.last_process + 1))))
+    = search rules in
     let e : c.free_within-in-None.result ≡ find (is_free_in s.processes) (numbers_from 0 ((s.last_process + 1) - 0)) = search rules in
     none_free s.processes (s.last_process + 1) c.free_within-in-None.result lt h e

@@ -50,14 +50,17 @@ returns-clause-resched c b =
     let m = tables_of (lists c.if-is_running.lists) c.if-is_running.self b in
     elim c.if-is_running.branch [
       | then-is_running+else-is_above w ↦ (
-          let r : model.is_current (process_in s.processes s.current).state ≡ true = sym c.is_running.ensures.running ∙ w.if-is_running.true in
+          let r : model.is_current (process_in s.processes s.current).state ≡ true
+          = sym c.is_running.ensures.running ∙ w.if-is_running.true in
           let a : int_lt c.in-Some.key (process_in s.processes s.current).priority ≡ false = search rules in
           c.dispatch_first.ensures.dispatches b
           ∙ resched_switches t m (k ∙ rw (r, a) refl)
           (rw (w.self-is, w.lists-is) (w.ready_defer.ensures.readied b ∙ ap (λ p. model.ready p t) w.current-current.ensures.current) ∙ preempt_running t r))
       | else-is_running w ↦ (
-          let r : model.is_current (process_in s.processes s.current).state ≡ false = sym c.is_running.ensures.running ∙ w.if-is_running.false in
-          c.dispatch_first.ensures.dispatches b ∙ resched_switches t m (k ∙ rw r refl) (rw (w.self-is, w.lists-is) refl ∙ preempt_stopped t r))
+          let r : model.is_current (process_in s.processes s.current).state ≡ false
+          = sym c.is_running.ensures.running ∙ w.if-is_running.false in
+          c.dispatch_first.ensures.dispatches b
+          ∙ resched_switches t m (k ∙ rw r refl) (rw (w.self-is, w.lists-is) refl ∙ preempt_stopped t r))
     ]
 
 -- the ready list at the switch has a first process
@@ -82,11 +85,13 @@ returns-clause-answer c b =
     let k = keeps_by_key t (list_at l0 128) c.in-Some.key c.in-Some.ensures.key in
     let keeps : model.keeps_cpu (list_at l0 128) t ≡ false = elim c.if-is_running.branch [
       | then-is_running+else-is_above w ↦ (
-          let r : model.is_current (process_in s.processes s.current).state ≡ true = sym c.is_running.ensures.running ∙ w.if-is_running.true in
+          let r : model.is_current (process_in s.processes s.current).state ≡ true
+          = sym c.is_running.ensures.running ∙ w.if-is_running.true in
           let a : int_lt c.in-Some.key (process_in s.processes s.current).priority ≡ false = search rules in
           k ∙ rw (r, a) refl)
       | else-is_running w ↦ (
-          let r : model.is_current (process_in s.processes s.current).state ≡ false = sym c.is_running.ensures.running ∙ w.if-is_running.false in
+          let r : model.is_current (process_in s.processes s.current).state ≡ false
+          = sym c.is_running.ensures.running ∙ w.if-is_running.false in
           k ∙ rw r refl)
     ] in
     some_is c.dispatch_first.result c.dispatch_first.new.self.current (some_answer c) c.dispatch_first.ensures.switched
