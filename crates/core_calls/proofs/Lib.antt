@@ -1,0 +1,12 @@
+pub mod Alone
+pub mod Served
+pub mod Inside
+pub mod Sent
+pub mod Starts
+pub mod Running
+pub mod Answered
+pub mod Kept
+pub mod Rows
+pub mod Named
+pub mod Images
+pub mod Making

@@ -1,0 +1,68 @@
+-- The rows of the table of calls that are served.
+use Rattle.std.proofs.Common.{◌≡◌, ◌∙◌, ℕ, List, true, cond, sym, ap}
+use Rattle.std.specs.Prelude.{slice_index}
+use Rattle.xinu_base.specs.Syscalls.{is_built}
+use Rattle.xinu_model.specs.Calls.{call_of_number, called, calls}
+use Rattle.xinu_model.specs.Clock.{yield}
+use Rattle.xinu_model.specs.Heap.Calls.{freemem, freestk, getmem, getstk}
+use Rattle.xinu_model.specs.Machine.{CallResult, refused, Xinu}
+use Rattle.xinu_model.specs.Process.Calls.{chprio, create, getpid, getprio, kill, resume, suspend}
+use Rattle.xinu_model.specs.Process.Death.{exit}
+use Rattle.xinu_model.specs.Words.{half}
+
+-- a call of this number, which is built
+by_number : (n number : ℕ) (args : List ℕ) (s : Xinu) → number ≡ n → is_built number ≡ true → called number args s ≡ call_of_number n args s
+by_number n number args s e h = ap (λ b. cond b (call_of_number number args s) (refused s)) h ∙ ap (λ n. call_of_number n args s) e
+
+module _ (number : ℕ) (args : List ℕ) (s : Xinu) (r : CallResult) where
+  pub row_getpid : number ≡ 1 → is_built number ≡ true → r ≡ getpid s → r ≡ called number args s
+  unfolding calls
+  row_getpid e h is = is ∙ sym (by_number 1 number args s e h)
+
+  pub row_create : number ≡ 2 → is_built number ≡ true → r ≡ create (slice_index args 0) (slice_index args 1) (half (slice_index args 2)) (slice_index args 3) (slice_index args 4) (slice_index args 5) s → r ≡ called number args s
+  unfolding calls
+  row_create e h is = is ∙ sym (by_number 2 number args s e h)
+
+  pub row_resume : number ≡ 3 → is_built number ≡ true → r ≡ resume (slice_index args 0) s → r ≡ called number args s
+  unfolding calls
+  row_resume e h is = is ∙ sym (by_number 3 number args s e h)
+
+  pub row_suspend : number ≡ 4 → is_built number ≡ true → r ≡ suspend (slice_index args 0) s → r ≡ called number args s
+  unfolding calls
+  row_suspend e h is = is ∙ sym (by_number 4 number args s e h)
+
+  pub row_kill : number ≡ 5 → is_built number ≡ true → r ≡ kill (slice_index args 0) s → r ≡ called number args s
+  unfolding calls
+  row_kill e h is = is ∙ sym (by_number 5 number args s e h)
+
+  pub row_yield : number ≡ 6 → is_built number ≡ true → r ≡ yield s → r ≡ called number args s
+  unfolding calls
+  row_yield e h is = is ∙ sym (by_number 6 number args s e h)
+
+  pub row_chprio : number ≡ 7 → is_built number ≡ true → r ≡ chprio (slice_index args 0) (half (slice_index args 1)) s → r ≡ called number args s
+  unfolding calls
+  row_chprio e h is = is ∙ sym (by_number 7 number args s e h)
+
+  pub row_getprio : number ≡ 8 → is_built number ≡ true → r ≡ getprio (slice_index args 0) s → r ≡ called number args s
+  unfolding calls
+  row_getprio e h is = is ∙ sym (by_number 8 number args s e h)
+
+  pub row_exit : number ≡ 9 → is_built number ≡ true → r ≡ exit s → r ≡ called number args s
+  unfolding calls
+  row_exit e h is = is ∙ sym (by_number 9 number args s e h)
+
+  pub row_getmem : number ≡ 10 → is_built number ≡ true → r ≡ getmem (slice_index args 0) s → r ≡ called number args s
+  unfolding calls
+  row_getmem e h is = is ∙ sym (by_number 10 number args s e h)
+
+  pub row_freemem : number ≡ 11 → is_built number ≡ true → r ≡ freemem (slice_index args 0) (slice_index args 1) s → r ≡ called number args s
+  unfolding calls
+  row_freemem e h is = is ∙ sym (by_number 11 number args s e h)
+
+  pub row_getstk : number ≡ 12 → is_built number ≡ true → r ≡ getstk (slice_index args 0) s → r ≡ called number args s
+  unfolding calls
+  row_getstk e h is = is ∙ sym (by_number 12 number args s e h)
+
+  pub row_freestk : number ≡ 13 → is_built number ≡ true → r ≡ freestk (slice_index args 0) (slice_index args 1) s → r ≡ called number args s
+  unfolding calls
+  row_freestk e h is = is ∙ sym (by_number 13 number args s e h)

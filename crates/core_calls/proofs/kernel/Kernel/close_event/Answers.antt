@@ -1,0 +1,14 @@
+use Rattle.std.proofs.Common.{◌≡◌, None, [], ap, sym, subst}
+use Rattle.core_calls.specs.Kernels.{kernel_result}
+use Rattle.core_calls.specs.Results.{idle}
+use Rattle.core_calls.proofs.Kept.{closed_kept}
+use Rattle.xinu_laws.specs.Preserve.{KeepsAll}
+use Rattle.xinu_model.specs.Machine.{CallState, end_of_event, Silent}
+use Rattle.core_calls.proofs.kernel.Kernel.close_event.Goals as goal
+
+pub invariant_of-self : goal.invariant_of-self
+invariant_of-self c =
+    let k = c.self.inside in
+    let e : kernel_result (record { state = c.close-switched.new.self; answer = None }) ≡ idle (end_of_event 0 [] (kernel_result k)).state
+    = ap (λ (d : CallState). record { call = d; answer = Silent }) c.close-switched.ensures.closed in
+    record { keeps = subst KeepsAll (sym e) (closed_kept (kernel_result k) c.self.invariant.keeps) }

@@ -1,0 +1,17 @@
+use Rattle.std.proofs.Common.{◌≡◌, rules, sym, subst}
+use Rattle.core_calls.specs.Kernels.{kernel_result}
+use Rattle.xinu_laws.specs.Preserve.{KeepsAll}
+use Rattle.core_calls.specs.Results.{idle}
+use Rattle.core_calls.proofs.Kept.{executed_sound, idle_may_call, kept_idle}
+use Rattle.xinu_model.specs.Events.{with_executed}
+use Rattle.xinu_model.specs.Isa.Exec.{exec}
+use Rattle.xinu_model.specs.Machine.{current_hart}
+use Rattle.core_calls.proofs.kernel.Kernel.instruction.Goals as goal
+
+pub invariant_of-self : goal.invariant_of-self
+invariant_of-self c =
+    let h = c.args.self.now in
+    let s = h.call.state in
+    let old : KeepsAll h = subst KeepsAll c.self.view_is c.self.invariant.keeps in
+    let e : kernel_result (record { state = c.instruction.new.self; answer = c.self.inside.answer }) ≡ idle (with_executed (exec (current_hart s) s.memory) s) = search rules in
+    record { keeps = subst KeepsAll (sym e) (kept_idle _ (executed_sound s (idle_may_call h c.requires.idle old c.requires.not_null))) }

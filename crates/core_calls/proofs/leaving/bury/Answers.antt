@@ -1,0 +1,8 @@
+use Rattle.std.proofs.Common.{◌∙◌, None}
+use Rattle.xinu_model.specs.Tables.{no_process}
+use Rattle.core_calls.specs.Served.{beside}
+use Rattle.core_calls.proofs.leaving.bury.Goals as goal
+
+pub returns-clause-buried : goal.returns-clause-buried
+returns-clause-buried c ticks =
+    rw c.clear.ensures.slots (c.free_part.ensures.freed (beside c.args.slots.now ticks) None ∙ c.leave.ensures.left no_process None (beside c.args.slots.now ticks))

@@ -1,0 +1,34 @@
+use Rattle.std.proofs.Common.{◌≡◌, ◌∙◌, sym, subst}
+use Rattle.xinu_base.specs.declared.processes.State.TheVariants.{Suspended}
+use Rattle.queue_table.specs.Table.{lists}
+use Rattle.process_core.proofs.Fitting.{suspended_nowhere}
+use Rattle.process_core.proofs.Inside.{inside_fits}
+use Rattle.xinu_model.specs.Tables.{state_at}
+use Rattle.xinu_model.specs.Sound.Tables.{IsInside}
+use Rattle.core_calls.specs.KernelTables.{kernel_tables}
+use Rattle.core_calls.specs.Served.{AreServed, beside}
+use Rattle.core_calls.proofs.Alone.{alone_kept, state_in}
+use Rattle.core_calls.proofs.Inside.{inside_resumed}
+use Rattle.core_calls.proofs.Served.{served_ready}
+use Rattle.core_calls.proofs.tables.KernelTables.ready.Goals as goal
+
+pub ready_defer-requires-clause-fits : goal.ready_defer-requires-clause-fits
+ready_defer-requires-clause-fits c = let k = c.self.inside in inside_fits k.lists k.procs (beside k.slots k.ticks) c.self.invariant.inside
+
+pub ready_defer-requires-clause-absent : goal.ready_defer-requires-clause-absent
+ready_defer-requires-clause-absent c =
+    let k = c.self.inside in
+    let h : state_at (kernel_tables k) c.args.p ≡ Suspended = rw c.self.view_is c.requires.suspended in
+    suspended_nowhere (lists k.lists) k.procs.processes c.args.p (inside_fits k.lists k.procs (beside k.slots k.ticks) c.self.invariant.inside)
+    (sym (state_in (lists k.lists) k.procs (beside k.slots k.ticks) c.args.p) ∙ h)
+
+pub invariant_of-self : goal.invariant_of-self
+invariant_of-self c =
+    let k = c.self.inside in
+    let t = kernel_tables k in
+    let e = sym (c.ready_defer.ensures.readied (beside k.slots k.ticks)) in
+    record {
+      inside = subst IsInside e (inside_resumed t c.args.p c.self.invariant.inside (rw c.self.view_is c.requires.suspended));
+      alone = alone_kept (lists k.lists) (lists c.ready_defer.new.lists) c.self.invariant.alone c.ready_defer.ensures.others;
+      served = subst AreServed e (served_ready t c.args.p c.self.invariant.served);
+    }

@@ -1,0 +1,43 @@
+//! The kernel and its calls on processes and memory (book, chapters 4 to 6, 9 and 13).
+//!
+//! A clause sees a `Kernel` as a `CallResult` of the abstract machine: its state inside an event, the replies to released processes so
+//! far, whether a resched is owed, and how the event's call went. Between events it is idle: `idle s` in `specs/Results.antt`. A call, what
+//! is left of one, a death or a tick makes of an idle kernel what the abstract machine's own row or step gives, and `close_event` makes it
+//! the idle kernel of the event's end. Replies are written into registers there, those of released processes first.
+//!
+//! | Call | Condition | Promise |
+//! |---|---|---|
+//! | `Kernel::new` | `few`: at most eight images | `booted`: idle in the state in which the images boot, or boot's own refusal; or `NoMemory` |
+//! | `current`, `is_done`, `call_of`, `released` | | the current process, whether nothing is left of its call, the call in its registers, the replies to released processes |
+//! | `instruction` | `idle`; `not_null`: the null process isn't current | `outcome`, `state`: those of `exec` |
+//! | `begin_core` | `idle`, `not_null` | `called`: what the row of the call's number gives; a number whose call isn't built is refused; `answer`: the answer is the row's |
+//! | `go_on_core` | `idle`, `not_null`; `waits`: something is left of the call | `continued`: what the abstract machine's continuation gives; `answer` |
+//! | `die` | `idle`, `not_null` | `dies`: the caller's death, as `exit` |
+//! | `on_tick` | `idle`; `few`: the ticks don't wrap | `ticks`: the tick with its own reschedules |
+//! | `close_event` | | `closed`: idle in the state at the end of the event; `switched`: who became current, `None` if and only if nobody did |
+//!
+//! That a kernel stands for a state that is sound, inside an event or between two, is kept by the type: the invariant of `Kernel` is what
+//! each call keeps (`KeepsAll` of `xinu_laws`), that of `KernelTables` what holds of the tables at each moment. So no call has a condition on
+//! lists, states or counts, and the crates above name none. `KernelTables` has one small method per move of the abstract machine.
+//!
+//! Calls 1 to 13 have their code here, in `process_calls.rt`, `creation.rt` and `memory_calls.rt`. `is_built` of `xinu_base` says which are
+//! served. Semaphores, sleepers, pools and ports are as at the start (`specs/Served.antt`, `first_parts`), until their crates come. The crate
+//! depends on `process_core`, `messages`, `freelist_memory`, `rv_hart`, `image_loader`, and on the laws of `xinu_laws`.
+#![tactic(auto)]
+
+mod boot;
+mod creation;
+mod current;
+mod kernel;
+mod leaving;
+mod memory_calls;
+mod memory_map;
+mod process_calls;
+mod replies;
+mod sending;
+mod state;
+mod tables;
+
+pub use boot::BootFault;
+pub use kernel::Kernel;
+pub use tables::KernelTables;

@@ -1,0 +1,62 @@
+//! The replies of an event, written into the registers of those who get them.
+//!
+//! It depends on registers alone.
+
+ghost use Rattle.std.specs.Prelude.{◌≡◌, ◌||◌};
+ghost use Rattle.core_calls.specs.Results as results;
+ghost use Rattle.core_calls.specs.Results.{answer_so_far};
+ghost use Rattle.xinu_model.specs.Machine as model;
+
+use arrayvec::ArrayVec;
+use xinu_base::{Hart, Next, Pid};
+
+/// The replies of one event to released processes, in order.
+pub(crate) type Replies = ArrayVec<(Pid, i32), 64>;
+
+/// Writes the replies to released processes, and then the caller's.
+pub(crate) fn write_all(
+    harts: &mut [Hart; 64],
+    replies: &[(Pid, i32)],
+    answer: Option<Next>,
+    caller: Pid,
+)
+    ensures written { harts.new ≡ model.with_replies (model.and_callers (answer_so_far answer) caller replies.now) harts.old }
+{
+    write_replies(harts, replies);
+    if let Some(value) = value_of(answer) {
+        write_reply(harts, caller, value);
+    }
+}
+
+/// Whether there is to be a resched at the end of an event.
+pub(crate) fn is_resched_due(owes_resched: bool, answer: Option<Next>) -> bool
+    ensures due { result ≡ (owes_resched || model.is_off (answer_so_far answer)) }
+{
+    owes_resched || matches!(answer, Some(Next::Waits | Next::Gone))
+}
+
+// Writes these replies, one after another.
+fn write_replies(harts: &mut [Hart; 64], replies: &[(Pid, i32)])
+    ensures written { harts.new ≡ model.with_replies replies.now harts.old }
+{
+    for reply in replies {
+        write_reply(harts, reply.0, reply.1);
+    }
+}
+
+// Writes a reply into register a0.
+fn write_reply(harts: &mut [Hart; 64], p: Pid, value: i32)
+    ensures written { harts.new ≡ model.with_reply harts.old (p, value) }
+{
+    harts[p.index()].regs[10] = value.cast_unsigned();
+}
+
+// The value that the caller is answered, if it is.
+fn value_of(answer: Option<Next>) -> Option<i32>
+    ensures value { result ≡ results.value_of (answer_so_far answer) }
+{
+    match answer {
+        Some(Next::Returns(value)) => Some(value),
+        _ => None,
+    }
+}

@@ -1,0 +1,54 @@
+-- The search for a free number, by the entries and by the tables.
+use Rattle.std.proofs.Common.{◌≡◌, ◌∙◌, ℕ, ◌+◌, Bool, true, not, cond, List, [], ◌∷◌, Option, Some, None, refl, sym, ap, ℤ, pos, negsuc, ◌≤ℤ◌, ◌<ℤ◌, arith}
+use Rattle.std.specs.List.{find}
+use Rattle.std.specs.Option.{is_some}
+use Rattle.std.specs.Prelude.{IfSome}
+use Rattle.std.proofs.lemmas.Int.{ints}
+use Rattle.queue_table.specs.Lists.{Entry}
+use Rattle.xinu_base.specs.declared.semaphores.Owner.{Owner}
+use Rattle.xinu_model.specs.Searches.{going_round, numbers_from, search}
+use Rattle.xinu_model.specs.Semaphores.Counts.{free_semaphore}
+use Rattle.xinu_model.specs.Tables.{Tables, semaphore_at}
+use Rattle.process_core.specs.Tables.{ProcessTable, tables_of}
+use Rattle.process_core.proofs.Searches.{find_passes}
+use Rattle.semaphores.specs.declared.sems.SemaphoreEntry.{SemaphoreEntry}
+use Rattle.semaphores.specs.Counts.{SemaphoreTable, beside, entry_at, number_for}
+use Rattle.semaphores.proofs.Counting.{owner_at}
+
+-- whether the number of a semaphore is free
+abbrev pub is_free_in : List SemaphoreEntry → ℕ → Bool
+is_free_in es sem = not (is_some (entry_at es sem).owner)
+
+-- tests that agree find the same
+find-same : (f g : ℕ → Bool) (l : List ℕ) → ((n : ℕ) → f n ≡ g n) → find f l ≡ find g l
+find-same f g [] h = refl
+find-same f g (n ∷ l) h = ap (λ b. cond b (Some n) (find f l)) (h n) ∙ ap (λ o. cond (g n) (Some n) o) (find-same f g l h)
+
+-- the search among the entries is the machine's
+pub search_is : (ls : List (List Entry)) (p : ProcessTable) (c : SemaphoreTable) (m : List (Option ℕ)) (ticks : ℕ)
+    → search (is_free_in c.entries) 128 (c.last_semaphore + 1) ≡ free_semaphore (tables_of ls p (beside c m ticks))
+unfolding tables_of
+search_is ls p c m ticks =
+    find-same (is_free_in c.entries) (λ sem. not (is_some (semaphore_at (tables_of ls p (beside c m ticks)) sem).owner))
+    (going_round 128 (c.last_semaphore + 1)) (λ sem. ap (λ (o : Option Owner). not (is_some o)) (sym (owner_at ls p c sem m ticks)))
+
+-- whoever isn't there is free
+free_by_test : (o : Option Owner) → not (is_some o) ≡ true → o ≡ None
+free_by_test None h = refl
+free_by_test (Some x) h = absurd (cc)
+
+-- a number that is found is free
+pub found_free : (es : List SemaphoreEntry) (n k : ℕ) (o : Option ℕ) → o ≡ find (is_free_in es) (numbers_from n k)
+    → IfSome o (λ sem. (entry_at es sem).owner ≡ None)
+found_free es n k None e = tt
+found_free es n k (Some p) e = free_by_test (entry_at es p).owner (find_passes (is_free_in es) n k p (sym e))
+
+-- no number is found for a count below 0
+pub number_negative : (z : ℤ) (t : Tables) → z <ℤ pos 0 → None ≡ number_for z t
+number_negative (pos n) t h = absurd (omega (arith, ints, h))
+number_negative (negsuc n) t h = refl
+
+-- any other count gets the first free number
+pub number_positive : (z : ℤ) (t : Tables) → pos 0 ≤ℤ z → free_semaphore t ≡ number_for z t
+number_positive (pos n) t h = refl
+number_positive (negsuc n) t h = absurd (omega (arith, ints, h))

@@ -1,0 +1,5 @@
+pub mod Counting
+pub mod Starting
+pub mod Finding
+pub mod Releasing
+pub mod Forgetting
