@@ -1,11 +1,11 @@
 -- Operands that are too few or too many.
 use Rattle.std.specs.Prelude.{◌==◌}
-use Rattle.std.proofs.Common.{◌≡◌, ℕ, suc, zero, ◌+◌, ◌%◌, ◌<◌, ◌≤◌, Bool, true, false, cond, List, [], ◌∷◌, length, take, map, Option, Some, None, refl, sym, ap, ◌∙◌, ◌⊎◌, inl, inr, arith}
+use Rattle.std.proofs.Common.{◌≡◌, ℕ, suc, zero, ◌%◌, ◌<◌, ◌≤◌, Bool, true, false, cond, List, [], ◌∷◌, length, take, map, Option, Some, None, refl, sym, ap, ◌∙◌, ◌⊎◌, inl, inr, arith}
 use Rattle.asm_syntax.specs.Operands.{Operand}
 use Rattle.asm_syntax.specs.CodeOperands.{seen_operand, first_four}
 use Rattle.xinu_model.specs.Isa.Instructions.{FormU, FormJ, FormI, FormB, FormS, FormShift, FormR, FormFence, FormWhole}
 use Rattle.asm_syntax.specs.Meanings.{Meaning, Instruction, Li, La, Mv, Nop, Jump, Ret, Sys, DotWord, DotByte, DotZero, DotAscii, DotAlign, DotPlace, DotEntry, DotPriority, DotStack, Slot, RegisterSlot, NumberSlot, OffsetSlot, slots_of}
-use Rattle.asm_syntax.specs.Statements.{Statement, Malformed, made_of, stated}
+use Rattle.asm_syntax.specs.Statements.{Malformed, made_of, stated}
 use Rattle.asm_syntax.specs.Values.{Fit, Wrong, Unknown, Fits, fit, Fitting, AnyWrong, both, fitting}
 use Rattle.asm_syntax.specs.declared.operands.Operand.{Operand as CodeOperand}
 

@@ -1,8 +1,8 @@
 -- Lines that begin with a label, and those that don't.
-use Rattle.std.proofs.Common.{◌≡◌, ℕ, Bool, true, false, List, [], ◌∷◌, refl, ap, ◌∙◌}
+use Rattle.std.proofs.Common.{◌≡◌, ℕ, true, false, List, [], ◌∷◌, refl, ap, ◌∙◌}
 use Rattle.asm_syntax.specs.Numbers.{is_name}
 use Rattle.asm_syntax.specs.CodeLines.{skip, is_named, starts_with_colon}
-use Rattle.asm_syntax.specs.Statements.{Line, Statement, Malformed, Empty, line_in, unlabelled, with_label, statement_of, can_name}
+use Rattle.asm_syntax.specs.Statements.{Malformed, line_in, unlabelled, with_label, statement_of, can_name}
 use Rattle.asm_syntax.specs.Tokens.{Token, Blank, Colon, Comma, Word, Quoted, Unclosed}
 
 -- a line of blanks

@@ -1,7 +1,7 @@
 -- The meaning of a word, by the table and else by the own words.
-use Rattle.std.proofs.Common.{◌≡◌, ℕ, List, Option, Some, None, refl, ap}
+use Rattle.std.proofs.Common.{◌≡◌, ℕ, List, Option, Some, None, ap}
 use Rattle.rv_isa.specs.Table.{Seen, row_named}
-use Rattle.asm_syntax.specs.Meanings.{Meaning, Instruction, meaning_of, instruction_or_own, named_in, own_words}
+use Rattle.asm_syntax.specs.Meanings.{Instruction, meaning_of, instruction_or_own, named_in, own_words}
 
 pub meaning_of-row : (word : List ℕ) (row : Seen) → row_named word ≡ Some row → meaning_of word ≡ Some (Instruction row.bits row.form)
 unfolding meaning_of

@@ -1,13 +1,12 @@
 -- The tokens of a line, from its first one.
-use Rattle.std.proofs.Common.{◌≡◌, ℕ, zero, suc, ◌+◌, ◌<◌, ◌≤◌, nat_lt, eqb, Bool, true, false, not, cond, ◌||◌, List, [], ◌∷◌, ◌++◌, length, take, drop, get_or, Option, Some, None, refl, sym, ap, ◌∙◌, arith, append-nil, inl, inr, ◌⊎◌}
+use Rattle.std.proofs.Common.{◌≡◌, ℕ, zero, suc, ◌+◌, ◌<◌, ◌≤◌, Bool, true, false, not, cond, ◌||◌, List, [], ◌∷◌, ◌++◌, length, take, drop, get_or, Some, None, refl, sym, ap, ◌∙◌, arith, append-nil, inl, inr, ◌⊎◌}
 use Rattle.std.specs.Prelude.{◌==◌, if◌then◌else◌}
 use Rattle.std.specs.List.{position, position_or_len}
 use Rattle.std.proofs.Math.Seq.{drop-cons}
 use Rattle.std.proofs.lemmas.List.{take_more, drop_all, take_all}
-use Rattle.std.proofs.lemmas.Bool.Decides.{nat_tests, eqb_tells}
-use Rattle.text_lines.proofs.SearchLemmas.{found_at, found_within, found_none}
+use Rattle.text_lines.proofs.SearchLemmas.{found_at, found_none}
 use Rattle.text_lines.specs.Lines.{is_blank}
-use Rattle.asm_syntax.specs.Tokens.{Token, Blank, Colon, Comma, Word, Quoted, Unclosed, Quoting, Outside, Inside, Escaped, ends_word, joined, quoted, tokens_from, tokens_of}
+use Rattle.asm_syntax.specs.Tokens.{Token, Blank, Colon, Comma, Word, Quoted, Unclosed, Quoting, Inside, Escaped, ends_word, joined, quoted, tokens_from, tokens_of}
 
 -- tokens that no word's byte joins
 abbrev pub apart : List Token → Bool

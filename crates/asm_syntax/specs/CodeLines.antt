@@ -1,7 +1,7 @@
 -- The beginning of a line in the code.
 use Rattle.std.specs.Prelude.{Bool, true, false, List, [], ◌∷◌}
 use Rattle.asm_syntax.specs.Numbers.{is_name}
-use Rattle.asm_syntax.specs.Tokens.{Token, Blank, Colon, Comma, Word, Quoted, Unclosed}
+use Rattle.asm_syntax.specs.Tokens.{Token, Blank, Colon, Word}
 
 -- tokens without the blanks before them
 abbrev pub skip : List Token → List Token

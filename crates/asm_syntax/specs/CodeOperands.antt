@@ -1,5 +1,5 @@
 -- The operands of the code.
-use Rattle.std.specs.Prelude.{◌≡◌, ℕ, List, [], ◌∷◌, take, map, Option, Some, None}
+use Rattle.std.specs.Prelude.{List, take, Option, Some, None}
 use Rattle.asm_syntax.specs.Operands as spec
 use Rattle.asm_syntax.specs.declared.operands.Operand.{Operand}
 use Rattle.asm_syntax.specs.declared.operands.Operand.TheVariants.{NamedOffset, Name, Number, Offset, Text}

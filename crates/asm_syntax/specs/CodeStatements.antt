@@ -1,5 +1,5 @@
 -- The statements of the code.
-use Rattle.std.specs.Prelude.{◌≡◌, ℕ, ◌≤◌, ◌<◌, true, is_some, List, [], ◌∷◌}
+use Rattle.std.specs.Prelude.{◌≡◌, ◌≤◌, ◌<◌, true, is_some, [], ◌∷◌}
 use Rattle.rv_isa.specs.Encoding.{fixed}
 use Rattle.xinu_model.specs.Isa.Instructions.{FormB}
 use Rattle.asm_syntax.specs.CodeValues.{bytes_of}

@@ -1,5 +1,5 @@
 -- The values of operands in the code.
-use Rattle.std.specs.Prelude.{◌≡◌, ℕ, ◌<◌, ◌≤◌, ℤ, true, is_some, unwrap_or, List, [], Option}
+use Rattle.std.specs.Prelude.{◌≡◌, ℕ, ◌<◌, ◌≤◌, ℤ, true, is_some, unwrap_or, List, []}
 use Rattle.std.specs.Borrow.{Bor}
 use Rattle.asm_syntax.specs.Values as spec
 use Rattle.asm_syntax.specs.declared.values.Fit.{Fit}

@@ -1,5 +1,5 @@
 -- The operands of a statement: names, numbers, a number before a register in parentheses, quoted texts.
-use Rattle.std.specs.Prelude.{ℕ, ◌+◌, ◌-◌, ◌==◌, nat_lt, Bool, if◌then◌else◌, ◌&&◌, ℤ, List, [], ◌∷◌, length, take, drop, slice_index, Option, Some, None}
+use Rattle.std.specs.Prelude.{ℕ, ◌+◌, ◌-◌, ◌==◌, nat_lt, if◌then◌else◌, ◌&&◌, ℤ, List, [], ◌∷◌, length, take, drop, slice_index, Option, Some, None}
 use Rattle.std.specs.List.{position}
 use Rattle.asm_syntax.specs.Numbers.{is_name, number_in}
 use Rattle.asm_syntax.specs.Tokens.{Token, Blank, Colon, Comma, Word, Quoted, Unclosed}

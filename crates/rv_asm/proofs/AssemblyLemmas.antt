@@ -1,5 +1,5 @@
 -- What both passes together give.
-use Rattle.std.proofs.Common.{◌≡◌, ℕ, Bool, true, List, length, Option, Some, None, refl, sym, ap, ◌∙◌}
+use Rattle.std.proofs.Common.{◌≡◌, ℕ, true, List, length, Option, None, sym, ap, ◌∙◌}
 use Rattle.std.specs.Prelude.{unwrap_or, is_some, Result, Ok, Err, MatchResult, IfOk}
 use Rattle.image_loader.specs.ImageFiles.{image_in}
 use Rattle.rv_asm.specs.Assembly.{Assembly, Makes, assembly, assembled_lines, lines_in, content, ended, is_void, header, image_file, IsFault, IsFaultOf}

@@ -1,11 +1,10 @@
 -- The image file with a sound header loads.
-use Rattle.std.proofs.Common.{◌≡◌, ℕ, ◌+◌, ◌*◌, ◌%◌, ◌/◌, ◌≤◌, ◌<◌, ◌^◌, nat_lt, eqb, Bool, true, false, List, [], ◌∷◌, ◌++◌, length, Option, Some, None, refl, sym, ap, ◌∙◌, arith}
-use Rattle.std.specs.Prelude.{pos, nat_le, ◌==◌}
+use Rattle.std.proofs.Common.{◌≡◌, ℕ, ◌+◌, ◌*◌, ◌%◌, ◌/◌, ◌≤◌, ◌<◌, eqb, true, List, [], ◌∷◌, length, Some, refl, arith}
+use Rattle.std.specs.Prelude.{pos}
 use Rattle.std.proofs.lemmas.Bool.{le-leb}
 use Rattle.std.proofs.lemmas.Bool.Decides.{nat_tests}
 use Rattle.xinu_model.specs.Boot.{Loaded}
-use Rattle.image_loader.specs.ImageFiles.{image_in, first_fault}
-use Rattle.asm_syntax.specs.Statements.{word_bytes}
+use Rattle.image_loader.specs.ImageFiles.{image_in}
 use Rattle.rv_asm.specs.Assembly.{image_file, Header}
 
 -- what is true of the header of an image file with this content

@@ -1,9 +1,9 @@
 -- Layouts with more labels.
-use Rattle.std.proofs.Common.{◌≡◌, ℕ, Bool, true, false, ◌||◌, List, [], ◌∷◌, ◌++◌, length, nat_lt, Option, Some, None, refl, sym, ap, ◌∙◌, arith}
+use Rattle.std.proofs.Common.{◌≡◌, ℕ, Bool, true, false, ◌||◌, List, [], ◌∷◌, length, nat_lt, refl, sym, ap, ◌∙◌, arith}
 use Rattle.std.specs.Prelude.{is_some}
 use Rattle.std.proofs.lemmas.Bool.{lt-ltb}
 use Rattle.asm_syntax.specs.Statements.{Line, with_label}
-use Rattle.rv_asm.specs.Layouts.{Labels, Layout, start, labelled, labelled_all, after_labels}
+use Rattle.rv_asm.specs.Layouts.{Layout, labelled, labelled_all, after_labels}
 use Rattle.rv_asm.specs.Faults.{is_double}
 
 or_or : (a x y : Bool) → x ≡ true → (a || x) ≡ (a || true || y)

@@ -1,15 +1,15 @@
 -- What is assembled loads.
-use Rattle.std.proofs.Common.{◌≡◌, ℕ, ◌+◌, ◌%◌, ◌≤◌, ◌<◌, nat_lt, eqb, Bool, true, false, not, cond, ◌&&◌, ◌||◌, List, [], ◌∷◌, ◌++◌, length, map, Option, Some, None, refl, sym, ap, ◌∙◌, arith, length-append}
+use Rattle.std.proofs.Common.{◌≡◌, ℕ, ◌+◌, ◌%◌, ◌≤◌, nat_lt, Bool, true, false, cond, ◌&&◌, List, [], ◌∷◌, ◌++◌, length, Option, Some, None, refl, sym, arith, length-append}
 use Rattle.std.specs.Prelude.{◌==◌, nat_le, unwrap_or, is_none, is_some}
 use Rattle.std.proofs.lemmas.Bool.Decides.{nat_tests}
 use Rattle.std.proofs.lemmas.Bool.{eqb-true, leb-true, and_parts}
 use Rattle.image_loader.specs.ImageFiles.{image_in}
-use Rattle.asm_syntax.specs.Statements.{Statement, Empty, Malformed, Unresolved, Excessive, Code, Branch, JumpTo, AddressOf, Bytes, WordAt, Zeros, Align, Place, Entry, Priority, Stack, Line, line_of}
-use Rattle.rv_asm.specs.Layouts.{size_at, Labels, Layout, start, after_statement, after_labels, after, after_all}
+use Rattle.asm_syntax.specs.Statements.{Statement, Empty, Malformed, Unresolved, Excessive, Code, Branch, JumpTo, AddressOf, Bytes, WordAt, Zeros, Align, Place, Entry, Priority, Stack, Line}
+use Rattle.rv_asm.specs.Layouts.{Labels, Layout, start, after_statement, after_labels, after, after_all}
 use Rattle.rv_asm.specs.Faults.{fault_of, first_fault, fault_or, is_bad, is_double, is_unknown, is_excessive, is_astray, astray_at, first_astray, address}
-use Rattle.rv_asm.specs.Assembly.{bytes_at, content, entry_at, header, image_file, is_void, ended, Assembly, Makes, Fails, assembly, lines_in}
+use Rattle.rv_asm.specs.Assembly.{bytes_at, content, entry_at, header, image_file, is_void, ended, Makes, assembly, lines_in}
 use Rattle.rv_asm.specs.declared.faults.AsmFault.{AsmFault}
-use Rattle.rv_asm.proofs.ImageFiles.{IsSound, loaded, image_file-loads}
+use Rattle.rv_asm.proofs.ImageFiles.{IsSound, image_file-loads}
 use Rattle.rv_asm.proofs.LayoutLemmas.{Keeps, keeps-statement, length-bytes_at, neither, both_true}
 
 -- a choice that is None

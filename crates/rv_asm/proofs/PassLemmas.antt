@@ -1,8 +1,8 @@
 -- One more line of the second pass.
-use Rattle.std.proofs.Common.{◌≡◌, ℕ, ◌+◌, Bool, List, [], ◌∷◌, ◌++◌, map, Option, Some, None, refl, sym, ap, ◌∙◌, append_assoc, append-nil}
+use Rattle.std.proofs.Common.{◌≡◌, ℕ, ◌+◌, Bool, List, ◌∷◌, ◌++◌, map, Option, Some, None, refl, sym, ap, ◌∙◌, append_assoc}
 use Rattle.asm_syntax.specs.Statements.{Line, line_of}
 use Rattle.text_lines.specs.Lines.{lines_of}
-use Rattle.rv_asm.specs.Assembly.{lines_in, content, bytes_at, Assembly, ended, Fails, IsFault, Makes}
+use Rattle.rv_asm.specs.Assembly.{lines_in, content, bytes_at, Assembly, ended, IsFault}
 use Rattle.rv_asm.specs.CodeAssembly.{IsFirst}
 use Rattle.rv_asm.specs.Faults.{first_fault, fault_of, fault_or, first_astray, astray_at}
 use Rattle.rv_asm.specs.Layouts.{Labels, Layout, after}

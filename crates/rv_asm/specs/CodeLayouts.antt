@@ -1,5 +1,5 @@
 -- The layout of the code.
-use Rattle.std.specs.Prelude.{ℕ, List, Option, Some, None, Bool, true, false}
+use Rattle.std.specs.Prelude.{ℕ, List, Option, Some, None}
 use Rattle.std.specs.Borrow.{Bor}
 use Rattle.rv_asm.specs.Layouts as spec
 use Rattle.rv_asm.specs.CodeLabels.{found}

@@ -1,7 +1,7 @@
 -- Worked examples: texts with what they are assembled to.
 use Rattle.std.specs.Prelude.{◌≡◌, ℕ, List, [], ◌∷◌, ◌++◌, codes}
 use Rattle.asm_syntax.specs.Statements.{word_bytes}
-use Rattle.rv_asm.specs.Assembly.{Assembly, Makes, Fails, Header, image_file, assembly}
+use Rattle.rv_asm.specs.Assembly.{Assembly, Makes, Fails, image_file, assembly}
 use Rattle.rv_asm.specs.declared.faults.AsmFault.TheVariants.{BadLine, UnknownName, OutOfRange, DoubleLabel}
 
 -- a text with these lines

@@ -29,7 +29,7 @@ abbrev pub is_unknown : Labels → Statement → Bool
 is_unknown labels Unresolved = true
 is_unknown labels statement = is_missing labels (used_label statement)
 
--- a number that doesn't fit, an instruction at an address that isn't a multiple of 4, or bytes that leave RAM
+-- a number that doesn't fit, a misaligned instruction, or bytes that leave RAM
 abbrev pub is_excessive : Statement → ℕ → Bool
 is_excessive Excessive at = true
 is_excessive (Place n) at = not ((n % 4 == 0) && nat_le n 1048576)

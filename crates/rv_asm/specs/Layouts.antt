@@ -1,7 +1,7 @@
 -- How the statements of a text lie one after another: their sizes, the addresses of the labels, and the fields of the header.
 use Rattle.std.specs.Prelude.{ℕ, min, ◌+◌, ◌-◌, ◌%◌, ◌*◌, nat_lt, Bool, true, false, if◌then◌else◌, ◌||◌, List, [], ◌∷◌, length, Option, Some, None}
 use Rattle.std.specs.Str.{bytes_eq}
-use Rattle.asm_syntax.specs.Statements.{Statement, Empty, Malformed, Unresolved, Excessive, Code, Branch, JumpTo, AddressOf, Bytes, WordAt, Zeros, Align, Place, Entry, Priority, Stack, Line}
+use Rattle.asm_syntax.specs.Statements.{Statement, Code, Branch, JumpTo, AddressOf, Bytes, WordAt, Zeros, Align, Place, Entry, Priority, Stack, Line}
 
 -- how many bytes a statement puts at an address; it doesn't depend on the labels
 abbrev pub size_at : ℕ → Statement → ℕ

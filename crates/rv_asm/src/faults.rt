@@ -6,7 +6,7 @@ pub enum AsmFault {
     /// The line has no form of the language, or a directive is repeated or late. Line 0: no line has a fault, but there is too little
     /// content for an image.
     BadLine(u32),
-    /// An instruction, directive, register, call or label isn't known, or a name is written in place of a number.
+    /// There is no such instruction, directive, register, call or label, or a name is where a number has to be.
     UnknownName(u32),
     /// A number, an offset or an address doesn't fit its field, RAM or an image file.
     OutOfRange(u32),

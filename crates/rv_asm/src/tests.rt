@@ -111,6 +111,13 @@ fn labels_and_directives(rt: HostRuntime) -> Result<(), Fail> {
         ]
         .as_slice()
     );
+    // The first program of docs/ASSEMBLER.md.
+    let first = words(
+        &rt,
+        rt.alloc(),
+        b"# Asks\n.priority 25\nstart:  sys getpid          # a0\n mv   s0, a0\n li   a0, 1\n sys  sleepms\n beq  s0, zero, start\n sys  exit\n".as_slice(),
+    )?;
+    assert_eq!(rt; first.len(), 7 + 10);
     let rounded = words(
         &rt,
         rt.alloc(),

@@ -1,7 +1,6 @@
 -- Each call is looked at.
-use Rattle.std.proofs.Common.{◌≡◌, ℕ, List, None, ◌≤◌, ◌∙◌, sym, ap, arith}
+use Rattle.std.proofs.Common.{◌≡◌, ℕ, List, ◌∙◌, sym, ap, arith}
 use Rattle.std.specs.Str.{bytes_eq}
-use Rattle.asm_syntax.specs.Values.{call_of}
 use Rattle.asm_syntax.proofs.CallLemmas.{call_from, call_of-start, call_from-next, call_from-here, call_from-end}
 use Rattle.asm_syntax.proofs.calls.call_of.Goals as goal
 

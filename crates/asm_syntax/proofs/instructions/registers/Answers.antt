@@ -1,5 +1,5 @@
 -- Fewer operands than three, or more.
-use Rattle.std.proofs.Common.{◌≡◌, ◌<◌, ◌≤◌, arith}
+use Rattle.std.proofs.Common.{arith}
 use Rattle.std.proofs.lemmas.Bool.Decides.{nat_tests}
 use Rattle.xinu_model.specs.Isa.Instructions.{FormR}
 use Rattle.asm_syntax.specs.Meanings.{Instruction, RegisterSlot}

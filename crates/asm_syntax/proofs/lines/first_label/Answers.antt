@@ -1,5 +1,5 @@
 -- A label is a name and a colon.
-use Rattle.std.proofs.Common.{◌≡◌, List, ◌∷◌, ◌∙◌, ap}
+use Rattle.std.proofs.Common.{List, ◌∷◌, ◌∙◌, ap}
 use Rattle.asm_syntax.specs.CodeTokens.{seen}
 use Rattle.asm_syntax.specs.Tokens.{Token, Word, tokens_of}
 use Rattle.asm_syntax.proofs.LineLemmas.{line_in-empty, line_in-unnamed, line_in-no_colon, line_in-label}

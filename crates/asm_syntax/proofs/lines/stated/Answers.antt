@@ -1,5 +1,5 @@
 -- Each word takes at most three operands, so four tell.
-use Rattle.std.proofs.Common.{◌≡◌, map, ◌∙◌}
+use Rattle.std.proofs.Common.{map, ◌∙◌}
 use Rattle.asm_syntax.specs.CodeMeanings.{seen_meaning}
 use Rattle.asm_syntax.specs.CodeOperands.{seen_operand}
 use Rattle.asm_syntax.specs.Meanings.{meaning_of}

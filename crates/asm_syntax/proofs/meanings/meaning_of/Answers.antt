@@ -1,5 +1,4 @@
 -- The table comes first.
-use Rattle.std.proofs.Common.{◌≡◌, List, ℕ}
 use Rattle.rv_isa.specs.Table.{seen}
 use Rattle.asm_syntax.proofs.MeaningLemmas.{meaning_of-row, meaning_of-own}
 use Rattle.asm_syntax.proofs.meanings.meaning_of.Goals as goal

@@ -1,5 +1,5 @@
 -- Each digit is one more.
-use Rattle.std.proofs.Common.{◌<◌, length, arith}
+use Rattle.std.proofs.Common.{arith}
 use Rattle.asm_syntax.proofs.NumberLemmas.{decimal_more}
 use Rattle.asm_syntax.proofs.numbers.decimal_value.Goals as goal
 

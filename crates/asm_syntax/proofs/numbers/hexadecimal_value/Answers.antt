@@ -1,5 +1,5 @@
 -- Each digit is one more.
-use Rattle.std.proofs.Common.{◌<◌, length, arith}
+use Rattle.std.proofs.Common.{arith}
 use Rattle.asm_syntax.proofs.NumberLemmas.{hexadecimal_more}
 use Rattle.asm_syntax.proofs.numbers.hexadecimal_value.Goals as goal
 

@@ -1,5 +1,4 @@
 -- A token that is no operand.
-use Rattle.std.proofs.Common.{◌≡◌, ◌∙◌, refl}
 use Rattle.asm_syntax.specs.CodeTokens.{seen}
 use Rattle.asm_syntax.specs.Tokens.{tokens_of, solid}
 use Rattle.asm_syntax.proofs.OperandLemmas.{separated-none}

@@ -3,7 +3,7 @@ use Rattle.std.proofs.Common.{◌≡◌, ◌∙◌, List, Option, Some, map, ap}
 use Rattle.asm_syntax.specs.Operands.{Operand, before, separated}
 use Rattle.asm_syntax.specs.Tokens.{tokens_of, solid}
 use Rattle.asm_syntax.specs.CodeOperands.{seen_operand, first_four}
-use Rattle.asm_syntax.proofs.OperandLemmas.{appended, first_four-more, first_four-last, first_four-none}
+use Rattle.asm_syntax.proofs.OperandLemmas.{appended, first_four-more}
 use Rattle.asm_syntax.proofs.operands.separated.Goals as goal
 
 pub loop-operand-preserved : goal.loop-operand-preserved

@@ -1,5 +1,5 @@
 -- Each byte joins the text until the closing quote.
-use Rattle.std.proofs.Common.{◌≡◌, ◌+◌, ◌≤◌, length, refl, sym, arith, inl, inr, true, false, rules}
+use Rattle.std.proofs.Common.{◌+◌, refl, arith, inl, inr, true, false}
 use Rattle.std.proofs.lemmas.List.{take_rest}
 use Rattle.std.proofs.lemmas.Bool.Decides.{nat_tests}
 use Rattle.asm_syntax.specs.Tokens.{tokens_from, Inside}

@@ -1,5 +1,5 @@
 -- The two passes give what the definition says.
-use Rattle.std.proofs.Common.{◌≡◌, ℕ, List, None, length}
+use Rattle.std.proofs.Common.{ℕ, List, None, length}
 use Rattle.std.specs.declared.vec.Vec.{Vec}
 use Rattle.std.specs.declared.alloc.Global.{Global}
 use Rattle.rv_asm.specs.Assembly.{assembly, ended, is_void, image_file, header}

@@ -1,5 +1,5 @@
 -- Each step appends one byte.
-use Rattle.std.proofs.Common.{◌≡◌, ◌++◌}
+use Rattle.std.proofs.Common.{◌++◌}
 use Rattle.asm_syntax.specs.CodeValues.{bytes_of}
 use Rattle.asm_syntax.specs.Values.{text_bytes}
 use Rattle.rv_asm.proofs.TextLemmas.{rest_is_text, text-cons, one-appended}

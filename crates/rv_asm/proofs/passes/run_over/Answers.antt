@@ -1,7 +1,7 @@
 -- One more line.
-use Rattle.std.proofs.Common.{◌≡◌, ◌+◌, ◌∷◌, ◌∙◌, arith, List}
+use Rattle.std.proofs.Common.{◌≡◌, ◌+◌, ◌∷◌, ◌∙◌, arith}
 use Rattle.std.specs.Prelude.{unwrap_or}
-use Rattle.asm_syntax.specs.Statements.{Line, line_of}
+use Rattle.asm_syntax.specs.Statements.{line_of}
 use Rattle.rv_asm.specs.Assembly.{lines_in, content}
 use Rattle.rv_asm.specs.CodeLabels.{found}
 use Rattle.rv_asm.specs.CodeLayouts.{seen_layout}

@@ -1,5 +1,5 @@
 -- Each step takes one byte off.
-use Rattle.std.proofs.Common.{◌≡◌, ◌+◌, arith, ◌∙◌}
+use Rattle.std.proofs.Common.{arith}
 use Rattle.asm_syntax.specs.Values.{text_bytes}
 use Rattle.rv_asm.proofs.TextLemmas.{rest_is_text, length-text}
 use Rattle.rv_asm.proofs.sizes.text_size.Goals as goal

@@ -1,5 +1,5 @@
 -- One label, and then the others.
-use Rattle.std.proofs.Common.{◌≡◌, ◌∙◌, ap}
+use Rattle.std.proofs.Common.{◌∙◌, ap}
 use Rattle.asm_syntax.specs.Statements.{Line, line_of}
 use Rattle.rv_asm.specs.CodeLayouts.{seen_layout}
 use Rattle.rv_asm.proofs.LabelledLayouts.{labels_layout, labels_double, or_known, or_unknown}
