@@ -1,8 +1,10 @@
-//! Whole commands over hosts in memory: what the top call answers and sends, compared whole.
+//! Whole commands over hosts in memory and over real files: what the top call answers and sends, compared whole.
 
 mod bad_input;
 mod disks;
+mod file_runtime;
 mod host_faults;
 mod out_of_memory;
 mod programs;
+mod real_files;
 mod transcripts;

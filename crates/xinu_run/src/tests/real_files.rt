@@ -1,0 +1,62 @@
+//! Whole commands over real files and a standard error that is a file: its status, and what it told there.
+
+use super::file_runtime::{FileRuntime, STANDARD_ERROR};
+use super::programs::{GETPID_AND_EXIT, refusal_of, with_stack};
+use host_port::RealHost;
+use std::fs;
+use std::test::Fail;
+
+#[test]
+fn a_refusal_is_told_on_standard_error(rt: HostRuntime) -> Result<(), Fail> {
+    let files: [(&str, &[u8]); 5] = [
+        ("real_four.txt", b"step 4\n"),
+        ("real_none.txt", b"dump\nstep 0\n"),
+        ("real_good.xim", &GETPID_AND_EXIT),
+        ("real_short.xim", &GETPID_AND_EXIT[..27]),
+        ("real_whole.xim", &with_stack(1_048_576)),
+    ];
+    for (name, bytes) in files {
+        fs::write(&rt, name, bytes)?;
+    }
+    for (schedule, image, status, text) in [
+        ("no_file.txt", "real_good.xim", 3, "xinu: host fault\n"),
+        ("real_four.txt", "no_file.xim", 3, "xinu: host fault\n"),
+        (
+            "real_four.txt",
+            "real_short.xim",
+            4,
+            "xinu: image 1 fault 1\n",
+        ),
+        (
+            "real_none.txt",
+            "real_good.xim",
+            5,
+            "xinu: schedule line 2\n",
+        ),
+        (
+            "real_four.txt",
+            "real_whole.xim",
+            8,
+            "xinu: no room for image 1\n",
+        ),
+        ("", "", 2, "xinu: usage\n"),
+    ] {
+        let mut host = RealHost::new(FileRuntime { rt: rt.clone()? });
+        let args = ["run", "--schedule", schedule, image];
+        assert_eq!(rt;
+            refusal_of(rt.alloc(), &args, &mut host)?,
+            status,
+            "{image}"
+        );
+        assert_eq!(rt;
+            fs::read_to_string(&rt, STANDARD_ERROR)?.as_str(),
+            text,
+            "{image}"
+        );
+        fs::remove_file(&rt, STANDARD_ERROR)?;
+    }
+    for (name, _) in files {
+        fs::remove_file(&rt, name)?;
+    }
+    Ok(())
+}
