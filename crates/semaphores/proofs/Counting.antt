@@ -1,15 +1,10 @@
 -- What is read off the entries and the lists, and what a change of one semaphore does to it.
 use Rattle.std.proofs.Common.{◌≡◌, ◌≢◌, ◌∙◌, int_lt, nat_lt, IsSome, ℕ, zero, suc, ◌<◌, ◌≤◌, ◌+◌, ◌-◌, List, [], ◌∷◌, map, length, set, get_or, take, Option, Some, None, refl, sym, ap, subst, inl, inr, arith, get_or-set_same, get_or-set_other, ℤ, pos, negsuc, ◌+ℤ◌, ◌-ℤ◌, ◌<ℤ◌, ◌≤ℤ◌, neg_ℤ}
 use Rattle.std.proofs.Math.ListN.{length-set}
-use Rattle.std.proofs.lemmas.Bool.{cases_eq, cases_lt}
+use Rattle.std.proofs.lemmas.Bool.{cases_eq}
 use Rattle.std.proofs.lemmas.Int.{ints}
-use Rattle.std.proofs.lemmas.List.{map-set, set-get_or, length-map, get_or_past}
-use Rattle.queue_table.specs.declared.table.QueueTable.{QueueTable}
-use Rattle.queue_table.specs.Entries.{head_of}
+use Rattle.std.proofs.lemmas.List.{map-set, set-get_or, length-map}
 use Rattle.queue_table.specs.Lists.{Entry, list_at}
-use Rattle.queue_table.specs.Table.{lists}
-use Rattle.queue_table.proofs.Paths.{Path-short}
-use Rattle.queue_table.proofs.Tables.{chained_of}
 use Rattle.xinu_base.specs.declared.semaphores.Owner.{Owner}
 use Rattle.xinu_model.specs.Semaphores.Counts.{count_of, make_semaphore, with_semaphore, with_tokens}
 use Rattle.xinu_model.specs.Tables.{Tables, Semaphore, no_semaphore, semaphore_at}
@@ -17,14 +12,6 @@ use Rattle.process_core.specs.Tables.{ProcessTable, Mark, numbers, semaphore_of,
 use Rattle.process_core.proofs.Semaphores.{no_mark, get_or-take, semaphores-get, semaphores-mark}
 use Rattle.semaphores.specs.declared.sems.SemaphoreEntry.{SemaphoreEntry}
 use Rattle.semaphores.specs.Counts.{SemaphoreTable, Counts, no_entry, entry_at, tokens_of, waiting_of, mark_in, beside, with_count, with_entry}
-
--- a list of a table has at most P entries
-pub short : {P Q : ℕ} → (t : QueueTable P Q) (q : ℕ) → length (list_at (lists t) q) ≤ P
-short {P} {Q} t q = elim (cases_lt q Q) [
-  | inl lt ↦ Path-short P t.entries.items (head_of P q) (list_at (lists t) q) (omega arith) ((chained_of t).chains q lt).path
-  | inr le ↦ (let F : List Entry → Type 0 = λ l. length l ≤ P in
-      subst F (sym (get_or_past (lists t) q [] (omega (arith, (chained_of t).queues)))) (omega arith))
-]
 
 -- the mark of a semaphore
 pub mark_at : (es : List SemaphoreEntry) (sem : ℕ) → get_or (map mark_in es) sem no_mark ≡ mark_in (entry_at es sem)

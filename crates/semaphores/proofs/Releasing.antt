@@ -9,12 +9,12 @@ use Rattle.queue_table.specs.Lists.{Entry, first_process, list_at, place, rest_o
 use Rattle.queue_table.proofs.Laws.{below_P, disjoint, first_is, first_placed, place-some}
 use Rattle.xinu_laws.specs.Moves.{ready_all}
 use Rattle.xinu_model.specs.Tables.{Nowhere, message_at, move_to, process_at}
+use Rattle.process_core.proofs.Lengths.{short}
 use Rattle.process_core.specs.Fits.{Fits}
 use Rattle.process_core.specs.Tables.{Beside, ProcessTable, numbers, process_in, tables_of}
 use Rattle.process_core.proofs.Fitting.{may_be_in}
 use Rattle.process_core.proofs.Removals.{left, rest_is_without}
 use Rattle.process_core.proofs.Steps.{fits_left}
-use Rattle.semaphores.proofs.Counting.{short}
 
 -- whoever waits on a semaphore isn't ready
 pub waiting_not_ready : (ls : List (List Entry)) (ps : List Process) (p q : ℕ) → Fits ls ps → place ls p ≡ Some q → q < 128

@@ -6,9 +6,10 @@ use Rattle.queue_table.specs.Lists.{list_at}
 use Rattle.queue_table.specs.Table.{lists}
 use Rattle.xinu_laws.specs.Moves.{ready_all}
 use Rattle.xinu_model.specs.Semaphores.Counts.{with_tokens}
+use Rattle.process_core.proofs.Lengths.{short}
 use Rattle.process_core.specs.Tables.{numbers, tables_of}
 use Rattle.semaphores.specs.Counts.{beside, entry_at, tokens_of}
-use Rattle.semaphores.proofs.Counting.{counts_changed, length-numbers, none_waiting, recounted, short, used_count, waiters_at}
+use Rattle.semaphores.proofs.Counting.{counts_changed, length-numbers, none_waiting, recounted, used_count, waiters_at}
 use Rattle.semaphores.proofs.sems.Sems.release_all.Goals as goal
 
 pub returns-clause-released : goal.returns-clause-released

@@ -8,11 +8,12 @@ use Rattle.xinu_base.specs.declared.processes.State.TheVariants.{Waiting}
 use Rattle.xinu_model.specs.Process.Scheduling.{in_state}
 use Rattle.xinu_model.specs.Semaphores.Counts.{with_tokens}
 use Rattle.xinu_model.specs.Tables.{InSemaphore, Nowhere, message_at, move_to, process_at}
+use Rattle.process_core.proofs.Lengths.{short}
 use Rattle.process_core.specs.Tables.{Beside, ProcessTable, process_in, tables_of}
 use Rattle.process_core.proofs.Fitting.{current_nowhere, fits_waiting, running_within}
 use Rattle.process_core.proofs.Moves.{then_waits}
 use Rattle.semaphores.specs.Counts.{entry_at, waiting_of, beside}
-use Rattle.semaphores.proofs.Counting.{short, counts_changed, unmarked, recounted, tokens_at, less_taken, less_waiting, count_least, marks_size, token_test, used_count}
+use Rattle.semaphores.proofs.Counting.{counts_changed, unmarked, recounted, tokens_at, less_taken, less_waiting, count_least, marks_size, token_test, used_count}
 use Rattle.semaphores.proofs.sems.Sems.wait.Goals as goal
 
 pub lower-requires : goal.lower-requires
