@@ -69,11 +69,13 @@ later-without t p at w =
     let G : List Entry → Type 0 = λ l. KeysAtLeast (pos 1) l in
     record {
       delta = subst F (sym is) (IsDelta-without t p 129 129 at w.delta);
-      later = subst G (sym (ap delays is ∙ delays-without p (list_at (lists t) 129))) (least-filter (pos 1) _ (delays (list_at (lists t) 129)) w.later);
+      later = subst G (sym (ap delays is ∙ delays-without p (list_at (lists t) 129)))
+          (least-filter (pos 1) _ (delays (list_at (lists t) 129)) w.later);
     }
 
 -- p, which is in no list, is put among the sleepers
-pub slept : (ls : List (List Entry)) (s : ProcessTable) (b : Beside) (p : ℕ) (d : ℤ) → length ls ≡ 130 → place ls p ≡ None → IsDelta (list_at ls 129)
+pub slept : (ls : List (List Entry)) (s : ProcessTable) (b : Beside) (p : ℕ) (d : ℤ) → length ls ≡ 130 → place ls p ≡ None
+    → IsDelta (list_at ls 129)
     → pos 1 ≤ℤ d
     → tables_of (with_list ls 129 (delta_insert p d (list_at ls 129))) s b
     ≡ (let t = tables_of ls s b in move_to p (process_at t p) (message_at t p) (InSleepers (wake_tick b.ticks d)) t)
@@ -92,8 +94,10 @@ slept_fits ls ps p d f n lt none may =
     subst F (set-get_or ps p _) (fits_sleeping ls ps p d (process_in ps p) f n lt may none)
 
 -- whoever sleeps isn't ready
-pub sleeping_not_ready : (ls : List (List Entry)) (ps : List Process) (p : ℕ) → Fits ls ps → place ls p ≡ Some 129 → (process_in ps p).state ≢ Ready
-sleeping_not_ready ls ps p f at is = let m : 129 ≡ 128 = may_be_in 129 (process_in ps p).state Ready is (f.placed p 129 at) in omega (arith, m)
+pub sleeping_not_ready : (ls : List (List Entry)) (ps : List Process) (p : ℕ) → Fits ls ps → place ls p ≡ Some 129
+    → (process_in ps p).state ≢ Ready
+sleeping_not_ready ls ps p f at is =
+    let m : 129 ≡ 128 = may_be_in 129 (process_in ps p).state Ready is (f.placed p 129 at) in omega (arith, m)
 
 -- p is taken out of the sleepers, and lists and processes fit
 pub cancelled_fits : (t : QueueTable 64 130) (ps : List Process) (p : ℕ) → place (lists t) p ≡ Some 129 → Fits (lists t) ps
@@ -154,7 +158,8 @@ sooner_delta [] d w = record { differences = tt; bounded = omega (arith, ints) }
 sooner_delta (e ∷ l) d w = let a = w.0 in IsDelta-sooner e l d (omega (arith, ints, a))
 
 -- and each wakes at the same tick
-pub sooner_sleepers : (t : ℕ) (l : List Entry) → IsDelta l → KeysAtLeast (pos 1) (delays l) → sleepers_of (t + 1) (delta_sooner l) ≡ sleepers_of t l
+pub sooner_sleepers : (t : ℕ) (l : List Entry) → IsDelta l → KeysAtLeast (pos 1) (delays l) → sleepers_of (t + 1) (delta_sooner l)
+    ≡ sleepers_of t l
 unfolding delays sooner differences
 sooner_sleepers t [] d w = refl
 sooner_sleepers t (e ∷ l) d w = let a = w.0 in sleepers_sooner t e l d (omega (arith, ints, a))

@@ -36,16 +36,19 @@ without-none [] = refl
 without-none (p ∷ ps) = without-none ps
 
 -- whether the first sleeper is left
-without-first : (ps : List ℕ) (e : ℕ × ℕ) (l : List (ℕ × ℕ)) → without_all ps (e ∷ l) ≡ cond (among e.0 ps) (without_all ps l) (e ∷ without_all ps l)
+without-first : (ps : List ℕ) (e : ℕ × ℕ) (l : List (ℕ × ℕ))
+    → without_all ps (e ∷ l) ≡ cond (among e.0 ps) (without_all ps l) (e ∷ without_all ps l)
 without-first [] e l = refl
 without-first (p ∷ ps) e l = elim (cases_eq e.0 p) [
   | inl i ↦ (let b : eqb e.0 p ≡ true = grind (arith, nat_tests) in
       ap (λ b. without_all ps (cond (not b) (e ∷ entries_without p l) (entries_without p l))) b
-      ∙ sym (ap (λ b. cond (cond b true (among e.0 ps)) (without_all ps (entries_without p l)) (e ∷ without_all ps (entries_without p l))) b))
+      ∙ sym (ap (λ b. cond (cond b true (among e.0 ps)) (without_all ps (entries_without p l))
+      (e ∷ without_all ps (entries_without p l))) b))
   | inr n ↦ (let b : eqb e.0 p ≡ false = grind (arith, nat_tests) in
       ap (λ b. without_all ps (cond (not b) (e ∷ entries_without p l) (entries_without p l))) b
       ∙ without-first ps e (entries_without p l)
-      ∙ sym (ap (λ b. cond (cond b true (among e.0 ps)) (without_all ps (entries_without p l)) (e ∷ without_all ps (entries_without p l))) b))
+      ∙ sym (ap (λ b. cond (cond b true (among e.0 ps)) (without_all ps (entries_without p l))
+      (e ∷ without_all ps (entries_without p l))) b))
 ]
 
 -- whoever of these sleepers wakes at a tick is among those
@@ -67,7 +70,8 @@ all_due tick [] = tt
 all_due tick (e ∷ l) = go (all_due tick l) (eqb e.1 tick) refl
   where
     go : HasAllDue tick (due tick l) l → (b : Bool) → eqb e.1 tick ≡ b
-        → HasAllDue tick (map (λ (x : ℕ × ℕ). x.0) (cond b (e ∷ filter (λ (x : ℕ × ℕ). eqb x.1 tick) l) (filter (λ (x : ℕ × ℕ). eqb x.1 tick) l))) (e ∷ l)
+        → HasAllDue tick (map (λ (x : ℕ × ℕ). x.0)
+        (cond b (e ∷ filter (λ (x : ℕ × ℕ). eqb x.1 tick) l) (filter (λ (x : ℕ × ℕ). eqb x.1 tick) l))) (e ∷ l)
     go i true is =
         let s : eqb e.0 e.0 ≡ true = grind (arith, nat_tests) in
         (λ h. ap (λ b. cond b true (among e.0 (due tick l))) s, more_due tick e.0 (due tick l) l i)
@@ -92,4 +96,5 @@ pub ready_due : (tick n : ℕ) (t : Tables)
 ready_due tick n t =
     let ps = due tick t.sleepers in
     ready-sleepers ps t (not_due tick t.sleepers) n
-    ∙ ap (λ l. record (ready_all ps t) { sleepers = l; ticks = n }) (without-due tick ps t.sleepers (all_due tick t.sleepers) ∙ sym (ready-awake ps t))
+    ∙ ap (λ l. record (ready_all ps t) { sleepers = l; ticks = n })
+    (without-due tick ps t.sleepers (all_due tick t.sleepers) ∙ sym (ready-awake ps t))

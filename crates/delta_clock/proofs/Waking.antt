@@ -33,7 +33,8 @@ later_tick t (negsuc n) h = absurd (omega (arith, ints, h))
 none_of_later : (t : ℕ) (l : List Entry) → KeysAtLeast (pos 1) l → due t (map (at_tick t) l) ≡ []
 none_of_later t [] h = refl
 none_of_later t (e ∷ l) h =
-    ap (λ b. map (λ (x : ℕ × ℕ). x.0) (cond b (at_tick t e ∷ filter (λ (x : ℕ × ℕ). eqb x.1 t) (map (at_tick t) l)) (filter (λ (x : ℕ × ℕ). eqb x.1 t) (map (at_tick t) l)))) (later_tick t e.1 h.0)
+    ap (λ b. map (λ (x : ℕ × ℕ). x.0) (cond b (at_tick t e ∷ filter (λ (x : ℕ × ℕ). eqb x.1 t) (map (at_tick t) l))
+    (filter (λ (x : ℕ × ℕ). eqb x.1 t) (map (at_tick t) l)))) (later_tick t e.1 h.0)
     ∙ none_of_later t l h.1
 
 -- and all stay
@@ -54,7 +55,8 @@ first_due : (t p : ℕ) (l : List Entry) → due t (sleepers_of t ((p, pos 0) �
 unfolding delays
 first_due t p l =
     let b : eqb (t + 0) t ≡ true = grind (arith, nat_tests) in
-    ap (λ b. map (λ (x : ℕ × ℕ). x.0) (cond b ((p, t + 0) ∷ filter (λ (x : ℕ × ℕ). eqb x.1 t) (sleepers_of t l)) (filter (λ (x : ℕ × ℕ). eqb x.1 t) (sleepers_of t l)))) b
+    ap (λ b. map (λ (x : ℕ × ℕ). x.0) (cond b ((p, t + 0) ∷ filter (λ (x : ℕ × ℕ). eqb x.1 t) (sleepers_of t l))
+    (filter (λ (x : ℕ × ℕ). eqb x.1 t) (sleepers_of t l)))) b
 
 first_not_due : (t p : ℕ) (l : List Entry) → not_due t (sleepers_of t ((p, pos 0) ∷ l)) ≡ not_due t (sleepers_of t l)
 unfolding delays
@@ -85,7 +87,7 @@ out-last ls ls' p (q ∷ done) h at others out =
 -- What holds while those who are due are taken out.
 pub record IsWaking (ls0 : List (List Entry)) (ls : List (List Entry)) (done : List ℕ) (n : ℕ) : Type 0 where
   pub lists : ls ≡ with_list ls0 129 (list_at ls 129)
-  pub due : (tick : ℕ) → done ++ Rattle.xinu_model.specs.Clock.due tick (sleepers_of tick (list_at ls 129)) ≡ Rattle.xinu_model.specs.Clock.due tick (sleepers_of tick (list_at ls0 129))
+  pub woken : (tick : ℕ) → done ++ due tick (sleepers_of tick (list_at ls 129)) ≡ due tick (sleepers_of tick (list_at ls0 129))
   pub rest : (tick : ℕ) → not_due tick (sleepers_of tick (list_at ls 129)) ≡ not_due tick (sleepers_of tick (list_at ls0 129))
   pub delta : IsDelta (list_at ls 129)
   pub out : AreOut ls done
@@ -93,24 +95,26 @@ pub record IsWaking (ls0 : List (List Entry)) (ls : List (List Entry)) (done : L
   pub room : n + length (list_at ls 129) ≤ 64
 
 -- one more has been taken out
-pub woken : (ls0 : List (List Entry)) (t : QueueTable 64 130) (done : List ℕ) (n p : ℕ) (ls : List (List Entry))
+pub one_woken : (ls0 : List (List Entry)) (t : QueueTable 64 130) (done : List ℕ) (n p : ℕ) (ls : List (List Entry))
     → IsWaking ls0 (lists t) done n → list_at (lists t) 129 ≡ (p, pos 0) ∷ list_at ls 129 → ls ≡ with_list (lists t) 129 (list_at ls 129)
     → IsWaking ls0 ls (done ++ p ∷ []) (n + 1)
-woken ls0 t done n p ls w first is =
+one_woken ls0 t done n p ls w first is =
     let l = list_at ls 129 in
     let o : ls ≡ all_without p (lists t) = is ∙ rest_is_without t 129 (p, pos 0) l (omega arith) first in
     let at = (first_placed t 129 (p, pos 0) l (omega arith) first).0 in
     let F : List Entry → Type 0 = λ l. IsDelta l in
     record {
       lists = is ∙ ap (λ m. with_list m 129 l) w.lists ∙ set-set ls0 129 (list_at (lists t) 129) l;
-      due = λ tick. append_assoc done (p ∷ []) (due tick (sleepers_of tick l)) ∙ ap (λ m. done ++ m) (sym (first_due tick p l))
-          ∙ ap (λ m. done ++ due tick (sleepers_of tick m)) (sym first) ∙ w.due tick;
+      woken = λ tick. append_assoc done (p ∷ []) (due tick (sleepers_of tick l)) ∙ ap (λ m. done ++ m) (sym (first_due tick p l))
+          ∙ ap (λ m. done ++ due tick (sleepers_of tick m)) (sym first) ∙ w.woken tick;
       rest = λ tick. sym (first_not_due tick p l) ∙ ap (λ m. not_due tick (sleepers_of tick m)) (sym first) ∙ w.rest tick;
       delta = IsDelta-rest (p, pos 0) l (subst F first w.delta);
-      out = out-last (lists t) ls p done w.out at (λ r d. ap (λ m. place m r) o ∙ place_without_other (lists t) p r d) (ap (λ m. place m p) o ∙ place_without_same (lists t) p);
+      out = out-last (lists t) ls p done w.out at (λ r d. ap (λ m. place m r) o ∙ place_without_other (lists t) p r d)
+          (ap (λ m. place m p) o ∙ place_without_same (lists t) p);
       fits = λ ps f. (let G : List (List Entry) → Type 0 = λ ls. Fits ls ps in
           let g = w.fits ps f in
-          subst G (sym o) (fits_left (lists t) ps p g (below_P t p 129 (place-some (lists t) p 129 at).1) (sleeping_not_ready (lists t) ps p g at)));
+          subst G (sym o) (fits_left (lists t) ps p g (below_P t p 129 (place-some (lists t) p 129 at).1)
+          (sleeping_not_ready (lists t) ps p g at)));
       room = (let e : length (list_at (lists t) 129) ≡ suc (length l) = ap length first in omega (arith, e, w.room));
     }
 
@@ -118,7 +122,7 @@ woken ls0 t done n p ls w first is =
 pub none_woken : (t : QueueTable 64 130) → IsDelta (list_at (lists t) 129) → IsWaking (lists t) (lists t) [] 0
 none_woken t d = record {
   lists = sym (set-get_or (lists t) 129 []);
-  due = λ tick. refl;
+  woken = λ tick. refl;
   rest = λ tick. refl;
   delta = d;
   out = tt;

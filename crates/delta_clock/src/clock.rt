@@ -63,11 +63,13 @@ impl Clock {
         requires longer { pos 1 ≤ℤ delay }
         requires later { WakesLater (table.lists lists.old) }
         ensures same { self.new ≡ self.old }
-        ensures lists { table.lists lists.new ≡ with_list (table.lists lists.old) 129 (delta_insert p delay (list_at (table.lists lists.old) 129)) }
-        ensures sleeps { (s : ProcessTable) (b : Beside) → tables_of (table.lists lists.new) s b ≡ (let t = tables_of (table.lists lists.old) s b in
+        ensures lists { table.lists lists.new ≡ (let ls = table.lists lists.old in with_list ls 129 (delta_insert p delay (list_at ls 129))) }
+        ensures sleeps { (s : ProcessTable) (b : Beside) → tables_of (table.lists lists.new) s b ≡
+            (let t = tables_of (table.lists lists.old) s b in
             move_to p (process_at t p) (message_at t p) (InSleepers (wake_tick b.ticks delay)) t) }
         ensures others { (q : ℕ) → q ≢ 129 → list_at (table.lists lists.new) q ≡ list_at (table.lists lists.old) q }
-        ensures fits { (ps : List Process) → Fits (table.lists lists.old) ps → MayBeIn 129 (process_in ps p).state → Fits (table.lists lists.new) ps }
+        ensures fits { (ps : List Process) → Fits (table.lists lists.old) ps → MayBeIn 129 (process_in ps p).state →
+            Fits (table.lists lists.new) ps }
         ensures later { WakesLater (table.lists lists.new) }
     {
         lists.insert_delta(p.index(), SLEEPERS, delay);
@@ -79,7 +81,8 @@ impl Clock {
         requires later { WakesLater (table.lists lists.old) }
         ensures same { self.new ≡ self.old }
         ensures lists { table.lists lists.new ≡ all_delta_without p (table.lists lists.old) }
-        ensures cancelled { (s : ProcessTable) (b : Beside) → tables_of (table.lists lists.new) s b ≡ (let t = tables_of (table.lists lists.old) s b in
+        ensures cancelled { (s : ProcessTable) (b : Beside) → tables_of (table.lists lists.new) s b ≡
+            (let t = tables_of (table.lists lists.old) s b in
             move_to p (process_at t p) (message_at t p) Nowhere t) }
         ensures absent { place (table.lists lists.new) p ≡ None }
         ensures others { (q : ℕ) → q ≢ 129 → list_at (table.lists lists.new) q ≡ list_at (table.lists lists.old) q }
@@ -96,8 +99,10 @@ impl Clock {
         requires later { WakesLater (table.lists lists.old) }
         ensures ticks { self.new ≡ self.old + 1 }
         ensures due { result.items ≡ due (self.old + 1) (sleepers_of self.old (list_at (table.lists lists.old) 129)) }
-        ensures ticked { (s : ProcessTable) (b : Beside) → b.ticks ≡ self.old → tables_of (table.lists lists.new) s (record b { ticks = self.new }) ≡
-            (let t = tables_of (table.lists lists.old) s b in record t { sleepers = not_due (self.old + 1) t.sleepers; ticks = self.old + 1 }) }
+        ensures ticked { (s : ProcessTable) (b : Beside) → b.ticks ≡ self.old →
+            tables_of (table.lists lists.new) s (record b { ticks = self.new }) ≡
+            (let t = tables_of (table.lists lists.old) s b in
+            record t { sleepers = not_due (self.old + 1) t.sleepers; ticks = self.old + 1 }) }
         ensures out { AreOut (table.lists lists.new) result.items }
         ensures others { (q : ℕ) → q ≢ 129 → list_at (table.lists lists.new) q ≡ list_at (table.lists lists.old) q }
         ensures fits { (ps : List Process) → Fits (table.lists lists.old) ps → Fits (table.lists lists.new) ps }
@@ -131,7 +136,8 @@ fn lower(lists: &mut Lists)
     requires later { WakesLater (table.lists lists.old) }
     ensures lists { table.lists lists.new ≡ with_list (table.lists lists.old) 129 (list_at (table.lists lists.new) 129) }
     ensures delta { IsDelta (list_at (table.lists lists.new) 129) }
-    ensures sleepers { (ticks : ℕ) → sleepers_of (ticks + 1) (list_at (table.lists lists.new) 129) ≡ sleepers_of ticks (list_at (table.lists lists.old) 129) }
+    ensures sleepers { (ticks : ℕ) → sleepers_of (ticks + 1) (list_at (table.lists lists.new) 129) ≡
+        sleepers_of ticks (list_at (table.lists lists.old) 129) }
     ensures fits { (ps : List Process) → Fits (table.lists lists.old) ps → Fits (table.lists lists.new) ps }
 {
     if !lists.is_empty(SLEEPERS) {
@@ -144,7 +150,8 @@ fn take_due(lists: &mut Lists) -> ArrayVec<Pid, 64>
     requires delta { IsDelta (list_at (table.lists lists.old) 129) }
     ensures lists { table.lists lists.new ≡ with_list (table.lists lists.old) 129 (list_at (table.lists lists.new) 129) }
     ensures due { (tick : ℕ) → result.items ≡ due tick (sleepers_of tick (list_at (table.lists lists.old) 129)) }
-    ensures rest { (tick : ℕ) → sleepers_of tick (list_at (table.lists lists.new) 129) ≡ not_due tick (sleepers_of tick (list_at (table.lists lists.old) 129)) }
+    ensures rest { (tick : ℕ) → sleepers_of tick (list_at (table.lists lists.new) 129) ≡
+        not_due tick (sleepers_of tick (list_at (table.lists lists.old) 129)) }
     ensures out { AreOut (table.lists lists.new) result.items }
     ensures fits { (ps : List Process) → Fits (table.lists lists.old) ps → Fits (table.lists lists.new) ps }
     ensures later { WakesLater (table.lists lists.new) }

@@ -96,14 +96,16 @@ counts_changed ls ls' es sem e k lt here free others =
     }
 
 -- another entry of a semaphore is seen as another semaphore
-pub entered : (ls : List (List Entry)) (p : ProcessTable) (c : SemaphoreTable) (sem : ℕ) (e : SemaphoreEntry) (m : List (Option ℕ)) (ticks : ℕ)
+pub entered : (ls : List (List Entry)) (p : ProcessTable) (c : SemaphoreTable) (sem : ℕ) (e : SemaphoreEntry) (m : List (Option ℕ))
+    (ticks : ℕ)
     → sem < 128
     → tables_of ls p (beside (with_entry sem e c) m ticks)
     ≡ with_semaphore sem (semaphore_of (list_at ls sem) (mark_in e)) (tables_of ls p (beside c m ticks))
 unfolding tables_of
 entered ls p c sem e m ticks lt =
     let ms = map mark_in c.entries in
-    let other : semaphores_of (take 128 ls) (map mark_in (set c.entries sem e)) ≡ set (semaphores_of (take 128 ls) ms) sem (semaphore_of (list_at ls sem) (mark_in e))
+    let other : semaphores_of (take 128 ls) (map mark_in (set c.entries sem e)) ≡ set (semaphores_of (take 128 ls) ms) sem
+    (semaphore_of (list_at ls sem) (mark_in e))
     = ap (semaphores_of (take 128 ls)) (map-set mark_in c.entries sem e) ∙ semaphores-mark sem (take 128 ls) ms (mark_in e)
     ∙ ap (λ l. set (semaphores_of (take 128 ls) ms) sem (semaphore_of l (mark_in e))) (get_or-take 128 sem ls [] lt) in
     ap (λ y. record {
@@ -139,7 +141,8 @@ made ls p c sem by z m ticks k lt none =
     let t = tables_of ls p (beside c m ticks) in
     let e : SemaphoreEntry = record { owner = Some by; count = z } in
     ap (λ (t : Tables). record t { last_semaphore = sem }) (entered ls p c sem e m ticks lt)
-    ∙ ap (λ (l : List Entry). record (with_semaphore sem (semaphore_of l (mark_in e)) t) { last_semaphore = sem }) (unused_empty ls c.entries sem k lt none)
+    ∙ ap (λ (l : List Entry). record (with_semaphore sem (semaphore_of l (mark_in e)) t) { last_semaphore = sem })
+    (unused_empty ls c.entries sem k lt none)
 
 -- another count is another number of tokens
 pub recounted : (ls : List (List Entry)) (p : ProcessTable) (c : SemaphoreTable) (sem : ℕ) (z : ℤ) (m : List (Option ℕ)) (ticks : ℕ)
@@ -151,7 +154,8 @@ recounted ls p c sem z m ticks size lt =
     ∙ ap (λ (x : Semaphore). with_semaphore sem (record x { tokens = tokens_of z }) t) (sym (seen_at ls p c sem m ticks size lt))
 
 -- another count with as many tokens isn't seen
-pub unmarked : (c : SemaphoreTable) (sem : ℕ) (z : ℤ) (m : List (Option ℕ)) (ticks : ℕ) → tokens_of z ≡ tokens_of (entry_at c.entries sem).count
+pub unmarked : (c : SemaphoreTable) (sem : ℕ) (z : ℤ) (m : List (Option ℕ)) (ticks : ℕ)
+    → tokens_of z ≡ tokens_of (entry_at c.entries sem).count
     → beside (with_count sem z c) m ticks ≡ beside c m ticks
 unmarked c sem z m ticks e =
     let ms = map mark_in c.entries in

@@ -4,7 +4,7 @@ use Rattle.queue_table.specs.Lists.{list_at}
 use Rattle.queue_table.specs.Table.{lists}
 use Rattle.xinu_model.specs.Clock.{due}
 use Rattle.process_core.specs.Tables.{sleepers_of}
-use Rattle.delta_clock.proofs.Waking.{IsWaking, all_later, none_due, none_woken, woken}
+use Rattle.delta_clock.proofs.Waking.{IsWaking, all_later, none_due, none_woken, one_woken}
 use Rattle.delta_clock.proofs.clock.take_due.Goals as goal
 
 pub loop-p-init : goal.loop-p-init
@@ -21,14 +21,14 @@ loop-p-preserved c =
     let A : List ℕ → Type 0 = λ d. IsWaking ls0 ls d (n + 1) in
     let B : ℕ → Type 0 = λ m. IsWaking ls0 ls c.push.new.self.items m in
     subst B (sym c.push.ensures.len) (subst A (sym c.push.ensures.items)
-    (woken ls0 c.loop-p.lists c.loop-p.due.items n c.in-Some.p ls c.loop-p.invariant c.in-Some.ensures.first c.in-Some.ensures.lists))
+    (one_woken ls0 c.loop-p.lists c.loop-p.due.items n c.in-Some.p ls c.loop-p.invariant c.in-Some.ensures.first c.in-Some.ensures.lists))
 
 pub returns-clause-due : goal.returns-clause-due
 returns-clause-due c tick =
     let done = c.loop-p.due.items in
     let none : due tick (sleepers_of tick (list_at (lists c.loop-p.lists) 129)) ≡ []
     = none_due tick (list_at (lists c.loop-p.lists) 129) c.in_default.ensures.later in
-    sym (append-nil done) ∙ ap (λ m. done ++ m) (sym none) ∙ c.loop-p.invariant.due tick
+    sym (append-nil done) ∙ ap (λ m. done ++ m) (sym none) ∙ c.loop-p.invariant.woken tick
 
 pub returns-clause-rest : goal.returns-clause-rest
 returns-clause-rest c tick =
