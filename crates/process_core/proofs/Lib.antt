@@ -11,3 +11,4 @@ pub mod Names
 pub mod Inside
 pub mod Steps
 pub mod Placed
+pub mod Lengths

@@ -1,15 +1,10 @@
 -- What is read off the entries and the lists, and what a change of one semaphore does to it.
 use Rattle.std.proofs.Common.{◌≡◌, ◌≢◌, ◌∙◌, int_lt, nat_lt, IsSome, ℕ, zero, suc, ◌<◌, ◌≤◌, ◌+◌, ◌-◌, List, [], ◌∷◌, map, length, set, get_or, take, Option, Some, None, refl, sym, ap, subst, inl, inr, arith, get_or-set_same, get_or-set_other, ℤ, pos, negsuc, ◌+ℤ◌, ◌-ℤ◌, ◌<ℤ◌, ◌≤ℤ◌, neg_ℤ}
 use Rattle.std.proofs.Math.ListN.{length-set}
-use Rattle.std.proofs.lemmas.Bool.{cases_eq, cases_lt}
+use Rattle.std.proofs.lemmas.Bool.{cases_eq}
 use Rattle.std.proofs.lemmas.Int.{ints}
-use Rattle.std.proofs.lemmas.List.{map-set, set-get_or, length-map, get_or_past}
-use Rattle.queue_table.specs.declared.table.QueueTable.{QueueTable}
-use Rattle.queue_table.specs.Entries.{head_of}
+use Rattle.std.proofs.lemmas.List.{map-set, set-get_or, length-map}
 use Rattle.queue_table.specs.Lists.{Entry, list_at}
-use Rattle.queue_table.specs.Table.{lists}
-use Rattle.queue_table.proofs.Paths.{Path-short}
-use Rattle.queue_table.proofs.Tables.{chained_of}
 use Rattle.xinu_base.specs.declared.semaphores.Owner.{Owner}
 use Rattle.xinu_model.specs.Semaphores.Counts.{count_of, make_semaphore, with_semaphore, with_tokens}
 use Rattle.xinu_model.specs.Tables.{Tables, Semaphore, no_semaphore, semaphore_at}
@@ -17,14 +12,6 @@ use Rattle.process_core.specs.Tables.{ProcessTable, Mark, numbers, semaphore_of,
 use Rattle.process_core.proofs.Semaphores.{no_mark, get_or-take, semaphores-get, semaphores-mark}
 use Rattle.semaphores.specs.declared.sems.SemaphoreEntry.{SemaphoreEntry}
 use Rattle.semaphores.specs.Counts.{SemaphoreTable, Counts, no_entry, entry_at, tokens_of, waiting_of, mark_in, beside, with_count, with_entry}
-
--- a list of a table has at most P entries
-pub short : {P Q : ℕ} → (t : QueueTable P Q) (q : ℕ) → length (list_at (lists t) q) ≤ P
-short {P} {Q} t q = elim (cases_lt q Q) [
-  | inl lt ↦ Path-short P t.entries.items (head_of P q) (list_at (lists t) q) (omega arith) ((chained_of t).chains q lt).path
-  | inr le ↦ (let F : List Entry → Type 0 = λ l. length l ≤ P in
-      subst F (sym (get_or_past (lists t) q [] (omega (arith, (chained_of t).queues)))) (omega arith))
-]
 
 -- the mark of a semaphore
 pub mark_at : (es : List SemaphoreEntry) (sem : ℕ) → get_or (map mark_in es) sem no_mark ≡ mark_in (entry_at es sem)
@@ -109,14 +96,16 @@ counts_changed ls ls' es sem e k lt here free others =
     }
 
 -- another entry of a semaphore is seen as another semaphore
-pub entered : (ls : List (List Entry)) (p : ProcessTable) (c : SemaphoreTable) (sem : ℕ) (e : SemaphoreEntry) (m : List (Option ℕ)) (ticks : ℕ)
+pub entered : (ls : List (List Entry)) (p : ProcessTable) (c : SemaphoreTable) (sem : ℕ) (e : SemaphoreEntry) (m : List (Option ℕ))
+    (ticks : ℕ)
     → sem < 128
     → tables_of ls p (beside (with_entry sem e c) m ticks)
     ≡ with_semaphore sem (semaphore_of (list_at ls sem) (mark_in e)) (tables_of ls p (beside c m ticks))
 unfolding tables_of
 entered ls p c sem e m ticks lt =
     let ms = map mark_in c.entries in
-    let other : semaphores_of (take 128 ls) (map mark_in (set c.entries sem e)) ≡ set (semaphores_of (take 128 ls) ms) sem (semaphore_of (list_at ls sem) (mark_in e))
+    let other : semaphores_of (take 128 ls) (map mark_in (set c.entries sem e)) ≡ set (semaphores_of (take 128 ls) ms) sem
+    (semaphore_of (list_at ls sem) (mark_in e))
     = ap (semaphores_of (take 128 ls)) (map-set mark_in c.entries sem e) ∙ semaphores-mark sem (take 128 ls) ms (mark_in e)
     ∙ ap (λ l. set (semaphores_of (take 128 ls) ms) sem (semaphore_of l (mark_in e))) (get_or-take 128 sem ls [] lt) in
     ap (λ y. record {
@@ -152,7 +141,8 @@ made ls p c sem by z m ticks k lt none =
     let t = tables_of ls p (beside c m ticks) in
     let e : SemaphoreEntry = record { owner = Some by; count = z } in
     ap (λ (t : Tables). record t { last_semaphore = sem }) (entered ls p c sem e m ticks lt)
-    ∙ ap (λ (l : List Entry). record (with_semaphore sem (semaphore_of l (mark_in e)) t) { last_semaphore = sem }) (unused_empty ls c.entries sem k lt none)
+    ∙ ap (λ (l : List Entry). record (with_semaphore sem (semaphore_of l (mark_in e)) t) { last_semaphore = sem })
+    (unused_empty ls c.entries sem k lt none)
 
 -- another count is another number of tokens
 pub recounted : (ls : List (List Entry)) (p : ProcessTable) (c : SemaphoreTable) (sem : ℕ) (z : ℤ) (m : List (Option ℕ)) (ticks : ℕ)
@@ -164,7 +154,8 @@ recounted ls p c sem z m ticks size lt =
     ∙ ap (λ (x : Semaphore). with_semaphore sem (record x { tokens = tokens_of z }) t) (sym (seen_at ls p c sem m ticks size lt))
 
 -- another count with as many tokens isn't seen
-pub unmarked : (c : SemaphoreTable) (sem : ℕ) (z : ℤ) (m : List (Option ℕ)) (ticks : ℕ) → tokens_of z ≡ tokens_of (entry_at c.entries sem).count
+pub unmarked : (c : SemaphoreTable) (sem : ℕ) (z : ℤ) (m : List (Option ℕ)) (ticks : ℕ)
+    → tokens_of z ≡ tokens_of (entry_at c.entries sem).count
     → beside (with_count sem z c) m ticks ≡ beside c m ticks
 unmarked c sem z m ticks e =
     let ms = map mark_in c.entries in

@@ -40,7 +40,8 @@ pub has_room : (z : ℤ) → z <ℤ pos 0 → int_lt most_tokens (z +ℤ pos 1) 
 has_room z h = grind (arith, ints)
 
 -- queues from some number on have nobody of another queue
-pub others_stay : (t : QueueTable 64 130) (p q r : ℕ) → place (lists t) p ≡ Some q → r ≢ q → list_at (all_without p (lists t)) r ≡ list_at (lists t) r
+pub others_stay : (t : QueueTable 64 130) (p q r : ℕ) → place (lists t) p ≡ Some q → r ≢ q
+    → list_at (all_without p (lists t)) r ≡ list_at (lists t) r
 others_stay t p q r at n =
     list_at_without (lists t) p r ∙ without-absent p (list_at (lists t) r) (disjoint t p q r at (λ e. n (sym e)))
 
@@ -51,7 +52,8 @@ forgotten_fits t p q ps at lt f =
     fits_left (lists t) ps p f (below_P t p q (place-some (lists t) p q at).1) (waiting_not_ready (lists t) ps p q f at lt)
 
 -- and so do lists and counts
-pub forgotten_counts : (t : QueueTable 64 130) (c : SemaphoreTable) (p q : ℕ) → Counts (lists t) c.entries → q < 128 → place (lists t) p ≡ Some q
+pub forgotten_counts : (t : QueueTable 64 130) (c : SemaphoreTable) (p q : ℕ) → Counts (lists t) c.entries → q < 128
+    → place (lists t) p ≡ Some q
     → Counts (all_without p (lists t)) (with_count q ((entry_at c.entries q).count +ℤ pos 1) c).entries
 forgotten_counts t c p q k lt at =
     let z = (entry_at c.entries q).count in

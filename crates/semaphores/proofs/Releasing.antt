@@ -9,17 +9,18 @@ use Rattle.queue_table.specs.Lists.{Entry, first_process, list_at, place, rest_o
 use Rattle.queue_table.proofs.Laws.{below_P, disjoint, first_is, first_placed, place-some}
 use Rattle.xinu_laws.specs.Moves.{ready_all}
 use Rattle.xinu_model.specs.Tables.{Nowhere, message_at, move_to, process_at}
+use Rattle.process_core.proofs.Lengths.{short}
 use Rattle.process_core.specs.Fits.{Fits}
 use Rattle.process_core.specs.Tables.{Beside, ProcessTable, numbers, process_in, tables_of}
 use Rattle.process_core.proofs.Fitting.{may_be_in}
 use Rattle.process_core.proofs.Removals.{left, rest_is_without}
 use Rattle.process_core.proofs.Steps.{fits_left}
-use Rattle.semaphores.proofs.Counting.{short}
 
 -- whoever waits on a semaphore isn't ready
 pub waiting_not_ready : (ls : List (List Entry)) (ps : List Process) (p q : ℕ) → Fits ls ps → place ls p ≡ Some q → q < 128
     → (process_in ps p).state ≢ Ready
-waiting_not_ready ls ps p q f at lt is = let m : q ≡ 128 = may_be_in q (process_in ps p).state Ready is (f.placed p q at) in omega (arith, m, lt)
+waiting_not_ready ls ps p q f at lt is =
+    let m : q ≡ 128 = may_be_in q (process_in ps p).state Ready is (f.placed p q at) in omega (arith, m, lt)
 
 -- the first waiter has left the queue, and everything fits
 pub first_left_fits : (t : QueueTable 64 130) (ps : List Process) (sem : ℕ) (e : Entry) (l : List Entry) → sem < 128
@@ -34,7 +35,8 @@ first_left_fits t ps sem e l lt is f =
 -- it has moved out of all lists then
 pub first_left : (t : QueueTable 64 130) (s : ProcessTable) (b : Beside) (sem : ℕ) (e : Entry) (l : List Entry) → sem < 128
     → list_at (lists t) sem ≡ e ∷ l
-    → tables_of (with_list (lists t) sem l) s b ≡ (let u = tables_of (lists t) s b in move_to e.0 (process_at u e.0) (message_at u e.0) Nowhere u)
+    → tables_of (with_list (lists t) sem l) s b ≡ (let u = tables_of (lists t) s b in move_to e.0 (process_at u e.0)
+    (message_at u e.0) Nowhere u)
 first_left t s b sem e l lt is =
     let at = (first_placed t sem e l (omega arith) is).0 in
     ap (λ ls. tables_of ls s b) (rest_is_without t sem e l (omega arith) is)
@@ -46,7 +48,8 @@ length-rest [] = refl
 length-rest (e ∷ l) = omega arith
 
 -- What holds while the first waiters of a semaphore, but at most so many, become ready.
-pub record IsReleasing (ls0 : List (List Entry)) (s0 : ProcessTable) (sem most : ℕ) (ls : List (List Entry)) (s : ProcessTable) (done : List ℕ) (n : ℕ)
+pub record IsReleasing (ls0 : List (List Entry)) (s0 : ProcessTable) (sem most : ℕ) (ls : List (List Entry)) (s : ProcessTable)
+    (done : List ℕ) (n : ℕ)
     : Type 0 where
   pub within : n ≤ most
   pub released : done ++ take (most - n) (numbers (list_at ls sem)) ≡ take most (numbers (list_at ls0 sem))
@@ -77,7 +80,8 @@ step_rest k zero e l i = absurd (omega (arith, i))
 step_rest k (suc j) e l i = let s : k ≡ j = omega (arith, i) in ap (λ n. drop n l) s
 
 -- one more has become ready
-pub released_one : (ls0 : List (List Entry)) (s0 : ProcessTable) (sem most : ℕ) (ls : List (List Entry)) (s : ProcessTable) (done : List ℕ) (n : ℕ)
+pub released_one : (ls0 : List (List Entry)) (s0 : ProcessTable) (sem most : ℕ) (ls : List (List Entry)) (s : ProcessTable)
+    (done : List ℕ) (n : ℕ)
     (ls' : List (List Entry)) (s' : ProcessTable) (p : ℕ)
     → IsReleasing ls0 s0 sem most ls s done n → n < most → Some p ≡ first_process (list_at ls sem)
     → ((b : Beside) → tables_of ls' s' b ≡ ready_all (take 1 (numbers (list_at ls sem))) (tables_of ls s b))
@@ -93,7 +97,8 @@ released_one ls0 s0 sem most ls s done n ls' s' p r lt first readied rest others
     record {
       within = omega (arith, lt);
       released = ap (λ x. (done ++ p ∷ []) ++ take k (numbers x)) rest
-          ∙ step_released k (most - n) done (p, f.0) l (take most (numbers (list_at ls0 sem))) i (ap (λ x. done ++ take (most - n) (numbers x)) (sym f.1) ∙ r.released);
+          ∙ step_released k (most - n) done (p, f.0) l (take most (numbers (list_at ls0 sem))) i
+          (ap (λ x. done ++ take (most - n) (numbers x)) (sym f.1) ∙ r.released);
       tables = λ b. ap (λ x. ready_all (take k (numbers x)) (tables_of ls' s' b)) rest
           ∙ ap (ready_all (take k (numbers l))) (readied b ∙ ap (λ x. ready_all (take 1 (numbers x)) (tables_of ls s b)) f.1)
           ∙ step_ready k (most - n) (numbers l) p (tables_of ls s b) i

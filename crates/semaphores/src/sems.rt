@@ -119,7 +119,8 @@ impl Sems {
     pub fn has_room(&self, lists: &Lists, sem: Sem, n: u32) -> bool
         requires counts { Counts (table.lists lists.now) self.now.entries }
         ensures room { (s : ProcessTable) (m : List (Option ℕ)) (ticks : ℕ) →
-            result ≡ not (int_lt most_tokens (count_of (semaphore_at (tables_of (table.lists lists.now) s (beside self.now m ticks)) sem) +ℤ pos n)) }
+            result ≡ (let x = semaphore_at (tables_of (table.lists lists.now) s (beside self.now m ticks)) sem in
+            not (int_lt most_tokens (count_of x +ℤ pos n))) }
         ensures entry { result ≡ not (int_lt most_tokens ((entry_at self.now.entries sem).count +ℤ pos n)) }
     {
         stays_within(self.count(lists, sem), n)
@@ -130,7 +131,8 @@ impl Sems {
         requires empty { list_at (table.lists lists.now) sem ≡ [] }
         requires counts { Counts (table.lists lists.now) self.old.entries }
         ensures sems { self.new ≡ with_entry sem no_entry self.old }
-        ensures deleted { (s : ProcessTable) (m : List (Option ℕ)) (ticks : ℕ) → tables_of (table.lists lists.now) s (beside self.new m ticks) ≡
+        ensures deleted { (s : ProcessTable) (m : List (Option ℕ)) (ticks : ℕ) →
+            tables_of (table.lists lists.now) s (beside self.new m ticks) ≡
             with_semaphore sem no_semaphore (tables_of (table.lists lists.now) s (beside self.old m ticks)) }
         ensures counts { Counts (table.lists lists.now) self.new.entries }
     {

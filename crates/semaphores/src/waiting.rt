@@ -151,8 +151,10 @@ impl Sems {
         requires waits { IsSomeAnd (place (table.lists lists.old) p) (λ q. q < 128) }
         requires counts { Counts (table.lists lists.old) self.old.entries }
         ensures lists { table.lists lists.new ≡ all_without p (table.lists lists.old) }
-        ensures forgotten { (s : ProcessTable) (m : List (Option ℕ)) (ticks : ℕ) → tables_of (table.lists lists.new) s (beside self.new m ticks) ≡
-            (let t = tables_of (table.lists lists.old) s (beside self.old m ticks) in move_to p (process_at t p) (message_at t p) Nowhere t) }
+        ensures forgotten { (s : ProcessTable) (m : List (Option ℕ)) (ticks : ℕ) →
+            tables_of (table.lists lists.new) s (beside self.new m ticks) ≡
+            (let t = tables_of (table.lists lists.old) s (beside self.old m ticks) in
+            move_to p (process_at t p) (message_at t p) Nowhere t) }
         ensures absent { place (table.lists lists.new) p ≡ None }
         ensures others { (q : ℕ) → 128 ≤ q → list_at (table.lists lists.new) q ≡ list_at (table.lists lists.old) q }
         ensures fits { (ps : List Process) → Fits (table.lists lists.old) ps → Fits (table.lists lists.new) ps }

@@ -24,7 +24,8 @@ ready_defer-requires-clause-fits c =
     let sem = c.index.result in
     let f = first_is (list_at (lists t) sem) c.in-Some.first c.in-Some.ensures.first in
     rw c.dequeue.ensures.lists
-    (first_left_fits t c.args.procs.now.processes sem (c.in-Some.first, f.0) (rest_of (list_at (lists t) sem)) c.index.ensures.bound f.1 c.requires.fits)
+    (first_left_fits t c.args.procs.now.processes sem (c.in-Some.first, f.0)
+    (rest_of (list_at (lists t) sem)) c.index.ensures.bound f.1 c.requires.fits)
 
 pub returns-in-Some-clause-readied : goal.returns-in-Some-clause-readied
 returns-in-Some-clause-readied c b =

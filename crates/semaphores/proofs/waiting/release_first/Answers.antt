@@ -22,5 +22,6 @@ loop-sem-preserved c =
     let A : List ℕ → Type 0 = λ d. IsReleasing ls0 s0 c.args.sem c.args.most ls s d (n + 1) in
     let B : ℕ → Type 0 = λ m. IsReleasing ls0 s0 c.args.sem c.args.most ls s c.push.new.self.items m in
     subst B (sym c.push.ensures.len) (subst A (sym c.push.ensures.items)
-    (released_one ls0 s0 c.args.sem c.args.most (lists c.loop-sem.lists) c.loop-sem.procs done n ls s c.in-Some.p c.loop-sem.invariant (omega (arith, c.loop-sem-test.true, c.len.ensures.value))
+    (released_one ls0 s0 c.args.sem c.args.most (lists c.loop-sem.lists) c.loop-sem.procs done n ls s c.in-Some.p c.loop-sem.invariant
+    (omega (arith, c.loop-sem-test.true, c.len.ensures.value))
     c.in-Some.ensures.first c.release.ensures.readied c.release.ensures.rest c.release.ensures.others c.release.ensures.fits))

@@ -18,7 +18,8 @@ raise-requires-clause-room c =
     let k = c.args.self.now in
     let lt = queue_below (place (lists c.args.lists.now) c.args.p) c.sem_at.result (placed_at c) c.requires.waits in
     has_room (entry_at k.entries c.sem_at.result).count
-    (some_waiting (entry_at k.entries c.sem_at.result).count (waited_on c.args.lists.now k.entries c.args.p c.sem_at.result c.requires.counts lt (placed_at c)))
+    (some_waiting (entry_at k.entries c.sem_at.result).count
+    (waited_on c.args.lists.now k.entries c.args.p c.sem_at.result c.requires.counts lt (placed_at c)))
 
 -- the same at the end
 placed_then : (c : goal.After-remove) → place (lists c.args.lists.now) c.args.p ≡ Some c.sem_at.result
@@ -33,7 +34,13 @@ returns-in-Some-clause-forgotten c s m ticks =
     let z = (entry_at k.entries sem).count in
     let w = waited_on t k.entries c.args.p sem c.requires.counts c.raise.ensures.within (placed_then c) in
     let y = (more z (z +ℤ pos 1) 1 refl).0 in
-    rw (c.remove.ensures.lists, c.raise.ensures.sems, c.index-in-Some.ensures.index, unmarked k sem (z +ℤ pos 1) m ticks (omega (arith, y, w)))
+    rw (
+      c.remove.ensures.lists,
+      c.raise.ensures.sems,
+      c.index-in-Some.ensures.index,
+      unmarked k sem (z +ℤ pos 1) m ticks
+          (omega (arith, y, w)),
+    )
     (left (lists t) s (beside k m ticks) c.args.p
     (disjoint t c.args.p sem 129 (placed_then c) (let lt = c.raise.ensures.within in λ e. omega (arith, e, lt))))
 

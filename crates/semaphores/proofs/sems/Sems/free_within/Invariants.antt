@@ -7,4 +7,5 @@ use Rattle.semaphores.proofs.sems.Sems.free_within.Given as goal
 
 abbrev pub invariant-loop-number : goal.invariant-loop-number
 invariant-loop-number l =
-    find (is_free_in l.self.entries) (numbers_from l.number (l.end - l.number)) ≡ find (is_free_in l.self.entries) (numbers_from l.from (l.end - l.from))
+    find (is_free_in l.self.entries) (numbers_from l.number (l.end - l.number)) ≡ find (is_free_in l.self.entries)
+    (numbers_from l.from (l.end - l.from))

@@ -6,9 +6,10 @@ use Rattle.queue_table.specs.Lists.{list_at}
 use Rattle.queue_table.specs.Table.{lists}
 use Rattle.xinu_laws.specs.Moves.{ready_all}
 use Rattle.xinu_model.specs.Semaphores.Counts.{with_tokens}
+use Rattle.process_core.proofs.Lengths.{short}
 use Rattle.process_core.specs.Tables.{numbers, tables_of}
 use Rattle.semaphores.specs.Counts.{beside, entry_at, tokens_of}
-use Rattle.semaphores.proofs.Counting.{counts_changed, length-numbers, none_waiting, recounted, short, used_count, waiters_at}
+use Rattle.semaphores.proofs.Counting.{counts_changed, length-numbers, none_waiting, recounted, used_count, waiters_at}
 use Rattle.semaphores.proofs.sems.Sems.release_all.Goals as goal
 
 pub returns-clause-released : goal.returns-clause-released
@@ -50,6 +51,7 @@ returns-clause-counts c =
     let f : SFits w32 c.args.count = search rules in
     let e = ap length (r.ensures.rest ∙ drop_all 64 (list_at ls sem) (short c.args.lists.now sem)) in
     rw (c.set_count.ensures.sems, to_z-of_z w32 c.args.count f)
-    (counts_changed ls (lists r.new.lists) k.entries sem (record (entry_at k.entries sem) { count = c.args.count }) c.requires.counts c.set_count.ensures.within
+    (counts_changed ls (lists r.new.lists) k.entries sem
+    (record (entry_at k.entries sem) { count = c.args.count }) c.requires.counts c.set_count.ensures.within
     (e ∙ sym (none_waiting c.args.count c.requires.tokens)) (used_count (entry_at k.entries sem).owner _ c.requires.used)
     (λ q lq ne. r.ensures.others q ne (λ x. omega (arith, x, lq))))

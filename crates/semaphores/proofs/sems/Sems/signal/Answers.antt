@@ -26,8 +26,10 @@ returns-then-not-is_below-clause-answer c m ticks =
     let ls = lists c.args.lists.now in
     let k = c.args.self.now in
     let b = c.is_below.ensures.within in
-    answered (semaphore_at (tables_of ls c.args.procs.now (beside k m ticks)) c.args.sem) false (entry_at k.entries c.args.sem).count (list_at ls c.args.sem)
-    (count_at ls c.args.procs.now k c.args.sem m ticks c.requires.counts b) (waiters_at ls c.args.procs.now k c.args.sem m ticks c.requires.counts.size b)
+    answered (semaphore_at (tables_of ls c.args.procs.now (beside k m ticks)) c.args.sem) false (entry_at k.entries c.args.sem).count
+    (list_at ls c.args.sem)
+    (count_at ls c.args.procs.now k c.args.sem m ticks c.requires.counts b)
+    (waiters_at ls c.args.procs.now k c.args.sem m ticks c.requires.counts.size b)
     (sym c.is_below.ensures.below ∙ c.if-not-is_below.true)
 
 pub returns-in-Some-clause-answer : goal.returns-in-Some-clause-answer
@@ -37,8 +39,10 @@ returns-in-Some-clause-answer c m ticks =
     let b = c.is_below.ensures.within in
     let f = first_is (list_at ls c.args.sem) c.in-Some.p c.in-Some.ensures.first in
     ap (λ l. answer_to (numbers l)) (sym f.1)
-    ∙ answered (semaphore_at (tables_of ls c.args.procs.now (beside k m ticks)) c.args.sem) true (entry_at k.entries c.args.sem).count (list_at ls c.args.sem)
-    (count_at ls c.args.procs.now k c.args.sem m ticks c.requires.counts b) (waiters_at ls c.args.procs.now k c.args.sem m ticks c.requires.counts.size b)
+    ∙ answered (semaphore_at (tables_of ls c.args.procs.now (beside k m ticks)) c.args.sem) true (entry_at k.entries c.args.sem).count
+    (list_at ls c.args.sem)
+    (count_at ls c.args.procs.now k c.args.sem m ticks c.requires.counts b)
+    (waiters_at ls c.args.procs.now k c.args.sem m ticks c.requires.counts.size b)
     (sym c.is_below.ensures.below ∙ c.if-not-is_below.false)
 
 pub returns-in-Some-clause-signalled : goal.returns-in-Some-clause-signalled
@@ -54,7 +58,8 @@ returns-in-Some-clause-signalled c m ticks =
     let y = (more z (z +ℤ pos 1) 1 refl).0 in
     c.release.ensures.readied (beside c.raise.new.self m ticks)
     ∙ ap (λ u. ready_all (take 1 (numbers (list_at ls c.args.sem))) (tables_of ls s (beside u m ticks))) c.raise.ensures.sems
-    ∙ ap (λ u. ready_all (take 1 (numbers (list_at ls c.args.sem))) (tables_of ls s u)) (unmarked k c.args.sem (z +ℤ pos 1) m ticks (omega (arith, y, n, w)))
+    ∙ ap (λ u. ready_all (take 1 (numbers (list_at ls c.args.sem))) (tables_of ls s u))
+    (unmarked k c.args.sem (z +ℤ pos 1) m ticks (omega (arith, y, n, w)))
     ∙ ap (λ l. ready_all (take 1 (numbers l)) (tables_of ls s (beside k m ticks))) f.1
 
 pub returns-in-None-clause-answer : goal.returns-in-None-clause-answer
@@ -63,8 +68,10 @@ returns-in-None-clause-answer c m ticks =
     let k = c.args.self.now in
     let b = c.is_below.ensures.within in
     ap (λ l. answer_to (numbers l)) (sym (first_none (list_at ls c.args.sem) c.in-None.ensures.first))
-    ∙ answered (semaphore_at (tables_of ls c.args.procs.now (beside k m ticks)) c.args.sem) true (entry_at k.entries c.args.sem).count (list_at ls c.args.sem)
-    (count_at ls c.args.procs.now k c.args.sem m ticks c.requires.counts b) (waiters_at ls c.args.procs.now k c.args.sem m ticks c.requires.counts.size b)
+    ∙ answered (semaphore_at (tables_of ls c.args.procs.now (beside k m ticks)) c.args.sem) true (entry_at k.entries c.args.sem).count
+    (list_at ls c.args.sem)
+    (count_at ls c.args.procs.now k c.args.sem m ticks c.requires.counts b)
+    (waiters_at ls c.args.procs.now k c.args.sem m ticks c.requires.counts.size b)
     (sym c.is_below.ensures.below ∙ c.if-not-is_below.false)
 
 pub returns-in-None-clause-signalled : goal.returns-in-None-clause-signalled
@@ -96,8 +103,10 @@ returns-in-Some-clause-counts c =
     let w = c.requires.counts.waiting c.args.sem b in
     let d = ap length c.release.ensures.rest ∙ length-rest (list_at ls c.args.sem) in
     rw c.raise.ensures.sems
-    (counts_changed ls (lists c.release.new.lists) k.entries c.args.sem (record (entry_at k.entries c.args.sem) { count = z +ℤ pos 1 }) c.requires.counts b
-    (omega (arith, d, y, w)) (used_count (entry_at k.entries c.args.sem).owner _ c.requires.used) (λ q lq ne. c.release.ensures.others q ne (λ x. omega (arith, x, lq))))
+    (counts_changed ls (lists c.release.new.lists) k.entries c.args.sem
+    (record (entry_at k.entries c.args.sem) { count = z +ℤ pos 1 }) c.requires.counts b
+    (omega (arith, d, y, w)) (used_count (entry_at k.entries c.args.sem).owner _ c.requires.used)
+    (λ q lq ne. c.release.ensures.others q ne (λ x. omega (arith, x, lq))))
 
 pub returns-in-None-clause-counts : goal.returns-in-None-clause-counts
 returns-in-None-clause-counts c =
@@ -109,5 +118,7 @@ returns-in-None-clause-counts c =
     let w = c.requires.counts.waiting c.args.sem b in
     let d = ap length c.release.ensures.rest ∙ length-rest (list_at ls c.args.sem) in
     rw c.raise.ensures.sems
-    (counts_changed ls (lists c.release.new.lists) k.entries c.args.sem (record (entry_at k.entries c.args.sem) { count = z +ℤ pos 1 }) c.requires.counts b
-    (omega (arith, d, y, w)) (used_count (entry_at k.entries c.args.sem).owner _ c.requires.used) (λ q lq ne. c.release.ensures.others q ne (λ x. omega (arith, x, lq))))
+    (counts_changed ls (lists c.release.new.lists) k.entries c.args.sem
+    (record (entry_at k.entries c.args.sem) { count = z +ℤ pos 1 }) c.requires.counts b
+    (omega (arith, d, y, w)) (used_count (entry_at k.entries c.args.sem).owner _ c.requires.used)
+    (λ q lq ne. c.release.ensures.others q ne (λ x. omega (arith, x, lq))))

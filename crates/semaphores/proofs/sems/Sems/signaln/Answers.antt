@@ -38,7 +38,8 @@ returns-clause-signalled c m ticks =
     ap (λ u. tables_of (lists r.new.lists) r.new.procs (beside u m ticks)) c.raise.ensures.sems
     ∙ recounted (lists r.new.lists) r.new.procs k sem (z +ℤ pos n) m ticks c.requires.counts.size b
     ∙ ap (with_tokens sem (tokens_of (z +ℤ pos n))) (r.ensures.readied (beside k m ticks))
-    ∙ ap (λ ws. with_tokens sem (tokens_of (z +ℤ pos n)) (ready_all (take n ws) t)) (sym (waiters_at ls s k sem m ticks c.requires.counts.size b))
+    ∙ ap (λ ws. with_tokens sem (tokens_of (z +ℤ pos n)) (ready_all (take n ws) t))
+    (sym (waiters_at ls s k sem m ticks c.requires.counts.size b))
     ∙ ap (λ j. with_tokens sem j (ready_all (take n x.waiters) t)) e
 
 pub returns-clause-counts : goal.returns-clause-counts
@@ -52,7 +53,9 @@ returns-clause-counts c =
     let r = c.release_first-released in
     let y = (more z (z +ℤ pos n) n refl).1 in
     let w = c.requires.counts.waiting sem b in
-    let d : length (list_at (lists r.new.lists) sem) ≡ length (list_at ls sem) - n = ap length r.ensures.rest ∙ length-drop n (list_at ls sem) in
+    let d : length (list_at (lists r.new.lists) sem) ≡ length (list_at ls sem) - n = ap length r.ensures.rest ∙ length-drop n
+    (list_at ls sem) in
     rw c.raise.ensures.sems
     (counts_changed ls (lists r.new.lists) k.entries sem (record (entry_at k.entries sem) { count = z +ℤ pos n }) c.requires.counts b
-    (omega (arith, d, y, w)) (used_count (entry_at k.entries sem).owner _ c.requires.used) (λ q lq ne. r.ensures.others q ne (λ e. omega (arith, e, lq))))
+    (omega (arith, d, y, w)) (used_count (entry_at k.entries sem).owner _ c.requires.used)
+    (λ q lq ne. r.ensures.others q ne (λ e. omega (arith, e, lq))))

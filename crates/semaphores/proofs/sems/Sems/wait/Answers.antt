@@ -8,17 +8,19 @@ use Rattle.xinu_base.specs.declared.processes.State.TheVariants.{Waiting}
 use Rattle.xinu_model.specs.Process.Scheduling.{in_state}
 use Rattle.xinu_model.specs.Semaphores.Counts.{with_tokens}
 use Rattle.xinu_model.specs.Tables.{InSemaphore, Nowhere, message_at, move_to, process_at}
+use Rattle.process_core.proofs.Lengths.{short}
 use Rattle.process_core.specs.Tables.{Beside, ProcessTable, process_in, tables_of}
 use Rattle.process_core.proofs.Fitting.{current_nowhere, fits_waiting, running_within}
 use Rattle.process_core.proofs.Moves.{then_waits}
 use Rattle.semaphores.specs.Counts.{entry_at, waiting_of, beside}
-use Rattle.semaphores.proofs.Counting.{short, counts_changed, unmarked, recounted, tokens_at, less_taken, less_waiting, count_least, marks_size, token_test, used_count}
+use Rattle.semaphores.proofs.Counting.{counts_changed, unmarked, recounted, tokens_at, less_taken, less_waiting, count_least, marks_size, token_test, used_count}
 use Rattle.semaphores.proofs.sems.Sems.wait.Goals as goal
 
 pub lower-requires : goal.lower-requires
 lower-requires c =
     let b : c.args.sem < 128 = c.has_token-took.ensures.within in
-    let least = count_least (entry_at c.args.self.now.entries c.args.sem).count (length (list_at (lists c.args.lists.now) c.args.sem)) (c.requires.counts.waiting c.args.sem b) (short c.args.lists.now c.args.sem) in
+    let least = count_least (entry_at c.args.self.now.entries c.args.sem).count (length (list_at (lists c.args.lists.now) c.args.sem))
+    (c.requires.counts.waiting c.args.sem b) (short c.args.lists.now c.args.sem) in
     record { least = omega (arith, ints, least) }
 
 pub returns-then-took-clause-took : goal.returns-then-took-clause-took
@@ -60,13 +62,16 @@ returns-then-took-clause-counts c =
     let less = less_taken z (z -ℤ pos 1) refl above in
     rw c.lower.ensures.sems
     (counts_changed ls ls k.entries c.args.sem (record (entry_at k.entries c.args.sem) { count = z -ℤ pos 1 }) c.requires.counts b
-    (c.requires.counts.waiting c.args.sem b ∙ less.2 ∙ sym less.1) (used_count (entry_at k.entries c.args.sem).owner _ c.requires.used) (λ r lr n. refl))
+    (c.requires.counts.waiting c.args.sem b ∙ less.2 ∙ sym less.1) (used_count (entry_at k.entries c.args.sem).owner _ c.requires.used)
+    (λ r lr n. refl))
 
 -- the current process, which waits, is put last into the queue of the semaphore
 queued : (ls : List (List Entry)) (s u : ProcessTable) (b : Beside) (sem : ℕ) (k : ℤ) → sem < 128 → sem < length b.marks → length ls ≡ 130
-    → tables_of ls u b ≡ (let t = tables_of ls s b in move_to t.current (in_state Waiting (process_at t t.current)) (message_at t t.current) Nowhere t)
+    → tables_of ls u b ≡ (let t = tables_of ls s b in move_to t.current (in_state Waiting (process_at t t.current))
+    (message_at t t.current) Nowhere t)
     → tables_of (with_list ls sem (list_at ls sem ++ (s.current, k) ∷ [])) u b
-    ≡ (let t = tables_of ls s b in move_to t.current (in_state Waiting (process_at t t.current)) (message_at t t.current) (InSemaphore sem) t)
+    ≡ (let t = tables_of ls s b in move_to t.current (in_state Waiting (process_at t t.current)) (message_at t t.current)
+    (InSemaphore sem) t)
 unfolding tables_of
 queued ls s u b sem k lt marked n h =
     let t = tables_of ls s b in
@@ -98,8 +103,10 @@ returns-clause-fits c =
     let s = c.args.procs.now in
     let b : c.args.sem < 128 = c.has_token-took.ensures.within in
     rw (c.enqueue.ensures.lists, c.block.ensures.procs, c.index-2.ensures.index, c.index.ensures.index, c.current-current.ensures.current)
-    (fits_waiting ls s.processes s.current c.args.sem (pos 0) (in_state Waiting (process_in s.processes s.current)) c.requires.fits (queues_of c.args.lists.now)
-    (running_within ls s.processes s.current c.requires.fits c.requires.runs) b refl (current_nowhere ls s.processes s.current c.requires.fits c.requires.runs))
+    (fits_waiting ls s.processes s.current c.args.sem (pos 0) (in_state Waiting (process_in s.processes s.current)) c.requires.fits
+    (queues_of c.args.lists.now)
+    (running_within ls s.processes s.current c.requires.fits c.requires.runs) b refl
+    (current_nowhere ls s.processes s.current c.requires.fits c.requires.runs))
 
 pub returns-clause-counts : goal.returns-clause-counts
 returns-clause-counts c =
@@ -117,5 +124,7 @@ returns-clause-counts c =
     let there : length (list_at (with_list ls c.args.sem l) c.args.sem) ≡ length l
     = ap length (list_at-same ls c.args.sem l (omega (arith, queues_of c.args.lists.now))) in
     rw (c.enqueue.ensures.lists, c.lower.ensures.sems, c.index-2.ensures.index, c.index.ensures.index, c.current-current.ensures.current)
-    (counts_changed ls (with_list ls c.args.sem l) k.entries c.args.sem (record (entry_at k.entries c.args.sem) { count = z -ℤ pos 1 }) c.requires.counts b
-    (omega (arith, there, a, n, w)) (used_count (entry_at k.entries c.args.sem).owner _ c.requires.used) (λ r lr d. list_at-other ls c.args.sem l r d))
+    (counts_changed ls (with_list ls c.args.sem l) k.entries c.args.sem
+    (record (entry_at k.entries c.args.sem) { count = z -ℤ pos 1 }) c.requires.counts b
+    (omega (arith, there, a, n, w)) (used_count (entry_at k.entries c.args.sem).owner _ c.requires.used)
+    (λ r lr d. list_at-other ls c.args.sem l r d))
