@@ -24,22 +24,6 @@ first_four-more front next operand (Some rest) kept =
     ∙ ap (λ (l : List Operand). Some l) (sym (take_again 4 (front ++ operand ∷ []) rest))
     ∙ ap (λ (l : List Operand). Some (take 4 (l ++ rest))) (sym kept)
 
--- nothing was kept so far
-pub appended-none : (rest : Option (List Operand)) → appended [] rest ≡ rest
-appended-none None = refl
-appended-none (Some rest) = refl
-
--- the last operand
-pub first_four-last : (front next : List Operand) (operand : Operand) (all rest : Option (List Operand)) → first_four all ≡ first_four (appended front rest) → rest ≡ Some (operand ∷ []) → next ≡ take 4 (front ++ operand ∷ []) → first_four all ≡ Some next
-first_four-last front next operand all rest so_far is kept =
-    so_far ∙ ap (λ (o : Option (List Operand)). first_four (appended front o)) is ∙ ap (λ (l : List Operand). Some l) (sym kept)
-
--- no operands are left where there have to be some
-pub first_four-none : (front : List Operand) (all rest : Option (List Operand)) → first_four all ≡ first_four (appended front rest) → rest ≡ None → all ≡ None
-first_four-none front None rest so_far is = refl
-first_four-none front (Some all) None so_far is = cc
-first_four-none front (Some all) (Some rest) so_far is = cc
-
 -- four operands are kept as they are
 pub first_four-full : (front rest : List Operand) → length front ≡ 4 → front ≡ take 4 (front ++ rest)
 first_four-full front rest four = sym (take-append-le 4 front rest (omega arith) ∙ take_all 4 front (omega arith))

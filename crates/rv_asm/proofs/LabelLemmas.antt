@@ -25,13 +25,3 @@ put_first false true o a same none = cc
 pub found-put : (old new : Labels) (name : List ℕ) (address : ℕ) → ((q : List ℕ) → found new q ≡ cond (bytes_eq name q) (Some address) (found old q)) → found old name ≡ None → (q : List ℕ) → found new q ≡ or_address (found old q) (bytes_eq q name) address
 found-put old new name address put none q =
     put q ∙ put_first (bytes_eq name q) (bytes_eq q name) (found old q) address (turned name q) (λ e. ap (found old) (sym ((bytes_eq-Decides name q).0 e)) ∙ none)
-
--- a label that was there stays
-stays : (x : Bool) (o : Option ℕ) (a b : ℕ) → (x ≡ true → o ≡ Some b) → o ≡ or_address o x a
-stays true o a b some = rw (some refl) refl
-stays false None a b some = refl
-stays false (Some c) a b some = refl
-
-pub found-stays : (labels : Labels) (name : List ℕ) (address b : ℕ) → found labels name ≡ Some b → (q : List ℕ) → found labels q ≡ or_address (found labels q) (bytes_eq q name) address
-found-stays labels name address b some q =
-    stays (bytes_eq q name) (found labels q) address b (λ e. ap (found labels) ((bytes_eq-Decides q name).0 e) ∙ some)

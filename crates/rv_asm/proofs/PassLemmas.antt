@@ -20,26 +20,6 @@ faults-next labels k lines rest line s t is none then =
     ∙ ap (λ (o : Option AsmFault). fault_or o (first_fault labels (k + 1) rest (after line s))) none
     ∙ ap (first_fault labels (k + 1) rest) (sym then)
 
--- the first fault is that of a line that has one
-some_first : (fault : AsmFault) (o rest : Option AsmFault) → IsFirst fault o → IsFirst fault (fault_or o rest)
-some_first (BadLine k) o rest is = rw is refl
-some_first (UnknownName k) o rest is = rw is refl
-some_first (OutOfRange k) o rest is = rw is refl
-some_first (DoubleLabel k) o rest is = rw is refl
-some_first NoMemory o rest is = tt
-
-along : (fault : AsmFault) (o p : Option AsmFault) → o ≡ p → IsFirst fault p → IsFirst fault o
-along (BadLine k) o p same is = same ∙ is
-along (UnknownName k) o p same is = same ∙ is
-along (OutOfRange k) o p same is = same ∙ is
-along (DoubleLabel k) o p same is = same ∙ is
-along NoMemory o p same is = tt
-
-pub faults-here : (fault : AsmFault) (all : Option AsmFault) (labels : Labels) (k : ℕ) (lines rest : List Line) (line : Line) (s : Layout) → all ≡ first_fault labels k lines s → lines ≡ line ∷ rest → IsFirst fault (fault_of labels k line s) → IsFirst fault all
-faults-here fault all labels k lines rest line s so_far is here =
-    along fault all (fault_or (fault_of labels k line s) (first_fault labels (k + 1) rest (after line s))) (so_far ∙ ap (λ (l : List Line). first_fault labels k l s) is)
-    (some_first fault (fault_of labels k line s) (first_fault labels (k + 1) rest (after line s)) here)
-
 -- the bytes of a line come before those of the others
 pub content-next : (all : List ℕ) (labels : Labels) (lines rest : List Line) (line : Line) (s t : Layout) (front new : List ℕ) → all ≡ front ++ content labels lines s → lines ≡ line ∷ rest → t ≡ after line s → new ≡ front ++ bytes_at labels s.at line.statement → all ≡ new ++ content labels rest t
 content-next all labels lines rest line s t front new so_far is then pushed =
@@ -61,11 +41,6 @@ astray-next all labels place end k lines rest line s t old new so_far is then fi
     ∙ fault_or-again old (astray_at labels place end k s.at line.statement) (first_astray labels place end (k + 1) rest (after line s))
     ∙ ap (λ (o : Option AsmFault). fault_or o (first_astray labels place end (k + 1) rest (after line s))) (sym first)
     ∙ ap (λ (u : Layout). fault_or new (first_astray labels place end (k + 1) rest u)) (sym then)
-
--- at the end nothing is left
-pub fault_or-none : (o : Option AsmFault) → fault_or o None ≡ o
-fault_or-none None = refl
-fault_or-none (Some f) = refl
 
 -- a text with a line at fault fails with it
 pub fails-first : (fault : AsmFault) (first astray : Option AsmFault) (void : Bool) (file : List ℕ) → IsFirst fault first → IsFault fault (ended first astray void file)

@@ -17,11 +17,6 @@ length-text b all None is some =
     cc
 length-text b all (Some bytes) is some = ap (λ (o : Option (List ℕ)). length (unwrap_or o [])) is ∙ omega arith
 
--- a text that stands for no bytes isn't one
-pub no_text : (all : Option (List ℕ)) → all ≡ None → is_some all ≡ true → ⊥
-no_text None is some = cc
-no_text (Some bytes) is some = cc
-
 -- the bytes of a text are its first and those of the rest
 pub text-cons : (b : ℕ) (all rest : Option (List ℕ)) → all ≡ byte_before (Some b) rest → is_some all ≡ true → unwrap_or all [] ≡ b ∷ unwrap_or rest []
 text-cons b all None is some =
