@@ -14,6 +14,8 @@ ghost use Rattle.xinu_model.specs.Tables.{process_at};
 
 use crate::replies::{is_resched_due, write_all};
 use crate::state::KernelState;
+use crate::tables::KernelTables;
+use freelist_memory::Heap;
 use rv_hart::{Outcome, step};
 use std::marker::Model;
 use xinu_base::{Call, Next, Pid, Rest, State};
@@ -47,6 +49,20 @@ impl Kernel {
         self.state.current()
     }
 
+    /// The tables.
+    pub fn tables(&self) -> &KernelTables
+        ensures tables { result.now ≡ self.now.call.state.tables }
+    {
+        self.state.tables()
+    }
+
+    /// The heap.
+    pub fn heap(&self) -> &Heap
+        ensures heap { result.now ≡ self.now.call.state.parts.heap }
+    {
+        self.state.heap()
+    }
+
     /// Whether nothing is left of the current process's call, so that its next step is an instruction.
     pub fn is_done(&self) -> bool
         ensures done { IsTrue result ↔ ((process_at self.now.call.state.tables self.now.call.state.tables.current).rest ≡ Rest.Nothing) }
@@ -66,6 +82,7 @@ impl Kernel {
         requires idle { IsIdle self.old }
         requires not_null { self.old.call.state.tables.current ≢ 0 }
         ensures outcome { result ≡ (exec (model.current_hart self.old.call.state) self.old.call.state.memory).outcome }
+        ensures idle { IsIdle self.new }
         ensures state { self.new ≡ idle (events.with_executed (exec (model.current_hart self.old.call.state) self.old.call.state.memory) self.old.call.state) }
     {
         self.state.instruction()
@@ -127,6 +144,7 @@ impl Kernel {
     /// Ends the event: its one resched, and the replies. The process that became current, if it is another than at the end of the
     /// call.
     pub fn close_event(&mut self) -> Option<Pid>
+        ensures idle { IsIdle self.new }
         ensures closed { self.new ≡ idle (model.end_of_event 0 [] self.old).state }
         ensures switched { result ≡ switched_to self.old.call.state.tables.current self.new.call.state.tables.current }
     {

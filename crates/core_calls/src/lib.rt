@@ -41,3 +41,6 @@ mod tables;
 pub use boot::BootFault;
 pub use kernel::Kernel;
 pub use tables::KernelTables;
+
+#[cfg(test)]
+mod tests;

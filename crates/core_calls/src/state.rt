@@ -56,6 +56,20 @@ impl KernelState {
         self.tables.current()
     }
 
+    /// The tables.
+    pub(crate) fn tables(&self) -> &KernelTables
+        ensures tables { result.now ≡ self.now.state.tables }
+    {
+        &self.tables
+    }
+
+    /// The heap.
+    pub(crate) fn heap(&self) -> &Heap
+        ensures heap { result.now ≡ self.now.state.parts.heap }
+    {
+        &self.heap
+    }
+
     /// Whether nothing is left of the current process's call.
     pub(crate) fn is_done(&self) -> bool
         ensures done { IsTrue result ↔ ((process_at self.now.state.tables self.now.state.tables.current).rest ≡ Rest.Nothing) }

@@ -3,7 +3,8 @@
 //! It depends on the lists, the process table and the slots, and keeps true what holds of the abstract machine's tables at each moment
 //! of an event. The crates above name no list.
 
-ghost use Rattle.std.specs.Prelude.{◌≡◌, ◌≢◌, ◌+◌, ◌≤◌, ◌<◌, ◌==◌, ◌↔◌, IsTrue, true, None, Some, [], IfSome, IfNone, IfOk, IfErr, length, if◌then◌else◌};
+ghost use Rattle.std.specs.Prelude.{◌≡◌, ◌≢◌, ◌+◌, ◌≤◌, ◌<◌, ◌==◌, ◌↔◌, IsTrue, true, None, Some, [], IfSome, IfNone, IfOk, IfErr, length, drop, if◌then◌else◌};
+ghost use Rattle.std.specs.List.{list_all};
 ghost use Rattle.process_core.specs.Starts.{padded};
 ghost use Rattle.xinu_model.specs.Boot.{null_tables};
 ghost use Rattle.xinu_model.specs.Clock.{quantum_falls};
@@ -12,7 +13,7 @@ ghost use Rattle.xinu_model.specs.Messages.{sent};
 ghost use Rattle.xinu_model.specs.Process.Calls.{with_priority};
 ghost use Rattle.xinu_model.specs.Process.Creation.{free_process, new_process};
 ghost use Rattle.xinu_model.specs.Process.Scheduling as model;
-ghost use Rattle.xinu_model.specs.Tables.{message_at, move_to, no_process, Nowhere, process_at, state_at};
+ghost use Rattle.xinu_model.specs.Tables.{is_free, message_at, move_to, no_process, Nowhere, process_at, state_at};
 
 use crate::current::{end_rest, spend, suspend_current};
 use crate::leaving::bury;
@@ -77,6 +78,30 @@ impl KernelTables {
         self.procs.current()
     }
 
+    /// The ticks since the start.
+    #[tactic(auto, unfolding(process_core::specs::Tables::tables_of))]
+    pub fn ticks(&self) -> u32
+        ensures ticks { result ≡ self.now.ticks }
+    {
+        self.ticks
+    }
+
+    /// The ticks that are left of the quantum.
+    #[tactic(auto, unfolding(process_core::specs::Tables::tables_of))]
+    pub fn quantum(&self) -> u8
+        ensures quantum { result ≡ self.now.quantum }
+    {
+        self.procs.quantum()
+    }
+
+    /// Whether no process is left but the null process.
+    #[tactic(auto, unfolding(process_core::specs::Tables::tables_of))]
+    pub fn is_over(&self) -> bool
+        ensures over { result ≡ list_all (λ x. is_free x.state) (drop 1 self.now.processes) }
+    {
+        self.procs.alive() == 0
+    }
+
     /// The process that a word names. `None` if and only if there is none: the word isn't below 64, or the number is free.
     pub fn alive(&self, word: u32) -> Option<Pid>
         ensures named { IfSome result (λ p. p ≡ word) }
@@ -105,6 +130,22 @@ impl KernelTables {
         ensures priority { result ≡ (process_at self.now p).priority }
     {
         self.procs.priority_of(p)
+    }
+
+    /// The name of `p` as the table has it, with zeros after its end.
+    #[tactic(auto, unfolding(process_core::specs::Tables::tables_of))]
+    pub fn name_field_of(&self, p: Pid) -> [u8; 15]
+        ensures name { result ≡ (process_at self.now p).name }
+    {
+        self.procs.name_field_of(p)
+    }
+
+    /// The message that `p` holds.
+    #[tactic(auto, unfolding(process_core::specs::Tables::tables_of))]
+    pub fn message_of(&self, p: Pid) -> Option<u32>
+        ensures message { result ≡ message_at self.now p }
+    {
+        self.slots.peek(p)
     }
 
     /// The process that made `p`.

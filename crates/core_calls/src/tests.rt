@@ -1,0 +1,139 @@
+//! Boot, the calls of a program, and a tick.
+
+ghost use Rattle.core_calls.specs.Results.{IsIdle};
+
+use crate::{BootFault, Kernel};
+use byteorder::{ByteOrder, LittleEndian};
+use image_loader::{Image, read_image};
+use rv_hart::Outcome;
+use std::test::Fail;
+use xinu_base::{Next, Pid};
+
+// An image file of priority 20 whose program calls `getpid` and `exit`, at a place and with a stack.
+fn file_of(place: u32, stack: u32) -> [u8; 44] {
+    let mut file = [0; 44];
+    let words = [
+        0x474D_4958,
+        1,
+        place,
+        16,
+        place,
+        20,
+        stack,
+        0x0010_0893,
+        0x0000_0073,
+        0x0090_0893,
+        0x0000_0073,
+    ];
+    for i in 0..11 {
+        LittleEndian::write_u32(&mut file[4 * i..], words[i]);
+    }
+    file
+}
+
+// The image of a file.
+fn image_of(file: &[u8]) -> Result<Image<'_>, Fail> {
+    match read_image(file) {
+        Ok(image) => Ok(image),
+        Err(_) => Err(Fail::from("no image")),
+    }
+}
+
+// One step: the number and the answer of its call, and who became current.
+fn step(kernel: &mut Kernel) -> Option<(u32, Next, Option<Pid>)>
+    requires idle { IsIdle kernel.old }
+    ensures idle { IsIdle kernel.new }
+{
+    if kernel.current() == Pid::default() {
+        return None;
+    }
+    match kernel.instruction() {
+        Outcome::Went => None,
+        Outcome::Call => {
+            let call = kernel.call_of();
+            let next = kernel.begin_core(call);
+            Some((call.number, next, kernel.close_event()))
+        }
+        Outcome::Exit | Outcome::Trap(_) => {
+            kernel.die();
+            Some((9, Next::Gone, kernel.close_event()))
+        }
+    }
+}
+
+// A tick.
+fn tick(kernel: &mut Kernel)
+    requires idle { IsIdle kernel.old }
+    ensures idle { IsIdle kernel.new }
+{
+    if kernel.tables().ticks() < 1000 {
+        kernel.on_tick();
+        kernel.close_event();
+    }
+}
+
+// Why the programs at these places, with these stacks, don't boot.
+fn fault_of(
+    alloc: std::alloc::Global,
+    programs: [(u32, u32); 2],
+) -> Result<Option<BootFault>, Fail> {
+    let files = [
+        file_of(programs[0].0, programs[0].1),
+        file_of(programs[1].0, programs[1].1),
+    ];
+    let images = [image_of(&files[0])?, image_of(&files[1])?];
+    Ok(Kernel::new(alloc, &images).err())
+}
+
+#[test]
+fn images_overlap_or_have_no_room_in_their_order(rt: HostRuntime) -> Result<(), Fail> {
+    for (programs, fault) in [
+        ([(0, 4096), (16, 4096)], None),
+        ([(16, 4096), (0, 4096)], None),
+        ([(0, 4096), (12, 4096)], Some(BootFault::Overlap(2))),
+        ([(0, 1_048_576), (12, 4096)], Some(BootFault::Overlap(2))),
+        ([(0, 1_048_576), (16, 4096)], Some(BootFault::NoRoom(1))),
+        ([(0, 4096), (16, 1_044_449)], Some(BootFault::NoRoom(2))),
+        ([(0, 4096), (16, 1_044_448)], None),
+    ] {
+        assert_eq!(rt; fault_of(rt.alloc(), programs)?, fault);
+    }
+    Ok(())
+}
+
+#[test]
+fn programs_run_one_after_the_other(rt: HostRuntime) -> Result<(), Fail> {
+    let files = [file_of(0, 4096), file_of(16, 4096)];
+    let images = [image_of(&files[0])?, image_of(&files[1])?];
+    let Ok(mut kernel) = Kernel::new(rt.alloc(), &images) else {
+        return Err(Fail::from("no kernel"));
+    };
+    let two = Pid::from_word(2).ok_or("no process")?;
+    let null = Pid::default();
+    assert_eq!(rt;
+        (step(&mut kernel), step(&mut kernel)),
+        (None, Some((1, Next::Returns(1), None)))
+    );
+    assert_eq!(rt;
+        (step(&mut kernel), step(&mut kernel)),
+        (None, Some((9, Next::Gone, Some(two))))
+    );
+    tick(&mut kernel);
+    assert_eq!(rt;
+        (step(&mut kernel), step(&mut kernel)),
+        (None, Some((1, Next::Returns(2), None)))
+    );
+    assert_eq!(rt;
+        (step(&mut kernel), step(&mut kernel)),
+        (None, Some((9, Next::Gone, Some(null))))
+    );
+    assert_eq!(rt;
+        (step(&mut kernel), kernel.tables().is_over()),
+        (None, true)
+    );
+    assert_eq!(rt;
+        (kernel.tables().ticks(), kernel.heap().free_total()),
+        (1, 1_048_544)
+    );
+    Ok(())
+}
