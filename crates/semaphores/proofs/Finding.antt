@@ -1,8 +1,9 @@
 -- The search for a free number, by the entries and by the tables.
-use Rattle.std.proofs.Common.{◌≡◌, ◌∙◌, ℕ, ◌+◌, Bool, true, not, cond, List, [], ◌∷◌, Option, Some, None, refl, sym, ap, ℤ, pos, negsuc, ◌≤ℤ◌, ◌<ℤ◌, arith}
+use Rattle.std.proofs.Common.{◌≡◌, ◌≢◌, ◌<◌, ◌≤◌, ◌-◌, inl, inr, false, ◌∙◌, ℕ, ◌+◌, Bool, true, not, cond, List, [], ◌∷◌, Option, Some, None, refl, sym, ap, ℤ, pos, negsuc, ◌≤ℤ◌, ◌<ℤ◌, arith}
 use Rattle.std.specs.List.{find}
 use Rattle.std.specs.Option.{is_some}
-use Rattle.std.specs.Prelude.{IfSome}
+use Rattle.std.specs.Prelude.{IfNone, IfSome}
+use Rattle.std.proofs.lemmas.Bool.{cases_lt}
 use Rattle.std.proofs.lemmas.Int.{ints}
 use Rattle.queue_table.specs.Lists.{Entry}
 use Rattle.xinu_base.specs.declared.semaphores.Owner.{Owner}
@@ -10,7 +11,7 @@ use Rattle.xinu_model.specs.Searches.{going_round, numbers_from, search}
 use Rattle.xinu_model.specs.Semaphores.Counts.{free_semaphore}
 use Rattle.xinu_model.specs.Tables.{Tables, semaphore_at}
 use Rattle.process_core.specs.Tables.{ProcessTable, tables_of}
-use Rattle.process_core.proofs.Searches.{find_passes}
+use Rattle.process_core.proofs.Searches.{find_none, find_passes}
 use Rattle.semaphores.specs.declared.sems.SemaphoreEntry.{SemaphoreEntry}
 use Rattle.semaphores.specs.Counts.{SemaphoreTable, beside, entry_at, number_for}
 use Rattle.semaphores.proofs.Counting.{owner_at}
@@ -52,3 +53,15 @@ number_negative (negsuc n) t h = refl
 pub number_positive : (z : ℤ) (t : Tables) → pos 0 ≤ℤ z → free_semaphore t ≡ number_for z t
 number_positive (pos n) t h = refl
 number_positive (negsuc n) t h = absurd (omega (arith, ints, h))
+
+-- if no number is found none is free
+pub none_free : (es : List SemaphoreEntry) (first : ℕ) (o : Option ℕ) → first ≤ 128
+    → None ≡ find (is_free_in es) (numbers_from first (128 - first)) → o ≡ find (is_free_in es) (numbers_from 0 (first - 0))
+    → IfNone o ((sem : ℕ) → sem < 128 → (entry_at es sem).owner ≢ None)
+none_free es first (Some p) le h e = tt
+none_free es first None le h e = λ sem lt none.
+    let z : is_free_in es sem ≡ false = elim (cases_lt sem first) [
+      | inl below ↦ find_none (is_free_in es) 0 (first - 0) (sym e) sem (omega arith) (omega arith)
+      | inr above ↦ find_none (is_free_in es) first (128 - first) (sym h) sem above (omega arith)
+    ] in
+    let y : true ≡ false = sym (ap (λ (o : Option Owner). not (is_some o)) none) ∙ z in absurd (cc)

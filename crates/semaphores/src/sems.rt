@@ -2,7 +2,7 @@
 //!
 //! It depends on nothing else of the crate. A count above 0 says how many tokens there are, one below 0 how many processes wait.
 
-ghost use Rattle.std.specs.Prelude.{◌≡◌, ◌≢◌, ◌<◌, ◌≤◌, ◌-◌, ◌+ℤ◌, ◌-ℤ◌, ◌≤ℤ◌, ℕ, List, [], Option, None, IfOk, IfErr, IfSome, Some, int_lt, pos, negsuc, false, true, not, is_some, replicate};
+ghost use Rattle.std.specs.Prelude.{◌≡◌, ◌≢◌, ◌<◌, ◌≤◌, ◌-◌, ◌+ℤ◌, ◌-ℤ◌, ◌≤ℤ◌, ℕ, List, [], Option, None, IfOk, IfErr, IfSome, IfNone, Some, int_lt, pos, negsuc, false, true, not, is_some, replicate};
 ghost use Rattle.std.specs.List.{count_by, find};
 ghost use Rattle.process_core.specs.Starts.{first_beside};
 ghost use Rattle.process_core.specs.Tables.{ProcessTable, tables_of};
@@ -63,6 +63,8 @@ impl Sems {
     pub fn create(&mut self, owner: Owner, count: i32) -> Option<Sem>
         ensures found { (ls : List (List Entry)) (s : ProcessTable) (m : List (Option ℕ)) (ticks : ℕ) →
             result ≡ number_for count (tables_of ls s (beside self.old m ticks)) }
+        ensures free { IfSome result (λ sem. (entry_at self.old.entries sem).owner ≡ None) }
+        ensures full { IfNone result (pos 0 ≤ℤ count → (sem : ℕ) → sem < 128 → (entry_at self.old.entries sem).owner ≢ None) }
         ensures sems { self.new ≡ with_made_entry result owner count self.old }
         ensures made { (ls : List (List Entry)) (s : ProcessTable) (m : List (Option ℕ)) (ticks : ℕ) → Counts ls self.old.entries →
             tables_of ls s (beside self.new m ticks) ≡ with_made result owner count (tables_of ls s (beside self.old m ticks)) }
@@ -159,6 +161,7 @@ impl Sems {
         ensures found { (ls : List (List Entry)) (s : ProcessTable) (m : List (Option ℕ)) (ticks : ℕ) →
             result ≡ free_semaphore (tables_of ls s (beside self.now m ticks)) }
         ensures free { IfSome result (λ sem. (entry_at self.now.entries sem).owner ≡ None) }
+        ensures full { IfNone result ((sem : ℕ) → sem < 128 → (entry_at self.now.entries sem).owner ≢ None) }
         ensures within { IfSome result (λ sem. sem < 128) }
     {
         let first = self.last.index() + 1;

@@ -2,7 +2,7 @@ use Rattle.std.proofs.Common.{◌≡◌, ◌∙◌, ◌+◌, ◌-◌, ◌≤◌,
 use Rattle.std.specs.List.{find}
 use Rattle.xinu_model.specs.Searches.{numbers_from}
 use Rattle.process_core.proofs.Searches.{search_ahead, search_round}
-use Rattle.semaphores.proofs.Finding.{found_free, is_free_in, search_is}
+use Rattle.semaphores.proofs.Finding.{found_free, is_free_in, none_free, search_is}
 use Rattle.semaphores.proofs.sems.Sems.place_free.Goals as goal
 
 pub returns-in-Some-clause-found : goal.returns-in-Some-clause-found
@@ -33,3 +33,12 @@ returns-in-None-clause-free c =
     let s = c.args.self.now in
     let e : c.free_within-in-None.result ≡ find (is_free_in s.entries) (numbers_from 0 ((s.last_semaphore + 1) - 0)) = search rules in
     found_free s.entries 0 ((s.last_semaphore + 1) - 0) c.free_within-in-None.result e
+
+pub returns-in-None-clause-full : goal.returns-in-None-clause-full
+returns-in-None-clause-full c =
+    let s = c.args.self.now in
+    let lt : s.last_semaphore + 1 ≤ 128 = search rules in
+    let h : ◌≡◌ {A = Option ℕ} None (find (is_free_in s.entries) (numbers_from (s.last_semaphore + 1) (128 - (s.last_semaphore + 1))))
+    = search rules in
+    let e : c.free_within-in-None.result ≡ find (is_free_in s.entries) (numbers_from 0 ((s.last_semaphore + 1) - 0)) = search rules in
+    none_free s.entries (s.last_semaphore + 1) c.free_within-in-None.result lt h e
