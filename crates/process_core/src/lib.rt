@@ -8,7 +8,7 @@
 //!
 //! | Call | Condition | Promise |
 //! |---|---|---|
-//! | `new` | | `starts`: the machine's table at the start; `never`: it has always room; `fits`: it fits new lists |
+//! | `new` | | `starts`: the machine's table at the start; `never`: it isn't refused; `fits`: it fits new lists |
 //! | `current`, `quantum`, `state_of`, `priority_of`, `parent_of`, `name_of`, `name_field_of`, `stack_of`, `rest_of`, `is_running`, `is_done` | | what their names say of the table |
 //! | `alive` | | `count`: the processes but the null process; `over`: 0 if and only if the machine says that none is left |
 //! | `set_rest` | | `procs`: another rest, and nothing else |

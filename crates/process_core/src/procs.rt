@@ -16,7 +16,7 @@ use std::alloc::Global;
 use std::marker::Model;
 use xinu_base::{NoMemory, Pid, Process, QUANTUM, Rest, State};
 
-/// State, priority, parent, name, stack and rest of each process, the current one and the quantum.
+/// The entries by process number, who runs now, and for how many ticks it may go on.
 #[derive(Drop)]
 pub struct Procs {
     // The processes, by number.
