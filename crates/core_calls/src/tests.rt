@@ -7,7 +7,7 @@ use byteorder::{ByteOrder, LittleEndian};
 use image_loader::{Image, read_image};
 use rv_hart::Outcome;
 use std::test::Fail;
-use xinu_base::{Next, Pid};
+use xinu_base::{Call, Next, Pid};
 
 // An image file of priority 20 whose program calls `getpid` and `exit`, at a place and with a stack.
 fn file_of(place: u32, stack: u32) -> [u8; 44] {
@@ -135,5 +135,79 @@ fn programs_run_one_after_the_other(rt: HostRuntime) -> Result<(), Fail> {
         (kernel.tables().ticks(), kernel.heap().free_total()),
         (1, 1_048_544)
     );
+    Ok(())
+}
+
+// The reply to a call of the current process, if it gets one.
+fn reply(kernel: &mut Kernel, number: u32, args: [u32; 6]) -> Option<i32>
+    requires idle { IsIdle kernel.old }
+    ensures idle { IsIdle kernel.new }
+{
+    if kernel.current() == Pid::default() {
+        return None;
+    }
+    let next = kernel.begin_core(Call { number, args });
+    kernel.close_event();
+    match next {
+        Next::Returns(value) => Some(value),
+        _ => None,
+    }
+}
+
+// Makes these calls and compares their replies.
+fn replies_are(kernel: &mut Kernel, calls: &[(u32, [u32; 6], Option<i32>)]) -> bool
+    requires idle { IsIdle kernel.old }
+    ensures idle { IsIdle kernel.new }
+{
+    for call in calls {
+        if reply(kernel, call.0, call.1) != call.2 {
+            return false;
+        }
+    }
+    true
+}
+
+#[test]
+fn calls_reply_as_the_book_says(rt: HostRuntime) -> Result<(), Fail> {
+    let files = [file_of(4080, 4096)];
+    let images = [image_of(&files[0])?];
+    let Ok(mut kernel) = Kernel::new(rt.alloc(), &images) else {
+        return Err(Fail::from("no kernel"));
+    };
+    let end = u32::MAX;
+    let heap = [
+        (10, [12, 0, 0, 0, 0, 0], Some(4096)),
+        (10, [8, 0, 0, 0, 0, 0], Some(4112)),
+        (11, [4096, 12, 0, 0, 0, 0], Some(0)),
+        (11, [4112, 8, 0, 0, 0, 0], Some(0)),
+        (10, [24, 0, 0, 0, 0, 0], Some(4096)),
+        (11, [4096, 24, 0, 0, 0, 0], Some(0)),
+        (11, [4096, 24, 0, 0, 0, 0], Some(-1)),
+        (10, [0, 0, 0, 0, 0, 0], Some(-1)),
+        (10, [end, 0, 0, 0, 0, 0], Some(-1)),
+        (12, [400, 0, 0, 0, 0, 0], Some(1_044_476)),
+        (13, [1_044_476, 400, 0, 0, 0, 0], Some(0)),
+    ];
+    assert_eq!(rt; replies_are(&mut kernel, &heap), true);
+    let processes = [
+        (1, [0; 6], Some(1)),
+        (2, [2048, 100, 30, 3072, 0, 0], Some(2)),
+        (2, [2048, 100, 0, 3072, 0, 0], Some(-1)),
+        (2, [2048, 100, 30, 1_048_561, 0, 0], Some(-1)),
+        (8, [2, 0, 0, 0, 0, 0], Some(30)),
+        (7, [2, 10, 0, 0, 0, 0], Some(30)),
+        (3, [2, 0, 0, 0, 0, 0], Some(10)),
+        (3, [2, 0, 0, 0, 0, 0], Some(-1)),
+        (4, [2, 0, 0, 0, 0, 0], Some(10)),
+        (4, [0; 6], Some(-1)),
+        (5, [2, 0, 0, 0, 0, 0], Some(0)),
+        (5, [2, 0, 0, 0, 0, 0], Some(-1)),
+        (8, [2, 0, 0, 0, 0, 0], Some(-1)),
+        (6, [0; 6], Some(0)),
+        (14, [0; 6], Some(-1)),
+        (4, [1, 0, 0, 0, 0, 0], None),
+    ];
+    assert_eq!(rt; replies_are(&mut kernel, &processes), true);
+    assert_eq!(rt; kernel.current(), Pid::default());
     Ok(())
 }

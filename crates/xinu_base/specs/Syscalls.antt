@@ -79,7 +79,7 @@ args_of number = (syscall_in syscalls number).args
 
 -- the calls that the kernel has so far
 abbrev pub built : List ℕ
-built = 1 ∷ 9 ∷ []
+built = 1 ∷ 2 ∷ 3 ∷ 4 ∷ 5 ∷ 6 ∷ 7 ∷ 8 ∷ 9 ∷ 10 ∷ 11 ∷ 12 ∷ 13 ∷ []
 
 -- whether the kernel has the call of this number
 abbrev pub is_built : ℕ → Bool

@@ -23,8 +23,8 @@ use Rattle.xinu_model.specs.Footprints.{Footprint}
 use Rattle.xinu_laws.specs.Frame.{Frame}
 use Rattle.xinu_model.specs.Heap.Cells.{Heap}
 use Rattle.xinu_model.specs.Machine.{Parts, Xinu, CallResult, no_hart, refused}
-use Rattle.xinu_model.specs.Pools.Buffers.{Pool}
-use Rattle.xinu_model.specs.Ports.Queues.{Port}
+use Rattle.xinu_model.specs.Pools.Buffers.{BufferPool}
+use Rattle.xinu_model.specs.Ports.Queues.{MessagePort}
 use Rattle.xinu_model.specs.Sound.Tables.{IsInside}
 use Rattle.xinu_model.specs.Sound.State.{IsSound}
 use Rattle.xinu_model.specs.Tables.{Tables, state_at, is_free}
@@ -70,17 +70,17 @@ module _ {f : Footprint} where
   parts_heap may p h e = record { extent = e; heap = named may; pools = λ _. refl; ranges = λ _. refl; ports = λ _. (refl, refl) }
 
   -- Other pools in the same ranges.
-  pub parts_pools : f.pools ≡ true → (p : Parts) (pools : List Pool) → map range_of pools ≡ map range_of p.pools
+  pub parts_pools : f.pools ≡ true → (p : Parts) (pools : List BufferPool) → map range_of pools ≡ map range_of p.pools
       → KeepsParts f p (record p { pools = pools })
   parts_pools may p pools e = record { extent = record { low = refl; many = refl }; heap = λ _. refl; pools = named may; ranges = λ _. e; ports = λ _. (refl, refl) }
 
   -- Another heap of the same extent, and one more pool.
-  pub parts_new_pool : f.heap ≡ true → f.pools ≡ true → f.ranges ≡ true → (p : Parts) (h : Heap) (pools : List Pool) → HasSameExtent p.heap h
+  pub parts_new_pool : f.heap ≡ true → f.pools ≡ true → f.ranges ≡ true → (p : Parts) (h : Heap) (pools : List BufferPool) → HasSameExtent p.heap h
       → KeepsParts f p (record p { heap = h; pools = pools })
   parts_new_pool heap pools ranges p h l e = record { extent = e; heap = named heap; pools = named pools; ranges = named ranges; ports = λ _. (refl, refl) }
 
   -- Other ports.
-  pub parts_ports : f.ports ≡ true → (p : Parts) (ports : List Port) (next : ℕ)
+  pub parts_ports : f.ports ≡ true → (p : Parts) (ports : List MessagePort) (next : ℕ)
       → KeepsParts f p (record p { ports = ports; next_port = next })
   parts_ports may p ports next = record { extent = record { low = refl; many = refl }; heap = λ _. refl; pools = λ _. refl; ranges = λ _. refl; ports = named may }
 

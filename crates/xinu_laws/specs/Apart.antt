@@ -3,7 +3,7 @@ use Rattle.std.specs.Prelude.{◌≡◌, ◌⊎◌, ℕ, ◌+◌, ◌-◌, ◌*�
 use Rattle.xinu_base.specs.declared.processes.Process.{Process}
 use Rattle.xinu_model.specs.Heap.Cells.{Heap}
 use Rattle.xinu_model.specs.Machine.{Xinu}
-use Rattle.xinu_model.specs.Pools.Buffers.{Pool, pool_bytes}
+use Rattle.xinu_model.specs.Pools.Buffers.{BufferPool, pool_bytes}
 use Rattle.xinu_model.specs.Sound.Tables.{times}
 use Rattle.xinu_model.specs.Tables.{process_at}
 
@@ -12,7 +12,7 @@ abbrev pub is_in_free : ℕ → Heap → Bool
 is_in_free a h = nat_le h.low a && slice_index_or h.cells ((a - h.low) / 8) false
 
 -- whether an address lies in the range of a pool
-abbrev pub is_in_pool : ℕ → Pool → Bool
+abbrev pub is_in_pool : ℕ → BufferPool → Bool
 is_in_pool a pool = nat_le pool.base a && nat_lt a (pool.base + pool_bytes pool.size pool.number)
 
 -- whether an address lies in the stack of a process

@@ -9,7 +9,7 @@ use Rattle.xinu_model.specs.Footprints.{Footprint, on_tables, on_pools, on_ports
 use Rattle.xinu_laws.specs.Frame.{Frame}
 use Rattle.xinu_model.specs.Heap.Cells.{Heap}
 use Rattle.xinu_model.specs.Machine.{Parts, Xinu, no_hart}
-use Rattle.xinu_model.specs.Pools.Buffers.{Pool, pool_bytes}
+use Rattle.xinu_model.specs.Pools.Buffers.{BufferPool, pool_bytes}
 use Rattle.xinu_model.specs.Tables.{Tables, state_at, is_free}
 
 -- Whose semaphores a footprint leaves alone: a device's always, a pool's and a port's unless it names pools or ports.
@@ -49,7 +49,7 @@ abbrev pub stacks_of : Tables → List (ℕ × ℕ)
 stacks_of t = map stack_of t.processes
 
 -- where a pool lies: its first address and its bytes
-abbrev pub range_of : Pool → ℕ × ℕ
+abbrev pub range_of : BufferPool → ℕ × ℕ
 range_of pool = (pool.base, pool_bytes pool.size pool.number)
 
 -- Two heaps begin at one address and have the same number of cells.

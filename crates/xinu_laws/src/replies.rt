@@ -12,7 +12,7 @@ ghost use Rattle.xinu_model.specs.Calls.{call_of_number, continued};
 ghost use Rattle.xinu_model.specs.Events.{Happens};
 ghost use Rattle.xinu_model.specs.Machine.{Xinu, CallState, Panics, Returns, goes_on, refused};
 ghost use Rattle.xinu_model.specs.Messages.{held};
-ghost use Rattle.xinu_model.specs.Ports.Queues.{Port, is_stale, most_nodes, nodes, port_at};
+ghost use Rattle.xinu_model.specs.Ports.Queues.{MessagePort, is_stale, most_nodes, nodes, port_at};
 ghost use Rattle.xinu_model.specs.Semaphores.Calls.{semdelete, semreset};
 ghost use Rattle.xinu_model.specs.Semaphores.Counts.{is_good, with_semaphore};
 ghost use Rattle.xinu_model.specs.Semaphores.Waiting.{signalled, signalled_times};
@@ -45,7 +45,7 @@ pub fn waiters_are_answered()
 /// Who waited on a port is refused if and only if the port was renewed since the call began: then no late message comes into it, and none
 /// is taken from it. Else a sender's message comes into it, unless all ports together are full, and a receiver gets the first message.
 pub fn stale_tickets_are_refused()
-    ensures renewed { (ticket : PortTicket) (ports : List Port) → ticket.seq < (port_at ports ticket.port).seq → is_stale ticket ports ≡ true }
+    ensures renewed { (ticket : PortTicket) (ports : List MessagePort) → ticket.seq < (port_at ports ticket.port).seq → is_stale ticket ports ≡ true }
     ensures send { (ticket : PortTicket) (message : ℕ) (s : Xinu) → is_stale ticket s.parts.ports ≡ true → continued (PtSend ticket message) s ≡ refused (goes_on (held s) s) }
     ensures receive { (ticket : PortTicket) (s : Xinu) → is_stale ticket s.parts.ports ≡ true → continued (PtRecv ticket) s ≡ refused (goes_on (held s) s) }
     ensures fresh_send { (ticket : PortTicket) (message : ℕ) (s : Xinu) → is_stale ticket s.parts.ports ≡ false → (continued (PtSend ticket message) s).answer ≡ (if nat_le most_nodes (nodes s.parts.ports) then Panics else Returns OK) }

@@ -9,8 +9,8 @@ use Rattle.xinu_base.specs.declared.lines.TranscriptLine.{TranscriptLine}
 use Rattle.xinu_base.specs.declared.lines.TranscriptLine.TheVariants.{Return, Switch}
 use Rattle.xinu_model.specs.Heap.Cells.{Heap}
 use Rattle.xinu_model.specs.Process.Scheduling.{resched, ready}
-use Rattle.xinu_model.specs.Pools.Buffers.{Pool}
-use Rattle.xinu_model.specs.Ports.Queues.{Port, first_ports}
+use Rattle.xinu_model.specs.Pools.Buffers.{BufferPool}
+use Rattle.xinu_model.specs.Ports.Queues.{MessagePort, first_ports}
 use Rattle.xinu_model.specs.Tables.{Tables, process_at, message_at, Place, Nowhere, move_to}
 use Rattle.xinu_model.specs.Words.{word}
 
@@ -18,8 +18,8 @@ use Rattle.xinu_model.specs.Words.{word}
 -- number, and the port at which the next search begins.
 pub record Parts : Type 0 where
   pub heap : Heap
-  pub pools : List Pool
-  pub ports : List Port
+  pub pools : List BufferPool
+  pub ports : List MessagePort
   pub next_port : ℕ
 
 -- the parts at the start, with this heap: no pool was made, and no port is in use

@@ -17,8 +17,8 @@ use Rattle.xinu_base.specs.declared.registers.Cause.{Cause}
 use Rattle.xinu_base.specs.declared.registers.Cause.TheVariants.{Fetch, Illegal, Break, Target, Load, Store}
 use Rattle.xinu_model.specs.Heap.Cells.{free_blocks}
 use Rattle.xinu_model.specs.Machine.{Xinu}
-use Rattle.xinu_model.specs.Pools.Buffers.{Pool, held_in}
-use Rattle.xinu_model.specs.Ports.Queues.{PortQueue, Port}
+use Rattle.xinu_model.specs.Pools.Buffers.{BufferPool, held_in}
+use Rattle.xinu_model.specs.Ports.Queues.{PortQueue, MessagePort}
 use Rattle.xinu_model.specs.Process.Creation.{before_zero}
 use Rattle.xinu_model.specs.Semaphores.Counts.{count_of, is_images}
 use Rattle.xinu_model.specs.Tables.{Semaphore, is_free}
@@ -166,12 +166,12 @@ abbrev pub free_line : ℕ × ℕ → TranscriptLine
 free_line block = line.Free block.0 block.1
 
 -- the lines of a pool and its free buffers
-abbrev pub pool_line : ℕ → Pool → List TranscriptLine
+abbrev pub pool_line : ℕ → BufferPool → List TranscriptLine
 pool_line i pool =
     line.Pool i pool.size (length pool.free) (held_in pool) ∷ map (line.Buffer i) pool.free
 
 -- the lines of the pools from number i on
-abbrev pub pool_lines : ℕ → List Pool → List TranscriptLine
+abbrev pub pool_lines : ℕ → List BufferPool → List TranscriptLine
 pool_lines i [] = []
 pool_lines i (pool ∷ pools) = pool_line i pool ++ pool_lines (i + 1) pools
 
@@ -181,7 +181,7 @@ port_line q seq None = []
 port_line q seq (Some queue) = line.Port q seq (length queue.messages) ∷ map (line.Node q) queue.messages
 
 -- the lines of the ports from number q on
-abbrev pub port_lines : ℕ → List Port → List TranscriptLine
+abbrev pub port_lines : ℕ → List MessagePort → List TranscriptLine
 port_lines q [] = []
 port_lines q (port ∷ ports) = port_line q port.seq port.queue ++ port_lines (q + 1) ports
 

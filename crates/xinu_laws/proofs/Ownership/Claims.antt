@@ -6,7 +6,7 @@ use Rattle.xinu_base.specs.declared.processes.Process.{Process}
 use Rattle.xinu_laws.specs.Apart.{is_in_free, is_in_pool, is_in_stack, holders, HasStackIn, IsApart}
 use Rattle.xinu_model.specs.Heap.Cells.{Heap}
 use Rattle.xinu_model.specs.Machine.{Xinu}
-use Rattle.xinu_model.specs.Pools.Buffers.{Pool, pool_bytes}
+use Rattle.xinu_model.specs.Pools.Buffers.{BufferPool, pool_bytes}
 use Rattle.xinu_model.specs.Sound.Tables.{times}
 use Rattle.xinu_model.specs.Tables.{no_process, Tables, process_at}
 use Rattle.xinu_laws.specs.Touches.{stack_of, stacks_of, range_of, KeepsPlaces}
@@ -92,7 +92,7 @@ empty_stack a x e =
     (cases_Bool (is_in_stack a x))
 
 -- who is in a pool is between its ends
-pub pool_parts : (a : ℕ) (pool : Pool) → is_in_pool a pool ≡ true → (pool.base ≤ a) × (a < pool.base + pool_bytes pool.size pool.number)
+pub pool_parts : (a : ℕ) (pool : BufferPool) → is_in_pool a pool ≡ true → (pool.base ≤ a) × (a < pool.base + pool_bytes pool.size pool.number)
 pool_parts a pool h =
     let parts = and_parts (nat_le pool.base a) (nat_lt a (pool.base + pool_bytes pool.size pool.number)) h in
     (leb-true pool.base a parts.0, ltb-true a (pool.base + pool_bytes pool.size pool.number) parts.1)

@@ -2,7 +2,7 @@
 use Rattle.std.proofs.Common.{◌≡◌, ◌≢◌, ℕ, zero, suc, ◌+◌, ◌<◌, ◌≤◌, ◌==◌, Bool, true, false, not, cond, ◌||◌, List, [], ◌∷◌, length, filter, refl, sym, ap, subst, ◌∙◌, ⊎_elim, arith}
 use Rattle.std.specs.List.{AllByRecursion}
 use Rattle.std.proofs.lemmas.Bool.{and_parts, not-true, both_ways, cases_eq, cond_both, eq-eqb, eqb-true, false_from_ne_true, ne_eqb, or_cases, or_left, or_right}
-use Rattle.xinu_model.specs.Pools.Buffers.{Pool, addresses, buffers, is_in, is_held, held_in, with_free, new_pool}
+use Rattle.xinu_model.specs.Pools.Buffers.{BufferPool, addresses, buffers, is_in, is_held, held_in, with_free, new_pool}
 use Rattle.xinu_model.specs.Sound.Tables.{count_in}
 use Rattle.xinu_laws.proofs.Lists.Counts.{first_is_counted, count_behind}
 use Rattle.xinu_laws.proofs.Lists.Orders.{all_weaker}
@@ -65,15 +65,15 @@ more_pass wide narrow a w n same (x ∷ l) =
     (λ (h : x ≢ a). rw (same x h) (rw (ne_eqb x a h) (both_longer (wide x) x (filter wide l) (filter narrow l) (count_in a l) e))) (cases_eq x a)
 
 -- no address of a pool's buffers comes twice
-pub buffers_distinct : (a : ℕ) (pool : Pool) → count_in a (buffers pool) ≤ 1
+pub buffers_distinct : (a : ℕ) (pool : BufferPool) → count_in a (buffers pool) ≤ 1
 buffers_distinct a pool = addresses_distinct a (pool.base + 4) (pool.size + 4) pool.number (omega arith)
 
 -- a buffer of a pool is one
-buffer_once : (a : ℕ) (pool : Pool) → is_in a (buffers pool) ≡ true → count_in a (buffers pool) ≡ 1
+buffer_once : (a : ℕ) (pool : BufferPool) → is_in a (buffers pool) ≡ true → count_in a (buffers pool) ≡ 1
 buffer_once a pool h = let e = is_in_counted a (buffers pool) h in let f = buffers_distinct a pool in omega arith
 
 -- if one more buffer is free one less is held
-held_step : (a : ℕ) (pool : Pool) (free : List ℕ) → is_in a (buffers pool) ≡ true → is_in a free ≡ false
+held_step : (a : ℕ) (pool : BufferPool) (free : List ℕ) → is_in a (buffers pool) ≡ true → is_in a free ≡ false
     → held_in (record pool { free = free }) ≡ held_in (record pool { free = a ∷ free }) + 1
 held_step a pool free here out =
     let e = more_pass (λ x. not (is_in x free)) (λ x. not (is_in x (a ∷ free))) a (ap not out) (ap not (or_left (a == a) (is_in a free) (eq-eqb a a refl)))
@@ -88,13 +88,13 @@ first_is_out a l h =
     uncounted_is_out a l (omega arith)
 
 -- A free buffer is taken: one more is held.
-pub held_taken : (a : ℕ) (pool : Pool) (free : List ℕ) → pool.free ≡ a ∷ free → is_in a (buffers pool) ≡ true → count_in a pool.free ≤ 1
+pub held_taken : (a : ℕ) (pool : BufferPool) (free : List ℕ) → pool.free ≡ a ∷ free → is_in a (buffers pool) ≡ true → count_in a pool.free ≤ 1
     → held_in (record pool { free = free }) ≡ held_in pool + 1
 held_taken a pool free e here once =
     held_step a pool free here (first_is_out a free (subst (λ l. count_in a l ≤ 1) e once)) ∙ ap (λ l. held_in (record pool { free = l }) + 1) (sym e)
 
 -- A held buffer is put back: one less is held.
-pub held_put_back : (a : ℕ) (pool : Pool) → is_held a pool ≡ true → held_in pool ≡ held_in (with_free a pool) + 1
+pub held_put_back : (a : ℕ) (pool : BufferPool) → is_held a pool ≡ true → held_in pool ≡ held_in (with_free a pool) + 1
 held_put_back a pool h =
     let parts = and_parts (is_in a (buffers pool)) (not (is_in a pool.free)) h in
     held_step a pool pool.free parts.0 (not-true (is_in a pool.free) parts.1)

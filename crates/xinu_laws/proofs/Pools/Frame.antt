@@ -6,7 +6,7 @@ use Rattle.xinu_base.specs.declared.processes.Rest.TheVariants.{Nothing, GetBuf}
 use Rattle.xinu_base.specs.declared.semaphores.Owner.{Owner}
 use Rattle.xinu_base.specs.declared.semaphores.Owner.TheVariants as owner
 use Rattle.xinu_laws.specs.Frame.{Frame}
-use Rattle.xinu_model.specs.Pools.Buffers.{Pool, pool_at}
+use Rattle.xinu_model.specs.Pools.Buffers.{BufferPool, pool_at}
 use Rattle.xinu_model.specs.Sound.Tables.{times}
 use Rattle.xinu_model.specs.Sound.Pools.{is_waiting, asks_pool, is_released_to_pool, IsSoundPool, ArePools}
 use Rattle.xinu_model.specs.Tables.{no_process, Tables, process_at, state_at, semaphore_at}
@@ -54,7 +54,7 @@ released_framed mine asks t u i c here = times-le (is_released_to_pool i) u.proc
     and_from (not (is_waiting (state_at t p))) (asks_pool i (process_at t p).rest) (ap not (sym same.1) ∙ parts.0) (ap (asks_pool i) (sym same.0) ∙ parts.1))
 
 -- What leaves pool i alone keeps what holds of it.
-pub sound_pool_framed : (mine : ℕ → Option Owner → Bool) (asks : Rest → Bool) (t u : Tables) (i : ℕ) (pool : Pool) → Frame mine asks t u
+pub sound_pool_framed : (mine : ℕ → Option Owner → Bool) (asks : Rest → Bool) (t u : Tables) (i : ℕ) (pool : BufferPool) → Frame mine asks t u
     → ((sem : ℕ) → mine sem (Some (owner.Pool i)) ≡ true) → asks (GetBuf i) ≡ true
     → IsSoundPool t i pool → IsSoundPool u i pool
 sound_pool_framed mine asks t u i pool c m a k =
@@ -68,7 +68,7 @@ sound_pool_framed mine asks t u i pool c m a k =
     }
 
 -- What leaves all pools alone keeps what holds of them.
-pub are_pools_framed : (t u : Tables) (pools : List Pool) → Frame is_pools asks_buffer t u → ArePools t pools → ArePools u pools
+pub are_pools_framed : (t u : Tables) (pools : List BufferPool) → Frame is_pools asks_buffer t u → ArePools t pools → ArePools u pools
 are_pools_framed t u pools c k = record {
   few = k.few;
   each = λ i h. sound_pool_framed is_pools asks_buffer t u i (pool_at pools i) c (λ sem. refl) refl (k.each i h);

@@ -11,7 +11,7 @@ use Rattle.xinu_model.specs.Heap.Cells.{Grant, take_memory}
 use Rattle.xinu_model.specs.Machine.{Xinu, CallResult, refused}
 use Rattle.xinu_model.specs.Memory.{ranges_meet}
 use Rattle.xinu_model.specs.Pools.Calls.{with_pool, made_pool, is_pool_size, mkbufpool}
-use Rattle.xinu_model.specs.Pools.Buffers.{Pool, no_pool, most_pools, pool_at, pool_bytes, whole_words, new_pool, meets_pool}
+use Rattle.xinu_model.specs.Pools.Buffers.{BufferPool, no_pool, most_pools, pool_at, pool_bytes, whole_words, new_pool, meets_pool}
 use Rattle.xinu_model.specs.Semaphores.Counts.{free_semaphore, make_semaphore}
 use Rattle.xinu_model.specs.Sound.Tables.{times, IsInside}
 use Rattle.xinu_model.specs.Sound.Pools.{is_waiting, asks_pool, is_released_to_pool, IsSoundPool, ArePools}
@@ -30,7 +30,7 @@ times-none test [] d h = refl
 times-none test (x ∷ l) d h = rw (h 0) (times-none test l d (λ p. h (suc p)))
 
 -- nobody is released to a pool that isn't made
-none_released : (t : Tables) (pools : List Pool) (i : ℕ) → ArePools t pools → length pools ≤ i → times (is_released_to_pool i) t.processes ≡ 0
+none_released : (t : Tables) (pools : List BufferPool) (i : ℕ) → ArePools t pools → length pools ≤ i → times (is_released_to_pool i) t.processes ≡ 0
 none_released t pools i k h = times-none (is_released_to_pool i) t.processes no_process
     (λ p. false_from_ne_true (is_released_to_pool i (process_at t p))
     (λ b. let x = process_at t p in
@@ -44,16 +44,16 @@ meet_swap a n b m =
     ap (λ k. k && (nat_lt a (b + m) && nat_lt b (a + n))) (and_comm (nat_lt 0 n) (nat_lt 0 m)) ∙ ap (λ k. (nat_lt 0 m && nat_lt 0 n) && k) (and_comm (nat_lt a (b + m)) (nat_lt b (a + n)))
 
 -- a range that meets no pool doesn't meet this one
-meets_none : (base bytes : ℕ) (pools : List Pool) (i : ℕ) → meets_pool base bytes pools ≡ false → i < length pools
+meets_none : (base bytes : ℕ) (pools : List BufferPool) (i : ℕ) → meets_pool base bytes pools ≡ false → i < length pools
     → ranges_meet (pool_at pools i).base (pool_bytes (pool_at pools i).size (pool_at pools i).number) base bytes ≡ false
 meets_none base bytes pools i e h =
     let pool = pool_at pools i in
-    let test = λ (x : Pool). ranges_meet base bytes x.base (pool_bytes x.size x.number) in
+    let test = λ (x : BufferPool). ranges_meet base bytes x.base (pool_bytes x.size x.number) in
     meet_swap pool.base (pool_bytes pool.size pool.number) base bytes
     ∙ false_from_ne_true (test pool) (λ b. both_ways (meets_pool base bytes pools) e (list_any_at test pools i no_pool h b))
 
 -- the pools with one more
-module _ (t : Tables) (pools : List Pool) (pool : Pool) where
+module _ (t : Tables) (pools : List BufferPool) (pool : BufferPool) where
   -- the old ones are as they were
   old_at : (j : ℕ) → j < length pools → pool_at (pools ++ pool ∷ []) j ≡ pool_at pools j
   old_at j h = get_or-append pools (pool ∷ []) no_pool j h
@@ -63,7 +63,7 @@ module _ (t : Tables) (pools : List Pool) (pool : Pool) where
   new_at = get_or-append_seam pools pool [] no_pool
 
   -- what holds of the old ones and of the new one holds of all
-  by_age : (P : ℕ → Pool → Type 0) → ((j : ℕ) → j < length pools → P j (pool_at pools j)) → P (length pools) pool
+  by_age : (P : ℕ → BufferPool → Type 0) → ((j : ℕ) → j < length pools → P j (pool_at pools j)) → P (length pools) pool
       → (j : ℕ) → j < length (pools ++ pool ∷ []) → P j (pool_at (pools ++ pool ∷ []) j)
   by_age P old new j h = ⊎_elim
       (λ (l : j < length pools). subst (P j) (sym (old_at j l)) (old j l))
@@ -71,7 +71,7 @@ module _ (t : Tables) (pools : List Pool) (pool : Pool) where
       (cases_lt j (length pools))
 
 -- what holds of the new pool
-new_pool_sound : (t : Tables) (pools : List Pool) (sem base size n : ℕ) → ArePools t pools → sem < length t.semaphores
+new_pool_sound : (t : Tables) (pools : List BufferPool) (sem base size n : ℕ) → ArePools t pools → sem < length t.semaphores
     → IsSoundPool (make_semaphore sem (owner.Pool (length pools)) n t) (length pools) (new_pool base size n sem)
 new_pool_sound t pools sem base size n k h =
     let x : Semaphore = record { owner = Some (owner.Pool (length pools)); tokens = n; waiters = [] } in
@@ -85,7 +85,7 @@ new_pool_sound t pools sem base size n k h =
     }
 
 -- A pool is made, whose semaphore was free and whose memory meets no other pool.
-pub are_pools_made : (t : Tables) (pools : List Pool) (sem base size n : ℕ) → ArePools t pools → length pools < most_pools → sem < length t.semaphores → (semaphore_at t sem).owner ≡ None
+pub are_pools_made : (t : Tables) (pools : List BufferPool) (sem base size n : ℕ) → ArePools t pools → length pools < most_pools → sem < length t.semaphores → (semaphore_at t sem).owner ≡ None
     → meets_pool base (pool_bytes size n) pools ≡ false → ArePools (make_semaphore sem (owner.Pool (length pools)) n t) (pools ++ new_pool base size n sem ∷ [])
 are_pools_made t pools sem base size n k few h free apart =
     let i = length pools in
@@ -102,14 +102,14 @@ are_pools_made t pools sem base size n k few h free apart =
           (new_pool_sound t pools sem base size n k h);
       owned = λ r j. by_number r sem (λ s. (semaphore_at u s).owner ≡ Some (owner.Pool j) → (j < length all) × ((pool_at all j).semaphore ≡ s))
           (λ e. let f : i ≡ j = (let g : (semaphore_at u sem).owner ≡ Some (owner.Pool i) = ap (λ (y : Semaphore). y.owner) (get_or-set_same t.semaphores sem x no_semaphore h) in cc) in
-          subst (λ m. (m < length all) × ((pool_at all m).semaphore ≡ sem)) f (omega arith, ap (λ (y : Pool). y.semaphore) (new_at t pools pool)))
+          subst (λ m. (m < length all) × ((pool_at all m).semaphore ≡ sem)) f (omega arith, ap (λ (y : BufferPool). y.semaphore) (new_at t pools pool)))
           (λ n e. let f = k.owned r j (sym (ap (λ (y : Semaphore). y.owner) (get_or-set_other t.semaphores sem r x no_semaphore n)) ∙ e) in
-          ((let l = f.0 in omega arith), ap (λ (y : Pool). y.semaphore) (old_at t pools pool j f.0) ∙ f.1));
+          ((let l = f.0 in omega arith), ap (λ (y : BufferPool). y.semaphore) (old_at t pools pool j f.0) ∙ f.1));
       made = λ q j e. (let f = k.made q j e in omega arith);
       apart = λ a b l within. by_age t pools pool (λ m y. a < m → ranges_meet (pool_at all a).base (pool_bytes (pool_at all a).size (pool_at all a).number) y.base (pool_bytes y.size y.number) ≡ false)
-          (λ m mh ah. subst (λ (y : Pool). ranges_meet y.base (pool_bytes y.size y.number) (pool_at pools m).base (pool_bytes (pool_at pools m).size (pool_at pools m).number) ≡ false)
+          (λ m mh ah. subst (λ (y : BufferPool). ranges_meet y.base (pool_bytes y.size y.number) (pool_at pools m).base (pool_bytes (pool_at pools m).size (pool_at pools m).number) ≡ false)
           (sym (old_at t pools pool a (omega arith))) (k.apart a m ah mh))
-          (λ ah. subst (λ (y : Pool). ranges_meet y.base (pool_bytes y.size y.number) base (pool_bytes size n) ≡ false) (sym (old_at t pools pool a ah)) (meets_none base (pool_bytes size n) pools a apart ah)) b within l;
+          (λ ah. subst (λ (y : BufferPool). ranges_meet y.base (pool_bytes y.size y.number) base (pool_bytes size n) ≡ false) (sym (old_at t pools pool a ah)) (meets_none base (pool_bytes size n) pools a apart ah)) b within l;
     }
 
 -- a pool is made, if memory and a semaphore are found

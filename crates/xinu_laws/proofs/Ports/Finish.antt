@@ -5,7 +5,7 @@ use Rattle.std.specs.Prelude.{nat_le}
 use Rattle.std.proofs.lemmas.Bool.{cond_both, eqb-true, leb-false, not-false, or_parts}
 use Rattle.xinu_base.specs.declared.processes.PortTicket.{PortTicket}
 use Rattle.xinu_model.specs.Machine.{Xinu, CallResult, Panics, start, returns}
-use Rattle.xinu_model.specs.Ports.Queues.{PortQueue, Port, no_port, most_nodes, port_at, is_used, nodes, is_stale}
+use Rattle.xinu_model.specs.Ports.Queues.{PortQueue, MessagePort, no_port, most_nodes, port_at, is_used, nodes, is_stale}
 use Rattle.xinu_model.specs.Ports.Calls.{with_messages, put_message, take_message}
 use Rattle.xinu_model.specs.Semaphores.Waiting.{signalled}
 use Rattle.xinu_model.specs.Sound.Tables.{IsInside}
@@ -14,16 +14,16 @@ use Rattle.xinu_laws.proofs.Ports.Messages.{port_within, with_port_messages, por
 use Rattle.xinu_laws.proofs.Ports.Signals.{HasPorts, HasMessage, HasRoom, ports_signal_receive, ports_signal_send}
 
 -- what is said of port q if it is as it was when a call began
-abbrev pub WhereFresh : PortTicket → List Port → (PortQueue → Type 0) → Type 0
+abbrev pub WhereFresh : PortTicket → List MessagePort → (PortQueue → Type 0) → Type 0
 WhereFresh ticket ports P = (queue : PortQueue) → (port_at ports ticket.port).queue ≡ Some queue → (port_at ports ticket.port).seq ≡ ticket.seq → P queue
 
 -- the number of a port that holds other messages
-seq_with_messages : (q : ℕ) (queue : PortQueue) (messages : List ℕ) (ports : List Port) → q < length ports → (port_at (with_port_messages q queue messages ports) q).seq ≡ (port_at ports q).seq
-seq_with_messages q queue messages ports i = ap (λ (x : Port). x.seq) (get_or-set_same ports q (record (port_at ports q) { queue = Some (record queue { messages = messages }) }) no_port i)
+seq_with_messages : (q : ℕ) (queue : PortQueue) (messages : List ℕ) (ports : List MessagePort) → q < length ports → (port_at (with_port_messages q queue messages ports) q).seq ≡ (port_at ports q).seq
+seq_with_messages q queue messages ports i = ap (λ (x : MessagePort). x.seq) (get_or-set_same ports q (record (port_at ports q) { queue = Some (record queue { messages = messages }) }) no_port i)
 
 -- its queue
-queue_with_messages : (q : ℕ) (queue : PortQueue) (messages : List ℕ) (ports : List Port) → q < length ports → (port_at (with_port_messages q queue messages ports) q).queue ≡ Some (record queue { messages = messages })
-queue_with_messages q queue messages ports i = ap (λ (x : Port). x.queue) (get_or-set_same ports q (record (port_at ports q) { queue = Some (record queue { messages = messages }) }) no_port i)
+queue_with_messages : (q : ℕ) (queue : PortQueue) (messages : List ℕ) (ports : List MessagePort) → q < length ports → (port_at (with_port_messages q queue messages ports) q).queue ≡ Some (record queue { messages = messages })
+queue_with_messages q queue messages ports i = ap (λ (x : MessagePort). x.queue) (get_or-set_same ports q (record (port_at ports q) { queue = Some (record queue { messages = messages }) }) no_port i)
 
 -- A message goes into a port that has room for it.
 message_move : (queue : PortQueue) (q message : ℕ) (s : Xinu) → (port_at s.parts.ports q).queue ≡ Some queue → nodes s.parts.ports < most_nodes → IsInside s.tables
@@ -53,7 +53,7 @@ put_kept (Some queue) q message s here o r a =
     (λ _. a) (λ b. message_move queue q message s here (leb-false most_nodes (nodes s.parts.ports) b) o (r queue refl) a)
 
 -- the number of a port that isn't stale
-pub fresh_seq : (ticket : PortTicket) (ports : List Port) → is_stale ticket ports ≡ false → (port_at ports ticket.port).seq ≡ ticket.seq
+pub fresh_seq : (ticket : PortTicket) (ports : List MessagePort) → is_stale ticket ports ≡ false → (port_at ports ticket.port).seq ≡ ticket.seq
 fresh_seq ticket ports b =
     let port = port_at ports ticket.port in
     eqb-true port.seq ticket.seq (not-false (port.seq == ticket.seq) (or_parts (not (is_used port)) (not (port.seq == ticket.seq)) b).1)

@@ -7,7 +7,7 @@ use Rattle.xinu_base.specs.declared.processes.Rest.{Rest}
 use Rattle.xinu_base.specs.declared.processes.Rest.TheVariants.{PtSend, PtRecv}
 use Rattle.xinu_base.specs.declared.semaphores.Owner.{Owner}
 use Rattle.xinu_base.specs.declared.semaphores.Owner.TheVariants as owner
-use Rattle.xinu_model.specs.Ports.Queues.{PortQueue, Port, port_at}
+use Rattle.xinu_model.specs.Ports.Queues.{PortQueue, MessagePort, port_at}
 use Rattle.xinu_model.specs.Sound.Tables.{times, count_in, IsForPort, FitsOwner, IsInside}
 use Rattle.xinu_model.specs.Sound.Pools.{is_waiting}
 use Rattle.xinu_model.specs.Sound.Ports.{sends_to, receives_from, is_released_sender, is_released_receiver, IsSoundPort, ArePorts}
@@ -77,7 +77,7 @@ sound_port_kept q seq queue t u k c i = record {
 }
 
 -- What holds of all ports holds on where each is kept and the counts fit.
-pub ports_kept : (t u : Tables) (ports : List Port) → ((q : ℕ) → KeepsPort q t u) → KeepsRests t u
+pub ports_kept : (t u : Tables) (ports : List MessagePort) → ((q : ℕ) → KeepsPort q t u) → KeepsRests t u
     → ((q : ℕ) (queue : PortQueue) → (port_at ports q).queue ≡ Some queue → IsSoundPort t q (port_at ports q).seq queue → HasCounts u q (port_at ports q).seq queue)
     → ArePorts t ports → ArePorts u ports
 ports_kept t u ports k r c a = record {
@@ -148,7 +148,7 @@ module _ {mine : ℕ → Option Owner → Bool} {asks : Rest → Bool} where
   }
 
 -- What leaves the ports alone keeps what holds of them.
-pub ports_framed : (t u : Tables) (ports : List Port) → IsInside u → Frame is_ports asks_port t u → ArePorts t ports → ArePorts u ports
+pub ports_framed : (t u : Tables) (ports : List MessagePort) → IsInside u → Frame is_ports asks_port t u → ArePorts t ports → ArePorts u ports
 ports_framed t u ports o c a =
     ports_kept t u ports (λ q. keeps_port_framed q t u (covers_ports q) o c) (record { rests = λ p h. (c.rests p h).0 })
     (λ q queue e i. counts_kept q (port_at ports q).seq queue t u (keeps_counts_framed q t u (covers_ports q) c) i) a

@@ -6,7 +6,7 @@ use Rattle.std.proofs.lemmas.List.{get_or_past}
 use Rattle.xinu_base.specs.declared.processes.Process.{Process}
 use Rattle.xinu_base.specs.declared.processes.Rest.TheVariants.{Nothing}
 use Rattle.xinu_base.specs.declared.semaphores.Owner.TheVariants as owner
-use Rattle.xinu_model.specs.Ports.Queues.{PortQueue, Port, no_port, most_nodes, port_at, queued, nodes}
+use Rattle.xinu_model.specs.Ports.Queues.{PortQueue, MessagePort, no_port, most_nodes, port_at, queued, nodes}
 use Rattle.xinu_model.specs.Semaphores.Counts.{with_tokens}
 use Rattle.xinu_model.specs.Sound.Tables.{times, IsInside}
 use Rattle.xinu_model.specs.Sound.Pools.{is_waiting}
@@ -20,7 +20,7 @@ use Rattle.xinu_laws.proofs.Ports.Moves.{keeps_port_left, keeps_rests_set, left_
 use Rattle.xinu_laws.proofs.Ports.Signals.{HasMessage, HasRoom, port_semaphore_within, ports_tokens}
 
 -- A sender takes a token: there is room for its message.
-pub ports_take_room : (q : ℕ) (queue : PortQueue) (n : ℕ) (t : Tables) (ports : List Port) → IsInside t → (port_at ports q).queue ≡ Some queue → (semaphore_at t queue.send).tokens ≡ suc n
+pub ports_take_room : (q : ℕ) (queue : PortQueue) (n : ℕ) (t : Tables) (ports : List MessagePort) → IsInside t → (port_at ports q).queue ≡ Some queue → (semaphore_at t queue.send).tokens ≡ suc n
     → ArePorts t ports → ArePorts (with_tokens queue.send n t) ports × HasRoom (with_tokens queue.send n t) q (port_at ports q).seq queue
 ports_take_room q queue n t ports o here e a =
     let i = a.each q queue here in
@@ -32,7 +32,7 @@ ports_take_room q queue n t ports o here e a =
     (ports_tokens q queue queue.send n t ports o i.send_owner here (record { messages = omega arith; room = omega arith }) a, record { room = omega arith })
 
 -- A receiver takes a token: there is a message for it.
-pub ports_take_turn : (q : ℕ) (queue : PortQueue) (n : ℕ) (t : Tables) (ports : List Port) → IsInside t → (port_at ports q).queue ≡ Some queue → (semaphore_at t queue.receive).tokens ≡ suc n
+pub ports_take_turn : (q : ℕ) (queue : PortQueue) (n : ℕ) (t : Tables) (ports : List MessagePort) → IsInside t → (port_at ports q).queue ≡ Some queue → (semaphore_at t queue.receive).tokens ≡ suc n
     → ArePorts t ports → ArePorts (with_tokens queue.receive n t) ports × HasMessage (with_tokens queue.receive n t) q (port_at ports q).seq queue
 ports_take_turn q queue n t ports o here e a =
     let i = a.each q queue here in
@@ -73,7 +73,7 @@ tokens_go_on : (sem p : ℕ) (m : Option ℕ) (t : Tables) → (semaphore_at (go
 tokens_go_on sem p m t = ap (λ (x : Semaphore). x.tokens) (left_for_nowhere t p (record (process_at t p) { rest = Nothing }) m sem)
 
 -- A process goes on of whose call nothing is left.
-pub ports_go_on : (p : ℕ) (m : Option ℕ) (t : Tables) (ports : List Port) → p < length t.processes → ArePorts t ports → ArePorts (gone_on p m t) ports
+pub ports_go_on : (p : ℕ) (m : Option ℕ) (t : Tables) (ports : List MessagePort) → p < length t.processes → ArePorts t ports → ArePorts (gone_on p m t) ports
 ports_go_on p m t ports i a =
     let x : Process = record (process_at t p) { rest = Nothing } in
     let u = gone_on p m t in
@@ -106,27 +106,27 @@ message_go_on q seq p queue m t i r k =
     record { messages = omega arith }
 
 -- a port in use has a number of the table
-pub port_within : (q : ℕ) (queue : PortQueue) (ports : List Port) → (port_at ports q).queue ≡ Some queue → q < length ports
+pub port_within : (q : ℕ) (queue : PortQueue) (ports : List MessagePort) → (port_at ports q).queue ≡ Some queue → q < length ports
 port_within q queue ports e =
-    ⊎_elim (λ (h : q < length ports). h) (λ (h : length ports ≤ q). (let f = ap (λ (x : Port). x.queue) (get_or_past ports q no_port h) in absurd (cc))) (cases_lt q (length ports))
+    ⊎_elim (λ (h : q < length ports). h) (λ (h : length ports ≤ q). (let f = ap (λ (x : MessagePort). x.queue) (get_or_past ports q no_port h) in absurd (cc))) (cases_lt q (length ports))
 
 -- port q with other messages
-abbrev pub with_port_messages : ℕ → PortQueue → List ℕ → List Port → List Port
+abbrev pub with_port_messages : ℕ → PortQueue → List ℕ → List MessagePort → List MessagePort
 with_port_messages q queue messages ports = set ports q (record (port_at ports q) { queue = Some (record queue { messages = messages }) })
 
 -- What holds of the ports holds on with other messages of port q for which the counts fit.
-pub ports_with_messages : (q : ℕ) (queue : PortQueue) (messages : List ℕ) (t : Tables) (ports : List Port) → (port_at ports q).queue ≡ Some queue
+pub ports_with_messages : (q : ℕ) (queue : PortQueue) (messages : List ℕ) (t : Tables) (ports : List MessagePort) → (port_at ports q).queue ≡ Some queue
     → nodes ports + length messages ≤ most_nodes + length queue.messages → HasCounts t q (port_at ports q).seq (record queue { messages = messages })
     → ArePorts t ports → ArePorts t (with_port_messages q queue messages ports)
 ports_with_messages q queue messages t ports here few c a =
     let next : PortQueue = record queue { messages = messages } in
-    let x : Port = record (port_at ports q) { queue = Some next } in
+    let x : MessagePort = record (port_at ports q) { queue = Some next } in
     let new = set ports q x in
     let i = port_within q queue ports here in
     let same : port_at new q ≡ x = get_or-set_same ports q x no_port i in
     let other = λ (r : ℕ) (n : r ≢ q). get_or-set_other ports q r x no_port n in
     let seqs : (r : ℕ) → (port_at new r).seq ≡ (port_at ports r).seq = λ r. by_number r q (λ k. (port_at new k).seq ≡ (port_at ports k).seq)
-    (ap (λ (y : Port). y.seq) same) (λ n. ap (λ (y : Port). y.seq) (other r n)) in
+    (ap (λ (y : MessagePort). y.seq) same) (λ n. ap (λ (y : MessagePort). y.seq) (other r n)) in
     let k = a.each q queue here in
     let m = nodes-set ports q x i in
     let l : length (queued (port_at ports q).queue) ≡ length queue.messages = ap (λ o. length (queued o)) here in
@@ -134,7 +134,7 @@ ports_with_messages q queue messages t ports here few c a =
       many = length-set ports q x ∙ a.many;
       few = omega arith;
       each = λ r. by_number r q (λ v. (y : PortQueue) → (port_at new v).queue ≡ Some y → IsSoundPort t v (port_at new v).seq y)
-          (λ y e. (let f : next ≡ y = (let g = ap (λ (z : Port). z.queue) same in cc) in
+          (λ y e. (let f : next ≡ y = (let g = ap (λ (z : MessagePort). z.queue) same in cc) in
           subst (λ n. IsSoundPort t q n y) (sym (seqs q)) (subst (IsSoundPort t q (port_at ports q).seq) f (record {
             send_owner = k.send_owner;
             receive_owner = k.receive_owner;
@@ -144,10 +144,10 @@ ports_with_messages q queue messages t ports here few c a =
             messages = c.messages;
             room = c.room;
           }))))
-          (λ n y e. subst (λ (z : Port). IsSoundPort t r z.seq y) (sym (other r n)) (a.each r y (sym (ap (λ (z : Port). z.queue) (other r n)) ∙ e)));
+          (λ n y e. subst (λ (z : MessagePort). IsSoundPort t r z.seq y) (sym (other r n)) (a.each r y (sym (ap (λ (z : MessagePort). z.queue) (other r n)) ∙ e)));
       owned = λ s r. by_number r q (λ v. (semaphore_at t s).owner ≡ Some (owner.Port v) → (y : PortQueue) × ((port_at new v).queue ≡ Some y) × ((s ≡ y.send) ⊎ (s ≡ y.receive)))
-          (λ e. (let o = a.owned s q e in let f : o.0 ≡ queue = (let g = o.1 in cc) in (next, ap (λ (z : Port). z.queue) same, subst (λ (y : PortQueue). (s ≡ y.send) ⊎ (s ≡ y.receive)) f o.2)))
-          (λ n e. (let o = a.owned s r e in (o.0, ap (λ (z : Port). z.queue) (other r n) ∙ o.1, o.2)));
+          (λ e. (let o = a.owned s q e in let f : o.0 ≡ queue = (let g = o.1 in cc) in (next, ap (λ (z : MessagePort). z.queue) same, subst (λ (y : PortQueue). (s ≡ y.send) ⊎ (s ≡ y.receive)) f o.2)))
+          (λ n e. (let o = a.owned s r e in (o.0, ap (λ (z : MessagePort). z.queue) (other r n) ∙ o.1, o.2)));
       sent = λ p ticket message e. subst (λ n. ticket.seq ≤ n) (sym (seqs ticket.port)) (a.sent p ticket message e);
       received = λ p ticket e. subst (λ n. ticket.seq ≤ n) (sym (seqs ticket.port)) (a.received p ticket e);
     }

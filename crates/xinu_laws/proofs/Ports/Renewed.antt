@@ -8,7 +8,7 @@ use Rattle.xinu_base.specs.declared.processes.Rest.{Rest}
 use Rattle.xinu_base.specs.declared.processes.Rest.TheVariants.{PtSend, PtRecv}
 use Rattle.xinu_base.specs.declared.semaphores.Owner.{Owner}
 use Rattle.xinu_base.specs.declared.semaphores.Owner.TheVariants as owner
-use Rattle.xinu_model.specs.Ports.Queues.{PortQueue, Port, no_port, most_ports, port_at, queued}
+use Rattle.xinu_model.specs.Ports.Queues.{PortQueue, MessagePort, no_port, most_ports, port_at, queued}
 use Rattle.xinu_model.specs.Ports.Calls.{renewed}
 use Rattle.xinu_model.specs.Sound.Tables.{times, count_in, IsForPort, IsInside}
 use Rattle.xinu_model.specs.Sound.Pools.{is_waiting}
@@ -72,7 +72,7 @@ unasked_here q sem (PtRecv ticket) h = not_other ticket.port q h.0
 unasked_here q sem _ h = absurd h
 
 -- a call that began before the next number isn't one by it
-old_sender : (q seq : ℕ) (ports : List Port) (left : Rest) → (port_at ports q).seq ≡ seq → ((ticket : PortTicket) (message : ℕ) → left ≡ PtSend ticket message → ticket.seq ≤ (port_at ports ticket.port).seq)
+old_sender : (q seq : ℕ) (ports : List MessagePort) (left : Rest) → (port_at ports q).seq ≡ seq → ((ticket : PortTicket) (message : ℕ) → left ≡ PtSend ticket message → ticket.seq ≤ (port_at ports ticket.port).seq)
     → sends_to q (seq + 1) left ≡ true → ⊥
 old_sender q seq ports (PtSend ticket message) e bound h =
     let p = and_parts (ticket.port == q) (ticket.seq == seq + 1) h in
@@ -83,7 +83,7 @@ old_sender q seq ports (PtSend ticket message) e bound h =
 old_sender q seq ports (PtRecv ticket) e bound h = true≢false (sym h)
 old_sender q seq ports _ e bound h = true≢false (sym h)
 
-old_receiver : (q seq : ℕ) (ports : List Port) (left : Rest) → (port_at ports q).seq ≡ seq → ((ticket : PortTicket) → left ≡ PtRecv ticket → ticket.seq ≤ (port_at ports ticket.port).seq)
+old_receiver : (q seq : ℕ) (ports : List MessagePort) (left : Rest) → (port_at ports q).seq ≡ seq → ((ticket : PortTicket) → left ≡ PtRecv ticket → ticket.seq ≤ (port_at ports ticket.port).seq)
     → receives_from q (seq + 1) left ≡ true → ⊥
 old_receiver q seq ports (PtRecv ticket) e bound h =
     let p = and_parts (ticket.port == q) (ticket.seq == seq + 1) h in
@@ -95,14 +95,14 @@ old_receiver q seq ports (PtSend ticket message) e bound h = true≢false (sym h
 old_receiver q seq ports _ e bound h = true≢false (sym h)
 
 -- no released sender has the next number,
-pub no_new_senders : (q : ℕ) (t u : Tables) (ports : List Port) → KeepsRests t u → ArePorts t ports → times (is_released_sender q ((port_at ports q).seq + 1)) u.processes ≡ 0
+pub no_new_senders : (q : ℕ) (t u : Tables) (ports : List MessagePort) → KeepsRests t u → ArePorts t ports → times (is_released_sender q ((port_at ports q).seq + 1)) u.processes ≡ 0
 no_new_senders q t u ports k a = times_none (is_released_sender q ((port_at ports q).seq + 1)) no_process u.processes
     (λ p h. old_sender q (port_at ports q).seq ports (process_at u p).rest refl
     (λ ticket message e. a.sent p ticket message (sym (k.rests p (ap asks_port e)) ∙ e))
     (and_parts (not (is_waiting (process_at u p).state)) (sends_to q ((port_at ports q).seq + 1) (process_at u p).rest) h).1)
 
 -- and no released receiver
-pub no_new_receivers : (q : ℕ) (t u : Tables) (ports : List Port) → KeepsRests t u → ArePorts t ports → times (is_released_receiver q ((port_at ports q).seq + 1)) u.processes ≡ 0
+pub no_new_receivers : (q : ℕ) (t u : Tables) (ports : List MessagePort) → KeepsRests t u → ArePorts t ports → times (is_released_receiver q ((port_at ports q).seq + 1)) u.processes ≡ 0
 no_new_receivers q t u ports k a = times_none (is_released_receiver q ((port_at ports q).seq + 1)) no_process u.processes
     (λ p h. old_receiver q (port_at ports q).seq ports (process_at u p).rest refl
     (λ ticket e. a.received p ticket (sym (k.rests p (ap asks_port e)) ∙ e))
@@ -124,7 +124,7 @@ nobody : {P : Type 0} (p : ℕ) (l : List ℕ) → l ≡ [] → 0 < count_in p l
 nobody p l e h = let f = ap (count_in p) e in absurd (omega arith)
 
 -- what holds of it
-pub sound_new_port : (q : ℕ) (queue : PortQueue) (t u : Tables) (ports : List Port) → KeepsRests t u → ArePorts t ports → IsNewPort u q queue → IsSoundPort u q ((port_at ports q).seq + 1) queue
+pub sound_new_port : (q : ℕ) (queue : PortQueue) (t u : Tables) (ports : List MessagePort) → KeepsRests t u → ArePorts t ports → IsNewPort u q queue → IsSoundPort u q ((port_at ports q).seq + 1) queue
 sound_new_port q queue t u ports k a n =
     let senders = no_new_senders q t u ports k a in
     let receivers = no_new_receivers q t u ports k a in
@@ -142,12 +142,12 @@ sound_new_port q queue t u ports k a n =
     }
 
 -- Port q is renewed: what holds of it as it is now, and what held of the others, holds of all.
-pub ports_renewed : (q : ℕ) (x : Option PortQueue) (t u : Tables) (ports : List Port) → q < most_ports → IsInside u → Frame (is_other_port q) (asks_other_port q) t u → KeepsRests t u
+pub ports_renewed : (q : ℕ) (x : Option PortQueue) (t u : Tables) (ports : List MessagePort) → q < most_ports → IsInside u → Frame (is_other_port q) (asks_other_port q) t u → KeepsRests t u
     → ((queue : PortQueue) → x ≡ Some queue → IsNewPort u q queue)
     → ((sem : ℕ) → (semaphore_at u sem).owner ≡ Some (owner.Port q) → (queue : PortQueue) × (x ≡ Some queue) × ((sem ≡ queue.send) ⊎ (sem ≡ queue.receive)))
     → length (queued x) ≡ 0 → ArePorts t ports → ArePorts u (renewed q x ports)
 ports_renewed q x t u ports w o c rests new owned none a =
-    let y : Port = record { seq = (port_at ports q).seq + 1; queue = x } in
+    let y : MessagePort = record { seq = (port_at ports q).seq + 1; queue = x } in
     let now = renewed q x ports in
     let many = a.many in
     let i : q < length ports = omega arith in
@@ -156,19 +156,19 @@ ports_renewed q x t u ports w o c rests new owned none a =
     let m = nodes-set ports q y i in
     let few = a.few in
     let later : (r : ℕ) → (port_at ports r).seq ≤ (port_at now r).seq = λ r. by_number r q (λ v. (port_at ports v).seq ≤ (port_at now v).seq)
-    (let e = ap (λ (z : Port). z.seq) same in omega arith) (λ n. (let e = ap (λ (z : Port). z.seq) (others r n) in omega arith)) in
+    (let e = ap (λ (z : MessagePort). z.seq) same in omega arith) (λ n. (let e = ap (λ (z : MessagePort). z.seq) (others r n) in omega arith)) in
     record {
       many = length-set ports q y ∙ a.many;
       few = omega arith;
       each = λ r. by_number r q (λ v. (queue : PortQueue) → (port_at now v).queue ≡ Some queue → IsSoundPort u v (port_at now v).seq queue)
-          (λ queue e. subst (λ (z : Port). IsSoundPort u q z.seq queue) (sym same) (sound_new_port q queue t u ports rests a (new queue (sym (ap (λ (z : Port). z.queue) same) ∙ e))))
-          (λ n queue e. (let k = a.each r queue (sym (ap (λ (z : Port). z.queue) (others r n)) ∙ e) in
+          (λ queue e. subst (λ (z : MessagePort). IsSoundPort u q z.seq queue) (sym same) (sound_new_port q queue t u ports rests a (new queue (sym (ap (λ (z : MessagePort). z.queue) same) ∙ e))))
+          (λ n queue e. (let k = a.each r queue (sym (ap (λ (z : MessagePort). z.queue) (others r n)) ∙ e) in
           let v = covers_other q r n in
-          subst (λ (z : Port). IsSoundPort u r z.seq queue) (sym (others r n))
+          subst (λ (z : MessagePort). IsSoundPort u r z.seq queue) (sym (others r n))
           (sound_port_kept r (port_at ports r).seq queue t u (keeps_port_framed r t u v o c) (counts_kept r (port_at ports r).seq queue t u (keeps_counts_framed r t u v c) k) k)));
       owned = λ sem r. by_number r q (λ v. (semaphore_at u sem).owner ≡ Some (owner.Port v) → (queue : PortQueue) × ((port_at now v).queue ≡ Some queue) × ((sem ≡ queue.send) ⊎ (sem ≡ queue.receive)))
-          (λ e. (let f = owned sem e in (f.0, ap (λ (z : Port). z.queue) same ∙ f.1, f.2)))
-          (λ n e. (let f = a.owned sem r ((keeps_port_framed r t u (covers_other q r n) o c).old sem e) in (f.0, ap (λ (z : Port). z.queue) (others r n) ∙ f.1, f.2)));
+          (λ e. (let f = owned sem e in (f.0, ap (λ (z : MessagePort). z.queue) same ∙ f.1, f.2)))
+          (λ n e. (let f = a.owned sem r ((keeps_port_framed r t u (covers_other q r n) o c).old sem e) in (f.0, ap (λ (z : MessagePort). z.queue) (others r n) ∙ f.1, f.2)));
       sent = λ p ticket message e. (let f = a.sent p ticket message (sym (rests.rests p (ap asks_port e)) ∙ e) in let g = later ticket.port in omega arith);
       received = λ p ticket e. (let f = a.received p ticket (sym (rests.rests p (ap asks_port e)) ∙ e) in let g = later ticket.port in omega arith);
     }

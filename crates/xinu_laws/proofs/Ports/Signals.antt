@@ -8,7 +8,7 @@ use Rattle.xinu_base.specs.declared.semaphores.Owner.{Owner}
 use Rattle.xinu_base.specs.declared.semaphores.Owner.TheVariants as owner
 use Rattle.xinu_model.specs.Machine.{CallState}
 use Rattle.xinu_model.specs.Process.Scheduling.{in_state, ready}
-use Rattle.xinu_model.specs.Ports.Queues.{PortQueue, Port, port_at}
+use Rattle.xinu_model.specs.Ports.Queues.{PortQueue, MessagePort, port_at}
 use Rattle.xinu_model.specs.Semaphores.Counts.{with_tokens}
 use Rattle.xinu_model.specs.Semaphores.Waiting.{signal_first, signalled}
 use Rattle.xinu_model.specs.Sound.Tables.{times, count_in, waiting_places, FitsOwner, IsInside}
@@ -25,7 +25,7 @@ abbrev pub HasPorts : CallState → Type 0
 HasPorts d = ArePorts d.state.tables d.state.parts.ports
 
 -- If only port q is touched and its counts fit afterwards, what holds of the ports holds on.
-pub ports_touched : (q : ℕ) (queue : PortQueue) (t u : Tables) (ports : List Port) → ((r : ℕ) → KeepsPort r t u) → KeepsRests t u → ((r : ℕ) → q ≢ r → KeepsCounts r t u)
+pub ports_touched : (q : ℕ) (queue : PortQueue) (t u : Tables) (ports : List MessagePort) → ((r : ℕ) → KeepsPort r t u) → KeepsRests t u → ((r : ℕ) → q ≢ r → KeepsCounts r t u)
     → (port_at ports q).queue ≡ Some queue → HasCounts u q (port_at ports q).seq queue → ArePorts t ports → ArePorts u ports
 ports_touched q queue t u ports k rests counts here c a = ports_kept t u ports k rests
     (λ r other e i. ⊎_elim
@@ -56,14 +56,14 @@ waiter_within sem p t o h =
     omega arith
 
 -- A token more, or fewer, at one of the semaphores of port q.
-pub ports_tokens : (q : ℕ) (queue : PortQueue) (sem n : ℕ) (t : Tables) (ports : List Port) → IsInside t → (semaphore_at t sem).owner ≡ Some (owner.Port q)
+pub ports_tokens : (q : ℕ) (queue : PortQueue) (sem n : ℕ) (t : Tables) (ports : List MessagePort) → IsInside t → (semaphore_at t sem).owner ≡ Some (owner.Port q)
     → (port_at ports q).queue ≡ Some queue → HasCounts (with_tokens sem n t) q (port_at ports q).seq queue → ArePorts t ports → ArePorts (with_tokens sem n t) ports
 ports_tokens q queue sem n t ports o e here c a = ports_touched q queue t (with_tokens sem n t) ports
     (λ r. keeps_port_tokens r t sem n (port_semaphore_within q sem t o e)) (keeps_rests_semaphore t sem (record (semaphore_at t sem) { tokens = n }))
     (λ r k. keeps_counts_semaphore r t sem (record (semaphore_at t sem) { tokens = n }) (other_owner q r (semaphore_at t sem).owner k e)) here c a
 
 -- One who waits on a semaphore of port q wakes.
-pub ports_ready : (q : ℕ) (queue : PortQueue) (sem p : ℕ) (t : Tables) (ports : List Port) → IsInside t → (semaphore_at t sem).owner ≡ Some (owner.Port q) → 0 < count_in p (semaphore_at t sem).waiters
+pub ports_ready : (q : ℕ) (queue : PortQueue) (sem p : ℕ) (t : Tables) (ports : List MessagePort) → IsInside t → (semaphore_at t sem).owner ≡ Some (owner.Port q) → 0 < count_in p (semaphore_at t sem).waiters
     → (port_at ports q).queue ≡ Some queue → HasCounts (ready p t) q (port_at ports q).seq queue → ArePorts t ports → ArePorts (ready p t) ports
 ports_ready q queue sem p t ports o e h here c a =
     let i = waiter_within sem p t o h in

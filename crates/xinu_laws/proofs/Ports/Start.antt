@@ -4,7 +4,7 @@ use Rattle.std.specs.Prelude.{replicate}
 use Rattle.std.proofs.lemmas.Bool.{both_ways}
 use Rattle.xinu_model.specs.Boot.{Loaded, Boots, boot}
 use Rattle.xinu_model.specs.Machine.{Xinu}
-use Rattle.xinu_model.specs.Ports.Queues.{Port, no_port, first_ports, most_ports, port_at, nodes}
+use Rattle.xinu_model.specs.Ports.Queues.{MessagePort, no_port, first_ports, most_ports, port_at, nodes}
 use Rattle.xinu_model.specs.Sound.Ports.{ArePorts}
 use Rattle.xinu_model.specs.Tables.{Tables, process_at, semaphore_at}
 use Rattle.xinu_model.specs.Footprints.{on_processes}
@@ -29,7 +29,7 @@ unfolding first_ports
 no_ports t semaphores rests = record {
   many = refl;
   few = (let e = no_nodes most_ports in omega arith);
-  each = λ q queue e. (let f = ap (λ (x : Port). x.queue) (unused_at most_ports q) in cc);
+  each = λ q queue e. (let f = ap (λ (x : MessagePort). x.queue) (unused_at most_ports q) in cc);
   owned = λ sem q e. absurd (both_ways (is_ports sem (semaphore_at t sem).owner) (semaphores sem) (ap (is_ports sem) e));
   sent = λ p ticket message e. absurd (both_ways (asks_port (process_at t p).rest) (rests p) (ap asks_port e));
   received = λ p ticket e. absurd (both_ways (asks_port (process_at t p).rest) (rests p) (ap asks_port e));

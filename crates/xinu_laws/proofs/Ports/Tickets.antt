@@ -9,7 +9,7 @@ use Rattle.xinu_model.specs.Calls.{continued}
 use Rattle.xinu_model.specs.Machine.{Xinu, Returns, Panics, CallResult, start, returns, refused, goes_on}
 use Rattle.xinu_model.specs.Messages.{held}
 use Rattle.xinu_model.specs.Ports.Calls.{put_message, take_message, take_from}
-use Rattle.xinu_model.specs.Ports.Queues.{PortQueue, Port, most_nodes, port_at, is_used, nodes, is_stale}
+use Rattle.xinu_model.specs.Ports.Queues.{PortQueue, MessagePort, most_nodes, port_at, is_used, nodes, is_stale}
 use Rattle.xinu_model.specs.Sound.Pools.{is_waiting}
 use Rattle.xinu_model.specs.Sound.Ports.{receives_from, is_released_receiver}
 use Rattle.xinu_model.specs.Sound.State.{IsSound}
@@ -21,7 +21,7 @@ use Rattle.xinu_laws.proofs.Ports.Sends.{own_ticket}
 use Rattle.xinu_laws.proofs.Preserve.{current_within}
 
 -- A ticket is stale if its port has a later number.
-pub later_is_stale : (ticket : PortTicket) (ports : List Port) → ticket.seq < (port_at ports ticket.port).seq → is_stale ticket ports ≡ true
+pub later_is_stale : (ticket : PortTicket) (ports : List MessagePort) → ticket.seq < (port_at ports ticket.port).seq → is_stale ticket ports ≡ true
 later_is_stale ticket ports h =
     let port = port_at ports ticket.port in
     or_right (not (is_used port)) (not (port.seq == ticket.seq)) (ap not (ne_eqb port.seq ticket.seq (λ e. absurd (omega arith))))
@@ -39,7 +39,7 @@ stale_receiver_refused ticket s h =
     cond-true (is_stale ticket s.parts.ports) (refused u) (take_from (port_at s.parts.ports ticket.port).queue ticket.port u) h
 
 -- the port of a ticket that isn't stale is in use
-fresh_used : (ticket : PortTicket) (ports : List Port) → is_stale ticket ports ≡ false → is_some (port_at ports ticket.port).queue ≡ true
+fresh_used : (ticket : PortTicket) (ports : List MessagePort) → is_stale ticket ports ≡ false → is_some (port_at ports ticket.port).queue ≡ true
 fresh_used ticket ports h =
     let port = port_at ports ticket.port in
     not-false (is_used port) (or_parts (not (is_used port)) (not (port.seq == ticket.seq)) h).0

@@ -7,7 +7,7 @@ use Rattle.xinu_base.specs.declared.processes.Rest.{Rest}
 use Rattle.xinu_base.specs.declared.processes.Rest.TheVariants.{PtSend, PtRecv}
 use Rattle.xinu_base.specs.declared.processes.State.TheVariants.{Waiting}
 use Rattle.xinu_base.specs.declared.semaphores.Owner.TheVariants as owner
-use Rattle.xinu_model.specs.Ports.Queues.{PortQueue, Port, port_at}
+use Rattle.xinu_model.specs.Ports.Queues.{PortQueue, MessagePort, port_at}
 use Rattle.xinu_model.specs.Sound.Tables.{count_in, IsInside}
 use Rattle.xinu_model.specs.Sound.Ports.{is_released_sender, is_released_receiver, IsSoundPort, ArePorts}
 use Rattle.xinu_model.specs.Tables.{no_process, Tables, process_at, semaphore_at, numbers_without, waits_without, InSemaphore, move_to}
@@ -38,7 +38,7 @@ waits_after t c sem x m i p r =
     (λ (n : p ≢ c). waits_where_left t c sem p r (subst (λ z. 0 < z) (count_last_other p c (numbers_without c (semaphore_at t r).waiters) n) h)) (cases_eq p c)))
 
 -- what is left of the call of one who waits on semaphore s of port q
-pub record IsCallOn (ports : List Port) (q : ℕ) (queue : PortQueue) (sem : ℕ) (left : Rest) : Type 0 where
+pub record IsCallOn (ports : List MessagePort) (q : ℕ) (queue : PortQueue) (sem : ℕ) (left : Rest) : Type 0 where
   pub sends : sem ≡ queue.send → (message : ℕ) × (left ≡ PtSend (record { port = q; seq = (port_at ports q).seq; sem = queue.send }) message)
   pub receives : sem ≡ queue.receive → left ≡ PtRecv (record { port = q; seq = (port_at ports q).seq; sem = queue.receive })
   pub sent : (ticket : PortTicket) (message : ℕ) → left ≡ PtSend ticket message → ticket.seq ≤ (port_at ports ticket.port).seq
@@ -48,7 +48,7 @@ pub record IsCallOn (ports : List Port) (q : ℕ) (queue : PortQueue) (sem : ℕ
 abbrev pub made_wait : ℕ → ℕ → Rest → Option ℕ → Tables → Tables
 made_wait c s left m t = move_to c (record (process_at t c) { state = Waiting; rest = left }) m (InSemaphore s) t
 
-module _ (q : ℕ) (queue : PortQueue) (sem : ℕ) (left : Rest) (c : ℕ) (m : Option ℕ) (t : Tables) (ports : List Port)
+module _ (q : ℕ) (queue : PortQueue) (sem : ℕ) (left : Rest) (c : ℕ) (m : Option ℕ) (t : Tables) (ports : List MessagePort)
     (o : IsInside t) (w : c < 64) (here : (port_at ports q).queue ≡ Some queue) (owned : (semaphore_at t sem).owner ≡ Some (owner.Port q)) (call : IsCallOn ports q queue sem left) where
   -- the semaphore is in the table
   within : sem < length t.semaphores
@@ -129,7 +129,7 @@ module _ (q : ℕ) (queue : PortQueue) (sem : ℕ) (left : Rest) (c : ℕ) (m : 
       }
 
 -- what is left of a sender's call
-pub sender_call : (q : ℕ) (queue : PortQueue) (message : ℕ) (ports : List Port) → queue.send ≢ queue.receive
+pub sender_call : (q : ℕ) (queue : PortQueue) (message : ℕ) (ports : List MessagePort) → queue.send ≢ queue.receive
     → IsCallOn ports q queue queue.send (PtSend (record { port = q; seq = (port_at ports q).seq; sem = queue.send }) message)
 sender_call q queue message ports n = record {
   sends = λ e. (message, refl);
@@ -139,7 +139,7 @@ sender_call q queue message ports n = record {
 }
 
 -- what is left of a receiver's call
-pub receiver_call : (q : ℕ) (queue : PortQueue) (ports : List Port) → queue.send ≢ queue.receive
+pub receiver_call : (q : ℕ) (queue : PortQueue) (ports : List MessagePort) → queue.send ≢ queue.receive
     → IsCallOn ports q queue queue.receive (PtRecv (record { port = q; seq = (port_at ports q).seq; sem = queue.receive }))
 receiver_call q queue ports n = record {
   sends = λ e. absurd (n (sym e));

@@ -11,7 +11,7 @@ use Rattle.xinu_model.specs.Machine.{Xinu, CallState, start, refused, goes_on}
 use Rattle.xinu_model.specs.Messages.{held}
 use Rattle.xinu_model.specs.Pools.Calls.{with_pool, made_pool, is_pool_size, mkbufpool, take_first, take_buffer, getbuf, go_on_getbuf, put_back, freed_buffer, freed_by, freebuf}
 use Rattle.xinu_model.specs.Ports.Calls.{freed_buffers}
-use Rattle.xinu_model.specs.Pools.Buffers.{Pool, no_pool, most_pools, pool_at, pool_bytes, whole_words, meets_pool, holder, with_free}
+use Rattle.xinu_model.specs.Pools.Buffers.{BufferPool, no_pool, most_pools, pool_at, pool_bytes, whole_words, meets_pool, holder, with_free}
 use Rattle.xinu_model.specs.Semaphores.Counts.{free_semaphore, make_semaphore, with_tokens}
 use Rattle.xinu_model.specs.Semaphores.Waiting.{signalled, await}
 use Rattle.xinu_model.specs.Sound.Tables.{FitsOwner, IsInside, IsSoundTables}
@@ -42,21 +42,21 @@ pub pools_reached : HasPools (reach on_pools)
 pools_reached = record { owner = λ sem i. refl; waits = λ i. refl; parts = refl }
 
 -- Each pool names a semaphore of its own.
-pub record OwnSemaphores (t : Tables) (pools : List Pool) : Type 0 where
+pub record OwnSemaphores (t : Tables) (pools : List BufferPool) : Type 0 where
   pub owner : (i : ℕ) → i < length pools → (semaphore_at t (pool_at pools i).semaphore).owner ≡ Some (owner.Pool i)
 
 -- if the pools are sound each does
-pub own_semaphores : (t : Tables) (pools : List Pool) → ArePools t pools → OwnSemaphores t pools
+pub own_semaphores : (t : Tables) (pools : List BufferPool) → ArePools t pools → OwnSemaphores t pools
 own_semaphores t pools k = record { owner = λ i h. (k.each i h).owner }
 
 -- and still does with one more free buffer
-own_set : (t u : Tables) (pools : List Pool) (a i : ℕ) → OwnSemaphores t pools
+own_set : (t u : Tables) (pools : List BufferPool) (a i : ℕ) → OwnSemaphores t pools
     → ((sem : ℕ) → (semaphore_at u sem).owner ≡ (semaphore_at t sem).owner)
     → OwnSemaphores u (set pools i (with_free a (pool_at pools i)))
 own_set t u pools a i k same = record {
   owner = λ j h. (let x = with_free a (pool_at pools i) in
       same (pool_at (set pools i x) j).semaphore
-      ∙ (ap (λ r. (semaphore_at t r).owner) (same_written (λ (y : Pool). y.semaphore) pools i j x no_pool refl) ∙ k.owner j (let e = length-set pools i x in omega arith)));
+      ∙ (ap (λ r. (semaphore_at t r).owner) (same_written (λ (y : BufferPool). y.semaphore) pools i j x no_pool refl) ∙ k.owner j (let e = length-set pools i x in omega arith)));
 }
 
 -- a held buffer that is put back leaves each pool its semaphore
@@ -78,7 +78,7 @@ module _ {f : Reach} (a : HasPools f) where
   }
 
   -- the free buffers of a pool change, and perhaps memory
-  touches_free : (s : Xinu) (memory : List ℕ) (i : ℕ) (pool : Pool) → range_of pool ≡ range_of (pool_at s.parts.pools i)
+  touches_free : (s : Xinu) (memory : List ℕ) (i : ℕ) (pool : BufferPool) → range_of pool ≡ range_of (pool_at s.parts.pools i)
       → Touches f s (record s { memory = memory; parts = record s.parts { pools = set s.parts.pools i pool } })
   touches_free s memory i pool e = touches_parts s _ refl refl (parts_pools a.parts s.parts (set s.parts.pools i pool) (map_set_same range_of s.parts.pools i pool no_pool e))
 

@@ -10,7 +10,7 @@ use Rattle.xinu_model.specs.Footprints.{on_ports, on_ports_and_pools}
 use Rattle.xinu_model.specs.Machine.{Xinu, Panics, CallState, start, refused, returns, goes_on}
 use Rattle.xinu_model.specs.Messages.{held}
 use Rattle.xinu_model.specs.Ports.Calls.{free_port, with_port, made_port, started_port, ptcreate, freed_buffers, disposed, cleared, deleted, emptied_port, deleted_where, ptdelete, reset_where, ptreset, with_messages, put_message, finish_send, take_message, take_from, finish_receive, ticket_of, sent_to, ptsend, received_from, ptrecv, go_on_ptsend, go_on_ptrecv}
-use Rattle.xinu_model.specs.Ports.Queues.{PortQueue, Port, most_nodes, port_at, nodes, is_stale}
+use Rattle.xinu_model.specs.Ports.Queues.{PortQueue, MessagePort, most_nodes, port_at, nodes, is_stale}
 use Rattle.xinu_model.specs.Semaphores.Counts.{free_semaphore, make_semaphore, with_tokens, with_semaphore}
 use Rattle.xinu_model.specs.Semaphores.Waiting.{signalled, emptied}
 use Rattle.xinu_model.specs.Sound.Tables.{IsInside, IsSoundTables, FitsOwner, IsForPort}
@@ -59,7 +59,7 @@ pools_reached_too : HasPools (reach on_ports_and_pools)
 pools_reached_too = record { owner = λ sem i. refl; waits = λ i. refl; parts = refl }
 
 -- Each port names two semaphores of its own.
-pub record OwnPorts (t : Tables) (ports : List Port) : Type 0 where
+pub record OwnPorts (t : Tables) (ports : List MessagePort) : Type 0 where
   pub send : (q : ℕ) (queue : PortQueue) → (port_at ports q).queue ≡ Some queue → (semaphore_at t queue.send).owner ≡ Some (owner.Port q)
   pub receive : (q : ℕ) (queue : PortQueue) → (port_at ports q).queue ≡ Some queue
       → (semaphore_at t queue.receive).owner ≡ Some (owner.Port q)
@@ -69,7 +69,7 @@ pub own_ports : (s : Xinu) → IsSound s → OwnPorts s.tables s.parts.ports
 own_ports s k = record { send = λ q queue e. (k.ports.each q queue e).send_owner; receive = λ q queue e. (k.ports.each q queue e).receive_owner }
 
 -- and still does if semaphores keep their owners
-own_kept : (t u : Tables) (ports : List Port) → ((sem : ℕ) → (semaphore_at u sem).owner ≡ (semaphore_at t sem).owner) → OwnPorts t ports
+own_kept : (t u : Tables) (ports : List MessagePort) → ((sem : ℕ) → (semaphore_at u sem).owner ≡ (semaphore_at t sem).owner) → OwnPorts t ports
     → OwnPorts u ports
 own_kept t u ports same k = record { send = λ q queue e. same queue.send ∙ k.send q queue e; receive = λ q queue e. same queue.receive ∙ k.receive q queue e }
 

@@ -7,7 +7,7 @@ use Rattle.xinu_base.specs.declared.semaphores.Owner.TheVariants as owner
 use Rattle.xinu_model.specs.Machine.{Xinu, Panics, CallState, CallResult, start, returns, refused, goes_on}
 use Rattle.xinu_model.specs.Messages.{held}
 use Rattle.xinu_model.specs.Pools.Calls.{freed_buffer}
-use Rattle.xinu_model.specs.Ports.Queues.{PortQueue, Port, most_ports, most_nodes, port_at, is_used, nodes, is_stale}
+use Rattle.xinu_model.specs.Ports.Queues.{PortQueue, MessagePort, most_ports, most_nodes, port_at, is_used, nodes, is_stale}
 use Rattle.xinu_model.specs.Searches.{search}
 use Rattle.xinu_model.specs.Semaphores.Counts.{free_semaphore, make_semaphore, with_semaphore, with_tokens}
 use Rattle.xinu_model.specs.Semaphores.Waiting.{signalled, emptied, await}
@@ -22,7 +22,7 @@ abbrev pub free_port : Xinu → Option ℕ
 free_port s = search (λ q. not (is_used (port_at s.parts.ports q))) most_ports s.parts.next_port
 
 -- port q has this queue, or none, from now on, and the next sequence number
-abbrev pub renewed : ℕ → Option PortQueue → List Port → List Port
+abbrev pub renewed : ℕ → Option PortQueue → List MessagePort → List MessagePort
 renewed q queue ports = slice_set ports q (record { seq = (port_at ports q).seq + 1; queue = queue })
 
 -- port q is made with two semaphores

@@ -8,7 +8,7 @@ use Rattle.xinu_base.specs.declared.processes.State.{State}
 use Rattle.xinu_base.specs.declared.processes.State.TheVariants.{Waiting}
 use Rattle.xinu_base.specs.declared.semaphores.Owner.TheVariants as owner
 use Rattle.xinu_model.specs.Memory.{ranges_meet}
-use Rattle.xinu_model.specs.Pools.Buffers.{Pool, most_pools, pool_at, pool_bytes, buffers, is_in, held_in}
+use Rattle.xinu_model.specs.Pools.Buffers.{BufferPool, most_pools, pool_at, pool_bytes, buffers, is_in, held_in}
 use Rattle.xinu_model.specs.Sound.Tables.{times, count_in}
 use Rattle.xinu_model.specs.Tables.{Tables, process_at, semaphore_at}
 
@@ -28,7 +28,7 @@ is_released_to_pool i x = not (is_waiting x.state) && asks_pool i x.rest
 
 -- What holds of pool i: its semaphore is its own; its free buffers are distinct buffers of it, and with the held ones they are all;
 -- there is one for each token and for each process that was released to take one.
-pub record IsSoundPool (t : Tables) (i : ℕ) (pool : Pool) : Type 0 where
+pub record IsSoundPool (t : Tables) (i : ℕ) (pool : BufferPool) : Type 0 where
   pub owner : (semaphore_at t pool.semaphore).owner ≡ Some (owner.Pool i)
   pub buffers : AllByRecursion (λ a. is_in a (buffers pool) ≡ true) pool.free
   pub distinct : (a : ℕ) → count_in a pool.free ≤ 1
@@ -37,7 +37,7 @@ pub record IsSoundPool (t : Tables) (i : ℕ) (pool : Pool) : Type 0 where
 
 -- What holds of all pools: there are at most twenty; a semaphore that belongs to a pool is the one that the pool names; who is to take a
 -- buffer names a pool that is made; the ranges of no two pools meet.
-pub record ArePools (t : Tables) (pools : List Pool) : Type 0 where
+pub record ArePools (t : Tables) (pools : List BufferPool) : Type 0 where
   pub few : length pools ≤ most_pools
   pub each : (i : ℕ) → i < length pools → IsSoundPool t i (pool_at pools i)
   pub owned : (sem i : ℕ) → (semaphore_at t sem).owner ≡ Some (owner.Pool i) → (i < length pools) × ((pool_at pools i).semaphore ≡ sem)

@@ -5,7 +5,7 @@ use Rattle.xinu_base.specs.declared.processes.Process.{Process}
 use Rattle.xinu_base.specs.declared.processes.Rest.{Rest}
 use Rattle.xinu_base.specs.declared.processes.Rest.TheVariants.{PtSend, PtRecv}
 use Rattle.xinu_base.specs.declared.semaphores.Owner.TheVariants as owner
-use Rattle.xinu_model.specs.Ports.Queues.{PortQueue, Port, most_nodes, most_ports, port_at, nodes}
+use Rattle.xinu_model.specs.Ports.Queues.{PortQueue, MessagePort, most_nodes, most_ports, port_at, nodes}
 use Rattle.xinu_model.specs.Sound.Tables.{times, count_in}
 use Rattle.xinu_model.specs.Sound.Pools.{is_waiting}
 use Rattle.xinu_model.specs.Tables.{Tables, process_at, semaphore_at}
@@ -44,7 +44,7 @@ pub record IsSoundPort (t : Tables) (q seq : ℕ) (queue : PortQueue) : Type 0 w
 
 -- What holds of all ports: there are thirty, with at most a hundred messages in all; a semaphore that belongs to a port is one of the two
 -- that the port names; no ticket has a later number than its port.
-pub record ArePorts (t : Tables) (ports : List Port) : Type 0 where
+pub record ArePorts (t : Tables) (ports : List MessagePort) : Type 0 where
   pub many : length ports ≡ most_ports
   pub few : nodes ports ≤ most_nodes
   pub each : (q : ℕ) (queue : PortQueue) → (port_at ports q).queue ≡ Some queue → IsSoundPort t q (port_at ports q).seq queue
