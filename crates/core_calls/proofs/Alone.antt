@@ -1,15 +1,15 @@
 -- While the ready list alone has processes, whoever isn't ready is in no list.
-use Rattle.std.proofs.Common.{◌≡◌, ◌≢◌, ◌∙◌, ℕ, Option, Some, None, List, length, set, refl, sym, ap, subst, inl, inr, arith, get_or-set_same}
+use Rattle.std.proofs.Common.{◌≡◌, ◌≢◌, ◌∙◌, ℕ, zero, suc, ◌<◌, ◌≤◌, Option, Some, None, List, [], ◌∷◌, length, replicate, set, take, refl, sym, ap, subst, inl, inr, arith, get_or-set_same}
 use Rattle.std.proofs.Math.ListN.{length-set}
 use Rattle.std.proofs.lemmas.List.{get_or_past}
 use Rattle.std.proofs.lemmas.Bool.{cases_eq, cases_lt, false≢true}
 use Rattle.xinu_base.specs.declared.processes.Process.{Process}
 use Rattle.xinu_base.specs.declared.processes.State.{State}
 use Rattle.xinu_base.specs.declared.processes.State.TheVariants.{Free, Current, Ready, Receiving, Sleeping, Suspended, Waiting, Timed}
-use Rattle.queue_table.specs.Lists.{Entry, is_listed, list_at, place}
+use Rattle.queue_table.specs.Lists.{delays, Entry, is_listed, list_at, place}
 use Rattle.queue_table.proofs.Laws.{place-some}
 use Rattle.process_core.specs.Fits.{Fits, MayBeIn}
-use Rattle.process_core.specs.Tables.{Beside, process_in, ProcessTable, tables_of, with_state}
+use Rattle.process_core.specs.Tables.{Beside, process_in, ProcessTable, semaphores_of, sleepers_of, tables_of, with_state}
 use Rattle.xinu_model.specs.Process.Scheduling.{in_state}
 use Rattle.xinu_model.specs.Tables.{no_process, state_at}
 use Rattle.core_calls.specs.Served.{IsReadyAlone}
@@ -60,3 +60,25 @@ suspended_in p s u e is = elim (cases_lt p (length s.processes)) [
   where
     R : ProcessTable → Type 0
     R u = (process_in u.processes p).state ≡ Ready
+
+-- the first lists are empty if each of them is
+pub all_empty : (n : ℕ) (ls : List (List Entry)) → n ≤ length ls → ((q : ℕ) → q < n → list_at ls q ≡ []) → take n ls ≡ replicate n []
+all_empty zero ls le none = refl
+all_empty (suc n) [] le none = absurd (omega (arith, le))
+all_empty (suc n) (l ∷ ls) le none =
+    ap (λ x. x ∷ take n ls) (none 0 (omega arith)) ∙ ap (λ x. [] ∷ x) (all_empty n ls (omega (arith, le)) (λ q lt. none (suc q) (omega (arith, lt))))
+
+-- the semaphores of the tables have the waiters of the first lists
+pub semaphores_in : (ls : List (List Entry)) (s : ProcessTable) (b : Beside) → (tables_of ls s b).semaphores ≡ semaphores_of (take 128 ls) b.marks
+unfolding tables_of
+semaphores_in ls s b = refl
+
+-- the sleepers are those of queue 129
+pub sleepers_in : (ls : List (List Entry)) (s : ProcessTable) (b : Beside) → (tables_of ls s b).sleepers ≡ sleepers_of b.ticks (list_at ls 129)
+unfolding tables_of
+sleepers_in ls s b = refl
+
+-- nobody sleeps if that queue is empty
+pub no_sleepers : (ticks : ℕ) → sleepers_of ticks [] ≡ []
+unfolding delays
+no_sleepers ticks = refl

@@ -10,3 +10,4 @@ pub mod Rows
 pub mod Named
 pub mod Images
 pub mod Making
+pub mod Walking

@@ -11,7 +11,7 @@ use Rattle.xinu_laws.proofs.Tables.Starts.{same_everywhere}
 use Rattle.core_calls.specs.Served.{AreServed, IsReadyAlone, IsServed, beside, first_marks}
 
 -- the semaphores at the start
-semaphores_start : semaphores_of (take 128 (replicate 130 [])) first_marks ≡ first_semaphores
+pub semaphores_start : semaphores_of (take 128 (replicate 130 [])) first_marks ≡ first_semaphores
 unfolding first_marks first_semaphores
 semaphores_start = refl
 

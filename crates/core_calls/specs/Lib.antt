@@ -4,3 +4,4 @@ pub mod Results
 pub mod States
 pub mod Kernels
 pub mod Booted
+pub mod Walks

@@ -10,6 +10,7 @@ ghost use Rattle.xinu_model.specs.Events as events;
 ghost use Rattle.xinu_model.specs.Isa.Exec.{exec};
 ghost use Rattle.xinu_model.specs.Machine as model;
 ghost use Rattle.xinu_model.specs.Process.Death.{exit};
+ghost use Rattle.xinu_model.specs.Sound.State.{IsSound};
 ghost use Rattle.xinu_model.specs.Tables.{process_at};
 
 use crate::replies::{is_resched_due, write_all};
@@ -56,9 +57,10 @@ impl Kernel {
         self.state.tables()
     }
 
-    /// The heap.
+    /// The heap. No pool was made so far, and no port.
     pub fn heap(&self) -> &Heap
         ensures heap { result.now ≡ self.now.call.state.parts.heap }
+        ensures parts { self.now.call.state.parts ≡ model.first_parts result.now }
     {
         self.state.heap()
     }
@@ -83,6 +85,7 @@ impl Kernel {
         requires not_null { self.old.call.state.tables.current ≢ 0 }
         ensures outcome { result ≡ (exec (model.current_hart self.old.call.state) self.old.call.state.memory).outcome }
         ensures idle { IsIdle self.new }
+        ensures sound { IsSound self.new.call.state }
         ensures state { self.new ≡ idle (events.with_executed (exec (model.current_hart self.old.call.state) self.old.call.state.memory) self.old.call.state) }
     {
         self.state.instruction()
@@ -146,6 +149,7 @@ impl Kernel {
     pub fn close_event(&mut self) -> Option<Pid>
         ensures idle { IsIdle self.new }
         ensures closed { self.new ≡ idle (model.end_of_event 0 [] self.old).state }
+        ensures sound { IsSound self.new.call.state }
         ensures switched { result ≡ switched_to self.old.call.state.tables.current self.new.call.state.tables.current }
     {
         let answer = self.answer;

@@ -37,6 +37,7 @@ mod replies;
 mod sending;
 mod state;
 mod tables;
+mod walks;
 
 pub use boot::BootFault;
 pub use kernel::Kernel;

@@ -8,7 +8,7 @@ ghost use Rattle.xinu_laws.specs.Preserve.{ticking};
 ghost use Rattle.xinu_model.specs.Calls.{called, continued};
 ghost use Rattle.xinu_model.specs.Events.{call_of, with_executed};
 ghost use Rattle.xinu_model.specs.Isa.Exec.{exec};
-ghost use Rattle.xinu_model.specs.Machine.{current_hart, end_of_event, Silent, start};
+ghost use Rattle.xinu_model.specs.Machine.{current_hart, end_of_event, first_parts, Silent, start};
 ghost use Rattle.xinu_model.specs.Sound.Tables.{IsSoundTables};
 ghost use Rattle.xinu_model.specs.Tables.{process_at, state_at};
 ghost use Rattle.xinu_model.specs.Words.{half};
@@ -66,6 +66,7 @@ impl KernelState {
     /// The heap.
     pub(crate) fn heap(&self) -> &Heap
         ensures heap { result.now ≡ self.now.state.parts.heap }
+        ensures parts { self.now.state.parts ≡ first_parts result.now }
     {
         &self.heap
     }

@@ -3,10 +3,11 @@
 //! It depends on the lists, the process table and the slots, and keeps true what holds of the abstract machine's tables at each moment
 //! of an event. The crates above name no list.
 
-ghost use Rattle.std.specs.Prelude.{◌≡◌, ◌≢◌, ◌+◌, ◌≤◌, ◌<◌, ◌==◌, ◌↔◌, IsTrue, true, None, Some, [], IfSome, IfNone, IfOk, IfErr, length, drop, if◌then◌else◌};
+ghost use Rattle.std.specs.Prelude.{◌≡◌, ◌≢◌, ◌+◌, ◌≤◌, ◌<◌, ◌==◌, ◌↔◌, ◌∷◌, IsTrue, true, None, Some, [], IfSome, IfNone, IfOk, IfErr, length, drop, if◌then◌else◌};
 ghost use Rattle.std.specs.List.{list_all};
+ghost use Rattle.core_calls.specs.Walks.{entries_from};
 ghost use Rattle.process_core.specs.Starts.{padded};
-ghost use Rattle.xinu_model.specs.Boot.{null_tables};
+ghost use Rattle.xinu_model.specs.Boot.{first_semaphores, null_tables};
 ghost use Rattle.xinu_model.specs.Clock.{quantum_falls};
 ghost use Rattle.xinu_model.specs.Machine.{CallState, with_tables};
 ghost use Rattle.xinu_model.specs.Messages.{sent};
@@ -18,6 +19,7 @@ ghost use Rattle.xinu_model.specs.Tables.{is_free, message_at, move_to, no_proce
 use crate::current::{end_rest, spend, suspend_current};
 use crate::leaving::bury;
 use crate::sending::deliver;
+use crate::walks::{first_ready, ready_after};
 use messages::Slots;
 use process_core::Procs;
 use queue_table::Lists;
@@ -163,6 +165,31 @@ impl KernelTables {
         ensures size { result.1 ≡ (process_at self.now p).stack_size }
     {
         self.procs.stack_of(p)
+    }
+
+    /// The first process of the ready list. `None` if and only if the list is empty.
+    pub fn first_ready(&self) -> Option<Pid>
+        ensures all { entries_from result self.now.ready ≡ self.now.ready }
+        ensures ready { IfSome result (λ p. state_at self.now p ≡ State.Ready) }
+    {
+        first_ready(&self.lists)
+    }
+
+    /// The process after `p` in the ready list. `None` if and only if `p` is the last.
+    pub fn ready_after(&self, p: Pid) -> Option<Pid>
+        requires ready { state_at self.now p ≡ State.Ready }
+        ensures next { entries_from (Some p) self.now.ready ≡ (p, (process_at self.now p).priority) ∷ entries_from result self.now.ready }
+        ensures ready { IfSome result (λ q. state_at self.now q ≡ State.Ready) }
+    {
+        ready_after(&self.lists, p)
+    }
+
+    /// So far the ready list alone has processes: nobody waits on a semaphore or sleeps, and no semaphore is a process's own.
+    pub fn only_ready_are_listed(&self)
+        ensures semaphores { self.now.semaphores ≡ first_semaphores }
+        ensures sleepers { self.now.sleepers ≡ [] }
+    {
+        let _ = &self.lists;
     }
 
     /// Whether nothing is left of the current process's call, so that its next step is an instruction.

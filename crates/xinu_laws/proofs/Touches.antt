@@ -2,6 +2,7 @@
 -- The folder has a lemma for each move and each call, the list of all calls, and what follows for the parts that a footprint doesn't name.
 pub mod Boot
 pub mod Clock
+pub mod ClockEvents
 pub mod Continued
 pub mod Events
 pub mod Few
@@ -87,17 +88,17 @@ module _ {f : Footprint} where
 module _ {f : Reach} where
   -- Other tables with the same stacks.
   pub touches_tables : (s : Xinu) (t : Tables) → Frame f.mine f.asks s.tables t → stacks_of t ≡ stacks_of s.tables
-      → ((p : ℕ) → is_free (state_at t p) ≡ true → is_free (state_at s.tables p) ≡ true)
+      → ((p : ℕ) → is_free (state_at t p) ≡ true → is_free (state_at s.tables p) ≡ true) → (f.clock ≡ false → t.ticks ≡ s.tables.ticks)
       → Touches f s (record s { tables = t })
-  touches_tables s t c e was = record { frame = c; stacks = λ _. e; parts = parts_same s.parts; free = λ _. record { was = was; harts = λ p _. refl } }
+  touches_tables s t c e was clock = record { frame = c; stacks = λ _. e; parts = parts_same s.parts; free = λ _. record { was = was; harts = λ p _. refl }; clock = clock }
 
   -- Nothing is touched.
   pub touches_refl : (s : Xinu) → Touches f s s
-  touches_refl s = touches_tables s s.tables (frame_refl s.tables) refl (λ p h. h)
+  touches_refl s = touches_tables s s.tables (frame_refl s.tables) refl (λ p h. h) (λ _. refl)
 
   -- Other parts of the state, and any memory.
   pub touches_parts : (s u : Xinu) → u.tables ≡ s.tables → u.harts ≡ s.harts → KeepsParts f.parts s.parts u.parts → Touches f s u
-  touches_parts s u e same k = record { frame = frame_same s.tables u.tables (ap (λ (t : Tables). t.processes) e) (ap (λ (t : Tables). t.semaphores) e); stacks = λ _. ap stacks_of e; parts = k; free = λ _. keeps_free_same s u e same }
+  touches_parts s u e same k = record { frame = frame_same s.tables u.tables (ap (λ (t : Tables). t.processes) e) (ap (λ (t : Tables). t.semaphores) e); stacks = λ _. ap stacks_of e; parts = k; free = λ _. keeps_free_same s u e same; clock = λ _. ap (λ (t : Tables). t.ticks) e }
 
   -- One step after another.
   pub touches_trans : {s u v : Xinu} → Touches f s u → Touches f u v → Touches f s v
@@ -106,6 +107,7 @@ module _ {f : Reach} where
     stacks = λ e. b.stacks e ∙ a.stacks e;
     parts = parts_trans a.parts b.parts;
     free = λ e. keeps_free_trans (a.free e) (b.free e);
+    clock = λ e. b.clock e ∙ a.clock e;
   }
 
   -- One of two ways is gone.

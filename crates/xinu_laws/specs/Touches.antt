@@ -31,15 +31,21 @@ spares_rest f (PtSend ticket message) = not f.ports
 spares_rest f (PtRecv ticket) = not f.ports
 spares_rest f _ = true
 
--- How far a step reaches: the semaphores and the calls under way that it leaves alone, and the parts that it may change.
+-- How far a step reaches: the semaphores and the calls under way that it leaves alone, the parts that it may change, and whether the
+-- clock may go on in it.
 pub record Reach : Type 0 where
   pub mine : ℕ → Option Owner → Bool
   pub asks : Rest → Bool
   pub parts : Footprint
+  pub clock : Bool
 
--- the reach of a call with this footprint
+-- the reach of a call with this footprint: no call moves the clock
 abbrev pub reach : Footprint → Reach
-reach f = record { mine = spares f; asks = spares_rest f; parts = f }
+reach f = record { mine = spares f; asks = spares_rest f; parts = f; clock = false }
+
+-- the reach of a tick: the tables and the clock
+abbrev pub at_a_tick : Reach
+at_a_tick = record (reach on_tables) { clock = true }
 
 -- a process's stack: its highest word, and its bytes; and the stacks by process number
 abbrev pub stack_of : Process → ℕ × ℕ
@@ -70,12 +76,13 @@ pub record KeepsFree (s u : Xinu) : Type 0 where
   pub was : (p : ℕ) → is_free (state_at u.tables p) ≡ true → is_free (state_at s.tables p) ≡ true
   pub harts : (p : ℕ) → is_free (state_at u.tables p) ≡ true → slice_index_or u.harts p no_hart ≡ slice_index_or s.harts p no_hart
 
--- From s to u nothing is touched beyond this reach. If it leaves stacks alone nobody dies.
+-- From s to u nothing is touched beyond this reach. If it leaves stacks alone nobody dies, and if it has no clock the ticks stay.
 pub record Touches (f : Reach) (s u : Xinu) : Type 0 where
   pub frame : Frame f.mine f.asks s.tables u.tables
   pub stacks : f.parts.stacks ≡ false → stacks_of u.tables ≡ stacks_of s.tables
   pub parts : KeepsParts f.parts s.parts u.parts
   pub free : f.parts.stacks ≡ false → KeepsFree s u
+  pub clock : f.clock ≡ false → u.tables.ticks ≡ s.tables.ticks
 
 -- From s to u the heap, the ranges of the pools and the stacks stay as they are.
 pub record KeepsPlaces (s u : Xinu) : Type 0 where

@@ -35,7 +35,7 @@ pub fn continuations_stay_within()
 /// A tick and the end of an event touch the tables alone, whatever is left alone of semaphores and calls, and the registers of those who get
 /// replies. If these are alive free numbers keep theirs; at a tick they are.
 pub fn ends_stay_within()
-    ensures tick { (f : Reach) (s : Xinu) → IsSound s → Touches f s (ticked s).state }
+    ensures tick { (f : Reach) → f.clock ≡ true → (s : Xinu) → IsSound s → Touches f s (ticked s).state }
     ensures end { (f : Reach) (was : ℕ) (first : List TranscriptLine) (result : CallResult) → IsInside result.call.state.tables → Frame f.mine f.asks result.call.state.tables (end_of_event was first result).state.tables
         × (f.parts.stacks ≡ false → stacks_of (end_of_event was first result).state.tables ≡ stacks_of result.call.state.tables)
         × KeepsParts f.parts result.call.state.parts (end_of_event was first result).state.parts }

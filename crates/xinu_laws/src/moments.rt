@@ -1,11 +1,11 @@
 //! What holds at each moment of an event: the laws that the kernel's code cites.
 
-ghost use Rattle.std.specs.Prelude.{◌≡◌, ◌≢◌, ℕ, true, false, [], List, Some, slice_index};
+ghost use Rattle.std.specs.Prelude.{◌≡◌, ◌≢◌, ◌+◌, ℕ, true, false, [], List, Some, slice_index};
 ghost use Rattle.xinu_base.specs.Syscalls.{is_built};
 ghost use Rattle.xinu_base.specs.declared.lines.TranscriptLine.{TranscriptLine};
 ghost use Rattle.xinu_model.specs.Calls.{calls, call_of_number, called, continued};
 ghost use Rattle.xinu_model.specs.Clock.{ticked};
-ghost use Rattle.xinu_model.specs.Events.{with_executed};
+ghost use Rattle.xinu_model.specs.Events.{stepped, with_executed};
 ghost use Rattle.xinu_model.specs.Isa.Exec.{exec};
 ghost use Rattle.xinu_model.specs.Machine.{Xinu, CallResult, current_hart, refused, replies_of, end_of_event};
 ghost use Rattle.xinu_model.specs.Process.Scheduling.{resched};
@@ -53,6 +53,12 @@ pub fn deaths_keep_all()
 pub fn ticks_keep_all()
     ensures keeps { (s : Xinu) → IsSound s → KeepsAll (ticking s) }
     ensures ends { (s : Xinu) → end_of_event s.tables.current [] (ticking s) ≡ ticked s }
+{}
+
+/// The clock goes on in ticks alone, and by one in each.
+pub fn ticks_move_the_clock()
+    ensures step { (s : Xinu) → IsSound s → (stepped s).state.tables.ticks ≡ s.tables.ticks }
+    ensures tick { (s : Xinu) → (ticked s).state.tables.ticks ≡ s.tables.ticks + 1 }
 {}
 
 /// A resched inside an event leaves sound tables.

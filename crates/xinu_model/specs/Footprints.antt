@@ -1,7 +1,7 @@
 -- Which parts of the state a call may change.
 use Rattle.std.specs.Prelude.{Bool, true, false}
 
--- Besides the processes, their messages and semaphores, and the clock, which any call may change: whether it may change the heap, the
+-- Besides the processes, their messages and semaphores, and the sleepers, which any call may change: whether it may change the heap, the
 -- stacks of processes, where pools lie, the pools, and the ports.
 pub record Footprint : Type 0 where
   pub heap : Bool
@@ -10,7 +10,7 @@ pub record Footprint : Type 0 where
   pub pools : Bool
   pub ports : Bool
 
--- processes, messages, semaphores of processes and the clock
+-- processes, messages, semaphores of processes and the sleepers
 abbrev pub on_tables : Footprint
 on_tables = record { heap = false; stacks = false; ranges = false; pools = false; ports = false }
 

@@ -72,7 +72,7 @@ apart_all_made (image ∷ images) i s apart =
 
 -- anything but the places may change
 abbrev beside_places : Reach
-beside_places = record { mine = λ sem by. false; asks = λ left. false; parts = on_tables }
+beside_places = record { mine = λ sem by. false; asks = λ left. false; parts = on_tables; clock = false }
 
 -- the processes of the images become ready
 kept_all_started : (images : List Loaded) (s : Xinu) → KeepsPlaces s (all_started images s)

@@ -23,7 +23,7 @@ use Rattle.xinu_laws.proofs.Ownership.Memory.{FreesNothingHeld}
 use Rattle.xinu_laws.proofs.Ownership.Processes.{apart_exit}
 use Rattle.xinu_model.specs.Footprints.{on_tables}
 use Rattle.xinu_laws.specs.Preserve.{MayCallAny, KeepsAll}
-use Rattle.xinu_laws.specs.Touches.{reach, touched_by, KeepsPlaces, Touches}
+use Rattle.xinu_laws.specs.Touches.{reach, at_a_tick, touched_by, KeepsPlaces, Touches}
 use Rattle.xinu_laws.proofs.Ownership.Table.{names_places, places_stay, called_apart}
 use Rattle.xinu_laws.proofs.Preserve.Calls.{sound_where_called, inside_preserved, replies_alive, called_keeps, exit_keeps, continued_keeps}
 use Rattle.xinu_laws.proofs.Preserve.Events.{may_call, may_call_after}
@@ -40,7 +40,7 @@ kept_end_of_event was first result k =
 
 -- So does a tick,
 pub kept_ticked : (s : Xinu) → IsSound s → KeepsPlaces s (ticked s).state
-kept_ticked s sound = let touches : Touches (reach on_tables) s (ticked s).state = touches_ticked s sound.tables in keeps_places touches refl refl refl
+kept_ticked s sound = let touches : Touches at_a_tick s (ticked s).state = touches_ticked refl s sound.tables in keeps_places touches refl refl refl
 
 -- and a call that goes on.
 places_spared : (left : Rest) → names_places (touched_by left) ≡ false

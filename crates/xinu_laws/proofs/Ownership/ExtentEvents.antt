@@ -1,5 +1,5 @@
 -- Each event leaves the heap where it begins, with as many cells as it has.
-use Rattle.std.proofs.Common.{false, ℕ, ◌==◌, cond, List, [], ap, subst}
+use Rattle.std.proofs.Common.{refl, false, ℕ, ◌==◌, cond, List, [], ap, subst}
 use Rattle.std.proofs.lemmas.Bool.{cond_both, eqb-false}
 use Rattle.xinu_base.specs.declared.events.Event.{Event}
 use Rattle.xinu_base.specs.declared.events.Event.TheVariants.{Step, Tick}
@@ -14,7 +14,7 @@ use Rattle.xinu_laws.specs.GivingAway.{next}
 use Rattle.xinu_model.specs.Machine.{Xinu, current_hart, EventResult, nothing_happens, end_of_event}
 use Rattle.xinu_model.specs.Sound.State.{IsSound}
 use Rattle.xinu_model.specs.Tables.{process_at}
-use Rattle.xinu_laws.specs.Touches.{reach, HasSameExtent, Touches}
+use Rattle.xinu_laws.specs.Touches.{reach, at_a_tick, HasSameExtent, Touches}
 use Rattle.xinu_laws.proofs.HeapCells.Extent.{same_extent}
 use Rattle.xinu_laws.proofs.Preserve.Calls.{sound_where_called}
 use Rattle.xinu_laws.proofs.Preserve.Events.{may_call, may_call_after}
@@ -54,7 +54,7 @@ extent_stepped s k =
 -- what an event leaves, whatever is chosen in it
 extent_effect_of : (s : Xinu) (e : Event) (choice : ℕ) → IsSound s → HaveSameExtent s (effect_of s e choice).state
 extent_effect_of s Step choice k = extent_stepped s k
-extent_effect_of s Tick choice k = let touches : Touches (reach on_tables) s (ticked s).state = touches_ticked s k.tables in touches.parts.extent
+extent_effect_of s Tick choice k = let touches : Touches at_a_tick s (ticked s).state = touches_ticked {f = at_a_tick} refl s k.tables in touches.parts.extent
 extent_effect_of s _ choice k = same_extent s.parts.heap
 
 -- Each event leaves the heap where it begins, with as many cells as it has.

@@ -1,5 +1,5 @@
 -- At the start there are no pools.
-use Rattle.std.proofs.Common.{◌≡◌, List, refl, sym, subst}
+use Rattle.std.proofs.Common.{◌≡◌, false, List, refl, sym, subst}
 use Rattle.xinu_model.specs.Boot.{Loaded, Boots, boot}
 use Rattle.xinu_model.specs.Footprints.{on_processes}
 use Rattle.xinu_model.specs.Machine.{Xinu}
@@ -10,7 +10,7 @@ use Rattle.xinu_laws.proofs.Touches.Boot.{HasStart, touches_start, start_other, 
 
 -- the start leaves pools alone
 abbrev beside_all_pools : Reach
-beside_all_pools = record { mine = is_pools; asks = asks_buffer; parts = on_processes }
+beside_all_pools = record { mine = is_pools; asks = asks_buffer; parts = on_processes; clock = false }
 
 start_reached : HasStart beside_all_pools
 start_reached = record { none = λ sem. refl; kernel = λ sem. refl; nothing = refl; heap = refl; stacks = refl }

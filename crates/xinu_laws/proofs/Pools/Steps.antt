@@ -107,7 +107,7 @@ promised_signalled i sem d o h = promised_signal_first i sem (semaphore_at d.sta
 
 -- what leaves pool j alone, and may touch the other tables
 abbrev pub beside_pool : ℕ → Reach
-beside_pool j = record { mine = is_pool j; asks = asks_pool j; parts = on_tables }
+beside_pool j = record { mine = is_pool j; asks = asks_pool j; parts = on_tables; clock = false }
 
 module _ (i j : ℕ) (other : j ≢ i) where
   -- the semaphore of pool i isn't pool j's

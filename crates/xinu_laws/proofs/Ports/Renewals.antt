@@ -1,5 +1,5 @@
 -- A port is deleted or reset once all who wait on it are released: what holds of tables and ports is kept, and the rest is left alone.
-use Rattle.std.proofs.Common.{◌≡◌, ◌≢◌, ◌⊎◌, ℕ, ◌<◌, ◌≤◌, [], None, Some, inl, inr, ⊎_elim, refl, sym, ap, subst, ◌∙◌, arith, get_or-set_same, get_or-set_other}
+use Rattle.std.proofs.Common.{◌≡◌, ◌≢◌, ◌⊎◌, ℕ, ◌<◌, ◌≤◌, false, [], None, Some, inl, inr, ⊎_elim, refl, sym, ap, subst, ◌∙◌, arith, get_or-set_same, get_or-set_other}
 use Rattle.xinu_base.specs.declared.semaphores.Owner.TheVariants as owner
 use Rattle.xinu_model.specs.Machine.{Parts, CallState}
 use Rattle.xinu_model.specs.Ports.Queues.{PortQueue, port_at}
@@ -35,7 +35,7 @@ pub record IsRenewed (q : ℕ) (d e : CallState) : Type 0 where
 
 -- what leaves the ports other than q alone, and may touch port q
 abbrev pub beside_ports : ℕ → Reach
-beside_ports q = record { mine = is_other_port q; asks = asks_other_port q; parts = on_ports }
+beside_ports q = record { mine = is_other_port q; asks = asks_other_port q; parts = on_ports; clock = false }
 
 pub port_reached_alone : (q : ℕ) → HasPort (beside_ports q) q
 port_reached_alone q = record { none = λ sem. refl; owner = λ sem. not_other q q refl; waits = unasked_here q; nothing = refl; parts = refl }

@@ -37,7 +37,7 @@ no_ports t semaphores rests = record {
 
 -- the start leaves ports alone
 abbrev beside_all_ports : Reach
-beside_all_ports = record { mine = is_ports; asks = asks_port; parts = on_processes }
+beside_all_ports = record { mine = is_ports; asks = asks_port; parts = on_processes; clock = false }
 
 start_reached : HasStart beside_all_ports
 start_reached = record { none = λ sem. refl; kernel = λ sem. refl; nothing = refl; heap = refl; stacks = refl }

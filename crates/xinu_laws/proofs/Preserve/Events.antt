@@ -22,7 +22,7 @@ use Rattle.xinu_laws.proofs.Pools.Start.{pools_start}
 use Rattle.xinu_laws.proofs.Touches.Events.{touches_end_of_event, released_by_tick, touches_ticking, touches_ticked}
 use Rattle.xinu_laws.proofs.Touches.Kept.{keeps_pools, keeps_ports, keeps_unused}
 use Rattle.xinu_model.specs.Footprints.{on_tables}
-use Rattle.xinu_laws.specs.Touches.{reach, Touches}
+use Rattle.xinu_laws.specs.Touches.{reach, at_a_tick, Touches}
 use Rattle.xinu_laws.proofs.Tables.Ends.{sound_end_of_event, harts_end_of_event, harts_ticked, executed_may_call}
 use Rattle.xinu_laws.proofs.Ports.Start.{ports_start}
 use Rattle.xinu_laws.proofs.Tables.Unblock.{unblock_all_ready}
@@ -85,20 +85,20 @@ state_stepped s k =
 pub state_ticked : (s : Xinu) → IsSound s → IsSound (ticked s).state
 state_ticked s k =
     let tables = sound_ticked s k.tables in
-    let touches : Touches (reach on_tables) s (ticked s).state = touches_ticked s k.tables in
+    let touches : Touches at_a_tick s (ticked s).state = touches_ticked refl s k.tables in
     record {
       tables = tables;
       harts = harts_ticked s k.harts;
       unused = keeps_unused (touches.free refl) k.unused;
-      pools = keeps_pools refl touches k.pools;
-      ports = keeps_ports refl touches tables.inside k.ports;
+      pools = keeps_pools {f = on_tables} refl touches k.pools;
+      ports = keeps_ports {f = on_tables} refl touches tables.inside k.ports;
     }
 
 -- And so does what is under way at its end.
 pub ticking_keeps : (s : Xinu) → IsSound s → KeepsAll (ticking s)
 ticking_keeps s k =
     let t = state_ticked s k in
-    let touches : Touches (reach on_tables) s (ticking s).call.state = touches_ticking s k.tables in
+    let touches : Touches at_a_tick s (ticking s).call.state = touches_ticking refl s k.tables in
     record {
       preserved = record { tables = t.tables; harts = harts_same s.harts _ (ap (λ (x : Xinu). x.harts) (unblock_all_ready (due (s.tables.ticks + 1) s.tables.sleepers) (start s))) k.harts; released = released_by_tick s k.tables };
       unused = keeps_unused (touches.free refl) k.unused;

@@ -58,7 +58,7 @@ create_unused entry size priority name x y s c =
 
 -- anything but the parts may change
 abbrev on_any_tables : Reach
-on_any_tables = record { mine = λ sem by. false; asks = λ left. false; parts = on_tables }
+on_any_tables = record { mine = λ sem by. false; asks = λ left. false; parts = on_tables; clock = false }
 
 -- The start, by the first image that overlaps an earlier one.
 unused_unless_overlap : (overlap : Option ℕ) (images : List Loaded) (start : Xinu) → length images < 64 → unless_overlap overlap images ≡ Boots start

@@ -74,6 +74,7 @@ module _ {f : Reach} (g : HasStart f) where
         frame = frame_trans t u (record u { last_process = i }) (frame_move t i x None Nowhere tt (λ h. absurd (both_ways (f.asks Nothing) g.nothing h)) refl) (frame_same u (record u { last_process = i }) refl refl);
         stacks = named g.stacks;
         free = named g.stacks;
+        clock = λ _. refl;
         parts = parts_heap g.heap s.parts stack.heap (extent_marked found.taken);
       }
 

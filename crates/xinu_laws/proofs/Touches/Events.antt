@@ -1,5 +1,5 @@
 -- The end of an event and a tick touch the tables alone.
-use Rattle.std.proofs.Common.{◌≡◌, ℕ, ◌+◌, ◌-◌, ◌<◌, ◌≤◌, ◌==◌, Bool, false, ◌||◌, List, [], ◌∷◌, filter, refl, sym, ap, subst, ◌∙◌, ⊎_elim, arith, ℤ}
+use Rattle.std.proofs.Common.{◌≡◌, ℕ, ◌+◌, ◌-◌, ◌<◌, ◌≤◌, ◌==◌, Bool, true, false, ◌||◌, List, [], ◌∷◌, filter, refl, sym, ap, subst, ◌∙◌, ⊎_elim, arith, ℤ}
 use Rattle.std.specs.Prelude.{nat_lt}
 use Rattle.std.proofs.lemmas.Bool.{cond_both}
 use Rattle.xinu_base.specs.declared.lines.TranscriptLine.{TranscriptLine}
@@ -17,13 +17,13 @@ use Rattle.xinu_model.specs.Footprints.{on_tables}
 use Rattle.xinu_laws.specs.Preserve.{AreAlive, ticking}
 use Rattle.xinu_laws.proofs.Lists.Orders.{all_weaker}
 use Rattle.xinu_laws.proofs.Tables.Alive.{alive_kept, alive_unblock_all, replies_spare_free}
-use Rattle.xinu_laws.specs.Touches.{Reach, reach, Touches}
+use Rattle.xinu_laws.specs.Touches.{Reach, reach, at_a_tick, Touches}
 use Rattle.xinu_laws.proofs.Lists.Counts.{entries_without_other, first_has_entry}
 use Rattle.xinu_laws.proofs.Frame.{frame_same}
 use Rattle.xinu_laws.proofs.Tables.Scheduling.{ready_of, current_of, sleeping_of, inside_quantum, sound_resched}
 use Rattle.xinu_laws.proofs.Tables.Places.{ready_in_other}
 use Rattle.xinu_laws.proofs.Tables.MoveTo.{by_number}
-use Rattle.xinu_laws.proofs.Touches.{touches_tables, touches_refl, touches_trans}
+use Rattle.xinu_laws.proofs.Touches.{named, touches_tables, touches_refl, touches_trans}
 use Rattle.xinu_laws.proofs.Touches.Moves.{MayReady, may_ready_idle, may_ready_framed, touches_moved, touches_unblock_all}
 use Rattle.xinu_laws.proofs.Lists.Maps.{times-map}
 use Rattle.xinu_laws.proofs.Frame.MoveTo.{times-filter-le}
@@ -62,7 +62,7 @@ module _ {f : Reach} where
   touches_dispatch s p w =
       let t = s.tables in
       let u = record t { current = p; quantum = 2 } in
-      touches_trans (touches_tables s u (frame_same t u refl refl) refl (λ q h. h))
+      touches_trans (touches_tables s u (frame_same t u refl refl) refl (λ q h. h) (λ _. refl))
       (touches_moved (record s { tables = u }) p Current (message_at u p) Nowhere tt refl refl (record { idle = w.idle }))
 
   -- The current process is preempted.
@@ -106,6 +106,7 @@ module _ {f : Reach} where
     stacks = k.stacks;
     parts = k.parts;
     free = λ e. record { was = (k.free e).was; harts = λ p h. replies_spare_free u.tables p h replies u.harts alive ∙ (k.free e).harts p h };
+    clock = k.clock;
   }
 
   -- those whose tick has come go on
@@ -122,17 +123,17 @@ module _ {f : Reach} where
       let t = s.tables in
       let fresh = record t { quantum = 2 } in
       cond_both (nat_lt 1 t.quantum) (record t { quantum = t.quantum - 1 }) (resched fresh) (λ u. Touches f s (record s { tables = u }))
-      (λ _. touches_tables s (record t { quantum = t.quantum - 1 }) (frame_same t (record t { quantum = t.quantum - 1 }) refl refl) refl (λ p h. h))
-      (λ _. touches_trans (touches_tables s fresh (frame_same t fresh refl refl) refl (λ p h. h)) (touches_resched (record s { tables = fresh }) (inside_quantum t 2 o)))
+      (λ _. touches_tables s (record t { quantum = t.quantum - 1 }) (frame_same t (record t { quantum = t.quantum - 1 }) refl refl) refl (λ p h. h) (λ _. refl))
+      (λ _. touches_trans (touches_tables s fresh (frame_same t fresh refl refl) refl (λ p h. h) (λ _. refl)) (touches_resched (record s { tables = fresh }) (inside_quantum t 2 o)))
 
   -- a tick later, and then the quantum falls
-  touches_later : (owes : Bool) (s : Xinu) → IsInside (record s.tables { ticks = s.tables.ticks + 1 })
+  touches_later : f.clock ≡ true → (owes : Bool) (s : Xinu) → IsInside (record s.tables { ticks = s.tables.ticks + 1 })
       → Touches f s (record s { tables = quantum_falls (a_tick_later owes s.tables) })
-  touches_later owes s o =
+  touches_later goes owes s o =
       let t = s.tables in
       let later = record t { ticks = t.ticks + 1 } in
       let u = record s { tables = later } in
-      let first : Touches f s u = touches_tables s later (frame_same t later refl refl) refl (λ p h. h) in
+      let first : Touches f s u = touches_tables s later (frame_same t later refl refl) refl (λ p h. h) (named goes) in
       cond_both owes (resched later) later (λ v. Touches f s (record s { tables = quantum_falls v }))
       (λ _. touches_trans (touches_trans first (touches_resched u o)) (touches_quantum (record s { tables = resched later }) (sound_resched later o).inside))
       (λ _. touches_trans first (touches_quantum u o))
@@ -171,16 +172,16 @@ pub released_by_tick : (s : Xinu) → IsSoundTables s.tables → AreAlive (ticki
 released_by_tick s k =
     let d = wakeup s in
     let u = record d.state { tables = quantum_falls (a_tick_later d.owes_resched d.state.tables) } in
-    let later : Touches (reach on_tables) d.state u = touches_later d.owes_resched d.state (later_inside s k) in
+    let later : Touches at_a_tick d.state u = touches_later refl d.owes_resched d.state (later_inside s k) in
     alive_kept d.state.tables u.tables (later.free refl).was d.released (released_by_wakeup s k.inside)
 
 -- A tick before its replies.
-pub touches_ticking : {f : Reach} (s : Xinu) → IsSoundTables s.tables → Touches f s (ticking s).call.state
-touches_ticking s k = let d = wakeup s in touches_trans (touches_wakeup s k.inside) (touches_later d.owes_resched d.state (later_inside s k))
+pub touches_ticking : {f : Reach} → f.clock ≡ true → (s : Xinu) → IsSoundTables s.tables → Touches f s (ticking s).call.state
+touches_ticking goes s k = let d = wakeup s in touches_trans (touches_wakeup s k.inside) (touches_later goes d.owes_resched d.state (later_inside s k))
 
 -- A tick.
-pub touches_ticked : {f : Reach} (s : Xinu) → IsSoundTables s.tables → Touches f s (ticked s).state
-touches_ticked s k =
+pub touches_ticked : {f : Reach} → f.clock ≡ true → (s : Xinu) → IsSoundTables s.tables → Touches f s (ticked s).state
+touches_ticked goes s k =
     let d = wakeup s in
     touches_replied s (record d.state { tables = quantum_falls (a_tick_later d.owes_resched d.state.tables) }) d.released
-    (touches_ticking s k) (released_by_tick s k)
+    (touches_ticking goes s k) (released_by_tick s k)

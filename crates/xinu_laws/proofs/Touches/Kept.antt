@@ -1,5 +1,5 @@
 -- What a step keeps of the parts that its footprint doesn't name.
-use Rattle.std.proofs.Common.{◌≡◌, ℕ, true, false, not, Option, Some, sym, ap, subst, ◌∙◌}
+use Rattle.std.proofs.Common.{◌≡◌, Bool, ℕ, true, false, not, Option, Some, sym, ap, subst, ◌∙◌}
 use Rattle.std.proofs.lemmas.Bool.{false≢true}
 use Rattle.xinu_base.specs.declared.processes.Rest.{Rest}
 use Rattle.xinu_base.specs.declared.processes.Rest.TheVariants.{GetBuf, PtSend, PtRecv}
@@ -38,12 +38,12 @@ module _ (f : Footprint) where
 
 module _ {f : Footprint} {s u : Xinu} where
   -- A step that may not change pools keeps what holds of them.
-  pub keeps_pools : f.pools ≡ false → Touches (reach f) s u → ArePools s.tables s.parts.pools → ArePools u.tables u.parts.pools
+  pub keeps_pools : {clock : Bool} → f.pools ≡ false → Touches (record (reach f) { clock = clock }) s u → ArePools s.tables s.parts.pools → ArePools u.tables u.parts.pools
   keeps_pools e t k = subst (ArePools u.tables) (sym (t.parts.pools e))
       (are_pools_framed s.tables u.tables s.parts.pools (frame_weaker s.tables u.tables (pools_spared f e) (buffers_spared f e) t.frame) k)
 
   -- A step that may not change ports keeps what holds of them, if it keeps what holds of the tables.
-  pub keeps_ports : f.ports ≡ false → Touches (reach f) s u → IsInside u.tables → ArePorts s.tables s.parts.ports
+  pub keeps_ports : {clock : Bool} → f.ports ≡ false → Touches (record (reach f) { clock = clock }) s u → IsInside u.tables → ArePorts s.tables s.parts.ports
       → ArePorts u.tables u.parts.ports
   keeps_ports e t o k = subst (ArePorts u.tables) (sym (t.parts.ports e).0)
       (ports_framed s.tables u.tables s.parts.ports o (frame_weaker s.tables u.tables (ports_spared f e) (messages_spared f e) t.frame) k)

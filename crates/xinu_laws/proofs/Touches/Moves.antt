@@ -75,7 +75,7 @@ module _ {f : Reach} where
       → waits_in f.asks x ≡ false → stack_of x ≡ stack_of (process_at s.tables q)
       → (is_free x.state ≡ true → is_free (state_at s.tables q) ≡ true) → Touches f s (record s { tables = move_to q x m place s.tables })
   touches_move s q x m place p c idle stack old =
-      let t = s.tables in touches_tables s (move_to q x m place t) (frame_move t q x m place p c idle) (map_set_same stack_of t.processes q x no_process stack) (was_free t.processes q x old)
+      let t = s.tables in touches_tables s (move_to q x m place t) (frame_move t q x m place p c idle) (map_set_same stack_of t.processes q x no_process stack) (was_free t.processes q x old) (λ _. refl)
 
   -- A process goes to another state, in which it doesn't wait.
   pub touches_moved : (s : Xinu) (q : ℕ) (state : State) (m : Option ℕ) (place : Place) → IsFramePlace f.mine s.tables place
@@ -121,7 +121,7 @@ module _ {f : Reach} where
       cond_both (listens (state_at t p)) (record (with_tables (move_to p (in_state Ready (process_at t p)) (Some message) InReady t) d) { owes_resched = true }) (with_tables u d)
       (λ e. Touches f d.state e.state)
       (λ b. touches_moved d.state p Ready (Some message) InReady tt refl refl (may_ready_idle f.asks t p (listens_idle (state_at t p) b)))
-      (λ _. touches_tables d.state u (frame_same t u refl refl) refl (λ q h. h))
+      (λ _. touches_tables d.state u (frame_same t u refl refl) refl (λ q h. h) (λ _. refl))
 
   -- A message is sent, or refused.
   pub touches_sent : (p message : ℕ) (d : CallState) → Touches f d.state (sent p message d).state
@@ -131,7 +131,7 @@ module _ {f : Reach} where
   -- A semaphore changes.
   pub touches_semaphore : (s : Xinu) (r : ℕ) (x : Semaphore) → f.mine r (semaphore_at s.tables r).owner ≡ false → f.mine r x.owner ≡ false
       → Touches f s (record s { tables = with_semaphore r x s.tables })
-  touches_semaphore s r x old new = touches_tables s (with_semaphore r x s.tables) (frame_semaphore s.tables r x old new) refl (λ p h. h)
+  touches_semaphore s r x old new = touches_tables s (with_semaphore r x s.tables) (frame_semaphore s.tables r x old new) refl (λ p h. h) (λ _. refl)
 
   -- Its tokens change.
   pub touches_tokens : (s : Xinu) (r n : ℕ) → f.mine r (semaphore_at s.tables r).owner ≡ false
@@ -142,7 +142,7 @@ module _ {f : Reach} where
   pub touches_make_semaphore : (s : Xinu) (r : ℕ) (by : Owner) (n : ℕ) → f.mine r (semaphore_at s.tables r).owner ≡ false
       → f.mine r (Some by) ≡ false
       → Touches f s (record s { tables = make_semaphore r by n s.tables })
-  touches_make_semaphore s r by n old new = touches_tables s (make_semaphore r by n s.tables) (frame_make_semaphore s.tables r by n old new) refl (λ p h. h)
+  touches_make_semaphore s r by n old new = touches_tables s (make_semaphore r by n s.tables) (frame_make_semaphore s.tables r by n old new) refl (λ p h. h) (λ _. refl)
 
   -- One signal, by who waits.
   touches_signal_first : (sem : ℕ) (l : List ℕ) (d : CallState) → f.mine sem (semaphore_at d.state.tables sem).owner ≡ false

@@ -161,7 +161,7 @@ made_pool_touches (Some grant) (Some sem) size n s e g =
     let t : Touches (reach on_new_pool) s (record s { tables = make_semaphore sem (owner.Pool i) n s.tables }) =
     touches_make_semaphore s sem (owner.Pool i) n (ap ((reach on_new_pool).mine sem) (free_semaphore_free s.tables sem e)) refl in
     let m = getmem_grants (pool_bytes size n) s.parts.heap grant g in
-    record { frame = t.frame; stacks = t.stacks; free = λ e. record { was = (t.free e).was; harts = (t.free e).harts }; parts = parts_new_pool refl refl refl s.parts grant.heap _ (extent_marked m.taken) })
+    record { frame = t.frame; stacks = t.stacks; free = λ e. record { was = (t.free e).was; harts = (t.free e).harts }; clock = t.clock; parts = parts_new_pool refl refl refl s.parts grant.heap _ (extent_marked m.taken) })
 made_pool_touches (Some grant) None size n s e g = touches_refl s
 made_pool_touches None sem size n s e g = touches_refl s
 

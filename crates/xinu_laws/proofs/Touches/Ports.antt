@@ -246,7 +246,7 @@ ptcreate_touches (pos n) s k = started_port_touches (free_port s) (free_semaphor
 
 -- the semaphores and calls of ports are left alone, and nothing else
 abbrev ports_alone : Reach
-ports_alone = record { mine = is_ports; asks = λ left. false; parts = on_ports_and_pools }
+ports_alone = record { mine = is_ports; asks = λ left. false; parts = on_ports_and_pools; clock = false }
 
 pools_reached_there : HasPools ports_alone
 pools_reached_there = record { owner = λ sem i. refl; waits = λ i. refl; parts = refl }

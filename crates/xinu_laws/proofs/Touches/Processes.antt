@@ -61,7 +61,7 @@ with_priority_touches p priority s =
     let u = record t { processes = set t.processes p x } in
     cond_both (is_ready (state_at t p)) (move_to p x (message_at t p) InReady t) u (λ v. Touches (reach on_tables) s (record s { tables = v }))
     (λ b. touches_move s p x (message_at t p) InReady tt (λ h. (refl, refl)) (ap (λ k. k && (reach on_tables).asks x.rest) (idle_ready (state_at t p) b)) refl (λ h. h))
-    (λ _. touches_tables s u (frame_process t p x (λ h. (refl, refl))) (map_set_same stack_of t.processes p x no_process refl) (was_free t.processes p x (λ h. h)))
+    (λ _. touches_tables s u (frame_process t p x (λ h. (refl, refl))) (map_set_same stack_of t.processes p x no_process refl) (was_free t.processes p x (λ h. h)) (λ _. refl))
 
 -- Call 7.
 pub chprio_touches : (p : ℕ) (priority : ℤ) → StaysIn on_tables (chprio p priority)
@@ -81,6 +81,7 @@ killed_touches p d =
       frame = frame_move told.state.tables p no_process None Nowhere tt (λ h. absurd (cc)) refl;
       stacks = named refl;
       free = named refl;
+      clock = λ _. refl;
       parts = parts_heap refl told.state.parts _ (extent_unless (heap.free_stack x.stack x.stack_size told.state.parts.heap) told.state.parts.heap (extent_freestk x.stack x.stack_size told.state.parts.heap));
     })
 
@@ -106,6 +107,7 @@ created_touches (Some p) (Some stack) entry size priority name x y s e =
       frame = frame_trans t u (record u { last_process = p }) (frame_move t p made None Nowhere tt (λ h. absurd (cc)) refl) (frame_same u (record u { last_process = p }) refl refl);
       stacks = named refl;
       free = named refl;
+      clock = λ _. refl;
       parts = parts_heap refl s.parts stack.heap (extent_marked g.taken);
     }
 created_touches (Some p) None entry size priority name x y s e = touches_refl s

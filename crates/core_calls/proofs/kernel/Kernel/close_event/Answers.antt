@@ -2,8 +2,10 @@ use Rattle.std.proofs.Common.{◌≡◌, None, [], ap, sym, subst}
 use Rattle.core_calls.specs.Kernels.{kernel_result}
 use Rattle.core_calls.specs.Results.{idle}
 use Rattle.core_calls.proofs.Kept.{closed_kept}
+use Rattle.xinu_laws.proofs.Preserve.Events.{state_end_of_event}
 use Rattle.xinu_laws.specs.Preserve.{KeepsAll}
 use Rattle.xinu_model.specs.Machine.{CallState, end_of_event, Silent}
+use Rattle.xinu_model.specs.Sound.State.{IsSound}
 use Rattle.core_calls.proofs.kernel.Kernel.close_event.Goals as goal
 
 pub invariant_of-self : goal.invariant_of-self
@@ -12,3 +14,8 @@ invariant_of-self c =
     let e : kernel_result (record { state = c.close-switched.new.self; answer = None }) ≡ idle (end_of_event 0 [] (kernel_result k)).state
     = ap (λ (d : CallState). record { call = d; answer = Silent }) c.close-switched.ensures.closed in
     record { keeps = subst KeepsAll (sym e) (closed_kept (kernel_result k) c.self.invariant.keeps) }
+
+pub returns-clause-sound : goal.returns-clause-sound
+returns-clause-sound c =
+    let h = kernel_result c.self.inside in
+    subst IsSound (sym (ap (λ (d : CallState). d.state) c.close-switched.ensures.closed)) (state_end_of_event 0 [] h c.self.invariant.keeps)
