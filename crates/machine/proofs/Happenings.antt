@@ -1,36 +1,57 @@
 -- From what an event does to that it happened.
-use Rattle.std.proofs.Common.{◌≡◌, ◌≢◌, false, List, [], refl, sym, ap, ◌∙◌, Bool}
+use Rattle.std.proofs.Common.{◌≡◌, ◌≢◌, false, cond, List, [], refl, sym, ap, subst, ◌∙◌, Bool}
+use Rattle.std.proofs.lemmas.Bool.{ne_eqb}
 use Rattle.host_port.specs.Outside.{Outside}
 use Rattle.host_port.specs.Printing.{Printing}
 use Rattle.machine.proofs.ShownLines.{shown_nothing}
-use Rattle.machine.specs.Printed.{EventPrints}
+use Rattle.machine.specs.Printed.{EffectPrints, EventPrints}
 use Rattle.xinu_base.specs.declared.events.Event.{Event}
 use Rattle.xinu_base.specs.declared.events.Event.TheVariants.{Step, Tick, Key, Tx, Disk0, Disk1, Fail0, Fail1, Dump}
 use Rattle.xinu_base.specs.declared.lines.TranscriptLine.{TranscriptLine}
-use Rattle.xinu_model.specs.Clock.{ticked}
-use Rattle.xinu_model.specs.Events.{effect_of, stepped, Happens}
-use Rattle.xinu_model.specs.Machine.{Xinu, EventResult, nothing_happens}
+use Rattle.xinu_base.specs.declared.processes.Rest.{Rest}
+use Rattle.xinu_base.specs.declared.processes.Rest.TheVariants.{Nothing}
+use Rattle.xinu_model.specs.Calls.{continued}
+use Rattle.xinu_model.specs.Events.{effect_of, instruction_step, is_done, stepped, Happens}
+use Rattle.xinu_model.specs.Machine.{Xinu, end_of_event, EventResult, nothing_happens}
+use Rattle.xinu_model.specs.Tables.{process_at}
 
--- what an event does that doesn't panic happens
-pub happens_as : (old new : Xinu) (e : Event) (lines : List TranscriptLine) → effect_of old e 0 ≡ record { lines = lines; state = new; panics = false } → Happens old e lines new
-happens_as old new e lines is = record {
-  choice = 0;
-  allowed = refl;
-  effect = is ∙ ap (λ (b : Bool). record { lines = lines; state = new; panics = b }) (sym (ap (λ (x : EventResult). x.panics) is));
-}
+-- An event that was printed happened.
+pub happened : (old new : Xinu) (e : Event) (panics : Bool) (before after : Printing) (was is : Outside) → EffectPrints (effect_of old e 0) new panics before after was is
+    → EventPrints old e new before after was is
+happened old new e panics before after was is k =
+    let effect = effect_of old e 0 in
+    record {
+      lines = effect.lines;
+      happens = record { choice = 0; allowed = refl; effect = ap (λ (s : Xinu). record { lines = effect.lines; state = s; panics = effect.panics }) k.state };
+      prints = k.prints;
+    }
 
--- an event that prints nothing
-pub prints_nothing_as : (old new : Xinu) (e : Event) (out : Printing) (host : Outside) → effect_of old e 0 ≡ record { lines = []; state = new; panics = false } → EventPrints old e new out out host host
-prints_nothing_as old new e out host is =
-    record { lines = []; happens = happens_as old new e [] is; prints = shown_nothing out host }
+-- nothing was printed, and nothing changed
+pub nothing_printed : (s : Xinu) (out : Printing) (host : Outside) → EffectPrints (nothing_happens s) s false out out host host
+nothing_printed s out host = record { state = refl; panics = refl; prints = shown_nothing out host }
 
--- a step, by what it does
-pub step_does : (old : Xinu) (e : Event) (effect : EventResult) → e ≡ Step → stepped old ≡ effect → effect_of old e 0 ≡ effect
-step_does old e effect is does = ap (λ (x : Event). effect_of old x 0) is ∙ does
+-- what an event comes to, if it is another by its kind
+pub effect_is : (old new : Xinu) (e f : Event) (panics : Bool) (before after : Printing) (was is : Outside) → e ≡ f → EffectPrints (effect_of old f 0) new panics before after was is
+    → EffectPrints (effect_of old e 0) new panics before after was is
+effect_is old new e f panics before after was is same k = subst (λ x. EffectPrints (effect_of old x 0) new panics before after was is) (sym same) k
 
--- a tick, by what it does
-pub tick_does : (old : Xinu) (e : Event) (effect : EventResult) → e ≡ Tick → ticked old ≡ effect → effect_of old e 0 ≡ effect
-tick_does old e effect is does = ap (λ (x : Event). effect_of old x 0) is ∙ does
+-- the same, by what the event comes to
+pub printed_as : (old new : Xinu) (e : Event) (effect : EventResult) (panics : Bool) (before after : Printing) (was is : Outside) → effect ≡ effect_of old e 0
+    → EffectPrints effect new panics before after was is → EffectPrints (effect_of old e 0) new panics before after was is
+printed_as old new e effect panics before after was is same k = subst (λ x. EffectPrints x new panics before after was is) same k
+
+-- what is left of a call is done if the current process waits in one
+pub goes_on_later : (s : Xinu) → s.tables.current ≢ 0 → (process_at s.tables s.tables.current).rest ≢ Nothing
+    → end_of_event s.tables.current [] (continued (process_at s.tables s.tables.current).rest s) ≡ stepped s
+goes_on_later s n w =
+    let left = (process_at s.tables s.tables.current).rest in
+    let goes_on = end_of_event s.tables.current [] (continued left s) in
+    let later : cond (is_done left) (instruction_step s) goes_on ≡ goes_on = ap (λ b. cond b (instruction_step s) goes_on) (waits left w) in
+    sym (ap (λ b. cond b (nothing_happens s) (cond (is_done left) (instruction_step s) goes_on)) (ne_eqb s.tables.current 0 n) ∙ later)
+  where
+    waits : (k : Rest) → k ≢ Nothing → is_done k ≡ false
+    waits Nothing n = absurd (n refl)
+    waits _ n = refl
 
 -- every other event does nothing, but for the printing of the tables
 pub other_does : (old : Xinu) (e : Event) → e ≢ Step → e ≢ Tick → e ≢ Dump → effect_of old e 0 ≡ nothing_happens old

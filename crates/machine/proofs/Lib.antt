@@ -1,10 +1,8 @@
 pub mod Boots
-pub mod Deaths
-pub mod Ends
+pub mod Closing
+pub mod Dumps
 pub mod Happenings
 pub mod Printings
 pub mod ShownLines
-pub mod Steps
-pub mod Tables
 pub mod Texts
-pub mod Ticks
+pub mod Walks

@@ -1,6 +1,4 @@
-pub mod KernelViews
-pub mod Kernels
+pub mod Machines
 pub mod Printed
 pub mod RunEnds
 pub mod Starts
-pub mod TableLines

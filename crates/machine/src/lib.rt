@@ -1,26 +1,27 @@
-//! The machine: it is booted with an image, takes one event after another, and prints what happens.
+//! The machine: it is booted with images, takes one event after another, and prints what happens.
 //!
 //! A [`Machine`] is seen as `Booted`: the `state` of the abstract machine for which it stands, the number of `events` that it took, and whether
-//! one of them ended the run (`over`).
+//! one of them ended the run (`over`). Between any two events, also after the run has ended, the state is sound: that is part of what a
+//! `Machine` stands for (`specs/Machines.antt`).
 //!
 //! | Call | Condition | Promise |
 //! |---|---|---|
-//! | [`Machine::boot`] | one image | `starts`: the machine stands for the state in which `boot` of the abstract machine starts; or `NoRoom` exactly as it says; or `NoMemory` |
+//! | [`Machine::boot`] | one to eight images | `starts`: the machine stands for the state in which `boot` of the abstract machine starts; or `Overlap` or `NoRoom` exactly as it says; or `NoMemory` |
 //! | [`Machine::start`] | | prints the `run` line of the first process |
 //! | [`Machine::event`] | `goes_on`: no event ended the run; `few`: fewer than 10^9 were taken | `happens`: the machine goes to a state that `Happens` allows, and prints its lines; `goes`: the answer says how the run ends with this event, if it does; `lived`, `counted`, `over` |
 //! | [`Machine::dump`] | | prints the tables of the state |
 //!
-//! Printing is `Prints` of `host_port`: all bytes unless the printer fails, else a prefix of them. No call but `boot` takes memory. The kernel
-//! holds one image's process: `specs/Kernels.antt` says for which states it stands.
+//! Printing is `Prints` of `host_port`: all bytes unless the printer fails, else a prefix of them. No call but `boot` takes memory, and no
+//! list of lines is collected. The kernel is `core_calls`.
 #![tactic(auto)]
 
 mod boot;
-mod kernel;
+mod events;
 mod lines;
 mod machine;
-mod memory_map;
 mod printing;
+mod tables;
 
-pub use boot::BootFault;
+pub use core_calls::BootFault;
 pub use machine::{Go, Machine};
 pub use xinu_base::Event;

@@ -1,6 +1,6 @@
 //! The machine: its kernel, and how many events it took.
 
-ghost use Rattle.std.specs.Prelude.{◌≡◌, ◌+◌, ◌∷◌, [], ◌<◌, ◌≤◌, false, is_some};
+ghost use Rattle.std.specs.Prelude.{◌≡◌, ◌+◌, ◌∷◌, [], ◌<◌, false, is_some};
 ghost use Rattle.host_port.specs.Printing.{Prints};
 ghost use Rattle.machine.specs.RunEnds.{end_of_go};
 ghost use Rattle.machine.specs.Printed.{EventPrints};
@@ -9,8 +9,10 @@ ghost use Rattle.xinu_model.specs.Events.{panics_in};
 ghost use Rattle.xinu_model.specs.Runs.{end_with, is_over};
 ghost use Rattle.xinu_model.specs.Text.{shown, tables_of};
 
-use crate::kernel::Kernel;
-use crate::printing::print_lines;
+use crate::events::happen;
+use crate::printing::print_line;
+use crate::tables::print_tables;
+use core_calls::Kernel;
 use host_port::{Host, Printer};
 use std::marker::Model;
 use xinu_base::{Event, TranscriptLine};
@@ -20,7 +22,7 @@ use xinu_base::{Event, TranscriptLine};
 pub enum Go {
     /// The run goes on.
     Goes,
-    /// This event killed the only process beside the null process.
+    /// In this event the last process beside the null process died.
     Done,
     /// The kernel panicked in this event.
     Panic,
@@ -35,15 +37,15 @@ pub struct Machine {
 }
 
 impl Model for Machine {
-    ghost use Rattle.std.specs.Prelude.{◌≡◌, ◌≤◌};
     ghost use Rattle.machine.specs.Printed.{Booted};
-    ghost use Rattle.xinu_model.specs.Runs.{is_over};
 
     ghost Value = { Booted };
 
-    ghost view = { λ m. record { state = m.kernel; events = m.events; over = m.has_ended } };
+    ghost use Rattle.machine.specs.Machines.{booted_of, IsMachine};
 
-    ghost invariant = { λ m. (is_over m.kernel ≡ m.has_ended) × (m.kernel.tables.ticks ≤ m.events) };
+    ghost view = { booted_of };
+
+    ghost invariant = { IsMachine };
 }
 
 impl Machine {
@@ -51,13 +53,13 @@ impl Machine {
     pub fn start<H: Host>(&self, out: &mut Printer, host: &mut H)
         ensures { Prints out.old out.new (H.view host.old) (H.view host.new) (shown out.old.plain (line.Switch self.now.state.tables.current ∷ [])) }
     {
-        print_lines(&[TranscriptLine::Switch(self.kernel.current())], out, host);
+        print_line(&TranscriptLine::Switch(self.kernel.current()), out, host);
     }
 
     /// Takes one event and prints its lines.
     ///
-    /// `Done` comes if and only if this event killed the only process beside the null process, `Panic` if the kernel panicked in it. An
-    /// event that the machine doesn't have yet changes and prints nothing.
+    /// `Panic` comes if and only if the kernel panicked in this event, else `Done` if and only if the last process beside the null process
+    /// died in it. An event that the machine doesn't have yet changes and prints nothing.
     pub fn event<H: Host>(&mut self, event: Event, out: &mut Printer, host: &mut H) -> Go
         requires goes_on { self.old.over ≡ false }
         requires few { self.old.events < 1000000000 }
@@ -68,38 +70,29 @@ impl Machine {
         ensures over { self.new.over ≡ is_some (end_of_go result) }
     {
         self.events += 1;
-        happen(&mut self.kernel, event, out, host);
-        if self.kernel.is_alive() {
-            Go::Goes
-        } else {
-            self.has_ended = true;
-            Go::Done
-        }
+        let panics = happen(&mut self.kernel, event, out, host);
+        let go = go_on(panics, self.kernel.tables().is_over());
+        self.has_ended = !matches!(go, Go::Goes);
+        go
     }
 
     /// Prints the tables.
     pub fn dump<H: Host>(&self, out: &mut Printer, host: &mut H)
         ensures { Prints out.old out.new (H.view host.old) (H.view host.new) (shown out.old.plain (tables_of self.now.state)) }
     {
-        print_lines(self.kernel.table_lines().as_slice(), out, host);
+        print_tables(&self.kernel, out, host);
     }
 }
 
-// Takes one event and prints its lines. If a step prints nothing no list of lines is made.
-fn happen<H: Host>(kernel: &mut Kernel, event: Event, out: &mut Printer, host: &mut H)
-    requires few { kernel.old.tables.ticks < 1000000000 }
-    ensures happens { EventPrints kernel.old event kernel.new out.old out.new (H.view host.old) (H.view host.new) }
-    ensures calm { panics_in kernel.old event ≡ false }
-    ensures ticks { kernel.new.tables.ticks ≤ kernel.old.tables.ticks + 1 }
+// What an event means for the run, by whether the kernel panicked in it and whether the null process alone is left.
+fn go_on(panics: bool, is_over: bool) -> Go
+    ensures goes { end_of_go result ≡ end_with panics is_over }
 {
-    match event {
-        Event::Step => {
-            if let Some(lines) = kernel.step() {
-                print_lines(lines.as_slice(), out, host);
-            }
-        }
-        Event::Tick => kernel.tick(),
-        Event::Dump => print_lines(kernel.table_lines().as_slice(), out, host),
-        _ => {}
+    if panics {
+        Go::Panic
+    } else if is_over {
+        Go::Done
+    } else {
+        Go::Goes
     }
 }

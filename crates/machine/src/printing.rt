@@ -1,18 +1,42 @@
-//! Printing: a list of lines, one `emit` for each.
+//! Printing: one `emit` for each line.
 
-ghost use Rattle.std.specs.Prelude.{◌≡◌};
+ghost use Rattle.std.specs.Prelude.{◌≡◌, ◌∷◌, [], map};
 ghost use Rattle.host_port.specs.Printing.{Prints};
+ghost use Rattle.xinu_model.specs.Machine.{return_line, switched};
 ghost use Rattle.xinu_model.specs.Text.{shown};
 
 use crate::lines::render;
 use host_port::{Host, Printer};
-use xinu_base::TranscriptLine;
+use xinu_base::{Pid, TranscriptLine};
 
-/// Prints lines in order.
-pub(crate) fn print_lines<H: Host>(lines: &[TranscriptLine], out: &mut Printer, host: &mut H)
-    ensures { Prints out.old out.new (H.view host.old) (H.view host.new) (shown out.old.plain lines.now) }
+/// Prints a line.
+pub(crate) fn print_line<H: Host>(line: &TranscriptLine, out: &mut Printer, host: &mut H)
+    ensures prints { Prints out.old out.new (H.view host.old) (H.view host.new) (shown out.old.plain (line.now ∷ [])) }
 {
-    for line in lines {
-        out.line(host, &render(line));
+    out.line(host, &render(line));
+}
+
+/// Prints the replies to released processes, in order.
+pub(crate) fn print_replies<H: Host>(replies: &[(Pid, i32)], out: &mut Printer, host: &mut H)
+    ensures prints { Prints out.old out.new (H.view host.old) (H.view host.new) (shown out.old.plain (map return_line replies.now)) }
+{
+    for reply in replies {
+        print_reply(reply.0, reply.1, out, host);
+    }
+}
+
+/// Prints the reply to a process.
+pub(crate) fn print_reply<H: Host>(p: Pid, value: i32, out: &mut Printer, host: &mut H)
+    ensures prints { Prints out.old out.new (H.view host.old) (H.view host.new) (shown out.old.plain (return_line (p, value) ∷ [])) }
+{
+    print_line(&TranscriptLine::Return(p, value), out, host);
+}
+
+/// Prints who runs now, if it is another process than before.
+pub(crate) fn print_switch<H: Host>(was: Pid, is: Pid, out: &mut Printer, host: &mut H)
+    ensures prints { Prints out.old out.new (H.view host.old) (H.view host.new) (shown out.old.plain (switched was is)) }
+{
+    if was != is {
+        print_line(&TranscriptLine::Switch(is), out, host);
     }
 }

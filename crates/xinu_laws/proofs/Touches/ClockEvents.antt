@@ -23,8 +23,8 @@ use Rattle.xinu_laws.proofs.Touches.Few.{IsLawOfFew, built_law_of_few}
 abbrev KeepsTicks : Xinu → Xinu → Type 0
 KeepsTicks s u = u.tables.ticks ≡ s.tables.ticks
 
--- a resched moves no clock
-resched_ticks : (t : Tables) → (resched t).ticks ≡ t.ticks
+-- A resched moves no clock.
+pub resched_ticks : (t : Tables) → (resched t).ticks ≡ t.ticks
 resched_ticks t =
     let room = preempt t in
     cond_both (keeps_cpu t.ready t) t (dispatch_first room.ready room) (λ u. u.ticks ≡ t.ticks) (λ _. refl) (λ _. dispatched room.ready room ∙ preempted)

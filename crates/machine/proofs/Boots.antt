@@ -1,0 +1,102 @@
+-- If an image is booted, a process lives besides the null process at the start; and the clock begins at 0.
+use Rattle.std.proofs.Common.{◌≡◌, ◌≢◌, ◌∙◌, ℕ, suc, ◌+◌, ◌<◌, ◌≤◌, ◌&&◌, false, cond, List, [], ◌∷◌, drop, get_or, length, set, Option, Some, None, ℤ, refl, sym, ap, subst, inl, inr, arith, get_or-set_same, get_or-set_other}
+use Rattle.std.specs.List.{list_all}
+use Rattle.std.proofs.lemmas.Bool.{cases_eq, cases_lt, cond_both}
+use Rattle.std.proofs.lemmas.List.{get_or_past}
+use Rattle.xinu_base.specs.declared.processes.Process.{Process}
+use Rattle.xinu_base.specs.declared.processes.State.{State}
+use Rattle.xinu_base.specs.declared.processes.State.TheVariants.{Current, Free, Ready, Suspended}
+use Rattle.xinu_laws.proofs.Tables.Starts.{all_are_made, boots_from, none_made}
+use Rattle.xinu_laws.proofs.Touches.ClockEvents.{resched_ticks}
+use Rattle.xinu_model.specs.Boot.{all_made, all_ready, all_started, boot, Boots, first_overlap, Loaded, loaded_machine, unless_overlap, where_stack, with_image}
+use Rattle.xinu_model.specs.Heap.Cells.{Stack, take_stack}
+use Rattle.xinu_model.specs.Machine.{Xinu}
+use Rattle.xinu_model.specs.Process.Creation.{stack_size}
+use Rattle.xinu_model.specs.Process.Scheduling.{dispatch, dispatch_first, in_state, is_current, keeps_cpu, preempt, ready, resched}
+use Rattle.xinu_model.specs.Runs.{is_over}
+use Rattle.xinu_model.specs.Tables.{InReady, is_free, message_at, move_to, no_process, Nowhere, Place, process_at, state_at, Tables}
+
+-- who lives still does after a process moved that isn't freed
+alive_moved : (t : Tables) (p j : ℕ) (x : Process) (m : Option ℕ) (place : Place) → x.state ≢ Free → state_at t j ≢ Free → state_at (move_to p x m place t) j ≢ Free
+alive_moved t p j x m place lives alive = elim (cases_eq j p) [
+  | inr n ↦ (λ h. alive (sym (ap (λ (y : Process). y.state) (get_or-set_other t.processes p j x no_process n)) ∙ h))
+  | inl e ↦ (elim (cases_lt p (length t.processes)) [
+      | inl lt ↦ (λ h. lives (sym (ap (λ (y : Process). y.state) (get_or-set_same t.processes p x no_process lt)) ∙ sym (ap (λ q. state_at (move_to p x m place t) q) e) ∙ h))
+      | inr le ↦ (λ h. alive (ap (λ (y : Process). y.state) (get_or_past t.processes j no_process (omega (arith, e, le)))))
+    ])
+]
+
+-- after processes became ready
+alive_all_ready : (images : List Loaded) (i j : ℕ) (t : Tables) → state_at t j ≢ Free → state_at (all_ready i images t) j ≢ Free
+alive_all_ready [] i j t alive = alive
+alive_all_ready (image ∷ images) i j t alive =
+    alive_all_ready images (i + 1) j (ready i t) (alive_moved t i j (in_state Ready (process_at t i)) (message_at t i) InReady (λ f. cc) alive)
+
+-- and after a resched
+alive_resched : (j : ℕ) (t : Tables) → state_at t j ≢ Free → state_at (resched t) j ≢ Free
+alive_resched j t alive =
+    let room = preempt t in
+    cond_both (keeps_cpu t.ready t) t (dispatch_first room.ready room) (λ u. state_at u j ≢ Free) (λ _. alive) (λ _. dispatched room.ready room preempted)
+  where
+    dispatched : (l : List (ℕ × ℤ)) (u : Tables) → state_at u j ≢ Free → state_at (dispatch_first l u) j ≢ Free
+    dispatched [] u a = a
+    dispatched (e ∷ es) u a =
+        let v = record u { current = e.0; quantum = 2 } in alive_moved v e.0 j (in_state Current (process_at u e.0)) (message_at u e.0) Nowhere (λ f. cc) a
+
+    preempted : state_at (preempt t) j ≢ Free
+    preempted = cond_both (is_current (state_at t t.current)) (ready t.current t) t (λ u. state_at u j ≢ Free)
+        (λ _. alive_moved t t.current j (in_state Ready (process_at t t.current)) (message_at t t.current) InReady (λ f. cc) alive) (λ _. alive)
+
+-- the run isn't over while process 1 lives
+not_over : (l : List Process) → (get_or l 1 no_process).state ≢ Free → list_all (λ (x : Process). is_free x.state) (drop 1 l) ≡ false
+not_over [] alive = absurd (alive refl)
+not_over (x ∷ []) alive = absurd (alive refl)
+not_over (x ∷ y ∷ l) alive = ap (λ b. b && list_all (λ (x : Process). is_free x.state) l) (lives y.state alive)
+  where
+    lives : (s : State) → s ≢ Free → is_free s ≡ false
+    lives Free n = absurd (n refl)
+    lives _ n = refl
+
+-- the process of the first image lives once all are started
+started_lives : (images : List Loaded) (x : Xinu) → state_at x.tables 1 ≢ Free → is_over (all_started images x) ≡ false
+started_lives images x alive = not_over (all_started images x).tables.processes (alive_resched 1 (all_ready 1 images x.tables) (alive_all_ready images 1 1 x.tables alive))
+
+unless_overlap_lives : (o : Option ℕ) (images : List Loaded) (start : Xinu) → 1 ≤ length images → length images < 64 → unless_overlap o images ≡ Boots start → is_over start ≡ false
+unless_overlap_lives (Some i) images start some few e = absurd (cc)
+unless_overlap_lives None images start some few e =
+    let b = boots_from (all_made 1 images (loaded_machine images)) (λ s. Boots (all_started images s)) start e in
+    let same : all_started images b.0 ≡ start = cc in
+    let made = all_are_made images 1 (loaded_machine images) b.0 (none_made images) (omega arith) (omega (arith, few)) b.1 in
+    let suspended : state_at b.0.tables 1 ≡ Suspended = made.suspended 1 (omega arith) (omega (arith, some)) in
+    subst (λ s. is_over s ≡ false) same (started_lives images b.0 (λ f. let h = sym suspended ∙ f in cc))
+
+-- A process lives besides the null process.
+pub boot_lives : (images : List Loaded) (start : Xinu) → 1 ≤ length images → length images < 64 → boot images ≡ Boots start → is_over start ≡ false
+boot_lives images start some few e = unless_overlap_lives (first_overlap 1 [] images) images start some few e
+
+-- a stack that is found moves no clock
+stacked_ticks : (found : Option Stack) (i : ℕ) (image : Loaded) (s x : Xinu) → where_stack found i image s ≡ Boots x → x.tables.ticks ≡ s.tables.ticks
+stacked_ticks None i image s x e = absurd (cc)
+stacked_ticks (Some stack) i image s x e = (let h : with_image i image stack s ≡ x = cc in ap (λ (y : Xinu). y.tables.ticks) (sym h))
+
+made_ticks : (images : List Loaded) (i : ℕ) (s x : Xinu) → all_made i images s ≡ Boots x → x.tables.ticks ≡ s.tables.ticks
+made_ticks [] i s x e = (let h : s ≡ x = cc in ap (λ (y : Xinu). y.tables.ticks) (sym h))
+made_ticks (image ∷ images) i s x e =
+    let found = take_stack (stack_size image.stack) s.parts.heap in
+    let b = boots_from (where_stack found i image s) (λ y. all_made (i + 1) images y) x e in
+    made_ticks images (i + 1) b.0 x b.2 ∙ stacked_ticks found i image s b.0 b.1
+
+ready_ticks : (images : List Loaded) (i : ℕ) (t : Tables) → (all_ready i images t).ticks ≡ t.ticks
+ready_ticks [] i t = refl
+ready_ticks (image ∷ images) i t = ready_ticks images (i + 1) (ready i t)
+
+unless_overlap_ticks : (o : Option ℕ) (images : List Loaded) (start : Xinu) → unless_overlap o images ≡ Boots start → start.tables.ticks ≡ 0
+unless_overlap_ticks (Some i) images start e = absurd (cc)
+unless_overlap_ticks None images start e =
+    let b = boots_from (all_made 1 images (loaded_machine images)) (λ s. Boots (all_started images s)) start e in
+    let same : all_started images b.0 ≡ start = cc in
+    sym (ap (λ (s : Xinu). s.tables.ticks) same) ∙ resched_ticks (all_ready 1 images b.0.tables) ∙ ready_ticks images 1 b.0.tables ∙ made_ticks images 1 (loaded_machine images) b.0 b.1
+
+-- The clock begins at 0.
+pub boot_ticks : (images : List Loaded) (start : Xinu) → boot images ≡ Boots start → start.tables.ticks ≡ 0
+boot_ticks images start e = unless_overlap_ticks (first_overlap 1 [] images) images start e

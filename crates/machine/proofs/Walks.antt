@@ -1,0 +1,104 @@
+-- Lists that are printed element by element.
+use Rattle.std.proofs.Common.{◌≡◌, ◌∙◌, ℕ, zero, suc, ◌+◌, ◌-◌, ◌<◌, ◌≤◌, Bool, true, false, cond, List, [], ◌∷◌, ◌++◌, append_assoc, append-nil, get_or, length, map, take, Option, Some, None, refl, sym, ap, subst, arith}
+use Rattle.std.specs.Prelude.{find, nat_le, slice_index_or, IfSome}
+use Rattle.std.proofs.lemmas.Bool.{cond_both, leb-true}
+use Rattle.std.proofs.lemmas.List.{map-append, take_more}
+use Rattle.host_port.specs.Outside.{Outside}
+use Rattle.host_port.specs.Printing.{Printing, Prints}
+use Rattle.xinu_base.specs.declared.lines.TranscriptLine.{TranscriptLine}
+use Rattle.xinu_base.specs.declared.processes.Process.{Process}
+use Rattle.xinu_model.specs.Heap.Cells.{Block}
+use Rattle.xinu_model.specs.Tables.{message_at, no_process, process_at, Tables}
+use Rattle.xinu_model.specs.Text.{process_line, process_lines, shown}
+use Rattle.machine.proofs.ShownLines.{shown_both, shown_nothing}
+
+-- Of the lines of a list those before the rest were printed.
+pub record PrintedUpTo {A : Type 0} (line : A → TranscriptLine) (all rest : List A) (before after : Printing) (was is : Outside) : Type 0 where
+  pub done : List TranscriptLine
+  pub whole : map line all ≡ done ++ map line rest
+  pub prints : Prints before after was is (shown before.plain done)
+
+-- At the start nothing was.
+pub printed_start : {A : Type 0} (line : A → TranscriptLine) (all rest : List A) (out : Printing) (host : Outside) → rest ≡ all → PrintedUpTo line all rest out out host host
+printed_start line all rest out host e = record { done = []; whole = ap (map line) (sym e); prints = shown_nothing out host }
+
+-- One line more was printed.
+pub printed_next : {A : Type 0} (line : A → TranscriptLine) (all rest left : List A) (x : A) (a b c : Printing) (h i j : Outside) → rest ≡ x ∷ left
+    → PrintedUpTo line all rest a b h i → Prints b c i j (shown b.plain (line x ∷ [])) → PrintedUpTo line all left a c h j
+printed_next line all rest left x a b c h i j e so_far one = record {
+  done = so_far.done ++ line x ∷ [];
+  whole = so_far.whole ∙ ap (λ l. so_far.done ++ map line l) e ∙ sym (append_assoc so_far.done (line x ∷ []) (map line left));
+  prints = shown_both a b c h i j so_far.done (line x ∷ []) so_far.prints one;
+}
+
+-- At the end all were.
+pub printed_all : {A : Type 0} (line : A → TranscriptLine) (all rest : List A) (a b : Printing) (h i : Outside) → rest ≡ [] → PrintedUpTo line all rest a b h i
+    → Prints a b h i (shown a.plain (map line all))
+printed_all line all rest a b h i e so_far =
+    let same : so_far.done ≡ map line all = sym (append-nil so_far.done) ∙ sym (ap (λ l. so_far.done ++ map line l) e) ∙ sym so_far.whole in
+    subst (λ l. Prints a b h i (shown a.plain l)) same so_far.prints
+
+-- how far the end of RAM is from a block
+abbrev pub room_from : Option Block → ℕ
+room_from None = 0
+room_from (Some b) = suc (1048576 - b.0)
+
+-- what is found is at the address or above
+pub found_above : (a : ℕ) (blocks : List Block) (b : Block) → find (λ d. nat_le a d.0) blocks ≡ Some b → a ≤ b.0
+found_above a [] b e = absurd (cc)
+found_above a (d ∷ blocks) b e =
+    cond_both (nat_le a d.0) (Some d) (find (λ x. nat_le a x.0) blocks) (λ o. o ≡ Some b → a ≤ b.0)
+    (λ t e. let P : Block → Type 0 = λ x. a ≤ x.0 in let same : d ≡ b = cc in subst P same (leb-true a d.0 t))
+    (λ t e. found_above a blocks b e) e
+
+-- the lines of one process more
+pub process_lines_more : (k n : ℕ) (ps : List Process) (ms : List (Option ℕ)) → n < length ps
+    → process_lines k (take (n + 1) ps) ms ≡ process_lines k (take n ps) ms ++ process_line (k + n) (slice_index_or ps n no_process) (slice_index_or ms (k + n) None)
+process_lines_more k n [] ms h = absurd (omega (arith, h))
+process_lines_more k zero (x ∷ ps) ms h =
+    let e : k ≡ k + 0 = omega arith in
+    append-nil (process_line k x (slice_index_or ms k None)) ∙ ap (λ m. process_line m x (slice_index_or ms m None)) e
+process_lines_more k (suc n) (x ∷ ps) ms h =
+    let here = process_line k x (slice_index_or ms k None) in
+    let e : k + 1 + n ≡ k + suc n = omega arith in
+    let f : suc n + 1 ≡ suc (n + 1) = omega arith in
+    ap (λ m. process_lines k (take m (x ∷ ps)) ms) f
+    ∙ ap (λ l. here ++ l) (process_lines_more (k + 1) n ps ms (omega (arith, h)) ∙ ap (λ m. process_lines (k + 1) (take n ps) ms ++ process_line m (slice_index_or ps n no_process) (slice_index_or ms m None)) e)
+    ∙ sym (append_assoc here (process_lines (k + 1) (take n ps) ms) (process_line (k + suc n) (slice_index_or ps n no_process) (slice_index_or ms (k + suc n) None)))
+
+-- The lines of the elements so far were printed, and the next one's.
+pub printed_more : {A : Type 0} (line : A → TranscriptLine) (l : List A) (k : ℕ) (x : A) (a b c : Printing) (h i j : Outside) → k < length l → x ≡ get_or l k x
+    → Prints a b h i (shown a.plain (map line (take k l))) → Prints b c i j (shown b.plain (line x ∷ [])) → Prints a c h j (shown a.plain (map line (take (k + 1) l)))
+printed_more line l k x a b c h i j within is so_far one =
+    let more : map line (take k l) ++ line x ∷ [] ≡ map line (take (k + 1) l) =
+    sym (map-append line (take k l) (x ∷ []))
+    ∙ ap (λ y. map line (take k l ++ y ∷ [])) is ∙ sym (ap (map line) (take_more l k x within)) in
+    subst (λ ls. Prints a c h j (shown a.plain ls)) more (shown_both a b c h i j (map line (take k l)) (line x ∷ []) so_far one)
+
+-- The processes so far were printed, and one more.
+pub printed_process : (t : Tables) (n : ℕ) (a b c : Printing) (h i j : Outside) → n < length t.processes
+    → Prints a b h i (shown a.plain (process_lines 0 (take n t.processes) t.messages)) → Prints b c i j (shown b.plain (process_line n (process_at t n) (message_at t n)))
+    → Prints a c h j (shown a.plain (process_lines 0 (take (n + 1) t.processes) t.messages))
+printed_process t n a b c h i j within so_far one =
+    let e : 0 + n ≡ n = omega arith in
+    let line = process_line n (process_at t n) (message_at t n) in
+    let more : process_lines 0 (take n t.processes) t.messages ++ line ≡ process_lines 0 (take (n + 1) t.processes) t.messages =
+    ap (λ m. process_lines 0 (take n t.processes) t.messages ++ process_line m (process_at t n) (message_at t m)) (sym e) ∙ sym (process_lines_more 0 n t.processes t.messages within) in
+    subst (λ ls. Prints a c h j (shown a.plain ls)) more (shown_both a b c h i j (process_lines 0 (take n t.processes) t.messages) line so_far one)
+
+-- a block that was found isn't empty and lies in RAM
+pub both_known : (o : Option Block) → IfSome o (λ b. 0 < b.1) → IfSome o (λ b. b.0 + b.1 ≤ 1048576) → IfSome o (λ b. (0 < b.1) × (b.0 + b.1 ≤ 1048576))
+both_known None a b = tt
+both_known (Some x) a b = (a, b)
+
+-- the next block is nearer to the end of RAM
+pub room_smaller : (blocks : List Block) (o n : Option Block) (address bytes : ℕ) → o ≡ Some (address, bytes) → IfSome o (λ b. (0 < b.1) × (b.0 + b.1 ≤ 1048576))
+    → n ≡ find (λ b. nat_le (address + bytes) b.0) blocks → room_from n < room_from o
+room_smaller blocks o None address bytes is known found = let e = ap room_from is in omega arith
+room_smaller blocks o (Some b) address bytes is known found =
+    let P : Option Block → Type 0 = λ o. IfSome o (λ b. (0 < b.1) × (b.0 + b.1 ≤ 1048576)) in
+    let k = subst P is known in
+    let some = k.0 in
+    let within = k.1 in
+    let later = found_above (address + bytes) blocks b (sym found) in
+    let e = ap room_from is in omega arith

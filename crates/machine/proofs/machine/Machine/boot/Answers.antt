@@ -1,0 +1,21 @@
+use Rattle.std.proofs.Common.{arith, map}
+use Rattle.std.proofs.lemmas.List.{length-map}
+use Rattle.image_loader.specs.Images.{loaded_of}
+use Rattle.xinu_laws.proofs.Preserve.Events.{sound_boot}
+use Rattle.machine.proofs.Boots.{boot_lives, boot_ticks}
+use Rattle.machine.proofs.machine.Machine.boot.Goals as goal
+
+pub invariant_of-result : goal.invariant_of-result
+invariant_of-result c =
+    let images = map loaded_of c.args.images.now in
+    let n = length-map c.args.images.now loaded_of in
+    let some = c.requires.some in
+    let few = c.requires.few in
+    let s = c.in_ok-kernel.kernel.call.state in
+    let booted = c.in_ok-kernel.ensures.booted in
+    record {
+      idle = booted.1;
+      sound = sound_boot images s (omega (arith, n, few)) booted.0;
+      lives = λ _. boot_lives images s (omega (arith, n, some)) (omega (arith, n, few)) booted.0;
+      ticks = (let e = boot_ticks images s booted.0 in omega arith);
+    }

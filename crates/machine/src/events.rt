@@ -1,0 +1,162 @@
+//! Events: a step of the current process, a tick of the clock, the printing of the tables (book, chapters 12 and 13).
+
+ghost use Rattle.std.specs.Prelude.{◌≡◌, ◌≢◌, ◌<◌, ◌≤◌, ◌+◌, ◌∷◌, [], map};
+ghost use Rattle.core_calls.specs.Results.{answer_so_far, IsIdle};
+ghost use Rattle.host_port.specs.Printing.{Prints};
+ghost use Rattle.machine.specs.Printed.{EffectPrints, EventPrints};
+ghost use Rattle.xinu_base.specs.declared.lines.TranscriptLine.TheVariants as line;
+ghost use Rattle.xinu_model.specs.Calls.{called};
+ghost use Rattle.xinu_model.specs.Clock.{ticked};
+ghost use Rattle.xinu_model.specs.Events.{panics_in, reacted, stepped};
+ghost use Rattle.xinu_model.specs.Machine as model;
+ghost use Rattle.xinu_model.specs.Process.Death.{exit};
+ghost use Rattle.xinu_model.specs.Sound.State.{IsSound};
+ghost use Rattle.xinu_model.specs.Text.{shown};
+
+use crate::printing::{print_line, print_replies, print_reply, print_switch};
+use crate::tables::print_tables;
+use core_calls::Kernel;
+use host_port::{Host, Printer};
+use rv_hart::Outcome;
+use xinu_base::{Call, Event, Next, Pid, TranscriptLine};
+
+/// Takes one event and prints its lines. Whether the kernel panicked in it.
+pub(crate) fn happen<H: Host>(kernel: &mut Kernel, event: Event, out: &mut Printer, host: &mut H) -> bool
+    requires idle { IsIdle kernel.old }
+    requires sound { IsSound kernel.old.call.state }
+    requires few { kernel.old.call.state.tables.ticks < 1000000000 }
+    ensures happens { EventPrints kernel.old.call.state event kernel.new.call.state out.old out.new (H.view host.old) (H.view host.new) }
+    ensures panics { result ≡ panics_in kernel.old.call.state event }
+    ensures idle { IsIdle kernel.new }
+    ensures sound { IsSound kernel.new.call.state }
+    ensures ticks { kernel.new.call.state.tables.ticks ≤ kernel.old.call.state.tables.ticks + 1 }
+{
+    match event {
+        Event::Step => step(kernel, out, host),
+        Event::Tick => tick(kernel, out, host),
+        Event::Dump => {
+            print_tables(kernel, out, host);
+            false
+        }
+        _ => false,
+    }
+}
+
+// A step: nothing if the null process is current, else what is left of the current process's call, else an instruction.
+fn step<H: Host>(kernel: &mut Kernel, out: &mut Printer, host: &mut H) -> bool
+    requires idle { IsIdle kernel.old }
+    requires sound { IsSound kernel.old.call.state }
+    ensures effect { EffectPrints (stepped kernel.old.call.state) kernel.new.call.state result out.old out.new (H.view host.old) (H.view host.new) }
+    ensures idle { IsIdle kernel.new }
+    ensures sound { IsSound kernel.new.call.state }
+{
+    let current = kernel.current();
+    if current == Pid::default() {
+        return false;
+    }
+    if !kernel.is_done() {
+        let next = kernel.go_on_core();
+        return end_event(kernel, current, Some(next), out, host);
+    }
+    let outcome = kernel.instruction();
+    react(kernel, outcome, out, host)
+}
+
+// What comes of an instruction of the current process, which isn't the null process.
+fn react<H: Host>(kernel: &mut Kernel, outcome: Outcome, out: &mut Printer, host: &mut H) -> bool
+    requires idle { IsIdle kernel.old }
+    requires sound { IsSound kernel.old.call.state }
+    requires not_null { kernel.old.call.state.tables.current ≢ 0 }
+    ensures effect { EffectPrints (reacted outcome kernel.old.call.state) kernel.new.call.state result out.old out.new (H.view host.old) (H.view host.new) }
+    ensures idle { IsIdle kernel.new }
+    ensures sound { IsSound kernel.new.call.state }
+{
+    let current = kernel.current();
+    match outcome {
+        Outcome::Went => false,
+        Outcome::Call => {
+            let call = kernel.call_of();
+            make_call(kernel, call, out, host)
+        }
+        Outcome::Exit => {
+            let mut call = kernel.call_of();
+            call.number = 9;
+            die(kernel, TranscriptLine::Call(current, call), out, host)
+        }
+        Outcome::Trap(cause) => die(kernel, TranscriptLine::Trap(current, cause), out, host),
+    }
+}
+
+// A call of the current process, which isn't the null process.
+fn make_call<H: Host>(kernel: &mut Kernel, call: Call, out: &mut Printer, host: &mut H) -> bool
+    requires idle { IsIdle kernel.old }
+    requires not_null { kernel.old.call.state.tables.current ≢ 0 }
+    ensures effect { EffectPrints (model.end_of_event kernel.old.call.state.tables.current (line.Call kernel.old.call.state.tables.current call ∷ []) (called call.number call.args kernel.old.call.state)) kernel.new.call.state result out.old out.new (H.view host.old) (H.view host.new) }
+    ensures idle { IsIdle kernel.new }
+    ensures sound { IsSound kernel.new.call.state }
+{
+    let current = kernel.current();
+    print_line(&TranscriptLine::Call(current, call), out, host);
+    let next = kernel.begin_core(call);
+    end_event(kernel, current, Some(next), out, host)
+}
+
+// The current process, which isn't the null process, dies. The line says why.
+fn die<H: Host>(kernel: &mut Kernel, why: TranscriptLine, out: &mut Printer, host: &mut H) -> bool
+    requires idle { IsIdle kernel.old }
+    requires not_null { kernel.old.call.state.tables.current ≢ 0 }
+    ensures effect { EffectPrints (model.end_of_event kernel.old.call.state.tables.current (why ∷ []) (exit kernel.old.call.state)) kernel.new.call.state result out.old out.new (H.view host.old) (H.view host.new) }
+    ensures idle { IsIdle kernel.new }
+    ensures sound { IsSound kernel.new.call.state }
+{
+    let current = kernel.current();
+    print_line(&why, out, host);
+    kernel.die();
+    end_event(kernel, current, Some(Next::Gone), out, host)
+}
+
+// A tick of the clock.
+fn tick<H: Host>(kernel: &mut Kernel, out: &mut Printer, host: &mut H) -> bool
+    requires idle { IsIdle kernel.old }
+    requires few { kernel.old.call.state.tables.ticks < 1000000000 }
+    ensures effect { EffectPrints (ticked kernel.old.call.state) kernel.new.call.state result out.old out.new (H.view host.old) (H.view host.new) }
+    ensures idle { IsIdle kernel.new }
+    ensures sound { IsSound kernel.new.call.state }
+{
+    let current = kernel.current();
+    kernel.on_tick();
+    end_event(kernel, current, None, out, host)
+}
+
+// Ends an event that began in process `was`, with this answer to its call, if it was one: prints the replies to released processes, the
+// caller's and the switch. Whether the kernel panicked.
+fn end_event<H: Host>(kernel: &mut Kernel, was: Pid, answer: Option<Next>, out: &mut Printer, host: &mut H) -> bool
+    requires answer { kernel.old.answer ≡ answer_so_far answer }
+    ensures effect { EffectPrints (model.end_of_event was [] kernel.old) kernel.new.call.state result out.old out.new (H.view host.old) (H.view host.new) }
+    ensures idle { IsIdle kernel.new }
+    ensures sound { IsSound kernel.new.call.state }
+{
+    print_answers(kernel, answer, out, host);
+    kernel.close_event();
+    print_switch(was, kernel.current(), out, host);
+    is_panic(answer)
+}
+
+// Prints the replies to released processes, and the caller's.
+fn print_answers<H: Host>(kernel: &Kernel, answer: Option<Next>, out: &mut Printer, host: &mut H)
+    requires answer { kernel.now.answer ≡ answer_so_far answer }
+    ensures prints { Prints out.old out.new (H.view host.old) (H.view host.new) (shown out.old.plain (map model.return_line (model.replies_of kernel.now))) }
+{
+    print_replies(kernel.released(), out, host);
+    match answer {
+        Some(Next::Returns(value)) => print_reply(kernel.current(), value, out, host),
+        _ => {}
+    }
+}
+
+// Whether the kernel panicked, by its answer.
+fn is_panic(answer: Option<Next>) -> bool
+    ensures panic { result ≡ model.is_panic (answer_so_far answer) }
+{
+    matches!(answer, Some(Next::Panics))
+}

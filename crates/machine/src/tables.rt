@@ -1,0 +1,101 @@
+//! The tables of the machine, one line after another.
+
+ghost use Rattle.std.specs.Prelude.{◌≡◌, ◌<◌, ◌∷◌, [], map};
+ghost use Rattle.host_port.specs.Printing.{Prints};
+ghost use Rattle.xinu_base.specs.declared.lines.TranscriptLine.TheVariants as line;
+ghost use Rattle.xinu_model.specs.Heap.Cells.{free_blocks};
+ghost use Rattle.xinu_model.specs.Sound.State.{IsSound};
+ghost use Rattle.xinu_model.specs.Sound.Tables.{IsInside};
+ghost use Rattle.xinu_model.specs.Tables.{message_at, process_at};
+ghost use Rattle.xinu_model.specs.Text as text;
+ghost use Rattle.xinu_model.specs.Text.{shown};
+
+use crate::printing::print_line;
+use core_calls::{Kernel, KernelTables};
+use freelist_memory::Heap;
+use host_port::{Host, Printer};
+use process_core::pid_at;
+use xinu_base::{State, TranscriptLine};
+
+/// Prints the tables.
+pub(crate) fn print_tables<H: Host>(kernel: &Kernel, out: &mut Printer, host: &mut H)
+    requires sound { IsSound kernel.now.call.state }
+    ensures prints { Prints out.old out.new (H.view host.old) (H.view host.new) (shown out.old.plain (text.tables_of kernel.now.call.state)) }
+{
+    let tables = kernel.tables();
+    tables.only_ready_are_listed();
+    print_line(
+        &TranscriptLine::Now(tables.ticks(), tables.quantum()),
+        out,
+        host,
+    );
+    print_processes(tables, out, host);
+    print_ready(tables, out, host);
+    print_free(kernel.heap(), out, host);
+    print_devices(out, host);
+}
+
+// Prints the processes, by number.
+fn print_processes<H: Host>(tables: &KernelTables, out: &mut Printer, host: &mut H)
+    requires inside { IsInside tables.now }
+    ensures prints { Prints out.old out.new (H.view host.old) (H.view host.new) (shown out.old.plain (text.process_lines 0 tables.now.processes tables.now.messages)) }
+{
+    for number in 0..64 {
+        print_process(tables, number, out, host);
+    }
+}
+
+// Prints the process of a number, unless the number is free.
+fn print_process<H: Host>(tables: &KernelTables, number: usize, out: &mut Printer, host: &mut H)
+    requires below { number < 64 }
+    ensures prints { Prints out.old out.new (H.view host.old) (H.view host.new) (shown out.old.plain (text.process_line number (process_at tables.now number) (message_at tables.now number))) }
+{
+    let p = pid_at(number);
+    let state = tables.state_of(p);
+    if !matches!(state, State::Free) {
+        let line = TranscriptLine::Process {
+            process: p,
+            state,
+            priority: tables.priority_of(p),
+            parent: tables.parent_of(p),
+            message: tables.message_of(p),
+            name: tables.name_field_of(p),
+        };
+        print_line(&line, out, host);
+    }
+}
+
+// Prints the ready list.
+fn print_ready<H: Host>(tables: &KernelTables, out: &mut Printer, host: &mut H)
+    ensures prints { Prints out.old out.new (H.view host.old) (H.view host.new) (shown out.old.plain (map text.ready_line tables.now.ready)) }
+{
+    let mut next = tables.first_ready();
+    while let Some(p) = next {
+        print_line(
+            &TranscriptLine::Ready(p, tables.priority_of(p)),
+            out,
+            host,
+        );
+        next = tables.ready_after(p);
+    }
+}
+
+// Prints the free blocks of the heap.
+fn print_free<H: Host>(heap: &Heap, out: &mut Printer, host: &mut H)
+    ensures prints { Prints out.old out.new (H.view host.old) (H.view host.new) (shown out.old.plain (map text.free_line (free_blocks heap.now))) }
+{
+    let mut next = heap.block_from(0);
+    while let Some((address, bytes)) = next {
+        print_line(&TranscriptLine::Free(address, bytes), out, host);
+        next = heap.block_from(address + bytes);
+    }
+}
+
+// Prints the devices.
+fn print_devices<H: Host>(out: &mut Printer, host: &mut H)
+    ensures prints { Prints out.old out.new (H.view host.old) (H.view host.new) (shown out.old.plain (line.Console ∷ line.Disk0 ∷ line.Disk1 ∷ [])) }
+{
+    print_line(&TranscriptLine::Console, out, host);
+    print_line(&TranscriptLine::Disk0, out, host);
+    print_line(&TranscriptLine::Disk1, out, host);
+}
