@@ -19,8 +19,8 @@ both_hold : {X : Type 0} (a b : Bool) (x y : X) → a ≡ true → b ≡ true �
 both_hold a b x y first second = rw (first, second) refl
 
 -- tokens that were all read are typed
-pub typed_in-all : (tokens : List (List ℕ)) (bytes rest : List ℕ) → tokens_of rest ≡ [] → bytes_in tokens ≡ behind bytes (bytes_in (tokens_of rest)) → length tokens ≡ length bytes + length (tokens_of rest) → false ≡ (length bytes == 0) → length bytes ≤ 64 → typed_in tokens ≡ Some bytes
-typed_in-all tokens bytes rest none read count some few =
+pub typed_all : (tokens : List (List ℕ)) (bytes rest : List ℕ) → tokens_of rest ≡ [] → bytes_in tokens ≡ behind bytes (bytes_in (tokens_of rest)) → length tokens ≡ length bytes + length (tokens_of rest) → false ≡ (length bytes == 0) → length bytes ≤ 64 → typed_in tokens ≡ Some bytes
+typed_all tokens bytes rest none read count some few =
     let all : length tokens ≡ length bytes = omega (arith, ap length none) in
     let least : 1 ≤ length tokens = omega (arith, some_from (length bytes) some) in
     let most : length tokens ≤ 64 = omega arith in
