@@ -1,10 +1,10 @@
 -- Cells between the blocks of a list: they are taken, and what a list is that has them too. Other cells aren't taken.
-use Rattle.std.proofs.Common.{◌≡◌, ℕ, zero, suc, ◌+◌, ◌-◌, ◌<◌, ◌≤◌, Bool, true, false, List, [], ◌∷◌, ◌++◌, length, take, drop, append_assoc, refl, sym, ap, ◌∙◌, subst, arith, ⊎_elim}
-use Rattle.std.specs.Prelude.{replicate, slice_set}
+use Rattle.std.proofs.Common.{◌≡◌, ℕ, zero, suc, ◌+◌, ◌-◌, ◌<◌, ◌≤◌, Bool, true, false, List, [], ◌∷◌, ◌++◌, length, take, drop, append_assoc, refl, sym, ap, ◌∙◌, subst, arith, ◌&&◌, ◌⊎◌, inl, inr, ⊎_elim}
+use Rattle.std.specs.Prelude.{nat_le, replicate, slice_set}
 use Rattle.std.specs.List.{remove}
 use Rattle.std.proofs.lemmas.List.{take-append-drop, length-drop, drop-drop}
 use Rattle.std.proofs.Math.Seq.{drop-append-add, drop-cons, take-suc}
-use Rattle.std.proofs.lemmas.Bool.{cases_lt}
+use Rattle.std.proofs.lemmas.Bool.{and_cases, and_parts, cases_lt, leb-false, leb-true}
 use Rattle.xinu_model.specs.Heap.Cells.{begins_with, marked}
 use Rattle.freelist_memory.specs.Blocks.{block_at, cells_of, AreBlocks}
 use Rattle.freelist_memory.specs.Gaps.{floor_at, ceiling_at, IsGap, IsGiven}
@@ -240,3 +240,11 @@ high_refused bs at first k last h b v w =
     meets_begins bs at first k last (block_at bs at).first h p next (omega arith) (omega arith) (omega arith))
     (λ (p : length bs ≤ at). absurd (let past = ceiling_past at bs (last + 1) p in omega arith))
     (cases_lt at (length bs))
+
+-- what the two bounds of a gap tell, and which one isn't kept
+pub held_parts : (low first end high : ℕ) → (nat_le low first && nat_le end high) ≡ true → (low ≤ first) × (end ≤ high)
+held_parts low first end high e = let both = and_parts (nat_le low first) (nat_le end high) e in (leb-true low first both.0, leb-true end high both.1)
+
+pub not_held : (low first end high : ℕ) → (nat_le low first && nat_le end high) ≡ false → (first < low) ⊎ (high < end)
+not_held low first end high e =
+    ⊎_elim (λ under. inl (leb-false low first under)) (λ over. inr (leb-false end high over)) (and_cases (nat_le low first) (nat_le end high) e)

@@ -1,9 +1,9 @@
 -- Lists of blocks in order: parts of one, two joined, and how long one is.
-use Rattle.std.proofs.Common.{◌≡◌, ℕ, zero, suc, ◌+◌, ◌*◌, ◌<◌, ◌≤◌, List, [], ◌∷◌, ◌++◌, length, take, drop, refl, sym, ap, ◌∙◌, arith}
+use Rattle.std.proofs.Common.{◌≡◌, ℕ, zero, suc, ◌+◌, ◌*◌, ◌<◌, ◌≤◌, ◌==◌, false, List, [], ◌∷◌, ◌++◌, length, take, drop, refl, sym, ap, ◌∙◌, add-one, arith}
 use Rattle.std.specs.Prelude.{slice_set}
 use Rattle.std.proofs.Math.Seq.{drop-cons}
 use Rattle.std.proofs.lemmas.List.{take-append-drop}
-use Rattle.freelist_memory.specs.Blocks.{block_at, AreBlocks}
+use Rattle.freelist_memory.specs.Blocks.{block_at, AreBlocks, unless_empty}
 use Rattle.freelist_memory.proofs.Cells.{AreWithin, blocks_order}
 use Rattle.freelist_memory.specs.declared.blocks.FreeBlock.{FreeBlock}
 
@@ -85,6 +85,10 @@ pub set_around : (bs : List FreeBlock) (i : ℕ) (b : FreeBlock) → i < length 
 set_around [] i b w = absurd (omega arith)
 set_around (a ∷ bs) zero b w = refl
 set_around (a ∷ bs) (suc i) b w = ap (λ l. a ∷ l) (set_around bs i b (omega arith))
+
+-- What is left of a block takes its place, if it has a cell.
+pub set_rest : (bs : List FreeBlock) (i : ℕ) (b : FreeBlock) → i < length bs → (b.count == 0) ≡ false → slice_set bs i b ≡ take i bs ++ unless_empty b (drop (i + 1) bs)
+set_rest bs i b w some = rw some (set_around bs i b w ∙ ap (λ j. take i bs ++ b ∷ drop j bs) (sym (add-one i)))
 
 -- A block has a cell.
 pub block_some : (from : ℕ) (bs : List FreeBlock) (to i : ℕ) → AreBlocks from bs to → i < length bs → 0 < (block_at bs i).count
