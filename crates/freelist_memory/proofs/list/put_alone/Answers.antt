@@ -10,7 +10,8 @@ use Rattle.freelist_memory.proofs.list.put_alone.Goals as goal
 room : (c : goal.After-insert) → length c.args.blocks.now.items < c.requires.fits.0 / 2 + 1
 room c =
     let f = c.requires.fits.1 in
-    puts.alone_room c.args.blocks.now.items c.args.gap.at c.args.block c.requires.fits.0 f.gap (λ e. c.requires.before (e ∙ sym f.low)) (λ e. c.requires.after (e ∙ sym f.high))
+    puts.alone_room c.args.blocks.now.items c.args.gap.at c.args.block c.requires.fits.0 f.gap (λ e. c.requires.before (e ∙ sym f.low))
+    (λ e. c.requires.after (e ∙ sym f.high))
 
 pub unwrap-requires : goal.unwrap-requires
 unwrap-requires c =
@@ -25,11 +26,14 @@ returns-clause-given c last f =
     let new : c.insert.new.self.items ≡ insert bs c.args.gap.at c.args.block =
     c.insert.ensures.items ∙ ap (λ r. cond (is_ok r) (insert bs c.args.gap.at c.args.block) bs) c.unwrap.ensures in
     subst P (sym new)
-    (puts.put_alone bs c.args.gap.at c.args.block last f.gap (λ e. c.requires.before (e ∙ sym f.low)) (λ e. c.requires.after (e ∙ sym f.high)))
+    (puts.put_alone bs c.args.gap.at c.args.block last f.gap (λ e. c.requires.before (e ∙ sym f.low))
+    (λ e. c.requires.after (e ∙ sym f.high)))
 
 pub returns-clause-capacity : goal.returns-clause-capacity
 returns-clause-capacity c =
     let f = c.requires.fits.1 in
-    let r = puts.alone_room c.args.blocks.now.items c.args.gap.at c.args.block c.requires.fits.0 f.gap (λ e. c.requires.before (e ∙ sym f.low)) (λ e. c.requires.after (e ∙ sym f.high)) in
+    let r =
+    puts.alone_room c.args.blocks.now.items c.args.gap.at c.args.block c.requires.fits.0 f.gap (λ e. c.requires.before (e ∙ sym f.low))
+    (λ e. c.requires.after (e ∙ sym f.high)) in
     let capacity = f.room in
     (c.insert.ensures.in_place (omega arith)).1.0

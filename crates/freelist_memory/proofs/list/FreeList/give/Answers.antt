@@ -20,7 +20,8 @@ returns-then-end-self-clause-taken c =
 pub gap_at-gap-requires-clause-ends : goal.gap_at-gap-requires-clause-ends
 gap_at-gap-requires-clause-ends c =
     let P : List FreeBlock → Type 0 = λ l. (i : ℕ) → i < length l → (block_at l i).first + (block_at l i).count ≤ c.self.inside.cells in
-    subst P (sym c.deref.ensures.value) (λ i w. let end = block_end 0 c.self.inside.blocks.items (c.self.inside.cells + 1) i c.self.invariant.blocks w in omega arith)
+    subst P (sym c.deref.ensures.value)
+    (λ i w. let end = block_end 0 c.self.inside.blocks.items (c.self.inside.cells + 1) i c.self.invariant.blocks w in omega arith)
 
 -- the gap that was found in the list
 abbrev Found : ℕ → List FreeBlock → Gap → ℕ → Type 0
@@ -32,7 +33,8 @@ returns-then-not-holds-clause-taken c =
     let bs = c.self.inside.blocks.items in
     let g = c.gap_at-gap.result in
     let P : List FreeBlock → Type 0 = λ l. Found c.args.first l g c.self.inside.cells in
-    let found : Found c.args.first bs g c.self.inside.cells = subst P c.deref.ensures.value (c.gap_at-gap.ensures.place, c.gap_at-gap.ensures.low, c.gap_at-gap.ensures.high) in
+    let found : Found c.args.first bs g c.self.inside.cells =
+    subst P c.deref.ensures.value (c.gap_at-gap.ensures.place, c.gap_at-gap.ensures.low, c.gap_at-gap.ensures.high) in
     let low = found.1 in
     let high = found.2 in
     let end = c.if-end-self.false in
@@ -43,16 +45,20 @@ returns-then-not-holds-clause-taken c =
     (not_held g.low (c.args.first + 1) (c.args.first + k) g.high (sym c.holds.ensures.holds ∙ c.if-not-holds.true)))
 
 -- the cells fit into the gap
-fits : (c : goal.After-put) → Fits c.self.inside.blocks.items c.gap_at-gap.result (record { first = c.args.first; count = c.args.count }) (vec_capacity c.self.inside.blocks) c.self.inside.cells
+fits : (c : goal.After-put)
+    → Fits c.self.inside.blocks.items c.gap_at-gap.result (record { first = c.args.first; count = c.args.count })
+    (vec_capacity c.self.inside.blocks) c.self.inside.cells
 fits c =
     let bs = c.self.inside.blocks.items in
     let g = c.gap_at-gap.result in
     let P : List FreeBlock → Type 0 = λ l. Found c.args.first l g c.self.inside.cells in
-    let found : Found c.args.first bs g c.self.inside.cells = subst P c.deref.ensures.value (c.gap_at-gap.ensures.place, c.gap_at-gap.ensures.low, c.gap_at-gap.ensures.high) in
+    let found : Found c.args.first bs g c.self.inside.cells =
+    subst P c.deref.ensures.value (c.gap_at-gap.ensures.place, c.gap_at-gap.ensures.low, c.gap_at-gap.ensures.high) in
     let low = found.1 in
     let high = found.2 in
     let end = c.if-end-self.false in
-    let held = held_parts g.low (c.args.first + 1) (c.args.first + c.args.count) g.high (sym c.holds.ensures.holds ∙ c.if-not-holds.false) in
+    let held =
+    held_parts g.low (c.args.first + 1) (c.args.first + c.args.count) g.high (sym c.holds.ensures.holds ∙ c.if-not-holds.false) in
     let v = held.0 in
     let w = held.1 in
     record {
