@@ -1,10 +1,12 @@
 -- Operands that are too few or too many.
 use Rattle.std.specs.Prelude.{◌==◌}
-use Rattle.std.proofs.Common.{◌≡◌, ℕ, suc, zero, ◌%◌, ◌<◌, ◌≤◌, Bool, true, false, cond, List, [], ◌∷◌, length, take, map, Option, Some, None, refl, sym, ap, ◌∙◌, ◌⊎◌, inl, inr, arith}
+use Rattle.std.proofs.Common.{◌≡◌, ℕ, suc, zero, ◌%◌, ◌<◌, ◌≤◌, Bool, true, false, cond, List, [], ◌∷◌, length, take, map, Option, Some}
+use Rattle.std.proofs.Common.{None, refl, sym, ap, ◌∙◌, ◌⊎◌, inl, inr, arith}
 use Rattle.asm_syntax.specs.Operands.{Operand}
 use Rattle.asm_syntax.specs.CodeOperands.{seen_operand, first_four}
 use Rattle.xinu_model.specs.Isa.Instructions.{FormU, FormJ, FormI, FormB, FormS, FormShift, FormR, FormFence, FormWhole}
-use Rattle.asm_syntax.specs.Meanings.{Meaning, Instruction, Li, La, Mv, Nop, Jump, Ret, Sys, DotWord, DotByte, DotZero, DotAscii, DotAlign, DotPlace, DotEntry, DotPriority, DotStack, Slot, RegisterSlot, NumberSlot, OffsetSlot, slots_of}
+use Rattle.asm_syntax.specs.Meanings.{Meaning, Instruction, Li, La, Mv, Nop, Jump, Ret, Sys, DotWord, DotByte, DotZero, DotAscii, DotAlign}
+use Rattle.asm_syntax.specs.Meanings.{DotPlace, DotEntry, DotPriority, DotStack, Slot, RegisterSlot, NumberSlot, OffsetSlot, slots_of}
 use Rattle.asm_syntax.specs.Statements.{Malformed, made_of, stated}
 use Rattle.asm_syntax.specs.Values.{Fit, Wrong, Unknown, Fits, fit, Fitting, AnyWrong, both, fitting}
 use Rattle.asm_syntax.specs.declared.operands.Operand.{Operand as CodeOperand}
@@ -19,7 +21,8 @@ before_wrong : (f : Fit) (rest : Fitting) → rest ≡ AnyWrong → both f rest 
 before_wrong f rest is = ap (both f) is ∙ both-wrong f
 
 -- more operands or fewer than slots
-fitting-count : (slots : List Slot) (operands : List Operand) → (length operands < length slots) ⊎ (length slots < length operands) → fitting slots operands ≡ AnyWrong
+fitting-count : (slots : List Slot) (operands : List Operand) → (length operands < length slots) ⊎ (length slots < length operands)
+    → fitting slots operands ≡ AnyWrong
 fitting-count [] [] (inl less) = absurd (omega arith)
 fitting-count [] [] (inr more) = absurd (omega arith)
 fitting-count [] (o ∷ os) other = refl
@@ -33,16 +36,19 @@ length-seen [] = refl
 length-seen (o ∷ os) = ap suc (length-seen os)
 
 -- fewer than three operands, or more
-pub made-fewer : (meaning : Meaning) (a b c : Slot) (operands : List CodeOperand) → length operands < 3 → Malformed ≡ made_of meaning (fitting (a ∷ b ∷ c ∷ []) (map seen_operand operands))
+pub made-fewer : (meaning : Meaning) (a b c : Slot) (operands : List CodeOperand) → length operands < 3
+    → Malformed ≡ made_of meaning (fitting (a ∷ b ∷ c ∷ []) (map seen_operand operands))
 made-fewer meaning a b c operands less =
     ap (made_of meaning) (sym (fitting-count (a ∷ b ∷ c ∷ []) (map seen_operand operands) (inl (omega (arith, length-seen operands)))))
 
-pub made-more : (meaning : Meaning) (a b c : Slot) (operands : List CodeOperand) → 4 ≤ length operands → Malformed ≡ made_of meaning (fitting (a ∷ b ∷ c ∷ []) (map seen_operand operands))
+pub made-more : (meaning : Meaning) (a b c : Slot) (operands : List CodeOperand) → 4 ≤ length operands
+    → Malformed ≡ made_of meaning (fitting (a ∷ b ∷ c ∷ []) (map seen_operand operands))
 made-more meaning a b c operands more =
     ap (made_of meaning) (sym (fitting-count (a ∷ b ∷ c ∷ []) (map seen_operand operands) (inr (omega (arith, length-seen operands)))))
 
 -- operands beyond the slots make no difference but that they are too many
-fitting-take : (slots : List Slot) (n : ℕ) (operands : List Operand) → length slots < n → fitting slots (take n operands) ≡ fitting slots operands
+fitting-take : (slots : List Slot) (n : ℕ) (operands : List Operand) → length slots < n
+    → fitting slots (take n operands) ≡ fitting slots operands
 fitting-take [] zero operands more = absurd (omega arith)
 fitting-take [] (suc n) [] more = refl
 fitting-take [] (suc n) (o ∷ os) more = refl
@@ -58,7 +64,9 @@ few_either false xs ys a b = b
 few_slots : (meaning : Meaning) → length (slots_of meaning) < 4
 few_slots (Instruction bits FormU) = omega arith
 few_slots (Instruction bits FormJ) = omega arith
-few_slots (Instruction bits FormI) = few_either (bits % 128 == 0x13) (RegisterSlot ∷ RegisterSlot ∷ NumberSlot ∷ []) (RegisterSlot ∷ OffsetSlot ∷ []) (omega arith) (omega arith)
+few_slots (Instruction bits FormI) =
+    few_either (bits % 128 == 0x13) (RegisterSlot ∷ RegisterSlot ∷ NumberSlot ∷ []) (RegisterSlot ∷ OffsetSlot ∷ []) (omega arith)
+    (omega arith)
 few_slots (Instruction bits FormB) = omega arith
 few_slots (Instruction bits FormS) = omega arith
 few_slots (Instruction bits FormShift) = omega arith
@@ -83,7 +91,8 @@ few_slots DotPriority = omega arith
 few_slots DotStack = omega arith
 
 -- the statement of a known word, by its first four operands
-pub stated-four : (word : Option Meaning) (meaning : Meaning) (all : Option (List Operand)) (four : List Operand) → word ≡ Some meaning → first_four all ≡ Some four → made_of meaning (fitting (slots_of meaning) four) ≡ stated word all
+pub stated-four : (word : Option Meaning) (meaning : Meaning) (all : Option (List Operand)) (four : List Operand) → word ≡ Some meaning
+    → first_four all ≡ Some four → made_of meaning (fitting (slots_of meaning) four) ≡ stated word all
 stated-four word meaning None four is few = cc
 stated-four word meaning (Some all) four is few =
     let same : take 4 all ≡ four = cc in

@@ -63,7 +63,8 @@ labelled : (w : List ℕ) (us : List Token) → is_name w ≡ true → line_in (
 labelled w us is = rw is refl
 
 -- a line that begins with a label
-pub line_in-label : (ts us : List Token) (w : List ℕ) → skip ts ≡ Word w ∷ (Colon ∷ us) → is_name w ≡ true → line_in ts ≡ with_label w (line_in us)
+pub line_in-label : (ts us : List Token) (w : List ℕ) → skip ts ≡ Word w ∷ (Colon ∷ us) → is_name w ≡ true
+    → line_in ts ≡ with_label w (line_in us)
 line_in-label [] us w is name = cc
 line_in-label (Blank ∷ ts) us w is name = line_in-label ts us w is name
 line_in-label (Colon ∷ ts) us w is name = cc

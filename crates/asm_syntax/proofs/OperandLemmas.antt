@@ -1,5 +1,6 @@
 -- The first four operands, one more at a time.
-use Rattle.std.proofs.Common.{◌≡◌, ℕ, zero, suc, List, [], ◌∷◌, ◌++◌, length, take, Option, Some, None, refl, sym, ap, ◌∙◌, arith, append_assoc}
+use Rattle.std.proofs.Common.{◌≡◌, ℕ, zero, suc, List, [], ◌∷◌, ◌++◌, length, take, Option, Some, None, refl, sym, ap, ◌∙◌, arith}
+use Rattle.std.proofs.Common.{append_assoc}
 use Rattle.std.proofs.lemmas.List.{take_all, take-append-le}
 use Rattle.asm_syntax.specs.Tokens.{Token, Blank, Colon, Comma, Word, Quoted, Unclosed}
 use Rattle.asm_syntax.specs.Operands.{Operand, before, operand_of, separated}
@@ -17,7 +18,8 @@ take_again (suc n) [] ys = refl
 take_again (suc n) (x ∷ xs) ys = ap (λ (l : List Operand). x ∷ l) (take_again n xs ys)
 
 -- one more operand is kept
-pub first_four-more : (front next : List Operand) (operand : Operand) (rest : Option (List Operand)) → next ≡ take 4 (front ++ operand ∷ []) → first_four (appended front (before (Some operand) rest)) ≡ first_four (appended next rest)
+pub first_four-more : (front next : List Operand) (operand : Operand) (rest : Option (List Operand)) → next ≡ take 4 (front ++ operand ∷ [])
+    → first_four (appended front (before (Some operand) rest)) ≡ first_four (appended next rest)
 first_four-more front next operand None kept = refl
 first_four-more front next operand (Some rest) kept =
     ap (λ (l : List Operand). Some (take 4 l)) (sym (append_assoc front (operand ∷ []) rest))

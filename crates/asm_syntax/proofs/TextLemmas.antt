@@ -1,7 +1,8 @@
 -- One byte of a text.
 use Rattle.std.proofs.Common.{◌≡◌, ℕ, true, false, List, [], Option, Some, None, refl, ap, ◌∙◌}
 use Rattle.std.specs.Prelude.{is_some, unwrap_or}
-use Rattle.asm_syntax.specs.Values.{byte_before, Fits, Wrong, TextValue, text_fit}
+use Rattle.asm_syntax.specs.Texts.{byte_before}
+use Rattle.asm_syntax.specs.Values.{Fits, Wrong, TextValue, text_fit}
 
 -- a byte before others
 byte_before-some : (b : ℕ) (bytes : Option (List ℕ)) → is_some (byte_before (Some b) bytes) ≡ is_some bytes

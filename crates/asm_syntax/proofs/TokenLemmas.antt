@@ -1,12 +1,14 @@
 -- The tokens of a line, from its first one.
-use Rattle.std.proofs.Common.{◌≡◌, ℕ, zero, suc, ◌+◌, ◌<◌, ◌≤◌, Bool, true, false, not, cond, ◌||◌, List, [], ◌∷◌, ◌++◌, length, take, drop, get_or, Some, None, refl, sym, ap, ◌∙◌, arith, append-nil, inl, inr, ◌⊎◌}
+use Rattle.std.proofs.Common.{◌≡◌, ℕ, zero, suc, ◌+◌, ◌<◌, ◌≤◌, Bool, true, false, not, cond, ◌||◌, List, [], ◌∷◌, ◌++◌, length, take, drop}
+use Rattle.std.proofs.Common.{get_or, Some, None, refl, sym, ap, ◌∙◌, arith, append-nil, inl, inr, ◌⊎◌}
 use Rattle.std.specs.Prelude.{◌==◌, if◌then◌else◌}
 use Rattle.std.specs.List.{position, position_or_len}
 use Rattle.std.proofs.Math.Seq.{drop-cons}
 use Rattle.std.proofs.lemmas.List.{take_more, drop_all, take_all}
 use Rattle.text_lines.proofs.SearchLemmas.{found_at, found_none}
 use Rattle.text_lines.specs.Lines.{is_blank}
-use Rattle.asm_syntax.specs.Tokens.{Token, Blank, Colon, Comma, Word, Quoted, Unclosed, Quoting, Inside, Escaped, ends_word, joined, quoted, tokens_from, tokens_of}
+use Rattle.asm_syntax.specs.Tokens.{Token, Blank, Colon, Comma, Word, Quoted, Unclosed, Quoting, Inside, Escaped, ends_word, joined, quoted}
+use Rattle.asm_syntax.specs.Tokens.{tokens_from, tokens_of}
 
 -- tokens that no word's byte joins
 abbrev pub apart : List Token → Bool
@@ -41,13 +43,19 @@ apart-text : (line : List ℕ) → (apart (tokens_from Inside line) ≡ true) ×
 apart-text [] = (refl, refl)
 apart-text (b ∷ line) =
     let rest = apart-text line in (
-      apart-if (b == 34) (Quoted [] ∷ tokens_of line) (cond (b == 92) (quoted b (tokens_from Escaped line)) (quoted b (tokens_from Inside line))) refl
-          (apart-if (b == 92) (quoted b (tokens_from Escaped line)) (quoted b (tokens_from Inside line)) (apart-quoted b (tokens_from Escaped line) rest.1) (apart-quoted b (tokens_from Inside line) rest.0)),
+      apart-if (b == 34) (Quoted [] ∷ tokens_of line)
+          (cond (b == 92) (quoted b (tokens_from Escaped line)) (quoted b (tokens_from Inside line))) refl
+          (apart-if (b == 92) (quoted b (tokens_from Escaped line)) (quoted b (tokens_from Inside line))
+          (apart-quoted b (tokens_from Escaped line) rest.1) (apart-quoted b (tokens_from Inside line) rest.0)),
       apart-quoted b (tokens_from Inside line) rest.0,
     )
 
 -- what a byte outside quotes makes, by the tests of it
-branches : (hash quote comma colon blank : Bool) (b : ℕ) (line : List ℕ) → (blank || hash || quote || comma || colon) ≡ true → apart (if hash then [] else if quote then tokens_from Inside line else if comma then Comma ∷ tokens_of line else if colon then Colon ∷ tokens_of line else if blank then Blank ∷ tokens_of line else joined b (tokens_of line)) ≡ true
+branches : (hash quote comma colon blank : Bool) (b : ℕ) (line : List ℕ) → (blank || hash || quote || comma || colon) ≡ true
+    → apart
+    (if hash then [] else if quote then tokens_from Inside line else if comma then Comma ∷ tokens_of line
+    else if colon then Colon ∷ tokens_of line else if blank then Blank ∷ tokens_of line else joined b (tokens_of line))
+    ≡ true
 branches true quote comma colon blank b line is = refl
 branches false true comma colon blank b line is = (apart-text line).0
 branches false false true colon blank b line is = refl
@@ -55,7 +63,10 @@ branches false false false true blank b line is = refl
 branches false false false false true b line is = refl
 branches false false false false false b line is = cc
 
-joins : (hash quote comma colon blank : Bool) (b : ℕ) (line : List ℕ) → (blank || hash || quote || comma || colon) ≡ false → (if hash then [] else if quote then tokens_from Inside line else if comma then Comma ∷ tokens_of line else if colon then Colon ∷ tokens_of line else if blank then Blank ∷ tokens_of line else joined b (tokens_of line)) ≡ joined b (tokens_of line)
+joins : (hash quote comma colon blank : Bool) (b : ℕ) (line : List ℕ) → (blank || hash || quote || comma || colon) ≡ false
+    → (if hash then [] else if quote then tokens_from Inside line else if comma then Comma ∷ tokens_of line
+    else if colon then Colon ∷ tokens_of line else if blank then Blank ∷ tokens_of line else joined b (tokens_of line))
+    ≡ joined b (tokens_of line)
 joins true quote comma colon true b line is = cc
 joins true quote comma colon false b line is = cc
 joins false true comma colon true b line is = cc
@@ -71,7 +82,8 @@ abbrev at_end : List ℕ → ℕ
 at_end line = position_or_len ends_word line
 
 -- a line with no word at its front
-apart-head : (x : Bool) (b : ℕ) (line : List ℕ) → ends_word b ≡ x → cond (not x) (1 + at_end line) 0 ≡ 0 → apart (tokens_of (b ∷ line)) ≡ true
+apart-head : (x : Bool) (b : ℕ) (line : List ℕ) → ends_word b ≡ x → cond (not x) (1 + at_end line) 0 ≡ 0
+    → apart (tokens_of (b ∷ line)) ≡ true
 apart-head true b line is none = branches (b == 35) (b == 34) (b == 44) (b == 58) (is_blank b) b line is
 apart-head false b line is none = absurd (omega arith)
 
@@ -80,7 +92,9 @@ apart-tokens [] none = refl
 apart-tokens (b ∷ line) none = apart-head (ends_word b) b line refl none
 
 -- the first word goes to the first byte that is no word's
-word_step : (x : Bool) (b n : ℕ) (line : List ℕ) → ends_word b ≡ x → n ≡ at_end line → (0 < n → tokens_of line ≡ Word (take n line) ∷ tokens_of (drop n line)) → 0 < cond (not x) (1 + n) 0 → tokens_of (b ∷ line) ≡ Word (take (cond (not x) (1 + n) 0) (b ∷ line)) ∷ tokens_of (drop (cond (not x) (1 + n) 0) (b ∷ line))
+word_step : (x : Bool) (b n : ℕ) (line : List ℕ) → ends_word b ≡ x → n ≡ at_end line
+    → (0 < n → tokens_of line ≡ Word (take n line) ∷ tokens_of (drop n line)) → 0 < cond (not x) (1 + n) 0
+    → tokens_of (b ∷ line) ≡ Word (take (cond (not x) (1 + n) 0) (b ∷ line)) ∷ tokens_of (drop (cond (not x) (1 + n) 0) (b ∷ line))
 word_step true b n line is at rest some = absurd (omega arith)
 word_step false b zero line is at rest some =
     joins (b == 35) (b == 34) (b == 44) (b == 58) (is_blank b) b line is ∙ apart-joined b (tokens_of line) (apart-tokens line (sym at))
@@ -110,14 +124,16 @@ prefixed-broken [] = refl
 prefixed-broken (b ∷ bytes) = ap (quoted b) (prefixed-broken bytes)
 
 -- the word that the code cuts off, by what its search says
-pub tokens_of-word : (line : List ℕ) (i : ℕ) → 0 < length line → ends_word (get_or line 0 0) ≡ false → position (λ b. ends_word b) line ≡ Some i → tokens_of line ≡ Word (take i line) ∷ tokens_of (drop i line)
+pub tokens_of-word : (line : List ℕ) (i : ℕ) → 0 < length line → ends_word (get_or line 0 0) ≡ false
+    → position (λ b. ends_word b) line ≡ Some i → tokens_of line ≡ Word (take i line) ∷ tokens_of (drop i line)
 tokens_of-word [] i some is found = absurd (omega arith)
 tokens_of-word (b ∷ line) i some is found =
     let at : at_end (b ∷ line) ≡ i = found_at (at_end (b ∷ line)) (length (b ∷ line)) i found in
     let behind : 0 < at_end (b ∷ line) = rw is (omega arith) in
     word_first (b ∷ line) behind ∙ ap (λ (k : ℕ). Word (take k (b ∷ line)) ∷ tokens_of (drop k (b ∷ line))) at
 
-pub tokens_of-last : (line : List ℕ) → 0 < length line → ends_word (get_or line 0 0) ≡ false → position (λ b. ends_word b) line ≡ None → tokens_of line ≡ Word line ∷ []
+pub tokens_of-last : (line : List ℕ) → 0 < length line → ends_word (get_or line 0 0) ≡ false → position (λ b. ends_word b) line ≡ None
+    → tokens_of line ≡ Word line ∷ []
 tokens_of-last [] some is found = absurd (omega arith)
 tokens_of-last (b ∷ line) some is found =
     let none : length (b ∷ line) ≤ at_end (b ∷ line) = found_none (at_end (b ∷ line)) (length (b ∷ line)) found in
@@ -129,7 +145,8 @@ abbrev pub where_is : Bool → Quoting
 where_is true = Escaped
 where_is false = Inside
 
-text_branch : (slash : Bool) (b : ℕ) (line : List ℕ) → cond slash (quoted b (tokens_from Escaped line)) (quoted b (tokens_from Inside line)) ≡ quoted b (tokens_from (where_is slash) line)
+text_branch : (slash : Bool) (b : ℕ) (line : List ℕ)
+    → cond slash (quoted b (tokens_from Escaped line)) (quoted b (tokens_from Inside line)) ≡ quoted b (tokens_from (where_is slash) line)
 text_branch true b line = refl
 text_branch false b line = refl
 
@@ -138,13 +155,18 @@ broken_end true bytes = prefixed-broken bytes
 broken_end false bytes = prefixed-broken bytes
 
 -- one byte of a text
-text_byte : (escaped next : Bool) (b : ℕ) (line : List ℕ) → (escaped ≡ true → next ≡ false) → (escaped ≡ false → next ≡ (b == 92)) → (escaped ≡ true) ⊎ ((escaped ≡ false) × ((b == 34) ≡ false)) → tokens_from (where_is escaped) (b ∷ line) ≡ quoted b (tokens_from (where_is next) line)
+text_byte : (escaped next : Bool) (b : ℕ) (line : List ℕ) → (escaped ≡ true → next ≡ false) → (escaped ≡ false → next ≡ (b == 92))
+    → (escaped ≡ true) ⊎ ((escaped ≡ false) × ((b == 34) ≡ false))
+    → tokens_from (where_is escaped) (b ∷ line) ≡ quoted b (tokens_from (where_is next) line)
 text_byte true next b line e f other = rw (e refl) refl
 text_byte false next b line e f (inl bad) = cc
 text_byte false next b line e f (inr good) = rw (f refl, good.1) (text_branch (b == 92) b line)
 
 -- the text so far, one byte more
-pub text_more : (line : List ℕ) (i : ℕ) (escaped next : Bool) (ts : List Token) → i < length line → (escaped ≡ true → next ≡ false) → (escaped ≡ false → next ≡ (get_or line i 0 == 92)) → (escaped ≡ true) ⊎ ((escaped ≡ false) × ((get_or line i 0 == 34) ≡ false)) → ts ≡ prefixed (take i line) (tokens_from (where_is escaped) (drop i line)) → ts ≡ prefixed (take (i + 1) line) (tokens_from (where_is next) (drop (i + 1) line))
+pub text_more : (line : List ℕ) (i : ℕ) (escaped next : Bool) (ts : List Token) → i < length line → (escaped ≡ true → next ≡ false)
+    → (escaped ≡ false → next ≡ (get_or line i 0 == 92)) → (escaped ≡ true) ⊎ ((escaped ≡ false) × ((get_or line i 0 == 34) ≡ false))
+    → ts ≡ prefixed (take i line) (tokens_from (where_is escaped) (drop i line))
+    → ts ≡ prefixed (take (i + 1) line) (tokens_from (where_is next) (drop (i + 1) line))
 text_more line i escaped next ts within e f other is =
     let b = get_or line i 0 in
     let step : i + 1 ≡ suc i = omega arith in
@@ -156,14 +178,20 @@ text_more line i escaped next ts within e f other is =
     ∙ ap (λ (k : ℕ). prefixed (take (i + 1) line) (tokens_from (where_is next) (drop k line))) (sym step)
 
 -- the closing quote
-pub text_ends : (line : List ℕ) (i : ℕ) (ts : List Token) → i < length line → get_or line i 0 ≡ 34 → ts ≡ prefixed (take i line) (tokens_from Inside (drop i line)) → ts ≡ Quoted (take i line) ∷ tokens_of (drop (i + 1) line)
+pub text_ends : (line : List ℕ) (i : ℕ) (ts : List Token) → i < length line → get_or line i 0 ≡ 34
+    → ts ≡ prefixed (take i line) (tokens_from Inside (drop i line)) → ts ≡ Quoted (take i line) ∷ tokens_of (drop (i + 1) line)
 text_ends line i ts within quote is =
     let step : i + 1 ≡ suc i = omega arith in
     let here : drop i line ≡ 34 ∷ drop (suc i) line = rw quote at (drop-cons line i 0 within) in
-    let made : prefixed (take i line) (Quoted [] ∷ tokens_of (drop (suc i) line)) ≡ Quoted (take i line) ∷ tokens_of (drop (suc i) line) = prefixed-text (take i line) [] (tokens_of (drop (suc i) line)) ∙ ap (λ (l : List ℕ). Quoted l ∷ tokens_of (drop (suc i) line)) (append-nil (take i line)) in
-    is ∙ ap (λ (l : List ℕ). prefixed (take i line) (tokens_from Inside l)) here ∙ made ∙ ap (λ (k : ℕ). Quoted (take i line) ∷ tokens_of (drop k line)) (sym step)
+    let made : prefixed (take i line) (Quoted [] ∷ tokens_of (drop (suc i) line)) ≡ Quoted (take i line) ∷ tokens_of (drop (suc i) line) =
+    prefixed-text (take i line) [] (tokens_of (drop (suc i) line))
+    ∙ ap (λ (l : List ℕ). Quoted l ∷ tokens_of (drop (suc i) line)) (append-nil (take i line)) in
+    is ∙ ap (λ (l : List ℕ). prefixed (take i line) (tokens_from Inside l)) here ∙ made
+    ∙ ap (λ (k : ℕ). Quoted (take i line) ∷ tokens_of (drop k line)) (sym step)
 
 -- no closing quote
-pub text_broken : (line : List ℕ) (i : ℕ) (escaped : Bool) (ts : List Token) → length line ≤ i → ts ≡ prefixed (take i line) (tokens_from (where_is escaped) (drop i line)) → ts ≡ Unclosed ∷ []
+pub text_broken : (line : List ℕ) (i : ℕ) (escaped : Bool) (ts : List Token) → length line ≤ i
+    → ts ≡ prefixed (take i line) (tokens_from (where_is escaped) (drop i line)) → ts ≡ Unclosed ∷ []
 text_broken line i escaped ts all is =
-    is ∙ ap (λ (l : List ℕ). prefixed (take i line) (tokens_from (where_is escaped) l)) (drop_all i line all) ∙ broken_end escaped (take i line)
+    is ∙ ap (λ (l : List ℕ). prefixed (take i line) (tokens_from (where_is escaped) l)) (drop_all i line all)
+    ∙ broken_end escaped (take i line)

@@ -4,7 +4,8 @@ use Rattle.rv_isa.specs.Encoding.{fixed}
 use Rattle.rv_isa.specs.Table.{form_of}
 use Rattle.asm_syntax.specs.Meanings as spec
 use Rattle.asm_syntax.specs.declared.meanings.Meaning.{Meaning}
-use Rattle.asm_syntax.specs.declared.meanings.Meaning.TheVariants.{Instruction, Li, La, Mv, Nop, Jump, Ret, Sys, DotWord, DotByte, DotZero, DotAscii, DotAlign, DotPlace, DotEntry, DotPriority, DotStack}
+use Rattle.asm_syntax.specs.declared.meanings.Meaning.TheVariants.{Instruction, Li, La, Mv, Nop, Jump, Ret, Sys, DotWord, DotByte, DotZero}
+use Rattle.asm_syntax.specs.declared.meanings.Meaning.TheVariants.{DotAscii, DotAlign, DotPlace, DotEntry, DotPriority, DotStack}
 
 -- the meaning that the code has
 abbrev pub seen_meaning : Meaning → spec.Meaning

@@ -1,6 +1,7 @@
 -- The values of operands in the code.
 use Rattle.std.specs.Prelude.{◌≡◌, ℕ, ◌<◌, ◌≤◌, ℤ, true, is_some, unwrap_or, List, []}
 use Rattle.std.specs.Borrow.{Bor}
+use Rattle.asm_syntax.specs.Texts.{text_bytes}
 use Rattle.asm_syntax.specs.Values as spec
 use Rattle.asm_syntax.specs.declared.values.Fit.{Fit}
 use Rattle.asm_syntax.specs.declared.values.Fit.TheVariants.{Wrong, Unknown, Fits}
@@ -13,7 +14,7 @@ seen_fit value (Fits x) = spec.Fits (value x)
 
 -- the bytes of a text that stands for bytes
 abbrev pub bytes_of : List ℕ → List ℕ
-bytes_of text = unwrap_or (spec.text_bytes text) []
+bytes_of text = unwrap_or (text_bytes text) []
 
 -- a value is a register's number
 abbrev pub IsSmall : Fit ℕ → Type 0
@@ -32,5 +33,5 @@ IsSmallOffset fit = Unit {0}
 
 -- a value is a text that stands for bytes
 abbrev pub IsText : Fit (Bor (List ℕ)) → Type 0
-IsText (Fits text) = is_some (spec.text_bytes text.now) ≡ true
+IsText (Fits text) = is_some (text_bytes text.now) ≡ true
 IsText fit = Unit {0}

@@ -1,5 +1,6 @@
 pub mod Tokens
 pub mod Numbers
+pub mod Texts
 pub mod Operands
 pub mod Meanings
 pub mod Values

@@ -1,5 +1,6 @@
 -- Names and numbers.
-use Rattle.std.specs.Prelude.{ℕ, min, ◌==◌, nat_le, nat_lt, Bool, false, if◌then◌else◌, ◌&&◌, ◌||◌, ℤ, pos, neg_ℤ, List, [], ◌∷◌, length, Option, Some, None}
+use Rattle.std.specs.Prelude.{ℕ, min, ◌==◌, nat_le, nat_lt, Bool, false, if◌then◌else◌, ◌&&◌, ◌||◌, ℤ, pos, neg_ℤ, List, [], ◌∷◌, length}
+use Rattle.std.specs.Prelude.{Option, Some, None}
 use Rattle.std.specs.List.{list_all}
 use Rattle.std.specs.Str.Parse.{digits_value}
 

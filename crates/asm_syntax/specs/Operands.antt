@@ -1,7 +1,9 @@
 -- The operands of a statement: names, numbers, a number before a register in parentheses, quoted texts.
-use Rattle.std.specs.Prelude.{ℕ, ◌+◌, ◌-◌, ◌==◌, nat_lt, if◌then◌else◌, ◌&&◌, ℤ, List, [], ◌∷◌, length, take, drop, slice_index, Option, Some, None}
+use Rattle.std.specs.Prelude.{ℕ, ◌+◌, ◌-◌, ◌==◌, nat_lt, if◌then◌else◌, ◌&&◌, ℤ, List, [], ◌∷◌, length, take, drop, slice_index, Option}
+use Rattle.std.specs.Prelude.{is_some, Some, None}
 use Rattle.std.specs.List.{position}
 use Rattle.asm_syntax.specs.Numbers.{is_name, number_in}
+use Rattle.asm_syntax.specs.Texts.{text_bytes}
 use Rattle.asm_syntax.specs.Tokens.{Token, Blank, Colon, Comma, Word, Quoted, Unclosed}
 
 -- an operand; a name where the number before a register has to be is an operand too, but stands for nothing
@@ -42,10 +44,10 @@ number_or_offset None word = offset_in word
 abbrev pub operand_in : List ℕ → Option Operand
 operand_in word = if is_name word then Some (Name word) else number_or_offset (number_in word) word
 
--- the operand that a token is
+-- the operand that a token is: what is between quotes is one if it stands for bytes
 abbrev pub operand_of : Token → Option Operand
 operand_of (Word word) = operand_in word
-operand_of (Quoted text) = Some (Text text)
+operand_of (Quoted text) = if is_some (text_bytes text) then Some (Text text) else None
 operand_of Blank = None
 operand_of Colon = None
 operand_of Comma = None

@@ -1,12 +1,15 @@
 -- The statements: what a line asks for after its labels.
-use Rattle.std.specs.Prelude.{ℕ, ◌+◌, ◌-◌, ◌*◌, ◌/◌, ◌%◌, ◌==◌, int_le, Bool, false, if◌then◌else◌, ◌&&◌, ◌||◌, ℤ, pos, negsuc, List, [], ◌∷◌, Option, Some, None}
+use Rattle.std.specs.Prelude.{ℕ, ◌+◌, ◌-◌, ◌*◌, ◌/◌, ◌%◌, ◌==◌, int_le, Bool, false, if◌then◌else◌, ◌&&◌, ◌||◌, ℤ, pos, negsuc, List, []}
+use Rattle.std.specs.Prelude.{◌∷◌, Option, Some, None}
 use Rattle.xinu_model.specs.Isa.Instructions.{Form, FormU, FormJ, FormI, FormB, FormS, FormShift, FormR, FormFence, FormWhole}
 use Rattle.rv_isa.specs.Encoding.{placed}
 use Rattle.asm_syntax.specs.Tokens.{Token, Blank, Colon, Word, tokens_of, solid}
 use Rattle.asm_syntax.specs.Numbers.{is_name}
 use Rattle.asm_syntax.specs.Operands.{Operand, operands_of}
-use Rattle.asm_syntax.specs.Meanings.{Meaning, Instruction, Li, La, Mv, Nop, Jump, Ret, Sys, DotWord, DotByte, DotZero, DotAscii, DotAlign, DotPlace, DotEntry, DotPriority, DotStack, meaning_of, slots_of}
-use Rattle.asm_syntax.specs.Values.{Value, RegisterValue, NumberValue, OffsetValue, LabelValue, CallValue, TextValue, Fitting, AnyWrong, AnyUnknown, AllFit, fitting}
+use Rattle.asm_syntax.specs.Meanings.{Meaning, Instruction, Li, La, Mv, Nop, Jump, Ret, Sys, DotWord, DotByte, DotZero, DotAscii, DotAlign}
+use Rattle.asm_syntax.specs.Meanings.{DotPlace, DotEntry, DotPriority, DotStack, meaning_of, slots_of}
+use Rattle.asm_syntax.specs.Values.{Value, RegisterValue, NumberValue, OffsetValue, LabelValue, CallValue, TextValue, Fitting, AnyWrong}
+use Rattle.asm_syntax.specs.Values.{AnyUnknown, AllFit, fitting}
 
 -- A statement. The first four put nothing: there is none, it hasn't the form, it has a name that isn't known, a number doesn't fit.
 -- Those that follow put instructions, those after them other bytes, and the last four set fields of the image's header.
@@ -55,11 +58,14 @@ one bits form rd rs1 rs2 imm = Code ((bits + placed form rd rs1 rs2 imm) ∷ [])
 abbrev pub instruction : ℕ → Form → List Value → Statement
 instruction bits FormU (RegisterValue rd ∷ NumberValue n ∷ []) = within (pos 0) n (pos 1048575) (one bits FormU rd 0 0 (magnitude n * 4096))
 instruction bits FormJ (RegisterValue rd ∷ LabelValue l ∷ []) = JumpTo rd l
-instruction bits FormI (RegisterValue rd ∷ RegisterValue rs1 ∷ NumberValue n ∷ []) = within (negsuc 2047) n (pos 2047) (one bits FormI rd rs1 0 (word_of n))
+instruction bits FormI (RegisterValue rd ∷ RegisterValue rs1 ∷ NumberValue n ∷ []) =
+    within (negsuc 2047) n (pos 2047) (one bits FormI rd rs1 0 (word_of n))
 instruction bits FormI (RegisterValue rd ∷ OffsetValue n rs1 ∷ []) = within (negsuc 2047) n (pos 2047) (one bits FormI rd rs1 0 (word_of n))
 instruction bits FormB (RegisterValue rs1 ∷ RegisterValue rs2 ∷ LabelValue l ∷ []) = Branch bits rs1 rs2 l
-instruction bits FormS (RegisterValue rs2 ∷ OffsetValue n rs1 ∷ []) = within (negsuc 2047) n (pos 2047) (one bits FormS 0 rs1 rs2 (word_of n))
-instruction bits FormShift (RegisterValue rd ∷ RegisterValue rs1 ∷ NumberValue n ∷ []) = within (pos 0) n (pos 31) (one bits FormShift rd rs1 0 (word_of n))
+instruction bits FormS (RegisterValue rs2 ∷ OffsetValue n rs1 ∷ []) =
+    within (negsuc 2047) n (pos 2047) (one bits FormS 0 rs1 rs2 (word_of n))
+instruction bits FormShift (RegisterValue rd ∷ RegisterValue rs1 ∷ NumberValue n ∷ []) =
+    within (pos 0) n (pos 31) (one bits FormShift rd rs1 0 (word_of n))
 instruction bits FormR (RegisterValue rd ∷ RegisterValue rs1 ∷ RegisterValue rs2 ∷ []) = one bits FormR rd rs1 rs2 0
 instruction bits FormFence [] = one bits FormFence 0 0 0 0
 instruction bits FormWhole [] = one bits FormWhole 0 0 0 0

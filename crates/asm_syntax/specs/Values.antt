@@ -1,18 +1,21 @@
--- The values of operands: registers by their names, calls by theirs, texts with their escapes.
+-- The values of operands: registers by their names, calls by theirs, texts by their bytes.
 use Rattle.std.specs.Prelude.{ℕ, ◌+◌, ◌-◌, ◌*◌, ◌==◌, nat_lt, if◌then◌else◌, ◌&&◌, ◌||◌, ℤ, List, [], ◌∷◌, Option, Some, None, codes}
 use Rattle.std.specs.Str.{bytes_eq}
 use Rattle.xinu_base.specs.Syscalls.{Syscall, syscalls}
 use Rattle.asm_syntax.specs.Numbers.{is_between}
 use Rattle.asm_syntax.specs.Operands.{Operand, Name, Number, Offset, NamedOffset, Text}
+use Rattle.asm_syntax.specs.Texts.{text_bytes}
 use Rattle.asm_syntax.specs.Meanings.{named_in, Slot, RegisterSlot, NumberSlot, OffsetSlot, LabelSlot, CallSlot, TextSlot, WordSlot}
 
 -- the registers by their names in the calling convention
 abbrev pub registers : List (List ℕ × ℕ)
 registers =
-    (codes "zero", 0) ∷ (codes "ra", 1) ∷ (codes "sp", 2) ∷ (codes "gp", 3) ∷ (codes "tp", 4) ∷ (codes "t0", 5) ∷ (codes "t1", 6) ∷ (codes "t2", 7) ∷
-    (codes "s0", 8) ∷ (codes "s1", 9) ∷ (codes "a0", 10) ∷ (codes "a1", 11) ∷ (codes "a2", 12) ∷ (codes "a3", 13) ∷ (codes "a4", 14) ∷ (codes "a5", 15) ∷
-    (codes "a6", 16) ∷ (codes "a7", 17) ∷ (codes "s2", 18) ∷ (codes "s3", 19) ∷ (codes "s4", 20) ∷ (codes "s5", 21) ∷ (codes "s6", 22) ∷ (codes "s7", 23) ∷
-    (codes "s8", 24) ∷ (codes "s9", 25) ∷ (codes "s10", 26) ∷ (codes "s11", 27) ∷ (codes "t3", 28) ∷ (codes "t4", 29) ∷ (codes "t5", 30) ∷ (codes "t6", 31) ∷ []
+    (codes "zero", 0) ∷ (codes "ra", 1) ∷ (codes "sp", 2) ∷ (codes "gp", 3) ∷ (codes "tp", 4) ∷ (codes "t0", 5) ∷
+    (codes "t1", 6) ∷ (codes "t2", 7) ∷ (codes "s0", 8) ∷ (codes "s1", 9) ∷ (codes "a0", 10) ∷ (codes "a1", 11) ∷
+    (codes "a2", 12) ∷ (codes "a3", 13) ∷ (codes "a4", 14) ∷ (codes "a5", 15) ∷ (codes "a6", 16) ∷ (codes "a7", 17) ∷
+    (codes "s2", 18) ∷ (codes "s3", 19) ∷ (codes "s4", 20) ∷ (codes "s5", 21) ∷ (codes "s6", 22) ∷ (codes "s7", 23) ∷
+    (codes "s8", 24) ∷ (codes "s9", 25) ∷ (codes "s10", 26) ∷ (codes "s11", 27) ∷ (codes "t3", 28) ∷ (codes "t4", 29) ∷
+    (codes "t5", 30) ∷ (codes "t6", 31) ∷ []
 
 -- the register of a name: `x` and its number without a leading zero, or its name in the calling convention
 abbrev pub register_of : List ℕ → Option ℕ
@@ -30,26 +33,6 @@ call_among (call ∷ calls) name = if bytes_eq call.name name then Some call.num
 -- the number of the call of a name
 unfoldable pub call_of : List ℕ → Option ℕ
 call_of name = call_among syscalls name
-
--- the byte that a backslash and another byte stand for
-abbrev pub escape : ℕ → Option ℕ
-escape b = if b == 110 then Some 10 else if b == 48 then Some 0 else if (b == 34) || (b == 92) then Some b else None
-
--- a byte before others, if all of them are bytes
-abbrev pub byte_before : Option ℕ → Option (List ℕ) → Option (List ℕ)
-byte_before (Some b) (Some bytes) = Some (b ∷ bytes)
-byte_before (Some b) None = None
-byte_before None bytes = None
-
--- a byte that stands for itself in a text: printable ASCII
-abbrev pub printable : ℕ → Option ℕ
-printable b = if is_between 32 126 b then Some b else None
-
--- the bytes that a text stands for; a backslash makes one byte of the byte after it
-abbrev pub text_bytes : List ℕ → Option (List ℕ)
-text_bytes [] = Some []
-text_bytes (b ∷ []) = if b == 92 then None else byte_before (printable b) (Some [])
-text_bytes (b ∷ c ∷ text) = if b == 92 then byte_before (escape c) (text_bytes text) else byte_before (printable b) (text_bytes (c ∷ text))
 
 -- the value of an operand
 pub data Value : Type 0 where

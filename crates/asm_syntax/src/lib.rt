@@ -1,8 +1,8 @@
 //! What a line of assembler says: the labels that begin it, and the statement after them.
 //!
-//! The language is defined in `specs/`, from bytes to statements: `Tokens`, `Numbers`, `Operands`, `Meanings` (the words, and which
-//! operands each takes), `Values` (registers, calls, texts) and `Statements`, whose `line_of` is the line that bytes write. Instructions and
-//! their mnemonics are those of the table in `rv_isa`.
+//! The language is defined in `specs/`, from bytes to statements: `Tokens`, `Numbers`, `Texts`, `Operands`, `Meanings` (the words, and
+//! which operands each takes), `Values` (of registers, calls and other operands) and `Statements`, whose `line_of` is the line that bytes
+//! write. Instructions and their mnemonics are those of the table in `rv_isa`.
 //!
 //! | Call | Promise |
 //! |---|---|

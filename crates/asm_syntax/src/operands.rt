@@ -8,6 +8,7 @@ ghost use Rattle.asm_syntax.specs.Operands as spec;
 ghost use Rattle.asm_syntax.specs.Tokens.{tokens_of, solid};
 
 use crate::numbers::number_in;
+use crate::texts::is_text;
 use crate::tokens::{Token, next_solid};
 use crate::words::is_name;
 use arrayvec::ArrayVec;
@@ -83,7 +84,13 @@ fn operand_of(token: Token<'_>) -> Option<Operand<'_>>
 {
     match token {
         Token::Word(word) => operand_in(word),
-        Token::Quoted(text) => Some(Operand::Text(text)),
+        Token::Quoted(text) => {
+            if is_text(text) {
+                Some(Operand::Text(text))
+            } else {
+                None
+            }
+        }
         _ => None,
     }
 }

@@ -1,13 +1,13 @@
 //! Quoted texts, byte by byte.
 
 ghost use Rattle.std.specs.Prelude.{◌≡◌, ◌<◌, [], length, is_some, Some, None, MatchOption, IfSome};
-ghost use Rattle.asm_syntax.specs.Values as values;
+ghost use Rattle.asm_syntax.specs.Texts as spec;
 
 /// The first byte that a text stands for, and the text after it. There is none if the text doesn't begin with printable ASCII or with
 /// a backslash and `n`, `0`, `"` or `\`.
 pub fn next_byte(text: &[u8]) -> Option<(u8, &[u8])>
     requires something { 0 < length text.now }
-    ensures byte { MatchOption result (values.text_bytes text.now ≡ None) (λ cut. values.text_bytes text.now ≡ values.byte_before (Some cut.0) (values.text_bytes cut.1.now)) }
+    ensures byte { MatchOption result (spec.text_bytes text.now ≡ None) (λ cut. spec.text_bytes text.now ≡ spec.byte_before (Some cut.0) (spec.text_bytes cut.1.now)) }
     ensures shorter { IfSome result (λ cut. length cut.1.now < length text.now) }
 {
     match text {
@@ -29,7 +29,7 @@ pub fn next_byte(text: &[u8]) -> Option<(u8, &[u8])>
 
 /// Whether a text stands for bytes.
 pub(crate) fn is_text(text: &[u8]) -> bool
-    ensures bytes { result ≡ is_some (values.text_bytes text.now) }
+    ensures bytes { result ≡ is_some (spec.text_bytes text.now) }
 {
     let mut rest = text;
     while !rest.is_empty() {
@@ -43,7 +43,7 @@ pub(crate) fn is_text(text: &[u8]) -> bool
 
 // The byte that a backslash and another byte stand for.
 fn escape(b: u8) -> Option<u8>
-    ensures byte { result ≡ values.escape b }
+    ensures byte { result ≡ spec.escape b }
 {
     match b {
         b'n' => Some(b'\n'),

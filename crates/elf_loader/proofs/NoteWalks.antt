@@ -1,5 +1,6 @@
 -- A walk over notes: how far it is allowed to go makes no difference.
-use Rattle.std.proofs.Common.{◌≡◌, ◌≤◌, ◌∙◌, ℕ, zero, suc, Bool, true, false, List, [], ◌∷◌, length, drop, Some, None, refl, sym, arith, length-drop, rules}
+use Rattle.std.proofs.Common.{◌≡◌, ◌≤◌, ◌∙◌, ℕ, zero, suc, Bool, true, false, List, [], ◌∷◌, length, drop, Some, None, refl, sym, arith}
+use Rattle.std.proofs.Common.{length-drop, rules}
 use Rattle.elf_loader.specs.Notes.{has_note, is_xinu_note, note_length, settings_at, settings_within, settings_of}
 
 -- no bytes begin with no note
@@ -25,8 +26,10 @@ enough zero (suc m) bytes n-is m-is = rw (no_note bytes n-is) refl
 enough (suc n) zero bytes n-is m-is = rw (no_note bytes m-is) refl
 enough (suc n) (suc m) bytes n-is m-is =
     enough_by (has_note bytes) (is_xinu_note bytes) n m bytes refl refl
-    (λ whole. let shorter : length (drop (note_length bytes) bytes) ≤ n = omega (arith, length-drop (note_length bytes) bytes, note_inside bytes whole) in
-    let shorter' : length (drop (note_length bytes) bytes) ≤ m = omega (arith, length-drop (note_length bytes) bytes, note_inside bytes whole) in
+    (λ whole. let shorter : length (drop (note_length bytes) bytes) ≤ n =
+    omega (arith, length-drop (note_length bytes) bytes, note_inside bytes whole) in
+    let shorter' : length (drop (note_length bytes) bytes) ≤ m =
+    omega (arith, length-drop (note_length bytes) bytes, note_inside bytes whole) in
     enough n m (drop (note_length bytes) bytes) shorter shorter')
 
 -- The walk may take a step more than there are bytes.
@@ -43,7 +46,8 @@ pub settings_here : (bytes : List ℕ) → has_note bytes ≡ true → is_xinu_n
 settings_here bytes whole is = one_more bytes ∙ rw (whole, is) refl
 
 -- Any other note is passed over.
-pub settings_next : (bytes : List ℕ) → has_note bytes ≡ true → is_xinu_note bytes ≡ false → settings_of bytes ≡ settings_of (drop (note_length bytes) bytes)
+pub settings_next : (bytes : List ℕ) → has_note bytes ≡ true → is_xinu_note bytes ≡ false
+    → settings_of bytes ≡ settings_of (drop (note_length bytes) bytes)
 settings_next bytes whole is =
     one_more bytes ∙ rw (whole, is) refl
     ∙ enough (length bytes) (suc (length (drop (note_length bytes) bytes))) (drop (note_length bytes) bytes)

@@ -1,8 +1,10 @@
 -- The file of an image loads the image.
-use Rattle.std.proofs.Common.{◌≡◌, ◌<◌, ◌+◌, ◌^◌, ◌∷◌, ◌∙◌, ◌||◌, Bool, ℕ, ℤ, pos, negsuc, nat_le, true, false, List, [], length, refl, ap, sym, subst, Some, arith}
+use Rattle.std.proofs.Common.{◌≡◌, ◌<◌, ◌+◌, ◌^◌, ◌∷◌, ◌∙◌, ◌||◌, Bool, ℕ, ℤ, pos, negsuc, nat_le, true, false, List, [], length, refl, ap}
+use Rattle.std.proofs.Common.{sym, subst, Some, arith}
 use Rattle.std.proofs.lemmas.Bool.{leb-true, and_parts}
 use Rattle.std.proofs.lemmas.Int.{ints}
-use Rattle.elf_loader.proofs.WrittenFiles.{written, written_length, written_header_is, written_segments_are, written_content, written_settings}
+use Rattle.elf_loader.proofs.WrittenFiles.{written, written_length, written_header_is, written_segments_are, written_content}
+use Rattle.elf_loader.proofs.WrittenFiles.{written_settings}
 use Rattle.elf_loader.proofs.WrittenLoads.{CanLoad, ReadsAsOne, content_part, one_segment_loads}
 use Rattle.elf_loader.specs.ElfFiles.{elf_image}
 use Rattle.elf_loader.specs.WrittenElf.{IsWholeImage, elf_file, only_part}
@@ -24,7 +26,8 @@ or_left true e = refl
 or_left false e = e
 
 -- It can be loaded if it is an image.
-can_load : (place entry n stack : ℕ) (content : List ℕ) → IsImage (one_part place entry (pos n) stack content) → CanLoad place entry n content
+can_load : (place entry n stack : ℕ) (content : List ℕ) → IsImage (one_part place entry (pos n) stack content)
+    → CanLoad place entry n content
 can_load place entry n stack content is =
     let lies = and_parts _ _ (and_parts _ _ is.lie).0 in
     let word = and_parts (nat_le place entry) (nat_le (entry + 4) (place + length content)) (or_left _ is.inside) in
@@ -48,7 +51,8 @@ reads place entry n stack content f fits = record {
 }
 
 -- the same of the image by its fields
-whole_loads : (place entry stack : ℕ) (priority : ℤ) (content : List ℕ) → IsImage (one_part place entry priority stack content) → stack < 2 ^ 32
+whole_loads : (place entry stack : ℕ) (priority : ℤ) (content : List ℕ) → IsImage (one_part place entry priority stack content)
+    → stack < 2 ^ 32
     → elf_image (elf_file (one_part place entry priority stack content)) ≡ Some (one_part place entry priority stack content)
 whole_loads place entry stack (pos n) content is fits =
     let f = can_load place entry n stack content is in

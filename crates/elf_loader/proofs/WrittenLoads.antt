@@ -1,8 +1,10 @@
 -- A file that is read as one segment of content and one note loads the content.
-use Rattle.std.proofs.Common.{◌≡◌, ◌<◌, ◌≤◌, ◌+◌, ◌%◌, ◌==◌, ◌∷◌, ◌∙◌, ℕ, pos, nat_le, nat_lt, true, false, List, [], length, refl, ap, ⊎_elim, Some, None, arith, rules}
+use Rattle.std.proofs.Common.{◌≡◌, ◌<◌, ◌≤◌, ◌+◌, ◌%◌, ◌==◌, ◌∷◌, ◌∙◌, ℕ, pos, nat_le, nat_lt, true, false, List, [], length, refl, ap}
+use Rattle.std.proofs.Common.{⊎_elim, Some, None, arith, rules}
 use Rattle.std.proofs.lemmas.Bool.{le-leb}
 use Rattle.std.proofs.lemmas.Bool.Decides.{eqb_tells}
-use Rattle.elf_loader.specs.ElfFiles.{has_segments, is_of_class, is_of_kind, elf_fault, elf_image, elf_loaded, file_settings, first_failing, header_checks, image_checks, image_fault_of, parts_of, segment_checks, segments_fault, segments_of}
+use Rattle.elf_loader.specs.ElfFiles.{has_segments, is_of_class, is_of_kind, elf_fault, elf_image, elf_loaded, file_settings, first_failing}
+use Rattle.elf_loader.specs.ElfFiles.{header_checks, image_checks, image_fault_of, parts_of, segment_checks, segments_fault, segments_of}
 use Rattle.elf_loader.specs.ElfHeaders.{elf_header_of, loaded_segments, segment_bytes, segments_from}
 use Rattle.elf_loader.specs.Notes.{settings_in, settings_of, settings_or_usual}
 use Rattle.elf_loader.proofs.WrittenFiles.{content_segment, header_with, note_segment}
@@ -35,7 +37,8 @@ content_part place content = record { place = place; bytes = content; size = len
 not_zero : (n : ℕ) → 0 < n → (n == 0) ≡ false
 not_zero n some = ⊎_elim (λ t. (let e = t.1 in absurd (omega arith))) (λ t. t.0) (eqb_tells n 0)
 
-module _ (bytes : List ℕ) (place entry n stack : ℕ) (content : List ℕ) (w : ReadsAsOne bytes place entry n stack content) (f : CanLoad place entry n content) where
+module _ (bytes : List ℕ) (place entry n stack : ℕ) (content : List ℕ) (w : ReadsAsOne bytes place entry n stack content)
+    (f : CanLoad place entry n content) where
   some : nat_lt 0 (length content) ≡ true
   some = le-leb 1 (length content) (let a = f.from in let b = f.to in omega arith)
 
@@ -48,7 +51,8 @@ module _ (bytes : List ℕ) (place entry n stack : ℕ) (content : List ℕ) (w 
   settings_are : file_settings bytes ≡ record { priority = n; stack = stack }
   settings_are =
       ap (λ s. settings_or_usual (settings_in bytes s)) segments_are
-      ∙ (let whole : nat_le 144 (length bytes) ≡ true = le-leb 144 (length bytes) (let s = w.size in omega arith) in rw (whole, w.settings) refl)
+      ∙ (let whole : nat_le 144 (length bytes) ≡ true = le-leb 144 (length bytes) (let s = w.size in omega arith) in
+      rw (whole, w.settings) refl)
 
   no_header_fault : first_failing (header_checks bytes) ≡ None
   no_header_fault =
@@ -59,7 +63,8 @@ module _ (bytes : List ℕ) (place entry n stack : ℕ) (content : List ℕ) (w 
   no_segment_fault =
       ap (λ s. first_failing (segment_checks bytes s)) segments_are
       ∙ (let same : nat_le (length content) (length content) ≡ true = le-leb (length content) (length content) (omega arith) in
-      let whole : nat_le (144 + length content) (length bytes) ≡ true = le-leb (144 + length content) (length bytes) (let s = w.size in omega arith) in
+      let whole : nat_le (144 + length content) (length bytes) ≡ true =
+      le-leb (144 + length content) (length bytes) (let s = w.size in omega arith) in
       let ram : nat_le (place + length content) ram_size ≡ true = le-leb (place + length content) ram_size f.inside in
       let zero : (length content == 0) ≡ false = not_zero (length content) (let a = f.from in let b = f.to in omega arith) in
       rw (some, same, zero, whole, ram) refl)
@@ -87,8 +92,17 @@ module _ (bytes : List ℕ) (place entry n stack : ℕ) (content : List ℕ) (w 
   loaded_is : elf_loaded bytes ≡ record { parts = content_part place content ∷ []; entry = entry; priority = pos n; stack = stack }
   loaded_is =
       ap (λ (p : List LoadedPart). record (elf_loaded bytes) { parts = p }) parts_are
-      ∙ ap (λ h. record { parts = content_part place content ∷ []; entry = h.entry; priority = pos (file_settings bytes).priority; stack = (file_settings bytes).stack }) w.header
-      ∙ ap (λ (s : Settings). record { parts = content_part place content ∷ []; entry = entry; priority = pos s.priority; stack = s.stack }) settings_are
+      ∙ ap
+      (λ h. record {
+        parts = content_part place content ∷ [];
+        entry = h.entry;
+        priority = pos (file_settings bytes).priority;
+        stack = (file_settings bytes).stack;
+      })
+      w.header
+      ∙ ap (λ (s : Settings). record { parts = content_part place content ∷ []; entry = entry; priority = pos s.priority; stack = s.stack })
+      settings_are
 
-  pub one_segment_loads : elf_image bytes ≡ Some (record { parts = content_part place content ∷ []; entry = entry; priority = pos n; stack = stack })
+  pub one_segment_loads : elf_image bytes
+      ≡ Some (record { parts = content_part place content ∷ []; entry = entry; priority = pos n; stack = stack })
   one_segment_loads = rw no_fault (ap Some loaded_is)

@@ -1,8 +1,10 @@
 -- ELF files: the tests of a file in their order, the first that fails, and what a file loads.
-use Rattle.std.specs.Prelude.{ℕ, ◌+◌, ◌*◌, ◌%◌, ◌==◌, nat_le, Bool, if◌then◌else◌, ◌&&◌, ◌||◌, not, List, [], ◌∷◌, length, filter, Option, Some, None, pos}
+use Rattle.std.specs.Prelude.{ℕ, ◌+◌, ◌*◌, ◌%◌, ◌==◌, nat_le, Bool, if◌then◌else◌, ◌&&◌, ◌||◌, not, List, [], ◌∷◌, length, filter, Option}
+use Rattle.std.specs.Prelude.{Some, None, pos}
 use Rattle.std.specs.List.{list_all, list_any}
 use Rattle.elf_loader.specs.declared.faults.ElfFault.{ElfFault}
-use Rattle.elf_loader.specs.declared.faults.ElfFault.TheVariants.{Short, Class, Kind, Headers, Dynamic, Segment as SegmentFault, TooMany, Meet, Entry, Note}
+use Rattle.elf_loader.specs.declared.faults.ElfFault.TheVariants.{Short, Class, Kind, Headers, Dynamic, Segment as SegmentFault, TooMany}
+use Rattle.elf_loader.specs.declared.faults.ElfFault.TheVariants.{Meet, Entry, Note}
 use Rattle.elf_loader.specs.declared.header.ElfHeader.{ElfHeader}
 use Rattle.elf_loader.specs.declared.notes.Settings.{Settings}
 use Rattle.elf_loader.specs.declared.segments.Segment.{Segment}

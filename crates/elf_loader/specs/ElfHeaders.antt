@@ -1,5 +1,6 @@
 -- The headers of an ELF file: the file's own, and those of its segments (System V Application Binary Interface, chapters 4 and 5).
-use Rattle.std.specs.Prelude.{ℕ, ◌+◌, ◌==◌, nat_le, nat_lt, Bool, ◌&&◌, ◌||◌, zero, suc, List, [], ◌∷◌, length, take, drop, filter, map, slice_index}
+use Rattle.std.specs.Prelude.{ℕ, ◌+◌, ◌==◌, nat_le, nat_lt, Bool, ◌&&◌, ◌||◌, zero, suc, List, [], ◌∷◌, length, take, drop, filter, map}
+use Rattle.std.specs.Prelude.{slice_index}
 use Rattle.elf_loader.specs.declared.header.ElfHeader.{ElfHeader}
 use Rattle.elf_loader.specs.declared.segments.Segment.{Segment}
 use Rattle.xinu_model.specs.Boot.{LoadedPart}

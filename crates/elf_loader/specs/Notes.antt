@@ -1,5 +1,6 @@
 -- The note of an ELF file that gives a program's priority and stack (System V Application Binary Interface, chapter 5, "Note Section").
-use Rattle.std.specs.Prelude.{ℕ, ◌+◌, ◌*◌, ◌/◌, ◌==◌, nat_le, Bool, if◌then◌else◌, ◌&&◌, zero, suc, List, [], ◌∷◌, length, take, drop, Option, Some, None, codes, bytes_eq}
+use Rattle.std.specs.Prelude.{ℕ, ◌+◌, ◌*◌, ◌/◌, ◌==◌, nat_le, Bool, if◌then◌else◌, ◌&&◌, zero, suc, List, [], ◌∷◌, length, take, drop}
+use Rattle.std.specs.Prelude.{Option, Some, None, codes, bytes_eq}
 use Rattle.elf_loader.specs.declared.notes.Settings.{Settings}
 use Rattle.elf_loader.specs.declared.segments.Segment.{Segment}
 use Rattle.elf_loader.specs.ElfHeaders.{is_in_file, segment_bytes}
@@ -20,7 +21,8 @@ has_note bytes = nat_le 12 (length bytes) && nat_le (note_length bytes) (length 
 -- The note is of type 1, is named `XINU` and describes two words.
 abbrev pub is_xinu_note : List ℕ → Bool
 is_xinu_note bytes =
-    (number_at bytes 0 4 == 5) && ((number_at bytes 4 4 == 8) && ((number_at bytes 8 4 == 1) && bytes_eq (take 5 (drop 12 bytes)) (codes "XINU\0")))
+    (number_at bytes 0 4 == 5)
+    && ((number_at bytes 4 4 == 8) && ((number_at bytes 8 4 == 1) && bytes_eq (take 5 (drop 12 bytes)) (codes "XINU\0")))
 
 -- the priority and the stack that the note gives
 abbrev pub settings_at : List ℕ → Settings

@@ -1,5 +1,6 @@
 -- The cells of a list of blocks: in two parts, with a block more or less, and with two blocks that touch.
-use Rattle.std.proofs.Common.{◌≡◌, ℕ, ◌+◌, ◌-◌, ◌≤◌, true, false, List, [], ◌∷◌, ◌++◌, length, length-append, append_assoc, refl, sym, ap, ◌∙◌, arith}
+use Rattle.std.proofs.Common.{◌≡◌, ℕ, ◌+◌, ◌-◌, ◌≤◌, true, false, List, [], ◌∷◌, ◌++◌, length, length-append, append_assoc, refl, sym, ap}
+use Rattle.std.proofs.Common.{◌∙◌, arith}
 use Rattle.std.specs.Prelude.{replicate}
 use Rattle.std.proofs.lemmas.List.{length-replicate, replicate-append-replicate}
 use Rattle.freelist_memory.specs.Blocks.{cells_of, AreBlocks}
@@ -25,7 +26,8 @@ pub replicate_parts : {A : Type 0} (m n k : ℕ) (x : A) → m + n ≡ k → rep
 replicate_parts m n k x e = ap (λ j. replicate j x) (sym e) ∙ sym (replicate-append-replicate m n x)
 
 -- Cells that begin below the first block are taken up to where it may begin.
-pub cells_later : (at mid : ℕ) (bs : List FreeBlock) (last : ℕ) → at ≤ mid → AreWithin mid bs last → cells_of at bs last ≡ replicate (mid - at) false ++ cells_of mid bs last
+pub cells_later : (at mid : ℕ) (bs : List FreeBlock) (last : ℕ) → at ≤ mid → AreWithin mid bs last
+    → cells_of at bs last ≡ replicate (mid - at) false ++ cells_of mid bs last
 cells_later at mid [] last w h = replicate_parts (mid - at) (last - mid) (last - at) false (omega arith)
 cells_later at mid (b ∷ bs) last w h =
     let v = h.0 in
@@ -34,7 +36,8 @@ cells_later at mid (b ∷ bs) last w h =
     ∙ append_assoc (replicate (mid - at) false) (replicate (b.first - mid) false) rest
 
 -- The cells of a list in two parts.
-pub cells_parts : (at mid : ℕ) (pre bs : List FreeBlock) (last : ℕ) → AreWithin at pre mid → AreWithin mid bs last → cells_of at (pre ++ bs) last ≡ cells_of at pre mid ++ cells_of mid bs last
+pub cells_parts : (at mid : ℕ) (pre bs : List FreeBlock) (last : ℕ) → AreWithin at pre mid → AreWithin mid bs last
+    → cells_of at (pre ++ bs) last ≡ cells_of at pre mid ++ cells_of mid bs last
 cells_parts at mid [] bs last h g = cells_later at mid bs last h g
 cells_parts at mid (b ∷ pre) bs last h g =
     let front = replicate (b.first - at) false in
@@ -58,11 +61,14 @@ cells_length at (b ∷ bs) last h =
     omega arith
 
 -- Two blocks that touch have the cells of one.
-pub cells_joined : (at f x y : ℕ) (pre bs : List FreeBlock) (last : ℕ) → cells_of at (pre ++ record { first = f; count = x } ∷ record { first = f + x; count = y } ∷ bs) last ≡ cells_of at (pre ++ record { first = f; count = x + y } ∷ bs) last
+pub cells_joined : (at f x y : ℕ) (pre bs : List FreeBlock) (last : ℕ)
+    → cells_of at (pre ++ record { first = f; count = x } ∷ record { first = f + x; count = y } ∷ bs) last
+    ≡ cells_of at (pre ++ record { first = f; count = x + y } ∷ bs) last
 cells_joined at f x y [] bs last =
     let front = replicate (f - at) false in
     let rest = cells_of (f + x + y) bs last in
-    ap (λ n. front ++ (replicate x true ++ (replicate n false ++ (replicate y true ++ rest)))) (let e : f + x - (f + x) ≡ 0 = omega arith in e)
+    ap (λ n. front ++ (replicate x true ++ (replicate n false ++ (replicate y true ++ rest))))
+    (let e : f + x - (f + x) ≡ 0 = omega arith in e)
     ∙ ap (λ l. front ++ l) (sym (append_assoc (replicate x true) (replicate y true) rest))
     ∙ ap (λ l. front ++ (l ++ rest)) (sym (replicate_parts x y (x + y) true refl))
     ∙ ap (λ n. front ++ (replicate (x + y) true ++ cells_of n bs last)) (let e : f + x + y ≡ f + (x + y) = omega arith in e)

@@ -1,5 +1,6 @@
 -- What a search over the cells finds is what a search over the blocks finds.
-use Rattle.std.proofs.Common.{◌≡◌, ℕ, zero, suc, ◌+◌, ◌-◌, ◌<◌, ◌≤◌, Bool, true, false, List, [], ◌∷◌, ◌++◌, length, Option, Some, None, refl, ap, ◌∙◌, cond, arith}
+use Rattle.std.proofs.Common.{◌≡◌, ℕ, zero, suc, ◌+◌, ◌-◌, ◌<◌, ◌≤◌, Bool, true, false, List, [], ◌∷◌, ◌++◌, length, Option, Some, None}
+use Rattle.std.proofs.Common.{refl, ap, ◌∙◌, cond, arith}
 use Rattle.std.specs.Prelude.{replicate, option_map}
 use Rattle.std.proofs.lemmas.List.{length-replicate}
 use Rattle.xinu_model.specs.Heap.Cells.{begins_with, or_here, lowest_free, highest_free}
@@ -82,7 +83,8 @@ lowest_end zero (suc n) z = absurd (omega arith)
 lowest_end (suc k) (suc n) z = ap (option_map suc) (lowest_end (suc k) n z)
 
 -- The search from below finds the lowest block that is long enough.
-pub lowest_found : (k at from : ℕ) (bs : List FreeBlock) (to last i n : ℕ) → 0 < k → at ≤ from → AreBlocks from bs to → IsLowest k bs i → at + n ≡ (block_at bs i).first
+pub lowest_found : (k at from : ℕ) (bs : List FreeBlock) (to last i n : ℕ) → 0 < k → at ≤ from → AreBlocks from bs to → IsLowest k bs i
+    → at + n ≡ (block_at bs i).first
     → lowest_free k (cells_of at bs last) ≡ Some n
 lowest_found k at from [] to last i n z w h f e = absurd (let p = f.place in omega arith)
 lowest_found k at from (b ∷ bs) to last zero n z w h f e =
@@ -105,7 +107,8 @@ lowest_found k at from (b ∷ bs) to last (suc i) n z w h f e =
     ∙ ap Some (let r : b.first - at + (b.count + m) ≡ n = omega arith in r)
 
 -- It finds nothing if none is.
-pub lowest_nowhere : (k at from : ℕ) (bs : List FreeBlock) (to last : ℕ) → 0 < k → AreBlocks from bs to → AreShort k bs → lowest_free k (cells_of at bs last) ≡ None
+pub lowest_nowhere : (k at from : ℕ) (bs : List FreeBlock) (to last : ℕ) → 0 < k → AreBlocks from bs to → AreShort k bs
+    → lowest_free k (cells_of at bs last) ≡ None
 lowest_nowhere k at from [] to last z h s = lowest_end k (last - at) z
 lowest_nowhere k at from (b ∷ bs) to last z h s =
     let rest = cells_of (b.first + b.count) bs last in
@@ -117,7 +120,8 @@ lowest_nowhere k at from (b ∷ bs) to last z h s =
 highest_front : (k : ℕ) (front l : List Bool) (n : ℕ) → highest_free k l ≡ Some n → highest_free k (front ++ l) ≡ Some (length front + n)
 highest_front k [] l n e = e ∙ ap Some (let g : n ≡ 0 + n = omega arith in g)
 highest_front k (c ∷ front) l n e =
-    ap (or_here k (c ∷ (front ++ l))) (highest_front k front l n e) ∙ ap Some (let g : suc (length front + n) ≡ suc (length front) + n = omega arith in g)
+    ap (or_here k (c ∷ (front ++ l))) (highest_front k front l n e)
+    ∙ ap Some (let g : suc (length front + n) ≡ suc (length front) + n = omega arith in g)
 
 -- nothing among taken cells
 highest_end : (k n : ℕ) → 0 < k → highest_free k (replicate n false) ≡ None
@@ -139,7 +143,8 @@ highest_short k (suc m) l w s e =
     ∙ ap (λ b. cond b (Some 0) None) (begins_short k (suc m) l w s)
 
 -- the last cells of a long one
-highest_long : (k m n : ℕ) (l : List Bool) → 0 < k → n + k ≡ m → Stops l → highest_free k l ≡ None → highest_free k (replicate m true ++ l) ≡ Some n
+highest_long : (k m n : ℕ) (l : List Bool) → 0 < k → n + k ≡ m → Stops l → highest_free k l ≡ None
+    → highest_free k (replicate m true ++ l) ≡ Some n
 highest_long k zero n l z w s e = absurd (omega arith)
 highest_long k (suc m) zero l z w s e =
     ap (or_here k (true ∷ (replicate m true ++ l))) (highest_short k m l (omega arith) s e)
@@ -147,7 +152,8 @@ highest_long k (suc m) zero l z w s e =
 highest_long k (suc m) (suc n) l z w s e = ap (or_here k (true ∷ (replicate m true ++ l))) (highest_long k m n l z (omega arith) s e)
 
 -- The search from above finds nothing if no block is long enough.
-pub highest_nowhere : (k at from : ℕ) (bs : List FreeBlock) (to last : ℕ) → 0 < k → AreBlocks from bs to → AreShort k bs → highest_free k (cells_of at bs last) ≡ None
+pub highest_nowhere : (k at from : ℕ) (bs : List FreeBlock) (to last : ℕ) → 0 < k → AreBlocks from bs to → AreShort k bs
+    → highest_free k (cells_of at bs last) ≡ None
 highest_nowhere k at from [] to last z h s = highest_end k (last - at) z
 highest_nowhere k at from (b ∷ bs) to last z h s =
     let rest = cells_of (b.first + b.count) bs last in
@@ -156,16 +162,20 @@ highest_nowhere k at from (b ∷ bs) to last z h s =
     (highest_nowhere k (b.first + b.count) (b.first + b.count + 1) bs to last z h.2 (λ j v. s (suc j) (omega arith))))
 
 -- It finds the last cells of the highest block that is long enough.
-pub highest_found : (k at from : ℕ) (bs : List FreeBlock) (to last i n : ℕ) → 0 < k → at ≤ from → AreBlocks from bs to → IsHighest k bs i → at + n + k ≡ (block_at bs i).first + (block_at bs i).count
+pub highest_found : (k at from : ℕ) (bs : List FreeBlock) (to last i n : ℕ) → 0 < k → at ≤ from → AreBlocks from bs to → IsHighest k bs i
+    → at + n + k ≡ (block_at bs i).first + (block_at bs i).count
     → highest_free k (cells_of at bs last) ≡ Some n
 highest_found k at from [] to last i n z w h f e = absurd (let p = f.place in omega arith)
 highest_found k at from (b ∷ bs) to last zero n z w h f e =
     let low = h.0 in
     let long = f.long in
     let rest = cells_of (b.first + b.count) bs last in
-    let none = highest_nowhere k (b.first + b.count) (b.first + b.count + 1) bs to last z h.2 (λ j v. f.after (suc j) (omega arith) (omega arith)) in
+    let none =
+    highest_nowhere k (b.first + b.count) (b.first + b.count + 1) bs to last z h.2 (λ j v. f.after (suc j) (omega arith) (omega arith))
+    in
     let front = length-replicate (b.first - at) false in
-    highest_front k (replicate (b.first - at) false) (replicate b.count true ++ rest) (b.count - k) (highest_long k b.count (b.count - k) rest z (omega arith) (stops_after (b.first + b.count) bs to last h.2) none)
+    highest_front k (replicate (b.first - at) false) (replicate b.count true ++ rest) (b.count - k)
+    (highest_long k b.count (b.count - k) rest z (omega arith) (stops_after (b.first + b.count) bs to last h.2) none)
     ∙ ap Some (let g : length (replicate (b.first - at) false) + (b.count - k) ≡ n = omega arith in g)
 highest_found k at from (b ∷ bs) to last (suc i) n z w h f e =
     let low = h.0 in
@@ -173,11 +183,13 @@ highest_found k at from (b ∷ bs) to last (suc i) n z w h f e =
     let long = f.long in
     let rest = cells_of (b.first + b.count) bs last in
     let order = block_order (b.first + b.count + 1) bs to i h.2 (omega arith) in
-    let later : IsHighest k bs i = record { place = omega arith; long = f.long; after = λ j v u. f.after (suc j) (omega arith) (omega arith) } in
+    let later : IsHighest k bs i =
+    record { place = omega arith; long = f.long; after = λ j v u. f.after (suc j) (omega arith) (omega arith) } in
     let m = (block_at bs i).first + (block_at bs i).count - k - (b.first + b.count) in
     let g : b.first + b.count + m + k ≡ (block_at bs i).first + (block_at bs i).count = omega arith in
     let front = length-replicate (b.first - at) false in
     let own = length-replicate b.count true in
     highest_front k (replicate (b.first - at) false) (replicate b.count true ++ rest) (length (replicate b.count true) + m)
-    (highest_front k (replicate b.count true) rest m (highest_found k (b.first + b.count) (b.first + b.count + 1) bs to last i m z (omega arith) h.2 later g))
+    (highest_front k (replicate b.count true) rest m
+    (highest_found k (b.first + b.count) (b.first + b.count + 1) bs to last i m z (omega arith) h.2 later g))
     ∙ ap Some (let r : length (replicate (b.first - at) false) + (length (replicate b.count true) + m) ≡ n = omega arith in r)

@@ -1,10 +1,11 @@
 -- Cells between the blocks of a list: they are taken, and what a list is that has them too. Other cells aren't taken.
-use Rattle.std.proofs.Common.{◌≡◌, ℕ, zero, suc, ◌+◌, ◌-◌, ◌<◌, ◌≤◌, Bool, true, false, List, [], ◌∷◌, ◌++◌, length, take, drop, append_assoc, refl, sym, ap, ◌∙◌, subst, arith, ⊎_elim}
-use Rattle.std.specs.Prelude.{replicate, slice_set}
+use Rattle.std.proofs.Common.{◌≡◌, ℕ, zero, suc, ◌+◌, ◌-◌, ◌<◌, ◌≤◌, Bool, true, false, List, [], ◌∷◌, ◌++◌, length, take, drop}
+use Rattle.std.proofs.Common.{append_assoc, refl, sym, ap, ◌∙◌, subst, arith, ◌&&◌, ◌⊎◌, inl, inr, ⊎_elim}
+use Rattle.std.specs.Prelude.{nat_le, replicate, slice_set}
 use Rattle.std.specs.List.{remove}
 use Rattle.std.proofs.lemmas.List.{take-append-drop, length-drop, drop-drop}
 use Rattle.std.proofs.Math.Seq.{drop-append-add, drop-cons, take-suc}
-use Rattle.std.proofs.lemmas.Bool.{cases_lt}
+use Rattle.std.proofs.lemmas.Bool.{and_cases, and_parts, cases_lt, leb-false, leb-true}
 use Rattle.xinu_model.specs.Heap.Cells.{begins_with, marked}
 use Rattle.freelist_memory.specs.Blocks.{block_at, cells_of, AreBlocks}
 use Rattle.freelist_memory.specs.Gaps.{floor_at, ceiling_at, IsGap, IsGiven}
@@ -28,7 +29,8 @@ ceiling_past zero (b ∷ bs) none w = absurd (omega arith)
 ceiling_past (suc i) (b ∷ bs) none w = ceiling_past i bs none (omega arith)
 
 -- The blocks before a place.
-pub blocks_before : (from : ℕ) (bs : List FreeBlock) (to at m : ℕ) → AreBlocks from bs to → at ≤ length bs → from ≤ m → floor_at at bs ≤ m → AreBlocks from (take at bs) m
+pub blocks_before : (from : ℕ) (bs : List FreeBlock) (to at m : ℕ) → AreBlocks from bs to → at ≤ length bs → from ≤ m → floor_at at bs ≤ m
+    → AreBlocks from (take at bs) m
 blocks_before from bs to zero m h w low v = low
 blocks_before from [] to (suc at) m h w low v = low
 blocks_before from (b ∷ bs) to (suc zero) m h w low v = (h.0, h.1, v)
@@ -37,7 +39,8 @@ blocks_before from (b ∷ bs) to (suc (suc i)) m h w low v =
     (h.0, h.1, blocks_before (b.first + b.count + 1) bs to (suc i) m h.2 (omega arith) (omega arith) v)
 
 -- The blocks from a place on.
-pub blocks_after : (from : ℕ) (bs : List FreeBlock) (to at m : ℕ) → AreBlocks from bs to → m ≤ ceiling_at at bs to → AreBlocks m (drop at bs) to
+pub blocks_after : (from : ℕ) (bs : List FreeBlock) (to at m : ℕ) → AreBlocks from bs to → m ≤ ceiling_at at bs to
+    → AreBlocks m (drop at bs) to
 blocks_after from [] to zero m h v = v
 blocks_after from [] to (suc at) m h v = v
 blocks_after from (b ∷ bs) to zero m h v = (v, h.1, h.2)
@@ -46,16 +49,19 @@ blocks_after from (b ∷ bs) to (suc at) m h v = blocks_after (b.first + b.count
 -- the blocks before the cells
 gap_before : (bs : List FreeBlock) (at first k last : ℕ) → IsGap bs at first k last → AreWithin 0 (take at bs) first
 gap_before bs at first k last g =
-    within_blocks 0 0 (take at bs) (first + 1) first (omega arith) (omega arith) (omega arith) (blocks_before 0 bs (last + 1) at (first + 1) g.blocks g.place (omega arith) g.low)
+    within_blocks 0 0 (take at bs) (first + 1) first (omega arith) (omega arith) (omega arith)
+    (blocks_before 0 bs (last + 1) at (first + 1) g.blocks g.place (omega arith) g.low)
 
 -- and after them
 gap_after : (bs : List FreeBlock) (at first k last : ℕ) → IsGap bs at first k last → AreWithin (first + k) (drop at bs) last
 gap_after bs at first k last g =
     let within = g.within in
-    within_blocks (first + k) (first + k) (drop at bs) (last + 1) last (omega arith) (omega arith) (omega arith) (blocks_after 0 bs (last + 1) at (first + k) g.blocks g.high)
+    within_blocks (first + k) (first + k) (drop at bs) (last + 1) last (omega arith) (omega arith) (omega arith)
+    (blocks_after 0 bs (last + 1) at (first + k) g.blocks g.high)
 
 -- The cells of a gap are taken.
-pub gap_begins : (bs : List FreeBlock) (at first k last : ℕ) → IsGap bs at first k last → begins_with false k (drop first (cells_of 0 bs last)) ≡ true
+pub gap_begins : (bs : List FreeBlock) (at first k last : ℕ) → IsGap bs at first k last
+    → begins_with false k (drop first (cells_of 0 bs last)) ≡ true
 gap_begins bs at first k last g =
     ap (λ l. begins_with false k (drop first (cells_of 0 l last))) (sym (take-append-drop at bs))
     ∙ gap_taken first k (take at bs) (drop at bs) last (gap_before bs at first k last g) (gap_after bs at first k last g)
@@ -68,7 +74,8 @@ gap_freed bs at first k last g =
     ∙ ap (λ l. marked true first k (cells_of 0 l last)) (take-append-drop at bs)
 
 -- A gap that touches neither neighbour: a block of its own.
-pub given_alone : (bs : List FreeBlock) (at first k last : ℕ) → IsGap bs at first k last → floor_at at bs ≤ first → first + k < ceiling_at at bs (last + 1)
+pub given_alone : (bs : List FreeBlock) (at first k last : ℕ) → IsGap bs at first k last → floor_at at bs ≤ first
+    → first + k < ceiling_at at bs (last + 1)
     → IsGiven bs (take at bs ++ record { first = first; count = k } ∷ drop at bs) first k last
 given_alone bs at first k last g low high =
     let own : first ≤ first = omega arith in
@@ -84,7 +91,8 @@ after_block : (bs : List FreeBlock) (at : ℕ) → at < length bs → drop at bs
 after_block bs at w = drop-cons bs at (record { first = 0; count = 0 }) w
 
 -- the blocks after the one at a place
-blocks_past : (bs : List FreeBlock) (at to : ℕ) → at < length bs → AreBlocks 0 bs to → AreBlocks ((block_at bs at).first + (block_at bs at).count + 1) (drop (suc at) bs) to
+blocks_past : (bs : List FreeBlock) (at to : ℕ) → at < length bs → AreBlocks 0 bs to
+    → AreBlocks ((block_at bs at).first + (block_at bs at).count + 1) (drop (suc at) bs) to
 blocks_past bs at to w h =
     let P : List FreeBlock → Type 0 = λ l. AreBlocks 0 l to in
     (blocks_split 0 (take at bs) (block_at bs at) (drop (suc at) bs) to (subst P (blocks_around bs at w) h)).1.2
@@ -96,8 +104,10 @@ blocks_until bs at to w h =
     (blocks_split 0 (take at bs) (block_at bs at) (drop (suc at) bs) to (subst P (blocks_around bs at w) h)).0
 
 -- cells with a block that touches the next one are those of one block
-cells_before_block : (bs : List FreeBlock) (at first k last : ℕ) (pre : List FreeBlock) → at < length bs → first + k ≡ (block_at bs at).first
-    → cells_of 0 (pre ++ record { first = first; count = k + (block_at bs at).count } ∷ drop (suc at) bs) last ≡ cells_of 0 (pre ++ record { first = first; count = k } ∷ drop at bs) last
+cells_before_block : (bs : List FreeBlock) (at first k last : ℕ) (pre : List FreeBlock) → at < length bs
+    → first + k ≡ (block_at bs at).first
+    → cells_of 0 (pre ++ record { first = first; count = k + (block_at bs at).count } ∷ drop (suc at) bs) last
+    ≡ cells_of 0 (pre ++ record { first = first; count = k } ∷ drop at bs) last
 cells_before_block bs at first k last pre w e =
     let c = block_at bs at in
     sym (cells_joined 0 first k c.count pre (drop (suc at) bs) last)
@@ -105,21 +115,29 @@ cells_before_block bs at first k last pre w e =
     ∙ ap (λ l. cells_of 0 (pre ++ record { first = first; count = k } ∷ l) last) (sym (after_block bs at w))
 
 -- A gap that touches the block after it alone: that block, from the gap on.
-pub given_below : (bs : List FreeBlock) (at first k last : ℕ) → IsGap bs at first k last → at < length bs → floor_at at bs ≤ first → first + k ≡ (block_at bs at).first
+pub given_below : (bs : List FreeBlock) (at first k last : ℕ) → IsGap bs at first k last → at < length bs → floor_at at bs ≤ first
+    → first + k ≡ (block_at bs at).first
     → IsGiven bs (take at bs ++ record { first = first; count = k + (block_at bs at).count } ∷ drop (suc at) bs) first k last
 given_below bs at first k last g w low e =
     let own : first ≤ first = omega arith in
     let some = g.some in
     record {
-      blocks = blocks_joined 0 first (take at bs) (record { first = first; count = k + (block_at bs at).count } ∷ drop (suc at) bs) (last + 1)
-          (blocks_before 0 bs (last + 1) at first g.blocks g.place (omega arith) low)
-          (own, omega arith, blocks_lower (first + (k + (block_at bs at).count) + 1) ((block_at bs at).first + (block_at bs at).count + 1) (drop (suc at) bs) (last + 1) (omega arith) (blocks_past bs at (last + 1) w g.blocks));
+      blocks =
+          blocks_joined 0 first (take at bs) (record { first = first; count = k + (block_at bs at).count } ∷ drop (suc at) bs) (last + 1)
+          (blocks_before 0 bs (last + 1) at first g.blocks g.place (omega arith) low) (
+            own,
+            omega arith,
+            blocks_lower (first + (k + (block_at bs at).count) + 1) ((block_at bs at).first + (block_at bs at).count + 1)
+                (drop (suc at) bs) (last + 1) (omega arith) (blocks_past bs at (last + 1) w g.blocks),
+          );
       cells = cells_before_block bs at first k last (take at bs) w e ∙ gap_freed bs at first k last g;
     }
 
 -- cells with a block that touches the one before it are those of one block
-cells_after_block : (bs : List FreeBlock) (i first k last : ℕ) (post : List FreeBlock) → i < length bs → (block_at bs i).first + (block_at bs i).count ≡ first
-    → cells_of 0 (take i bs ++ record { first = (block_at bs i).first; count = (block_at bs i).count + k } ∷ post) last ≡ cells_of 0 (take (suc i) bs ++ record { first = first; count = k } ∷ post) last
+cells_after_block : (bs : List FreeBlock) (i first k last : ℕ) (post : List FreeBlock) → i < length bs
+    → (block_at bs i).first + (block_at bs i).count ≡ first
+    → cells_of 0 (take i bs ++ record { first = (block_at bs i).first; count = (block_at bs i).count + k } ∷ post) last
+    ≡ cells_of 0 (take (suc i) bs ++ record { first = first; count = k } ∷ post) last
 cells_after_block bs i first k last post w e =
     let a = block_at bs i in
     sym (cells_joined 0 a.first a.count k (take i bs) post last)
@@ -128,7 +146,8 @@ cells_after_block bs i first k last post w e =
     ∙ ap (λ l. cells_of 0 (l ++ record { first = first; count = k } ∷ post) last) (sym (take-suc bs i (record { first = 0; count = 0 }) w))
 
 -- A gap that touches the block before it alone: that block, to the gap's end.
-pub given_above : (bs : List FreeBlock) (i first k last : ℕ) → IsGap bs (suc i) first k last → (block_at bs i).first + (block_at bs i).count ≡ first → first + k < ceiling_at (suc i) bs (last + 1)
+pub given_above : (bs : List FreeBlock) (i first k last : ℕ) → IsGap bs (suc i) first k last
+    → (block_at bs i).first + (block_at bs i).count ≡ first → first + k < ceiling_at (suc i) bs (last + 1)
     → IsGiven bs (take i bs ++ record { first = (block_at bs i).first; count = (block_at bs i).count + k } ∷ drop (suc i) bs) first k last
 given_above bs i first k last g e high =
     let a = block_at bs i in
@@ -144,8 +163,12 @@ given_above bs i first k last g e high =
     }
 
 -- A gap that touches both: one block in place of the two.
-pub given_between : (bs : List FreeBlock) (i first k last : ℕ) → IsGap bs (suc i) first k last → suc i < length bs → (block_at bs i).first + (block_at bs i).count ≡ first → first + k ≡ (block_at bs (suc i)).first
-    → IsGiven bs (take i bs ++ record { first = (block_at bs i).first; count = (block_at bs i).count + (k + (block_at bs (suc i)).count) } ∷ drop (suc (suc i)) bs) first k last
+pub given_between : (bs : List FreeBlock) (i first k last : ℕ) → IsGap bs (suc i) first k last → suc i < length bs
+    → (block_at bs i).first + (block_at bs i).count ≡ first → first + k ≡ (block_at bs (suc i)).first
+    → IsGiven bs
+    (take i bs ++ record { first = (block_at bs i).first; count = (block_at bs i).count + (k + (block_at bs (suc i)).count) }
+    ∷ drop (suc (suc i)) bs)
+    first k last
 given_between bs i first k last g v e f =
     let a = block_at bs i in
     let c = block_at bs (suc i) in
@@ -153,9 +176,15 @@ given_between bs i first k last g v e f =
     let some = g.some in
     let w : i < length bs = omega arith in
     record {
-      blocks = blocks_joined 0 a.first (take i bs) (record { first = a.first; count = a.count + (k + c.count) } ∷ drop (suc (suc i)) bs) (last + 1)
-          (blocks_until bs i (last + 1) w g.blocks)
-          (own, omega arith, blocks_lower (a.first + (a.count + (k + c.count)) + 1) (c.first + c.count + 1) (drop (suc (suc i)) bs) (last + 1) (omega arith) (blocks_past bs (suc i) (last + 1) v g.blocks));
+      blocks =
+          blocks_joined 0 a.first (take i bs) (record { first = a.first; count = a.count + (k + c.count) } ∷ drop (suc (suc i)) bs)
+          (last + 1)
+          (blocks_until bs i (last + 1) w g.blocks) (
+            own,
+            omega arith,
+            blocks_lower (a.first + (a.count + (k + c.count)) + 1) (c.first + c.count + 1) (drop (suc (suc i)) bs) (last + 1)
+                (omega arith) (blocks_past bs (suc i) (last + 1) v g.blocks),
+          );
       cells =
           cells_after_block bs i first (k + c.count) last (drop (suc (suc i)) bs) w e
           ∙ cells_before_block bs (suc i) first k last (take (suc i) bs) v f
@@ -163,7 +192,8 @@ given_between bs i first k last g v e f =
     }
 
 -- A list without one block, and another in the place before it.
-pub set_removed : (bs : List FreeBlock) (i : ℕ) (b : FreeBlock) → suc i < length bs → slice_set (remove bs (suc i)) i b ≡ take i bs ++ b ∷ drop (suc (suc i)) bs
+pub set_removed : (bs : List FreeBlock) (i : ℕ) (b : FreeBlock) → suc i < length bs
+    → slice_set (remove bs (suc i)) i b ≡ take i bs ++ b ∷ drop (suc (suc i)) bs
 set_removed [] i b w = absurd (omega arith)
 set_removed (a ∷ bs) zero b w = refl
 set_removed (a ∷ bs) (suc i) b w = ap (λ l. a ∷ l) (set_removed bs i b (omega arith))
@@ -184,7 +214,8 @@ begins_past (suc k) (true ∷ l) w = refl
 begins_past (suc k) (false ∷ l) w = begins_past k l (omega arith)
 
 -- Cells that go past the last aren't all taken.
-pub past_begins : (bs : List FreeBlock) (first k last : ℕ) → AreBlocks 0 bs (last + 1) → 0 < k → last < first + k → begins_with false k (drop first (cells_of 0 bs last)) ≡ false
+pub past_begins : (bs : List FreeBlock) (first k last : ℕ) → AreBlocks 0 bs (last + 1) → 0 < k → last < first + k
+    → begins_with false k (drop first (cells_of 0 bs last)) ≡ false
 past_begins bs first k last h z w =
     let many = cells_many bs last h in
     let rest = length-drop first (cells_of 0 bs last) in
@@ -213,7 +244,8 @@ cell_free bs i d last h w v =
     )
 
 -- Cells of which one is a block's aren't all taken.
-pub meets_begins : (bs : List FreeBlock) (i first k last j : ℕ) → AreBlocks 0 bs (last + 1) → i < length bs → first ≤ j → j < first + k → (block_at bs i).first ≤ j → j < (block_at bs i).first + (block_at bs i).count
+pub meets_begins : (bs : List FreeBlock) (i first k last j : ℕ) → AreBlocks 0 bs (last + 1) → i < length bs → first ≤ j → j < first + k
+    → (block_at bs i).first ≤ j → j < (block_at bs i).first + (block_at bs i).count
     → begins_with false k (drop first (cells_of 0 bs last)) ≡ false
 meets_begins bs i first k last j h w low high from to =
     let free = cell_free bs i (j - (block_at bs i).first) last h w (omega arith) in
@@ -222,7 +254,8 @@ meets_begins bs i first k last j h w low high from to =
     (drop-drop (j - first) first (cells_of 0 bs last) ∙ sym (ap (λ n. drop n (cells_of 0 bs last)) e) ∙ free.1)
 
 -- Cells that begin in a block aren't all taken.
-pub low_refused : (bs : List FreeBlock) (at first k last : ℕ) → AreBlocks 0 bs (last + 1) → AreBelow first bs at → 0 < k → first + 1 < floor_at at bs → begins_with false k (drop first (cells_of 0 bs last)) ≡ false
+pub low_refused : (bs : List FreeBlock) (at first k last : ℕ) → AreBlocks 0 bs (last + 1) → AreBelow first bs at → 0 < k
+    → first + 1 < floor_at at bs → begins_with false k (drop first (cells_of 0 bs last)) ≡ false
 low_refused bs zero first k last h b z w = absurd (omega arith)
 low_refused bs (suc i) first k last h b z w =
     let within = b.within in
@@ -230,7 +263,8 @@ low_refused bs (suc i) first k last h b z w =
     meets_begins bs i first k last first h (omega arith) (omega arith) (omega arith) (omega arith) (omega arith)
 
 -- Nor are those that go into the next one.
-pub high_refused : (bs : List FreeBlock) (at first k last : ℕ) → AreBlocks 0 bs (last + 1) → AreBelow first bs at → first + k ≤ last → ceiling_at at bs (last + 1) < first + k → begins_with false k (drop first (cells_of 0 bs last)) ≡ false
+pub high_refused : (bs : List FreeBlock) (at first k last : ℕ) → AreBlocks 0 bs (last + 1) → AreBelow first bs at → first + k ≤ last
+    → ceiling_at at bs (last + 1) < first + k → begins_with false k (drop first (cells_of 0 bs last)) ≡ false
 high_refused bs at first k last h b v w =
     ⊎_elim
     (λ (p : at < length bs).
@@ -240,3 +274,13 @@ high_refused bs at first k last h b v w =
     meets_begins bs at first k last (block_at bs at).first h p next (omega arith) (omega arith) (omega arith))
     (λ (p : length bs ≤ at). absurd (let past = ceiling_past at bs (last + 1) p in omega arith))
     (cases_lt at (length bs))
+
+-- what the two bounds of a gap tell, and which one isn't kept
+pub held_parts : (low first end high : ℕ) → (nat_le low first && nat_le end high) ≡ true → (low ≤ first) × (end ≤ high)
+held_parts low first end high e =
+    let both = and_parts (nat_le low first) (nat_le end high) e in (leb-true low first both.0, leb-true end high both.1)
+
+pub not_held : (low first end high : ℕ) → (nat_le low first && nat_le end high) ≡ false → (first < low) ⊎ (high < end)
+not_held low first end high e =
+    ⊎_elim (λ under. inl (leb-false low first under)) (λ over. inr (leb-false end high over))
+    (and_cases (nat_le low first) (nat_le end high) e)

@@ -1,5 +1,6 @@
 -- The free blocks that the cells show, and how many cells are free: those of the list.
-use Rattle.std.proofs.Common.{◌≡◌, ℕ, zero, suc, ◌+◌, ◌-◌, ◌*◌, ◌/◌, ◌<◌, ◌≤◌, Bool, true, false, List, [], ◌∷◌, ◌++◌, length, get_or, map, Some, None, refl, sym, ap, ◌∙◌, subst, cond, arith}
+use Rattle.std.proofs.Common.{◌≡◌, ℕ, zero, suc, ◌+◌, ◌-◌, ◌*◌, ◌/◌, ◌<◌, ◌≤◌, Bool, true, false, List, [], ◌∷◌, ◌++◌, length, get_or, map}
+use Rattle.std.proofs.Common.{Some, None, refl, sym, ap, ◌∙◌, subst, cond, arith}
 use Rattle.std.specs.Prelude.{replicate, nat_le, find, option_map, count_by, sum_by, slice_get}
 use Rattle.std.proofs.lemmas.Bool.{le-leb, lt-leb, eq-eqb, ne_eqb}
 use Rattle.std.proofs.lemmas.List.Sums.{sum_by-append, sum_by-cons}
@@ -61,7 +62,8 @@ cell_touches : (a n : ℕ) (blocks : List Block) → with_cell a ((a + 8, n) ∷
 cell_touches a n blocks = ap (λ t. cond t ((a, n + 8) ∷ blocks) ((a, 8) ∷ (a + 8, n) ∷ blocks)) (eq-eqb (a + 8) (a + 8) refl)
 
 -- free cells show a block
-shown_free : (a n : ℕ) (l : List Bool) (blocks : List Block) → 0 < n → blocks_from (a + 8 * n) l ≡ blocks → IsAbove (a + 8 * n) blocks → blocks_from a (replicate n true ++ l) ≡ (a, 8 * n) ∷ blocks
+shown_free : (a n : ℕ) (l : List Bool) (blocks : List Block) → 0 < n → blocks_from (a + 8 * n) l ≡ blocks → IsAbove (a + 8 * n) blocks
+    → blocks_from a (replicate n true ++ l) ≡ (a, 8 * n) ∷ blocks
 shown_free a zero l blocks z e h = absurd (omega arith)
 shown_free a (suc zero) l blocks z e h =
     let same : a + 8 ≡ a + 8 * suc zero = omega arith in
@@ -80,7 +82,8 @@ shown_above low at [] to h = tt
 shown_above low at (b ∷ bs) to h = let w = h.0 in omega arith
 
 -- The cells show the blocks of the list.
-pub shown_blocks : (low at from : ℕ) (bs : List FreeBlock) (to last : ℕ) → at ≤ from → AreBlocks from bs to → blocks_from (low + 8 * at) (cells_of at bs last) ≡ map (span_of low) bs
+pub shown_blocks : (low at from : ℕ) (bs : List FreeBlock) (to last : ℕ) → at ≤ from → AreBlocks from bs to
+    → blocks_from (low + 8 * at) (cells_of at bs last) ≡ map (span_of low) bs
 shown_blocks low at from [] to last w h = shown_end (low + 8 * at) (last - at)
 shown_blocks low at from (b ∷ bs) to last w h =
     let v = h.0 in
@@ -95,7 +98,8 @@ shown_blocks low at from (b ∷ bs) to last w h =
     (subst P end (shown_above low (b.first + b.count) bs to h.2))
 
 -- the first block at an address or above
-find_shown : (low a cell : ℕ) (bs : List FreeBlock) (at : ℕ) → (a - low + 7) / 8 ≡ cell → AreBelow cell bs at → find (λ b. nat_le a b.0) (map (span_of low) bs) ≡ option_map (span_of low) (slice_get bs at)
+find_shown : (low a cell : ℕ) (bs : List FreeBlock) (at : ℕ) → (a - low + 7) / 8 ≡ cell → AreBelow cell bs at
+    → find (λ b. nat_le a b.0) (map (span_of low) bs) ≡ option_map (span_of low) (slice_get bs at)
 find_shown low a cell [] at e h = refl
 find_shown low a cell (b ∷ bs) zero e h =
     let next = h.next (omega arith) in
@@ -103,7 +107,8 @@ find_shown low a cell (b ∷ bs) zero e h =
 find_shown low a cell (b ∷ bs) (suc i) e h =
     let below = h.below 0 (omega arith) in
     let within = h.within in
-    let rest : AreBelow cell bs i = record { within = omega arith; below = λ j w. h.below (suc j) (omega arith); next = λ w. h.next (omega arith) } in
+    let rest : AreBelow cell bs i =
+    record { within = omega arith; below = λ j w. h.below (suc j) (omega arith); next = λ w. h.next (omega arith) } in
     ap (λ t. cond t (Some (span_of low b)) (find (λ b. nat_le a b.0) (map (span_of low) bs))) (lt-leb a (low + 8 * b.first) (omega arith))
     ∙ find_shown low a cell bs i e rest
 
@@ -120,7 +125,8 @@ got_past (a ∷ bs) zero w = absurd (omega arith)
 got_past (a ∷ bs) (suc i) w = got_past bs i (omega arith)
 
 -- the first block that the cells show at an address or above
-find_cells : (low a cell : ℕ) (bs : List FreeBlock) (at last : ℕ) → (a - low + 7) / 8 ≡ cell → AreBelow cell bs at → AreBlocks 0 bs (last + 1)
+find_cells : (low a cell : ℕ) (bs : List FreeBlock) (at last : ℕ) → (a - low + 7) / 8 ≡ cell → AreBelow cell bs at
+    → AreBlocks 0 bs (last + 1)
     → find (λ b. nat_le a b.0) (blocks_from low (cells_of 0 bs last)) ≡ option_map (span_of low) (slice_get bs at)
 find_cells low a cell bs at last e h g =
     let first : low ≡ low + 8 * 0 = omega arith in
@@ -129,11 +135,13 @@ find_cells low a cell bs at last e h g =
     ∙ find_shown low a cell bs at e h
 
 -- It is the one that was read.
-pub find_read : (low a cell : ℕ) (bs : List FreeBlock) (at : ℕ) (b : FreeBlock) (last : ℕ) → (a - low + 7) / 8 ≡ cell → AreBelow cell bs at → AreBlocks 0 bs (last + 1) → at < length bs → b ≡ get_or bs at b
+pub find_read : (low a cell : ℕ) (bs : List FreeBlock) (at : ℕ) (b : FreeBlock) (last : ℕ) → (a - low + 7) / 8 ≡ cell → AreBelow cell bs at
+    → AreBlocks 0 bs (last + 1) → at < length bs → b ≡ get_or bs at b
     → find (λ b. nat_le a b.0) (blocks_from low (cells_of 0 bs last)) ≡ Some (span_of low b)
 find_read low a cell bs at b last e h g w r = find_cells low a cell bs at last e h g ∙ ap (option_map (span_of low)) (got_read bs at b w r)
 
 -- There is none.
-pub find_none : (low a cell : ℕ) (bs : List FreeBlock) (at last : ℕ) → (a - low + 7) / 8 ≡ cell → AreBelow cell bs at → AreBlocks 0 bs (last + 1) → length bs ≤ at
+pub find_none : (low a cell : ℕ) (bs : List FreeBlock) (at last : ℕ) → (a - low + 7) / 8 ≡ cell → AreBelow cell bs at
+    → AreBlocks 0 bs (last + 1) → length bs ≤ at
     → find (λ b. nat_le a b.0) (blocks_from low (cells_of 0 bs last)) ≡ None
 find_none low a cell bs at last e h g w = find_cells low a cell bs at last e h g ∙ ap (option_map (span_of low)) (got_past bs at w)

@@ -1,5 +1,6 @@
 -- Laws for a loop over the free blocks: the first one at an address or above, and those after it.
-use Rattle.std.proofs.Common.{◌≡◌, ℕ, ◌+◌, ◌<◌, ◌≤◌, ◌==◌, Bool, true, false, List, [], ◌∷◌, Some, None, refl, sym, ap, ◌∙◌, cond, subst, arith}
+use Rattle.std.proofs.Common.{◌≡◌, ℕ, ◌+◌, ◌<◌, ◌≤◌, ◌==◌, Bool, true, false, List, [], ◌∷◌, Some, None, refl, sym, ap, ◌∙◌, cond, subst}
+use Rattle.std.proofs.Common.{arith}
 use Rattle.std.specs.Prelude.{nat_le, find, filter}
 use Rattle.std.proofs.lemmas.Bool.{cond_both, le-leb, lt-leb, leb-true, leb-false, eqb-true}
 use Rattle.xinu_model.specs.Heap.Cells.{Heap, Block, with_cell, blocks_from, free_blocks}
@@ -51,26 +52,33 @@ found_above a (d ∷ blocks) b e =
     (λ t e. found_above a blocks b e) e
 
 -- the first block at an address or above, and the others
-rising_next : (a c : ℕ) (blocks : List Block) (b : Block) → AreRising c blocks → find (λ d. nat_le a d.0) blocks ≡ Some b → blocks_above a blocks ≡ b ∷ blocks_above (b.0 + b.1) blocks
+rising_next : (a c : ℕ) (blocks : List Block) (b : Block) → AreRising c blocks → find (λ d. nat_le a d.0) blocks ≡ Some b
+    → blocks_above a blocks ≡ b ∷ blocks_above (b.0 + b.1) blocks
 rising_next a c [] b h e = absurd (cc)
 rising_next a c (d ∷ blocks) b h e =
     let some = h.1 in
-    cond_both (nat_le a d.0) (Some d) (find (λ x. nat_le a x.0) blocks) (λ o. o ≡ Some b → blocks_above a (d ∷ blocks) ≡ b ∷ blocks_above (b.0 + b.1) (d ∷ blocks))
+    cond_both (nat_le a d.0) (Some d) (find (λ x. nat_le a x.0) blocks)
+    (λ o. o ≡ Some b → blocks_above a (d ∷ blocks) ≡ b ∷ blocks_above (b.0 + b.1) (d ∷ blocks))
     (λ t e.
     let same : d ≡ b = cc in
     let P : Block → Type 0 = λ x. blocks_above a (d ∷ blocks) ≡ x ∷ blocks_above (x.0 + x.1) (d ∷ blocks) in
     let low = leb-true a d.0 t in
     subst P same
     (ap (λ v. cond v (d ∷ blocks_above a blocks) (blocks_above a blocks)) t
-    ∙ ap (λ l. d ∷ l) (rising_all a (d.0 + d.1) blocks (omega arith) h.2 ∙ sym (rising_all (d.0 + d.1) (d.0 + d.1) blocks (omega arith) h.2))
-    ∙ sym (ap (λ v. d ∷ cond v (d ∷ blocks_above (d.0 + d.1) blocks) (blocks_above (d.0 + d.1) blocks)) (lt-leb (d.0 + d.1) d.0 (omega arith)))))
+    ∙ ap (λ l. d ∷ l)
+    (rising_all a (d.0 + d.1) blocks (omega arith) h.2 ∙ sym (rising_all (d.0 + d.1) (d.0 + d.1) blocks (omega arith) h.2))
+    ∙ sym
+    (ap (λ v. d ∷ cond v (d ∷ blocks_above (d.0 + d.1) blocks) (blocks_above (d.0 + d.1) blocks))
+    (lt-leb (d.0 + d.1) d.0 (omega arith)))))
     (λ t e.
     let low = leb-false a d.0 t in
     let rest = rising_next a (d.0 + d.1) blocks b h.2 e in
     let found = found_above a blocks b e in
     ap (λ v. cond v (d ∷ blocks_above a blocks) (blocks_above a blocks)) t
     ∙ rest
-    ∙ sym (ap (λ v. b ∷ cond v (d ∷ blocks_above (b.0 + b.1) blocks) (blocks_above (b.0 + b.1) blocks)) (lt-leb (b.0 + b.1) d.0 (omega arith)))) e
+    ∙ sym
+    (ap (λ v. b ∷ cond v (d ∷ blocks_above (b.0 + b.1) blocks) (blocks_above (b.0 + b.1) blocks))
+    (lt-leb (b.0 + b.1) d.0 (omega arith)))) e
 
 -- none is at an address or above if none is found
 none_above : (a : ℕ) (blocks : List Block) → find (λ d. nat_le a d.0) blocks ≡ None → blocks_above a blocks ≡ []
@@ -81,7 +89,8 @@ none_above a (d ∷ blocks) e =
     (λ t e. ap (λ v. cond v (d ∷ blocks_above a blocks) (blocks_above a blocks)) t ∙ none_above a blocks e) e
 
 -- A loop takes the first block at an address or above, and goes on after it.
-pub next_block : (h : Heap) (a : ℕ) (b : Block) → find (λ d. nat_le a d.0) (free_blocks h) ≡ Some b → blocks_above a (free_blocks h) ≡ b ∷ blocks_above (b.0 + b.1) (free_blocks h)
+pub next_block : (h : Heap) (a : ℕ) (b : Block) → find (λ d. nat_le a d.0) (free_blocks h) ≡ Some b
+    → blocks_above a (free_blocks h) ≡ b ∷ blocks_above (b.0 + b.1) (free_blocks h)
 next_block h a b e = rising_next a h.low (free_blocks h) b (blocks_rise h.low h.cells) e
 
 -- If there is none, none is left.

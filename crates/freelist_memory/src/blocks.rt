@@ -2,7 +2,7 @@
 //!
 //! A search walks the list once; none takes memory.
 
-ghost use Rattle.std.specs.Prelude.{◌≡◌, ℕ, ◌+◌, ◌<◌, ◌≤◌, length, IfNone, IfSome, sum_by, ◌^◌};
+ghost use Rattle.std.specs.Prelude.{◌≡◌, ℕ, ◌+◌, ◌<◌, ◌≤◌, ◌&&◌, nat_le, length, IfNone, IfSome, sum_by, ◌^◌};
 ghost use Rattle.freelist_memory.specs.Blocks.{block_at};
 ghost use Rattle.freelist_memory.specs.Gaps.{ceiling_at, floor_at};
 ghost use Rattle.freelist_memory.specs.Searches.{AreBelow, AreShort, IsHighest, IsLowest};
@@ -73,6 +73,16 @@ pub(crate) struct Gap {
     pub(crate) low: u32,
     /// The first cell of the block after it, or one that is past all.
     pub(crate) high: u32,
+}
+
+impl Gap {
+    /// Whether the cells from one up to another are between the blocks.
+    pub(crate) fn holds(&self, first: u32, end: u32) -> bool
+        requires fits { first + 1 < 2 ^ 32 }
+        ensures holds { result ≡ nat_le self.now.low (first + 1) && nat_le end self.now.high }
+    {
+        self.low <= first + 1 && end <= self.high
+    }
 }
 
 /// The place of a cell between the blocks: after those that begin below it. There are `cells` cells.

@@ -3,7 +3,7 @@
 //! It depends on the searches of `blocks`. It keeps true that the blocks are in order, with a taken cell between any two, and that
 //! there is room for as many as there can be, so that only a new list takes memory.
 
-ghost use Rattle.std.specs.Prelude.{◌≡◌, ℕ, ◌+◌, ◌<◌, ◌≤◌, ◌++◌, true, false, length, take, drop, replicate, vec_len, vec_capacity, IfOk, IfNone, IfSome, if◌then◌else◌, ◌^◌, ◌-◌, ◌/◌, count_by, find, nat_le, option_map};
+ghost use Rattle.std.specs.Prelude.{◌≡◌, ◌≢◌, ℕ, ◌+◌, ◌<◌, ◌≤◌, ◌++◌, true, false, length, take, drop, replicate, vec_len, vec_capacity, IfOk, IfNone, IfSome, if◌then◌else◌, ◌^◌, ◌-◌, ◌/◌, count_by, find, nat_le, option_map};
 ghost use Rattle.xinu_model.specs.Heap.Cells.{begins_with, blocks_from, highest_free, lowest_free, marked};
 ghost use Rattle.freelist_memory.specs.Blocks.{span_of, unless_empty};
 ghost use Rattle.freelist_memory.specs.Gaps.{Fits, IsGiven};
@@ -115,7 +115,7 @@ impl FreeList {
             return false;
         }
         let gap = gap_at(&self.blocks, first, self.cells);
-        if first + 1 < gap.low || gap.high < end {
+        if !gap.holds(first, end) {
             return false;
         }
         put(&mut self.blocks, gap, FreeBlock { first, count });
@@ -146,6 +146,7 @@ impl FreeList {
 }
 
 // Leaves of a block what wasn't taken of it, or nothing if all was.
+#[tactic(auto, using(crate::proofs::Order::set_rest))]
 fn cut(blocks: &mut Vec<FreeBlock>, at: usize, rest: FreeBlock)
     requires at_in { at < length blocks.old.items }
     ensures list { blocks.new.items ≡ take at blocks.old.items ++ unless_empty rest (drop (at + 1) blocks.old.items) }
@@ -164,31 +165,74 @@ fn put(blocks: &mut Vec<FreeBlock>, gap: Gap, block: FreeBlock)
     ensures given { (last : ℕ) → Fits blocks.old.items gap block (vec_capacity blocks.old) last → IsGiven blocks.old.items blocks.new.items block.first block.count last }
     ensures capacity { vec_capacity blocks.new ≡ vec_capacity blocks.old }
 {
+    let touches_before = block.first + 1 == gap.low;
     let touches_after = block.end() == gap.high;
-    if block.first + 1 != gap.low {
+    if touches_before {
         if touches_after {
-            let after = blocks[gap.at];
-            blocks[gap.at] = FreeBlock {
-                first: block.first,
-                count: block.count + after.count,
-            };
+            join_both(blocks, gap, block);
         } else {
-            blocks.insert(gap.at, block).unwrap();
+            join_before(blocks, gap, block);
         }
-        return;
-    }
-    let before = blocks[gap.at - 1];
-    let count = before.count + block.count;
-    if touches_after {
-        let after = blocks.remove(gap.at);
-        blocks[gap.at - 1] = FreeBlock {
-            first: before.first,
-            count: count + after.count,
-        };
+    } else if touches_after {
+        join_after(blocks, gap, block);
     } else {
-        blocks[gap.at - 1] = FreeBlock {
-            first: before.first,
-            count,
-        };
+        put_alone(blocks, gap, block);
     }
+}
+
+// Puts a block that touches none into a gap.
+fn put_alone(blocks: &mut Vec<FreeBlock>, gap: Gap, block: FreeBlock)
+    requires fits { (last : ℕ) × Fits blocks.old.items gap block (vec_capacity blocks.old) last }
+    requires before { block.first + 1 ≢ gap.low }
+    requires after { block.first + block.count ≢ gap.high }
+    ensures given { (last : ℕ) → Fits blocks.old.items gap block (vec_capacity blocks.old) last → IsGiven blocks.old.items blocks.new.items block.first block.count last }
+    ensures capacity { vec_capacity blocks.new ≡ vec_capacity blocks.old }
+{
+    blocks.insert(gap.at, block).unwrap();
+}
+
+// Joins a block with the one after it.
+fn join_after(blocks: &mut Vec<FreeBlock>, gap: Gap, block: FreeBlock)
+    requires fits { (last : ℕ) × Fits blocks.old.items gap block (vec_capacity blocks.old) last }
+    requires before { block.first + 1 ≢ gap.low }
+    requires after { block.first + block.count ≡ gap.high }
+    ensures given { (last : ℕ) → Fits blocks.old.items gap block (vec_capacity blocks.old) last → IsGiven blocks.old.items blocks.new.items block.first block.count last }
+    ensures capacity { vec_capacity blocks.new ≡ vec_capacity blocks.old }
+{
+    let after = blocks[gap.at];
+    blocks[gap.at] = FreeBlock {
+        first: block.first,
+        count: block.count + after.count,
+    };
+}
+
+// Joins a block with the one before it.
+fn join_before(blocks: &mut Vec<FreeBlock>, gap: Gap, block: FreeBlock)
+    requires fits { (last : ℕ) × Fits blocks.old.items gap block (vec_capacity blocks.old) last }
+    requires before { block.first + 1 ≡ gap.low }
+    requires after { block.first + block.count ≢ gap.high }
+    ensures given { (last : ℕ) → Fits blocks.old.items gap block (vec_capacity blocks.old) last → IsGiven blocks.old.items blocks.new.items block.first block.count last }
+    ensures capacity { vec_capacity blocks.new ≡ vec_capacity blocks.old }
+{
+    let before = blocks[gap.at - 1];
+    blocks[gap.at - 1] = FreeBlock {
+        first: before.first,
+        count: before.count + block.count,
+    };
+}
+
+// Joins a block with the ones before and after it.
+fn join_both(blocks: &mut Vec<FreeBlock>, gap: Gap, block: FreeBlock)
+    requires fits { (last : ℕ) × Fits blocks.old.items gap block (vec_capacity blocks.old) last }
+    requires before { block.first + 1 ≡ gap.low }
+    requires after { block.first + block.count ≡ gap.high }
+    ensures given { (last : ℕ) → Fits blocks.old.items gap block (vec_capacity blocks.old) last → IsGiven blocks.old.items blocks.new.items block.first block.count last }
+    ensures capacity { vec_capacity blocks.new ≡ vec_capacity blocks.old }
+{
+    let before = blocks[gap.at - 1];
+    let after = blocks.remove(gap.at);
+    blocks[gap.at - 1] = FreeBlock {
+        first: before.first,
+        count: before.count + block.count + after.count,
+    };
 }

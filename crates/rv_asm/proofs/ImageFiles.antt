@@ -45,5 +45,22 @@ image_file-loads h bytes are =
     let size : h.size < 4294967296 = omega (arith, are.inside) in
     let entry : h.entry < 4294967296 = omega (arith, are.inside, are.entry_high) in
     let priority : h.priority < 4294967296 = omega (arith, are.priority_high) in
-    rw (word_again h.place place, word_again h.size size, word_again h.entry entry, word_again h.priority priority, word_again h.stack are.stack)
-    (rw (le-leb 28 (length (image_file h bytes)) (omega arith), equal (length (image_file h bytes)) (28 + h.size) (omega (arith, are.size)), equal (h.place % 4) 0 are.aligned, le-leb (h.place + h.size) 1048576 are.inside, equal (h.entry % 4) 0 are.entry_aligned, le-leb h.place h.entry are.entry_low, le-leb (h.entry + 4) (h.place + h.size) are.entry_high, le-leb 1 h.priority are.priority_low, le-leb h.priority 32767 are.priority_high) refl)
+    rw (
+      word_again h.place place,
+      word_again h.size size,
+      word_again h.entry entry,
+      word_again h.priority priority,
+      word_again h.stack are.stack,
+    )
+    (rw (
+      le-leb 28 (length (image_file h bytes)) (omega arith),
+      equal (length (image_file h bytes)) (28 + h.size) (omega (arith, are.size)),
+      equal (h.place % 4) 0 are.aligned,
+      le-leb (h.place + h.size) 1048576 are.inside,
+      equal (h.entry % 4) 0 are.entry_aligned,
+      le-leb h.place h.entry are.entry_low,
+      le-leb (h.entry + 4) (h.place + h.size) are.entry_high,
+      le-leb 1 h.priority are.priority_low,
+      le-leb h.priority 32767 are.priority_high,
+    )
+    refl)

@@ -22,6 +22,10 @@ put_first true false o a same none = cc
 put_first false true o a same none = cc
 
 -- a label that wasn't there is put
-pub found-put : (old new : Labels) (name : List ℕ) (address : ℕ) → ((q : List ℕ) → found new q ≡ cond (bytes_eq name q) (Some address) (found old q)) → found old name ≡ None → (q : List ℕ) → found new q ≡ or_address (found old q) (bytes_eq q name) address
+pub found-put : (old new : Labels) (name : List ℕ) (address : ℕ)
+    → ((q : List ℕ) → found new q ≡ cond (bytes_eq name q) (Some address) (found old q)) → found old name ≡ None → (q : List ℕ)
+    → found new q ≡ or_address (found old q) (bytes_eq q name) address
 found-put old new name address put none q =
-    put q ∙ put_first (bytes_eq name q) (bytes_eq q name) (found old q) address (turned name q) (λ e. ap (found old) (sym ((bytes_eq-Decides name q).0 e)) ∙ none)
+    put q
+    ∙ put_first (bytes_eq name q) (bytes_eq q name) (found old q) address (turned name q)
+    (λ e. ap (found old) (sym ((bytes_eq-Decides name q).0 e)) ∙ none)

@@ -1,11 +1,13 @@
 -- What lines without a fault keep.
-use Rattle.std.proofs.Common.{◌≡◌, ℕ, ◌+◌, ◌-◌, ◌*◌, ◌%◌, ◌≤◌, ◌<◌, nat_lt, Bool, true, false, not, ◌&&◌, ◌||◌, List, [], ◌∷◌, length, refl, arith, length-append}
+use Rattle.std.proofs.Common.{◌≡◌, ℕ, ◌+◌, ◌-◌, ◌*◌, ◌%◌, ◌≤◌, ◌<◌, nat_lt, Bool, true, false, not, ◌&&◌, ◌||◌, List, [], ◌∷◌, length, refl}
+use Rattle.std.proofs.Common.{arith, length-append}
 use Rattle.std.specs.Prelude.{min, ◌==◌, nat_le, unwrap_or, is_some}
 use Rattle.std.proofs.lemmas.Bool.Decides.{nat_tests}
 use Rattle.std.proofs.lemmas.Bool.{eqb-true, leb-true}
 use Rattle.std.specs.List.{flat_map}
 use Rattle.std.proofs.lemmas.List.{length-replicate}
-use Rattle.asm_syntax.specs.Statements.{Statement, Empty, Malformed, Unresolved, Excessive, Code, Branch, JumpTo, AddressOf, Bytes, WordAt, Zeros, Align, Place, Entry, Priority, Stack, word_bytes}
+use Rattle.asm_syntax.specs.Statements.{Statement, Empty, Malformed, Unresolved, Excessive, Code, Branch, JumpTo, AddressOf, Bytes, WordAt}
+use Rattle.asm_syntax.specs.Statements.{Zeros, Align, Place, Entry, Priority, Stack, word_bytes}
 use Rattle.rv_asm.specs.Layouts.{size_at, Labels, Layout, after_statement}
 use Rattle.rv_asm.specs.Faults.{is_bad, is_excessive}
 use Rattle.rv_asm.specs.Assembly.{bytes_at}
@@ -59,7 +61,18 @@ pub both_true : (a b : Bool) → not (a && b) ≡ false → (a ≡ true) × (b �
 both_true true b is = (refl, not_false b is)
 both_true false b is = cc
 
-keeps-content : (s : Layout) (size more : ℕ) (b : Bool) → s.at + more ≤ 1048576 → (b ≡ false → more ≡ 0) → Keeps s size → Keeps (record { place = s.place; entry = s.entry; priority = s.priority; stack = s.stack; labels = s.labels; begun = s.begun || b; at = min (s.at + more) 4294967296 }) (size + more)
+keeps-content : (s : Layout) (size more : ℕ) (b : Bool) → s.at + more ≤ 1048576 → (b ≡ false → more ≡ 0) → Keeps s size
+    → Keeps
+    (record {
+      place = s.place;
+      entry = s.entry;
+      priority = s.priority;
+      stack = s.stack;
+      labels = s.labels;
+      begun = s.begun || b;
+      at = min (s.at + more) 4294967296;
+    })
+    (size + more)
 keeps-content s size more b inside none keeps = record {
   at = omega (arith, keeps.at, inside);
   none = λ e. let parts = neither s.begun b e in omega (arith, keeps.none parts.0, none parts.1);
@@ -71,19 +84,23 @@ keeps-content s size more b inside none keeps = record {
 }
 
 -- a statement without a fault keeps it
-pub keeps-statement : (statement : Statement) (s : Layout) (size : ℕ) → is_bad statement s ≡ false → is_excessive statement s.at ≡ false → Keeps s size → Keeps (after_statement statement s) (size + size_at s.at statement)
+pub keeps-statement : (statement : Statement) (s : Layout) (size : ℕ) → is_bad statement s ≡ false → is_excessive statement s.at ≡ false
+    → Keeps s size → Keeps (after_statement statement s) (size + size_at s.at statement)
 keeps-statement Empty s size good fit keeps = keeps-content s size 0 false (omega (arith, keeps.inside)) (λ e. refl) keeps
 keeps-statement Malformed s size good fit keeps = cc
 keeps-statement Unresolved s size good fit keeps = keeps-content s size 0 false (omega (arith, keeps.inside)) (λ e. refl) keeps
 keeps-statement Excessive s size good fit keeps = cc
-keeps-statement (Code words) s size good fit keeps = keeps-content s size (4 * length words) true (fits _ s.at (4 * length words) fit keeps.inside) (λ e. cc) keeps
+keeps-statement (Code words) s size good fit keeps =
+    keeps-content s size (4 * length words) true (fits _ s.at (4 * length words) fit keeps.inside) (λ e. cc) keeps
 keeps-statement (Branch bits rs1 rs2 l) s size good fit keeps = keeps-content s size 4 true (fits _ s.at 4 fit keeps.inside) (λ e. cc) keeps
 keeps-statement (JumpTo rd l) s size good fit keeps = keeps-content s size 4 true (fits _ s.at 4 fit keeps.inside) (λ e. cc) keeps
 keeps-statement (AddressOf rd l) s size good fit keeps = keeps-content s size 8 true (fits _ s.at 8 fit keeps.inside) (λ e. cc) keeps
-keeps-statement (Bytes bytes) s size good fit keeps = keeps-content s size (length bytes) true (fits false s.at (length bytes) fit keeps.inside) (λ e. cc) keeps
+keeps-statement (Bytes bytes) s size good fit keeps =
+    keeps-content s size (length bytes) true (fits false s.at (length bytes) fit keeps.inside) (λ e. cc) keeps
 keeps-statement (WordAt l) s size good fit keeps = keeps-content s size 4 true (fits false s.at 4 fit keeps.inside) (λ e. cc) keeps
 keeps-statement (Zeros n) s size good fit keeps = keeps-content s size n true (fits false s.at n fit keeps.inside) (λ e. cc) keeps
-keeps-statement Align s size good fit keeps = keeps-content s size ((4 - s.at % 4) % 4) true (fits false s.at ((4 - s.at % 4) % 4) fit keeps.inside) (λ e. cc) keeps
+keeps-statement Align s size good fit keeps =
+    keeps-content s size ((4 - s.at % 4) % 4) true (fits false s.at ((4 - s.at % 4) % 4) fit keeps.inside) (λ e. cc) keeps
 keeps-statement (Place n) s size good fit keeps =
     let parts = neither (is_some s.place) s.begun good in
     let none : size ≡ 0 = keeps.none parts.1 in

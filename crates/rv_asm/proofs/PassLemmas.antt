@@ -14,14 +14,17 @@ pub lines_in-cons : (text line rest : List ℕ) → lines_of text ≡ line ∷ l
 lines_in-cons text line rest is = ap (map line_of) is
 
 -- a line without a fault leaves the first fault to the others
-pub faults-next : (labels : Labels) (k : ℕ) (lines rest : List Line) (line : Line) (s t : Layout) → lines ≡ line ∷ rest → fault_of labels k line s ≡ None → t ≡ after line s → first_fault labels k lines s ≡ first_fault labels (k + 1) rest t
+pub faults-next : (labels : Labels) (k : ℕ) (lines rest : List Line) (line : Line) (s t : Layout) → lines ≡ line ∷ rest
+    → fault_of labels k line s ≡ None → t ≡ after line s → first_fault labels k lines s ≡ first_fault labels (k + 1) rest t
 faults-next labels k lines rest line s t is none then =
     ap (λ (l : List Line). first_fault labels k l s) is
     ∙ ap (λ (o : Option AsmFault). fault_or o (first_fault labels (k + 1) rest (after line s))) none
     ∙ ap (first_fault labels (k + 1) rest) (sym then)
 
 -- the bytes of a line come before those of the others
-pub content-next : (all : List ℕ) (labels : Labels) (lines rest : List Line) (line : Line) (s t : Layout) (front new : List ℕ) → all ≡ front ++ content labels lines s → lines ≡ line ∷ rest → t ≡ after line s → new ≡ front ++ bytes_at labels s.at line.statement → all ≡ new ++ content labels rest t
+pub content-next : (all : List ℕ) (labels : Labels) (lines rest : List Line) (line : Line) (s t : Layout) (front new : List ℕ)
+    → all ≡ front ++ content labels lines s → lines ≡ line ∷ rest → t ≡ after line s → new ≡ front ++ bytes_at labels s.at line.statement
+    → all ≡ new ++ content labels rest t
 content-next all labels lines rest line s t front new so_far is then pushed =
     so_far
     ∙ ap (λ (l : List Line). front ++ content labels l s) is
@@ -34,7 +37,11 @@ fault_or-again None b c = refl
 fault_or-again (Some f) b c = refl
 
 -- the first offset or entry that is astray
-pub astray-next : (all : Option AsmFault) (labels : Labels) (place end k : ℕ) (lines rest : List Line) (line : Line) (s t : Layout) (old new : Option AsmFault) → all ≡ fault_or old (first_astray labels place end k lines s) → lines ≡ line ∷ rest → t ≡ after line s → new ≡ fault_or old (astray_at labels place end k s.at line.statement) → all ≡ fault_or new (first_astray labels place end (k + 1) rest t)
+pub astray-next : (all : Option AsmFault) (labels : Labels) (place end k : ℕ) (lines rest : List Line) (line : Line) (s t : Layout)
+    (old new : Option AsmFault)
+    → all ≡ fault_or old (first_astray labels place end k lines s) → lines ≡ line ∷ rest → t ≡ after line s
+    → new ≡ fault_or old (astray_at labels place end k s.at line.statement)
+    → all ≡ fault_or new (first_astray labels place end (k + 1) rest t)
 astray-next all labels place end k lines rest line s t old new so_far is then first =
     so_far
     ∙ ap (λ (l : List Line). fault_or old (first_astray labels place end k l s)) is
@@ -43,7 +50,8 @@ astray-next all labels place end k lines rest line s t old new so_far is then fi
     ∙ ap (λ (u : Layout). fault_or new (first_astray labels place end (k + 1) rest u)) (sym then)
 
 -- a text with a line at fault fails with it
-pub fails-first : (fault : AsmFault) (first astray : Option AsmFault) (void : Bool) (file : List ℕ) → IsFirst fault first → IsFault fault (ended first astray void file)
+pub fails-first : (fault : AsmFault) (first astray : Option AsmFault) (void : Bool) (file : List ℕ) → IsFirst fault first
+    → IsFault fault (ended first astray void file)
 fails-first (BadLine k) first astray void file is = rw is refl
 fails-first (UnknownName k) first astray void file is = rw is refl
 fails-first (OutOfRange k) first astray void file is = rw is refl

@@ -1,10 +1,12 @@
 -- What a text is assembled to: an image file, or its first fault.
-use Rattle.std.specs.Prelude.{◌≡◌, ℕ, pos, ◌+◌, ◌-◌, ◌%◌, ◌==◌, nat_lt, Bool, true, false, ◌&&◌, ◌||◌, List, [], ◌∷◌, ◌++◌, length, map, replicate, Option, Some, None, is_none, unwrap_or}
+use Rattle.std.specs.Prelude.{◌≡◌, ℕ, pos, ◌+◌, ◌-◌, ◌%◌, ◌==◌, nat_lt, Bool, true, false, ◌&&◌, ◌||◌, List, [], ◌∷◌, ◌++◌, length, map}
+use Rattle.std.specs.Prelude.{replicate, Option, Some, None, is_none, unwrap_or}
 use Rattle.std.specs.List.{flat_map}
 use Rattle.text_lines.specs.Lines.{lines_of}
 use Rattle.xinu_model.specs.Isa.Instructions.{FormB, FormJ}
 use Rattle.rv_isa.specs.Encoding.{placed}
-use Rattle.asm_syntax.specs.Statements.{Statement, Code, Branch, JumpTo, AddressOf, Bytes, WordAt, Zeros, Align, Line, line_of, load, word_of, word_bytes}
+use Rattle.asm_syntax.specs.Statements.{Statement, Code, Branch, JumpTo, AddressOf, Bytes, WordAt, Zeros, Align, Line, line_of, load}
+use Rattle.asm_syntax.specs.Statements.{word_of, word_bytes}
 use Rattle.rv_asm.specs.Layouts.{Labels, Layout, start, after, after_all}
 use Rattle.rv_asm.specs.Faults.{address, offset_to, first_fault, first_astray}
 use Rattle.rv_asm.specs.declared.faults.AsmFault.{AsmFault}
@@ -53,7 +55,8 @@ header s size = record {
 -- the image file with this header and this content
 abbrev pub image_file : Header → List ℕ → List ℕ
 image_file h bytes =
-    word_bytes 0x474d4958 ++ word_bytes 1 ++ word_bytes h.place ++ word_bytes h.size ++ word_bytes h.entry ++ word_bytes h.priority ++ word_bytes h.stack ++ bytes
+    word_bytes 0x474d4958 ++ word_bytes 1 ++ word_bytes h.place ++ word_bytes h.size ++ word_bytes h.entry ++ word_bytes h.priority
+    ++ word_bytes h.stack ++ bytes
 
 -- no content, or without an entry too little for one
 abbrev pub is_void : Layout → ℕ → Bool
@@ -74,7 +77,8 @@ ended None None false file = Makes file
 -- what lines are assembled to, given what all of them set and their bytes
 abbrev pub assembled_lines : List Line → Layout → List ℕ → Assembly
 assembled_lines lines end bytes =
-    ended (first_fault end.labels 1 lines start) (first_astray end.labels (unwrap_or end.place 0) end.at 1 lines start) (is_void end (length bytes))
+    ended (first_fault end.labels 1 lines start) (first_astray end.labels (unwrap_or end.place 0) end.at 1 lines start)
+    (is_void end (length bytes))
     (image_file (header end (length bytes)) bytes)
 
 -- the lines of a text
@@ -84,7 +88,8 @@ lines_in text = map line_of (lines_of text)
 -- what a text is assembled to
 unfoldable pub assembly : List ℕ → Assembly
 assembly text =
-    assembled_lines (lines_in text) (after_all (lines_in text) start) (content (after_all (lines_in text) start).labels (lines_in text) start)
+    assembled_lines (lines_in text) (after_all (lines_in text) start)
+    (content (after_all (lines_in text) start).labels (lines_in text) start)
 
 -- a fault is the one that an assembly fails with; out of memory says nothing of it
 abbrev pub IsFault : AsmFault → Assembly → Type 0

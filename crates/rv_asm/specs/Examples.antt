@@ -33,7 +33,9 @@ examples =
     example (codes "li a7, 1" ∷ codes "ecall" ∷ codes "sys exit" ∷ [])
     (makes 0 20 0 20 4096 (words (0x000008b7 ∷ 0x00188893 ∷ 0x00000073 ∷ 0x00900893 ∷ 0x00000073 ∷ [])))
     ∷ example (codes "li a7, x" ∷ []) (Fails (UnknownName 1))
-    ∷ example (codes ".place 0x100" ∷ codes ".priority 25" ∷ codes ".stack 400" ∷ codes ".entry start" ∷ codes "data: .word -1" ∷ codes "start: la sp, data" ∷ codes "loop: beq x0, zero, loop # no end" ∷ codes "j start" ∷ [])
+    ∷ example
+    (codes ".place 0x100" ∷ codes ".priority 25" ∷ codes ".stack 400" ∷ codes ".entry start" ∷ codes "data: .word -1"
+    ∷ codes "start: la sp, data" ∷ codes "loop: beq x0, zero, loop # no end" ∷ codes "j start" ∷ [])
     (makes 256 20 260 25 400 (words (0xffffffff ∷ 0x00000137 ∷ 0x10010113 ∷ 0x00000063 ∷ 0xff5ff06f ∷ [])))
     ∷ example (codes "lw a0, -4(sp)" ∷ codes "sw a0,8 ( sp )" ∷ []) (Fails (BadLine 2))
     ∷ example (codes "lui t0, 1048576" ∷ codes "add t0, t1" ∷ []) (Fails (OutOfRange 1))

@@ -1,6 +1,8 @@
 -- The faults of a text: those of a line by itself in their order, and those of offsets and addresses that labels give.
-use Rattle.std.specs.Prelude.{ℕ, ◌+◌, ◌-◌, ◌%◌, ◌==◌, nat_le, nat_lt, int_le, Bool, true, false, not, if◌then◌else◌, ◌&&◌, ◌||◌, ℤ, pos, negsuc, ◌-ℤ◌, List, [], ◌∷◌, Option, Some, None, is_some, is_none, unwrap_or}
-use Rattle.asm_syntax.specs.Statements.{Statement, Malformed, Unresolved, Excessive, Branch, JumpTo, Place, Entry, Priority, Stack, Line, word_of}
+use Rattle.std.specs.Prelude.{ℕ, ◌+◌, ◌-◌, ◌%◌, ◌==◌, nat_le, nat_lt, int_le, Bool, true, false, not, if◌then◌else◌, ◌&&◌, ◌||◌, ℤ, pos}
+use Rattle.std.specs.Prelude.{negsuc, ◌-ℤ◌, List, [], ◌∷◌, Option, Some, None, is_some, is_none, unwrap_or}
+use Rattle.asm_syntax.specs.Statements.{Statement, Malformed, Unresolved, Excessive, Branch, JumpTo, Place, Entry, Priority, Stack, Line}
+use Rattle.asm_syntax.specs.Statements.{word_of}
 use Rattle.rv_asm.specs.Layouts.{size_at, is_code, used_label, Labels, labelled, Layout, after_labels, after}
 use Rattle.rv_asm.specs.declared.faults.AsmFault.{AsmFault}
 use Rattle.rv_asm.specs.declared.faults.AsmFault.TheVariants.{BadLine, UnknownName, OutOfRange, DoubleLabel}

@@ -1,7 +1,9 @@
 -- How the statements of a text lie one after another: their sizes, the addresses of the labels, and the fields of the header.
-use Rattle.std.specs.Prelude.{ℕ, min, ◌+◌, ◌-◌, ◌%◌, ◌*◌, nat_lt, Bool, true, false, if◌then◌else◌, ◌||◌, List, [], ◌∷◌, length, Option, Some, None}
+use Rattle.std.specs.Prelude.{ℕ, min, ◌+◌, ◌-◌, ◌%◌, ◌*◌, nat_lt, Bool, true, false, if◌then◌else◌, ◌||◌, List, [], ◌∷◌, length, Option}
+use Rattle.std.specs.Prelude.{Some, None}
 use Rattle.std.specs.Str.{bytes_eq}
-use Rattle.asm_syntax.specs.Statements.{Statement, Code, Branch, JumpTo, AddressOf, Bytes, WordAt, Zeros, Align, Place, Entry, Priority, Stack, Line}
+use Rattle.asm_syntax.specs.Statements.{Statement, Code, Branch, JumpTo, AddressOf, Bytes, WordAt, Zeros, Align, Place, Entry, Priority}
+use Rattle.asm_syntax.specs.Statements.{Stack, Line}
 
 -- how many bytes a statement puts at an address; it doesn't depend on the labels
 abbrev pub size_at : ℕ → Statement → ℕ
@@ -90,10 +92,14 @@ clipped at = min at 4294967296
 
 -- after a statement: content begins at the place, and each statement lies after the one before it
 abbrev pub after_statement : Statement → Layout → Layout
-after_statement (Place n) s = record { place = Some n; entry = s.entry; priority = s.priority; stack = s.stack; labels = s.labels; begun = s.begun; at = clipped n }
-after_statement (Entry l) s = record { place = s.place; entry = Some l; priority = s.priority; stack = s.stack; labels = s.labels; begun = s.begun; at = s.at }
-after_statement (Priority n) s = record { place = s.place; entry = s.entry; priority = Some n; stack = s.stack; labels = s.labels; begun = s.begun; at = s.at }
-after_statement (Stack n) s = record { place = s.place; entry = s.entry; priority = s.priority; stack = Some n; labels = s.labels; begun = s.begun; at = s.at }
+after_statement (Place n) s =
+    record { place = Some n; entry = s.entry; priority = s.priority; stack = s.stack; labels = s.labels; begun = s.begun; at = clipped n }
+after_statement (Entry l) s =
+    record { place = s.place; entry = Some l; priority = s.priority; stack = s.stack; labels = s.labels; begun = s.begun; at = s.at }
+after_statement (Priority n) s =
+    record { place = s.place; entry = s.entry; priority = Some n; stack = s.stack; labels = s.labels; begun = s.begun; at = s.at }
+after_statement (Stack n) s =
+    record { place = s.place; entry = s.entry; priority = s.priority; stack = Some n; labels = s.labels; begun = s.begun; at = s.at }
 after_statement statement s = record {
   place = s.place;
   entry = s.entry;

@@ -18,18 +18,21 @@ is_digit_at digits i are within =
     digit_at digits i ((numerals_by_value (λ ds. list_all is_digit ds ≡ true) tests_digits).to digits are) within
 
 -- ten digits write less than 10 ^ 10, and no first digits of them more than all
-pub digits_are_few : (digits : List ℕ) (i : ℕ) → list_all is_digit digits ≡ true → length digits ≤ 10 → digits_value 10 (take i digits) < 10000000000
+pub digits_are_few : (digits : List ℕ) (i : ℕ) → list_all is_digit digits ≡ true → length digits ≤ 10
+    → digits_value 10 (take i digits) < 10000000000
 digits_are_few digits i are few =
     let all : digits_value 10 digits < 10 ^ 10 =
     digits_value_short (numerals_by_value (λ ds. list_all is_digit ds ≡ true) tests_digits) digits 10 are few in
     omega (arith, digits_value-take-le 10 digits i (omega arith))
 
 -- the number that one digit more writes
-pub digits_value-next : (digits : List ℕ) (i n : ℕ) → list_all is_digit digits ≡ true → i < length digits → n ≡ digits_value 10 (take i digits) → n * 10 + (get_or digits i 0 - 48) ≡ digits_value 10 (take (i + 1) digits)
+pub digits_value-next : (digits : List ℕ) (i n : ℕ) → list_all is_digit digits ≡ true → i < length digits
+    → n ≡ digits_value 10 (take i digits) → n * 10 + (get_or digits i 0 - 48) ≡ digits_value 10 (take (i + 1) digits)
 digits_value-next digits i n are within is =
     omega (arith, digits_value_more 10 digits i within, digit_value_digit (get_or digits i 0) (is_digit_at digits i are within))
 
 -- ten digits less the last, and one digit more, fit in 64 bits
-pub digits_value-fits : (digits : List ℕ) (i n : ℕ) → list_all is_digit digits ≡ true → length digits ≤ 10 → i < length digits → n ≡ digits_value 10 (take i digits) → n * 10 + (get_or digits i 0 - 48) < 18446744073709551616
+pub digits_value-fits : (digits : List ℕ) (i n : ℕ) → list_all is_digit digits ≡ true → length digits ≤ 10 → i < length digits
+    → n ≡ digits_value 10 (take i digits) → n * 10 + (get_or digits i 0 - 48) < 18446744073709551616
 digits_value-fits digits i n are few within is =
     omega (arith, digits_are_few digits (i + 1) are few, digits_value-next digits i n are within is)

@@ -1,5 +1,6 @@
 -- What a text reads as, one line after another.
-use Rattle.std.proofs.Common.{◌≡◌, ℕ, ◌+◌, ◌<◌, ◌≤◌, nat_lt, Bool, true, false, cond, List, [], ◌∷◌, ◌++◌, length, Option, Some, None, refl, sym, ap, ◌∙◌, arith, append-nil, append_assoc, length-append}
+use Rattle.std.proofs.Common.{◌≡◌, ℕ, ◌+◌, ◌<◌, ◌≤◌, nat_lt, Bool, true, false, cond, List, [], ◌∷◌, ◌++◌, length, Option, Some, None, refl}
+use Rattle.std.proofs.Common.{sym, ap, ◌∙◌, arith, append-nil, append_assoc, length-append}
 use Rattle.std.specs.Prelude.{is_none, unwrap_or, IfSome}
 use Rattle.std.specs.List.{flat_map}
 use Rattle.std.proofs.lemmas.Bool.{lt-ltb, le-ltb, le-leb, lt-leb}
@@ -52,18 +53,30 @@ judged-many k None events least = refl
 judged-many k (Some n) events least = let above : k < n = omega arith in rw (lt-leb n k above) refl
 
 -- a bad line
-pub read_on-bad : (k : ℕ) (events : List Event) (line : List ℕ) (lines : List (List ℕ)) → is_bad line ≡ true → read_on k events (line ∷ lines) ≡ Bad k
-read_on-bad k events line lines bad = rw bad (judged-bad k (first_from k (nat_lt most_events) (sums (length events) (line ∷ lines))) (events ++ flat_map events_at (line ∷ lines)) (first_from-least (nat_lt most_events) k (sums (length events) (line ∷ lines))))
+pub read_on-bad : (k : ℕ) (events : List Event) (line : List ℕ) (lines : List (List ℕ)) → is_bad line ≡ true
+    → read_on k events (line ∷ lines) ≡ Bad k
+read_on-bad k events line lines bad =
+    rw bad
+    (judged-bad k (first_from k (nat_lt most_events) (sums (length events) (line ∷ lines))) (events ++ flat_map events_at (line ∷ lines))
+    (first_from-least (nat_lt most_events) k (sums (length events) (line ∷ lines))))
 
 -- a line with an event too many
-pub read_on-many : (k : ℕ) (events : List Event) (line : List ℕ) (lines : List (List ℕ)) → is_bad line ≡ false → most_events < length events + length (events_at line) → read_on k events (line ∷ lines) ≡ Many k
-read_on-many k events line lines good many = rw (good, lt-ltb most_events (length events + length (events_at line)) many) (judged-many k (first_from (k + 1) is_bad lines) (events ++ flat_map events_at (line ∷ lines)) (first_from-least is_bad (k + 1) lines))
+pub read_on-many : (k : ℕ) (events : List Event) (line : List ℕ) (lines : List (List ℕ)) → is_bad line ≡ false
+    → most_events < length events + length (events_at line) → read_on k events (line ∷ lines) ≡ Many k
+read_on-many k events line lines good many =
+    rw (good, lt-ltb most_events (length events + length (events_at line)) many)
+    (judged-many k (first_from (k + 1) is_bad lines) (events ++ flat_map events_at (line ∷ lines)) (first_from-least is_bad (k + 1) lines))
 
 -- any other line
-pub read_on-next : (k : ℕ) (events : List Event) (line : List ℕ) (lines : List (List ℕ)) → is_bad line ≡ false → length events + length (events_at line) ≤ most_events → read_on k events (line ∷ lines) ≡ read_on (k + 1) (events ++ events_at line) lines
+pub read_on-next : (k : ℕ) (events : List Event) (line : List ℕ) (lines : List (List ℕ)) → is_bad line ≡ false
+    → length events + length (events_at line) ≤ most_events
+    → read_on k events (line ∷ lines) ≡ read_on (k + 1) (events ++ events_at line) lines
 read_on-next k events line lines good few =
     rw (good, le-ltb most_events (length events + length (events_at line)) few, ← length-append events (events_at line))
-    (ap (judged (first_from (k + 1) is_bad lines) (first_from (k + 1) (nat_lt most_events) (sums (length (events ++ events_at line)) lines))) (sym (append_assoc events (events_at line) (flat_map events_at lines))))
+    (ap
+    (judged (first_from (k + 1) is_bad lines)
+    (first_from (k + 1) (nat_lt most_events) (sums (length (events ++ events_at line)) lines)))
+    (sym (append_assoc events (events_at line) (flat_map events_at lines))))
 
 -- a text with a fault has no events
 faulty_bad : (text : List ℕ) (l : ℕ) → reading text ≡ Bad l → Names (BadLine l) text
@@ -73,7 +86,8 @@ faulty_many : (text : List ℕ) (l : ℕ) → reading text ≡ Many l → Names 
 faulty_many text l is = (is, rw is refl)
 
 -- the first fault, if it comes after lines that were read
-pub names_fault : (fault : ScheduleFault) (k n : ℕ) (events : List Event) (line : List ℕ) (lines : List (List ℕ)) (text : List ℕ) → IsFaultOf fault k line n → n ≡ length events → read_on k events (line ∷ lines) ≡ reading text → Names fault text
+pub names_fault : (fault : ScheduleFault) (k n : ℕ) (events : List Event) (line : List ℕ) (lines : List (List ℕ)) (text : List ℕ)
+    → IsFaultOf fault k line n → n ≡ length events → read_on k events (line ∷ lines) ≡ reading text → Names fault text
 names_fault (BadLine l) k n events line lines text is sum reads =
     faulty_bad text l (sym reads ∙ read_on-bad k events line lines is.1 ∙ ap Bad (sym is.0))
 names_fault (TooMany l) k n events line lines text is sum reads =
@@ -82,6 +96,8 @@ names_fault (TooMany l) k n events line lines text is sum reads =
 names_fault NoMemory k n events line lines text is sum reads = tt
 
 -- one more line is read
-pub reads_more : (k n sum : ℕ) (events more : List Event) (line : List ℕ) (lines : List (List ℕ)) (text : List ℕ) → is_bad line ≡ false → sum ≡ n + length (events_at line) → sum ≤ most_events → n ≡ length events → more ≡ events ++ events_at line → read_on k events (line ∷ lines) ≡ reading text → read_on (k + 1) more lines ≡ reading text
+pub reads_more : (k n sum : ℕ) (events more : List Event) (line : List ℕ) (lines : List (List ℕ)) (text : List ℕ) → is_bad line ≡ false
+    → sum ≡ n + length (events_at line) → sum ≤ most_events → n ≡ length events → more ≡ events ++ events_at line
+    → read_on k events (line ∷ lines) ≡ reading text → read_on (k + 1) more lines ≡ reading text
 reads_more k n sum events more line lines text good is few so_far joined reads =
     rw joined (sym (read_on-next k events line lines good (omega arith)) ∙ reads)

@@ -10,19 +10,25 @@ use Rattle.schedule_file.specs.Repeats.{repeat_events, repeats_events, IsRepeat,
 use Rattle.schedule_file.proofs.PlaceLemmas.{slice_get-left, drop_from, at_each}
 
 -- the events of the repeats from one on begin with its own
-repeats_from : (repeats : List Repeat) (next : ℕ) (repeat : Repeat) → slice_get repeats next ≡ Some repeat → repeats_events (drop next repeats) ≡ repeat_events repeat ++ repeats_events (drop (next + 1) repeats)
+repeats_from : (repeats : List Repeat) (next : ℕ) (repeat : Repeat) → slice_get repeats next ≡ Some repeat
+    → repeats_events (drop next repeats) ≡ repeat_events repeat ++ repeats_events (drop (next + 1) repeats)
 repeats_from repeats next repeat is = ap repeats_events (drop_from repeats next repeat is)
 
 -- the next event that is to come
-pub to_come-event : (repeats : List Repeat) (next taken : ℕ) (repeat : Repeat) (event : Event) → slice_get repeats next ≡ Some repeat → taken < length (repeat_events repeat) → slice_get (repeat_events repeat) taken ≡ Some event → to_come repeats next taken ≡ event ∷ to_come repeats next (taken + 1)
+pub to_come-event : (repeats : List Repeat) (next taken : ℕ) (repeat : Repeat) (event : Event) → slice_get repeats next ≡ Some repeat
+    → taken < length (repeat_events repeat) → slice_get (repeat_events repeat) taken ≡ Some event
+    → to_come repeats next taken ≡ event ∷ to_come repeats next (taken + 1)
 to_come-event repeats next taken repeat event is within at =
     drop_from (repeats_events (drop next repeats)) taken event
-    (rw (repeats_from repeats next repeat is) (slice_get-left (repeat_events repeat) (repeats_events (drop (next + 1) repeats)) taken within ∙ at))
+    (rw (repeats_from repeats next repeat is)
+    (slice_get-left (repeat_events repeat) (repeats_events (drop (next + 1) repeats)) taken within ∙ at))
 
 -- after the last event of a repeat comes the next repeat
-pub to_come-repeat : (repeats : List Repeat) (next taken : ℕ) (repeat : Repeat) → slice_get repeats next ≡ Some repeat → length (repeat_events repeat) ≡ taken → to_come repeats next taken ≡ to_come repeats (next + 1) 0
+pub to_come-repeat : (repeats : List Repeat) (next taken : ℕ) (repeat : Repeat) → slice_get repeats next ≡ Some repeat
+    → length (repeat_events repeat) ≡ taken → to_come repeats next taken ≡ to_come repeats (next + 1) 0
 to_come-repeat repeats next taken repeat is all =
-    ap (drop taken) (repeats_from repeats next repeat is) ∙ drop_at (repeat_events repeat) (repeats_events (drop (next + 1) repeats)) taken all
+    ap (drop taken) (repeats_from repeats next repeat is)
+    ∙ drop_at (repeat_events repeat) (repeats_events (drop (next + 1) repeats)) taken all
 
 -- after the last repeat nothing is to come
 pub to_come-end : (repeats : List Repeat) (next taken : ℕ) → length repeats ≤ next → to_come repeats next taken ≡ []
@@ -38,7 +44,8 @@ IsCursor-begin repeats next each within = record {
 }
 
 -- within a repeat
-pub IsCursor-on : (repeats : List Repeat) (next taken : ℕ) (repeat : Repeat) → All IsRepeat repeats → slice_get repeats next ≡ Some repeat → taken < length (repeat_events repeat) → IsCursor repeats next taken
+pub IsCursor-on : (repeats : List Repeat) (next taken : ℕ) (repeat : Repeat) → All IsRepeat repeats → slice_get repeats next ≡ Some repeat
+    → taken < length (repeat_events repeat) → IsCursor repeats next taken
 IsCursor-on repeats next taken repeat each is within = record {
   each = each;
   within = omega (arith, slice_get_within repeats next repeat is);

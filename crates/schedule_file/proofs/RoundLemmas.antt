@@ -1,5 +1,6 @@
 -- The events of a round, and of rounds one after another.
-use Rattle.std.proofs.Common.{◌≡◌, ℕ, zero, suc, ◌+◌, ◌-◌, ◌*◌, ◌%◌, ◌<◌, ◌≤◌, List, [], ◌∷◌, ◌++◌, length, replicate, Some, refl, ap, ◌∙◌, arith, length-append, ⊎_elim, ◌⊎◌}
+use Rattle.std.proofs.Common.{◌≡◌, ℕ, zero, suc, ◌+◌, ◌-◌, ◌*◌, ◌%◌, ◌<◌, ◌≤◌, List, [], ◌∷◌, ◌++◌, length, replicate, Some, refl, ap, ◌∙◌}
+use Rattle.std.proofs.Common.{arith, length-append, ⊎_elim, ◌⊎◌}
 use Rattle.std.specs.Prelude.{slice_get}
 use Rattle.std.proofs.lemmas.List.{length-replicate}
 use Rattle.std.proofs.lemmas.Bool.{cases_lt}
@@ -68,7 +69,8 @@ tick_at a b c d k is =
     ∙ ap (slice_get (Tick ∷ [])) last
 
 -- a place in the first of some rounds, or in the others
-rounds_step : (n k : ℕ) → (k < 1081) ⊎ (1081 ≤ k) → (1081 ≤ k → slice_get (rounds n) (k - 1081) ≡ slice_get round ((k - 1081) % 1081)) → slice_get (round ++ rounds n) k ≡ slice_get round (k % 1081)
+rounds_step : (n k : ℕ) → (k < 1081) ⊎ (1081 ≤ k) → (1081 ≤ k → slice_get (rounds n) (k - 1081) ≡ slice_get round ((k - 1081) % 1081))
+    → slice_get (round ++ rounds n) k ≡ slice_get round (k % 1081)
 rounds_step n k side rest =
     ⊎_elim
     (λ (first : k < 1081).

@@ -14,7 +14,9 @@ is_digit b = nat_le 48 b && nat_le b 57
 -- a count: one to ten decimal digits with a value from 1 to the most events
 abbrev pub count_written : List ℕ → Option ℕ
 count_written digits =
-    if nat_le 1 (length digits) && (nat_le (length digits) 10 && (list_all is_digit digits && (nat_le 1 (digits_value 10 digits) && nat_le (digits_value 10 digits) most_events)))
+    if nat_le 1 (length digits)
+    && (nat_le (length digits) 10
+    && (list_all is_digit digits && (nat_le 1 (digits_value 10 digits) && nat_le (digits_value 10 digits) most_events)))
     then Some (digits_value 10 digits)
     else None
 

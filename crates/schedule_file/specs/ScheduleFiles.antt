@@ -1,5 +1,6 @@
 -- Schedule files: which texts read as which events, and the first fault of the others.
-use Rattle.std.specs.Prelude.{◌≡◌, ℕ, ◌+◌, nat_lt, nat_le, Bool, if◌then◌else◌, List, [], ◌∷◌, length, Option, Some, None, is_none, unwrap_or}
+use Rattle.std.specs.Prelude.{◌≡◌, ℕ, ◌+◌, nat_lt, nat_le, Bool, if◌then◌else◌, List, [], ◌∷◌, length, Option, Some, None, is_none}
+use Rattle.std.specs.Prelude.{unwrap_or}
 use Rattle.std.specs.List.{flat_map}
 use Rattle.xinu_base.specs.declared.events.Event.{Event}
 use Rattle.schedule_file.specs.declared.faults.ScheduleFault.{ScheduleFault}
@@ -42,7 +43,8 @@ judged (Some bad) (Some many) events = if nat_le bad many then Bad bad else Many
 -- what a text reads as: the events of its lines one after another, unless a line is bad or the sum of events passes the most
 unfoldable pub reading : List ℕ → Reading
 reading text =
-    judged (first_from 1 is_bad (lines_of text)) (first_from 1 (nat_lt most_events) (sums 0 (lines_of text))) (flat_map events_at (lines_of text))
+    judged (first_from 1 is_bad (lines_of text)) (first_from 1 (nat_lt most_events) (sums 0 (lines_of text)))
+    (flat_map events_at (lines_of text))
 
 -- the events of a reading that has no fault
 abbrev pub events_read : Reading → Option (List Event)

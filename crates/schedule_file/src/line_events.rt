@@ -114,6 +114,7 @@ fn counted(tokens: &[u8]) -> Option<u32>
 }
 
 // The 1 to 64 characters that the tokens stand for.
+#[tactic(auto, using(crate::proofs::TypedLemmas::typed_all))]
 fn typed(tokens: &[u8]) -> Option<ArrayVec<u8, 64>>
     ensures bytes { MatchOption result (numbers.typed_in (tokens_of tokens.now) ≡ None) (λ bytes. numbers.typed_in (tokens_of tokens.now) ≡ Some bytes.items) }
 {

@@ -1,5 +1,6 @@
 -- The lines of a text, from its first line feed.
-use Rattle.std.proofs.Common.{◌≡◌, ◌≢◌, ℕ, ◌+◌, ◌<◌, ◌≤◌, ◌==◌, Bool, false, List, [], ◌∷◌, ◌++◌, length, take, drop, Some, None, refl, ap, ◌∙◌, arith}
+use Rattle.std.proofs.Common.{◌≡◌, ◌≢◌, ℕ, ◌+◌, ◌<◌, ◌≤◌, ◌==◌, Bool, false, List, [], ◌∷◌, ◌++◌, length, take, drop, Some, None, refl, ap}
+use Rattle.std.proofs.Common.{◌∙◌, arith}
 use Rattle.std.specs.List.{All, position, position_or_len, slice_split}
 use Rattle.std.proofs.lemmas.List.Splits.{slice_split_first, slice_split_none, length-slice_split}
 use Rattle.std.proofs.lemmas.List.Elements.{All-from_get_or}
@@ -27,7 +28,8 @@ without_return-keeps line (b ∷ c ∷ front) last is other =
     rw is (ap (λ (x : List ℕ). b ∷ x) (without_return-keeps (c ∷ front ++ last ∷ []) (c ∷ front) last refl other))
 
 -- a line with others after it
-whole_lines-cons : (line : List ℕ) (lines : List (List ℕ)) → 0 < length lines → whole_lines (line ∷ lines) ≡ without_return line ∷ whole_lines lines
+whole_lines-cons : (line : List ℕ) (lines : List (List ℕ)) → 0 < length lines
+    → whole_lines (line ∷ lines) ≡ without_return line ∷ whole_lines lines
 whole_lines-cons [] [] some = absurd (omega arith)
 whole_lines-cons [] (next ∷ lines) some = refl
 whole_lines-cons (b ∷ line) [] some = absurd (omega arith)
@@ -43,11 +45,13 @@ abbrev is_feed : ℕ → Bool
 is_feed b = b == 10
 
 -- the first line goes to the first line feed
-pub lines_of-feed : (text : List ℕ) (i : ℕ) → position (λ b. b == 10) text ≡ Some i → lines_of text ≡ without_return (take i text) ∷ lines_of (drop (i + 1) text)
+pub lines_of-feed : (text : List ℕ) (i : ℕ) → position (λ b. b == 10) text ≡ Some i
+    → lines_of text ≡ without_return (take i text) ∷ lines_of (drop (i + 1) text)
 lines_of-feed text i is =
     let within : position_or_len is_feed text < length text = found_within (position_or_len is_feed text) (length text) i is in
     let at : position_or_len is_feed text ≡ i = found_at (position_or_len is_feed text) (length text) i is in
-    let some : 0 < length (slice_split is_feed (drop (position_or_len is_feed text + 1) text)) = omega (arith, length-slice_split is_feed (drop (position_or_len is_feed text + 1) text)) in
+    let some : 0 < length (slice_split is_feed (drop (position_or_len is_feed text + 1) text)) =
+    omega (arith, length-slice_split is_feed (drop (position_or_len is_feed text + 1) text)) in
     ap whole_lines (slice_split_first is_feed text 0 within)
     ∙ whole_lines-cons (take (position_or_len is_feed text) text) (slice_split is_feed (drop (position_or_len is_feed text + 1) text)) some
     ∙ ap (λ (k : ℕ). without_return (take k text) ∷ lines_of (drop (k + 1) text)) at

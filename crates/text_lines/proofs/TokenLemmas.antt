@@ -1,5 +1,6 @@
 -- The tokens of a line, from its first one.
-use Rattle.std.proofs.Common.{◌≡◌, ℕ, suc, ◌+◌, ◌<◌, ◌≤◌, nat_lt, Bool, true, false, not, cond, List, [], ◌∷◌, length, take, drop, Some, None, refl, sym, ap, ◌∙◌, arith, length-take, length-drop}
+use Rattle.std.proofs.Common.{◌≡◌, ℕ, suc, ◌+◌, ◌<◌, ◌≤◌, nat_lt, Bool, true, false, not, cond, List, [], ◌∷◌, length, take, drop, Some}
+use Rattle.std.proofs.Common.{None, refl, sym, ap, ◌∙◌, arith, length-take, length-drop}
 use Rattle.std.specs.List.{All, position, position_or_len, slice_split, filter}
 use Rattle.std.proofs.lemmas.List.{drop_all}
 use Rattle.std.proofs.lemmas.List.Splits.{slice_split_first, slice_split_none, slice_split-cons_yes}
@@ -22,7 +23,8 @@ blank_head : (b : ℕ) (line : List ℕ) → is_blank b ≡ true → tokens_of (
 blank_head b line blank = ap (filter is_token) (slice_split-cons_yes is_blank b line blank)
 
 -- one byte at the front
-skip_head : (x : Bool) (b : ℕ) (line : List ℕ) → is_blank b ≡ x → tokens_of (drop (solid_in line) line) ≡ tokens_of line → tokens_of (drop (cond (not (not x)) (1 + solid_in line) 0) (b ∷ line)) ≡ tokens_of (b ∷ line)
+skip_head : (x : Bool) (b : ℕ) (line : List ℕ) → is_blank b ≡ x → tokens_of (drop (solid_in line) line) ≡ tokens_of line
+    → tokens_of (drop (cond (not (not x)) (1 + solid_in line) 0) (b ∷ line)) ≡ tokens_of (b ∷ line)
 skip_head false b line is rest = refl
 skip_head true b line is rest =
     let next : 1 + solid_in line ≡ suc (solid_in line) = omega arith in
@@ -33,7 +35,8 @@ tokens_of-skip : (line : List ℕ) → tokens_of (drop (solid_in line) line) ≡
 tokens_of-skip [] = refl
 tokens_of-skip (b ∷ line) = skip_head (is_blank b) b line refl (tokens_of-skip line)
 
-solid_head : (x : Bool) (b : ℕ) (line : List ℕ) → is_blank b ≡ x → solid_in (drop (solid_in line) line) ≡ 0 → solid_in (drop (cond (not (not x)) (1 + solid_in line) 0) (b ∷ line)) ≡ 0
+solid_head : (x : Bool) (b : ℕ) (line : List ℕ) → is_blank b ≡ x → solid_in (drop (solid_in line) line) ≡ 0
+    → solid_in (drop (cond (not (not x)) (1 + solid_in line) 0) (b ∷ line)) ≡ 0
 solid_head false b line is rest = rw is refl
 solid_head true b line is rest =
     let next : 1 + solid_in line ≡ suc (solid_in line) = omega arith in
@@ -53,11 +56,13 @@ place_is : (n m : ℕ) → n ≡ 0 → 0 < m → cond (nat_lt n m) (Some n) None
 place_is n m none some = rw (none, lt-ltb 0 m some) refl
 
 -- and a token begins there
-pub starts_at : (line : List ℕ) (i : ℕ) → position (λ b. not (is_blank b)) line ≡ Some i → position (λ b. not (is_blank b)) (drop i line) ≡ Some 0
+pub starts_at : (line : List ℕ) (i : ℕ) → position (λ b. not (is_blank b)) line ≡ Some i
+    → position (λ b. not (is_blank b)) (drop i line) ≡ Some 0
 starts_at line i is =
     let at : solid_in line ≡ i = found_at (solid_in line) (length line) i is in
     let within : solid_in line < length line = found_within (solid_in line) (length line) i is in
-    place_is (solid_in (drop i line)) (length (drop i line)) (ap (λ (k : ℕ). solid_in (drop k line)) (sym at) ∙ solid_first line) (omega (arith, length-drop i line))
+    place_is (solid_in (drop i line)) (length (drop i line)) (ap (λ (k : ℕ). solid_in (drop k line)) (sym at) ∙ solid_first line)
+    (omega (arith, length-drop i line))
 
 -- a line of blanks has no token
 pub tokens_of-blanks : (line : List ℕ) → position (λ b. not (is_blank b)) line ≡ None → tokens_of line ≡ []
@@ -76,17 +81,20 @@ blank_behind (b ∷ line) is some =
     head_first (is_blank b) (solid_in line) (position_or_len is_blank line) (found_at (solid_in (b ∷ line)) (length (b ∷ line)) 0 is)
 
 -- a token before others
-token_before_others : (token : List ℕ) (tokens : List (List ℕ)) → 0 < length token → filter is_token (token ∷ tokens) ≡ token ∷ filter is_token tokens
+token_before_others : (token : List ℕ) (tokens : List (List ℕ)) → 0 < length token
+    → filter is_token (token ∷ tokens) ≡ token ∷ filter is_token tokens
 token_before_others token tokens some = rw (lt-ltb 0 (length token) some) refl
 
 -- the first token goes to the first blank
-pub tokens_of-cut : (line : List ℕ) (i : ℕ) → position (λ b. not (is_blank b)) line ≡ Some 0 → position (λ b. is_blank b) line ≡ Some i → tokens_of line ≡ take i line ∷ tokens_of (drop (i + 1) line)
+pub tokens_of-cut : (line : List ℕ) (i : ℕ) → position (λ b. not (is_blank b)) line ≡ Some 0 → position (λ b. is_blank b) line ≡ Some i
+    → tokens_of line ≡ take i line ∷ tokens_of (drop (i + 1) line)
 tokens_of-cut line i starts is =
     let within : position_or_len is_blank line < length line = found_within (position_or_len is_blank line) (length line) i is in
     let at : position_or_len is_blank line ≡ i = found_at (position_or_len is_blank line) (length line) i is in
     let behind : 0 < position_or_len is_blank line = blank_behind line starts (omega arith) in
     ap (filter is_token) (slice_split_first is_blank line 0 within)
-    ∙ token_before_others (take (position_or_len is_blank line) line) (slice_split is_blank (drop (position_or_len is_blank line + 1) line)) (omega (arith, length-take (position_or_len is_blank line) line))
+    ∙ token_before_others (take (position_or_len is_blank line) line) (slice_split is_blank (drop (position_or_len is_blank line + 1) line))
+    (omega (arith, length-take (position_or_len is_blank line) line))
     ∙ ap (λ (k : ℕ). take k line ∷ tokens_of (drop (k + 1) line)) at
 
 -- a line that begins with a token and has no blank is this token

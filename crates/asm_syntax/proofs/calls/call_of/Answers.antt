@@ -11,13 +11,15 @@ pub loop-number-preserved : goal.loop-number-preserved
 loop-number-preserved c =
     c.loop-number.invariant
     ∙ call_from-next c.loop-number.number c.args.name.now c.loop-number.auto.number c.loop-number-test.true
-    (ap (λ (n : List ℕ). bytes_eq n c.args.name.now) (sym c.call_name.ensures.name) ∙ rw c.as_bytes.ensures.value at (sym c.eq.ensures ∙ c.if-eq.false))
+    (ap (λ (n : List ℕ). bytes_eq n c.args.name.now) (sym c.call_name.ensures.name)
+    ∙ rw c.as_bytes.ensures.value at (sym c.eq.ensures ∙ c.if-eq.false))
 
 pub returns-then-eq : goal.returns-then-eq
 returns-then-eq c = record {
   call = sym (c.loop-number.invariant
       ∙ call_from-here c.loop-number.number c.args.name.now c.loop-number.auto.number c.loop-number-test.true
-      (ap (λ (n : List ℕ). bytes_eq n c.args.name.now) (sym c.call_name.ensures.name) ∙ rw c.as_bytes.ensures.value at (sym c.eq.ensures ∙ c.if-eq.true)));
+      (ap (λ (n : List ℕ). bytes_eq n c.args.name.now) (sym c.call_name.ensures.name)
+      ∙ rw c.as_bytes.ensures.value at (sym c.eq.ensures ∙ c.if-eq.true)));
   small = omega arith;
 }
 

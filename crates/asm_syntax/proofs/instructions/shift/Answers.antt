@@ -9,6 +9,8 @@ use Rattle.asm_syntax.proofs.instructions.shift.Goals as goal
 
 pub returns-in_default-clause-statement : goal.returns-in_default-clause-statement
 returns-in_default-clause-statement c = elim c.in_default.branch [
-  | in_default-via-then-operands-lt3 w ↦ made-fewer (Instruction c.args.bits FormShift) RegisterSlot RegisterSlot NumberSlot c.args.operands.now (grind (arith, nat_tests))
-  | in_default-via-else-operands-lt3+else-operands-lt4 w ↦ made-more (Instruction c.args.bits FormShift) RegisterSlot RegisterSlot NumberSlot c.args.operands.now (grind (arith, nat_tests))
+  | in_default-via-then-operands-lt3 w ↦ made-fewer (Instruction c.args.bits FormShift) RegisterSlot RegisterSlot NumberSlot
+      c.args.operands.now (grind (arith, nat_tests))
+  | in_default-via-else-operands-lt3+else-operands-lt4 w ↦ made-more (Instruction c.args.bits FormShift) RegisterSlot RegisterSlot
+      NumberSlot c.args.operands.now (grind (arith, nat_tests))
 ]

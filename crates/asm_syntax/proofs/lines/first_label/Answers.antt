@@ -12,7 +12,8 @@ returns-in_err-token-clause-label c =
 pub returns-in_err-name-clause-label : goal.returns-in_err-name-clause-label
 returns-in_err-name-clause-label c =
     rw c.from_residual-in_err-name.ensures
-    (line_in-unnamed (tokens_of c.args.line.now) (tokens_of c.in_ok-token.rest.now) (seen c.in_ok-token.token) c.in_ok-token.ensures.tokens c.in_err-name.ensures.name)
+    (line_in-unnamed (tokens_of c.args.line.now) (tokens_of c.in_ok-token.rest.now) (seen c.in_ok-token.token) c.in_ok-token.ensures.tokens
+    c.in_err-name.ensures.name)
 
 pub returns-in_err-after-clause-label : goal.returns-in_err-after-clause-label
 returns-in_err-after-clause-label c =

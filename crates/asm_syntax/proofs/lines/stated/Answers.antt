@@ -12,4 +12,5 @@ pub returns-in-Some-meaning_of-clause-statement : goal.returns-in-Some-meaning_o
 returns-in-Some-meaning_of-clause-statement c =
     let made = rw c.as_slice.ensures.value at c.made.ensures.statement in
     made
-    ∙ stated-four (meaning_of c.args.name.now) (seen_meaning c.in-Some-meaning_of.meaning) (operands_of (solid (tokens_of c.args.line.now))) (map seen_operand c.in-Some.operands.items) c.in-Some-meaning_of.ensures.meaning c.in-Some.ensures.operands
+    ∙ stated-four (meaning_of c.args.name.now) (seen_meaning c.in-Some-meaning_of.meaning) (operands_of (solid (tokens_of c.args.line.now)))
+    (map seen_operand c.in-Some.operands.items) c.in-Some-meaning_of.ensures.meaning c.in-Some.ensures.operands

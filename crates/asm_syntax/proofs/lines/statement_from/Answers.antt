@@ -6,4 +6,5 @@ use Rattle.asm_syntax.proofs.lines.statement_from.Goals as goal
 
 pub returns-else-can_name-clause-statement : goal.returns-else-can_name-clause-statement
 returns-else-can_name-clause-statement c =
-    rw c.in-Word.is (statement_of-unnamed c.in-Word.name.now (tokens_of c.args.rest.now) (sym c.can_name.ensures.name ∙ c.if-can_name.false))
+    rw c.in-Word.is
+    (statement_of-unnamed c.in-Word.name.now (tokens_of c.args.rest.now) (sym c.can_name.ensures.name ∙ c.if-can_name.false))

@@ -8,7 +8,8 @@ use Rattle.asm_syntax.proofs.operands.separated.Given as goal
 
 abbrev pub invariant-loop-operand : goal.invariant-loop-operand
 invariant-loop-operand l =
-    first_four (spec.separated (solid (tokens_of l.line))) ≡ first_four (appended (map seen_operand l.operands.items) (spec.separated (solid (tokens_of l.rest))))
+    first_four (spec.separated (solid (tokens_of l.line)))
+    ≡ first_four (appended (map seen_operand l.operands.items) (spec.separated (solid (tokens_of l.rest))))
 
 abbrev pub decreases-loop-operand : goal.decreases-loop-operand
 decreases-loop-operand l = length l.rest

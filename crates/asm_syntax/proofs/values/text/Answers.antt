@@ -1,6 +1,6 @@
 -- A text has a value if it stands for bytes.
 use Rattle.std.proofs.Common.{sym, ◌∙◌}
-use Rattle.asm_syntax.specs.Values.{text_bytes}
+use Rattle.asm_syntax.specs.Texts.{text_bytes}
 use Rattle.asm_syntax.proofs.TextLemmas.{text_fit-some, text_fit-none}
 use Rattle.asm_syntax.proofs.values.text.Goals as goal
 

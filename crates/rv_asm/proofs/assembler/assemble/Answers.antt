@@ -15,8 +15,10 @@ pub returns-in-Ok-run_over-clause-assembled : goal.returns-in-Ok-run_over-clause
 returns-in-Ok-run_over-clause-assembled c =
     let end = seen_layout c.in-Ok.layout in
     let bytes = c.in-Ok-run_over.pass.content.items in
-    answers-along items c.finish.result (assembly c.args.text.now) (ended None c.in-Ok-run_over.pass.astray (is_void end (length bytes)) (image_file (header end (length bytes)) bytes))
-    (assembly-sound c.args.text.now end c.in-Ok-run_over.pass.astray bytes c.in-Ok.ensures.layout c.in-Ok-run_over.ensures.sound c.in-Ok-run_over.ensures.astray c.in-Ok-run_over.ensures.content)
+    answers-along items c.finish.result (assembly c.args.text.now)
+    (ended None c.in-Ok-run_over.pass.astray (is_void end (length bytes)) (image_file (header end (length bytes)) bytes))
+    (assembly-sound c.args.text.now end c.in-Ok-run_over.pass.astray bytes c.in-Ok.ensures.layout c.in-Ok-run_over.ensures.sound
+    c.in-Ok-run_over.ensures.astray c.in-Ok-run_over.ensures.content)
     c.finish.ensures.ended
 
 pub returns-in-Ok-run_over-clause-loads : goal.returns-in-Ok-run_over-clause-loads
@@ -25,4 +27,5 @@ returns-in-Ok-run_over-clause-loads c =
 
 pub returns-clause-assembled : goal.returns-clause-assembled
 returns-clause-assembled c =
-    assembly-fails c.in-Err-run_over.fault c.args.text.now (seen_layout c.in-Ok.layout) c.in-Ok.ensures.layout c.in-Err-run_over.ensures.fault
+    assembly-fails c.in-Err-run_over.fault c.args.text.now (seen_layout c.in-Ok.layout) c.in-Ok.ensures.layout
+    c.in-Err-run_over.ensures.fault

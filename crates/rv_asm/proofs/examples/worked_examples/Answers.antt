@@ -10,4 +10,5 @@ use Rattle.rv_asm.proofs.examples.worked_examples.Goals as goal
 
 pub returns : goal.returns
 unfolding assembly meaning_of row_named call_of
-returns c = All-from_recursion IsAssembled examples (refl, (refl, (refl, (refl, (refl, (refl, (refl, (refl, (refl, (refl, (refl, tt)))))))))))
+returns c =
+    All-from_recursion IsAssembled examples (refl, (refl, (refl, (refl, (refl, (refl, (refl, (refl, (refl, (refl, (refl, tt)))))))))))

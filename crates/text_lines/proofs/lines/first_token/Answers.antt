@@ -10,7 +10,8 @@ returns-in_err-start-clause-tokens c =
 
 pub cut_token-requires : goal.cut_token-requires
 cut_token-requires c = record {
-  starts = rw (take_rest c.args.line.now c.in_ok-start.start) (starts_at c.args.line.now c.in_ok-start.start (sym c.in_ok-start.ensures.start));
+  starts =
+      rw (take_rest c.args.line.now c.in_ok-start.start) (starts_at c.args.line.now c.in_ok-start.start (sym c.in_ok-start.ensures.start));
 }
 
 pub returns-clause-tokens : goal.returns-clause-tokens

@@ -13,23 +13,28 @@ returns-in_default-clause-found c =
     let last = c.self.inside.cells in
     let P : List FreeBlock → Type 0 = λ l. AreShort k l in
     let none : AreShort k c.self.inside.blocks.items = subst P c.deref.ensures.value c.in_default.ensures.none in
-    ap (highest_free k) (sym c.self.view_is) ∙ highest_nowhere k 0 0 c.self.inside.blocks.items (last + 1) last c.requires.some c.self.invariant.blocks none
+    ap (highest_free k) (sym c.self.view_is)
+    ∙ highest_nowhere k 0 0 c.self.inside.blocks.items (last + 1) last c.requires.some c.self.invariant.blocks none
 
 -- the block that was found is among the cells
 pub overflow_add-first : goal.overflow_add-first
 overflow_add-first c =
     let P : List FreeBlock → Type 0 = λ l. IsHighest c.args.count l c.in-Some.at in
     let f = subst P c.deref.ensures.value c.in-Some.ensures.found in
-    let end = read_end c.args.count c.self.inside.cells c.self.inside.blocks.items c.in-Some.at c.index-block.result.now f.place f.long c.index-block.ensures c.self.invariant.blocks in
+    let end =
+    read_end c.args.count c.self.inside.cells c.self.inside.blocks.items c.in-Some.at c.index-block.result.now f.place f.long
+    c.index-block.ensures c.self.invariant.blocks in
     let few = c.self.invariant.few in
     omega arith
 
 -- what was taken
-taken : (c : goal.After-cut) → IsHighTaken c.args.count c.self.inside.cells c.self.inside.blocks.items c.index-block.result.now c.cut.new.blocks.items
+taken : (c : goal.After-cut)
+    → IsHighTaken c.args.count c.self.inside.cells c.self.inside.blocks.items c.index-block.result.now c.cut.new.blocks.items
 taken c =
     let P : List FreeBlock → Type 0 = λ l. IsHighest c.args.count l c.in-Some.at in
     let f = subst P c.deref.ensures.value c.in-Some.ensures.found in
-    high_taken c.args.count c.self.inside.cells c.self.inside.blocks.items c.in-Some.at c.index-block.result.now c.cut.new.blocks.items c.requires.some f c.index-block.ensures c.self.invariant.blocks c.cut.ensures.list
+    high_taken c.args.count c.self.inside.cells c.self.inside.blocks.items c.in-Some.at c.index-block.result.now c.cut.new.blocks.items
+    c.requires.some f c.index-block.ensures c.self.invariant.blocks c.cut.ensures.list
 
 pub invariant_of-self : goal.invariant_of-self
 invariant_of-self c =
@@ -41,7 +46,9 @@ pub returns-clause-found : goal.returns-clause-found
 returns-clause-found c = ap (highest_free c.args.count) (sym c.self.view_is) ∙ (taken c).found
 
 pub returns-clause-taken : goal.returns-clause-taken
-returns-clause-taken c = (taken c).cut.cells ∙ ap (marked false (c.index-block.result.now.first + (c.index-block.result.now.count - c.args.count)) c.args.count) c.self.view_is
+returns-clause-taken c =
+    (taken c).cut.cells
+    ∙ ap (marked false (c.index-block.result.now.first + (c.index-block.result.now.count - c.args.count)) c.args.count) c.self.view_is
 
 pub returns-clause-within : goal.returns-clause-within
 returns-clause-within c =

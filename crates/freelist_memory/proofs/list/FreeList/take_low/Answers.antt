@@ -13,23 +13,28 @@ returns-in_default-clause-found c =
     let last = c.self.inside.cells in
     let P : List FreeBlock → Type 0 = λ l. AreShort k l in
     let none : AreShort k c.self.inside.blocks.items = subst P c.deref.ensures.value c.in_default.ensures.none in
-    ap (lowest_free k) (sym c.self.view_is) ∙ lowest_nowhere k 0 0 c.self.inside.blocks.items (last + 1) last c.requires.some c.self.invariant.blocks none
+    ap (lowest_free k) (sym c.self.view_is)
+    ∙ lowest_nowhere k 0 0 c.self.inside.blocks.items (last + 1) last c.requires.some c.self.invariant.blocks none
 
 -- the block that was found is among the cells
 pub overflow_add-rest : goal.overflow_add-rest
 overflow_add-rest c =
     let P : List FreeBlock → Type 0 = λ l. IsLowest c.args.count l c.in-Some.at in
     let f = subst P c.deref.ensures.value c.in-Some.ensures.found in
-    let end = read_end c.args.count c.self.inside.cells c.self.inside.blocks.items c.in-Some.at c.index-block.result.now f.place f.long c.index-block.ensures c.self.invariant.blocks in
+    let end =
+    read_end c.args.count c.self.inside.cells c.self.inside.blocks.items c.in-Some.at c.index-block.result.now f.place f.long
+    c.index-block.ensures c.self.invariant.blocks in
     let few = c.self.invariant.few in
     omega arith
 
 -- what was taken
-taken : (c : goal.After-cut) → IsLowTaken c.args.count c.self.inside.cells c.self.inside.blocks.items c.index-block.result.now c.cut.new.blocks.items
+taken : (c : goal.After-cut)
+    → IsLowTaken c.args.count c.self.inside.cells c.self.inside.blocks.items c.index-block.result.now c.cut.new.blocks.items
 taken c =
     let P : List FreeBlock → Type 0 = λ l. IsLowest c.args.count l c.in-Some.at in
     let f = subst P c.deref.ensures.value c.in-Some.ensures.found in
-    low_taken c.args.count c.self.inside.cells c.self.inside.blocks.items c.in-Some.at c.index-block.result.now c.cut.new.blocks.items c.requires.some f c.index-block.ensures c.self.invariant.blocks c.cut.ensures.list
+    low_taken c.args.count c.self.inside.cells c.self.inside.blocks.items c.in-Some.at c.index-block.result.now c.cut.new.blocks.items
+    c.requires.some f c.index-block.ensures c.self.invariant.blocks c.cut.ensures.list
 
 pub invariant_of-self : goal.invariant_of-self
 invariant_of-self c =

@@ -10,7 +10,8 @@ use Rattle.rv_asm.proofs.layouts.Layout.take_labels.Given as goal
 abbrev pub invariant-loop-name : goal.invariant-loop-name
 invariant-loop-name l = record {
   layout : after_labels (line_of l.line).labels (seen_layout l.initial.self) ≡ after_labels (line_of l.rest).labels (seen_layout l.self);
-  double : is_double (line_of l.line).labels l.initial.self.at (found l.initial.self.labels) ≡ (l.double || is_double (line_of l.rest).labels l.self.at (found l.self.labels));
+  double : is_double (line_of l.line).labels l.initial.self.at (found l.initial.self.labels)
+      ≡ (l.double || is_double (line_of l.rest).labels l.self.at (found l.self.labels));
   statement : (line_of l.line).statement ≡ (line_of l.rest).statement;
 }
 

@@ -17,7 +17,8 @@ returns-then-self-length c =
     record {
       next = sym c.self.view_is
           ∙ to_come-event inside.repeats.items inside.at inside.taken repeat event here within c.event_at-event.ensures.event
-          ∙ ap (◌∷◌ event) (to_come-repeat inside.repeats.items inside.at (inside.taken + 1) repeat here (omega (arith, c.length.ensures.length)));
+          ∙ ap (◌∷◌ event)
+          (to_come-repeat inside.repeats.items inside.at (inside.taken + 1) repeat here (omega (arith, c.length.ensures.length)));
     }
 
 pub returns-else-self-length : goal.returns-else-self-length
@@ -29,5 +30,6 @@ returns-else-self-length c =
     let within : inside.taken < length (repeat_events repeat) = rw here at c.self.invariant.left in
     record {
       next = sym c.self.view_is
-          ∙ to_come-event inside.repeats.items inside.at inside.taken repeat c.event_at-event.result here within c.event_at-event.ensures.event;
+          ∙ to_come-event inside.repeats.items inside.at inside.taken repeat c.event_at-event.result here
+          within c.event_at-event.ensures.event;
     }
