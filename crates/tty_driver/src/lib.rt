@@ -11,3 +11,6 @@ mod tty;
 
 pub use tty::{Tty, TtySizes};
 pub use xinu_base::{Item, TtyMode};
+
+#[cfg(test)]
+mod tests;
