@@ -4,7 +4,7 @@ ghost use Rattle.std.specs.Prelude.{◌≡◌, ◌+◌, ◌<◌, ◌==◌, ◌&&
 ghost use Rattle.xinu_base.specs.declared.console.TtyMode.TheVariants.{Raw, Cbreak, Cooked};
 ghost use Rattle.xinu_model.specs.Console.Echo.{echo_of, echoed};
 ghost use Rattle.xinu_model.specs.Console.Receiving.{newline_for_return, received};
-ghost use Rattle.xinu_model.specs.Console.Rows.{raw_rows, cbreak_rows, cooked_rows, by_rows, commits_item, commits_line, emptied, erased, typed};
+ghost use Rattle.xinu_model.specs.Console.Rows.{raw_rows, cbreak_rows, cooked_rows, by_rows, emptied, erased, typed};
 ghost use Rattle.xinu_model.specs.Console.State.{input_size};
 
 use crate::constants::{
