@@ -44,7 +44,7 @@ joined_is_split : (c : List Item) (t : List ℕ) → length c + length t ≤ TY_
 unfolding joined
 joined_is_split c t h = let e = joined_size c t in record {
   whole = sym (ap (λ x. x ++ map Char (line_in (length t) (c ++ map Char t))) (committed_split c t)
-    ∙ ap (λ x. c ++ map Char x) (line_split c t));
+      ∙ ap (λ x. c ++ map Char x) (line_split c t));
   within = omega arith;
   short = omega arith;
 }
@@ -96,10 +96,10 @@ joined_erased c b t h =
     let last = last_or 0 (b ∷ t) in
     let n : length rest ≡ length t = length_without_last b t in
     let f : c ++ map Char (b ∷ t) ≡ (c ++ map Char rest) ++ Char last ∷ [] =
-      ap (λ l. c ++ map Char l) (by_last b t)
-      ∙ (ap (λ l. c ++ l) (map-append Char rest (last ∷ [])) ∙ sym (append_assoc c (map Char rest) (Char last ∷ []))) in
+    ap (λ l. c ++ map Char l) (by_last b t)
+    ∙ (ap (λ l. c ++ l) (map-append Char rest (last ∷ [])) ∙ sym (append_assoc c (map Char rest) (Char last ∷ []))) in
     let g : take (length (c ++ map Char (b ∷ t)) - 1) (c ++ map Char (b ∷ t)) ≡ joined c rest =
-      ap (λ (l : List Item). take (length l - 1) l) f ∙ left_of_more (c ++ map Char rest) (Char last) in
+    ap (λ (l : List Item). take (length l - 1) l) f ∙ left_of_more (c ++ map Char rest) (Char last) in
     record {
       last = ap last_item f ∙ last_of_more (c ++ map Char rest) (Char last);
       split = subst (IsSplit (length t)) (sym g) (subst (λ m. IsSplit m (joined c rest)) n (joined_is_split c rest (omega arith)));

@@ -39,7 +39,7 @@ impl Input {
     /// How many items can be taken.
     pub fn committed(&self) -> usize
         ensures count { result ≡ length self.now.committed }
-        ensures range { result + length self.now.line ≤ 128 }
+        ensures range { result + length self.now.line ≤ TY_IBUFLEN }
     {
         self.ring.len() - self.typed
     }
@@ -47,7 +47,7 @@ impl Input {
     /// How many bytes the line has.
     pub fn line(&self) -> usize
         ensures count { result ≡ length self.now.line }
-        ensures range { result ≤ 128 }
+        ensures range { result ≤ TY_IBUFLEN }
     {
         self.typed
     }
@@ -55,14 +55,14 @@ impl Input {
     /// How many items and bytes of the line there are.
     pub fn size(&self) -> usize
         ensures count { result ≡ length self.now.committed + length self.now.line }
-        ensures range { result ≤ 128 }
+        ensures range { result ≤ TY_IBUFLEN }
     {
         self.ring.len()
     }
 
     /// An item is committed. There is no line.
     pub fn commit(&mut self, item: Item)
-        requires room { length self.old.committed < 128 }
+        requires room { length self.old.committed < TY_IBUFLEN }
         requires no_line { self.old.line ≡ [] }
         ensures committed { self.new ≡ record self.old { committed = self.old.committed ++ item ∷ [] } }
     {
@@ -71,7 +71,7 @@ impl Input {
 
     /// A byte joins the line.
     pub fn join(&mut self, b: u8)
-        requires room { length self.old.committed + length self.old.line < 128 }
+        requires room { length self.old.committed + length self.old.line < TY_IBUFLEN }
         ensures joined { self.new ≡ record self.old { line = self.old.line ++ b ∷ [] } }
     {
         self.ring.push_back(Item::Char(b));

@@ -1,11 +1,11 @@
 //! A received character, mode by mode (book, chapter 15, `ttyhandle_in.c`).
 
-ghost use Rattle.std.specs.Prelude.{◌≡◌, ◌+◌, ◌<◌, ◌==◌, ◌&&◌, not, length};
+ghost use Rattle.std.specs.Prelude.{◌≡◌, ◌==◌, ◌&&◌, not, [], if◌then◌else◌};
+ghost use Rattle.xinu_base.specs.declared.console.Item.TheVariants.{End};
 ghost use Rattle.xinu_base.specs.declared.console.TtyMode.TheVariants.{Raw, Cbreak, Cooked};
-ghost use Rattle.xinu_model.specs.Console.Echo.{echo_of, echoed};
+ghost use Rattle.xinu_model.specs.Console.Echo.{rung};
 ghost use Rattle.xinu_model.specs.Console.Receiving.{newline_for_return, received};
-ghost use Rattle.xinu_model.specs.Console.Rows.{raw_rows, cbreak_rows, cooked_rows, by_rows, emptied, erased, typed};
-ghost use Rattle.xinu_model.specs.Console.State.{input_size};
+ghost use Rattle.xinu_model.specs.Console.Rows.{raw_rows, cbreak_rows, cooked_rows, by_rows, commits_none, commits_item, emptied, erased, is_empty, is_full, is_line_full, joined, line_ended};
 
 use crate::constants::{
     TY_BACKSP, TY_EOFCH, TY_IBUFLEN, TY_KILLCH, TY_NEWLINE, TY_RETURN, TY_STOPCH, TY_STRTCH,
@@ -74,53 +74,39 @@ impl Tty {
         ensures console { self.new ≡ (by_rows cooked_rows b self.old).console }
         ensures count { result ≡ (by_rows cooked_rows b self.old).count }
     {
-        let size = self.input.size();
-        let line = self.input.line();
         match b {
             TY_BACKSP => {
-                if line > 0 {
-                    self.erase();
-                }
+                self.erase();
                 0
             }
             TY_KILLCH => {
                 self.kill();
                 0
             }
-            TY_NEWLINE => {
-                if size >= TY_IBUFLEN {
-                    self.ring_bell();
-                    return 0;
-                }
-                self.join(b);
-                self.input.commit_line()
-            }
-            TY_EOFCH if line == 0 => {
-                if size >= TY_IBUFLEN {
-                    self.ring_bell();
-                    return 0;
-                }
-                self.input.commit(Item::End);
-                1
-            }
+            TY_NEWLINE => self.end_line(),
+            TY_EOFCH if self.has_no_line() => self.end_input(),
             _ => {
-                if size + 1 >= TY_IBUFLEN {
-                    self.ring_bell();
-                } else {
-                    self.join(b);
-                }
+                self.join(b);
                 0
             }
         }
     }
 
-    /// Erases the last byte of the line, here and on the screen.
-    fn erase(&mut self)
-        requires line { 0 < length self.old.line }
-        ensures erased { self.new ≡ erased self.old }
+    /// Whether nothing is typed.
+    fn has_no_line(&self) -> bool
+        ensures empty { result ≡ is_empty self.now }
     {
-        let b = self.input.erase();
-        self.echo_erased(b);
+        self.input.line() == 0
+    }
+
+    /// Erases the last byte of the line, here and on the screen, if there is one.
+    fn erase(&mut self)
+        ensures erased { self.new ≡ (if is_empty self.old then self.old else erased self.old) }
+    {
+        if self.input.line() > 0 {
+            let b = self.input.erase();
+            self.echo_erased(b);
+        }
     }
 
     /// Empties the line.
@@ -131,20 +117,52 @@ impl Tty {
         self.echo_newline();
     }
 
-    /// Joins a byte to the line, and echoes it.
-    fn join(&mut self, b: u8)
-        requires room { input_size self.old < 128 }
+    /// Commits the line with a newline, or rings the bell if there is no room for it. Answers how many items were committed.
+    fn end_line(&mut self) -> u32
         requires mode { self.old.mode ≡ Cooked }
-        ensures joined { self.new ≡ echoed (echo_of b) (typed b self.old) }
+        ensures console { self.new ≡ (if is_full self.old then commits_none (rung self.old) else line_ended self.old).console }
+        ensures count { result ≡ (if is_full self.old then commits_none (rung self.old) else line_ended self.old).count }
     {
-        self.input.join(b);
-        self.echo_byte(b);
+        if self.input.size() >= TY_IBUFLEN {
+            self.ring_bell();
+            return 0;
+        }
+        self.input.join(TY_NEWLINE);
+        self.echo_newline();
+        self.input.commit_line()
+    }
+
+    /// Commits the end mark, or rings the bell if there is no room for it. Answers how many items were committed.
+    fn end_input(&mut self) -> u32
+        requires empty { self.old.line ≡ [] }
+        ensures console { self.new ≡ (if is_full self.old then commits_none (rung self.old) else commits_item End self.old).console }
+        ensures count { result ≡ (if is_full self.old then commits_none (rung self.old) else commits_item End self.old).count }
+    {
+        if self.input.size() >= TY_IBUFLEN {
+            self.ring_bell();
+            return 0;
+        }
+        self.input.commit(Item::End);
+        1
+    }
+
+    /// Joins a byte to the line and echoes it, or rings the bell if there is no room for it and a newline.
+    fn join(&mut self, b: u8)
+        requires mode { self.old.mode ≡ Cooked }
+        ensures joined { self.new ≡ (if is_line_full self.old then rung self.old else joined b self.old) }
+    {
+        if self.input.size() + 1 >= TY_IBUFLEN {
+            self.ring_bell();
+        } else {
+            self.input.join(b);
+            self.echo_byte(b);
+        }
     }
 
     /// Stops output or lets it go on, as the character says. Answers whether the character is input.
     fn flow(&mut self, b: u8) -> bool
-        ensures flows { self.new ≡ record self.old { is_held = b == 19 } }
-        ensures input { result ≡ (not (b == 19) && not (b == 17)) }
+        ensures flows { self.new ≡ record self.old { is_held = b == TY_STOPCH } }
+        ensures input { result ≡ (not (b == TY_STOPCH) && not (b == TY_STRTCH)) }
     {
         self.held = b == TY_STOPCH;
         b != TY_STOPCH && b != TY_STRTCH

@@ -1,6 +1,7 @@
 //! Output: a byte is put, and a byte is sent (book, chapter 15, `ttyputc.c`, `ttyhandle_out.c`).
 
 ghost use Rattle.std.specs.Prelude.{◌≡◌, ◌<◌, length};
+ghost use Rattle.xinu_model.specs.Console.Constants.{TY_OBUFLEN};
 ghost use Rattle.xinu_model.specs.Console.State.{with_output};
 ghost use Rattle.xinu_model.specs.Console.Transmitting.{transmitted, after_transmission};
 ghost use Rattle.tty_driver.specs.Transmitting.{sent_byte};
@@ -10,7 +11,7 @@ use crate::tty::Tty;
 impl Tty {
     /// Puts a byte after the others of the output. There must be room for it.
     pub fn put(&mut self, b: u8)
-        requires room { length self.old.output < 64 }
+        requires room { length self.old.output < TY_OBUFLEN }
         ensures put { self.new ≡ with_output b self.old }
     {
         self.output.push_back(b);

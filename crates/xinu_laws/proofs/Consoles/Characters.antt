@@ -8,7 +8,7 @@ use Rattle.xinu_model.specs.Console.Constants.{TY_IBUFLEN, TY_OBUFLEN, TY_EBUFLE
 use Rattle.xinu_model.specs.Console.Controls.{in_mode, echoing, silent, controlled}
 use Rattle.xinu_model.specs.Console.Echo.{new_line, echo_of, erasing, echoed, rung}
 use Rattle.xinu_model.specs.Console.Receiving.{holding, going_on, flowing, newline_for_return, received_in, received}
-use Rattle.xinu_model.specs.Console.Rows.{Committed, commits_none, commits_item, commits_line, typed, last_or, without_last, is_empty, is_full, is_line_full, ConsoleRow, raw_rows, cbreak_rows, cooked_rows, by_rows}
+use Rattle.xinu_model.specs.Console.Rows.{Committed, commits_none, commits_item, commits_line, typed, joined, line_ended, last_or, without_last, is_empty, is_full, is_line_full, ConsoleRow, raw_rows, cbreak_rows, cooked_rows, by_rows}
 use Rattle.xinu_model.specs.Console.Sound.{IsSoundConsole}
 use Rattle.xinu_model.specs.Console.State.{Console, input_size}
 use Rattle.xinu_laws.proofs.Consoles.Steps.{Goes, with_echo_only, echoed_only, sound_echo, sound_typed, sound_shorter, sound_erased, goes_none, goes_item, goes_line}
@@ -33,12 +33,12 @@ line_goes bytes c d committed output sound =
     goes_none c (echoed bytes d) (e.committed ∙ committed) (e.output ∙ output) (λ s. sound_echo d (echoed bytes d) e (sound s))
 
 -- the newline joins the line, and the whole line is committed
-newline_goes : (b : ℕ) (c : Console) → c.mode ≡ Cooked → input_size c < TY_IBUFLEN → Goes c (commits_line (echoed (echo_of b) (typed b c)))
-newline_goes b c cooked room =
-    let d = echoed (echo_of b) (typed b c) in
-    let e = echoed_only (echo_of b) (typed b c) in
+newline_goes : (c : Console) → c.mode ≡ Cooked → input_size c < TY_IBUFLEN → Goes c (line_ended c)
+newline_goes c cooked room =
+    let d = joined TY_NEWLINE c in
+    let e = echoed_only new_line (typed TY_NEWLINE c) in
     goes_line c d e.committed e.output
-    (λ s. let t = sound_echo (typed b c) d e (sound_typed b c cooked room s) in (t.input, t.output, t.echo))
+    (λ s. let t = sound_echo (typed TY_NEWLINE c) d e (sound_typed TY_NEWLINE c cooked room s) in (t.input, t.output, t.echo))
 
 -- raw mode
 raw_goes : (b : ℕ) (c : Console) → Goes c (by_rows raw_rows b c)
@@ -67,7 +67,7 @@ cooked_goes b c cooked =
     (λ _. line_goes new_line c (record c { line = [] }) refl refl (sound_shorter [] c cooked (let z : 0 ≤ length c.line = omega arith in z)))
     (λ _. cond_both ((b == TY_NEWLINE) && is_full c) _ _ (Goes c) (λ _. bell_goes c)
     (λ f. cond_both (b == TY_NEWLINE) _ _ (Goes c)
-    (λ g. newline_goes b c cooked (room_of c (sym (ap (λ x. x && is_full c) g) ∙ f)))
+    (λ g. newline_goes c cooked (room_of c (sym (ap (λ x. x && is_full c) g) ∙ f)))
     (λ _. cond_both ((b == TY_EOFCH) && (is_empty c && is_full c)) _ _ (Goes c) (λ _. bell_goes c)
     (λ f. cond_both ((b == TY_EOFCH) && is_empty c) _ _ (Goes c)
     (λ g. let parts = and_parts (b == TY_EOFCH) (is_empty c) g in

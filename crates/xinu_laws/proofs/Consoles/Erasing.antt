@@ -7,7 +7,7 @@ use Rattle.xinu_base.specs.declared.console.TtyMode.TheVariants.{Cooked}
 use Rattle.xinu_model.specs.Console.Constants.{TY_IBUFLEN, TY_BACKSP, TY_BLANK, TY_RETURN}
 use Rattle.xinu_model.specs.Console.Echo.{echo_of, erasing, echoed}
 use Rattle.xinu_model.specs.Console.Receiving.{going_on, received_in, received, flowing}
-use Rattle.xinu_model.specs.Console.Rows.{Committed, commits_none, typed, last_or, without_last, erased, is_empty, is_full, is_line_full, cooked_rows}
+use Rattle.xinu_model.specs.Console.Rows.{Committed, commits_none, typed, joined, last_or, without_last, erased, is_empty, is_full, is_line_full, cooked_rows}
 use Rattle.xinu_model.specs.Console.State.{Console, input_size}
 use Rattle.xinu_laws.specs.Consoles.{SameInput}
 use Rattle.xinu_laws.proofs.Consoles.Steps.{echoed_only}
@@ -25,7 +25,7 @@ other b n h k = ne_eqb b n (λ (e : b ≡ n). absurd (omega arith))
 
 -- A printing character is typed, if there is room for it and a newline.
 printing_is_typed : (b : ℕ) (c : Console) → c.mode ≡ Cooked → TY_BLANK ≤ b → suc (input_size c) < TY_IBUFLEN
-    → received b c ≡ commits_none (echoed (echo_of b) (typed b (going_on c)))
+    → received b c ≡ commits_none (joined b (going_on c))
 printing_is_typed b c cooked h room =
     let d = going_on c in
     let not_8 = other b 8 h (omega arith) in
@@ -64,4 +64,4 @@ pub erasing_undoes : (b : ℕ) (c : Console) → c.mode ≡ Cooked → TY_BLANK 
 erasing_undoes b c cooked h room =
     let e = echoed_only (echo_of b) (typed b (going_on c)) in
     subst (λ (m : Committed). SameInput c (received TY_BACKSP m.console).console) (sym (printing_is_typed b c cooked h room))
-    (back_after b c (echoed (echo_of b) (typed b (going_on c))) (e.mode ∙ cooked) e.line e.committed)
+    (back_after b c (joined b (going_on c)) (e.mode ∙ cooked) e.line e.committed)

@@ -25,9 +25,16 @@ abbrev pub commits_line : Console → Committed
 commits_line c =
     record { console = record c { committed = c.committed ++ map Char c.line; line = [] }; count = length c.line }
 
--- a byte joins the line
+-- a byte joins the line, and shows on the screen
 abbrev pub typed : ℕ → Console → Console
 typed b c = record c { line = c.line ++ b ∷ [] }
+
+abbrev pub joined : ℕ → Console → Console
+joined b c = echoed (echo_of b) (typed b c)
+
+-- a newline joins the line, and the whole line is committed
+abbrev pub line_ended : Console → Committed
+line_ended c = commits_line (joined TY_NEWLINE c)
 
 -- the last byte of a line, and the line without it
 abbrev pub last_or : ℕ → List ℕ → ℕ
@@ -87,11 +94,11 @@ cooked_rows =
     row (λ b c. b == TY_BACKSP) (λ b c. commits_none (erased c)) ∷
     row (λ b c. b == TY_KILLCH) (λ b c. commits_none (emptied c)) ∷
     row (λ b c. (b == TY_NEWLINE) && is_full c) (λ b c. commits_none (rung c)) ∷
-    row (λ b c. b == TY_NEWLINE) (λ b c. commits_line (echoed (echo_of b) (typed b c))) ∷
+    row (λ b c. b == TY_NEWLINE) (λ b c. line_ended c) ∷
     row (λ b c. (b == TY_EOFCH) && (is_empty c && is_full c)) (λ b c. commits_none (rung c)) ∷
     row (λ b c. (b == TY_EOFCH) && is_empty c) (λ b c. commits_item End c) ∷
     row (λ b c. is_line_full c) (λ b c. commits_none (rung c)) ∷
-    row (λ b c. true) (λ b c. commits_none (echoed (echo_of b) (typed b c))) ∷
+    row (λ b c. true) (λ b c. commits_none (joined b c)) ∷
     []
 
 -- what the first row that fits does

@@ -15,13 +15,13 @@ returns c =
     record {
       taken = elim c.match-pop_front.branch [
         | in-Some w ↦ (
-          let item = w.in-Some in
-          let is = w.result-is in
-          let first : slice_get i.ring.items 0 ≡ Some c.match-pop_front.result = cc in
-          let e = taken i.typed i.ring.items c.match-pop_front.result some first in
-          let rest = e.committed in
-          let line = e.line in
-          rw c.pop_front.ensures.items (cc))
+            let item = w.in-Some in
+            let is = w.result-is in
+            let first : slice_get i.ring.items 0 ≡ Some c.match-pop_front.result = cc in
+            let e = taken i.typed i.ring.items c.match-pop_front.result some first in
+            let rest = e.committed in
+            let line = e.line in
+            rw c.pop_front.ensures.items (cc))
         | in-None w ↦ absurd (some_item i.typed i.ring.items some (let none = w.in-None in cc))
       ];
     }
