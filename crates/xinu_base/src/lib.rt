@@ -1,5 +1,5 @@
 //! The data that every layer of the kernel speaks of: numbers below a bound, processes and what is left of their calls,
-//! registers, events, calls and the lines of a transcript.
+//! registers, events, calls, the console's modes and items, and the lines of a transcript.
 //!
 //! | What | Promise |
 //! |---|---|
@@ -11,6 +11,7 @@
 //! `specs/Hexadecimal.antt` bytes as digits. The crate depends on nothing.
 #![tactic(auto)]
 
+mod console;
 mod constants;
 mod events;
 mod lines;
@@ -20,6 +21,7 @@ mod registers;
 mod semaphores;
 mod syscalls;
 
+pub use console::{Item, TtyMode};
 pub use constants::{INITRET, MINSTK, QUANTUM, RAM_SIZE, SYSERR};
 pub use events::{End, Event};
 pub use lines::{FileMoment, TranscriptLine};

@@ -1,3 +1,4 @@
+pub mod Consoles
 pub mod Frame
 pub mod HeapCells
 pub mod Lists

@@ -9,3 +9,4 @@ pub mod Ports
 pub mod Priorities
 pub mod Processes
 pub mod Semaphores
+pub mod Typing

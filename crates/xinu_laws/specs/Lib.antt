@@ -1,4 +1,5 @@
 pub mod Apart
+pub mod Consoles
 pub mod Examples
 pub mod Frame
 pub mod FreeCells

@@ -2,6 +2,7 @@ pub mod Agree
 pub mod Boot
 pub mod Calls
 pub mod Clock
+pub mod Console
 pub mod Events
 pub mod Footprints
 pub mod Heap

@@ -1,0 +1,4 @@
+pub mod Input
+pub mod Sizes
+pub mod State
+pub mod Transmitting

@@ -1,0 +1,104 @@
+//! The console as one value, and what can be read of it.
+
+ghost use Rattle.std.specs.Prelude.{◌≡◌, ◌<◌, length, IfOk};
+ghost use Rattle.xinu_model.specs.Console.Sound.{IsSoundConsole};
+ghost use Rattle.xinu_model.specs.Console.State.{first_console, with_next_item};
+ghost use Rattle.tty_driver.specs.Sizes.{sizes_of};
+
+use crate::constants::{TY_EBUFLEN, TY_OBUFLEN};
+use crate::input::Input;
+use circular_buffer::HeapCircularBuffer;
+use std::alloc::Global;
+use std::marker::Model;
+use xinu_base::{Item, NoMemory, TtyMode};
+
+/// How much the console holds.
+#[derive(Clone, Copy, Debug, PartialEq, Eq)]
+pub struct TtySizes {
+    /// How many items can be taken.
+    pub committed: usize,
+    /// How many bytes the line has.
+    pub line: usize,
+    /// How many bytes of output there are.
+    pub output: usize,
+    /// How many bytes of echo there are.
+    pub echo: usize,
+    /// Whether output is held.
+    pub held: bool,
+}
+
+/// The console: its mode, its input, its output and its echo.
+#[derive(Drop)]
+pub struct Tty {
+    pub(crate) mode: TtyMode,
+    // Whether echo is on.
+    pub(crate) echoes: bool,
+    // Whether output is held.
+    pub(crate) held: bool,
+    pub(crate) input: Input,
+    pub(crate) output: HeapCircularBuffer<u8>,
+    pub(crate) echo: HeapCircularBuffer<u8>,
+}
+
+impl Model for Tty {
+    ghost use Rattle.tty_driver.specs.State.{console_of, IsTty};
+    ghost use Rattle.xinu_model.specs.Console.State.{Console};
+
+    ghost Value = { Console };
+
+    ghost view = { console_of };
+
+    ghost invariant = { IsTty };
+}
+
+impl Tty {
+    /// The console at the start: cooked mode, echo on, output not held, and nothing received or to be sent.
+    ///
+    /// # Errors
+    ///
+    /// `NoMemory` if there is no memory for the rings.
+    pub fn new(alloc: Global) -> Result<Self, NoMemory>
+        ensures starts { IfOk result (λ t. t ≡ first_console) }
+    {
+        let input = Input::new(alloc).map_err(|_| NoMemory)?;
+        let output = HeapCircularBuffer::with_capacity(alloc, TY_OBUFLEN).map_err(|_| NoMemory)?;
+        let echo = HeapCircularBuffer::with_capacity(alloc, TY_EBUFLEN).map_err(|_| NoMemory)?;
+        Ok(Tty {
+            mode: TtyMode::Cooked,
+            echoes: true,
+            held: false,
+            input,
+            output,
+            echo,
+        })
+    }
+
+    /// The mode.
+    pub fn mode(&self) -> TtyMode
+        ensures mode { result ≡ self.now.mode }
+    {
+        self.mode
+    }
+
+    /// How much the console holds, and whether output is held.
+    pub fn sizes(&self) -> TtySizes
+        ensures sizes { result ≡ sizes_of self.now }
+        ensures sound { IsSoundConsole self.now }
+    {
+        TtySizes {
+            committed: self.input.committed(),
+            line: self.input.line(),
+            output: self.output.len(),
+            echo: self.echo.len(),
+            held: self.held,
+        }
+    }
+
+    /// Takes the first item that can be taken.
+    pub fn take(&mut self) -> Item
+        requires item { 0 < length self.old.committed }
+        ensures taken { self.old ≡ with_next_item result self.new }
+    {
+        self.input.take()
+    }
+}

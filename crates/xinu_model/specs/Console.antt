@@ -1,0 +1,10 @@
+-- The console: its state, what a received character, a transmission and a control function do, and what always holds
+-- (book, chapter 15).
+pub mod Constants
+pub mod Controls
+pub mod Echo
+pub mod Receiving
+pub mod Rows
+pub mod Sound
+pub mod State
+pub mod Transmitting
