@@ -1,6 +1,7 @@
 -- What `asm` writes loads, as an image file and as an ELF file.
-use Rattle.std.proofs.Common.{◌≡◌, ◌∙◌, ◌+◌, ◌%◌, ◌<◌, ◌^◌, ◌==◌, ◌&&◌, ℕ, Bool, true, false, List, [], ◌∷◌, length, take, drop, codes, Option, Some, None, refl, ap, subst, arith, nat_le}
+use Rattle.std.proofs.Common.{◌≡◌, ◌∙◌, ◌+◌, ◌%◌, ◌<◌, ◌^◌, ◌==◌, ◌&&◌, ℕ, Bool, true, false, List, [], ◌∷◌, length, take, drop, codes, Option, Some, None, refl, sym, ap, subst, arith, nat_le}
 use Rattle.std.specs.Bool.{Decides}
+use Rattle.std.specs.Prelude.{unwrap_or, is_some}
 use Rattle.std.proofs.lemmas.Bool.{and_parts, eqb-true, le-leb, leb-true}
 use Rattle.std.proofs.lemmas.Int.{ints}
 use Rattle.std.proofs.lemmas.List.{length-drop}
@@ -9,12 +10,17 @@ use Rattle.elf_loader.proofs.ReadBack.{written_loads}
 use Rattle.elf_loader.specs.ElfFiles.{elf_image}
 use Rattle.elf_loader.specs.LoadedFiles.{is_elf, loads}
 use Rattle.elf_loader.specs.WrittenElf.{elf_file}
-use Rattle.image_loader.specs.ImageFiles.{first_fault, has_entry, has_length, has_magic, has_priority, has_version, header_of, image_in, image_of, is_placed, loaded_unless}
+use Rattle.image_loader.specs.ImageFiles.{first_fault as file_fault, has_entry, has_length, has_magic, has_priority, has_version, header_of, image_in, image_of, is_placed, loaded_unless}
 use Rattle.image_loader.specs.Parts.{IsImage}
 use Rattle.image_loader.specs.declared.faults.ImageFault.{ImageFault}
 use Rattle.image_loader.specs.declared.faults.ImageFault.TheVariants as image
 use Rattle.xinu_model.specs.Boot.{Loaded}
 use Rattle.xinu_model.specs.Memory.{number_at, ram_size}
+use Rattle.rv_asm.proofs.LoadLemmas.{assembled-loads}
+use Rattle.rv_asm.specs.Assembly.{Header as FileHeader, Makes, assembly, content, ended, header, image_file, is_void, lines_in}
+use Rattle.rv_asm.specs.Faults.{first_astray, first_fault}
+use Rattle.rv_asm.specs.Layouts.{after_all, start}
+use Rattle.rv_asm.specs.declared.faults.AsmFault.{AsmFault}
 use Rattle.xinu_run.specs.AsmVerdict.{written_file}
 use Rattle.xinu_run.proofs.Assembled.{elf_of_image, passed, whole_image}
 
@@ -38,7 +44,7 @@ record Passes (bytes : List ℕ) : Type 0 where
   entered : has_entry (header_of bytes) ≡ true
   ranked : has_priority (header_of bytes) ≡ true
 
-passes : (bytes : List ℕ) → first_fault bytes ≡ None → Passes bytes
+passes : (bytes : List ℕ) → file_fault bytes ≡ None → Passes bytes
 passes bytes none =
     let h = header_of bytes in
     let magic = passed (has_magic h) image.Magic _ (passed (nat_le 28 (length bytes)) image.Short _ none).1 in
@@ -70,12 +76,43 @@ is_image bytes p =
       high = (let a = leb-true h.priority 32767 priority.1 in omega (arith, ints));
     }
 
--- by the fault that there isn't
-by_fault : (bytes : List ℕ) (loaded : Loaded) (f : Option ImageFault) → first_fault bytes ≡ f → loaded_unless f (image_of (header_of bytes) (drop 28 bytes)) ≡ Some loaded
-    → (is_elf bytes ≡ false) × IsImage loaded
+-- ---- a file that was assembled
+
+-- a file that is made is the image file of its header and its content
+made_is : (first astray : Option AsmFault) (void : Bool) (made file : List ℕ) → ended first astray void made ≡ Makes file → made ≡ file
+made_is None None false made file is = cc
+made_is None None true made file is = absurd (cc)
+made_is None (Some f) void made file is = absurd (cc)
+made_is (Some f) astray void made file is = absurd (cc)
+
+-- so its stack is a word
+word_fits : (h : FileHeader) (bytes : List ℕ) → number_at (image_file h bytes) 24 4 < 2 ^ 32
+word_fits h bytes = omega arith
+
+stack_fits : (source file : List ℕ) → assembly source ≡ Makes file → number_at file 24 4 < 2 ^ 32
+unfolding assembly
+stack_fits source file is =
+    let lines = lines_in source in
+    let end = after_all lines start in
+    let bytes = content end.labels lines start in
+    let made = image_file (header end (length bytes)) bytes in
+    let same : made ≡ file = made_is (first_fault end.labels 1 lines start) (first_astray end.labels (unwrap_or end.place 0) end.at 1 lines start) (is_void end (length bytes)) made file is in
+    subst (λ (f : List ℕ). number_at f 24 4 < 2 ^ 32) same (word_fits (header end (length bytes)) bytes)
+
+-- ---- what is written
+
+-- what an image file loads, by the fault that it hasn't
+record IsImageFile (bytes : List ℕ) (loaded : Loaded) : Type 0 where
+  no_elf : is_elf bytes ≡ false
+  image : IsImage loaded
+  stack : loaded.stack ≡ number_at bytes 24 4
+
+by_fault : (bytes : List ℕ) (loaded : Loaded) (f : Option ImageFault) → file_fault bytes ≡ f → loaded_unless f (image_of (header_of bytes) (drop 28 bytes)) ≡ Some loaded
+    → IsImageFile bytes loaded
 by_fault bytes loaded None none is =
     let p = passes bytes none in
-    let same : image_of (header_of bytes) (drop 28 bytes) ≡ loaded = cc in (is_no_elf bytes p.magic, subst IsImage same (is_image bytes p))
+    let same : image_of (header_of bytes) (drop 28 bytes) ≡ loaded = cc in
+    record { no_elf = is_no_elf bytes p.magic; image = subst IsImage same (is_image bytes p); stack = ap (λ (l : Loaded). l.stack) (sym same) }
 by_fault bytes loaded (Some f) none is = absurd (cc)
 
 -- an ELF file that is written begins as one
@@ -83,9 +120,16 @@ elf_loads : (image : Loaded) → loads (elf_file image) ≡ elf_image (elf_file 
 unfolding loads
 elf_loads image = refl
 
-pub written_file-loads : (elf : Bool) (file : List ℕ) (loaded : Loaded) → image_in file ≡ Some loaded → loaded.stack < 2 ^ 32 → loads (written_file elf file) ≡ Some loaded
+written_loads_image : (elf : Bool) (file : List ℕ) (loaded : Loaded) → image_in file ≡ Some loaded → number_at file 24 4 < 2 ^ 32 → loads (written_file elf file) ≡ Some loaded
 unfolding loads
-written_file-loads false file loaded is fits = (let found = by_fault file loaded (first_fault file) refl is in rw found.0 is)
-written_file-loads true file loaded is fits =
-    let found = by_fault file loaded (first_fault file) refl is in
-    ap loads (elf_of_image file loaded is) ∙ elf_loads loaded ∙ written_loads loaded found.1 (whole_image file loaded is) fits
+written_loads_image false file loaded is fits = (let found = by_fault file loaded (file_fault file) refl is in rw found.no_elf is)
+written_loads_image true file loaded is fits =
+    let found = by_fault file loaded (file_fault file) refl is in
+    ap loads (elf_of_image file loaded is) ∙ elf_loads loaded ∙ written_loads loaded found.image (whole_image file loaded is) (omega (arith, fits, found.stack))
+
+pub written_files-load : (elf : Bool) (source file : List ℕ) → assembly source ≡ Makes file → (image : Loaded) × ((image_in file ≡ Some image) × (loads (written_file elf file) ≡ Some image))
+written_files-load elf source file is = go (image_in file) refl (assembled-loads source file is)
+  where
+    go : (o : Option Loaded) → image_in file ≡ o → is_some o ≡ true → (image : Loaded) × ((image_in file ≡ Some image) × (loads (written_file elf file) ≡ Some image))
+    go None none some = absurd (cc)
+    go (Some image) found some = (image, (found, written_loads_image elf file image found (stack_fits source file is)))

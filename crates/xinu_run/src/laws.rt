@@ -1,7 +1,7 @@
 //! What the exit statuses mean: laws about every answer of the top call, and one about the files that `asm` writes. Each is the contract of a
 //! function that does nothing.
 
-ghost use Rattle.std.specs.Prelude.{◌≡◌, ◌≢◌, ◌↔◌, ◌==◌, ◌<◌, ◌^◌, ◌∷◌, [], ℕ, Bool, IsTrue, List, Option, Some, None, IsSome};
+ghost use Rattle.std.specs.Prelude.{◌≡◌, ◌≢◌, ◌↔◌, ◌==◌, ◌∷◌, [], ℕ, Bool, IsTrue, List, Option, Some, None, IsSome};
 ghost use Rattle.std.specs.List.{list_any};
 ghost use Rattle.command_line.specs.AsmArgs.{AsmFiles};
 ghost use Rattle.command_line.specs.Commands.{Command, Run, Asm, Disk};
@@ -11,6 +11,7 @@ ghost use Rattle.elf_loader.specs.LoadedFiles.{loads};
 ghost use Rattle.host_port.specs.HostCalls.{Rose};
 ghost use Rattle.host_port.specs.Outside.{Outside};
 ghost use Rattle.image_loader.specs.ImageFiles.{image_in};
+ghost use Rattle.rv_asm.specs.Assembly.{Makes, assembly};
 ghost use Rattle.xinu_model.specs.Boot.{Loaded};
 ghost use Rattle.xinu_model.specs.Machine.{Xinu};
 ghost use Rattle.xinu_run.specs.AsmVerdict.{written_file};
@@ -49,10 +50,9 @@ pub fn statuses_say_of_sources()
     ensures { (exit : ℕ) (files : AsmFiles) (old new : Outside) (left : Option Xinu) (a : Answers exit (Some (Asm files)) old new left) → exit ≢ 7 → exit ≢ 3 → SaysOfSource exit (file_bytes (old.file files.source) (a.obeys.unseen SourceInput)) }
 {}
 
-/// The file that `asm` writes of an image file, as it is or as an ELF file, loads the image of the image file. (The size of a stack is a word,
-/// so in each file of bytes it is below 2 ^ 32.)
+/// The file that `asm` writes of a text that is assembled loads, and as an image file and as an ELF file it is the same image.
 pub fn written_files_load()
-    ensures { (elf : Bool) (file : List ℕ) (image : Loaded) → image_in file ≡ Some image → image.stack < 2 ^ 32 → loads (written_file elf file) ≡ Some image }
+    ensures { (elf : Bool) (source file : List ℕ) → assembly source ≡ Makes file → (image : Loaded) × ((image_in file ≡ Some image) × (loads (written_file elf file) ≡ Some image)) }
 {}
 
 /// The exit status of an action on a disk is 6 if and only if the disk breaks a rule; if it breaks none, 12 if and only if it lacks the file
