@@ -37,7 +37,8 @@ module _ {C : Type 0} (table : List CommandRow) (from : Request → Option C) (i
   unmatched kinds sub (Some r) bad v = absurd (bad v.0)
 
 -- what holds of the row that was found
-at_row : (rows : List Row) (t : Taken) (c row : CommandRow) → Some c ≡ Some row → (P : CommandRow → Type 0) → (Holds c.options rows t → P c) → Holds row.options rows t → P row
+at_row : (rows : List Row) (t : Taken) (c row : CommandRow) → Some c ≡ Some row → (P : CommandRow → Type 0) → (Holds c.options rows t → P c)
+    → Holds row.options rows t → P row
 at_row rows t c row is P read h =
     let same : c ≡ row = cc in
     subst (λ (r : CommandRow). Holds r.options rows t → P r) same read h
@@ -49,7 +50,12 @@ run_read rows t h = rw (value_read run_options rows t h (codes "schedule") _ ref
 
 asm_read : (rows : List Row) (t : Taken) → Holds asm_options rows t → asm_from t ≡ asm_in (fold with_default rows (rules asm_options))
 asm_read rows t h =
-    rw (value_read asm_options rows t h (codes "out") _ refl refl refl refl, flag_read asm_options rows t h (codes "elf") _ refl refl refl, args_read asm_options rows t h refl) refl
+    rw (
+      value_read asm_options rows t h (codes "out") _ refl refl refl refl,
+      flag_read asm_options rows t h
+          (codes "elf") _ refl refl refl,
+      args_read asm_options rows t h refl,
+    ) refl
 
 -- the command that tests on its name choose
 abbrev chosen_command : Bool → Bool → Option RunFiles → Option AsmFiles → Option Command
@@ -61,29 +67,36 @@ module _ (rows : List Row) (t : Taken) where
   rows_at c = fold with_default rows (rules c.options)
 
   -- the command by the tests on its name, in the order of the table
-  command_by_tests : (a b : Bool) (row : CommandRow) → cond a (Some run_row) (cond b (Some asm_row) None) ≡ Some row → Holds row.options rows t
+  command_by_tests : (a b : Bool) (row : CommandRow) → cond a (Some run_row) (cond b (Some asm_row) None) ≡ Some row
+      → Holds row.options rows t
       → chosen_command a b (run_from t) (asm_from t) ≡ chosen_command a b (run_in (rows_at row)) (asm_in (rows_at row))
   command_by_tests true b row is h =
-      at_row rows t run_row row is (λ r. option_map Run (run_from t) ≡ option_map Run (run_in (rows_at r))) (λ k. ap (λ (r : Option RunFiles). option_map Run r) (run_read rows t k)) h
+      at_row rows t run_row row is (λ r. option_map Run (run_from t) ≡ option_map Run (run_in (rows_at r)))
+      (λ k. ap (λ (r : Option RunFiles). option_map Run r) (run_read rows t k)) h
   command_by_tests false true row is h =
-      at_row rows t asm_row row is (λ r. option_map Asm (asm_from t) ≡ option_map Asm (asm_in (rows_at r))) (λ k. ap (λ (a : Option AsmFiles). option_map Asm a) (asm_read rows t k)) h
+      at_row rows t asm_row row is (λ r. option_map Asm (asm_from t) ≡ option_map Asm (asm_in (rows_at r)))
+      (λ k. ap (λ (a : Option AsmFiles). option_map Asm a) (asm_read rows t k)) h
   command_by_tests false false row is h = absurd (cc)
 
 command_taken : (sub : Option (Text × List Row)) (r : Request) → Enters commands r sub → command_from r ≡ simple_command_in sub
 command_taken sub r h =
-    command_by_tests h.rows r.taken (bytes_eq (codes "run") r.command) (bytes_eq (codes "asm") r.command) h.row h.named h.holds ∙ ap simple_command_in (sym h.entered)
+    command_by_tests h.rows r.taken (bytes_eq (codes "run") r.command) (bytes_eq (codes "asm") r.command) h.row h.named h.holds
+    ∙ ap simple_command_in (sym h.entered)
 
 -- matches give the command
-pub command_matched : (args : List Text) → AllUtf8 args → fault_of simple_app args ≡ [] → (sub : Option (Text × List Row)) → sub ≡ subcommand_of simple_app args
+pub command_matched : (args : List Text) → AllUtf8 args → fault_of simple_app args ≡ [] → (sub : Option (Text × List Row))
+    → sub ≡ subcommand_of simple_app args
     → simple_command_of args ≡ simple_command_in sub
 command_matched args u none sub is =
-    matched commands command_from simple_command_in (fault_of simple_app args) (subcommand_of simple_app args) (request_of commands args) (command_taken (subcommand_of simple_app args)) none
+    matched commands command_from simple_command_in (fault_of simple_app args) (subcommand_of simple_app args) (request_of commands args)
+    (command_taken (subcommand_of simple_app args)) none
     (program_law (codes "xinu_run") commands refl args u) ∙ ap simple_command_in (sym is)
 
 -- if a kind of error comes, there is no such command
 pub command_unmatched : (args : List Text) → AllUtf8 args → (fault_of simple_app args ≡ [] → ⊥) → simple_command_of args ≡ None
 command_unmatched args u bad =
-    unmatched commands command_from simple_command_in (fault_of simple_app args) (subcommand_of simple_app args) (request_of commands args) bad (program_law (codes "xinu_run") commands refl args u)
+    unmatched commands command_from simple_command_in (fault_of simple_app args) (subcommand_of simple_app args)
+    (request_of commands args) bad (program_law (codes "xinu_run") commands refl args u)
 
 -- ---- the actions of a disk
 
@@ -114,13 +127,22 @@ module _ (rows : List Row) (t : Taken) where
       → Holds row.options rows t
       → chosen a b c d e f (option_value (codes "out") t) t.positional
       ≡ chosen a b c d e f (first_of (codes "out") (fold with_default rows (rules row.options))) (args_in (fold with_default rows (rules row.options)))
-  by_tests true b c d e f row is h = at_row rows t (writing (codes "mkfs")) row is (λ r. mkfs_of (option_value (codes "out") t) t.positional ≡ mkfs_of (out_in r) (args_at r)) (writing_read mkfs_of) h
-  by_tests false true c d e f row is h = at_row rows t (printing (codes "ls")) row is (λ r. ls_of t.positional ≡ ls_of (args_at r)) (printing_read ls_of) h
-  by_tests false false true d e f row is h = at_row rows t (writing (codes "get")) row is (λ r. get_of (option_value (codes "out") t) t.positional ≡ get_of (out_in r) (args_at r)) (writing_read get_of) h
-  by_tests false false false true e f row is h = at_row rows t (writing (codes "put")) row is (λ r. put_of (option_value (codes "out") t) t.positional ≡ put_of (out_in r) (args_at r)) (writing_read put_of) h
-  by_tests false false false false true f row is h = at_row rows t (printing (codes "check")) row is (λ r. check_of t.positional ≡ check_of (args_at r)) (printing_read check_of) h
+  by_tests true b c d e f row is h =
+      at_row rows t (writing (codes "mkfs")) row is (λ r. mkfs_of (option_value (codes "out") t) t.positional ≡ mkfs_of (out_in r)
+      (args_at r)) (writing_read mkfs_of) h
+  by_tests false true c d e f row is h =
+      at_row rows t (printing (codes "ls")) row is (λ r. ls_of t.positional ≡ ls_of (args_at r)) (printing_read ls_of) h
+  by_tests false false true d e f row is h =
+      at_row rows t (writing (codes "get")) row is (λ r. get_of (option_value (codes "out") t) t.positional ≡ get_of (out_in r) (args_at r))
+      (writing_read get_of) h
+  by_tests false false false true e f row is h =
+      at_row rows t (writing (codes "put")) row is (λ r. put_of (option_value (codes "out") t) t.positional ≡ put_of (out_in r) (args_at r))
+      (writing_read put_of) h
+  by_tests false false false false true f row is h =
+      at_row rows t (printing (codes "check")) row is (λ r. check_of t.positional ≡ check_of (args_at r)) (printing_read check_of) h
   by_tests false false false false false true row is h =
-      at_row rows t (writing (codes "repair")) row is (λ r. repair_of (option_value (codes "out") t) t.positional ≡ repair_of (out_in r) (args_at r)) (writing_read repair_of) h
+      at_row rows t (writing (codes "repair")) row is (λ r. repair_of (option_value (codes "out") t) t.positional ≡ repair_of (out_in r)
+      (args_at r)) (writing_read repair_of) h
   by_tests false false false false false false row is h = absurd (cc)
 
 action_taken : (sub : Option (Text × List Row)) (r : Request) → Enters actions r sub → action_from r ≡ action_command_in sub

@@ -33,7 +33,8 @@ refused_says exit source bad is = record {
 }
 
 -- by the fault of the text
-fault_says : (exit : ℕ) (source : List ℕ) (f : AsmFault) → HasFault source → exit ≢ 7 → exit ≡ status_of (asm_refusal f) → SaysOfSource exit source
+fault_says : (exit : ℕ) (source : List ℕ) (f : AsmFault) → HasFault source → exit ≢ 7 → exit ≡ status_of (asm_refusal f)
+    → SaysOfSource exit source
 fault_says exit source (asm.BadLine l) bad memory is = refused_says exit source bad is
 fault_says exit source (asm.UnknownName l) bad memory is = refused_says exit source bad is
 fault_says exit source (asm.OutOfRange l) bad memory is = refused_says exit source bad is
@@ -41,10 +42,12 @@ fault_says exit source (asm.DoubleLabel l) bad memory is = refused_says exit sou
 fault_says exit source asm.NoMemory bad memory is = absurd (memory is)
 
 -- by what the text is assembled to
-text_says : (exit : ℕ) (elf : Bool) (source : List ℕ) (a : Assembly) → length source ≤ 1048576 → assembly source ≡ a → exit ≢ 7 → exit ≡ status_due (asm_verdict elf source)
+text_says : (exit : ℕ) (elf : Bool) (source : List ℕ) (a : Assembly) → length source ≤ 1048576 → assembly source ≡ a → exit ≢ 7
+    → exit ≡ status_due (asm_verdict elf source)
     → SaysOfSource exit source
 text_says exit elf source (Makes file) short is memory due_is =
-    assembled_says exit source (record { short = short; file = file; makes = is }) (due_is ∙ ap status_due (asm_short elf source (Makes file) short is))
+    assembled_says exit source (record { short = short; file = file; makes = is })
+    (due_is ∙ ap status_due (asm_short elf source (Makes file) short is))
 text_says exit elf source (Fails f) short is memory due_is =
     fault_says exit source f (inr (f, is)) memory (due_is ∙ ap status_due (asm_short elf source (Fails f) short is))
 
@@ -55,7 +58,9 @@ source_says exit elf source memory due_is =
       | inr short ↦ text_says exit elf source (assembly source) short refl memory due_is
     ]
 
-pub says_of_source : (exit : ℕ) (a : AsmFiles) (old new : Outside) (left : Option Xinu) (s : Answers exit (Some (Asm a)) old new left) → exit ≢ 7 → exit ≢ 3
+pub says_of_source : (exit : ℕ) (a : AsmFiles) (old new : Outside) (left : Option Xinu) (s : Answers exit (Some (Asm a)) old new left)
+    → exit ≢ 7 → exit ≢ 3
     → SaysOfSource exit (file_bytes (old.file a.source) (s.obeys.unseen SourceInput))
 says_of_source exit a old new left s memory fault =
-    source_says exit a.elf (file_bytes (old.file a.source) (s.obeys.unseen SourceInput)) memory (due exit (Some (Asm a)) old new left s memory fault)
+    source_says exit a.elf (file_bytes (old.file a.source) (s.obeys.unseen SourceInput)) memory
+    (due exit (Some (Asm a)) old new left s memory fault)

@@ -33,7 +33,8 @@ pub asm_long : (elf : Bool) (source : List ℕ) → 1048576 < length source → 
 unfolding asm_verdict
 asm_long elf source long = rw (lt-leb (length source) 1048576 long) refl
 
-pub asm_short : (elf : Bool) (source : List ℕ) (a : Assembly) → length source ≤ 1048576 → assembly source ≡ a → asm_verdict elf source ≡ assembly_verdict elf a
+pub asm_short : (elf : Bool) (source : List ℕ) (a : Assembly) → length source ≤ 1048576 → assembly source ≡ a
+    → asm_verdict elf source ≡ assembly_verdict elf a
 unfolding asm_verdict
 asm_short elf source a short is = rw (le-leb (length source) 1048576 short) (ap (assembly_verdict elf) is)
 
@@ -53,7 +54,8 @@ fault_keeps (asm.OutOfRange line) is = cc
 fault_keeps (asm.DoubleLabel line) is = cc
 fault_keeps asm.NoMemory is = cc
 
-keeps_by : (short : Bool) (elf : Bool) (a : Assembly) → (if short then assembly_verdict elf a else Refuses (refusal.Asm 0 3)) ≢ Refuses refusal.Usage
+keeps_by : (short : Bool) (elf : Bool) (a : Assembly)
+    → (if short then assembly_verdict elf a else Refuses (refusal.Asm 0 3)) ≢ Refuses refusal.Usage
 keeps_by true elf (Makes file) is = cc
 keeps_by true elf (Fails f) is = (let same : asm_refusal f ≡ refusal.Usage = cc in fault_keeps f same)
 keeps_by false elf a is = cc
@@ -65,18 +67,25 @@ asm_keeps elf source is = keeps_by (nat_le (length source) longest_source) elf (
 -- ---- a text
 
 -- a text that is too long, or has a fault
-pub long_stage : (elf : Bool) (source : List ℕ) (calls : List HostCall) (h : Outside) → 1048576 < length source → Stage (asm_verdict elf source) calls (Some (refusal.Asm 0 3)) None h h
+pub long_stage : (elf : Bool) (source : List ℕ) (calls : List HostCall) (h : Outside) → 1048576 < length source
+    → Stage (asm_verdict elf source) calls (Some (refusal.Asm 0 3)) None h h
 long_stage elf source calls h long = refused_stage (asm_verdict elf source) calls (refusal.Asm 0 3) h (asm_long elf source long)
 
-fault_stage : (elf : Bool) (source : List ℕ) (calls : List HostCall) (f : AsmFault) (h : Outside) → length source ≤ 1048576 → IsFaultOf f source
+fault_stage : (elf : Bool) (source : List ℕ) (calls : List HostCall) (f : AsmFault) (h : Outside) → length source ≤ 1048576
+    → IsFaultOf f source
     → Stage (asm_verdict elf source) calls (Some (asm_refusal f)) None h h
-fault_stage elf source calls (asm.BadLine l) h short is = refused_stage (asm_verdict elf source) calls (refusal.Asm l 1) h (asm_short elf source (Fails (asm.BadLine l)) short is)
-fault_stage elf source calls (asm.UnknownName l) h short is = refused_stage (asm_verdict elf source) calls (refusal.Asm l 2) h (asm_short elf source (Fails (asm.UnknownName l)) short is)
-fault_stage elf source calls (asm.OutOfRange l) h short is = refused_stage (asm_verdict elf source) calls (refusal.Asm l 3) h (asm_short elf source (Fails (asm.OutOfRange l)) short is)
-fault_stage elf source calls (asm.DoubleLabel l) h short is = refused_stage (asm_verdict elf source) calls (refusal.Asm l 4) h (asm_short elf source (Fails (asm.DoubleLabel l)) short is)
+fault_stage elf source calls (asm.BadLine l) h short is =
+    refused_stage (asm_verdict elf source) calls (refusal.Asm l 1) h (asm_short elf source (Fails (asm.BadLine l)) short is)
+fault_stage elf source calls (asm.UnknownName l) h short is =
+    refused_stage (asm_verdict elf source) calls (refusal.Asm l 2) h (asm_short elf source (Fails (asm.UnknownName l)) short is)
+fault_stage elf source calls (asm.OutOfRange l) h short is =
+    refused_stage (asm_verdict elf source) calls (refusal.Asm l 3) h (asm_short elf source (Fails (asm.OutOfRange l)) short is)
+fault_stage elf source calls (asm.DoubleLabel l) h short is =
+    refused_stage (asm_verdict elf source) calls (refusal.Asm l 4) h (asm_short elf source (Fails (asm.DoubleLabel l)) short is)
 fault_stage elf source calls asm.NoMemory h short is = memory_stage (asm_verdict elf source) calls h
 
-pub faulty_stage : (elf : Bool) (source : List ℕ) (calls : List HostCall) (f : AsmFault) (r : Refusal) (h : Outside) → r ≡ asm_refusal f → length source ≤ 1048576 → IsFaultOf f source
+pub faulty_stage : (elf : Bool) (source : List ℕ) (calls : List HostCall) (f : AsmFault) (r : Refusal) (h : Outside) → r ≡ asm_refusal f
+    → length source ≤ 1048576 → IsFaultOf f source
     → Stage (asm_verdict elf source) calls (Some r) None h h
 faulty_stage elf source calls f r h is_r short is =
     let P : Refusal → Type 0 = λ x. Stage (asm_verdict elf source) calls (Some x) None h h in
@@ -93,14 +102,17 @@ unwritten output calls h = record {
 }
 
 -- a text that was assembled, and its file was written
-pub made_stage : (elf : Bool) (source file : List ℕ) (calls : List HostCall) (ended : Option Refusal) (h k : Outside) → length source ≤ 1048576 → assembly source ≡ Makes file
+pub made_stage : (elf : Bool) (source file : List ℕ) (calls : List HostCall) (ended : Option Refusal) (h k : Outside)
+    → length source ≤ 1048576 → assembly source ≡ Makes file
     → SendsOutput (output_on Image (written_file elf file)) calls ended h k → Stage (asm_verdict elf source) calls ended None h k
 made_stage elf source file calls ended h k short is sends =
-    sent_stage (asm_verdict elf source) [] None (Some (written_file elf file)) calls ended h k (asm_short elf source (Makes file) short is) sends
+    sent_stage (asm_verdict elf source) [] None (Some (written_file elf file)) calls ended h k
+    (asm_short elf source (Makes file) short is) sends
 
 -- ---- the image of an image file
 
-pub passed : (b : Bool) (fault : ImageFault) (rest : Option ImageFault) → (if b then rest else Some fault) ≡ None → (b ≡ true) × (rest ≡ None)
+pub passed : (b : Bool) (fault : ImageFault) (rest : Option ImageFault) → (if b then rest else Some fault) ≡ None
+    → (b ≡ true) × (rest ≡ None)
 passed true fault rest is = (refl, is)
 passed false fault rest is = absurd (cc)
 
@@ -117,8 +129,10 @@ whole_of bytes none =
 pub whole_image : (bytes : List ℕ) (loaded : Loaded) → image_in bytes ≡ Some loaded → IsWholeImage loaded
 whole_image bytes loaded is = go (first_fault bytes) refl is
   where
-    go : (f : Option ImageFault) → first_fault bytes ≡ f → loaded_unless f (image_of (header_of bytes) (drop 28 bytes)) ≡ Some loaded → IsWholeImage loaded
-    go None none same = (let here : image_of (header_of bytes) (drop 28 bytes) ≡ loaded = cc in subst IsWholeImage here (whole_of bytes none))
+    go : (f : Option ImageFault) → first_fault bytes ≡ f → loaded_unless f (image_of (header_of bytes) (drop 28 bytes)) ≡ Some loaded
+        → IsWholeImage loaded
+    go None none same =
+        (let here : image_of (header_of bytes) (drop 28 bytes) ≡ loaded = cc in subst IsWholeImage here (whole_of bytes none))
     go (Some f) none same = absurd (cc)
 
 -- the ELF file of an image file is that of its image
@@ -133,7 +147,8 @@ none_loads (Some x) some none = cc
 -- ---- a whole command
 
 performs_by : (a : AsmFiles) (source : List ℕ) (ended : Option Refusal) (h k : Outside)
-    → Stage (asm_verdict a.elf (file_bytes (h.file a.source) source)) (fetching a.source ∷ naming Image a.out ∷ []) ended None h k → Performs (Some (Asm a)) ended None h k
+    → Stage (asm_verdict a.elf (file_bytes (h.file a.source) source))
+    (fetching a.source ∷ naming Image a.out ∷ []) ended None h k → Performs (Some (Asm a)) ended None h k
 performs_by a source ended h k s = record {
   obeys = record { unseen = action_files [] source; carries = s.carries };
   calls = s.calls;
@@ -141,13 +156,18 @@ performs_by a source ended h k s = record {
 }
 
 -- the source wasn't fetched
-pub source_unfetched : (a : AsmFiles) (r : Refusal) (h k : Outside) → Fetches a.source (Some r) h k → Performs (Some (Asm a)) (Some r) None h k
+pub source_unfetched : (a : AsmFiles) (r : Refusal) (h k : Outside) → Fetches a.source (Some r) h k
+    → Performs (Some (Asm a)) (Some r) None h k
 source_unfetched a r h k f =
-    performs_by a [] (Some r) h k (unfetched_stage (asm_verdict a.elf (file_bytes (h.file a.source) [])) a.source (naming Image a.out ∷ []) r h k (asm_keeps a.elf (file_bytes (h.file a.source) [])) f)
+    performs_by a [] (Some r) h k (unfetched_stage (asm_verdict a.elf (file_bytes (h.file a.source) [])) a.source
+    (naming Image a.out ∷ []) r h k (asm_keeps a.elf (file_bytes (h.file a.source) [])) f)
 
 -- the source was fetched and assembled
-pub source_fetched : (a : AsmFiles) (items : List ℕ) (ended : Option Refusal) (h j k : Outside) → IsFetched 1048576 (h.file a.source) items → Fetches a.source None h j
+pub source_fetched : (a : AsmFiles) (items : List ℕ) (ended : Option Refusal) (h j k : Outside) → IsFetched 1048576 (h.file a.source) items
+    → Fetches a.source None h j
     → Stage (asm_verdict a.elf items) (naming Image a.out ∷ []) ended None j k → Performs (Some (Asm a)) ended None h k
 source_fetched a items ended h j k fetched f s =
-    performs_by a items ended h k (stage_as (asm_verdict a.elf (file_bytes (h.file a.source) items)) (asm_verdict a.elf items) (fetching a.source ∷ naming Image a.out ∷ []) ended h k
-    (asm_fetched a.elf (file_bytes (h.file a.source) items) items fetched.front) (fetched_stage (asm_verdict a.elf items) a.source (naming Image a.out ∷ []) ended h j k f s))
+    performs_by a items ended h k (stage_as (asm_verdict a.elf (file_bytes (h.file a.source) items)) (asm_verdict a.elf items)
+    (fetching a.source ∷ naming Image a.out ∷ []) ended h k
+    (asm_fetched a.elf (file_bytes (h.file a.source) items) items fetched.front) (fetched_stage (asm_verdict a.elf items) a.source
+    (naming Image a.out ∷ []) ended h j k f s))

@@ -30,7 +30,8 @@ run_given (first ∷ args) r is = go (bytes_eq (codes "disk") first) (action_of 
     go true None x is = absurd (cc)
     go false a x is = is
 
-run_named : (a b : Bool) (run : Option RunFiles) (asm : Option AsmFiles) (r : RunFiles) → (if a then option_map Run run else (if b then option_map Asm asm else None)) ≡ Some (Run r) → run ≡ Some r
+run_named : (a b : Bool) (run : Option RunFiles) (asm : Option AsmFiles) (r : RunFiles)
+    → (if a then option_map Run run else (if b then option_map Asm asm else None)) ≡ Some (Run r) → run ≡ Some r
 run_named true b (Some x) asm r is = cc
 run_named true b None asm r is = absurd (cc)
 run_named false true run (Some x) r is = absurd (cc)
@@ -62,7 +63,8 @@ one_item (y ∷ z ∷ xs) x is first = absurd (omega arith)
 
 -- ---- an action is possible
 
-not_named : (a b : Bool) (run : Option RunFiles) (asm : Option AsmFiles) (x : DiskAction) → (if a then option_map Run run else (if b then option_map Asm asm else None)) ≡ Some (Disk x) → ⊥
+not_named : (a b : Bool) (run : Option RunFiles) (asm : Option AsmFiles) (x : DiskAction)
+    → (if a then option_map Run run else (if b then option_map Asm asm else None)) ≡ Some (Disk x) → ⊥
 not_named true b (Some r) asm x is = cc
 not_named true b None asm x is = cc
 not_named false true run (Some r) x is = cc
@@ -72,13 +74,16 @@ not_named false false run asm x is = cc
 not_simple : (args : List Text) (a : DiskAction) → simple_command_of args ≡ Some (Disk a) → ⊥
 not_simple args a is =
     option_and_then_some command_from (request_of commands args) (Disk a) is
-    (λ q calls given. not_named (bytes_eq (codes "run") q.command) (bytes_eq (codes "asm") q.command) (run_from q.taken) (asm_from q.taken) a given)
+    (λ q calls given. not_named (bytes_eq (codes "run") q.command) (bytes_eq (codes "asm") q.command) (run_from q.taken)
+    (asm_from q.taken) a given)
 
 action_given : (args : List Text) (a : DiskAction) → command_of args ≡ Some (Disk a) → (rest : List Text) × (action_of rest ≡ Some a)
 action_given [] a is = absurd (cc)
-action_given (first ∷ args) a is = (args, go (bytes_eq (codes "disk") first) (action_of args) (simple_command_of (first ∷ args)) (not_simple (first ∷ args) a) is)
+action_given (first ∷ args) a is =
+    (args, go (bytes_eq (codes "disk") first) (action_of args) (simple_command_of (first ∷ args)) (not_simple (first ∷ args) a) is)
   where
-    go : (b : Bool) (x : Option DiskAction) (r : Option Command) → (r ≡ Some (Disk a) → ⊥) → (if b then option_map Disk x else r) ≡ Some (Disk a) → x ≡ Some a
+    go : (b : Bool) (x : Option DiskAction) (r : Option Command) → (r ≡ Some (Disk a) → ⊥)
+        → (if b then option_map Disk x else r) ≡ Some (Disk a) → x ≡ Some a
     go true (Some y) r other is = cc
     go true None r other is = absurd (cc)
     go false x r other is = absurd (other is)

@@ -155,7 +155,8 @@ loads_by true false e (Some f) x y good = absurd (cc)
 good_loads : (bytes : List ℕ) → image_fault bytes ≡ None → (image : Loaded) × (loads bytes ≡ Some image)
 unfolding image_fault load_fault loads
 good_loads bytes good =
-    loads_by (nat_le (length bytes) longest_image) (is_elf bytes) (elf_fault bytes) (first_fault bytes) (elf_loaded bytes) (image_of (header_of bytes) (drop 28 bytes)) good
+    loads_by (nat_le (length bytes) longest_image) (is_elf bytes) (elf_fault bytes) (first_fault bytes) (elf_loaded bytes)
+    (image_of (header_of bytes) (drop 28 bytes)) good
 
 -- ---- one image overlaps nothing
 

@@ -96,7 +96,8 @@ stack_fits source file is =
     let end = after_all lines start in
     let bytes = content end.labels lines start in
     let made = image_file (header end (length bytes)) bytes in
-    let same : made ≡ file = made_is (first_fault end.labels 1 lines start) (first_astray end.labels (unwrap_or end.place 0) end.at 1 lines start) (is_void end (length bytes)) made file is in
+    let same : made ≡ file = made_is (first_fault end.labels 1 lines start)
+    (first_astray end.labels (unwrap_or end.place 0) end.at 1 lines start) (is_void end (length bytes)) made file is in
     subst (λ (f : List ℕ). number_at f 24 4 < 2 ^ 32) same (word_fits (header end (length bytes)) bytes)
 
 -- ---- what is written
@@ -107,12 +108,18 @@ record IsImageFile (bytes : List ℕ) (loaded : Loaded) : Type 0 where
   image : IsImage loaded
   stack : loaded.stack ≡ number_at bytes 24 4
 
-by_fault : (bytes : List ℕ) (loaded : Loaded) (f : Option ImageFault) → file_fault bytes ≡ f → loaded_unless f (image_of (header_of bytes) (drop 28 bytes)) ≡ Some loaded
+by_fault : (bytes : List ℕ) (loaded : Loaded) (f : Option ImageFault) → file_fault bytes ≡ f
+    → loaded_unless f (image_of (header_of bytes) (drop 28 bytes)) ≡ Some loaded
     → IsImageFile bytes loaded
 by_fault bytes loaded None none is =
     let p = passes bytes none in
     let same : image_of (header_of bytes) (drop 28 bytes) ≡ loaded = cc in
-    record { no_elf = is_no_elf bytes p.magic; image = subst IsImage same (is_image bytes p); stack = ap (λ (l : Loaded). l.stack) (sym same) }
+    record {
+      no_elf = is_no_elf bytes p.magic;
+      image = subst IsImage same (is_image bytes p);
+      stack = ap (λ (l : Loaded). l.stack)
+          (sym same);
+    }
 by_fault bytes loaded (Some f) none is = absurd (cc)
 
 -- an ELF file that is written begins as one
@@ -120,16 +127,20 @@ elf_loads : (image : Loaded) → loads (elf_file image) ≡ elf_image (elf_file 
 unfolding loads
 elf_loads image = refl
 
-written_loads_image : (elf : Bool) (file : List ℕ) (loaded : Loaded) → image_in file ≡ Some loaded → number_at file 24 4 < 2 ^ 32 → loads (written_file elf file) ≡ Some loaded
+written_loads_image : (elf : Bool) (file : List ℕ) (loaded : Loaded) → image_in file ≡ Some loaded → number_at file 24 4 < 2 ^ 32
+    → loads (written_file elf file) ≡ Some loaded
 unfolding loads
 written_loads_image false file loaded is fits = (let found = by_fault file loaded (file_fault file) refl is in rw found.no_elf is)
 written_loads_image true file loaded is fits =
     let found = by_fault file loaded (file_fault file) refl is in
-    ap loads (elf_of_image file loaded is) ∙ elf_loads loaded ∙ written_loads loaded found.image (whole_image file loaded is) (omega (arith, fits, found.stack))
+    ap loads (elf_of_image file loaded is) ∙ elf_loads loaded ∙ written_loads loaded found.image (whole_image file loaded is)
+    (omega (arith, fits, found.stack))
 
-pub written_files-load : (elf : Bool) (source file : List ℕ) → assembly source ≡ Makes file → (image : Loaded) × ((image_in file ≡ Some image) × (loads (written_file elf file) ≡ Some image))
+pub written_files-load : (elf : Bool) (source file : List ℕ) → assembly source ≡ Makes file
+    → (image : Loaded) × ((image_in file ≡ Some image) × (loads (written_file elf file) ≡ Some image))
 written_files-load elf source file is = go (image_in file) refl (assembled-loads source file is)
   where
-    go : (o : Option Loaded) → image_in file ≡ o → is_some o ≡ true → (image : Loaded) × ((image_in file ≡ Some image) × (loads (written_file elf file) ≡ Some image))
+    go : (o : Option Loaded) → image_in file ≡ o → is_some o ≡ true
+        → (image : Loaded) × ((image_in file ≡ Some image) × (loads (written_file elf file) ≡ Some image))
     go None none some = absurd (cc)
     go (Some image) found some = (image, (found, written_loads_image elf file image found (stack_fits source file is)))

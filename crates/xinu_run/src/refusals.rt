@@ -20,8 +20,8 @@ pub(crate) enum Refusal {
     Usage,
     /// The host failed.
     HostFault,
-    /// The image file with this number, counted from 1, has this fault: 1 to 7, or from 11 on for an ELF file, as the readers of images
-    /// number them, or 0 if the file is too long.
+    /// The image file with this number, counted from 1, has this fault: 1 to 7, or from 11 on for an ELF file, as the readers of
+    /// images number them, or 0 if the file is too long.
     Image { image: u8, fault: u8 },
     /// The schedule file has a fault at this line, counted from 1; it is too long if this is 0.
     Schedule(u32),
@@ -29,8 +29,8 @@ pub(crate) enum Refusal {
     Disk { disk: u8, block: u32, rule: u8 },
     /// The heap has no room for the stack of the image with this number, counted from 1.
     NoRoom(u8),
-    /// The source has a fault at this line, counted from 1: 1 if it is no line of the language, 2 if a name isn't known, 3 if a number is out
-    /// of range, 4 if a label is there twice. At line 0, 1 says that there is too little content, and 3 that the source is too long.
+    /// The source has a fault at this line, counted from 1: 1 if the line has no form of the language, 2 if a name isn't known, 3 if a
+    /// number is out of range, 4 if a label is there twice. At line 0, 1 is too little content and 3 a source that is too long.
     Asm { line: u32, fault: u8 },
     /// The disk has no file of the name.
     NoSuchFile,

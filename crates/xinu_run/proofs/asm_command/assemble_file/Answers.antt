@@ -17,7 +17,8 @@ returns-in_err-source g c =
     let r = c.in_err-source.field-0.0 in
     let files = asm_names c.args.files.now in
     record {
-      performs = of_refused c.from_residual.result r (λ ended. Performs (Some (Asm files)) ended None h k) c.from_residual.ensures.0 c.from_residual.ensures.1
+      performs = of_refused c.from_residual.result r
+          (λ ended. Performs (Some (Asm files)) ended None h k) c.from_residual.ensures.0 c.from_residual.ensures.1
           (source_unfetched files r h k c.in_err-source.ensures.fetches);
     }
 
@@ -29,6 +30,7 @@ returns g c =
     let ended = refusal_of c.assemble_text.result in
     let P : List ℕ → Type 0 = λ b. Stage (asm_verdict files.elf b) (naming Image files.out ∷ []) ended None j k in
     record {
-      performs = source_fetched files c.in_ok-source.source.items ended (g.H.Host.view c.args.host.now) j k c.in_ok-source.ensures.bytes c.in_ok-source.ensures.fetches
+      performs = source_fetched files c.in_ok-source.source.items ended
+          (g.H.Host.view c.args.host.now) j k c.in_ok-source.ensures.bytes c.in_ok-source.ensures.fetches
           (subst P c.as_slice.ensures.value c.assemble_text.ensures.stage);
     }

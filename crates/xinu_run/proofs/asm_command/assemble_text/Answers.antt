@@ -13,7 +13,9 @@ returns-then-source-gt-LONGEST_SOURCE g c = record {
 
 pub returns-in-Err : goal.returns-in-Err
 returns-in-Err g c = record {
-  stage = faulty_stage c.args.elf c.args.source.now (naming Image c.args.out.now ∷ []) c.in-Err.fault c.from.result (g.H.Host.view c.args.host.now) c.from.ensures (omega arith) c.in-Err.ensures.assembled;
+  stage =
+      faulty_stage c.args.elf c.args.source.now (naming Image c.args.out.now ∷ []) c.in-Err.fault c.from.result
+      (g.H.Host.view c.args.host.now) c.from.ensures (omega arith) c.in-Err.ensures.assembled;
 }
 
 pub returns-in-Ok : goal.returns-in-Ok
@@ -24,5 +26,6 @@ returns-in-Ok g c =
     let ended = refusal_of c.write_file.result in
     let P : List ℕ → Type 0 = λ file. SendsOutput (output_on Image (written_file c.args.elf file)) calls ended h k in
     record {
-      stage = made_stage c.args.elf c.args.source.now c.in-Ok.file.items calls ended h k (omega arith) c.in-Ok.ensures.assembled (subst P c.as_slice.ensures.value c.write_file.ensures.sends);
+      stage = made_stage c.args.elf c.args.source.now c.in-Ok.file.items calls ended h k (omega arith) c.in-Ok.ensures.assembled
+          (subst P c.as_slice.ensures.value c.write_file.ensures.sends);
     }

@@ -10,7 +10,9 @@ write_elf-requires c = record { whole = whole_image c.args.file.now (loaded_of c
 
 pub returns : goal.returns
 returns c = record {
-  elf = IfOk-weaker c.write_elf.result _ _ (λ v is. is ∙ sym (elf_of_image c.args.file.now (loaded_of c.in-Ok.image) c.in-Ok.ensures.loads)) c.write_elf.ensures.file;
+  elf =
+      IfOk-weaker c.write_elf.result _ _
+      (λ v is. is ∙ sym (elf_of_image c.args.file.now (loaded_of c.in-Ok.image) c.in-Ok.ensures.loads)) c.write_elf.ensures.file;
 }
 
 pub unreachable-unreachable : goal.unreachable-unreachable

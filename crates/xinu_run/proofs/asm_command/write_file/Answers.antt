@@ -14,5 +14,6 @@ returns-in_err-file g c =
     let calls = naming Image c.args.out.now ∷ [] in
     let output = output_on Image (written_file c.args.elf c.args.file.now) in
     record {
-      sends = of_refused c.from_residual.result refusal.NoMemory (λ ended. SendsOutput output calls ended h h) c.from_residual.ensures.0 c.from_residual.ensures.1 (unwritten output calls h);
+      sends = of_refused c.from_residual.result refusal.NoMemory
+          (λ ended. SendsOutput output calls ended h h) c.from_residual.ensures.0 c.from_residual.ensures.1 (unwritten output calls h);
     }
