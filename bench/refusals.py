@@ -27,6 +27,8 @@ FILES = {
     "image": image(4096),
     "short": image(4096)[:27],
     "whole": image(1_048_576),
+    "elf": b"\x7fELF" + bytes(48),
+    "source": b"nop\nli a7, x\n",
 }
 
 # the arguments, the exit status, and standard error
@@ -39,6 +41,11 @@ ROWS = [
     (["run", "--schedule", "none", "image"], 5, "xinu: schedule line 2\n"),
     (["run", "--schedule", "none", "short"], 5, "xinu: schedule line 2\n"),
     (["run", "--schedule", "four", "whole"], 8, "xinu: no room for image 1\n"),
+    (["run", "--schedule", "four", "elf"], 4, "xinu: image 1 fault 12\n"),
+    (["asm", "source"], 2, "xinu: usage\n"),
+    (["asm", "no file", "--out", "out"], 3, "xinu: host fault\n"),
+    (["asm", "source", "--out", "out"], 9, "xinu: asm line 2 fault 2\n"),
+    (["asm", "source", "--out", "out", "--elf"], 9, "xinu: asm line 2 fault 2\n"),
 ]
 
 

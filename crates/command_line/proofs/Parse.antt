@@ -1,24 +1,25 @@
 -- The law at the program's own commands and actions: what the parser's matches and its refusals say.
-use Rattle.std.proofs.Common.{◌≡◌, ◌∙◌, ◌⊎◌, inl, inr, Bool, true, false, cond, if◌then◌else◌, codes, List, [], ◌∷◌, Option, Some, None, refl, sym, ap, subst, fold, bytes_eq, option_and_then}
+use Rattle.std.proofs.Common.{◌≡◌, ◌∙◌, ◌⊎◌, inl, inr, Bool, true, false, cond, if◌then◌else◌, codes, List, [], ◌∷◌, Option, Some, None, refl, sym, ap, subst, fold, bytes_eq, option_and_then, option_map}
 use Rattle.clap.specs.Walk.{Row, first_of, with_default}
 use Rattle.clap.specs.Simple.{built, subcommand_of}
 use Rattle.clap.specs.Kinds.{IsAmong, Kinds}
 use Rattle.clap.specs.Faults.{fault_of}
 use Rattle.clap.specs.declared.error.kind.ErrorKind.{ErrorKind}
 use Rattle.clap.specs.declared.error.kind.ErrorKind.TheVariants.{OutOfMemory}
-use Rattle.command_line.specs.Reading.{CommandRow, Request, Taken, Text, command_named, option_value, request_of}
-use Rattle.command_line.specs.RunArgs.{run_from, run_options}
+use Rattle.command_line.specs.Reading.{CommandRow, Request, Taken, Text, option_value, request_of}
+use Rattle.command_line.specs.RunArgs.{RunFiles, run_from, run_options}
+use Rattle.command_line.specs.AsmArgs.{AsmFiles, asm_from, asm_options}
 use Rattle.command_line.specs.DiskArgs.{DiskAction, action_from, action_of, actions, check_of, get_of, ls_of, mkfs_of, out_options, printing, put_of, repair_of, writing}
-use Rattle.command_line.specs.Commands.{commands, run_command_of}
-use Rattle.command_line.specs.Parser.{action_command_in, args_in, disk_app, run_app, run_command_in, run_in}
+use Rattle.command_line.specs.Commands.{Command, Run, Asm, asm_row, command_from, commands, run_row, simple_command_of}
+use Rattle.command_line.specs.Parser.{action_command_in, args_in, asm_in, disk_app, run_in, simple_app, simple_command_in}
 use Rattle.command_line.proofs.Table.{rules}
 use Rattle.command_line.proofs.Rows.{Holds}
 use Rattle.command_line.proofs.Law.{AllUtf8}
-use Rattle.command_line.proofs.Values.{value_read, args_read}
+use Rattle.command_line.proofs.Values.{value_read, flag_read, args_read}
 use Rattle.command_line.proofs.Program.{Enters, ProgramVerdict, app, program_law}
 
-run_is_built : built run_app ≡ app (codes "xinu_run") commands
-run_is_built = refl
+simple_is_built : built simple_app ≡ app (codes "xinu_run") commands
+simple_is_built = refl
 
 disk_is_built : built disk_app ≡ app (codes "disk") actions
 disk_is_built = refl
@@ -35,35 +36,67 @@ module _ {C : Type 0} (table : List CommandRow) (from : Request → Option C) (i
   unmatched kinds sub None bad v = refl
   unmatched kinds sub (Some r) bad v = absurd (bad v.0)
 
--- ---- the run
+-- what holds of the row that was found
+at_row : (rows : List Row) (t : Taken) (c row : CommandRow) → Some c ≡ Some row → (P : CommandRow → Type 0) → (Holds c.options rows t → P c)
+    → Holds row.options rows t → P row
+at_row rows t c row is P read h =
+    let same : c ≡ row = cc in
+    subst (λ (r : CommandRow). Holds r.options rows t → P r) same read h
+
+-- ---- the commands without actions
 
 run_read : (rows : List Row) (t : Taken) → Holds run_options rows t → run_from t ≡ run_in (fold with_default rows (rules run_options))
 run_read rows t h = rw (value_read run_options rows t h (codes "schedule") _ refl refl refl refl, args_read run_options rows t h refl) refl
 
--- there is one such command
-one_command : (name : Text) (row : CommandRow) → command_named commands name ≡ Some row → row ≡ record { name = codes "run"; options = run_options }
-one_command name row e = go (bytes_eq (codes "run") name) e
-  where
-    go : (b : Bool) → cond b (Some (record { name = codes "run"; options = run_options })) None ≡ Some row → row ≡ record { name = codes "run"; options = run_options }
-    go true h = cc
-    go false h = absurd (cc)
+asm_read : (rows : List Row) (t : Taken) → Holds asm_options rows t → asm_from t ≡ asm_in (fold with_default rows (rules asm_options))
+asm_read rows t h =
+    rw (
+      value_read asm_options rows t h (codes "out") _ refl refl refl refl,
+      flag_read asm_options rows t h
+          (codes "elf") _ refl refl refl,
+      args_read asm_options rows t h refl,
+    ) refl
 
-run_taken : (sub : Option (Text × List Row)) (r : Request) → Enters commands r sub → run_from r.taken ≡ run_command_in sub
-run_taken sub r h =
-    subst (λ (c : CommandRow). Holds c.options h.rows r.taken → run_from r.taken ≡ run_in (fold with_default h.rows (rules c.options))) (sym (one_command r.command h.row h.named)) (run_read h.rows r.taken) h.holds
-    ∙ ap run_command_in (sym h.entered)
+-- the command that tests on its name choose
+abbrev chosen_command : Bool → Bool → Option RunFiles → Option AsmFiles → Option Command
+chosen_command a b run asm = if a then option_map Run run else (if b then option_map Asm asm else None)
 
--- matches give the run
-pub run_matched : (args : List Text) → AllUtf8 args → fault_of run_app args ≡ [] → (sub : Option (Text × List Row)) → sub ≡ subcommand_of run_app args
-    → run_command_of args ≡ run_command_in sub
-run_matched args u none sub is =
-    matched commands (λ r. run_from r.taken) run_command_in (fault_of run_app args) (subcommand_of run_app args) (request_of commands args) (run_taken (subcommand_of run_app args)) none
-    (program_law (codes "xinu_run") commands refl args u) ∙ ap run_command_in (sym is)
+module _ (rows : List Row) (t : Taken) where
+  -- the rows that the matches hold by the options of a command
+  abbrev rows_at : CommandRow → List Row
+  rows_at c = fold with_default rows (rules c.options)
 
--- if a kind of error comes, there is no run
-pub run_unmatched : (args : List Text) → AllUtf8 args → (fault_of run_app args ≡ [] → ⊥) → run_command_of args ≡ None
-run_unmatched args u bad =
-    unmatched commands (λ r. run_from r.taken) run_command_in (fault_of run_app args) (subcommand_of run_app args) (request_of commands args) bad (program_law (codes "xinu_run") commands refl args u)
+  -- the command by the tests on its name, in the order of the table
+  command_by_tests : (a b : Bool) (row : CommandRow) → cond a (Some run_row) (cond b (Some asm_row) None) ≡ Some row
+      → Holds row.options rows t
+      → chosen_command a b (run_from t) (asm_from t) ≡ chosen_command a b (run_in (rows_at row)) (asm_in (rows_at row))
+  command_by_tests true b row is h =
+      at_row rows t run_row row is (λ r. option_map Run (run_from t) ≡ option_map Run (run_in (rows_at r)))
+      (λ k. ap (λ (r : Option RunFiles). option_map Run r) (run_read rows t k)) h
+  command_by_tests false true row is h =
+      at_row rows t asm_row row is (λ r. option_map Asm (asm_from t) ≡ option_map Asm (asm_in (rows_at r)))
+      (λ k. ap (λ (a : Option AsmFiles). option_map Asm a) (asm_read rows t k)) h
+  command_by_tests false false row is h = absurd (cc)
+
+command_taken : (sub : Option (Text × List Row)) (r : Request) → Enters commands r sub → command_from r ≡ simple_command_in sub
+command_taken sub r h =
+    command_by_tests h.rows r.taken (bytes_eq (codes "run") r.command) (bytes_eq (codes "asm") r.command) h.row h.named h.holds
+    ∙ ap simple_command_in (sym h.entered)
+
+-- matches give the command
+pub command_matched : (args : List Text) → AllUtf8 args → fault_of simple_app args ≡ [] → (sub : Option (Text × List Row))
+    → sub ≡ subcommand_of simple_app args
+    → simple_command_of args ≡ simple_command_in sub
+command_matched args u none sub is =
+    matched commands command_from simple_command_in (fault_of simple_app args) (subcommand_of simple_app args) (request_of commands args)
+    (command_taken (subcommand_of simple_app args)) none
+    (program_law (codes "xinu_run") commands refl args u) ∙ ap simple_command_in (sym is)
+
+-- if a kind of error comes, there is no such command
+pub command_unmatched : (args : List Text) → AllUtf8 args → (fault_of simple_app args ≡ [] → ⊥) → simple_command_of args ≡ None
+command_unmatched args u bad =
+    unmatched commands command_from simple_command_in (fault_of simple_app args) (subcommand_of simple_app args)
+    (request_of commands args) bad (program_law (codes "xinu_run") commands refl args u)
 
 -- ---- the actions of a disk
 
@@ -80,12 +113,6 @@ module _ (rows : List Row) (t : Taken) where
   abbrev args_at : CommandRow → List Text
   args_at c = args_in (fold with_default rows (rules c.options))
 
-  -- what holds of the row that was found
-  at_row : (c row : CommandRow) → Some c ≡ Some row → (P : CommandRow → Type 0) → (Holds c.options rows t → P c) → Holds row.options rows t → P row
-  at_row c row is P read h =
-      let same : c ≡ row = cc in
-      subst (λ (r : CommandRow). Holds r.options rows t → P r) same read h
-
   writing_read : (of : Option Text → List Text → Option DiskAction) → Holds out_options rows t
       → of (option_value (codes "out") t) t.positional ≡ of (first_of (codes "out") (fold with_default rows (rules out_options))) (args_in (fold with_default rows (rules out_options)))
   writing_read of h = rw (value_read out_options rows t h (codes "out") _ refl refl refl refl, args_read out_options rows t h refl) refl
@@ -100,13 +127,22 @@ module _ (rows : List Row) (t : Taken) where
       → Holds row.options rows t
       → chosen a b c d e f (option_value (codes "out") t) t.positional
       ≡ chosen a b c d e f (first_of (codes "out") (fold with_default rows (rules row.options))) (args_in (fold with_default rows (rules row.options)))
-  by_tests true b c d e f row is h = at_row (writing (codes "mkfs")) row is (λ r. mkfs_of (option_value (codes "out") t) t.positional ≡ mkfs_of (out_in r) (args_at r)) (writing_read mkfs_of) h
-  by_tests false true c d e f row is h = at_row (printing (codes "ls")) row is (λ r. ls_of t.positional ≡ ls_of (args_at r)) (printing_read ls_of) h
-  by_tests false false true d e f row is h = at_row (writing (codes "get")) row is (λ r. get_of (option_value (codes "out") t) t.positional ≡ get_of (out_in r) (args_at r)) (writing_read get_of) h
-  by_tests false false false true e f row is h = at_row (writing (codes "put")) row is (λ r. put_of (option_value (codes "out") t) t.positional ≡ put_of (out_in r) (args_at r)) (writing_read put_of) h
-  by_tests false false false false true f row is h = at_row (printing (codes "check")) row is (λ r. check_of t.positional ≡ check_of (args_at r)) (printing_read check_of) h
+  by_tests true b c d e f row is h =
+      at_row rows t (writing (codes "mkfs")) row is (λ r. mkfs_of (option_value (codes "out") t) t.positional ≡ mkfs_of (out_in r)
+      (args_at r)) (writing_read mkfs_of) h
+  by_tests false true c d e f row is h =
+      at_row rows t (printing (codes "ls")) row is (λ r. ls_of t.positional ≡ ls_of (args_at r)) (printing_read ls_of) h
+  by_tests false false true d e f row is h =
+      at_row rows t (writing (codes "get")) row is (λ r. get_of (option_value (codes "out") t) t.positional ≡ get_of (out_in r) (args_at r))
+      (writing_read get_of) h
+  by_tests false false false true e f row is h =
+      at_row rows t (writing (codes "put")) row is (λ r. put_of (option_value (codes "out") t) t.positional ≡ put_of (out_in r) (args_at r))
+      (writing_read put_of) h
+  by_tests false false false false true f row is h =
+      at_row rows t (printing (codes "check")) row is (λ r. check_of t.positional ≡ check_of (args_at r)) (printing_read check_of) h
   by_tests false false false false false true row is h =
-      at_row (writing (codes "repair")) row is (λ r. repair_of (option_value (codes "out") t) t.positional ≡ repair_of (out_in r) (args_at r)) (writing_read repair_of) h
+      at_row rows t (writing (codes "repair")) row is (λ r. repair_of (option_value (codes "out") t) t.positional ≡ repair_of (out_in r)
+      (args_at r)) (writing_read repair_of) h
   by_tests false false false false false false row is h = absurd (cc)
 
 action_taken : (sub : Option (Text × List Row)) (r : Request) → Enters actions r sub → action_from r ≡ action_command_in sub

@@ -1,22 +1,40 @@
 -- The commands of the program, and which command its arguments give.
 use Rattle.std.specs.Prelude.{List, [], ◌∷◌, Option, None, codes, bytes_eq, if◌then◌else◌, option_map, option_and_then}
-use Rattle.command_line.specs.Reading.{CommandRow, Text, request_of}
+use Rattle.command_line.specs.Reading.{CommandRow, Request, Text, request_of}
 use Rattle.command_line.specs.RunArgs.{RunFiles, run_from, run_options}
+use Rattle.command_line.specs.AsmArgs.{AsmFiles, asm_from, asm_options}
 use Rattle.command_line.specs.DiskArgs.{DiskAction, action_of}
 
 pub data Command : Type 0 where
   Run : RunFiles → Command
+  Asm : AsmFiles → Command
   Disk : DiskAction → Command
 
--- the commands without actions
-abbrev pub commands : List CommandRow
-commands = record { name = codes "run"; options = run_options } ∷ []
+-- ---- the commands without actions
 
-abbrev pub run_command_of : List Text → Option RunFiles
-run_command_of args = option_and_then (λ r. run_from r.taken) (request_of commands args)
+abbrev pub run_row : CommandRow
+run_row = record { name = codes "run"; options = run_options }
+
+abbrev pub asm_row : CommandRow
+asm_row = record { name = codes "asm"; options = asm_options }
+
+abbrev pub commands : List CommandRow
+commands = run_row ∷ asm_row ∷ []
+
+-- the command of this name, by what was taken for each
+abbrev pub command_named : Text → Option RunFiles → Option AsmFiles → Option Command
+command_named name run asm =
+    if bytes_eq (codes "run") name then option_map Run run else (if bytes_eq (codes "asm") name then option_map Asm asm else None)
+
+abbrev pub command_from : Request → Option Command
+command_from r = command_named r.command (run_from r.taken) (asm_from r.taken)
+
+-- The command without actions that the arguments give.
+abbrev pub simple_command_of : List Text → Option Command
+simple_command_of args = option_and_then command_from (request_of commands args)
 
 -- The command that the arguments give, or `None` if they give none. After `disk` the next argument names an action.
 abbrev pub command_of : List Text → Option Command
 command_of [] = None
 command_of (first ∷ args) =
-    if bytes_eq (codes "disk") first then option_map Disk (action_of args) else option_map Run (run_command_of (first ∷ args))
+    if bytes_eq (codes "disk") first then option_map Disk (action_of args) else simple_command_of (first ∷ args)

@@ -1,5 +1,6 @@
 pub mod Reading
 pub mod RunArgs
+pub mod AsmArgs
 pub mod DiskArgs
 pub mod Commands
 pub mod Names

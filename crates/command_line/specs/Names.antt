@@ -1,9 +1,11 @@
 -- The command of the code, as the names that it holds.
 use Rattle.std.specs.Prelude.{map}
 use Rattle.command_line.specs.RunArgs.{RunFiles as RunNames}
+use Rattle.command_line.specs.AsmArgs.{AsmFiles as AsmNames}
 use Rattle.command_line.specs.DiskArgs.{DiskAction as ActionNames, Mkfs, Ls, Get, Put, Check, Repair}
-use Rattle.command_line.specs.Commands.{Command as CommandNames, Run, Disk}
+use Rattle.command_line.specs.Commands.{Command as CommandNames, Run, Asm, Disk}
 use Rattle.command_line.specs.declared.run_args.RunFiles.{RunFiles}
+use Rattle.command_line.specs.declared.asm_args.AsmFiles.{AsmFiles}
 use Rattle.command_line.specs.declared.disk_args.DiskAction.{DiskAction}
 use Rattle.command_line.specs.declared.disk_args.DiskAction.TheVariants as action
 use Rattle.command_line.specs.declared.command.Command.{Command}
@@ -11,6 +13,9 @@ use Rattle.command_line.specs.declared.command.Command.TheVariants as command
 
 abbrev pub run_names : RunFiles → RunNames
 run_names r = record { schedule = r.schedule.now; images = map (λ s. s.now) r.images.items }
+
+abbrev pub asm_names : AsmFiles → AsmNames
+asm_names a = record { source = a.source.now; out = a.out.now; elf = a.elf }
 
 abbrev pub action_names : DiskAction → ActionNames
 action_names (action.Mkfs blocks out) = Mkfs blocks out.now
@@ -22,4 +27,5 @@ action_names (action.Repair image out) = Repair image.now out.now
 
 abbrev pub command_names : Command → CommandNames
 command_names (command.Run r) = Run (run_names r)
+command_names (command.Asm a) = Asm (asm_names a)
 command_names (command.Disk a) = Disk (action_names a)

@@ -1,14 +1,15 @@
 -- What the parser knows of the program's commands, and what is taken from its matches.
-use Rattle.std.specs.Prelude.{true, List, [], ◌∷◌, Option, Some, codes}
-use Rattle.std.specs.Prelude.{if◌then◌else◌, option_and_then}
-use Rattle.std.specs.Option.{unwrap_or}
+use Rattle.std.specs.Prelude.{Bool, true, false, List, [], ◌∷◌, Option, Some, codes}
+use Rattle.std.specs.Prelude.{if◌then◌else◌, bytes_eq, option_and_then}
+use Rattle.std.specs.Option.{option_map_or, unwrap_or}
 use Rattle.clap.specs.Walk.{Row, Rule, all_of, first_of}
 use Rattle.clap.specs.Simple.{App, new_rule, new_shape, with_subcommand}
 use Rattle.clap.specs.declared.builder.action.ArgAction.TheVariants.{Set, Append, SetTrue}
 use Rattle.command_line.specs.Reading.{CommandRow, OptionRow, Text}
 use Rattle.command_line.specs.RunArgs.{RunFiles, run_of}
+use Rattle.command_line.specs.AsmArgs.{AsmFiles, asm_of}
 use Rattle.command_line.specs.DiskArgs.{DiskAction, action_named, actions}
-use Rattle.command_line.specs.Commands.{commands}
+use Rattle.command_line.specs.Commands.{Command, command_named, commands}
 
 -- an option: it is used once
 abbrev pub option_rule : OptionRow → Rule
@@ -50,8 +51,8 @@ with_commands app [] = app
 with_commands app (c ∷ cs) = with_commands (with_subcommand app (command_app c).top) cs
 
 -- the program, and `disk` with its actions
-abbrev pub run_app : App
-run_app = with_commands (program_app (codes "xinu_run")) commands
+abbrev pub simple_app : App
+simple_app = with_commands (program_app (codes "xinu_run")) commands
 
 abbrev pub disk_app : App
 disk_app = with_commands (program_app (codes "disk")) actions
@@ -64,9 +65,19 @@ args_in rows = unwrap_or (all_of (codes "arg") rows) []
 abbrev pub run_in : List Row → Option RunFiles
 run_in rows = run_of (first_of (codes "schedule") rows) (args_in rows)
 
--- the run that the matches give
-abbrev pub run_command_in : Option (Text × List Row) → Option RunFiles
-run_command_in found = option_and_then (λ p. run_in p.1) found
+-- whether a flag was given: its value is `true` then
+abbrev pub flag_in : Text → List Row → Bool
+flag_in name rows = option_map_or (bytes_eq (codes "true")) (first_of name rows) false
+
+abbrev pub asm_in : List Row → Option AsmFiles
+asm_in rows = asm_of (first_of (codes "out") rows) (flag_in (codes "elf") rows) (args_in rows)
+
+abbrev pub command_in : Text → List Row → Option Command
+command_in name rows = command_named name (run_in rows) (asm_in rows)
+
+-- the command without actions that the matches give
+abbrev pub simple_command_in : Option (Text × List Row) → Option Command
+simple_command_in found = option_and_then (λ p. command_in p.0 p.1) found
 
 abbrev pub action_in : Text → List Row → Option DiskAction
 action_in name rows = action_named name (first_of (codes "out") rows) (args_in rows)

@@ -1,5 +1,5 @@
 -- How the arguments after a command's name are read from the left, by a table of the options that the command has.
-use Rattle.std.specs.Prelude.{◌==◌, ◌++◌, ℕ, Bool, true, List, [], ◌∷◌, Option, Some, None}
+use Rattle.std.specs.Prelude.{◌==◌, ◌++◌, ℕ, Bool, true, false, List, [], ◌∷◌, Option, Some, None}
 use Rattle.std.specs.Prelude.{if◌then◌else◌, find, fold, bytes_eq, is_some, option_map, option_and_then}
 use Rattle.std.specs.List.{list_any, before_first, after_first}
 
@@ -14,6 +14,10 @@ pub record OptionRow : Type 0 where
 -- the option `--name VALUE`
 abbrev pub value_option : Text → OptionRow
 value_option name = record { name = name; takes_value = true }
+
+-- the option `--name`, which takes no value
+abbrev pub flag_option : Text → OptionRow
+flag_option name = record { name = name; takes_value = false }
 
 -- what an argument is before the first `--`
 pub data ArgForm : Type 0 where
@@ -72,6 +76,10 @@ given name t = find (λ p. bytes_eq p.0.name name) t.options
 -- the value of an option that was given
 abbrev pub option_value : Text → Taken → Option Text
 option_value name t = option_map (λ p. p.1) (given name t)
+
+-- whether an option was given
+abbrev pub is_given : Text → Taken → Bool
+is_given name t = is_some (given name t)
 
 abbrev pub with_positional : Text → Taken → Taken
 with_positional arg t = record t { positional = t.positional ++ arg ∷ [] }

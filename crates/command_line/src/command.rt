@@ -2,15 +2,20 @@
 
 ghost use Rattle.std.specs.Prelude.{◌≡◌, ◌∷◌, [], IfOk, IsErrOf, Some, None, codes, bytes_eq, map, false};
 ghost use Rattle.std.specs.String.{string_bytes};
-ghost use Rattle.command_line.specs.Names.{action_names, command_names, run_names};
+ghost use Rattle.clap.specs.Walk.{rows_of};
+ghost use Rattle.clap.specs.Matches.{found_of};
+ghost use Rattle.command_line.specs.Names.{action_names, command_names};
+ghost use Rattle.command_line.specs.Parser.{command_in};
 ghost use Rattle.command_line.specs.Commands as commands;
 ghost use Rattle.command_line.specs.DiskArgs as disk;
 ghost use Rattle.command_line.specs.declared.refusal.ArgsFault.TheVariants as fault;
 
+use crate::asm_args::{self, AsmFiles};
 use crate::disk_args::{self, DiskAction};
-use crate::parser::{action_matches, run_matches};
+use crate::parser::{action_matches, command_matches};
 use crate::refusal::ArgsFault;
 use crate::run_args::{self, RunFiles};
+use clap::ArgMatches;
 use std::alloc::Global;
 
 /// What the program is to do.
@@ -18,6 +23,8 @@ use std::alloc::Global;
 pub enum Command<'a> {
     /// Run images under a schedule.
     Run(RunFiles<'a>),
+    /// Assemble a text.
+    Asm(AsmFiles<'a>),
     /// Do something with a disk.
     Disk(DiskAction<'a>),
 }
@@ -26,8 +33,8 @@ pub enum Command<'a> {
 ///
 /// # Errors
 ///
-/// [`ArgsFault::NoCommand`] if and only if the arguments give none and there is memory to read them: another first argument than `run` or
-/// `disk`, or another second one than an action of `disk`; an argument that names no option of it; an option given twice or without its value; an
+/// [`ArgsFault::NoCommand`] if and only if the arguments give none and there is memory to read them: another first argument than `run`,
+/// `asm` or `disk`, or another second one than an action of `disk`; an argument that names no option of it; an option given twice or without its value; an
 /// option or an argument that is missing, or an argument too many; an empty name; a name of a file on a disk that can't be one; a number of blocks that a
 /// disk can't have.
 /// [`ArgsFault::NoMemory`] if memory runs out, which may come on any arguments.
@@ -44,24 +51,43 @@ pub fn command_of<'a>(alloc: Global, args: &'a [String]) -> Result<Command<'a>, 
                     Err(fault) => Err(fault),
                 }
             } else {
-                match run_of(alloc, args) {
-                    Ok(files) => Ok(Command::Run(files)),
-                    Err(fault) => Err(fault),
-                }
+                simple_command_of(alloc, args)
             }
         }
     }
 }
 
-// The run that arguments give.
-fn run_of<'a>(alloc: Global, args: &'a [String]) -> Result<RunFiles<'a>, ArgsFault>
-    ensures files { IfOk result (λ r. commands.run_command_of (map string_bytes args.entry.now) ≡ Some (run_names r)) }
-    ensures no_command { IsErrOf result fault.NoCommand → commands.run_command_of (map string_bytes args.entry.now) ≡ None }
+// The command without actions that arguments give.
+fn simple_command_of<'a>(alloc: Global, args: &'a [String]) -> Result<Command<'a>, ArgsFault>
+    ensures command { IfOk result (λ c. commands.simple_command_of (map string_bytes args.entry.now) ≡ Some (command_names c)) }
+    ensures no_command { IsErrOf result fault.NoCommand → commands.simple_command_of (map string_bytes args.entry.now) ≡ None }
 {
-    let matches = run_matches(alloc, args)?;
+    let matches = command_matches(alloc, args)?;
     match matches.subcommand() {
-        Some((_, matches)) => run_args::run_of(alloc, matches),
+        Some((name, matches)) => command_named(alloc, name, matches),
         None => Err(ArgsFault::NoCommand),
+    }
+}
+
+// The command of a name, by the arguments after it.
+fn command_named<'a>(
+    alloc: Global,
+    name: &str,
+    matches: &ArgMatches<'a>,
+) -> Result<Command<'a>, ArgsFault>
+    ensures command { IfOk result (λ c. command_in name.now (rows_of (found_of matches.entry.now)) ≡ Some (command_names c)) }
+    ensures no_command { IsErrOf result fault.NoCommand → command_in name.now (rows_of (found_of matches.entry.now)) ≡ None }
+{
+    match name {
+        "run" => match run_args::run_of(alloc, matches) {
+            Ok(files) => Ok(Command::Run(files)),
+            Err(fault) => Err(fault),
+        },
+        "asm" => match asm_args::asm_of(alloc, matches) {
+            Ok(files) => Ok(Command::Asm(files)),
+            Err(fault) => Err(fault),
+        },
+        _ => Err(ArgsFault::NoCommand),
     }
 }
 

@@ -5,7 +5,7 @@ ghost use Rattle.std.specs.List.{list_all};
 ghost use Rattle.clap.specs.Walk.{first_of, rows_of};
 ghost use Rattle.clap.specs.Matches.{found_of};
 ghost use Rattle.command_line.specs.RunArgs.{is_file_name};
-ghost use Rattle.command_line.specs.Parser.{args_in};
+ghost use Rattle.command_line.specs.Parser.{args_in, flag_in};
 
 use clap::ArgMatches;
 use std::alloc::{AllocError, Global};
@@ -15,6 +15,16 @@ pub(crate) fn option_value<'a>(matches: &ArgMatches<'a>, name: &str) -> Option<&
     ensures value { option_map (λ s. s.now) result ≡ first_of name.now (rows_of (found_of matches.now)) }
 {
     matches.get_str(name)
+}
+
+/// Whether a flag was given.
+pub(crate) fn is_given(matches: &ArgMatches<'_>, name: &str) -> bool
+    ensures given { result ≡ flag_in name.now (rows_of (found_of matches.now)) }
+{
+    match option_value(matches, name) {
+        Some(value) => "true" == value,
+        None => false,
+    }
 }
 
 /// The positional arguments.

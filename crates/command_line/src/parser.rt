@@ -4,11 +4,10 @@ ghost use Rattle.std.specs.Prelude.{◌≡◌, ◌∷◌, [], IfOk, IsErrOf, Non
 ghost use Rattle.std.specs.String.{string_bytes};
 ghost use Rattle.clap.specs.Words.{app_of, fault_of, is_simple, is_simple_and_free, rule_of, subcommand_of, subcommand_rows_of};
 ghost use Rattle.clap.specs.declared.builder.command.Command.TheViews.{out-Command as fields_of};
-ghost use Rattle.command_line.specs.Reading.{value_option};
-ghost use Rattle.command_line.specs.RunArgs.{run_options};
+ghost use Rattle.command_line.specs.Reading.{flag_option, value_option};
 ghost use Rattle.command_line.specs.DiskArgs as disk;
-ghost use Rattle.command_line.specs.Commands.{run_command_of};
-ghost use Rattle.command_line.specs.Parser.{action_command_in, arg_rule, command_app, disk_app, option_rule, program_app, run_app, run_command_in};
+ghost use Rattle.command_line.specs.Commands.{asm_row, run_row, simple_command_of};
+ghost use Rattle.command_line.specs.Parser.{action_command_in, arg_rule, command_app, disk_app, option_rule, program_app, simple_app, simple_command_in};
 ghost use Rattle.command_line.specs.declared.refusal.ArgsFault.TheVariants as fault;
 
 use crate::refusal::ArgsFault;
@@ -16,15 +15,15 @@ use clap::error::ErrorKind;
 use clap::{Arg, ArgAction, ArgMatches, Command};
 use std::alloc::{AllocError, Global};
 
-/// The matches of arguments whose first names the command `run`, or why there are none.
-pub(crate) fn run_matches<'a>(
+/// The matches of arguments whose first names a command without actions, `run` or `asm`, or why there are none.
+pub(crate) fn command_matches<'a>(
     alloc: Global,
     args: &'a [String],
 ) -> Result<ArgMatches<'a>, ArgsFault>
-    ensures files { IfOk result (λ m. run_command_of (map string_bytes args.entry.now) ≡ run_command_in (subcommand_rows_of m)) }
-    ensures no_command { IsErrOf result fault.NoCommand → run_command_of (map string_bytes args.entry.now) ≡ None }
+    ensures command { IfOk result (λ m. simple_command_of (map string_bytes args.entry.now) ≡ simple_command_in (subcommand_rows_of m)) }
+    ensures no_command { IsErrOf result fault.NoCommand → simple_command_of (map string_bytes args.entry.now) ≡ None }
 {
-    matches_by(run_parser(alloc)?, args)
+    matches_by(command_parser(alloc)?, args)
 }
 
 /// The matches of arguments whose first names an action of `disk`, or why there are none.
@@ -56,10 +55,12 @@ fn matches_by<'a>(parser: Command<'a>, args: &'a [String]) -> Result<ArgMatches<
 }
 
 // The program with its commands. The parser knows of names and of values, and of no count.
-fn run_parser<'a>(alloc: Global) -> Result<Command<'a>, AllocError>
-    ensures told { IfOk result (λ c. app_of c ≡ run_app) }
+fn command_parser<'a>(alloc: Global) -> Result<Command<'a>, AllocError>
+    ensures told { IfOk result (λ c. app_of c ≡ simple_app) }
 {
-    program(alloc, "xinu_run").subcommand(run_command(alloc)?)
+    program(alloc, "xinu_run")
+        .subcommand(run_command(alloc)?)?
+        .subcommand(asm_command(alloc)?)
 }
 
 // The command `disk` with its actions.
@@ -90,11 +91,22 @@ fn program<'a>(alloc: Global, name: &'a str) -> Command<'a>
 
 // The command `run`, with its options.
 fn run_command<'a>(alloc: Global) -> Result<Command<'a>, AllocError>
-    ensures told { IfOk result (λ c. app_of c ≡ command_app (record { name = codes "run"; options = run_options })) }
+    ensures told { IfOk result (λ c. app_of c ≡ command_app run_row) }
     ensures local { IfOk result (λ c. (fields_of c).has_globals ≡ false) }
 {
     Command::new(alloc, "run")
         .arg(valued(alloc, "schedule"))?
+        .arg(args(alloc))
+}
+
+// The command `asm`, with its options.
+fn asm_command<'a>(alloc: Global) -> Result<Command<'a>, AllocError>
+    ensures told { IfOk result (λ c. app_of c ≡ command_app asm_row) }
+    ensures local { IfOk result (λ c. (fields_of c).has_globals ≡ false) }
+{
+    Command::new(alloc, "asm")
+        .arg(valued(alloc, "out"))?
+        .arg(flag(alloc, "elf"))?
         .arg(args(alloc))
 }
 
@@ -122,6 +134,14 @@ fn valued<'a>(alloc: Global, name: &'a str) -> Arg<'a>
     ensures local { result.global ≡ false }
 {
     Arg::new(alloc, name).long(name).action(ArgAction::Set)
+}
+
+// The option `--name`.
+fn flag<'a>(alloc: Global, name: &'a str) -> Arg<'a>
+    ensures rule { rule_of result ≡ option_rule (flag_option name.now) }
+    ensures local { result.global ≡ false }
+{
+    Arg::new(alloc, name).long(name).action(ArgAction::SetTrue)
 }
 
 // The positional arguments, one by one.

@@ -104,6 +104,29 @@ fn these_args_give_an_action(rt: HostRuntime) -> Result<(), Fail> {
 }
 
 #[test]
+fn these_args_give_a_text_to_assemble(rt: HostRuntime) -> Result<(), Fail> {
+    for (args, source, out, elf) in [
+        (["asm", "s", "--out", "o"].as_slice(), "s", "o", false),
+        (&["asm", "--out=o", "s"], "s", "o", false),
+        (&["asm", "s", "--out", "o", "--elf"], "s", "o", true),
+        (&["asm", "--elf", "s", "--out", "o"], "s", "o", true),
+        (&["asm", "--out", "o", "--elf", "s"], "s", "o", true),
+        (&["asm", "--out", "o", "--", "--elf"], "--elf", "o", false),
+        (&["asm", "elf", "--out", "-"], "elf", "-", false),
+        (&["asm", "--out=--elf", "-"], "-", "--elf", false),
+    ] {
+        let args = strings(rt.alloc(), args)?;
+        match command_of(rt.alloc(), args.as_slice()) {
+            Ok(Command::Asm(files)) => {
+                assert_eq!(rt; (files.source, files.out, files.elf), (source, out, elf));
+            }
+            _ => return Err("a text to assemble")?,
+        }
+    }
+    Ok(())
+}
+
+#[test]
 fn these_args_give_no_command(rt: HostRuntime) -> Result<(), Fail> {
     for args in [
         [].as_slice(),
@@ -158,6 +181,23 @@ fn these_args_give_no_command(rt: HostRuntime) -> Result<(), Fail> {
         &["run", "--schedule=", "i"],
         &["run", "--schedule", "s", ""],
         &["run", "--schedule", "s", "--", ""],
+        // a source too few or too many, no file, or another option
+        &["asm", "--out", "o"],
+        &["asm", "s", "t", "--out", "o"],
+        &["asm", "s"],
+        &["asm", "s", "--out"],
+        &["asm", "s", "--out", "o", "--out", "o"],
+        &["asm", "", "--out", "o"],
+        &["asm", "s", "--out", ""],
+        &["asm", "s", "--out", "--elf"],
+        &["asm", "s", "--out", "o", "--elf", "--elf"],
+        &["asm", "s", "--out", "o", "--elf=yes"],
+        &["asm", "s", "--out", "o", "--elf="],
+        &["asm", "s", "--out", "o", "-elf"],
+        &["asm", "s", "--schedule", "o"],
+        &["Asm", "s", "--out", "o"],
+        &["run", "--schedule", "s", "--elf", "i"],
+        &["disk", "check", "d", "--elf"],
         // a disk without an action, or with another one
         &["disk"],
         &["Disk", "check", "d"],

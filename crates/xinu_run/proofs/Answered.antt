@@ -15,9 +15,9 @@ use Rattle.xinu_model.specs.Machine.{Xinu}
 use Rattle.xinu_run.specs.Conversions.{args_refusal, host_refusal}
 use Rattle.xinu_run.specs.Calls.{calls_of}
 use Rattle.xinu_run.specs.Refusals.{TellsRefusal, text_of}
-use Rattle.xinu_run.specs.Stages.{KeepsFiles, Performs, left_of, refusal_of}
+use Rattle.xinu_run.specs.Stages.{Performs, left_of, refusal_of}
 use Rattle.xinu_run.specs.RunVerdict.{run_verdict}
-use Rattle.xinu_run.specs.Theorem.{Answers, Carries, HasCalled, IsUnsent, Obeys}
+use Rattle.xinu_run.specs.Theorem.{Answers, Carries, IsUnsent, Obeys}
 use Rattle.xinu_run.specs.Verdict.{file_bytes, verdict}
 use Rattle.xinu_run.specs.Work.{Verdict, Refuses, Does, Runs, Outputs}
 use Rattle.xinu_run.specs.declared.refusals.Refusal.{Refusal}

@@ -1,12 +1,10 @@
 -- A disk or a source that is fetched up to a byte more than a disk may have is judged as a whole.
-use Rattle.std.proofs.Common.{◌≡◌, ◌≢◌, ◌∙◌, ◌+◌, ◌-◌, ◌*◌, ◌/◌, ◌%◌, ◌<◌, ◌≤◌, ◌&&◌, inl, inr, ℕ, Bool, true, false, cond, nat_eq, nat_le, List, [], ◌∷◌, ◌++◌, length, take, Option, Some, None, refl, sym, ap, subst, arith}
+use Rattle.std.proofs.Common.{◌≡◌, ◌∙◌, ◌-◌, ◌*◌, ◌/◌, ◌%◌, ◌<◌, ◌≤◌, ◌&&◌, inl, inr, ℕ, Bool, true, false, cond, nat_eq, nat_le, List, [], ◌∷◌, ◌++◌, length, take, Option, Some, None, refl, sym, ap, arith}
 use Rattle.std.proofs.lemmas.Bool.{lt-leb}
-use Rattle.std.specs.Prelude.{option_map}
-use Rattle.lfs_check.specs.declared.geometry.Geometry.{Geometry}
 use Rattle.lfs_check.specs.declared.faults.DiskFault.{DiskFault}
 use Rattle.lfs_check.specs.Fields.{fields_of, geometry_of, is_version_2}
 use Rattle.lfs_check.specs.Faults.{either_fault, named, shape_fault}
-use Rattle.lfs_check.specs.Geometries.{fewest_blocks, first_data, index_count, most_blocks}
+use Rattle.lfs_check.specs.Geometries.{fewest_blocks, first_data, most_blocks}
 use Rattle.lfs_check.specs.Rules.{rule_0}
 use Rattle.lfs_layout.specs.Files.{File, blocks_for, have_room, padded_name, placed_files, total_for, with_set, without_name}
 use Rattle.lfs_layout.specs.Images.{opened}
@@ -16,7 +14,7 @@ use Rattle.lfs_layout.proofs.MadeClean.{opened_clean}
 use Rattle.xinu_run.specs.DiskVerdict.{check_verdict, disk_fault, get_verdict, ls_verdict, put_verdict, repair_verdict, rule_broken, size_fault}
 use Rattle.xinu_run.specs.Work.{Verdict, Refuses}
 use Rattle.xinu_run.specs.declared.refusals.Refusal.TheVariants as refusal
-use Rattle.xinu_run.proofs.DiskVerdicts.{check_broken, files_with, get_broken, ls_broken, put_broken, put_sets, repair_broken, set_refused}
+use Rattle.xinu_run.proofs.DiskVerdicts.{check_broken, get_broken, ls_broken, put_broken, put_sets, repair_broken, set_refused}
 use Rattle.xinu_run.proofs.InputFaults.{cases_fetched}
 
 -- ---- a disk that is too long breaks rule 0

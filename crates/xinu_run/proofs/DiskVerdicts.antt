@@ -1,14 +1,12 @@
 -- The verdicts on the actions on a disk, by what was found of their files.
 use Rattle.std.proofs.Common.{◌≡◌, ◌∙◌, ◌+◌, ◌-◌, ◌/◌, ◌++◌, ℕ, Bool, true, false, List, [], length, count_by, codes, Option, Some, None, refl, sym, ap, ap₂, subst, cond, arith}
-use Rattle.std.specs.Prelude.{option_map, Result, Ok, Err, MatchOption}
+use Rattle.std.specs.Prelude.{option_map, Ok, MatchOption}
 use Rattle.std.specs.Fmt.{decimal}
 use Rattle.command_line.specs.Reading.{Text}
 use Rattle.lfs_check.specs.Fields.{directory_entries, fields_of, geometry_of}
 use Rattle.lfs_check.specs.Kept.{kept_entries}
-use Rattle.lfs_check.specs.Faults.{Refuses as RefusesBy, fault, named, report}
+use Rattle.lfs_check.specs.Faults.{fault, named, report}
 use Rattle.lfs_check.specs.Rules.{entry_is_used, rule_0}
-use Rattle.lfs_check.specs.declared.faults.CheckFault.{CheckFault}
-use Rattle.lfs_check.specs.declared.faults.CheckFault.TheVariants as check
 use Rattle.lfs_check.specs.declared.faults.DiskFault.{DiskFault}
 use Rattle.lfs_layout.specs.Files.{File, found, have_room, padded_name, placed_files, with_set}
 use Rattle.lfs_layout.specs.Images.{Puts, opened, repaired}

@@ -1,5 +1,5 @@
--- What a fetch of a host is for an action on a disk.
-use Rattle.std.proofs.Common.{◌≡◌, ◌≤◌, ◌∙◌, ℕ, List, [], ◌∷◌, length, take, Option, Some, None, refl, sym, ap, subst}
+-- What a fetch of a host is for `asm` and for an action on a disk.
+use Rattle.std.proofs.Common.{◌≡◌, ◌≤◌, ◌+◌, ℕ, List, [], ◌∷◌, length, take, Option, Some, None, sym, ap, subst}
 use Rattle.std.specs.Prelude.{MatchOption, ⊤}
 use Rattle.host_port.specs.declared.host.HostFault.{HostFault}
 use Rattle.host_port.specs.declared.host.HostFault.TheVariants as host
@@ -12,8 +12,8 @@ use Rattle.xinu_run.proofs.Answered.{fetched_unsent}
 use Rattle.xinu_run.proofs.Files.{held_fetched}
 use Rattle.xinu_run.proofs.Sent.{host_cause}
 
-pub fetched_front : (file : Option (List ℕ)) (items : List ℕ) → length items ≤ 33557505 → MatchOption file ⊤ (λ bytes. items ≡ take 33557505 bytes) → IsFetched file items
-fetched_front file items few is = record { front = held_fetched file items 33557505 few is }
+pub fetched_front : (most : ℕ) (file : Option (List ℕ)) (items : List ℕ) → length items ≤ most + 1 → MatchOption file ⊤ (λ bytes. items ≡ take (most + 1) bytes) → IsFetched most file items
+fetched_front most file items few is = record { front = held_fetched file items (most + 1) few is }
 
 keeps : (h k : Outside) (calls : List HostCall) → k ≡ counted (with_calls h calls) k.faults → h.faults ≤ k.faults → KeepsFiles h k
 keeps h k calls is later = record { file = ap (λ (x : Outside). x.file) is; fault = ap (λ (x : Outside). x.fault) is; later = later }

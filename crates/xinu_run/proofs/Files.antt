@@ -5,7 +5,7 @@ use Rattle.std.specs.Prelude.{MatchOption, ⊤, Err, option_map}
 use Rattle.command_line.specs.Commands.{Run}
 use Rattle.command_line.specs.Reading.{Text}
 use Rattle.host_port.specs.Outside.{Outside}
-use Rattle.image_loader.specs.ImageFiles.{image_in}
+use Rattle.elf_loader.specs.LoadedFiles.{loads}
 use Rattle.schedule_file.specs.ScheduleFiles.{Bad, Many, Names, events_in}
 use Rattle.schedule_file.specs.declared.faults.ScheduleFault.{ScheduleFault}
 use Rattle.schedule_file.specs.declared.faults.ScheduleFault.TheVariants as schedule
@@ -93,15 +93,15 @@ schedule_refused bytes l images is =
 
 -- an image file that was read, the last one
 pub image_read : (i : ℕ) (bytes : List ℕ) (image : Loaded) (next : List Loaded → Verdict) → image_fault bytes ≡ None
-    → image_in bytes ≡ Some image → images_verdict i (bytes ∷ []) next ≡ next (image ∷ [])
+    → loads bytes ≡ Some image → images_verdict i (bytes ∷ []) next ≡ next (image ∷ [])
 image_read i bytes image next good is =
-    unless_fault_read (option_map (refusal.Image i) (image_fault bytes)) (image_in bytes) (λ x. next (x ∷ [])) image (ap (option_map (refusal.Image i)) good) is
+    unless_fault_read (option_map (refusal.Image i) (image_fault bytes)) (loads bytes) (λ x. next (x ∷ [])) image (ap (option_map (refusal.Image i)) good) is
 
 -- an image file with a fault
 pub image_refused : (i : ℕ) (bytes : List ℕ) (f : ℕ) (files : List (List ℕ)) (next : List Loaded → Verdict) → image_fault bytes ≡ Some f
     → images_verdict i (bytes ∷ files) next ≡ Refuses (refusal.Image i f)
 image_refused i bytes f files next is =
-    unless_fault_refused (option_map (refusal.Image i) (image_fault bytes)) (image_in bytes) (λ x. images_verdict (i + 1) files (λ images. next (x ∷ images))) (refusal.Image i f) (ap (option_map (refusal.Image i)) is)
+    unless_fault_refused (option_map (refusal.Image i) (image_fault bytes)) (loads bytes) (λ x. images_verdict (i + 1) files (λ images. next (x ∷ images))) (refusal.Image i f) (ap (option_map (refusal.Image i)) is)
 
 -- The fetched bytes of an image are judged as the whole file is.
 pub image_fetched : (i : ℕ) (bytes items : List ℕ) (files : List (List ℕ)) (next : List Loaded → Verdict) → items ≡ take 1048577 bytes
@@ -149,7 +149,7 @@ images_keep : (i : ℕ) (files : List (List ℕ)) (next : List Loaded → Verdic
     → ((images : List Loaded) → next images ≢ Refuses refusal.Usage) → images_verdict i files next ≢ Refuses refusal.Usage
 images_keep i [] next rest is = rest [] is
 images_keep i (bytes ∷ files) next rest is =
-    unless_fault_keeps (option_map (refusal.Image i) (image_fault bytes)) (image_in bytes) (λ x. images_verdict (i + 1) files (λ images. next (x ∷ images))) (image_keeps i (image_fault bytes))
+    unless_fault_keeps (option_map (refusal.Image i) (image_fault bytes)) (loads bytes) (λ x. images_verdict (i + 1) files (λ images. next (x ∷ images))) (image_keeps i (image_fault bytes))
     (λ x. images_keep (i + 1) files (λ images. next (x ∷ images)) (λ images. rest (x ∷ images))) is
 
 pub run_keeps : (schedule : List ℕ) (images : List (List ℕ)) → run_verdict schedule images ≢ Refuses refusal.Usage

@@ -3,9 +3,9 @@ use Rattle.std.proofs.Common.{◌≡◌, ◌⊎◌, inl, inr, ℕ, ◌+◌, ◌<
 use Rattle.std.proofs.lemmas.Bool.{le-leb, lt-leb, cases_lt}
 use Rattle.std.proofs.lemmas.List.{take_all}
 use Rattle.std.specs.Prelude.{option_map}
-use Rattle.image_loader.specs.Faults.{fault_number}
-use Rattle.image_loader.specs.ImageFiles.{first_fault}
-use Rattle.image_loader.specs.declared.faults.ImageFault.{ImageFault}
+use Rattle.elf_loader.specs.ElfFaults.{load_fault_number}
+use Rattle.elf_loader.specs.LoadedFiles.{load_fault}
+use Rattle.elf_loader.specs.declared.faults.LoadFault.{LoadFault}
 use Rattle.schedule_file.specs.ScheduleFiles.{Reading, reading}
 use Rattle.xinu_run.specs.InputFaults.{fault_line, schedule_fault, image_fault}
 
@@ -25,11 +25,11 @@ unfolding schedule_fault
 schedule_fault-short bytes read short is =
     rw (le-leb (length bytes) 4194304 short) (ap fault_line is)
 
-pub image_fault-short : (bytes : List ℕ) (fault : Option ImageFault) → length bytes ≤ 1048576 → first_fault bytes ≡ fault
-    → image_fault bytes ≡ option_map fault_number fault
+pub image_fault-short : (bytes : List ℕ) (fault : Option LoadFault) → length bytes ≤ 1048576 → load_fault bytes ≡ fault
+    → image_fault bytes ≡ option_map load_fault_number fault
 unfolding image_fault
 image_fault-short bytes fault short is =
-    rw (le-leb (length bytes) 1048576 short) (ap (λ (f : Option ImageFault). option_map fault_number f) is)
+    rw (le-leb (length bytes) 1048576 short) (ap (λ (f : Option LoadFault). option_map load_fault_number f) is)
 
 -- What was fetched of a file is the whole file, or both are too long.
 pub cases_fetched : (bytes items : List ℕ) (most : ℕ) → items ≡ take (most + 1) bytes

@@ -1,4 +1,6 @@
 pub mod Answered
+pub mod AsmStatuses
+pub mod Assembled
 pub mod Called
 pub mod Carried
 pub mod DiskFetched
@@ -14,3 +16,4 @@ pub mod Sent
 pub mod SoFar
 pub mod Staged
 pub mod Statuses
+pub mod WrittenFiles

@@ -1,16 +1,16 @@
 -- What the arguments make sure of: a run has one image, and an action on a disk is possible.
-use Rattle.std.proofs.Common.{◌≡◌, ◌<◌, ◌≤◌, ℕ, nat_lt, nat_le, Bool, true, false, ◌&&◌, if◌then◌else◌, List, [], ◌∷◌, length, get_or, bytes_eq, Option, Some, None, refl, sym, ap, subst, ◌∙◌, arith, codes, map}
+use Rattle.std.proofs.Common.{◌≡◌, ◌<◌, ◌≤◌, nat_lt, nat_le, Bool, true, false, ◌&&◌, if◌then◌else◌, List, [], ◌∷◌, length, get_or, bytes_eq, Option, Some, None, refl, sym, ap, subst, arith, codes}
 use Rattle.std.specs.Prelude.{option_map}
-use Rattle.std.proofs.lemmas.List.{length-map}
 use Rattle.std.specs.List.{list_all}
 use Rattle.std.specs.Char.{is_ascii_digit}
 use Rattle.std.specs.Str.Parse.{digits_value}
 use Rattle.std.proofs.lemmas.Bool.{and_parts, ltb-true, leb-true}
 use Rattle.std.proofs.lemmas.Option.{option_and_then_some}
 use Rattle.lfs_layout.specs.Files.{is_text}
-use Rattle.command_line.specs.Commands.{Command, Run, Disk, command_of, commands, run_command_of}
-use Rattle.command_line.specs.DiskArgs.{DiskAction, Mkfs, Ls, Get, Put, Check, Repair, action_from, action_named, action_of, actions, check_of, get_of, is_block_count, ls_of, mkfs_of, put_of, repair_of}
-use Rattle.command_line.specs.Reading.{Request, Text, option_value, request_of}
+use Rattle.command_line.specs.AsmArgs.{AsmFiles, asm_from}
+use Rattle.command_line.specs.Commands.{Command, Run, Asm, Disk, command_from, command_of, commands, simple_command_of}
+use Rattle.command_line.specs.DiskArgs.{DiskAction, Mkfs, Ls, Get, Put, Check, Repair, action_from, action_of, actions, check_of, get_of, is_block_count, ls_of, mkfs_of, put_of, repair_of}
+use Rattle.command_line.specs.Reading.{Text, option_value, request_of}
 use Rattle.command_line.specs.RunArgs.{RunFiles, is_file_name, run_from, run_of}
 use Rattle.xinu_run.specs.Stages.{IsBlockCount, IsPossible}
 
@@ -21,15 +21,22 @@ some_if false x y is = cc
 
 -- ---- a run has one image
 
-run_given : (args : List Text) (r : RunFiles) → command_of args ≡ Some (Run r) → run_command_of args ≡ Some r
+run_given : (args : List Text) (r : RunFiles) → command_of args ≡ Some (Run r) → simple_command_of args ≡ Some (Run r)
 run_given [] r is = absurd (cc)
-run_given (first ∷ args) r is = go (bytes_eq (codes "disk") first) (action_of args) (run_command_of (first ∷ args)) is
+run_given (first ∷ args) r is = go (bytes_eq (codes "disk") first) (action_of args) (simple_command_of (first ∷ args)) is
   where
-    go : (b : Bool) (a : Option DiskAction) (x : Option RunFiles) → (if b then option_map Disk a else option_map Run x) ≡ Some (Run r) → x ≡ Some r
+    go : (b : Bool) (a : Option DiskAction) (x : Option Command) → (if b then option_map Disk a else x) ≡ Some (Run r) → x ≡ Some (Run r)
     go true (Some a) x is = absurd (cc)
     go true None x is = absurd (cc)
-    go false a (Some y) is = cc
-    go false a None is = absurd (cc)
+    go false a x is = is
+
+run_named : (a b : Bool) (run : Option RunFiles) (asm : Option AsmFiles) (r : RunFiles)
+    → (if a then option_map Run run else (if b then option_map Asm asm else None)) ≡ Some (Run r) → run ≡ Some r
+run_named true b (Some x) asm r is = cc
+run_named true b None asm r is = absurd (cc)
+run_named false true run (Some x) r is = absurd (cc)
+run_named false true run None r is = absurd (cc)
+run_named false false run asm r is = absurd (cc)
 
 one_of_run : (schedule : Option Text) (images : List Text) (r : RunFiles) → run_of schedule images ≡ Some r → length r.images ≡ 1
 one_of_run None images r is = cc
@@ -44,8 +51,9 @@ one_of_run (Some schedule) images r is =
 
 pub one_image : (args : List Text) (r : RunFiles) → command_of args ≡ Some (Run r) → length r.images ≡ 1
 one_image args r is =
-    option_and_then_some (λ (q : Request). run_from q.taken) (request_of commands args) r (run_given args r is)
-    (λ q calls run. one_of_run (option_value (codes "schedule") q.taken) q.taken.positional r run)
+    option_and_then_some command_from (request_of commands args) (Run r) (run_given args r is)
+    (λ q calls given. one_of_run (option_value (codes "schedule") q.taken) q.taken.positional r
+    (run_named (bytes_eq (codes "run") q.command) (bytes_eq (codes "asm") q.command) (run_from q.taken) (asm_from q.taken) r given))
 
 -- a list of one is its first
 pub one_item : {A : Type 0} (xs : List A) (x : A) → length xs ≡ 1 → x ≡ get_or xs 0 x → xs ≡ x ∷ []
@@ -55,15 +63,30 @@ one_item (y ∷ z ∷ xs) x is first = absurd (omega arith)
 
 -- ---- an action is possible
 
+not_named : (a b : Bool) (run : Option RunFiles) (asm : Option AsmFiles) (x : DiskAction)
+    → (if a then option_map Run run else (if b then option_map Asm asm else None)) ≡ Some (Disk x) → ⊥
+not_named true b (Some r) asm x is = cc
+not_named true b None asm x is = cc
+not_named false true run (Some r) x is = cc
+not_named false true run None x is = cc
+not_named false false run asm x is = cc
+
+not_simple : (args : List Text) (a : DiskAction) → simple_command_of args ≡ Some (Disk a) → ⊥
+not_simple args a is =
+    option_and_then_some command_from (request_of commands args) (Disk a) is
+    (λ q calls given. not_named (bytes_eq (codes "run") q.command) (bytes_eq (codes "asm") q.command) (run_from q.taken)
+    (asm_from q.taken) a given)
+
 action_given : (args : List Text) (a : DiskAction) → command_of args ≡ Some (Disk a) → (rest : List Text) × (action_of rest ≡ Some a)
 action_given [] a is = absurd (cc)
-action_given (first ∷ args) a is = (args, go (bytes_eq (codes "disk") first) (action_of args) (run_command_of (first ∷ args)) is)
+action_given (first ∷ args) a is =
+    (args, go (bytes_eq (codes "disk") first) (action_of args) (simple_command_of (first ∷ args)) (not_simple (first ∷ args) a) is)
   where
-    go : (b : Bool) (x : Option DiskAction) (r : Option RunFiles) → (if b then option_map Disk x else option_map Run r) ≡ Some (Disk a) → x ≡ Some a
-    go true (Some y) r is = cc
-    go true None r is = absurd (cc)
-    go false x (Some y) is = absurd (cc)
-    go false x None is = absurd (cc)
+    go : (b : Bool) (x : Option DiskAction) (r : Option Command) → (r ≡ Some (Disk a) → ⊥)
+        → (if b then option_map Disk x else r) ≡ Some (Disk a) → x ≡ Some a
+    go true (Some y) r other is = cc
+    go true None r other is = absurd (cc)
+    go false x r other is = absurd (other is)
 
 mkfs_possible : (out : Option Text) (args : List Text) (a : DiskAction) → mkfs_of out args ≡ Some a → IsPossible a
 mkfs_possible None args a is = absurd (cc)

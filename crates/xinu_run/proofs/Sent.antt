@@ -7,13 +7,13 @@ use Rattle.host_port.specs.declared.host.Channel.TheVariants.{Out, Fault, Disk0,
 use Rattle.host_port.specs.declared.host.HostFault.{HostFault}
 use Rattle.host_port.specs.declared.host.HostFault.TheVariants as host
 use Rattle.host_port.specs.HostCalls.{Rose}
-use Rattle.host_port.specs.Outside.{Outside, HostCall, appended, counted, emptied_channel, grown, made_empty, naming, with_calls}
+use Rattle.host_port.specs.Outside.{Outside, HostCall, appended, counted, emptied_channel, grown, made_empty, with_calls}
 use Rattle.host_port.specs.Printing.{Printing, Prints}
 use Rattle.host_port.proofs.Prints.{grown-nil}
 use Rattle.xinu_run.specs.Conversions.{host_refusal}
-use Rattle.xinu_run.specs.Stages.{IsHostCause, KeepsFiles, SendsOutput, output_on}
-use Rattle.xinu_run.specs.Theorem.{HasCalled, IsPartSent, IsSent}
-use Rattle.xinu_run.specs.Work.{Output, output_of}
+use Rattle.xinu_run.specs.Stages.{IsHostCause, SendsOutput, output_on}
+use Rattle.xinu_run.specs.Theorem.{IsPartSent, IsSent}
+use Rattle.xinu_run.specs.Work.{output_of}
 use Rattle.xinu_run.specs.declared.refusals.Refusal.{Refusal}
 use Rattle.xinu_run.specs.declared.refusals.Refusal.TheVariants as refusal
 use Rattle.xinu_run.proofs.Called.{keeps_both}

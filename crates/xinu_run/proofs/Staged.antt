@@ -1,10 +1,9 @@
 -- The stages of an action on a disk, put together.
-use Rattle.std.proofs.Common.{◌≡◌, ◌≢◌, ◌∙◌, ◌≤◌, ℕ, List, [], ◌∷◌, take, Option, Some, None, refl, sym, ap, subst, arith}
+use Rattle.std.proofs.Common.{◌≡◌, ◌≢◌, ◌∙◌, ℕ, List, [], ◌∷◌, take, Option, Some, None, refl, sym, ap, subst, arith}
 use Rattle.std.specs.Prelude.{Result, Ok, Err, IsErr, IsErrAnd, option_map}
 use Rattle.command_line.specs.Commands.{Disk}
 use Rattle.command_line.specs.DiskArgs.{DiskAction, Mkfs, Ls, Get, Put, Check, Repair}
 use Rattle.command_line.specs.Reading.{Text}
-use Rattle.host_port.specs.HostCalls.{Rose}
 use Rattle.host_port.specs.Outside.{Outside, HostCall, fetching, naming}
 use Rattle.host_port.specs.declared.host.Channel.TheVariants.{Disk1}
 use Rattle.lfs_check.specs.Faults.{Refuses as RefusesBy, report}
@@ -15,9 +14,9 @@ use Rattle.xinu_run.specs.Calls.{action_calls}
 use Rattle.xinu_run.specs.Conversions.{check_refusal}
 use Rattle.xinu_run.specs.DiskVerdict.{check_verdict, disk_fault, disk_with, file_lines, file_on, get_verdict, ls_verdict, mkfs_verdict, put_verdict, repair_line, repair_verdict, report_line, rule_broken, set_verdict, size_fault, with_disk}
 use Rattle.xinu_run.specs.Stages.{Fetches, IsFetched, IsHostCause, Performs, SendsOutput, SetsFile, Stage, refusal_of}
-use Rattle.xinu_run.specs.Theorem.{Carries, Deserved, HasCalled, IsUnsent}
+use Rattle.xinu_run.specs.Theorem.{Deserved}
 use Rattle.xinu_run.specs.Verdict.{Input, ScheduleInput, ImageInput, DiskInput, SourceInput, action_verdict, file_bytes}
-use Rattle.xinu_run.specs.Work.{Work, Verdict, Refuses, Does, Outputs, if_some, output_of, unless_fault}
+use Rattle.xinu_run.specs.Work.{Work, Verdict, Refuses, Does, Outputs, if_some, output_of}
 use Rattle.xinu_run.specs.declared.refusals.Refusal.{Refusal}
 use Rattle.xinu_run.specs.declared.refusals.Refusal.TheVariants as refusal
 use Rattle.xinu_run.proofs.Called.{called_both, called_first, keeps_both, keeps_refl, nothing_called}
@@ -170,7 +169,7 @@ unfetched_performs action name calls r h k is f =
 pub fetched_performs : (action : DiskAction) (name : Text) (calls : List HostCall) (v : List ℕ → Verdict) (source items : List ℕ) (ended : Option Refusal) (h j k : Outside)
     → ((bytes front : List ℕ) → front ≡ take 33557505 bytes → v bytes ≡ v front) → action_calls action ≡ fetching name ∷ calls
     → verdict_on action items source h ≡ v (file_bytes (h.file name) items)
-    → IsFetched (h.file name) items → Fetches name None h j → Stage (v items) calls ended None j k → Performs (Some (Disk action)) ended None h k
+    → IsFetched 33557504 (h.file name) items → Fetches name None h j → Stage (v items) calls ended None j k → Performs (Some (Disk action)) ended None h k
 fetched_performs action name calls v source items ended h j k front is same fetched f s =
     let P : List HostCall → Type 0 = λ x. Stage (verdict_on action items source h) x ended None h k in
     performs_by action items source ended h k (subst P (sym is) (stage_as (verdict_on action items source h) (v items) (fetching name ∷ calls) ended h k
@@ -193,7 +192,7 @@ source_unfetched disk name source out r h k f = record {
     by_input SourceInput s d = s
 
 -- the source was fetched, and the file set
-pub source_set : (disk name source out items : List ℕ) (ended : Option Refusal) (h j k : Outside) → disk_fault disk ≡ None → IsFetched (h.file source) items → Fetches source None h j
+pub source_set : (disk name source out items : List ℕ) (ended : Option Refusal) (h j k : Outside) → disk_fault disk ≡ None → IsFetched 33557504 (h.file source) items → Fetches source None h j
     → Stage (set_verdict name items (opened disk)) (naming Disk1 out ∷ []) ended None j k → SetsFile disk name source out ended h k
 source_set disk name source out items ended h j k clean fetched f s = record {
   unseen = items;
@@ -204,7 +203,7 @@ source_set disk name source out items ended h j k clean fetched f s = record {
 }
 
 -- the disk was fetched, and the file set
-pub put_performs : (image name source out items : List ℕ) (ended : Option Refusal) (h j k : Outside) → IsFetched (h.file image) items → Fetches image None h j
+pub put_performs : (image name source out items : List ℕ) (ended : Option Refusal) (h j k : Outside) → IsFetched 33557504 (h.file image) items → Fetches image None h j
     → SetsFile items name source out ended j k → Performs (Some (Disk (Put image name source out))) ended None h k
 put_performs image name source out items ended h j k fetched f s =
     let same : file_bytes (j.file source) s.unseen ≡ file_bytes (h.file source) s.unseen = ap (λ (file : List ℕ → Option (List ℕ)). file_bytes (file source) s.unseen) f.keeps.file in

@@ -1,14 +1,18 @@
 -- Why the exit statuses mean what they do.
 use Rattle.std.proofs.lemmas.Bool.{cases_eq}
 use Rattle.std.specs.List.{list_any}
-use Rattle.std.proofs.Common.{inl, inr, ◌==◌, IsTrue, ◌≡◌, ◌≢◌, ◌↔◌, ℕ, Bool, true, false, nat_le, if◌then◌else◌, List, [], ◌∷◌, length, Option, Some, None, IsSome, refl, sym, ap, subst, ◌∙◌}
+use Rattle.std.proofs.Common.{inl, inr, ◌==◌, IsTrue, ◌≡◌, ◌≢◌, ◌↔◌, ℕ, Bool, true, false, nat_le, if◌then◌else◌, List, [], ◌∷◌, length, drop, Option, Some, None, IsSome, refl, sym, ap, subst, ◌∙◌}
 use Rattle.std.specs.Prelude.{option_map}
-use Rattle.command_line.specs.Commands.{Command, Run, Disk}
+use Rattle.command_line.specs.Commands.{Command, Run, Asm, Disk}
 use Rattle.command_line.specs.Reading.{Text}
 use Rattle.host_port.specs.HostCalls.{Rose}
 use Rattle.host_port.specs.Outside.{Outside}
-use Rattle.image_loader.specs.Faults.{fault_number}
-use Rattle.image_loader.specs.ImageFiles.{first_fault, loaded_unless, image_in}
+use Rattle.elf_loader.specs.ElfFaults.{load_fault_number}
+use Rattle.elf_loader.specs.ElfFiles.{elf_fault, elf_loaded, loaded_unless_fault}
+use Rattle.elf_loader.specs.LoadedFiles.{is_elf, load_fault, loads}
+use Rattle.elf_loader.specs.declared.faults.ElfFault.{ElfFault}
+use Rattle.elf_loader.specs.declared.faults.LoadFault.TheVariants as load
+use Rattle.image_loader.specs.ImageFiles.{first_fault, header_of, image_of, loaded_unless}
 use Rattle.image_loader.specs.declared.faults.ImageFault.{ImageFault}
 use Rattle.schedule_file.specs.ScheduleFiles.{Reading, Reads, Bad, Many, events_in, events_read, reading}
 use Rattle.xinu_base.specs.declared.events.Event.{Event}
@@ -21,11 +25,12 @@ use Rattle.xinu_run.specs.Statuses.{SaysOfFiles, start_with, status_due, statuse
 use Rattle.xinu_run.specs.Theorem.{Answers, Carries, IsStatus}
 use Rattle.xinu_run.specs.Refusals.{status_of}
 use Rattle.xinu_run.specs.RunVerdict.{run_verdict, boot_verdict, start_verdict, images_verdict}
-use Rattle.xinu_run.specs.Verdict.{Input, ScheduleInput, ImageInput, file_bytes, verdict}
+use Rattle.xinu_run.specs.Verdict.{Input, ScheduleInput, ImageInput, SourceInput, file_bytes, verdict}
 use Rattle.xinu_run.specs.Work.{Verdict, Refuses, Does}
 use Rattle.xinu_run.specs.declared.refusals.Refusal.{Refusal}
 use Rattle.xinu_run.specs.declared.refusals.Refusal.TheVariants as refusal
 use Rattle.xinu_run.proofs.Answered.{done_status}
+use Rattle.xinu_run.proofs.Assembled.{asm_keeps}
 use Rattle.xinu_run.proofs.Files.{image_read, image_refused, run_keeps, schedule_read, schedule_refused, boot_verdict_at}
 use Rattle.xinu_run.proofs.Printed.{some_is_none}
 use Rattle.xinu_run.proofs.Staged.{action_keeps}
@@ -44,6 +49,7 @@ cause_listed (refusal.Schedule l) = refl
 cause_listed (refusal.Disk d b r) = refl
 cause_listed refusal.NoMemory = refl
 cause_listed (refusal.NoRoom i) = refl
+cause_listed (refusal.Asm l f) = refl
 cause_listed refusal.NoSuchFile = refl
 cause_listed refusal.DoesNotFit = refl
 
@@ -81,6 +87,7 @@ due exit command old new left a = carried_due (verdict command old.file a.obeys.
 
 command_keeps : (c : Command) (file : Text → Option (List ℕ)) (unseen : Input → List ℕ) → verdict (Some c) file unseen ≢ Refuses refusal.Usage
 command_keeps (Run r) file unseen = run_keeps (file_bytes (file r.schedule) (unseen ScheduleInput)) _
+command_keeps (Asm a) file unseen = asm_keeps a.elf (file_bytes (file a.source) (unseen SourceInput))
 command_keeps (Disk action) file unseen = action_keeps action _
 
 -- Only the verdict that there is no command calls for the status 2.
@@ -136,16 +143,20 @@ good_reads : (bytes : List ℕ) → schedule_fault bytes ≡ None → (events : 
 unfolding schedule_fault
 good_reads bytes good = reads_by (nat_le (length bytes) longest_schedule) (reading bytes) good
 
-loads_by : (fits : Bool) (f : Option ImageFault) (image : Loaded) → (if fits then option_map fault_number f else Some 0) ≡ None
-    → loaded_unless f image ≡ Some image
-loads_by false f image good = cc
-loads_by true None image good = refl
-loads_by true (Some f) image good = cc
+loads_by : (fits elf : Bool) (e : Option ElfFault) (f : Option ImageFault) (x y : Loaded)
+    → (if fits then option_map load_fault_number (if elf then option_map load.Elf e else option_map load.Image f) else Some 0) ≡ None
+    → (image : Loaded) × ((if elf then loaded_unless_fault e x else loaded_unless f y) ≡ Some image)
+loads_by false elf e f x y good = absurd (cc)
+loads_by true true None f x y good = (x, refl)
+loads_by true true (Some e) f x y good = absurd (cc)
+loads_by true false e None x y good = (y, refl)
+loads_by true false e (Some f) x y good = absurd (cc)
 
-good_loads : (bytes : List ℕ) → image_fault bytes ≡ None → (image : Loaded) × (image_in bytes ≡ Some image)
-unfolding image_fault
+good_loads : (bytes : List ℕ) → image_fault bytes ≡ None → (image : Loaded) × (loads bytes ≡ Some image)
+unfolding image_fault load_fault loads
 good_loads bytes good =
-    (_, loads_by (nat_le (length bytes) longest_image) (first_fault bytes) _ good)
+    loads_by (nat_le (length bytes) longest_image) (is_elf bytes) (elf_fault bytes) (first_fault bytes) (elf_loaded bytes)
+    (image_of (header_of bytes) (drop 28 bytes)) good
 
 -- ---- one image overlaps nothing
 
@@ -206,7 +217,7 @@ says_done exit s b x good loads start is = record {
 
 -- by how the machine starts
 says_start : (exit : ℕ) (s b : List ℕ) (events : List Event) (image : Loaded) (start : Start) → schedule_fault s ≡ None
-    → image_fault b ≡ None → image_in b ≡ Some image → boot (image ∷ []) ≡ start → exit ≡ status_due (start_verdict events start)
+    → image_fault b ≡ None → loads b ≡ Some image → boot (image ∷ []) ≡ start → exit ≡ status_due (start_verdict events start)
     → SaysOfFiles exit s b
 unfolding start_with
 says_start exit s b events image (Boots x) good fine loaded starts is =

@@ -1,6 +1,6 @@
 -- The files that a command names.
 use Rattle.std.specs.Prelude.{List, [], ◌∷◌, map, Option, Some, None}
-use Rattle.command_line.specs.Commands.{Command, Run, Disk}
+use Rattle.command_line.specs.Commands.{Command, Run, Asm, Disk}
 use Rattle.command_line.specs.DiskArgs.{DiskAction, Mkfs, Ls, Get, Put, Check, Repair}
 use Rattle.host_port.specs.Outside.{HostCall, fetching, naming}
 use Rattle.host_port.specs.declared.host.Channel.TheVariants.{Disk1, Image}
@@ -19,4 +19,5 @@ action_calls (Repair image out) = fetching image ∷ naming Disk1 out ∷ []
 abbrev pub calls_of : Option Command → List HostCall
 calls_of None = []
 calls_of (Some (Run r)) = fetching r.schedule ∷ map fetching r.images
+calls_of (Some (Asm a)) = fetching a.source ∷ naming Image a.out ∷ []
 calls_of (Some (Disk action)) = action_calls action

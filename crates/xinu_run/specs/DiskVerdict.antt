@@ -1,5 +1,5 @@
 -- What each action on a disk deserves by the bytes of its files: the disk is checked first, and then the action is done.
-use Rattle.std.specs.Prelude.{◌-◌, ◌/◌, ℕ, List, [], ◌∷◌, ◌++◌, length, Option, Some, None, option_map, codes, count_by, if◌then◌else◌}
+use Rattle.std.specs.Prelude.{◌-◌, ◌/◌, ℕ, List, [], ◌++◌, length, Option, Some, None, option_map, codes, count_by, if◌then◌else◌}
 use Rattle.std.specs.List.{flat_map}
 use Rattle.std.specs.Fmt.{decimal}
 use Rattle.command_line.specs.Reading.{Text}

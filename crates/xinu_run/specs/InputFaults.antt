@@ -1,7 +1,7 @@
 -- What is reported of a file that is refused, and when a file has no fault.
 use Rattle.std.specs.Prelude.{◌≡◌, ℕ, nat_le, if◌then◌else◌, List, length, Option, Some, None, option_map}
-use Rattle.image_loader.specs.Faults.{fault_number}
-use Rattle.image_loader.specs.ImageFiles.{first_fault}
+use Rattle.elf_loader.specs.ElfFaults.{load_fault_number}
+use Rattle.elf_loader.specs.LoadedFiles.{load_fault}
 use Rattle.schedule_file.specs.ScheduleFiles.{Reading, Reads, Bad, Many, events_in, reading}
 use Rattle.xinu_base.specs.declared.events.Event.{Event}
 
@@ -24,10 +24,10 @@ unfoldable pub schedule_fault : List ℕ → Option ℕ
 schedule_fault bytes =
     if nat_le (length bytes) longest_schedule then fault_line (reading bytes) else Some 0
 
--- the fault that is reported of an image file: 0 if the file is too long; none if it is an image
+-- the fault that is reported of an image file, ELF or not: 0 if the file is too long; none if it loads
 unfoldable pub image_fault : List ℕ → Option ℕ
 image_fault bytes =
-    if nat_le (length bytes) longest_image then option_map fault_number (first_fault bytes) else Some 0
+    if nat_le (length bytes) longest_image then option_map load_fault_number (load_fault bytes) else Some 0
 
 -- A schedule file has no fault, and it reads as these events.
 pub record ReadsAs (bytes : List ℕ) (events : List Event) : Type 0 where

@@ -1,3 +1,4 @@
+pub mod AsmVerdict
 pub mod Calls
 pub mod Conversions
 pub mod DiskVerdict

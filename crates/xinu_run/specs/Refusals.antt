@@ -16,6 +16,7 @@ status_of (refusal.Schedule l) = 5
 status_of (refusal.Disk d b r) = 6
 status_of refusal.NoMemory = 7
 status_of (refusal.NoRoom i) = 8
+status_of (refusal.Asm l f) = 9
 status_of refusal.NoSuchFile = 12
 status_of refusal.DoesNotFit = 13
 
@@ -28,6 +29,7 @@ text_of (refusal.Schedule l) = codes "xinu: schedule line " ++ decimal l ++ code
 text_of (refusal.Disk d b r) = codes "xinu: disk " ++ decimal d ++ codes " block " ++ decimal b ++ codes " rule " ++ decimal r ++ codes "\n"
 text_of refusal.NoMemory = codes "xinu: no memory\n"
 text_of (refusal.NoRoom i) = codes "xinu: no room for image " ++ decimal i ++ codes "\n"
+text_of (refusal.Asm l f) = codes "xinu: asm line " ++ decimal l ++ codes " fault " ++ decimal f ++ codes "\n"
 text_of refusal.NoSuchFile = codes "xinu: no such file\n"
 text_of refusal.DoesNotFit = codes "xinu: does not fit\n"
 

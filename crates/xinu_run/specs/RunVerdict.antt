@@ -1,7 +1,7 @@
 -- What a run deserves by the bytes of its schedule file and of its image files.
-use Rattle.std.specs.Prelude.{◌+◌, ℕ, List, [], ◌∷◌, Option, option_map}
+use Rattle.std.specs.Prelude.{◌+◌, ℕ, List, [], ◌∷◌, option_map}
 use Rattle.schedule_file.specs.ScheduleFiles.{events_in}
-use Rattle.image_loader.specs.ImageFiles.{image_in}
+use Rattle.elf_loader.specs.LoadedFiles.{loads}
 use Rattle.xinu_base.specs.declared.events.Event.{Event}
 use Rattle.xinu_model.specs.Boot.{Loaded, Start, Boots, Overlaps, NoRoom, boot}
 use Rattle.xinu_run.specs.InputFaults.{schedule_fault, image_fault}
@@ -18,11 +18,11 @@ start_verdict events (NoRoom i) = Refuses (refusal.NoRoom i)
 unfoldable pub boot_verdict : List Event → List Loaded → Verdict
 boot_verdict events images = start_verdict events (boot images)
 
--- the image files are read in order, from image i on
+-- the image files, ELF or not, are read in order, from image i on
 abbrev pub images_verdict : ℕ → List (List ℕ) → (List Loaded → Verdict) → Verdict
 images_verdict i [] next = next []
 images_verdict i (bytes ∷ files) next =
-    unless_fault (option_map (refusal.Image i) (image_fault bytes)) (image_in bytes) (λ image. images_verdict (i + 1) files (λ images. next (image ∷ images)))
+    unless_fault (option_map (refusal.Image i) (image_fault bytes)) (loads bytes) (λ image. images_verdict (i + 1) files (λ images. next (image ∷ images)))
 
 -- the schedule file is read, then the images
 abbrev pub run_verdict : List ℕ → List (List ℕ) → Verdict

@@ -4,7 +4,7 @@ use Rattle.std.specs.List.{slice_get}
 use Rattle.std.specs.Option.{option_map_or}
 use Rattle.machine.specs.Printed.{Booted}
 use Rattle.command_line.specs.Commands.{Command}
-use Rattle.command_line.specs.DiskArgs.{DiskAction, Mkfs, Ls, Get, Put, Check, Repair}
+use Rattle.command_line.specs.DiskArgs.{DiskAction, Mkfs, Put}
 use Rattle.host_port.specs.HostCalls.{Rose}
 use Rattle.host_port.specs.Outside.{Outside, HostCall, fetching, naming}
 use Rattle.host_port.specs.declared.host.Channel.{Channel}
@@ -16,7 +16,7 @@ use Rattle.xinu_run.specs.Calls.{calls_of}
 use Rattle.xinu_run.specs.DiskVerdict.{file_line, put_verdict}
 use Rattle.xinu_run.specs.InputFaults.{ReadsAs, schedule_fault}
 use Rattle.xinu_run.specs.Theorem.{Carries, HasCalled, IsPartSent, IsSent, IsUnsent, Obeys}
-use Rattle.xinu_run.specs.Verdict.{Input, file_bytes, verdict}
+use Rattle.xinu_run.specs.Verdict.{file_bytes}
 use Rattle.xinu_run.specs.Work.{Output, Verdict, output_of}
 use Rattle.xinu_run.specs.declared.refusals.Refusal.{Refusal}
 use Rattle.xinu_run.specs.declared.refusals.Refusal.TheVariants as refusal
@@ -59,7 +59,7 @@ abbrev pub last_of : Result (Option Booted) Refusal → Option Xinu
 last_of (Ok m) = option_map (λ b. b.state) m
 last_of (Err cause) = None
 
--- ---- the stages of an action on a disk
+-- ---- the stages of `asm` and of an action on a disk
 
 -- a number of blocks that a disk can have
 pub record IsBlockCount (blocks : ℕ) : Type 0 where
@@ -79,9 +79,9 @@ IsHostCause (Some refusal.HostFault) old new = Rose old.faults new.faults
 IsHostCause (Some refusal.NoMemory) old new = Unit {0}
 IsHostCause (Some _) old new = ⊥
 
--- These bytes were fetched of a file: its first ones, up to one more than a disk may have.
-pub record IsFetched (file : Option (List ℕ)) (bytes : List ℕ) : Type 0 where
-  pub front : bytes ≡ take 33557505 (file_bytes file bytes)
+-- These bytes were fetched of a file: its first ones, up to one more than this many.
+pub record IsFetched (most : ℕ) (file : Option (List ℕ)) (bytes : List ℕ) : Type 0 where
+  pub front : bytes ≡ take (most + 1) (file_bytes file bytes)
 
 -- A file was fetched, or the host refused it. Nothing was sent.
 pub record Fetches (name : List ℕ) (ended : Option Refusal) (old new : Outside) : Type 0 where

@@ -1,12 +1,15 @@
 -- What the exit statuses say of a command's files.
-use Rattle.std.specs.Prelude.{◌≡◌, ◌↔◌, ℕ, List, [], ◌∷◌, Option, Some, None, IsSome, option_map}
+use Rattle.std.specs.Prelude.{◌≡◌, ◌↔◌, ◌≤◌, ◌<◌, ◌⊎◌, ℕ, List, [], ◌∷◌, length, Option, Some, None, IsSome, option_map}
 use Rattle.command_line.specs.DiskArgs.{DiskAction, Mkfs, Ls, Get, Put, Check, Repair}
 use Rattle.command_line.specs.Reading.{Text}
-use Rattle.image_loader.specs.ImageFiles.{image_in}
+use Rattle.elf_loader.specs.LoadedFiles.{loads}
 use Rattle.lfs_check.specs.declared.faults.DiskFault.{DiskFault}
 use Rattle.lfs_layout.specs.Images.{opened}
+use Rattle.rv_asm.specs.Assembly.{Makes, Fails, assembly}
+use Rattle.rv_asm.specs.declared.faults.AsmFault.{AsmFault}
 use Rattle.xinu_model.specs.Boot.{Start, Boots, NoRoom, boot}
 use Rattle.xinu_model.specs.Machine.{Xinu}
+use Rattle.xinu_run.specs.AsmVerdict.{longest_source}
 use Rattle.xinu_run.specs.DiskVerdict.{disk_fault, disk_with, file_on, size_fault}
 use Rattle.xinu_run.specs.InputFaults.{schedule_fault, image_fault}
 use Rattle.xinu_run.specs.Refusals.{status_of}
@@ -15,16 +18,16 @@ use Rattle.xinu_run.specs.Work.{Verdict, Refuses, Does}
 
 -- the exit statuses
 abbrev pub statuses : List ℕ
-statuses = 0 ∷ 2 ∷ 3 ∷ 4 ∷ 5 ∷ 6 ∷ 7 ∷ 8 ∷ 12 ∷ 13 ∷ []
+statuses = 0 ∷ 2 ∷ 3 ∷ 4 ∷ 5 ∷ 6 ∷ 7 ∷ 8 ∷ 9 ∷ 12 ∷ 13 ∷ []
 
 -- the exit status that a verdict calls for
 abbrev pub status_due : Verdict → ℕ
 status_due (Refuses cause) = status_of cause
 status_due (Does work) = 0
 
--- how the machine starts with the image of a file, if the file is an image
+-- how the machine starts with the image of a file, if the file loads
 unfoldable pub start_with : List ℕ → Option Start
-start_with bytes = option_map (λ image. boot (image ∷ [])) (image_in bytes)
+start_with bytes = option_map (λ image. boot (image ∷ [])) (loads bytes)
 
 -- A file is an image with which the machine starts.
 pub record CanStart (bytes : List ℕ) : Type 0 where
@@ -44,6 +47,23 @@ pub record SaysOfFiles (exit : ℕ) (schedule image : List ℕ) : Type 0 where
   pub bad_schedule : exit ≡ 5 ↔ IsSome (schedule_fault schedule)
   pub bad_image : exit ≡ 4 ↔ ((schedule_fault schedule ≡ None) × IsSome (image_fault image))
   pub no_room : exit ≡ 8 ↔ ((schedule_fault schedule ≡ None) × HasNoRoom image)
+
+-- ---- a source
+
+-- A source isn't too long, and it is assembled to a file.
+pub record IsAssembled (source : List ℕ) : Type 0 where
+  pub short : length source ≤ longest_source
+  pub file : List ℕ
+  pub makes : assembly source ≡ Makes file
+
+-- A source is too long, or it has a fault.
+abbrev pub HasFault : List ℕ → Type 0
+HasFault source = (longest_source < length source) ⊎ ((fault : AsmFault) × (assembly source ≡ Fails fault))
+
+-- What the exit status of `asm` says of its source, if it is neither 3 nor 7.
+pub record SaysOfSource (exit : ℕ) (source : List ℕ) : Type 0 where
+  pub done : exit ≡ 0 ↔ IsAssembled source
+  pub bad_source : exit ≡ 9 ↔ HasFault source
 
 -- ---- actions on a disk
 

@@ -1,9 +1,10 @@
--- What a command deserves by the bytes of its files. The stages of a run are in RunVerdict.antt, those of an action on a disk in
--- DiskVerdict.antt, and what work puts out is in Work.antt.
+-- What a command deserves by the bytes of its files. The stages of a run are in RunVerdict.antt, those of `asm` in AsmVerdict.antt, those
+-- of an action on a disk in DiskVerdict.antt, and what work puts out is in Work.antt.
 use Rattle.std.specs.Prelude.{◌+◌, ℕ, List, [], ◌∷◌, Option, Some, None}
-use Rattle.command_line.specs.Commands.{Command, Run, Disk}
+use Rattle.command_line.specs.Commands.{Command, Run, Asm, Disk}
 use Rattle.command_line.specs.DiskArgs.{DiskAction, Mkfs, Ls, Get, Put, Check, Repair}
 use Rattle.command_line.specs.Reading.{Text}
+use Rattle.xinu_run.specs.AsmVerdict.{asm_verdict}
 use Rattle.xinu_run.specs.DiskVerdict.{check_verdict, get_verdict, ls_verdict, mkfs_verdict, put_verdict, repair_verdict}
 use Rattle.xinu_run.specs.RunVerdict.{run_verdict}
 use Rattle.xinu_run.specs.Work.{Verdict, Refuses}
@@ -41,4 +42,5 @@ abbrev pub verdict : Option Command → (Text → Option (List ℕ)) → (Input 
 verdict None file unseen = Refuses refusal.Usage
 verdict (Some (Run r)) file unseen =
     run_verdict (file_bytes (file r.schedule) (unseen ScheduleInput)) (image_bytes 1 r.images file unseen)
+verdict (Some (Asm a)) file unseen = asm_verdict a.elf (file_bytes (file a.source) (unseen SourceInput))
 verdict (Some (Disk action)) file unseen = action_verdict action (λ input name. file_bytes (file name) (unseen input))

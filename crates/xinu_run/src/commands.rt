@@ -5,6 +5,7 @@ ghost use Rattle.std.specs.String.{string_bytes};
 ghost use Rattle.command_line.specs.Commands.{command_of};
 ghost use Rattle.xinu_run.specs.Stages.{Performs, last_of, refusal_of};
 
+use crate::asm_command::assemble_file;
 use crate::disk::act;
 use crate::refusals::Refusal;
 use crate::run_command::run;
@@ -31,6 +32,10 @@ pub(crate) fn carry_out<H: Host>(
     match command {
         Command::Run(files) => match run(alloc, &files, host) {
             Ok(machine) => Ok(Some(machine)),
+            Err(refusal) => Err(refusal),
+        },
+        Command::Asm(files) => match assemble_file(alloc, &files, host) {
+            Ok(()) => Ok(None),
             Err(refusal) => Err(refusal),
         },
         Command::Disk(action) => match act(alloc, action, host) {

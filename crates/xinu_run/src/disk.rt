@@ -12,6 +12,7 @@ ghost use Rattle.xinu_run.specs.DiskVerdict as verdict;
 ghost use Rattle.xinu_run.specs.Stages.{Fetches, IsFetched, IsPossible, Performs, SetsFile, Stage, refusal_of};
 
 use crate::disk_lines::{repair_line, report_line};
+use crate::fetching::fetch_file;
 use crate::refusals::Refusal;
 use crate::sending::{print_files, print_line, send_file};
 use command_line::DiskAction;
@@ -193,11 +194,8 @@ fn repair_bytes<H: Host>(
 
 // The bytes of a file, at most one more than a disk can have.
 fn fetch<H: Host>(alloc: Global, name: &str, host: &mut H) -> Result<Vec<u8>, Refusal>
-    ensures bytes { IfOk result (λ v. IsFetched ((H.view host.old).file name.now) v.items) }
+    ensures bytes { IfOk result (λ v. IsFetched 33557504 ((H.view host.old).file name.now) v.items) }
     ensures fetches { Fetches name.now (refusal_of result) (H.view host.old) (H.view host.new) }
 {
-    match host.fetch(alloc, name, LONGEST_DISK) {
-        Ok(bytes) => Ok(bytes),
-        Err(fault) => Err(Refusal::from(fault)),
-    }
+    fetch_file(alloc, name, LONGEST_DISK, host)
 }

@@ -9,6 +9,7 @@ use command_line::ArgsFault;
 use host_port::{Channel, Host, HostFault, Line};
 use lfs_layout::CheckFault;
 use machine::BootFault;
+use rv_asm::AsmFault;
 use schedule_file::ScheduleFault;
 use xinu_base::NoMemory;
 
@@ -19,8 +20,8 @@ pub(crate) enum Refusal {
     Usage,
     /// The host failed.
     HostFault,
-    /// The image file with this number, counted from 1, has this fault: 1 to 7 as the reader of images numbers them, or 0 if the
-    /// file is too long.
+    /// The image file with this number, counted from 1, has this fault: 1 to 7, or from 11 on for an ELF file, as the readers of
+    /// images number them, or 0 if the file is too long.
     Image { image: u8, fault: u8 },
     /// The schedule file has a fault at this line, counted from 1; it is too long if this is 0.
     Schedule(u32),
@@ -28,6 +29,9 @@ pub(crate) enum Refusal {
     Disk { disk: u8, block: u32, rule: u8 },
     /// The heap has no room for the stack of the image with this number, counted from 1.
     NoRoom(u8),
+    /// The source has a fault at this line, counted from 1: 1 if the line has no form of the language, 2 if a name isn't known, 3 if a
+    /// number is out of range, 4 if a label is there twice. At line 0, 1 is too little content and 3 a source that is too long.
+    Asm { line: u32, fault: u8 },
     /// The disk has no file of the name.
     NoSuchFile,
     /// The disk has no room for the file.
@@ -110,6 +114,23 @@ impl From<CheckFault> for Refusal {
     }
 }
 
+impl From<AsmFault> for Refusal {
+    ghost use Rattle.std.specs.Prelude.{◌≡◌};
+    ghost use Rattle.xinu_run.specs.AsmVerdict.{asm_refusal};
+
+    ghost from_gives = { λ f r. r ≡ asm_refusal f };
+
+    fn from(fault: AsmFault) -> Refusal {
+        match fault {
+            AsmFault::BadLine(line) => Refusal::Asm { line, fault: 1 },
+            AsmFault::UnknownName(line) => Refusal::Asm { line, fault: 2 },
+            AsmFault::OutOfRange(line) => Refusal::Asm { line, fault: 3 },
+            AsmFault::DoubleLabel(line) => Refusal::Asm { line, fault: 4 },
+            AsmFault::NoMemory => Refusal::NoMemory,
+        }
+    }
+}
+
 impl From<NoMemory> for Refusal {
     ghost use Rattle.std.specs.Prelude.{◌≡◌};
     ghost use Rattle.xinu_run.specs.declared.refusals.Refusal.TheVariants.{NoMemory};
@@ -143,6 +164,7 @@ fn status(refusal: Refusal) -> u8
         Refusal::Disk { .. } => 6,
         Refusal::NoMemory => 7,
         Refusal::NoRoom(_) => 8,
+        Refusal::Asm { .. } => 9,
         Refusal::NoSuchFile => 12,
         Refusal::DoesNotFit => 13,
     }
@@ -160,6 +182,7 @@ fn line_of(refusal: Refusal) -> Line
         Refusal::Disk { disk, block, rule } => disk_line(disk, block, rule),
         Refusal::NoMemory => text_line("xinu: no memory"),
         Refusal::NoRoom(image) => number_line("xinu: no room for image", image as u32),
+        Refusal::Asm { line, fault } => asm_line(line, fault),
         Refusal::NoSuchFile => text_line("xinu: no such file"),
         Refusal::DoesNotFit => text_line("xinu: does not fit"),
     }
@@ -193,6 +216,18 @@ fn image_line(image: u8, fault: u8) -> Line
     let mut line = Line::new();
     line.word("xinu: image");
     line.number(image as i64);
+    line.word("fault");
+    line.number(fault as i64);
+    line.end();
+    line
+}
+
+fn asm_line(number: u32, fault: u8) -> Line
+    ensures { result ≡ text_of (refusal.Asm number fault) }
+{
+    let mut line = Line::new();
+    line.word("xinu: asm line");
+    line.number(number as i64);
     line.word("fault");
     line.number(fault as i64);
     line.end();

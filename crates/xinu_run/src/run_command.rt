@@ -11,8 +11,8 @@ ghost use Rattle.xinu_run.specs.Theorem.{Carries, HasCalled, IsUnsent, Obeys};
 use crate::refusals::Refusal;
 use crate::runs::run_image;
 use command_line::RunFiles;
+use elf_loader::load;
 use host_port::Host;
-use image_loader::read_image;
 use machine::Machine;
 use schedule_file::Schedule;
 use std::alloc::Global;
@@ -87,7 +87,7 @@ fn run_bytes<H: Host>(
     if bytes.len() > LONGEST_IMAGE {
         return Err(Refusal::Image { image: 1, fault: 0 });
     }
-    match read_image(bytes) {
+    match load(bytes) {
         Ok(image) => run_image(alloc, &image, schedule, host),
         Err(fault) => Err(Refusal::Image {
             image: 1,

@@ -1,7 +1,9 @@
 //! Whole commands over hosts in memory and over real files: what the top call answers and sends, compared whole.
 
+mod assembler;
 mod bad_input;
 mod disks;
+mod elf_files;
 mod file_runtime;
 mod host_faults;
 mod out_of_memory;

@@ -80,3 +80,30 @@ fn a_host_without_memory_gives_status_7(rt: HostRuntime) -> Result<(), Fail> {
     }
     Ok(())
 }
+
+#[test]
+fn an_assembler_without_memory_gives_status_7(rt: HostRuntime) -> Result<(), Fail> {
+    let args = ["asm", "s", "--out", "i"];
+    for (source, full_at, text) in [
+        // The source is fetched, the file is named, and its bytes are sent.
+        ("nop", 1, "xinu: no memory\n"),
+        ("nop", 2, "xinu: no memory\n"),
+        ("nop", 3, "xinu: no memory\n"),
+        // The text of a refusal is sent, which would have status 9.
+        ("nop nop", 2, ""),
+    ] {
+        let mut host = FullHost {
+            quiet: quiet_host(rt.alloc(), source.as_bytes(), b"")?,
+            full_at,
+            calls: 0,
+        };
+        assert_eq!(rt;
+            refusal_of(rt.alloc(), &args, &mut host)?,
+            7,
+            "call {full_at}"
+        );
+        assert_eq!(rt; host.quiet.sent(Channel::Image), b"".as_slice());
+        assert_eq!(rt; host.quiet.sent(Channel::Fault), text.as_bytes());
+    }
+    Ok(())
+}

@@ -1,10 +1,9 @@
-use Rattle.std.proofs.Common.{◌≡◌, ◌∙◌, Option, Some, None, ap, sym, subst, map, length}
+use Rattle.std.proofs.Common.{◌∙◌, Some, ap, sym, map}
 use Rattle.std.specs.Prelude.{Err}
 use Rattle.std.specs.String.{string_bytes}
 use Rattle.std.proofs.lemmas.List.{length-map}
-use Rattle.command_line.specs.Commands.{Command, command_of}
+use Rattle.command_line.specs.Commands.{command_of}
 use Rattle.command_line.specs.Names.{action_names, command_names, run_names}
-use Rattle.xinu_run.specs.Stages.{Performs, last_of, left_of, refusal_of}
 use Rattle.xinu_run.proofs.Answered.{args_refuse}
 use Rattle.xinu_run.proofs.Possible.{one_image, possible}
 use Rattle.xinu_run.proofs.commands.carry_out.Goals as goal

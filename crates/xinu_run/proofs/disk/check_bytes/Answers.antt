@@ -1,4 +1,4 @@
-use Rattle.std.proofs.Common.{◌≡◌, ◌∙◌, [], ◌∷◌, ℕ, List, Option, Some, None, refl, sym, ap, subst}
+use Rattle.std.proofs.Common.{◌∙◌, [], ℕ, List, None, ap, subst}
 use Rattle.lfs_check.specs.Faults.{fault, report}
 use Rattle.xinu_run.specs.Conversions.{check_refusal}
 use Rattle.xinu_run.specs.DiskVerdict.{check_verdict, report_line}

@@ -1,4 +1,4 @@
-use Rattle.std.proofs.Common.{◌≡◌, ◌∙◌, [], ◌∷◌, ℕ, List, Option, Some, None, refl, sym, ap, ap₂, subst}
+use Rattle.std.proofs.Common.{◌≡◌, ◌∙◌, [], ◌∷◌, ℕ, List, Some, None, sym, ap₂, subst}
 use Rattle.host_port.specs.Outside.{naming}
 use Rattle.host_port.specs.declared.host.Channel.TheVariants.{Image}
 use Rattle.lfs_check.specs.Faults.{fault}

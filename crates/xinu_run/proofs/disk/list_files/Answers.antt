@@ -1,4 +1,4 @@
-use Rattle.std.proofs.Common.{◌≡◌, ◌∙◌, [], ◌∷◌, ℕ, List, Option, Some, None, refl, sym, ap, subst}
+use Rattle.std.proofs.Common.{[], ℕ, List, None, sym, subst}
 use Rattle.lfs_check.specs.Faults.{fault}
 use Rattle.lfs_layout.specs.Images.{IsCleanImage, opened}
 use Rattle.lfs_layout.proofs.MadeClean.{opened_clean}

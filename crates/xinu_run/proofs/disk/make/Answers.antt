@@ -1,4 +1,4 @@
-use Rattle.std.proofs.Common.{◌≡◌, ◌∙◌, [], ◌∷◌, ℕ, List, Option, Some, None, refl, sym, ap, subst}
+use Rattle.std.proofs.Common.{◌∙◌, [], ◌∷◌, ℕ, List, Some, None, subst}
 use Rattle.command_line.specs.Commands.{Disk}
 use Rattle.command_line.specs.DiskArgs.{Mkfs}
 use Rattle.host_port.specs.Outside.{naming}

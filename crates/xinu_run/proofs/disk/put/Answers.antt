@@ -1,4 +1,4 @@
-use Rattle.std.proofs.Common.{◌≡◌, ◌∙◌, [], ◌∷◌, ℕ, List, Option, Some, None, refl, sym, ap, subst}
+use Rattle.std.proofs.Common.{[], ◌∷◌, Some, None, refl}
 use Rattle.command_line.specs.Commands.{Disk}
 use Rattle.command_line.specs.DiskArgs.{Put}
 use Rattle.host_port.specs.Outside.{fetching, naming}

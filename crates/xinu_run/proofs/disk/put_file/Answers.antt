@@ -1,4 +1,4 @@
-use Rattle.std.proofs.Common.{◌≡◌, ◌∙◌, [], ◌∷◌, ℕ, List, Option, Some, None, refl, sym, ap, subst}
+use Rattle.std.proofs.Common.{[], ◌∷◌, ℕ, List, None, subst}
 use Rattle.host_port.specs.Outside.{fetching, naming}
 use Rattle.host_port.specs.declared.host.Channel.TheVariants.{Disk1}
 use Rattle.lfs_check.specs.Faults.{fault}

@@ -1,10 +1,10 @@
-use Rattle.std.proofs.Common.{◌≡◌, ◌∙◌, [], ◌∷◌, ℕ, List, Option, Some, None, refl, sym, ap, subst}
+use Rattle.std.proofs.Common.{[], ◌∷◌, ℕ, List, Some, None, refl, subst}
 use Rattle.xinu_run.specs.DiskVerdict.{repair_verdict}
 use Rattle.xinu_run.proofs.DiskFetched.{repair_fetched}
 use Rattle.command_line.specs.Commands.{Disk}
 use Rattle.command_line.specs.DiskArgs.{Repair}
 use Rattle.host_port.specs.Outside.{naming}
-use Rattle.host_port.specs.declared.host.Channel.TheVariants.{Disk1, Image}
+use Rattle.host_port.specs.declared.host.Channel.TheVariants.{Disk1}
 use Rattle.xinu_run.specs.Stages.{Performs, Stage, refusal_of}
 use Rattle.xinu_run.proofs.Staged.{fetched_performs, of_refused, unfetched_performs}
 use Rattle.xinu_run.proofs.disk.repair_file.Goals as goal

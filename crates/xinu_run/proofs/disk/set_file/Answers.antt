@@ -1,9 +1,9 @@
-use Rattle.std.proofs.Common.{◌≡◌, ◌∙◌, [], ◌∷◌, ℕ, List, Option, Some, None, refl, sym, ap, subst}
+use Rattle.std.proofs.Common.{◌≡◌, [], ◌∷◌, ℕ, List, Some, None, subst}
 use Rattle.host_port.specs.Outside.{naming}
 use Rattle.host_port.specs.declared.host.Channel.TheVariants.{Disk1}
 use Rattle.xinu_run.specs.DiskVerdict.{set_verdict}
 use Rattle.xinu_run.specs.Stages.{SendsOutput, Stage, refusal_of}
-use Rattle.xinu_run.specs.Work.{Verdict, Refuses, Does, Outputs, output_of}
+use Rattle.xinu_run.specs.Work.{Refuses, Does, Outputs, output_of}
 use Rattle.xinu_run.specs.declared.refusals.Refusal.TheVariants as refusal
 use Rattle.xinu_run.proofs.DiskVerdicts.{set_made, set_unmade}
 use Rattle.xinu_run.proofs.Staged.{memory_stage, of_refused, refused_stage, sent_stage}

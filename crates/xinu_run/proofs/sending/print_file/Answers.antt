@@ -1,4 +1,4 @@
-use Rattle.std.proofs.Common.{◌≡◌, ◌∙◌, ℕ, List, [], ap, subst}
+use Rattle.std.proofs.Common.{◌∙◌, ℕ, List, [], ap, subst}
 use Rattle.std.specs.Prelude.{if◌then◌else◌}
 use Rattle.host_port.specs.Printing.{Prints}
 use Rattle.xinu_run.specs.DiskVerdict.{file_line}

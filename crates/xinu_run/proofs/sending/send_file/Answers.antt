@@ -1,4 +1,4 @@
-use Rattle.std.proofs.Common.{◌≡◌, [], ◌∷◌, Some, ap}
+use Rattle.std.proofs.Common.{ap}
 use Rattle.std.specs.Prelude.{Err}
 use Rattle.host_port.specs.Outside.{naming}
 use Rattle.xinu_run.proofs.Sent.{file_written, unnamed, unwritten}

@@ -1,15 +1,14 @@
-use Rattle.std.proofs.Common.{◌≡◌, ◌≤◌, ◌∙◌, [], ◌∷◌, ℕ, List, Option, Some, None, length, refl, sym, ap, subst, arith}
+use Rattle.std.proofs.Common.{ap, arith}
 use Rattle.std.specs.Prelude.{Err}
-use Rattle.host_port.specs.Outside.{Outside, fetching}
 use Rattle.xinu_run.proofs.Fetched.{fetched, fetched_front, unfetched}
-use Rattle.xinu_run.proofs.disk.fetch.Goals as goal
+use Rattle.xinu_run.proofs.fetching.fetch_file.Goals as goal
 
 pub returns-in-Ok : goal.returns-in-Ok
 returns-in-Ok g c =
     let h = g.H.Host.view c.args.host.now in
     let k = g.H.Host.view c.fetch.new.self in
     record {
-      bytes = fetched_front (h.file c.args.name.now) c.in-Ok.bytes.items (omega (arith, c.in-Ok.ensures.bound)) c.in-Ok.ensures.bytes;
+      bytes = fetched_front c.args.most (h.file c.args.name.now) c.in-Ok.bytes.items (omega (arith, c.in-Ok.ensures.bound)) c.in-Ok.ensures.bytes;
       fetches = fetched c.args.name.now h k c.in-Ok.ensures.calls.ok c.in-Ok.ensures.cause.later;
     }
 

@@ -1,0 +1,22 @@
+-- The law at the commands without actions.
+use Rattle.std.proofs.Common.{◌≡◌, ◌∙◌, [], ap, map, subst}
+use Rattle.std.specs.String.{string_bytes}
+use Rattle.std.proofs.lemmas.Result.{IfOk-weaker}
+use Rattle.clap.proofs.WalkLemmas.{IfOk-both}
+use Rattle.clap.specs.Words.{fault_of, subcommand_of, subcommand_rows_of}
+use Rattle.command_line.proofs.Law.{strings_utf8}
+use Rattle.command_line.proofs.Parse.{command_matched, command_unmatched}
+use Rattle.command_line.proofs.parser.command_matches.Goals as goal
+
+pub returns-clause-command : goal.returns-clause-command
+returns-clause-command c =
+    let args = map string_bytes c.args.args.now in
+    let told = c.in_ok-command_parser.ensures.told in
+    IfOk-weaker c.matches_by.result _ _
+    (λ m p. command_matched args (strings_utf8 c.args.args.now) (subst (λ a. fault_of a args ≡ []) told p.0) (subcommand_rows_of m) (p.1 ∙ ap (λ a. subcommand_of a args) told))
+    (IfOk-both c.matches_by.result _ _ c.matches_by.ensures.faultless c.matches_by.ensures.rows)
+
+pub returns-clause-no_command : goal.returns-clause-no_command
+returns-clause-no_command c =
+    let args = map string_bytes c.args.args.now in
+    λ is. command_unmatched args (strings_utf8 c.args.args.now) (subst (λ a. fault_of a args ≡ [] → ⊥) c.in_ok-command_parser.ensures.told (c.matches_by.ensures.faulty is))
