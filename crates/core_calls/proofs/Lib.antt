@@ -1,9 +1,11 @@
-pub mod Alone
+pub mod Queues
 pub mod Served
+pub mod Released
 pub mod Inside
 pub mod Sent
 pub mod Starts
 pub mod Running
+pub mod Wakeups
 pub mod Answered
 pub mod Kept
 pub mod Rows

@@ -26,17 +26,22 @@
 #![tactic(auto)]
 
 mod boot;
+mod clock_moves;
 mod creation;
 mod current;
 mod kernel;
 mod leaving;
 mod memory_calls;
 mod memory_map;
+mod message_calls;
+mod message_moves;
 mod process_calls;
+mod process_moves;
 mod replies;
 mod sending;
 mod state;
 mod tables;
+mod waking;
 
 pub use boot::BootFault;
 pub use kernel::Kernel;

@@ -49,6 +49,13 @@ impl Clock {
         u64::from(self.ticks)
     }
 
+    /// The ticks since the start, which fit 32 bits.
+    pub fn ticks(&self) -> u32
+        ensures ticks { result ≡ self.now }
+    {
+        self.ticks
+    }
+
     /// The seconds since the start: a thousand ticks are a second.
     pub fn seconds(&self) -> u32
         ensures seconds { result ≡ self.now / 1000 }
