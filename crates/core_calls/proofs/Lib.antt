@@ -6,6 +6,8 @@ pub mod Sent
 pub mod Starts
 pub mod Running
 pub mod Wakeups
+pub mod Waiters
+pub mod SemaphoreCalls
 pub mod Answered
 pub mod Kept
 pub mod Rows

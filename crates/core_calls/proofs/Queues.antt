@@ -57,3 +57,7 @@ inside_placed t s b o = record {
     | inr e ↦ timed_placed t s b p o e
   ];
 }
+
+-- the sleepers' list stays, and the lists of waiters fit their counts again
+pub queues_counted : (ls ms : List (List Entry)) (es : List SemaphoreEntry) → WakesLater ls → list_at ms 129 ≡ list_at ls 129 → Counts ms es → AreQueues ms es
+queues_counted ls ms es w e k = record { counts = k; later = later_kept ls ms w e }

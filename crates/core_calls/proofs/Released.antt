@@ -45,7 +45,7 @@ any_by_length [] = refl
 any_by_length (p ∷ ps) = grind (arith, nat_tests)
 
 -- whether a resched is owed for these
-owed_for : (ps : List ℕ) → cond (are_any ps) true false ≡ are_any ps
+pub owed_for : (ps : List ℕ) → cond (are_any ps) true false ≡ are_any ps
 owed_for [] = refl
 owed_for (p ∷ ps) = refl
 

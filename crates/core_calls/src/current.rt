@@ -3,16 +3,14 @@
 //!
 //! It depends on the lists, the process table and the clock.
 
-ghost use Rattle.std.specs.Prelude.{◌≡◌, ◌≢◌, ◌≤ℤ◌, ℕ, List, pos};
-ghost use Rattle.delta_clock.specs.Wakeups.{WakesLater};
+ghost use Rattle.std.specs.Prelude.{◌≡◌, ◌≢◌, ℕ, List, if◌then◌else◌};
 ghost use Rattle.process_core.specs.Fits.{Fits, IsBlocked};
-ghost use Rattle.process_core.specs.Tables.{Beside, process_in, tables_of, wake_tick};
+ghost use Rattle.process_core.specs.Tables.{Beside, process_in, tables_of, with_process};
 ghost use Rattle.queue_table.specs.Lists.{Entry, list_at};
 ghost use Rattle.queue_table.specs.Table as table;
 ghost use Rattle.xinu_model.specs.Clock.{quantum_falls};
-ghost use Rattle.xinu_model.specs.Tables.{InSleepers, message_at, move_to, Nowhere, process_at};
+ghost use Rattle.xinu_model.specs.Tables.{message_at, move_to, Nowhere, process_at};
 
-use delta_clock::Clock;
 use process_core::Procs;
 use queue_table::Lists;
 use xinu_base::{Rest, State};
@@ -47,5 +45,15 @@ pub(crate) fn spend(lists: &mut Lists, procs: &mut Procs)
 {
     if procs.quantum_tick() {
         procs.resched(lists);
+    }
+}
+
+/// This is left of the call of the current process, unless it took a token and goes on.
+pub(crate) fn leave_rest(procs: &mut Procs, took: bool, rest: Rest)
+    ensures procs { procs.new ≡ (let s = procs.old in if took then s else with_process s.current (record (process_in s.processes s.current) { rest = rest }) s) }
+{
+    if !took {
+        let current = procs.current();
+        procs.set_rest(current, rest);
     }
 }

@@ -38,6 +38,8 @@ mod message_moves;
 mod process_calls;
 mod process_moves;
 mod replies;
+mod semaphore_calls;
+mod semaphore_moves;
 mod sending;
 mod state;
 mod tables;
