@@ -1,5 +1,5 @@
 -- The moves of the kernel's tables keep what holds of them at each moment of an event.
-use Rattle.std.proofs.Common.{◌≡◌, ◌≢◌, ◌<◌, ◌∙◌, ◌-◌, nat_lt, ℕ, ℤ, false, set, refl, sym, ap, subst, None, inl, inr}
+use Rattle.std.proofs.Common.{◌≡◌, ◌≢◌, ◌<◌, ◌∙◌, ◌-◌, nat_lt, ℕ, ℤ, false, set, refl, sym, ap, subst, Option, None, inl, inr}
 use Rattle.std.proofs.lemmas.Bool.{cond_both}
 use Rattle.xinu_base.specs.declared.processes.Process.{Process}
 use Rattle.xinu_base.specs.declared.processes.Rest.TheVariants.{Nothing, SelfSuspend}
@@ -98,18 +98,18 @@ inside_self_suspended t o e n =
       if_free = λ f. absurd (cc);
     })
 
--- the caller goes on
-pub inside_goes_on : (t : Tables) → IsInside t → state_at t t.current ≡ Current
-    → IsInside (move_to t.current (record (process_at t t.current) { rest = Nothing }) (message_at t t.current) Nowhere t)
-inside_goes_on t o e =
-    inside_move t t.current (record (process_at t t.current) { rest = Nothing }) (message_at t t.current) Nowhere o
+-- the caller goes on, with any message
+pub inside_goes_on : (t : Tables) (m : Option ℕ) → IsInside t → state_at t t.current ≡ Current
+    → IsInside (move_to t.current (record (process_at t t.current) { rest = Nothing }) m Nowhere t)
+inside_goes_on t m o e =
+    inside_move t t.current (record (process_at t t.current) { rest = Nothing }) m Nowhere o
     (record {
       within = within_table t t.current o.processes (λ f. cc);
       place_of = subst (λ y. IsPlaceOf y Nowhere) (sym e) (refl, refl, refl);
       if_current = λ f. refl;
       if_null = λ f. (inl e, refl);
       fits = tt;
-      slot = subst (λ y. FitsMessage y Nothing (message_at t t.current)) (sym e) tt;
+      slot = subst (λ y. FitsMessage y Nothing m) (sym e) tt;
       if_free = λ f. absurd (cc);
     })
 

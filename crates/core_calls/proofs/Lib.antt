@@ -1,9 +1,13 @@
-pub mod Alone
+pub mod Queues
 pub mod Served
+pub mod Released
 pub mod Inside
 pub mod Sent
 pub mod Starts
 pub mod Running
+pub mod Wakeups
+pub mod Waiters
+pub mod SemaphoreCalls
 pub mod Answered
 pub mod Kept
 pub mod Rows
@@ -11,3 +15,5 @@ pub mod Named
 pub mod Images
 pub mod Making
 pub mod Walking
+pub mod WalkingQueues
+pub mod WalkingSleepers

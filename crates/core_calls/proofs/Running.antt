@@ -1,22 +1,22 @@
--- The current process suspends itself, goes on, and spends its quantum.
-use Rattle.std.proofs.Common.{◌≡◌, ◌∙◌, ℕ, ◌+◌, ◌-◌, ◌<◌, Bool, true, false, not, cond, nat_lt, List, [], set, length, Option, refl, sym, ap, subst, inl, inr, get_or-set_same}
+-- The current process waits or is suspended, goes on, and spends its quantum.
+use Rattle.std.proofs.Common.{◌≡◌, ◌∙◌, ℕ, ◌-◌, ◌<◌, Bool, true, false, not, cond, nat_lt, List, set, length, Option, Some, None, refl, sym, ap, inl, inr, get_or-set_same}
+use Rattle.std.specs.Prelude.{IfSome}
 use Rattle.std.proofs.lemmas.Bool.{cases_lt}
 use Rattle.std.proofs.lemmas.List.{get_or_past}
-use Rattle.std.specs.List.{AllByRecursion}
-use Rattle.queue_table.specs.Lists.{Entry, delays, list_at}
+use Rattle.queue_table.specs.Lists.{Entry}
 use Rattle.process_core.specs.Fits.{Fits}
-use Rattle.process_core.specs.Tables.{Beside, process_in, ProcessTable, tables_of, with_process, sleepers_of}
+use Rattle.process_core.specs.Tables.{Beside, process_in, ProcessTable, tables_of, with_process}
 use Rattle.process_core.proofs.Fitting.{current_nowhere, fits_same_state, running_within}
 use Rattle.process_core.proofs.Removals.{changed_quietly}
 use Rattle.process_core.proofs.Steps.{entry_then_moved}
 use Rattle.xinu_base.specs.declared.processes.Process.{Process}
 use Rattle.xinu_base.specs.declared.processes.Rest.{Rest}
-use Rattle.xinu_base.specs.declared.processes.Rest.TheVariants.{Nothing, SelfSuspend}
-use Rattle.xinu_base.specs.declared.processes.State.TheVariants.{Current, Free, Suspended}
+use Rattle.xinu_base.specs.declared.processes.Rest.TheVariants.{Nothing}
+use Rattle.xinu_base.specs.declared.processes.State.{State}
+use Rattle.xinu_base.specs.declared.processes.State.TheVariants.{Current, Free}
 use Rattle.xinu_model.specs.Clock.{quantum_falls}
 use Rattle.xinu_model.specs.Process.Scheduling.{in_state, resched}
 use Rattle.xinu_model.specs.Tables.{message_at, move_to, no_process, Nowhere, process_at, state_at, Tables}
-use Rattle.core_calls.specs.Served.{beside}
 
 -- a process that runs is in the table
 running_listed : (ps : List Process) (p : ℕ) → (process_in ps p).state ≡ Current → p < length ps
@@ -39,17 +39,17 @@ pub runs_rested : (s : ProcessTable) (r : Rest) → (process_in s.processes s.cu
     → process_in (with_process s.current (rested r s) s).processes s.current ≡ rested r s
 runs_rested s r e = get_or-set_same s.processes s.current (rested r s) no_process (running_listed s.processes s.current e)
 
--- suspended after that, it has moved once
-pub suspended_once : (ls : List (List Entry)) (s : ProcessTable) (b : Beside) → Fits ls s.processes → (process_in s.processes s.current).state ≡ Current
-    → (let t = tables_of ls (with_process s.current (rested SelfSuspend s) s) b in move_to t.current (in_state Suspended (process_at t t.current)) (message_at t t.current) Nowhere t)
-    ≡ (let t = tables_of ls s b in move_to t.current (record (process_at t t.current) { state = Suspended; rest = SelfSuspend }) (message_at t t.current) Nowhere t)
+-- blocked after that, it has moved once
+pub blocked_once : (ls : List (List Entry)) (s : ProcessTable) (b : Beside) (state : State) (rest : Rest) → (process_in s.processes s.current).state ≡ Current
+    → (let t = tables_of ls (with_process s.current (rested rest s) s) b in move_to t.current (in_state state (process_at t t.current)) (message_at t t.current) Nowhere t)
+    ≡ (let t = tables_of ls s b in move_to t.current (record (process_at t t.current) { state = state; rest = rest }) (message_at t t.current) Nowhere t)
 unfolding tables_of
-suspended_once ls s b f e =
-    let x = rested SelfSuspend s in
+blocked_once ls s b state rest e =
+    let x = rested rest s in
     let t = tables_of ls s b in
     let m = message_at t s.current in
-    ap (λ y. move_to s.current (in_state Suspended y) m Nowhere (record t { processes = set s.processes s.current x })) (runs_rested s SelfSuspend e)
-    ∙ entry_then_moved s.current x (in_state Suspended x) m Nowhere t
+    ap (λ y. move_to s.current (in_state state y) m Nowhere (record t { processes = set s.processes s.current x })) (runs_rested s rest e)
+    ∙ entry_then_moved s.current x (in_state state x) m Nowhere t
 
 -- a process that runs and has nothing left to do has moved nowhere
 pub goes_on_once : (ls : List (List Entry)) (s : ProcessTable) (b : Beside) → Fits ls s.processes → (process_in s.processes s.current).state ≡ Current
@@ -84,28 +84,17 @@ pub quantum_of : (ls : List (List Entry)) (s : ProcessTable) (b : Beside) (e : B
 unfolding tables_of
 quantum_of ls s b e h = h
 
--- a tick later nobody sleeps still
-pub with_tick : (ls : List (List Entry)) (s : ProcessTable) (m : List (Option ℕ)) (n : ℕ) → list_at ls 129 ≡ []
-    → tables_of ls s (beside m (n + 1)) ≡ (let t = tables_of ls s (beside m n) in record t { ticks = t.ticks + 1 })
-unfolding tables_of delays
-with_tick ls s m n e = ap (λ l. record (tables_of ls s (beside m n)) { ticks = n + 1; sleepers = sleepers_of (n + 1) l }) e ∙ ap (λ l. record (tables_of ls s (beside m n)) { ticks = n + 1; sleepers = sleepers_of n l }) (sym e)
-
 -- who runs, by the process table
 pub current_in : (ls : List (List Entry)) (s : ProcessTable) (b : Beside) → state_at (tables_of ls s b) (tables_of ls s b).current ≡ Current → (process_in s.processes s.current).state ≡ Current
 unfolding tables_of
 current_in ls s b h = h
-
--- nobody sleeps, so all sleepers wake later
-pub no_sleepers : (ls : List (List Entry)) (s : ProcessTable) (b : Beside) (n : ℕ) → list_at ls 129 ≡ [] → AllByRecursion (λ e. n < e.1) (tables_of ls s b).sleepers
-unfolding tables_of delays
-no_sleepers ls s b n e = let A : List Entry → Type 0 = λ l. AllByRecursion (λ e. n < e.1) (sleepers_of b.ticks l) in subst A (sym e) tt
 
 -- the ticks, by what is beside lists and processes
 pub few_ticks : (ls : List (List Entry)) (s : ProcessTable) (b : Beside) (n : ℕ) → (tables_of ls s b).ticks < n → b.ticks < n
 unfolding tables_of
 few_ticks ls s b n h = h
 
--- nobody sleeps
-pub nobody_sleeps : (ls : List (List Entry)) (s : ProcessTable) (b : Beside) → list_at ls 129 ≡ [] → (tables_of ls s b).sleepers ≡ []
-unfolding tables_of delays
-nobody_sleeps ls s b e = ap (sleepers_of b.ticks) e
+-- what holds anyway holds if there is something
+pub if_some : (o : Option ℕ) (P : Type 0) → P → IfSome o (λ _. P)
+if_some None P h = tt
+if_some (Some m) P h = h

@@ -1,4 +1,4 @@
--- A walk along a list in which each process stands at most once, and along the ready list.
+-- A walk along a list in which each process stands at most once, and along the ready list. The other lists are in WalkingQueues.antt.
 use Rattle.std.proofs.Common.{◌≡◌, ◌≢◌, ◌∙◌, ℕ, zero, suc, ◌+◌, ◌<◌, ◌≤◌, Bool, true, false, cond, List, [], ◌∷◌, Option, Some, None, ℤ, refl, sym, ap, subst, nat_eq, arith}
 use Rattle.std.proofs.lemmas.Bool.{cond_both, eq-eqb, eqb-true, false≢true, ne_eqb}
 use Rattle.std.specs.Prelude.{IfSome}
@@ -24,14 +24,14 @@ first_alone e l once =
     let c = ap (λ b. cond b (suc (entries_of e.0 l)) (entries_of e.0 l)) (eq-eqb e.0 e.0 refl) in omega arith
 
 -- without the first one the others still do
-rest_once : (e : Entry) (l : List Entry) → Once (e ∷ l) → Once l
+pub rest_once : (e : Entry) (l : List Entry) → Once (e ∷ l) → Once l
 rest_once e l once r =
     let h = once r in
     let P : ℕ → Type 0 = λ n. n ≤ 1 → entries_of r l ≤ 1 in
     cond_both (nat_eq e.0 r) (suc (entries_of r l)) (entries_of r l) P (λ _ n. omega arith) (λ _ n. n) h
 
 -- one of the others isn't the first
-other_than_first : (e : Entry) (l : List Entry) (r : ℕ) → Once (e ∷ l) → 0 < entries_of r l → r ≢ e.0
+pub other_than_first : (e : Entry) (l : List Entry) (r : ℕ) → Once (e ∷ l) → 0 < entries_of r l → r ≢ e.0
 other_than_first e l r once some same =
     let alone = first_alone e l once in
     let P : ℕ → Type 0 = λ n. 0 < entries_of n l in

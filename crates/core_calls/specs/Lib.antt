@@ -1,4 +1,6 @@
+pub mod Queues
 pub mod Served
+pub mod Released
 pub mod KernelTables
 pub mod Results
 pub mod States

@@ -1,12 +1,12 @@
-//! What happens to the current process: it suspends itself, goes on after that, and spends its quantum (book, chapters 5, 6 and 13).
+//! What happens to the current process: it waits or is suspended, sleeps, goes on after that, and spends its quantum (book, chapters 5, 6
+//! and 13).
 //!
-//! It depends on the lists and the process table.
+//! It depends on the lists, the process table and the clock.
 
-ghost use Rattle.std.specs.Prelude.{◌≡◌, List};
-ghost use Rattle.core_calls.specs.Served.{IsReadyAlone};
-ghost use Rattle.process_core.specs.Fits.{Fits};
-ghost use Rattle.process_core.specs.Tables.{Beside, process_in, tables_of};
-ghost use Rattle.queue_table.specs.Lists.{Entry};
+ghost use Rattle.std.specs.Prelude.{◌≡◌, ◌≢◌, ℕ, List, if◌then◌else◌};
+ghost use Rattle.process_core.specs.Fits.{Fits, IsBlocked};
+ghost use Rattle.process_core.specs.Tables.{Beside, process_in, tables_of, with_process};
+ghost use Rattle.queue_table.specs.Lists.{Entry, list_at};
 ghost use Rattle.queue_table.specs.Table as table;
 ghost use Rattle.xinu_model.specs.Clock.{quantum_falls};
 ghost use Rattle.xinu_model.specs.Tables.{message_at, move_to, Nowhere, process_at};
@@ -15,14 +15,17 @@ use process_core::Procs;
 use queue_table::Lists;
 use xinu_base::{Rest, State};
 
-/// Suspends the current process, which runs. What is left of its call is to answer its priority.
-pub(crate) fn suspend_current(procs: &mut Procs)
+/// Puts the current process, which runs, into a state in which it waits or is suspended; this is left of its call.
+pub(crate) fn block_current(procs: &mut Procs, state: State, rest: Rest)
     requires runs { (process_in procs.old.processes procs.old.current).state ≡ State.Current }
-    ensures suspended { (ls : List (List Entry)) (b : Beside) → Fits ls procs.old.processes → tables_of ls procs.new b ≡ (let t = tables_of ls procs.old b in move_to t.current (record (process_at t t.current) { state = State.Suspended; rest = Rest.SelfSuspend }) (message_at t t.current) Nowhere t) }
+    requires blocks { IsBlocked state }
+    ensures blocked { (ls : List (List Entry)) (b : Beside) → Fits ls procs.old.processes → tables_of ls procs.new b ≡ (let t = tables_of ls procs.old b in
+        move_to t.current (record (process_at t t.current) { state = state; rest = rest }) (message_at t t.current) Nowhere t) }
+    ensures same { procs.new.current ≡ procs.old.current }
 {
     let current = procs.current();
-    procs.set_rest(current, Rest::SelfSuspend);
-    procs.block(State::Suspended);
+    procs.set_rest(current, rest);
+    procs.block(state);
 }
 
 /// Nothing is left of the call of the current process, which runs.
@@ -37,11 +40,20 @@ pub(crate) fn end_rest(procs: &mut Procs)
 /// Takes a tick off the quantum, with a resched if it came to 0.
 pub(crate) fn spend(lists: &mut Lists, procs: &mut Procs)
     requires fits { Fits (table.lists lists.old) procs.old.processes }
-    requires alone { IsReadyAlone (table.lists lists.old) }
     ensures spent { (b : Beside) → tables_of (table.lists lists.new) procs.new b ≡ quantum_falls (tables_of (table.lists lists.old) procs.old b) }
-    ensures alone { IsReadyAlone (table.lists lists.new) }
+    ensures others { (q : ℕ) → q ≢ 128 → list_at (table.lists lists.new) q ≡ list_at (table.lists lists.old) q }
 {
     if procs.quantum_tick() {
         procs.resched(lists);
+    }
+}
+
+/// This is left of the call of the current process, unless it took a token and goes on.
+pub(crate) fn leave_rest(procs: &mut Procs, took: bool, rest: Rest)
+    ensures procs { procs.new ≡ (let s = procs.old in if took then s else with_process s.current (record (process_in s.processes s.current) { rest = rest }) s) }
+{
+    if !took {
+        let current = procs.current();
+        procs.set_rest(current, rest);
     }
 }

@@ -26,17 +26,24 @@
 #![tactic(auto)]
 
 mod boot;
+mod clock_moves;
 mod creation;
 mod current;
 mod kernel;
 mod leaving;
 mod memory_calls;
 mod memory_map;
+mod message_calls;
+mod message_moves;
 mod process_calls;
+mod process_moves;
 mod replies;
+mod semaphore_calls;
+mod semaphore_moves;
 mod sending;
 mod state;
 mod tables;
+mod waking;
 mod walks;
 
 pub use boot::BootFault;

@@ -8,6 +8,7 @@ ghost use Rattle.xinu_model.specs.Clock as clock;
 ghost use Rattle.xinu_model.specs.Process.Calls as model;
 ghost use Rattle.xinu_model.specs.Process.Death.{exit, killed};
 ghost use Rattle.xinu_model.specs.Sound.Tables.{IsSoundTables};
+ghost use Rattle.xinu_model.specs.Tables.{state_at};
 
 use crate::state::KernelState;
 use rv_hart::Hart;
@@ -127,6 +128,18 @@ impl KernelState {
         let current = self.tables.current();
         self.end(current);
         Next::Gone
+    }
+
+    /// What is left of the call by which the caller suspended itself: to answer its priority.
+    pub(crate) fn go_on_suspend(&mut self) -> Next
+        requires start { IsStart self.old }
+        requires runs { state_at self.old.state.tables self.old.state.tables.current ≡ State.Current }
+        ensures suspended { came_to self.new result ≡ model.go_on_suspend self.old.state }
+    {
+        let current = self.tables.current();
+        let priority = self.tables.priority_of(current);
+        self.tables.go_on();
+        Next::Returns(i32::from(priority))
     }
 
     // `p`, which isn't the null process, dies: its parent is sent its number, its stack is free, unless the heap refuses it, and so

@@ -1,12 +1,16 @@
-//! The replies of an event, written into the registers of those who get them.
+//! The replies of an event: who gets one, and how it is written into the registers.
 //!
-//! It depends on registers alone.
+//! It depends on registers and on the kernel's tables.
 
-ghost use Rattle.std.specs.Prelude.{◌≡◌, ◌||◌};
+ghost use Rattle.std.specs.Prelude.{◌≡◌, ◌≤◌, ◌<◌, ◌+◌, ◌||◌, ◌++◌, [], length};
+ghost use Rattle.arrayvec.specs.ArrayVec.{array_vec_len};
+ghost use Rattle.core_calls.specs.Released.{replies_to};
 ghost use Rattle.core_calls.specs.Results as results;
 ghost use Rattle.core_calls.specs.Results.{answer_so_far};
 ghost use Rattle.xinu_model.specs.Machine as model;
+ghost use Rattle.xinu_model.specs.Tables.{process_at};
 
+use crate::tables::KernelTables;
 use arrayvec::ArrayVec;
 use xinu_base::{Hart, Next, Pid};
 
@@ -33,6 +37,33 @@ pub(crate) fn is_resched_due(owes_resched: bool, answer: Option<Next>) -> bool
     ensures due { result ≡ (owes_resched || model.is_off (answer_so_far answer)) }
 {
     owes_resched || matches!(answer, Some(Next::Waits | Next::Gone))
+}
+
+/// Keeps a reply of this value for each of these processes, which were released, of whose call nothing is left.
+pub(crate) fn answer_released(
+    replies: &mut Replies,
+    tables: &KernelTables,
+    released: &[Pid],
+    value: i32,
+)
+    requires none { replies.old.items ≡ [] }
+    requires few { length released.now ≤ 64 }
+    ensures replies { replies.new.items ≡ replies_to value released.now tables.now }
+{
+    for p in released {
+        answer(replies, tables, *p, value);
+    }
+}
+
+// Keeps a reply for `p`, if nothing is left of its call.
+fn answer(replies: &mut Replies, tables: &KernelTables, p: Pid, value: i32)
+    requires room { array_vec_len replies.old < 64 }
+    ensures replies { replies.new.items ≡ replies.old.items ++ model.reply_at_unblock value p (process_at tables.now p).rest }
+    ensures longer { array_vec_len replies.new ≤ array_vec_len replies.old + 1 }
+{
+    if tables.has_finished(p) {
+        replies.push((p, value));
+    }
 }
 
 // Writes these replies, one after another.

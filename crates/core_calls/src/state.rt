@@ -14,7 +14,7 @@ ghost use Rattle.xinu_model.specs.Tables.{process_at, state_at};
 ghost use Rattle.xinu_model.specs.Words.{half};
 
 use crate::creation::Creation;
-use crate::replies::{Replies, is_resched_due, write_all};
+use crate::replies::{Replies, answer_released, is_resched_due, write_all};
 use crate::tables::KernelTables;
 use freelist_memory::Heap;
 use rv_hart::{Hart, Outcome, Ram, step};
@@ -136,26 +136,28 @@ impl KernelState {
         }
     }
 
-    /// Does what is left of the current process's call: to answer its priority, after it suspended itself.
+    /// Does what is left of the current process's call: the end of a self-suspension, or the receipt of a message.
     pub(crate) fn go_on(&mut self) -> Next
         requires start { IsStart self.old }
         requires runs { state_at self.old.state.tables self.old.state.tables.current ≡ State.Current }
         requires waits { (process_at self.old.state.tables self.old.state.tables.current).rest ≢ Rest.Nothing }
         ensures continued { came_to self.new result ≡ continued (process_at self.old.state.tables self.old.state.tables.current).rest self.old.state }
     {
-        let current = self.tables.current();
-        let priority = self.tables.priority_of(current);
-        self.tables.go_on();
-        Next::Returns(i32::from(priority))
+        match self.tables.rest() {
+            Rest::SelfSuspend => self.go_on_suspend(),
+            _ => self.go_on_receive(),
+        }
     }
 
     /// A tick of the clock, with its own reschedules.
     pub(crate) fn tick(&mut self)
         requires start { IsStart self.old }
+        requires runs { state_at self.old.state.tables self.old.state.tables.current ≡ State.Current }
         requires few { self.old.state.tables.ticks < 4294967295 }
         ensures ticks { record { call = self.new; answer = Silent } ≡ ticking self.old.state }
     {
-        self.tables.tick();
+        let woken = self.tables.tick();
+        answer_released(&mut self.replies, &self.tables, woken.as_slice(), 0);
     }
 
     /// Ends the event of a call that went so: its one resched, and the replies. The process that became current, if it is another.

@@ -49,6 +49,13 @@ impl Clock {
         u64::from(self.ticks)
     }
 
+    /// The ticks since the start, which fit 32 bits.
+    pub fn ticks(&self) -> u32
+        ensures ticks { result ≡ self.now }
+    {
+        self.ticks
+    }
+
     /// The seconds since the start: a thousand ticks are a second.
     pub fn seconds(&self) -> u32
         ensures seconds { result ≡ self.now / 1000 }
@@ -95,7 +102,7 @@ impl Clock {
     /// A tick passes. Those whose tick has come are taken out of the sleepers: they are the answer, in the order in which they lay down
     /// among equal ticks.
     pub fn tick(&mut self, lists: &mut Lists) -> ArrayVec<Pid, 64>
-        requires few { self.old < 1000000000 }
+        requires few { self.old < 4294967295 }
         requires later { WakesLater (table.lists lists.old) }
         ensures ticks { self.new ≡ self.old + 1 }
         ensures due { result.items ≡ due (self.old + 1) (sleepers_of self.old (list_at (table.lists lists.old) 129)) }
@@ -115,7 +122,7 @@ impl Clock {
 
     // One tick more.
     fn advance(&mut self)
-        requires few { self.old < 1000000000 }
+        requires few { self.old < 4294967295 }
         ensures ticks { self.new ≡ self.old + 1 }
     {
         self.ticks += 1;

@@ -1,41 +1,35 @@
-use Rattle.std.proofs.Common.{◌≡◌, ◌≢◌, sym, subst}
+use Rattle.std.proofs.Common.{sym, subst}
 use Rattle.queue_table.specs.Table.{lists}
 use Rattle.process_core.proofs.Inside.{inside_fits}
+use Rattle.semaphores.specs.Counts.{beside}
 use Rattle.xinu_model.specs.Sound.Tables.{IsInside}
-use Rattle.xinu_model.specs.Tables.{Tables}
 use Rattle.core_calls.specs.KernelTables.{kernel_tables}
-use Rattle.core_calls.specs.Served.{AreServed, beside}
-use Rattle.xinu_base.specs.declared.processes.Rest.TheVariants.{Nothing, SelfSuspend}
+use Rattle.core_calls.specs.Served.{AreServed}
+use Rattle.xinu_base.specs.declared.processes.Rest.TheVariants.{Nothing}
 use Rattle.xinu_model.specs.Tables.{message_at, Nowhere, process_at}
 use Rattle.core_calls.proofs.Inside.{inside_goes_on}
 use Rattle.core_calls.proofs.Running.{current_in}
-use Rattle.core_calls.proofs.Served.{served_left, served_move}
+use Rattle.core_calls.proofs.Served.{served_move}
 use Rattle.core_calls.proofs.tables.KernelTables.go_on.Goals as goal
 
 pub end_rest-requires : goal.end_rest-requires
 end_rest-requires c =
-    let k = c.self.inside in record { runs = current_in (lists k.lists) k.procs (beside k.slots k.ticks) (rw c.self.view_is c.requires.runs) }
+    let k = c.self.inside in record { runs = current_in (lists k.lists) k.procs (beside k.sems k.slots k.clock) (rw c.self.view_is c.requires.runs) }
 
 pub returns : goal.returns
 returns c =
     let k = c.self.inside in
-    let b = beside k.slots k.ticks in
-    let W : Tables → Type 0 = λ t. (process_at t t.current).rest ≢ Nothing in
-    let R : Tables → Type 0 = λ t. (process_at t t.current).rest ≡ SelfSuspend in
-    let t = kernel_tables k in
-    record {
-      served = subst R c.self.view_is (served_left (process_at t t.current).rest (c.self.invariant.served.rests t.current) (subst W (sym c.self.view_is) c.requires.waits));
-      goes_on = rw (← c.self.view_is) (c.end_rest.ensures.goes_on (lists k.lists) b (inside_fits k.lists k.procs b c.self.invariant.inside));
-    }
+    let b = beside k.sems k.slots k.clock in
+    record { goes_on = rw (← c.self.view_is) (c.end_rest.ensures.goes_on (lists k.lists) b (inside_fits k.lists k.procs b c.self.invariant.inside)) }
 
 pub invariant_of-self : goal.invariant_of-self
 invariant_of-self c =
     let k = c.self.inside in
     let t = kernel_tables k in
-    let b = beside k.slots k.ticks in
+    let b = beside k.sems k.slots k.clock in
     let e = sym (c.end_rest.ensures.goes_on (lists k.lists) b (inside_fits k.lists k.procs b c.self.invariant.inside)) in
     record {
-      inside = subst IsInside e (inside_goes_on t c.self.invariant.inside (rw c.self.view_is c.requires.runs));
-      alone = c.self.invariant.alone;
+      inside = subst IsInside e (inside_goes_on t (message_at t t.current) c.self.invariant.inside (rw c.self.view_is c.requires.runs));
+      queues = c.self.invariant.queues;
       served = subst AreServed e (served_move t t.current (record (process_at t t.current) { rest = Nothing }) (message_at t t.current) Nowhere c.self.invariant.served tt);
     }

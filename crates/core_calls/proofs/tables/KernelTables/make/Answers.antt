@@ -7,11 +7,12 @@ use Rattle.xinu_base.specs.declared.processes.State.TheVariants.{Free}
 use Rattle.xinu_model.specs.Sound.Tables.{IsInside}
 use Rattle.xinu_model.specs.Tables.{state_at}
 use Rattle.core_calls.specs.KernelTables.{kernel_tables}
-use Rattle.core_calls.specs.Served.{AreServed, beside}
+use Rattle.core_calls.specs.Served.{AreServed}
+use Rattle.semaphores.specs.Counts.{beside}
 use Rattle.process_core.specs.Starts.{padded}
 use Rattle.xinu_model.specs.Process.Creation.{new_process}
 use Rattle.xinu_model.specs.Tables.{move_to, Nowhere}
-use Rattle.core_calls.proofs.Alone.{state_in}
+use Rattle.core_calls.proofs.Queues.{state_in}
 use Rattle.core_calls.proofs.Inside.{inside_made}
 use Rattle.core_calls.proofs.Served.{served_made}
 use Rattle.core_calls.proofs.tables.KernelTables.make.Goals as goal
@@ -20,13 +21,13 @@ pub make-requires-clause-free : goal.make-requires-clause-free
 make-requires-clause-free c =
     let k = c.self.inside in
     let h : state_at (kernel_tables k) c.args.p ≡ Free = rw c.self.view_is c.requires.free in
-    sym (state_in (lists k.lists) k.procs (beside k.slots k.ticks) c.args.p) ∙ h
+    sym (state_in (lists k.lists) k.procs (beside k.sems k.slots k.clock) c.args.p) ∙ h
 
 pub returns : goal.returns
 returns c =
     let k = c.self.inside in
     let t = kernel_tables k in
-    let b = beside k.slots k.ticks in
+    let b = beside k.sems k.slots k.clock in
     let p = c.args.p in
     let f : SFits w16 c.args.priority = search rules in
     record {
@@ -38,12 +39,12 @@ pub invariant_of-self : goal.invariant_of-self
 invariant_of-self c =
     let k = c.self.inside in
     let t = kernel_tables k in
-    let b = beside k.slots k.ticks in
+    let b = beside k.sems k.slots k.clock in
     let e = sym (c.make.ensures.made (lists k.lists) b None (inside_fits k.lists k.procs b c.self.invariant.inside)) in
     let x = new_process (padded c.args.name.now) (to_z w16 (of_z w16 c.args.priority)) c.args.parent c.args.stack.0 c.args.stack.1 in
     let within : c.args.p < 64 = (let i = c.index.ensures.bound in let j = c.index.ensures.index in omega (arith, i, j)) in
     record {
       inside = rw c.clear.ensures.slots (subst IsInside e (inside_made t c.args.p x c.self.invariant.inside within (rw c.self.view_is c.requires.free) refl refl));
-      alone = c.self.invariant.alone;
+      queues = c.self.invariant.queues;
       served = rw c.clear.ensures.slots (subst AreServed e (served_made t c.args.p x c.self.invariant.served tt));
     }

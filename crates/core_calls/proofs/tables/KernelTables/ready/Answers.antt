@@ -4,31 +4,33 @@ use Rattle.queue_table.specs.Table.{lists}
 use Rattle.process_core.proofs.Fitting.{suspended_nowhere}
 use Rattle.process_core.proofs.Inside.{inside_fits}
 use Rattle.xinu_model.specs.Tables.{state_at}
+use Rattle.xinu_model.specs.Process.Scheduling.{ready}
 use Rattle.xinu_model.specs.Sound.Tables.{IsInside}
 use Rattle.core_calls.specs.KernelTables.{kernel_tables}
-use Rattle.core_calls.specs.Served.{AreServed, beside}
-use Rattle.core_calls.proofs.Alone.{alone_kept, state_in}
+use Rattle.core_calls.specs.Served.{AreServed}
+use Rattle.semaphores.specs.Counts.{beside}
+use Rattle.core_calls.proofs.Queues.{queues_kept, state_in}
 use Rattle.core_calls.proofs.Inside.{inside_resumed}
-use Rattle.core_calls.proofs.Served.{served_ready}
+use Rattle.core_calls.proofs.Served.{rests_ready, served_kept}
 use Rattle.core_calls.proofs.tables.KernelTables.ready.Goals as goal
 
 pub ready_defer-requires-clause-fits : goal.ready_defer-requires-clause-fits
-ready_defer-requires-clause-fits c = let k = c.self.inside in inside_fits k.lists k.procs (beside k.slots k.ticks) c.self.invariant.inside
+ready_defer-requires-clause-fits c = let k = c.self.inside in inside_fits k.lists k.procs (beside k.sems k.slots k.clock) c.self.invariant.inside
 
 pub ready_defer-requires-clause-absent : goal.ready_defer-requires-clause-absent
 ready_defer-requires-clause-absent c =
     let k = c.self.inside in
     let h : state_at (kernel_tables k) c.args.p ≡ Suspended = rw c.self.view_is c.requires.suspended in
-    suspended_nowhere (lists k.lists) k.procs.processes c.args.p (inside_fits k.lists k.procs (beside k.slots k.ticks) c.self.invariant.inside)
-    (sym (state_in (lists k.lists) k.procs (beside k.slots k.ticks) c.args.p) ∙ h)
+    suspended_nowhere (lists k.lists) k.procs.processes c.args.p (inside_fits k.lists k.procs (beside k.sems k.slots k.clock) c.self.invariant.inside)
+    (sym (state_in (lists k.lists) k.procs (beside k.sems k.slots k.clock) c.args.p) ∙ h)
 
 pub invariant_of-self : goal.invariant_of-self
 invariant_of-self c =
     let k = c.self.inside in
     let t = kernel_tables k in
-    let e = sym (c.ready_defer.ensures.readied (beside k.slots k.ticks)) in
+    let e = sym (c.ready_defer.ensures.readied (beside k.sems k.slots k.clock)) in
     record {
       inside = subst IsInside e (inside_resumed t c.args.p c.self.invariant.inside (rw c.self.view_is c.requires.suspended));
-      alone = alone_kept (lists k.lists) (lists c.ready_defer.new.lists) c.self.invariant.alone c.ready_defer.ensures.others;
-      served = subst AreServed e (served_ready t c.args.p c.self.invariant.served);
+      queues = queues_kept (lists k.lists) (lists c.ready_defer.new.lists) k.sems.entries c.self.invariant.queues c.ready_defer.ensures.others;
+      served = subst AreServed e (served_kept t (ready c.args.p t) (rests_ready t c.args.p) c.self.invariant.served);
     }

@@ -6,29 +6,30 @@ use Rattle.xinu_model.specs.Process.Scheduling.{in_state}
 use Rattle.xinu_model.specs.Sound.Tables.{IsInside}
 use Rattle.xinu_model.specs.Tables.{message_at, Nowhere, process_at, state_at}
 use Rattle.core_calls.specs.KernelTables.{kernel_tables}
-use Rattle.core_calls.specs.Served.{AreServed, beside}
-use Rattle.core_calls.proofs.Alone.{alone_kept, state_in}
+use Rattle.core_calls.specs.Served.{AreServed}
+use Rattle.semaphores.specs.Counts.{beside}
+use Rattle.core_calls.proofs.Queues.{queues_kept, state_in}
 use Rattle.core_calls.proofs.Inside.{inside_suspended}
 use Rattle.core_calls.proofs.Served.{served_move}
 use Rattle.core_calls.proofs.tables.KernelTables.suspend_ready.Goals as goal
 
 pub suspend_ready-requires-clause-fits : goal.suspend_ready-requires-clause-fits
-suspend_ready-requires-clause-fits c = let k = c.self.inside in inside_fits k.lists k.procs (beside k.slots k.ticks) c.self.invariant.inside
+suspend_ready-requires-clause-fits c = let k = c.self.inside in inside_fits k.lists k.procs (beside k.sems k.slots k.clock) c.self.invariant.inside
 
 pub suspend_ready-requires-clause-ready : goal.suspend_ready-requires-clause-ready
 suspend_ready-requires-clause-ready c =
     let k = c.self.inside in
     let h : state_at (kernel_tables k) c.args.p ≡ Ready = rw c.self.view_is c.requires.ready in
-    sym (state_in (lists k.lists) k.procs (beside k.slots k.ticks) c.args.p) ∙ h
+    sym (state_in (lists k.lists) k.procs (beside k.sems k.slots k.clock) c.args.p) ∙ h
 
 pub invariant_of-self : goal.invariant_of-self
 invariant_of-self c =
     let k = c.self.inside in
     let t = kernel_tables k in
     let p = c.args.p in
-    let e = sym (c.suspend_ready.ensures.suspended (beside k.slots k.ticks)) in
+    let e = sym (c.suspend_ready.ensures.suspended (beside k.sems k.slots k.clock)) in
     record {
       inside = subst IsInside e (inside_suspended t p c.self.invariant.inside c.requires.not_null (rw c.self.view_is c.requires.ready));
-      alone = alone_kept (lists k.lists) (lists c.suspend_ready.new.lists) c.self.invariant.alone c.suspend_ready.ensures.others;
+      queues = queues_kept (lists k.lists) (lists c.suspend_ready.new.lists) k.sems.entries c.self.invariant.queues c.suspend_ready.ensures.others;
       served = subst AreServed e (served_move t p (in_state Suspended (process_at t p)) (message_at t p) Nowhere c.self.invariant.served (c.self.invariant.served.rests p));
     }

@@ -1,0 +1,14 @@
+-- Who is released, and the answers to them.
+use Rattle.std.specs.Prelude.{ℕ, ℤ, Bool, true, false, List, [], ◌∷◌, ◌++◌}
+use Rattle.xinu_model.specs.Machine.{reply_at_unblock}
+use Rattle.xinu_model.specs.Tables.{process_at, Tables}
+
+-- this value to each of these processes of whose call nothing is left, in order
+abbrev pub replies_to : ℤ → List ℕ → Tables → List (ℕ × ℤ)
+replies_to value [] t = []
+replies_to value (p ∷ ps) t = reply_at_unblock value p (process_at t p).rest ++ replies_to value ps t
+
+-- whether there are any of these
+abbrev pub are_any : List ℕ → Bool
+are_any [] = false
+are_any (p ∷ ps) = true
