@@ -2,15 +2,17 @@
 use Rattle.std.proofs.Common.{◌≡◌, ◌≢◌, ◌<◌, ◌∙◌, ◌-◌, nat_lt, ℕ, ℤ, false, set, refl, sym, ap, subst, Option, None, inl, inr}
 use Rattle.std.proofs.lemmas.Bool.{cond_both}
 use Rattle.xinu_base.specs.declared.processes.Process.{Process}
+use Rattle.xinu_base.specs.declared.processes.Rest.{Rest}
 use Rattle.xinu_base.specs.declared.processes.Rest.TheVariants.{Nothing, SelfSuspend}
 use Rattle.xinu_base.specs.declared.processes.State.{State}
 use Rattle.xinu_base.specs.declared.processes.State.TheVariants.{Free, Current, Ready, Suspended}
 use Rattle.xinu_model.specs.Clock.{quantum_falls}
 use Rattle.xinu_model.specs.Process.Calls.{is_ready, with_priority}
 use Rattle.xinu_model.specs.Process.Scheduling.{in_state, ready, resched}
-use Rattle.xinu_model.specs.Sound.Tables.{CanRun, FitsMessage, HoldsFor, IsInside}
-use Rattle.xinu_model.specs.Tables.{InReady, message_at, move_to, Nowhere, process_at, state_at, Tables}
-use Rattle.xinu_laws.specs.Moves.{IsPlaceOf}
+use Rattle.xinu_model.specs.Sound.Tables.{CanRun, FitsMessage, HoldsFor, IsInside, IsSoundTables}
+use Rattle.xinu_model.specs.Tables.{InReady, message_at, move_to, Nowhere, Place, process_at, state_at, Tables}
+use Rattle.xinu_laws.specs.Moves.{FitsPlace, IsPlaceOf}
+use Rattle.xinu_laws.proofs.Preserve.{current_within}
 use Rattle.xinu_laws.proofs.Preserve.Processes.{is_ready_of}
 use Rattle.xinu_laws.proofs.Tables.Changes.{inside_process}
 use Rattle.xinu_laws.proofs.Tables.MoveTo.{inside_move, within_table}
@@ -118,3 +120,19 @@ pub inside_quantum_falls : (t : Tables) → IsInside t → IsInside (quantum_fal
 inside_quantum_falls t o =
     cond_both (nat_lt 1 t.quantum) (record t { quantum = t.quantum - 1 }) (resched (record t { quantum = 2 })) IsInside
     (λ _. inside_quantum t (t.quantum - 1) o) (λ _. (sound_resched (record t { quantum = 2 }) (inside_quantum t 2 o)).inside)
+
+-- the caller goes to a place that fits its new state and what is left of its call
+pub inside_blocked : (t : Tables) (state : State) (rest : Rest) (place : Place) → IsSoundTables t → t.current ≢ 0 → state ≢ Free → IsPlaceOf state place
+    → FitsPlace t (record (process_at t t.current) { state = state; rest = rest }) place → FitsMessage state rest (message_at t t.current)
+    → IsInside (move_to t.current (record (process_at t t.current) { state = state; rest = rest }) (message_at t t.current) place t)
+inside_blocked t state rest place k n alive place_of fits slot =
+    inside_move t t.current (record (process_at t t.current) { state = state; rest = rest }) (message_at t t.current) place k.inside
+    (record {
+      within = current_within t k;
+      place_of = place_of;
+      if_current = λ _. refl;
+      if_null = λ e. absurd (n e);
+      fits = fits;
+      slot = slot;
+      if_free = λ e. absurd (alive e);
+    })

@@ -1,11 +1,13 @@
 -- The current process waits or is suspended, goes on, and spends its quantum.
-use Rattle.std.proofs.Common.{◌≡◌, ◌∙◌, ℕ, ◌-◌, ◌<◌, Bool, true, false, not, cond, nat_lt, List, set, length, Option, Some, None, refl, sym, ap, inl, inr, get_or-set_same}
+use Rattle.std.proofs.Common.{◌≡◌, ◌∙◌, ℕ, ◌-◌, ◌<◌, Bool, true, false, not, cond, nat_lt, List, set, length, Option, Some, None, refl, sym, ap, inl, inr, get_or-set_same, get_or, ℤ, pos, negsuc, ◌≤ℤ◌, arith}
 use Rattle.std.specs.Prelude.{IfSome}
 use Rattle.std.proofs.lemmas.Bool.{cases_lt}
-use Rattle.std.proofs.lemmas.List.{get_or_past}
+use Rattle.std.proofs.lemmas.Int.{ints}
+use Rattle.std.proofs.lemmas.List.{get_or_past, set-get_or}
+use Rattle.process_core.proofs.Moves.{move_twice}
 use Rattle.queue_table.specs.Lists.{Entry}
 use Rattle.process_core.specs.Fits.{Fits}
-use Rattle.process_core.specs.Tables.{Beside, process_in, ProcessTable, tables_of, with_process}
+use Rattle.process_core.specs.Tables.{Beside, process_in, ProcessTable, tables_of, with_process, wake_tick}
 use Rattle.process_core.proofs.Fitting.{current_nowhere, fits_same_state, running_within}
 use Rattle.process_core.proofs.Removals.{changed_quietly}
 use Rattle.process_core.proofs.Steps.{entry_then_moved}
@@ -16,7 +18,7 @@ use Rattle.xinu_base.specs.declared.processes.State.{State}
 use Rattle.xinu_base.specs.declared.processes.State.TheVariants.{Current, Free}
 use Rattle.xinu_model.specs.Clock.{quantum_falls}
 use Rattle.xinu_model.specs.Process.Scheduling.{in_state, resched}
-use Rattle.xinu_model.specs.Tables.{message_at, move_to, no_process, Nowhere, process_at, state_at, Tables}
+use Rattle.xinu_model.specs.Tables.{message_at, move_to, Place, no_process, Nowhere, process_at, state_at, Tables}
 
 -- a process that runs is in the table
 running_listed : (ps : List Process) (p : ℕ) → (process_in ps p).state ≡ Current → p < length ps
@@ -98,3 +100,36 @@ few_ticks ls s b n h = h
 pub if_some : (o : Option ℕ) (P : Type 0) → P → IfSome o (λ _. P)
 if_some None P h = tt
 if_some (Some m) P h = h
+
+-- a process that has left its list as it is to be goes to its place: it has moved once
+pub moved_on : (t : Tables) (x : Process) (place : Place) → t.current < length t.processes
+    → (let u = move_to t.current x (message_at t t.current) Nowhere t in move_to t.current (process_at u t.current) (message_at u t.current) place u)
+    ≡ move_to t.current x (message_at t t.current) place t
+moved_on t x place lt =
+    let c = t.current in
+    let m = message_at t c in
+    let u = move_to c x m Nowhere t in
+    ap (λ y. move_to c y (message_at u c) place u) (get_or-set_same t.processes c x no_process lt)
+    ∙ ap (λ (l : List (Option ℕ)). move_to c x (get_or l c None) place u) (set-get_or t.messages c None)
+    ∙ move_twice c x x m m place t
+
+-- a delay of at least 1 ends later
+pub later_tick : (ticks : ℕ) (delay : ℤ) → pos 1 ≤ℤ delay → ticks < wake_tick ticks delay
+later_tick ticks (pos n) le = omega (arith, ints, le)
+later_tick ticks (negsuc n) le = absurd (omega (arith, ints, le))
+
+-- the current process is in the table of processes
+pub current_listed : (ls : List (List Entry)) (s : ProcessTable) (b : Beside) → (process_in s.processes s.current).state ≡ Current
+    → (tables_of ls s b).current < length (tables_of ls s b).processes
+unfolding tables_of
+current_listed ls s b e = running_listed s.processes s.current e
+
+-- the process that is current, by the tables
+pub current_of : (ls : List (List Entry)) (s : ProcessTable) (b : Beside) (p : ℕ) → p ≡ s.current → p ≡ (tables_of ls s b).current
+unfolding tables_of
+current_of ls s b p e = e
+
+-- the tick at which it wakes
+pub wakes_at : (ls : List (List Entry)) (s : ProcessTable) (b : Beside) (delay : ℤ) → wake_tick b.ticks delay ≡ wake_tick (tables_of ls s b).ticks delay
+unfolding tables_of
+wakes_at ls s b delay = refl

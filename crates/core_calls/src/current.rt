@@ -3,14 +3,16 @@
 //!
 //! It depends on the lists, the process table and the clock.
 
-ghost use Rattle.std.specs.Prelude.{◌≡◌, ◌≢◌, ℕ, List, if◌then◌else◌};
+ghost use Rattle.std.specs.Prelude.{◌≡◌, ◌≢◌, ◌≤ℤ◌, ℕ, List, pos, if◌then◌else◌};
+ghost use Rattle.delta_clock.specs.Wakeups.{WakesLater};
 ghost use Rattle.process_core.specs.Fits.{Fits, IsBlocked};
-ghost use Rattle.process_core.specs.Tables.{Beside, process_in, tables_of, with_process};
+ghost use Rattle.process_core.specs.Tables.{Beside, process_in, tables_of, wake_tick, with_process};
 ghost use Rattle.queue_table.specs.Lists.{Entry, list_at};
 ghost use Rattle.queue_table.specs.Table as table;
 ghost use Rattle.xinu_model.specs.Clock.{quantum_falls};
-ghost use Rattle.xinu_model.specs.Tables.{message_at, move_to, Nowhere, process_at};
+ghost use Rattle.xinu_model.specs.Tables.{InSleepers, message_at, move_to, Nowhere, process_at};
 
+use delta_clock::Clock;
 use process_core::Procs;
 use queue_table::Lists;
 use xinu_base::{Rest, State};
@@ -26,6 +28,32 @@ pub(crate) fn block_current(procs: &mut Procs, state: State, rest: Rest)
     let current = procs.current();
     procs.set_rest(current, rest);
     procs.block(state);
+}
+
+/// Puts the current process, which runs, among the sleepers in this state, to wake after a delay in ticks, at least 1; this is left of
+/// its call.
+pub(crate) fn sleep_current(
+    lists: &mut Lists,
+    procs: &mut Procs,
+    clock: &mut Clock,
+    state: State,
+    rest: Rest,
+    delay: i32,
+)
+    requires runs { (process_in procs.old.processes procs.old.current).state ≡ State.Current }
+    requires blocks { IsBlocked state }
+    requires longer { pos 1 ≤ℤ delay }
+    requires fits { Fits (table.lists lists.old) procs.old.processes }
+    requires later { WakesLater (table.lists lists.old) }
+    ensures sleeps { (b : Beside) → tables_of (table.lists lists.new) procs.new b ≡ (let t = tables_of (table.lists lists.old) procs.old b in
+        move_to t.current (record (process_at t t.current) { state = state; rest = rest }) (message_at t t.current) (InSleepers (wake_tick b.ticks delay)) t) }
+    ensures same { clock.new ≡ clock.old }
+    ensures others { (q : ℕ) → q ≢ 129 → list_at (table.lists lists.new) q ≡ list_at (table.lists lists.old) q }
+    ensures later { WakesLater (table.lists lists.new) }
+{
+    block_current(procs, state, rest);
+    let current = procs.current();
+    clock.sleep_for(lists, current, delay);
 }
 
 /// Nothing is left of the call of the current process, which runs.

@@ -26,6 +26,7 @@
 #![tactic(auto)]
 
 mod boot;
+mod clock_calls;
 mod clock_moves;
 mod creation;
 mod current;

@@ -3,7 +3,7 @@
 //! It depends on the lists. The sleepers are queue 129, where a key is the difference of a delay to the delay ahead of it, so that a tick
 //! lowers one key: the first.
 
-ghost use Rattle.std.specs.Prelude.{◌≡◌, ◌≢◌, ◌<◌, ◌+◌, ◌/◌, ◌∷◌, ◌≤ℤ◌, ℕ, List, [], IfNone, IfSome, IsSome, None, Some, pos, replicate};
+ghost use Rattle.std.specs.Prelude.{◌≡◌, ◌≢◌, ◌≤◌, ◌<◌, ◌+◌, ◌/◌, ◌∷◌, ◌≤ℤ◌, ℕ, List, [], IfNone, IfSome, IsSome, None, Some, pos, replicate};
 ghost use Rattle.delta_clock.specs.Wakeups.{AreOut, WakesLater, not_due};
 ghost use Rattle.process_core.specs.Fits.{Fits, MayBeIn};
 ghost use Rattle.process_core.specs.Tables.{Beside, ProcessTable, process_in, sleepers_of, tables_of, wake_tick};
@@ -59,6 +59,7 @@ impl Clock {
     /// The seconds since the start: a thousand ticks are a second.
     pub fn seconds(&self) -> u32
         ensures seconds { result ≡ self.now / 1000 }
+        ensures few { result ≤ 4294967 }
     {
         self.ticks / 1000
     }
