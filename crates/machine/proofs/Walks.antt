@@ -1,15 +1,19 @@
 -- Lists that are printed element by element.
-use Rattle.std.proofs.Common.{◌≡◌, ◌∙◌, ℕ, zero, suc, ◌+◌, ◌-◌, ◌<◌, ◌≤◌, Bool, true, false, cond, List, [], ◌∷◌, ◌++◌, append_assoc, append-nil, get_or, length, map, take, Option, Some, None, refl, sym, ap, subst, arith}
-use Rattle.std.specs.Prelude.{find, nat_le, slice_index_or, IfSome}
-use Rattle.std.proofs.lemmas.Bool.{cond_both, leb-true}
+use Rattle.std.proofs.Common.{◌≡◌, ◌∙◌, ℕ, zero, suc, ◌+◌, ◌-◌, ◌<◌, ◌≤◌, Bool, true, false, cond, List, [], ◌∷◌, ◌++◌, append_assoc, append-nil, get_or, length, map, take, Option, Some, None, ℤ, refl, sym, ap, subst, arith}
+use Rattle.std.specs.Prelude.{find, is_some, nat_le, nat_lt, slice_index_or, IfSome}
+use Rattle.core_calls.specs.Walks.{numbers_from}
+use Rattle.xinu_model.specs.Sound.Tables.{count_in}
+use Rattle.std.proofs.lemmas.Bool.{cond_both, leb-true, lt-ltb}
 use Rattle.std.proofs.lemmas.List.{map-append, take_more}
 use Rattle.host_port.specs.Outside.{Outside}
 use Rattle.host_port.specs.Printing.{Printing, Prints}
 use Rattle.xinu_base.specs.declared.lines.TranscriptLine.{TranscriptLine}
+use Rattle.xinu_base.specs.declared.lines.TranscriptLine.TheVariants as line
+use Rattle.xinu_model.specs.Semaphores.Counts.{count_of}
 use Rattle.xinu_base.specs.declared.processes.Process.{Process}
 use Rattle.xinu_model.specs.Heap.Cells.{Block}
-use Rattle.xinu_model.specs.Tables.{message_at, no_process, process_at, Tables}
-use Rattle.xinu_model.specs.Text.{process_line, process_lines, shown}
+use Rattle.xinu_model.specs.Tables.{message_at, no_process, no_semaphore, process_at, Semaphore, semaphore_at, Tables}
+use Rattle.xinu_model.specs.Text.{is_shown, process_line, process_lines, semaphore_line, semaphore_lines, shown}
 use Rattle.machine.proofs.ShownLines.{shown_both, shown_nothing}
 
 -- Of the lines of a list those before the rest were printed.
@@ -102,3 +106,45 @@ room_smaller blocks o (Some b) address bytes is known found =
     let within = k.1 in
     let later = found_above (address + bytes) blocks b (sym found) in
     let e = ap room_from is in omega arith
+
+-- the lines of one semaphore more
+semaphore_lines_more : (k n : ℕ) (l : List Semaphore) → n < length l
+    → semaphore_lines k (take (n + 1) l) ≡ semaphore_lines k (take n l) ++ semaphore_line (k + n) (slice_index_or l n no_semaphore)
+semaphore_lines_more k n [] h = absurd (omega (arith, h))
+semaphore_lines_more k zero (x ∷ l) h =
+    let e : k ≡ k + 0 = omega arith in append-nil (semaphore_line k x) ∙ ap (λ m. semaphore_line m x) e
+semaphore_lines_more k (suc n) (x ∷ l) h =
+    let here = semaphore_line k x in
+    let e : k + 1 + n ≡ k + suc n = omega arith in
+    let f : suc n + 1 ≡ suc (n + 1) = omega arith in
+    ap (λ m. semaphore_lines k (take m (x ∷ l))) f
+    ∙ ap (λ r. here ++ r) (semaphore_lines_more (k + 1) n l (omega (arith, h)) ∙ ap (λ m. semaphore_lines (k + 1) (take n l) ++ semaphore_line m (slice_index_or l n no_semaphore)) e)
+    ∙ sym (append_assoc here (semaphore_lines (k + 1) (take n l)) (semaphore_line (k + suc n) (slice_index_or l n no_semaphore)))
+
+-- The semaphores so far were printed, and one more.
+pub printed_semaphore : (t : Tables) (n sem : ℕ) (a b c : Printing) (h i j : Outside) → n < length t.semaphores → sem ≡ n
+    → Prints a b h i (shown a.plain (semaphore_lines 0 (take n t.semaphores))) → Prints b c i j (shown b.plain (semaphore_line sem (semaphore_at t sem)))
+    → Prints a c h j (shown a.plain (semaphore_lines 0 (take (n + 1) t.semaphores)))
+printed_semaphore t n sem a b c h i j within is so_far one =
+    let e : 0 + n ≡ n = omega arith in
+    let more : semaphore_lines 0 (take n t.semaphores) ++ semaphore_line sem (semaphore_at t sem) ≡ semaphore_lines 0 (take (n + 1) t.semaphores) =
+    ap (λ m. semaphore_lines 0 (take n t.semaphores) ++ semaphore_line m (semaphore_at t m)) is
+    ∙ ap (λ m. semaphore_lines 0 (take n t.semaphores) ++ semaphore_line m (semaphore_at t n)) (sym e) ∙ sym (semaphore_lines_more 0 n t.semaphores within) in
+    subst (λ ls. Prints a c h j (shown a.plain ls)) more (shown_both a b c h i j (semaphore_lines 0 (take n t.semaphores)) (semaphore_line sem (semaphore_at t sem)) so_far one)
+
+-- whether there is a first one says whether there are any
+pub shown_by : (o : Option ℕ) (l : List ℕ) → numbers_from o l ≡ l → IfSome o (λ p. 0 < count_in p l) → is_some o ≡ nat_lt 0 (length l)
+shown_by None [] all some = refl
+shown_by None (x ∷ l) all some = absurd (cc)
+shown_by (Some p) [] all some = absurd (omega (arith, some))
+shown_by (Some p) (x ∷ l) all some = sym (lt-ltb 0 (length (x ∷ l)) (omega arith))
+
+-- A semaphore that is shown was printed, and those who wait on it.
+pub shown_printed : (sem : ℕ) (x : Semaphore) (count : ℤ) (a b c : Printing) (h i j : Outside) → is_shown x ≡ true → count ≡ count_of x
+    → Prints a b h i (shown a.plain (line.Semaphore sem count ∷ [])) → Prints b c i j (shown b.plain (map (line.Waiter sem) x.waiters))
+    → Prints a c h j (shown a.plain (semaphore_line sem x))
+shown_printed sem x count a b c h i j is_so are first waiters =
+    let lines : List TranscriptLine = line.Semaphore sem (count_of x) ∷ map (line.Waiter sem) x.waiters in
+    let all : line.Semaphore sem count ∷ map (line.Waiter sem) x.waiters ≡ semaphore_line sem x =
+    ap (λ n. line.Semaphore sem n ∷ map (line.Waiter sem) x.waiters) are ∙ sym (ap (λ b. cond b lines []) is_so) in
+    subst (λ ls. Prints a c h j (shown a.plain ls)) all (shown_both a b c h i j (line.Semaphore sem count ∷ []) (map (line.Waiter sem) x.waiters) first waiters)

@@ -11,9 +11,10 @@ abbrev pub booted_of : Inside → Booted
 booted_of m = record { state = m.kernel.call.state; events = m.events; over = m.has_ended }
 
 -- No event is under way and the state is sound. Unless an event ended the run a process lives besides the null process. Each event is at
--- most one tick.
+-- most one tick, and at most 10^9 were taken.
 pub record IsMachine (m : Inside) : Type 0 where
   pub idle : IsIdle m.kernel
   pub sound : IsSound m.kernel.call.state
   pub lives : m.has_ended ≡ false → is_over m.kernel.call.state ≡ false
   pub ticks : m.kernel.call.state.tables.ticks ≤ m.events
+  pub few : m.events ≤ 1000000000

@@ -1,12 +1,12 @@
 //! The tables of the machine, one line after another.
 
-ghost use Rattle.std.specs.Prelude.{◌≡◌, ◌<◌, ◌∷◌, [], map};
+ghost use Rattle.std.specs.Prelude.{◌≡◌, ◌<◌, ◌≤◌, ◌∷◌, [], map};
 ghost use Rattle.host_port.specs.Printing.{Prints};
 ghost use Rattle.xinu_base.specs.declared.lines.TranscriptLine.TheVariants as line;
 ghost use Rattle.xinu_model.specs.Heap.Cells.{free_blocks};
 ghost use Rattle.xinu_model.specs.Sound.State.{IsSound};
 ghost use Rattle.xinu_model.specs.Sound.Tables.{IsInside};
-ghost use Rattle.xinu_model.specs.Tables.{message_at, process_at};
+ghost use Rattle.xinu_model.specs.Tables.{message_at, process_at, semaphore_at};
 ghost use Rattle.xinu_model.specs.Text as text;
 ghost use Rattle.xinu_model.specs.Text.{shown};
 
@@ -15,15 +15,16 @@ use core_calls::{Kernel, KernelTables};
 use freelist_memory::Heap;
 use host_port::{Host, Printer};
 use process_core::pid_at;
-use xinu_base::{State, TranscriptLine};
+use semaphores::sem_at;
+use xinu_base::{Owner, Sem, State, TranscriptLine};
 
 /// Prints the tables.
 pub(crate) fn print_tables<H: Host>(kernel: &Kernel, out: &mut Printer, host: &mut H)
     requires sound { IsSound kernel.now.call.state }
+    requires few { kernel.now.call.state.tables.ticks ≤ 1000000000 }
     ensures prints { Prints out.old out.new (H.view host.old) (H.view host.new) (shown out.old.plain (text.tables_of kernel.now.call.state)) }
 {
     let tables = kernel.tables();
-    tables.only_ready_are_listed();
     print_line(
         &TranscriptLine::Now(tables.ticks(), tables.quantum()),
         out,
@@ -31,6 +32,8 @@ pub(crate) fn print_tables<H: Host>(kernel: &Kernel, out: &mut Printer, host: &m
     );
     print_processes(tables, out, host);
     print_ready(tables, out, host);
+    print_semaphores(tables, out, host);
+    print_sleepers(tables, out, host);
     print_free(kernel.heap(), out, host);
     print_devices(out, host);
 }
@@ -77,6 +80,67 @@ fn print_ready<H: Host>(tables: &KernelTables, out: &mut Printer, host: &mut H)
             host,
         );
         next = tables.ready_after(p);
+    }
+}
+
+// Prints the semaphores, by number.
+fn print_semaphores<H: Host>(tables: &KernelTables, out: &mut Printer, host: &mut H)
+    requires inside { IsInside tables.now }
+    ensures prints { Prints out.old out.new (H.view host.old) (H.view host.new) (shown out.old.plain (text.semaphore_lines 0 tables.now.semaphores)) }
+{
+    for number in 0..128 {
+        print_semaphore(tables, sem_at(number), out, host);
+    }
+}
+
+// Prints a semaphore and its waiters, if it is a process's own or somebody waits on it.
+fn print_semaphore<H: Host>(tables: &KernelTables, sem: Sem, out: &mut Printer, host: &mut H)
+    ensures prints { Prints out.old out.new (H.view host.old) (H.view host.new) (shown out.old.plain (text.semaphore_line sem (semaphore_at tables.now sem))) }
+{
+    if is_shown(tables, sem) {
+        print_line(
+            &TranscriptLine::Semaphore(sem, tables.count_of(sem)),
+            out,
+            host,
+        );
+        print_waiters(tables, sem, out, host);
+    }
+}
+
+// Whether a semaphore is a process's own or somebody waits on it.
+fn is_shown(tables: &KernelTables, sem: Sem) -> bool
+    ensures shown { result ≡ text.is_shown (semaphore_at tables.now sem) }
+{
+    match tables.owner_of(sem) {
+        Some(Owner::Image) => true,
+        _ => tables.first_waiter(sem).is_some(),
+    }
+}
+
+// Prints those who wait on a semaphore.
+fn print_waiters<H: Host>(tables: &KernelTables, sem: Sem, out: &mut Printer, host: &mut H)
+    ensures prints { Prints out.old out.new (H.view host.old) (H.view host.new) (shown out.old.plain (map (line.Waiter sem) (semaphore_at tables.now sem).waiters)) }
+{
+    let mut next = tables.first_waiter(sem);
+    while let Some(p) = next {
+        print_line(&TranscriptLine::Waiter(sem, p), out, host);
+        next = tables.waiter_after(sem, p);
+    }
+}
+
+// Prints the sleepers, each with the tick at which it wakes.
+fn print_sleepers<H: Host>(tables: &KernelTables, out: &mut Printer, host: &mut H)
+    requires few { tables.now.ticks ≤ 1000000000 }
+    ensures prints { Prints out.old out.new (H.view host.old) (H.view host.new) (shown out.old.plain (map text.sleeper_line tables.now.sleepers)) }
+{
+    let mut next = tables.first_sleeper();
+    while let Some(sleeper) = next {
+        print_line(
+            &TranscriptLine::Sleeper(sleeper.0, sleeper.1),
+            out,
+            host,
+        );
+        next = tables.sleeper_after(sleeper.0, sleeper.1);
     }
 }
 

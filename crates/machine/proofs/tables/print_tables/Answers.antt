@@ -1,4 +1,3 @@
-use Rattle.std.proofs.Common.{ap, sym}
 use Rattle.machine.proofs.Dumps.{tables_printed}
 use Rattle.machine.proofs.tables.print_tables.Goals as goal
 
@@ -7,8 +6,8 @@ returns g c =
     let s = c.args.kernel.now.call.state in
     let t = c.tables-tables.result.now in
     record {
-      prints = tables_printed s t c.heap.result.now c.ticks.result c.quantum.result _ _ _ _ _ _ _ _ _ _ _ _
-          c.tables-tables.ensures.tables c.heap.ensures.parts c.only_ready_are_listed.ensures.semaphores c.only_ready_are_listed.ensures.sleepers
-          c.ticks.ensures.ticks c.quantum.ensures.quantum
-          c.print_line.ensures.prints c.print_processes.ensures.prints c.print_ready.ensures.prints c.print_free.ensures.prints c.print_devices.ensures.prints;
+      prints = tables_printed s t c.heap.result.now c.ticks.result c.quantum.result _ _ _ _ _ _ _ _ _ _ _ _ _ _ _ _
+          c.tables-tables.ensures.tables c.heap.ensures.parts c.ticks.ensures.ticks c.quantum.ensures.quantum
+          c.print_line.ensures.prints c.print_processes.ensures.prints c.print_ready.ensures.prints c.print_semaphores.ensures.prints c.print_sleepers.ensures.prints
+          c.print_free.ensures.prints c.print_devices.ensures.prints;
     }

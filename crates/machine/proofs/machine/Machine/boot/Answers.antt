@@ -17,5 +17,6 @@ invariant_of-result c =
       idle = booted.1;
       sound = sound_boot images s (omega (arith, n, few)) booted.0;
       lives = λ _. boot_lives images s (omega (arith, n, some)) (omega (arith, n, few)) booted.0;
+      few = omega arith;
       ticks = (let e = boot_ticks images s booted.0 in omega arith);
     }
