@@ -3,12 +3,14 @@ use Rattle.std.proofs.Common.{◌≡◌, ◌∙◌, ℕ, List, true, cond, sym, 
 use Rattle.std.specs.Prelude.{slice_index}
 use Rattle.xinu_base.specs.Syscalls.{is_built}
 use Rattle.xinu_model.specs.Calls.{call_of_number, called, calls}
-use Rattle.xinu_model.specs.Clock.{yield}
+use Rattle.xinu_model.specs.Clock.{clktime, sleep, sleepms, yield}
 use Rattle.xinu_model.specs.Heap.Calls.{freemem, freestk, getmem, getstk}
 use Rattle.xinu_model.specs.Machine.{CallResult, refused, Xinu}
+use Rattle.xinu_model.specs.Messages.{receive, recvclr, recvtime, send}
 use Rattle.xinu_model.specs.Process.Calls.{chprio, create, getpid, getprio, kill, resume, suspend}
 use Rattle.xinu_model.specs.Process.Death.{exit}
-use Rattle.xinu_model.specs.Words.{half}
+use Rattle.xinu_model.specs.Semaphores.Calls.{semcount, semcreate, semdelete, semreset, signal, signaln, wait}
+use Rattle.xinu_model.specs.Words.{half, signed}
 
 -- a call of this number, which is built
 by_number : (n number : ℕ) (args : List ℕ) (s : Xinu) → number ≡ n → is_built number ≡ true → called number args s ≡ call_of_number n args s
@@ -66,3 +68,59 @@ module _ (number : ℕ) (args : List ℕ) (s : Xinu) (r : CallResult) where
   pub row_freestk : number ≡ 13 → is_built number ≡ true → r ≡ freestk (slice_index args 0) (slice_index args 1) s → r ≡ called number args s
   unfolding calls
   row_freestk e h is = is ∙ sym (by_number 13 number args s e h)
+
+  pub row_semcreate : number ≡ 14 → is_built number ≡ true → r ≡ semcreate (signed (slice_index args 0)) s → r ≡ called number args s
+  unfolding calls
+  row_semcreate e h is = is ∙ sym (by_number 14 number args s e h)
+
+  pub row_semdelete : number ≡ 15 → is_built number ≡ true → r ≡ semdelete (slice_index args 0) s → r ≡ called number args s
+  unfolding calls
+  row_semdelete e h is = is ∙ sym (by_number 15 number args s e h)
+
+  pub row_semreset : number ≡ 16 → is_built number ≡ true → r ≡ semreset (slice_index args 0) (signed (slice_index args 1)) s → r ≡ called number args s
+  unfolding calls
+  row_semreset e h is = is ∙ sym (by_number 16 number args s e h)
+
+  pub row_semcount : number ≡ 17 → is_built number ≡ true → r ≡ semcount (slice_index args 0) s → r ≡ called number args s
+  unfolding calls
+  row_semcount e h is = is ∙ sym (by_number 17 number args s e h)
+
+  pub row_wait : number ≡ 18 → is_built number ≡ true → r ≡ wait (slice_index args 0) s → r ≡ called number args s
+  unfolding calls
+  row_wait e h is = is ∙ sym (by_number 18 number args s e h)
+
+  pub row_signal : number ≡ 19 → is_built number ≡ true → r ≡ signal (slice_index args 0) s → r ≡ called number args s
+  unfolding calls
+  row_signal e h is = is ∙ sym (by_number 19 number args s e h)
+
+  pub row_signaln : number ≡ 20 → is_built number ≡ true → r ≡ signaln (slice_index args 0) (signed (slice_index args 1)) s → r ≡ called number args s
+  unfolding calls
+  row_signaln e h is = is ∙ sym (by_number 20 number args s e h)
+
+  pub row_send : number ≡ 21 → is_built number ≡ true → r ≡ send (slice_index args 0) (slice_index args 1) s → r ≡ called number args s
+  unfolding calls
+  row_send e h is = is ∙ sym (by_number 21 number args s e h)
+
+  pub row_receive : number ≡ 22 → is_built number ≡ true → r ≡ receive s → r ≡ called number args s
+  unfolding calls
+  row_receive e h is = is ∙ sym (by_number 22 number args s e h)
+
+  pub row_recvclr : number ≡ 23 → is_built number ≡ true → r ≡ recvclr s → r ≡ called number args s
+  unfolding calls
+  row_recvclr e h is = is ∙ sym (by_number 23 number args s e h)
+
+  pub row_recvtime : number ≡ 24 → is_built number ≡ true → r ≡ recvtime (signed (slice_index args 0)) s → r ≡ called number args s
+  unfolding calls
+  row_recvtime e h is = is ∙ sym (by_number 24 number args s e h)
+
+  pub row_sleep : number ≡ 25 → is_built number ≡ true → r ≡ sleep (signed (slice_index args 0)) s → r ≡ called number args s
+  unfolding calls
+  row_sleep e h is = is ∙ sym (by_number 25 number args s e h)
+
+  pub row_sleepms : number ≡ 26 → is_built number ≡ true → r ≡ sleepms (signed (slice_index args 0)) s → r ≡ called number args s
+  unfolding calls
+  row_sleepms e h is = is ∙ sym (by_number 26 number args s e h)
+
+  pub row_clktime : number ≡ 27 → is_built number ≡ true → r ≡ clktime s → r ≡ called number args s
+  unfolding calls
+  row_clktime e h is = is ∙ sym (by_number 27 number args s e h)

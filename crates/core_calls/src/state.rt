@@ -11,7 +11,7 @@ ghost use Rattle.xinu_model.specs.Isa.Exec.{exec};
 ghost use Rattle.xinu_model.specs.Machine.{current_hart, end_of_event, Silent, start};
 ghost use Rattle.xinu_model.specs.Sound.Tables.{IsSoundTables};
 ghost use Rattle.xinu_model.specs.Tables.{process_at, state_at};
-ghost use Rattle.xinu_model.specs.Words.{half};
+ghost use Rattle.xinu_model.specs.Words.{half, signed};
 
 use crate::creation::Creation;
 use crate::replies::{Replies, answer_released, is_resched_due, write_all};
@@ -131,6 +131,20 @@ impl KernelState {
             11 => self.freemem(a[0], a[1]),
             12 => self.getstk(a[0]),
             13 => self.freestk(a[0], a[1]),
+            14 => self.semcreate(signed(a[0])),
+            15 => self.semdelete(a[0]),
+            16 => self.semreset(a[0], signed(a[1])),
+            17 => self.semcount(a[0]),
+            18 => self.wait(a[0]),
+            19 => self.signal(a[0]),
+            20 => self.signaln(a[0], signed(a[1])),
+            21 => self.send(a[0], a[1]),
+            22 => self.receive(),
+            23 => self.recvclr(),
+            24 => self.recvtime(signed(a[0])),
+            25 => self.sleep(signed(a[0])),
+            26 => self.sleepms(signed(a[0])),
+            27 => self.clktime(),
             _ => Next::Returns(SYSERR),
         }
     }
@@ -181,4 +195,11 @@ fn half(word: u32) -> i16
     ensures half { result ≡ half word }
 {
     ((word % 65536) as u16).cast_signed()
+}
+
+// A word as a signed number.
+fn signed(word: u32) -> i32
+    ensures signed { result ≡ signed word }
+{
+    word.cast_signed()
 }

@@ -204,10 +204,99 @@ fn calls_reply_as_the_book_says(rt: HostRuntime) -> Result<(), Fail> {
         (5, [2, 0, 0, 0, 0, 0], Some(-1)),
         (8, [2, 0, 0, 0, 0, 0], Some(-1)),
         (6, [0; 6], Some(0)),
-        (14, [0; 6], Some(-1)),
+        (28, [0; 6], Some(-1)),
         (4, [1, 0, 0, 0, 0, 0], None),
     ];
     assert_eq!(rt; replies_are(&mut kernel, &processes), true);
     assert_eq!(rt; kernel.current(), Pid::default());
+    Ok(())
+}
+
+#[test]
+fn semaphores_count_and_refuse(rt: HostRuntime) -> Result<(), Fail> {
+    let files = [file_of(0, 4096)];
+    let images = [image_of(&files[0])?];
+    let Ok(mut kernel) = Kernel::new(rt.alloc(), &images) else {
+        return Err(Fail::from("no kernel"));
+    };
+    let minus = u32::MAX;
+    let calls = [
+        (14, [5, 0, 0, 0, 0, 0], Some(4)),
+        (18, [4, 0, 0, 0, 0, 0], Some(0)),
+        (17, [4, 0, 0, 0, 0, 0], Some(4)),
+        (19, [4, 0, 0, 0, 0, 0], Some(0)),
+        (20, [4, 2_147_483_642, 0, 0, 0, 0], Some(0)),
+        (17, [4, 0, 0, 0, 0, 0], Some(i32::MAX)),
+        (19, [4, 0, 0, 0, 0, 0], Some(-1)),
+        (20, [4, 1, 0, 0, 0, 0], Some(-1)),
+        (20, [4, minus, 0, 0, 0, 0], Some(-1)),
+        (16, [4, minus, 0, 0, 0, 0], Some(-1)),
+        (16, [4, 0, 0, 0, 0, 0], Some(0)),
+        (17, [4, 0, 0, 0, 0, 0], Some(0)),
+        (15, [4, 0, 0, 0, 0, 0], Some(0)),
+        (15, [4, 0, 0, 0, 0, 0], Some(-1)),
+        (17, [4, 0, 0, 0, 0, 0], Some(-1)),
+        (18, [0; 6], Some(-1)),
+        (19, [128, 0, 0, 0, 0, 0], Some(-1)),
+        (14, [minus, 0, 0, 0, 0, 0], Some(-1)),
+        (14, [0; 6], Some(5)),
+    ];
+    assert_eq!(rt; replies_are(&mut kernel, &calls), true);
+    Ok(())
+}
+
+#[test]
+fn killed_waiter_gives_its_place_back(rt: HostRuntime) -> Result<(), Fail> {
+    let files = [file_of(0, 4096), file_of(16, 4096)];
+    let images = [image_of(&files[0])?, image_of(&files[1])?];
+    let Ok(mut kernel) = Kernel::new(rt.alloc(), &images) else {
+        return Err(Fail::from("no kernel"));
+    };
+    let calls = [
+        (14, [0; 6], Some(4)),
+        (18, [4, 0, 0, 0, 0, 0], None),
+        (17, [4, 0, 0, 0, 0, 0], Some(-1)),
+        (5, [1, 0, 0, 0, 0, 0], Some(0)),
+        (17, [4, 0, 0, 0, 0, 0], Some(0)),
+        (19, [4, 0, 0, 0, 0, 0], Some(0)),
+        (17, [4, 0, 0, 0, 0, 0], Some(1)),
+    ];
+    assert_eq!(rt; replies_are(&mut kernel, &calls), true);
+    Ok(())
+}
+
+#[test]
+fn messages_are_sent_and_sleepers_wake(rt: HostRuntime) -> Result<(), Fail> {
+    let files = [file_of(0, 4096)];
+    let images = [image_of(&files[0])?];
+    let Ok(mut kernel) = Kernel::new(rt.alloc(), &images) else {
+        return Err(Fail::from("no kernel"));
+    };
+    let one = Pid::from_word(1).ok_or("no process")?;
+    let minus = u32::MAX;
+    let calls = [
+        (23, [0; 6], Some(0)),
+        (21, [1, 7, 0, 0, 0, 0], Some(0)),
+        (21, [1, 8, 0, 0, 0, 0], Some(-1)),
+        (22, [0; 6], Some(7)),
+        (21, [9, 1, 0, 0, 0, 0], Some(-1)),
+        (21, [1, minus, 0, 0, 0, 0], Some(0)),
+        (24, [0; 6], Some(-1)),
+        (24, [minus, 0, 0, 0, 0, 0], Some(-1)),
+        (25, [minus, 0, 0, 0, 0, 0], Some(-1)),
+        (25, [2_147_484, 0, 0, 0, 0, 0], Some(-1)),
+        (26, [minus, 0, 0, 0, 0, 0], Some(-1)),
+        (26, [0; 6], Some(0)),
+        (27, [0; 6], Some(0)),
+        (26, [2, 0, 0, 0, 0, 0], None),
+    ];
+    assert_eq!(rt; replies_are(&mut kernel, &calls), true);
+    tick(&mut kernel);
+    assert_eq!(rt; kernel.current(), Pid::default());
+    tick(&mut kernel);
+    assert_eq!(rt; kernel.current(), one);
+    assert_eq!(rt; reply(&mut kernel, 24, [1, 0, 0, 0, 0, 0]), None);
+    tick(&mut kernel);
+    assert_eq!(rt; kernel.current(), one);
     Ok(())
 }

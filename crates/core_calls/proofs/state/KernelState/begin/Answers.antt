@@ -1,5 +1,5 @@
 use Rattle.std.proofs.Common.{◌∙◌, rules, sym}
-use Rattle.core_calls.proofs.Rows.{row_chprio, row_create, row_exit, row_freemem, row_freestk, row_getmem, row_getpid, row_getprio, row_getstk, row_kill, row_resume, row_suspend, row_yield}
+use Rattle.core_calls.proofs.Rows.{row_chprio, row_clktime, row_create, row_exit, row_freemem, row_freestk, row_getmem, row_getpid, row_getprio, row_getstk, row_kill, row_receive, row_recvclr, row_recvtime, row_resume, row_semcount, row_semcreate, row_semdelete, row_semreset, row_send, row_signal, row_signaln, row_sleep, row_sleepms, row_suspend, row_wait, row_yield}
 use Rattle.core_calls.proofs.state.KernelState.begin.Goals as goal
 
 pub returns-in-1 : goal.returns-in-1
@@ -77,5 +77,89 @@ returns-in-12 c = record {
 pub returns-in-13 : goal.returns-in-13
 returns-in-13 c = record {
   called = row_freestk c.args.call.number c.args.call.args c.args.self.now.state _ c.in-13.is
+      (sym c.is_built.ensures ∙ c.if-not-is_built.false) (search rules);
+}
+
+pub returns-in-14 : goal.returns-in-14
+returns-in-14 c = record {
+  called = row_semcreate c.args.call.number c.args.call.args c.args.self.now.state _ c.in-14.is
+      (sym c.is_built.ensures ∙ c.if-not-is_built.false) (search rules);
+}
+
+pub returns-in-15 : goal.returns-in-15
+returns-in-15 c = record {
+  called = row_semdelete c.args.call.number c.args.call.args c.args.self.now.state _ c.in-15.is
+      (sym c.is_built.ensures ∙ c.if-not-is_built.false) (search rules);
+}
+
+pub returns-in-16 : goal.returns-in-16
+returns-in-16 c = record {
+  called = row_semreset c.args.call.number c.args.call.args c.args.self.now.state _ c.in-16.is
+      (sym c.is_built.ensures ∙ c.if-not-is_built.false) (search rules);
+}
+
+pub returns-in-17 : goal.returns-in-17
+returns-in-17 c = record {
+  called = row_semcount c.args.call.number c.args.call.args c.args.self.now.state _ c.in-17.is
+      (sym c.is_built.ensures ∙ c.if-not-is_built.false) (search rules);
+}
+
+pub returns-in-18 : goal.returns-in-18
+returns-in-18 c = record {
+  called = row_wait c.args.call.number c.args.call.args c.args.self.now.state _ c.in-18.is
+      (sym c.is_built.ensures ∙ c.if-not-is_built.false) (search rules);
+}
+
+pub returns-in-19 : goal.returns-in-19
+returns-in-19 c = record {
+  called = row_signal c.args.call.number c.args.call.args c.args.self.now.state _ c.in-19.is
+      (sym c.is_built.ensures ∙ c.if-not-is_built.false) (search rules);
+}
+
+pub returns-in-20 : goal.returns-in-20
+returns-in-20 c = record {
+  called = row_signaln c.args.call.number c.args.call.args c.args.self.now.state _ c.in-20.is
+      (sym c.is_built.ensures ∙ c.if-not-is_built.false) (search rules);
+}
+
+pub returns-in-21 : goal.returns-in-21
+returns-in-21 c = record {
+  called = row_send c.args.call.number c.args.call.args c.args.self.now.state _ c.in-21.is
+      (sym c.is_built.ensures ∙ c.if-not-is_built.false) (search rules);
+}
+
+pub returns-in-22 : goal.returns-in-22
+returns-in-22 c = record {
+  called = row_receive c.args.call.number c.args.call.args c.args.self.now.state _ c.in-22.is
+      (sym c.is_built.ensures ∙ c.if-not-is_built.false) (search rules);
+}
+
+pub returns-in-23 : goal.returns-in-23
+returns-in-23 c = record {
+  called = row_recvclr c.args.call.number c.args.call.args c.args.self.now.state _ c.in-23.is
+      (sym c.is_built.ensures ∙ c.if-not-is_built.false) (search rules);
+}
+
+pub returns-in-24 : goal.returns-in-24
+returns-in-24 c = record {
+  called = row_recvtime c.args.call.number c.args.call.args c.args.self.now.state _ c.in-24.is
+      (sym c.is_built.ensures ∙ c.if-not-is_built.false) (search rules);
+}
+
+pub returns-in-25 : goal.returns-in-25
+returns-in-25 c = record {
+  called = row_sleep c.args.call.number c.args.call.args c.args.self.now.state _ c.in-25.is
+      (sym c.is_built.ensures ∙ c.if-not-is_built.false) (search rules);
+}
+
+pub returns-in-26 : goal.returns-in-26
+returns-in-26 c = record {
+  called = row_sleepms c.args.call.number c.args.call.args c.args.self.now.state _ c.in-26.is
+      (sym c.is_built.ensures ∙ c.if-not-is_built.false) (search rules);
+}
+
+pub returns-in-27 : goal.returns-in-27
+returns-in-27 c = record {
+  called = row_clktime c.args.call.number c.args.call.args c.args.self.now.state _ c.in-27.is
       (sym c.is_built.ensures ∙ c.if-not-is_built.false) (search rules);
 }
