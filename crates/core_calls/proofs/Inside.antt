@@ -23,7 +23,8 @@ pub inside_resumed : (t : Tables) (p : ℕ) → IsInside t → state_at t p ≡ 
 inside_resumed t p o e = inside_ready t p o (record { alive = λ f. cc; idle = λ f. cc; holds = holds_at t p o (λ f. cc) })
 
 -- a ready process is suspended
-pub inside_suspended : (t : Tables) (p : ℕ) → IsInside t → p ≢ 0 → state_at t p ≡ Ready → IsInside (move_to p (in_state Suspended (process_at t p)) (message_at t p) Nowhere t)
+pub inside_suspended : (t : Tables) (p : ℕ) → IsInside t → p ≢ 0 → state_at t p ≡ Ready
+    → IsInside (move_to p (in_state Suspended (process_at t p)) (message_at t p) Nowhere t)
 inside_suspended t p o n e =
     inside_move t p (in_state Suspended (process_at t p)) (message_at t p) Nowhere o
     (record {
@@ -87,7 +88,8 @@ inside_made t p x o within free state rest =
 
 -- the caller is suspended by itself
 pub inside_self_suspended : (t : Tables) → IsInside t → state_at t t.current ≡ Current → t.current ≢ 0
-    → IsInside (move_to t.current (record (process_at t t.current) { state = Suspended; rest = SelfSuspend }) (message_at t t.current) Nowhere t)
+    → IsInside (move_to t.current (record (process_at t t.current) { state = Suspended; rest = SelfSuspend })
+    (message_at t t.current) Nowhere t)
 inside_self_suspended t o e n =
     inside_move t t.current (record (process_at t t.current) { state = Suspended; rest = SelfSuspend }) (message_at t t.current) Nowhere o
     (record {
@@ -122,7 +124,8 @@ inside_quantum_falls t o =
     (λ _. inside_quantum t (t.quantum - 1) o) (λ _. (sound_resched (record t { quantum = 2 }) (inside_quantum t 2 o)).inside)
 
 -- the caller goes to a place that fits its new state and what is left of its call
-pub inside_blocked : (t : Tables) (state : State) (rest : Rest) (place : Place) → IsSoundTables t → t.current ≢ 0 → state ≢ Free → IsPlaceOf state place
+pub inside_blocked : (t : Tables) (state : State) (rest : Rest) (place : Place) → IsSoundTables t → t.current ≢ 0 → state ≢ Free
+    → IsPlaceOf state place
     → FitsPlace t (record (process_at t t.current) { state = state; rest = rest }) place → FitsMessage state rest (message_at t t.current)
     → IsInside (move_to t.current (record (process_at t t.current) { state = state; rest = rest }) (message_at t t.current) place t)
 inside_blocked t state rest place k n alive place_of fits slot =

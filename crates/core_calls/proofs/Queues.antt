@@ -15,7 +15,8 @@ use Rattle.xinu_laws.proofs.Tables.Scheduling.{sleeping_of}
 use Rattle.core_calls.specs.Queues.{ArePlaced, AreQueues}
 
 -- the state of a process, by the tables and by the process table
-pub state_in : (ls : List (List Entry)) (s : ProcessTable) (b : Beside) (p : ℕ) → state_at (tables_of ls s b) p ≡ (process_in s.processes p).state
+pub state_in : (ls : List (List Entry)) (s : ProcessTable) (b : Beside) (p : ℕ)
+    → state_at (tables_of ls s b) p ≡ (process_in s.processes p).state
 unfolding tables_of
 state_in ls s b p = refl
 
@@ -27,7 +28,8 @@ later_kept ls ms w e = record {
 }
 
 -- the lists of waiters stay
-pub counts_kept : (ls ms : List (List Entry)) (es : List SemaphoreEntry) → Counts ls es → ((q : ℕ) → q < 128 → list_at ms q ≡ list_at ls q) → Counts ms es
+pub counts_kept : (ls ms : List (List Entry)) (es : List SemaphoreEntry) → Counts ls es
+    → ((q : ℕ) → q < 128 → list_at ms q ≡ list_at ls q) → Counts ms es
 counts_kept ls ms es k same = record {
   size = k.size;
   waiting = λ sem lt. ap length (same sem lt) ∙ k.waiting sem lt;
@@ -35,21 +37,24 @@ counts_kept ls ms es k same = record {
 }
 
 -- no list but the ready list changes
-pub queues_kept : (ls ms : List (List Entry)) (es : List SemaphoreEntry) → AreQueues ls es → ((q : ℕ) → q ≢ 128 → list_at ms q ≡ list_at ls q) → AreQueues ms es
+pub queues_kept : (ls ms : List (List Entry)) (es : List SemaphoreEntry) → AreQueues ls es
+    → ((q : ℕ) → q ≢ 128 → list_at ms q ≡ list_at ls q) → AreQueues ms es
 queues_kept ls ms es k same = record {
   counts = counts_kept ls ms es k.counts (λ q lt. same q (λ e. omega (arith, lt, e)));
   later = later_kept ls ms k.later (same 129 (λ e. omega arith));
 }
 
 -- no list but those of ready processes and sleepers changes
-pub queues_later : (ls ms : List (List Entry)) (es : List SemaphoreEntry) → AreQueues ls es → ((q : ℕ) → q ≢ 128 → q ≢ 129 → list_at ms q ≡ list_at ls q) → WakesLater ms → AreQueues ms es
+pub queues_later : (ls ms : List (List Entry)) (es : List SemaphoreEntry) → AreQueues ls es
+    → ((q : ℕ) → q ≢ 128 → q ≢ 129 → list_at ms q ≡ list_at ls q) → WakesLater ms → AreQueues ms es
 queues_later ls ms es k same w = record {
   counts = counts_kept ls ms es k.counts (λ q lt. same q (λ e. omega (arith, lt, e)) (λ e. omega (arith, lt, e)));
   later = w;
 }
 
 -- What always holds of the tables says where a process is that waits or sleeps.
-pub inside_placed : (t : QueueTable 64 130) (s : ProcessTable) (b : Beside) → IsInside (tables_of (lists t) s b) → ArePlaced (lists t) s.processes
+pub inside_placed : (t : QueueTable 64 130) (s : ProcessTable) (b : Beside) → IsInside (tables_of (lists t) s b)
+    → ArePlaced (lists t) s.processes
 inside_placed t s b o = record {
   waiting = λ p is. (let w = waiting_placed t s b p o is in subst (λ q. IsSomeAnd q (λ q. q < 128)) (sym w.at) w.below);
   sleeping = λ p is. elim (sleeping_of (process_in s.processes p).state (omega (arith, is))) [
@@ -59,7 +64,8 @@ inside_placed t s b o = record {
 }
 
 -- the sleepers' list stays, and the lists of waiters fit their counts again
-pub queues_counted : (ls ms : List (List Entry)) (es : List SemaphoreEntry) → WakesLater ls → list_at ms 129 ≡ list_at ls 129 → Counts ms es → AreQueues ms es
+pub queues_counted : (ls ms : List (List Entry)) (es : List SemaphoreEntry) → WakesLater ls → list_at ms 129 ≡ list_at ls 129
+    → Counts ms es → AreQueues ms es
 queues_counted ls ms es w e k = record { counts = k; later = later_kept ls ms w e }
 
 -- the sleepers are those of queue 129

@@ -26,7 +26,8 @@ owed true = refl
 owed false = refl
 
 -- The replies are read off any tables in which the same is left of each call.
-pub unblocked : (value : ℤ) (ps : List ℕ) (d : CallState) (u : Tables) → ((p : ℕ) → (process_at u p).rest ≡ (process_at d.state.tables p).rest)
+pub unblocked : (value : ℤ) (ps : List ℕ) (d : CallState) (u : Tables)
+    → ((p : ℕ) → (process_at u p).rest ≡ (process_at d.state.tables p).rest)
     → unblock_all_with value ps d ≡ after_release ps (replies_to value ps u) d
 unblocked value [] d u same = ap (λ r. record d { released = r }) (sym (append-nil d.released))
 unblocked value (p ∷ ps) d u same =
@@ -36,7 +37,12 @@ unblocked value (p ∷ ps) d u same =
     let first : (d.released ++ a) ++ r ≡ d.released ++ (reply_at_unblock value p (process_at u p).rest ++ r)
     = append_assoc d.released a r ∙ ap (λ (k : Rest). d.released ++ (reply_at_unblock value p k ++ r)) (sym (same p)) in
     unblocked value ps (unblock_with value p d) u (λ q. same q ∙ sym ((rests_ready t p).same q))
-    ∙ ap (λ b. record { state = record d.state { tables = ready_all ps (ready p t) }; released = (d.released ++ a) ++ r; owes_resched = b }) (owed (are_any ps))
+    ∙ ap (λ b. record {
+      state = record d.state { tables = ready_all ps (ready p t) };
+      released =
+          (d.released ++ a) ++ r;
+      owes_resched = b;
+    }) (owed (are_any ps))
     ∙ ap (λ x. record { state = record d.state { tables = ready_all ps (ready p t) }; released = x; owes_resched = true }) first
 
 -- whether there are any, by their number
@@ -50,18 +56,50 @@ owed_for [] = refl
 owed_for (p ∷ ps) = refl
 
 -- A tick releases those whose tick has come, and then has its own rescheds.
-pub ticking_is : (s : Xinu) (ps : List ℕ) (u : Tables) (replies : List (ℕ × ℤ)) (owes : Bool) → ps ≡ due (s.tables.ticks + 1) s.tables.sleepers
+pub ticking_is : (s : Xinu) (ps : List ℕ) (u : Tables) (replies : List (ℕ × ℤ)) (owes : Bool)
+    → ps ≡ due (s.tables.ticks + 1) s.tables.sleepers
     → u ≡ quantum_falls (a_tick_later (are_any ps) (ready_all ps s.tables)) → replies ≡ replies_to (pos 0) ps u → owes ≡ false
     → record { call = record { state = record s { tables = u }; released = replies; owes_resched = owes }; answer = Silent } ≡ ticking s
 ticking_is s ps u replies owes is after answered none =
     let t = s.tables in
     let T : CallState → CallResult
-    = λ d. record { call = record { state = record d.state { tables = quantum_falls (a_tick_later d.owes_resched d.state.tables) }; released = d.released; owes_resched = false }; answer = Silent } in
+    = λ d. record {
+      call = record {
+        state = record d.state {
+          tables = quantum_falls
+              (a_tick_later d.owes_resched d.state.tables);
+        };
+        released = d.released;
+        owes_resched = false;
+      };
+      answer = Silent;
+    } in
     let v = quantum_falls (a_tick_later (are_any ps) (ready_all ps t)) in
     let same : (p : ℕ) → (process_at u p).rest ≡ (process_at t p).rest
     = λ p. ap (λ (x : Tables). (process_at x p).rest) after ∙ (rests_tick ps (are_any ps) t).same p in
-    let e : wakeup s ≡ after_release ps (replies_to (pos 0) ps u) (start s) = ap (λ l. unblock_all l (start s)) (sym is) ∙ unblocked (pos 0) ps (start s) u same in
-    sym (ap T e ∙ ap (λ b. record { call = record { state = record s { tables = quantum_falls (a_tick_later b (ready_all ps t)) }; released = replies_to (pos 0) ps u; owes_resched = false }; answer = Silent }) (owed_for ps)
-    ∙ ap (λ x. record { call = record { state = record s { tables = x }; released = replies_to (pos 0) ps u; owes_resched = false }; answer = Silent }) (sym after)
-    ∙ ap (λ r. record { call = record { state = record s { tables = u }; released = r; owes_resched = false }; answer = Silent }) (sym answered)
-    ∙ ap (λ b. record { call = record { state = record s { tables = u }; released = replies; owes_resched = b }; answer = Silent }) (sym none))
+    let e : wakeup s ≡ after_release ps (replies_to (pos 0) ps u) (start s) = ap (λ l. unblock_all l (start s)) (sym is)
+    ∙ unblocked (pos 0) ps (start s) u same in
+    sym (ap T e ∙ ap (λ b. record {
+      call = record {
+        state = record s {
+          tables = quantum_falls
+              (a_tick_later b (ready_all ps t));
+        };
+        released = replies_to (pos 0) ps u;
+        owes_resched = false;
+      };
+      answer = Silent;
+    }) (owed_for ps)
+    ∙ ap (λ x. record {
+      call = record {
+        state = record s { tables = x };
+        released = replies_to
+            (pos 0) ps u;
+        owes_resched = false;
+      };
+      answer = Silent;
+    }) (sym after)
+    ∙ ap (λ r. record { call = record { state = record s { tables = u }; released = r; owes_resched = false }; answer = Silent })
+    (sym answered)
+    ∙ ap (λ b. record { call = record { state = record s { tables = u }; released = replies; owes_resched = b }; answer = Silent })
+    (sym none))

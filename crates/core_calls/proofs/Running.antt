@@ -32,7 +32,8 @@ abbrev pub rested : Rest → ProcessTable → Process
 rested r s = record (process_in s.processes s.current) { rest = r }
 
 -- lists and processes still fit then
-pub fits_rested : (ls : List (List Entry)) (s : ProcessTable) (r : Rest) → Fits ls s.processes → (process_in s.processes s.current).state ≡ Current
+pub fits_rested : (ls : List (List Entry)) (s : ProcessTable) (r : Rest) → Fits ls s.processes
+    → (process_in s.processes s.current).state ≡ Current
     → Fits ls (with_process s.current (rested r s) s).processes
 fits_rested ls s r f e = fits_same_state ls s.processes s.current (rested r s) f (running_within ls s.processes s.current f e) refl
 
@@ -42,9 +43,12 @@ pub runs_rested : (s : ProcessTable) (r : Rest) → (process_in s.processes s.cu
 runs_rested s r e = get_or-set_same s.processes s.current (rested r s) no_process (running_listed s.processes s.current e)
 
 -- blocked after that, it has moved once
-pub blocked_once : (ls : List (List Entry)) (s : ProcessTable) (b : Beside) (state : State) (rest : Rest) → (process_in s.processes s.current).state ≡ Current
-    → (let t = tables_of ls (with_process s.current (rested rest s) s) b in move_to t.current (in_state state (process_at t t.current)) (message_at t t.current) Nowhere t)
-    ≡ (let t = tables_of ls s b in move_to t.current (record (process_at t t.current) { state = state; rest = rest }) (message_at t t.current) Nowhere t)
+pub blocked_once : (ls : List (List Entry)) (s : ProcessTable) (b : Beside) (state : State) (rest : Rest)
+    → (process_in s.processes s.current).state ≡ Current
+    → (let t = tables_of ls (with_process s.current (rested rest s) s) b in move_to t.current (in_state state (process_at t t.current))
+    (message_at t t.current) Nowhere t)
+    ≡ (let t = tables_of ls s b in move_to t.current (record (process_at t t.current) { state = state; rest = rest })
+    (message_at t t.current) Nowhere t)
 unfolding tables_of
 blocked_once ls s b state rest e =
     let x = rested rest s in
@@ -54,40 +58,51 @@ blocked_once ls s b state rest e =
     ∙ entry_then_moved s.current x (in_state state x) m Nowhere t
 
 -- a process that runs and has nothing left to do has moved nowhere
-pub goes_on_once : (ls : List (List Entry)) (s : ProcessTable) (b : Beside) → Fits ls s.processes → (process_in s.processes s.current).state ≡ Current
-    → tables_of ls (with_process s.current (rested Nothing s) s) b ≡ (let t = tables_of ls s b in move_to t.current (record (process_at t t.current) { rest = Nothing }) (message_at t t.current) Nowhere t)
+pub goes_on_once : (ls : List (List Entry)) (s : ProcessTable) (b : Beside) → Fits ls s.processes
+    → (process_in s.processes s.current).state ≡ Current
+    → tables_of ls (with_process s.current (rested Nothing s) s) b
+    ≡ (let t = tables_of ls s b in move_to t.current (record (process_at t t.current) { rest = Nothing })
+    (message_at t t.current) Nowhere t)
 unfolding tables_of
 goes_on_once ls s b f e = changed_quietly ls s b s.current (rested Nothing s) (current_nowhere ls s.processes s.current f e)
 
 -- the quantum falls and isn't over
-pub quantum_goes : (t : Tables) → not (nat_lt 1 t.quantum) ≡ false → record t { quantum = cond (nat_lt 1 t.quantum) (t.quantum - 1) 2 } ≡ quantum_falls t
+pub quantum_goes : (t : Tables) → not (nat_lt 1 t.quantum) ≡ false
+    → record t { quantum = cond (nat_lt 1 t.quantum) (t.quantum - 1) 2 } ≡ quantum_falls t
 quantum_goes t h = go (nat_lt 1 t.quantum) h
   where
-    go : (b : Bool) → not b ≡ false → record t { quantum = cond b (t.quantum - 1) 2 } ≡ cond b (record t { quantum = t.quantum - 1 }) (resched (record t { quantum = 2 }))
+    go : (b : Bool) → not b ≡ false
+        → record t { quantum = cond b (t.quantum - 1) 2 }
+        ≡ cond b (record t { quantum = t.quantum - 1 }) (resched (record t { quantum = 2 }))
     go true h = refl
     go false h = absurd (cc)
 
 -- it is over, and there is a resched
-pub quantum_ends : (t : Tables) → not (nat_lt 1 t.quantum) ≡ true → resched (record t { quantum = cond (nat_lt 1 t.quantum) (t.quantum - 1) 2 }) ≡ quantum_falls t
+pub quantum_ends : (t : Tables) → not (nat_lt 1 t.quantum) ≡ true
+    → resched (record t { quantum = cond (nat_lt 1 t.quantum) (t.quantum - 1) 2 }) ≡ quantum_falls t
 quantum_ends t h = go (nat_lt 1 t.quantum) h
   where
-    go : (b : Bool) → not b ≡ true → resched (record t { quantum = cond b (t.quantum - 1) 2 }) ≡ cond b (record t { quantum = t.quantum - 1 }) (resched (record t { quantum = 2 }))
+    go : (b : Bool) → not b ≡ true → resched (record t { quantum = cond b (t.quantum - 1) 2 })
+        ≡ cond b (record t { quantum = t.quantum - 1 }) (resched (record t { quantum = 2 }))
     go false h = refl
     go true h = absurd (cc)
 
 -- the tables with the quantum that a tick leaves
 pub with_quantum : (ls : List (List Entry)) (s : ProcessTable) (b : Beside)
-    → tables_of ls (record s { quantum = cond (nat_lt 1 s.quantum) (s.quantum - 1) 2 }) b ≡ (let t = tables_of ls s b in record t { quantum = cond (nat_lt 1 t.quantum) (t.quantum - 1) 2 })
+    → tables_of ls (record s { quantum = cond (nat_lt 1 s.quantum) (s.quantum - 1) 2 }) b
+    ≡ (let t = tables_of ls s b in record t { quantum = cond (nat_lt 1 t.quantum) (t.quantum - 1) 2 })
 unfolding tables_of
 with_quantum ls s b = refl
 
 -- whether it is over, by the process table and by the tables
-pub quantum_of : (ls : List (List Entry)) (s : ProcessTable) (b : Beside) (e : Bool) → not (nat_lt 1 s.quantum) ≡ e → not (nat_lt 1 (tables_of ls s b).quantum) ≡ e
+pub quantum_of : (ls : List (List Entry)) (s : ProcessTable) (b : Beside) (e : Bool) → not (nat_lt 1 s.quantum) ≡ e
+    → not (nat_lt 1 (tables_of ls s b).quantum) ≡ e
 unfolding tables_of
 quantum_of ls s b e h = h
 
 -- who runs, by the process table
-pub current_in : (ls : List (List Entry)) (s : ProcessTable) (b : Beside) → state_at (tables_of ls s b) (tables_of ls s b).current ≡ Current → (process_in s.processes s.current).state ≡ Current
+pub current_in : (ls : List (List Entry)) (s : ProcessTable) (b : Beside)
+    → state_at (tables_of ls s b) (tables_of ls s b).current ≡ Current → (process_in s.processes s.current).state ≡ Current
 unfolding tables_of
 current_in ls s b h = h
 
@@ -103,7 +118,8 @@ if_some (Some m) P h = h
 
 -- a process that has left its list as it is to be goes to its place: it has moved once
 pub moved_on : (t : Tables) (x : Process) (place : Place) → t.current < length t.processes
-    → (let u = move_to t.current x (message_at t t.current) Nowhere t in move_to t.current (process_at u t.current) (message_at u t.current) place u)
+    → (let u = move_to t.current x (message_at t t.current) Nowhere t in move_to t.current (process_at u t.current)
+    (message_at u t.current) place u)
     ≡ move_to t.current x (message_at t t.current) place t
 moved_on t x place lt =
     let c = t.current in
@@ -130,6 +146,7 @@ unfolding tables_of
 current_of ls s b p e = e
 
 -- the tick at which it wakes
-pub wakes_at : (ls : List (List Entry)) (s : ProcessTable) (b : Beside) (delay : ℤ) → wake_tick b.ticks delay ≡ wake_tick (tables_of ls s b).ticks delay
+pub wakes_at : (ls : List (List Entry)) (s : ProcessTable) (b : Beside) (delay : ℤ)
+    → wake_tick b.ticks delay ≡ wake_tick (tables_of ls s b).ticks delay
 unfolding tables_of
 wakes_at ls s b delay = refl

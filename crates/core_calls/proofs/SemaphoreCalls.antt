@@ -22,13 +22,15 @@ abbrev pub releasing : ℤ → List ℕ → Tables → Xinu → CallState
 releasing value ps u s = record { state = record s { tables = u }; released = replies_to value ps u; owes_resched = are_any ps }
 
 -- processes are released, and then the tables change without a change of what is left of a call
-pub released_then : (value : ℤ) (ps released : List ℕ) (s : Xinu) (W : Tables → Tables) (u : Tables) → released ≡ ps → u ≡ W (ready_all ps s.tables) → SameRests s.tables u
+pub released_then : (value : ℤ) (ps released : List ℕ) (s : Xinu) (W : Tables → Tables) (u : Tables) → released ≡ ps
+    → u ≡ W (ready_all ps s.tables) → SameRests s.tables u
     → releasing value released u s ≡ (let d = unblock_all_with value ps (start s) in with_tables (W d.state.tables) d)
 released_then value ps released s W u these is same =
     let e = unblocked value ps (start s) u same.same in
     ap (λ l. releasing value l u s) these
     ∙ sym (ap (λ (d : CallState). with_tables (W d.state.tables) d) e
-    ∙ ap (λ b. record { state = record s { tables = W (ready_all ps s.tables) }; released = replies_to value ps u; owes_resched = b }) (owed_for ps)
+    ∙ ap (λ b. record { state = record s { tables = W (ready_all ps s.tables) }; released = replies_to value ps u; owes_resched = b })
+    (owed_for ps)
     ∙ ap (λ x. record { state = record s { tables = x }; released = replies_to value ps u; owes_resched = are_any ps }) (sym is))
 
 -- tables that are equal have the same rests
@@ -36,19 +38,23 @@ same_as : (t u v : Tables) → u ≡ v → SameRests t v → SameRests t u
 same_as t u v e r = subst (SameRests t) (sym e) r
 
 -- call 15
-pub semdelete_is : (s : Xinu) (sem word : ℕ) (released : List ℕ) (u : Tables) → sem ≡ word → is_good sem s.tables ≡ true → released ≡ (semaphore_at s.tables sem).waiters
+pub semdelete_is : (s : Xinu) (sem word : ℕ) (released : List ℕ) (u : Tables) → sem ≡ word → is_good sem s.tables ≡ true
+    → released ≡ (semaphore_at s.tables sem).waiters
     → u ≡ with_semaphore sem no_semaphore (ready_all (semaphore_at s.tables sem).waiters s.tables)
     → returns (releasing SYSERR released u s) OK ≡ semdelete word s
 semdelete_is s sem word released u named good these is =
     let t = s.tables in
     let ps = (semaphore_at t sem).waiters in
-    let D : ℕ → CallState = λ sem. (let d = emptied_with SYSERR sem (start s) in with_tables (with_semaphore sem no_semaphore d.state.tables) d) in
-    ap (λ d. returns d OK) (released_then SYSERR ps released s (with_semaphore sem no_semaphore) u these is (same_as t u _ is (rests_written t ps sem no_semaphore)))
+    let D : ℕ → CallState = λ sem. (let d = emptied_with SYSERR sem (start s) in with_tables
+    (with_semaphore sem no_semaphore d.state.tables) d) in
+    ap (λ d. returns d OK) (released_then SYSERR ps released s (with_semaphore sem no_semaphore) u these is
+    (same_as t u _ is (rests_written t ps sem no_semaphore)))
     ∙ sym (ap (λ b. cond b (returns (D sem) OK) (refused s)) good)
     ∙ ap (λ n. semdelete n s) named
 
 -- call 16
-pub semreset_is : (s : Xinu) (sem word n : ℕ) (released : List ℕ) (u : Tables) → sem ≡ word → is_good sem s.tables ≡ true → released ≡ (semaphore_at s.tables sem).waiters
+pub semreset_is : (s : Xinu) (sem word n : ℕ) (released : List ℕ) (u : Tables) → sem ≡ word → is_good sem s.tables ≡ true
+    → released ≡ (semaphore_at s.tables sem).waiters
     → u ≡ with_tokens sem n (ready_all (semaphore_at s.tables sem).waiters s.tables)
     → returns (releasing OK released u s) OK ≡ semreset word (pos n) s
 semreset_is s sem word n released u named good these is =
@@ -61,7 +67,8 @@ semreset_is s sem word n released u named good these is =
 
 -- call 20
 pub signaln_is : (s : Xinu) (sem word n : ℕ) (released : List ℕ) (u : Tables) → sem ≡ word → is_good sem s.tables ≡ true
-    → not (int_lt most_tokens (count_of (semaphore_at s.tables sem) +ℤ pos n)) ≡ true → released ≡ take n (semaphore_at s.tables sem).waiters
+    → not (int_lt most_tokens (count_of (semaphore_at s.tables sem) +ℤ pos n)) ≡ true
+    → released ≡ take n (semaphore_at s.tables sem).waiters
     → u ≡ (let x = semaphore_at s.tables sem in with_tokens sem (x.tokens + (n - length x.waiters)) (ready_all (take n x.waiters) s.tables))
     → returns (releasing OK released u s) OK ≡ signaln word (pos n) s
 signaln_is s sem word n released u named good room these is =
@@ -70,7 +77,8 @@ signaln_is s sem word n released u named good room these is =
     let ps = take n x.waiters in
     let k = x.tokens + (n - length x.waiters) in
     ap (λ d. returns d OK) (released_then OK ps released s (with_tokens sem k) u these is (same_as t u _ is (rests_written t ps sem _)))
-    ∙ sym (ap (λ b. cond (b && not (int_lt most_tokens (count_of x +ℤ pos n))) (returns (signalled_times sem n (start s)) OK) (refused s)) good
+    ∙ sym (ap (λ b. cond (b && not (int_lt most_tokens (count_of x +ℤ pos n))) (returns (signalled_times sem n (start s)) OK)
+    (refused s)) good
     ∙ ap (λ b. cond b (returns (signalled_times sem n (start s)) OK) (refused s)) room)
     ∙ ap (λ k. signaln k (pos n) s) named
 
@@ -92,7 +100,8 @@ released_first x p h = by_count (int_lt (count_of x) most_tokens) refl h
     by_count false e h = absurd (cc)
 
 -- call 19
-pub signal_releases : (s : Xinu) (sem word p : ℕ) (u : Tables) → sem ≡ word → is_good sem s.tables ≡ true → Released p ≡ signal_answer (semaphore_at s.tables sem)
+pub signal_releases : (s : Xinu) (sem word p : ℕ) (u : Tables) → sem ≡ word → is_good sem s.tables ≡ true
+    → Released p ≡ signal_answer (semaphore_at s.tables sem)
     → u ≡ ready p s.tables → returns (releasing OK (p ∷ []) u s) OK ≡ signal word s
 signal_releases s sem word p u named good answer is =
     let t = s.tables in
@@ -105,7 +114,8 @@ signal_releases s sem word p u named good answer is =
     ∙ ap (λ k. signal k s) named
 
 -- call 16 with a count that isn't negative
-pub semreset_counts : (s : Xinu) (sem word : ℕ) (count : ℤ) (released : List ℕ) (u : Tables) → pos 0 ≤ℤ count → sem ≡ word → is_good sem s.tables ≡ true → released ≡ (semaphore_at s.tables sem).waiters
+pub semreset_counts : (s : Xinu) (sem word : ℕ) (count : ℤ) (released : List ℕ) (u : Tables) → pos 0 ≤ℤ count → sem ≡ word
+    → is_good sem s.tables ≡ true → released ≡ (semaphore_at s.tables sem).waiters
     → u ≡ with_tokens sem (tokens_of count) (ready_all (semaphore_at s.tables sem).waiters s.tables)
     → returns (releasing OK released u s) OK ≡ semreset word count s
 semreset_counts s sem word (pos n) released u le named good these is = semreset_is s sem word n released u named good these is

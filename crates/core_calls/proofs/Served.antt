@@ -28,7 +28,8 @@ pub served_kept : (t u : Tables) → SameRests t u → AreServed t → AreServed
 served_kept t u a s = record { rests = λ p. subst IsServed (sym (a.same p)) (s.rests p) }
 
 -- an entry with the same rest
-rest_set : (l : List Process) (p : ℕ) (x : Process) (q : ℕ) → x.rest ≡ (get_or l p no_process).rest → (get_or (set l p x) q no_process).rest ≡ (get_or l q no_process).rest
+rest_set : (l : List Process) (p : ℕ) (x : Process) (q : ℕ) → x.rest ≡ (get_or l p no_process).rest
+    → (get_or (set l p x) q no_process).rest ≡ (get_or l q no_process).rest
 rest_set [] p x q e = refl
 rest_set (y ∷ l) zero x zero e = e
 rest_set (y ∷ l) zero x (suc q) e = refl
@@ -36,7 +37,8 @@ rest_set (y ∷ l) (suc p) x zero e = refl
 rest_set (y ∷ l) (suc p) x (suc q) e = rest_set l p x q e
 
 -- another entry
-served_set : (l : List Process) (p : ℕ) (x : Process) (r : ℕ) → ((q : ℕ) → IsServed (get_or l q no_process).rest) → IsServed x.rest → IsServed (get_or (set l p x) r no_process).rest
+served_set : (l : List Process) (p : ℕ) (x : Process) (r : ℕ) → ((q : ℕ) → IsServed (get_or l q no_process).rest) → IsServed x.rest
+    → IsServed (get_or (set l p x) r no_process).rest
 served_set [] p x r s h = s r
 served_set (y ∷ l) zero x zero s h = h
 served_set (y ∷ l) zero x (suc r) s h = s (suc r)
@@ -44,11 +46,13 @@ served_set (y ∷ l) (suc p) x zero s h = s zero
 served_set (y ∷ l) (suc p) x (suc r) s h = served_set l p x r (λ q. s (suc q)) h
 
 -- a process moves
-pub served_move : (t : Tables) (p : ℕ) (x : Process) (m : Option ℕ) (place : Place) → AreServed t → IsServed x.rest → AreServed (move_to p x m place t)
+pub served_move : (t : Tables) (p : ℕ) (x : Process) (m : Option ℕ) (place : Place) → AreServed t → IsServed x.rest
+    → AreServed (move_to p x m place t)
 served_move t p x m place s h = record { rests = λ r. served_set t.processes p x r s.rests h }
 
 -- a process moves with the same left of its call
-pub rests_move : (t : Tables) (p : ℕ) (x : Process) (m : Option ℕ) (place : Place) → x.rest ≡ (process_at t p).rest → SameRests t (move_to p x m place t)
+pub rests_move : (t : Tables) (p : ℕ) (x : Process) (m : Option ℕ) (place : Place) → x.rest ≡ (process_at t p).rest
+    → SameRests t (move_to p x m place t)
 rests_move t p x m place e = record { same = λ q. rest_set t.processes p x q e }
 
 -- it becomes ready
@@ -62,7 +66,8 @@ rests_ready_all (p ∷ ps) t = rests_twice t (ready p t) (ready_all ps (ready p 
 
 -- a resched
 rests_preempt : (t : Tables) → SameRests t (preempt t)
-rests_preempt t = cond_both (is_current (state_at t t.current)) (ready t.current t) t (SameRests t) (λ _. rests_ready t t.current) (λ _. record { same = λ p. refl })
+rests_preempt t = cond_both (is_current (state_at t t.current)) (ready t.current t) t (SameRests t) (λ _. rests_ready t t.current)
+    (λ _. record { same = λ p. refl })
 
 rests_dispatch_first : (l : List (ℕ × ℤ)) (t : Tables) → SameRests t (dispatch_first l t)
 rests_dispatch_first [] t = record { same = λ p. refl }
@@ -71,29 +76,34 @@ rests_dispatch_first (e ∷ l) t = record { same = λ q. rest_set t.processes e.
 pub rests_resched : (t : Tables) → SameRests t (resched t)
 rests_resched t =
     cond_both (keeps_cpu t.ready t) t (dispatch_first (preempt t).ready (preempt t)) (SameRests t) (λ _. record { same = λ p. refl })
-    (λ _. rests_twice t (preempt t) (dispatch_first (preempt t).ready (preempt t)) (rests_preempt t) (rests_dispatch_first (preempt t).ready (preempt t)))
+    (λ _. rests_twice t (preempt t) (dispatch_first (preempt t).ready (preempt t)) (rests_preempt t)
+    (rests_dispatch_first (preempt t).ready (preempt t)))
 
 -- another priority
 pub rests_with_priority : (t : Tables) (p : ℕ) (priority : ℤ) → SameRests t (with_priority p priority t)
 rests_with_priority t p priority =
     let x = record (process_at t p) { priority = priority } in
-    cond_both (is_ready (state_at t p)) (move_to p x (message_at t p) InReady t) (record t { processes = set t.processes p x }) (SameRests t)
+    cond_both (is_ready (state_at t p)) (move_to p x (message_at t p) InReady t) (record t { processes = set t.processes p x })
+    (SameRests t)
     (λ _. rests_move t p x (message_at t p) InReady refl) (λ _. record { same = λ q. rest_set t.processes p x q refl })
 
 -- a message
 rests_delivered : (p m : ℕ) (d : CallState) → SameRests d.state.tables (delivered p m d).state.tables
 rests_delivered p m d =
     let t = d.state.tables in
-    cond_both (listens (state_at t p)) (record (with_tables (move_to p (in_state Ready (process_at t p)) (Some m) InReady t) d) { owes_resched = true })
+    cond_both (listens (state_at t p))
+    (record (with_tables (move_to p (in_state Ready (process_at t p)) (Some m) InReady t) d) { owes_resched = true })
     (with_tables (record t { messages = set t.messages p (Some m) }) d) (λ (e : CallState). SameRests t e.state.tables)
     (λ _. rests_move t p (in_state Ready (process_at t p)) (Some m) InReady refl) (λ _. record { same = λ q. refl })
 
 pub rests_sent : (p m : ℕ) (d : CallState) → SameRests d.state.tables (sent p m d).state.tables
 rests_sent p m d =
-    cond_both (can_get p d.state.tables) (delivered p m d) d (λ (e : CallState). SameRests d.state.tables e.state.tables) (λ _. rests_delivered p m d) (λ _. record { same = λ q. refl })
+    cond_both (can_get p d.state.tables) (delivered p m d) d (λ (e : CallState). SameRests d.state.tables e.state.tables)
+    (λ _. rests_delivered p m d) (λ _. record { same = λ q. refl })
 
 -- a process is made
-pub served_made : (t : Tables) (p : ℕ) (x : Process) → AreServed t → IsServed x.rest → AreServed (record (move_to p x None Nowhere t) { last_process = p })
+pub served_made : (t : Tables) (p : ℕ) (x : Process) → AreServed t → IsServed x.rest
+    → AreServed (record (move_to p x None Nowhere t) { last_process = p })
 served_made t p x s h = record { rests = λ r. served_set t.processes p x r s.rests h }
 
 -- the quantum falls

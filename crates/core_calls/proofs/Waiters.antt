@@ -40,7 +40,8 @@ found_free (pos n) t sem e = sym e
 found_free (negsuc n) t sem e = absurd (cc)
 
 -- a semaphore is made if a number is found
-pub inside_made : (found : Option ℕ) (by : Owner) (z : ℤ) (t : Tables) → IsInside t → found ≡ number_for z t → by ≢ Device → IsInside (with_made found by z t)
+pub inside_made : (found : Option ℕ) (by : Owner) (z : ℤ) (t : Tables) → IsInside t → found ≡ number_for z t → by ≢ Device
+    → IsInside (with_made found by z t)
 inside_made None by z t o e n = o
 inside_made (Some sem) by z t o e n =
     let f = found_free z t sem e in
@@ -52,28 +53,34 @@ rests_made None by z t = record { same = λ p. refl }
 rests_made (Some sem) by z t = record { same = λ p. refl }
 
 -- a process that moved has another rest
-pub moved_with_rest : (ls : List (List Entry)) (s : ProcessTable) (b : Beside) (t : Tables) (x : Process) (m : Option ℕ) (place : Place) (rest : Rest) → t.current < length t.processes
+pub moved_with_rest : (ls : List (List Entry)) (s : ProcessTable) (b : Beside) (t : Tables) (x : Process) (m : Option ℕ) (place : Place)
+    (rest : Rest) → t.current < length t.processes
     → tables_of ls s b ≡ move_to t.current x m place t
-    → tables_of ls (with_process s.current (record (process_in s.processes s.current) { rest = rest }) s) b ≡ move_to t.current (record x { rest = rest }) m place t
+    → tables_of ls (with_process s.current (record (process_in s.processes s.current) { rest = rest }) s) b
+    ≡ move_to t.current (record x { rest = rest }) m place t
 unfolding tables_of
 moved_with_rest ls s b t x m place rest lt e =
     let F : Tables → Tables = λ u. record u { processes = set u.processes u.current (record (process_at u u.current) { rest = rest }) } in
     let c = t.current in
     ap F e
-    ∙ ap (λ (y : Process). record (move_to c x m place t) { processes = set (set t.processes c x) c (record y { rest = rest }) }) (get_or-set_same t.processes c x no_process lt)
+    ∙ ap (λ (y : Process). record (move_to c x m place t) { processes = set (set t.processes c x) c (record y { rest = rest }) })
+    (get_or-set_same t.processes c x no_process lt)
     ∙ ap (λ l. record (move_to c x m place t) { processes = l }) (set-set t.processes c x (record x { rest = rest }))
 
 -- the current process waits if there is no token
-pub inside_waits : (t : Tables) (sem : ℕ) (rest : Rest) (took : Bool) → IsSoundTables t → t.current ≢ 0 → sem < 128 → FitsOwner sem (semaphore_at t sem).owner rest
+pub inside_waits : (t : Tables) (sem : ℕ) (rest : Rest) (took : Bool) → IsSoundTables t → t.current ≢ 0 → sem < 128
+    → FitsOwner sem (semaphore_at t sem).owner rest
     → took ≡ nat_lt 0 (semaphore_at t sem).tokens
-    → IsInside (cond took (with_tokens sem ((semaphore_at t sem).tokens - 1) t) (move_to t.current (record (process_at t t.current) { state = Waiting; rest = rest }) (message_at t t.current) (InSemaphore sem) t))
+    → IsInside (cond took (with_tokens sem ((semaphore_at t sem).tokens - 1) t)
+    (move_to t.current (record (process_at t t.current) { state = Waiting; rest = rest }) (message_at t t.current) (InSemaphore sem) t))
 inside_waits t sem rest took k n lt fits is = cond_both took _ _ IsInside
     (λ b. (let e : nat_lt 0 (semaphore_at t sem).tokens ≡ true = sym is ∙ b in
     let some : (semaphore_at t sem).tokens ≡ suc ((semaphore_at t sem).tokens - 1) = grind (arith, nat_tests) in
     (sound_token_taken t sem ((semaphore_at t sem).tokens - 1) k lt some).inside))
     (λ b. (let e : nat_lt 0 (semaphore_at t sem).tokens ≡ false = sym is ∙ b in
     let none : (semaphore_at t sem).tokens ≡ 0 = grind (arith, nat_tests) in
-    inside_move t t.current (record (process_at t t.current) { state = Waiting; rest = rest }) (message_at t t.current) (InSemaphore sem) k.inside (record {
+    inside_move t t.current (record (process_at t t.current) { state = Waiting; rest = rest }) (message_at t t.current)
+    (InSemaphore sem) k.inside (record {
       within = current_within t k;
       place_of = (refl, refl, refl);
       if_current = λ _. refl;
@@ -89,16 +96,20 @@ used_owner None h e = absurd (cc)
 used_owner (Some x) h e = absurd (cc)
 
 -- one signal, if these wait
-inside_answered : (t : Tables) (sem : ℕ) (l : List ℕ) → l ≡ (semaphore_at t sem).waiters → IsInside t → sem < 128 → (semaphore_at t sem).owner ≢ None → IsInside (after_signal (answer_to l) sem t)
+inside_answered : (t : Tables) (sem : ℕ) (l : List ℕ) → l ≡ (semaphore_at t sem).waiters → IsInside t → sem < 128
+    → (semaphore_at t sem).owner ≢ None → IsInside (after_signal (answer_to l) sem t)
 inside_answered t sem [] e o w used = inside_tokens t sem ((semaphore_at t sem).tokens + 1) o w used (inr (sym e))
-inside_answered t sem (p ∷ ps) e o w used = inside_ready t p o (can_be_ready_waiting t p o (waiter_waits t sem p o (subst (λ l. 0 < count_in p l) e (first_is_counted p ps))))
+inside_answered t sem (p ∷ ps) e o w used = inside_ready t p o
+    (can_be_ready_waiting t p o (waiter_waits t sem p o (subst (λ l. 0 < count_in p l) e (first_is_counted p ps))))
 
 -- a signal is refused, kept, or releases a process
-pub inside_after_signal : (t : Tables) (sem : ℕ) (r : Signalled) → r ≡ signal_answer (semaphore_at t sem) → IsInside t → sem < 128 → (semaphore_at t sem).owner ≢ None → IsInside (after_signal r sem t)
+pub inside_after_signal : (t : Tables) (sem : ℕ) (r : Signalled) → r ≡ signal_answer (semaphore_at t sem) → IsInside t → sem < 128
+    → (semaphore_at t sem).owner ≢ None → IsInside (after_signal r sem t)
 inside_after_signal t sem r is o w used =
     let x = semaphore_at t sem in
     let A : Signalled → Type 0 = λ r. IsInside (after_signal r sem t) in
-    subst A (sym is) (cond_both (int_lt (count_of x) most_tokens) (answer_to x.waiters) Full A (λ _. inside_answered t sem x.waiters refl o w used) (λ _. o))
+    subst A (sym is) (cond_both (int_lt (count_of x) most_tokens) (answer_to x.waiters) Full A
+    (λ _. inside_answered t sem x.waiters refl o w used) (λ _. o))
 
 -- no call changes then
 pub rests_after_signal : (t : Tables) (sem : ℕ) (r : Signalled) → SameRests t (after_signal r sem t)
@@ -111,23 +122,28 @@ pub inside_signaln : (t : Tables) (sem n : ℕ) → IsSoundTables t → sem < 12
     → (let x = semaphore_at t sem in IsInside (with_tokens sem (x.tokens + (n - length x.waiters)) (ready_all (take n x.waiters) t)))
 inside_signaln t sem n k w used =
     let x = semaphore_at t sem in
-    subst (λ (y : Xinu). IsInside (with_tokens sem (x.tokens + (n - length x.waiters)) y.tables)) (unblock_all_ready (take n x.waiters) (with_these t)) (sound_signalled_times sem n (with_these t) k w used).inside
+    subst (λ (y : Xinu). IsInside (with_tokens sem (x.tokens + (n - length x.waiters)) y.tables))
+    (unblock_all_ready (take n x.waiters) (with_these t)) (sound_signalled_times sem n (with_these t) k w used).inside
 
 -- all waiters become ready
 pub sound_all_ready : (t : Tables) (sem : ℕ) → IsSoundTables t → IsSoundTables (ready_all (semaphore_at t sem).waiters t)
 sound_all_ready t sem k = sound_ready_all (semaphore_at t sem).waiters t k (can_be_ready_waiters t sem k.inside)
 
 -- a reset
-pub inside_reset : (t : Tables) (sem n : ℕ) → IsSoundTables t → sem < 128 → (semaphore_at t sem).owner ≢ None → IsInside (with_tokens sem n (ready_all (semaphore_at t sem).waiters t))
+pub inside_reset : (t : Tables) (sem n : ℕ) → IsSoundTables t → sem < 128 → (semaphore_at t sem).owner ≢ None
+    → IsInside (with_tokens sem n (ready_all (semaphore_at t sem).waiters t))
 inside_reset t sem n k w used =
     let ps = (semaphore_at t sem).waiters in
-    inside_tokens (ready_all ps t) sem n (sound_all_ready t sem k).inside w (λ e. used (sym (owner_ready ps t sem) ∙ e)) (inr (waiters_gone t sem))
+    inside_tokens (ready_all ps t) sem n (sound_all_ready t sem k).inside w (λ e. used (sym (owner_ready ps t sem) ∙ e))
+    (inr (waiters_gone t sem))
 
 -- a semaphore that a process made is given up
-pub inside_deleted : (t : Tables) (sem : ℕ) → IsSoundTables t → is_good sem t ≡ true → IsInside (with_semaphore sem no_semaphore (ready_all (semaphore_at t sem).waiters t))
+pub inside_deleted : (t : Tables) (sem : ℕ) → IsSoundTables t → is_good sem t ≡ true
+    → IsInside (with_semaphore sem no_semaphore (ready_all (semaphore_at t sem).waiters t))
 inside_deleted t sem k h =
     let g = good_semaphore t sem k.inside h in
-    inside_given_up (ready_all (semaphore_at t sem).waiters t) sem (sound_all_ready t sem k).inside g.within g.no_device (waiters_gone t sem)
+    inside_given_up (ready_all (semaphore_at t sem).waiters t) sem (sound_all_ready t sem k).inside g.within g.no_device
+    (waiters_gone t sem)
 
 -- a semaphore that is written twice is the second
 pub written_twice : (sem n : ℕ) (y : Semaphore) (t : Tables) → with_semaphore sem y (with_tokens sem n t) ≡ with_semaphore sem y t
@@ -148,15 +164,19 @@ pub entry_used : (ls : List (List Entry)) (s : ProcessTable) (c : SemaphoreTable
 entry_used ls s c sem m ticks h = subst IsSome (owner_at ls s c sem m ticks) h
 
 -- this is left of the call of the process that waits
-pub left_waiting : (took : Bool) (ls : List (List Entry)) (s : ProcessTable) (b : Beside) (t u : Tables) (m : Option ℕ) (sem : ℕ) (rest : Rest) → t.current < length t.processes
+pub left_waiting : (took : Bool) (ls : List (List Entry)) (s : ProcessTable) (b : Beside) (t u : Tables) (m : Option ℕ) (sem : ℕ)
+    (rest : Rest) → t.current < length t.processes
     → tables_of ls s b ≡ cond took u (move_to t.current (in_state Waiting (process_at t t.current)) m (InSemaphore sem) t)
     → tables_of ls (cond took s (with_process s.current (record (process_in s.processes s.current) { rest = rest }) s)) b
     ≡ cond took u (move_to t.current (record (process_at t t.current) { state = Waiting; rest = rest }) m (InSemaphore sem) t)
 left_waiting true ls s b t u m sem rest lt e = e
-left_waiting false ls s b t u m sem rest lt e = moved_with_rest ls s b t (in_state Waiting (process_at t t.current)) m (InSemaphore sem) rest lt e
+left_waiting false ls s b t u m sem rest lt e = moved_with_rest ls s b t (in_state Waiting (process_at t t.current)) m
+    (InSemaphore sem) rest lt e
 
 -- what is left is served
 pub served_waits : (took : Bool) (t : Tables) (sem n : ℕ) (rest : Rest) → AreServed t → IsServed rest
-    → AreServed (cond took (with_tokens sem n t) (move_to t.current (record (process_at t t.current) { state = Waiting; rest = rest }) (message_at t t.current) (InSemaphore sem) t))
+    → AreServed (cond took (with_tokens sem n t)
+    (move_to t.current (record (process_at t t.current) { state = Waiting; rest = rest }) (message_at t t.current) (InSemaphore sem) t))
 served_waits true t sem n rest s h = record { rests = s.rests }
-served_waits false t sem n rest s h = served_move t t.current (record (process_at t t.current) { state = Waiting; rest = rest }) (message_at t t.current) (InSemaphore sem) s h
+served_waits false t sem n rest s h = served_move t t.current (record (process_at t t.current) { state = Waiting; rest = rest })
+    (message_at t t.current) (InSemaphore sem) s h

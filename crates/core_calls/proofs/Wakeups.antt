@@ -17,7 +17,8 @@ use Rattle.core_calls.specs.Released.{are_any}
 use Rattle.xinu_model.specs.Sound.Tables.{count_in}
 
 -- Some of these processes have become ready: those that are left, once ready, give the whole.
-pub record IsReadying (ls0 : List (List Entry)) (s0 : ProcessTable) (due : List ℕ) (left : List ℕ) (ls : List (List Entry)) (s : ProcessTable) : Type 0 where
+pub record IsReadying (ls0 : List (List Entry)) (s0 : ProcessTable) (due : List ℕ) (left : List ℕ) (ls : List (List Entry))
+    (s : ProcessTable) : Type 0 where
   pub rest : (b : Beside) → ready_all left (tables_of ls s b) ≡ ready_all due (tables_of ls0 s0 b)
   pub out : AreOut ls left
   pub others : (q : ℕ) → q ≢ 128 → list_at ls q ≡ list_at ls0 q
@@ -25,11 +26,13 @@ pub record IsReadying (ls0 : List (List Entry)) (s0 : ProcessTable) (due : List 
 
 -- the process at k is the first of those that are left
 pub next_left : (due : List ℕ) (k p : ℕ) → k < length due → p ≡ get_or due k p → drop k due ≡ p ∷ drop (k + 1) due
-next_left due k p within is = drop-cons due k p within ∙ ap (λ y. y ∷ drop (suc k) due) (sym is) ∙ ap (λ n. p ∷ drop n due) (sym (add-one k))
+next_left due k p within is = drop-cons due k p within ∙ ap (λ y. y ∷ drop (suc k) due) (sym is)
+    ∙ ap (λ n. p ∷ drop n due) (sym (add-one k))
 
 -- a process that isn't counted first isn't first
 uncounted_first : (p q : ℕ) (qs : List ℕ) → count_in p (q ∷ qs) ≡ 0 → q ≢ p
-uncounted_first p q qs h e = (let n : suc (count_in p qs) ≡ 0 = sym (ap (λ b. cond b (suc (count_in p qs)) (count_in p qs)) (eq-eqb q p e)) ∙ h in omega (arith, n))
+uncounted_first p q qs h e = (let n : suc (count_in p qs)
+    ≡ 0 = sym (ap (λ b. cond b (suc (count_in p qs)) (count_in p qs)) (eq-eqb q p e)) ∙ h in omega (arith, n))
 
 -- nor among the others
 uncounted_rest : (p q : ℕ) (qs : List ℕ) → count_in p (q ∷ qs) ≡ 0 → count_in p qs ≡ 0
@@ -40,14 +43,18 @@ uncounted_rest p q qs h = go (eqb q p) h
     go false h = h
 
 -- the others are still out once p has gone to a list
-still_out : (ls ms : List (List Entry)) (p : ℕ) (left : List ℕ) → count_in p left ≡ 0 → AreOut ls left → ((r : ℕ) → r ≢ p → place ms r ≡ place ls r) → AreOut ms left
+still_out : (ls ms : List (List Entry)) (p : ℕ) (left : List ℕ) → count_in p left ≡ 0 → AreOut ls left
+    → ((r : ℕ) → r ≢ p → place ms r ≡ place ls r) → AreOut ms left
 still_out ls ms p [] n h others = tt
-still_out ls ms p (q ∷ qs) n h others = (others q (uncounted_first p q qs n) ∙ h.0, h.1, still_out ls ms p qs (uncounted_rest p q qs n) h.2 others)
+still_out ls ms p (q ∷ qs) n h others =
+    (others q (uncounted_first p q qs n) ∙ h.0, h.1, still_out ls ms p qs (uncounted_rest p q qs n) h.2 others)
 
 -- one more became ready
-pub one_readied : (ls0 : List (List Entry)) (s0 : ProcessTable) (due left : List ℕ) (p : ℕ) (key : ℤ) (ls : List (List Entry)) (s : ProcessTable) (ms : List (List Entry)) (u : ProcessTable)
+pub one_readied : (ls0 : List (List Entry)) (s0 : ProcessTable) (due left : List ℕ) (p : ℕ) (key : ℤ) (ls : List (List Entry))
+    (s : ProcessTable) (ms : List (List Entry)) (u : ProcessTable)
     → IsReadying ls0 s0 due (p ∷ left) ls s → length ls ≡ 130 → ms ≡ with_list ls 128 (ready_insert p key (list_at ls 128))
-    → ((b : Beside) → tables_of ms u b ≡ ready p (tables_of ls s b)) → ((q : ℕ) → q ≢ 128 → list_at ms q ≡ list_at ls q) → Fits ms u.processes
+    → ((b : Beside) → tables_of ms u b ≡ ready p (tables_of ls s b)) → ((q : ℕ) → q ≢ 128 → list_at ms q ≡ list_at ls q)
+    → Fits ms u.processes
     → IsReadying ls0 s0 due left ms u
 one_readied ls0 s0 due left p key ls s ms u i size is readied others fits =
     let at = place_inserted ls 128 p key i.out.0 (omega (arith, size)) in
@@ -60,12 +67,15 @@ one_readied ls0 s0 due left p key ls s ms u i size is readied others fits =
 
 -- Once those who are due became ready it is a tick later, with a resched if there are any.
 pub woken_later : (t : Tables) (ps : List ℕ) → ps ≡ due (t.ticks + 1) t.sleepers
-    → (let u = ready_all ps (record t { sleepers = not_due (t.ticks + 1) t.sleepers; ticks = t.ticks + 1 }) in cond (are_any ps) (resched u) u)
+    → (let u = ready_all ps (record t { sleepers = not_due (t.ticks + 1) t.sleepers; ticks = t.ticks + 1 }) in cond (are_any ps)
+    (resched u) u)
     ≡ a_tick_later (are_any ps) (ready_all ps t)
 woken_later t ps is =
     let n = t.ticks + 1 in
     let u = ready_all ps (record t { sleepers = not_due n t.sleepers; ticks = n }) in
     let v = ready_all ps t in
-    let F : List ℕ → Type 0 = λ l. ready_all l (record t { sleepers = not_due n t.sleepers; ticks = n }) ≡ record (ready_all l t) { ticks = n } in
-    let e : u ≡ record v { ticks = v.ticks + 1 } = subst F (sym is) (ready_due n n t) ∙ ap (λ k. record v { ticks = k + 1 }) (sym (ticks_ready ps t)) in
+    let F : List ℕ → Type 0 = λ l. ready_all l (record t { sleepers = not_due n t.sleepers; ticks = n })
+    ≡ record (ready_all l t) { ticks = n } in
+    let e : u ≡ record v { ticks = v.ticks + 1 } = subst F (sym is) (ready_due n n t)
+    ∙ ap (λ k. record v { ticks = k + 1 }) (sym (ticks_ready ps t)) in
     ap (λ (w : Tables). cond (are_any ps) (resched w) w) e

@@ -32,7 +32,8 @@ impl KernelTables {
         requires not_null { self.old.current ≢ 0 }
         requires longer { pos 1 ≤ℤ delay }
         ensures sleeps { self.new ≡ (let t = self.old in
-            move_to t.current (record (process_at t t.current) { state = State.Sleeping; rest = Rest.Nothing }) (message_at t t.current) (InSleepers (wake_tick t.ticks delay)) t) }
+            move_to t.current (record (process_at t t.current) { state = State.Sleeping; rest = Rest.Nothing })
+            (message_at t t.current) (InSleepers (wake_tick t.ticks delay)) t) }
     {
         sleep_current(
             &mut self.lists,

@@ -21,7 +21,8 @@ use xinu_base::{Rest, State};
 pub(crate) fn block_current(procs: &mut Procs, state: State, rest: Rest)
     requires runs { (process_in procs.old.processes procs.old.current).state ≡ State.Current }
     requires blocks { IsBlocked state }
-    ensures blocked { (ls : List (List Entry)) (b : Beside) → Fits ls procs.old.processes → tables_of ls procs.new b ≡ (let t = tables_of ls procs.old b in
+    ensures blocked { (ls : List (List Entry)) (b : Beside) → Fits ls procs.old.processes →
+        tables_of ls procs.new b ≡ (let t = tables_of ls procs.old b in
         move_to t.current (record (process_at t t.current) { state = state; rest = rest }) (message_at t t.current) Nowhere t) }
     ensures same { procs.new.current ≡ procs.old.current }
 {
@@ -46,7 +47,8 @@ pub(crate) fn sleep_current(
     requires fits { Fits (table.lists lists.old) procs.old.processes }
     requires later { WakesLater (table.lists lists.old) }
     ensures sleeps { (b : Beside) → tables_of (table.lists lists.new) procs.new b ≡ (let t = tables_of (table.lists lists.old) procs.old b in
-        move_to t.current (record (process_at t t.current) { state = state; rest = rest }) (message_at t t.current) (InSleepers (wake_tick b.ticks delay)) t) }
+        move_to t.current (record (process_at t t.current) { state = state; rest = rest })
+        (message_at t t.current) (InSleepers (wake_tick b.ticks delay)) t) }
     ensures same { clock.new ≡ clock.old }
     ensures others { (q : ℕ) → q ≢ 129 → list_at (table.lists lists.new) q ≡ list_at (table.lists lists.old) q }
     ensures later { WakesLater (table.lists lists.new) }
@@ -59,7 +61,9 @@ pub(crate) fn sleep_current(
 /// Nothing is left of the call of the current process, which runs.
 pub(crate) fn end_rest(procs: &mut Procs)
     requires runs { (process_in procs.old.processes procs.old.current).state ≡ State.Current }
-    ensures goes_on { (ls : List (List Entry)) (b : Beside) → Fits ls procs.old.processes → tables_of ls procs.new b ≡ (let t = tables_of ls procs.old b in move_to t.current (record (process_at t t.current) { rest = Rest.Nothing }) (message_at t t.current) Nowhere t) }
+    ensures goes_on { (ls : List (List Entry)) (b : Beside) → Fits ls procs.old.processes →
+        tables_of ls procs.new b ≡ (let t = tables_of ls procs.old b in
+        move_to t.current (record (process_at t t.current) { rest = Rest.Nothing }) (message_at t t.current) Nowhere t) }
 {
     let current = procs.current();
     procs.set_rest(current, Rest::Nothing);
@@ -68,7 +72,8 @@ pub(crate) fn end_rest(procs: &mut Procs)
 /// Takes a tick off the quantum, with a resched if it came to 0.
 pub(crate) fn spend(lists: &mut Lists, procs: &mut Procs)
     requires fits { Fits (table.lists lists.old) procs.old.processes }
-    ensures spent { (b : Beside) → tables_of (table.lists lists.new) procs.new b ≡ quantum_falls (tables_of (table.lists lists.old) procs.old b) }
+    ensures spent { (b : Beside) → tables_of (table.lists lists.new) procs.new b ≡
+        quantum_falls (tables_of (table.lists lists.old) procs.old b) }
     ensures others { (q : ℕ) → q ≢ 128 → list_at (table.lists lists.new) q ≡ list_at (table.lists lists.old) q }
 {
     if procs.quantum_tick() {
@@ -78,7 +83,8 @@ pub(crate) fn spend(lists: &mut Lists, procs: &mut Procs)
 
 /// This is left of the call of the current process, unless it took a token and goes on.
 pub(crate) fn leave_rest(procs: &mut Procs, took: bool, rest: Rest)
-    ensures procs { procs.new ≡ (let s = procs.old in if took then s else with_process s.current (record (process_in s.processes s.current) { rest = rest }) s) }
+    ensures procs { procs.new ≡ (let s = procs.old in
+        if took then s else with_process s.current (record (process_in s.processes s.current) { rest = rest }) s) }
 {
     if !took {
         let current = procs.current();

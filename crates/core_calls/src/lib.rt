@@ -1,4 +1,4 @@
-//! The kernel and its calls on processes and memory (book, chapters 4 to 6, 9 and 13).
+//! The kernel and its calls on processes, memory, semaphores, messages and the clock (book, chapters 4 to 9 and 13).
 //!
 //! A clause sees a `Kernel` as a `CallResult` of the abstract machine: its state inside an event, the replies to released processes so
 //! far, whether a resched is owed, and how the event's call went. Between events it is idle: `idle s` in `specs/Results.antt`. A call, what
@@ -20,9 +20,21 @@
 //! each call keeps (`KeepsAll` of `xinu_laws`), that of `KernelTables` what holds of the tables at each moment. So no call has a condition on
 //! lists, states or counts, and the crates above name none. `KernelTables` has one small method per move of the abstract machine.
 //!
-//! Calls 1 to 13 have their code here, in `process_calls.rt`, `creation.rt` and `memory_calls.rt`. `is_built` of `xinu_base` says which are
-//! served. Semaphores, sleepers, pools and ports are as at the start (`specs/Served.antt`, `first_parts`), until their crates come. The crate
-//! depends on `process_core`, `messages`, `freelist_memory`, `rv_hart`, `image_loader`, and on the laws of `xinu_laws`.
+//! Calls 1 to 27 have their code here, one file for each family:
+//!
+//! | Calls | File | Moves of the tables |
+//! |---|---|---|
+//! | 1 and 3 to 9, death | `process_calls.rt` | `process_moves.rt` |
+//! | 2 | `creation.rt` | `make` |
+//! | 10 to 13 | `memory_calls.rt` | |
+//! | 14 to 20 | `semaphore_calls.rt` | `semaphore_moves.rt` |
+//! | 21 to 24, the receipt of a message | `message_calls.rt` | `message_moves.rt` |
+//! | 25 to 27 | `clock_calls.rt` | `clock_moves.rt`, with the tick |
+//!
+//! `is_built` of `xinu_base` says which are served. Pools and ports are as at the start (`first_parts`), and nothing is left of any call but
+//! what these calls leave (`specs/Served.antt`), until their crates come. Ready processes, waiters and sleepers are in one table of lists:
+//! the abstract machine's lists are read off it (`specs/KernelTables.antt`). The crate depends on `process_core`, `semaphores`,
+//! `delta_clock`, `messages`, `freelist_memory`, `rv_hart`, `image_loader`, and on the laws of `xinu_laws`.
 #![tactic(auto)]
 
 mod boot;

@@ -17,7 +17,8 @@ impl KernelTables {
     /// Sends `p` a word, unless it is free or holds one. True if and only if `p` waited for it, so that it is ready now and a resched
     /// is owed.
     pub fn send_to(&mut self, p: Pid, m: u32) -> bool
-        ensures sent { (d : CallState) → d.state.tables ≡ self.old → sent p m d ≡ record (with_tables self.new d) { owes_resched = if result then true else d.owes_resched } }
+        ensures sent { (d : CallState) → d.state.tables ≡ self.old →
+            sent p m d ≡ record (with_tables self.new d) { owes_resched = if result then true else d.owes_resched } }
     {
         deliver(
             &mut self.lists,
@@ -34,7 +35,8 @@ impl KernelTables {
     pub fn take_message(&mut self) -> Option<u32>
         requires runs { state_at self.old self.old.current ≡ State.Current }
         ensures held { result ≡ message_at self.old self.old.current }
-        ensures taken { IfSome result (λ _. self.new ≡ (let t = self.old in move_to t.current (record (process_at t t.current) { rest = Rest.Nothing }) None Nowhere t)) }
+        ensures taken { IfSome result (λ _. self.new ≡ (let t = self.old in
+            move_to t.current (record (process_at t t.current) { rest = Rest.Nothing }) None Nowhere t)) }
         ensures same { IfNone result (self.new ≡ self.old) }
     {
         let message = self.message_of(self.current());
@@ -50,7 +52,8 @@ impl KernelTables {
         requires not_null { self.old.current ≢ 0 }
         requires none { message_at self.old self.old.current ≡ None }
         ensures listens { self.new ≡ (let t = self.old in
-            move_to t.current (record (process_at t t.current) { state = State.Receiving; rest = Rest.Receive }) (message_at t t.current) Nowhere t) }
+            move_to t.current (record (process_at t t.current) { state = State.Receiving; rest = Rest.Receive })
+            (message_at t t.current) Nowhere t) }
     {
         block_current(&mut self.procs, State::Receiving, Rest::Receive);
     }
@@ -62,7 +65,8 @@ impl KernelTables {
         requires none { message_at self.old self.old.current ≡ None }
         requires longer { pos 1 ≤ℤ delay }
         ensures listens { self.new ≡ (let t = self.old in
-            move_to t.current (record (process_at t t.current) { state = State.Timed; rest = Rest.Timed }) (message_at t t.current) (InSleepers (wake_tick t.ticks delay)) t) }
+            move_to t.current (record (process_at t t.current) { state = State.Timed; rest = Rest.Timed })
+            (message_at t t.current) (InSleepers (wake_tick t.ticks delay)) t) }
     {
         sleep_current(
             &mut self.lists,

@@ -127,7 +127,8 @@ impl KernelState {
     fn release(&mut self, released: &[Pid], value: i32)
         requires none { self.old.released ≡ [] }
         requires few { length released.now ≤ 64 }
-        ensures released { self.new ≡ record self.old { released = replies_to value released.now self.old.state.tables; owes_resched = are_any released.now } }
+        ensures released { self.new ≡
+            record self.old { released = replies_to value released.now self.old.state.tables; owes_resched = are_any released.now } }
     {
         answer_released(&mut self.replies, &self.tables, released, value);
         self.owes_resched = !released.is_empty();

@@ -74,7 +74,8 @@ impl KernelTables {
         ensures took { result ≡ nat_lt 0 (semaphore_at self.old sem).tokens }
         ensures waits { self.new ≡ (let t = self.old in
             if result then with_tokens sem ((semaphore_at t sem).tokens - 1) t
-            else move_to t.current (record (process_at t t.current) { state = State.Waiting; rest = rest }) (message_at t t.current) (InSemaphore sem) t) }
+            else move_to t.current (record (process_at t t.current) { state = State.Waiting; rest = rest })
+            (message_at t t.current) (InSemaphore sem) t) }
     {
         let took = self.sems.wait(&mut self.lists, &mut self.procs, sem);
         leave_rest(&mut self.procs, took, rest);

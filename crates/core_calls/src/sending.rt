@@ -36,8 +36,10 @@ pub(crate) fn deliver(
     requires fits { Fits (table.lists lists.old) procs.old.processes }
     requires placed { ArePlaced (table.lists lists.old) procs.old.processes }
     requires later { WakesLater (table.lists lists.old) }
-    ensures sent { (d : CallState) (sems : SemaphoreTable) (ticks : ℕ) → d.state.tables ≡ tables_of (table.lists lists.old) procs.old (beside sems slots.old ticks) →
-        model.sent p m d ≡ record (with_tables (tables_of (table.lists lists.new) procs.new (beside sems slots.new ticks)) d) { owes_resched = if result then true else d.owes_resched } }
+    ensures sent { (d : CallState) (sems : SemaphoreTable) (ticks : ℕ) →
+        d.state.tables ≡ tables_of (table.lists lists.old) procs.old (beside sems slots.old ticks) →
+        model.sent p m d ≡ record (with_tables (tables_of (table.lists lists.new) procs.new (beside sems slots.new ticks)) d)
+        { owes_resched = if result then true else d.owes_resched } }
     ensures same { clock.new ≡ clock.old }
     ensures others { (q : ℕ) → q ≢ 128 → q ≢ 129 → list_at (table.lists lists.new) q ≡ list_at (table.lists lists.old) q }
     ensures later { WakesLater (table.lists lists.new) }
@@ -71,7 +73,8 @@ fn unsleep(lists: &mut Lists, procs: &Procs, clock: &mut Clock, p: Pid)
     requires fits { Fits (table.lists lists.old) procs.now.processes }
     requires placed { ArePlaced (table.lists lists.old) procs.now.processes }
     requires later { WakesLater (table.lists lists.old) }
-    ensures left { (b : Beside) → ready p (tables_of (table.lists lists.new) procs.now b) ≡ ready p (tables_of (table.lists lists.old) procs.now b) }
+    ensures left { (b : Beside) → ready p (tables_of (table.lists lists.new) procs.now b) ≡
+        ready p (tables_of (table.lists lists.old) procs.now b) }
     ensures same { clock.new ≡ clock.old }
     ensures absent { place (table.lists lists.new) p ≡ None }
     ensures others { (q : ℕ) → q ≢ 129 → list_at (table.lists lists.new) q ≡ list_at (table.lists lists.old) q }

@@ -35,7 +35,8 @@ pub(crate) fn wake(lists: &mut Lists, procs: &mut Procs, due: &[Pid])
 fn ready_each(lists: &mut Lists, procs: &mut Procs, due: &[Pid])
     requires out { AreOut (table.lists lists.old) due.now }
     requires fits { Fits (table.lists lists.old) procs.old.processes }
-    ensures readied { (b : Beside) → tables_of (table.lists lists.new) procs.new b ≡ ready_all due.now (tables_of (table.lists lists.old) procs.old b) }
+    ensures readied { (b : Beside) → tables_of (table.lists lists.new) procs.new b ≡
+        ready_all due.now (tables_of (table.lists lists.old) procs.old b) }
     ensures others { (q : ℕ) → q ≢ 128 → list_at (table.lists lists.new) q ≡ list_at (table.lists lists.old) q }
     ensures fits { Fits (table.lists lists.new) procs.new.processes }
 {

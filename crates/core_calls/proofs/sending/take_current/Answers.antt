@@ -10,6 +10,7 @@ returns c = record {
   taken = λ ls sems ticks f. (
       let s = c.args.procs.now in
       let slots = c.args.slots.now in
-      ap (λ l. tables_of ls c.end_rest.new.procs (beside sems l ticks)) (c.clear.ensures.slots ∙ ap (λ p. set slots p None) c.current-current.ensures.current)
+      ap (λ l. tables_of ls c.end_rest.new.procs (beside sems l ticks))
+      (c.clear.ensures.slots ∙ ap (λ p. set slots p None) c.current-current.ensures.current)
       ∙ ap (λ (u : Tables). record u { messages = set slots s.current None }) (c.end_rest.ensures.goes_on ls (beside sems slots ticks) f));
 }

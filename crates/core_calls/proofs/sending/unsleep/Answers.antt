@@ -7,4 +7,5 @@ use Rattle.core_calls.proofs.sending.unsleep.Goals as goal
 
 pub returns-then-is_timed-clause-left : goal.returns-then-is_timed-clause-left
 returns-then-is_timed-clause-left c b =
-    ap (ready c.args.p) (c.cancel.ensures.cancelled c.args.procs.now b) ∙ ready-left c.args.p (tables_of (lists c.args.lists.now) c.args.procs.now b)
+    ap (ready c.args.p) (c.cancel.ensures.cancelled c.args.procs.now b)
+    ∙ ready-left c.args.p (tables_of (lists c.args.lists.now) c.args.procs.now b)

@@ -3,82 +3,163 @@ use Rattle.core_calls.proofs.Rows.{row_chprio, row_clktime, row_create, row_exit
 use Rattle.core_calls.proofs.state.KernelState.begin.Goals as goal
 
 pub returns-in-1 : goal.returns-in-1
-returns-in-1 c = record { called = row_getpid c.args.call.number c.args.call.args c.args.self.now.state _ c.in-1.is (sym c.is_built.ensures ∙ c.if-not-is_built.false) c.getpid.ensures.getpid }
+returns-in-1 c = record {
+  called = row_getpid c.args.call.number c.args.call.args c.args.self.now.state _ c.in-1.is
+      (sym c.is_built.ensures ∙ c.if-not-is_built.false) c.getpid.ensures.getpid;
+}
 
 pub returns-in-9 : goal.returns-in-9
-returns-in-9 c = record { called = row_exit c.args.call.number c.args.call.args c.args.self.now.state _ c.in-9.is (sym c.is_built.ensures ∙ c.if-not-is_built.false) c.exit.ensures.exit }
+returns-in-9 c = record {
+  called = row_exit c.args.call.number c.args.call.args c.args.self.now.state _ c.in-9.is
+      (sym c.is_built.ensures ∙ c.if-not-is_built.false) c.exit.ensures.exit;
+}
 
 pub returns-in-2 : goal.returns-in-2
-returns-in-2 c = record { called = row_create c.args.call.number c.args.call.args c.args.self.now.state _ c.in-2.is (sym c.is_built.ensures ∙ c.if-not-is_built.false) (search rules) }
+returns-in-2 c = record {
+  called = row_create c.args.call.number c.args.call.args c.args.self.now.state _ c.in-2.is
+      (sym c.is_built.ensures ∙ c.if-not-is_built.false) (search rules);
+}
 
 pub returns-in-3 : goal.returns-in-3
-returns-in-3 c = record { called = row_resume c.args.call.number c.args.call.args c.args.self.now.state _ c.in-3.is (sym c.is_built.ensures ∙ c.if-not-is_built.false) (search rules) }
+returns-in-3 c = record {
+  called = row_resume c.args.call.number c.args.call.args c.args.self.now.state _ c.in-3.is
+      (sym c.is_built.ensures ∙ c.if-not-is_built.false) (search rules);
+}
 
 pub returns-in-4 : goal.returns-in-4
-returns-in-4 c = record { called = row_suspend c.args.call.number c.args.call.args c.args.self.now.state _ c.in-4.is (sym c.is_built.ensures ∙ c.if-not-is_built.false) (search rules) }
+returns-in-4 c = record {
+  called = row_suspend c.args.call.number c.args.call.args c.args.self.now.state _ c.in-4.is
+      (sym c.is_built.ensures ∙ c.if-not-is_built.false) (search rules);
+}
 
 pub returns-in-5 : goal.returns-in-5
-returns-in-5 c = record { called = row_kill c.args.call.number c.args.call.args c.args.self.now.state _ c.in-5.is (sym c.is_built.ensures ∙ c.if-not-is_built.false) (search rules) }
+returns-in-5 c = record {
+  called = row_kill c.args.call.number c.args.call.args c.args.self.now.state _ c.in-5.is
+      (sym c.is_built.ensures ∙ c.if-not-is_built.false) (search rules);
+}
 
 pub returns-in-6 : goal.returns-in-6
-returns-in-6 c = record { called = row_yield c.args.call.number c.args.call.args c.args.self.now.state _ c.in-6.is (sym c.is_built.ensures ∙ c.if-not-is_built.false) (search rules) }
+returns-in-6 c = record {
+  called = row_yield c.args.call.number c.args.call.args c.args.self.now.state _ c.in-6.is
+      (sym c.is_built.ensures ∙ c.if-not-is_built.false) (search rules);
+}
 
 pub returns-in-7 : goal.returns-in-7
-returns-in-7 c = record { called = row_chprio c.args.call.number c.args.call.args c.args.self.now.state _ c.in-7.is (sym c.is_built.ensures ∙ c.if-not-is_built.false) (search rules) }
+returns-in-7 c = record {
+  called = row_chprio c.args.call.number c.args.call.args c.args.self.now.state _ c.in-7.is
+      (sym c.is_built.ensures ∙ c.if-not-is_built.false) (search rules);
+}
 
 pub returns-in-8 : goal.returns-in-8
-returns-in-8 c = record { called = row_getprio c.args.call.number c.args.call.args c.args.self.now.state _ c.in-8.is (sym c.is_built.ensures ∙ c.if-not-is_built.false) (search rules) }
+returns-in-8 c = record {
+  called = row_getprio c.args.call.number c.args.call.args c.args.self.now.state _ c.in-8.is
+      (sym c.is_built.ensures ∙ c.if-not-is_built.false) (search rules);
+}
 
 pub returns-in-10 : goal.returns-in-10
-returns-in-10 c = record { called = row_getmem c.args.call.number c.args.call.args c.args.self.now.state _ c.in-10.is (sym c.is_built.ensures ∙ c.if-not-is_built.false) (search rules) }
+returns-in-10 c = record {
+  called = row_getmem c.args.call.number c.args.call.args c.args.self.now.state _ c.in-10.is
+      (sym c.is_built.ensures ∙ c.if-not-is_built.false) (search rules);
+}
 
 pub returns-in-11 : goal.returns-in-11
-returns-in-11 c = record { called = row_freemem c.args.call.number c.args.call.args c.args.self.now.state _ c.in-11.is (sym c.is_built.ensures ∙ c.if-not-is_built.false) (search rules) }
+returns-in-11 c = record {
+  called = row_freemem c.args.call.number c.args.call.args c.args.self.now.state _ c.in-11.is
+      (sym c.is_built.ensures ∙ c.if-not-is_built.false) (search rules);
+}
 
 pub returns-in-12 : goal.returns-in-12
-returns-in-12 c = record { called = row_getstk c.args.call.number c.args.call.args c.args.self.now.state _ c.in-12.is (sym c.is_built.ensures ∙ c.if-not-is_built.false) (search rules) }
+returns-in-12 c = record {
+  called = row_getstk c.args.call.number c.args.call.args c.args.self.now.state _ c.in-12.is
+      (sym c.is_built.ensures ∙ c.if-not-is_built.false) (search rules);
+}
 
 pub returns-in-13 : goal.returns-in-13
-returns-in-13 c = record { called = row_freestk c.args.call.number c.args.call.args c.args.self.now.state _ c.in-13.is (sym c.is_built.ensures ∙ c.if-not-is_built.false) (search rules) }
+returns-in-13 c = record {
+  called = row_freestk c.args.call.number c.args.call.args c.args.self.now.state _ c.in-13.is
+      (sym c.is_built.ensures ∙ c.if-not-is_built.false) (search rules);
+}
 
 pub returns-in-14 : goal.returns-in-14
-returns-in-14 c = record { called = row_semcreate c.args.call.number c.args.call.args c.args.self.now.state _ c.in-14.is (sym c.is_built.ensures ∙ c.if-not-is_built.false) (search rules) }
+returns-in-14 c = record {
+  called = row_semcreate c.args.call.number c.args.call.args c.args.self.now.state _ c.in-14.is
+      (sym c.is_built.ensures ∙ c.if-not-is_built.false) (search rules);
+}
 
 pub returns-in-15 : goal.returns-in-15
-returns-in-15 c = record { called = row_semdelete c.args.call.number c.args.call.args c.args.self.now.state _ c.in-15.is (sym c.is_built.ensures ∙ c.if-not-is_built.false) (search rules) }
+returns-in-15 c = record {
+  called = row_semdelete c.args.call.number c.args.call.args c.args.self.now.state _ c.in-15.is
+      (sym c.is_built.ensures ∙ c.if-not-is_built.false) (search rules);
+}
 
 pub returns-in-16 : goal.returns-in-16
-returns-in-16 c = record { called = row_semreset c.args.call.number c.args.call.args c.args.self.now.state _ c.in-16.is (sym c.is_built.ensures ∙ c.if-not-is_built.false) (search rules) }
+returns-in-16 c = record {
+  called = row_semreset c.args.call.number c.args.call.args c.args.self.now.state _ c.in-16.is
+      (sym c.is_built.ensures ∙ c.if-not-is_built.false) (search rules);
+}
 
 pub returns-in-17 : goal.returns-in-17
-returns-in-17 c = record { called = row_semcount c.args.call.number c.args.call.args c.args.self.now.state _ c.in-17.is (sym c.is_built.ensures ∙ c.if-not-is_built.false) (search rules) }
+returns-in-17 c = record {
+  called = row_semcount c.args.call.number c.args.call.args c.args.self.now.state _ c.in-17.is
+      (sym c.is_built.ensures ∙ c.if-not-is_built.false) (search rules);
+}
 
 pub returns-in-18 : goal.returns-in-18
-returns-in-18 c = record { called = row_wait c.args.call.number c.args.call.args c.args.self.now.state _ c.in-18.is (sym c.is_built.ensures ∙ c.if-not-is_built.false) (search rules) }
+returns-in-18 c = record {
+  called = row_wait c.args.call.number c.args.call.args c.args.self.now.state _ c.in-18.is
+      (sym c.is_built.ensures ∙ c.if-not-is_built.false) (search rules);
+}
 
 pub returns-in-19 : goal.returns-in-19
-returns-in-19 c = record { called = row_signal c.args.call.number c.args.call.args c.args.self.now.state _ c.in-19.is (sym c.is_built.ensures ∙ c.if-not-is_built.false) (search rules) }
+returns-in-19 c = record {
+  called = row_signal c.args.call.number c.args.call.args c.args.self.now.state _ c.in-19.is
+      (sym c.is_built.ensures ∙ c.if-not-is_built.false) (search rules);
+}
 
 pub returns-in-20 : goal.returns-in-20
-returns-in-20 c = record { called = row_signaln c.args.call.number c.args.call.args c.args.self.now.state _ c.in-20.is (sym c.is_built.ensures ∙ c.if-not-is_built.false) (search rules) }
+returns-in-20 c = record {
+  called = row_signaln c.args.call.number c.args.call.args c.args.self.now.state _ c.in-20.is
+      (sym c.is_built.ensures ∙ c.if-not-is_built.false) (search rules);
+}
 
 pub returns-in-21 : goal.returns-in-21
-returns-in-21 c = record { called = row_send c.args.call.number c.args.call.args c.args.self.now.state _ c.in-21.is (sym c.is_built.ensures ∙ c.if-not-is_built.false) (search rules) }
+returns-in-21 c = record {
+  called = row_send c.args.call.number c.args.call.args c.args.self.now.state _ c.in-21.is
+      (sym c.is_built.ensures ∙ c.if-not-is_built.false) (search rules);
+}
 
 pub returns-in-22 : goal.returns-in-22
-returns-in-22 c = record { called = row_receive c.args.call.number c.args.call.args c.args.self.now.state _ c.in-22.is (sym c.is_built.ensures ∙ c.if-not-is_built.false) (search rules) }
+returns-in-22 c = record {
+  called = row_receive c.args.call.number c.args.call.args c.args.self.now.state _ c.in-22.is
+      (sym c.is_built.ensures ∙ c.if-not-is_built.false) (search rules);
+}
 
 pub returns-in-23 : goal.returns-in-23
-returns-in-23 c = record { called = row_recvclr c.args.call.number c.args.call.args c.args.self.now.state _ c.in-23.is (sym c.is_built.ensures ∙ c.if-not-is_built.false) (search rules) }
+returns-in-23 c = record {
+  called = row_recvclr c.args.call.number c.args.call.args c.args.self.now.state _ c.in-23.is
+      (sym c.is_built.ensures ∙ c.if-not-is_built.false) (search rules);
+}
 
 pub returns-in-24 : goal.returns-in-24
-returns-in-24 c = record { called = row_recvtime c.args.call.number c.args.call.args c.args.self.now.state _ c.in-24.is (sym c.is_built.ensures ∙ c.if-not-is_built.false) (search rules) }
+returns-in-24 c = record {
+  called = row_recvtime c.args.call.number c.args.call.args c.args.self.now.state _ c.in-24.is
+      (sym c.is_built.ensures ∙ c.if-not-is_built.false) (search rules);
+}
 
 pub returns-in-25 : goal.returns-in-25
-returns-in-25 c = record { called = row_sleep c.args.call.number c.args.call.args c.args.self.now.state _ c.in-25.is (sym c.is_built.ensures ∙ c.if-not-is_built.false) (search rules) }
+returns-in-25 c = record {
+  called = row_sleep c.args.call.number c.args.call.args c.args.self.now.state _ c.in-25.is
+      (sym c.is_built.ensures ∙ c.if-not-is_built.false) (search rules);
+}
 
 pub returns-in-26 : goal.returns-in-26
-returns-in-26 c = record { called = row_sleepms c.args.call.number c.args.call.args c.args.self.now.state _ c.in-26.is (sym c.is_built.ensures ∙ c.if-not-is_built.false) (search rules) }
+returns-in-26 c = record {
+  called = row_sleepms c.args.call.number c.args.call.args c.args.self.now.state _ c.in-26.is
+      (sym c.is_built.ensures ∙ c.if-not-is_built.false) (search rules);
+}
 
 pub returns-in-27 : goal.returns-in-27
-returns-in-27 c = record { called = row_clktime c.args.call.number c.args.call.args c.args.self.now.state _ c.in-27.is (sym c.is_built.ensures ∙ c.if-not-is_built.false) (search rules) }
+returns-in-27 c = record {
+  called = row_clktime c.args.call.number c.args.call.args c.args.self.now.state _ c.in-27.is
+      (sym c.is_built.ensures ∙ c.if-not-is_built.false) (search rules);
+}

@@ -12,7 +12,8 @@ returns c =
     let s = (kernel_state c.self.inside).state in
     let u = c.delete_semaphore-released.new.self in
     record {
-      semdelete = ap (λ d. came_to d (Returns (pos 0))) (c.release.ensures.released ∙ ap (λ l. releasing (negsuc 0) l u s) c.as_slice.ensures.value)
+      semdelete = ap (λ d. came_to d (Returns (pos 0)))
+          (c.release.ensures.released ∙ ap (λ l. releasing (negsuc 0) l u s) c.as_slice.ensures.value)
           ∙ semdelete_is s c.in-Some.sem c.args.word c.delete_semaphore-released.result.items u c.in-Some.ensures.named c.in-Some.ensures.good c.delete_semaphore-released.ensures.released c.delete_semaphore-released.ensures.deleted
           ∙ ap (λ (d : CallState). semdelete c.args.word d.state) c.self.view_is;
     }

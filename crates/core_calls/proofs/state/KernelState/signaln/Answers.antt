@@ -18,8 +18,10 @@ returns c =
     let n = nat_abs z in
     let is : c.args.n ≡ pos n = sym (to_z-of_z w32 c.args.n f) ∙ not_negative z (at_least_zero z c.if-n-lt0.false) in
     record {
-      signaln = ap (λ d. came_to d (Returns (pos 0))) (c.release.ensures.released ∙ ap (λ l. releasing (pos 0) l u s) c.as_slice.ensures.value)
-          ∙ signaln_is s c.in-Some.sem c.args.word n c.signaln-released.result.items u c.in-Some.ensures.named c.in-Some.ensures.good (sym c.if-not-has_room.ensures.room) c.signaln-released.ensures.released c.signaln-released.ensures.signalled
+      signaln = ap (λ d. came_to d (Returns (pos 0)))
+          (c.release.ensures.released ∙ ap (λ l. releasing (pos 0) l u s) c.as_slice.ensures.value)
+          ∙ signaln_is s c.in-Some.sem c.args.word n c.signaln-released.result.items u c.in-Some.ensures.named c.in-Some.ensures.good
+          (sym c.if-not-has_room.ensures.room) c.signaln-released.ensures.released c.signaln-released.ensures.signalled
           ∙ ap (λ z. signaln c.args.word z s) (sym is)
           ∙ ap (λ (d : CallState). signaln c.args.word c.args.n d.state) c.self.view_is;
     }

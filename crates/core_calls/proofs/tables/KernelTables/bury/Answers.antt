@@ -17,15 +17,18 @@ pub bury-requires-clause-fits : goal.bury-requires-clause-fits
 bury-requires-clause-fits c = let k = c.self.inside in inside_fits k.lists k.procs (beside k.sems k.slots k.clock) c.self.invariant.inside
 
 pub bury-requires-clause-placed : goal.bury-requires-clause-placed
-bury-requires-clause-placed c = let k = c.self.inside in inside_placed k.lists k.procs (beside k.sems k.slots k.clock) c.self.invariant.inside
+bury-requires-clause-placed c = let k = c.self.inside in inside_placed k.lists k.procs
+    (beside k.sems k.slots k.clock) c.self.invariant.inside
 
 pub invariant_of-self : goal.invariant_of-self
 invariant_of-self c =
     let k = c.self.inside in
     let t = kernel_tables k in
-    let e = sym (ap (λ n. tables_of (lists c.bury.new.lists) c.bury.new.procs (beside c.bury.new.sems c.bury.new.slots n)) c.bury.ensures.same ∙ c.bury.ensures.buried k.clock) in
+    let e = sym (ap (λ n. tables_of (lists c.bury.new.lists) c.bury.new.procs
+    (beside c.bury.new.sems c.bury.new.slots n)) c.bury.ensures.same ∙ c.bury.ensures.buried k.clock) in
     record {
-      inside = subst IsInside e (inside_move t c.args.p no_process None Nowhere c.self.invariant.inside (can_move_free t c.args.p c.bury.ensures.within c.requires.not_null));
+      inside = subst IsInside e (inside_move t c.args.p no_process None Nowhere c.self.invariant.inside
+          (can_move_free t c.args.p c.bury.ensures.within c.requires.not_null));
       queues = c.bury.ensures.queues;
       served = subst AreServed e (served_move t c.args.p no_process None Nowhere c.self.invariant.served tt);
     }

@@ -24,10 +24,12 @@ release_all-released-requires-clause-used c =
     entry_used (lists k.lists) k.procs k.sems c.args.sem k.slots k.clock (subst IsSome (sym g.owner) (search rules))
 
 pub release_all-released-requires-clause-fits : goal.release_all-released-requires-clause-fits
-release_all-released-requires-clause-fits c = let k = c.self.inside in inside_fits k.lists k.procs (beside k.sems k.slots k.clock) c.self.invariant.inside
+release_all-released-requires-clause-fits c = let k = c.self.inside in inside_fits k.lists k.procs
+    (beside k.sems k.slots k.clock) c.self.invariant.inside
 
 -- the waiters are ready and it is given up
-deleted : (c : goal.After-delete) → kernel_tables (record { lists = c.release_all-released.new.lists; procs = c.release_all-released.new.procs; sems = c.delete.new.self; slots = c.self.inside.slots; clock = c.self.inside.clock })
+deleted : (c : goal.After-delete)
+    → kernel_tables (record { lists = c.release_all-released.new.lists; procs = c.release_all-released.new.procs; sems = c.delete.new.self; slots = c.self.inside.slots; clock = c.self.inside.clock })
     ≡ (let t = kernel_tables c.self.inside in with_semaphore c.args.sem no_semaphore (ready_all (semaphore_at t c.args.sem).waiters t))
 deleted c =
     let k = c.self.inside in
@@ -51,6 +53,8 @@ invariant_of-self c =
     let sound : IsSoundTables t = record { inside = c.self.invariant.inside; runs = rw c.self.view_is c.requires.runs } in
     record {
       inside = subst IsInside e (inside_deleted t sem sound (rw c.self.view_is c.requires.good));
-      queues = queues_counted (lists k.lists) (lists c.release_all-released.new.lists) c.delete.new.self.entries c.self.invariant.queues.later (c.release_all-released.ensures.others 129 (λ e. omega (arith, w, e)) (λ e. omega arith)) c.delete.ensures.counts;
+      queues = queues_counted (lists k.lists)
+          (lists c.release_all-released.new.lists) c.delete.new.self.entries c.self.invariant.queues.later
+          (c.release_all-released.ensures.others 129 (λ e. omega (arith, w, e)) (λ e. omega arith)) c.delete.ensures.counts;
       served = subst AreServed e (served_kept t _ (rests_written t x.waiters sem no_semaphore) c.self.invariant.served);
     }

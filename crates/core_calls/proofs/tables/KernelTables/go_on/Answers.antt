@@ -14,13 +14,19 @@ use Rattle.core_calls.proofs.tables.KernelTables.go_on.Goals as goal
 
 pub end_rest-requires : goal.end_rest-requires
 end_rest-requires c =
-    let k = c.self.inside in record { runs = current_in (lists k.lists) k.procs (beside k.sems k.slots k.clock) (rw c.self.view_is c.requires.runs) }
+    let k = c.self.inside in record {
+      runs = current_in (lists k.lists) k.procs (beside k.sems k.slots k.clock)
+          (rw c.self.view_is c.requires.runs);
+    }
 
 pub returns : goal.returns
 returns c =
     let k = c.self.inside in
     let b = beside k.sems k.slots k.clock in
-    record { goes_on = rw (← c.self.view_is) (c.end_rest.ensures.goes_on (lists k.lists) b (inside_fits k.lists k.procs b c.self.invariant.inside)) }
+    record {
+      goes_on = rw (← c.self.view_is)
+          (c.end_rest.ensures.goes_on (lists k.lists) b (inside_fits k.lists k.procs b c.self.invariant.inside));
+    }
 
 pub invariant_of-self : goal.invariant_of-self
 invariant_of-self c =
@@ -31,5 +37,6 @@ invariant_of-self c =
     record {
       inside = subst IsInside e (inside_goes_on t (message_at t t.current) c.self.invariant.inside (rw c.self.view_is c.requires.runs));
       queues = c.self.invariant.queues;
-      served = subst AreServed e (served_move t t.current (record (process_at t t.current) { rest = Nothing }) (message_at t t.current) Nowhere c.self.invariant.served tt);
+      served = subst AreServed e (served_move t t.current (record (process_at t t.current) { rest = Nothing })
+          (message_at t t.current) Nowhere c.self.invariant.served tt);
     }

@@ -14,13 +14,17 @@ use Rattle.core_calls.proofs.Served.{served_move}
 use Rattle.core_calls.proofs.tables.KernelTables.listen.Goals as goal
 
 pub block_current-requires-clause-runs : goal.block_current-requires-clause-runs
-block_current-requires-clause-runs c = let k = c.self.inside in current_in (lists k.lists) k.procs (beside k.sems k.slots k.clock) (rw c.self.view_is c.requires.runs)
+block_current-requires-clause-runs c = let k = c.self.inside in current_in (lists k.lists) k.procs (beside k.sems k.slots k.clock)
+    (rw c.self.view_is c.requires.runs)
 
 pub returns : goal.returns
 returns c =
     let k = c.self.inside in
     let b = beside k.sems k.slots k.clock in
-    record { listens = rw (← c.self.view_is) (c.block_current.ensures.blocked (lists k.lists) b (inside_fits k.lists k.procs b c.self.invariant.inside)) }
+    record {
+      listens = rw (← c.self.view_is)
+          (c.block_current.ensures.blocked (lists k.lists) b (inside_fits k.lists k.procs b c.self.invariant.inside));
+    }
 
 pub invariant_of-self : goal.invariant_of-self
 invariant_of-self c =
@@ -30,7 +34,10 @@ invariant_of-self c =
     let e = sym (c.block_current.ensures.blocked (lists k.lists) b (inside_fits k.lists k.procs b c.self.invariant.inside)) in
     let sound : IsSoundTables t = record { inside = c.self.invariant.inside; runs = rw c.self.view_is c.requires.runs } in
     record {
-      inside = subst IsInside e (inside_blocked t state.Receiving rest.Receive Nowhere sound (rw c.self.view_is c.requires.not_null) (λ f. cc) (refl, refl, refl) tt (refl, rw c.self.view_is c.requires.none));
+      inside = subst IsInside e (inside_blocked t state.Receiving rest.Receive Nowhere sound (rw c.self.view_is c.requires.not_null)
+          (λ f. cc) (refl, refl, refl) tt (refl, rw c.self.view_is c.requires.none));
       queues = c.self.invariant.queues;
-      served = subst AreServed e (served_move t t.current (record (process_at t t.current) { state = state.Receiving; rest = rest.Receive }) (message_at t t.current) Nowhere c.self.invariant.served tt);
+      served = subst AreServed e (served_move t t.current
+          (record (process_at t t.current) { state = state.Receiving; rest = rest.Receive })
+          (message_at t t.current) Nowhere c.self.invariant.served tt);
     }

@@ -31,8 +31,11 @@ returns c =
     let p = c.args.p in
     let f : SFits w16 c.args.priority = search rules in
     record {
-      made = rw (c.clear.ensures.slots, ← c.self.view_is) (c.make.ensures.made (lists k.lists) b None (inside_fits k.lists k.procs b c.self.invariant.inside)
-          ∙ ap (λ n. record (move_to p (new_process (padded c.args.name.now) n c.args.parent c.args.stack.0 c.args.stack.1) None Nowhere t) { last_process = p }) (to_z-of_z w16 c.args.priority f));
+      made = rw (c.clear.ensures.slots, ← c.self.view_is)
+          (c.make.ensures.made (lists k.lists) b None (inside_fits k.lists k.procs b c.self.invariant.inside)
+          ∙ ap (λ n. record (move_to p (new_process
+          (padded c.args.name.now) n c.args.parent c.args.stack.0 c.args.stack.1) None Nowhere t) { last_process = p })
+          (to_z-of_z w16 c.args.priority f));
     }
 
 pub invariant_of-self : goal.invariant_of-self
@@ -44,7 +47,8 @@ invariant_of-self c =
     let x = new_process (padded c.args.name.now) (to_z w16 (of_z w16 c.args.priority)) c.args.parent c.args.stack.0 c.args.stack.1 in
     let within : c.args.p < 64 = (let i = c.index.ensures.bound in let j = c.index.ensures.index in omega (arith, i, j)) in
     record {
-      inside = rw c.clear.ensures.slots (subst IsInside e (inside_made t c.args.p x c.self.invariant.inside within (rw c.self.view_is c.requires.free) refl refl));
+      inside = rw c.clear.ensures.slots
+          (subst IsInside e (inside_made t c.args.p x c.self.invariant.inside within (rw c.self.view_is c.requires.free) refl refl));
       queues = c.self.invariant.queues;
       served = rw c.clear.ensures.slots (subst AreServed e (served_made t c.args.p x c.self.invariant.served tt));
     }

@@ -15,7 +15,13 @@ invariant_of-self c =
     let found = c.create.result in
     let e = sym (c.create.ensures.made (lists k.lists) k.procs k.slots k.clock c.self.invariant.queues.counts) in
     record {
-      inside = subst IsInside e (inside_made found c.args.owner _ t c.self.invariant.inside (c.create.ensures.found (lists k.lists) k.procs k.slots k.clock) c.requires.no_device);
-      queues = record { counts = c.create.ensures.counts (lists k.lists) c.self.invariant.queues.counts; later = c.self.invariant.queues.later };
-      served = subst AreServed e (served_kept t (with_made found c.args.owner _ t) (rests_made found c.args.owner _ t) c.self.invariant.served);
+      inside = subst IsInside e (inside_made found c.args.owner _ t c.self.invariant.inside
+          (c.create.ensures.found (lists k.lists) k.procs k.slots k.clock) c.requires.no_device);
+      queues = record {
+        counts = c.create.ensures.counts
+            (lists k.lists) c.self.invariant.queues.counts;
+        later = c.self.invariant.queues.later;
+      };
+      served = subst AreServed e (served_kept t (with_made found c.args.owner _ t)
+          (rests_made found c.args.owner _ t) c.self.invariant.served);
     }

@@ -14,10 +14,12 @@ use Rattle.core_calls.proofs.Starts.{served_start}
 use Rattle.core_calls.proofs.tables.KernelTables.new.Goals as goal
 
 -- they are the tables at the start
-starts : (c : goal.After-new-5) → kernel_tables (record { lists = c.in_ok-lists.lists; procs = c.in_ok-procs.procs; sems = c.in_ok-sems.sems; slots = c.in_ok-slots.slots; clock = c.new-5.result }) ≡ null_tables
+starts : (c : goal.After-new-5)
+    → kernel_tables (record { lists = c.in_ok-lists.lists; procs = c.in_ok-procs.procs; sems = c.in_ok-sems.sems; slots = c.in_ok-slots.slots; clock = c.new-5.result }) ≡ null_tables
 starts c =
     let b : beside c.in_ok-sems.sems c.in_ok-slots.slots c.new-5.result ≡ first_beside
-    = ap (λ m. beside c.in_ok-sems.sems m c.new-5.result) c.in_ok-slots.ensures.starts ∙ ap (beside c.in_ok-sems.sems null_tables.messages) c.new-5.ensures.starts ∙ c.in_ok-sems.ensures.beside in
+    = ap (λ m. beside c.in_ok-sems.sems m c.new-5.result) c.in_ok-slots.ensures.starts
+    ∙ ap (beside c.in_ok-sems.sems null_tables.messages) c.new-5.ensures.starts ∙ c.in_ok-sems.ensures.beside in
     rw (c.in_ok-lists.ensures.empty, c.in_ok-procs.ensures.starts) (ap (tables_of (replicate 130 []) first_table) b ∙ tables_start)
 
 pub invariant_of-result : goal.invariant_of-result
@@ -26,7 +28,11 @@ invariant_of-result c =
     let e = starts c in
     record {
       inside = subst IsInside (sym e) inside_null;
-      queues = record { counts = subst C (sym c.in_ok-lists.ensures.empty) c.in_ok-sems.ensures.counts; later = subst WakesLater (sym c.in_ok-lists.ensures.empty) c.new-5.ensures.later };
+      queues = record {
+        counts = subst C (sym c.in_ok-lists.ensures.empty) c.in_ok-sems.ensures.counts;
+        later = subst WakesLater
+            (sym c.in_ok-lists.ensures.empty) c.new-5.ensures.later;
+      };
       served = subst AreServed (sym e) served_start;
     }
 

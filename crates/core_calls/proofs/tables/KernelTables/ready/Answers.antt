@@ -15,13 +15,15 @@ use Rattle.core_calls.proofs.Served.{rests_ready, served_kept}
 use Rattle.core_calls.proofs.tables.KernelTables.ready.Goals as goal
 
 pub ready_defer-requires-clause-fits : goal.ready_defer-requires-clause-fits
-ready_defer-requires-clause-fits c = let k = c.self.inside in inside_fits k.lists k.procs (beside k.sems k.slots k.clock) c.self.invariant.inside
+ready_defer-requires-clause-fits c = let k = c.self.inside in inside_fits k.lists k.procs
+    (beside k.sems k.slots k.clock) c.self.invariant.inside
 
 pub ready_defer-requires-clause-absent : goal.ready_defer-requires-clause-absent
 ready_defer-requires-clause-absent c =
     let k = c.self.inside in
     let h : state_at (kernel_tables k) c.args.p ≡ Suspended = rw c.self.view_is c.requires.suspended in
-    suspended_nowhere (lists k.lists) k.procs.processes c.args.p (inside_fits k.lists k.procs (beside k.sems k.slots k.clock) c.self.invariant.inside)
+    suspended_nowhere (lists k.lists) k.procs.processes c.args.p
+    (inside_fits k.lists k.procs (beside k.sems k.slots k.clock) c.self.invariant.inside)
     (sym (state_in (lists k.lists) k.procs (beside k.sems k.slots k.clock) c.args.p) ∙ h)
 
 pub invariant_of-self : goal.invariant_of-self
@@ -31,6 +33,7 @@ invariant_of-self c =
     let e = sym (c.ready_defer.ensures.readied (beside k.sems k.slots k.clock)) in
     record {
       inside = subst IsInside e (inside_resumed t c.args.p c.self.invariant.inside (rw c.self.view_is c.requires.suspended));
-      queues = queues_kept (lists k.lists) (lists c.ready_defer.new.lists) k.sems.entries c.self.invariant.queues c.ready_defer.ensures.others;
+      queues = queues_kept (lists k.lists)
+          (lists c.ready_defer.new.lists) k.sems.entries c.self.invariant.queues c.ready_defer.ensures.others;
       served = subst AreServed e (served_kept t (ready c.args.p t) (rests_ready t c.args.p) c.self.invariant.served);
     }

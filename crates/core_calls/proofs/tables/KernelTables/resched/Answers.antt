@@ -12,7 +12,10 @@ use Rattle.core_calls.proofs.Served.{rests_resched, served_kept}
 use Rattle.core_calls.proofs.tables.KernelTables.resched.Goals as goal
 
 pub resched-requires : goal.resched-requires
-resched-requires c = let k = c.self.inside in record { fits = inside_fits k.lists k.procs (beside k.sems k.slots k.clock) c.self.invariant.inside }
+resched-requires c = let k = c.self.inside in record {
+  fits = inside_fits k.lists k.procs
+      (beside k.sems k.slots k.clock) c.self.invariant.inside;
+}
 
 pub invariant_of-self : goal.invariant_of-self
 invariant_of-self c =

@@ -19,7 +19,8 @@ release_all-requires-clause-used c =
     entry_used (lists k.lists) k.procs k.sems c.args.sem k.slots k.clock (subst U (sym c.self.view_is) c.requires.used)
 
 pub release_all-requires-clause-fits : goal.release_all-requires-clause-fits
-release_all-requires-clause-fits c = let k = c.self.inside in inside_fits k.lists k.procs (beside k.sems k.slots k.clock) c.self.invariant.inside
+release_all-requires-clause-fits c = let k = c.self.inside in inside_fits k.lists k.procs
+    (beside k.sems k.slots k.clock) c.self.invariant.inside
 
 pub invariant_of-self : goal.invariant_of-self
 invariant_of-self c =
@@ -34,6 +35,7 @@ invariant_of-self c =
     let sound : IsSoundTables t = record { inside = c.self.invariant.inside; runs = rw c.self.view_is c.requires.runs } in
     record {
       inside = subst IsInside e (inside_reset t sem _ sound w used);
-      queues = queues_counted (lists k.lists) (lists c.release_all.new.lists) c.release_all.new.self.entries c.self.invariant.queues.later (c.release_all.ensures.others 129 (λ e. omega (arith, w, e)) (λ e. omega arith)) c.release_all.ensures.counts;
+      queues = queues_counted (lists k.lists) (lists c.release_all.new.lists) c.release_all.new.self.entries c.self.invariant.queues.later
+          (c.release_all.ensures.others 129 (λ e. omega (arith, w, e)) (λ e. omega arith)) c.release_all.ensures.counts;
       served = subst AreServed e (served_kept t _ (rests_written t x.waiters sem _) c.self.invariant.served);
     }

@@ -15,19 +15,24 @@ use Rattle.core_calls.proofs.Served.{rests_sent, served_kept}
 use Rattle.core_calls.proofs.tables.KernelTables.send_to.Goals as goal
 
 pub deliver-requires-clause-fits : goal.deliver-requires-clause-fits
-deliver-requires-clause-fits c = let k = c.self.inside in inside_fits k.lists k.procs (beside k.sems k.slots k.clock) c.self.invariant.inside
+deliver-requires-clause-fits c = let k = c.self.inside in inside_fits k.lists k.procs
+    (beside k.sems k.slots k.clock) c.self.invariant.inside
 
 pub deliver-requires-clause-placed : goal.deliver-requires-clause-placed
-deliver-requires-clause-placed c = let k = c.self.inside in inside_placed k.lists k.procs (beside k.sems k.slots k.clock) c.self.invariant.inside
+deliver-requires-clause-placed c = let k = c.self.inside in inside_placed k.lists k.procs
+    (beside k.sems k.slots k.clock) c.self.invariant.inside
 
 pub invariant_of-self : goal.invariant_of-self
 invariant_of-self c =
     let k = c.self.inside in
     let d = with_these (kernel_tables k) in
     let e = ap (λ (d : CallState). d.state.tables) (c.deliver.ensures.sent d k.sems k.clock refl)
-    ∙ ap (λ n. tables_of (lists c.deliver.new.lists) c.deliver.new.procs (beside k.sems c.deliver.new.slots n)) (sym c.deliver.ensures.same) in
+    ∙ ap (λ n. tables_of (lists c.deliver.new.lists) c.deliver.new.procs (beside k.sems c.deliver.new.slots n))
+    (sym c.deliver.ensures.same) in
     record {
       inside = subst IsInside e (inside_sent c.args.p c.args.m d c.self.invariant.inside);
-      queues = queues_later (lists k.lists) (lists c.deliver.new.lists) k.sems.entries c.self.invariant.queues c.deliver.ensures.others c.deliver.ensures.later;
-      served = subst AreServed e (served_kept (kernel_tables k) (sent c.args.p c.args.m d).state.tables (rests_sent c.args.p c.args.m d) c.self.invariant.served);
+      queues = queues_later (lists k.lists)
+          (lists c.deliver.new.lists) k.sems.entries c.self.invariant.queues c.deliver.ensures.others c.deliver.ensures.later;
+      served = subst AreServed e (served_kept (kernel_tables k) (sent c.args.p c.args.m d).state.tables
+          (rests_sent c.args.p c.args.m d) c.self.invariant.served);
     }

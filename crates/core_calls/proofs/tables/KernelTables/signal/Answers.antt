@@ -34,6 +34,7 @@ invariant_of-self c =
     let used = used_owner (semaphore_at t sem).owner (subst U (sym c.self.view_is) c.requires.used) in
     record {
       inside = subst IsInside e (inside_after_signal t sem r (c.signal.ensures.answer k.slots k.clock) c.self.invariant.inside w used);
-      queues = queues_counted (lists k.lists) (lists c.signal.new.lists) c.signal.new.self.entries c.self.invariant.queues.later (c.signal.ensures.others 129 (λ e. omega (arith, w, e)) (λ e. omega arith)) c.signal.ensures.counts;
+      queues = queues_counted (lists k.lists) (lists c.signal.new.lists) c.signal.new.self.entries c.self.invariant.queues.later
+          (c.signal.ensures.others 129 (λ e. omega (arith, w, e)) (λ e. omega arith)) c.signal.ensures.counts;
       served = subst AreServed e (served_kept t (after_signal r sem t) (rests_after_signal t sem r) c.self.invariant.served);
     }

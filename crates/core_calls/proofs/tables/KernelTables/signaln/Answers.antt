@@ -25,7 +25,8 @@ signaln-requires-clause-used c =
     entry_used (lists k.lists) k.procs k.sems c.args.sem k.slots k.clock (subst U (sym c.self.view_is) c.requires.used)
 
 pub signaln-requires-clause-fits : goal.signaln-requires-clause-fits
-signaln-requires-clause-fits c = let k = c.self.inside in inside_fits k.lists k.procs (beside k.sems k.slots k.clock) c.self.invariant.inside
+signaln-requires-clause-fits c = let k = c.self.inside in inside_fits k.lists k.procs
+    (beside k.sems k.slots k.clock) c.self.invariant.inside
 
 pub signaln-requires-clause-room : goal.signaln-requires-clause-room
 signaln-requires-clause-room c =
@@ -36,7 +37,9 @@ signaln-requires-clause-room c =
     let R : Tables → Type 0 = λ t. int_lt most_tokens (count_of (semaphore_at t sem) +ℤ pos c.args.n) ≡ false in
     let used = used_owner (semaphore_at t sem).owner (subst U (sym c.self.view_is) c.requires.used) in
     let w = semaphore_within t sem c.self.invariant.inside.semaphores used in
-    ap (λ z. int_lt most_tokens (z +ℤ pos c.args.n)) (sym (count_at (lists k.lists) k.procs k.sems sem k.slots k.clock c.self.invariant.queues.counts w)) ∙ subst R (sym c.self.view_is) c.requires.room
+    ap (λ z. int_lt most_tokens (z +ℤ pos c.args.n))
+    (sym (count_at (lists k.lists) k.procs k.sems sem k.slots k.clock c.self.invariant.queues.counts w))
+    ∙ subst R (sym c.self.view_is) c.requires.room
 
 pub invariant_of-self : goal.invariant_of-self
 invariant_of-self c =
@@ -53,6 +56,8 @@ invariant_of-self c =
     let u = ready_all (take n x.waiters) t in
     record {
       inside = subst IsInside e (inside_signaln t sem n sound w used);
-      queues = queues_counted (lists k.lists) (lists c.signaln.new.lists) c.signaln.new.self.entries c.self.invariant.queues.later (c.signaln.ensures.others 129 (λ e. omega (arith, w, e)) (λ e. omega arith)) c.signaln.ensures.counts;
-      served = subst AreServed e (served_kept t (with_tokens sem (x.tokens + (n - length x.waiters)) u) (rests_written t (take n x.waiters) sem _) c.self.invariant.served);
+      queues = queues_counted (lists k.lists) (lists c.signaln.new.lists) c.signaln.new.self.entries c.self.invariant.queues.later
+          (c.signaln.ensures.others 129 (λ e. omega (arith, w, e)) (λ e. omega arith)) c.signaln.ensures.counts;
+      served = subst AreServed e (served_kept t (with_tokens sem (x.tokens + (n - length x.waiters)) u)
+          (rests_written t (take n x.waiters) sem _) c.self.invariant.served);
     }

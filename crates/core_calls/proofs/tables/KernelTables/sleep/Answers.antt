@@ -18,15 +18,19 @@ use Rattle.core_calls.proofs.Served.{served_move}
 use Rattle.core_calls.proofs.tables.KernelTables.sleep.Goals as goal
 
 pub sleep_current-requires-clause-runs : goal.sleep_current-requires-clause-runs
-sleep_current-requires-clause-runs c = let k = c.self.inside in current_in (lists k.lists) k.procs (beside k.sems k.slots k.clock) (rw c.self.view_is c.requires.runs)
+sleep_current-requires-clause-runs c = let k = c.self.inside in current_in (lists k.lists) k.procs (beside k.sems k.slots k.clock)
+    (rw c.self.view_is c.requires.runs)
 
 pub sleep_current-requires-clause-fits : goal.sleep_current-requires-clause-fits
-sleep_current-requires-clause-fits c = let k = c.self.inside in inside_fits k.lists k.procs (beside k.sems k.slots k.clock) c.self.invariant.inside
+sleep_current-requires-clause-fits c = let k = c.self.inside in inside_fits k.lists k.procs
+    (beside k.sems k.slots k.clock) c.self.invariant.inside
 
 -- it goes to the sleepers
-sleeps : (c : goal.After-sleep_current) → kernel_tables (record { lists = c.sleep_current.new.lists; procs = c.sleep_current.new.procs; sems = c.self.inside.sems; slots = c.self.inside.slots; clock = c.sleep_current.new.clock })
+sleeps : (c : goal.After-sleep_current)
+    → kernel_tables (record { lists = c.sleep_current.new.lists; procs = c.sleep_current.new.procs; sems = c.self.inside.sems; slots = c.self.inside.slots; clock = c.sleep_current.new.clock })
     ≡ (let t = kernel_tables c.self.inside in
-    move_to t.current (record (process_at t t.current) { state = state.Sleeping; rest = rest.Nothing }) (message_at t t.current) (InSleepers (wake_tick t.ticks c.args.delay)) t)
+    move_to t.current (record (process_at t t.current) { state = state.Sleeping; rest = rest.Nothing }) (message_at t t.current)
+    (InSleepers (wake_tick t.ticks c.args.delay)) t)
 sleeps c =
     let f : SFits w32 c.args.delay = search rules in
     let k = c.self.inside in
@@ -48,7 +52,11 @@ invariant_of-self c =
     let e = sym (sleeps c) in
     let sound : IsSoundTables t = record { inside = c.self.invariant.inside; runs = rw c.self.view_is c.requires.runs } in
     record {
-      inside = subst IsInside e (inside_blocked t state.Sleeping rest.Nothing (InSleepers (wake_tick t.ticks c.args.delay)) sound (rw c.self.view_is c.requires.not_null) (λ f. cc) (refl, refl, refl) (later_tick t.ticks c.args.delay c.requires.longer) refl);
-      queues = queues_later (lists k.lists) (lists c.sleep_current.new.lists) k.sems.entries c.self.invariant.queues (λ q m n. c.sleep_current.ensures.others q n) c.sleep_current.ensures.later;
-      served = subst AreServed e (served_move t t.current (record (process_at t t.current) { state = state.Sleeping; rest = rest.Nothing }) (message_at t t.current) (InSleepers (wake_tick t.ticks c.args.delay)) c.self.invariant.served tt);
+      inside = subst IsInside e (inside_blocked t state.Sleeping rest.Nothing (InSleepers (wake_tick t.ticks c.args.delay)) sound
+          (rw c.self.view_is c.requires.not_null) (λ f. cc) (refl, refl, refl) (later_tick t.ticks c.args.delay c.requires.longer) refl);
+      queues = queues_later (lists k.lists) (lists c.sleep_current.new.lists) k.sems.entries c.self.invariant.queues
+          (λ q m n. c.sleep_current.ensures.others q n) c.sleep_current.ensures.later;
+      served = subst AreServed e (served_move t t.current
+          (record (process_at t t.current) { state = state.Sleeping; rest = rest.Nothing }) (message_at t t.current)
+          (InSleepers (wake_tick t.ticks c.args.delay)) c.self.invariant.served tt);
     }

@@ -14,7 +14,8 @@ use Rattle.core_calls.proofs.Served.{served_move}
 use Rattle.core_calls.proofs.tables.KernelTables.suspend_ready.Goals as goal
 
 pub suspend_ready-requires-clause-fits : goal.suspend_ready-requires-clause-fits
-suspend_ready-requires-clause-fits c = let k = c.self.inside in inside_fits k.lists k.procs (beside k.sems k.slots k.clock) c.self.invariant.inside
+suspend_ready-requires-clause-fits c = let k = c.self.inside in inside_fits k.lists k.procs
+    (beside k.sems k.slots k.clock) c.self.invariant.inside
 
 pub suspend_ready-requires-clause-ready : goal.suspend_ready-requires-clause-ready
 suspend_ready-requires-clause-ready c =
@@ -30,6 +31,8 @@ invariant_of-self c =
     let e = sym (c.suspend_ready.ensures.suspended (beside k.sems k.slots k.clock)) in
     record {
       inside = subst IsInside e (inside_suspended t p c.self.invariant.inside c.requires.not_null (rw c.self.view_is c.requires.ready));
-      queues = queues_kept (lists k.lists) (lists c.suspend_ready.new.lists) k.sems.entries c.self.invariant.queues c.suspend_ready.ensures.others;
-      served = subst AreServed e (served_move t p (in_state Suspended (process_at t p)) (message_at t p) Nowhere c.self.invariant.served (c.self.invariant.served.rests p));
+      queues = queues_kept (lists k.lists)
+          (lists c.suspend_ready.new.lists) k.sems.entries c.self.invariant.queues c.suspend_ready.ensures.others;
+      served = subst AreServed e (served_move t p (in_state Suspended (process_at t p)) (message_at t p) Nowhere c.self.invariant.served
+          (c.self.invariant.served.rests p));
     }

@@ -21,7 +21,10 @@ pub returns : goal.returns
 returns c =
     let k = c.self.inside in
     let b = beside k.sems k.slots k.clock in
-    record { suspended = rw (← c.self.view_is) (c.block_current.ensures.blocked (lists k.lists) b (inside_fits k.lists k.procs b c.self.invariant.inside)) }
+    record {
+      suspended = rw (← c.self.view_is)
+          (c.block_current.ensures.blocked (lists k.lists) b (inside_fits k.lists k.procs b c.self.invariant.inside));
+    }
 
 pub invariant_of-self : goal.invariant_of-self
 invariant_of-self c =
@@ -30,7 +33,9 @@ invariant_of-self c =
     let b = beside k.sems k.slots k.clock in
     let e = sym (c.block_current.ensures.blocked (lists k.lists) b (inside_fits k.lists k.procs b c.self.invariant.inside)) in
     record {
-      inside = subst IsInside e (inside_self_suspended t c.self.invariant.inside (rw c.self.view_is c.requires.runs) (rw c.self.view_is c.requires.not_null));
+      inside = subst IsInside e (inside_self_suspended t c.self.invariant.inside (rw c.self.view_is c.requires.runs)
+          (rw c.self.view_is c.requires.not_null));
       queues = c.self.invariant.queues;
-      served = subst AreServed e (served_move t t.current (record (process_at t t.current) { state = Suspended; rest = SelfSuspend }) (message_at t t.current) Nowhere c.self.invariant.served tt);
+      served = subst AreServed e (served_move t t.current (record (process_at t t.current) { state = Suspended; rest = SelfSuspend })
+          (message_at t t.current) Nowhere c.self.invariant.served tt);
     }

@@ -14,13 +14,18 @@ use Rattle.core_calls.proofs.tables.KernelTables.take_message.Goals as goal
 
 pub take_current-requires : goal.take_current-requires
 take_current-requires c =
-    let k = c.self.inside in record { runs = current_in (lists k.lists) k.procs (beside k.sems k.slots k.clock) (rw c.self.view_is c.requires.runs) }
+    let k = c.self.inside in record {
+      runs = current_in (lists k.lists) k.procs (beside k.sems k.slots k.clock)
+          (rw c.self.view_is c.requires.runs);
+    }
 
 pub returns-then-is_some-clause-taken : goal.returns-then-is_some-clause-taken
 returns-then-is_some-clause-taken c =
     let k = c.self.inside in
     let b = beside k.sems k.slots k.clock in
-    if_some c.message_of-message.result _ (rw (← c.self.view_is) (c.take_current.ensures.taken (lists k.lists) k.sems k.clock (inside_fits k.lists k.procs b c.self.invariant.inside)))
+    if_some c.message_of-message.result _
+    (rw (← c.self.view_is) (c.take_current.ensures.taken (lists k.lists) k.sems k.clock
+    (inside_fits k.lists k.procs b c.self.invariant.inside)))
 
 pub invariant_of-self : goal.invariant_of-self
 invariant_of-self c =
@@ -31,5 +36,6 @@ invariant_of-self c =
     record {
       inside = subst IsInside e (inside_goes_on t None c.self.invariant.inside (rw c.self.view_is c.requires.runs));
       queues = c.self.invariant.queues;
-      served = subst AreServed e (served_move t t.current (record (process_at t t.current) { rest = Nothing }) None Nowhere c.self.invariant.served tt);
+      served = subst AreServed e (served_move t t.current
+          (record (process_at t t.current) { rest = Nothing }) None Nowhere c.self.invariant.served tt);
     }

@@ -25,7 +25,8 @@ tick-due-requires-clause-few c =
     few_ticks (lists k.lists) k.procs (beside k.sems k.slots k.clock) 4294967295 (subst F (sym c.self.view_is) c.requires.few)
 
 pub wake-requires-clause-fits : goal.wake-requires-clause-fits
-wake-requires-clause-fits c = let k = c.self.inside in c.tick-due.ensures.fits k.procs.processes (inside_fits k.lists k.procs (beside k.sems k.slots k.clock) c.self.invariant.inside)
+wake-requires-clause-fits c = let k = c.self.inside in c.tick-due.ensures.fits k.procs.processes
+    (inside_fits k.lists k.procs (beside k.sems k.slots k.clock) c.self.invariant.inside)
 
 -- they are those whose tick has come
 found : (c : goal.After-spend) → c.tick-due.result.items ≡ (let t = kernel_tables c.self.inside in due (t.ticks + 1) t.sleepers)
@@ -33,7 +34,8 @@ unfolding tables_of
 found c = c.tick-due.ensures.due
 
 -- the tables are a tick later
-later : (c : goal.After-spend) → kernel_tables (record { lists = c.spend.new.lists; procs = c.spend.new.procs; sems = c.self.inside.sems; slots = c.self.inside.slots; clock = c.tick-due.new.self })
+later : (c : goal.After-spend) → kernel_tables
+    (record { lists = c.spend.new.lists; procs = c.spend.new.procs; sems = c.self.inside.sems; slots = c.self.inside.slots; clock = c.tick-due.new.self })
     ≡ quantum_falls (a_tick_later (are_any c.tick-due.result.items) (ready_all c.tick-due.result.items (kernel_tables c.self.inside)))
 unfolding tables_of
 later c =
@@ -57,12 +59,15 @@ invariant_of-self c =
     let e = sym (later c) in
     let F : List ℕ → Type 0 = λ l. IsSoundTables (a_tick_later owes (ready_all l t)) in
     let sound : IsSoundTables t = record { inside = c.self.invariant.inside; runs = rw c.self.view_is c.requires.runs } in
-    let q = queues_later (lists k.lists) (lists c.tick-due.new.lists) k.sems.entries c.self.invariant.queues (λ q m n. c.tick-due.ensures.others q n) c.tick-due.ensures.later in
+    let q = queues_later (lists k.lists) (lists c.tick-due.new.lists) k.sems.entries c.self.invariant.queues
+    (λ q m n. c.tick-due.ensures.others q n) c.tick-due.ensures.later in
     let w = queues_kept (lists c.tick-due.new.lists) (lists c.wake.new.lists) k.sems.entries q c.wake.ensures.others in
     record {
-      inside = subst IsInside e (sound_quantum (a_tick_later owes (ready_all ps t)) (subst F (sym (found c)) (sound_later owes t sound))).inside;
+      inside = subst IsInside e (sound_quantum (a_tick_later owes (ready_all ps t))
+          (subst F (sym (found c)) (sound_later owes t sound))).inside;
       queues = queues_kept (lists c.wake.new.lists) (lists c.spend.new.lists) k.sems.entries w c.spend.ensures.others;
-      served = subst AreServed e (served_kept t (quantum_falls (a_tick_later owes (ready_all ps t))) (rests_tick ps owes t) c.self.invariant.served);
+      served = subst AreServed e (served_kept t (quantum_falls (a_tick_later owes (ready_all ps t)))
+          (rests_tick ps owes t) c.self.invariant.served);
     }
 
 pub returns : goal.returns
