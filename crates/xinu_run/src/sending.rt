@@ -1,4 +1,4 @@
-//! What an action on a disk sends: lines on Out, and a file.
+//! What `asm` and an action on a disk send: lines on Out, and a file.
 
 ghost use Rattle.std.specs.Prelude.{◌≡◌, ◌≢◌, ◌∷◌, [], None, option_map, if◌then◌else◌};
 ghost use Rattle.host_port.specs.Outside.{naming};

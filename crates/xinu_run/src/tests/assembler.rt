@@ -91,6 +91,7 @@ fn a_text_is_assembled_to_its_words(rt: HostRuntime) -> Result<(), Fail> {
     for word in TWO_CALLS_IMAGE {
         words.extend_from_slice(&word.to_le_bytes())?;
     }
+    assert_eq!(rt; words.len(), 48);
     assert_eq!(rt; image.as_slice(), words.as_slice());
     let elf = assembled(rt.alloc(), &ASM_ELF, TWO_CALLS)?;
     assert_eq!(rt; elf.len(), 164);

@@ -38,10 +38,12 @@ fn with_byte(at: usize, byte: u8) -> [u8; 100]
     file
 }
 
-// The program with the header of its segment several times, at most 255, and then a note.
-fn with_segments(alloc: Global, count: u8, note: &[u8]) -> Result<Vec<u8>, Fail> {
-    let mut file = Vec::from_slice(alloc, &PROGRAM[..52])?;
-    for _ in 0..count {
+// The program with this many headers of segments: that of its own several times, and then perhaps that of a note.
+fn with_segments(alloc: Global, headers: u8, loaded: u8, note: &[u8]) -> Result<Vec<u8>, Fail> {
+    let mut file = Vec::from_slice(alloc, &PROGRAM[..44])?;
+    file.push(headers)?;
+    file.extend_from_slice(&PROGRAM[45..52])?;
+    for _ in 0..loaded {
         file.extend_from_slice(&PROGRAM[52..84])?;
     }
     file.extend_from_slice(note)?;
@@ -61,14 +63,9 @@ fn an_elf_file_runs(rt: HostRuntime) -> Result<(), Fail> {
 
 #[test]
 fn the_first_fault_of_an_elf_file_is_told(rt: HostRuntime) -> Result<(), Fail> {
-    let mut nine = with_segments(rt.alloc(), 9, b"")?;
-    let mut two = with_segments(rt.alloc(), 2, b"")?;
-    let mut noted = with_segments(rt.alloc(), 1, &PRIORITY_0)?;
-    for (file, count) in [(&mut nine, 9), (&mut two, 2), (&mut noted, 2)] {
-        if let Some(byte) = file.as_mut_slice().get_mut(44) {
-            *byte = count;
-        }
-    }
+    let nine = with_segments(rt.alloc(), 9, 9, b"")?;
+    let two = with_segments(rt.alloc(), 2, 2, b"")?;
+    let noted = with_segments(rt.alloc(), 2, 1, &PRIORITY_0)?;
     let rows: [(&[u8], &str); 11] = [
         (&PROGRAM[..51], "xinu: image 1 fault 11\n"),
         (&PROGRAM[..4], "xinu: image 1 fault 11\n"),
