@@ -2,6 +2,7 @@ pub mod Consoles
 pub mod Frame
 pub mod HeapCells
 pub mod Lists
+pub mod NameSpaces
 pub mod Ownership
 pub mod Pools
 pub mod Ports

@@ -2,6 +2,7 @@
 pub mod Clock
 pub mod Heap
 pub mod Messages
+pub mod Mounts
 pub mod NamedCalls
 pub mod Played
 pub mod Pools

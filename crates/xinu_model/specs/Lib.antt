@@ -10,6 +10,7 @@ pub mod Isa
 pub mod Machine
 pub mod Memory
 pub mod Messages
+pub mod Names
 pub mod Pools
 pub mod Ports
 pub mod Process
