@@ -7,6 +7,7 @@ pub mod Ownership
 pub mod Pools
 pub mod Ports
 pub mod Preserve
+pub mod RawDisks
 pub mod Results
 pub mod Tables
 pub mod Touches

@@ -9,5 +9,6 @@ pub mod Pools
 pub mod Ports
 pub mod Priorities
 pub mod Processes
+pub mod RawDisks
 pub mod Semaphores
 pub mod Typing

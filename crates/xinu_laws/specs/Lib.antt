@@ -7,6 +7,7 @@ pub mod GivingAway
 pub mod Grants
 pub mod Moves
 pub mod Preserve
+pub mod RawDisks
 pub mod Refusals
 pub mod Repeated
 pub mod Touches

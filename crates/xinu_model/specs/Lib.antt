@@ -14,6 +14,7 @@ pub mod Names
 pub mod Pools
 pub mod Ports
 pub mod Process
+pub mod RawDisk
 pub mod Rows
 pub mod Runs
 pub mod Searches
