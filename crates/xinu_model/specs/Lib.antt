@@ -4,6 +4,7 @@ pub mod Calls
 pub mod Clock
 pub mod Console
 pub mod Events
+pub mod Files
 pub mod Footprints
 pub mod Heap
 pub mod Isa
