@@ -1,5 +1,5 @@
 //! The data that every layer of the kernel speaks of: numbers below a bound, processes and what is left of their calls,
-//! registers, events, calls, the console's modes and items, and the lines of a transcript.
+//! registers, events, calls, the console's modes and items, the modes of files, and the lines of a transcript.
 //!
 //! | What | Promise |
 //! |---|---|
@@ -14,6 +14,7 @@
 mod console;
 mod constants;
 mod events;
+mod files;
 mod lines;
 mod numbers;
 mod processes;
@@ -24,6 +25,7 @@ mod syscalls;
 pub use console::{Item, TtyMode};
 pub use constants::{INITRET, MINSTK, QUANTUM, RAM_SIZE, SYSERR};
 pub use events::{End, Event};
+pub use files::OpenMode;
 pub use lines::{FileMoment, TranscriptLine};
 pub use numbers::{Dev, Pid, PoolId, Port, Sem};
 pub use processes::{PortTicket, Process, Rest, Span, State};

@@ -1,11 +1,14 @@
 pub mod Consoles
+pub mod FileSystems
 pub mod Frame
 pub mod HeapCells
 pub mod Lists
+pub mod NameSpaces
 pub mod Ownership
 pub mod Pools
 pub mod Ports
 pub mod Preserve
+pub mod RawDisks
 pub mod Results
 pub mod Tables
 pub mod Touches

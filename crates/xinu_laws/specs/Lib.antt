@@ -1,12 +1,14 @@
 pub mod Apart
 pub mod Consoles
 pub mod Examples
+pub mod FileEffects
 pub mod Frame
 pub mod FreeCells
 pub mod GivingAway
 pub mod Grants
 pub mod Moves
 pub mod Preserve
+pub mod RawDisks
 pub mod Refusals
 pub mod Repeated
 pub mod Touches

@@ -12,6 +12,9 @@
 //! | [`replies`] | a call that is refused in its own event changes a0 and pc alone, and prints its call and its reply; -1 tells a refusal, except as a value; a deleted semaphore refuses those who wait, and every other release of them answers 0; who waited on a port is refused if and only if it was renewed |
 //! | [`signals`] | n signals at once are n signals, one after another |
 //! | [`console`] | the console by itself stays sound; committed items go after the others and are counted; a transmission sends echo before output, the first of each first; erasing undoes typing; what some typed characters leave |
+//! | [`files`] | files and open devices by themselves stay sound; a refused call changes nothing, and no call another file; writes put what fits and are read back; what some calls answer |
+//! | [`names`] | what a name is mapped to: the mapping ends, and mounts that come later change nothing for a name that is mapped already; what some mounted prefixes map |
+//! | [`raw_disk`] | the raw disk by itself stays sound; requests are served once each, in their order; what a completion does to blocks; what becomes of a killed process's requests |
 //! | [`memory`] | memory comes from the least place and a stack from the greatest, both only from what was free; refused only if there is no such place; the heap keeps its extent |
 //! | [`sharing`] | no address comes to have two owners, unless a process gives away what a pool or a stack has, and then one does |
 //! | [`examples`] | what small systems of processes print, line by line |
@@ -22,10 +25,13 @@
 
 pub mod console;
 pub mod examples;
+pub mod files;
 pub mod footprints;
 pub mod memory;
 pub mod moments;
 pub mod moves;
+pub mod names;
+pub mod raw_disk;
 pub mod replies;
 pub mod sharing;
 pub mod signals;

@@ -1,0 +1,31 @@
+-- Calls on files one after another, and which file a call is about.
+use Rattle.std.specs.Prelude.{ℕ, Bool, List, [], ◌∷◌, ℤ, bytes_eq}
+use Rattle.xinu_model.specs.Files.Calls.{FileCall, Open, Delete, Close, Read, Write, Getc, Putc, Seek, Truncate, Size, effect_on}
+use Rattle.xinu_model.specs.Files.Systems.{FileSystem, open_at, has_open}
+
+-- whether a call names the file of this name, or its device has it open
+abbrev pub is_about : List ℕ → FileCall → FileSystem → Bool
+is_about name (Open other mode) s = bytes_eq other name
+is_about name (Delete other) s = bytes_eq other name
+is_about name (Close d) s = has_open name (open_at s d)
+is_about name (Read d n) s = has_open name (open_at s d)
+is_about name (Write d n) s = has_open name (open_at s d)
+is_about name (Getc d) s = has_open name (open_at s d)
+is_about name (Putc d b) s = has_open name (open_at s d)
+is_about name (Seek d n) s = has_open name (open_at s d)
+is_about name (Truncate d) s = has_open name (open_at s d)
+is_about name (Size d) s = has_open name (open_at s d)
+
+-- a call with the bytes that it writes, if it does
+pub record FileTask : Type 0 where
+  pub call : FileCall
+  pub bytes : List ℕ
+
+-- the replies to calls, and the file system after them
+abbrev pub replies_to : List FileTask → FileSystem → List ℤ
+replies_to [] s = []
+replies_to (t ∷ tasks) s = let e = effect_on t.call t.bytes s in e.reply ∷ replies_to tasks e.system
+
+abbrev pub after_tasks : List FileTask → FileSystem → FileSystem
+after_tasks [] s = s
+after_tasks (t ∷ tasks) s = after_tasks tasks (effect_on t.call t.bytes s).system
