@@ -1,8 +1,7 @@
 -- A walk along a list in which each process stands at most once, and along the ready list. The other lists are in WalkingQueues.antt.
-use Rattle.std.proofs.Common.{◌≡◌, ◌≢◌, ◌∙◌, ℕ, zero, suc, ◌+◌, ◌<◌, ◌≤◌, Bool, true, false, cond, List, [], ◌∷◌, Option, Some, None, ℤ, refl, sym, ap, subst, nat_eq, arith}
-use Rattle.std.proofs.lemmas.Bool.{cond_both, eq-eqb, eqb-true, false≢true, ne_eqb}
+use Rattle.std.proofs.Common.{◌≡◌, ◌≢◌, ◌∙◌, ℕ, suc, ◌<◌, ◌≤◌, Bool, true, false, cond, List, [], ◌∷◌, Option, Some, None, refl, sym, ap, subst, nat_eq, arith}
+use Rattle.std.proofs.lemmas.Bool.{cond_both, eq-eqb, eqb-true, ne_eqb}
 use Rattle.std.specs.Prelude.{IfSome}
-use Rattle.std.specs.List.{AllByRecursion}
 use Rattle.queue_table.specs.Lists.{after_in, Entry, first_process, is_listed, key_in, list_at}
 use Rattle.process_core.specs.Tables.{Beside, ProcessTable, process_in, tables_of}
 use Rattle.xinu_base.specs.declared.processes.Process.{Process}

@@ -1,20 +1,18 @@
 -- A walk along the waiters of a semaphore, and along the sleepers.
-use Rattle.std.proofs.Common.{◌≡◌, ◌≢◌, ◌∙◌, ℕ, zero, suc, ◌+◌, ◌<◌, ◌≤◌, Bool, true, false, cond, List, [], ◌∷◌, get_or, length, map, Option, Some, None, ℤ, pos, negsuc, ◌+ℤ◌, ◌≤ℤ◌, refl, sym, ap, subst, nat_eq, inl, inr, arith}
-use Rattle.std.specs.Prelude.{IfSome, option_map}
-use Rattle.std.proofs.lemmas.Bool.{cases_eq, cond_both, eq-eqb, eqb-true, false≢true, ne_eqb}
-use Rattle.std.proofs.lemmas.Int.{ints}
-use Rattle.process_core.proofs.Inside.{sleepers_counted, times-map, uncounted}
-use Rattle.process_core.proofs.Sleepers.{delays_least}
-use Rattle.process_core.specs.Tables.{numbers, sleepers_of, wake_tick}
+use Rattle.std.proofs.Common.{◌≡◌, ◌∙◌, ℕ, zero, suc, ◌<◌, ◌≤◌, Bool, true, false, cond, List, [], ◌∷◌, get_or, Option, Some, None, refl, sym, ap, nat_eq, inl, inr, arith}
+use Rattle.std.specs.Prelude.{IfSome}
+use Rattle.std.proofs.lemmas.Bool.{cases_eq, eq-eqb, false≢true}
+use Rattle.process_core.proofs.Inside.{times-map, uncounted}
+use Rattle.process_core.specs.Tables.{numbers}
 use Rattle.queue_table.proofs.Laws.{disjoint, place-none}
-use Rattle.queue_table.specs.Lists.{after_in, delays, delays_from, Entry, first_process, is_listed, IsDelta, key_in, key_sum, KeysAtLeast, list_at, place}
+use Rattle.queue_table.specs.Lists.{after_in, Entry, first_process, is_listed, list_at, place}
 use Rattle.queue_table.specs.Table.{lists}
 use Rattle.queue_table.specs.declared.table.QueueTable.{QueueTable}
-use Rattle.xinu_model.specs.Sound.Tables.{count_in, entries_of, IsInside, sleeping_places, total, waiting_places, waits_of}
+use Rattle.xinu_model.specs.Sound.Tables.{count_in, entries_of, IsInside, sleeping_places, total, waiting_places}
 use Rattle.xinu_base.specs.declared.processes.State.{State}
 use Rattle.xinu_base.specs.declared.processes.State.TheVariants.{Free, Current, Ready, Receiving, Sleeping, Suspended, Waiting, Timed}
 use Rattle.xinu_model.specs.Tables.{no_semaphore, Semaphore, semaphore_at, state_at, Tables}
-use Rattle.core_calls.specs.Walks.{entries_from, numbers_from, StandsAt}
+use Rattle.core_calls.specs.Walks.{entries_from, numbers_from}
 use Rattle.core_calls.proofs.Walking.{after_counted, from_first, from_next, Once}
 
 -- a walk along the numbers of a list is one along the list

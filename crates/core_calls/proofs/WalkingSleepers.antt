@@ -1,7 +1,6 @@
 -- A walk along the sleepers, whose ticks are the sums of the differences so far.
 use Rattle.std.proofs.Common.{◌≡◌, ◌≢◌, ◌∙◌, ℕ, suc, ◌+◌, ◌<◌, ◌≤◌, Bool, true, false, cond, List, [], ◌∷◌, map, Option, Some, None, ℤ, pos, negsuc, nat_abs, ◌+ℤ◌, ◌≤ℤ◌, refl, sym, ap, subst, nat_eq, arith}
-use Rattle.std.specs.Prelude.{IfSome}
-use Rattle.std.proofs.lemmas.Bool.{cond_both, eq-eqb, eqb-true, false≢true, ne_eqb}
+use Rattle.std.proofs.lemmas.Bool.{eq-eqb, false≢true, ne_eqb}
 use Rattle.std.proofs.lemmas.Int.{ints}
 use Rattle.process_core.proofs.Inside.{sleepers_counted}
 use Rattle.process_core.specs.Tables.{sleepers_of, wake_tick}
@@ -183,10 +182,13 @@ first_stands ticks n d l delta once h e =
     let high = most.1 in
     let bound = delta.bounded in
     let tick : wake_tick ticks (key_in n (delays_from (pos 0) l)) ≡ ticks + d =
-    ap (wake_tick ticks) k ∙ tick_after ticks (key_in n l) least ∙ ap (λ m. ticks + m) (sym e) in
-    ((entries_from (after_in n l) (sleepers_of ticks l),
-    sleepers_from_next ticks n l once there ∙ ap (λ w. (n, w) ∷ entries_from (after_in n l) (sleepers_of ticks l)) tick),
-    small (key_in n l) d e least (omega (arith, ints, high, bound, k)))
+    ap (wake_tick ticks) k ∙ tick_after ticks (key_in n l) least ∙ ap (λ m. ticks + m) (sym e) in (
+      (
+        entries_from (after_in n l) (sleepers_of ticks l),
+        sleepers_from_next ticks n l once there ∙ ap (λ w. (n, w) ∷ entries_from (after_in n l) (sleepers_of ticks l)) tick,
+      ),
+      small (key_in n l) d e least (omega (arith, ints, high, bound, k)),
+    )
   where
     small : (z : ℤ) (d : ℕ) → d ≡ nat_abs z → pos 0 ≤ℤ z → z ≤ℤ pos 2147483647 → d ≤ 2147483647
     small (pos m) d e a b = omega (arith, ints, e, b)
@@ -205,9 +207,13 @@ next_stands ticks p wake n d l delta once at h e =
     let high = (delay_most (pos 0) n l delta.differences there).1 in
     let bound = delta.bounded in
     let sum : ((key_in p (delays_from (pos 0) l)) +ℤ (key_in n l)) ≤ℤ pos 2147483647 = omega (arith, ints, high, bound, k) in
-    let both = ticks_add ticks wake d (key_in p (delays_from (pos 0) l)) (key_in n l) low least is.1 e sum in
-    ((entries_from (after_in n l) (sleepers_of ticks l),
-    sleepers_from_next ticks n l once there ∙ ap (λ w. (n, w) ∷ entries_from (after_in n l) (sleepers_of ticks l)) (ap (wake_tick ticks) k ∙ both.0)), both.1)
+    let both = ticks_add ticks wake d (key_in p (delays_from (pos 0) l)) (key_in n l) low least is.1 e sum in (
+      (
+        entries_from (after_in n l) (sleepers_of ticks l),
+        sleepers_from_next ticks n l once there ∙ ap (λ w. (n, w) ∷ entries_from (after_in n l) (sleepers_of ticks l)) (ap (wake_tick ticks) k ∙ both.0),
+      ),
+      both.1,
+    )
   where
     ticks_add : (ticks wake d : ℕ) (a b : ℤ) → pos 0 ≤ℤ a → pos 0 ≤ℤ b → wake ≡ wake_tick ticks a → d ≡ nat_abs b → (a +ℤ b) ≤ℤ pos 2147483647
         → (wake_tick ticks (a +ℤ b) ≡ wake + d) × (wake + d ≤ ticks + 2147483647)

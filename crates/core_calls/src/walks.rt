@@ -16,6 +16,7 @@ use xinu_base::{Pid, Sem, State};
 
 // The queues of the ready list and of the sleepers; the waiters of a semaphore are in the queue of its number.
 const READY: usize = 128;
+
 const SLEEPERS: usize = 129;
 
 impl KernelTables {

@@ -21,9 +21,9 @@ alive_moved : (t : Tables) (p j : ℕ) (x : Process) (m : Option ℕ) (place : P
 alive_moved t p j x m place lives alive = elim (cases_eq j p) [
   | inr n ↦ (λ h. alive (sym (ap (λ (y : Process). y.state) (get_or-set_other t.processes p j x no_process n)) ∙ h))
   | inl e ↦ (elim (cases_lt p (length t.processes)) [
-      | inl lt ↦ (λ h. lives (sym (ap (λ (y : Process). y.state) (get_or-set_same t.processes p x no_process lt)) ∙ sym (ap (λ q. state_at (move_to p x m place t) q) e) ∙ h))
-      | inr le ↦ (λ h. alive (ap (λ (y : Process). y.state) (get_or_past t.processes j no_process (omega (arith, e, le)))))
-    ])
+    | inl lt ↦ (λ h. lives (sym (ap (λ (y : Process). y.state) (get_or-set_same t.processes p x no_process lt)) ∙ sym (ap (λ q. state_at (move_to p x m place t) q) e) ∙ h))
+    | inr le ↦ (λ h. alive (ap (λ (y : Process). y.state) (get_or_past t.processes j no_process (omega (arith, e, le)))))
+  ])
 ]
 
 -- after processes became ready

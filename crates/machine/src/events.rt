@@ -21,7 +21,12 @@ use rv_hart::Outcome;
 use xinu_base::{Call, Event, Next, Pid, TranscriptLine};
 
 /// Takes one event and prints its lines. Whether the kernel panicked in it.
-pub(crate) fn happen<H: Host>(kernel: &mut Kernel, event: Event, out: &mut Printer, host: &mut H) -> bool
+pub(crate) fn happen<H: Host>(
+    kernel: &mut Kernel,
+    event: Event,
+    out: &mut Printer,
+    host: &mut H,
+) -> bool
     requires idle { IsIdle kernel.old }
     requires sound { IsSound kernel.old.call.state }
     requires few { kernel.old.call.state.tables.ticks < 1000000000 }
@@ -130,7 +135,13 @@ fn tick<H: Host>(kernel: &mut Kernel, out: &mut Printer, host: &mut H) -> bool
 
 // Ends an event that began in process `was`, with this answer to its call, if it was one: prints the replies to released processes, the
 // caller's and the switch. Whether the kernel panicked.
-fn end_event<H: Host>(kernel: &mut Kernel, was: Pid, answer: Option<Next>, out: &mut Printer, host: &mut H) -> bool
+fn end_event<H: Host>(
+    kernel: &mut Kernel,
+    was: Pid,
+    answer: Option<Next>,
+    out: &mut Printer,
+    host: &mut H,
+) -> bool
     requires answer { kernel.old.answer ≡ answer_so_far answer }
     ensures effect { EffectPrints (model.end_of_event was [] kernel.old) kernel.new.call.state result out.old out.new (H.view host.old) (H.view host.new) }
     ensures idle { IsIdle kernel.new }

@@ -74,11 +74,7 @@ fn print_ready<H: Host>(tables: &KernelTables, out: &mut Printer, host: &mut H)
 {
     let mut next = tables.first_ready();
     while let Some(p) = next {
-        print_line(
-            &TranscriptLine::Ready(p, tables.priority_of(p)),
-            out,
-            host,
-        );
+        print_line(&TranscriptLine::Ready(p, tables.priority_of(p)), out, host);
         next = tables.ready_after(p);
     }
 }
@@ -135,11 +131,7 @@ fn print_sleepers<H: Host>(tables: &KernelTables, out: &mut Printer, host: &mut 
 {
     let mut next = tables.first_sleeper();
     while let Some(sleeper) = next {
-        print_line(
-            &TranscriptLine::Sleeper(sleeper.0, sleeper.1),
-            out,
-            host,
-        );
+        print_line(&TranscriptLine::Sleeper(sleeper.0, sleeper.1), out, host);
         next = tables.sleeper_after(sleeper.0, sleeper.1);
     }
 }

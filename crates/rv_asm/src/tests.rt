@@ -111,7 +111,7 @@ fn labels_and_directives(rt: HostRuntime) -> Result<(), Fail> {
         ]
         .as_slice()
     );
-    // The first program of docs/ASSEMBLER.md.
+    // A label, calls by name, and a directive before the code.
     let first = words(
         &rt,
         rt.alloc(),

@@ -1,4 +1,4 @@
-use Rattle.std.proofs.Common.{◌≡◌, ◌∙◌, ℕ, nat_abs, ap, rules, w32}
+use Rattle.std.proofs.Common.{◌∙◌, ℕ, nat_abs, ap, rules, w32}
 use Rattle.std.proofs.lemmas.Int.{to_z-of_z}
 use mir.Val.{SFits}
 use Rattle.queue_table.proofs.Laws.{list_of-placed}

@@ -1,6 +1,6 @@
-use Rattle.std.proofs.Common.{◌≡◌, ◌∙◌, ℕ, ap, Some, sym}
+use Rattle.std.proofs.Common.{◌∙◌, ℕ, ap, Some, sym}
 use Rattle.queue_table.proofs.Laws.{list_of-placed}
-use Rattle.queue_table.specs.Lists.{after_in, list_at, list_of}
+use Rattle.queue_table.specs.Lists.{after_in, list_of}
 use Rattle.queue_table.specs.Table as table
 use Rattle.core_calls.proofs.walks.next_in.Goals as goal
 

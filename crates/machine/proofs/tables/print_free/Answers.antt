@@ -22,9 +22,12 @@ loop-next-preserved g c =
     let blocks = free_blocks h in
     let i = c.loop-next.invariant in
     let e = c.block_from-next-in-Some.ensures in
-    let b : Block = (c.in-Some.address, c.in-Some.bytes) in
-    (b.0 + b.1, e.first, both_known c.block_from-next-in-Some.result e.some e.in_ram,
-    printed_next free_line blocks (blocks_above i.0 blocks) (blocks_above (b.0 + b.1) blocks) b _ _ _ _ _ _ (next_block h i.0 b (sym i.1 ∙ c.in-Some.is)) i.3 c.print_line.ensures.prints)
+    let b : Block = (c.in-Some.address, c.in-Some.bytes) in (
+      b.0 + b.1,
+      e.first,
+      both_known c.block_from-next-in-Some.result e.some e.in_ram,
+      printed_next free_line blocks (blocks_above i.0 blocks) (blocks_above (b.0 + b.1) blocks) b _ _ _ _ _ _ (next_block h i.0 b (sym i.1 ∙ c.in-Some.is)) i.3 c.print_line.ensures.prints,
+    )
 
 pub returns : goal.returns
 returns g c =

@@ -18,7 +18,8 @@ sleeper_after-next-requires-clause-sleeps g c =
 pub loop-next-preserved : goal.loop-next-preserved
 loop-next-preserved g c =
     let sleepers = c.args.tables.now.sleepers in
-    let e = ap (λ (o : Option (ℕ × ℕ)). entries_from (option_map (λ e. e.0) o) sleepers) c.in-Some.is ∙ c.sleeper_after-next.ensures.next in
-    (printed_next sleeper_line sleepers (entries_from (option_map (λ e. e.0) c.loop-next.next) sleepers) (entries_from (option_map (λ e. e.0) c.sleeper_after-next.result) sleepers)
-    c.in-Some.sleeper _ _ _ _ _ _ e c.loop-next.invariant.0 c.print_line.ensures.prints,
-    c.sleeper_after-next.ensures.sleeps)
+    let e = ap (λ (o : Option (ℕ × ℕ)). entries_from (option_map (λ e. e.0) o) sleepers) c.in-Some.is ∙ c.sleeper_after-next.ensures.next in (
+      printed_next sleeper_line sleepers (entries_from (option_map (λ e. e.0) c.loop-next.next) sleepers) (entries_from (option_map (λ e. e.0) c.sleeper_after-next.result) sleepers)
+          c.in-Some.sleeper _ _ _ _ _ _ e c.loop-next.invariant.0 c.print_line.ensures.prints,
+      c.sleeper_after-next.ensures.sleeps,
+    )

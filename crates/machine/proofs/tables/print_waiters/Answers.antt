@@ -16,6 +16,7 @@ loop-next-preserved g c =
     let sem = c.args.sem in
     let p = c.in-Some.p in
     let waiters = (semaphore_at c.args.tables.now sem).waiters in
-    let e = ap (λ o. numbers_from o waiters) c.in-Some.is ∙ c.waiter_after-next.ensures.next in
-    (printed_next (Waiter sem) waiters (numbers_from c.loop-next.next waiters) (numbers_from c.waiter_after-next.result waiters) p _ _ _ _ _ _ e c.loop-next.invariant.0 c.print_line.ensures.prints,
-    c.waiter_after-next.ensures.waits)
+    let e = ap (λ o. numbers_from o waiters) c.in-Some.is ∙ c.waiter_after-next.ensures.next in (
+      printed_next (Waiter sem) waiters (numbers_from c.loop-next.next waiters) (numbers_from c.waiter_after-next.result waiters) p _ _ _ _ _ _ e c.loop-next.invariant.0 c.print_line.ensures.prints,
+      c.waiter_after-next.ensures.waits,
+    )

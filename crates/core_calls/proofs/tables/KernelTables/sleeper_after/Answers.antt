@@ -1,4 +1,4 @@
-use Rattle.std.proofs.Common.{◌≡◌, ◌∙◌, ◌+◌, ◌∷◌, ℕ, List, Option, Some, None, ap, arith, subst, sym}
+use Rattle.std.proofs.Common.{◌≡◌, ◌∙◌, ◌+◌, ◌∷◌, ℕ, List, Some, None, ap, arith, subst, sym}
 use Rattle.process_core.specs.Tables.{sleepers_of}
 use Rattle.queue_table.specs.Lists.{after_in, list_at}
 use Rattle.queue_table.specs.Table.{lists}
