@@ -1,18 +1,20 @@
 //! The files and the open devices by themselves (book, chapter 19): what always holds of them, and what the calls on files do.
 
-ghost use Rattle.std.specs.Prelude.{◌≡◌, ◌+◌, ◌<◌, ◌≤◌, ℕ, true, false, List, [], ◌∷◌, ◌++◌, length, take, drop, replicate, Some, None, pos};
+ghost use Rattle.std.specs.Prelude.{◌≡◌, ◌≢◌, ◌+◌, ◌<◌, ◌≤◌, ℕ, true, false, List, [], ◌∷◌, ◌++◌, length, take, drop, replicate, Some, None, pos};
 ghost use Rattle.std.specs.List.{AllByRecursion};
 ghost use Rattle.xinu_base.specs.Constants.{OK, SYSERR, EOF};
+ghost use Rattle.xinu_base.specs.declared.files.OpenMode.{OpenMode};
 ghost use Rattle.xinu_laws.specs.Examples.FileSystems.{blank_files, mode_rw, one_file, full_disk, big_file, modes, seven_opens};
 ghost use Rattle.xinu_laws.specs.FileEffects.{is_about, replies_to, after_tasks};
 ghost use Rattle.xinu_model.specs.Files.Calls.{FileCall, Open, Delete, Read, Write, Seek, effect_on};
-ghost use Rattle.xinu_model.specs.Files.Constants.{LF_NUM_DIR_ENT};
+ghost use Rattle.xinu_model.specs.Files.Constants.{LF_NUM_DIR_ENT, LFILE0};
 ghost use Rattle.xinu_model.specs.Files.Issue.{open_call};
+ghost use Rattle.xinu_model.specs.Files.Opening.{opening};
 ghost use Rattle.xinu_model.specs.Files.Reading.{bytes_ahead, taken};
 ghost use Rattle.xinu_model.specs.Files.Room.{they_fit};
 ghost use Rattle.xinu_model.specs.Files.Sound.{IsSoundFiles, IsFileCall};
 ghost use Rattle.xinu_model.specs.Files.Stored.{StoredFile, is_file_name, precedes, file_names, file_named};
-ghost use Rattle.xinu_model.specs.Files.Systems.{OpenFile, FileSystem, open_at, open_bytes, closed_system, replies};
+ghost use Rattle.xinu_model.specs.Files.Systems.{OpenFile, FileSystem, open_at, open_bytes, free_device, closed_system, replies};
 ghost use Rattle.xinu_model.specs.Files.Writing.{overwritten, have_room, fitting};
 ghost use Rattle.xinu_model.specs.Sound.Tables.{IsInOrder};
 
@@ -41,6 +43,17 @@ pub fn other_files_stay()
         file_named name (effect_on call bytes s).system.files ≡ file_named name s.files }
     ensures deleted { (name bytes : List ℕ) (s : FileSystem) → (effect_on (Delete name) bytes s).reply ≡ OK →
         file_named name (effect_on (Delete name) bytes s).system.files ≡ None }
+{}
+
+/// An open that is carried out gives the lowest device that has nothing open, at the beginning of the file.
+pub fn open_gives_the_lowest_device()
+    ensures reply { (s : FileSystem) (name bytes : List ℕ) (mode : OpenMode) (k : ℕ) → (effect_on (Open name mode) bytes s).reply ≡ pos k →
+        k ≡ LFILE0 + free_device s.devices }
+    ensures opened { (s : FileSystem) (name bytes : List ℕ) (mode : OpenMode) (k : ℕ) → IsSoundFiles s →
+        (effect_on (Open name mode) bytes s).reply ≡ pos k →
+        open_at (effect_on (Open name mode) bytes s).system (free_device s.devices) ≡ Some (opening name mode) }
+    ensures free { (s : FileSystem) → open_at s (free_device s.devices) ≡ None }
+    ensures lowest { (s : FileSystem) (d : ℕ) → d < free_device s.devices → open_at s d ≢ None }
 {}
 
 /// A write puts as many of its bytes as there is room for: there is room for what it puts, and for no more. If it may write, it is refused

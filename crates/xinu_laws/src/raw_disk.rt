@@ -58,8 +58,15 @@ pub fn raw_disk()
     ensures inside { has_block 63 blank_disk ≡ true }
     ensures block { block_at (after_steps (Requests (write_request 63 (block_of 65)) ∷ Completes true ∷ []) blank_disk) 63 ≡ block_of 65 }
     ensures killed { completed true (given_up 1 (requested (write_request 1 (block_of 65)) blank_disk)) ≡ Some (record {
-        request = orphaned (write_request 1 (block_of 65)); reply = OK; bytes = [];
-        disk = record blank_disk { blocks = slice_set blank_disk.blocks 1 (block_of 65) } }) }
+      request = orphaned (write_request 1 (block_of 65));
+      reply = OK;
+      bytes = [];
+      disk = record blank_disk { blocks = slice_set blank_disk.blocks 1 (block_of 65) };
+    }) }
     ensures killed_in_vain { completed false (given_up 1 (requested (write_request 1 (block_of 65)) blank_disk)) ≡ Some (record {
-        request = orphaned (write_request 1 (block_of 65)); reply = SYSERR; bytes = []; disk = blank_disk }) }
+      request = orphaned (write_request 1 (block_of 65));
+      reply = SYSERR;
+      bytes = [];
+      disk = blank_disk;
+    }) }
 {}

@@ -97,10 +97,18 @@ order_stored file (f ∷ files) none h =
     cond_both (is_named file.name f) (Some f) (file_named file.name files)
     (λ o. o ≡ None → AreOrdered (file_names (with_stored file (f ∷ files)))) (λ _ no. cc)
     (λ d no. cond_both (precedes file.name f.name) (file ∷ f ∷ files) (f ∷ with_stored file files) (λ l. AreOrdered (file_names l))
-    (λ p. ((p, all_weaker (λ n. precedes f.name n ≡ true) (λ n. precedes file.name n ≡ true)
-    (λ n q. precedes-trans file.name f.name n p q) (file_names files) h.0), h))
-    (λ p. (all_stored (λ n. precedes f.name n ≡ true) file files (precedes-total file.name f.name p (differ f.name file.name d)) h.0,
-      order_stored file files no h.1))) none
+    (λ p. (
+      (
+        p,
+        all_weaker (λ n. precedes f.name n ≡ true) (λ n. precedes file.name n ≡ true)
+            (λ n q. precedes-trans file.name f.name n p q) (file_names files) h.0,
+      ),
+      h,
+    ))
+    (λ p. (
+      all_stored (λ n. precedes f.name n ≡ true) file files (precedes-total file.name f.name p (differ f.name file.name d)) h.0,
+      order_stored file files no h.1,
+    ))) none
 
 -- the new file
 pub named_stored : (file : StoredFile) (files : List StoredFile) → file_named file.name files ≡ None

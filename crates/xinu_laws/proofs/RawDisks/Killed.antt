@@ -15,9 +15,10 @@ callers_left p d = callers_given_up (λ (r : Request). r.caller) orphaned (λ r.
 requests_left : (n p : ℕ) (l : List Request) → AllByRecursion (IsRequest n) l
     → AllByRecursion (IsRequest n) (callers.given_up (λ (r : Request). r.caller) orphaned p l)
 requests_left n p [] h = tt
-requests_left n p (r ∷ rest) h =
-    (cond_both (is_caller p r.caller) (orphaned r) r (IsRequest n) (λ _. record { block = h.0.block; written = h.0.written }) (λ _. h.0),
-      all_filter (IsRequest n) (λ (b : Request). not (is_caller p b.caller)) rest h.1)
+requests_left n p (r ∷ rest) h = (
+  cond_both (is_caller p r.caller) (orphaned r) r (IsRequest n) (λ _. record { block = h.0.block; written = h.0.written }) (λ _. h.0),
+  all_filter (IsRequest n) (λ (b : Request). not (is_caller p b.caller)) rest h.1,
+)
 
 pub sound_left : (p : ℕ) (d : RawDisk) → IsSoundRawDisk d → IsSoundRawDisk (given_up p d)
 sound_left p d s = record {
