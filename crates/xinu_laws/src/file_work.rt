@@ -14,8 +14,8 @@ ghost use Rattle.xinu_model.specs.Files.Systems.{FileSystem, open_at, closed_sys
 ghost use Rattle.xinu_model.specs.Files.Work.{FileRequest, FileWork, FileNote, FileStep, most_turns, completed, least_effects, issued, most_at_issue, callers_of, given_up};
 ghost use Rattle.xinu_model.specs.Memory.{ram_size};
 
-/// The calls under way stay sound, and RAM keeps its size: as a call is made, whether it waits or takes effect at once; at a good completion,
-/// whichever number of calls it lets take effect; and as a process is killed.
+/// The calls under way stay sound, and RAM keeps its size: as a call is made, whether it waits or takes effect at once; at a good
+/// completion, whichever number of calls it lets take effect; and as a process is killed.
 pub fn work_stays_sound()
     ensures starts { (s : FileSystem) → IsSoundFiles s → IsSoundWork (idle_work s) }
     ensures issued { (choice : ℕ) (a : FileRequest) (memory : List ℕ) (w : FileWork) → choice ≤ most_at_issue w.calls → IsSome a.caller →
@@ -68,7 +68,8 @@ pub fn what_isnt_busy_is_at_rest()
 /// What becomes of some calls: a killed writer's bytes are written and nobody is answered; of a read and a write that take effect at one
 /// completion, the write has the byte that the read brought to its address; and the bounds of some calls.
 pub fn calls_under_way()
-    ensures killed { bytes_in (file_named (97 ∷ []) (completed 1 killed_writer).work.system.files) ≡ take 600 (drop 100 killed_writer.memory) }
+    ensures killed { bytes_in (file_named (97 ∷ []) (completed 1 killed_writer).work.system.files) ≡
+        take 600 (drop 100 killed_writer.memory) }
     ensures killed_told { (completed 1 killed_writer).notes ≡ (record { caller = None; moment = Finished; reply = Some (pos 600) }) ∷ [] }
     ensures together { bytes_in (file_named (97 ∷ []) (completed 2 read_then_write).work.system.files) ≡ 65 ∷ 65 ∷ [] }
     ensures together_told { (completed 2 read_then_write).notes ≡

@@ -73,7 +73,8 @@ pub fn writes_put_what_fits()
 pub fn written_bytes_are_read_back()
     ensures back { (s : FileSystem) (d n k : ℕ) (f : OpenFile) (bytes : List ℕ) → IsSoundFiles s → open_at s d ≡ Some f →
         f.may_read ≡ true → 0 < k → (effect_on (Write d n) bytes s).reply ≡ pos k →
-        (effect_on (Read d k) [] (effect_on (Seek d (pos f.position)) [] (effect_on (Write d n) bytes s).system).system).bytes ≡ take k bytes }
+        (effect_on (Read d k) [] (effect_on (Seek d (pos f.position)) [] (effect_on (Write d n) bytes s).system).system).bytes ≡
+        take k bytes }
     ensures before { (position : ℕ) (new old : List ℕ) → position ≤ length old →
         take position (overwritten position new old) ≡ take position old }
     ensures after { (position : ℕ) (new old : List ℕ) → position ≤ length old →
@@ -101,7 +102,8 @@ pub fn texts_that_open()
     ensures longest { open_call (replicate 27 97) (114 ∷ 119 ∷ []) ≡ Some (Open (replicate 27 97) mode_rw) }
     ensures too_long { open_call (replicate 28 97) (114 ∷ 119 ∷ []) ≡ None }
     ensures empty { open_call [] (114 ∷ 119 ∷ []) ≡ None }
-    ensures no_letter { open_call (97 ∷ []) [] ≡ Some (Open (97 ∷ []) (record { read = false; write = false; only_old = false; only_new = false })) }
+    ensures no_letter { open_call (97 ∷ []) [] ≡
+        Some (Open (97 ∷ []) (record { read = false; write = false; only_old = false; only_new = false })) }
     ensures other_letter { open_call (97 ∷ []) (114 ∷ 120 ∷ []) ≡ None }
     ensures twice { open_call (97 ∷ []) (114 ∷ 114 ∷ []) ≡ None }
     ensures old_and_new { open_call (97 ∷ []) (111 ∷ 110 ∷ []) ≡ None }

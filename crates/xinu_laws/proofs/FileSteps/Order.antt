@@ -115,4 +115,5 @@ pub finished_first : (a : FileRequest) (calls : List FileRequest) (k : ℕ) (x :
     → first_moment (completed (suc k) x).notes ≡ Some Finished
 finished_first a calls k x e none =
     next_first k (first_effect x.work.calls Finished x) Finished
-    (ap (λ l. first_moment (first_effect l Finished x).notes) e ∙ ap (λ n. first_moment (n ++ took_effect a Finished (effect_on a.call x.work.bytes x.work.system).reply ∷ [])) none)
+    (ap (λ l. first_moment (first_effect l Finished x).notes) e
+    ∙ ap (λ n. first_moment (n ++ took_effect a Finished (effect_on a.call x.work.bytes x.work.system).reply ∷ [])) none)

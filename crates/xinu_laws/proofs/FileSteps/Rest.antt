@@ -12,7 +12,8 @@ nothing_open name [] e = refl
 nothing_open name (None ∷ devices) e = nothing_open name devices e
 nothing_open name (Some f ∷ devices) e = cc
 
-no_names : (name : List ℕ) (calls : List FileRequest) → are_calls calls ≡ false → list_any (λ (a : FileRequest). names_file name a.call) calls ≡ false
+no_names : (name : List ℕ) (calls : List FileRequest) → are_calls calls ≡ false
+    → list_any (λ (a : FileRequest). names_file name a.call) calls ≡ false
 no_names name [] e = refl
 no_names name (a ∷ calls) e = cc
 

@@ -28,7 +28,8 @@ none = omega arith
 
 opens : (name : List ℕ) (mode : OpenMode) (s : FileSystem) → Few 0 (open_file name mode s)
 opens name mode s =
-    cond_both (is_open name s || nat_le Nlfl (free_device s.devices)) (refused s) (open_stored (file_named name s.files) name mode s) (Few 0)
+    cond_both (is_open name s || nat_le Nlfl (free_device s.devices)) (refused s) (open_stored (file_named name s.files) name mode s)
+    (Few 0)
     (λ _. none) (λ _. by_file (file_named name s.files))
   where
     by_file : (o : Option StoredFile) → Few 0 (open_stored o name mode s)
@@ -72,7 +73,8 @@ seeks d (pos n) f s =
 writes : (d : ℕ) (bytes : List ℕ) (f : OpenFile) (s : FileSystem) → Few 0 (write_file d bytes f s)
 writes d bytes f s =
     let k = fitting f bytes s in
-    cond_both (not f.may_write || (nat_lt 0 (length bytes) && (k == 0))) (refused s) (replies (pos k) (put_bytes (take k bytes) d f s)) (Few 0)
+    cond_both (not f.may_write || (nat_lt 0 (length bytes) && (k == 0))) (refused s) (replies (pos k) (put_bytes (take k bytes) d f s))
+    (Few 0)
     (λ _. none) (λ _. none)
 
 puts : (d b : ℕ) (f : OpenFile) (s : FileSystem) → Few 0 (putc_file d b f s)
@@ -112,7 +114,8 @@ copied_size (Some p) at n bytes memory few within =
     let d = length-drop (at + length bytes) memory in
     omega (arith, a, b, c, d, few, within)
 
-pub nothing_copied : (caller : Option ℕ) (at : ℕ) (bytes memory : List ℕ) → length bytes ≤ 0 → length (copied caller at bytes memory) ≡ length memory
+pub nothing_copied : (caller : Option ℕ) (at : ℕ) (bytes memory : List ℕ) → length bytes ≤ 0
+    → length (copied caller at bytes memory) ≡ length memory
 nothing_copied None at bytes memory few = refl
 nothing_copied (Some p) at bytes memory few =
     let a = length-append (take at memory ++ bytes) (drop (at + length bytes) memory) in

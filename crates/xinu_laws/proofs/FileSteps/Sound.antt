@@ -24,7 +24,8 @@ abbrev caller_of : FileRequest → Option ℕ
 caller_of a = a.caller
 
 -- there are as many bytes as the first call writes
-has_bytes : (call : FileCall) (at : ℕ) (memory : List ℕ) → InRam call at → length memory ≡ ram_size → HasBytes call (bytes_written call at memory)
+has_bytes : (call : FileCall) (at : ℕ) (memory : List ℕ) → InRam call at → length memory ≡ ram_size
+    → HasBytes call (bytes_written call at memory)
 has_bytes (Write d n) at memory within size =
     let t = length-take n (drop at memory) in
     let u = length-drop at memory in
@@ -67,7 +68,8 @@ memory_size a bytes memory s right size = by_call a.call right.range (effect_bri
     by_call : (call : FileCall) → InRam call a.at → length (effect_on call bytes s).bytes ≤ brings call
         → length (copied a.caller a.at (effect_on call bytes s).bytes memory) ≡ length memory
     by_call (Read d n) within few =
-        copied_size a.caller a.at n (effect_on (Read d n) bytes s).bytes memory few (let z : a.at + n ≤ length memory = omega (arith, within, size) in z)
+        copied_size a.caller a.at n (effect_on (Read d n) bytes s).bytes memory few
+        (let z : a.at + n ≤ length memory = omega (arith, within, size) in z)
     by_call (Open name mode) within few = nothing_copied a.caller a.at (effect_on (Open name mode) bytes s).bytes memory few
     by_call (Delete name) within few = nothing_copied a.caller a.at (effect_on (Delete name) bytes s).bytes memory few
     by_call (Close d) within few = nothing_copied a.caller a.at (effect_on (Close d) bytes s).bytes memory few
@@ -89,7 +91,8 @@ sound_effect (a ∷ calls) moment x e sound =
     let memory = copied a.caller a.at effect.bytes x.memory in
     let size : length memory ≡ ram_size = memory_size a x.work.bytes x.memory x.work.system right.0 sound.memory in
     record {
-      work = sound_first calls memory effect.system (effect_keeps a.call x.work.bytes x.work.system right.0.call sound.work.system) right.1 (callers_after a calls have) size;
+      work = sound_first calls memory effect.system
+          (effect_keeps a.call x.work.bytes x.work.system right.0.call sound.work.system) right.1 (callers_after a calls have) size;
       memory = size;
     }
 

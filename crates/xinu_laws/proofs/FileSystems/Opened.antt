@@ -20,7 +20,8 @@ pub open_leaves : (s : FileSystem) (name : List ℕ) (mode : OpenMode) (k : ℕ)
 open_leaves s name mode k e =
     cond_both (is_open name s || nat_le Nlfl (free_device s.devices)) (refused s) (open_stored (file_named name s.files) name mode s)
     (λ (x : FileEffect). x.reply ≡ pos k → Opens s name mode k x) (λ _ h. cc)
-    (λ b. by_file (file_named name s.files) (leb-false Nlfl (free_device s.devices) (or_parts (is_open name s) (nat_le Nlfl (free_device s.devices)) b).1)) e
+    (λ b. by_file (file_named name s.files) (leb-false Nlfl (free_device s.devices)
+    (or_parts (is_open name s) (nat_le Nlfl (free_device s.devices)) b).1)) e
   where
     device : pos (LFILE0 + free_device s.devices) ≡ pos k → k ≡ LFILE0 + free_device s.devices
     device h = let same : LFILE0 + free_device s.devices ≡ k = cc in sym same

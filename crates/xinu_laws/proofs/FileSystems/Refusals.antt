@@ -46,7 +46,8 @@ spares_done s about e n done blocks same = record {
 
 opens : (s : FileSystem) (name : List ℕ) (mode : OpenMode) → Spares s (bytes_eq name) (open_file name mode s)
 opens s name mode =
-    cond_both (is_open name s || nat_le Nlfl (free_device s.devices)) (refused s) (open_stored (file_named name s.files) name mode s) (Spares s (bytes_eq name))
+    cond_both (is_open name s || nat_le Nlfl (free_device s.devices)) (refused s) (open_stored (file_named name s.files) name mode s)
+    (Spares s (bytes_eq name))
     (λ _. spares_all s (bytes_eq name) SYSERR) (λ _. by_file (file_named name s.files))
   where
     by_file : (o : Option StoredFile) → Spares s (bytes_eq name) (open_stored o name mode s)
@@ -54,14 +55,16 @@ opens s name mode =
         cond_both mode.only_new (refused s) (opened name mode s) (Spares s (bytes_eq name)) (λ _. spares_all s (bytes_eq name) SYSERR)
         (λ _. spares_done s (bytes_eq name) (opened name mode s) (4 + free_device s.devices) refl refl (λ other _. refl))
     by_file None =
-        cond_both (mode.only_old || nat_le LF_NUM_DIR_ENT (length s.files)) (refused s) (opened name mode (created name s)) (Spares s (bytes_eq name))
+        cond_both (mode.only_old || nat_le LF_NUM_DIR_ENT (length s.files)) (refused s) (opened name mode (created name s))
+        (Spares s (bytes_eq name))
         (λ _. spares_all s (bytes_eq name) SYSERR)
         (λ _. spares_done s (bytes_eq name) (opened name mode (created name s)) (4 + free_device s.devices) refl refl
         (λ other d. other_stored (empty_file name) other s.files d))
 
 deletes : (s : FileSystem) (name : List ℕ) → Spares s (bytes_eq name) (delete_file name s)
 deletes s name =
-    cond_both (is_open name s || not (is_some (file_named name s.files))) (refused s) (replies OK (record s { files = without_file name s.files })) (Spares s (bytes_eq name))
+    cond_both (is_open name s || not (is_some (file_named name s.files))) (refused s)
+    (replies OK (record s { files = without_file name s.files })) (Spares s (bytes_eq name))
     (λ _. spares_all s (bytes_eq name) SYSERR)
     (λ _. spares_done s (bytes_eq name) (replies OK (record s { files = without_file name s.files })) 0 refl refl
     (λ other d. other_without name other s.files d))
@@ -76,7 +79,8 @@ reads : (s : FileSystem) (d n : ℕ) (f : OpenFile) → Spares s (bytes_eq f.nam
 reads s d n f =
     cond_both (not f.may_read) (refused s) _ (Spares s (bytes_eq f.name)) (λ _. spares_all s (bytes_eq f.name) SYSERR)
     (λ _. cond_both (n == 0) (replies OK s) _ (Spares s (bytes_eq f.name)) (λ _. spares_all s (bytes_eq f.name) OK)
-    (λ _. cond_both (nat_le (length (open_bytes f s)) f.position) (replies EOF s) (taken (bytes_ahead n f s) d f s) (Spares s (bytes_eq f.name))
+    (λ _. cond_both (nat_le (length (open_bytes f s)) f.position) (replies EOF s) (taken (bytes_ahead n f s) d f s)
+    (Spares s (bytes_eq f.name))
     (λ _. spares_all s (bytes_eq f.name) EOF)
     (λ _. spares_done s (bytes_eq f.name) (taken (bytes_ahead n f s) d f s) (length (bytes_ahead n f s)) refl refl (λ other _. refl))))
 
@@ -99,21 +103,24 @@ seeks s d (pos n) f =
 writes : (s : FileSystem) (d : ℕ) (bytes : List ℕ) (f : OpenFile) → Spares s (bytes_eq f.name) (write_file d bytes f s)
 writes s d bytes f =
     let k = fitting f bytes s in
-    cond_both (not f.may_write || (nat_lt 0 (length bytes) && (k == 0))) (refused s) (replies (pos k) (put_bytes (take k bytes) d f s)) (Spares s (bytes_eq f.name))
+    cond_both (not f.may_write || (nat_lt 0 (length bytes) && (k == 0))) (refused s) (replies (pos k) (put_bytes (take k bytes) d f s))
+    (Spares s (bytes_eq f.name))
     (λ _. spares_all s (bytes_eq f.name) SYSERR)
     (λ _. spares_done s (bytes_eq f.name) (replies (pos k) (put_bytes (take k bytes) d f s)) k refl refl
     (λ other no. named_beside f.name other (overwritten f.position (take k bytes) (open_bytes f s)) s.files no))
 
 puts : (s : FileSystem) (d b : ℕ) (f : OpenFile) → Spares s (bytes_eq f.name) (putc_file d b f s)
 puts s d b f =
-    cond_both (not f.may_write || not (have_room f (b ∷ []) s)) (refused s) (replies OK (put_bytes (b ∷ []) d f s)) (Spares s (bytes_eq f.name))
+    cond_both (not f.may_write || not (have_room f (b ∷ []) s)) (refused s) (replies OK (put_bytes (b ∷ []) d f s))
+    (Spares s (bytes_eq f.name))
     (λ _. spares_all s (bytes_eq f.name) SYSERR)
     (λ _. spares_done s (bytes_eq f.name) (replies OK (put_bytes (b ∷ []) d f s)) 0 refl refl
     (λ other no. named_beside f.name other (overwritten f.position (b ∷ []) (open_bytes f s)) s.files no))
 
 truncates : (s : FileSystem) (d : ℕ) (f : OpenFile) → Spares s (bytes_eq f.name) (truncate_file d f s)
 truncates s d f =
-    cond_both (not f.may_write) (refused s) (replies OK (record (moved d f 0 s) { files = with_contents f.name [] s.files })) (Spares s (bytes_eq f.name))
+    cond_both (not f.may_write) (refused s) (replies OK (record (moved d f 0 s) { files = with_contents f.name [] s.files }))
+    (Spares s (bytes_eq f.name))
     (λ _. spares_all s (bytes_eq f.name) SYSERR)
     (λ _. spares_done s (bytes_eq f.name) (replies OK (record (moved d f 0 s) { files = with_contents f.name [] s.files })) 0 refl refl
     (λ other no. named_beside f.name other [] s.files no))
@@ -135,7 +142,9 @@ effect_spares (Size d) bytes s =
     on_device s (open_at s d) (λ f. size_of_file f s) (λ f. spares_all s (bytes_eq f.name) (pos (length (open_bytes f s))))
 
 -- A file that was deleted is gone.
-pub deleted_is_gone : (name : List ℕ) (s : FileSystem) → (delete_file name s).reply ≡ OK → file_named name (delete_file name s).system.files ≡ None
+pub deleted_is_gone : (name : List ℕ) (s : FileSystem) → (delete_file name s).reply ≡ OK
+    → file_named name (delete_file name s).system.files ≡ None
 deleted_is_gone name s e =
-    cond_both (is_open name s || not (is_some (file_named name s.files))) (refused s) (replies OK (record s { files = without_file name s.files }))
+    cond_both (is_open name s || not (is_some (file_named name s.files))) (refused s)
+    (replies OK (record s { files = without_file name s.files }))
     (λ (x : FileEffect). x.reply ≡ OK → file_named name x.system.files ≡ None) (λ _ h. cc) (λ _ _. named_without name s.files) e
