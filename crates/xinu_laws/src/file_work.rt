@@ -4,7 +4,8 @@ ghost use Rattle.std.specs.Prelude.{◌≡◌, ◌++◌, ◌+◌, ◌<◌, ◌�
 ghost use Rattle.xinu_base.specs.Constants.{OK};
 ghost use Rattle.xinu_base.specs.declared.lines.FileMoment.TheVariants.{Turn, Finished, Next};
 ghost use Rattle.xinu_laws.specs.Examples.FileCalls.{idle_work, killed_writer, read_then_write};
-ghost use Rattle.xinu_laws.specs.Examples.FileSystems.{mode_rw, blank_files};
+ghost use Rattle.xinu_laws.specs.Examples.FileSystems.{mode_rw, blank_files, big_file};
+ghost use Rattle.xinu_laws.specs.FileEffects.{after_tasks};
 ghost use Rattle.xinu_laws.specs.FileSteps.{callers_told, first_moment, IsSoundStep};
 ghost use Rattle.xinu_model.specs.Files.Calls.{FileCall, Open, Close, Write};
 ghost use Rattle.xinu_model.specs.Files.Rest.{is_at_rest, is_busy};
@@ -75,5 +76,7 @@ pub fn calls_under_way()
     ensures together_told { (completed 2 read_then_write).notes ≡
         (record { caller = Some 1; moment = Finished; reply = Some (pos 1) }) ∷
         (record { caller = Some 2; moment = Next; reply = Some (pos 1) }) ∷ [] }
+    ensures write_bound { most_turns (Write 0 8193) (after_tasks (take 1 big_file) (blank_files 256)) ≡ 168 }
+    ensures close_bound { most_turns (Close 0) (after_tasks (take 2 big_file) (blank_files 256)) ≡ 184 }
     ensures open_bound { most_turns (Open (97 ∷ []) mode_rw) (blank_files 256) ≡ 32 }
 {}

@@ -5,7 +5,7 @@ ghost use Rattle.std.specs.List.{AllByRecursion};
 ghost use Rattle.xinu_base.specs.Constants.{OK, SYSERR, EOF};
 ghost use Rattle.xinu_base.specs.declared.files.OpenMode.{OpenMode};
 ghost use Rattle.xinu_laws.specs.Examples.FileSystems.{blank_files, mode_rw, one_file, full_disk, big_file, modes, seven_opens};
-ghost use Rattle.xinu_laws.specs.FileEffects.{is_about, replies_to, after_tasks};
+ghost use Rattle.xinu_laws.specs.FileEffects.{is_about, device_of, replies_to, after_tasks};
 ghost use Rattle.xinu_model.specs.Files.Calls.{FileCall, Open, Delete, Read, Write, Seek, effect_on};
 ghost use Rattle.xinu_model.specs.Files.Constants.{LF_NUM_DIR_ENT, LFILE0};
 ghost use Rattle.xinu_model.specs.Files.Issue.{open_call};
@@ -37,10 +37,12 @@ pub fn refused_effects_change_nothing()
         effect_on call bytes s ≡ replies EOF s }
 {}
 
-/// No call changes a file that it neither names nor has open. A file that was deleted is gone.
+/// No call changes a file that it neither names nor has open, nor a device that it isn't on. A file that was deleted is gone.
 pub fn other_files_stay()
     ensures same { (call : FileCall) (bytes : List ℕ) (s : FileSystem) (name : List ℕ) → is_about name call s ≡ false →
         file_named name (effect_on call bytes s).system.files ≡ file_named name s.files }
+    ensures devices { (call : FileCall) (bytes : List ℕ) (s : FileSystem) (d : ℕ) → device_of call s ≢ Some d →
+        open_at (effect_on call bytes s).system d ≡ open_at s d }
     ensures deleted { (name bytes : List ℕ) (s : FileSystem) → (effect_on (Delete name) bytes s).reply ≡ OK →
         file_named name (effect_on (Delete name) bytes s).system.files ≡ None }
 {}

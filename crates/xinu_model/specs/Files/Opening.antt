@@ -1,4 +1,4 @@
--- Opening, closing and deleting files (book, chapter 19, `lfsopen.c`, `lflclose.c`, `lfscontrol.c`).
+-- Opening, closing and deleting files (book, chapter 19, `lfsopen.c`, `lflclose.c`).
 use Rattle.std.specs.Prelude.{ℕ, ◌+◌, nat_le, not, ◌||◌, if◌then◌else◌, List, length, Option, Some, None, is_some, pos}
 use Rattle.xinu_base.specs.Constants.{OK}
 use Rattle.xinu_base.specs.declared.files.OpenMode.{OpenMode}
