@@ -12,7 +12,7 @@ ghost use Rattle.xinu_model.specs.Files.Rest.{is_at_rest, is_busy};
 ghost use Rattle.xinu_model.specs.Files.Sound.{IsSoundFiles, IsFileRequest, IsSoundWork};
 ghost use Rattle.xinu_model.specs.Files.Stored.{bytes_in, file_named};
 ghost use Rattle.xinu_model.specs.Files.Systems.{FileSystem, open_at, closed_system};
-ghost use Rattle.xinu_model.specs.Files.Work.{FileRequest, FileWork, FileNote, FileStep, most_turns, completed, least_effects, issued, most_at_issue, callers_of, given_up};
+ghost use Rattle.xinu_model.specs.Files.Work.{FileRequest, FileWork, FileNote, FileStep, most_turns, completed, least_effects, most_effects, issued, most_at_issue, callers_of, given_up};
 ghost use Rattle.xinu_model.specs.Memory.{ram_size};
 
 /// The calls under way stay sound, and RAM keeps its size: as a call is made, whether it waits or takes effect at once; at a good
@@ -26,12 +26,15 @@ pub fn work_stays_sound()
     ensures given_up { (p : ℕ) (w : FileWork) → IsSoundWork w → IsSoundWork (given_up p w) }
 {}
 
-/// Calls take effect in the order in which they were made: a completion that lets some take effect takes the first ones out and leaves the
-/// others, and tells of those that it took out. What it tells first is of the call that was the first: that it had a turn, or took effect.
+/// Calls take effect in the order in which they were made: a completion that lets some take effect takes the first ones out and leaves
+/// the others, and tells of those that it took out, so it tells how many they are. What it tells first is of the call that was the first:
+/// that it had a turn, or took effect.
 pub fn calls_take_effect_in_order()
     ensures left { (effects : ℕ) (x : FileStep) → (completed effects x).work.calls ≡ drop effects x.work.calls }
     ensures told { (effects : ℕ) (x : FileStep) → callers_told (completed effects x).notes ≡
         callers_told x.notes ++ map (λ (a : FileRequest). a.caller) (take effects x.work.calls) }
+    ensures same { (effects others : ℕ) (x : FileStep) → effects ≤ length x.work.calls → others ≤ length x.work.calls →
+        (completed effects x).notes ≡ (completed others x).notes → effects ≡ others }
     ensures turn_first { (a : FileRequest) (calls : List FileRequest) (x : FileStep) → x.work.calls ≡ a ∷ calls → x.notes ≡ [] →
         first_moment (completed 0 x).notes ≡ Some Turn }
     ensures finished_first { (a : FileRequest) (calls : List FileRequest) (more : ℕ) (x : FileStep) → x.work.calls ≡ a ∷ calls →
@@ -39,7 +42,7 @@ pub fn calls_take_effect_in_order()
 {}
 
 /// A turn changes nothing but the count of turns, and a call has no more turns than its bound allows: the good completion that would be
-/// its last must let it take effect.
+/// its last must let it take effect. There is always a number of calls that may take effect.
 pub fn turns_are_bounded()
     ensures turn { (a : FileRequest) (calls : List FileRequest) (x : FileStep) → x.work.calls ≡ a ∷ calls → completed 0 x ≡
         record x {
@@ -49,6 +52,7 @@ pub fn turns_are_bounded()
         } }
     ensures bound { (a : FileRequest) (calls : List FileRequest) (w : FileWork) → IsSoundWork w → w.calls ≡ a ∷ calls →
         w.turns < most_turns a.call w.system }
+    ensures some { (w : FileWork) → least_effects w.calls w ≤ most_effects w }
     ensures last { (a : FileRequest) (calls : List FileRequest) (w : FileWork) → w.calls ≡ a ∷ calls →
         w.turns + 1 ≡ most_turns a.call w.system → least_effects w.calls w ≡ 1 }
 {}

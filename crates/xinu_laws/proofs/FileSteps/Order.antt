@@ -1,5 +1,6 @@
 -- Calls take effect in their order.
-use Rattle.std.proofs.Common.{◌≡◌, ℕ, zero, suc, List, [], ◌∷◌, ◌++◌, map, take, drop, Option, Some, None, ℤ, refl, sym, ap, ◌∙◌, append-nil, append_assoc}
+use Rattle.std.proofs.Common.{◌≡◌, ℕ, zero, suc, List, [], ◌∷◌, ◌++◌, map, take, drop, Option, Some, None, ℤ, refl, sym, ap, ◌∙◌, append-nil, append_assoc, ◌+◌, ◌≤◌, length, arith}
+use Rattle.std.proofs.lemmas.List.{length-append, length-map, length-take}
 use Rattle.xinu_base.specs.declared.lines.FileMoment.{FileMoment}
 use Rattle.xinu_base.specs.declared.lines.FileMoment.TheVariants.{Turn, Finished, Next}
 use Rattle.xinu_laws.specs.FileSteps.{caller_first, callers_told, first_moment}
@@ -117,3 +118,22 @@ finished_first a calls k x e none =
     next_first k (first_effect x.work.calls Finished x) Finished
     (ap (λ l. first_moment (first_effect l Finished x).notes) e
     ∙ ap (λ n. first_moment (n ++ took_effect a Finished (effect_on a.call x.work.bytes x.work.system).reply ∷ [])) none)
+
+-- how many calls took effect is told
+told_count : (k : ℕ) (x : FileStep) → k ≤ length x.work.calls
+    → length (callers_told (completed k x).notes) ≡ length (callers_told x.notes) + k
+told_count k x few =
+    let a = ap length (calls_told k x) in
+    let b = length-append (callers_told x.notes) (map caller_of (take k x.work.calls)) in
+    let c = length-map (take k x.work.calls) caller_of in
+    let d = length-take k x.work.calls in
+    omega (arith, a, b, c, d, few)
+
+-- So completions that tell the same let as many calls take effect.
+pub same_told : (m n : ℕ) (x : FileStep) → m ≤ length x.work.calls → n ≤ length x.work.calls → (completed m x).notes ≡ (completed n x).notes
+    → m ≡ n
+same_told m n x few fewer same =
+    let a = told_count m x few in
+    let b = told_count n x fewer in
+    let c = ap (λ notes. length (callers_told notes)) same in
+    omega (arith, a, b, c)
