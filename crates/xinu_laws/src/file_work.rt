@@ -26,10 +26,13 @@ pub fn work_stays_sound()
     ensures given_up { (p : ℕ) (w : FileWork) → IsSoundWork w → IsSoundWork (given_up p w) }
 {}
 
-/// Calls take effect in the order in which they were made: a completion that lets some take effect takes the first ones out and leaves
-/// the others, and tells of those that it took out, so it tells how many they are. What it tells first is of the call that was the first:
-/// that it had a turn, or took effect.
+/// Calls take effect in the order in which they were made: one that waits goes after the others, and one that takes effect at once had
+/// none before it. A completion that lets some take effect takes the first ones out and leaves the others, and tells of those that it
+/// took out, so it tells how many they are. What it tells first is of the call that was the first: that it had a turn, or took effect.
 pub fn calls_take_effect_in_order()
+    ensures waits { (a : FileRequest) (memory : List ℕ) (w : FileWork) → (issued 0 a memory w).work.calls ≡ w.calls ++ a ∷ [] }
+    ensures at_once { (a : FileRequest) (memory : List ℕ) (w : FileWork) → 1 ≤ most_at_issue w.calls →
+        (w.calls ≡ []) × ((issued 1 a memory w).work.calls ≡ []) }
     ensures left { (effects : ℕ) (x : FileStep) → (completed effects x).work.calls ≡ drop effects x.work.calls }
     ensures told { (effects : ℕ) (x : FileStep) → callers_told (completed effects x).notes ≡
         callers_told x.notes ++ map (λ (a : FileRequest). a.caller) (take effects x.work.calls) }
