@@ -4,16 +4,16 @@ use Rattle.std.proofs.lemmas.List.{length-append, length-map, length-take}
 use Rattle.xinu_base.specs.declared.lines.FileMoment.{FileMoment}
 use Rattle.xinu_base.specs.declared.lines.FileMoment.TheVariants.{Turn, Finished, Next}
 use Rattle.xinu_laws.specs.FileSteps.{caller_first, callers_told, first_moment}
-use Rattle.xinu_model.specs.Files.Calls.{effect_on}
+use Rattle.xinu_model.specs.Files.Calls.{file_effect}
 use Rattle.xinu_model.specs.Files.Systems.{FileSystem}
-use Rattle.xinu_model.specs.Files.Work.{FileRequest, FileNote, FileStep, had_turn, took_effect, first_of, first_effect, next_effects, turned, completed}
+use Rattle.xinu_model.specs.Files.Work.{FileRequest, FileNote, FileStep, had_turn, took_effect, with_first, first_effect, next_effects, turned, calls_completed}
 
 -- the calls after the first
-pub calls_of : (calls : List FileRequest) (memory : List ℕ) (s : FileSystem) → (first_of calls memory s).calls ≡ calls
+pub calls_of : (calls : List FileRequest) (memory : List ℕ) (s : FileSystem) → (with_first calls memory s).calls ≡ calls
 calls_of [] memory s = refl
 calls_of (a ∷ calls) memory s = refl
 
-pub system_of : (calls : List FileRequest) (memory : List ℕ) (s : FileSystem) → (first_of calls memory s).system ≡ s
+pub system_of : (calls : List FileRequest) (memory : List ℕ) (s : FileSystem) → (with_first calls memory s).system ≡ s
 system_of [] memory s = refl
 system_of (a ∷ calls) memory s = refl
 
@@ -34,7 +34,7 @@ next_out zero x = refl
 next_out (suc k) x =
     next_out k (first_effect x.work.calls Next x) ∙ ap (drop k) (one_out x.work.calls Next x refl) ∙ drop_more k x.work.calls
 
-pub calls_left : (k : ℕ) (x : FileStep) → (completed k x).work.calls ≡ drop k x.work.calls
+pub calls_left : (k : ℕ) (x : FileStep) → (calls_completed k x).work.calls ≡ drop k x.work.calls
 calls_left zero x = by_calls x.work.calls
   where
     by_calls : (calls : List FileRequest) → (turned calls x).work.calls ≡ x.work.calls
@@ -85,7 +85,8 @@ next_told : (k : ℕ) (x : FileStep) → callers_told (next_effects k x).notes �
 next_told zero x = sym (append-nil (callers_told x.notes))
 next_told (suc k) x = first_and_next k x.work.calls Next x refl (next_told k (first_effect x.work.calls Next x))
 
-pub calls_told : (k : ℕ) (x : FileStep) → callers_told (completed k x).notes ≡ callers_told x.notes ++ map caller_of (take k x.work.calls)
+pub calls_told : (k : ℕ) (x : FileStep)
+    → callers_told (calls_completed k x).notes ≡ callers_told x.notes ++ map caller_of (take k x.work.calls)
 calls_told zero x = by_calls x.work.calls
   where
     by_calls : (calls : List FileRequest) → callers_told (turned calls x).notes ≡ callers_told x.notes ++ []
@@ -109,19 +110,19 @@ next_first (suc k) x m e = next_first k (first_effect x.work.calls Next x) m (ef
 
 -- A completion tells of the first call first.
 pub turn_first : (a : FileRequest) (calls : List FileRequest) (x : FileStep) → x.work.calls ≡ a ∷ calls → x.notes ≡ []
-    → first_moment (completed 0 x).notes ≡ Some Turn
+    → first_moment (calls_completed 0 x).notes ≡ Some Turn
 turn_first a calls x e none = ap (λ l. first_moment (turned l x).notes) e ∙ ap (λ n. first_moment (n ++ had_turn a ∷ [])) none
 
 pub finished_first : (a : FileRequest) (calls : List FileRequest) (k : ℕ) (x : FileStep) → x.work.calls ≡ a ∷ calls → x.notes ≡ []
-    → first_moment (completed (suc k) x).notes ≡ Some Finished
+    → first_moment (calls_completed (suc k) x).notes ≡ Some Finished
 finished_first a calls k x e none =
     next_first k (first_effect x.work.calls Finished x) Finished
     (ap (λ l. first_moment (first_effect l Finished x).notes) e
-    ∙ ap (λ n. first_moment (n ++ took_effect a Finished (effect_on a.call x.work.bytes x.work.system).reply ∷ [])) none)
+    ∙ ap (λ n. first_moment (n ++ took_effect a Finished (file_effect a.call x.work.bytes x.work.system).reply ∷ [])) none)
 
 -- how many calls took effect is told
 told_count : (k : ℕ) (x : FileStep) → k ≤ length x.work.calls
-    → length (callers_told (completed k x).notes) ≡ length (callers_told x.notes) + k
+    → length (callers_told (calls_completed k x).notes) ≡ length (callers_told x.notes) + k
 told_count k x few =
     let a = ap length (calls_told k x) in
     let b = length-append (callers_told x.notes) (map caller_of (take k x.work.calls)) in
@@ -130,7 +131,8 @@ told_count k x few =
     omega (arith, a, b, c, d, few)
 
 -- So completions that tell the same let as many calls take effect.
-pub same_told : (m n : ℕ) (x : FileStep) → m ≤ length x.work.calls → n ≤ length x.work.calls → (completed m x).notes ≡ (completed n x).notes
+pub same_told : (m n : ℕ) (x : FileStep) → m ≤ length x.work.calls → n ≤ length x.work.calls
+    → (calls_completed m x).notes ≡ (calls_completed n x).notes
     → m ≡ n
 same_told m n x few fewer same =
     let a = told_count m x few in

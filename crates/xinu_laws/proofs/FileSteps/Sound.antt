@@ -11,10 +11,10 @@ use Rattle.xinu_laws.proofs.FileSystems.Effects.{effect_keeps}
 use Rattle.xinu_laws.proofs.Lists.Orders.{all_append, all_filter}
 use Rattle.xinu_laws.proofs.RawDisks.Callers.{callers_given_up, have_callers_given_up}
 use Rattle.xinu_laws.specs.FileSteps.{IsSoundStep}
-use Rattle.xinu_model.specs.Files.Calls.{FileCall, Open, Delete, Close, Read, Write, Getc, Putc, Seek, Truncate, Size, effect_on}
+use Rattle.xinu_model.specs.Files.Calls.{FileCall, Open, Delete, Close, Read, Write, Getc, Putc, Seek, Truncate, Size, file_effect}
 use Rattle.xinu_model.specs.Files.Sound.{IsSoundFiles, InRam, IsFileRequest, HasBytes, IsFirst, IsSoundWork}
 use Rattle.xinu_model.specs.Files.Systems.{FileSystem}
-use Rattle.xinu_model.specs.Files.Work.{FileRequest, FileWork, FileStep, most_turns, bytes_written, first_of, copied, first_effect, next_effects, turned, completed, least_effects, queued_after, issued, most_at_issue, orphaned, callers_of, given_up}
+use Rattle.xinu_model.specs.Files.Work.{FileRequest, FileWork, FileStep, most_turns, bytes_written, with_first, copied, first_effect, next_effects, turned, calls_completed, least_effects, queued_after, issued, most_at_issue, orphaned_call, callers_waiting, calls_given_up}
 use Rattle.xinu_model.specs.Memory.{ram_size}
 use Rattle.xinu_model.specs.RawDisk.Callers.{is_caller, HaveCallers}
 use Rattle.xinu_model.specs.RawDisk.Callers as callers
@@ -46,7 +46,7 @@ turn_left call s = omega arith
 
 -- the first of the calls becomes the first
 pub sound_first : (calls : List FileRequest) (memory : List ℕ) (s : FileSystem) → IsSoundFiles s → AllByRecursion IsFileRequest calls
-    → HaveCallers caller_of calls → length memory ≡ ram_size → IsSoundWork (first_of calls memory s)
+    → HaveCallers caller_of calls → length memory ≡ ram_size → IsSoundWork (with_first calls memory s)
 sound_first [] memory s system right have size = record { system = system; calls = tt; callers = tt; first = (refl, refl) }
 sound_first (a ∷ calls) memory s system right have size = record {
   system = system;
@@ -62,23 +62,23 @@ callers_after a (b ∷ calls) have = have.1
 
 -- bytes that are brought keep RAM's size
 memory_size : (a : FileRequest) (bytes memory : List ℕ) (s : FileSystem) → IsFileRequest a → length memory ≡ ram_size
-    → length (copied a.caller a.at (effect_on a.call bytes s).bytes memory) ≡ ram_size
+    → length (copied a.caller a.at (file_effect a.call bytes s).bytes memory) ≡ ram_size
 memory_size a bytes memory s right size = by_call a.call right.range (effect_brings a.call bytes s) ∙ size
   where
-    by_call : (call : FileCall) → InRam call a.at → length (effect_on call bytes s).bytes ≤ brings call
-        → length (copied a.caller a.at (effect_on call bytes s).bytes memory) ≡ length memory
+    by_call : (call : FileCall) → InRam call a.at → length (file_effect call bytes s).bytes ≤ brings call
+        → length (copied a.caller a.at (file_effect call bytes s).bytes memory) ≡ length memory
     by_call (Read d n) within few =
-        copied_size a.caller a.at n (effect_on (Read d n) bytes s).bytes memory few
+        copied_size a.caller a.at n (file_effect (Read d n) bytes s).bytes memory few
         (let z : a.at + n ≤ length memory = omega (arith, within, size) in z)
-    by_call (Open name mode) within few = nothing_copied a.caller a.at (effect_on (Open name mode) bytes s).bytes memory few
-    by_call (Delete name) within few = nothing_copied a.caller a.at (effect_on (Delete name) bytes s).bytes memory few
-    by_call (Close d) within few = nothing_copied a.caller a.at (effect_on (Close d) bytes s).bytes memory few
-    by_call (Write d n) within few = nothing_copied a.caller a.at (effect_on (Write d n) bytes s).bytes memory few
-    by_call (Getc d) within few = nothing_copied a.caller a.at (effect_on (Getc d) bytes s).bytes memory few
-    by_call (Putc d b) within few = nothing_copied a.caller a.at (effect_on (Putc d b) bytes s).bytes memory few
-    by_call (Seek d n) within few = nothing_copied a.caller a.at (effect_on (Seek d n) bytes s).bytes memory few
-    by_call (Truncate d) within few = nothing_copied a.caller a.at (effect_on (Truncate d) bytes s).bytes memory few
-    by_call (Size d) within few = nothing_copied a.caller a.at (effect_on (Size d) bytes s).bytes memory few
+    by_call (Open name mode) within few = nothing_copied a.caller a.at (file_effect (Open name mode) bytes s).bytes memory few
+    by_call (Delete name) within few = nothing_copied a.caller a.at (file_effect (Delete name) bytes s).bytes memory few
+    by_call (Close d) within few = nothing_copied a.caller a.at (file_effect (Close d) bytes s).bytes memory few
+    by_call (Write d n) within few = nothing_copied a.caller a.at (file_effect (Write d n) bytes s).bytes memory few
+    by_call (Getc d) within few = nothing_copied a.caller a.at (file_effect (Getc d) bytes s).bytes memory few
+    by_call (Putc d b) within few = nothing_copied a.caller a.at (file_effect (Putc d b) bytes s).bytes memory few
+    by_call (Seek d n) within few = nothing_copied a.caller a.at (file_effect (Seek d n) bytes s).bytes memory few
+    by_call (Truncate d) within few = nothing_copied a.caller a.at (file_effect (Truncate d) bytes s).bytes memory few
+    by_call (Size d) within few = nothing_copied a.caller a.at (file_effect (Size d) bytes s).bytes memory few
 
 -- the first call takes effect
 sound_effect : (calls : List FileRequest) (moment : FileMoment) (x : FileStep) → x.work.calls ≡ calls → IsSoundStep x
@@ -87,7 +87,7 @@ sound_effect [] moment x e sound = sound
 sound_effect (a ∷ calls) moment x e sound =
     let right : AllByRecursion IsFileRequest (a ∷ calls) = subst (AllByRecursion IsFileRequest) e sound.work.calls in
     let have : HaveCallers caller_of (a ∷ calls) = subst (HaveCallers caller_of) e sound.work.callers in
-    let effect = effect_on a.call x.work.bytes x.work.system in
+    let effect = file_effect a.call x.work.bytes x.work.system in
     let memory = copied a.caller a.at effect.bytes x.memory in
     let size : length memory ≡ ram_size = memory_size a x.work.bytes x.memory x.work.system right.0 sound.memory in
     record {
@@ -122,7 +122,7 @@ sound_turn x may sound = by_calls x.work.calls refl may
           memory = sound.memory;
         }
 
-pub sound_completed : (k : ℕ) (x : FileStep) → least_effects x.work.calls x.work ≤ k → IsSoundStep x → IsSoundStep (completed k x)
+pub sound_completed : (k : ℕ) (x : FileStep) → least_effects x.work.calls x.work ≤ k → IsSoundStep x → IsSoundStep (calls_completed k x)
 sound_completed zero x may sound = sound_turn x may sound
 sound_completed (suc k) x may sound = sound_next k (first_effect x.work.calls Finished x) (sound_effect x.work.calls Finished x refl sound)
 
@@ -154,27 +154,29 @@ sound_issued (suc choice) a memory w may caller right size sound = by_calls w.ca
 
 -- A process was killed.
 sound_calls : (p : ℕ) (l : List FileRequest) → AllByRecursion IsFileRequest l
-    → AllByRecursion IsFileRequest (callers.given_up caller_of orphaned p l)
+    → AllByRecursion IsFileRequest (callers.given_up caller_of orphaned_call p l)
 sound_calls p [] right = tt
 sound_calls p (a ∷ rest) right = (
-  cond_both (is_caller p a.caller) (orphaned a) a IsFileRequest (λ _. record { call = right.0.call; range = right.0.range }) (λ _. right.0),
+  cond_both (is_caller p a.caller) (orphaned_call a) a IsFileRequest (λ _. record { call = right.0.call; range = right.0.range })
+      (λ _. right.0),
   all_filter IsFileRequest (λ (b : FileRequest). not (is_caller p b.caller)) rest right.1,
 )
 
 first_stays : (p : ℕ) (l left : List FileRequest) (w : FileWork) → IsFirst l w
-    → IsFirst (callers.given_up caller_of orphaned p l) (record w { calls = left })
+    → IsFirst (callers.given_up caller_of orphaned_call p l) (record w { calls = left })
 first_stays p [] left w first = first
 first_stays p (a ∷ rest) left w first =
-    cond_both (is_caller p a.caller) (orphaned a) a
+    cond_both (is_caller p a.caller) (orphaned_call a) a
     (λ (b : FileRequest). (w.turns < most_turns b.call w.system) × HasBytes b.call w.bytes) (λ _. first) (λ _. first)
 
-pub sound_given_up : (p : ℕ) (w : FileWork) → IsSoundWork w → IsSoundWork (given_up p w)
+pub sound_given_up : (p : ℕ) (w : FileWork) → IsSoundWork w → IsSoundWork (calls_given_up p w)
 sound_given_up p w sound = record {
   system = sound.system;
   calls = sound_calls p w.calls sound.calls;
-  callers = have_callers_given_up caller_of orphaned p w.calls sound.callers;
-  first = first_stays p w.calls (callers.given_up caller_of orphaned p w.calls) w sound.first;
+  callers = have_callers_given_up caller_of orphaned_call p w.calls sound.callers;
+  first = first_stays p w.calls (callers.given_up caller_of orphaned_call p w.calls) w sound.first;
 }
 
-pub callers_stay : (p : ℕ) (w : FileWork) → callers_of (given_up p w).calls ≡ filter (λ q. not (q == p)) (callers_of w.calls)
-callers_stay p w = callers_given_up caller_of orphaned (λ a. refl) p w.calls
+pub callers_stay : (p : ℕ) (w : FileWork)
+    → callers_waiting (calls_given_up p w).calls ≡ filter (λ q. not (q == p)) (callers_waiting w.calls)
+callers_stay p w = callers_given_up caller_of orphaned_call (λ a. refl) p w.calls

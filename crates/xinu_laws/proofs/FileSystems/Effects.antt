@@ -12,13 +12,13 @@ use Rattle.xinu_laws.proofs.FileSystems.Stored.{renewed, names_rewritten, count_
 use Rattle.xinu_laws.proofs.Lists.Maps.{one}
 use Rattle.xinu_laws.proofs.Lists.Orders.{all_filter, order_filter}
 use Rattle.xinu_model.specs.Files.Constants.{LF_NUM_DIR_ENT, Nlfl}
-use Rattle.xinu_model.specs.Files.Calls.{FileCall, Open, Delete, Close, Read, Write, Getc, Putc, Seek, Truncate, Size, effect_on}
-use Rattle.xinu_model.specs.Files.Opening.{opening, opened, created, open_stored, open_file, close_file, delete_file}
+use Rattle.xinu_model.specs.Files.Calls.{FileCall, Open, Delete, Close, Read, Write, Getc, Putc, Seek, Truncate, Size, file_effect}
+use Rattle.xinu_model.specs.Files.Opening.{opening, opened, with_created, open_stored, open_file, close_file, delete_file}
 use Rattle.xinu_model.specs.Files.Reading.{bytes_ahead, taken, read_file, first_byte, getc_file, seek_file, size_of_file}
 use Rattle.xinu_model.specs.Files.Room.{they_fit}
 use Rattle.xinu_model.specs.Files.Sound.{IsOpened, IsDevice, IsSoundFiles, IsFileCall}
 use Rattle.xinu_model.specs.Files.Stored.{StoredFile, empty_file, is_file_name, precedes, file_names, file_named, bytes_in, with_stored, with_contents, without_file}
-use Rattle.xinu_model.specs.Files.Systems.{OpenFile, FileSystem, FileEffect, open_at, has_open, is_open, free_device, open_bytes, with_device, moved, replies, refused, on_open}
+use Rattle.xinu_model.specs.Files.Systems.{OpenFile, FileSystem, FileEffect, open_at, has_open, is_open, free_device, open_bytes, with_device, moved, replies, refused_effect, on_open}
 use Rattle.xinu_model.specs.Files.Writing.{overwritten, files_with, have_room, fitting, put_bytes, write_file, putc_file, truncate_file}
 use Rattle.xinu_model.specs.Sound.Tables.{times, IsInOrder}
 
@@ -72,7 +72,7 @@ sound_contents s d f position bytes at within fit sound =
 
 -- a file that isn't open is made
 sound_created : (s : FileSystem) (name : List ℕ) → is_file_name name ≡ true → is_open name s ≡ false → file_named name s.files ≡ None
-    → length s.files < LF_NUM_DIR_ENT → IsSoundFiles s → IsSoundFiles (created name s)
+    → length s.files < LF_NUM_DIR_ENT → IsSoundFiles s → IsSoundFiles (with_created name s)
 sound_created s name right closed none room sound =
     let count = count_stored (empty_file name) s.files in
     record {
@@ -180,22 +180,25 @@ Keeps e = IsSoundFiles e.system
 
 opens : (s : FileSystem) → IsSoundFiles s → (name : List ℕ) (mode : OpenMode) → is_file_name name ≡ true → Keeps (open_file name mode s)
 opens s sound name mode right =
-    cond_both (is_open name s || nat_le Nlfl (free_device s.devices)) (refused s) (open_stored (file_named name s.files) name mode s) Keeps
+    cond_both (is_open name s || nat_le Nlfl (free_device s.devices)) (refused_effect s)
+    (open_stored (file_named name s.files) name mode s) Keeps
     (λ _. sound) (λ e. by_file (file_named name s.files) refl (or_parts (is_open name s) (nat_le Nlfl (free_device s.devices)) e).0)
   where
     by_file : (o : Option StoredFile) → file_named name s.files ≡ o → is_open name s ≡ false → Keeps (open_stored o name mode s)
     by_file (Some file) at closed =
-        cond_both mode.only_new (refused s) (opened name mode s) Keeps (λ _. sound) (λ _. sound_opened s name mode file closed at sound)
+        cond_both mode.only_new (refused_effect s) (opened name mode s) Keeps (λ _. sound)
+        (λ _. sound_opened s name mode file closed at sound)
     by_file None at closed =
-        cond_both (mode.only_old || nat_le LF_NUM_DIR_ENT (length s.files)) (refused s) (opened name mode (created name s)) Keeps
+        cond_both (mode.only_old || nat_le LF_NUM_DIR_ENT (length s.files)) (refused_effect s)
+        (opened name mode (with_created name s)) Keeps
         (λ _. sound)
-        (λ e. sound_opened (created name s) name mode (empty_file name) closed (named_stored (empty_file name) s.files at)
+        (λ e. sound_opened (with_created name s) name mode (empty_file name) closed (named_stored (empty_file name) s.files at)
         (sound_created s name right closed at (leb-false LF_NUM_DIR_ENT (length s.files)
         (or_parts mode.only_old (nat_le LF_NUM_DIR_ENT (length s.files)) e).1) sound))
 
 deletes : (s : FileSystem) → IsSoundFiles s → (name : List ℕ) → Keeps (delete_file name s)
 deletes s sound name =
-    cond_both (is_open name s || not (is_some (file_named name s.files))) (refused s)
+    cond_both (is_open name s || not (is_some (file_named name s.files))) (refused_effect s)
     (replies (pos 0) (record s { files = without_file name s.files })) Keeps
     (λ _. sound) (λ e. sound_deleted s name (or_parts (is_open name s) (not (is_some (file_named name s.files))) e).0 sound)
 
@@ -221,7 +224,7 @@ ahead_within s f n within =
 read_keeps : (s : FileSystem) → IsSoundFiles s → (d n : ℕ) (f : OpenFile) → open_at s d ≡ Some f → f.position ≤ length (open_bytes f s)
     → Keeps (read_file d n f s)
 read_keeps s sound d n f at within =
-    cond_both (not f.may_read) (refused s) _ Keeps (λ _. sound)
+    cond_both (not f.may_read) (refused_effect s) _ Keeps (λ _. sound)
     (λ _. cond_both (n == 0) (replies (pos 0) s) _ Keeps (λ _. sound)
     (λ _. cond_both (nat_le (length (open_bytes f s)) f.position) (replies (negsuc 1) s) (taken (bytes_ahead n f s) d f s) Keeps
     (λ _. sound)
@@ -230,7 +233,7 @@ read_keeps s sound d n f at within =
 getc_keeps : (s : FileSystem) → IsSoundFiles s → (d : ℕ) (f : OpenFile) → open_at s d ≡ Some f → f.position ≤ length (open_bytes f s)
     → Keeps (getc_file d f s)
 getc_keeps s sound d f at within =
-    cond_both (not f.may_read) (refused s) _ Keeps (λ _. sound) (λ _. by_bytes (bytes_ahead 1 f s) refl)
+    cond_both (not f.may_read) (refused_effect s) _ Keeps (λ _. sound) (λ _. by_bytes (bytes_ahead 1 f s) refl)
   where
     by_bytes : (l : List ℕ) → bytes_ahead 1 f s ≡ l → Keeps (first_byte l d f s)
     by_bytes [] e = sound
@@ -242,32 +245,34 @@ getc_keeps s sound d f at within =
 seek_keeps : (s : FileSystem) → IsSoundFiles s → (d : ℕ) (n : ℤ) (f : OpenFile) → open_at s d ≡ Some f → Keeps (seek_file d n f s)
 seek_keeps s sound d (negsuc n) f at = sound
 seek_keeps s sound d (pos n) f at =
-    cond_both (nat_lt (length (open_bytes f s)) n) (refused s) (replies (pos n) (moved d f n s)) Keeps (λ _. sound)
+    cond_both (nat_lt (length (open_bytes f s)) n) (refused_effect s) (replies (pos n) (moved d f n s)) Keeps (λ _. sound)
     (λ e. sound_moved s d f n at (ltb-false (length (open_bytes f s)) n e) sound)
 
 write_keeps : (s : FileSystem) → IsSoundFiles s → (d : ℕ) (bytes : List ℕ) (f : OpenFile) → open_at s d ≡ Some f
     → Keeps (write_file d bytes f s)
 write_keeps s sound d bytes f at =
     let k = fitting f bytes s in
-    cond_both (not f.may_write || (nat_lt 0 (length bytes) && (k == 0))) (refused s)
+    cond_both (not f.may_write || (nat_lt 0 (length bytes) && (k == 0))) (refused_effect s)
     (replies (pos k) (put_bytes (take k bytes) d f s)) Keeps
     (λ _. sound) (λ _. sound_put s d f (take k bytes) at (room_for_fitting s sound d f at bytes) sound)
 
 putc_keeps : (s : FileSystem) → IsSoundFiles s → (d b : ℕ) (f : OpenFile) → open_at s d ≡ Some f → Keeps (putc_file d b f s)
 putc_keeps s sound d b f at =
-    cond_both (not f.may_write || not (have_room f (b ∷ []) s)) (refused s) (replies (pos 0) (put_bytes (b ∷ []) d f s)) Keeps (λ _. sound)
+    cond_both (not f.may_write || not (have_room f (b ∷ []) s)) (refused_effect s) (replies (pos 0) (put_bytes (b ∷ []) d f s)) Keeps
+    (λ _. sound)
     (λ e. sound_put s d f (b ∷ []) at (not-false (have_room f (b ∷ []) s)
     (or_parts (not f.may_write) (not (have_room f (b ∷ []) s)) e).1) sound)
 
 truncate_keeps : (s : FileSystem) → IsSoundFiles s → (d : ℕ) (f : OpenFile) → open_at s d ≡ Some f → Keeps (truncate_file d f s)
 truncate_keeps s sound d f at =
-    cond_both (not f.may_write) (refused s) (replies (pos 0) (record (moved d f 0 s) { files = with_contents f.name [] s.files })) Keeps
+    cond_both (not f.may_write) (refused_effect s)
+    (replies (pos 0) (record (moved d f 0 s) { files = with_contents f.name [] s.files })) Keeps
     (λ _. sound)
     (λ _. sound_contents s d f 0 [] at (let z : 0 ≤ 0 = omega arith in z) (fit_emptied s.blocks f.name s.files sound.fit) sound)
 
 -- Each effect keeps what always holds.
 pub effect_keeps : (call : FileCall) (bytes : List ℕ) (s : FileSystem) → IsFileCall call → IsSoundFiles s
-    → IsSoundFiles (effect_on call bytes s).system
+    → IsSoundFiles (file_effect call bytes s).system
 effect_keeps (Open name mode) bytes s right sound = opens s sound name mode right
 effect_keeps (Delete name) bytes s right sound = deletes s sound name
 effect_keeps (Close d) bytes s right sound = on_device s sound d (λ f. close_file d f s) (λ f at within. sound_closed s d sound)

@@ -3,7 +3,7 @@ use Rattle.std.specs.Prelude.{ℕ, List, [], ◌∷◌, replicate, Some, pos}
 use Rattle.xinu_laws.specs.Examples.FileSystems.{mode_rw, blank_files}
 use Rattle.xinu_model.specs.Files.Calls.{FileCall, Open, Read, Write, Putc, Seek}
 use Rattle.xinu_model.specs.Files.Systems.{FileSystem}
-use Rattle.xinu_model.specs.Files.Work.{FileRequest, FileWork, FileStep, issued, given_up}
+use Rattle.xinu_model.specs.Files.Work.{FileRequest, FileWork, FileStep, issued, calls_given_up}
 
 -- no call is under way
 abbrev pub idle_work : FileSystem → FileWork
@@ -25,7 +25,7 @@ abbrev pub writing_by_one : FileStep
 writing_by_one = issued 0 (made_by 1 (Write 0 600) 100) opened_by_one.memory opened_by_one.work
 
 abbrev pub killed_writer : FileStep
-killed_writer = record writing_by_one { work = given_up 1 writing_by_one.work }
+killed_writer = record writing_by_one { work = calls_given_up 1 writing_by_one.work }
 
 -- a file with one byte, 65, at whose start process 1 reads a byte to address 100, while process 2 waits to write the byte at address 100
 abbrev pub one_byte_stored : FileStep
