@@ -1,7 +1,7 @@
--- Calls on files one after another, and which file a call is about.
-use Rattle.std.specs.Prelude.{ℕ, Bool, List, [], ◌∷◌, ℤ, bytes_eq}
-use Rattle.xinu_model.specs.Files.Calls.{FileCall, Open, Delete, Close, Read, Write, Getc, Putc, Seek, Truncate, Size, effect_on}
-use Rattle.xinu_model.specs.Files.Systems.{FileSystem, open_at, has_open}
+-- Calls on files one after another, and which file and which device a call is about.
+use Rattle.std.specs.Prelude.{ℕ, Bool, List, [], ◌∷◌, Option, Some, None, ℤ, bytes_eq}
+use Rattle.xinu_model.specs.Files.Calls.{FileCall, Open, Delete, Close, Read, Write, Getc, Putc, Seek, Truncate, Size, file_effect}
+use Rattle.xinu_model.specs.Files.Systems.{FileSystem, open_at, has_open, free_device}
 
 -- whether a call names the file of this name, or its device has it open
 abbrev pub is_about : List ℕ → FileCall → FileSystem → Bool
@@ -16,6 +16,19 @@ is_about name (Seek d n) s = has_open name (open_at s d)
 is_about name (Truncate d) s = has_open name (open_at s d)
 is_about name (Size d) s = has_open name (open_at s d)
 
+-- the device that a call is on, or that an open would give
+abbrev pub device_of : FileCall → FileSystem → Option ℕ
+device_of (Open name mode) s = Some (free_device s.devices)
+device_of (Delete name) s = None
+device_of (Close d) s = Some d
+device_of (Read d n) s = Some d
+device_of (Write d n) s = Some d
+device_of (Getc d) s = Some d
+device_of (Putc d b) s = Some d
+device_of (Seek d n) s = Some d
+device_of (Truncate d) s = Some d
+device_of (Size d) s = Some d
+
 -- a call with the bytes that it writes, if it does
 pub record FileTask : Type 0 where
   pub call : FileCall
@@ -24,8 +37,8 @@ pub record FileTask : Type 0 where
 -- the replies to calls, and the file system after them
 abbrev pub replies_to : List FileTask → FileSystem → List ℤ
 replies_to [] s = []
-replies_to (t ∷ tasks) s = let e = effect_on t.call t.bytes s in e.reply ∷ replies_to tasks e.system
+replies_to (t ∷ tasks) s = let e = file_effect t.call t.bytes s in e.reply ∷ replies_to tasks e.system
 
 abbrev pub after_tasks : List FileTask → FileSystem → FileSystem
 after_tasks [] s = s
-after_tasks (t ∷ tasks) s = after_tasks tasks (effect_on t.call t.bytes s).system
+after_tasks (t ∷ tasks) s = after_tasks tasks (file_effect t.call t.bytes s).system

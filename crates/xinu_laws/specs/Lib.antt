@@ -2,6 +2,7 @@ pub mod Apart
 pub mod Consoles
 pub mod Examples
 pub mod FileEffects
+pub mod FileSteps
 pub mod Frame
 pub mod FreeCells
 pub mod GivingAway

@@ -1,18 +1,20 @@
 //! The files and the open devices by themselves (book, chapter 19): what always holds of them, and what the calls on files do.
 
-ghost use Rattle.std.specs.Prelude.{◌≡◌, ◌+◌, ◌<◌, ◌≤◌, ℕ, true, false, List, [], ◌∷◌, ◌++◌, length, take, drop, replicate, Some, None, pos};
+ghost use Rattle.std.specs.Prelude.{◌≡◌, ◌≢◌, ◌+◌, ◌<◌, ◌≤◌, ℕ, true, false, List, [], ◌∷◌, ◌++◌, length, take, drop, replicate, Some, None, pos};
 ghost use Rattle.std.specs.List.{AllByRecursion};
 ghost use Rattle.xinu_base.specs.Constants.{OK, SYSERR, EOF};
+ghost use Rattle.xinu_base.specs.declared.files.OpenMode.{OpenMode};
 ghost use Rattle.xinu_laws.specs.Examples.FileSystems.{blank_files, mode_rw, one_file, full_disk, big_file, modes, seven_opens};
-ghost use Rattle.xinu_laws.specs.FileEffects.{is_about, replies_to, after_tasks};
-ghost use Rattle.xinu_model.specs.Files.Calls.{FileCall, Open, Delete, Read, Write, Seek, effect_on};
-ghost use Rattle.xinu_model.specs.Files.Constants.{LF_NUM_DIR_ENT};
+ghost use Rattle.xinu_laws.specs.FileEffects.{is_about, device_of, replies_to, after_tasks};
+ghost use Rattle.xinu_model.specs.Files.Calls.{FileCall, Open, Delete, Read, Write, Seek, file_effect};
+ghost use Rattle.xinu_model.specs.Files.Constants.{LF_NUM_DIR_ENT, LFILE0};
 ghost use Rattle.xinu_model.specs.Files.Issue.{open_call};
+ghost use Rattle.xinu_model.specs.Files.Opening.{opening};
 ghost use Rattle.xinu_model.specs.Files.Reading.{bytes_ahead, taken};
 ghost use Rattle.xinu_model.specs.Files.Room.{they_fit};
 ghost use Rattle.xinu_model.specs.Files.Sound.{IsSoundFiles, IsFileCall};
 ghost use Rattle.xinu_model.specs.Files.Stored.{StoredFile, is_file_name, precedes, file_names, file_named};
-ghost use Rattle.xinu_model.specs.Files.Systems.{OpenFile, FileSystem, open_at, open_bytes, closed_system, replies};
+ghost use Rattle.xinu_model.specs.Files.Systems.{OpenFile, FileSystem, open_at, open_bytes, free_device, closed_system, replies};
 ghost use Rattle.xinu_model.specs.Files.Writing.{overwritten, have_room, fitting};
 ghost use Rattle.xinu_model.specs.Sound.Tables.{IsInOrder};
 
@@ -23,50 +25,64 @@ pub fn files_stay_sound()
         IsInOrder (λ name other. precedes name other ≡ true) (file_names files) → length files ≤ LF_NUM_DIR_ENT →
         they_fit blocks files ≡ true → IsSoundFiles (closed_system blocks files) }
     ensures effects { (call : FileCall) (bytes : List ℕ) (s : FileSystem) → IsFileCall call → IsSoundFiles s →
-        IsSoundFiles (effect_on call bytes s).system }
-    ensures blocks { (call : FileCall) (bytes : List ℕ) (s : FileSystem) → (effect_on call bytes s).system.blocks ≡ s.blocks }
+        IsSoundFiles (file_effect call bytes s).system }
+    ensures blocks { (call : FileCall) (bytes : List ℕ) (s : FileSystem) → (file_effect call bytes s).system.blocks ≡ s.blocks }
 {}
 
 /// A call that is refused at its effect changes nothing and gives no bytes, and neither does one that is told the end of its file.
 pub fn refused_effects_change_nothing()
-    ensures refused { (call : FileCall) (bytes : List ℕ) (s : FileSystem) → (effect_on call bytes s).reply ≡ SYSERR →
-        effect_on call bytes s ≡ replies SYSERR s }
-    ensures ended { (call : FileCall) (bytes : List ℕ) (s : FileSystem) → (effect_on call bytes s).reply ≡ EOF →
-        effect_on call bytes s ≡ replies EOF s }
+    ensures refused { (call : FileCall) (bytes : List ℕ) (s : FileSystem) → (file_effect call bytes s).reply ≡ SYSERR →
+        file_effect call bytes s ≡ replies SYSERR s }
+    ensures ended { (call : FileCall) (bytes : List ℕ) (s : FileSystem) → (file_effect call bytes s).reply ≡ EOF →
+        file_effect call bytes s ≡ replies EOF s }
 {}
 
-/// No call changes a file that it neither names nor has open. A file that was deleted is gone.
+/// No call changes a file that it neither names nor has open, nor a device that it isn't on. A file that was deleted is gone.
 pub fn other_files_stay()
     ensures same { (call : FileCall) (bytes : List ℕ) (s : FileSystem) (name : List ℕ) → is_about name call s ≡ false →
-        file_named name (effect_on call bytes s).system.files ≡ file_named name s.files }
-    ensures deleted { (name bytes : List ℕ) (s : FileSystem) → (effect_on (Delete name) bytes s).reply ≡ OK →
-        file_named name (effect_on (Delete name) bytes s).system.files ≡ None }
+        file_named name (file_effect call bytes s).system.files ≡ file_named name s.files }
+    ensures devices { (call : FileCall) (bytes : List ℕ) (s : FileSystem) (d : ℕ) → device_of call s ≢ Some d →
+        open_at (file_effect call bytes s).system d ≡ open_at s d }
+    ensures deleted { (name bytes : List ℕ) (s : FileSystem) → (file_effect (Delete name) bytes s).reply ≡ OK →
+        file_named name (file_effect (Delete name) bytes s).system.files ≡ None }
+{}
+
+/// An open that is carried out gives the lowest device that has nothing open, at the beginning of the file.
+pub fn open_gives_the_lowest_device()
+    ensures reply { (s : FileSystem) (name bytes : List ℕ) (mode : OpenMode) (k : ℕ) →
+        (file_effect (Open name mode) bytes s).reply ≡ pos k → k ≡ LFILE0 + free_device s.devices }
+    ensures opened { (s : FileSystem) (name bytes : List ℕ) (mode : OpenMode) (k : ℕ) → IsSoundFiles s →
+        (file_effect (Open name mode) bytes s).reply ≡ pos k →
+        open_at (file_effect (Open name mode) bytes s).system (free_device s.devices) ≡ Some (opening name mode) }
+    ensures free { (s : FileSystem) → open_at s (free_device s.devices) ≡ None }
+    ensures lowest { (s : FileSystem) (d : ℕ) → d < free_device s.devices → open_at s d ≢ None }
 {}
 
 /// A write puts as many of its bytes as there is room for: there is room for what it puts, and for no more. If it may write, it is refused
 /// only if there is room for no byte.
 pub fn writes_put_what_fits()
     ensures count { (s : FileSystem) (d n k : ℕ) (f : OpenFile) (bytes : List ℕ) → open_at s d ≡ Some f →
-        (effect_on (Write d n) bytes s).reply ≡ pos k → k ≡ fitting f bytes s }
+        (file_effect (Write d n) bytes s).reply ≡ pos k → k ≡ fitting f bytes s }
     ensures room { (s : FileSystem) (d : ℕ) (f : OpenFile) (bytes : List ℕ) → IsSoundFiles s → open_at s d ≡ Some f →
         have_room f (take (fitting f bytes s) bytes) s ≡ true }
     ensures most { (s : FileSystem) (f : OpenFile) (bytes : List ℕ) (k : ℕ) → fitting f bytes s < k → k ≤ length bytes →
         have_room f (take k bytes) s ≡ false }
     ensures refused { (s : FileSystem) (d n : ℕ) (f : OpenFile) (bytes : List ℕ) → open_at s d ≡ Some f → f.may_write ≡ true →
-        (effect_on (Write d n) bytes s).reply ≡ SYSERR → have_room f (take 1 bytes) s ≡ false }
+        (file_effect (Write d n) bytes s).reply ≡ SYSERR → have_room f (take 1 bytes) s ≡ false }
 {}
 
 /// The bytes that were written are read back at their position, and those before and after them stay.
 pub fn written_bytes_are_read_back()
     ensures back { (s : FileSystem) (d n k : ℕ) (f : OpenFile) (bytes : List ℕ) → IsSoundFiles s → open_at s d ≡ Some f →
-        f.may_read ≡ true → 0 < k → (effect_on (Write d n) bytes s).reply ≡ pos k →
-        (effect_on (Read d k) [] (effect_on (Seek d (pos f.position)) [] (effect_on (Write d n) bytes s).system).system).bytes ≡ take k bytes }
+        f.may_read ≡ true → 0 < k → (file_effect (Write d n) bytes s).reply ≡ pos k →
+        (file_effect (Read d k) [] (file_effect (Seek d (pos f.position)) [] (file_effect (Write d n) bytes s).system).system).bytes ≡
+        take k bytes }
     ensures before { (position : ℕ) (new old : List ℕ) → position ≤ length old →
         take position (overwritten position new old) ≡ take position old }
     ensures after { (position : ℕ) (new old : List ℕ) → position ≤ length old →
         drop (position + length new) (overwritten position new old) ≡ drop (position + length new) old }
     ensures read { (s : FileSystem) (d n : ℕ) (f : OpenFile) → open_at s d ≡ Some f → f.may_read ≡ true → 0 < n →
-        f.position < length (open_bytes f s) → effect_on (Read d n) [] s ≡ taken (bytes_ahead n f s) d f s }
+        f.position < length (open_bytes f s) → file_effect (Read d n) [] s ≡ taken (bytes_ahead n f s) d f s }
 {}
 
 /// What some calls answer: one file of one byte, from its making to its end; a full disk, on which a write is cut short and another
@@ -76,7 +92,7 @@ pub fn file_calls_answer()
         pos 4 ∷ OK ∷ pos 1 ∷ SYSERR ∷ OK ∷ pos 65 ∷ EOF ∷ OK ∷ pos 0 ∷ SYSERR ∷ OK ∷ OK ∷ SYSERR ∷ SYSERR ∷ [] }
     ensures nothing_left { after_tasks one_file (blank_files 256) ≡ blank_files 256 }
     ensures full_disk { replies_to full_disk (blank_files 14) ≡ pos 4 ∷ pos 2048 ∷ pos 5 ∷ pos 1536 ∷ SYSERR ∷ [] }
-    ensures big_file { replies_to big_file (blank_files 256) ≡ pos 4 ∷ pos 8193 ∷ OK ∷ pos 4 ∷ pos 8191 ∷ pos 2 ∷ OK ∷ [] }
+    ensures big_file { replies_to big_file (blank_files 256) ≡ pos 4 ∷ pos 8193 ∷ OK ∷ pos 4 ∷ pos 8191 ∷ pos 2 ∷ OK ∷ EOF ∷ OK ∷ [] }
     ensures modes { replies_to modes (blank_files 256) ≡ SYSERR ∷ pos 4 ∷ SYSERR ∷ OK ∷ OK ∷ SYSERR ∷ pos 4 ∷ SYSERR ∷ pos 65 ∷ OK ∷
         pos 4 ∷ SYSERR ∷ OK ∷ [] }
     ensures seventh { replies_to seven_opens (blank_files 256) ≡ pos 4 ∷ pos 5 ∷ pos 6 ∷ pos 7 ∷ pos 8 ∷ pos 9 ∷ SYSERR ∷ OK ∷ pos 6 ∷ [] }
@@ -88,7 +104,8 @@ pub fn texts_that_open()
     ensures longest { open_call (replicate 27 97) (114 ∷ 119 ∷ []) ≡ Some (Open (replicate 27 97) mode_rw) }
     ensures too_long { open_call (replicate 28 97) (114 ∷ 119 ∷ []) ≡ None }
     ensures empty { open_call [] (114 ∷ 119 ∷ []) ≡ None }
-    ensures no_letter { open_call (97 ∷ []) [] ≡ Some (Open (97 ∷ []) (record { read = false; write = false; only_old = false; only_new = false })) }
+    ensures no_letter { open_call (97 ∷ []) [] ≡
+        Some (Open (97 ∷ []) (record { read = false; write = false; only_old = false; only_new = false })) }
     ensures other_letter { open_call (97 ∷ []) (114 ∷ 120 ∷ []) ≡ None }
     ensures twice { open_call (97 ∷ []) (114 ∷ 114 ∷ []) ≡ None }
     ensures old_and_new { open_call (97 ∷ []) (111 ∷ 110 ∷ []) ≡ None }

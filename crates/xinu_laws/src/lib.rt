@@ -13,6 +13,7 @@
 //! | [`signals`] | n signals at once are n signals, one after another |
 //! | [`console`] | the console by itself stays sound; committed items go after the others and are counted; a transmission sends echo before output, the first of each first; erasing undoes typing; what some typed characters leave |
 //! | [`files`] | files and open devices by themselves stay sound; a refused call changes nothing, and no call another file; writes put what fits and are read back; what some calls answer |
+//! | [`file_work`] | calls on files under way stay sound, take effect in their order, and within their bound; what becomes of a killed process's calls; what is at rest |
 //! | [`names`] | what a name is mapped to: the mapping ends, and mounts that come later change nothing for a name that is mapped already; what some mounted prefixes map |
 //! | [`raw_disk`] | the raw disk by itself stays sound; requests are served once each, in their order; what a completion does to blocks; what becomes of a killed process's requests |
 //! | [`memory`] | memory comes from the least place and a stack from the greatest, both only from what was free; refused only if there is no such place; the heap keeps its extent |
@@ -25,6 +26,7 @@
 
 pub mod console;
 pub mod examples;
+pub mod file_work;
 pub mod files;
 pub mod footprints;
 pub mod memory;

@@ -46,3 +46,16 @@ pub fn mounted_names()
     ensures first { map_name (names_row (97 ∷ []) (99 ∷ []) 0 ∷ names_row (97 ∷ 98 ∷ []) [] 2 ∷ []) (97 ∷ 98 ∷ []) ≡
         Some (record { device = 0; name = 99 ∷ 98 ∷ [] }) }
 {}
+
+/// Which rows are mounted: a text of 31 bytes but not of 32, as prefix and as replacement, also an empty one; the fortieth row but not
+/// the next.
+pub fn rows_that_mount()
+    ensures empty { mounted (names_row [] [] 3) [] ≡ Some (names_row [] [] 3 ∷ []) }
+    ensures longest { mounted (names_row (replicate 31 97) (replicate 31 98) 3) [] ≡
+        Some (names_row (replicate 31 97) (replicate 31 98) 3 ∷ []) }
+    ensures long_prefix { mounted (names_row (replicate 32 97) [] 3) [] ≡ None }
+    ensures long_replacement { mounted (names_row [] (replicate 32 97) 3) [] ≡ None }
+    ensures fortieth { mounted (names_row [] [] 3) (replicate 39 (names_row [] [] 2)) ≡
+        Some (replicate 39 (names_row [] [] 2) ++ names_row [] [] 3 ∷ []) }
+    ensures one_more { mounted (names_row [] [] 3) (replicate 40 (names_row [] [] 2)) ≡ None }
+{}

@@ -3,9 +3,9 @@
 ghost use Rattle.std.specs.Prelude.{◌≡◌, ◌≢◌, ◌++◌, ◌<◌, ℕ, Bool, true, false, List, [], ◌∷◌, length, filter, not, ◌==◌, slice_set, Some, None, IsSome};
 ghost use Rattle.xinu_base.specs.Constants.{OK, SYSERR};
 ghost use Rattle.xinu_laws.specs.Examples.RawDisks.{block_of, blank_disk, write_request, read_request};
-ghost use Rattle.xinu_laws.specs.RawDisks.{DiskStep, Requests, Completes, after_steps, made_in, served_in, requests_of, replies_of};
-ghost use Rattle.xinu_model.specs.RawDisk.Completions.{Served, served, completed, after_completion};
-ghost use Rattle.xinu_model.specs.RawDisk.Requests.{Request, RawDisk, has_block, block_at, requested, orphaned, callers_of, given_up};
+ghost use Rattle.xinu_laws.specs.RawDisks.{DiskStep, Requests, Completes, after_steps, made_in, served_in, requests_of, replies_given};
+ghost use Rattle.xinu_model.specs.RawDisk.Completions.{Served, served, raw_completed, after_completion};
+ghost use Rattle.xinu_model.specs.RawDisk.Requests.{Request, RawDisk, has_block, block_at, requested, orphaned_request, requesters, requests_given_up};
 ghost use Rattle.xinu_model.specs.RawDisk.Sound.{IsRequest, IsSoundRawDisk};
 
 /// Each step keeps the raw disk sound, and the number of its blocks: a request for a block that there is, a completion, good or failed,
@@ -13,15 +13,15 @@ ghost use Rattle.xinu_model.specs.RawDisk.Sound.{IsRequest, IsSoundRawDisk};
 pub fn raw_disks_stay_sound()
     ensures requested { (r : Request) (d : RawDisk) → IsSome r.caller → IsRequest (length d.blocks) r → IsSoundRawDisk d →
         IsSoundRawDisk (requested r d) }
-    ensures completed { (good : Bool) (d : RawDisk) → IsSoundRawDisk d → IsSoundRawDisk (after_completion (completed good d) d) }
-    ensures given_up { (p : ℕ) (d : RawDisk) → IsSoundRawDisk d → IsSoundRawDisk (given_up p d) }
-    ensures size { (good : Bool) (d : RawDisk) → length (after_completion (completed good d) d).blocks ≡ length d.blocks }
+    ensures completed { (good : Bool) (d : RawDisk) → IsSoundRawDisk d → IsSoundRawDisk (after_completion (raw_completed good d) d) }
+    ensures given_up { (p : ℕ) (d : RawDisk) → IsSoundRawDisk d → IsSoundRawDisk (requests_given_up p d) }
+    ensures size { (good : Bool) (d : RawDisk) → length (after_completion (raw_completed good d) d).blocks ≡ length d.blocks }
 {}
 
 /// A completion serves the first request and leaves the others; none is served only if there is none.
 pub fn the_first_request_is_served()
-    ensures first { (good : Bool) (d : RawDisk) (s : Served) → completed good d ≡ Some s → d.requests ≡ s.request ∷ s.disk.requests }
-    ensures nothing { (good : Bool) (d : RawDisk) → completed good d ≡ None → d.requests ≡ [] }
+    ensures first { (good : Bool) (d : RawDisk) (s : Served) → raw_completed good d ≡ Some s → d.requests ≡ s.request ∷ s.disk.requests }
+    ensures nothing { (good : Bool) (d : RawDisk) → raw_completed good d ≡ None → d.requests ≡ [] }
 {}
 
 /// Through whatever requests and completions, each request is served once, in the order in which they were made, or still waits.
@@ -44,27 +44,29 @@ pub fn blocks_are_transferred()
 /// A killed process waits for no request any longer, and the others wait as they did. Its request that was the first is served as it
 /// would have been.
 pub fn killed_callers_wait_no_longer()
-    ensures callers { (p : ℕ) (d : RawDisk) → callers_of (given_up p d).requests ≡ filter (λ q. not (q == p)) (callers_of d.requests) }
+    ensures callers { (p : ℕ) (d : RawDisk) →
+        requesters (requests_given_up p d).requests ≡ filter (λ q. not (q == p)) (requesters d.requests) }
     ensures first { (p : ℕ) (good : Bool) (d : RawDisk) →
-        (after_completion (completed good (given_up p d)) (given_up p d)).blocks ≡ (after_completion (completed good d) d).blocks }
+        (after_completion (raw_completed good (requests_given_up p d)) (requests_given_up p d)).blocks ≡
+        (after_completion (raw_completed good d) d).blocks }
 {}
 
 /// A written block, a failed read, and a block that there isn't, on a disk of 64 blocks. A writer that is killed while its request is the
 /// first: after a good completion the block is written, after a failed one it isn't, and nobody is answered.
 pub fn raw_disk()
-    ensures replies { replies_of (served_in (Requests (write_request 63 (block_of 65)) ∷ Completes true ∷ Requests (read_request 63) ∷
+    ensures replies { replies_given (served_in (Requests (write_request 63 (block_of 65)) ∷ Completes true ∷ Requests (read_request 63) ∷
         Completes false ∷ Completes true ∷ []) blank_disk) ≡ OK ∷ SYSERR ∷ [] }
     ensures outside { has_block 64 blank_disk ≡ false }
     ensures inside { has_block 63 blank_disk ≡ true }
     ensures block { block_at (after_steps (Requests (write_request 63 (block_of 65)) ∷ Completes true ∷ []) blank_disk) 63 ≡ block_of 65 }
-    ensures killed { completed true (given_up 1 (requested (write_request 1 (block_of 65)) blank_disk)) ≡ Some (record {
-      request = orphaned (write_request 1 (block_of 65));
+    ensures killed { raw_completed true (requests_given_up 1 (requested (write_request 1 (block_of 65)) blank_disk)) ≡ Some (record {
+      request = orphaned_request (write_request 1 (block_of 65));
       reply = OK;
       bytes = [];
       disk = record blank_disk { blocks = slice_set blank_disk.blocks 1 (block_of 65) };
     }) }
-    ensures killed_in_vain { completed false (given_up 1 (requested (write_request 1 (block_of 65)) blank_disk)) ≡ Some (record {
-      request = orphaned (write_request 1 (block_of 65));
+    ensures killed_in_vain { raw_completed false (requests_given_up 1 (requested (write_request 1 (block_of 65)) blank_disk)) ≡ Some (record {
+      request = orphaned_request (write_request 1 (block_of 65));
       reply = SYSERR;
       bytes = [];
       disk = blank_disk;

@@ -40,7 +40,8 @@ first_counted test x l all =
     cond_both (test x) (suc (times test l)) (times test l) (λ n. n ≡ 0 → (test x ≡ false) × (times test l ≡ 0))
     (λ _ h. absurd (omega (arith, h))) (λ b h. (b, h)) all
 
-zero_passes : {A : Type 0} (test : A → Bool) (l : List A) (z : A) → test z ≡ false → times test l ≡ 0 → (e : ℕ) → test (get_or l e z) ≡ false
+zero_passes : {A : Type 0} (test : A → Bool) (l : List A) (z : A) → test z ≡ false → times test l ≡ 0 → (e : ℕ)
+    → test (get_or l e z) ≡ false
 zero_passes test [] z none all e = none
 zero_passes test (x ∷ l) z none all zero = (first_counted test x l all).0
 zero_passes test (x ∷ l) z none all (suc e) = zero_passes test l z none (first_counted test x l all).1 e
@@ -101,7 +102,8 @@ once_written devices d x name few taken =
     by_test (has_open name x) refl n
   where
     by_test : (b : Bool) → has_open name x ≡ b
-        → times (has_open name) (set devices d x) + one (has_open name (get_or devices d None)) ≤ times (has_open name) devices + one (has_open name x)
+        → times (has_open name) (set devices d x) + one (has_open name (get_or devices d None)) ≤ times (has_open name) devices
+        + one (has_open name x)
         → times (has_open name) (set devices d x) ≤ 1
     by_test true e n = let few = taken e in let b = ap one e in omega (arith, n, few, b)
     by_test false e n = let b = ap one e in omega (arith, n, few, b)

@@ -8,7 +8,8 @@ use Rattle.xinu_model.specs.Files.Writing.{greatest}
 use Rattle.xinu_model.specs.Sound.Tables.{total}
 
 -- files that need no more fit if these do
-pub fit_fewer : (blocks : ℕ) (files fewer : List StoredFile) → data_needed fewer ≤ data_needed files → index_needed fewer ≤ index_needed files
+pub fit_fewer : (blocks : ℕ) (files fewer : List StoredFile) → data_needed fewer ≤ data_needed files
+    → index_needed fewer ≤ index_needed files
     → they_fit blocks files ≡ true → they_fit blocks fewer ≡ true
 fit_fewer blocks files fewer by_data by_index fit =
     let both = and_parts (nat_le (data_needed files) (data_room blocks)) (nat_le (index_needed files) (index_room blocks)) fit in
@@ -19,7 +20,8 @@ fit_fewer blocks files fewer by_data by_index fit =
     (le-leb (index_needed fewer) (index_room blocks) (omega (arith, by_index, i)))
 
 -- a file without bytes needs nothing
-total_stored : (g : StoredFile → ℕ) (file : StoredFile) (files : List StoredFile) → g file ≡ 0 → total g (with_stored file files) ≤ total g files
+total_stored : (g : StoredFile → ℕ) (file : StoredFile) (files : List StoredFile) → g file ≡ 0
+    → total g (with_stored file files) ≤ total g files
 total_stored g file [] e = omega (arith, e)
 total_stored g file (f ∷ files) e =
     let rest = total_stored g file files e in

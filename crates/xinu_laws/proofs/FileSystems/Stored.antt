@@ -62,13 +62,16 @@ absent_rewritten name bytes (f ∷ files) h =
     ∙ ap (λ l. f ∷ l) (absent_rewritten name bytes files h.1)
 
 -- a file that gets its own bytes
-pub own_rewritten : (name : List ℕ) (f : StoredFile) (files : List StoredFile) → AreOrdered (file_names files) → file_named name files ≡ Some f
+pub own_rewritten : (name : List ℕ) (f : StoredFile) (files : List StoredFile) → AreOrdered (file_names files)
+    → file_named name files ≡ Some f
     → with_contents name f.bytes files ≡ files
 own_rewritten name f [] h e = refl
 own_rewritten name f (g ∷ files) h e =
     cond_both (is_named name g) (Some g) (file_named name files) (λ o. o ≡ Some f → with_contents name f.bytes (g ∷ files) ≡ g ∷ files)
     (λ t s. (let same : g ≡ f = cc in
-    ap (λ x. x ∷ with_contents name f.bytes files) (cond-true (is_named name g) (record g { bytes = f.bytes }) g t ∙ ap (λ (x : StoredFile). let y : StoredFile = record g { bytes = x.bytes } in y) (sym same))
+    ap (λ x. x ∷ with_contents name f.bytes files)
+    (cond-true (is_named name g) (record g { bytes = f.bytes }) g t
+    ∙ ap (λ (x : StoredFile). let y : StoredFile = record g { bytes = x.bytes } in y) (sym same))
     ∙ ap (λ l. g ∷ l) (absent_rewritten name f.bytes files
     (all_weaker (λ n. precedes g.name n ≡ true) (λ n. bytes_eq n name ≡ false)
     (λ n p. subst (λ m. bytes_eq n m ≡ false) (same_bytes g.name name t) (before_differs g.name n p)) (file_names files) h.0))))
@@ -126,15 +129,18 @@ pub other_stored : (file : StoredFile) (other : List ℕ) (files : List StoredFi
     → file_named other (with_stored file files) ≡ file_named other files
 other_stored file other [] d = cond-false (is_named other file) (Some file) None d
 other_stored file other (f ∷ files) d =
-    cond_both (precedes file.name f.name) (file ∷ f ∷ files) (f ∷ with_stored file files) (λ l. file_named other l ≡ file_named other (f ∷ files))
-    (λ _. cond-false (is_named other file) (Some file) _ d) (λ _. ap (λ o. cond (is_named other f) (Some f) o) (other_stored file other files d))
+    cond_both (precedes file.name f.name) (file ∷ f ∷ files) (f ∷ with_stored file files)
+    (λ l. file_named other l ≡ file_named other (f ∷ files))
+    (λ _. cond-false (is_named other file) (Some file) _ d)
+    (λ _. ap (λ o. cond (is_named other f) (Some f) o) (other_stored file other files d))
 
 pub names_without : (name : List ℕ) (files : List StoredFile)
     → file_names (without_file name files) ≡ filter (λ n. not (bytes_eq n name)) (file_names files)
 names_without name [] = refl
 names_without name (f ∷ files) =
     cond_both (not (is_named name f)) (f ∷ without_file name files) (without_file name files)
-    (λ l. file_names l ≡ cond (not (bytes_eq f.name name)) (f.name ∷ filter (λ n. not (bytes_eq n name)) (file_names files)) (filter (λ n. not (bytes_eq n name)) (file_names files)))
+    (λ l. file_names l ≡ cond (not (bytes_eq f.name name)) (f.name ∷ filter (λ n. not (bytes_eq n name)) (file_names files))
+    (filter (λ n. not (bytes_eq n name)) (file_names files)))
     (λ e. ap (λ l. f.name ∷ l) (names_without name files) ∙ sym (cond-true (not (is_named name f)) _ _ e))
     (λ e. names_without name files ∙ sym (cond-false (not (is_named name f)) _ _ e))
 

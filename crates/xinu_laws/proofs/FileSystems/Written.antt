@@ -8,11 +8,11 @@ use Rattle.xinu_base.specs.Constants.{SYSERR}
 use Rattle.xinu_laws.proofs.FileSystems.Effects.{overwritten_size, file_of}
 use Rattle.xinu_laws.proofs.FileSystems.Rooms.{greatest_within, greater_fails}
 use Rattle.xinu_laws.proofs.FileSystems.Stored.{renewed, named_rewritten}
-use Rattle.xinu_model.specs.Files.Calls.{Read, Write, Seek, effect_on}
+use Rattle.xinu_model.specs.Files.Calls.{Read, Write, Seek, file_effect}
 use Rattle.xinu_model.specs.Files.Reading.{bytes_ahead, taken, read_file, seek_file}
 use Rattle.xinu_model.specs.Files.Sound.{IsSoundFiles}
 use Rattle.xinu_model.specs.Files.Stored.{StoredFile, bytes_in}
-use Rattle.xinu_model.specs.Files.Systems.{OpenFile, FileSystem, FileEffect, open_at, open_bytes, moved, replies, refused, on_open}
+use Rattle.xinu_model.specs.Files.Systems.{OpenFile, FileSystem, FileEffect, open_at, open_bytes, moved, replies, refused_effect, on_open}
 use Rattle.xinu_model.specs.Files.Writing.{overwritten, files_with, have_room, fitting, put_bytes, write_file}
 
 drop_take_append : (n : ℕ) (a b : List ℕ) → length a ≡ n → drop n (a ++ b) ≡ b
@@ -20,7 +20,8 @@ drop_take_append n [] b e = subst (λ k. drop k b ≡ b) e refl
 drop_take_append n (x ∷ a) b e = subst (λ k. drop k ((x ∷ a) ++ b) ≡ b) e (drop_take_append (length a) a b refl)
 
 -- the new bytes are at the position
-pub bytes_put : (position : ℕ) (new old : List ℕ) → position ≤ length old → take (length new) (drop position (overwritten position new old)) ≡ new
+pub bytes_put : (position : ℕ) (new old : List ℕ) → position ≤ length old
+    → take (length new) (drop position (overwritten position new old)) ≡ new
 bytes_put position new old within =
     let size : length (take position old) ≡ position = (let a = length-take position old in omega (arith, a, within)) in
     ap (take (length new)) (drop_take_append position (take position old) (new ++ drop (position + length new) old) size)
@@ -35,7 +36,8 @@ pub write_leaves : (s : FileSystem) (d : ℕ) (f : OpenFile) (bytes : List ℕ) 
     → Wrote s d f bytes k (write_file d bytes f s)
 write_leaves s d f bytes k e =
     let n = fitting f bytes s in
-    cond_both (not f.may_write || (nat_lt 0 (length bytes) && (n == 0))) (refused s) (replies (pos n) (put_bytes (take n bytes) d f s))
+    cond_both (not f.may_write || (nat_lt 0 (length bytes) && (n == 0))) (refused_effect s)
+    (replies (pos n) (put_bytes (take n bytes) d f s))
     (λ (x : FileEffect). x.reply ≡ pos k → Wrote s d f bytes k x) (λ _ h. cc)
     (λ _ h. (let same : n ≡ k = cc in record { count = sym same; system = ap (λ m. put_bytes (take m bytes) d f s) same })) e
 
@@ -45,11 +47,13 @@ pub more_has_no_room : (s : FileSystem) (f : OpenFile) (bytes : List ℕ) (k : �
 more_has_no_room s f bytes k more most = greater_fails (λ n. have_room f (take n bytes) s) (length bytes) k more most
 
 -- a write is refused if it may not write, or nothing of it has room
-pub refused_has_no_room : (s : FileSystem) (d : ℕ) (f : OpenFile) (bytes : List ℕ) → f.may_write ≡ true → (write_file d bytes f s).reply ≡ SYSERR
+pub refused_has_no_room : (s : FileSystem) (d : ℕ) (f : OpenFile) (bytes : List ℕ) → f.may_write ≡ true
+    → (write_file d bytes f s).reply ≡ SYSERR
     → have_room f (take 1 bytes) s ≡ false
 refused_has_no_room s d f bytes may e =
     let n = fitting f bytes s in
-    cond_both (not f.may_write || (nat_lt 0 (length bytes) && (n == 0))) (refused s) (replies (pos n) (put_bytes (take n bytes) d f s))
+    cond_both (not f.may_write || (nat_lt 0 (length bytes) && (n == 0))) (refused_effect s)
+    (replies (pos n) (put_bytes (take n bytes) d f s))
     (λ (x : FileEffect). x.reply ≡ SYSERR → have_room f (take 1 bytes) s ≡ false)
     (λ b _. (let none = sym (ap (λ m. not m || (nat_lt 0 (length bytes) && (n == 0))) may) ∙ b in
     let parts = and_parts (nat_lt 0 (length bytes)) (n == 0) none in
@@ -68,8 +72,9 @@ moved_at s d f g files position at = get_or-set_same s.devices d (Some (record g
     is_device (x ∷ devices) (suc d) at = let rest = is_device devices d at in omega (arith, rest)
 
 -- a read of bytes that there are
-pub read_gives : (s : FileSystem) (d n : ℕ) (f : OpenFile) → open_at s d ≡ Some f → f.may_read ≡ true → 0 < n → f.position < length (open_bytes f s)
-    → effect_on (Read d n) [] s ≡ taken (bytes_ahead n f s) d f s
+pub read_gives : (s : FileSystem) (d n : ℕ) (f : OpenFile) → open_at s d ≡ Some f → f.may_read ≡ true → 0 < n
+    → f.position < length (open_bytes f s)
+    → file_effect (Read d n) [] s ≡ taken (bytes_ahead n f s) d f s
 read_gives s d n f at may some ahead =
     ap (λ x. on_open x (λ f. read_file d n f s) s) at
     ∙ cond-false (not f.may_read) _ _ (ap not may)
@@ -78,7 +83,7 @@ read_gives s d n f at may some ahead =
 
 -- a seek up to the end
 pub seek_moves : (s : FileSystem) (d n : ℕ) (f : OpenFile) → open_at s d ≡ Some f → n ≤ length (open_bytes f s)
-    → effect_on (Seek d (pos n)) [] s ≡ replies (pos n) (moved d f n s)
+    → file_effect (Seek d (pos n)) [] s ≡ replies (pos n) (moved d f n s)
 seek_moves s d n f at within =
     ap (λ x. on_open x (λ f. seek_file d (pos n) f s) s) at
     ∙ cond-false (nat_lt (length (open_bytes f s)) n) _ _ (le-ltb (length (open_bytes f s)) n within)
@@ -88,45 +93,54 @@ pub written_content : (s : FileSystem) → IsSoundFiles s → (d : ℕ) (f : Ope
     → open_bytes f (put_bytes new d f s) ≡ overwritten f.position new (open_bytes f s)
 written_content s sound d f new at =
     let has = file_of s sound d f at in
-    ap bytes_in (named_rewritten f.name (overwritten f.position new (open_bytes f s)) s.files ∙ ap (λ o. renewed (overwritten f.position new (open_bytes f s)) o) has.1.0)
+    ap bytes_in (named_rewritten f.name (overwritten f.position new (open_bytes f s)) s.files
+    ∙ ap (λ o. renewed (overwritten f.position new (open_bytes f s)) o) has.1.0)
 
 -- written, sought and read
-pub read_back : (s : FileSystem) → IsSoundFiles s → (d n k : ℕ) (f : OpenFile) (bytes : List ℕ) → open_at s d ≡ Some f → f.may_read ≡ true → 0 < k
-    → (effect_on (Write d n) bytes s).reply ≡ pos k
-    → (effect_on (Read d k) [] (effect_on (Seek d (pos f.position)) [] (effect_on (Write d n) bytes s).system).system).bytes ≡ take k bytes
+pub read_back : (s : FileSystem) → IsSoundFiles s → (d n k : ℕ) (f : OpenFile) (bytes : List ℕ) → open_at s d ≡ Some f
+    → f.may_read ≡ true → 0 < k
+    → (file_effect (Write d n) bytes s).reply ≡ pos k
+    → (file_effect (Read d k) [] (file_effect (Seek d (pos f.position)) []
+    (file_effect (Write d n) bytes s).system).system).bytes ≡ take k bytes
 read_back s sound d n k f bytes at may some e =
     let new = take k bytes in
-    let wrote : Wrote s d f bytes k (write_file d bytes f s) = write_leaves s d f bytes k (sym (ap (λ x. (on_open x (λ f. write_file d bytes f s) s).reply) at) ∙ e) in
+    let wrote : Wrote s d f bytes k (write_file d bytes f s) = write_leaves s d f bytes k
+    (sym (ap (λ x. (on_open x (λ f. write_file d bytes f s) s).reply) at) ∙ e) in
     let after : FileSystem = put_bytes new d f s in
-    let left : (effect_on (Write d n) bytes s).system ≡ after = ap (λ x. (on_open x (λ f. write_file d bytes f s) s).system) at ∙ wrote.system in
+    let left : (file_effect (Write d n) bytes s).system ≡ after = ap (λ x. (on_open x (λ f. write_file d bytes f s) s).system) at
+    ∙ wrote.system in
     let g : OpenFile = record f { position = f.position + length new } in
     let at_g : open_at after d ≡ Some g = moved_at s d f f (files_with f new s) (f.position + length new) at in
     let content : open_bytes f after ≡ overwritten f.position new (open_bytes f s) = written_content s sound d f new at in
     let has = file_of s sound d f at in
     let within : f.position ≤ length (open_bytes f s) = subst (λ o. f.position ≤ length (bytes_in o)) (sym has.1.0) has.1.1 in
-    let size : f.position + length new ≤ length (open_bytes f after) = subst (λ l. f.position + length new ≤ length l) (sym content) (overwritten_size f.position new (open_bytes f s) within) in
+    let size : f.position + length new ≤ length (open_bytes f after) = subst (λ l. f.position + length new ≤ length l) (sym content)
+    (overwritten_size f.position new (open_bytes f s) within) in
     let count = wrote.count in
     let most : fitting f bytes s ≤ length bytes = greatest_within (λ m. have_room f (take m bytes) s) (length bytes) in
     let length_new : length new ≡ k = (let t = length-take k bytes in omega (arith, t, count, most)) in
-    let sought : (effect_on (Seek d (pos f.position)) [] after).system ≡ moved d g f.position after =
+    let sought : (file_effect (Seek d (pos f.position)) [] after).system ≡ moved d g f.position after =
     ap (λ (x : FileEffect). x.system) (seek_moves after d f.position g at_g (omega (arith, size))) in
     let at_f : open_at (moved d g f.position after) d ≡ Some f = moved_at after d g g after.files f.position at_g in
-    ap (λ t. (effect_on (Read d k) [] (effect_on (Seek d (pos f.position)) [] t).system).bytes) left
-    ∙ ap (λ t. (effect_on (Read d k) [] t).bytes) sought
+    ap (λ t. (file_effect (Read d k) [] (file_effect (Seek d (pos f.position)) [] t).system).bytes) left
+    ∙ ap (λ t. (file_effect (Read d k) [] t).bytes) sought
     ∙ ap (λ (x : FileEffect). x.bytes) (read_gives (moved d g f.position after) d k f at_f may some (omega (arith, size, length_new, some)))
     ∙ ap (λ l. take k (drop f.position l)) content
     ∙ ap (λ m. take m (drop f.position (overwritten f.position new (open_bytes f s)))) (sym length_new)
     ∙ bytes_put f.position new (open_bytes f s) within
 
 -- what is before and after the new bytes stays
-pub bytes_before : (position : ℕ) (new old : List ℕ) → position ≤ length old → take position (overwritten position new old) ≡ take position old
+pub bytes_before : (position : ℕ) (new old : List ℕ) → position ≤ length old
+    → take position (overwritten position new old) ≡ take position old
 bytes_before position new old within =
     let size : length (take position old) ≡ position = (let a = length-take position old in omega (arith, a, within)) in
-    ap (λ n. take n (overwritten position new old)) (sym size) ∙ take-append_seam (take position old) (new ++ drop (position + length new) old)
+    ap (λ n. take n (overwritten position new old)) (sym size) ∙ take-append_seam (take position old)
+    (new ++ drop (position + length new) old)
 
 pub bytes_after : (position : ℕ) (new old : List ℕ) → position ≤ length old
     → drop (position + length new) (overwritten position new old) ≡ drop (position + length new) old
 bytes_after position new old within =
-    let size : length (take position old ++ new) ≡ position + length new = (let a = length-take position old in let b = length-append (take position old) new in omega (arith, a, b, within)) in
+    let size : length (take position old ++ new) ≡ position + length new =
+    (let a = length-take position old in let b = length-append (take position old) new in omega (arith, a, b, within)) in
     ap (drop (position + length new)) (sym (append_assoc (take position old) new (drop (position + length new) old)))
     ∙ drop_take_append (position + length new) (take position old ++ new) (drop (position + length new) old) size

@@ -44,7 +44,8 @@ mapping_ends rows name =
 
 -- A name is replaced once if it isn't too long.
 first_step : (n : ℕ) (rows : List NameRow) (name : List ℕ) → length name ≤ NM_MAXLEN
-    → replaced_times (suc n) rows (short_enough (record { device = NAMESPACE; name = name })) ≡ replaced_times n rows (replaced_once rows name)
+    → replaced_times (suc n) rows (short_enough (record { device = NAMESPACE; name = name }))
+    ≡ replaced_times n rows (replaced_once rows name)
 first_step n rows name h =
     ap (replaced_times (suc n) rows) (cond-true (nat_le (length name) NM_MAXLEN) _ _ (le-leb (length name) NM_MAXLEN h))
 
@@ -86,7 +87,8 @@ same_again n rows name row e back = by_size n
     start = record { device = NAMESPACE; name = name }
 
     by_size : (n : ℕ) → replaced_times n rows (short_enough start) ≡ None
-    by_size zero = cond_both (nat_le (length name) NM_MAXLEN) (Some start) None (λ o. replaced_times zero rows o ≡ None) (λ _. refl) (λ _. refl)
+    by_size zero =
+        cond_both (nat_le (length name) NM_MAXLEN) (Some start) None (λ o. replaced_times zero rows o ≡ None) (λ _. refl) (λ _. refl)
     by_size (suc n) =
         cond_both (nat_le (length name) NM_MAXLEN) (Some start) None (λ o. replaced_times (suc n) rows o ≡ None)
         (λ _. ap (λ r. replaced_times n rows (replaced_by r name)) e ∙ ap (λ m. replaced_times n rows (short_enough m)) back ∙ by_size n)
@@ -97,7 +99,8 @@ pub in_a_circle : (rows : List NameRow) (name : List ℕ) (row : NameRow) → fi
 in_a_circle rows name row e back = same_again NM_MAXMAPS rows name row e back
 
 -- the first row that fits is the first with more rows after
-found_first : (rows more : List NameRow) (name : List ℕ) (row : NameRow) → first_row name rows ≡ Some row → first_row name (rows ++ more) ≡ Some row
+found_first : (rows more : List NameRow) (name : List ℕ) (row : NameRow) → first_row name rows ≡ Some row
+    → first_row name (rows ++ more) ≡ Some row
 found_first [] more name row e = cc
 found_first (r ∷ rows) more name row e =
     cond_both (fits_row name r) (Some r) (first_row name rows) (λ o. o ≡ Some row → first_row name ((r ∷ rows) ++ more) ≡ Some row)
@@ -105,7 +108,8 @@ found_first (r ∷ rows) more name row e =
     (λ b f. cond-false (fits_row name r) _ _ b ∙ found_first rows more name row f) e
 
 -- so a name that goes on goes on with more rows after
-once_more : (rows more : List NameRow) (name : List ℕ) (m : MappedName) → replaced_once rows name ≡ Some m → replaced_once (rows ++ more) name ≡ Some m
+once_more : (rows more : List NameRow) (name : List ℕ) (m : MappedName) → replaced_once rows name ≡ Some m
+    → replaced_once (rows ++ more) name ≡ Some m
 once_more rows more name m e = by_row (first_row name rows) refl e
   where
     by_row : (r : Option NameRow) → first_row name rows ≡ r → replaced_by r name ≡ Some m → replaced_once (rows ++ more) name ≡ Some m
@@ -129,5 +133,6 @@ times_more (suc n) rows more (Some x) m e =
     by_step go None at f = let none = nothing_stays n rows in cc
     by_step go (Some y) at f = ap (replaced_times n (rows ++ more)) (once_more rows more x.name y at) ∙ go (Some y) m f
 
-pub later_rows : (rows more : List NameRow) (name : List ℕ) (m : MappedName) → map_name rows name ≡ Some m → map_name (rows ++ more) name ≡ Some m
+pub later_rows : (rows more : List NameRow) (name : List ℕ) (m : MappedName) → map_name rows name ≡ Some m
+    → map_name (rows ++ more) name ≡ Some m
 later_rows rows more name m e = times_more NM_MAXMAPS rows more (short_enough (record { device = NAMESPACE; name = name })) m e

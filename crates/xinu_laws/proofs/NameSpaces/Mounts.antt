@@ -13,16 +13,25 @@ abbrev Leaves : NameRow → List NameRow → Option (List NameRow) → Type 0
 Leaves row rows None = Unit {0}
 Leaves row rows (Some more) = (more ≡ rows ++ row ∷ []) × (row.device < 10 → AreSoundNames rows → AreSoundNames more)
 
-sound_more : (row : NameRow) (rows : List NameRow) → may_mount row rows ≡ true → row.device < 10 → AreSoundNames rows → AreSoundNames (rows ++ row ∷ [])
+sound_more : (row : NameRow) (rows : List NameRow) → may_mount row rows ≡ true → row.device < 10 → AreSoundNames rows
+    → AreSoundNames (rows ++ row ∷ [])
 sound_more row rows may device sound =
-    let a = and_parts (nat_lt (length rows) NNAMES) (nat_le (length row.prefix) NM_PRELEN && nat_le (length row.replacement) NM_REPLLEN) may in
+    let a = and_parts (nat_lt (length rows) NNAMES)
+    (nat_le (length row.prefix) NM_PRELEN && nat_le (length row.replacement) NM_REPLLEN) may in
     let b = and_parts (nat_le (length row.prefix) NM_PRELEN) (nat_le (length row.replacement) NM_REPLLEN) a.1 in
     let room = ltb-true (length rows) NNAMES a.0 in
     let n = length-append rows (row ∷ []) in
     record {
       few = omega arith;
-      row = all_append IsNameRow rows (row ∷ []) sound.row
-          (record { prefix = leb-true (length row.prefix) NM_PRELEN b.0; replacement = leb-true (length row.replacement) NM_REPLLEN b.1; device = device }, tt);
+      row = all_append IsNameRow rows (row ∷ []) sound.row (
+        record {
+          prefix = leb-true (length row.prefix) NM_PRELEN b.0;
+          replacement = leb-true
+              (length row.replacement) NM_REPLLEN b.1;
+          device = device;
+        },
+        tt,
+      );
     }
 
 leaves : (row : NameRow) (rows : List NameRow) → Leaves row rows (mounted row rows)

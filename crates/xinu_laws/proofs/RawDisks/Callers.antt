@@ -28,8 +28,10 @@ module _ {A : Type 0} (caller : A → Option ℕ) where
       let same = callers_others p rest in
       cond_both (not (is_caller p (caller a))) (a ∷ others caller p rest) (others caller p rest)
       (λ l. callers caller l ≡ filter (is_other p) (callers caller (a ∷ rest)))
-      (λ e. kept_caller p (caller a) (callers caller (others caller p rest)) (callers caller rest) (not-true (is_caller p (caller a)) e) same)
-      (λ e. dropped_caller p (caller a) (callers caller (others caller p rest)) (callers caller rest) (by_not (is_caller p (caller a)) e) same)
+      (λ e. kept_caller p (caller a) (callers caller (others caller p rest)) (callers caller rest)
+      (not-true (is_caller p (caller a)) e) same)
+      (λ e. dropped_caller p (caller a) (callers caller (others caller p rest)) (callers caller rest)
+      (by_not (is_caller p (caller a)) e) same)
     where
       by_not : (b : Bool) → not b ≡ false → b ≡ true
       by_not true e = refl
@@ -48,6 +50,7 @@ module _ {A : Type 0} (caller : A → Option ℕ) where
       (λ e. kept_caller p (caller a) (callers caller (others caller p rest)) (callers caller rest) e same)
 
   -- Only the first may have no caller after that.
-  pub have_callers_given_up : (orphaned : A → A) (p : ℕ) (l : List A) → HaveCallers caller l → HaveCallers caller (given_up caller orphaned p l)
+  pub have_callers_given_up : (orphaned : A → A) (p : ℕ) (l : List A) → HaveCallers caller l
+      → HaveCallers caller (given_up caller orphaned p l)
   have_callers_given_up orphaned p [] h = tt
   have_callers_given_up orphaned p (a ∷ rest) h = all_filter (λ b. IsSome (caller b)) (λ b. not (is_caller p (caller b))) rest h

@@ -28,5 +28,6 @@ pub in_order : (steps : List DiskStep) (d : RawDisk)
 in_order [] d = sym (append-nil d.requests)
 in_order (Requests r ∷ steps) d = in_order steps (requested r d) ∙ append_assoc d.requests (r ∷ []) (made_in steps)
 in_order (Completes good ∷ steps) d =
-    with_first good d.requests d (served_in steps (after_step (Completes good) d)) (after_steps (Completes good ∷ steps) d).requests (made_in steps) refl
+    with_first good d.requests d (served_in steps (after_step (Completes good) d)) (after_steps (Completes good ∷ steps) d).requests
+    (made_in steps) refl
     (in_order steps (after_step (Completes good) d))

@@ -45,11 +45,11 @@ full_disk =
     task (Open (97 ∷ []) mode_rw) ∷ write_task 0 2048 (replicate 2048 1) ∷ task (Open (98 ∷ []) mode_rw) ∷
     write_task 1 2000 (replicate 2000 2) ∷ write_task 1 1 (2 ∷ []) ∷ []
 
--- a file of more than one index block is closed, opened again and read at its end
+-- a file of more than one index block is closed, opened again and read to its end, at which no byte and then one more is asked for
 abbrev pub big_file : List FileTask
 big_file =
     task (Open (97 ∷ []) mode_rw) ∷ write_task 0 8193 (replicate 8192 1 ++ 2 ∷ []) ∷ task (Close 0) ∷ task (Open (97 ∷ []) mode_rw) ∷
-    task (Seek 0 (pos 8191)) ∷ task (Read 0 2) ∷ task (Close 0) ∷ []
+    task (Seek 0 (pos 8191)) ∷ task (Read 0 2) ∷ task (Read 0 0) ∷ task (Read 0 1) ∷ task (Close 0) ∷ []
 
 -- files are opened by their modes, and twice
 abbrev pub modes : List FileTask

@@ -14,7 +14,7 @@ two_mounts = names_row (126 ∷ 47 ∷ []) [] 3 ∷ names_row (97 ∷ []) (97 �
 abbrev pub dropping_mounts : List NameRow
 dropping_mounts = names_row (120 ∷ []) [] 1 ∷ names_row [] [] 3 ∷ []
 
--- each `x` becomes thirty of them
+-- each `x` becomes twenty of them
 abbrev pub growing_mounts : List NameRow
 growing_mounts =
     names_row (120 ∷ [])

@@ -20,14 +20,14 @@ pub data FileCall : Type 0 where
   Size : (d : ℕ) → FileCall
 
 -- The effect of a call, of which these are the bytes if it writes.
-abbrev pub effect_on : FileCall → List ℕ → FileSystem → FileEffect
-effect_on (Open name mode) bytes s = open_file name mode s
-effect_on (Delete name) bytes s = delete_file name s
-effect_on (Close d) bytes s = on_open (open_at s d) (λ f. close_file d f s) s
-effect_on (Read d n) bytes s = on_open (open_at s d) (λ f. read_file d n f s) s
-effect_on (Write d n) bytes s = on_open (open_at s d) (λ f. write_file d bytes f s) s
-effect_on (Getc d) bytes s = on_open (open_at s d) (λ f. getc_file d f s) s
-effect_on (Putc d b) bytes s = on_open (open_at s d) (λ f. putc_file d b f s) s
-effect_on (Seek d n) bytes s = on_open (open_at s d) (λ f. seek_file d n f s) s
-effect_on (Truncate d) bytes s = on_open (open_at s d) (λ f. truncate_file d f s) s
-effect_on (Size d) bytes s = on_open (open_at s d) (λ f. size_of_file f s) s
+abbrev pub file_effect : FileCall → List ℕ → FileSystem → FileEffect
+file_effect (Open name mode) bytes s = open_file name mode s
+file_effect (Delete name) bytes s = delete_file name s
+file_effect (Close d) bytes s = on_open (open_at s d) (λ f. close_file d f s) s
+file_effect (Read d n) bytes s = on_open (open_at s d) (λ f. read_file d n f s) s
+file_effect (Write d n) bytes s = on_open (open_at s d) (λ f. write_file d bytes f s) s
+file_effect (Getc d) bytes s = on_open (open_at s d) (λ f. getc_file d f s) s
+file_effect (Putc d b) bytes s = on_open (open_at s d) (λ f. putc_file d b f s) s
+file_effect (Seek d n) bytes s = on_open (open_at s d) (λ f. seek_file d n f s) s
+file_effect (Truncate d) bytes s = on_open (open_at s d) (λ f. truncate_file d f s) s
+file_effect (Size d) bytes s = on_open (open_at s d) (λ f. size_of_file f s) s

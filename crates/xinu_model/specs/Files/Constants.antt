@@ -1,4 +1,4 @@
--- The constants of files, by the names that the book gives them (chapter 19, `lfilesys.h`).
+-- The constants of files, by the names of the book where it has one (chapter 19, `lfilesys.h`).
 use Rattle.std.specs.Prelude.{ℕ}
 
 -- the most bytes of a file's name
@@ -26,12 +26,12 @@ abbrev pub LF_IDATA : ℕ
 LF_IDATA = 8192
 
 -- the first block of the disk that holds index blocks; those before it are the directory
-abbrev pub LF_AREA_INDIR : ℕ
-LF_AREA_INDIR = 6
+abbrev pub LF_AREA_IB : ℕ
+LF_AREA_IB = 6
 
 -- how many index blocks a block of the disk holds
-abbrev pub LF_IPERBLK : ℕ
-LF_IPERBLK = 7
+abbrev pub LF_IBLOCKS : ℕ
+LF_IBLOCKS = 7
 
 -- the control function of the file system that deletes a file
 abbrev pub LF_CTL_DEL : ℕ

@@ -1,6 +1,6 @@
 -- How much room files have on a disk. No block is named here.
 use Rattle.std.specs.Prelude.{ℕ, ◌+◌, ◌-◌, ◌*◌, ◌/◌, nat_le, Bool, ◌&&◌, List, length}
-use Rattle.xinu_model.specs.Files.Constants.{LF_BLKSIZ, LF_IDATA, LF_AREA_INDIR, LF_IPERBLK}
+use Rattle.xinu_model.specs.Files.Constants.{LF_BLKSIZ, LF_IDATA, LF_AREA_IB, LF_IBLOCKS}
 use Rattle.xinu_model.specs.Files.Stored.{StoredFile}
 use Rattle.xinu_model.specs.Sound.Tables.{total}
 
@@ -17,10 +17,10 @@ index_area blocks = (blocks + 63) / 64
 
 -- how many data blocks and how many index blocks it has
 abbrev pub data_room : ℕ → ℕ
-data_room blocks = blocks - (LF_AREA_INDIR + index_area blocks)
+data_room blocks = blocks - (LF_AREA_IB + index_area blocks)
 
 abbrev pub index_room : ℕ → ℕ
-index_room blocks = LF_IPERBLK * index_area blocks
+index_room blocks = LF_IBLOCKS * index_area blocks
 
 -- the data blocks and the index blocks that files need
 abbrev pub data_needed : List StoredFile → ℕ

@@ -64,10 +64,10 @@ abbrev pub replies : ℤ → FileSystem → FileEffect
 replies reply s = record { system = s; reply = reply; bytes = [] }
 
 -- the call is refused, and changes nothing
-abbrev pub refused : FileSystem → FileEffect
-refused s = replies SYSERR s
+abbrev pub refused_effect : FileSystem → FileEffect
+refused_effect s = replies SYSERR s
 
 -- a call on a device is refused if that has nothing open
 abbrev pub on_open : Option OpenFile → (OpenFile → FileEffect) → FileSystem → FileEffect
-on_open None effect s = refused s
+on_open None effect s = refused_effect s
 on_open (Some f) effect s = effect f

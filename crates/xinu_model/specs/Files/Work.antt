@@ -3,7 +3,7 @@
 use Rattle.std.specs.Prelude.{ℕ, zero, suc, ◌+◌, ◌*◌, nat_lt, if◌then◌else◌, List, [], ◌∷◌, ◌++◌, length, take, drop, Option, Some, None, ℤ}
 use Rattle.xinu_base.specs.declared.lines.FileMoment.{FileMoment}
 use Rattle.xinu_base.specs.declared.lines.FileMoment.TheVariants.{Turn, Finished, Next}
-use Rattle.xinu_model.specs.Files.Calls.{FileCall, Open, Delete, Close, Read, Write, Getc, Putc, Seek, Truncate, Size, effect_on}
+use Rattle.xinu_model.specs.Files.Calls.{FileCall, Open, Delete, Close, Read, Write, Getc, Putc, Seek, Truncate, Size, file_effect}
 use Rattle.xinu_model.specs.Files.Room.{data_blocks, index_blocks}
 use Rattle.xinu_model.specs.Files.Stored.{file_named, bytes_in}
 use Rattle.xinu_model.specs.Files.Systems.{OpenFile, FileSystem, open_at, open_bytes}
@@ -72,9 +72,9 @@ bytes_written (Write d n) at memory = take n (drop at memory)
 bytes_written _ at memory = []
 
 -- the first of these calls becomes the first, with its bytes
-abbrev pub first_of : List FileRequest → List ℕ → FileSystem → FileWork
-first_of [] memory s = record { system = s; calls = []; turns = 0; bytes = [] }
-first_of (a ∷ calls) memory s =
+abbrev pub with_first : List FileRequest → List ℕ → FileSystem → FileWork
+with_first [] memory s = record { system = s; calls = []; turns = 0; bytes = [] }
+with_first (a ∷ calls) memory s =
     record { system = s; calls = a ∷ calls; turns = 0; bytes = bytes_written a.call a.at memory }
 
 -- the bytes of a read go to RAM, if its caller lives
@@ -93,9 +93,9 @@ had_turn a = record { caller = a.caller; moment = Turn; reply = None }
 abbrev pub first_effect : List FileRequest → FileMoment → FileStep → FileStep
 first_effect [] moment x = x
 first_effect (a ∷ calls) moment x =
-    let e = effect_on a.call x.work.bytes x.work.system in
+    let e = file_effect a.call x.work.bytes x.work.system in
     let memory = copied a.caller a.at e.bytes x.memory in
-    record { work = first_of calls memory e.system; memory = memory; notes = x.notes ++ took_effect a moment e.reply ∷ [] }
+    record { work = with_first calls memory e.system; memory = memory; notes = x.notes ++ took_effect a moment e.reply ∷ [] }
 
 -- this many further calls take effect, each as it becomes the first
 abbrev pub next_effects : ℕ → FileStep → FileStep
@@ -108,9 +108,9 @@ turned [] x = x
 turned (a ∷ calls) x = record x { work = record x.work { turns = x.work.turns + 1 }; notes = x.notes ++ had_turn a ∷ [] }
 
 -- A good completion of the disk, at which this many calls take effect; if none does, the first has a turn. A failed one does nothing.
-abbrev pub completed : ℕ → FileStep → FileStep
-completed zero x = turned x.work.calls x
-completed (suc k) x = next_effects k (first_effect x.work.calls Finished x)
+abbrev pub calls_completed : ℕ → FileStep → FileStep
+calls_completed zero x = turned x.work.calls x
+calls_completed (suc k) x = next_effects k (first_effect x.work.calls Finished x)
 
 -- at least this many calls take effect at a good completion; at most all do
 abbrev pub least_effects : List FileRequest → FileWork → ℕ
@@ -122,17 +122,17 @@ most_effects w = length w.calls
 
 -- a call goes after the others; if there is none it becomes the first
 abbrev pub queued_after : List FileRequest → FileRequest → List ℕ → FileWork → FileWork
-queued_after [] a memory w = first_of (a ∷ []) memory w.system
+queued_after [] a memory w = with_first (a ∷ []) memory w.system
 queued_after (b ∷ calls) a memory w = record w { calls = (b ∷ calls) ++ a ∷ [] }
 
-abbrev pub queued : FileRequest → List ℕ → FileWork → FileWork
-queued a memory w = queued_after w.calls a memory w
+abbrev pub enqueued : FileRequest → List ℕ → FileWork → FileWork
+enqueued a memory w = queued_after w.calls a memory w
 
 -- A call is made: it waits, or takes effect at once, which only one that becomes the first may do.
 abbrev pub issued : ℕ → FileRequest → List ℕ → FileWork → FileStep
-issued zero a memory w = record { work = queued a memory w; memory = memory; notes = [] }
+issued zero a memory w = record { work = enqueued a memory w; memory = memory; notes = [] }
 issued (suc choice) a memory w =
-    first_effect (a ∷ []) Finished (record { work = queued a memory w; memory = memory; notes = [] })
+    first_effect (a ∷ []) Finished (record { work = enqueued a memory w; memory = memory; notes = [] })
 
 -- at most this many calls take effect as one is made
 abbrev pub most_at_issue : List FileRequest → ℕ
@@ -140,13 +140,13 @@ most_at_issue [] = 1
 most_at_issue (a ∷ calls) = 0
 
 -- a call without its caller
-abbrev pub orphaned : FileRequest → FileRequest
-orphaned a = record a { caller = None }
+abbrev pub orphaned_call : FileRequest → FileRequest
+orphaned_call a = record a { caller = None }
 
 -- the living callers of calls
-abbrev pub callers_of : List FileRequest → List ℕ
-callers_of calls = callers.callers (λ (a : FileRequest). a.caller) calls
+abbrev pub callers_waiting : List FileRequest → List ℕ
+callers_waiting calls = callers.callers (λ (a : FileRequest). a.caller) calls
 
 -- p was killed
-abbrev pub given_up : ℕ → FileWork → FileWork
-given_up p w = record w { calls = callers.given_up (λ (a : FileRequest). a.caller) orphaned p w.calls }
+abbrev pub calls_given_up : ℕ → FileWork → FileWork
+calls_given_up p w = record w { calls = callers.given_up (λ (a : FileRequest). a.caller) orphaned_call p w.calls }

@@ -3,7 +3,7 @@ use Rattle.std.specs.Prelude.{ℕ, zero, suc, ◌+◌, ◌==◌, nat_lt, Bool, n
 use Rattle.xinu_base.specs.Constants.{OK}
 use Rattle.xinu_model.specs.Files.Room.{they_fit}
 use Rattle.xinu_model.specs.Files.Stored.{StoredFile, with_contents}
-use Rattle.xinu_model.specs.Files.Systems.{OpenFile, FileSystem, FileEffect, open_bytes, moved, replies, refused}
+use Rattle.xinu_model.specs.Files.Systems.{OpenFile, FileSystem, FileEffect, open_bytes, moved, replies, refused_effect}
 
 -- bytes with others in their place from a position on, which is at most their end
 abbrev pub overwritten : ℕ → List ℕ → List ℕ → List ℕ
@@ -34,16 +34,16 @@ put_bytes new d f s = record (moved d f (f.position + length new) s) { files = f
 abbrev pub write_file : ℕ → List ℕ → OpenFile → FileSystem → FileEffect
 write_file d bytes f s =
     let k = fitting f bytes s in
-    if not f.may_write || (nat_lt 0 (length bytes) && (k == 0)) then refused s
+    if not f.may_write || (nat_lt 0 (length bytes) && (k == 0)) then refused_effect s
     else replies (pos k) (put_bytes (take k bytes) d f s)
 
 -- `putc`: one byte.
 abbrev pub putc_file : ℕ → ℕ → OpenFile → FileSystem → FileEffect
 putc_file d b f s =
-    if not f.may_write || not (have_room f (b ∷ []) s) then refused s else replies OK (put_bytes (b ∷ []) d f s)
+    if not f.may_write || not (have_room f (b ∷ []) s) then refused_effect s else replies OK (put_bytes (b ∷ []) d f s)
 
 -- A file device's `control` that empties the file.
 abbrev pub truncate_file : ℕ → OpenFile → FileSystem → FileEffect
 truncate_file d f s =
-    if not f.may_write then refused s
+    if not f.may_write then refused_effect s
     else replies OK (record (moved d f 0 s) { files = with_contents f.name [] s.files })

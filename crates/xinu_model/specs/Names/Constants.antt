@@ -1,4 +1,4 @@
--- The constants of the name space, by the names that the book gives them (chapter 21, `name.h`).
+-- The constants of the name space, by the names of the book where it has one (chapter 21, `name.h`).
 use Rattle.std.specs.Prelude.{ℕ}
 
 -- the most prefixes that can be mounted

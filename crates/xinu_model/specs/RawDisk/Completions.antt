@@ -27,8 +27,8 @@ first_served good [] d = None
 first_served good (r ∷ requests) d = Some (served good r (record d { requests = requests }))
 
 -- A completion, good or failed; nothing if there is no request.
-abbrev pub completed : Bool → RawDisk → Option Served
-completed good d = first_served good d.requests d
+abbrev pub raw_completed : Bool → RawDisk → Option Served
+raw_completed good d = first_served good d.requests d
 
 -- the disk after it
 abbrev pub after_completion : Option Served → RawDisk → RawDisk

@@ -27,13 +27,13 @@ abbrev pub requested : Request → RawDisk → RawDisk
 requested r d = record d { requests = d.requests ++ r ∷ [] }
 
 -- a request without its caller
-abbrev pub orphaned : Request → Request
-orphaned r = record r { caller = None }
+abbrev pub orphaned_request : Request → Request
+orphaned_request r = record r { caller = None }
 
 -- the living callers of requests
-abbrev pub callers_of : List Request → List ℕ
-callers_of requests = callers.callers (λ (r : Request). r.caller) requests
+abbrev pub requesters : List Request → List ℕ
+requesters requests = callers.callers (λ (r : Request). r.caller) requests
 
 -- p was killed
-abbrev pub given_up : ℕ → RawDisk → RawDisk
-given_up p d = record d { requests = callers.given_up (λ (r : Request). r.caller) orphaned p d.requests }
+abbrev pub requests_given_up : ℕ → RawDisk → RawDisk
+requests_given_up p d = record d { requests = callers.given_up (λ (r : Request). r.caller) orphaned_request p d.requests }
