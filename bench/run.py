@@ -1,10 +1,11 @@
 #!/usr/bin/env python3
-"""Times `xinu_run run` and the plain C interpreter on two loops, side by side in one run.
+"""Times `xinu_run run` and the plain C interpreter on two loops, side by side in one run, and then `xinu_run run` on loops of calls.
 
-usage: bench/run.py [STEPS]        (200000000 steps where none are given)
+usage: bench/run.py [STEPS]        (200000000 steps if none are given)
 
 It builds both programs, writes the images of bench/images.py and prints for each loop and program the seconds of processor time, the
-steps per second and the greatest memory in use. The last line of each loop is the ratio of their speeds. No part of the gate."""
+steps per second and the greatest memory in use. The last line of each loop is the ratio of their speeds. A loop of calls is assembled
+by `xinu_run asm` and takes a hundredth of the steps; beside its events per second are the bytes of its transcript. No part of the gate."""
 import os
 import subprocess
 import sys
@@ -13,12 +14,20 @@ import time
 
 BENCH = os.path.dirname(os.path.abspath(__file__))
 CRATE = os.path.join(BENCH, "..", "crates", "xinu_run")
+PROGRAM = os.path.join(CRATE, "out", "xinu_run")
 DATA = ["run", "--schedule", "data/four_steps.txt", "data/getpid_and_exit.xim"]
 
+YIELD = "loop: sys yield\n j loop\n"
+# the images of each loop of calls, as texts
+CALLS = {
+    "yield": [YIELD, ".place 256\n" + YIELD],
+    "heap": ["loop: li a0, 64\n sys getmem\n li a1, 64\n sys freemem\n j loop\n"],
+}
 
-def timed(words, stdin):
+
+def timed(words, stdin, stdout=os.devnull):
     """The processor seconds and the greatest memory in kilobytes of a program."""
-    with open(stdin, "rb") as source, open(os.devnull, "wb") as sink:
+    with open(stdin, "rb") as source, open(stdout, "wb") as sink:
         process = subprocess.Popen(words, stdin=source, stdout=sink)
         memory, ended = 0, 0
         while not ended:
@@ -37,6 +46,27 @@ def greatest_memory(pid):
     return int(lines[0][1]) if lines else 0
 
 
+def assembled(folder, name, text):
+    """The path of the image of a text."""
+    source, image = os.path.join(folder, name + ".s"), os.path.join(folder, name + ".xim")
+    with open(source, "w", encoding="ascii") as file:
+        file.write(text)
+    subprocess.run([PROGRAM, "asm", source, "--out", image], check=True)
+    return image
+
+
+def time_calls(folder, steps):
+    """Prints the times of the loops of calls."""
+    schedule, transcript = os.path.join(folder, "schedule"), os.path.join(folder, "transcript")
+    with open(schedule, "w", encoding="ascii") as file:
+        file.write(f"step {steps}\n")
+    for name, texts in CALLS.items():
+        images = [assembled(folder, f"{name}{k}", text) for k, text in enumerate(texts)]
+        seconds, memory = timed([PROGRAM, "run", "--schedule", schedule, *images], schedule, transcript)
+        written = os.path.getsize(transcript)
+        print(f"{name:6} {seconds:17.2f} s {steps / seconds / 1e6:7.2f} million events/s {written:10} bytes {memory:7} KB")
+
+
 def main():
     steps = int(sys.argv[1]) if len(sys.argv) > 1 else 200_000_000
     subprocess.run(["rt", "run", "--", *DATA], cwd=CRATE, check=True, stdout=subprocess.DEVNULL)
@@ -49,13 +79,14 @@ def main():
             file.write(f"step {steps}\n")
         for loop in ("jal", "mixed"):
             image = os.path.join(folder, loop + ".img")
-            proved = [os.path.join(CRATE, "out", "xinu_run"), "run", "--schedule", schedule, image]
+            proved = [PROGRAM, "run", "--schedule", schedule, image]
             speeds = []
             for name, words in (("xinu_run", proved), ("plain C", [plain, str(steps)])):
                 seconds, memory = timed(words, image)
                 speeds.append(steps / seconds)
                 print(f"{loop:6} {name:9} {seconds:7.2f} s {steps / seconds / 1e6:7.1f} million steps/s {memory:7} KB")
             print(f"{loop:6} ratio     {speeds[0] / speeds[1]:7.2f}")
+        time_calls(folder, max(steps // 100, 1))
 
 
 if __name__ == "__main__":

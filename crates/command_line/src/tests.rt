@@ -51,6 +51,47 @@ fn these_args_give_a_run(rt: HostRuntime) -> Result<(), Fail> {
     Ok(())
 }
 
+#[test]
+fn a_run_has_one_to_eight_images(rt: HostRuntime) -> Result<(), Fail> {
+    for (args, images) in [
+        (
+            ["run", "--schedule", "s", "i", "j"].as_slice(),
+            ["i", "j"].as_slice(),
+        ),
+        (&["run", "i", "--schedule", "s", "i"], &["i", "i"]),
+        (
+            &["run", "c", "--schedule=s", "--", "b", "--", "-a"],
+            &["c", "b", "--", "-a"],
+        ),
+        (
+            &[
+                "run",
+                "1",
+                "2",
+                "3",
+                "--schedule",
+                "s",
+                "4",
+                "5",
+                "6",
+                "7",
+                "8",
+            ],
+            &["1", "2", "3", "4", "5", "6", "7", "8"],
+        ),
+    ] {
+        let args = strings(rt.alloc(), args)?;
+        match command_of(rt.alloc(), args.as_slice()) {
+            Ok(Command::Run(files)) => {
+                assert_eq!(rt; files.schedule, "s");
+                assert_eq!(rt; files.images.as_slice(), images);
+            }
+            _ => return Err("a run")?,
+        }
+    }
+    Ok(())
+}
+
 // An action as a line of words.
 fn words(alloc: Global, action: DiskAction<'_>) -> Result<String, Fail> {
     Ok(match action {
@@ -174,13 +215,27 @@ fn these_args_give_no_command(rt: HostRuntime) -> Result<(), Fail> {
         // an image too few or too many
         &["run", "--schedule", "s"],
         &["run", "--schedule", "s", "--"],
-        &["run", "--schedule", "s", "i", "j"],
-        &["run", "--schedule", "s", "--", "--", "i"],
+        &[
+            "run",
+            "--schedule",
+            "s",
+            "1",
+            "2",
+            "3",
+            "4",
+            "5",
+            "6",
+            "7",
+            "8",
+            "9",
+        ],
         // names that are empty
         &["run", "--schedule", "", "i"],
         &["run", "--schedule=", "i"],
         &["run", "--schedule", "s", ""],
         &["run", "--schedule", "s", "--", ""],
+        &["run", "--schedule", "s", "i", ""],
+        &["run", "--schedule", "s", "", "i"],
         // a source too few or too many, no file, or another option
         &["asm", "--out", "o"],
         &["asm", "s", "t", "--out", "o"],

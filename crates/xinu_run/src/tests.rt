@@ -9,4 +9,5 @@ mod host_faults;
 mod out_of_memory;
 mod programs;
 mod real_files;
+mod several_images;
 mod transcripts;

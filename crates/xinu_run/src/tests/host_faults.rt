@@ -66,6 +66,24 @@ fn a_run_stops_after_a_refused_line(rt: HostRuntime) -> Result<(), Fail> {
     Ok(())
 }
 
+// The second image can't be fetched, or it isn't asked for.
+#[test]
+fn an_image_is_judged_before_the_next_is_fetched(rt: HostRuntime) -> Result<(), Fail> {
+    for (image, status, text) in [
+        (GETPID_AND_EXIT.as_slice(), 3, "xinu: host fault\n"),
+        (&GETPID_AND_EXIT[..27], 4, "xinu: image 1 fault 1\n"),
+    ] {
+        let mut host = MemoryHost::new(rt.alloc());
+        host.add_file("s", b"step 4")?;
+        host.add_file("i", image)?;
+        let args = ["run", "--schedule", "s", "i", "j"];
+        assert_eq!(rt; refusal_of(rt.alloc(), &args, &mut host)?, status);
+        assert_eq!(rt; host.sent(Channel::Fault), text.as_bytes());
+        assert_eq!(rt; host.sent(Channel::Out), b"".as_slice());
+    }
+    Ok(())
+}
+
 #[test]
 fn a_schedule_is_judged_before_the_image_is_fetched(rt: HostRuntime) -> Result<(), Fail> {
     for (schedule, status, text) in [

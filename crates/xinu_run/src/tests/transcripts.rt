@@ -72,6 +72,14 @@ fn instructions_are_printed(rt: HostRuntime) -> Result<(), Fail> {
             "call 1 unknown -1\nret 1 -1\n",
             RUNS_ON,
         ),
+        // addi a7, x0, 45; ecall
+        (
+            0,
+            0x02d0_0893,
+            0x0000_0073,
+            "call 1 unknown 45\nret 1 -1\n",
+            RUNS_ON,
+        ),
         // jalr x0, 0(ra), to the address whose execution exits
         (0, 0x0000_8067, 0, "call 1 exit\n", DEAD),
         // lui a1, 0x100; jalr x0, 0(a1)
