@@ -5,7 +5,8 @@ usage: bench/run.py [STEPS]        (200000000 steps if none are given)
 
 It builds both programs, writes the images of bench/images.py and prints for each loop and program the seconds of processor time, the
 steps per second and the greatest memory in use. The last line of each loop is the ratio of their speeds. A loop of calls is assembled
-by `xinu_run asm` and takes a hundredth of the steps; beside its events per second are the bytes of its transcript. No part of the gate."""
+by `xinu_run asm` and takes a hundredth of the steps; beside its events per second are the bytes of its transcript. The last lines are ticks beside one sleeper
+and beside sixty. No part of the gate."""
 import os
 import subprocess
 import sys
@@ -22,7 +23,29 @@ YIELD = "loop: sys yield\n j loop\n"
 CALLS = {
     "yield": [YIELD, ".place 256\n" + YIELD],
     "heap": ["loop: li a0, 64\n sys getmem\n li a1, 64\n sys freemem\n j loop\n"],
+    "wait": ["li a0, 1\n sys semcreate\n mv s0, a0\nloop: mv a0, s0\n sys wait\n mv a0, s0\n sys signal\n j loop\n"],
+    "sleep": ["loop: li a0, 1\n sys sleepms\n j loop\n"],
 }
+
+# an image that makes this many processes, each of which sleeps 2000 seconds
+SLEEPERS = """ li s1, {count}
+loop: la a0, child
+ li a1, 400
+ li a2, 30
+ la a3, name
+ li a4, 0
+ li a5, 0
+ sys create
+ sys resume
+ addi s1, s1, -1
+ bne s1, zero, loop
+end: j end
+child: li a0, 2000
+ sys sleep
+ j child
+name: .ascii "sleeper"
+ .zero 9
+"""
 
 
 def timed(words, stdin, stdout=os.devnull):
@@ -58,13 +81,24 @@ def assembled(folder, name, text):
 def time_calls(folder, steps):
     """Prints the times of the loops of calls."""
     schedule, transcript = os.path.join(folder, "schedule"), os.path.join(folder, "transcript")
-    with open(schedule, "w", encoding="ascii") as file:
-        file.write(f"step {steps}\n")
     for name, texts in CALLS.items():
+        with open(schedule, "w", encoding="ascii") as file:
+            file.write("step 4\ntick 1\n" * (steps // 5) if name == "sleep" else f"step {steps}\n")
         images = [assembled(folder, f"{name}{k}", text) for k, text in enumerate(texts)]
         seconds, memory = timed([PROGRAM, "run", "--schedule", schedule, *images], schedule, transcript)
         written = os.path.getsize(transcript)
         print(f"{name:6} {seconds:17.2f} s {steps / seconds / 1e6:7.2f} million events/s {written:10} bytes {memory:7} KB")
+
+
+def time_ticks(folder, ticks):
+    """Prints the times of ticks beside one sleeper and beside sixty."""
+    schedule, transcript = os.path.join(folder, "schedule"), os.path.join(folder, "transcript")
+    with open(schedule, "w", encoding="ascii") as file:
+        file.write(f"step 4000\ntick {ticks}\n")
+    for count in (1, 60):
+        image = assembled(folder, f"sleepers{count}", SLEEPERS.format(count=count))
+        seconds, memory = timed([PROGRAM, "run", "--schedule", schedule, image], schedule, transcript)
+        print(f"tick   {count:2} asleep {seconds:7.2f} s {ticks / seconds / 1e6:7.2f} million ticks/s {memory:7} KB")
 
 
 def main():
@@ -87,6 +121,7 @@ def main():
                 print(f"{loop:6} {name:9} {seconds:7.2f} s {steps / seconds / 1e6:7.1f} million steps/s {memory:7} KB")
             print(f"{loop:6} ratio     {speeds[0] / speeds[1]:7.2f}")
         time_calls(folder, max(steps // 100, 1))
+        time_ticks(folder, 1_900_000)
 
 
 if __name__ == "__main__":
