@@ -83,7 +83,7 @@ def time_calls(folder, steps):
     schedule, transcript = os.path.join(folder, "schedule"), os.path.join(folder, "transcript")
     for name, texts in CALLS.items():
         with open(schedule, "w", encoding="ascii") as file:
-            file.write("step 4\ntick 1\n" * (steps // 5) if name == "sleep" else f"step {steps}\n")
+            file.write("step 6\ntick 1\n" * (steps // 7) if name == "sleep" else f"step {steps}\n")
         images = [assembled(folder, f"{name}{k}", text) for k, text in enumerate(texts)]
         seconds, memory = timed([PROGRAM, "run", "--schedule", schedule, *images], schedule, transcript)
         written = os.path.getsize(transcript)
