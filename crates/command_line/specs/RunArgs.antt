@@ -13,7 +13,7 @@ run_options = value_option (codes "schedule") ∷ []
 
 -- the most images of a run
 abbrev pub most_images : ℕ
-most_images = 1
+most_images = 8
 
 -- a file's name isn't empty
 abbrev pub is_file_name : Text → Bool

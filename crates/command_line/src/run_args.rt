@@ -13,7 +13,7 @@ use clap::ArgMatches;
 use std::alloc::Global;
 
 /// The most images of a run.
-const MOST_IMAGES: usize = 1;
+const MOST_IMAGES: usize = 8;
 
 /// The files of a run.
 #[derive(Debug, Drop)]

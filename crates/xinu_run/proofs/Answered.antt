@@ -24,28 +24,20 @@ use Rattle.xinu_run.specs.declared.refusals.Refusal.{Refusal}
 use Rattle.xinu_run.specs.declared.refusals.Refusal.TheVariants as refusal
 use Rattle.xinu_run.proofs.Carried.{carries_nothing, carries_within, unsent_refl}
 use Rattle.xinu_run.proofs.Called.{keeps_refl, nothing_called}
-use Rattle.xinu_run.proofs.Files.{run_keeps, unseen_by}
-
--- What holds of a refusal holds of a result that is this refusal.
-pub of_err : (r : Result Booted Refusal) (cause : Refusal) (P : Option Refusal → Option Xinu → Type 0) → IsErr r
-    → IsErrAnd r (λ x. x ≡ cause) → P (Some cause) None → P (refusal_of r) (left_of r)
-of_err (Ok m) cause P err is holds = absurd (cc)
-of_err (Err x) cause P err is holds =
-    let Q : Refusal → Type 0 = λ y. P (Some y) None in subst Q (sym is) holds
 
 -- arguments that are refused
 args_refuse_of : (f : ArgsFault) (command : Option Command) (h : Outside) → (f ≡ args.NoCommand → command ≡ None) → Performs command (Some (args_refusal f)) None h h
 args_refuse_of args.NoCommand command h cause =
     let P : Option Command → Type 0 = λ c. Performs c (Some refusal.Usage) None h h in
     subst P (sym (cause refl)) (record {
-      obeys = record { unseen = unseen_by [] []; carries = carries_nothing (Refuses refusal.Usage) refusal.Usage h h refl (unsent_refl h) };
+      obeys = record { unseen = λ input. []; carries = carries_nothing (Refuses refusal.Usage) refusal.Usage h h refl (unsent_refl h) };
       calls = nothing_called [] refusal.Usage h;
       keeps = keeps_refl h;
     })
 args_refuse_of args.NoMemory command h cause = record {
   obeys = record {
-    unseen = unseen_by [] [];
-    carries = carries_nothing (verdict command h.file (unseen_by [] [])) refusal.NoMemory h h tt (unsent_refl h);
+    unseen = λ input. [];
+    carries = carries_nothing (verdict command h.file (λ input. [])) refusal.NoMemory h h tt (unsent_refl h);
   };
   calls = nothing_called (calls_of command) refusal.NoMemory h;
   keeps = keeps_refl h;
@@ -55,19 +47,6 @@ pub args_refuse : (f : ArgsFault) (r : Refusal) (command : Option Command) (h : 
     → Performs command (Some r) None h h
 args_refuse f r command h is cause =
     let P : Refusal → Type 0 = λ x. Performs command (Some x) None h h in subst P (sym is) (args_refuse_of f command h cause)
-
--- a file that the host didn't fetch
-pub host_refuses : (f : HostFault) (s i : Text) (h j k : Outside) → (f ≡ host.Failed → Rose j.faults k.faults) → h.faults ≤ j.faults
-    → IsUnsent h k → Obeys (Some (Run (record { schedule = s; images = i ∷ [] }))) (Some (host_refusal f)) None h k
-host_refuses host.Failed s i h j k cause earlier unsent =
-    let rose : Rose h.faults k.faults = (let later : Rose j.faults k.faults = cause refl in omega arith) in record {
-      unseen = unseen_by [] [];
-      carries = carries_nothing (run_verdict (file_bytes (h.file s) []) (file_bytes (h.file i) [] ∷ [])) refusal.HostFault h k (run_keeps (file_bytes (h.file s) []) (file_bytes (h.file i) [] ∷ []), rose) unsent;
-    }
-host_refuses host.NoMemory s i h j k cause earlier unsent = record {
-  unseen = unseen_by [] [];
-  carries = carries_nothing (run_verdict (file_bytes (h.file s) []) (file_bytes (h.file i) [] ∷ [])) refusal.NoMemory h k tt unsent;
-}
 
 -- A fetch sends nothing.
 pub fetched_unsent : (h k : Outside) (calls : List HostCall) (m : ℕ) → k ≡ counted (with_calls h calls) m → IsUnsent h k

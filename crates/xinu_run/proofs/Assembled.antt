@@ -168,6 +168,6 @@ pub source_fetched : (a : AsmFiles) (items : List ℕ) (ended : Option Refusal) 
     → Stage (asm_verdict a.elf items) (naming Image a.out ∷ []) ended None j k → Performs (Some (Asm a)) ended None h k
 source_fetched a items ended h j k fetched f s =
     performs_by a items ended h k (stage_as (asm_verdict a.elf (file_bytes (h.file a.source) items)) (asm_verdict a.elf items)
-    (fetching a.source ∷ naming Image a.out ∷ []) ended h k
+    (fetching a.source ∷ naming Image a.out ∷ []) ended None h k
     (asm_fetched a.elf (file_bytes (h.file a.source) items) items fetched.front) (fetched_stage (asm_verdict a.elf items) a.source
-    (naming Image a.out ∷ []) ended h j k f s))
+    (naming Image a.out ∷ []) ended None h j k f s))

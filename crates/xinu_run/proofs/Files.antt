@@ -2,8 +2,6 @@
 use Rattle.std.proofs.Common.{◌≡◌, ◌≢◌, ◌≤◌, ◌+◌, ℕ, List, [], ◌∷◌, length, take, Option, Some, None, refl, sym, ap, subst, ◌∙◌, arith, inl, inr}
 use Rattle.std.proofs.lemmas.List.{take_all}
 use Rattle.std.specs.Prelude.{MatchOption, ⊤, Err, option_map}
-use Rattle.command_line.specs.Commands.{Run}
-use Rattle.command_line.specs.Reading.{Text}
 use Rattle.host_port.specs.Outside.{Outside}
 use Rattle.elf_loader.specs.LoadedFiles.{loads}
 use Rattle.schedule_file.specs.ScheduleFiles.{Bad, Many, Names, events_in}
@@ -11,20 +9,19 @@ use Rattle.schedule_file.specs.declared.faults.ScheduleFault.{ScheduleFault}
 use Rattle.schedule_file.specs.declared.faults.ScheduleFault.TheVariants as schedule
 use Rattle.xinu_base.specs.declared.events.Event.{Event}
 use Rattle.xinu_model.specs.Boot.{Loaded, Start, Boots, Overlaps, NoRoom, boot}
-use Rattle.xinu_model.specs.Machine.{Xinu}
 use Rattle.machine.specs.Starts.{Starts}
-use Rattle.machine.specs.declared.boot.BootFault.{BootFault}
-use Rattle.machine.specs.declared.boot.BootFault.TheVariants as boot_fault
+use Rattle.core_calls.specs.declared.boot.BootFault.{BootFault}
+use Rattle.core_calls.specs.declared.boot.BootFault.TheVariants as boot_fault
 use Rattle.xinu_run.specs.Conversions.{boot_refusal, schedule_refusal}
 use Rattle.xinu_run.specs.InputFaults.{ReadsAs, schedule_fault, image_fault}
 use Rattle.xinu_run.specs.Stages.{HoldsFault, HoldsSchedule, IsScheduleCause}
-use Rattle.xinu_run.specs.Theorem.{Carries, IsUnsent, Obeys}
+use Rattle.xinu_run.specs.Theorem.{Carries}
 use Rattle.xinu_run.specs.RunVerdict.{run_verdict, start_verdict, boot_verdict, images_verdict}
-use Rattle.xinu_run.specs.Verdict.{Input, ScheduleInput, ImageInput, DiskInput, SourceInput, file_bytes}
+use Rattle.xinu_run.specs.Verdict.{file_bytes}
 use Rattle.xinu_run.specs.Work.{Verdict, Refuses, unless_fault}
 use Rattle.xinu_run.specs.declared.refusals.Refusal.{Refusal}
 use Rattle.xinu_run.specs.declared.refusals.Refusal.TheVariants as refusal
-use Rattle.xinu_run.proofs.Carried.{carries_as, carries_nothing, carries_within, unsent_refl}
+use Rattle.xinu_run.proofs.Carried.{carries_nothing, unsent_refl}
 use Rattle.xinu_run.proofs.InputFaults.{cases_fetched, schedule_fault-fetched, schedule_fault-short, schedule_whole, image_fault-long}
 
 -- ---- a file that was fetched
@@ -91,11 +88,11 @@ pub schedule_refused : (bytes : List ℕ) (l : ℕ) (images : List (List ℕ)) �
 schedule_refused bytes l images is =
     unless_fault_refused (option_map refusal.Schedule (schedule_fault bytes)) (events_in bytes) (λ x. images_verdict 1 images (boot_verdict x)) (refusal.Schedule l) (ap (option_map refusal.Schedule) is)
 
--- an image file that was read, the last one
-pub image_read : (i : ℕ) (bytes : List ℕ) (image : Loaded) (next : List Loaded → Verdict) → image_fault bytes ≡ None
-    → loads bytes ≡ Some image → images_verdict i (bytes ∷ []) next ≡ next (image ∷ [])
-image_read i bytes image next good is =
-    unless_fault_read (option_map (refusal.Image i) (image_fault bytes)) (loads bytes) (λ x. next (x ∷ [])) image (ap (option_map (refusal.Image i)) good) is
+-- an image file that was read
+pub image_read : (i : ℕ) (bytes : List ℕ) (image : Loaded) (files : List (List ℕ)) (next : List Loaded → Verdict) → option_map (refusal.Image i) (image_fault bytes) ≡ None
+    → loads bytes ≡ Some image → images_verdict i (bytes ∷ files) next ≡ images_verdict (i + 1) files (λ images. next (image ∷ images))
+image_read i bytes image files next good is =
+    unless_fault_read (option_map (refusal.Image i) (image_fault bytes)) (loads bytes) (λ x. images_verdict (i + 1) files (λ images. next (x ∷ images))) image good is
 
 -- an image file with a fault
 pub image_refused : (i : ℕ) (bytes : List ℕ) (f : ℕ) (files : List (List ℕ)) (next : List Loaded → Verdict) → image_fault bytes ≡ Some f
@@ -141,11 +138,11 @@ start_keeps events (Boots x) is = cc
 start_keeps events (Overlaps i) is = cc
 start_keeps events (NoRoom i) is = cc
 
-boot_keeps : (events : List Event) (images : List Loaded) → boot_verdict events images ≢ Refuses refusal.Usage
+pub boot_keeps : (events : List Event) (images : List Loaded) → boot_verdict events images ≢ Refuses refusal.Usage
 unfolding boot_verdict
 boot_keeps events images is = start_keeps events (boot images) is
 
-images_keep : (i : ℕ) (files : List (List ℕ)) (next : List Loaded → Verdict)
+pub images_keep : (i : ℕ) (files : List (List ℕ)) (next : List Loaded → Verdict)
     → ((images : List Loaded) → next images ≢ Refuses refusal.Usage) → images_verdict i files next ≢ Refuses refusal.Usage
 images_keep i [] next rest is = rest [] is
 images_keep i (bytes ∷ files) next rest is =
@@ -157,60 +154,19 @@ run_keeps schedule images is =
     unless_fault_keeps (option_map refusal.Schedule (schedule_fault schedule)) (events_in schedule) (λ events. images_verdict 1 images (boot_verdict events)) (schedule_keeps (schedule_fault schedule))
     (λ events. images_keep 1 images (boot_verdict events) (λ x. boot_keeps events x)) is
 
--- ---- a command over two files
-
--- these bytes for the schedule and for each image
-abbrev pub unseen_by : List ℕ → List ℕ → Input → List ℕ
-unseen_by schedule image ScheduleInput = schedule
-unseen_by schedule image (ImageInput i) = image
-unseen_by schedule image DiskInput = []
-unseen_by schedule image SourceInput = []
-
--- why a schedule isn't run, before its image was fetched
-pub schedule_refuses : (r : Refusal) (s i : Text) (h k : Outside) → IsScheduleCause r (h.file s) h k → IsUnsent h k
-    → Obeys (Some (Run (record { schedule = s; images = i ∷ [] }))) (Some r) None h k
-schedule_refuses refusal.HostFault s i h k cause unsent = record {
-  unseen = unseen_by [] [];
-  carries = carries_nothing (run_verdict (file_bytes (h.file s) []) (file_bytes (h.file i) [] ∷ [])) refusal.HostFault h k (run_keeps (file_bytes (h.file s) []) (file_bytes (h.file i) [] ∷ []), cause) unsent;
-}
-schedule_refuses (refusal.Schedule l) s i h k cause unsent =
-    let holds : HoldsFault (h.file s) l = cause in record {
-      unseen = unseen_by holds.unseen [];
-      carries = carries_nothing (run_verdict (file_bytes (h.file s) holds.unseen) (file_bytes (h.file i) [] ∷ [])) (refusal.Schedule l) h k (schedule_refused (file_bytes (h.file s) holds.unseen) l (file_bytes (h.file i) [] ∷ []) holds.fault) unsent;
-    }
-schedule_refuses refusal.NoMemory s i h k cause unsent = record {
-  unseen = unseen_by [] [];
-  carries = carries_nothing (run_verdict (file_bytes (h.file s) []) (file_bytes (h.file i) [] ∷ [])) refusal.NoMemory h k tt unsent;
-}
-schedule_refuses other s i h k cause unsent = absurd cause
-
--- The verdict on the fetched image is the verdict on the command, if the schedule was read.
-pub files_obey : (s i : Text) (events : List Event) (items : List ℕ) (ended : Option Refusal) (left : Option Xinu) (h j k : Outside)
-    → HoldsSchedule (h.file s) events → length items ≤ 1048577 → MatchOption (h.file i) ⊤ (λ bytes. items ≡ take 1048577 bytes)
-    → IsUnsent h j → h.faults ≤ j.faults → Carries (images_verdict 1 (items ∷ []) (boot_verdict events)) ended left j k
-    → Obeys (Some (Run (record { schedule = s; images = i ∷ [] }))) ended left h k
-files_obey s i events items ended left h j k holds few fetched unsent earlier carries =
-    let bytes = file_bytes (h.file i) items in
-    let same : run_verdict (file_bytes (h.file s) holds.unseen) (bytes ∷ []) ≡ images_verdict 1 (items ∷ []) (boot_verdict events) =
-    schedule_read (file_bytes (h.file s) holds.unseen) events (bytes ∷ []) holds.reads
-    ∙ image_fetched 1 bytes items [] (boot_verdict events) (held_fetched (h.file i) items 1048577 few fetched) in
-    record {
-      unseen = unseen_by holds.unseen items;
-      carries = carries_as (run_verdict (file_bytes (h.file s) holds.unseen) (bytes ∷ [])) (images_verdict 1 (items ∷ []) (boot_verdict events)) ended left h k same
-          (carries_within (images_verdict 1 (items ∷ []) (boot_verdict events)) ended left h j k k unsent earlier (unsent_refl k) (omega arith) carries);
-    }
-
 -- ---- a machine that doesn't start
 
-boot_refused_of : (f : BootFault) (events : List Event) (image : Loaded) (h : Outside) → Starts (image ∷ []) (Err f)
-    → Carries (boot_verdict events (image ∷ [])) (Some (boot_refusal f)) None h h
-boot_refused_of (boot_fault.NoRoom i) events image h starts =
-    carries_nothing (boot_verdict events (image ∷ [])) (refusal.NoRoom i) h h (boot_verdict_at events (image ∷ []) (NoRoom i) starts) (unsent_refl h)
-boot_refused_of boot_fault.NoMemory events image h starts =
-    carries_nothing (boot_verdict events (image ∷ [])) refusal.NoMemory h h tt (unsent_refl h)
+boot_refused_of : (f : BootFault) (events : List Event) (images : List Loaded) (h : Outside) → Starts images (Err f)
+    → Carries (boot_verdict events images) (Some (boot_refusal f)) None h h
+boot_refused_of (boot_fault.Overlap i) events images h starts =
+    carries_nothing (boot_verdict events images) (refusal.Overlap i) h h (boot_verdict_at events images (Overlaps i) starts) (unsent_refl h)
+boot_refused_of (boot_fault.NoRoom i) events images h starts =
+    carries_nothing (boot_verdict events images) (refusal.NoRoom i) h h (boot_verdict_at events images (NoRoom i) starts) (unsent_refl h)
+boot_refused_of boot_fault.NoMemory events images h starts =
+    carries_nothing (boot_verdict events images) refusal.NoMemory h h tt (unsent_refl h)
 
-pub boot_refused : (f : BootFault) (r : Refusal) (events : List Event) (image : Loaded) (h : Outside) → r ≡ boot_refusal f
-    → Starts (image ∷ []) (Err f) → Carries (boot_verdict events (image ∷ [])) (Some r) None h h
-boot_refused f r events image h is starts =
-    let P : Refusal → Type 0 = λ x. Carries (boot_verdict events (image ∷ [])) (Some x) None h h in
-    subst P (sym is) (boot_refused_of f events image h starts)
+pub boot_refused : (f : BootFault) (r : Refusal) (events : List Event) (images : List Loaded) (h : Outside) → r ≡ boot_refusal f
+    → Starts images (Err f) → Carries (boot_verdict events images) (Some r) None h h
+boot_refused f r events images h is starts =
+    let P : Refusal → Type 0 = λ x. Carries (boot_verdict events images) (Some x) None h h in
+    subst P (sym is) (boot_refused_of f events images h starts)

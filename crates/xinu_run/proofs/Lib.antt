@@ -9,6 +9,7 @@ pub mod DiskVerdicts
 pub mod Fetched
 pub mod FileLines
 pub mod Files
+pub mod ImageFiles
 pub mod InputFaults
 pub mod Possible
 pub mod Printed

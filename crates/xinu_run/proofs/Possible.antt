@@ -1,5 +1,5 @@
--- What the arguments make sure of: a run has one image, and an action on a disk is possible.
-use Rattle.std.proofs.Common.{◌≡◌, ◌<◌, ◌≤◌, nat_lt, nat_le, Bool, true, false, ◌&&◌, if◌then◌else◌, List, [], ◌∷◌, length, get_or, bytes_eq, Option, Some, None, refl, sym, ap, subst, arith, codes}
+-- What the arguments make sure of: a run has one to eight images, and an action on a disk is possible.
+use Rattle.std.proofs.Common.{ℕ, ◌≡◌, ◌<◌, ◌≤◌, nat_lt, nat_le, Bool, true, false, ◌&&◌, if◌then◌else◌, List, [], ◌∷◌, length, get_or, bytes_eq, Option, Some, None, refl, sym, ap, subst, arith, codes}
 use Rattle.std.specs.Prelude.{option_map}
 use Rattle.std.specs.List.{list_all}
 use Rattle.std.specs.Char.{is_ascii_digit}
@@ -19,7 +19,7 @@ some_if : {X : Type 0} (b : Bool) (x y : X) → (if b then Some x else None) ≡
 some_if true x y is = (refl, cc)
 some_if false x y is = cc
 
--- ---- a run has one image
+-- ---- a run has one to eight images
 
 run_given : (args : List Text) (r : RunFiles) → command_of args ≡ Some (Run r) → simple_command_of args ≡ Some (Run r)
 run_given [] r is = absurd (cc)
@@ -38,28 +38,27 @@ run_named false true run (Some x) r is = absurd (cc)
 run_named false true run None r is = absurd (cc)
 run_named false false run asm r is = absurd (cc)
 
-one_of_run : (schedule : Option Text) (images : List Text) (r : RunFiles) → run_of schedule images ≡ Some r → length r.images ≡ 1
-one_of_run None images r is = cc
-one_of_run (Some schedule) images r is =
+-- how many images a run has
+pub record IsImageCount (images : ℕ) : Type 0 where
+  pub some : 1 ≤ images
+  pub few : images ≤ 8
+
+count_of_run : (schedule : Option Text) (images : List Text) (r : RunFiles) → run_of schedule images ≡ Some r → IsImageCount (length r.images)
+count_of_run None images r is = cc
+count_of_run (Some schedule) images r is =
     let files : RunFiles = record { schedule = schedule; images = images } in
-    let holds = some_if (is_file_name schedule && (list_all is_file_name images && (nat_lt 0 (length images) && nat_le (length images) 1))) files r is in
-    let counts = and_parts (nat_lt 0 (length images)) (nat_le (length images) 1) (and_parts (list_all is_file_name images) _ (and_parts (is_file_name schedule) _ holds.0).1).1 in
+    let holds = some_if (is_file_name schedule && (list_all is_file_name images && (nat_lt 0 (length images) && nat_le (length images) 8))) files r is in
+    let counts = and_parts (nat_lt 0 (length images)) (nat_le (length images) 8) (and_parts (list_all is_file_name images) _ (and_parts (is_file_name schedule) _ holds.0).1).1 in
     let some : 0 < length images = ltb-true 0 (length images) counts.0 in
-    let few : length images ≤ 1 = leb-true (length images) 1 counts.1 in
+    let few : length images ≤ 8 = leb-true (length images) 8 counts.1 in
     let same : length images ≡ length r.images = ap (λ (x : RunFiles). length x.images) holds.1 in
-    omega arith
+    record { some = omega arith; few = omega arith }
 
-pub one_image : (args : List Text) (r : RunFiles) → command_of args ≡ Some (Run r) → length r.images ≡ 1
-one_image args r is =
+pub image_count : (args : List Text) (r : RunFiles) → command_of args ≡ Some (Run r) → IsImageCount (length r.images)
+image_count args r is =
     option_and_then_some command_from (request_of commands args) (Run r) (run_given args r is)
-    (λ q calls given. one_of_run (option_value (codes "schedule") q.taken) q.taken.positional r
+    (λ q calls given. count_of_run (option_value (codes "schedule") q.taken) q.taken.positional r
     (run_named (bytes_eq (codes "run") q.command) (bytes_eq (codes "asm") q.command) (run_from q.taken) (asm_from q.taken) r given))
-
--- a list of one is its first
-pub one_item : {A : Type 0} (xs : List A) (x : A) → length xs ≡ 1 → x ≡ get_or xs 0 x → xs ≡ x ∷ []
-one_item [] x is first = absurd (omega arith)
-one_item (y ∷ []) x is first = ap (λ a. a ∷ []) (sym first)
-one_item (y ∷ z ∷ xs) x is first = absurd (omega arith)
 
 -- ---- an action is possible
 

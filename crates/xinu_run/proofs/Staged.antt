@@ -10,6 +10,7 @@ use Rattle.lfs_check.specs.Faults.{Refuses as RefusesBy, report}
 use Rattle.lfs_check.specs.declared.faults.CheckFault.{CheckFault}
 use Rattle.lfs_check.specs.declared.faults.CheckFault.TheVariants as check
 use Rattle.lfs_check.specs.declared.faults.DiskFault.{DiskFault}
+use Rattle.xinu_model.specs.Machine.{Xinu}
 use Rattle.xinu_run.specs.Calls.{action_calls}
 use Rattle.xinu_run.specs.Conversions.{check_refusal}
 use Rattle.xinu_run.specs.DiskVerdict.{check_verdict, disk_fault, disk_with, file_lines, file_on, get_verdict, ls_verdict, mkfs_verdict, put_verdict, repair_line, repair_verdict, report_line, rule_broken, set_verdict, size_fault, with_disk}
@@ -88,17 +89,19 @@ unfetched_stage v name calls r h k usage f = record {
 }
 
 -- it was fetched, and then what is left was carried out
-pub fetched_stage : (v : Verdict) (name : List ℕ) (calls : List HostCall) (ended : Option Refusal) (h j k : Outside) → Fetches name None h j → Stage v calls ended None j k
-    → Stage v (fetching name ∷ calls) ended None h k
-fetched_stage v name calls ended h j k f s = record {
-  carries = carries_within v ended None h j k k f.unsent f.keeps.later (unsent_refl k) (omega arith) s.carries;
+pub fetched_stage : (v : Verdict) (name : List ℕ) (calls : List HostCall) (ended : Option Refusal) (left : Option Xinu) (h j k : Outside)
+    → Fetches name None h j → Stage v calls ended left j k → Stage v (fetching name ∷ calls) ended left h k
+fetched_stage v name calls ended left h j k f s = record {
+  carries = carries_within v ended left h j k k f.unsent f.keeps.later (unsent_refl k) (omega arith) s.carries;
   calls = called_both (fetching name ∷ []) calls ended h j k (f.calls.all refl) s.calls;
   keeps = keeps_both h j k f.keeps s.keeps;
 }
 
 -- the same verdict in another form
-pub stage_as : (v w : Verdict) (calls : List HostCall) (ended : Option Refusal) (h k : Outside) → v ≡ w → Stage w calls ended None h k → Stage v calls ended None h k
-stage_as v w calls ended h k is s = record { carries = carries_as v w ended None h k is s.carries; calls = s.calls; keeps = s.keeps }
+pub stage_as : (v w : Verdict) (calls : List HostCall) (ended : Option Refusal) (left : Option Xinu) (h k : Outside) → v ≡ w
+    → Stage w calls ended left h k → Stage v calls ended left h k
+stage_as v w calls ended left h k is s =
+    record { carries = carries_as v w ended left h k is s.carries; calls = s.calls; keeps = s.keeps }
 
 -- ---- a whole action
 
@@ -172,8 +175,8 @@ pub fetched_performs : (action : DiskAction) (name : Text) (calls : List HostCal
     → IsFetched 33557504 (h.file name) items → Fetches name None h j → Stage (v items) calls ended None j k → Performs (Some (Disk action)) ended None h k
 fetched_performs action name calls v source items ended h j k front is same fetched f s =
     let P : List HostCall → Type 0 = λ x. Stage (verdict_on action items source h) x ended None h k in
-    performs_by action items source ended h k (subst P (sym is) (stage_as (verdict_on action items source h) (v items) (fetching name ∷ calls) ended h k
-    (same ∙ front (file_bytes (h.file name) items) items fetched.front) (fetched_stage (v items) name calls ended h j k f s)))
+    performs_by action items source ended h k (subst P (sym is) (stage_as (verdict_on action items source h) (v items) (fetching name ∷ calls) ended None h k
+    (same ∙ front (file_bytes (h.file name) items) items fetched.front) (fetched_stage (v items) name calls ended None h j k f s)))
 
 -- ---- a file that is set
 
@@ -196,10 +199,10 @@ pub source_set : (disk name source out items : List ℕ) (ended : Option Refusal
     → Stage (set_verdict name items (opened disk)) (naming Disk1 out ∷ []) ended None j k → SetsFile disk name source out ended h k
 source_set disk name source out items ended h j k clean fetched f s = record {
   unseen = items;
-  stage = stage_as (put_verdict name (file_bytes (h.file source) items) disk) (put_verdict name items disk) (fetching source ∷ naming Disk1 out ∷ []) ended h k
+  stage = stage_as (put_verdict name (file_bytes (h.file source) items) disk) (put_verdict name items disk) (fetching source ∷ naming Disk1 out ∷ []) ended None h k
       (source_fetched name (file_bytes (h.file source) items) items disk fetched.front)
-      (fetched_stage (put_verdict name items disk) source (naming Disk1 out ∷ []) ended h j k f
-      (stage_as (put_verdict name items disk) (set_verdict name items (opened disk)) (naming Disk1 out ∷ []) ended j k (put_sets name items disk clean) s));
+      (fetched_stage (put_verdict name items disk) source (naming Disk1 out ∷ []) ended None h j k f
+      (stage_as (put_verdict name items disk) (set_verdict name items (opened disk)) (naming Disk1 out ∷ []) ended None j k (put_sets name items disk clean) s));
 }
 
 -- the disk was fetched, and the file set

@@ -1,37 +1,30 @@
 -- Why the exit statuses mean what they do.
 use Rattle.std.proofs.lemmas.Bool.{cases_eq}
 use Rattle.std.specs.List.{list_any}
-use Rattle.std.proofs.Common.{inl, inr, ◌==◌, IsTrue, ◌≡◌, ◌≢◌, ◌↔◌, ℕ, Bool, true, false, nat_le, if◌then◌else◌, List, [], ◌∷◌, length, drop, Option, Some, None, IsSome, refl, sym, ap, subst, ◌∙◌}
+use Rattle.std.proofs.Common.{◌⊎◌, inl, inr, ◌==◌, IsTrue, ◌≡◌, ◌≢◌, ◌↔◌, ℕ, Bool, true, false, nat_le, if◌then◌else◌, List, [], ◌∷◌, length, Option, Some, None, IsSome, refl, sym, ap, subst, ◌∙◌}
 use Rattle.std.specs.Prelude.{option_map}
 use Rattle.command_line.specs.Commands.{Command, Run, Asm, Disk}
 use Rattle.command_line.specs.Reading.{Text}
+use Rattle.command_line.specs.RunArgs.{RunFiles}
 use Rattle.host_port.specs.HostCalls.{Rose}
 use Rattle.host_port.specs.Outside.{Outside}
-use Rattle.elf_loader.specs.ElfFaults.{load_fault_number}
-use Rattle.elf_loader.specs.ElfFiles.{elf_fault, elf_loaded, loaded_unless_fault}
-use Rattle.elf_loader.specs.LoadedFiles.{is_elf, load_fault, loads}
-use Rattle.elf_loader.specs.declared.faults.ElfFault.{ElfFault}
-use Rattle.elf_loader.specs.declared.faults.LoadFault.TheVariants as load
-use Rattle.image_loader.specs.ImageFiles.{first_fault, header_of, image_of, loaded_unless}
-use Rattle.image_loader.specs.declared.faults.ImageFault.{ImageFault}
 use Rattle.schedule_file.specs.ScheduleFiles.{Reading, Reads, Bad, Many, events_in, events_read, reading}
 use Rattle.xinu_base.specs.declared.events.Event.{Event}
-use Rattle.xinu_model.specs.Boot.{Loaded, Start, Boots, Overlaps, NoRoom, all_made, all_started, and_then, boot, loaded_machine, where_stack}
-use Rattle.xinu_model.specs.Heap.Cells.{Stack, take_stack}
+use Rattle.xinu_model.specs.Boot.{Loaded, Start, Boots, Overlaps, NoRoom, boot}
 use Rattle.xinu_model.specs.Machine.{Xinu}
-use Rattle.xinu_model.specs.Process.Creation.{stack_size}
-use Rattle.xinu_run.specs.InputFaults.{fault_line, longest_image, longest_schedule, schedule_fault, image_fault}
+use Rattle.xinu_run.specs.InputFaults.{fault_line, have_fault, images_loaded, longest_schedule, schedule_fault}
 use Rattle.xinu_run.specs.Statuses.{SaysOfFiles, start_with, status_due, statuses}
 use Rattle.xinu_run.specs.Theorem.{Answers, Carries, IsStatus}
 use Rattle.xinu_run.specs.Refusals.{status_of}
 use Rattle.xinu_run.specs.RunVerdict.{run_verdict, boot_verdict, start_verdict, images_verdict}
-use Rattle.xinu_run.specs.Verdict.{Input, ScheduleInput, ImageInput, SourceInput, file_bytes, verdict}
+use Rattle.xinu_run.specs.Verdict.{Input, ScheduleInput, ImageInput, SourceInput, file_bytes, image_bytes, verdict}
 use Rattle.xinu_run.specs.Work.{Verdict, Refuses, Does}
 use Rattle.xinu_run.specs.declared.refusals.Refusal.{Refusal}
 use Rattle.xinu_run.specs.declared.refusals.Refusal.TheVariants as refusal
 use Rattle.xinu_run.proofs.Answered.{done_status}
 use Rattle.xinu_run.proofs.Assembled.{asm_keeps}
-use Rattle.xinu_run.proofs.Files.{image_read, image_refused, run_keeps, schedule_read, schedule_refused, boot_verdict_at}
+use Rattle.xinu_run.proofs.Files.{run_keeps, schedule_read, schedule_refused, boot_verdict_at}
+use Rattle.xinu_run.proofs.ImageFiles.{images_read, images_refused}
 use Rattle.xinu_run.proofs.Printed.{some_is_none}
 use Rattle.xinu_run.proofs.Staged.{action_keeps}
 
@@ -48,6 +41,7 @@ cause_listed (refusal.Image i f) = refl
 cause_listed (refusal.Schedule l) = refl
 cause_listed (refusal.Disk d b r) = refl
 cause_listed refusal.NoMemory = refl
+cause_listed (refusal.Overlap i) = refl
 cause_listed (refusal.NoRoom i) = refl
 cause_listed (refusal.Asm l f) = refl
 cause_listed refusal.NoSuchFile = refl
@@ -143,112 +137,83 @@ good_reads : (bytes : List ℕ) → schedule_fault bytes ≡ None → (events : 
 unfolding schedule_fault
 good_reads bytes good = reads_by (nat_le (length bytes) longest_schedule) (reading bytes) good
 
-loads_by : (fits elf : Bool) (e : Option ElfFault) (f : Option ImageFault) (x y : Loaded)
-    → (if fits then option_map load_fault_number (if elf then option_map load.Elf e else option_map load.Image f) else Some 0) ≡ None
-    → (image : Loaded) × ((if elf then loaded_unless_fault e x else loaded_unless f y) ≡ Some image)
-loads_by false elf e f x y good = absurd (cc)
-loads_by true true None f x y good = (x, refl)
-loads_by true true (Some e) f x y good = absurd (cc)
-loads_by true false e None x y good = (y, refl)
-loads_by true false e (Some f) x y good = absurd (cc)
-
-good_loads : (bytes : List ℕ) → image_fault bytes ≡ None → (image : Loaded) × (loads bytes ≡ Some image)
-unfolding image_fault load_fault loads
-good_loads bytes good =
-    loads_by (nat_le (length bytes) longest_image) (is_elf bytes) (elf_fault bytes) (first_fault bytes) (elf_loaded bytes)
-    (image_of (header_of bytes) (drop 28 bytes)) good
-
--- ---- one image overlaps nothing
-
-then_fits : (s : Start) (next : Xinu → Start) (i : ℕ) → s ≢ Overlaps i → ((x : Xinu) → next x ≢ Overlaps i) → and_then s next ≢ Overlaps i
-then_fits (Boots x) next i first second is = second x is
-then_fits (Overlaps j) next i first second is = first is
-then_fits (NoRoom j) next i first second is = cc
-
-stack_fits : (stack : Option Stack) (image : Loaded) (s : Xinu) (i : ℕ) → where_stack stack 1 image s ≢ Overlaps i
-stack_fits None image s i is = cc
-stack_fits (Some stack) image s i is = cc
-
-one_fits : (image : Loaded) (i : ℕ) → boot (image ∷ []) ≢ Overlaps i
-one_fits image i is =
-    then_fits (all_made 1 (image ∷ []) (loaded_machine (image ∷ []))) (λ s. Boots (all_started (image ∷ []) s)) i
-    (λ made. then_fits (where_stack (take_stack (stack_size image.stack) (loaded_machine (image ∷ [])).parts.heap) 1 image (loaded_machine (image ∷ []))) (λ x. Boots x) i
-    (stack_fits (take_stack (stack_size image.stack) (loaded_machine (image ∷ [])).parts.heap) image (loaded_machine (image ∷ [])) i) (λ x same. cc) made)
-    (λ x same. cc) is
-
 -- ---- the statuses by the files
 
 some_of : {X : Type 0} (o : Option X) (x : X) → o ≡ Some x → IsSome o
 some_of o x is = rw is refl
 
-says_schedule : (exit : ℕ) (s b : List ℕ) (l : ℕ) → schedule_fault s ≡ Some l → exit ≡ 5 → SaysOfFiles exit s b
-says_schedule exit s b l bad is = record {
+no_more : {X : Type 0} (b : Bool) → b ≡ true → b ≡ false → X
+no_more b is other = (let same : true ≡ false = sym is ∙ other in absurd (cc))
+
+says_schedule : (exit : ℕ) (s : List ℕ) (files : List (List ℕ)) (l : ℕ) → schedule_fault s ≡ Some l → exit ≡ 5 → SaysOfFiles exit s files
+says_schedule exit s files l bad is = record {
   done = (λ e. absurd (cc), λ p. (let good = p.0 in cc));
   bad_schedule = (λ e. some_of (schedule_fault s) l bad, λ p. is);
   bad_image = (λ e. absurd (cc), λ p. (let good = p.0 in cc));
-  no_room = (λ e. absurd (cc), λ p. (let good = p.0 in cc));
+  no_start = (λ e. absurd (cc), λ p. (let good = p.0 in cc));
 }
 
-says_image : (exit : ℕ) (s b : List ℕ) (f : ℕ) → schedule_fault s ≡ None → image_fault b ≡ Some f → exit ≡ 4 → SaysOfFiles exit s b
-says_image exit s b f good bad is = record {
-  done = (λ e. absurd (cc), λ p. (let other = p.1.good in cc));
+says_image : (exit : ℕ) (s : List ℕ) (files : List (List ℕ)) → schedule_fault s ≡ None → have_fault files ≡ true → exit ≡ 4 → SaysOfFiles exit s files
+says_image exit s files good bad is = record {
+  done = (λ e. absurd (cc), λ p. no_more (have_fault files) bad p.1.good);
   bad_schedule = (λ e. absurd (cc), λ p. absurd (some_is_none (schedule_fault s) p good));
-  bad_image = (λ e. (good, some_of (image_fault b) f bad), λ p. is);
-  no_room = (λ e. absurd (cc), λ p. (let other = p.1.good in cc));
+  bad_image = (λ e. (good, bad), λ p. is);
+  no_start = (λ e. absurd (cc), λ p. no_more (have_fault files) bad p.1.good);
 }
 
-says_room : (exit : ℕ) (s b : List ℕ) (i : ℕ) → schedule_fault s ≡ None → image_fault b ≡ None → start_with b ≡ Some (NoRoom i) → exit ≡ 8
-    → SaysOfFiles exit s b
-says_room exit s b i good loads start is = record {
-  done = (λ e. absurd (cc), λ p. (let other = p.1.boots in cc));
+says_no_start : (exit : ℕ) (s : List ℕ) (files : List (List ℕ)) (i : ℕ) → schedule_fault s ≡ None → have_fault files ≡ false
+    → (start_with files ≡ Some (Overlaps i)) ⊎ (start_with files ≡ Some (NoRoom i)) → exit ≡ 8 → SaysOfFiles exit s files
+says_no_start exit s files i good fine start is = record {
+  done = (λ e. absurd (cc), λ p. (let boots = p.1.boots in elim start [ inl overlaps ↦ absurd (cc) | inr full ↦ absurd (cc) ]));
   bad_schedule = (λ e. absurd (cc), λ p. absurd (some_is_none (schedule_fault s) p good));
-  bad_image = (λ e. absurd (cc), λ p. absurd (some_is_none (image_fault b) p.1 loads));
-  no_room = (λ e. (good, record { good = loads; image = i; start = start }), λ p. is);
+  bad_image = (λ e. absurd (cc), λ p. no_more (have_fault files) p.1 fine);
+  no_start = (λ e. (good, record { good = fine; image = i; start = start }), λ p. is);
 }
 
-says_done : (exit : ℕ) (s b : List ℕ) (x : Xinu) → schedule_fault s ≡ None → image_fault b ≡ None → start_with b ≡ Some (Boots x)
-    → exit ≡ 0 → SaysOfFiles exit s b
-says_done exit s b x good loads start is = record {
-  done = (λ e. (good, record { good = loads; start = x; boots = start }), λ p. is);
+says_done : (exit : ℕ) (s : List ℕ) (files : List (List ℕ)) (x : Xinu) → schedule_fault s ≡ None → have_fault files ≡ false → start_with files ≡ Some (Boots x)
+    → exit ≡ 0 → SaysOfFiles exit s files
+says_done exit s files x good fine start is = record {
+  done = (λ e. (good, record { good = fine; start = x; boots = start }), λ p. is);
   bad_schedule = (λ e. absurd (cc), λ p. absurd (some_is_none (schedule_fault s) p good));
-  bad_image = (λ e. absurd (cc), λ p. absurd (some_is_none (image_fault b) p.1 loads));
-  no_room = (λ e. absurd (cc), λ p. (let other = p.1.start in cc));
+  bad_image = (λ e. absurd (cc), λ p. no_more (have_fault files) p.1 fine);
+  no_start = (λ e. absurd (cc), λ p. elim p.1.start [ inl overlaps ↦ cc | inr full ↦ cc ]);
 }
 
 -- by how the machine starts
-says_start : (exit : ℕ) (s b : List ℕ) (events : List Event) (image : Loaded) (start : Start) → schedule_fault s ≡ None
-    → image_fault b ≡ None → loads b ≡ Some image → boot (image ∷ []) ≡ start → exit ≡ status_due (start_verdict events start)
-    → SaysOfFiles exit s b
+says_start : (exit : ℕ) (s : List ℕ) (files : List (List ℕ)) (events : List Event) (images : List Loaded) (start : Start) → schedule_fault s ≡ None
+    → have_fault files ≡ false → images_loaded files ≡ Some images → boot images ≡ start → exit ≡ status_due (start_verdict events start)
+    → SaysOfFiles exit s files
 unfolding start_with
-says_start exit s b events image (Boots x) good fine loaded starts is =
-    says_done exit s b x good fine (ap (option_map (λ i. boot (i ∷ []))) loaded ∙ ap Some starts) is
-says_start exit s b events image (Overlaps i) good fine loaded starts is = absurd (one_fits image i starts)
-says_start exit s b events image (NoRoom i) good fine loaded starts is =
-    says_room exit s b i good fine (ap (option_map (λ i. boot (i ∷ []))) loaded ∙ ap Some starts) is
+says_start exit s files events images (Boots x) good fine loaded starts is =
+    says_done exit s files x good fine (ap (option_map boot) loaded ∙ ap Some starts) is
+says_start exit s files events images (Overlaps i) good fine loaded starts is =
+    says_no_start exit s files i good fine (inl (ap (option_map boot) loaded ∙ ap Some starts)) is
+says_start exit s files events images (NoRoom i) good fine loaded starts is =
+    says_no_start exit s files i good fine (inr (ap (option_map boot) loaded ∙ ap Some starts)) is
 
--- by the fault of the image
-says_by_image : (exit : ℕ) (s b : List ℕ) (events : List Event) (f : Option ℕ) → schedule_fault s ≡ None → image_fault b ≡ f
-    → exit ≡ status_due (images_verdict 1 (b ∷ []) (boot_verdict events)) → SaysOfFiles exit s b
-says_by_image exit s b events (Some f) good bad is =
-    says_image exit s b f good bad (is ∙ ap status_due (image_refused 1 b f [] (boot_verdict events) bad))
-says_by_image exit s b events None good fine is =
-    let loaded = good_loads b fine in
-    says_start exit s b events loaded.0 (boot (loaded.0 ∷ [])) good fine loaded.1 refl
-    (is ∙ ap status_due (image_read 1 b loaded.0 (boot_verdict events) fine loaded.1) ∙ ap status_due (boot_verdict_at events (loaded.0 ∷ []) (boot (loaded.0 ∷ [])) refl))
+-- by whether an image file has a fault
+says_by_images : (exit : ℕ) (s : List ℕ) (files : List (List ℕ)) (events : List Event) (bad : Bool) → schedule_fault s ≡ None → have_fault files ≡ bad
+    → exit ≡ status_due (images_verdict 1 files (boot_verdict events)) → SaysOfFiles exit s files
+says_by_images exit s files events true good bad is =
+    says_image exit s files good bad (is ∙ ap status_due (images_refused 1 files (boot_verdict events) bad).2)
+says_by_images exit s files events false good fine is =
+    let read = images_read 1 files (boot_verdict events) fine in
+    says_start exit s files events read.0 (boot read.0) good fine read.1.0 refl
+    (is ∙ ap status_due read.1.1 ∙ ap status_due (boot_verdict_at events read.0 (boot read.0) refl))
 
 -- by the fault of the schedule
-says_by_schedule : (exit : ℕ) (s b : List ℕ) (f : Option ℕ) → schedule_fault s ≡ f → exit ≡ status_due (run_verdict s (b ∷ []))
-    → SaysOfFiles exit s b
-says_by_schedule exit s b (Some l) bad is =
-    says_schedule exit s b l bad (is ∙ ap status_due (schedule_refused s l (b ∷ []) bad))
-says_by_schedule exit s b None good is =
+says_by_schedule : (exit : ℕ) (s : List ℕ) (files : List (List ℕ)) (f : Option ℕ) → schedule_fault s ≡ f → exit ≡ status_due (run_verdict s files)
+    → SaysOfFiles exit s files
+says_by_schedule exit s files (Some l) bad is =
+    says_schedule exit s files l bad (is ∙ ap status_due (schedule_refused s l files bad))
+says_by_schedule exit s files None good is =
     let read = good_reads s good in
-    says_by_image exit s b read.0 (image_fault b) good refl
-    (is ∙ ap status_due (schedule_read s read.0 (b ∷ []) (record { good = good; reads = read.1 })))
+    says_by_images exit s files read.0 (have_fault files) good refl
+    (is ∙ ap status_due (schedule_read s read.0 files (record { good = good; reads = read.1 })))
 
-pub says_of_files : (exit : ℕ) (schedule image : Text) (old new : Outside) (left : Option Xinu) (a : Answers exit (Some (Run (record { schedule = schedule; images = image ∷ [] }))) old new left)
-    → exit ≢ 7 → exit ≢ 3
-    → SaysOfFiles exit (file_bytes (old.file schedule) (a.obeys.unseen ScheduleInput)) (file_bytes (old.file image) (a.obeys.unseen (ImageInput 1)))
-says_of_files exit schedule image old new left a memory fault =
-    says_by_schedule exit (file_bytes (old.file schedule) (a.obeys.unseen ScheduleInput)) (file_bytes (old.file image) (a.obeys.unseen (ImageInput 1))) (schedule_fault (file_bytes (old.file schedule) (a.obeys.unseen ScheduleInput))) refl
-    (due exit (Some (Run (record { schedule = schedule; images = image ∷ [] }))) old new left a memory fault)
+pub says_of_files : (exit : ℕ) (files : RunFiles) (old new : Outside) (left : Option Xinu) (a : Answers exit (Some (Run files)) old new left) → exit ≢ 7 → exit ≢ 3
+    → SaysOfFiles exit (file_bytes (old.file files.schedule) (a.obeys.unseen ScheduleInput)) (image_bytes 1 files.images old.file (λ i. a.obeys.unseen (ImageInput i)))
+says_of_files exit files old new left a memory fault =
+    let schedule = file_bytes (old.file files.schedule) (a.obeys.unseen ScheduleInput) in
+    says_by_schedule exit schedule (image_bytes 1 files.images old.file (λ i. a.obeys.unseen (ImageInput i))) (schedule_fault schedule) refl
+    (due exit (Some (Run files)) old new left a memory fault)

@@ -3,8 +3,8 @@ use Rattle.command_line.specs.declared.refusal.ArgsFault.{ArgsFault}
 use Rattle.command_line.specs.declared.refusal.ArgsFault.TheVariants as words
 use Rattle.host_port.specs.declared.host.HostFault.{HostFault}
 use Rattle.host_port.specs.declared.host.HostFault.TheVariants as host
-use Rattle.machine.specs.declared.boot.BootFault.{BootFault}
-use Rattle.machine.specs.declared.boot.BootFault.TheVariants as boot
+use Rattle.core_calls.specs.declared.boot.BootFault.{BootFault}
+use Rattle.core_calls.specs.declared.boot.BootFault.TheVariants as boot
 use Rattle.lfs_check.specs.declared.faults.CheckFault.{CheckFault}
 use Rattle.lfs_check.specs.declared.faults.CheckFault.TheVariants as check
 use Rattle.schedule_file.specs.declared.faults.ScheduleFault.{ScheduleFault}
@@ -31,6 +31,7 @@ schedule_refusal schedule.NoMemory = refusal.NoMemory
 
 -- the refusal that a machine which doesn't start gives
 abbrev pub boot_refusal : BootFault → Refusal
+boot_refusal (boot.Overlap image) = refusal.Overlap image
 boot_refusal (boot.NoRoom image) = refusal.NoRoom image
 boot_refusal boot.NoMemory = refusal.NoMemory
 

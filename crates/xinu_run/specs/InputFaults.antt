@@ -1,9 +1,11 @@
 -- What is reported of a file that is refused, and when a file has no fault.
-use Rattle.std.specs.Prelude.{◌≡◌, ℕ, nat_le, if◌then◌else◌, List, length, Option, Some, None, option_map}
+use Rattle.std.specs.Prelude.{◌≡◌, ℕ, Bool, nat_le, if◌then◌else◌, List, [], ◌∷◌, length, Option, Some, None, is_some, option_and_then, option_map}
+use Rattle.std.specs.List.{list_any}
 use Rattle.elf_loader.specs.ElfFaults.{load_fault_number}
-use Rattle.elf_loader.specs.LoadedFiles.{load_fault}
+use Rattle.elf_loader.specs.LoadedFiles.{load_fault, loads}
 use Rattle.schedule_file.specs.ScheduleFiles.{Reading, Reads, Bad, Many, events_in, reading}
 use Rattle.xinu_base.specs.declared.events.Event.{Event}
+use Rattle.xinu_model.specs.Boot.{Loaded}
 
 -- the most bytes of a schedule file: 4 MiB
 abbrev pub longest_schedule : ℕ
@@ -28,6 +30,15 @@ schedule_fault bytes =
 unfoldable pub image_fault : List ℕ → Option ℕ
 image_fault bytes =
     if nat_le (length bytes) longest_image then option_map load_fault_number (load_fault bytes) else Some 0
+
+-- whether one of these image files has a fault
+unfoldable pub have_fault : List (List ℕ) → Bool
+have_fault files = list_any (λ bytes. is_some (image_fault bytes)) files
+
+-- what image files load, if each of them loads
+abbrev pub images_loaded : List (List ℕ) → Option (List Loaded)
+images_loaded [] = Some []
+images_loaded (bytes ∷ files) = option_and_then (λ image. option_map (λ images. image ∷ images) (images_loaded files)) (loads bytes)
 
 -- A schedule file has no fault, and it reads as these events.
 pub record ReadsAs (bytes : List ℕ) (events : List Event) : Type 0 where

@@ -8,10 +8,10 @@ use Rattle.xinu_run.specs.InputFaults.{schedule_fault, image_fault}
 use Rattle.xinu_run.specs.Work.{Verdict, Refuses, Does, Runs, unless_fault}
 use Rattle.xinu_run.specs.declared.refusals.Refusal.TheVariants as refusal
 
--- The machine starts, or it doesn't. (One image overlaps nothing, so the middle equation is never reached.)
+-- the machine starts, or it doesn't
 abbrev pub start_verdict : List Event → Start → Verdict
 start_verdict events (Boots start) = Does (Runs start events)
-start_verdict events (Overlaps i) = Refuses refusal.NoMemory
+start_verdict events (Overlaps i) = Refuses (refusal.Overlap i)
 start_verdict events (NoRoom i) = Refuses (refusal.NoRoom i)
 
 -- the images are loaded, and run through the events

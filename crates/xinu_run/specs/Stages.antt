@@ -1,10 +1,11 @@
 -- What the stages of a command promise one another: its arguments, its files, its output.
-use Rattle.std.specs.Prelude.{◌≡◌, ◌≤◌, ◌+◌, ℕ, List, [], ◌∷◌, take, true, Option, Some, None, Result, Ok, Err, option_map}
+use Rattle.std.specs.Prelude.{◌≡◌, ◌≤◌, ◌+◌, ℕ, List, [], ◌∷◌, ◌++◌, length, map, take, true, Option, Some, None, Result, Ok, Err, option_map}
 use Rattle.std.specs.List.{slice_get}
 use Rattle.std.specs.Option.{option_map_or}
 use Rattle.machine.specs.Printed.{Booted}
 use Rattle.command_line.specs.Commands.{Command}
 use Rattle.command_line.specs.DiskArgs.{DiskAction, Mkfs, Put}
+use Rattle.command_line.specs.Reading.{Text}
 use Rattle.host_port.specs.HostCalls.{Rose}
 use Rattle.host_port.specs.Outside.{Outside, HostCall, fetching, naming}
 use Rattle.host_port.specs.declared.host.Channel.{Channel}
@@ -15,8 +16,9 @@ use Rattle.xinu_model.specs.Machine.{Xinu}
 use Rattle.xinu_run.specs.Calls.{calls_of}
 use Rattle.xinu_run.specs.DiskVerdict.{file_line, put_verdict}
 use Rattle.xinu_run.specs.InputFaults.{ReadsAs, schedule_fault}
+use Rattle.xinu_run.specs.RunVerdict.{boot_verdict, images_verdict}
 use Rattle.xinu_run.specs.Theorem.{Carries, HasCalled, IsPartSent, IsSent, IsUnsent, Obeys}
-use Rattle.xinu_run.specs.Verdict.{file_bytes}
+use Rattle.xinu_run.specs.Verdict.{file_bytes, image_bytes}
 use Rattle.xinu_run.specs.Work.{Output, Verdict, output_of}
 use Rattle.xinu_run.specs.declared.refusals.Refusal.{Refusal}
 use Rattle.xinu_run.specs.declared.refusals.Refusal.TheVariants as refusal
@@ -115,6 +117,12 @@ pub record Stage (v : Verdict) (asked : List HostCall) (ended : Option Refusal) 
   pub carries : Carries v ended left old new
   pub calls : HasCalled asked ended old new
   pub keeps : KeepsFiles old new
+
+-- After these image files, those of these names were fetched and read in order, and then all images ran through the events, for some bytes
+-- of the files that can't be observed.
+pub record RunsImages (before : List (List ℕ)) (names : List Text) (events : List Event) (ended : Option Refusal) (left : Option Xinu) (old new : Outside) : Type 0 where
+  pub unseen : ℕ → List ℕ
+  pub stage : Stage (images_verdict 1 (before ++ image_bytes (length before + 1) names old.file unseen) (boot_verdict events)) (map fetching names) ended left old new
 
 -- A file was fetched and then set on a disk, for some bytes of it if it can't be observed.
 pub record SetsFile (disk name source out : List ℕ) (ended : Option Refusal) (old new : Outside) : Type 0 where

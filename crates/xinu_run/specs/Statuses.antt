@@ -1,17 +1,16 @@
 -- What the exit statuses say of a command's files.
-use Rattle.std.specs.Prelude.{◌≡◌, ◌↔◌, ◌≤◌, ◌<◌, ◌⊎◌, ℕ, List, [], ◌∷◌, length, Option, Some, None, IsSome, option_map}
+use Rattle.std.specs.Prelude.{◌≡◌, ◌↔◌, ◌≤◌, ◌<◌, ◌⊎◌, ℕ, Bool, true, false, List, [], ◌∷◌, length, Option, Some, None, IsSome, option_map}
 use Rattle.command_line.specs.DiskArgs.{DiskAction, Mkfs, Ls, Get, Put, Check, Repair}
 use Rattle.command_line.specs.Reading.{Text}
-use Rattle.elf_loader.specs.LoadedFiles.{loads}
 use Rattle.lfs_check.specs.declared.faults.DiskFault.{DiskFault}
 use Rattle.lfs_layout.specs.Images.{opened}
 use Rattle.rv_asm.specs.Assembly.{Makes, Fails, assembly}
 use Rattle.rv_asm.specs.declared.faults.AsmFault.{AsmFault}
-use Rattle.xinu_model.specs.Boot.{Start, Boots, NoRoom, boot}
+use Rattle.xinu_model.specs.Boot.{Start, Boots, Overlaps, NoRoom, boot}
 use Rattle.xinu_model.specs.Machine.{Xinu}
 use Rattle.xinu_run.specs.AsmVerdict.{longest_source}
 use Rattle.xinu_run.specs.DiskVerdict.{disk_fault, disk_with, file_on, size_fault}
-use Rattle.xinu_run.specs.InputFaults.{schedule_fault, image_fault}
+use Rattle.xinu_run.specs.InputFaults.{have_fault, images_loaded, schedule_fault}
 use Rattle.xinu_run.specs.Refusals.{status_of}
 use Rattle.xinu_run.specs.Verdict.{Input, DiskInput, SourceInput}
 use Rattle.xinu_run.specs.Work.{Verdict, Refuses, Does}
@@ -25,28 +24,28 @@ abbrev pub status_due : Verdict → ℕ
 status_due (Refuses cause) = status_of cause
 status_due (Does work) = 0
 
--- how the machine starts with the image of a file, if the file loads
-unfoldable pub start_with : List ℕ → Option Start
-start_with bytes = option_map (λ image. boot (image ∷ [])) (loads bytes)
+-- how the machine starts with the images of files, if each of them loads
+unfoldable pub start_with : List (List ℕ) → Option Start
+start_with files = option_map boot (images_loaded files)
 
--- A file is an image with which the machine starts.
-pub record CanStart (bytes : List ℕ) : Type 0 where
-  pub good : image_fault bytes ≡ None
+-- These files are images with which the machine starts.
+pub record CanStart (files : List (List ℕ)) : Type 0 where
+  pub good : have_fault files ≡ false
   pub start : Xinu
-  pub boots : start_with bytes ≡ Some (Boots start)
+  pub boots : start_with files ≡ Some (Boots start)
 
--- The heap after the image of a file has no room for its stack.
-pub record HasNoRoom (bytes : List ℕ) : Type 0 where
-  pub good : image_fault bytes ≡ None
+-- These files are images, and one overlaps an earlier one, or the heap after them has no room for the stack of one.
+pub record CannotStart (files : List (List ℕ)) : Type 0 where
+  pub good : have_fault files ≡ false
   pub image : ℕ
-  pub start : start_with bytes ≡ Some (NoRoom image)
+  pub start : (start_with files ≡ Some (Overlaps image)) ⊎ (start_with files ≡ Some (NoRoom image))
 
--- What the exit status of a run says of its schedule file and its image file, if it is neither 3 nor 7.
-pub record SaysOfFiles (exit : ℕ) (schedule image : List ℕ) : Type 0 where
-  pub done : exit ≡ 0 ↔ ((schedule_fault schedule ≡ None) × CanStart image)
+-- What the exit status of a run says of its schedule file and its image files, if it is neither 3 nor 7.
+pub record SaysOfFiles (exit : ℕ) (schedule : List ℕ) (images : List (List ℕ)) : Type 0 where
+  pub done : exit ≡ 0 ↔ ((schedule_fault schedule ≡ None) × CanStart images)
   pub bad_schedule : exit ≡ 5 ↔ IsSome (schedule_fault schedule)
-  pub bad_image : exit ≡ 4 ↔ ((schedule_fault schedule ≡ None) × IsSome (image_fault image))
-  pub no_room : exit ≡ 8 ↔ ((schedule_fault schedule ≡ None) × HasNoRoom image)
+  pub bad_image : exit ≡ 4 ↔ ((schedule_fault schedule ≡ None) × (have_fault images ≡ true))
+  pub no_start : exit ≡ 8 ↔ ((schedule_fault schedule ≡ None) × CannotStart images)
 
 -- ---- a source
 

@@ -23,10 +23,10 @@ file_bytes None unseen = unseen
 file_bytes (Some bytes) unseen = bytes
 
 -- what the image files hold, from image i on
-abbrev pub image_bytes : ℕ → List Text → (Text → Option (List ℕ)) → (Input → List ℕ) → List (List ℕ)
+abbrev pub image_bytes : ℕ → List Text → (Text → Option (List ℕ)) → (ℕ → List ℕ) → List (List ℕ)
 image_bytes i [] file unseen = []
 image_bytes i (name ∷ names) file unseen =
-    file_bytes (file name) (unseen (ImageInput i)) ∷ image_bytes (i + 1) names file unseen
+    file_bytes (file name) (unseen i) ∷ image_bytes (i + 1) names file unseen
 
 -- what an action on a disk deserves if its files hold these bytes
 abbrev pub action_verdict : DiskAction → (Input → Text → List ℕ) → Verdict
@@ -41,6 +41,6 @@ action_verdict (Repair image out) held = repair_verdict (held DiskInput image)
 abbrev pub verdict : Option Command → (Text → Option (List ℕ)) → (Input → List ℕ) → Verdict
 verdict None file unseen = Refuses refusal.Usage
 verdict (Some (Run r)) file unseen =
-    run_verdict (file_bytes (file r.schedule) (unseen ScheduleInput)) (image_bytes 1 r.images file unseen)
+    run_verdict (file_bytes (file r.schedule) (unseen ScheduleInput)) (image_bytes 1 r.images file (λ i. unseen (ImageInput i)))
 verdict (Some (Asm a)) file unseen = asm_verdict a.elf (file_bytes (file a.source) (unseen SourceInput))
 verdict (Some (Disk action)) file unseen = action_verdict action (λ input name. file_bytes (file name) (unseen input))

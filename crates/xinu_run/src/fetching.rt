@@ -1,4 +1,4 @@
-//! The files that `asm` and the actions on a disk fetch.
+//! The files that commands fetch.
 
 ghost use Rattle.std.specs.Prelude.{◌<◌, ◌^◌, IfOk};
 ghost use Rattle.xinu_run.specs.Stages.{Fetches, IsFetched, refusal_of};

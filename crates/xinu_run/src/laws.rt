@@ -7,6 +7,7 @@ ghost use Rattle.command_line.specs.AsmArgs.{AsmFiles};
 ghost use Rattle.command_line.specs.Commands.{Command, Run, Asm, Disk};
 ghost use Rattle.command_line.specs.DiskArgs.{DiskAction};
 ghost use Rattle.command_line.specs.Reading.{Text};
+ghost use Rattle.command_line.specs.RunArgs.{RunFiles};
 ghost use Rattle.elf_loader.specs.LoadedFiles.{loads};
 ghost use Rattle.host_port.specs.HostCalls.{Rose};
 ghost use Rattle.host_port.specs.Outside.{Outside};
@@ -17,7 +18,7 @@ ghost use Rattle.xinu_model.specs.Machine.{Xinu};
 ghost use Rattle.xinu_run.specs.AsmVerdict.{written_file};
 ghost use Rattle.xinu_run.specs.Statuses.{SaysOfDisk, SaysOfFiles, SaysOfSource, status_due, statuses};
 ghost use Rattle.xinu_run.specs.Theorem.{Answers};
-ghost use Rattle.xinu_run.specs.Verdict.{ScheduleInput, ImageInput, SourceInput, file_bytes, verdict};
+ghost use Rattle.xinu_run.specs.Verdict.{ScheduleInput, ImageInput, SourceInput, file_bytes, image_bytes, verdict};
 
 /// The exit status is 0, 2, 3, 4, 5, 6, 7, 8, 9, 12 or 13.
 pub fn statuses_are_these()
@@ -39,10 +40,11 @@ pub fn host_faults_are_counted()
     ensures { (exit : ℕ) (command : Option Command) (old new : Outside) (left : Option Xinu) → Answers exit command old new left → exit ≡ 3 → IsSome command × Rose old.faults new.faults }
 {}
 
-/// The exit status of a run is 5 if and only if the schedule file has a fault; if it has none, 4 if and only if the image file has one; if both
-/// have none, 8 if and only if the heap has no room for the stack of the image, and else 0: unless the host failed or memory ran out.
+/// The exit status of a run is 5 if and only if the schedule file has a fault; if it has none, 4 if and only if an image file has one; if none
+/// has one, 8 if and only if an image overlaps an earlier one or the heap has no room for the stack of one, and else 0: unless the host failed
+/// or memory ran out.
 pub fn statuses_say_of_files()
-    ensures { (exit : ℕ) (schedule image : Text) (old new : Outside) (left : Option Xinu) (a : Answers exit (Some (Run (record { schedule = schedule; images = image ∷ [] }))) old new left) → exit ≢ 7 → exit ≢ 3 → SaysOfFiles exit (file_bytes (old.file schedule) (a.obeys.unseen ScheduleInput)) (file_bytes (old.file image) (a.obeys.unseen (ImageInput 1))) }
+    ensures { (exit : ℕ) (files : RunFiles) (old new : Outside) (left : Option Xinu) (a : Answers exit (Some (Run files)) old new left) → exit ≢ 7 → exit ≢ 3 → SaysOfFiles exit (file_bytes (old.file files.schedule) (a.obeys.unseen ScheduleInput)) (image_bytes 1 files.images old.file (λ i. a.obeys.unseen (ImageInput i))) }
 {}
 
 /// The exit status of `asm` is 9 if and only if the source is too long or has a fault, and else 0: unless the host failed or memory ran out.

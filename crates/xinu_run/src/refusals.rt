@@ -27,6 +27,8 @@ pub(crate) enum Refusal {
     Schedule(u32),
     /// The disk with this number breaks this rule at this block; 1 is the disk with files.
     Disk { disk: u8, block: u32, rule: u8 },
+    /// The image with this number, counted from 1, overlaps an earlier one.
+    Overlap(u8),
     /// The heap has no room for the stack of the image with this number, counted from 1.
     NoRoom(u8),
     /// The source has a fault at this line, counted from 1: 1 if the line has no form of the language, 2 if a name isn't known, 3 if a
@@ -90,6 +92,7 @@ impl From<BootFault> for Refusal {
 
     fn from(fault: BootFault) -> Refusal {
         match fault {
+            BootFault::Overlap(image) => Refusal::Overlap(image),
             BootFault::NoRoom(image) => Refusal::NoRoom(image),
             BootFault::NoMemory => Refusal::NoMemory,
         }
@@ -163,7 +166,7 @@ fn status(refusal: Refusal) -> u8
         Refusal::Schedule(_) => 5,
         Refusal::Disk { .. } => 6,
         Refusal::NoMemory => 7,
-        Refusal::NoRoom(_) => 8,
+        Refusal::Overlap(_) | Refusal::NoRoom(_) => 8,
         Refusal::Asm { .. } => 9,
         Refusal::NoSuchFile => 12,
         Refusal::DoesNotFit => 13,
@@ -181,6 +184,7 @@ fn line_of(refusal: Refusal) -> Line
         Refusal::Schedule(number) => number_line("xinu: schedule line", number),
         Refusal::Disk { disk, block, rule } => disk_line(disk, block, rule),
         Refusal::NoMemory => text_line("xinu: no memory"),
+        Refusal::Overlap(image) => overlap_line(image),
         Refusal::NoRoom(image) => number_line("xinu: no room for image", image as u32),
         Refusal::Asm { line, fault } => asm_line(line, fault),
         Refusal::NoSuchFile => text_line("xinu: no such file"),
@@ -218,6 +222,17 @@ fn image_line(image: u8, fault: u8) -> Line
     line.number(image as i64);
     line.word("fault");
     line.number(fault as i64);
+    line.end();
+    line
+}
+
+fn overlap_line(image: u8) -> Line
+    ensures { result ≡ text_of (refusal.Overlap image) }
+{
+    let mut line = Line::new();
+    line.word("xinu: image");
+    line.number(image as i64);
+    line.word("overlaps");
     line.end();
     line
 }

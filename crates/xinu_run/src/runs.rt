@@ -1,6 +1,6 @@
-//! The run of an image through the events of a schedule.
+//! The run of images through the events of a schedule.
 
-ghost use Rattle.std.specs.Prelude.{◌≡◌, ◌+◌, ◌≤◌, ◌∷◌, [], false, length};
+ghost use Rattle.std.specs.Prelude.{◌≡◌, ◌+◌, ◌≤◌, ◌∷◌, [], false, length, map};
 ghost use Rattle.host_port.specs.Printing.{Prints};
 ghost use Rattle.image_loader.specs.Images.{loaded_of};
 ghost use Rattle.xinu_base.specs.declared.lines.TranscriptLine.TheVariants as line;
@@ -16,26 +16,28 @@ use image_loader::Image;
 use machine::{Go, Machine};
 use schedule_file::Schedule;
 use std::alloc::Global;
-use std::slice;
 use xinu_base::End;
 
-/// Runs an image through the events of a schedule, and answers the machine as the run left it.
+/// Runs images through the events of a schedule, and answers the machine as the run left it. There are one to eight images.
 ///
 /// # Errors
-/// `NoRoom(1)` if and only if the heap after the image has no room for its stack, unless memory runs out; `HostFault` if the host
+/// `Overlap(i)` if and only if image `i`, counted from 1, is the first that overlaps an earlier one; else `NoRoom(i)` if and only if the
+/// heap after the images has no room for the stack of image `i`, and it is the first; unless memory runs out; `HostFault` if the host
 /// refused a line; `NoMemory`.
-pub(crate) fn run_image<H: Host>(
+pub(crate) fn run_images<H: Host>(
     alloc: Global,
-    image: &Image<'_>,
+    images: &[Image<'_>],
     schedule: Schedule,
     host: &mut H,
 ) -> Result<Machine, Refusal>
-    requires few { length schedule ≤ 1000000000 }
-    ensures carries { Carries (boot_verdict schedule (loaded_of image.now ∷ [])) (refusal_of result) (left_of result) (H.view host.old) (H.view host.new) }
+    requires some { 1 ≤ length images.now }
+    requires few { length images.now ≤ 8 }
+    requires events { length schedule ≤ 1000000000 }
+    ensures carries { Carries (boot_verdict schedule (map loaded_of images.now)) (refusal_of result) (left_of result) (H.view host.old) (H.view host.new) }
     ensures calls { (H.view host.new).calls ≡ (H.view host.old).calls }
     ensures keeps { KeepsFiles (H.view host.old) (H.view host.new) }
 {
-    let mut machine = match Machine::boot(alloc, slice::from_ref(image)) {
+    let mut machine = match Machine::boot(alloc, images) {
         Ok(machine) => machine,
         Err(fault) => return Err(Refusal::from(fault)),
     };
