@@ -6,6 +6,8 @@ mod disks;
 mod elf_files;
 mod file_runtime;
 mod host_faults;
+mod kernel_heap;
+mod kernel_programs;
 mod out_of_memory;
 mod programs;
 mod real_files;
