@@ -7,6 +7,7 @@ mod elf_files;
 mod file_runtime;
 mod host_faults;
 mod kernel_heap;
+mod kernel_processes;
 mod kernel_programs;
 mod out_of_memory;
 mod programs;
