@@ -1,0 +1,88 @@
+-- Where the buffers of a pool are: the k-th is k steps after the first.
+use Rattle.std.proofs.Common.{◌≡◌, ◌≢◌, ℕ, zero, suc, ◌+◌, ◌-◌, ◌*◌, ◌/◌, ◌%◌, ◌<◌, ◌≤◌, ◌==◌, true, false, List, sym, ap, ◌∙◌, ⊎_elim, arith}
+use Rattle.std.specs.Prelude.{nat_lt}
+use Rattle.std.proofs.Math.Nat.{mul-mod_left, mul-mod_right, mul_left_comm, div-add-mod}
+use Rattle.std.proofs.lemmas.Bool.{and_from, cases_lt, eq-eqb, eqb-true, false_from_ne_true, le-leb, le-ltb, lt-ltb, or_cases, or_left, or_right}
+use Rattle.std.proofs.Math.Dec.{leb}
+use Rattle.std.proofs.lemmas.Nat.{div-add-mod', mul-le}
+use Rattle.xinu_model.specs.Memory.{may_access}
+use Rattle.xinu_model.specs.Pools.Buffers.{BufferPool, addresses, buffers, is_in}
+use Rattle.buffer_pools.specs.Buffers.{IsPlaced}
+
+-- what is k steps after the first is an address
+pub in_at : (x a step n k : ℕ) → k < n → x ≡ a + k * step → is_in x (addresses a step n) ≡ true
+in_at x a step zero k h e = absurd (omega arith)
+in_at x a step (suc n) zero h e = or_left (x == a) (is_in x (addresses (a + step) step n)) (eq-eqb x a (omega arith))
+in_at x a step (suc n) (suc k) h e = or_right (x == a) (is_in x (addresses (a + step) step n))
+    (in_at x (a + step) step n k (omega arith) (omega arith))
+
+-- and each address is so many steps after the first
+pub at_in : (x a step n : ℕ) → is_in x (addresses a step n) ≡ true → (k : ℕ) × (k < n) × (x ≡ a + k * step)
+at_in x a step zero h = cc
+at_in x a step (suc n) h = ⊎_elim
+    (λ (b : (x == a) ≡ true). let e = eqb-true x a b in (0, omega arith, omega arith))
+    (λ (b : is_in x (addresses (a + step) step n) ≡ true). let r = at_in x (a + step) step n b in
+    let l = r.1 in let e = r.2 in (suc r.0, omega arith, omega arith)) (or_cases (x == a) (is_in x (addresses (a + step) step n)) h)
+
+-- no address is below the first
+pub below_is_out : (x a step n : ℕ) → x < a → is_in x (addresses a step n) ≡ false
+below_is_out x a step n h = false_from_ne_true (is_in x (addresses a step n))
+    (λ b. let r = at_in x a step n b in let e = r.2 in omega arith)
+
+-- whole steps after the first there is an address, if they are few enough
+pub whole_steps : (x a step n : ℕ) → 0 < step → a ≤ x → (x - a) % step ≡ 0
+    → nat_lt ((x - a) / step) n ≡ is_in x (addresses a step n)
+whole_steps x a step n some h e =
+    let k = (x - a) / step in
+    let at = div-add-mod' (x - a) step in
+    ⊎_elim
+    (λ (l : k < n). lt-ltb k n l ∙ sym (in_at x a step n k l (omega arith)))
+    (λ (l : n ≤ k). le-ltb k n l ∙ sym (false_from_ne_true (is_in x (addresses a step n))
+    (λ b. let r = at_in x a step n b in let few = r.1 in let is = r.2 in
+    let m = mul-le (suc r.0) step k step (omega arith) (omega arith) in omega arith)))
+    (cases_lt k n)
+
+-- elsewhere there is none
+pub part_of_step : (x a step n : ℕ) → a ≤ x → (x - a) % step ≢ 0 → is_in x (addresses a step n) ≡ false
+part_of_step x a step n h e = false_from_ne_true (is_in x (addresses a step n))
+    (λ b. let r = at_in x a step n b in let is = r.2 in
+    let d : x - a ≡ r.0 * step = omega arith in e (ap (λ y. y % step) d ∙ mul-mod_left r.0 step))
+
+-- where a pool is doesn't depend on which of its buffers are free
+pub placed_with : (pool : BufferPool) (free : List ℕ) → IsPlaced pool → IsPlaced (record pool { free = free })
+placed_with pool free p = record {
+  size = p.size;
+  number = p.number;
+  in_ram = p.in_ram;
+  base_aligned = p.base_aligned;
+  size_aligned = p.size_aligned;
+}
+
+-- the word before a buffer is in RAM, at a multiple of 4
+module _ (pool : BufferPool) (placed : IsPlaced pool) where
+  -- a multiple of 4 plus steps of multiples of 4 is one
+  steps_aligned : (base size k : ℕ) → base % 4 ≡ 0 → size % 4 ≡ 0 → (base + k * (size + 4)) % 4 ≡ 0
+  steps_aligned base size k b s =
+      let d = div-add-mod base 4 in
+      let e = div-add-mod size 4 in
+      let f : size + 4 ≡ 4 * (size / 4 + 1) = omega arith in
+      let g : k * (size + 4) ≡ 4 * (k * (size / 4 + 1)) = ap (λ y. k * y) f ∙ mul_left_comm k 4 (size / 4 + 1) in
+      let h : base + k * (size + 4) ≡ 4 * (base / 4 + k * (size / 4 + 1)) = omega arith in
+      ap (λ y. y % 4) h ∙ mul-mod_right 4 (base / 4 + k * (size / 4 + 1))
+
+  -- a buffer is after a word
+  pub after_word : (a : ℕ) → is_in a (buffers pool) ≡ true → 4 ≤ a
+  after_word a h = let r = at_in a (pool.base + 4) (pool.size + 4) pool.number h in let e = r.2 in omega arith
+
+  -- that can be written
+  pub word_before : (a : ℕ) → is_in a (buffers pool) ≡ true → may_access (a - 4) 4 ≡ true
+  word_before a h =
+      let r = at_in a (pool.base + 4) (pool.size + 4) pool.number h in
+      let few = r.1 in
+      let e = r.2 in
+      let at : a - 4 ≡ pool.base + r.0 * (pool.size + 4) = omega arith in
+      let m = mul-le (suc r.0) (pool.size + 4) pool.number (pool.size + 4) (omega arith) (omega arith) in
+      let within = placed.in_ram in
+      and_from ((a - 4) % 4 == 0) (leb (a - 4 + 4) 1048576)
+      (eq-eqb ((a - 4) % 4) 0 (ap (λ y. y % 4) at ∙ steps_aligned pool.base pool.size r.0 placed.base_aligned placed.size_aligned))
+      (le-leb (a - 4 + 4) 1048576 (omega arith))
