@@ -30,23 +30,23 @@ below_is_out x a step n h = false_from_ne_true (is_in x (addresses a step n))
     (λ b. let r = at_in x a step n b in let e = r.2 in omega arith)
 
 -- whole steps after the first there is an address, if they are few enough
-pub whole_steps : (x a step n : ℕ) → 0 < step → a ≤ x → (x - a) % step ≡ 0
-    → nat_lt ((x - a) / step) n ≡ is_in x (addresses a step n)
-whole_steps x a step n some h e =
-    let k = (x - a) / step in
-    let at = div-add-mod' (x - a) step in
+pub whole_steps : (x a step n offset : ℕ) → 0 < step → x ≡ a + offset → offset % step ≡ 0
+    → nat_lt (offset / step) n ≡ is_in x (addresses a step n)
+whole_steps x a step n offset some is e =
+    let k = offset / step in
+    let at = div-add-mod' offset step in
     ⊎_elim
     (λ (l : k < n). lt-ltb k n l ∙ sym (in_at x a step n k l (omega arith)))
     (λ (l : n ≤ k). le-ltb k n l ∙ sym (false_from_ne_true (is_in x (addresses a step n))
-    (λ b. let r = at_in x a step n b in let few = r.1 in let is = r.2 in
+    (λ b. let r = at_in x a step n b in let few = r.1 in let same = r.2 in
     let m = mul-le (suc r.0) step k step (omega arith) (omega arith) in omega arith)))
     (cases_lt k n)
 
 -- elsewhere there is none
-pub part_of_step : (x a step n : ℕ) → a ≤ x → (x - a) % step ≢ 0 → is_in x (addresses a step n) ≡ false
-part_of_step x a step n h e = false_from_ne_true (is_in x (addresses a step n))
-    (λ b. let r = at_in x a step n b in let is = r.2 in
-    let d : x - a ≡ r.0 * step = omega arith in e (ap (λ y. y % step) d ∙ mul-mod_left r.0 step))
+pub part_of_step : (x a step n offset : ℕ) → x ≡ a + offset → offset % step ≢ 0 → is_in x (addresses a step n) ≡ false
+part_of_step x a step n offset is e = false_from_ne_true (is_in x (addresses a step n))
+    (λ b. let r = at_in x a step n b in let same = r.2 in
+    let d : offset ≡ r.0 * step = omega arith in e (ap (λ y. y % step) d ∙ mul-mod_left r.0 step))
 
 -- where a pool is doesn't depend on which of its buffers are free
 pub placed_with : (pool : BufferPool) (free : List ℕ) → IsPlaced pool → IsPlaced (record pool { free = free })
