@@ -2,6 +2,7 @@ pub mod Boots
 pub mod Closing
 pub mod Dumps
 pub mod Happenings
+pub mod Lives
 pub mod Printings
 pub mod ShownLines
 pub mod Texts

@@ -6,7 +6,9 @@ ghost use Rattle.machine.specs.RunEnds.{end_of_go};
 ghost use Rattle.machine.specs.Printed.{EventPrints};
 ghost use Rattle.xinu_base.specs.declared.lines.TranscriptLine.TheVariants as line;
 ghost use Rattle.xinu_model.specs.Events.{panics_in};
-ghost use Rattle.xinu_model.specs.Runs.{end_with, is_over};
+ghost use Rattle.xinu_model.specs.Runs as runs;
+ghost use Rattle.xinu_model.specs.Runs.{end_with};
+ghost use Rattle.xinu_model.specs.Sound.State.{IsSound};
 ghost use Rattle.xinu_model.specs.Text.{shown, tables_of};
 
 use crate::events::happen;
@@ -15,7 +17,7 @@ use crate::tables::print_tables;
 use core_calls::Kernel;
 use host_port::{Host, Printer};
 use std::marker::Model;
-use xinu_base::{Event, TranscriptLine};
+use xinu_base::{Event, Pid, TranscriptLine};
 
 /// What an event means for the run.
 #[derive(Clone, Copy, Debug, PartialEq, Eq)]
@@ -64,14 +66,14 @@ impl Machine {
         requires goes_on { self.old.over ≡ false }
         requires few { self.old.events < 1000000000 }
         ensures happens { EventPrints self.old.state event self.new.state out.old out.new (H.view host.old) (H.view host.new) }
-        ensures lived { is_over self.old.state ≡ false }
-        ensures goes { end_of_go result ≡ end_with (panics_in self.old.state event) (is_over self.new.state) }
+        ensures lived { runs.is_over self.old.state ≡ false }
+        ensures goes { end_of_go result ≡ end_with (panics_in self.old.state event) (runs.is_over self.new.state) }
         ensures counted { self.new.events ≡ self.old.events + 1 }
         ensures over { self.new.over ≡ is_some (end_of_go result) }
     {
         self.events += 1;
         let panics = happen(&mut self.kernel, event, out, host);
-        let go = go_on(panics, self.kernel.tables().is_over());
+        let go = go_on(panics, is_over(&self.kernel));
         self.has_ended = !matches!(go, Go::Goes);
         go
     }
@@ -82,6 +84,17 @@ impl Machine {
     {
         print_tables(&self.kernel, out, host);
     }
+}
+
+// Whether the null process alone is left. Nothing is counted while another process runs.
+fn is_over(kernel: &Kernel) -> bool
+    requires sound { IsSound kernel.now.call.state }
+    ensures over { result ≡ runs.is_over kernel.now.call.state }
+{
+    if kernel.current() != Pid::default() {
+        return false;
+    }
+    kernel.tables().is_over()
 }
 
 // What an event means for the run, by whether the kernel panicked in it and whether the null process alone is left.
