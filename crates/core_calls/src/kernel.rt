@@ -15,8 +15,8 @@ ghost use Rattle.xinu_model.specs.Tables.{process_at};
 
 use crate::replies::{is_resched_due, write_all};
 use crate::state::KernelState;
-use crate::tables::KernelTables;
 use freelist_memory::Heap;
+use kernel_tables::KernelTables;
 use rv_hart::{Outcome, step};
 use std::marker::Model;
 use xinu_base::{Call, Next, Pid, Rest, State};

@@ -15,8 +15,8 @@ ghost use Rattle.xinu_model.specs.Words.{half, signed};
 
 use crate::creation::Creation;
 use crate::replies::{Replies, answer_released, is_resched_due, write_all};
-use crate::tables::KernelTables;
 use freelist_memory::Heap;
+use kernel_tables::KernelTables;
 use rv_hart::{Hart, Outcome, Ram, step};
 use std::marker::Model;
 use xinu_base::{Call, Next, Pid, Rest, SYSERR, State, is_built};

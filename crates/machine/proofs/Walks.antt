@@ -1,7 +1,7 @@
 -- Lists that are printed element by element.
 use Rattle.std.proofs.Common.{◌≡◌, ◌∙◌, ℕ, zero, suc, ◌+◌, ◌-◌, ◌<◌, ◌≤◌, Bool, true, false, cond, List, [], ◌∷◌, ◌++◌, append_assoc, append-nil, get_or, length, map, take, Option, Some, None, ℤ, refl, sym, ap, subst, arith}
 use Rattle.std.specs.Prelude.{find, is_some, nat_le, nat_lt, slice_index_or, IfSome}
-use Rattle.core_calls.specs.Walks.{numbers_from}
+use Rattle.kernel_tables.specs.Walks.{numbers_from}
 use Rattle.xinu_model.specs.Sound.Tables.{count_in}
 use Rattle.std.proofs.lemmas.Bool.{cond_both, leb-true, lt-ltb}
 use Rattle.std.proofs.lemmas.List.{map-append, take_more}

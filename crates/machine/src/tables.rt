@@ -11,9 +11,10 @@ ghost use Rattle.xinu_model.specs.Text as text;
 ghost use Rattle.xinu_model.specs.Text.{shown};
 
 use crate::printing::print_line;
-use core_calls::{Kernel, KernelTables};
+use core_calls::Kernel;
 use freelist_memory::Heap;
 use host_port::{Host, Printer};
+use kernel_tables::KernelTables;
 use process_core::pid_at;
 use semaphores::sem_at;
 use xinu_base::{Owner, Sem, State, TranscriptLine};
