@@ -1,3 +1,4 @@
+pub mod Apart
 pub mod Boots
 pub mod Closing
 pub mod Dumps

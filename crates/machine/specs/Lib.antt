@@ -1,3 +1,4 @@
+pub mod Apart
 pub mod Machines
 pub mod Printed
 pub mod RunEnds

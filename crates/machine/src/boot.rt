@@ -1,8 +1,9 @@
 //! Boot: a machine whose kernel holds the images (book, chapter 22).
 
-ghost use Rattle.std.specs.Prelude.{◌≡◌, ◌≤◌, length, map};
+ghost use Rattle.std.specs.Prelude.{◌≡◌, ◌≤◌, IfOk, length, map};
 ghost use Rattle.image_loader.specs.Images.{loaded_of};
 ghost use Rattle.machine.specs.Starts.{Starts};
+ghost use Rattle.xinu_laws.specs.Apart.{IsApart};
 
 use crate::machine::Machine;
 use core_calls::{BootFault, Kernel};
@@ -10,7 +11,7 @@ use image_loader::Image;
 use std::alloc::Global;
 
 impl Machine {
-    /// A machine that holds the images and is about to run their processes. There are one to eight.
+    /// A machine that holds the images and is about to run their processes. There are one to eight. No address has two owners in it.
     ///
     /// # Errors
     ///
@@ -20,6 +21,7 @@ impl Machine {
         requires some { 1 ≤ length images.now }
         requires few { length images.now ≤ 8 }
         ensures starts { Starts (map loaded_of images.now) result }
+        ensures apart { IfOk result (λ m. IsApart m.state) }
     {
         let kernel = Kernel::new(alloc, images)?;
         Ok(Machine {

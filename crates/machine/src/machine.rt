@@ -2,6 +2,7 @@
 
 ghost use Rattle.std.specs.Prelude.{◌≡◌, ◌+◌, ◌∷◌, [], ◌<◌, false, is_some};
 ghost use Rattle.host_port.specs.Printing.{Prints};
+ghost use Rattle.machine.specs.Apart.{KeepsApart};
 ghost use Rattle.machine.specs.RunEnds.{end_of_go};
 ghost use Rattle.machine.specs.Printed.{EventPrints};
 ghost use Rattle.xinu_base.specs.declared.lines.TranscriptLine.TheVariants as line;
@@ -61,13 +62,15 @@ impl Machine {
     /// Takes one event and prints its lines.
     ///
     /// `Panic` comes if and only if the kernel panicked in this event, else `Done` if and only if the last process beside the null process
-    /// died in it. An event that the machine doesn't have yet changes and prints nothing.
+    /// died in it. An event that the machine doesn't have yet changes and prints nothing. No address comes to have two owners in it, unless a
+    /// process gives back what a pool or a stack has.
     pub fn event<H: Host>(&mut self, event: Event, out: &mut Printer, host: &mut H) -> Go
         requires goes_on { self.old.over ≡ false }
         requires few { self.old.events < 1000000000 }
         ensures happens { EventPrints self.old.state event self.new.state out.old out.new (H.view host.old) (H.view host.new) }
         ensures lived { runs.is_over self.old.state ≡ false }
         ensures goes { end_of_go result ≡ end_with (panics_in self.old.state event) (runs.is_over self.new.state) }
+        ensures apart { KeepsApart self.old.state event self.new.state }
         ensures counted { self.new.events ≡ self.old.events + 1 }
         ensures over { self.new.over ≡ is_some (end_of_go result) }
     {

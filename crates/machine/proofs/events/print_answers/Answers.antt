@@ -5,7 +5,7 @@ use Rattle.host_port.specs.Printing.{Prints}
 use Rattle.xinu_base.specs.declared.syscalls.Next.TheVariants as next
 use Rattle.xinu_model.specs.Machine.{return_line}
 use Rattle.xinu_model.specs.Text.{shown}
-use Rattle.machine.proofs.Closing.{answers_printed, released_printed}
+use Rattle.machine.proofs.Closing.{answers_printed}
 use Rattle.machine.proofs.events.print_answers.Goals as goal
 
 pub returns-in-Some-Returns : goal.returns-in-Some-Returns

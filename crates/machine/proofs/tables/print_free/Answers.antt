@@ -1,4 +1,4 @@
-use Rattle.std.proofs.Common.{◌≡◌, ◌∙◌, ◌+◌, sym}
+use Rattle.std.proofs.Common.{◌∙◌, ◌+◌, sym}
 use Rattle.freelist_memory.proofs.Rest.{all_blocks, blocks_above, next_block, no_block}
 use Rattle.xinu_model.specs.Heap.Cells.{Block, free_blocks}
 use Rattle.xinu_model.specs.Text.{free_line}

@@ -1,4 +1,4 @@
-use Rattle.std.proofs.Common.{◌≡◌, ◌∙◌, true, rules, sym, w32}
+use Rattle.std.proofs.Common.{◌∙◌, rules, sym, w32}
 use Rattle.std.proofs.lemmas.Int.{to_z-of_z}
 use mir.Val.{SFits}
 use Rattle.xinu_model.specs.Tables.{semaphore_at}

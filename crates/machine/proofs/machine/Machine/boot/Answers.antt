@@ -1,6 +1,7 @@
 use Rattle.std.proofs.Common.{arith, map}
 use Rattle.std.proofs.lemmas.List.{length-map}
 use Rattle.image_loader.specs.Images.{loaded_of}
+use Rattle.xinu_laws.proofs.Ownership.Boot.{apart_boot}
 use Rattle.xinu_laws.proofs.Preserve.Events.{sound_boot}
 use Rattle.machine.proofs.Boots.{boot_lives, boot_ticks}
 use Rattle.machine.proofs.machine.Machine.boot.Goals as goal
@@ -20,3 +21,7 @@ invariant_of-result c =
       few = omega arith;
       ticks = (let e = boot_ticks images s booted.0 in omega arith);
     }
+
+pub returns-clause-apart : goal.returns-clause-apart
+returns-clause-apart c =
+    apart_boot (map loaded_of c.args.images.now) c.in_ok-kernel.kernel.call.state c.in_ok-kernel.ensures.booted.0
