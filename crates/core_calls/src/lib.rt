@@ -31,7 +31,7 @@
 //! | 21 to 24, the receipt of a message | `message_calls.rt` |
 //! | 25 to 27 | `clock_calls.rt` |
 //!
-//! `is_built` of `xinu_base` says which are served. Pools and ports are as at the start (`first_parts`), until their crates come. The crate
+//! `is_built` of `xinu_base` says which are served. Ports are as at the start (`first_ports`), until their crate comes. The crate
 //! depends on `kernel_tables`, `freelist_memory`, `rv_hart`, `image_loader`, and on the laws of `xinu_laws`.
 #![tactic(auto)]
 
