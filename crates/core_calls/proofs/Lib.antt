@@ -1,12 +1,4 @@
-pub mod Queues
-pub mod Served
 pub mod Released
-pub mod Inside
-pub mod Sent
-pub mod Starts
-pub mod Running
-pub mod Wakeups
-pub mod Waiters
 pub mod SemaphoreCalls
 pub mod Answered
 pub mod Kept
@@ -14,6 +6,3 @@ pub mod Rows
 pub mod Named
 pub mod Images
 pub mod Making
-pub mod Walking
-pub mod WalkingQueues
-pub mod WalkingSleepers

@@ -9,8 +9,9 @@ use Rattle.xinu_model.specs.Clock.{a_tick_later, due, quantum_falls, wakeup}
 use Rattle.xinu_model.specs.Machine.{CallResult, CallState, reply_at_unblock, Silent, start, unblock_all, unblock_all_with, unblock_with, Xinu}
 use Rattle.xinu_model.specs.Process.Scheduling.{ready}
 use Rattle.xinu_model.specs.Tables.{process_at, Tables}
-use Rattle.core_calls.specs.Released.{are_any, replies_to}
-use Rattle.core_calls.proofs.Served.{rests_ready, rests_tick}
+use Rattle.core_calls.specs.Released.{replies_to}
+use Rattle.kernel_tables.specs.Waking.{are_any}
+use Rattle.kernel_tables.proofs.Served.{rests_ready, rests_tick}
 
 -- what is under way once these are released, if these are the replies
 abbrev pub after_release : List ℕ → List (ℕ × ℤ) → CallState → CallState

@@ -12,10 +12,11 @@ use Rattle.xinu_model.specs.Semaphores.Calls.{semdelete, semreset, signal, signa
 use Rattle.xinu_model.specs.Semaphores.Counts.{count_of, is_good, most_tokens, with_semaphore, with_tokens}
 use Rattle.xinu_model.specs.Semaphores.Waiting.{emptied_with, signal_first, signalled_times}
 use Rattle.xinu_model.specs.Tables.{no_semaphore, Semaphore, semaphore_at, Tables}
-use Rattle.core_calls.specs.Released.{are_any, replies_to}
+use Rattle.core_calls.specs.Released.{replies_to}
+use Rattle.kernel_tables.specs.Waking.{are_any}
 use Rattle.core_calls.proofs.Released.{owed_for, unblocked}
-use Rattle.core_calls.proofs.Served.{rests_ready, SameRests}
-use Rattle.core_calls.proofs.Waiters.{rests_written}
+use Rattle.kernel_tables.proofs.Served.{rests_ready, SameRests}
+use Rattle.kernel_tables.proofs.Waiters.{rests_written}
 
 -- what is under way once these became ready, in these tables
 abbrev pub releasing : ℤ → List ℕ → Tables → Xinu → CallState

@@ -1,5 +1,5 @@
 -- Who is released, and the answers to them.
-use Rattle.std.specs.Prelude.{ℕ, ℤ, Bool, true, false, List, [], ◌∷◌, ◌++◌}
+use Rattle.std.specs.Prelude.{ℕ, ℤ, List, [], ◌∷◌, ◌++◌}
 use Rattle.xinu_model.specs.Machine.{reply_at_unblock}
 use Rattle.xinu_model.specs.Tables.{process_at, Tables}
 
@@ -7,8 +7,3 @@ use Rattle.xinu_model.specs.Tables.{process_at, Tables}
 abbrev pub replies_to : ℤ → List ℕ → Tables → List (ℕ × ℤ)
 replies_to value [] t = []
 replies_to value (p ∷ ps) t = reply_at_unblock value p (process_at t p).rest ++ replies_to value ps t
-
--- whether there are any of these
-abbrev pub are_any : List ℕ → Bool
-are_any [] = false
-are_any (p ∷ ps) = true

@@ -10,8 +10,8 @@ ghost use Rattle.xinu_model.specs.Process.Creation as creation;
 ghost use Rattle.xinu_model.specs.Tables.{move_to, Nowhere, state_at};
 
 use crate::state::KernelState;
-use crate::tables::KernelTables;
 use freelist_memory::Heap;
+use kernel_tables::KernelTables;
 use rv_hart::{Hart, Ram};
 use xinu_base::{INITRET, MINSTK, Next, Pid, SYSERR, State};
 

@@ -17,51 +17,38 @@
 //! | `close_event` | | `closed`: idle in the state at the end of the event; `switched`: who became current, `None` if and only if nobody did |
 //!
 //! That a kernel stands for a state that is sound, inside an event or between two, is kept by the type: the invariant of `Kernel` is what
-//! each call keeps (`KeepsAll` of `xinu_laws`), that of `KernelTables` what holds of the tables at each moment. So no call has a condition on
-//! lists, states or counts, and the crates above name none. `KernelTables` has one small method per move of the abstract machine.
+//! each call keeps (`KeepsAll` of `xinu_laws`). So no call has a condition on lists, states or counts, and the crates above name none. The
+//! tables are those of `kernel_tables`, with one small method for each move of the abstract machine.
 //!
 //! Calls 1 to 27 have their code here, one file for each family:
 //!
-//! | Calls | File | Moves of the tables |
-//! |---|---|---|
-//! | 1 and 3 to 9, death | `process_calls.rt` | `process_moves.rt` |
-//! | 2 | `creation.rt` | `make` |
-//! | 10 to 13 | `memory_calls.rt` | |
-//! | 14 to 20 | `semaphore_calls.rt` | `semaphore_moves.rt` |
-//! | 21 to 24, the receipt of a message | `message_calls.rt` | `message_moves.rt` |
-//! | 25 to 27 | `clock_calls.rt` | `clock_moves.rt`, with the tick |
+//! | Calls | File |
+//! |---|---|
+//! | 1 and 3 to 9, death | `process_calls.rt` |
+//! | 2 | `creation.rt` |
+//! | 10 to 13 | `memory_calls.rt` |
+//! | 14 to 20 | `semaphore_calls.rt` |
+//! | 21 to 24, the receipt of a message | `message_calls.rt` |
+//! | 25 to 27 | `clock_calls.rt` |
 //!
-//! `is_built` of `xinu_base` says which are served. Pools and ports are as at the start (`first_parts`), and nothing is left of any call but
-//! what these calls leave (`specs/Served.antt`), until their crates come. Ready processes, waiters and sleepers are in one table of lists:
-//! the abstract machine's lists are read off it (`specs/KernelTables.antt`). The crate depends on `process_core`, `semaphores`,
-//! `delta_clock`, `messages`, `freelist_memory`, `rv_hart`, `image_loader`, and on the laws of `xinu_laws`.
+//! `is_built` of `xinu_base` says which are served. Ports are as at the start (`first_ports`), until their crate comes. The crate
+//! depends on `kernel_tables`, `freelist_memory`, `rv_hart`, `image_loader`, and on the laws of `xinu_laws`.
 #![tactic(auto)]
 
 mod boot;
 mod clock_calls;
-mod clock_moves;
 mod creation;
-mod current;
 mod kernel;
-mod leaving;
 mod memory_calls;
 mod memory_map;
 mod message_calls;
-mod message_moves;
 mod process_calls;
-mod process_moves;
 mod replies;
 mod semaphore_calls;
-mod semaphore_moves;
-mod sending;
 mod state;
-mod tables;
-mod waking;
-mod walks;
 
 pub use boot::BootFault;
 pub use kernel::Kernel;
-pub use tables::KernelTables;
 
 #[cfg(test)]
 mod tests;

@@ -10,8 +10,8 @@ ghost use Rattle.core_calls.specs.Results.{answer_so_far};
 ghost use Rattle.xinu_model.specs.Machine as model;
 ghost use Rattle.xinu_model.specs.Tables.{process_at};
 
-use crate::tables::KernelTables;
 use arrayvec::ArrayVec;
+use kernel_tables::KernelTables;
 use xinu_base::{Hart, Next, Pid};
 
 /// The replies of one event to released processes, in order.

@@ -4,8 +4,9 @@
 //! Each is the row of its number in the abstract machine's table. A word that names no semaphore that a process made is refused.
 
 ghost use Rattle.std.specs.Prelude.{◌≡◌, ◌≢◌, ◌≤◌, [], false, length};
-ghost use Rattle.core_calls.specs.Released.{are_any, replies_to};
+ghost use Rattle.core_calls.specs.Released.{replies_to};
 ghost use Rattle.core_calls.specs.Results.{came_to, IsStart};
+ghost use Rattle.kernel_tables.specs.Waking.{are_any};
 ghost use Rattle.xinu_model.specs.Semaphores.Calls as model;
 ghost use Rattle.xinu_model.specs.Sound.Tables.{IsSoundTables};
 

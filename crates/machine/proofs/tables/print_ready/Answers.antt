@@ -3,7 +3,7 @@ use Rattle.std.proofs.lemmas.Int.{to_z-of_z}
 use mir.Val.{SFits}
 use Rattle.host_port.specs.Printing.{Prints}
 use Rattle.xinu_base.specs.declared.lines.TranscriptLine.TheVariants.{Ready}
-use Rattle.core_calls.specs.Walks.{entries_from}
+use Rattle.kernel_tables.specs.Walks.{entries_from}
 use Rattle.xinu_model.specs.Tables.{process_at}
 use Rattle.xinu_model.specs.Text.{ready_line, shown}
 use Rattle.machine.proofs.Walks.{printed_next, printed_start}

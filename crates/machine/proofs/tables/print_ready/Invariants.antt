@@ -1,7 +1,7 @@
 -- The ready list up to the next process was printed.
 use Rattle.std.proofs.Common.{◌≡◌, length}
 use Rattle.std.specs.Prelude.{IfSome}
-use Rattle.core_calls.specs.Walks.{entries_from}
+use Rattle.kernel_tables.specs.Walks.{entries_from}
 use Rattle.xinu_base.specs.declared.processes.State.TheVariants.{Ready}
 use Rattle.xinu_model.specs.Tables.{state_at}
 use Rattle.xinu_model.specs.Text.{ready_line}

@@ -1,6 +1,6 @@
 use Rattle.std.proofs.Common.{◌∙◌, ℕ, Option, ap, subst}
 use Rattle.std.specs.Prelude.{IfSome, option_map}
-use Rattle.core_calls.specs.Walks.{entries_from, StandsAt}
+use Rattle.kernel_tables.specs.Walks.{entries_from, StandsAt}
 use Rattle.xinu_model.specs.Text.{sleeper_line}
 use Rattle.machine.proofs.Walks.{printed_next, printed_start}
 use Rattle.machine.proofs.tables.print_sleepers.Goals as goal

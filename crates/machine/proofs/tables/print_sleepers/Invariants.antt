@@ -1,7 +1,7 @@
 -- The sleepers up to the next one were printed.
 use Rattle.std.proofs.Common.{length}
 use Rattle.std.specs.Prelude.{IfSome, option_map}
-use Rattle.core_calls.specs.Walks.{entries_from, StandsAt}
+use Rattle.kernel_tables.specs.Walks.{entries_from, StandsAt}
 use Rattle.xinu_model.specs.Text.{sleeper_line}
 use Rattle.machine.proofs.Walks.{PrintedUpTo}
 use Rattle.machine.proofs.tables.print_sleepers.Given as goal

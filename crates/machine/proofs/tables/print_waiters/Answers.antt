@@ -1,5 +1,5 @@
 use Rattle.std.proofs.Common.{◌∙◌, ap}
-use Rattle.core_calls.specs.Walks.{numbers_from}
+use Rattle.kernel_tables.specs.Walks.{numbers_from}
 use Rattle.xinu_base.specs.declared.lines.TranscriptLine.TheVariants.{Waiter}
 use Rattle.xinu_model.specs.Tables.{semaphore_at}
 use Rattle.machine.proofs.Walks.{printed_next, printed_start}

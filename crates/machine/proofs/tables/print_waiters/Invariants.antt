@@ -1,7 +1,7 @@
 -- The waiters up to the next one were printed.
 use Rattle.std.proofs.Common.{◌<◌, length}
 use Rattle.std.specs.Prelude.{IfSome}
-use Rattle.core_calls.specs.Walks.{numbers_from}
+use Rattle.kernel_tables.specs.Walks.{numbers_from}
 use Rattle.xinu_base.specs.declared.lines.TranscriptLine.TheVariants.{Waiter}
 use Rattle.xinu_model.specs.Sound.Tables.{count_in}
 use Rattle.xinu_model.specs.Tables.{semaphore_at}

@@ -1,8 +1,0 @@
-use Rattle.core_calls.proofs.Running.{goes_on_once}
-use Rattle.core_calls.proofs.current.end_rest.Goals as goal
-
-pub returns : goal.returns
-returns c = record {
-  goes_on = λ ls b f. rw (c.set_rest.ensures.procs, c.current-current.ensures.current)
-      (goes_on_once ls c.args.procs.now b f c.requires.runs);
-}

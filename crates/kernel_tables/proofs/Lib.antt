@@ -1,0 +1,11 @@
+pub mod Queues
+pub mod Served
+pub mod Inside
+pub mod Sent
+pub mod Starts
+pub mod Running
+pub mod Wakeups
+pub mod Waiters
+pub mod Walking
+pub mod WalkingQueues
+pub mod WalkingSleepers

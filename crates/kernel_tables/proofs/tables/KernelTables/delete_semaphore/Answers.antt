@@ -1,0 +1,60 @@
+use Rattle.std.proofs.Common.{◌≡◌, ◌∙◌, ap, sym, subst, arith}
+use Rattle.queue_table.specs.Table.{lists}
+use Rattle.process_core.proofs.Inside.{inside_fits}
+use Rattle.semaphores.specs.Counts.{beside}
+use Rattle.xinu_laws.specs.Moves.{ready_all}
+use Rattle.xinu_model.specs.Semaphores.Counts.{with_semaphore}
+use Rattle.xinu_model.specs.Sound.Tables.{IsInside, IsSoundTables}
+use Rattle.xinu_model.specs.Tables.{no_semaphore, semaphore_at}
+use Rattle.std.specs.Prelude.{IsSome}
+use Rattle.kernel_tables.specs.KernelTables.{kernel_tables}
+use Rattle.kernel_tables.specs.Served.{AreServed}
+use Rattle.kernel_tables.proofs.Queues.{queues_counted}
+use Rattle.kernel_tables.proofs.Served.{served_kept}
+use Rattle.kernel_tables.proofs.Waiters.{entry_used, inside_deleted, rests_written, written_twice}
+use Rattle.kernel_tables.proofs.tables.KernelTables.delete_semaphore.Goals as goal
+use Rattle.xinu_laws.proofs.Preserve.Semaphores.{good_semaphore}
+use Rattle.std.proofs.Common.{rules}
+
+pub release_all-released-requires-clause-used : goal.release_all-released-requires-clause-used
+release_all-released-requires-clause-used c =
+    let k = c.self.inside in
+    let t = kernel_tables k in
+    let g = good_semaphore t c.args.sem c.self.invariant.inside (rw c.self.view_is c.requires.good) in
+    entry_used (lists k.lists) k.procs k.sems c.args.sem k.slots k.clock (subst IsSome (sym g.owner) (search rules))
+
+pub release_all-released-requires-clause-fits : goal.release_all-released-requires-clause-fits
+release_all-released-requires-clause-fits c = let k = c.self.inside in inside_fits k.lists k.procs
+    (beside k.sems k.slots k.clock) c.self.invariant.inside
+
+-- the waiters are ready and it is given up
+deleted : (c : goal.After-delete)
+    → kernel_tables (record { lists = c.release_all-released.new.lists; procs = c.release_all-released.new.procs; sems = c.delete.new.self; slots = c.self.inside.slots; clock = c.self.inside.clock })
+    ≡ (let t = kernel_tables c.self.inside in with_semaphore c.args.sem no_semaphore (ready_all (semaphore_at t c.args.sem).waiters t))
+deleted c =
+    let k = c.self.inside in
+    let t = kernel_tables k in
+    let sem = c.args.sem in
+    c.delete.ensures.deleted c.release_all-released.new.procs k.slots k.clock
+    ∙ ap (with_semaphore sem no_semaphore) (c.release_all-released.ensures.reset k.slots k.clock)
+    ∙ written_twice sem _ no_semaphore (ready_all (semaphore_at t sem).waiters t)
+
+pub returns-clause-deleted : goal.returns-clause-deleted
+returns-clause-deleted c = rw (← c.self.view_is) (deleted c)
+
+pub invariant_of-self : goal.invariant_of-self
+invariant_of-self c =
+    let k = c.self.inside in
+    let t = kernel_tables k in
+    let sem = c.args.sem in
+    let x = semaphore_at t sem in
+    let w = c.release_all-released.ensures.within in
+    let e = sym (deleted c) in
+    let sound : IsSoundTables t = record { inside = c.self.invariant.inside; runs = rw c.self.view_is c.requires.runs } in
+    record {
+      inside = subst IsInside e (inside_deleted t sem sound (rw c.self.view_is c.requires.good));
+      queues = queues_counted (lists k.lists)
+          (lists c.release_all-released.new.lists) c.delete.new.self.entries c.self.invariant.queues.later
+          (c.release_all-released.ensures.others 129 (λ e. omega (arith, w, e)) (λ e. omega arith)) c.delete.ensures.counts;
+      served = subst AreServed e (served_kept t _ (rests_written t x.waiters sem no_semaphore) c.self.invariant.served);
+    }

@@ -1,0 +1,5 @@
+pub mod Queues
+pub mod Served
+pub mod Waking
+pub mod KernelTables
+pub mod Walks

@@ -1,0 +1,33 @@
+//! The kernel's tables: processes, the ready list, waiters, sleepers, semaphores, messages and the ticks, as one value (book, chapters 4 to
+//! 8 and 13).
+//!
+//! A clause sees a `KernelTables` as the abstract machine's `Tables`. That they are as at each moment of an event is kept by the type, so no
+//! call has a condition on lists or counts, and the crates above name none. Ready processes, waiters and sleepers are in one table of lists:
+//! the abstract machine's lists are read off it (`specs/KernelTables.antt`). There is one small method for each move of the abstract machine:
+//!
+//! | Moves | File |
+//! |---|---|
+//! | what is read: the current process, its rest, states, priorities, names, messages | `tables.rt` |
+//! | `resched`, `ready`, `suspend_ready`, `suspend_self`, `set_priority`, `make`, `bury`, `go_on` | `process_moves.rt` |
+//! | `make_semaphore`, `wait`, `signal`, `signaln`, `reset_semaphore`, `delete_semaphore` | `semaphore_moves.rt` |
+//! | `send_to`, `take_message`, `listen`, `listen_for` | `message_moves.rt` |
+//! | `sleep`, `tick` | `clock_moves.rt` |
+//! | the ready list, the waiters and the sleepers, one process after another | `walks.rt` |
+//!
+//! Each says that the new tables are those of the model's move on the old ones, and what it answers. What is left of a call is what the calls
+//! that are served leave (`specs/Served.antt`). `new` alone takes memory. The crate depends on `process_core`, `semaphores`, `delta_clock`,
+//! `messages` and `queue_table`, and on the laws of `xinu_laws`.
+#![tactic(auto)]
+
+mod clock_moves;
+mod current;
+mod leaving;
+mod message_moves;
+mod process_moves;
+mod semaphore_moves;
+mod sending;
+mod tables;
+mod waking;
+mod walks;
+
+pub use tables::KernelTables;

@@ -1,0 +1,104 @@
+//! The lists from one process to the next, as the tables are printed: the ready list, the waiters of a semaphore, the sleepers.
+//!
+//! It depends on the tables.
+
+ghost use Rattle.std.specs.Prelude.{◌≡◌, ◌∷◌, ◌<◌, ◌≤◌, Some, IfSome, nat_abs, option_map};
+ghost use Rattle.kernel_tables.specs.Walks.{entries_from, numbers_from, StandsAt};
+ghost use Rattle.queue_table.specs.Lists.{after_in, first_process, key_in, list_at, place};
+ghost use Rattle.queue_table.specs.Table as table;
+ghost use Rattle.xinu_model.specs.Sound.Tables.{count_in};
+ghost use Rattle.xinu_model.specs.Tables.{process_at, semaphore_at, state_at};
+
+use crate::tables::KernelTables;
+use process_core::pid_at;
+use queue_table::Lists;
+use xinu_base::{Pid, Sem, State};
+
+// The queues of the ready list and of the sleepers; the waiters of a semaphore are in the queue of its number.
+const READY: usize = 128;
+
+const SLEEPERS: usize = 129;
+
+impl KernelTables {
+    /// The first process of the ready list. `None` if and only if the list is empty.
+    pub fn first_ready(&self) -> Option<Pid>
+        ensures all { entries_from result self.now.ready ≡ self.now.ready }
+        ensures ready { IfSome result (λ p. state_at self.now p ≡ State.Ready) }
+    {
+        first_in(&self.lists, READY)
+    }
+
+    /// The process after `p` in the ready list. `None` if and only if `p` is the last.
+    pub fn ready_after(&self, p: Pid) -> Option<Pid>
+        requires ready { state_at self.now p ≡ State.Ready }
+        ensures next { entries_from (Some p) self.now.ready ≡ (p, (process_at self.now p).priority) ∷ entries_from result self.now.ready }
+        ensures ready { IfSome result (λ q. state_at self.now q ≡ State.Ready) }
+    {
+        next_in(&self.lists, READY, p)
+    }
+
+    /// The first process that waits on `sem`. `None` if and only if nobody waits.
+    pub fn first_waiter(&self, sem: Sem) -> Option<Pid>
+        ensures all { numbers_from result (semaphore_at self.now sem).waiters ≡ (semaphore_at self.now sem).waiters }
+        ensures waits { IfSome result (λ p. 0 < count_in p (semaphore_at self.now sem).waiters) }
+    {
+        first_in(&self.lists, sem.index())
+    }
+
+    /// The process after `p` among those that wait on `sem`. `None` if and only if `p` is the last.
+    pub fn waiter_after(&self, sem: Sem, p: Pid) -> Option<Pid>
+        requires waits { 0 < count_in p (semaphore_at self.now sem).waiters }
+        ensures next { numbers_from (Some p) (semaphore_at self.now sem).waiters ≡ p ∷ numbers_from result (semaphore_at self.now sem).waiters }
+        ensures waits { IfSome result (λ q. 0 < count_in q (semaphore_at self.now sem).waiters) }
+    {
+        next_in(&self.lists, sem.index(), p)
+    }
+
+    /// The first sleeper and the tick at which it wakes. `None` if and only if nobody sleeps.
+    pub fn first_sleeper(&self) -> Option<(Pid, u32)>
+        requires few { self.now.ticks ≤ 1000000000 }
+        ensures all { entries_from (option_map (λ e. e.0) result) self.now.sleepers ≡ self.now.sleepers }
+        ensures sleeps { IfSome result (λ e. StandsAt e.0 e.1 self.now.sleepers) }
+    {
+        let p = first_in(&self.lists, SLEEPERS)?;
+        Some((p, self.clock.ticks() + difference_of(&self.lists, p)))
+    }
+
+    /// The sleeper after `p`, which wakes at this tick, and the tick at which it wakes itself. `None` if and only if `p` is the last.
+    pub fn sleeper_after(&self, p: Pid, wake: u32) -> Option<(Pid, u32)>
+        requires few { self.now.ticks ≤ 1000000000 }
+        requires sleeps { StandsAt p wake self.now.sleepers }
+        ensures next { entries_from (Some p) self.now.sleepers ≡ (p, wake) ∷ entries_from (option_map (λ e. e.0) result) self.now.sleepers }
+        ensures sleeps { IfSome result (λ e. StandsAt e.0 e.1 self.now.sleepers) }
+    {
+        let next = next_in(&self.lists, SLEEPERS, p)?;
+        Some((next, wake + difference_of(&self.lists, next)))
+    }
+}
+
+// The first process of a queue.
+fn first_in(lists: &Lists, q: usize) -> Option<Pid>
+    requires queue { q < 130 }
+    ensures first { result ≡ first_process (list_at (table.lists lists.now) q) }
+{
+    let first = lists.first(q)?;
+    Some(pid_at(first))
+}
+
+// The process after `p` in a queue.
+fn next_in(lists: &Lists, q: usize, p: Pid) -> Option<Pid>
+    requires placed { place (table.lists lists.now) p ≡ Some q }
+    ensures next { result ≡ after_in p (list_at (table.lists lists.now) q) }
+{
+    let _ = q;
+    let next = lists.next_after(p.index())?;
+    Some(pid_at(next))
+}
+
+// How many ticks after the sleeper before it a sleeper wakes; how many from now, if it is the first.
+fn difference_of(lists: &Lists, p: Pid) -> u32
+    requires placed { place (table.lists lists.now) p ≡ Some 129 }
+    ensures difference { result ≡ nat_abs (key_in p (list_at (table.lists lists.now) 129)) }
+{
+    lists.key_of(p.index()).unsigned_abs()
+}
