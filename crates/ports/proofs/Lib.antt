@@ -1,0 +1,5 @@
+pub mod Queues
+pub mod Linking
+pub mod Walking
+pub mod Entries
+pub mod Finding

@@ -1,0 +1,11 @@
+use Rattle.std.proofs.Common.{◌≡◌, ◌∙◌, false, sym, ap, arith}
+use Rattle.process_core.proofs.Searches.{find_later}
+use Rattle.ports.proofs.Finding.{is_free_in}
+use Rattle.ports.proofs.table.Ports.free_within.Goals as goal
+
+pub loop-number-preserved : goal.loop-number-preserved
+loop-number-preserved c =
+    let test = is_free_in c.args.self.now.ports in
+    let f : test c.loop-number.number ≡ false
+    = ap test (sym c.port_numbered-q.ensures.port) ∙ sym c.is_free.ensures.free ∙ c.if-is_free.false in
+    sym (find_later test c.loop-number.number c.args.end (omega arith) f) ∙ c.loop-number.invariant
