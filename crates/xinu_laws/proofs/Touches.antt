@@ -20,6 +20,7 @@ use Rattle.std.proofs.lemmas.Bool.{false≢true, cond_both}
 use Rattle.xinu_base.specs.declared.registers.Hart.{Hart}
 use Rattle.xinu_base.specs.declared.processes.Rest.{Rest}
 use Rattle.xinu_base.specs.declared.semaphores.Owner.{Owner}
+use Rattle.xinu_model.specs.Devices.State.{Devices}
 use Rattle.xinu_model.specs.Footprints.{Footprint}
 use Rattle.xinu_laws.specs.Frame.{Frame}
 use Rattle.xinu_model.specs.Heap.Cells.{Heap}
@@ -29,7 +30,7 @@ use Rattle.xinu_model.specs.Ports.Queues.{MessagePort}
 use Rattle.xinu_model.specs.Sound.Tables.{IsInside}
 use Rattle.xinu_model.specs.Sound.State.{IsSound}
 use Rattle.xinu_model.specs.Tables.{Tables, state_at, is_free}
-use Rattle.xinu_laws.specs.Touches.{Reach, reach, stacks_of, range_of, HasSameExtent, KeepsFree, KeepsParts, Touches}
+use Rattle.xinu_laws.specs.Touches.{Reach, reach, stacks_of, range_of, HasSameExtent, KeepsDevices, KeepsFree, KeepsParts, Touches}
 use Rattle.xinu_laws.proofs.Frame.{frame_same, frame_refl, frame_trans, frame_weaker}
 
 -- Nobody dies if tables and registers stay,
@@ -52,9 +53,13 @@ pub named : {b : Bool} {P : Type 0} → b ≡ true → b ≡ false → P
 named may e = absurd (false≢true (sym e ∙ may))
 
 module _ {f : Footprint} where
+  -- No device changes.
+  pub devices_same : (d : Devices) → KeepsDevices f d d
+  devices_same d = record { console = λ _. refl; names = λ _. refl; disk = λ _. refl; files = λ _. refl }
+
   -- No part changes.
   pub parts_same : (p : Parts) → KeepsParts f p p
-  parts_same p = record { extent = record { low = refl; many = refl }; heap = λ _. refl; pools = λ _. refl; ranges = λ _. refl; ports = λ _. (refl, refl) }
+  parts_same p = record { extent = record { low = refl; many = refl }; heap = λ _. refl; pools = λ _. refl; ranges = λ _. refl; ports = λ _. (refl, refl); devices = devices_same p.devices }
 
   -- One change after another.
   pub parts_trans : {p q r : Parts} → KeepsParts f p q → KeepsParts f q r → KeepsParts f p r
@@ -64,26 +69,32 @@ module _ {f : Footprint} where
     pools = λ e. b.pools e ∙ a.pools e;
     ranges = λ e. b.ranges e ∙ a.ranges e;
     ports = λ e. ((b.ports e).0 ∙ (a.ports e).0, (b.ports e).1 ∙ (a.ports e).1);
+    devices = record {
+      console = λ e. b.devices.console e ∙ a.devices.console e;
+      names = λ e. b.devices.names e ∙ a.devices.names e;
+      disk = λ e. b.devices.disk e ∙ a.devices.disk e;
+      files = λ e. b.devices.files e ∙ a.devices.files e;
+    };
   }
 
   -- Another heap of the same extent.
   pub parts_heap : f.heap ≡ true → (p : Parts) (h : Heap) → HasSameExtent p.heap h → KeepsParts f p (record p { heap = h })
-  parts_heap may p h e = record { extent = e; heap = named may; pools = λ _. refl; ranges = λ _. refl; ports = λ _. (refl, refl) }
+  parts_heap may p h e = record { extent = e; heap = named may; pools = λ _. refl; ranges = λ _. refl; ports = λ _. (refl, refl); devices = devices_same p.devices }
 
   -- Other pools in the same ranges.
   pub parts_pools : f.pools ≡ true → (p : Parts) (pools : List BufferPool) → map range_of pools ≡ map range_of p.pools
       → KeepsParts f p (record p { pools = pools })
-  parts_pools may p pools e = record { extent = record { low = refl; many = refl }; heap = λ _. refl; pools = named may; ranges = λ _. e; ports = λ _. (refl, refl) }
+  parts_pools may p pools e = record { extent = record { low = refl; many = refl }; heap = λ _. refl; pools = named may; ranges = λ _. e; ports = λ _. (refl, refl); devices = devices_same p.devices }
 
   -- Another heap of the same extent, and one more pool.
   pub parts_new_pool : f.heap ≡ true → f.pools ≡ true → f.ranges ≡ true → (p : Parts) (h : Heap) (pools : List BufferPool) → HasSameExtent p.heap h
       → KeepsParts f p (record p { heap = h; pools = pools })
-  parts_new_pool heap pools ranges p h l e = record { extent = e; heap = named heap; pools = named pools; ranges = named ranges; ports = λ _. (refl, refl) }
+  parts_new_pool heap pools ranges p h l e = record { extent = e; heap = named heap; pools = named pools; ranges = named ranges; ports = λ _. (refl, refl); devices = devices_same p.devices }
 
   -- Other ports.
   pub parts_ports : f.ports ≡ true → (p : Parts) (ports : List MessagePort) (next : ℕ)
       → KeepsParts f p (record p { ports = ports; next_port = next })
-  parts_ports may p ports next = record { extent = record { low = refl; many = refl }; heap = λ _. refl; pools = λ _. refl; ranges = λ _. refl; ports = named may }
+  parts_ports may p ports next = record { extent = record { low = refl; many = refl }; heap = λ _. refl; pools = λ _. refl; ranges = λ _. refl; ports = named may; devices = devices_same p.devices }
 
 module _ {f : Reach} where
   -- Other tables with the same stacks.

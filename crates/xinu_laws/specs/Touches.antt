@@ -5,6 +5,7 @@ use Rattle.xinu_base.specs.declared.processes.Rest.{Rest}
 use Rattle.xinu_base.specs.declared.processes.Rest.TheVariants.{Nothing, Receive, Timed, SelfSuspend, GetBuf, PtSend, PtRecv}
 use Rattle.xinu_base.specs.declared.semaphores.Owner.{Owner}
 use Rattle.xinu_base.specs.declared.semaphores.Owner.TheVariants as owner
+use Rattle.xinu_model.specs.Devices.State.{Devices}
 use Rattle.xinu_model.specs.Footprints.{Footprint, on_tables, on_pools, on_ports}
 use Rattle.xinu_laws.specs.Frame.{Frame}
 use Rattle.xinu_model.specs.Heap.Cells.{Heap}
@@ -63,6 +64,13 @@ pub record HasSameExtent (h u : Heap) : Type 0 where
   pub low : u.low ≡ h.low
   pub many : length u.cells ≡ length h.cells
 
+-- From d to e only the devices that the footprint names change.
+pub record KeepsDevices (f : Footprint) (d e : Devices) : Type 0 where
+  pub console : f.console ≡ false → e.console ≡ d.console
+  pub names : f.names ≡ false → e.names ≡ d.names
+  pub disk : f.disk ≡ false → e.disk ≡ d.disk
+  pub files : f.files ≡ false → e.files ≡ d.files
+
 -- From p to q only the parts that the footprint names change. The heap keeps its extent whatever it names.
 pub record KeepsParts (f : Footprint) (p q : Parts) : Type 0 where
   pub extent : HasSameExtent p.heap q.heap
@@ -70,6 +78,7 @@ pub record KeepsParts (f : Footprint) (p q : Parts) : Type 0 where
   pub pools : f.pools ≡ false → q.pools ≡ p.pools
   pub ranges : f.ranges ≡ false → map range_of q.pools ≡ map range_of p.pools
   pub ports : f.ports ≡ false → (q.ports ≡ p.ports) × (q.next_port ≡ p.next_port)
+  pub devices : KeepsDevices f p.devices q.devices
 
 -- From s to u nobody dies: who is free was free, and has the registers that it had.
 pub record KeepsFree (s u : Xinu) : Type 0 where

@@ -2,17 +2,31 @@
 use Rattle.std.specs.Prelude.{Bool, true, false}
 
 -- Besides the processes, their messages and semaphores, and the sleepers, which any call may change: whether it may change the heap, the
--- stacks of processes, where pools lie, the pools, and the ports.
+-- stacks of processes, where pools lie, the pools, the ports, the console, the name space, the raw disk, and files with their calls.
 pub record Footprint : Type 0 where
   pub heap : Bool
   pub stacks : Bool
   pub ranges : Bool
   pub pools : Bool
   pub ports : Bool
+  pub console : Bool
+  pub names : Bool
+  pub disk : Bool
+  pub files : Bool
 
 -- processes, messages, semaphores of processes and the sleepers
 abbrev pub on_tables : Footprint
-on_tables = record { heap = false; stacks = false; ranges = false; pools = false; ports = false }
+on_tables = record {
+  heap = false;
+  stacks = false;
+  ranges = false;
+  pools = false;
+  ports = false;
+  console = false;
+  names = false;
+  disk = false;
+  files = false;
+}
 
 -- the heap too
 abbrev pub on_heap : Footprint

@@ -3,6 +3,7 @@ pub mod Boot
 pub mod Calls
 pub mod Clock
 pub mod Console
+pub mod Devices
 pub mod Events
 pub mod Files
 pub mod Footprints

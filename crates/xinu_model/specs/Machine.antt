@@ -7,6 +7,7 @@ use Rattle.xinu_base.specs.declared.processes.State.{State}
 use Rattle.xinu_base.specs.declared.registers.Hart.{Hart}
 use Rattle.xinu_base.specs.declared.lines.TranscriptLine.{TranscriptLine}
 use Rattle.xinu_base.specs.declared.lines.TranscriptLine.TheVariants.{Return, Switch}
+use Rattle.xinu_model.specs.Devices.State.{Devices, first_devices}
 use Rattle.xinu_model.specs.Heap.Cells.{Heap}
 use Rattle.xinu_model.specs.Process.Scheduling.{resched, ready}
 use Rattle.xinu_model.specs.Pools.Buffers.{BufferPool}
@@ -15,16 +16,17 @@ use Rattle.xinu_model.specs.Tables.{Tables, process_at, message_at, Place, Nowhe
 use Rattle.xinu_model.specs.Words.{word}
 
 -- The parts of the state besides tables, registers and RAM: the heap, the pools in the order in which they were made, the ports by
--- number, and the port at which the next search begins.
+-- number, the port at which the next search begins, and the devices.
 pub record Parts : Type 0 where
   pub heap : Heap
   pub pools : List BufferPool
   pub ports : List MessagePort
   pub next_port : ℕ
+  pub devices : Devices
 
--- the parts at the start, with this heap: no pool was made, and no port is in use
+-- the parts at the start, with this heap: no pool was made, no port is in use, and the devices are as at the start
 abbrev pub first_parts : Heap → Parts
-first_parts heap = record { heap = heap; pools = []; ports = first_ports; next_port = 0 }
+first_parts heap = record { heap = heap; pools = []; ports = first_ports; next_port = 0; devices = first_devices }
 
 -- The tables, the registers of each process by number, RAM, and the other parts.
 pub record Xinu : Type 0 where

@@ -1,6 +1,6 @@
 -- What a received character does in each mode: three tables, in which the first row that fits acts (book, chapter 15,
 -- `ttyhandle_in.c`).
-use Rattle.std.specs.Prelude.{ℕ, ◌+◌, ◌-◌, ◌==◌, nat_le, Bool, true, ◌&&◌, if◌then◌else◌, List, [], ◌∷◌, ◌++◌, length, map, take}
+use Rattle.std.specs.Prelude.{ℕ, ◌-◌, ◌==◌, nat_le, Bool, true, ◌&&◌, if◌then◌else◌, List, [], ◌∷◌, ◌++◌, length, map, take}
 use Rattle.xinu_base.specs.declared.console.Item.{Item}
 use Rattle.xinu_base.specs.declared.console.Item.TheVariants.{Char, End}
 use Rattle.xinu_model.specs.Console.Constants.{TY_IBUFLEN, TY_EOFCH, TY_BACKSP, TY_NEWLINE, TY_KILLCH}
