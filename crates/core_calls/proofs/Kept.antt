@@ -10,13 +10,13 @@ use Rattle.xinu_model.specs.Sound.State.{IsSound}
 
 -- a sound state is kept while no event is under way
 pub kept_idle : (s : Xinu) → IsSound s → KeepsAll (idle s)
-kept_idle s k = record { preserved = record { tables = k.tables; harts = k.harts; released = tt }; unused = k.unused; pools = k.pools; ports = k.ports }
+kept_idle s k = record { preserved = record { tables = k.tables; harts = k.harts; released = tt }; unused = k.unused; pools = k.pools; ports = k.ports; devices = k.devices }
 
 -- and it is sound then
 pub idle_sound : (h : CallResult) → IsIdle h → KeepsAll h → IsSound h.call.state
 idle_sound h i k =
     let j : KeepsAll (idle h.call.state) = subst KeepsAll i.is k in
-    record { tables = j.preserved.tables; harts = j.preserved.harts; unused = j.unused; pools = j.pools; ports = j.ports }
+    record { tables = j.preserved.tables; harts = j.preserved.harts; unused = j.unused; pools = j.pools; ports = j.ports; devices = j.devices }
 
 -- a process that isn't the null process may call
 pub idle_may_call : (h : CallResult) → IsIdle h → KeepsAll h → h.call.state.tables.current ≢ 0 → MayCallAny h.call.state
@@ -28,7 +28,7 @@ idle_start h i = record { is = ap (λ (h : CallResult). h.call) i.is }
 
 -- after an instruction the state is sound
 pub executed_sound : (s : Xinu) → MayCallAny s → IsSound (with_executed (exec (current_hart s) s.memory) s)
-executed_sound s m = let c = may_call_after s m in record { tables = c.may.tables; harts = c.may.harts; unused = c.unused; pools = c.pools; ports = c.ports }
+executed_sound s m = let c = may_call_after s m in record { tables = c.may.tables; harts = c.may.harts; unused = c.unused; pools = c.pools; ports = c.ports; devices = c.devices }
 
 -- and so is it after an event
 pub closed_kept : (h : CallResult) → KeepsAll h → KeepsAll (idle (end_of_event 0 [] h).state)

@@ -1,4 +1,5 @@
 pub mod Constants
+pub mod Events
 pub mod Hexadecimal
 pub mod Insert
 pub mod Syscalls

@@ -1,5 +1,6 @@
 //! The data that every layer of the kernel speaks of: numbers below a bound, processes and what is left of their calls,
-//! registers, events, calls, the console's modes and items, the modes of files, and the lines of a transcript.
+//! registers, events, calls, the kinds of devices and what they offer, the console's modes and items, the modes of files, and the lines of
+//! a transcript.
 //!
 //! | What | Promise |
 //! |---|---|
@@ -8,11 +9,12 @@
 //! | all other types | plain data: a contract sees their fields |
 //!
 //! `specs/Insert.antt` has the two insertions of the kernel's lists, `specs/Constants.antt` the constants by the book's names,
-//! `specs/Hexadecimal.antt` bytes as digits. The crate depends on nothing.
+//! `specs/Hexadecimal.antt` bytes as digits, `specs/Events.antt` the events that the machine has so far. The crate depends on nothing.
 #![tactic(auto)]
 
 mod console;
 mod constants;
+mod devices;
 mod events;
 mod files;
 mod lines;
@@ -24,6 +26,7 @@ mod syscalls;
 
 pub use console::{Item, TtyMode};
 pub use constants::{INITRET, MINSTK, QUANTUM, RAM_SIZE, SYSERR};
+pub use devices::{Kind, Op};
 pub use events::{End, Event};
 pub use files::OpenMode;
 pub use lines::{FileMoment, TranscriptLine};

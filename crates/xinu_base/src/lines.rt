@@ -1,7 +1,8 @@
 //! The lines of a transcript, as data.
 
+use crate::console::TtyMode;
 use crate::events::End;
-use crate::numbers::{Pid, PoolId, Port, Sem};
+use crate::numbers::{Dev, Pid, PoolId, Port, Sem};
 use crate::processes::State;
 use crate::registers::Cause;
 use crate::syscalls::Call;
@@ -28,6 +29,8 @@ pub enum TranscriptLine {
     File(Pid, FileMoment),
     /// A process got a reply.
     Return(Pid, i32),
+    /// The console transmitted a byte.
+    Con(u8),
     /// Another process became current.
     Switch(Pid),
     /// The ticks so far, and the ticks that are left of the quantum.
@@ -82,17 +85,32 @@ pub enum TranscriptLine {
     /// A message that a port holds.
     Node(Port, u32),
     /// The console.
-    Console,
-    /// The raw disk.
-    Disk0,
-    /// The file system's disk.
-    Disk1,
+    Console {
+        /// How it treats characters.
+        mode: TtyMode,
+        /// How many items can be taken.
+        committed: u32,
+        /// How many bytes the line has that is being typed.
+        line: u32,
+        /// How many bytes of output it will send.
+        output: u32,
+        /// How many bytes of echo it will send.
+        echo: u32,
+        /// Whether output is held.
+        held: bool,
+    },
+    /// The raw disk, with how many requests wait for it.
+    Disk0(u32),
+    /// A device that has a file open, with the position in the file and its size.
+    OpenFile(Dev, u32, u32),
+    /// The file system's disk, and whether it is busy: a file is open, or a call on files is under way.
+    Disk1(bool),
     /// The end of the run.
     End(End),
 }
 
 impl Default for TranscriptLine {
     fn default() -> Self {
-        TranscriptLine::Console
+        TranscriptLine::Disk0(0)
     }
 }

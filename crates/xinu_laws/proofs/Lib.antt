@@ -1,4 +1,5 @@
 pub mod Consoles
+pub mod Devices
 pub mod FileSteps
 pub mod FileSystems
 pub mod Frame

@@ -23,7 +23,7 @@ use Rattle.xinu_laws.specs.Preserve.{FitsAnswer, IsPreserved, MayCall}
 use Rattle.xinu_model.specs.Semaphores.Counts.{with_tokens}
 use Rattle.xinu_model.specs.Semaphores.Waiting.{take_token, await}
 use Rattle.xinu_model.specs.Semaphores.Calls.{answers}
-use Rattle.xinu_model.specs.Sound.Tables.{HoldsFor, FitsMessage, FitsOwner, IsForPort, IsInside, IsSoundTables}
+use Rattle.xinu_model.specs.Sound.Tables.{HoldsFor, FitsMessage, FitsDevice, FitsOwner, IsForPort, IsInside, IsSoundTables}
 use Rattle.xinu_model.specs.Tables.{Tables, process_at, message_at, semaphore_at, Place, Nowhere, InSemaphore}
 use Rattle.xinu_laws.proofs.Tables.Changes.{sound_token_taken}
 use Rattle.xinu_laws.proofs.Tables.MoveTo.{within_table, state_move_same, inside_move}
@@ -102,7 +102,13 @@ waits_hold sem (Some (owner.Port q)) left message f = of_port left f
     of_port (rest.PtSend ticket m) g = tt
     of_port (rest.PtRecv ticket) g = tt
     of_port _ g = absurd g
-waits_hold sem (Some owner.Device) left message f = absurd f
+waits_hold sem (Some owner.Device) left message f = of_device sem left f
+  where
+    of_device : (r : ℕ) (k : Rest) → FitsDevice r k → HoldsFor k message
+    of_device zero rest.Receive g = cc
+    of_device (suc zero) rest.Receive g = cc
+    of_device (suc (suc r)) rest.Receive g = cc
+    of_device r _ g = tt
 
 -- one who waits if these are the tokens
 take_token_preserves : (tokens sem : ℕ) (left : Rest) (then_ : Xinu → CallResult) (s : Xinu) → tokens ≡ (semaphore_at s.tables sem).tokens → MayCall s → sem < 128

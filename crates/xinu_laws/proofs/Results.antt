@@ -1,5 +1,6 @@
 -- What calls answer and what examples print: refusals, signals, computed systems.
 pub mod Computed
+pub mod ComputedConsoles
 pub mod ComputedPorts
 pub mod ComputedPriorities
 pub mod Ecall

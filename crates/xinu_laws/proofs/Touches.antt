@@ -3,6 +3,7 @@
 pub mod Boot
 pub mod Clock
 pub mod ClockEvents
+pub mod Consoles
 pub mod Continued
 pub mod Events
 pub mod Few
@@ -20,6 +21,7 @@ use Rattle.std.proofs.lemmas.Bool.{false≢true, cond_both}
 use Rattle.xinu_base.specs.declared.registers.Hart.{Hart}
 use Rattle.xinu_base.specs.declared.processes.Rest.{Rest}
 use Rattle.xinu_base.specs.declared.semaphores.Owner.{Owner}
+use Rattle.xinu_model.specs.Console.State.{Console}
 use Rattle.xinu_model.specs.Devices.State.{Devices}
 use Rattle.xinu_model.specs.Footprints.{Footprint}
 use Rattle.xinu_laws.specs.Frame.{Frame}
@@ -90,6 +92,17 @@ module _ {f : Footprint} where
   pub parts_new_pool : f.heap ≡ true → f.pools ≡ true → f.ranges ≡ true → (p : Parts) (h : Heap) (pools : List BufferPool) → HasSameExtent p.heap h
       → KeepsParts f p (record p { heap = h; pools = pools })
   parts_new_pool heap pools ranges p h l e = record { extent = e; heap = named heap; pools = named pools; ranges = named ranges; ports = λ _. (refl, refl); devices = devices_same p.devices }
+
+  -- Another console.
+  pub parts_console : f.console ≡ true → (p : Parts) (c : Console) → KeepsParts f p (record p { devices = record p.devices { console = c } })
+  parts_console may p c = record {
+    extent = record { low = refl; many = refl };
+    heap = λ _. refl;
+    pools = λ _. refl;
+    ranges = λ _. refl;
+    ports = λ _. (refl, refl);
+    devices = record { console = named may; names = λ _. refl; disk = λ _. refl; files = λ _. refl };
+  }
 
   -- Other ports.
   pub parts_ports : f.ports ≡ true → (p : Parts) (ports : List MessagePort) (next : ℕ)

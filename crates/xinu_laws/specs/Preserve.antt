@@ -4,6 +4,7 @@ use Rattle.std.specs.List.{AllByRecursion}
 use Rattle.xinu_model.specs.Clock.{quantum_falls, wakeup, a_tick_later}
 use Rattle.xinu_model.specs.Machine.{Xinu, Answer, Returns, Waits, Gone, Panics, Silent, CallResult}
 use Rattle.xinu_model.specs.Sound.Tables.{IsInside, IsSoundTables}
+use Rattle.xinu_model.specs.Sound.Devices.{AreDevices}
 use Rattle.xinu_model.specs.Sound.Pools.{ArePools}
 use Rattle.xinu_model.specs.Sound.Ports.{ArePorts}
 use Rattle.xinu_model.specs.Sound.State.{AreHarts, AreUnused}
@@ -27,12 +28,13 @@ pub record IsPreserved (result : CallResult) : Type 0 where
   pub harts : AreHarts result.call.state.harts
   pub released : AreAlive result.call.state.tables result.call.released
 
--- What each call keeps: what holds of tables and registers, of free numbers, of the pools and of the ports.
+-- What each call keeps: what holds of tables and registers, of free numbers, of the pools, of the ports and of the devices.
 pub record KeepsAll (result : CallResult) : Type 0 where
   pub preserved : IsPreserved result
   pub unused : AreUnused result.call.state.tables result.call.state.harts
   pub pools : ArePools result.call.state.tables result.call.state.parts.pools
   pub ports : ArePorts result.call.state.tables result.call.state.parts.ports
+  pub devices : AreDevices result.call.state.tables result.call.state.parts.devices
 
 -- What holds of tables and registers when a process calls: it isn't the null process that runs.
 pub record MayCall (s : Xinu) : Type 0 where
@@ -46,6 +48,7 @@ pub record MayCallAny (s : Xinu) : Type 0 where
   pub unused : AreUnused s.tables s.harts
   pub pools : ArePools s.tables s.parts.pools
   pub ports : ArePorts s.tables s.parts.ports
+  pub devices : AreDevices s.tables s.parts.devices
 
 -- What is under way at the end of a tick, once it has done its own rescheds.
 abbrev pub ticking : Xinu → CallResult

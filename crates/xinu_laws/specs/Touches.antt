@@ -1,23 +1,30 @@
 -- What it means that a call touches no more than its footprint allows.
-use Rattle.std.specs.Prelude.{◌≡◌, ℕ, Bool, true, false, not, List, length, map, Option, Some, None, slice_index_or}
+use Rattle.std.specs.Prelude.{◌≡◌, ℕ, zero, suc, Bool, true, false, not, ◌&&◌, List, length, map, Option, Some, None, slice_index_or}
 use Rattle.xinu_base.specs.declared.processes.Process.{Process}
 use Rattle.xinu_base.specs.declared.processes.Rest.{Rest}
-use Rattle.xinu_base.specs.declared.processes.Rest.TheVariants.{Nothing, Receive, Timed, SelfSuspend, GetBuf, PtSend, PtRecv}
+use Rattle.xinu_base.specs.declared.processes.Rest.TheVariants.{Nothing, Receive, Timed, SelfSuspend, GetBuf, PtSend, PtRecv, TtyGet, TtyPut, TtyRead, TtyWrite, Disk}
 use Rattle.xinu_base.specs.declared.semaphores.Owner.{Owner}
 use Rattle.xinu_base.specs.declared.semaphores.Owner.TheVariants as owner
 use Rattle.xinu_model.specs.Devices.State.{Devices}
-use Rattle.xinu_model.specs.Footprints.{Footprint, on_tables, on_pools, on_ports}
+use Rattle.xinu_model.specs.Footprints.{Footprint, on_tables, on_pools, on_ports, on_console}
 use Rattle.xinu_laws.specs.Frame.{Frame}
 use Rattle.xinu_model.specs.Heap.Cells.{Heap}
 use Rattle.xinu_model.specs.Machine.{Parts, Xinu, no_hart}
 use Rattle.xinu_model.specs.Pools.Buffers.{BufferPool, pool_bytes}
 use Rattle.xinu_model.specs.Tables.{Tables, state_at, is_free}
 
--- Whose semaphores a footprint leaves alone: a device's always, a pool's and a port's unless it names pools or ports.
+-- which of the kernel's semaphores a footprint leaves alone: the console's two, that of the raw disk and that of the file system
+abbrev pub spares_device : Footprint → ℕ → Bool
+spares_device f zero = not f.console
+spares_device f (suc zero) = not f.console
+spares_device f (suc (suc zero)) = not f.disk
+spares_device f (suc (suc (suc sem))) = not f.files
+
+-- Whose semaphores a footprint leaves alone: a pool's, a port's and a device's unless it names pools, ports or the device.
 abbrev pub spares : Footprint → ℕ → Option Owner → Bool
 spares f sem (Some (owner.Pool i)) = not f.pools
 spares f sem (Some (owner.Port q)) = not f.ports
-spares f sem (Some owner.Device) = true
+spares f sem (Some owner.Device) = spares_device f sem
 spares f sem (Some owner.Image) = false
 spares f sem None = false
 
@@ -30,7 +37,11 @@ spares_rest f SelfSuspend = false
 spares_rest f (GetBuf i) = not f.pools
 spares_rest f (PtSend ticket message) = not f.ports
 spares_rest f (PtRecv ticket) = not f.ports
-spares_rest f _ = true
+spares_rest f TtyGet = not f.console
+spares_rest f (TtyRead part) = not f.console
+spares_rest f (TtyPut b returned) = not f.console
+spares_rest f (TtyWrite part returned) = not f.console
+spares_rest f (Disk reply) = not f.disk && not f.files
 
 -- How far a step reaches: the semaphores and the calls under way that it leaves alone, the parts that it may change, and whether the
 -- clock may go on in it.
@@ -104,4 +115,8 @@ abbrev pub touched_by : Rest → Footprint
 touched_by (GetBuf i) = on_pools
 touched_by (PtSend ticket message) = on_ports
 touched_by (PtRecv ticket) = on_ports
+touched_by TtyGet = on_console
+touched_by (TtyRead part) = on_console
+touched_by (TtyPut b returned) = on_console
+touched_by (TtyWrite part returned) = on_console
 touched_by _ = on_tables

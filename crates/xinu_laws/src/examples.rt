@@ -3,18 +3,20 @@
 //! Each function does nothing; its contract says what an example prints. The examples and the lines that are expected of them are in
 //! `specs/`, a file for each subject. A system makes its calls directly, so that all calls of the table can be tried.
 
-ghost use Rattle.std.specs.Prelude.{◌≡◌, ◌++◌, map, true};
+ghost use Rattle.std.specs.Prelude.{◌≡◌, [], ◌∷◌, ◌++◌, map, true};
 ghost use Rattle.xinu_laws.specs.Examples.Processes as process_examples;
 ghost use Rattle.xinu_laws.specs.Examples.Priorities as priority_examples;
 ghost use Rattle.xinu_laws.specs.Examples.Heap as heap_examples;
 ghost use Rattle.xinu_laws.specs.Examples.Semaphores as semaphore_examples;
 ghost use Rattle.xinu_laws.specs.Examples.Messages as message_examples;
 ghost use Rattle.xinu_laws.specs.Examples.Clock as clock_examples;
+ghost use Rattle.xinu_laws.specs.Examples.Consoles as console_examples;
+ghost use Rattle.xinu_laws.specs.Examples.Consoles.{bytes_at};
 ghost use Rattle.xinu_laws.specs.Examples.Pools as pool_examples;
 ghost use Rattle.xinu_laws.specs.Examples.Ports as port_examples;
 ghost use Rattle.xinu_laws.specs.Examples.Played.{outcome_of, last_tables, printed, played_transcript};
 ghost use Rattle.xinu_model.specs.Memory.{number_at};
-ghost use Rattle.xinu_model.specs.Text.{pool_lines, port_lines, semaphore_lines, sleeper_line};
+ghost use Rattle.xinu_model.specs.Text.{console_line, pool_lines, port_lines, semaphore_lines, sleeper_line};
 
 /// Processes: turns, a preemption, a process that suspends itself, refusals, a full table.
 pub fn processes()
@@ -112,4 +114,20 @@ pub fn port_numbers()
     ensures ports_go_round { printed port_examples.ports_go_round ≡ port_examples.ports_go_round_lines }
     ensures reset_gives_room { printed port_examples.reset_gives_room ≡ port_examples.reset_gives_room_lines }
     ensures whose_semaphores_semaphores { semaphore_lines 0 (outcome_of port_examples.whose_semaphores).state.tables.semaphores ≡ port_examples.whose_semaphores_semaphores }
+{}
+
+/// The console: a line that is edited and read, the end mark, raw mode, a newline that is held, a write that waits for room, refusals, and a
+/// reader that is killed after it was released.
+pub fn console_calls()
+    ensures session { printed console_examples.session ≡ console_examples.session_lines }
+    ensures session_bytes { bytes_at 2048 3 console_examples.session ≡ 97 ∷ 99 ∷ 10 ∷ [] }
+    ensures raw_read { printed console_examples.raw_read ≡ console_examples.raw_read_lines }
+    ensures raw_read_bytes { bytes_at 2048 2 console_examples.raw_read ≡ 8 ∷ 13 ∷ [] }
+    ensures raw_read_console { console_line (outcome_of console_examples.raw_read).state.parts.devices.console ≡ console_examples.raw_console_line }
+    ensures read_all { printed console_examples.read_all ≡ console_examples.read_all_lines }
+    ensures newline_put { printed console_examples.newline_put ≡ console_examples.newline_put_lines }
+    ensures console_replies { printed console_examples.console_replies ≡ console_examples.console_replies_lines }
+    ensures long_write { printed console_examples.long_write ≡ console_examples.long_write_lines }
+    ensures killed_reader { printed console_examples.killed_reader ≡ console_examples.killed_reader_lines }
+    ensures killed_reader_console { console_line (outcome_of console_examples.killed_reader).state.parts.devices.console ≡ console_examples.killed_reader_console }
 {}

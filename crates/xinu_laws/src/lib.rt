@@ -5,7 +5,7 @@
 //!
 //! | Module | Its laws |
 //! |---|---|
-//! | [`soundness`] | boot is sound, and each event and run keeps it so; a free place holds its fixed value |
+//! | [`soundness`] | boot is sound, and each event and run keeps it so, also the events that the machine hasn't yet; a free place holds its fixed value |
 //! | [`moments`] | what holds at each moment of an event: each row, each continuation, a death, a tick, a resched and the end of an event keep it. The kernel's code will cite these |
 //! | [`moves`] | the moves of a process, signals and waits, as the kernel's code makes them |
 //! | [`footprints`] | the rows are the calls that a transcript names; each call touches no more than its footprint; waiters keep their order |

@@ -6,7 +6,7 @@ ghost use Rattle.xinu_base.specs.declared.events.End.{End};
 ghost use Rattle.xinu_base.specs.declared.events.Event.{Event};
 ghost use Rattle.xinu_base.specs.declared.lines.TranscriptLine.{TranscriptLine};
 ghost use Rattle.xinu_model.specs.Boot.{Loaded, Boots, boot};
-ghost use Rattle.xinu_model.specs.Events.{Happens};
+ghost use Rattle.xinu_model.specs.Events.{Happens, event_effect};
 ghost use Rattle.xinu_model.specs.Machine.{Xinu, no_hart};
 ghost use Rattle.xinu_model.specs.Runs.{RunsTo};
 ghost use Rattle.xinu_base.specs.declared.processes.State.TheVariants.{Free};
@@ -21,6 +21,11 @@ pub fn boot_is_sound()
 /// Each event keeps a state sound, whatever is chosen in it.
 pub fn events_keep_sound()
     ensures { (old : Xinu) (e : Event) (lines : List TranscriptLine) (new : Xinu) → IsSound old → Happens old e lines new → IsSound new }
+{}
+
+/// So does each event that is defined, whether the machine has it yet or not.
+pub fn all_events_keep_sound()
+    ensures { (s : Xinu) (e : Event) (choice : ℕ) → IsSound s → IsSound (event_effect s e choice).state }
 {}
 
 /// Each run keeps a state sound.

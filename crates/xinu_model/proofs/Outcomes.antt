@@ -1,6 +1,7 @@
 -- The outcomes of an event: there is one, and no other.
-use Rattle.std.proofs.Common.{◌≡◌, ◌==◌, ℕ, false, List, [], ◌∷◌, ◌++◌, map, if◌then◌else◌, refl, sym, ap, ◌∙◌, subst, ℤ}
+use Rattle.std.proofs.Common.{◌≡◌, ◌==◌, ℕ, false, List, [], ◌∷◌, ◌++◌, map, Option, Some, None, if◌then◌else◌, refl, sym, ap, ◌∙◌, subst, ℤ}
 use Rattle.std.proofs.lemmas.Bool.{cond_both}
+use Rattle.xinu_base.specs.Events.{is_built_event}
 use Rattle.xinu_base.specs.declared.events.Event.{Event}
 use Rattle.xinu_base.specs.declared.events.Event.TheVariants.{Step, Tick, Key, Tx, Disk0, Disk1, Fail0, Fail1, Dump}
 use Rattle.xinu_base.specs.declared.lines.TranscriptLine.{TranscriptLine}
@@ -10,7 +11,10 @@ use Rattle.xinu_base.specs.declared.registers.Outcome.TheVariants as outcome
 use Rattle.xinu_model.specs.Agree.{begins_next, OutcomesAgree}
 use Rattle.xinu_model.specs.Calls.{continued}
 use Rattle.xinu_model.specs.Clock.{wakeup, quantum_falls, a_tick_later}
-use Rattle.xinu_model.specs.Events.{reacted, is_done, instruction_step, stepped, effect_of, panics_in, Happens, with_executed}
+use Rattle.xinu_model.specs.Console.Signals.{receiving, sent_in}
+use Rattle.xinu_model.specs.Console.Taking.{console_of}
+use Rattle.xinu_model.specs.Console.Transmitting.{Sent, transmitted}
+use Rattle.xinu_model.specs.Events.{reacted, is_done, instruction_step, stepped, event_effect, effect_of, panics_in, Happens, with_executed}
 use Rattle.xinu_model.specs.Isa.Exec.{exec}
 use Rattle.xinu_model.specs.Machine.{Xinu, EventResult, current_hart, nothing_happens, return_line, switched, end_of_event, replies_of, closed}
 use Rattle.xinu_model.specs.Sound.State.{IsSound}
@@ -56,18 +60,27 @@ step_no_next s =
     by_outcome outcome.Exit x = refl
     by_outcome (outcome.Trap cause) x = refl
 
--- the lines of an event
-effect_no_next : (s : Xinu) (e : Event) → begins_next (effect_of s e 0).lines ≡ false
-effect_no_next s Step = step_no_next s
-effect_no_next s Tick =
+-- the lines of a transmission
+sent_no_next : (sent : Option Sent) (s : Xinu) → begins_next (sent_in sent s).lines ≡ false
+sent_no_next None s = refl
+sent_no_next (Some sent) s = refl
+
+-- the lines of an event, whether the machine has it or not
+event_no_next : (s : Xinu) (e : Event) → begins_next (event_effect s e 0).lines ≡ false
+event_no_next s Step = step_no_next s
+event_no_next s Tick =
     replies_no_next (wakeup s).released s.tables.current (quantum_falls (a_tick_later (wakeup s).owes_resched (wakeup s).state.tables)).current
-effect_no_next s Dump = refl
-effect_no_next s (Key k) = refl
-effect_no_next s Tx = refl
-effect_no_next s Disk0 = refl
-effect_no_next s Disk1 = refl
-effect_no_next s Fail0 = refl
-effect_no_next s Fail1 = refl
+event_no_next s Dump = refl
+event_no_next s (Key b) = replies_no_next (replies_of (receiving b s)) s.tables.current (closed (receiving b s)).current
+event_no_next s Tx = sent_no_next (transmitted (console_of s)) s
+event_no_next s Disk0 = refl
+event_no_next s Disk1 = refl
+event_no_next s Fail0 = refl
+event_no_next s Fail1 = refl
+
+effect_no_next : (s : Xinu) (e : Event) → begins_next (effect_of s e 0).lines ≡ false
+effect_no_next s e =
+    cond_both (is_built_event e) (event_effect s e 0) (nothing_happens s) (λ (x : EventResult). begins_next x.lines ≡ false) (λ _. event_no_next s e) (λ _. refl)
 
 -- Outcomes agree.
 pub agree : (old : Xinu) (e : Event) → OutcomesAgree old e

@@ -2,7 +2,8 @@
 use Rattle.std.specs.Prelude.{◌≡◌, ℕ, ◌==◌, Bool, true, false, if◌then◌else◌, List, [], ◌∷◌, drop, take, slice_index, slice_set}
 use Rattle.xinu_base.specs.declared.syscalls.Call.{Call}
 use Rattle.xinu_base.specs.declared.events.Event.{Event}
-use Rattle.xinu_base.specs.declared.events.Event.TheVariants.{Step, Tick, Dump}
+use Rattle.xinu_base.specs.Events.{is_built_event}
+use Rattle.xinu_base.specs.declared.events.Event.TheVariants.{Step, Tick, Key, Tx, Dump}
 use Rattle.xinu_base.specs.declared.lines.TranscriptLine.{TranscriptLine}
 use Rattle.xinu_base.specs.declared.lines.TranscriptLine.TheVariants as line
 use Rattle.xinu_base.specs.declared.processes.Rest.{Rest}
@@ -12,6 +13,7 @@ use Rattle.xinu_base.specs.declared.registers.Outcome.{Outcome}
 use Rattle.xinu_base.specs.declared.registers.Outcome.TheVariants as outcome
 use Rattle.xinu_model.specs.Calls.{called, continued}
 use Rattle.xinu_model.specs.Clock.{ticked}
+use Rattle.xinu_model.specs.Console.Signals.{keyed, transmits}
 use Rattle.xinu_model.specs.Isa.Exec.{Executed, exec}
 use Rattle.xinu_model.specs.Machine.{Xinu, current_hart, EventResult, nothing_happens, end_of_event}
 use Rattle.xinu_model.specs.Process.Death.{exit}
@@ -61,13 +63,18 @@ stepped s =
     else (if is_done rest then instruction_step s
     else end_of_event s.tables.current [] (continued rest s))
 
--- What an event prints and leaves, if this many file calls take effect in it. An event that the machine doesn't
--- have yet does nothing.
+-- What an event prints and leaves, if this many file calls take effect in it. Nothing is completed by a disk yet.
+abbrev pub event_effect : Xinu → Event → ℕ → EventResult
+event_effect s Step choice = stepped s
+event_effect s Tick choice = ticked s
+event_effect s (Key b) choice = keyed b s
+event_effect s Tx choice = transmits s
+event_effect s Dump choice = record { lines = tables_of s; state = s; panics = false }
+event_effect s _ choice = nothing_happens s
+
+-- The same; an event that the machine doesn't have yet does nothing.
 abbrev pub effect_of : Xinu → Event → ℕ → EventResult
-effect_of s Step choice = stepped s
-effect_of s Tick choice = ticked s
-effect_of s Dump choice = record { lines = tables_of s; state = s; panics = false }
-effect_of s _ choice = nothing_happens s
+effect_of s e choice = if is_built_event e then event_effect s e choice else nothing_happens s
 
 -- whether something is chosen in an event
 abbrev pub chooses : Xinu → Event → Bool

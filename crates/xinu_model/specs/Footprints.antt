@@ -51,3 +51,7 @@ on_ports = record on_tables { ports = true }
 -- the ports, and the pools to which their messages are given back
 abbrev pub on_ports_and_pools : Footprint
 on_ports_and_pools = record on_ports { pools = true }
+
+-- the console
+abbrev pub on_console : Footprint
+on_console = record on_tables { console = true }

@@ -1,4 +1,6 @@
--- What holds of the state: of the tables, of the pools, of the ports, and of all of it between two events.
+-- What holds of the state: of the tables, of the pools, of the ports, of the console and the devices, and of all of it between two events.
+pub mod Console
+pub mod Devices
 pub mod Pools
 pub mod Ports
 pub mod State

@@ -2,7 +2,9 @@
 use Rattle.std.specs.Prelude.{ℕ, ◌+◌, nat_lt, ◌||◌, Bool, true, false, if◌then◌else◌, List, [], ◌∷◌, ◌++◌, map, length, take, Option, Some, None, slice_index_or, codes, ℤ}
 use Rattle.std.specs.Fmt.{decimal, signed_decimal}
 use Rattle.xinu_base.specs.Syscalls.{name_of, args_of, is_built}
-use Rattle.xinu_base.specs.Hexadecimal.{hex_of}
+use Rattle.xinu_base.specs.Hexadecimal.{hex_byte, hex_of}
+use Rattle.xinu_base.specs.declared.console.TtyMode.{TtyMode}
+use Rattle.xinu_base.specs.declared.console.TtyMode.TheVariants.{Raw, Cbreak, Cooked}
 use Rattle.xinu_base.specs.declared.syscalls.Call.{Call}
 use Rattle.xinu_base.specs.declared.events.End.{End}
 use Rattle.xinu_base.specs.declared.events.End.TheVariants.{Schedule, Done, Panic}
@@ -15,6 +17,11 @@ use Rattle.xinu_base.specs.declared.processes.State.{State}
 use Rattle.xinu_base.specs.declared.processes.State.TheVariants.{Free, Current, Ready, Receiving, Sleeping, Suspended, Waiting, Timed}
 use Rattle.xinu_base.specs.declared.registers.Cause.{Cause}
 use Rattle.xinu_base.specs.declared.registers.Cause.TheVariants.{Fetch, Illegal, Break, Target, Load, Store}
+use Rattle.xinu_model.specs.Console.State.{Console}
+use Rattle.xinu_model.specs.Devices.State.{Devices}
+use Rattle.xinu_model.specs.Files.Constants.{LFILE0}
+use Rattle.xinu_model.specs.Files.Rest.{is_busy}
+use Rattle.xinu_model.specs.Files.Systems.{OpenFile, FileSystem, open_bytes}
 use Rattle.xinu_model.specs.Heap.Cells.{free_blocks}
 use Rattle.xinu_model.specs.Machine.{Xinu}
 use Rattle.xinu_model.specs.Pools.Buffers.{BufferPool, held_in}
@@ -84,6 +91,21 @@ moment_name Turn = codes "turn"
 moment_name Finished = codes "done"
 moment_name Next = codes "next"
 
+-- the mode of the console, and whether its output is held
+abbrev pub mode_name : TtyMode → List ℕ
+mode_name Raw = codes "raw"
+mode_name Cbreak = codes "cbreak"
+mode_name Cooked = codes "cooked"
+
+abbrev pub held_name : Bool → List ℕ
+held_name true = codes "held"
+held_name false = codes "run"
+
+-- whether the file system is busy
+abbrev pub busy_name : Bool → List ℕ
+busy_name true = codes "busy"
+busy_name false = codes "clean"
+
 -- the name of a call and its arguments; of a number without a call the number
 abbrev pub call_fields : Call → List (List ℕ)
 call_fields call =
@@ -96,6 +118,7 @@ line_fields (line.Call p call) = codes "call" ∷ decimal p ∷ call_fields call
 line_fields (line.File p moment) = codes "file" ∷ decimal p ∷ moment_name moment ∷ []
 line_fields (line.Trap p cause) = codes "trap" ∷ decimal p ∷ cause_name cause ∷ []
 line_fields (line.Return p value) = codes "ret" ∷ decimal p ∷ signed_decimal value ∷ []
+line_fields (line.Con b) = codes "con" ∷ hex_byte b ∷ []
 line_fields (line.Switch p) = codes "run" ∷ decimal p ∷ []
 line_fields (line.Now ticks quantum) = codes "now" ∷ decimal ticks ∷ decimal quantum ∷ []
 line_fields (line.Process p state priority parent message name) =
@@ -109,9 +132,11 @@ line_fields (line.Pool i size free held) = codes "pool" ∷ decimal i ∷ decima
 line_fields (line.Buffer i address) = codes "buf" ∷ decimal i ∷ decimal address ∷ []
 line_fields (line.Port q seq messages) = codes "port" ∷ decimal q ∷ decimal seq ∷ decimal messages ∷ []
 line_fields (line.Node q message) = codes "node" ∷ decimal q ∷ signed_field message ∷ []
-line_fields line.Console = codes "console cooked 0 0 0 0 run" ∷ []
-line_fields line.Disk0 = codes "disk0 0" ∷ []
-line_fields line.Disk1 = codes "disk1 clean" ∷ []
+line_fields (line.Console mode committed line output echo held) =
+    codes "console" ∷ mode_name mode ∷ decimal committed ∷ decimal line ∷ decimal output ∷ decimal echo ∷ held_name held ∷ []
+line_fields (line.Disk0 requests) = codes "disk0" ∷ decimal requests ∷ []
+line_fields (line.OpenFile dev position size) = codes "lfile" ∷ decimal dev ∷ decimal position ∷ decimal size ∷ []
+line_fields (line.Disk1 busy) = codes "disk1" ∷ busy_name busy ∷ []
 line_fields (line.End end) = codes "end" ∷ end_name end ∷ []
 
 -- a line as bytes
@@ -185,6 +210,27 @@ abbrev pub port_lines : ℕ → List MessagePort → List TranscriptLine
 port_lines q [] = []
 port_lines q (port ∷ ports) = port_line q port.seq port.queue ++ port_lines (q + 1) ports
 
+-- the line of the console
+abbrev pub console_line : Console → TranscriptLine
+console_line c = line.Console c.mode (length c.committed) (length c.line) (length c.output) (length c.echo) c.is_held
+
+-- the line of a file device, if it has a file open
+abbrev pub open_file_line : ℕ → Option OpenFile → FileSystem → List TranscriptLine
+open_file_line dev None s = []
+open_file_line dev (Some f) s = line.OpenFile dev f.position (length (open_bytes f s)) ∷ []
+
+-- the lines of the file devices from number dev on
+abbrev pub open_file_lines : ℕ → List (Option OpenFile) → FileSystem → List TranscriptLine
+open_file_lines dev [] s = []
+open_file_lines dev (x ∷ devices) s = open_file_line dev x s ++ open_file_lines (dev + 1) devices s
+
+-- the lines of the devices
+abbrev pub device_lines : Devices → List TranscriptLine
+device_lines d =
+    console_line d.console
+    ∷ line.Disk0 (length d.disk.requests)
+    ∷ open_file_lines LFILE0 d.files.system.devices d.files.system ++ line.Disk1 (is_busy d.files) ∷ []
+
 -- the tables of a state
 abbrev pub tables_of : Xinu → List TranscriptLine
 tables_of s =
@@ -196,4 +242,4 @@ tables_of s =
     ++ map free_line (free_blocks s.parts.heap)
     ++ pool_lines 0 s.parts.pools
     ++ port_lines 0 s.parts.ports
-    ++ line.Console ∷ line.Disk0 ∷ line.Disk1 ∷ []
+    ++ device_lines s.parts.devices

@@ -8,7 +8,7 @@ use Rattle.xinu_model.specs.Console.Constants.{TY_IBUFLEN, TY_OBUFLEN, TY_EBUFLE
 use Rattle.xinu_model.specs.Console.Controls.{in_mode, echoing, silent, controlled}
 use Rattle.xinu_model.specs.Console.Echo.{new_line, echo_of, erasing, echoed, rung}
 use Rattle.xinu_model.specs.Console.Receiving.{holding, going_on, flowing, newline_for_return, received_in, received}
-use Rattle.xinu_model.specs.Console.Rows.{Committed, commits_none, commits_item, commits_line, typed, joined, line_ended, last_or, without_last, is_empty, is_full, is_line_full, ConsoleRow, raw_rows, cbreak_rows, cooked_rows, by_rows}
+use Rattle.xinu_model.specs.Console.Rows.{Committed, commits_none, commits_item, typed, joined, line_ended, last_or, without_last, is_empty, is_full, is_line_full, ConsoleRow, raw_rows, cbreak_rows, cooked_rows, by_rows}
 use Rattle.xinu_model.specs.Console.Sound.{IsSoundConsole}
 use Rattle.xinu_model.specs.Console.State.{Console, input_size}
 use Rattle.xinu_laws.proofs.Consoles.Steps.{Goes, with_echo_only, echoed_only, sound_echo, sound_typed, sound_shorter, sound_erased, goes_none, goes_item, goes_line}

@@ -1,11 +1,11 @@
 -- Erasing undoes typing.
-use Rattle.std.proofs.Common.{◌≡◌, ℕ, suc, ◌+◌, ◌<◌, ◌≤◌, ◌==◌, ◌&&◌, false, List, [], ◌∷◌, ◌++◌, length, take, refl, sym, ap, subst, ◌∙◌, arith}
+use Rattle.std.proofs.Common.{◌≡◌, ℕ, suc, ◌<◌, ◌≤◌, ◌==◌, ◌&&◌, false, List, [], ◌∷◌, ◌++◌, length, take, refl, sym, ap, subst, ◌∙◌, arith}
 use Rattle.std.proofs.Math.Seq.{take-append_seam}
 use Rattle.std.proofs.lemmas.Bool.{cond-false, lt-leb, ne_eqb, and_left}
 use Rattle.std.proofs.lemmas.List.{length-append}
 use Rattle.xinu_base.specs.declared.console.TtyMode.TheVariants.{Cooked}
 use Rattle.xinu_model.specs.Console.Constants.{TY_IBUFLEN, TY_BACKSP, TY_BLANK, TY_RETURN}
-use Rattle.xinu_model.specs.Console.Echo.{echo_of, erasing, echoed}
+use Rattle.xinu_model.specs.Console.Echo.{echo_of, erasing}
 use Rattle.xinu_model.specs.Console.Receiving.{going_on, received_in, received, flowing}
 use Rattle.xinu_model.specs.Console.Rows.{Committed, commits_none, typed, joined, last_or, without_last, erased, is_empty, is_full, is_line_full, cooked_rows}
 use Rattle.xinu_model.specs.Console.State.{Console, input_size}

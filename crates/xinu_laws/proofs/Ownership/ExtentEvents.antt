@@ -9,12 +9,11 @@ use Rattle.xinu_base.specs.declared.registers.Outcome.TheVariants as outcome
 use Rattle.xinu_model.specs.Calls.{calls, continued}
 use Rattle.xinu_model.specs.Clock.{ticked}
 use Rattle.xinu_model.specs.Events.{call_of, with_executed, reacted, instruction_step, is_done, stepped, effect_of, Happens}
-use Rattle.xinu_model.specs.Footprints.{on_tables}
 use Rattle.xinu_laws.specs.GivingAway.{next}
 use Rattle.xinu_model.specs.Machine.{Xinu, current_hart, EventResult, nothing_happens, end_of_event}
 use Rattle.xinu_model.specs.Sound.State.{IsSound}
 use Rattle.xinu_model.specs.Tables.{process_at}
-use Rattle.xinu_laws.specs.Touches.{reach, at_a_tick, HasSameExtent, Touches}
+use Rattle.xinu_laws.specs.Touches.{at_a_tick, HasSameExtent, Touches}
 use Rattle.xinu_laws.proofs.HeapCells.Extent.{same_extent}
 use Rattle.xinu_laws.proofs.Preserve.Calls.{sound_where_called}
 use Rattle.xinu_laws.proofs.Preserve.Events.{may_call, may_call_after}

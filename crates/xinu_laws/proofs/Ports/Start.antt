@@ -9,7 +9,7 @@ use Rattle.xinu_model.specs.Sound.Ports.{ArePorts}
 use Rattle.xinu_model.specs.Tables.{Tables, process_at, semaphore_at}
 use Rattle.xinu_model.specs.Footprints.{on_processes}
 use Rattle.xinu_laws.specs.Touches.{Reach}
-use Rattle.xinu_laws.proofs.Touches.Boot.{HasStart, touches_start, start_other, start_unasked}
+use Rattle.xinu_laws.proofs.Touches.Boot.{HasStart, OwnsNone, touches_start, start_other, start_unasked}
 use Rattle.xinu_laws.proofs.Ports.Kept.{is_ports, asks_port}
 
 -- if no port is in use none is
@@ -40,10 +40,13 @@ abbrev beside_all_ports : Reach
 beside_all_ports = record { mine = is_ports; asks = asks_port; parts = on_processes; clock = false }
 
 start_reached : HasStart beside_all_ports
-start_reached = record { none = λ sem. refl; kernel = λ sem. refl; nothing = refl; heap = refl; stacks = refl }
+start_reached = record { nothing = refl; heap = refl; stacks = refl }
+
+owns_none : OwnsNone beside_all_ports
+owns_none = record { none = λ sem. refl; kernel = λ sem. refl }
 
 -- When the machine starts, what holds of the ports holds: none is in use.
 pub ports_start : (images : List Loaded) (start : Xinu) → boot images ≡ Boots start → ArePorts start.tables start.parts.ports
 ports_start images start e =
     subst (ArePorts start.tables) (sym ((touches_start start_reached images start e).parts.ports refl).0)
-    (no_ports start.tables (start_other start_reached images start e) (start_unasked start_reached images start e))
+    (no_ports start.tables (start_other start_reached owns_none images start e) (start_unasked start_reached images start e))

@@ -1,7 +1,10 @@
 -- What holds of each way in which a call goes on holds of what is left of any call.
-use Rattle.std.proofs.Common.{◌≡◌, ℕ, refl}
+use Rattle.std.proofs.Common.{◌≡◌, ℕ, Bool, refl}
 use Rattle.xinu_base.specs.declared.processes.PortTicket.{PortTicket}
 use Rattle.xinu_base.specs.declared.processes.Rest.{Rest}
+use Rattle.xinu_base.specs.declared.processes.Span.{Span}
+use Rattle.xinu_model.specs.Console.Putting.{go_on_putc, go_on_write}
+use Rattle.xinu_model.specs.Console.Taking.{go_on_getc, go_on_read}
 use Rattle.xinu_base.specs.declared.processes.Rest.TheVariants as rest
 use Rattle.xinu_model.specs.Calls.{continued}
 use Rattle.xinu_model.specs.Machine.{Xinu, Silent, CallResult, start}
@@ -15,11 +18,19 @@ pub continued_holds : (P : CallResult → Type 0) (left : Rest) (s : Xinu) → P
     → ((i : ℕ) → left ≡ rest.GetBuf i → P (go_on_getbuf i s))
     → ((ticket : PortTicket) (message : ℕ) → left ≡ rest.PtSend ticket message → P (go_on_ptsend ticket message s))
     → ((ticket : PortTicket) → left ≡ rest.PtRecv ticket → P (go_on_ptrecv ticket s))
+    → (left ≡ rest.TtyGet → P (go_on_getc s))
+    → ((part : Span) → left ≡ rest.TtyRead part → P (go_on_read part s))
+    → ((b : ℕ) (returned : Bool) → left ≡ rest.TtyPut b returned → P (go_on_putc b returned s))
+    → ((part : Span) (returned : Bool) → left ≡ rest.TtyWrite part returned → P (go_on_write part returned s))
     → P (record { call = start s; answer = Silent }) → P (continued left s)
-continued_holds P rest.Receive s receive suspend pool send take silent = receive
-continued_holds P rest.Timed s receive suspend pool send take silent = receive
-continued_holds P rest.SelfSuspend s receive suspend pool send take silent = suspend
-continued_holds P (rest.GetBuf i) s receive suspend pool send take silent = pool i refl
-continued_holds P (rest.PtSend ticket message) s receive suspend pool send take silent = send ticket message refl
-continued_holds P (rest.PtRecv ticket) s receive suspend pool send take silent = take ticket refl
-continued_holds P _ s receive suspend pool send take silent = silent
+continued_holds P rest.Receive s receive suspend pool send take get read put write silent = receive
+continued_holds P rest.Timed s receive suspend pool send take get read put write silent = receive
+continued_holds P rest.SelfSuspend s receive suspend pool send take get read put write silent = suspend
+continued_holds P (rest.GetBuf i) s receive suspend pool send take get read put write silent = pool i refl
+continued_holds P (rest.PtSend ticket message) s receive suspend pool send take get read put write silent = send ticket message refl
+continued_holds P (rest.PtRecv ticket) s receive suspend pool send take get read put write silent = take ticket refl
+continued_holds P rest.TtyGet s receive suspend pool send take get read put write silent = get refl
+continued_holds P (rest.TtyRead part) s receive suspend pool send take get read put write silent = read part refl
+continued_holds P (rest.TtyPut b returned) s receive suspend pool send take get read put write silent = put b returned refl
+continued_holds P (rest.TtyWrite part returned) s receive suspend pool send take get read put write silent = write part returned refl
+continued_holds P _ s receive suspend pool send take get read put write silent = silent

@@ -1,9 +1,10 @@
 -- Each event keeps the whole state sound, and so does each run; the machine starts in a sound state.
-use Rattle.std.proofs.Common.{◌≡◌, ◌≢◌, ◌<◌, ◌==◌, ◌+◌, ℕ, List, [], ◌∷◌, cond, length, refl, ap, subst}
+use Rattle.std.proofs.Common.{◌≡◌, ◌≢◌, ◌<◌, ◌==◌, ◌+◌, ℕ, Option, Some, None, List, [], ◌∷◌, cond, length, refl, ap, subst}
 use Rattle.std.proofs.lemmas.Bool.{cond_both, eqb-false}
 use Rattle.xinu_base.specs.declared.events.End.{End}
 use Rattle.xinu_base.specs.declared.events.Event.{Event}
-use Rattle.xinu_base.specs.declared.events.Event.TheVariants.{Step, Tick}
+use Rattle.xinu_base.specs.declared.events.Event.TheVariants.{Step, Tick, Key, Tx}
+use Rattle.xinu_base.specs.Events.{is_built_event}
 use Rattle.xinu_base.specs.declared.lines.TranscriptLine.{TranscriptLine}
 use Rattle.xinu_base.specs.declared.lines.TranscriptLine.TheVariants as line
 use Rattle.xinu_base.specs.declared.registers.Outcome.{Outcome}
@@ -11,16 +12,22 @@ use Rattle.xinu_base.specs.declared.registers.Outcome.TheVariants as outcome
 use Rattle.xinu_model.specs.Boot.{Loaded, Boots, boot}
 use Rattle.xinu_model.specs.Calls.{called, continued}
 use Rattle.xinu_model.specs.Clock.{due, ticked}
-use Rattle.xinu_model.specs.Events.{call_of, call_line, exit_call, with_executed, reacted, is_done, instruction_step, stepped, effect_of}
+use Rattle.xinu_model.specs.Console.Signals.{receiving, keyed, after_sent, sending, sent_in}
+use Rattle.xinu_model.specs.Console.Taking.{console_of}
+use Rattle.xinu_model.specs.Console.Transmitting.{Sent, transmitted}
+use Rattle.xinu_model.specs.Events.{call_of, call_line, exit_call, with_executed, reacted, is_done, instruction_step, stepped, event_effect, effect_of}
 use Rattle.xinu_model.specs.Isa.Exec.{exec}
-use Rattle.xinu_model.specs.Machine.{Xinu, start, CallResult, EventResult, current_hart, nothing_happens, end_of_event}
+use Rattle.xinu_model.specs.Machine.{Xinu, Silent, start, CallState, CallResult, EventResult, current_hart, nothing_happens, end_of_event}
 use Rattle.xinu_model.specs.Process.Death.{exit}
 use Rattle.xinu_model.specs.Runs.{RunsTo}
 use Rattle.xinu_model.specs.Sound.State.{IsSound}
 use Rattle.xinu_model.specs.Tables.{process_at}
 use Rattle.xinu_laws.proofs.Pools.Start.{pools_start}
 use Rattle.xinu_laws.proofs.Touches.Events.{touches_end_of_event, released_by_tick, touches_ticking, touches_ticked}
-use Rattle.xinu_laws.proofs.Touches.Kept.{keeps_pools, keeps_ports, keeps_unused}
+use Rattle.xinu_laws.proofs.Consoles.Kept.{sound_holds}
+use Rattle.xinu_laws.proofs.Consoles.Signalled.{Signals, receiving_signals, sending_signals}
+use Rattle.xinu_laws.proofs.Consoles.Started.{devices_start}
+use Rattle.xinu_laws.proofs.Touches.Kept.{keeps_pools, keeps_ports, keeps_console, keeps_unused}
 use Rattle.xinu_model.specs.Footprints.{on_tables}
 use Rattle.xinu_laws.specs.Touches.{reach, at_a_tick, Touches}
 use Rattle.xinu_laws.proofs.Tables.Ends.{sound_end_of_event, harts_end_of_event, harts_ticked, executed_may_call}
@@ -47,21 +54,22 @@ state_end_of_event was first result k =
       unused = keeps_unused (touches.free refl) k.unused;
       pools = keeps_pools refl touches k.pools;
       ports = keeps_ports refl touches tables.inside k.ports;
+      devices = record { console = keeps_console refl touches tables.inside k.devices.console };
     }
 
 -- a process that isn't the null process may call in a sound state
 pub may_call : (s : Xinu) → IsSound s → s.tables.current ≢ 0 → MayCallAny s
-may_call s k n = record { may = record { tables = k.tables; harts = k.harts; not_null = n }; unused = k.unused; pools = k.pools; ports = k.ports }
+may_call s k n = record { may = record { tables = k.tables; harts = k.harts; not_null = n }; unused = k.unused; pools = k.pools; ports = k.ports; devices = k.devices }
 
 -- and after an instruction of it
 pub may_call_after : (s : Xinu) → MayCallAny s → MayCallAny (with_executed (exec (current_hart s) s.memory) s)
 may_call_after s c =
     let zero = (zero_register_of_step (current_hart s) s.memory).zero (c.may.harts.zero s.tables.current) in
-    record { may = executed_may_call (exec (current_hart s) s.memory) s zero c.may; unused = unused_executed s.tables s.harts (exec (current_hart s) s.memory).hart c.may.tables c.unused; pools = c.pools; ports = c.ports }
+    record { may = executed_may_call (exec (current_hart s) s.memory) s zero c.may; unused = unused_executed s.tables s.harts (exec (current_hart s) s.memory).hart c.may.tables c.unused; pools = c.pools; ports = c.ports; devices = c.devices }
 
 -- What comes of an instruction keeps the state sound.
 state_reacted : (o : Outcome) (s : Xinu) → MayCallAny s → IsSound (reacted o s).state
-state_reacted outcome.Went s c = record { tables = c.may.tables; harts = c.may.harts; unused = c.unused; pools = c.pools; ports = c.ports }
+state_reacted outcome.Went s c = record { tables = c.may.tables; harts = c.may.harts; unused = c.unused; pools = c.pools; ports = c.ports; devices = c.devices }
 state_reacted outcome.Call s c =
     let call = call_of (current_hart s) in
     state_end_of_event s.tables.current (call_line s call ∷ []) (called call.number call.args s) (called_keeps call.number call.args s c)
@@ -92,6 +100,7 @@ state_ticked s k =
       unused = keeps_unused (touches.free refl) k.unused;
       pools = keeps_pools {f = on_tables} refl touches k.pools;
       ports = keeps_ports {f = on_tables} refl touches tables.inside k.ports;
+      devices = record { console = keeps_console {f = on_tables} refl touches tables.inside k.devices.console };
     }
 
 -- And so does what is under way at its end.
@@ -104,13 +113,40 @@ ticking_keeps s k =
       unused = keeps_unused (touches.free refl) k.unused;
       pools = t.pools;
       ports = t.ports;
+      devices = t.devices;
     }
 
--- what an event leaves is sound, whatever is chosen in it
+-- What does no more than signal those who wait for the console keeps all.
+signals_keep_all : (s : Xinu) (d : CallState) → IsSound s → Signals s d → KeepsAll (record { call = d; answer = Silent })
+signals_keep_all s d k r = record {
+  preserved = record { tables = r.tables; harts = r.harts; released = r.released };
+  unused = keeps_unused (r.touches.free refl) k.unused;
+  pools = keeps_pools refl r.touches k.pools;
+  ports = keeps_ports refl r.touches r.tables.inside k.ports;
+  devices = record { console = r.console k.devices.console };
+}
+
+-- a received character keeps the state sound,
+state_keyed : (b : ℕ) (s : Xinu) → IsSound s → IsSound (keyed b s).state
+state_keyed b s k = state_end_of_event s.tables.current [] (receiving b s) (signals_keep_all s (receiving b s).call k (receiving_signals b s (sound_holds s k)))
+
+-- and so does a transmission
+state_sent : (found : Option Sent) (s : Xinu) → transmitted (console_of s) ≡ found → IsSound s → IsSound (sent_in found s).state
+state_sent None s e k = k
+state_sent (Some sent) s e k =
+    state_end_of_event s.tables.current (line.Con sent.byte ∷ []) (sending sent s) (signals_keep_all s (after_sent sent s) k (sending_signals sent s e (sound_holds s k)))
+
+-- What an event leaves is sound, whatever is chosen in it, and whether the machine has it or not.
+pub state_event : (s : Xinu) (e : Event) (choice : ℕ) → IsSound s → IsSound (event_effect s e choice).state
+state_event s Step choice k = state_stepped s k
+state_event s Tick choice k = state_ticked s k
+state_event s (Key b) choice k = state_keyed b s k
+state_event s Tx choice k = state_sent (transmitted (console_of s)) s refl k
+state_event s _ choice k = k
+
 state_effect : (s : Xinu) (e : Event) (choice : ℕ) → IsSound s → IsSound (effect_of s e choice).state
-state_effect s Step choice k = state_stepped s k
-state_effect s Tick choice k = state_ticked s k
-state_effect s _ choice k = k
+state_effect s e choice k =
+    cond_both (is_built_event e) (event_effect s e choice) (nothing_happens s) (λ (x : EventResult). IsSound x.state) (λ _. state_event s e choice k) (λ _. k)
 
 -- Each event keeps the state sound.
 pub sound_happens : IsKept IsSound
@@ -124,4 +160,4 @@ sound_run = runs_keep IsSound sound_happens
 pub sound_boot : (images : List Loaded) (start : Xinu) → length images < 64 → boot images ≡ Boots start → IsSound start
 sound_boot images start few e =
     let tables = sound_start images start few e in
-    record { tables = tables.tables; harts = tables.harts; unused = unused_start images start few e; pools = pools_start images start e; ports = ports_start images start e }
+    record { tables = tables.tables; harts = tables.harts; unused = unused_start images start few e; pools = pools_start images start e; ports = ports_start images start e; devices = devices_start images start e tables.tables.inside }

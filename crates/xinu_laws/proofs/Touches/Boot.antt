@@ -39,13 +39,16 @@ module _ {f : Reach} where
       let first = touches_all_ready images 1 s may in
       touches_trans first (touches_resched_if u (λ p _. may_ready_framed s u p first (may p)))
 
--- A reach that allows the start: no call is under way, and it leaves no semaphore alone, not even the four that devices have from the start on.
+-- A reach that allows the start: no call is under way.
 pub record HasStart (f : Reach) : Type 0 where
-  pub none : (sem : ℕ) → f.mine sem None ≡ false
-  pub kernel : (sem : ℕ) → f.mine sem (Some Device) ≡ false
   pub nothing : f.asks Nothing ≡ false
   pub heap : f.parts.heap ≡ true
   pub stacks : f.parts.stacks ≡ true
+
+-- It leaves no semaphore alone, not even the four that devices have from the start on.
+pub record OwnsNone (f : Reach) : Type 0 where
+  pub none : (sem : ℕ) → f.mine sem None ≡ false
+  pub kernel : (sem : ℕ) → f.mine sem (Some Device) ≡ false
 
 module _ {f : Reach} (g : HasStart f) where
   -- nobody is in a call at first
@@ -53,14 +56,14 @@ module _ {f : Reach} (g : HasStart f) where
   first_unasked zero = g.nothing
   first_unasked (suc p) = ap (λ (x : Process). f.asks x.rest) (same_everywhere 63 p no_process) ∙ g.nothing
 
-  -- and no semaphore is left alone
-  first_other : (sem : ℕ) → f.mine sem (get_or first_semaphores sem no_semaphore).owner ≡ false
+  -- and no semaphore is left alone if the reach owns none
+  first_other : OwnsNone f → (sem : ℕ) → f.mine sem (get_or first_semaphores sem no_semaphore).owner ≡ false
   unfolding first_semaphores
-  first_other zero = g.kernel 0
-  first_other (suc zero) = g.kernel 1
-  first_other (suc (suc zero)) = g.kernel 2
-  first_other (suc (suc (suc zero))) = g.kernel 3
-  first_other (suc (suc (suc (suc sem)))) = ap (λ (x : Semaphore). f.mine (suc (suc (suc (suc sem)))) x.owner) (same_everywhere 124 sem no_semaphore) ∙ g.none (suc (suc (suc (suc sem))))
+  first_other owns zero = owns.kernel 0
+  first_other owns (suc zero) = owns.kernel 1
+  first_other owns (suc (suc zero)) = owns.kernel 2
+  first_other owns (suc (suc (suc zero))) = owns.kernel 3
+  first_other owns (suc (suc (suc (suc sem)))) = ap (λ (x : Semaphore). f.mine (suc (suc (suc (suc sem)))) x.owner) (same_everywhere 124 sem no_semaphore) ∙ owns.none (suc (suc (suc (suc sem))))
 
   -- the process of an image is made
   touches_image : (i : ℕ) (image : Loaded) (stack : Stack) (s : Xinu) → take_stack (stack_size image.stack) s.parts.heap ≡ Some stack
@@ -108,11 +111,11 @@ module _ {f : Reach} (g : HasStart f) where
   touches_start images start e = touches_unless_overlap (first_overlap 1 [] images) images start e
 
   -- So no semaphore is one of these,
-  pub start_other : (images : List Loaded) (start : Xinu) → boot images ≡ Boots start → (sem : ℕ)
+  pub start_other : OwnsNone f → (images : List Loaded) (start : Xinu) → boot images ≡ Boots start → (sem : ℕ)
       → f.mine sem (semaphore_at start.tables sem).owner ≡ false
-  start_other images start e sem =
+  start_other owns images start e sem =
       false_from_ne_true (f.mine sem (semaphore_at start.tables sem).owner)
-      (λ h. both_ways (f.mine sem (semaphore_at null_tables sem).owner) (first_other sem) (ap (f.mine sem) (sym ((touches_start images start e).frame.old sem h)) ∙ h))
+      (λ h. both_ways (f.mine sem (semaphore_at null_tables sem).owner) (first_other owns sem) (ap (f.mine sem) (sym ((touches_start images start e).frame.old sem h)) ∙ h))
 
   -- and nobody is in such a call.
   pub start_unasked : (images : List Loaded) (start : Xinu) → boot images ≡ Boots start → (p : ℕ)

@@ -55,7 +55,7 @@ unasked true b e = e
 unasked false b e = refl
 
 -- who is among the first of a list is in it
-counted_take : (p n : ℕ) (l : List ℕ) → 0 < count_in p (take n l) → 0 < count_in p l
+pub counted_take : (p n : ℕ) (l : List ℕ) → 0 < count_in p (take n l) → 0 < count_in p l
 counted_take p n l h = let e = times-append (λ x. x == p) (take n l) (drop n l) in let f = ap (count_in p) (take-append-drop n l) in omega arith
 
 -- A semaphore that a call may touch, and on which nobody waits in a call that it leaves alone.

@@ -1,5 +1,5 @@
 -- What each call of the table touches, a row a line, and what follows for the call of any number.
-use Rattle.std.proofs.Common.{◌≡◌, ℕ, List, Some, sym, subst}
+use Rattle.std.proofs.Common.{◌≡◌, ℕ, ◌%◌, List, Some, sym, subst}
 use Rattle.std.specs.Prelude.{slice_index}
 use Rattle.std.specs.List.{AllByRecursion}
 use Rattle.xinu_model.specs.Calls.{calls, call_of_number}
@@ -10,6 +10,7 @@ use Rattle.xinu_laws.specs.Touches.{reach, Touches}
 use Rattle.xinu_model.specs.Words.{signed, half}
 use Rattle.xinu_laws.proofs.Lists.RowByRow.{◌⨾◌}
 use Rattle.xinu_laws.proofs.Lists.CallRows.{of_row}
+use Rattle.xinu_laws.proofs.Devices.Kept.{device_open_touches, device_close_touches, device_seek_touches, device_read_keeps, device_write_keeps, device_getc_keeps, device_putc_keeps, device_control_keeps, keeps_touch}
 use Rattle.xinu_laws.proofs.Touches.{StaysIn}
 use Rattle.xinu_laws.proofs.Touches.Clock.{yield_touches, sleep_touches, sleepms_touches, clktime_touches}
 use Rattle.xinu_laws.proofs.Touches.Memory.{getmem_touches, freemem_touches, getstk_touches, freestk_touches}
@@ -62,6 +63,14 @@ calls_touch =
     (λ a. ptreset_touches (a 0) (a 1)) ⨾
     (λ a. ptsend_touches (a 0) (a 1)) ⨾
     (λ a. ptrecv_touches (a 0)) ⨾
+    (λ a. device_open_touches (a 0) (a 1) (a 2)) ⨾
+    (λ a. device_close_touches (a 0)) ⨾
+    (λ a. keeps_touch (device_read_keeps (a 0) (a 1) (signed (a 2)))) ⨾
+    (λ a. keeps_touch (device_write_keeps (a 0) (a 1) (signed (a 2)))) ⨾
+    (λ a. keeps_touch (device_getc_keeps (a 0))) ⨾
+    (λ a. keeps_touch (device_putc_keeps (a 0) (a 1 % 256))) ⨾
+    (λ a. device_seek_touches (a 0) (signed (a 1))) ⨾
+    (λ a. keeps_touch (device_control_keeps (a 0) (a 1) (a 2))) ⨾
     tt
 
 -- The call of a number that has a row stays within the row's footprint.

@@ -117,3 +117,27 @@ sys_ptsend q m = numbered 34 (q ∷ m ∷ [])
 
 abbrev pub sys_ptrecv : ℕ → Call
 sys_ptrecv q = numbered 35 (q ∷ [])
+
+abbrev pub sys_open : ℕ → ℕ → ℕ → Call
+sys_open dev name mode = numbered 36 (dev ∷ name ∷ mode ∷ [])
+
+abbrev pub sys_close : ℕ → Call
+sys_close dev = numbered 37 (dev ∷ [])
+
+abbrev pub sys_read : ℕ → ℕ → ℕ → Call
+sys_read dev a n = numbered 38 (dev ∷ a ∷ n ∷ [])
+
+abbrev pub sys_write : ℕ → ℕ → ℕ → Call
+sys_write dev a n = numbered 39 (dev ∷ a ∷ n ∷ [])
+
+abbrev pub sys_getc : ℕ → Call
+sys_getc dev = numbered 40 (dev ∷ [])
+
+abbrev pub sys_putc : ℕ → ℕ → Call
+sys_putc dev c = numbered 41 (dev ∷ c ∷ [])
+
+abbrev pub sys_seek : ℕ → ℕ → Call
+sys_seek dev n = numbered 42 (dev ∷ n ∷ [])
+
+abbrev pub sys_control : ℕ → ℕ → ℕ → Call
+sys_control dev f x = numbered 43 (dev ∷ f ∷ x ∷ [])

@@ -4,12 +4,13 @@ use Rattle.xinu_base.specs.Constants.{NPROC}
 use Rattle.xinu_base.specs.declared.syscalls.Call.{Call}
 use Rattle.xinu_base.specs.declared.events.End.{End}
 use Rattle.xinu_base.specs.declared.events.End.TheVariants.{Schedule}
-use Rattle.xinu_base.specs.declared.events.Event.TheVariants.{Tick}
+use Rattle.xinu_base.specs.declared.events.Event.{Event}
+use Rattle.xinu_base.specs.declared.events.Event.TheVariants.{Tick, Key, Tx}
 use Rattle.xinu_base.specs.declared.lines.TranscriptLine.{TranscriptLine}
 use Rattle.xinu_base.specs.declared.lines.TranscriptLine.TheVariants as line
 use Rattle.xinu_model.specs.Boot.{null_tables, image_name}
 use Rattle.xinu_model.specs.Calls.{call_of_number, continued}
-use Rattle.xinu_model.specs.Events.{is_done, effect_of}
+use Rattle.xinu_model.specs.Events.{is_done, event_effect}
 use Rattle.xinu_model.specs.Machine.{Xinu, first_parts, no_hart, EventResult, end_of_event}
 use Rattle.xinu_model.specs.Process.Scheduling.{resched, ready}
 use Rattle.xinu_model.specs.Process.Creation.{new_process}
@@ -72,24 +73,33 @@ played_step x =
     else (if is_done rest then called_next (slice_index_or x.programs p []) x
     else after (end_of_event p [] (continued rest s)) x.programs x))
 
--- a tick of the clock
-abbrev pub played_tick : Played → Played
-played_tick x = after (effect_of x.state Tick 0) x.programs x
+-- an event that isn't a step, whether the machine has it or not
+abbrev pub played_event : Event → Played → Played
+played_event e x = after (event_effect x.state e 0) x.programs x
+
+-- characters are received, one after another
+abbrev pub played_keys : List ℕ → Played → Played
+played_keys [] x = x
+played_keys (b ∷ bytes) x = played_keys bytes (played_event (Key b) x)
 
 -- n times
 abbrev pub times_over : ℕ → (Played → Played) → Played → Played
 times_over zero f x = x
 times_over (suc n) f x = times_over n f (f x)
 
--- what happens to a system: steps and ticks
+-- what happens to a system: steps, ticks, received characters and transmissions
 pub data Turn : Type 0 where
   Steps : (n : ℕ) → Turn
   Ticks : (n : ℕ) → Turn
+  Types : (bytes : List ℕ) → Turn
+  Sends : (n : ℕ) → Turn
 
 abbrev pub played : List Turn → Played → Played
 played [] x = x
 played (Steps n ∷ turns) x = played turns (times_over n played_step x)
-played (Ticks n ∷ turns) x = played turns (times_over n played_tick x)
+played (Ticks n ∷ turns) x = played turns (times_over n (played_event Tick) x)
+played (Types bytes ∷ turns) x = played turns (played_keys bytes x)
+played (Sends n ∷ turns) x = played turns (times_over n (played_event Tx) x)
 
 -- An example: a system, the calls of its processes, and what happens to it.
 pub record Example : Type 0 where

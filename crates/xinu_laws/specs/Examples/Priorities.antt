@@ -1,5 +1,6 @@
 -- Examples: a process gets another priority.
-use Rattle.std.specs.Prelude.{List, None, Some, [], codes, negsuc, pos, replicate, ◌++◌, ◌∷◌}
+use Rattle.std.specs.Prelude.{List, None, Some, [], codes, negsuc, pos, replicate, ◌++◌, ◌∷◌, false}
+use Rattle.xinu_base.specs.declared.console.TtyMode.TheVariants.{Cooked}
 use Rattle.xinu_base.specs.declared.events.End.TheVariants.{Schedule}
 use Rattle.xinu_base.specs.declared.lines.TranscriptLine.{TranscriptLine}
 use Rattle.xinu_base.specs.declared.lines.TranscriptLine.TheVariants as line
@@ -28,7 +29,7 @@ raised_above_caller_transcript =
     line.Process 1 Current (pos 20) 0 None (codes "image1" ++ replicate 9 0) ∷
     line.Ready 0 (pos 0) ∷
     Free 4096 64 ∷
-    Console ∷ Disk0 ∷ Disk1 ∷
+    Console Cooked 0 0 0 0 false ∷ Disk0 0 ∷ Disk1 false ∷
     End Schedule ∷
     []
 
@@ -50,7 +51,7 @@ lowered_below_null_transcript =
     line.Process 1 Ready (negsuc 4) 0 None (codes "image1" ++ replicate 9 0) ∷
     line.Ready 1 (negsuc 4) ∷
     Free 4096 64 ∷
-    Console ∷ Disk0 ∷ Disk1 ∷
+    Console Cooked 0 0 0 0 false ∷ Disk0 0 ∷ Disk1 false ∷
     End Schedule ∷
     []
 
@@ -72,7 +73,7 @@ raised_null_transcript =
     line.Process 1 Ready (pos 20) 0 None (codes "image1" ++ replicate 9 0) ∷
     line.Ready 1 (pos 20) ∷
     Free 4096 64 ∷
-    Console ∷ Disk0 ∷ Disk1 ∷
+    Console Cooked 0 0 0 0 false ∷ Disk0 0 ∷ Disk1 false ∷
     End Schedule ∷
     []
 
@@ -98,7 +99,7 @@ entered_again_transcript =
     line.Ready 2 (pos 20) ∷
     line.Ready 0 (pos 0) ∷
     Free 4096 64 ∷
-    Console ∷ Disk0 ∷ Disk1 ∷
+    Console Cooked 0 0 0 0 false ∷ Disk0 0 ∷ Disk1 false ∷
     End Schedule ∷
     []
 

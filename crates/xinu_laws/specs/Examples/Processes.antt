@@ -1,5 +1,6 @@
 -- Examples: processes.
-use Rattle.std.specs.Prelude.{List, None, [], codes, negsuc, pos, replicate, ◌++◌, ◌∷◌}
+use Rattle.std.specs.Prelude.{List, None, [], codes, negsuc, pos, replicate, ◌++◌, ◌∷◌, false}
+use Rattle.xinu_base.specs.declared.console.TtyMode.TheVariants.{Cooked}
 use Rattle.xinu_base.specs.declared.lines.TranscriptLine.{TranscriptLine}
 use Rattle.xinu_base.specs.declared.lines.TranscriptLine.TheVariants as line
 use Rattle.xinu_base.specs.declared.processes.State.TheVariants.{Current, Ready}
@@ -101,5 +102,5 @@ preemption_tables =
     line.Ready 1 (pos 20) ∷
     line.Ready 0 (pos 0) ∷
     Free 4096 400 ∷
-    Console ∷ Disk0 ∷ Disk1 ∷
+    Console Cooked 0 0 0 0 false ∷ Disk0 0 ∷ Disk1 false ∷
     []

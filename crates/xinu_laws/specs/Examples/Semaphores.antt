@@ -1,5 +1,6 @@
 -- Examples: semaphores.
-use Rattle.std.specs.Prelude.{List, [], ◌∷◌, pos, negsuc, replicate, ◌++◌, ℕ, None, codes}
+use Rattle.std.specs.Prelude.{List, [], ◌∷◌, pos, negsuc, replicate, ◌++◌, ℕ, None, codes, false}
+use Rattle.xinu_base.specs.declared.console.TtyMode.TheVariants.{Cooked}
 use Rattle.xinu_base.specs.declared.events.End.TheVariants.{Schedule}
 use Rattle.xinu_base.specs.declared.lines.TranscriptLine.{TranscriptLine}
 use Rattle.xinu_base.specs.declared.lines.TranscriptLine.TheVariants as line
@@ -94,6 +95,6 @@ deleted_semaphore_transcript =
     line.Ready 2 (pos 20) ∷
     line.Ready 0 (pos 0) ∷
     Free 4096 64 ∷
-    Console ∷ Disk0 ∷ Disk1 ∷
+    Console Cooked 0 0 0 0 false ∷ Disk0 0 ∷ Disk1 false ∷
     End Schedule ∷
     []

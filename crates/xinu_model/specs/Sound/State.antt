@@ -4,6 +4,7 @@ use Rattle.xinu_base.specs.Constants.{NPROC}
 use Rattle.xinu_base.specs.declared.registers.Hart.{Hart}
 use Rattle.xinu_model.specs.Machine.{Xinu, no_hart}
 use Rattle.xinu_model.specs.Sound.Tables.{IsSoundTables}
+use Rattle.xinu_model.specs.Sound.Devices.{AreDevices}
 use Rattle.xinu_model.specs.Sound.Pools.{ArePools}
 use Rattle.xinu_model.specs.Sound.Ports.{ArePorts}
 use Rattle.xinu_model.specs.Tables.{Tables, state_at, is_free}
@@ -17,10 +18,11 @@ pub record AreHarts (harts : List Hart) : Type 0 where
 abbrev pub AreUnused : Tables → List Hart → Type 0
 AreUnused t harts = (p : ℕ) → is_free (state_at t p) ≡ true → slice_index_or harts p no_hart ≡ no_hart
 
--- Between two events the tables are sound, and so are the registers, the pools and the ports.
+-- Between two events the tables are sound, and so are the registers, the pools, the ports and the devices.
 pub record IsSound (s : Xinu) : Type 0 where
   pub tables : IsSoundTables s.tables
   pub harts : AreHarts s.harts
   pub unused : AreUnused s.tables s.harts
   pub pools : ArePools s.tables s.parts.pools
   pub ports : ArePorts s.tables s.parts.ports
+  pub devices : AreDevices s.tables s.parts.devices

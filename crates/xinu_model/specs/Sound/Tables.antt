@@ -1,5 +1,5 @@
 -- What holds of the tables at each moment, and between two events.
-use Rattle.std.specs.Prelude.{◌≡◌, ◌⊎◌, ℕ, suc, ◌+◌, ◌<◌, ◌≤◌, ◌==◌, Bool, cond, List, [], ◌∷◌, length, slice_index_or, Option, Some, None, IsSome, ℤ, ◌≤ℤ◌}
+use Rattle.std.specs.Prelude.{◌≡◌, ◌⊎◌, ℕ, zero, suc, ◌+◌, ◌<◌, ◌≤◌, ◌==◌, Bool, true, false, cond, List, [], ◌∷◌, length, slice_index_or, Option, Some, None, IsSome, ℤ, ◌≤ℤ◌}
 use Rattle.std.specs.List.{AllByRecursion}
 use Rattle.xinu_base.specs.Constants.{NPROC, NSEM}
 use Rattle.xinu_base.specs.declared.processes.Process.{Process}
@@ -78,13 +78,30 @@ IsForPort q sem (rest.PtSend ticket message) = (ticket.port ≡ q) × (ticket.se
 IsForPort q sem (rest.PtRecv ticket) = (ticket.port ≡ q) × (ticket.sem ≡ sem)
 IsForPort q sem _ = ⊥
 
+-- whether what is left of a call takes items from the console, or puts bytes to it
+abbrev pub asks_input : Rest → Bool
+asks_input rest.TtyGet = true
+asks_input (rest.TtyRead part) = true
+asks_input _ = false
+
+abbrev pub asks_output : Rest → Bool
+asks_output (rest.TtyPut b returned) = true
+asks_output (rest.TtyWrite part returned) = true
+asks_output _ = false
+
+-- what is left of the call of one who waits on a semaphore of the kernel's: the console's input, its output, or a disk
+abbrev pub FitsDevice : ℕ → Rest → Type 0
+FitsDevice zero left = asks_input left ≡ true
+FitsDevice (suc zero) left = asks_output left ≡ true
+FitsDevice (suc (suc sem)) left = left ≡ rest.Disk None
+
 -- what is left of the call of one who waits on a semaphore with this owner
 abbrev pub FitsOwner : ℕ → Option Owner → Rest → Type 0
 FitsOwner sem None left = ⊥
 FitsOwner sem (Some owner.Image) left = left ≡ rest.Nothing
 FitsOwner sem (Some (owner.Pool i)) left = left ≡ rest.GetBuf i
 FitsOwner sem (Some (owner.Port q)) left = IsForPort q sem left
-FitsOwner sem (Some owner.Device) left = ⊥
+FitsOwner sem (Some owner.Device) left = FitsDevice sem left
 
 -- a process that no longer waits for a message holds one if its call is to answer it
 abbrev pub HoldsFor : Rest → Option ℕ → Type 0

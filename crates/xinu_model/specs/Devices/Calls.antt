@@ -1,0 +1,121 @@
+-- The calls on devices: each goes to the device that its first argument names, if that offers it (book, chapter 14). The name space, the raw
+-- disk, the file system and files have no calls yet.
+use Rattle.std.specs.Prelude.{ℕ, ◌%◌, if◌then◌else◌, List, [], ◌∷◌, Option, Some, None, ℤ, codes}
+use Rattle.xinu_base.specs.Constants.{OK}
+use Rattle.xinu_base.specs.Syscalls.{syscall}
+use Rattle.xinu_base.specs.declared.devices.Kind.{Kind}
+use Rattle.xinu_base.specs.declared.devices.Kind.TheVariants as kind
+use Rattle.xinu_base.specs.declared.devices.Op.{Op}
+use Rattle.xinu_base.specs.declared.devices.Op.TheVariants as op
+use Rattle.xinu_model.specs.Console.Putting.{console_putc, console_write}
+use Rattle.xinu_model.specs.Console.Signals.{console_control}
+use Rattle.xinu_model.specs.Console.Taking.{console_getc, console_read}
+use Rattle.xinu_model.specs.Devices.Table.{kind_of, offers}
+use Rattle.xinu_model.specs.Devices.Texts.{text_at}
+use Rattle.xinu_model.specs.Footprints.{on_tables, on_console}
+use Rattle.xinu_model.specs.Machine.{Xinu, CallResult, refused}
+use Rattle.xinu_model.specs.Rows.{Status, CallRow, row}
+use Rattle.xinu_model.specs.Semaphores.Calls.{answers}
+use Rattle.xinu_model.specs.Words.{signed}
+
+-- A call by what the device is, which has to offer it; refused if there is no device.
+abbrev pub on_kind : Op → Option Kind → (Kind → Xinu → CallResult) → Xinu → CallResult
+on_kind call None does s = refused s
+on_kind call (Some k) does s = if offers k call then does k s else refused s
+
+-- a call on the device of a number
+abbrev pub on_device : Op → ℕ → (Kind → Xinu → CallResult) → Xinu → CallResult
+on_device call dev does s = on_kind call (kind_of dev) does s
+
+-- `open` by what the device is, with the texts of a name and a mode
+abbrev pub open_as : Kind → List ℕ → List ℕ → Xinu → CallResult
+open_as kind.Console name mode s = answers OK s
+open_as _ name mode s = refused s
+
+-- the same, if both texts are there
+abbrev pub open_with : Kind → Option (List ℕ) → Option (List ℕ) → Xinu → CallResult
+open_with k None mode s = refused s
+open_with k (Some name) None s = refused s
+open_with k (Some name) (Some mode) s = open_as k name mode s
+
+abbrev pub open_texts : ℕ → ℕ → Kind → Xinu → CallResult
+open_texts name mode k s = open_with k (text_at name s.memory) (text_at mode s.memory) s
+
+-- Call 36: a device is opened, with the texts at two addresses as a name and a mode; both have to be there, whatever the device is.
+abbrev pub device_open : ℕ → ℕ → ℕ → Xinu → CallResult
+device_open dev name mode s = on_device op.Open dev (open_texts name mode) s
+
+-- `close` by what the device is
+abbrev pub close_as : Kind → Xinu → CallResult
+close_as kind.Console s = answers OK s
+close_as _ s = refused s
+
+-- call 37: a device is closed
+abbrev pub device_close : ℕ → Xinu → CallResult
+device_close dev s = on_device op.Close dev close_as s
+
+-- `read` by what the device is, to an address, with a number of bytes
+abbrev pub read_as : ℕ → ℤ → Kind → Xinu → CallResult
+read_as at n kind.Console s = console_read at n s
+read_as at n _ s = refused s
+
+-- call 38: a device is read
+abbrev pub device_read : ℕ → ℕ → ℤ → Xinu → CallResult
+device_read dev at n s = on_device op.Read dev (read_as at n) s
+
+-- `write` by what the device is, from an address, with a number of bytes
+abbrev pub write_as : ℕ → ℤ → Kind → Xinu → CallResult
+write_as at n kind.Console s = console_write at n s
+write_as at n _ s = refused s
+
+-- call 39: a device is written
+abbrev pub device_write : ℕ → ℕ → ℤ → Xinu → CallResult
+device_write dev at n s = on_device op.Write dev (write_as at n) s
+
+-- `getc` by what the device is
+abbrev pub getc_as : Kind → Xinu → CallResult
+getc_as kind.Console s = console_getc s
+getc_as _ s = refused s
+
+-- call 40: a character is read from a device
+abbrev pub device_getc : ℕ → Xinu → CallResult
+device_getc dev s = on_device op.Getc dev getc_as s
+
+-- `putc` by what the device is
+abbrev pub putc_as : ℕ → Kind → Xinu → CallResult
+putc_as b kind.Console s = console_putc b s
+putc_as b _ s = refused s
+
+-- call 41: a character is written to a device
+abbrev pub device_putc : ℕ → ℕ → Xinu → CallResult
+device_putc dev b s = on_device op.Putc dev (putc_as b) s
+
+-- `seek` by what the device is
+abbrev pub seek_as : ℤ → Kind → Xinu → CallResult
+seek_as n k s = refused s
+
+-- call 42: a device has another position
+abbrev pub device_seek : ℕ → ℤ → Xinu → CallResult
+device_seek dev n s = on_device op.Seek dev (seek_as n) s
+
+-- `control` by what the device is, with a function and its argument
+abbrev pub control_as : ℕ → ℕ → Kind → Xinu → CallResult
+control_as f x kind.Console s = console_control f s
+control_as f x _ s = refused s
+
+-- call 43: a control function of a device
+abbrev pub device_control : ℕ → ℕ → ℕ → Xinu → CallResult
+device_control dev f x s = on_device op.Control dev (control_as f x) s
+
+-- the calls on devices; a character is the lowest byte of its word
+abbrev pub device_calls : List CallRow
+device_calls =
+    row (syscall 36 (codes "open") 3) on_tables Status (λ a s. device_open (a 0) (a 1) (a 2) s) ∷
+    row (syscall 37 (codes "close") 1) on_tables Status (λ a s. device_close (a 0) s) ∷
+    row (syscall 38 (codes "read") 3) on_console Status (λ a s. device_read (a 0) (a 1) (signed (a 2)) s) ∷
+    row (syscall 39 (codes "write") 3) on_console Status (λ a s. device_write (a 0) (a 1) (signed (a 2)) s) ∷
+    row (syscall 40 (codes "getc") 1) on_console Status (λ a s. device_getc (a 0) s) ∷
+    row (syscall 41 (codes "putc") 2) on_console Status (λ a s. device_putc (a 0) (a 1 % 256) s) ∷
+    row (syscall 42 (codes "seek") 2) on_tables Status (λ a s. device_seek (a 0) (signed (a 1)) s) ∷
+    row (syscall 43 (codes "control") 3) on_console Status (λ a s. device_control (a 0) (a 1) (a 2) s) ∷
+    []
