@@ -1,6 +1,6 @@
 //! Repeats: what is kept of a schedule.
 
-ghost use Rattle.std.specs.Prelude.{◌≡◌, ◌<◌, ◌^◌, Some, length, slice_get};
+ghost use Rattle.std.specs.Prelude.{◌≡◌, ◌==◌, ◌+◌, ◌<◌, ◌^◌, Some, length, slice_get};
 ghost use Rattle.schedule_file.specs.LineKinds.{round};
 ghost use Rattle.schedule_file.specs.Repeats.{repeat_events};
 
@@ -30,14 +30,18 @@ impl Repeat {
         }
     }
 
-    /// The event of the repeat after this many others.
-    pub(crate) fn event_at(self, place: u32) -> Event
+    /// The event of the repeat after this many others, and whether it is the last.
+    pub(crate) fn event_at(self, place: u32) -> (Event, bool)
         requires within { place < length (repeat_events self) }
-        ensures event { slice_get (repeat_events self) place ≡ Some result }
+        ensures event { slice_get (repeat_events self) place ≡ Some result.0 }
+        ensures last { result.1 ≡ (place + 1 == length (repeat_events self)) }
     {
         match self {
-            Repeat::Same(event, _) => event,
-            Repeat::Rounds(_) => round_event(place % ROUND_EVENTS),
+            Repeat::Same(event, count) => (event, place + 1 == count),
+            Repeat::Rounds(_) => {
+                let is_last = place as u64 + 1 == self.length();
+                (round_event(place % ROUND_EVENTS), is_last)
+            }
         }
     }
 }

@@ -71,12 +71,12 @@ impl Schedule {
         if self.at == self.repeats.len() {
             return None;
         }
-        let repeat = self.repeats[self.at];
-        let event = repeat.event_at(self.taken);
-        self.taken += 1;
-        if self.taken as u64 == repeat.length() {
+        let (event, is_last) = self.repeats[self.at].event_at(self.taken);
+        if is_last {
             self.at += 1;
             self.taken = 0;
+        } else {
+            self.taken += 1;
         }
         Some(event)
     }

@@ -5,12 +5,10 @@ use Rattle.schedule_file.proofs.RoundLemmas.{length-rounds, rounds_at}
 use Rattle.schedule_file.specs.LineKinds.{round, rounds}
 use Rattle.schedule_file.proofs.repeats.Repeat.event_at.Goals as goal
 
-pub returns-in-Rounds : goal.returns-in-Rounds
-returns-in-Rounds c = record {
-  event =
-      let within : c.args.place < length (rounds c.in-Rounds.field-0) = rw c.in-Rounds.is at c.requires.within in
-      rw c.in-Rounds.is
-      (rounds_at c.in-Rounds.field-0 c.args.place (omega (arith, length-rounds c.in-Rounds.field-0))
-      ∙ ap (slice_get round) (omega arith)
-      ∙ c.round_event.ensures.event);
-}
+pub returns-in-Rounds-clause-event : goal.returns-in-Rounds-clause-event
+returns-in-Rounds-clause-event c =
+    let within : c.args.place < length (rounds c.in-Rounds.field-0) = rw c.in-Rounds.is at c.requires.within in
+    rw c.in-Rounds.is
+    (rounds_at c.in-Rounds.field-0 c.args.place (omega (arith, length-rounds c.in-Rounds.field-0))
+    ∙ ap (slice_get round) (omega arith)
+    ∙ c.round_event.ensures.event)
