@@ -1,6 +1,7 @@
 -- The element at a place of a list.
 use Rattle.std.proofs.Common.{◌≡◌, ℕ, zero, suc, ◌+◌, ◌-◌, ◌<◌, ◌≤◌, List, [], ◌∷◌, ◌++◌, length, replicate, drop, Option, Some, None, refl}
-use Rattle.std.proofs.Common.{subst, arith}
+use Rattle.std.proofs.Common.{subst, sym, ap, ◌∙◌, arith}
+use Rattle.std.proofs.lemmas.List.{append-nil, drop-replicate}
 use Rattle.std.specs.Prelude.{slice_get, IfSome}
 use Rattle.std.specs.List.{All}
 use Rattle.std.proofs.lemmas.Option.{get_or_from_slice_get, slice_get_within}
@@ -32,6 +33,18 @@ drop_from (y ∷ xs) zero x is = let same : x ≡ y = cc in rw same refl
 drop_from (y ∷ xs) (suc k) x is =
     let next : suc k + 1 ≡ suc (k + 1) = omega arith in
     rw next (drop_from xs k x is)
+
+-- copies from a place on begin with the element and go on with the others
+pub drop_copies : {X : Type 0} (n k : ℕ) (x : X) → k < n
+    → drop k (replicate n x) ≡ x ∷ (replicate (n - k - 1) x ++ drop (k + 1 + (n - k - 1)) (replicate n x))
+drop_copies {X} n k x within =
+    let others = replicate (n - k - 1) x in
+    let some : n - k ≡ suc (n - k - 1) = omega arith in
+    let none : n - (k + 1 + (n - k - 1)) ≡ 0 = omega arith in
+    let end : drop (k + 1 + (n - k - 1)) (replicate n x) ≡ [] =
+    drop-replicate (k + 1 + (n - k - 1)) n x ∙ ap (λ (m : ℕ). replicate m x) none in
+    drop-replicate k n x ∙ ap (λ (m : ℕ). replicate m x) some
+    ∙ ap (λ (xs : List X). x ∷ xs) (sym (ap (λ (xs : List X). others ++ xs) end ∙ append-nil others))
 
 -- what holds of each element holds of one that was found
 found_holds : {X : Type 0} (P : X → Type 0) (xs : List X) (k : ℕ) (o : Option X) → slice_get xs k ≡ o → All P xs → IfSome o P

@@ -1,6 +1,6 @@
 //! Repeats: what is kept of a schedule.
 
-ghost use Rattle.std.specs.Prelude.{◌≡◌, ◌==◌, ◌+◌, ◌<◌, ◌^◌, Some, length, slice_get};
+ghost use Rattle.std.specs.Prelude.{◌≡◌, ◌+◌, ◌<◌, ◌≤◌, ◌^◌, ◌∷◌, ◌++◌, Some, length, drop, replicate, slice_get};
 ghost use Rattle.schedule_file.specs.LineKinds.{round};
 ghost use Rattle.schedule_file.specs.Repeats.{repeat_events};
 
@@ -30,18 +30,15 @@ impl Repeat {
         }
     }
 
-    /// The event of the repeat after this many others, and whether it is the last.
-    pub(crate) fn event_at(self, place: u32) -> (Event, bool)
+    /// The event of the repeat after this many others, and how many times it is known to come again before the rest.
+    pub(crate) fn stretch_at(self, place: u32) -> (Event, u32)
         requires within { place < length (repeat_events self) }
-        ensures event { slice_get (repeat_events self) place ≡ Some result.0 }
-        ensures last { result.1 ≡ (place + 1 == length (repeat_events self)) }
+        ensures events { drop place (repeat_events self) ≡ result.0 ∷ (replicate result.1 result.0 ++ drop (place + 1 + result.1) (repeat_events self)) }
+        ensures within { place + 1 + result.1 ≤ length (repeat_events self) }
     {
         match self {
-            Repeat::Same(event, count) => (event, place + 1 == count),
-            Repeat::Rounds(_) => {
-                let is_last = place as u64 + 1 == self.length();
-                (round_event(place % ROUND_EVENTS), is_last)
-            }
+            Repeat::Same(event, count) => (event, count - place - 1),
+            Repeat::Rounds(_) => (round_event(place % ROUND_EVENTS), 0),
         }
     }
 }
