@@ -38,6 +38,24 @@ pub(crate) fn happen<H: Host>(
 {
     match event {
         Event::Step => step(kernel, out, host),
+        _ => other_event(kernel, event, out, host),
+    }
+}
+
+// Takes one event that isn't a step, and prints its lines. Whether the kernel panicked in it.
+#[inline(never)]
+fn other_event<H: Host>(kernel: &mut Kernel, event: Event, out: &mut Printer, host: &mut H) -> bool
+    requires idle { IsIdle kernel.old }
+    requires sound { IsSound kernel.old.call.state }
+    requires few { kernel.old.call.state.tables.ticks < 1000000000 }
+    requires not_step { event ≢ Event.Step }
+    ensures happens { EventPrints kernel.old.call.state event kernel.new.call.state out.old out.new (H.view host.old) (H.view host.new) }
+    ensures panics { result ≡ panics_in kernel.old.call.state event }
+    ensures idle { IsIdle kernel.new }
+    ensures sound { IsSound kernel.new.call.state }
+    ensures ticks { kernel.new.call.state.tables.ticks ≤ kernel.old.call.state.tables.ticks + 1 }
+{
+    match event {
         Event::Tick => tick(kernel, out, host),
         Event::Dump => {
             print_tables(kernel, out, host);
@@ -93,6 +111,7 @@ fn react<H: Host>(kernel: &mut Kernel, outcome: Outcome, out: &mut Printer, host
 }
 
 // A call of the current process, which isn't the null process.
+#[inline(never)]
 fn make_call<H: Host>(kernel: &mut Kernel, call: Call, out: &mut Printer, host: &mut H) -> bool
     requires idle { IsIdle kernel.old }
     requires not_null { kernel.old.call.state.tables.current ≢ 0 }
@@ -107,6 +126,7 @@ fn make_call<H: Host>(kernel: &mut Kernel, call: Call, out: &mut Printer, host: 
 }
 
 // The current process, which isn't the null process, dies. The line says why.
+#[inline(never)]
 fn die<H: Host>(kernel: &mut Kernel, why: TranscriptLine, out: &mut Printer, host: &mut H) -> bool
     requires idle { IsIdle kernel.old }
     requires not_null { kernel.old.call.state.tables.current ≢ 0 }
@@ -135,6 +155,7 @@ fn tick<H: Host>(kernel: &mut Kernel, out: &mut Printer, host: &mut H) -> bool
 
 // Ends an event that began in process `was`, with this answer to its call, if it was one: prints the replies to released processes, the
 // caller's and the switch. Whether the kernel panicked.
+#[inline(never)]
 fn end_event<H: Host>(
     kernel: &mut Kernel,
     was: Pid,

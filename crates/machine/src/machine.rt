@@ -76,8 +76,10 @@ impl Machine {
     {
         self.events += 1;
         let panics = happen(&mut self.kernel, event, out, host);
-        let go = go_on(panics, is_over(&self.kernel));
-        self.has_ended = !matches!(go, Go::Goes);
+        let go = go_on(panics, &self.kernel);
+        if go != Go::Goes {
+            self.has_ended = true;
+        }
         go
     }
 
@@ -101,12 +103,13 @@ fn is_over(kernel: &Kernel) -> bool
 }
 
 // What an event means for the run, by whether the kernel panicked in it and whether the null process alone is left.
-fn go_on(panics: bool, is_over: bool) -> Go
-    ensures goes { end_of_go result ≡ end_with panics is_over }
+fn go_on(panics: bool, kernel: &Kernel) -> Go
+    requires sound { IsSound kernel.now.call.state }
+    ensures goes { end_of_go result ≡ end_with panics (runs.is_over kernel.now.call.state) }
 {
     if panics {
         Go::Panic
-    } else if is_over {
+    } else if is_over(kernel) {
         Go::Done
     } else {
         Go::Goes

@@ -20,11 +20,9 @@ pub fn step(hart: &mut Hart, ram: &mut Ram) -> Outcome
     ensures memory { ram.new ≡ (exec hart.old ram.old).memory }
     ensures zero { slice_index hart.old.regs 0 ≡ 0 → slice_index hart.new.regs 0 ≡ 0 }
 {
-    if hart.pc == INITRET {
-        return Outcome::Exit;
-    }
     match ram.read32(hart.pc) {
         Some(word) => execute(hart, ram, word),
+        None if hart.pc == INITRET => Outcome::Exit,
         None => Outcome::Trap(Cause::Fetch),
     }
 }

@@ -60,9 +60,8 @@ impl Ram {
     pub fn read16(&self, a: u32) -> Option<u16>
         ensures { result ≡ (if may_access a 2 then Some (number_at self.now a 2) else None) }
     {
-        let at = a as usize;
-        if at % 2 == 0 && at < SIZE {
-            Some(LittleEndian::read_u16(&self.bytes[at..]))
+        if a % 2 == 0 && a < RAM_SIZE {
+            Some(LittleEndian::read_u16(&self.bytes[a as usize..]))
         } else {
             None
         }
@@ -73,9 +72,8 @@ impl Ram {
     pub fn read32(&self, a: u32) -> Option<u32>
         ensures { result ≡ (if may_access a 4 then Some (number_at self.now a 4) else None) }
     {
-        let at = a as usize;
-        if at % 4 == 0 && at < SIZE {
-            Some(LittleEndian::read_u32(&self.bytes[at..]))
+        if a % 4 == 0 && a < RAM_SIZE {
+            Some(LittleEndian::read_u32(&self.bytes[a as usize..]))
         } else {
             None
         }
@@ -101,9 +99,8 @@ impl Ram {
         ensures wrote { result ≡ may_access a 2 }
         ensures memory { self.new ≡ (if may_access a 2 then with_number self.old a 2 v else self.old) }
     {
-        let at = a as usize;
-        if at % 2 == 0 && at < SIZE {
-            put_half(&mut self.bytes, at, v);
+        if a % 2 == 0 && a < RAM_SIZE {
+            put_half(&mut self.bytes, a as usize, v);
             return true;
         }
         false
@@ -115,9 +112,8 @@ impl Ram {
         ensures wrote { result ≡ may_access a 4 }
         ensures memory { self.new ≡ (if may_access a 4 then with_number self.old a 4 v else self.old) }
     {
-        let at = a as usize;
-        if at % 4 == 0 && at < SIZE {
-            put_word(&mut self.bytes, at, v);
+        if a % 4 == 0 && a < RAM_SIZE {
+            put_word(&mut self.bytes, a as usize, v);
             return true;
         }
         false

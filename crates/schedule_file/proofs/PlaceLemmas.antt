@@ -1,29 +1,11 @@
 -- The element at a place of a list.
 use Rattle.std.proofs.Common.{◌≡◌, ℕ, zero, suc, ◌+◌, ◌-◌, ◌<◌, ◌≤◌, List, [], ◌∷◌, ◌++◌, length, replicate, drop, Option, Some, None, refl}
-use Rattle.std.proofs.Common.{subst, arith}
+use Rattle.std.proofs.Common.{subst, sym, ap, ◌∙◌, arith}
+use Rattle.std.proofs.lemmas.List.{append_assoc, append-nil, drop-append-le, drop-replicate}
+use Rattle.std.proofs.Math.Seq.{drop-append-add}
 use Rattle.std.specs.Prelude.{slice_get, IfSome}
 use Rattle.std.specs.List.{All}
 use Rattle.std.proofs.lemmas.Option.{get_or_from_slice_get, slice_get_within}
-
--- a place in the first of two lists
-pub slice_get-left : {X : Type 0} (xs ys : List X) (k : ℕ) → k < length xs → slice_get (xs ++ ys) k ≡ slice_get xs k
-slice_get-left [] ys k within = absurd (omega arith)
-slice_get-left (x ∷ xs) ys zero within = refl
-slice_get-left (x ∷ xs) ys (suc k) within = slice_get-left xs ys k (omega arith)
-
--- a place in the second
-pub slice_get-right : {X : Type 0} (xs ys : List X) (k : ℕ) → length xs ≤ k → slice_get (xs ++ ys) k ≡ slice_get ys (k - length xs)
-slice_get-right [] ys k behind = let same : k - 0 ≡ k = omega arith in rw same refl
-slice_get-right (x ∷ xs) ys zero behind = absurd (omega arith)
-slice_get-right (x ∷ xs) ys (suc k) behind =
-    let same : suc k - suc (length xs) ≡ k - length xs = omega arith in
-    rw same (slice_get-right xs ys k (omega arith))
-
--- a place among copies
-pub slice_get-replicate : {X : Type 0} (n k : ℕ) (x : X) → k < n → slice_get (replicate n x) k ≡ Some x
-slice_get-replicate zero k x within = absurd (omega arith)
-slice_get-replicate (suc n) zero x within = refl
-slice_get-replicate (suc n) (suc k) x within = slice_get-replicate n k x (omega arith)
 
 -- a list from a place on begins with the element there
 pub drop_from : {X : Type 0} (xs : List X) (k : ℕ) (x : X) → slice_get xs k ≡ Some x → drop k xs ≡ x ∷ drop (k + 1) xs
@@ -32,6 +14,42 @@ drop_from (y ∷ xs) zero x is = let same : x ≡ y = cc in rw same refl
 drop_from (y ∷ xs) (suc k) x is =
     let next : suc k + 1 ≡ suc (k + 1) = omega arith in
     rw next (drop_from xs k x is)
+
+-- at a place of a list an element comes, and then that many copies of it
+abbrev pub Comes : {X : Type 0} → List X → ℕ → ℕ → X → Type 0
+Comes xs k more x = drop k xs ≡ x ∷ (replicate more x ++ drop (k + 1 + more) xs)
+
+-- at a place among copies
+pub comes-replicate : {X : Type 0} (n k : ℕ) (x : X) → k < n → Comes (replicate n x) k (n - k - 1) x
+comes-replicate {X} n k x within =
+    let others = replicate (n - k - 1) x in
+    let some : n - k ≡ suc (n - k - 1) = omega arith in
+    let none : n - (k + 1 + (n - k - 1)) ≡ 0 = omega arith in
+    let end : drop (k + 1 + (n - k - 1)) (replicate n x) ≡ [] =
+    drop-replicate (k + 1 + (n - k - 1)) n x ∙ ap (λ (m : ℕ). replicate m x) none in
+    drop-replicate k n x ∙ ap (λ (m : ℕ). replicate m x) some
+    ∙ ap (λ (xs : List X). x ∷ xs) (sym (ap (λ (xs : List X). others ++ xs) end ∙ append-nil others))
+
+-- at a place in the first of two lists
+pub comes-left : {X : Type 0} (xs ys : List X) (k more : ℕ) (x : X) → k + 1 + more ≤ length xs → Comes xs k more x → Comes (xs ++ ys) k more x
+comes-left {X} xs ys k more x fits comes =
+    drop-append-le k xs ys (omega arith)
+    ∙ ap (λ (zs : List X). zs ++ ys) comes
+    ∙ ap (λ (zs : List X). x ∷ zs)
+    (append_assoc (replicate more x) (drop (k + 1 + more) xs) ys
+    ∙ ap (λ (zs : List X). replicate more x ++ zs) (sym (drop-append-le (k + 1 + more) xs ys fits)))
+
+-- at a place in the second
+pub comes-right : {X : Type 0} (xs ys : List X) (k more : ℕ) (x : X) → length xs ≤ k → Comes ys (k - length xs) more x
+    → Comes (xs ++ ys) k more x
+comes-right {X} xs ys k more x behind comes =
+    let here : k ≡ length xs + (k - length xs) = omega arith in
+    let end : length xs + (k - length xs + 1 + more) ≡ k + 1 + more = omega arith in
+    ap (λ (m : ℕ). drop m (xs ++ ys)) here
+    ∙ drop-append-add xs ys (k - length xs)
+    ∙ comes
+    ∙ ap (λ (zs : List X). x ∷ (replicate more x ++ zs))
+    (sym (drop-append-add xs ys (k - length xs + 1 + more)) ∙ ap (λ (m : ℕ). drop m (xs ++ ys)) end)
 
 -- what holds of each element holds of one that was found
 found_holds : {X : Type 0} (P : X → Type 0) (xs : List X) (k : ℕ) (o : Option X) → slice_get xs k ≡ o → All P xs → IfSome o P

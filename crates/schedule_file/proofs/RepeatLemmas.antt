@@ -1,34 +1,34 @@
 -- Repeats one after another, and how far a schedule is in them.
-use Rattle.std.proofs.Common.{◌≡◌, ℕ, ◌+◌, ◌<◌, ◌≤◌, List, [], ◌∷◌, ◌++◌, length, drop, Some, ap, ◌∙◌, arith}
+use Rattle.std.proofs.Common.{◌≡◌, ℕ, ◌+◌, ◌<◌, ◌≤◌, List, [], ◌∷◌, ◌++◌, length, drop, replicate, Some, sym, ap, ◌∙◌, arith}
 use Rattle.std.specs.Prelude.{slice_get}
 use Rattle.std.specs.List.{All}
-use Rattle.std.proofs.lemmas.List.{drop_all, drop_at}
+use Rattle.std.proofs.lemmas.List.{append_assoc, drop_all, drop-append-le}
 use Rattle.std.proofs.lemmas.Option.{slice_get_within}
 use Rattle.xinu_base.specs.declared.events.Event.{Event}
 use Rattle.schedule_file.specs.declared.repeats.Repeat.{Repeat}
 use Rattle.schedule_file.specs.Repeats.{repeat_events, repeats_events, IsRepeat, IsCursor, to_come}
-use Rattle.schedule_file.proofs.PlaceLemmas.{slice_get-left, drop_from, at_each}
+use Rattle.schedule_file.proofs.PlaceLemmas.{drop_from, at_each}
 
 -- the events of the repeats from one on begin with its own
 repeats_from : (repeats : List Repeat) (next : ℕ) (repeat : Repeat) → slice_get repeats next ≡ Some repeat
     → repeats_events (drop next repeats) ≡ repeat_events repeat ++ repeats_events (drop (next + 1) repeats)
 repeats_from repeats next repeat is = ap repeats_events (drop_from repeats next repeat is)
 
--- the next event that is to come
-pub to_come-event : (repeats : List Repeat) (next taken : ℕ) (repeat : Repeat) (event : Event) → slice_get repeats next ≡ Some repeat
-    → taken < length (repeat_events repeat) → slice_get (repeat_events repeat) taken ≡ Some event
-    → to_come repeats next taken ≡ event ∷ to_come repeats next (taken + 1)
-to_come-event repeats next taken repeat event is within at =
-    drop_from (repeats_events (drop next repeats)) taken event
-    (rw (repeats_from repeats next repeat is)
-    (slice_get-left (repeat_events repeat) (repeats_events (drop (next + 1) repeats)) taken within ∙ at))
-
--- after the last event of a repeat comes the next repeat
-pub to_come-repeat : (repeats : List Repeat) (next taken : ℕ) (repeat : Repeat) → slice_get repeats next ≡ Some repeat
-    → length (repeat_events repeat) ≡ taken → to_come repeats next taken ≡ to_come repeats (next + 1) 0
-to_come-repeat repeats next taken repeat is all =
-    ap (drop taken) (repeats_from repeats next repeat is)
-    ∙ drop_at (repeat_events repeat) (repeats_events (drop (next + 1) repeats)) taken all
+-- the next events that are to come, if the repeat goes on with copies of one
+pub to_come-stretch : (repeats : List Repeat) (next taken more : ℕ) (repeat : Repeat) (event : Event) → slice_get repeats next ≡ Some repeat
+    → taken < length (repeat_events repeat) → taken + 1 + more ≤ length (repeat_events repeat)
+    → drop taken (repeat_events repeat) ≡ event ∷ (replicate more event ++ drop (taken + 1 + more) (repeat_events repeat))
+    → to_come repeats next taken ≡ event ∷ (replicate more event ++ to_come repeats next (taken + 1 + more))
+to_come-stretch repeats next taken more repeat event is within fits events =
+    let k = taken + 1 + more in
+    let own = repeat_events repeat in
+    let rest = repeats_events (drop (next + 1) repeats) in
+    let from = repeats_from repeats next repeat is in
+    let later : drop k own ++ rest ≡ to_come repeats next k = sym (ap (drop k) from ∙ drop-append-le k own rest fits) in
+    ap (drop taken) from
+    ∙ drop-append-le taken own rest (omega arith)
+    ∙ ap (λ (xs : List Event). xs ++ rest) events
+    ∙ ap (◌∷◌ event) (append_assoc (replicate more event) (drop k own) rest ∙ ap (λ (xs : List Event). replicate more event ++ xs) later)
 
 -- after the last repeat nothing is to come
 pub to_come-end : (repeats : List Repeat) (next taken : ℕ) → length repeats ≤ next → to_come repeats next taken ≡ []

@@ -1,13 +1,12 @@
 -- The events of a round, and of rounds one after another.
-use Rattle.std.proofs.Common.{◌≡◌, ℕ, zero, suc, ◌+◌, ◌-◌, ◌*◌, ◌%◌, ◌<◌, ◌≤◌, List, [], ◌∷◌, ◌++◌, length, replicate, Some, refl, ap, ◌∙◌}
-use Rattle.std.proofs.Common.{arith, length-append, ⊎_elim, ◌⊎◌}
-use Rattle.std.specs.Prelude.{slice_get}
+use Rattle.std.proofs.Common.{◌≡◌, ℕ, zero, suc, ◌+◌, ◌-◌, ◌*◌, ◌%◌, ◌<◌, ◌≤◌, List, [], ◌∷◌, ◌++◌, length, replicate, refl, sym}
+use Rattle.std.proofs.Common.{arith, length-append, subst, ⊎_elim, ◌⊎◌}
 use Rattle.std.proofs.lemmas.List.{length-replicate}
 use Rattle.std.proofs.lemmas.Bool.{cases_lt}
 use Rattle.xinu_base.specs.declared.events.Event.{Event}
 use Rattle.xinu_base.specs.declared.events.Event.TheVariants.{Step, Tick, Tx, Disk0, Disk1}
 use Rattle.schedule_file.specs.LineKinds.{round, rounds}
-use Rattle.schedule_file.proofs.PlaceLemmas.{slice_get-left, slice_get-right, slice_get-replicate}
+use Rattle.schedule_file.proofs.PlaceLemmas.{Comes, comes-left, comes-replicate, comes-right}
 
 -- a round with other counts
 abbrev pub stretches : ℕ → ℕ → ℕ → ℕ → List Event
@@ -28,65 +27,79 @@ unfolding rounds
 length-rounds zero = refl
 length-rounds (suc n) = omega (arith, length-append round (rounds n), length-round, length-rounds n)
 
--- a place among copies before others, and one after them
-in_copies : {X : Type 0} (n k : ℕ) (x : X) (ys : List X) → k < n → slice_get (replicate n x ++ ys) k ≡ Some x
-in_copies n k x ys within =
-    slice_get-left (replicate n x) ys k (omega (arith, length-replicate n x)) ∙ slice_get-replicate n k x within
+-- copies that come before others, and what comes after them
+copies_come : {X : Type 0} (n k : ℕ) (x : X) (ys : List X) → k < n → Comes (replicate n x ++ ys) k (n - k - 1) x
+copies_come n k x ys within =
+    comes-left (replicate n x) ys k (n - k - 1) x (omega (arith, length-replicate n x)) (comes-replicate n k x within)
 
-behind_copies : {X : Type 0} (n k : ℕ) (x : X) (ys : List X) → n ≤ k → slice_get (replicate n x ++ ys) k ≡ slice_get ys (k - n)
-behind_copies n k x ys behind =
-    slice_get-right (replicate n x) ys k (omega (arith, length-replicate n x)) ∙ ap (λ (m : ℕ). slice_get ys (k - m)) (length-replicate n x)
+comes_after : {X : Type 0} (n k more : ℕ) (x y : X) (ys : List X) → n ≤ k → Comes ys (k - n) more y → Comes (replicate n x ++ ys) k more y
+comes_after {X} n k more x y ys behind comes =
+    comes-right (replicate n x) ys k more y (omega (arith, length-replicate n x))
+    (subst (λ (m : ℕ). Comes ys (k - m) more y) (sym (length-replicate n x)) comes)
 
 -- the events of a round by their places
-pub step_at : (a b c d k : ℕ) → k < a → slice_get (stretches a b c d) k ≡ Some Step
-step_at a b c d k within = in_copies a k Step (replicate b Tx ++ (replicate c Disk1 ++ (replicate d Disk0 ++ Tick ∷ []))) within
+pub steps_come : (a b c d k : ℕ) → k < a → Comes (stretches a b c d) k (a - k - 1) Step
+steps_come a b c d k within = copies_come a k Step (replicate b Tx ++ (replicate c Disk1 ++ (replicate d Disk0 ++ Tick ∷ []))) within
 
-pub tx_at : (a b c d k : ℕ) → a ≤ k → k < a + b → slice_get (stretches a b c d) k ≡ Some Tx
-tx_at a b c d k behind within =
-    behind_copies a k Step (replicate b Tx ++ (replicate c Disk1 ++ (replicate d Disk0 ++ Tick ∷ []))) behind
-    ∙ in_copies b (k - a) Tx (replicate c Disk1 ++ (replicate d Disk0 ++ Tick ∷ [])) (omega arith)
+txs_come : (b c d k more : ℕ) → k < b → more ≡ b - k - 1 → Comes (replicate b Tx ++ (replicate c Disk1 ++ (replicate d Disk0 ++ Tick ∷ []))) k more Tx
+txs_come b c d k more within is = rw is (copies_come b k Tx (replicate c Disk1 ++ (replicate d Disk0 ++ Tick ∷ [])) within)
 
-pub disk1_at : (a b c d k : ℕ) → a + b ≤ k → k < a + b + c → slice_get (stretches a b c d) k ≡ Some Disk1
-disk1_at a b c d k behind within =
-    behind_copies a k Step (replicate b Tx ++ (replicate c Disk1 ++ (replicate d Disk0 ++ Tick ∷ []))) (omega arith)
-    ∙ behind_copies b (k - a) Tx (replicate c Disk1 ++ (replicate d Disk0 ++ Tick ∷ [])) (omega arith)
-    ∙ in_copies c (k - a - b) Disk1 (replicate d Disk0 ++ Tick ∷ []) (omega arith)
+pub tx_comes : (a b c d k : ℕ) → a ≤ k → k < a + b → Comes (stretches a b c d) k (a + b - k - 1) Tx
+tx_comes a b c d k behind within =
+    comes_after a k (a + b - k - 1) Step Tx (replicate b Tx ++ (replicate c Disk1 ++ (replicate d Disk0 ++ Tick ∷ []))) behind
+    (txs_come b c d (k - a) (a + b - k - 1) (omega arith) (omega arith))
 
-pub disk0_at : (a b c d k : ℕ) → a + b + c ≤ k → k < a + b + c + d → slice_get (stretches a b c d) k ≡ Some Disk0
-disk0_at a b c d k behind within =
-    behind_copies a k Step (replicate b Tx ++ (replicate c Disk1 ++ (replicate d Disk0 ++ Tick ∷ []))) (omega arith)
-    ∙ behind_copies b (k - a) Tx (replicate c Disk1 ++ (replicate d Disk0 ++ Tick ∷ [])) (omega arith)
-    ∙ behind_copies c (k - a - b) Disk1 (replicate d Disk0 ++ Tick ∷ []) (omega arith)
-    ∙ in_copies d (k - a - b - c) Disk0 (Tick ∷ []) (omega arith)
+disk1s_come : (b c d k more : ℕ) → b ≤ k → k < b + c → more ≡ b + c - k - 1
+    → Comes (replicate b Tx ++ (replicate c Disk1 ++ (replicate d Disk0 ++ Tick ∷ []))) k more Disk1
+disk1s_come b c d k more behind within is =
+    comes_after b k more Tx Disk1 (replicate c Disk1 ++ (replicate d Disk0 ++ Tick ∷ [])) behind
+    (let same : more ≡ c - (k - b) - 1 = omega arith in rw same (copies_come c (k - b) Disk1 (replicate d Disk0 ++ Tick ∷ []) (omega arith)))
 
-pub tick_at : (a b c d k : ℕ) → k ≡ a + b + c + d → slice_get (stretches a b c d) k ≡ Some Tick
-tick_at a b c d k is =
+pub disk1_comes : (a b c d k : ℕ) → a + b ≤ k → k < a + b + c → Comes (stretches a b c d) k (a + b + c - k - 1) Disk1
+disk1_comes a b c d k behind within =
+    comes_after a k (a + b + c - k - 1) Step Disk1 (replicate b Tx ++ (replicate c Disk1 ++ (replicate d Disk0 ++ Tick ∷ []))) (omega arith)
+    (disk1s_come b c d (k - a) (a + b + c - k - 1) (omega arith) (omega arith) (omega arith))
+
+disk0s_come : (b c d k more : ℕ) → b + c ≤ k → k < b + c + d → more ≡ b + c + d - k - 1
+    → Comes (replicate b Tx ++ (replicate c Disk1 ++ (replicate d Disk0 ++ Tick ∷ []))) k more Disk0
+disk0s_come b c d k more behind within is =
+    comes_after b k more Tx Disk0 (replicate c Disk1 ++ (replicate d Disk0 ++ Tick ∷ [])) (omega arith)
+    (comes_after c (k - b) more Disk1 Disk0 (replicate d Disk0 ++ Tick ∷ []) (omega arith)
+    (let same : more ≡ d - (k - b - c) - 1 = omega arith in rw same (copies_come d (k - b - c) Disk0 (Tick ∷ []) (omega arith))))
+
+pub disk0_comes : (a b c d k : ℕ) → a + b + c ≤ k → k < a + b + c + d → Comes (stretches a b c d) k (a + b + c + d - k - 1) Disk0
+disk0_comes a b c d k behind within =
+    comes_after a k (a + b + c + d - k - 1) Step Disk0 (replicate b Tx ++ (replicate c Disk1 ++ (replicate d Disk0 ++ Tick ∷ []))) (omega arith)
+    (disk0s_come b c d (k - a) (a + b + c + d - k - 1) (omega arith) (omega arith) (omega arith))
+
+pub tick_comes : (a b c d k : ℕ) → k ≡ a + b + c + d → Comes (stretches a b c d) k 0 Tick
+tick_comes a b c d k is =
     let last : k - a - b - c - d ≡ 0 = omega arith in
-    behind_copies a k Step (replicate b Tx ++ (replicate c Disk1 ++ (replicate d Disk0 ++ Tick ∷ []))) (omega arith)
-    ∙ behind_copies b (k - a) Tx (replicate c Disk1 ++ (replicate d Disk0 ++ Tick ∷ [])) (omega arith)
-    ∙ behind_copies c (k - a - b) Disk1 (replicate d Disk0 ++ Tick ∷ []) (omega arith)
-    ∙ behind_copies d (k - a - b - c) Disk0 (Tick ∷ []) (omega arith)
-    ∙ ap (slice_get (Tick ∷ [])) last
+    comes_after a k 0 Step Tick (replicate b Tx ++ (replicate c Disk1 ++ (replicate d Disk0 ++ Tick ∷ []))) (omega arith)
+    (comes_after b (k - a) 0 Tx Tick (replicate c Disk1 ++ (replicate d Disk0 ++ Tick ∷ [])) (omega arith)
+    (comes_after c (k - a - b) 0 Disk1 Tick (replicate d Disk0 ++ Tick ∷ []) (omega arith)
+    (comes_after d (k - a - b - c) 0 Disk0 Tick (Tick ∷ []) (omega arith) (rw last refl))))
 
 -- a place in the first of some rounds, or in the others
-rounds_step : (n k : ℕ) → (k < 1081) ⊎ (1081 ≤ k) → (1081 ≤ k → slice_get (rounds n) (k - 1081) ≡ slice_get round ((k - 1081) % 1081))
-    → slice_get (round ++ rounds n) k ≡ slice_get round (k % 1081)
-rounds_step n k side rest =
+rounds_step : (n k more : ℕ) (x : Event) → (k < 1081) ⊎ (1081 ≤ k) → k % 1081 + 1 + more ≤ 1081 → Comes round (k % 1081) more x
+    → (1081 ≤ k → Comes (rounds n) (k - 1081) more x) → Comes (round ++ rounds n) k more x
+rounds_step n k more x side fits comes rest =
     ⊎_elim
     (λ (first : k < 1081).
     let same : k % 1081 ≡ k = omega arith in
-    rw same (slice_get-left round (rounds n) k (omega (arith, length-round))))
+    comes-left round (rounds n) k more x (omega (arith, length-round)) (subst (λ (m : ℕ). Comes round m more x) same comes))
     (λ (later : 1081 ≤ k).
-    let same : (k - 1081) % 1081 ≡ k % 1081 = omega arith in
-    slice_get-right round (rounds n) k (omega (arith, length-round))
-    ∙ ap (λ (m : ℕ). slice_get (rounds n) (k - m)) length-round
-    ∙ rest later
-    ∙ ap (slice_get round) same)
+    comes-right round (rounds n) k more x (omega (arith, length-round))
+    (subst (λ (m : ℕ). Comes (rounds n) (k - m) more x) (sym length-round) (rest later)))
     side
 
--- the event at a place of some rounds
-pub rounds_at : (n k : ℕ) → k < n * 1081 → slice_get (rounds n) k ≡ slice_get round (k % 1081)
+-- what comes at a place of some rounds is what comes in a round at what is left of the place
+pub rounds_come : (n k more : ℕ) (x : Event) → k < n * 1081 → k % 1081 + 1 + more ≤ 1081 → Comes round (k % 1081) more x
+    → Comes (rounds n) k more x
 unfolding rounds
-rounds_at zero k within = absurd (omega arith)
-rounds_at (suc n) k within =
-    rounds_step n k (cases_lt k 1081) (λ later. rounds_at n (k - 1081) (omega arith))
+rounds_come zero k more x within fits comes = absurd (omega arith)
+rounds_come (suc n) k more x within fits comes =
+    rounds_step n k more x (cases_lt k 1081) fits comes
+    (λ later.
+    let same : k % 1081 ≡ (k - 1081) % 1081 = omega arith in
+    rounds_come n (k - 1081) more x (omega arith) (omega arith) (subst (λ (m : ℕ). Comes round m more x) same comes))

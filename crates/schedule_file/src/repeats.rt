@@ -1,6 +1,6 @@
 //! Repeats: what is kept of a schedule.
 
-ghost use Rattle.std.specs.Prelude.{◌≡◌, ◌<◌, ◌^◌, Some, length, slice_get};
+ghost use Rattle.std.specs.Prelude.{◌≡◌, ◌+◌, ◌<◌, ◌≤◌, ◌^◌, ◌∷◌, ◌++◌, length, drop, replicate};
 ghost use Rattle.schedule_file.specs.LineKinds.{round};
 ghost use Rattle.schedule_file.specs.Repeats.{repeat_events};
 
@@ -30,32 +30,34 @@ impl Repeat {
         }
     }
 
-    /// The event of the repeat after this many others.
-    pub(crate) fn event_at(self, place: u32) -> Event
+    /// The event of the repeat after this many others, and how many times it comes again before the next kind of event.
+    pub(crate) fn stretch_at(self, place: u32) -> (Event, u32)
         requires within { place < length (repeat_events self) }
-        ensures event { slice_get (repeat_events self) place ≡ Some result }
+        ensures events { drop place (repeat_events self) ≡ result.0 ∷ (replicate result.1 result.0 ++ drop (place + 1 + result.1) (repeat_events self)) }
+        ensures within { place + 1 + result.1 ≤ length (repeat_events self) }
     {
         match self {
-            Repeat::Same(event, _) => event,
-            Repeat::Rounds(_) => round_event(place % ROUND_EVENTS),
+            Repeat::Same(event, count) => (event, count - place - 1),
+            Repeat::Rounds(_) => round_stretch(place % ROUND_EVENTS),
         }
     }
 }
 
-// The event of a round after this many others.
-fn round_event(place: u32) -> Event
+// The event of a round after this many others, and how many times it comes again before the next kind of event.
+fn round_stretch(place: u32) -> (Event, u32)
     requires within { place < 1081 }
-    ensures event { slice_get round place ≡ Some result }
+    ensures events { drop place round ≡ result.0 ∷ (replicate result.1 result.0 ++ drop (place + 1 + result.1) round) }
+    ensures within { place + 1 + result.1 ≤ 1081 }
 {
     if place < 1000 {
-        Event::Step
+        (Event::Step, 1000 - place - 1)
     } else if place < 1064 {
-        Event::Tx
+        (Event::Tx, 1064 - place - 1)
     } else if place < 1072 {
-        Event::Disk1
+        (Event::Disk1, 1072 - place - 1)
     } else if place < 1080 {
-        Event::Disk0
+        (Event::Disk0, 1080 - place - 1)
     } else {
-        Event::Tick
+        (Event::Tick, 0)
     }
 }

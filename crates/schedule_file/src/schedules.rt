@@ -18,22 +18,26 @@ use xinu_base::Event;
 /// The events of a schedule that are still to come. A clause sees their list.
 #[derive(Drop)]
 pub struct Schedule {
+    /// The event that comes next, if any are left of it.
+    event: Event,
+    /// How many times it comes before the events of the repeats.
+    left: u32,
     /// What the lines asked for, in their order.
     repeats: Vec<Repeat>,
-    /// The repeat to which the next event belongs.
+    /// The repeat whose events come then.
     at: usize,
     /// How many events of this repeat were taken.
     taken: u32,
 }
 
 impl Model for Schedule {
-    ghost use Rattle.std.specs.Prelude.{List};
+    ghost use Rattle.std.specs.Prelude.{List, ◌++◌, replicate};
     ghost use Rattle.xinu_base.specs.declared.events.Event.{Event};
     ghost use Rattle.schedule_file.specs.Repeats.{to_come, IsCursor};
 
     ghost Value = { List Event };
 
-    ghost view = { λ s. to_come s.repeats.items s.at s.taken };
+    ghost view = { λ s. replicate s.left s.event ++ to_come s.repeats.items s.at s.taken };
 
     ghost invariant = { λ s. IsCursor s.repeats.items s.at s.taken };
 }
@@ -58,6 +62,8 @@ impl Schedule {
     {
         let repeats = repeats_in(alloc, text)?;
         Ok(Schedule {
+            event: Event::Step,
+            left: 0,
             repeats,
             at: 0,
             taken: 0,
@@ -68,12 +74,18 @@ impl Schedule {
     pub fn next_event(&mut self) -> Option<Event>
         ensures next { MatchOption result ((self.old ≡ []) × (self.new ≡ [])) (λ event. self.old ≡ event ∷ self.new) }
     {
+        if self.left > 0 {
+            self.left -= 1;
+            return Some(self.event);
+        }
         if self.at == self.repeats.len() {
             return None;
         }
         let repeat = self.repeats[self.at];
-        let event = repeat.event_at(self.taken);
-        self.taken += 1;
+        let (event, more) = repeat.stretch_at(self.taken);
+        self.event = event;
+        self.left = more;
+        self.taken += 1 + more;
         if self.taken as u64 == repeat.length() {
             self.at += 1;
             self.taken = 0;

@@ -1,8 +1,8 @@
 use Rattle.std.proofs.Common.{◌∙◌, ap, arith, sym}
-use Rattle.xinu_base.specs.declared.events.Event.TheVariants.{Step, Tick}
-use Rattle.xinu_laws.proofs.Touches.ClockEvents.{ticks_stepped, ticks_ticked}
-use Rattle.xinu_model.specs.Machine.{EventResult, Xinu}
-use Rattle.machine.proofs.Happenings.{effect_is, happened, nothing_printed, other_does, printed_as}
+use Rattle.xinu_base.specs.declared.events.Event.TheVariants.{Step}
+use Rattle.xinu_laws.proofs.Touches.ClockEvents.{ticks_stepped}
+use Rattle.xinu_model.specs.Machine.{Xinu}
+use Rattle.machine.proofs.Happenings.{effect_is, happened}
 use Rattle.machine.proofs.events.happen.Goals as goal
 
 pub returns-in-Step : goal.returns-in-Step
@@ -15,27 +15,4 @@ returns-in-Step g c =
       idle = c.step.ensures.idle;
       sound = c.step.ensures.sound;
       ticks = (let e = sym (ap (λ (x : Xinu). x.tables.ticks) c.step.ensures.effect.state) ∙ ticks_stepped s c.requires.sound in omega arith);
-    }
-
-pub returns-in-Tick-clause-happens : goal.returns-in-Tick-clause-happens
-returns-in-Tick-clause-happens g c =
-    let s = c.args.kernel.now.call.state in
-    happened s c.tick.new.kernel.call.state c.args.event c.tick.result _ _ _ _
-    (effect_is s c.tick.new.kernel.call.state c.args.event Tick c.tick.result _ _ _ _ c.in-Tick.is c.tick.ensures.effect)
-
-pub returns-in-Tick-clause-ticks : goal.returns-in-Tick-clause-ticks
-returns-in-Tick-clause-ticks g c =
-    let s = c.args.kernel.now.call.state in
-    let e = sym (ap (λ (x : Xinu). x.tables.ticks) c.tick.ensures.effect.state) ∙ ticks_ticked s in omega arith
-
-pub returns-in_default : goal.returns-in_default
-returns-in_default g c =
-    let s = c.args.kernel.now.call.state in
-    let does = other_does s c.args.event c.in_default.not-Step c.in_default.not-Tick c.in_default.not-Dump in
-    record {
-      happens = happened s s c.args.event _ _ _ _ _ (printed_as s s c.args.event _ _ _ _ _ _ (sym does) (nothing_printed s c.args.out.now (g.H.Host.view c.args.host.now)));
-      panics = sym (ap (λ (x : EventResult). x.panics) does);
-      idle = c.requires.idle;
-      sound = c.requires.sound;
-      ticks = omega arith;
     }
