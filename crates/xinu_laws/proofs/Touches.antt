@@ -27,6 +27,7 @@ use Rattle.xinu_model.specs.Footprints.{Footprint}
 use Rattle.xinu_laws.specs.Frame.{Frame}
 use Rattle.xinu_model.specs.Heap.Cells.{Heap}
 use Rattle.xinu_model.specs.Machine.{Parts, Xinu, CallResult, no_hart, refused}
+use Rattle.xinu_model.specs.Names.Mounting.{NameRow}
 use Rattle.xinu_model.specs.Pools.Buffers.{BufferPool}
 use Rattle.xinu_model.specs.Ports.Queues.{MessagePort}
 use Rattle.xinu_model.specs.Sound.Tables.{IsInside}
@@ -102,6 +103,17 @@ module _ {f : Footprint} where
     ranges = λ _. refl;
     ports = λ _. (refl, refl);
     devices = record { console = named may; names = λ _. refl; disk = λ _. refl; files = λ _. refl };
+  }
+
+  -- Other mounted prefixes.
+  pub parts_names : f.names ≡ true → (p : Parts) (rows : List NameRow) → KeepsParts f p (record p { devices = record p.devices { names = rows } })
+  parts_names may p rows = record {
+    extent = record { low = refl; many = refl };
+    heap = λ _. refl;
+    pools = λ _. refl;
+    ranges = λ _. refl;
+    ports = λ _. (refl, refl);
+    devices = record { console = λ _. refl; names = named may; disk = λ _. refl; files = λ _. refl };
   }
 
   -- Other ports.

@@ -117,7 +117,7 @@ pub fn port_numbers()
 {}
 
 /// The console: a line that is edited and read, the end mark, raw mode, a newline that is held, a write that waits for room, refusals, and a
-/// reader that is killed after it was released.
+/// reader that is killed after it was released. It is opened by a mounted name too.
 pub fn console_calls()
     ensures session { printed console_examples.session ≡ console_examples.session_lines }
     ensures session_bytes { bytes_at 2048 3 console_examples.session ≡ 97 ∷ 99 ∷ 10 ∷ [] }
@@ -130,4 +130,5 @@ pub fn console_calls()
     ensures long_write { printed console_examples.long_write ≡ console_examples.long_write_lines }
     ensures killed_reader { printed console_examples.killed_reader ≡ console_examples.killed_reader_lines }
     ensures killed_reader_console { console_line (outcome_of console_examples.killed_reader).state.parts.devices.console ≡ console_examples.killed_reader_console }
+    ensures opened_by_name { printed console_examples.opened_by_name ≡ console_examples.opened_by_name_lines }
 {}

@@ -55,3 +55,7 @@ on_ports_and_pools = record on_ports { pools = true }
 -- the console
 abbrev pub on_console : Footprint
 on_console = record on_tables { console = true }
+
+-- the name space
+abbrev pub on_names : Footprint
+on_names = record on_tables { names = true }

@@ -1,4 +1,5 @@
--- The name space: mounted prefixes, and what they make of a name (book, chapter 21).
+-- The name space: mounted prefixes, what they make of a name, and the calls on it (book, chapter 21).
+pub mod Calls
 pub mod Constants
 pub mod Mapping
 pub mod Mounting

@@ -1,10 +1,11 @@
--- When the machine starts, what holds of the console holds: it is empty, and nobody is in a call on it.
+-- When the machine starts, what holds of the devices holds: the console is empty, nobody is in a call on it, and nothing is mounted.
 use Rattle.std.proofs.Common.{◌≡◌, ℕ, zero, suc, List, false, refl, sym, subst, inl, arith}
 use Rattle.xinu_base.specs.declared.processes.Process.{Process}
 use Rattle.xinu_model.specs.Boot.{Loaded, first_semaphores, null_tables, Boots, boot}
 use Rattle.xinu_model.specs.Console.State.{first_console}
 use Rattle.xinu_model.specs.Footprints.{on_processes}
 use Rattle.xinu_model.specs.Machine.{Xinu}
+use Rattle.xinu_model.specs.Names.Sound.{AreSoundNames}
 use Rattle.xinu_model.specs.Sound.Console.{promised, HasSpan, IsConsole}
 use Rattle.xinu_model.specs.Sound.Devices.{AreDevices}
 use Rattle.xinu_model.specs.Sound.Tables.{asks_input, asks_output, IsInside}
@@ -41,4 +42,5 @@ devices_start images start e inside =
     let t = touches_start start_reached images start e in
     record {
       console = subst (IsConsole start.tables) (sym (t.parts.devices.console refl)) (console_framed null_tables start.tables first_console inside t.frame first_console_holds);
+      names = subst AreSoundNames (sym (t.parts.devices.names refl)) (record { few = omega arith; row = tt });
     }

@@ -1,5 +1,5 @@
 -- A call on a device keeps what the call on its kind keeps.
-use Rattle.std.proofs.Common.{ℕ, List, [], Option, Some, None, ℤ}
+use Rattle.std.proofs.Common.{ℕ, List, Option, Some, None, ℤ}
 use Rattle.std.proofs.lemmas.Bool.{cond_both}
 use Rattle.xinu_base.specs.Constants.{OK}
 use Rattle.xinu_base.specs.declared.devices.Kind.{Kind}
@@ -7,11 +7,14 @@ use Rattle.xinu_base.specs.declared.devices.Kind.TheVariants as kind
 use Rattle.xinu_base.specs.declared.devices.Op.{Op}
 use Rattle.xinu_base.specs.declared.devices.Op.TheVariants as op
 use Rattle.xinu_laws.specs.Touches.{reach, Touches}
-use Rattle.xinu_model.specs.Devices.Calls.{on_kind, on_device, open_as, open_with, open_texts, device_open, close_as, device_close, read_as, device_read, write_as, device_write, getc_as, device_getc, putc_as, device_putc, seek_as, device_seek, control_as, device_control}
+use Rattle.xinu_model.specs.Devices.Calls.{on_kind, on_device, open_direct, open_mapped, open_with, open_texts, device_open, close_as, device_close, read_as, device_read, write_as, device_write, getc_as, device_getc, putc_as, device_putc, seek_as, device_seek, control_as, device_control}
 use Rattle.xinu_model.specs.Devices.Table.{kind_of, offers}
 use Rattle.xinu_model.specs.Devices.Texts.{text_at}
 use Rattle.xinu_model.specs.Footprints.{on_tables, on_console}
 use Rattle.xinu_model.specs.Machine.{Xinu, CallResult, refused}
+use Rattle.xinu_model.specs.Names.Calls.{names_of}
+use Rattle.xinu_model.specs.Names.Mapping.{MappedName, map_name}
+use Rattle.xinu_model.specs.Semaphores.Calls.{answers}
 use Rattle.xinu_laws.proofs.Consoles.Kept.{Holds, HasConsole, KeepsConsole, sound_holds, answers_keeps, refused_keeps}
 use Rattle.xinu_laws.proofs.Consoles.Put.{putc_keeps, write_keeps}
 use Rattle.xinu_laws.proofs.Consoles.Signalled.{console_control_keeps}
@@ -27,23 +30,32 @@ on_device_holds P call dev does s none each = by_kind (kind_of dev)
     by_kind None = none
     by_kind (Some k) = cond_both (offers k call) (does k s) (refused s) P (λ _. each k) (λ _. none)
 
--- the console is opened, or nothing is
-open_holds : (P : CallResult → Type 0) (s : Xinu) → P (refused s) → P (open_as kind.Console [] [] s)
-    → (k : Kind) (name mode : Option (List ℕ)) → P (open_with k name mode s)
-open_holds P s none opened k None mode = none
-open_holds P s none opened k (Some name) None = none
-open_holds P s none opened kind.Console (Some name) (Some mode) = opened
-open_holds P s none opened kind.NameSpace (Some name) (Some mode) = none
-open_holds P s none opened kind.RawDisk (Some name) (Some mode) = none
-open_holds P s none opened kind.FileSystem (Some name) (Some mode) = none
-open_holds P s none opened kind.File (Some name) (Some mode) = none
-
--- What holds of a refusal and of an answer of 0 holds of `open` and `close`,
-pub device_open_holds : (P : CallResult → Type 0) (dev name mode : ℕ) (s : Xinu) → P (refused s) → P (open_as kind.Console [] [] s)
-    → P (device_open dev name mode s)
+-- What holds of a refusal and of an answer of 0 holds of `open`, whatever the name is mapped to,
+pub device_open_holds : (P : CallResult → Type 0) (dev name mode : ℕ) (s : Xinu) → P (refused s) → P (answers OK s) → P (device_open dev name mode s)
 device_open_holds P dev name mode s none opened =
-    on_device_holds P op.Open dev (open_texts name mode) s none (λ k. open_holds P s none opened k (text_at name s.memory) (text_at mode s.memory))
+    on_device_holds P op.Open dev (open_texts name mode) s none (λ k. with_texts k (text_at name s.memory) (text_at mode s.memory))
+  where
+    direct : (n m : List ℕ) (k : Kind) → P (open_direct n m k s)
+    direct n m kind.Console = opened
+    direct n m kind.NameSpace = none
+    direct n m kind.RawDisk = none
+    direct n m kind.FileSystem = none
+    direct n m kind.File = none
 
+    mapped : (found : Option MappedName) (m : List ℕ) → P (open_mapped found m s)
+    mapped None m = none
+    mapped (Some x) m = on_device_holds P op.Open x.device (open_direct x.name m) s none (direct x.name m)
+
+    with_texts : (k : Kind) (n m : Option (List ℕ)) → P (open_with k n m s)
+    with_texts k None m = none
+    with_texts k (Some n) None = none
+    with_texts kind.Console (Some n) (Some m) = opened
+    with_texts kind.NameSpace (Some n) (Some m) = mapped (map_name (names_of s) n) m
+    with_texts kind.RawDisk (Some n) (Some m) = none
+    with_texts kind.FileSystem (Some n) (Some m) = none
+    with_texts kind.File (Some n) (Some m) = none
+
+-- and of `close`,
 pub device_close_holds : (P : CallResult → Type 0) (dev : ℕ) (s : Xinu) → P (refused s) → P (close_as kind.Console s) → P (device_close dev s)
 device_close_holds P dev s none closed = on_device_holds P op.Close dev close_as s none each
   where

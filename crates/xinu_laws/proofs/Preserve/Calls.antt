@@ -10,6 +10,8 @@ use Rattle.xinu_model.specs.Console.Taking.{go_on_getc, go_on_read}
 use Rattle.xinu_model.specs.Footprints.{Footprint, on_tables, on_processes, on_pools, on_ports, on_console}
 use Rattle.xinu_model.specs.Machine.{Xinu, Answer, Returns, Waits, Gone, Panics, Silent, CallResult, replies_of, refused}
 use Rattle.xinu_model.specs.Messages.{go_on_receive}
+use Rattle.xinu_model.specs.Names.Calls.{names_of}
+use Rattle.xinu_model.specs.Names.Sound.{AreSoundNames}
 use Rattle.xinu_model.specs.Pools.Calls.{go_on_getbuf}
 use Rattle.xinu_model.specs.Ports.Calls.{go_on_ptsend, go_on_ptrecv}
 use Rattle.xinu_laws.specs.Preserve.{AreAlive, FitsAnswer, IsPreserved, KeepsAll, MayCall, MayCallAny}
@@ -27,6 +29,7 @@ use Rattle.xinu_laws.proofs.Consoles.Kept.{Holds, HasConsole, KeepsConsole}
 use Rattle.xinu_laws.proofs.Consoles.Put.{go_on_putc_keeps, go_on_write_keeps}
 use Rattle.xinu_laws.proofs.Consoles.Taken.{go_on_getc_keeps, go_on_read_keeps}
 use Rattle.xinu_laws.proofs.Devices.Kept.{Keeps, device_open_keeps, device_close_keeps, device_read_keeps, device_write_keeps, device_getc_keeps, device_putc_keeps, device_seek_keeps, device_control_keeps}
+use Rattle.xinu_laws.proofs.NameSpaces.Calls.{mount_preserves, mount_keeps_names}
 use Rattle.xinu_laws.proofs.Preserve.Continued.{continued_holds}
 use Rattle.xinu_laws.proofs.Preserve.Memory.{getmem_preserves, freemem_preserves, getstk_preserves, freestk_preserves}
 use Rattle.xinu_laws.proofs.Preserve.Messages.{send_preserves, receive_preserves, recvclr_preserves, recvtime_preserves, go_on_receive_preserves, yield_preserves, sleep_preserves, sleepms_preserves, clktime_preserves}
@@ -40,7 +43,7 @@ use Rattle.xinu_laws.proofs.Ports.Made.{PreservesPorts, ptcreate_on_ports}
 use Rattle.xinu_laws.proofs.Ports.Sends.{ptsend_on_ports, ptrecv_on_ports, go_on_ptsend_on_ports, go_on_ptrecv_on_ports}
 use Rattle.xinu_laws.proofs.Lists.RowByRow.{◌⨾◌}
 use Rattle.xinu_laws.proofs.Lists.CallRows.{of_row}
-use Rattle.xinu_laws.proofs.Touches.Kept.{keeps_pools, keeps_ports, keeps_console, keeps_unused}
+use Rattle.xinu_laws.proofs.Touches.Kept.{keeps_pools, keeps_ports, keeps_console, keeps_names, keeps_unused}
 use Rattle.xinu_laws.proofs.Preserve.Unused.{AreUnusedAfter, exit_unused, kill_unused, create_unused}
 use Rattle.xinu_laws.proofs.Tables.Alive.{alive_callers}
 use Rattle.xinu_laws.proofs.Touches.Messages.{go_on_receive_touches}
@@ -72,13 +75,13 @@ replies_alive h k = alive_callers h.answer h.call.state.tables h.call.released k
 pub keeps_within : (f : Footprint) (s : Xinu) (h : CallResult) → MayCallAny s → Touches (reach f) s h.call.state → IsPreserved h
     → (f.pools ≡ true → ArePools h.call.state.tables h.call.state.parts.pools)
     → (f.ports ≡ true → ArePorts h.call.state.tables h.call.state.parts.ports) → (f.stacks ≡ true → AreUnusedAfter h)
-    → (f.console ≡ true → HasConsole h.call.state) → KeepsAll h
-keeps_within f s h c t preserved pools ports unused console = record {
+    → (f.console ≡ true → HasConsole h.call.state) → (f.names ≡ true → AreSoundNames (names_of h.call.state)) → KeepsAll h
+keeps_within f s h c t preserved pools ports unused console names = record {
   preserved = preserved;
   unused = by_stacks f.stacks refl;
   pools = by_pools f.pools refl;
   ports = by_ports f.ports refl;
-  devices = record { console = by_console f.console refl };
+  devices = record { console = by_console f.console refl; names = by_names f.names refl };
 }
   where
     by_pools : (b : Bool) → f.pools ≡ b → ArePools h.call.state.tables h.call.state.parts.pools
@@ -97,6 +100,10 @@ keeps_within f s h c t preserved pools ports unused console = record {
     by_console true e = console e
     by_console false e = keeps_console e t (inside_preserved h preserved) c.devices.console
 
+    by_names : (b : Bool) → f.names ≡ b → AreSoundNames (names_of h.call.state)
+    by_names true e = names e
+    by_names false e = keeps_names e t c.devices.names
+
 -- what holds when a process calls
 may_hold : (s : Xinu) → MayCallAny s → Holds s
 may_hold s c = record { tables = c.may.tables; harts = c.may.harts }
@@ -110,82 +117,126 @@ pub record PreservesRow (r : CallRow) : Type 0 where
       → ArePorts (r.effect a s).call.state.tables (r.effect a s).call.state.parts.ports
   pub unused : r.touches.stacks ≡ true → (a : ℕ → ℕ) (s : Xinu) → MayCallAny s → AreUnusedAfter (r.effect a s)
   pub console : r.touches.console ≡ true → (a : ℕ → ℕ) (s : Xinu) → MayCallAny s → HasConsole (r.effect a s).call.state
+  pub names : r.touches.names ≡ true → (a : ℕ → ℕ) (s : Xinu) → MayCallAny s → AreSoundNames (names_of (r.effect a s).call.state)
 
--- whether a footprint names neither pools nor ports nor the console
+-- whether a footprint names no device
+abbrev names_no_device : Footprint → Bool
+names_no_device f = not f.console && not f.names
+
+-- and neither pools nor ports
 abbrev names_no_part : Footprint → Bool
-names_no_part f = not f.pools && (not f.ports && not f.console)
+names_no_part f = not f.pools && (not f.ports && names_no_device f)
 
 -- what a footprint doesn't name it doesn't name
 unnamed : (b : Bool) {P : Type 0} → not b ≡ true → b ≡ true → P
 unnamed true h e = absurd (cc)
 unnamed false h e = absurd (cc)
 
+-- no device is named
+no_console : (f : Footprint) {P : Type 0} → names_no_device f ≡ true → f.console ≡ true → P
+no_console f e = unnamed f.console (and_parts (not f.console) (not f.names) e).0
+
+no_names : (f : Footprint) {P : Type 0} → names_no_device f ≡ true → f.names ≡ true → P
+no_names f e = unnamed f.names (and_parts (not f.console) (not f.names) e).1
+
 module _ {r : CallRow} where
-  -- A call that touches no pool, no port and no console, and may make processes and end them.
+  -- A call that touches no pool, no port and no device, and may make processes and end them.
   of_processes : names_no_part r.touches ≡ true → ((a : ℕ → ℕ) (s : Xinu) → MayCall s → IsPreserved (r.effect a s))
       → ((a : ℕ → ℕ) (s : Xinu) → MayCallAny s → r.touches.stacks ≡ true → AreUnusedAfter (r.effect a s)) → PreservesRow r
   of_processes e preserved unused =
-      let h = and_parts (not r.touches.pools) (not r.touches.ports && not r.touches.console) e in
-      let k = and_parts (not r.touches.ports) (not r.touches.console) h.1 in
+      let h = and_parts (not r.touches.pools) (not r.touches.ports && names_no_device r.touches) e in
+      let k = and_parts (not r.touches.ports) (names_no_device r.touches) h.1 in
       record {
         preserved = λ a s c. preserved a s c.may;
         pools = unnamed r.touches.pools h.0;
         ports = unnamed r.touches.ports k.0;
         unused = λ g a s c. unused a s c g;
-        console = unnamed r.touches.console k.1;
+        console = no_console r.touches k.1;
+        names = no_names r.touches k.1;
       }
 
-  -- A call that touches no pool, no port, no console and no stack.
+  -- A call that touches no pool, no port, no device and no stack.
   of_tables : names_no_part r.touches && not r.touches.stacks ≡ true → ((a : ℕ → ℕ) (s : Xinu) → MayCall s → IsPreserved (r.effect a s)) → PreservesRow r
   of_tables e preserved =
       let h = and_parts (names_no_part r.touches) (not r.touches.stacks) e in
       of_processes h.0 preserved (λ a s c g. unnamed r.touches.stacks h.1 g)
 
   -- A call that touches pools alone.
-  of_pools : not r.touches.ports && (not r.touches.stacks && not r.touches.console) ≡ true → ((a : ℕ → ℕ) (s : Xinu) → MayCallAny s → IsPreserved (r.effect a s))
+  of_pools : not r.touches.ports && (not r.touches.stacks && names_no_device r.touches) ≡ true
+      → ((a : ℕ → ℕ) (s : Xinu) → MayCallAny s → IsPreserved (r.effect a s))
       → ((a : ℕ → ℕ) (s : Xinu) → MayCallAny s → ArePools (r.effect a s).call.state.tables (r.effect a s).call.state.parts.pools)
       → PreservesRow r
   of_pools e preserved pools =
-      let h = and_parts (not r.touches.ports) (not r.touches.stacks && not r.touches.console) e in
-      let k = and_parts (not r.touches.stacks) (not r.touches.console) h.1 in
-      record { preserved = preserved; pools = λ _. pools; ports = unnamed r.touches.ports h.0; unused = unnamed r.touches.stacks k.0; console = unnamed r.touches.console k.1 }
+      let h = and_parts (not r.touches.ports) (not r.touches.stacks && names_no_device r.touches) e in
+      let k = and_parts (not r.touches.stacks) (names_no_device r.touches) h.1 in
+      record {
+        preserved = preserved;
+        pools = λ _. pools;
+        ports = unnamed r.touches.ports h.0;
+        unused = unnamed r.touches.stacks k.0;
+        console = no_console r.touches k.1;
+        names = no_names r.touches k.1;
+      }
 
   -- A call that touches ports alone.
-  of_ports : not r.touches.pools && (not r.touches.stacks && not r.touches.console) ≡ true → ((a : ℕ → ℕ) (s : Xinu) → MayCallAny s → PreservesPorts (r.effect a s)) → PreservesRow r
+  of_ports : not r.touches.pools && (not r.touches.stacks && names_no_device r.touches) ≡ true
+      → ((a : ℕ → ℕ) (s : Xinu) → MayCallAny s → PreservesPorts (r.effect a s)) → PreservesRow r
   of_ports e k =
-      let h = and_parts (not r.touches.pools) (not r.touches.stacks && not r.touches.console) e in
-      let l = and_parts (not r.touches.stacks) (not r.touches.console) h.1 in
+      let h = and_parts (not r.touches.pools) (not r.touches.stacks && names_no_device r.touches) e in
+      let l = and_parts (not r.touches.stacks) (names_no_device r.touches) h.1 in
       record {
         preserved = λ a s c. (k a s c).preserved;
         pools = unnamed r.touches.pools h.0;
         ports = λ _ a s c. (k a s c).ports;
         unused = unnamed r.touches.stacks l.0;
-        console = unnamed r.touches.console l.1;
+        console = no_console r.touches l.1;
+        names = no_names r.touches l.1;
       }
 
   -- A call that touches both.
-  of_all : not r.touches.stacks && not r.touches.console ≡ true → ((a : ℕ → ℕ) (s : Xinu) → MayCallAny s → PreservesAll (r.effect a s)) → PreservesRow r
+  of_all : not r.touches.stacks && names_no_device r.touches ≡ true → ((a : ℕ → ℕ) (s : Xinu) → MayCallAny s → PreservesAll (r.effect a s)) → PreservesRow r
   of_all e k =
-      let h = and_parts (not r.touches.stacks) (not r.touches.console) e in
+      let h = and_parts (not r.touches.stacks) (names_no_device r.touches) e in
       record {
         preserved = λ a s c. (k a s c).preserved;
         pools = λ e a s c. (k a s c).pools;
         ports = λ e a s c. (k a s c).ports;
         unused = unnamed r.touches.stacks h.0;
-        console = unnamed r.touches.console h.1;
+        console = no_console r.touches h.1;
+        names = no_names r.touches h.1;
       }
 
   -- A call on a device, which touches the console at most.
-  of_devices : not r.touches.pools && (not r.touches.ports && not r.touches.stacks) ≡ true → ((a : ℕ → ℕ) → Keeps (r.effect a)) → PreservesRow r
-  of_devices e k =
-      let h = and_parts (not r.touches.pools) (not r.touches.ports && not r.touches.stacks) e in
-      let l = and_parts (not r.touches.ports) (not r.touches.stacks) h.1 in
+  of_console : not r.touches.pools && (not r.touches.ports && (not r.touches.stacks && not r.touches.names)) ≡ true → ((a : ℕ → ℕ) → Keeps (r.effect a))
+      → PreservesRow r
+  of_console e k =
+      let h = and_parts (not r.touches.pools) (not r.touches.ports && (not r.touches.stacks && not r.touches.names)) e in
+      let l = and_parts (not r.touches.ports) (not r.touches.stacks && not r.touches.names) h.1 in
+      let m = and_parts (not r.touches.stacks) (not r.touches.names) l.1 in
       record {
         preserved = λ a s c. (k a s (may_hold s c)).preserved c.may.not_null;
         pools = unnamed r.touches.pools h.0;
         ports = unnamed r.touches.ports l.0;
-        unused = unnamed r.touches.stacks l.1;
+        unused = unnamed r.touches.stacks m.0;
         console = λ _ a s c. (k a s (may_hold s c)).console c.devices.console;
+        names = unnamed r.touches.names m.1;
+      }
+
+  -- A call that touches the mounted prefixes alone.
+  of_names : not r.touches.pools && (not r.touches.ports && (not r.touches.stacks && not r.touches.console)) ≡ true
+      → ((a : ℕ → ℕ) (s : Xinu) → MayCall s → IsPreserved (r.effect a s))
+      → ((a : ℕ → ℕ) (s : Xinu) → AreSoundNames (names_of s) → AreSoundNames (names_of (r.effect a s).call.state)) → PreservesRow r
+  of_names e preserved names =
+      let h = and_parts (not r.touches.pools) (not r.touches.ports && (not r.touches.stacks && not r.touches.console)) e in
+      let l = and_parts (not r.touches.ports) (not r.touches.stacks && not r.touches.console) h.1 in
+      let m = and_parts (not r.touches.stacks) (not r.touches.console) l.1 in
+      record {
+        preserved = λ a s c. preserved a s c.may;
+        pools = unnamed r.touches.pools h.0;
+        ports = unnamed r.touches.ports l.0;
+        unused = unnamed r.touches.stacks m.0;
+        console = unnamed r.touches.console m.1;
+        names = λ _ a s c. names a s c.devices.names;
       }
 
 -- Each call of the table.
@@ -227,14 +278,15 @@ calls_preserve =
     of_all refl (λ a s c. ptreset_keeps (a 0) (a 1) s c.may c.pools c.ports) ⨾
     of_ports refl (λ a s c. ptsend_on_ports (a 0) (a 1) s c.may c.ports) ⨾
     of_ports refl (λ a s c. ptrecv_on_ports (a 0) s c.may c.ports) ⨾
-    of_devices refl (λ a. device_open_keeps (a 0) (a 1) (a 2)) ⨾
-    of_devices refl (λ a. device_close_keeps (a 0)) ⨾
-    of_devices refl (λ a. device_read_keeps (a 0) (a 1) (signed (a 2))) ⨾
-    of_devices refl (λ a. device_write_keeps (a 0) (a 1) (signed (a 2))) ⨾
-    of_devices refl (λ a. device_getc_keeps (a 0)) ⨾
-    of_devices refl (λ a. device_putc_keeps (a 0) (a 1 % 256)) ⨾
-    of_devices refl (λ a. device_seek_keeps (a 0) (signed (a 1))) ⨾
-    of_devices refl (λ a. device_control_keeps (a 0) (a 1) (a 2)) ⨾
+    of_console refl (λ a. device_open_keeps (a 0) (a 1) (a 2)) ⨾
+    of_console refl (λ a. device_close_keeps (a 0)) ⨾
+    of_console refl (λ a. device_read_keeps (a 0) (a 1) (signed (a 2))) ⨾
+    of_console refl (λ a. device_write_keeps (a 0) (a 1) (signed (a 2))) ⨾
+    of_console refl (λ a. device_getc_keeps (a 0)) ⨾
+    of_console refl (λ a. device_putc_keeps (a 0) (a 1 % 256)) ⨾
+    of_console refl (λ a. device_seek_keeps (a 0) (signed (a 1))) ⨾
+    of_console refl (λ a. device_control_keeps (a 0) (a 1) (a 2)) ⨾
+    of_names refl (λ a. mount_preserves (a 0) (a 1) (a 2)) (λ a. mount_keeps_names (a 0) (a 1) (a 2)) ⨾
     tt
 
 -- So each call keeps what holds of tables, pools and ports: the row of a number,
@@ -243,7 +295,7 @@ pub row_keeps : (number : ℕ) (r : CallRow) → found_in calls number ≡ Some 
 row_keeps number r e a s c =
     let t = of_row Stays calls calls_touch number r e in
     let k = of_row PreservesRow calls calls_preserve number r e in
-    keeps_within r.touches s (r.effect a s) c (t a s (sound_where_called s c)) (k.preserved a s c) (λ h. k.pools h a s c) (λ h. k.ports h a s c) (λ h. k.unused h a s c) (λ h. k.console h a s c)
+    keeps_within r.touches s (r.effect a s) c (t a s (sound_where_called s c)) (k.preserved a s c) (λ h. k.pools h a s c) (λ h. k.ports h a s c) (λ h. k.unused h a s c) (λ h. k.console h a s c) (λ h. k.names h a s c)
 
 -- a refusal,
 pub refused_keeps_all : (s : Xinu) → MayCallAny s → KeepsAll (refused s)
@@ -262,12 +314,12 @@ called_keeps number args s c = cond_both (is_built number) (call_of_number numbe
 
 -- the death of the caller,
 pub exit_keeps : (s : Xinu) → MayCallAny s → KeepsAll (exit s)
-exit_keeps s c = keeps_within on_processes s (exit s) c (exit_touches s (sound_where_called s c)) (exit_preserves s c.may) (λ e. absurd (cc)) (λ e. absurd (cc)) (λ _. exit_unused s c) (λ e. absurd (cc))
+exit_keeps s c = keeps_within on_processes s (exit s) c (exit_touches s (sound_where_called s c)) (exit_preserves s c.may) (λ e. absurd (cc)) (λ e. absurd (cc)) (λ _. exit_unused s c) (λ e. absurd (cc)) (λ e. absurd (cc))
 
 -- what is left of a call on the console,
 console_continues : (s : Xinu) (h : CallResult) {Left : Type 0} → MayCallAny s → Left → KeepsConsole (Left × HasConsole s) s h → KeepsAll h
 console_continues s h c left k =
-    keeps_within on_console s h c k.touches (k.preserved c.may.not_null) (λ e. absurd (cc)) (λ e. absurd (cc)) (λ e. absurd (cc)) (λ _. k.console (left, c.devices.console))
+    keeps_within on_console s h c k.touches (k.preserved c.may.not_null) (λ e. absurd (cc)) (λ e. absurd (cc)) (λ e. absurd (cc)) (λ _. k.console (left, c.devices.console)) (λ e. absurd (cc))
 
 -- and what is left of any call that waited.
 pub continued_keeps : (s : Xinu) → MayCallAny s → KeepsAll (continued (process_at s.tables s.tables.current).rest s)
@@ -275,13 +327,13 @@ continued_keeps s c =
     let k = sound_where_called s c in
     let m = may_hold s c in
     continued_holds KeepsAll (process_at s.tables s.tables.current).rest s
-    (keeps_within on_tables s (go_on_receive s) c (go_on_receive_touches s k) (go_on_receive_preserves s c.may) (λ e. absurd (cc)) (λ e. absurd (cc)) (λ e. absurd (cc)) (λ e. absurd (cc)))
-    (keeps_within on_tables s (go_on_suspend s) c (go_on_suspend_touches s k) (go_on_suspend_preserves s c.may) (λ e. absurd (cc)) (λ e. absurd (cc)) (λ e. absurd (cc)) (λ e. absurd (cc)))
-    (λ i e. keeps_within on_pools s (go_on_getbuf i s) c (go_on_getbuf_touches i s k) (go_on_getbuf_preserves i s c.may) (λ _. pools_go_on_getbuf i s c.may.tables c.pools e) (λ g. absurd (cc)) (λ g. absurd (cc)) (λ g. absurd (cc)))
+    (keeps_within on_tables s (go_on_receive s) c (go_on_receive_touches s k) (go_on_receive_preserves s c.may) (λ e. absurd (cc)) (λ e. absurd (cc)) (λ e. absurd (cc)) (λ e. absurd (cc)) (λ e. absurd (cc)))
+    (keeps_within on_tables s (go_on_suspend s) c (go_on_suspend_touches s k) (go_on_suspend_preserves s c.may) (λ e. absurd (cc)) (λ e. absurd (cc)) (λ e. absurd (cc)) (λ e. absurd (cc)) (λ e. absurd (cc)))
+    (λ i e. keeps_within on_pools s (go_on_getbuf i s) c (go_on_getbuf_touches i s k) (go_on_getbuf_preserves i s c.may) (λ _. pools_go_on_getbuf i s c.may.tables c.pools e) (λ g. absurd (cc)) (λ g. absurd (cc)) (λ g. absurd (cc)) (λ g. absurd (cc)))
     (λ ticket message e. let p = go_on_ptsend_on_ports ticket message s c.may c.ports e in
-    keeps_within on_ports s (go_on_ptsend ticket message s) c (go_on_ptsend_touches ticket message s k) p.preserved (λ g. absurd (cc)) (λ _. p.ports) (λ g. absurd (cc)) (λ g. absurd (cc)))
+    keeps_within on_ports s (go_on_ptsend ticket message s) c (go_on_ptsend_touches ticket message s k) p.preserved (λ g. absurd (cc)) (λ _. p.ports) (λ g. absurd (cc)) (λ g. absurd (cc)) (λ g. absurd (cc)))
     (λ ticket e. let p = go_on_ptrecv_on_ports ticket s c.may c.ports e in
-    keeps_within on_ports s (go_on_ptrecv ticket s) c (go_on_ptrecv_touches ticket s k) p.preserved (λ g. absurd (cc)) (λ _. p.ports) (λ g. absurd (cc)) (λ g. absurd (cc)))
+    keeps_within on_ports s (go_on_ptrecv ticket s) c (go_on_ptrecv_touches ticket s k) p.preserved (λ g. absurd (cc)) (λ _. p.ports) (λ g. absurd (cc)) (λ g. absurd (cc)) (λ g. absurd (cc)))
     (λ e. console_continues s (go_on_getc s) c e (go_on_getc_keeps s m))
     (λ part e. console_continues s (go_on_read part s) c e (go_on_read_keeps part s m))
     (λ b returned e. console_continues s (go_on_putc b returned s) c e (go_on_putc_keeps b returned s m))

@@ -27,7 +27,7 @@ use Rattle.xinu_laws.proofs.Touches.Events.{touches_end_of_event, released_by_ti
 use Rattle.xinu_laws.proofs.Consoles.Kept.{sound_holds}
 use Rattle.xinu_laws.proofs.Consoles.Signalled.{Signals, receiving_signals, sending_signals}
 use Rattle.xinu_laws.proofs.Consoles.Started.{devices_start}
-use Rattle.xinu_laws.proofs.Touches.Kept.{keeps_pools, keeps_ports, keeps_console, keeps_unused}
+use Rattle.xinu_laws.proofs.Touches.Kept.{keeps_pools, keeps_ports, keeps_console, keeps_names, keeps_unused}
 use Rattle.xinu_model.specs.Footprints.{on_tables}
 use Rattle.xinu_laws.specs.Touches.{reach, at_a_tick, Touches}
 use Rattle.xinu_laws.proofs.Tables.Ends.{sound_end_of_event, harts_end_of_event, harts_ticked, executed_may_call}
@@ -54,7 +54,7 @@ state_end_of_event was first result k =
       unused = keeps_unused (touches.free refl) k.unused;
       pools = keeps_pools refl touches k.pools;
       ports = keeps_ports refl touches tables.inside k.ports;
-      devices = record { console = keeps_console refl touches tables.inside k.devices.console };
+      devices = record { console = keeps_console refl touches tables.inside k.devices.console; names = keeps_names refl touches k.devices.names };
     }
 
 -- a process that isn't the null process may call in a sound state
@@ -100,7 +100,7 @@ state_ticked s k =
       unused = keeps_unused (touches.free refl) k.unused;
       pools = keeps_pools {f = on_tables} refl touches k.pools;
       ports = keeps_ports {f = on_tables} refl touches tables.inside k.ports;
-      devices = record { console = keeps_console {f = on_tables} refl touches tables.inside k.devices.console };
+      devices = record { console = keeps_console {f = on_tables} refl touches tables.inside k.devices.console; names = keeps_names {f = on_tables} refl touches k.devices.names };
     }
 
 -- And so does what is under way at its end.
@@ -123,7 +123,7 @@ signals_keep_all s d k r = record {
   unused = keeps_unused (r.touches.free refl) k.unused;
   pools = keeps_pools refl r.touches k.pools;
   ports = keeps_ports refl r.touches r.tables.inside k.ports;
-  devices = record { console = r.console k.devices.console };
+  devices = record { console = r.console k.devices.console; names = keeps_names refl r.touches k.devices.names };
 }
 
 -- a received character keeps the state sound,

@@ -4,7 +4,7 @@ use Rattle.xinu_model.specs.Boot.{first_semaphores}
 use Rattle.xinu_model.specs.Calls.{calls}
 use Rattle.xinu_model.specs.Ports.Queues.{first_ports}
 use Rattle.xinu_model.specs.Text.{console_line}
-use Rattle.xinu_laws.specs.Examples.Consoles.{session, session_lines, bytes_at, raw_read, raw_read_lines, raw_console_line, read_all, read_all_lines, newline_put, newline_put_lines, console_replies, console_replies_lines, long_write, long_write_lines, killed_reader, killed_reader_lines, killed_reader_console}
+use Rattle.xinu_laws.specs.Examples.Consoles.{session, session_lines, bytes_at, raw_read, raw_read_lines, raw_console_line, read_all, read_all_lines, newline_put, newline_put_lines, console_replies, console_replies_lines, long_write, long_write_lines, killed_reader, killed_reader_lines, killed_reader_console, opened_by_name, opened_by_name_lines}
 use Rattle.xinu_laws.specs.Examples.Played.{outcome_of, printed}
 
 pub prints_session : printed session ≡ session_lines
@@ -50,3 +50,7 @@ prints_killed_reader = refl
 pub shows_killed_reader : console_line (outcome_of killed_reader).state.parts.devices.console ≡ killed_reader_console
 unfolding outcome_of calls first_semaphores first_ports
 shows_killed_reader = refl
+
+pub prints_opened_by_name : printed opened_by_name ≡ opened_by_name_lines
+unfolding outcome_of calls first_semaphores first_ports
+prints_opened_by_name = refl

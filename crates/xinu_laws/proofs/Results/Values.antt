@@ -23,6 +23,7 @@ use Rattle.xinu_model.specs.Rows.{CallRow, found_in, done_by}
 use Rattle.xinu_laws.specs.Refusals.{first_of, value_of, row_value, value_told}
 use Rattle.xinu_laws.proofs.Results.Refusals.{TellsRefusal, answer_tells, create_tells, kill_tells, granted_tells, given_back_tells, stacked_tells, semcreate_tells, guarded_tells, semreset_tells, wait_tells, signal_tells, signaln_tells, sleep_tells, sleepms_tells, mkbufpool_tells, getbuf_tells, freed_by_tells, ptcreate_tells, deleted_tells, reset_tells, fresh_ticket, sent_to_tells}
 use Rattle.xinu_laws.proofs.Devices.Told.{device_open_tells, device_close_tells, device_read_tells, device_write_tells, device_getc_tells, device_putc_tells, device_seek_tells, device_control_tells}
+use Rattle.xinu_laws.proofs.NameSpaces.Calls.{mount_tells}
 use Rattle.xinu_laws.proofs.Lists.CallRows.{of_row}
 use Rattle.xinu_laws.proofs.Lists.RowByRow.{◌⨾◌}
 
@@ -165,6 +166,7 @@ calls_tell =
     (λ a s k l. status_tells (device_putc_tells (a 0) (a 1 % 256) s)) ⨾
     (λ a s k l. status_tells (device_seek_tells (a 0) (signed (a 1)) s)) ⨾
     (λ a s k l. status_tells (device_control_tells (a 0) (a 1) (a 2) s)) ⨾
+    (λ a s k l. status_tells (mount_tells (a 0) (a 1) (a 2) s)) ⨾
     tt
 
 -- A call of any number that answers -1 was refused, or that is its value.

@@ -9,6 +9,7 @@ use Rattle.xinu_model.specs.Footprints.{Footprint}
 use Rattle.xinu_model.specs.Machine.{Xinu}
 use Rattle.xinu_model.specs.Sound.Tables.{IsInside}
 use Rattle.xinu_model.specs.Sound.Pools.{ArePools}
+use Rattle.xinu_model.specs.Names.Sound.{AreSoundNames}
 use Rattle.xinu_model.specs.Sound.Ports.{ArePorts}
 use Rattle.xinu_model.specs.Sound.Console.{IsConsole}
 use Rattle.xinu_model.specs.Sound.State.{AreUnused}
@@ -69,6 +70,11 @@ module _ {f : Footprint} {s u : Xinu} where
       → IsConsole s.tables s.parts.devices.console → IsConsole u.tables u.parts.devices.console
   keeps_console e t o k = subst (IsConsole u.tables) (sym (t.parts.devices.console e))
       (console_framed s.tables u.tables s.parts.devices.console o (frame_weaker s.tables u.tables (console_spared f e) (console_calls_spared f e) t.frame) k)
+
+  -- A step that may not change the mounted prefixes keeps what holds of them.
+  pub keeps_names : {clock : Bool} → f.names ≡ false → Touches (record (reach f) { clock = clock }) s u → AreSoundNames s.parts.devices.names
+      → AreSoundNames u.parts.devices.names
+  keeps_names e t k = subst AreSoundNames (sym (t.parts.devices.names e)) k
 
 -- If nobody dies free numbers keep their registers.
 pub keeps_unused : {s u : Xinu} → KeepsFree s u → AreUnused s.tables s.harts → AreUnused u.tables u.harts

@@ -11,6 +11,7 @@ use Rattle.xinu_model.specs.Words.{signed, half}
 use Rattle.xinu_laws.proofs.Lists.RowByRow.{◌⨾◌}
 use Rattle.xinu_laws.proofs.Lists.CallRows.{of_row}
 use Rattle.xinu_laws.proofs.Devices.Kept.{device_open_touches, device_close_touches, device_seek_touches, device_read_keeps, device_write_keeps, device_getc_keeps, device_putc_keeps, device_control_keeps, keeps_touch}
+use Rattle.xinu_laws.proofs.NameSpaces.Calls.{mount_touches}
 use Rattle.xinu_laws.proofs.Touches.{StaysIn}
 use Rattle.xinu_laws.proofs.Touches.Clock.{yield_touches, sleep_touches, sleepms_touches, clktime_touches}
 use Rattle.xinu_laws.proofs.Touches.Memory.{getmem_touches, freemem_touches, getstk_touches, freestk_touches}
@@ -71,6 +72,7 @@ calls_touch =
     (λ a. keeps_touch (device_putc_keeps (a 0) (a 1 % 256))) ⨾
     (λ a. device_seek_touches (a 0) (signed (a 1))) ⨾
     (λ a. keeps_touch (device_control_keeps (a 0) (a 1) (a 2))) ⨾
+    (λ a. mount_touches (a 0) (a 1) (a 2)) ⨾
     tt
 
 -- The call of a number that has a row stays within the row's footprint.

@@ -1,9 +1,9 @@
--- Examples: the console as processes call it.
-use Rattle.std.specs.Prelude.{ℕ, List, [], ◌∷◌, pos, negsuc, replicate, take, drop, false}
+-- Examples: the console and the name space as processes call them.
+use Rattle.std.specs.Prelude.{ℕ, List, [], ◌∷◌, ◌++◌, pos, negsuc, replicate, take, drop, false}
 use Rattle.xinu_base.specs.declared.console.TtyMode.TheVariants.{Raw, Cooked}
 use Rattle.xinu_base.specs.declared.lines.TranscriptLine.{TranscriptLine}
 use Rattle.xinu_base.specs.declared.lines.TranscriptLine.TheVariants.{Call, Return, Switch, Con, Console}
-use Rattle.xinu_laws.specs.Examples.NamedCalls.{sys_open, sys_close, sys_read, sys_write, sys_getc, sys_putc, sys_seek, sys_control, sys_kill, minus_one}
+use Rattle.xinu_laws.specs.Examples.NamedCalls.{sys_open, sys_close, sys_read, sys_write, sys_getc, sys_putc, sys_seek, sys_control, sys_kill, sys_mount, minus_one}
 use Rattle.xinu_laws.specs.Examples.Played.{Example, Steps, Types, Sends, system, outcome_of}
 use Rattle.xinu_model.specs.Machine.{Xinu}
 
@@ -124,3 +124,22 @@ killed_reader_lines =
 
 abbrev pub killed_reader_console : TranscriptLine
 killed_reader_console = Console Cooked 1 0 0 4 false
+
+-- A prefix is mounted for the console, which is opened by that name. Refused are an open by a name that no prefix begins, a mount for a device
+-- that there isn't, and one of a text that isn't there.
+abbrev pub opened_by_name : Example
+opened_by_name = record {
+  start = record (system (20 ∷ []) 4096 8) { memory = replicate 8 0 ++ 99 ∷ replicate 2091 0 };
+  programs =
+      (sys_open 1 8 16 ∷ sys_mount 8 16 0 ∷ sys_open 1 8 16 ∷ sys_open 1 16 16 ∷ sys_mount 8 16 10 ∷ sys_mount 2100 16 0 ∷ sys_close 1 ∷ []) ∷
+      [];
+  turns = Steps 100 ∷ [];
+}
+
+abbrev pub opened_by_name_lines : List TranscriptLine
+opened_by_name_lines =
+    Switch 1 ∷ Call 1 (sys_open 1 8 16) ∷ Return 1 (negsuc 0) ∷ Call 1 (sys_mount 8 16 0) ∷ Return 1 (pos 0) ∷
+    Call 1 (sys_open 1 8 16) ∷ Return 1 (pos 0) ∷ Call 1 (sys_open 1 16 16) ∷ Return 1 (negsuc 0) ∷
+    Call 1 (sys_mount 8 16 10) ∷ Return 1 (negsuc 0) ∷ Call 1 (sys_mount 2100 16 0) ∷ Return 1 (negsuc 0) ∷
+    Call 1 (sys_close 1) ∷ Return 1 (negsuc 0) ∷
+    []

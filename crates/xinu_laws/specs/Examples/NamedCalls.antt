@@ -141,3 +141,6 @@ sys_seek dev n = numbered 42 (dev ∷ n ∷ [])
 
 abbrev pub sys_control : ℕ → ℕ → ℕ → Call
 sys_control dev f x = numbered 43 (dev ∷ f ∷ x ∷ [])
+
+abbrev pub sys_mount : ℕ → ℕ → ℕ → Call
+sys_mount prefix replacement dev = numbered 44 (prefix ∷ replacement ∷ dev ∷ [])

@@ -1,5 +1,5 @@
--- The calls on devices: each goes to the device that its first argument names, if that offers it (book, chapter 14). The name space, the raw
--- disk, the file system and files have no calls yet.
+-- The calls on devices: each goes to the device that its first argument names, if that offers it (book, chapter 14). The raw disk, the file
+-- system and files have no calls yet.
 use Rattle.std.specs.Prelude.{ℕ, ◌%◌, if◌then◌else◌, List, [], ◌∷◌, Option, Some, None, ℤ, codes}
 use Rattle.xinu_base.specs.Constants.{OK}
 use Rattle.xinu_base.specs.Syscalls.{syscall}
@@ -12,8 +12,10 @@ use Rattle.xinu_model.specs.Console.Signals.{console_control}
 use Rattle.xinu_model.specs.Console.Taking.{console_getc, console_read}
 use Rattle.xinu_model.specs.Devices.Table.{kind_of, offers}
 use Rattle.xinu_model.specs.Devices.Texts.{text_at}
-use Rattle.xinu_model.specs.Footprints.{on_tables, on_console}
+use Rattle.xinu_model.specs.Footprints.{on_tables, on_console, on_names}
 use Rattle.xinu_model.specs.Machine.{Xinu, CallResult, refused}
+use Rattle.xinu_model.specs.Names.Calls.{mount, names_of}
+use Rattle.xinu_model.specs.Names.Mapping.{MappedName, map_name}
 use Rattle.xinu_model.specs.Rows.{Status, CallRow, row}
 use Rattle.xinu_model.specs.Semaphores.Calls.{answers}
 use Rattle.xinu_model.specs.Words.{signed}
@@ -27,10 +29,20 @@ on_kind call (Some k) does s = if offers k call then does k s else refused s
 abbrev pub on_device : Op → ℕ → (Kind → Xinu → CallResult) → Xinu → CallResult
 on_device call dev does s = on_kind call (kind_of dev) does s
 
--- `open` by what the device is, with the texts of a name and a mode
+-- `open` of a device that isn't the name space, with the texts of a name and a mode
+abbrev pub open_direct : List ℕ → List ℕ → Kind → Xinu → CallResult
+open_direct name mode kind.Console s = answers OK s
+open_direct name mode _ s = refused s
+
+-- `open` of what a name is mapped to, if it is mapped
+abbrev pub open_mapped : Option MappedName → List ℕ → Xinu → CallResult
+open_mapped None mode s = refused s
+open_mapped (Some m) mode s = on_device op.Open m.device (open_direct m.name mode) s
+
+-- `open` by what the device is; the name space opens what the name is mapped to
 abbrev pub open_as : Kind → List ℕ → List ℕ → Xinu → CallResult
-open_as kind.Console name mode s = answers OK s
-open_as _ name mode s = refused s
+open_as kind.NameSpace name mode s = open_mapped (map_name (names_of s) name) mode s
+open_as k name mode s = open_direct name mode k s
 
 -- the same, if both texts are there
 abbrev pub open_with : Kind → Option (List ℕ) → Option (List ℕ) → Xinu → CallResult
@@ -118,4 +130,5 @@ device_calls =
     row (syscall 41 (codes "putc") 2) on_console Status (λ a s. device_putc (a 0) (a 1 % 256) s) ∷
     row (syscall 42 (codes "seek") 2) on_tables Status (λ a s. device_seek (a 0) (signed (a 1)) s) ∷
     row (syscall 43 (codes "control") 3) on_console Status (λ a s. device_control (a 0) (a 1) (a 2) s) ∷
+    row (syscall 44 (codes "mount") 3) on_names Status (λ a s. mount (a 0) (a 1) (a 2) s) ∷
     []

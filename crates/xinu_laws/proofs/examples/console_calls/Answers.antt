@@ -1,4 +1,4 @@
-use Rattle.xinu_laws.proofs.Results.ComputedConsoles.{prints_session, stores_session, prints_raw_read, stores_raw_read, shows_raw_read, prints_read_all, prints_newline_put, prints_console_replies, prints_long_write, prints_killed_reader, shows_killed_reader}
+use Rattle.xinu_laws.proofs.Results.ComputedConsoles.{prints_session, stores_session, prints_raw_read, stores_raw_read, shows_raw_read, prints_read_all, prints_newline_put, prints_console_replies, prints_long_write, prints_killed_reader, shows_killed_reader, prints_opened_by_name}
 use Rattle.xinu_laws.proofs.examples.console_calls.Goals as goal
 
 pub returns : goal.returns
@@ -14,4 +14,5 @@ returns c = record {
   long_write = prints_long_write;
   killed_reader = prints_killed_reader;
   killed_reader_console = shows_killed_reader;
+  opened_by_name = prints_opened_by_name;
 }
