@@ -46,7 +46,13 @@ at_row rows t c row is P read h =
 -- ---- the commands without actions
 
 run_read : (rows : List Row) (t : Taken) → Holds run_options rows t → run_from t ≡ run_in (fold with_default rows (rules run_options))
-run_read rows t h = rw (value_read run_options rows t h (codes "schedule") _ refl refl refl refl, args_read run_options rows t h refl) refl
+run_read rows t h =
+    rw (
+      value_read run_options rows t h (codes "schedule") _ refl refl refl refl,
+      flag_read run_options rows t h
+          (codes "plain") _ refl refl refl,
+      args_read run_options rows t h refl,
+    ) refl
 
 asm_read : (rows : List Row) (t : Taken) → Holds asm_options rows t → asm_from t ≡ asm_in (fold with_default rows (rules asm_options))
 asm_read rows t h =

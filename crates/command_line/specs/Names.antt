@@ -12,7 +12,7 @@ use Rattle.command_line.specs.declared.command.Command.{Command}
 use Rattle.command_line.specs.declared.command.Command.TheVariants as command
 
 abbrev pub run_names : RunFiles → RunNames
-run_names r = record { schedule = r.schedule.now; images = map (λ s. s.now) r.images.items }
+run_names r = record { schedule = r.schedule.now; images = map (λ s. s.now) r.images.items; plain = r.plain }
 
 abbrev pub asm_names : AsmFiles → AsmNames
 asm_names a = record { source = a.source.now; out = a.out.now; elf = a.elf }

@@ -62,12 +62,12 @@ disk_app = with_commands (program_app (codes "disk")) actions
 abbrev pub args_in : List Row → List Text
 args_in rows = unwrap_or (all_of (codes "arg") rows) []
 
-abbrev pub run_in : List Row → Option RunFiles
-run_in rows = run_of (first_of (codes "schedule") rows) (args_in rows)
-
 -- whether a flag was given: its value is `true` then
 abbrev pub flag_in : Text → List Row → Bool
 flag_in name rows = option_map_or (bytes_eq (codes "true")) (first_of name rows) false
+
+abbrev pub run_in : List Row → Option RunFiles
+run_in rows = run_of (first_of (codes "schedule") rows) (flag_in (codes "plain") rows) (args_in rows)
 
 abbrev pub asm_in : List Row → Option AsmFiles
 asm_in rows = asm_of (first_of (codes "out") rows) (flag_in (codes "elf") rows) (args_in rows)

@@ -96,6 +96,7 @@ fn run_command<'a>(alloc: Global) -> Result<Command<'a>, AllocError>
 {
     Command::new(alloc, "run")
         .arg(valued(alloc, "schedule"))?
+        .arg(flag(alloc, "plain"))?
         .arg(args(alloc))
 }
 

@@ -92,6 +92,34 @@ fn a_run_has_one_to_eight_images(rt: HostRuntime) -> Result<(), Fail> {
     Ok(())
 }
 
+#[test]
+fn these_args_give_a_plain_run(rt: HostRuntime) -> Result<(), Fail> {
+    for (args, image, plain) in [
+        (["run", "--schedule", "s", "i"].as_slice(), "i", false),
+        (&["run", "--plain", "--schedule", "s", "i"], "i", true),
+        (&["run", "--schedule", "s", "--plain", "i"], "i", true),
+        (&["run", "--schedule=s", "i", "--plain"], "i", true),
+        (&["run", "i", "--plain", "--schedule", "s"], "i", true),
+        (&["run", "--plain", "--schedule", "s", "--", "i"], "i", true),
+        (
+            &["run", "--schedule", "s", "--", "--plain"],
+            "--plain",
+            false,
+        ),
+        (&["run", "--schedule", "s", "plain"], "plain", false),
+    ] {
+        let args = strings(rt.alloc(), args)?;
+        match command_of(rt.alloc(), args.as_slice()) {
+            Ok(Command::Run(files)) => {
+                assert_eq!(rt; (files.schedule, files.plain), ("s", plain));
+                assert_eq!(rt; files.images.as_slice(), [image].as_slice());
+            }
+            _ => return Err("a run")?,
+        }
+    }
+    Ok(())
+}
+
 // An action as a line of words.
 fn words(alloc: Global, action: DiskAction<'_>) -> Result<String, Fail> {
     Ok(match action {
@@ -197,7 +225,6 @@ fn these_args_give_no_command(rt: HostRuntime) -> Result<(), Fail> {
         &["run", "--sched=s", "i"],
         &["run", "--schedules", "s", "i"],
         &["run", "-s", "s", "i"],
-        &["run", "--schedule", "s", "--plain", "i"],
         &["run", "--schedule", "s", "--disk0", "d", "i"],
         &["run", "--schedule", "s", "---", "i"],
         &["run", "--schedule", "s", "--=v", "i"],
@@ -212,6 +239,19 @@ fn these_args_give_no_command(rt: HostRuntime) -> Result<(), Fail> {
         &["run", "--schedule", "-x", "i"],
         &["run", "i"],
         &["run"],
+        // the plain output twice, with a value, in place of one, cut short, or where it isn't an option
+        &["run", "--schedule", "s", "--plain", "--plain", "i"],
+        &["run", "--plain", "--schedule", "s", "i", "--plain"],
+        &["run", "--schedule", "s", "--plain=", "i"],
+        &["run", "--schedule", "s", "--plain=x", "i"],
+        &["run", "--schedule", "--plain", "i"],
+        &["run", "--schedule", "s", "--plai", "i"],
+        &["run", "--schedule", "s", "-plain", "i"],
+        &["run", "--schedule", "s", "--plain"],
+        &["run", "--plain", "i"],
+        &["--plain", "run", "--schedule", "s", "i"],
+        &["asm", "s", "--out", "o", "--plain"],
+        &["disk", "check", "d", "--plain"],
         // an image too few or too many
         &["run", "--schedule", "s"],
         &["run", "--schedule", "s", "--"],
