@@ -10,7 +10,7 @@
 //! | `Kernel::new` | `few`: at most eight images | `booted`: idle in the state in which the images boot, or boot's own refusal; or `NoMemory` |
 //! | `current`, `is_done`, `call_of`, `released` | | the current process, whether nothing is left of its call, the call in its registers, the replies to released processes |
 //! | `instruction` | `idle`; `not_null`: the null process isn't current | `outcome`, `state`: those of `exec` |
-//! | `begin_core` | `idle`, `not_null` | `called`: what the row of the call's number gives; a number whose call isn't built is refused; `answer`: the answer is the row's |
+//! | `begin_core` | `idle`, `not_null`; `room`: the number of no port wraps | `called`: what the row of the call's number gives; a number whose call isn't built is refused; `answer`: the answer is the row's |
 //! | `go_on_core` | `idle`, `not_null`; `waits`: something is left of the call | `continued`: what the abstract machine's continuation gives; `answer` |
 //! | `die` | `idle`, `not_null` | `dies`: the caller's death, as `exit` |
 //! | `on_tick` | `idle`; `few`: the ticks don't wrap | `ticks`: the tick with its own reschedules |
@@ -31,8 +31,8 @@
 //! | 21 to 24, the receipt of a message | `message_calls.rt` |
 //! | 25 to 27 | `clock_calls.rt` |
 //!
-//! `is_built` of `xinu_base` says which are served. Ports are as at the start (`first_ports`), until their crate comes. The crate
-//! depends on `kernel_tables`, `freelist_memory`, `rv_hart`, `image_loader`, and on the laws of `xinu_laws`.
+//! `is_built` of `xinu_base` says which are served. The crate depends on `kernel_tables`, `freelist_memory`, `buffer_pools`, `ports`,
+//! `rv_hart`, `image_loader`, and on the laws of `xinu_laws`.
 #![tactic(auto)]
 
 mod boot;

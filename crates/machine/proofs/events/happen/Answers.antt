@@ -1,6 +1,7 @@
-use Rattle.std.proofs.Common.{◌∙◌, ap, arith, sym}
+use Rattle.std.proofs.Common.{◌∙◌, ap, arith, subst, sym}
 use Rattle.xinu_base.specs.declared.events.Event.TheVariants.{Step, Tick}
 use Rattle.xinu_laws.proofs.Touches.ClockEvents.{ticks_stepped, ticks_ticked}
+use Rattle.xinu_laws.proofs.Touches.PortEvents.{RisesOnce, stepped_once, ticked_once}
 use Rattle.xinu_model.specs.Machine.{EventResult, Xinu}
 use Rattle.machine.proofs.Happenings.{effect_is, happened, nothing_printed, other_does, printed_as}
 use Rattle.machine.proofs.events.happen.Goals as goal
@@ -15,6 +16,7 @@ returns-in-Step g c =
       idle = c.step.ensures.idle;
       sound = c.step.ensures.sound;
       ticks = (let e = sym (ap (λ (x : Xinu). x.tables.ticks) c.step.ensures.effect.state) ∙ ticks_stepped s c.requires.sound in omega arith);
+      numbers = subst (RisesOnce s) c.step.ensures.effect.state (stepped_once s c.requires.sound);
     }
 
 pub returns-in-Tick-clause-happens : goal.returns-in-Tick-clause-happens
@@ -28,6 +30,10 @@ returns-in-Tick-clause-ticks g c =
     let s = c.args.kernel.now.call.state in
     let e = sym (ap (λ (x : Xinu). x.tables.ticks) c.tick.ensures.effect.state) ∙ ticks_ticked s in omega arith
 
+pub returns-in-Tick-clause-numbers : goal.returns-in-Tick-clause-numbers
+returns-in-Tick-clause-numbers g c =
+    let s = c.args.kernel.now.call.state in subst (RisesOnce s) c.tick.ensures.effect.state (ticked_once s c.requires.sound)
+
 pub returns-in_default : goal.returns-in_default
 returns-in_default g c =
     let s = c.args.kernel.now.call.state in
@@ -38,4 +44,5 @@ returns-in_default g c =
       idle = c.requires.idle;
       sound = c.requires.sound;
       ticks = omega arith;
+      numbers = λ q. omega arith;
     }
