@@ -11,6 +11,7 @@ ghost use Rattle.xinu_model.specs.Calls.{called, continued};
 ghost use Rattle.xinu_model.specs.Events.{call_of, with_executed};
 ghost use Rattle.xinu_model.specs.Isa.Exec.{exec};
 ghost use Rattle.xinu_model.specs.Machine.{current_hart, end_of_event, Silent, start};
+ghost use Rattle.xinu_model.specs.Sound.Pools.{ArePools};
 ghost use Rattle.xinu_model.specs.Sound.Tables.{IsSoundTables};
 ghost use Rattle.xinu_model.specs.Tables.{process_at, state_at};
 ghost use Rattle.xinu_model.specs.Words.{half, signed};
@@ -124,6 +125,7 @@ impl KernelState {
     pub(crate) fn begin(&mut self, call: Call) -> Next
         requires start { IsStart self.old }
         requires sound { IsSoundTables self.old.state.tables }
+        requires pools { ArePools self.old.state.tables self.old.state.parts.pools }
         requires not_null { self.old.state.tables.current ≢ 0 }
         ensures called { came_to self.new result ≡ called call.number call.args self.old.state }
     {
@@ -167,19 +169,24 @@ impl KernelState {
             25 => self.sleep(signed(a[0])),
             26 => self.sleepms(signed(a[0])),
             27 => self.clktime(),
+            28 => self.mkbufpool(a[0], a[1]),
+            29 => self.getbuf(a[0]),
+            30 => self.freebuf(a[0]),
             _ => Next::Returns(SYSERR),
         }
     }
 
-    /// Does what is left of the current process's call: the end of a self-suspension, or the receipt of a message.
+    /// Does what is left of the current process's call: the end of a self-suspension, a buffer, or the receipt of a message.
     pub(crate) fn go_on(&mut self) -> Next
         requires start { IsStart self.old }
-        requires runs { state_at self.old.state.tables self.old.state.tables.current ≡ State.Current }
+        requires sound { IsSoundTables self.old.state.tables }
+        requires pools { ArePools self.old.state.tables self.old.state.parts.pools }
         requires waits { (process_at self.old.state.tables self.old.state.tables.current).rest ≢ Rest.Nothing }
         ensures continued { came_to self.new result ≡ continued (process_at self.old.state.tables self.old.state.tables.current).rest self.old.state }
     {
         match self.tables.rest() {
             Rest::SelfSuspend => self.go_on_suspend(),
+            Rest::GetBuf(i) => self.go_on_getbuf(i),
             _ => self.go_on_receive(),
         }
     }
