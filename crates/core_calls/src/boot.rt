@@ -21,6 +21,7 @@ use buffer_pools::Pools;
 use freelist_memory::Heap;
 use image_loader::Image;
 use kernel_tables::KernelTables;
+use ports::Ports;
 use process_core::pid_at;
 use rv_hart::{Hart, RAM_SIZE, Ram};
 use std::alloc::Global;
@@ -75,6 +76,7 @@ impl KernelState {
         let low = 8 * end_of_all(images).div_ceil(8);
         let heap = Heap::new(alloc, low, RAM_SIZE)?;
         let pools = Pools::new(alloc)?;
+        let ports = Ports::new(alloc)?;
         let tables = KernelTables::new(alloc)?;
         Ok(KernelState {
             tables,
@@ -82,6 +84,7 @@ impl KernelState {
             ram,
             heap,
             pools,
+            ports,
             replies: Replies::new(),
             owes_resched: false,
         })

@@ -2,14 +2,14 @@
 //!
 //! It depends on the kernel's state. What each call of the abstract machine keeps is kept true at each moment.
 
-ghost use Rattle.std.specs.Prelude.{◌≡◌, ◌≢◌, ◌<◌, ◌≤◌, length, ◌==◌, ◌↔◌, IsTrue, [], if◌then◌else◌, Some, None};
+ghost use Rattle.std.specs.Prelude.{ℕ, ◌≡◌, ◌≢◌, ◌<◌, ◌≤◌, length, ◌==◌, ◌↔◌, IsTrue, [], if◌then◌else◌, Some, None};
 ghost use Rattle.core_calls.specs.Results.{answer_of, came_to, idle, IsIdle, IsStart, switched_to};
 ghost use Rattle.xinu_laws.specs.Preserve.{ticking};
 ghost use Rattle.xinu_model.specs.Calls.{called, continued};
 ghost use Rattle.xinu_model.specs.Events as events;
 ghost use Rattle.xinu_model.specs.Isa.Exec.{exec};
 ghost use Rattle.xinu_model.specs.Machine as model;
-ghost use Rattle.xinu_model.specs.Ports.Queues.{first_ports};
+ghost use Rattle.xinu_model.specs.Ports.Queues.{port_at};
 ghost use Rattle.xinu_model.specs.Process.Death.{exit};
 ghost use Rattle.xinu_model.specs.Sound.State.{IsSound};
 ghost use Rattle.xinu_model.specs.Tables.{process_at};
@@ -19,6 +19,7 @@ use crate::state::KernelState;
 use buffer_pools::Pools;
 use freelist_memory::Heap;
 use kernel_tables::KernelTables;
+use ports::Ports;
 use rv_hart::{Outcome, step};
 use std::marker::Model;
 use xinu_base::{Call, Next, Pid, Rest, State};
@@ -66,12 +67,18 @@ impl Kernel {
         self.state.heap()
     }
 
-    /// The buffer pools. No port was made so far.
+    /// The buffer pools.
     pub fn pools(&self) -> &Pools
         ensures pools { result.now ≡ self.now.call.state.parts.pools }
-        ensures ports { self.now.call.state.parts.ports ≡ first_ports }
     {
         self.state.pools()
+    }
+
+    /// The ports.
+    pub fn ports(&self) -> &Ports
+        ensures ports { result.now.ports ≡ self.now.call.state.parts.ports }
+    {
+        self.state.ports()
     }
 
     /// Whether nothing is left of the current process's call, so that its next step is an instruction.
@@ -104,6 +111,7 @@ impl Kernel {
     pub fn begin_core(&mut self, call: Call) -> Next
         requires idle { IsIdle self.old }
         requires not_null { self.old.call.state.tables.current ≢ 0 }
+        requires room { (q : ℕ) → (port_at self.old.call.state.parts.ports q).seq < 4294967295 }
         ensures called { self.new ≡ called call.number call.args self.old.call.state }
         ensures answer { self.new.answer ≡ answer_of result }
     {

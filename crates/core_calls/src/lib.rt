@@ -9,9 +9,9 @@
 //! |---|---|---|
 //! | `Kernel::new` | `few`: at most eight images | `booted`: idle in the state in which the images boot, or boot's own refusal; or `NoMemory` |
 //! | `current`, `is_done`, `call_of`, `released` | | the current process, whether nothing is left of its call, the call in its registers, the replies to released processes |
-//! | `tables`, `heap`, `pools` | | the parts of the state |
+//! | `tables`, `heap`, `pools`, `ports` | | the parts of the state |
 //! | `instruction` | `idle`; `not_null`: the null process isn't current | `outcome`, `state`: those of `exec` |
-//! | `begin_core` | `idle`, `not_null` | `called`: what the row of the call's number gives; a number whose call isn't built is refused; `answer`: the answer is the row's |
+//! | `begin_core` | `idle`, `not_null`; `room`: the number of no port wraps | `called`: what the row of the call's number gives; a number whose call isn't built is refused; `answer`: the answer is the row's |
 //! | `go_on_core` | `idle`, `not_null`; `waits`: something is left of the call | `continued`: what the abstract machine's continuation gives; `answer` |
 //! | `die` | `idle`, `not_null` | `dies`: the caller's death, as `exit` |
 //! | `on_tick` | `idle`; `few`: the ticks don't wrap | `ticks`: the tick with its own reschedules |
@@ -33,8 +33,8 @@
 //! | 25 to 27 | `clock_calls.rt` |
 //! | 28 to 30, the receipt of a buffer | `pool_calls.rt` |
 //!
-//! `is_built` of `xinu_base` says which are served. Ports are as at the start (`first_ports`), until their crate comes. The crate
-//! depends on `kernel_tables`, `freelist_memory`, `buffer_pools`, `rv_hart`, `image_loader`, and on the laws of `xinu_laws`.
+//! `is_built` of `xinu_base` says which are served. The crate depends on `kernel_tables`, `freelist_memory`, `buffer_pools`, `ports`,
+//! `rv_hart`, `image_loader`, and on the laws of `xinu_laws`.
 #![tactic(auto)]
 
 mod boot;

@@ -1,6 +1,8 @@
-//! The state of the kernel inside an event: tables, registers, RAM, heap and pools, the replies so far, and whether a resched is owed.
+//! The state of the kernel inside an event: tables, registers, RAM, heap, pools and ports, the replies so far, and whether a
+//! resched is owed.
 //!
-//! It depends on the kernel's tables, the processor core, the heap and the buffer pools. No fact is kept of it: the kernel keeps what holds of all of it.
+//! It depends on the kernel's tables, the processor core, the heap, the buffer pools and the ports. No fact is kept of it: the kernel keeps
+//! what holds of all of it.
 
 ghost use Rattle.std.specs.Prelude.{◌≡◌, ◌≢◌, ◌<◌, ◌==◌, ◌↔◌, IsTrue, [], None, Some, if◌then◌else◌};
 ghost use Rattle.core_calls.specs.Results.{answer_so_far, came_to, IsStart, switched_to};
@@ -9,7 +11,6 @@ ghost use Rattle.xinu_model.specs.Calls.{called, continued};
 ghost use Rattle.xinu_model.specs.Events.{call_of, with_executed};
 ghost use Rattle.xinu_model.specs.Isa.Exec.{exec};
 ghost use Rattle.xinu_model.specs.Machine.{current_hart, end_of_event, Silent, start};
-ghost use Rattle.xinu_model.specs.Ports.Queues.{first_ports};
 ghost use Rattle.xinu_model.specs.Sound.Pools.{ArePools};
 ghost use Rattle.xinu_model.specs.Sound.Tables.{IsSoundTables};
 ghost use Rattle.xinu_model.specs.Tables.{process_at, state_at};
@@ -20,6 +21,7 @@ use crate::replies::{Replies, answer_released, is_resched_due, write_all};
 use buffer_pools::Pools;
 use freelist_memory::Heap;
 use kernel_tables::KernelTables;
+use ports::Ports;
 use rv_hart::{Hart, Outcome, Ram, step};
 use std::marker::Model;
 use xinu_base::{Call, Next, Pid, Rest, SYSERR, State, is_built};
@@ -37,6 +39,8 @@ pub(crate) struct KernelState {
     pub(crate) heap: Heap,
     /// The buffer pools.
     pub(crate) pools: Pools,
+    /// The ports.
+    pub(crate) ports: Ports,
     /// The replies to processes that were released in this event.
     pub(crate) replies: Replies,
     /// Whether a resched is owed at the end of the event.
@@ -78,9 +82,15 @@ impl KernelState {
     /// The buffer pools.
     pub(crate) fn pools(&self) -> &Pools
         ensures pools { result.now ≡ self.now.state.parts.pools }
-        ensures ports { self.now.state.parts.ports ≡ first_ports }
     {
         &self.pools
+    }
+
+    /// The ports.
+    pub(crate) fn ports(&self) -> &Ports
+        ensures ports { result.now.ports ≡ self.now.state.parts.ports }
+    {
+        &self.ports
     }
 
     /// Whether nothing is left of the current process's call.

@@ -1,4 +1,4 @@
--- If an image is booted, a process lives besides the null process at the start; and the clock begins at 0.
+-- If an image is booted, a process lives besides the null process at the start; and the clock and the numbers of the ports begin at 0.
 use Rattle.std.proofs.Common.{◌≡◌, ◌≢◌, ◌∙◌, ℕ, suc, ◌+◌, ◌<◌, ◌≤◌, ◌&&◌, false, cond, List, [], ◌∷◌, drop, get_or, length, set, Option, Some, None, ℤ, refl, sym, ap, subst, inl, inr, arith, get_or-set_same, get_or-set_other}
 use Rattle.std.specs.List.{list_all}
 use Rattle.std.proofs.lemmas.Bool.{cases_eq, cases_lt, cond_both}
@@ -6,11 +6,12 @@ use Rattle.std.proofs.lemmas.List.{get_or_past}
 use Rattle.xinu_base.specs.declared.processes.Process.{Process}
 use Rattle.xinu_base.specs.declared.processes.State.{State}
 use Rattle.xinu_base.specs.declared.processes.State.TheVariants.{Current, Free, Ready, Suspended}
-use Rattle.xinu_laws.proofs.Tables.Starts.{all_are_made, boots_from, none_made}
+use Rattle.xinu_laws.proofs.Tables.Starts.{all_are_made, boots_from, none_made, same_everywhere}
 use Rattle.xinu_laws.proofs.Touches.ClockEvents.{resched_ticks}
 use Rattle.xinu_model.specs.Boot.{all_made, all_ready, all_started, boot, Boots, first_overlap, Loaded, loaded_machine, unless_overlap, where_stack, with_image}
 use Rattle.xinu_model.specs.Heap.Cells.{Stack, take_stack}
 use Rattle.xinu_model.specs.Machine.{Xinu}
+use Rattle.xinu_model.specs.Ports.Queues.{first_ports, MessagePort, no_port, port_at}
 use Rattle.xinu_model.specs.Process.Creation.{stack_size}
 use Rattle.xinu_model.specs.Process.Scheduling.{dispatch, dispatch_first, in_state, is_current, keeps_cpu, preempt, ready, resched}
 use Rattle.xinu_model.specs.Runs.{is_over}
@@ -100,3 +101,32 @@ unless_overlap_ticks None images start e =
 -- The clock begins at 0.
 pub boot_ticks : (images : List Loaded) (start : Xinu) → boot images ≡ Boots start → start.tables.ticks ≡ 0
 boot_ticks images start e = unless_overlap_ticks (first_overlap 1 [] images) images start e
+
+-- a stack that is found makes no port
+stacked_ports : (found : Option Stack) (i : ℕ) (image : Loaded) (s x : Xinu) → where_stack found i image s ≡ Boots x → x.parts.ports ≡ s.parts.ports
+stacked_ports None i image s x e = absurd (cc)
+stacked_ports (Some stack) i image s x e = (let h : with_image i image stack s ≡ x = cc in ap (λ (y : Xinu). y.parts.ports) (sym h))
+
+made_ports : (images : List Loaded) (i : ℕ) (s x : Xinu) → all_made i images s ≡ Boots x → x.parts.ports ≡ s.parts.ports
+made_ports [] i s x e = (let h : s ≡ x = cc in ap (λ (y : Xinu). y.parts.ports) (sym h))
+made_ports (image ∷ images) i s x e =
+    let found = take_stack (stack_size image.stack) s.parts.heap in
+    let b = boots_from (where_stack found i image s) (λ y. all_made (i + 1) images y) x e in
+    made_ports images (i + 1) b.0 x b.2 ∙ stacked_ports found i image s b.0 b.1
+
+unless_overlap_ports : (o : Option ℕ) (images : List Loaded) (start : Xinu) → unless_overlap o images ≡ Boots start → start.parts.ports ≡ first_ports
+unless_overlap_ports (Some i) images start e = absurd (cc)
+unless_overlap_ports None images start e =
+    let b = boots_from (all_made 1 images (loaded_machine images)) (λ s. Boots (all_started images s)) start e in
+    let same : all_started images b.0 ≡ start = cc in
+    sym (ap (λ (s : Xinu). s.parts.ports) same) ∙ made_ports images 1 (loaded_machine images) b.0 b.1
+
+-- the number of a port that was never made is 0
+first_number : (q : ℕ) → (port_at first_ports q).seq ≡ 0
+unfolding first_ports
+first_number q = ap (λ (p : MessagePort). p.seq) (same_everywhere 30 q no_port)
+
+-- The numbers of the ports begin at 0.
+pub boot_numbers : (images : List Loaded) (start : Xinu) → boot images ≡ Boots start → (q : ℕ) → (port_at start.parts.ports q).seq ≡ 0
+boot_numbers images start e q =
+    ap (λ (ports : List MessagePort). (port_at ports q).seq) (unless_overlap_ports (first_overlap 1 [] images) images start e) ∙ first_number q

@@ -1,6 +1,7 @@
 -- Lists that are printed element by element.
-use Rattle.std.proofs.Common.{◌≡◌, ◌∙◌, ℕ, zero, suc, ◌+◌, ◌-◌, ◌<◌, ◌≤◌, true, cond, List, [], ◌∷◌, ◌++◌, append_assoc, append-nil, get_or, length, map, take, Option, Some, None, ℤ, refl, sym, ap, subst, arith}
-use Rattle.std.specs.Prelude.{find, is_some, nat_le, nat_lt, slice_index_or, IfSome}
+use Rattle.std.proofs.Common.{◌≡◌, ◌∙◌, ℕ, zero, suc, ◌+◌, ◌-◌, ◌<◌, ◌≤◌, Bool, true, false, cond, List, [], ◌∷◌, ◌++◌, append_assoc, append-nil, get_or, length, map, take, Option, Some, None, ℤ, refl, sym, ap, subst, arith}
+use Rattle.ports.specs.Table.{head_of}
+use Rattle.std.specs.Prelude.{find, is_some, not, nat_le, nat_lt, option_map, slice_index_or, IfSome}
 use Rattle.kernel_tables.specs.Walks.{numbers_from}
 use Rattle.xinu_model.specs.Sound.Tables.{count_in}
 use Rattle.std.proofs.lemmas.Bool.{cond_both, leb-true, lt-ltb}
@@ -13,8 +14,9 @@ use Rattle.xinu_model.specs.Semaphores.Counts.{count_of}
 use Rattle.xinu_base.specs.declared.processes.Process.{Process}
 use Rattle.xinu_model.specs.Heap.Cells.{Block}
 use Rattle.xinu_model.specs.Pools.Buffers.{BufferPool, no_pool, pool_at}
+use Rattle.xinu_model.specs.Ports.Queues.{MessagePort, PortQueue, no_port, port_at, queued}
 use Rattle.xinu_model.specs.Tables.{message_at, no_process, no_semaphore, process_at, Semaphore, semaphore_at, Tables}
-use Rattle.xinu_model.specs.Text.{is_shown, pool_line, pool_lines, process_line, process_lines, semaphore_line, semaphore_lines, shown}
+use Rattle.xinu_model.specs.Text.{is_shown, pool_line, pool_lines, port_line, port_lines, process_line, process_lines, semaphore_line, semaphore_lines, shown}
 use Rattle.machine.proofs.ShownLines.{shown_both, shown_nothing}
 
 -- Of the lines of a list those before the rest were printed.
@@ -156,6 +158,57 @@ printed_pool pools n pool a b c h i j within is so_far one =
     ap (λ m. pool_lines 0 (take n pools) ++ pool_line m (pool_at pools m)) is
     ∙ ap (λ m. pool_lines 0 (take n pools) ++ pool_line m (pool_at pools n)) (sym e) ∙ sym (pool_lines_more 0 n pools within) in
     subst (λ ls. Prints a c h j (shown a.plain ls)) more (shown_both a b c h i j (pool_lines 0 (take n pools)) (pool_line pool (pool_at pools pool)) so_far one)
+
+-- the lines of one port more
+port_lines_more : (k n : ℕ) (l : List MessagePort) → n < length l
+    → port_lines k (take (n + 1) l) ≡ port_lines k (take n l) ++ port_line (k + n) (slice_index_or l n no_port).seq (slice_index_or l n no_port).queue
+port_lines_more k n [] h = absurd (omega (arith, h))
+port_lines_more k zero (x ∷ l) h =
+    let e : k ≡ k + 0 = omega arith in append-nil (port_line k x.seq x.queue) ∙ ap (λ m. port_line m x.seq x.queue) e
+port_lines_more k (suc n) (x ∷ l) h =
+    let here = port_line k x.seq x.queue in
+    let next = slice_index_or l n no_port in
+    let e : k + 1 + n ≡ k + suc n = omega arith in
+    let f : suc n + 1 ≡ suc (n + 1) = omega arith in
+    ap (λ m. port_lines k (take m (x ∷ l))) f
+    ∙ ap (λ r. here ++ r) (port_lines_more (k + 1) n l (omega (arith, h)) ∙ ap (λ m. port_lines (k + 1) (take n l) ++ port_line m next.seq next.queue) e)
+    ∙ sym (append_assoc here (port_lines (k + 1) (take n l)) (port_line (k + suc n) next.seq next.queue))
+
+-- The ports so far were printed, and one more.
+pub printed_port : (ports : List MessagePort) (n port : ℕ) (a b c : Printing) (h i j : Outside) → n < length ports → port ≡ n
+    → Prints a b h i (shown a.plain (port_lines 0 (take n ports)))
+    → Prints b c i j (shown b.plain (port_line port (port_at ports port).seq (port_at ports port).queue))
+    → Prints a c h j (shown a.plain (port_lines 0 (take (n + 1) ports)))
+printed_port ports n port a b c h i j within is so_far one =
+    let e : 0 + n ≡ n = omega arith in
+    let L : ℕ → List TranscriptLine = λ m. port_line m (port_at ports m).seq (port_at ports m).queue in
+    let more : port_lines 0 (take n ports) ++ L port ≡ port_lines 0 (take (n + 1) ports) =
+    ap (λ m. port_lines 0 (take n ports) ++ L m) is
+    ∙ ap (λ m. port_lines 0 (take n ports) ++ port_line m (port_at ports n).seq (port_at ports n).queue) (sym e) ∙ sym (port_lines_more 0 n ports within) in
+    subst (λ ls. Prints a c h j (shown a.plain ls)) more (shown_both a b c h i j (port_lines 0 (take n ports)) (L port) so_far one)
+
+-- A port in use was printed, and its messages.
+pub port_printed : (q : ℕ) (port : MessagePort) (seq : ℕ) (messages : List ℕ) (a b c : Printing) (h i j : Outside) → is_some port.queue ≡ true → seq ≡ port.seq
+    → messages ≡ queued port.queue → Prints a b h i (shown a.plain (line.Port q seq (length messages) ∷ []))
+    → Prints b c i j (shown b.plain (map (line.Node q) messages)) → Prints a c h j (shown a.plain (port_line q port.seq port.queue))
+port_printed q port seq messages a b c h i j used is are first nodes =
+    let L : ℕ → List ℕ → List TranscriptLine = λ n l. line.Port q n (length l) ∷ map (line.Node q) l in
+    subst (λ ls. Prints a c h j (shown a.plain ls)) (ap (λ n. L n messages) is ∙ ap (L port.seq) are ∙ in_use port.queue used)
+    (shown_both a b c h i j (line.Port q seq (length messages) ∷ []) (map (line.Node q) messages) first nodes)
+  where
+    in_use : (o : Option PortQueue) → is_some o ≡ true → line.Port q port.seq (length (queued o)) ∷ map (line.Node q) (queued o) ≡ port_line q port.seq o
+    in_use None u = absurd (cc)
+    in_use (Some queue) u = refl
+
+-- whether a port is in use is seen by its head
+pub used_by_head : (o : Option PortQueue) → is_some (option_map head_of o) ≡ is_some o
+used_by_head None = refl
+used_by_head (Some queue) = refl
+
+-- what isn't false is true
+pub not_false : (b : Bool) → not b ≡ false → b ≡ true
+not_false true h = refl
+not_false false h = absurd (cc)
 
 -- whether there is a first one says whether there are any
 pub shown_by : (o : Option ℕ) (l : List ℕ) → numbers_from o l ≡ l → IfSome o (λ p. 0 < count_in p l) → is_some o ≡ nat_lt 0 (length l)

@@ -1,6 +1,6 @@
 //! Events: a step of the current process, a tick of the clock, the printing of the tables (book, chapters 12 and 13).
 
-ghost use Rattle.std.specs.Prelude.{◌≡◌, ◌≢◌, ◌<◌, ◌≤◌, ◌+◌, ◌∷◌, [], map};
+ghost use Rattle.std.specs.Prelude.{ℕ, ◌≡◌, ◌≢◌, ◌<◌, ◌≤◌, ◌+◌, ◌∷◌, [], map};
 ghost use Rattle.core_calls.specs.Results.{answer_so_far, IsIdle};
 ghost use Rattle.host_port.specs.Printing.{Prints};
 ghost use Rattle.machine.specs.Printed.{EffectPrints, EventPrints};
@@ -9,6 +9,7 @@ ghost use Rattle.xinu_model.specs.Calls.{called};
 ghost use Rattle.xinu_model.specs.Clock.{ticked};
 ghost use Rattle.xinu_model.specs.Events.{panics_in, reacted, stepped};
 ghost use Rattle.xinu_model.specs.Machine as model;
+ghost use Rattle.xinu_model.specs.Ports.Queues.{port_at};
 ghost use Rattle.xinu_model.specs.Process.Death.{exit};
 ghost use Rattle.xinu_model.specs.Sound.State.{IsSound};
 ghost use Rattle.xinu_model.specs.Text.{shown};
@@ -30,11 +31,13 @@ pub(crate) fn happen<H: Host>(
     requires idle { IsIdle kernel.old }
     requires sound { IsSound kernel.old.call.state }
     requires few { kernel.old.call.state.tables.ticks < 1000000000 }
+    requires numbers { (q : ℕ) → (port_at kernel.old.call.state.parts.ports q).seq < 1000000000 }
     ensures happens { EventPrints kernel.old.call.state event kernel.new.call.state out.old out.new (H.view host.old) (H.view host.new) }
     ensures panics { result ≡ panics_in kernel.old.call.state event }
     ensures idle { IsIdle kernel.new }
     ensures sound { IsSound kernel.new.call.state }
     ensures ticks { kernel.new.call.state.tables.ticks ≤ kernel.old.call.state.tables.ticks + 1 }
+    ensures numbers { (q : ℕ) → (port_at kernel.new.call.state.parts.ports q).seq ≤ (port_at kernel.old.call.state.parts.ports q).seq + 1 }
 {
     match event {
         Event::Step => step(kernel, out, host),
@@ -53,7 +56,7 @@ fn other_event<H: Host>(kernel: &mut Kernel, event: Event, out: &mut Printer, ho
     ensures panics { result ≡ panics_in kernel.old.call.state event }
     ensures idle { IsIdle kernel.new }
     ensures sound { IsSound kernel.new.call.state }
-    ensures ticks { kernel.new.call.state.tables.ticks ≤ kernel.old.call.state.tables.ticks + 1 }
+    ensures ticks { kernel.new.call.state.tables.ticks ≤ kernel.old.call.state.tables.ticks + 1 }    ensures numbers { (q : ℕ) → (port_at kernel.new.call.state.parts.ports q).seq ≤ (port_at kernel.old.call.state.parts.ports q).seq + 1 }
 {
     match event {
         Event::Tick => tick(kernel, out, host),
@@ -69,6 +72,7 @@ fn other_event<H: Host>(kernel: &mut Kernel, event: Event, out: &mut Printer, ho
 fn step<H: Host>(kernel: &mut Kernel, out: &mut Printer, host: &mut H) -> bool
     requires idle { IsIdle kernel.old }
     requires sound { IsSound kernel.old.call.state }
+    requires numbers { (q : ℕ) → (port_at kernel.old.call.state.parts.ports q).seq < 1000000000 }
     ensures effect { EffectPrints (stepped kernel.old.call.state) kernel.new.call.state result out.old out.new (H.view host.old) (H.view host.new) }
     ensures idle { IsIdle kernel.new }
     ensures sound { IsSound kernel.new.call.state }
@@ -89,6 +93,7 @@ fn step<H: Host>(kernel: &mut Kernel, out: &mut Printer, host: &mut H) -> bool
 fn react<H: Host>(kernel: &mut Kernel, outcome: Outcome, out: &mut Printer, host: &mut H) -> bool
     requires idle { IsIdle kernel.old }
     requires sound { IsSound kernel.old.call.state }
+    requires numbers { (q : ℕ) → (port_at kernel.old.call.state.parts.ports q).seq < 1000000000 }
     requires not_null { kernel.old.call.state.tables.current ≢ 0 }
     ensures effect { EffectPrints (reacted outcome kernel.old.call.state) kernel.new.call.state result out.old out.new (H.view host.old) (H.view host.new) }
     ensures idle { IsIdle kernel.new }
@@ -115,6 +120,7 @@ fn react<H: Host>(kernel: &mut Kernel, outcome: Outcome, out: &mut Printer, host
 fn make_call<H: Host>(kernel: &mut Kernel, call: Call, out: &mut Printer, host: &mut H) -> bool
     requires idle { IsIdle kernel.old }
     requires not_null { kernel.old.call.state.tables.current ≢ 0 }
+    requires numbers { (q : ℕ) → (port_at kernel.old.call.state.parts.ports q).seq < 1000000000 }
     ensures effect { EffectPrints (model.end_of_event kernel.old.call.state.tables.current (line.Call kernel.old.call.state.tables.current call ∷ []) (called call.number call.args kernel.old.call.state)) kernel.new.call.state result out.old out.new (H.view host.old) (H.view host.new) }
     ensures idle { IsIdle kernel.new }
     ensures sound { IsSound kernel.new.call.state }

@@ -5,6 +5,7 @@ ghost use Rattle.host_port.specs.Printing.{Prints};
 ghost use Rattle.xinu_base.specs.declared.lines.TranscriptLine.TheVariants as line;
 ghost use Rattle.xinu_model.specs.Heap.Cells.{free_blocks};
 ghost use Rattle.xinu_model.specs.Pools.Buffers.{pool_at};
+ghost use Rattle.xinu_model.specs.Ports.Queues.{port_at};
 ghost use Rattle.xinu_model.specs.Sound.State.{IsSound};
 ghost use Rattle.xinu_model.specs.Sound.Tables.{IsInside};
 ghost use Rattle.xinu_model.specs.Tables.{message_at, process_at, semaphore_at};
@@ -17,9 +18,10 @@ use core_calls::Kernel;
 use freelist_memory::Heap;
 use host_port::{Host, Printer};
 use kernel_tables::KernelTables;
+use ports::{Ports, port_numbered};
 use process_core::pid_at;
 use semaphores::sem_at;
-use xinu_base::{Owner, PoolId, Sem, State, TranscriptLine};
+use xinu_base::{Owner, PoolId, Port, Sem, State, TranscriptLine};
 
 /// Prints the tables.
 pub(crate) fn print_tables<H: Host>(kernel: &Kernel, out: &mut Printer, host: &mut H)
@@ -39,6 +41,7 @@ pub(crate) fn print_tables<H: Host>(kernel: &Kernel, out: &mut Printer, host: &m
     print_sleepers(tables, out, host);
     print_free(kernel.heap(), out, host);
     print_pools(kernel.pools(), out, host);
+    print_ports(kernel.ports(), out, host);
     print_devices(out, host);
 }
 
@@ -183,6 +186,44 @@ fn print_buffers<H: Host>(pools: &Pools, pool: PoolId, out: &mut Printer, host: 
     for k in 0..pools.free_count(pool) {
         let address = pools.free_at(pool, k as usize).unwrap();
         print_line(&TranscriptLine::Buffer(pool, address), out, host);
+    }
+}
+
+// Prints the ports, by number.
+fn print_ports<H: Host>(ports: &Ports, out: &mut Printer, host: &mut H)
+    requires many { length ports.now.ports ≡ 30 }
+    ensures prints { Prints out.old out.new (H.view host.old) (H.view host.new) (shown out.old.plain (text.port_lines 0 ports.now.ports)) }
+{
+    for number in 0..30 {
+        print_port(ports, port_numbered(number), out, host);
+    }
+}
+
+// Prints a port and its messages, if it is in use.
+fn print_port<H: Host>(ports: &Ports, port: Port, out: &mut Printer, host: &mut H)
+    ensures prints { Prints out.old out.new (H.view host.old) (H.view host.new)
+        (shown out.old.plain (text.port_line port (port_at ports.now.ports port).seq (port_at ports.now.ports port).queue)) }
+{
+    if ports.head_of(port).is_none() {
+        return;
+    }
+    let held = ports.messages_of(port);
+    let messages = held.as_slice();
+    let line = TranscriptLine::Port {
+        port,
+        seq: ports.seq_of(port),
+        messages: messages.len() as u32,
+    };
+    print_line(&line, out, host);
+    print_messages(port, messages, out, host);
+}
+
+// Prints the messages of a port, in order.
+fn print_messages<H: Host>(port: Port, messages: &[u32], out: &mut Printer, host: &mut H)
+    ensures prints { Prints out.old out.new (H.view host.old) (H.view host.new) (shown out.old.plain (map (line.Node port) messages.now)) }
+{
+    for message in messages {
+        print_line(&TranscriptLine::Node(port, *message), out, host);
     }
 }
 

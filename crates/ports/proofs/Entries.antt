@@ -1,10 +1,10 @@
 -- The ports that entries and messages stand for, and how they change with them.
-use Rattle.std.proofs.Common.{◌≡◌, ◌∙◌, ℕ, zero, suc, ◌+◌, ◌<◌, ℤ, pos, negsuc, ◌≤ℤ◌, List, [], ◌∷◌, ◌++◌, length, drop, get_or, set, replicate, Option, Some, None, refl, sym, ap, subst, inl, inr, arith}
+use Rattle.std.proofs.Common.{◌≡◌, ◌∙◌, ℕ, zero, suc, ◌+◌, ◌<◌, ℤ, pos, negsuc, ◌≤◌, ◌≤ℤ◌, Bool, true, false, cond, List, [], ◌∷◌, ◌++◌, length, drop, get_or, set, replicate, Option, Some, None, refl, sym, ap, subst, inl, inr, arith}
 use Rattle.std.specs.Prelude.{IfSome, IsSome, nat_abs}
 use Rattle.std.specs.Option.{option_map}
 use Rattle.std.proofs.lemmas.Bool.{cases_eq, cases_lt}
 use Rattle.std.proofs.lemmas.Int.{ints}
-use Rattle.std.proofs.lemmas.List.{get_or-set_other, get_or-set_same, length-set, set_past, set-get_or}
+use Rattle.std.proofs.lemmas.List.{get_or_default, get_or-set_other, get_or-set_same, length-set, set_past, set-get_or}
 use Rattle.xinu_model.specs.Ports.Queues.{MessagePort, PortQueue, first_ports, nodes, port_at, queued}
 use Rattle.ports.specs.declared.table.PortEntry.{PortEntry}
 use Rattle.ports.specs.declared.table.PortHead.{PortHead}
@@ -12,12 +12,6 @@ use Rattle.ports.specs.Nodes.{queue_at, total, with_queue}
 use Rattle.ports.specs.Calls.{emptied, with_last, with_rest}
 use Rattle.xinu_model.specs.Ports.Calls.{renewed}
 use Rattle.ports.specs.Table.{IsEntry, IsTable, PortTable, entry_at, head_of, no_entry, port_of, ports_of, queue_of}
-
--- what is read within a list is what any other default would give
-pub any_default : (l : List PortEntry) (i : ℕ) (d e : PortEntry) → i < length l → get_or l i d ≡ get_or l i e
-any_default [] i d e lt = absurd (omega (arith, lt))
-any_default (x ∷ l) zero d e lt = refl
-any_default (x ∷ l) (suc i) d e lt = any_default l i d e (omega (arith, lt))
 
 -- a port is that of its entry and its messages
 pub port_is : (es : List PortEntry) (qs : List (List ℕ)) (q : ℕ) → length es ≡ length qs → port_at (ports_of es qs) q ≡ port_of (entry_at es q) (queue_at qs q)
@@ -192,7 +186,7 @@ pub seq_is : (es : List PortEntry) (qs : List (List ℕ)) (next : ℕ) (t : Port
     → (get_or es i r).seq ≡ (port_at t.ports q).seq
 seq_is es qs next t q i r k v is lt =
     let n = k.entries in
-    ap (λ (e : PortEntry). e.seq) (any_default es i r no_entry (omega (arith, lt, n)) ∙ ap (entry_at es) is)
+    ap (λ (e : PortEntry). e.seq) (get_or_default es i r no_entry (omega (arith, lt, n)) ∙ ap (entry_at es) is)
     ∙ sym (ap (λ (p : MessagePort). p.seq) (port_seen es qs next t q k v))
 
 -- the messages of a port are those of its queue
@@ -255,3 +249,13 @@ take_table es qs ns next t q k v taken =
     go p x None is agrees =
         ap (λ ns. record { ports = ports_of es ns; next_port = next }) (taken ∙ ap (λ l. with_queue q l qs) (ap (drop 1) agrees ∙ sym agrees) ∙ set-get_or qs q [])
         ∙ none_taken (ports_of es qs) next q (entry_at es q) (queue_at qs q) p is
+
+-- the first count of a port whose head was read is a signed number
+pub first_signed : (o : Option PortQueue) (b : Bool) (h : PortHead) (queue : PortQueue) → Some h ≡ option_map head_of (cond b o None) → o ≡ Some queue
+    → h.first_count ≤ℤ pos 2147483647 → queue.first_count ≤ 2147483647
+first_signed o false h queue e is fits = absurd (cc)
+first_signed o true h queue e is fits =
+    let f : Some h ≡ Some (head_of queue) = e ∙ ap (option_map head_of) is in
+    let same : h ≡ head_of queue = cc in
+    let g = ap (λ (x : PortHead). x.first_count) same in
+    omega (arith, ints, g, fits)

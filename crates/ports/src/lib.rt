@@ -7,6 +7,7 @@
 //!
 //! | Call | Condition | Promise |
 //! |---|---|---|
+//! | `port_numbered` | `below`: the number is below 30 | `port`: the port of that number |
 //! | `new` | | `starts`: no port is in use; or `NoMemory`, in this call alone |
 //! | `place_free` | | `found`: the number that the machine's search finds; `free`: it isn't in use |
 //! | `make` | `counted`: the count isn't negative; `room`: the sequence number doesn't wrap | `made`: the port is in use, with the next number; the next search begins after it |
@@ -15,7 +16,7 @@
 //! | `send_ticket`, `receive_ticket` | | `ticket`: port, number and semaphore, `None` if and only if the port isn't in use |
 //! | `is_stale` | | `stale`: the port isn't in use, or has another number than the ticket |
 //! | `send` | | `answer`: `Stale` if and only if the ticket is; else `Full` if and only if a hundred messages are in all ports; else the semaphore of the receivers; `ports`: the message is last, or nothing changes |
-//! | `receive` | | `answer`: the first message and the semaphore of the senders, `None` if and only if the ticket is stale or there is no message; `ports`: it is taken, or nothing changes |
+//! | `receive` | | `answer`: the first message and the semaphore of the senders, `None` if and only if the ticket is stale or there is no message; `ports`: it is taken, or nothing changes; `signed`: the first count of its port is at most 2147483647 |
 //! | `head_of`, `seq_of`, `messages_of`, `nodes` | | first count and semaphores; the sequence number; the messages in order; how many messages all ports hold |
 //!
 //! The crate depends on `queue_table`, and on `process_core` for the laws of its search.
@@ -26,7 +27,7 @@ mod nodes;
 mod table;
 
 pub use moves::{Received, Sent};
-pub use table::{PortEntry, PortHead, Ports};
+pub use table::{PortEntry, PortHead, Ports, port_numbered};
 
 #[cfg(test)]
 mod tests;

@@ -3,10 +3,10 @@
 //!
 //! It depends on the table. Semaphores and processes are the business of the crates above.
 
-ghost use Rattle.std.specs.Prelude.{◌≡◌, ◌<◌, ◌≤ℤ◌, nat_le, option_map, pos, [], IfSome, IsSome};
+ghost use Rattle.std.specs.Prelude.{◌≡◌, ◌<◌, ◌≤◌, ◌≤ℤ◌, nat_le, option_map, pos, [], IfSome, IsSome};
 ghost use Rattle.ports.specs.Nodes.{first_of};
 ghost use Rattle.xinu_model.specs.Ports.Calls.{renewed};
-ghost use Rattle.xinu_model.specs.Ports.Queues.{most_nodes, nodes, port_at, queued};
+ghost use Rattle.xinu_model.specs.Ports.Queues.{most_nodes, nodes, port_at, PortQueue, queued};
 ghost use Rattle.xinu_model.specs.Ports.Queues as model;
 
 use crate::table::{PortEntry, PortHead, Ports, port_numbered};
@@ -127,6 +127,7 @@ impl Ports {
     pub fn receive(&mut self, ticket: PortTicket) -> Option<Received>
         ensures answer { result ≡ (received ticket self.old).0 }
         ensures ports { self.new ≡ (received ticket self.old).1 }
+        ensures signed { IfSome result (λ _. (queue : PortQueue) → (port_at self.old.ports ticket.port).queue ≡ Some queue → queue.first_count ≤ 2147483647) }
     {
         let PortTicket { port, seq, .. } = ticket;
         let head = self.head_at(port, seq)?;

@@ -156,7 +156,7 @@ impl Ports {
 }
 
 /// The port of a number below 30.
-pub(crate) fn port_numbered(number: usize) -> Port
+pub fn port_numbered(number: usize) -> Port
     requires below { number < 30 }
     ensures port { result ≡ number }
 {

@@ -12,6 +12,7 @@ pub mod Memory
 pub mod Messages
 pub mod Moves
 pub mod Pools
+pub mod PortEvents
 pub mod Ports
 pub mod Processes
 pub mod Semaphores

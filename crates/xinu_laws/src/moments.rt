@@ -1,6 +1,6 @@
 //! What holds at each moment of an event: the laws that the kernel's code cites.
 
-ghost use Rattle.std.specs.Prelude.{◌≡◌, ◌≢◌, ◌+◌, ℕ, true, false, [], List, Some, slice_index};
+ghost use Rattle.std.specs.Prelude.{◌≡◌, ◌≢◌, ◌+◌, ◌≤◌, ℕ, true, false, [], List, Some, slice_index};
 ghost use Rattle.xinu_base.specs.Syscalls.{is_built};
 ghost use Rattle.xinu_base.specs.declared.lines.TranscriptLine.{TranscriptLine};
 ghost use Rattle.xinu_model.specs.Calls.{calls, call_of_number, called, continued};
@@ -8,6 +8,7 @@ ghost use Rattle.xinu_model.specs.Clock.{ticked};
 ghost use Rattle.xinu_model.specs.Events.{stepped, with_executed};
 ghost use Rattle.xinu_model.specs.Isa.Exec.{exec};
 ghost use Rattle.xinu_model.specs.Machine.{Xinu, CallResult, current_hart, refused, replies_of, end_of_event};
+ghost use Rattle.xinu_model.specs.Ports.Queues.{port_at};
 ghost use Rattle.xinu_model.specs.Process.Scheduling.{resched};
 ghost use Rattle.xinu_laws.specs.Preserve.{AreAlive, KeepsAll, MayCallAny, ticking};
 ghost use Rattle.xinu_model.specs.Process.Death.{exit};
@@ -59,6 +60,12 @@ pub fn ticks_keep_all()
 pub fn ticks_move_the_clock()
     ensures step { (s : Xinu) → IsSound s → (stepped s).state.tables.ticks ≡ s.tables.ticks }
     ensures tick { (s : Xinu) → (ticked s).state.tables.ticks ≡ s.tables.ticks + 1 }
+{}
+
+/// The number of a port rises by at most one in an event.
+pub fn ports_are_renewed_once()
+    ensures step { (s : Xinu) → IsSound s → (q : ℕ) → (port_at (stepped s).state.parts.ports q).seq ≤ (port_at s.parts.ports q).seq + 1 }
+    ensures tick { (s : Xinu) → IsSound s → (q : ℕ) → (port_at (ticked s).state.parts.ports q).seq ≤ (port_at s.parts.ports q).seq + 1 }
 {}
 
 /// A resched inside an event leaves sound tables.

@@ -1,6 +1,7 @@
-use Rattle.std.proofs.Common.{◌∙◌, ap, arith, sym}
+use Rattle.std.proofs.Common.{◌∙◌, ap, arith, subst, sym}
 use Rattle.xinu_base.specs.declared.events.Event.TheVariants.{Step}
 use Rattle.xinu_laws.proofs.Touches.ClockEvents.{ticks_stepped}
+use Rattle.xinu_laws.proofs.Touches.PortEvents.{RisesOnce, stepped_once}
 use Rattle.xinu_model.specs.Machine.{Xinu}
 use Rattle.machine.proofs.Happenings.{effect_is, happened}
 use Rattle.machine.proofs.events.happen.Goals as goal
@@ -15,4 +16,5 @@ returns-in-Step g c =
       idle = c.step.ensures.idle;
       sound = c.step.ensures.sound;
       ticks = (let e = sym (ap (λ (x : Xinu). x.tables.ticks) c.step.ensures.effect.state) ∙ ticks_stepped s c.requires.sound in omega arith);
+      numbers = subst (RisesOnce s) c.step.ensures.effect.state (stepped_once s c.requires.sound);
     }

@@ -1,6 +1,7 @@
-use Rattle.std.proofs.Common.{◌∙◌, ap, arith, sym}
+use Rattle.std.proofs.Common.{◌∙◌, ap, arith, subst, sym}
 use Rattle.xinu_base.specs.declared.events.Event.TheVariants.{Tick}
 use Rattle.xinu_laws.proofs.Touches.ClockEvents.{ticks_ticked}
+use Rattle.xinu_laws.proofs.Touches.PortEvents.{RisesOnce, ticked_once}
 use Rattle.xinu_model.specs.Machine.{EventResult, Xinu}
 use Rattle.machine.proofs.Happenings.{effect_is, happened, nothing_printed, other_does, printed_as}
 use Rattle.machine.proofs.events.other_event.Goals as goal
@@ -16,6 +17,10 @@ returns-in-Tick-clause-ticks g c =
     let s = c.args.kernel.now.call.state in
     let e = sym (ap (λ (x : Xinu). x.tables.ticks) c.tick.ensures.effect.state) ∙ ticks_ticked s in omega arith
 
+pub returns-in-Tick-clause-numbers : goal.returns-in-Tick-clause-numbers
+returns-in-Tick-clause-numbers g c =
+    let s = c.args.kernel.now.call.state in subst (RisesOnce s) c.tick.ensures.effect.state (ticked_once s c.requires.sound)
+
 pub returns-in_default : goal.returns-in_default
 returns-in_default g c =
     let s = c.args.kernel.now.call.state in
@@ -26,4 +31,5 @@ returns-in_default g c =
       idle = c.requires.idle;
       sound = c.requires.sound;
       ticks = omega arith;
+      numbers = λ q. omega arith;
     }

@@ -3,7 +3,7 @@ use Rattle.std.proofs.lemmas.List.{length-map}
 use Rattle.image_loader.specs.Images.{loaded_of}
 use Rattle.xinu_laws.proofs.Ownership.Boot.{apart_boot}
 use Rattle.xinu_laws.proofs.Preserve.Events.{sound_boot}
-use Rattle.machine.proofs.Boots.{boot_lives, boot_ticks}
+use Rattle.machine.proofs.Boots.{boot_lives, boot_numbers, boot_ticks}
 use Rattle.machine.proofs.machine.Machine.boot.Goals as goal
 
 pub invariant_of-result : goal.invariant_of-result
@@ -20,6 +20,7 @@ invariant_of-result c =
       lives = λ _. boot_lives images s (omega (arith, n, some)) (omega (arith, n, few)) booted.0;
       few = omega arith;
       ticks = (let e = boot_ticks images s booted.0 in omega arith);
+      numbers = λ q. (let e = boot_numbers images s booted.0 q in omega (arith, e));
     }
 
 pub returns-clause-apart : goal.returns-clause-apart
