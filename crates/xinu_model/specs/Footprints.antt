@@ -36,6 +36,10 @@ on_heap = record on_tables { heap = true }
 abbrev pub on_processes : Footprint
 on_processes = record on_heap { stacks = true }
 
+-- a process that dies gives up what it asked of disks
+abbrev pub on_deaths : Footprint
+on_deaths = record on_processes { disk = true; files = true }
+
 -- the pools, which stay where they lie
 abbrev pub on_pools : Footprint
 on_pools = record on_tables { pools = true }

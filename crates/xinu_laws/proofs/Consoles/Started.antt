@@ -3,7 +3,7 @@ use Rattle.std.proofs.Common.{◌≡◌, ℕ, zero, suc, List, false, refl, sym,
 use Rattle.xinu_base.specs.declared.processes.Process.{Process}
 use Rattle.xinu_model.specs.Boot.{Loaded, first_semaphores, null_tables, Boots, boot}
 use Rattle.xinu_model.specs.Console.State.{first_console}
-use Rattle.xinu_model.specs.Footprints.{on_processes}
+use Rattle.xinu_model.specs.Footprints.{on_deaths}
 use Rattle.xinu_model.specs.Machine.{Xinu}
 use Rattle.xinu_model.specs.Names.Sound.{AreSoundNames}
 use Rattle.xinu_model.specs.Sound.Console.{promised, HasSpan, IsConsole}
@@ -31,10 +31,10 @@ first_console_holds = record {
 
 -- the start leaves the console alone
 abbrev beside_console : Reach
-beside_console = record { mine = is_consoles; asks = asks_console; parts = on_processes; clock = false }
+beside_console = record { mine = is_consoles; asks = asks_console; parts = on_deaths; clock = false }
 
 start_reached : HasStart beside_console
-start_reached = record { nothing = refl; heap = refl; stacks = refl }
+start_reached = record { nothing = refl; heap = refl; stacks = refl; disk = refl }
 
 -- When the machine starts.
 pub devices_start : (images : List Loaded) (start : Xinu) → boot images ≡ Boots start → IsInside start.tables → AreDevices start.tables start.parts.devices

@@ -7,7 +7,7 @@ use Rattle.xinu_base.specs.Syscalls.{is_built}
 use Rattle.xinu_model.specs.Calls.{calls, call_of_number, called, continued}
 use Rattle.xinu_model.specs.Console.Putting.{go_on_putc, go_on_write}
 use Rattle.xinu_model.specs.Console.Taking.{go_on_getc, go_on_read}
-use Rattle.xinu_model.specs.Footprints.{Footprint, on_tables, on_processes, on_pools, on_ports, on_console}
+use Rattle.xinu_model.specs.Footprints.{Footprint, on_tables, on_deaths, on_pools, on_ports, on_console}
 use Rattle.xinu_model.specs.Machine.{Xinu, Answer, Returns, Waits, Gone, Panics, Silent, CallResult, replies_of, refused}
 use Rattle.xinu_model.specs.Messages.{go_on_receive}
 use Rattle.xinu_model.specs.Names.Calls.{names_of}
@@ -314,7 +314,7 @@ called_keeps number args s c = cond_both (is_built number) (call_of_number numbe
 
 -- the death of the caller,
 pub exit_keeps : (s : Xinu) → MayCallAny s → KeepsAll (exit s)
-exit_keeps s c = keeps_within on_processes s (exit s) c (exit_touches s (sound_where_called s c)) (exit_preserves s c.may) (λ e. absurd (cc)) (λ e. absurd (cc)) (λ _. exit_unused s c) (λ e. absurd (cc)) (λ e. absurd (cc))
+exit_keeps s c = keeps_within on_deaths s (exit s) c (exit_touches s (sound_where_called s c)) (exit_preserves s c.may) (λ e. absurd (cc)) (λ e. absurd (cc)) (λ _. exit_unused s c) (λ e. absurd (cc)) (λ e. absurd (cc))
 
 -- what is left of a call on the console,
 console_continues : (s : Xinu) (h : CallResult) {Left : Type 0} → MayCallAny s → Left → KeepsConsole (Left × HasConsole s) s h → KeepsAll h
