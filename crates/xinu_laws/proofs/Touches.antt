@@ -5,6 +5,7 @@ pub mod Clock
 pub mod ClockEvents
 pub mod Consoles
 pub mod Continued
+pub mod Disks
 pub mod Events
 pub mod Few
 pub mod Kept
@@ -29,6 +30,7 @@ use Rattle.xinu_model.specs.Heap.Cells.{Heap}
 use Rattle.xinu_model.specs.Machine.{Parts, Xinu, CallResult, no_hart, refused}
 use Rattle.xinu_model.specs.Names.Mounting.{NameRow}
 use Rattle.xinu_model.specs.Pools.Buffers.{BufferPool}
+use Rattle.xinu_model.specs.RawDisk.Requests.{RawDisk}
 use Rattle.xinu_model.specs.Ports.Queues.{MessagePort}
 use Rattle.xinu_model.specs.Sound.Tables.{IsInside}
 use Rattle.xinu_model.specs.Sound.State.{IsSound}
@@ -103,6 +105,29 @@ module _ {f : Footprint} where
     ranges = λ _. refl;
     ports = λ _. (refl, refl);
     devices = record { console = named may; names = λ _. refl; disk = λ _. refl; files = λ _. refl };
+  }
+
+  -- Another raw disk.
+  pub parts_disk : f.disk ≡ true → (p : Parts) (d : RawDisk) → KeepsParts f p (record p { devices = record p.devices { disk = d } })
+  parts_disk may p d = record {
+    extent = record { low = refl; many = refl };
+    heap = λ _. refl;
+    pools = λ _. refl;
+    ranges = λ _. refl;
+    ports = λ _. (refl, refl);
+    devices = record { console = λ _. refl; names = λ _. refl; disk = named may; files = λ _. refl };
+  }
+
+  -- Another heap of the same extent, and other disks.
+  pub parts_death : f.heap ≡ true → f.disk ≡ true → f.files ≡ true → (p : Parts) (h : Heap) (d : Devices) → HasSameExtent p.heap h
+      → d.console ≡ p.devices.console → d.names ≡ p.devices.names → KeepsParts f p (record p { heap = h; devices = d })
+  parts_death heap disk files p h d e console names = record {
+    extent = e;
+    heap = named heap;
+    pools = λ _. refl;
+    ranges = λ _. refl;
+    ports = λ _. (refl, refl);
+    devices = record { console = λ _. console; names = λ _. names; disk = named disk; files = named files };
   }
 
   -- Other mounted prefixes.

@@ -60,6 +60,14 @@ on_ports_and_pools = record on_ports { pools = true }
 abbrev pub on_console : Footprint
 on_console = record on_tables { console = true }
 
+-- the raw disk
+abbrev pub on_disk : Footprint
+on_disk = record on_tables { disk = true }
+
+-- the console or the raw disk
+abbrev pub on_console_or_disk : Footprint
+on_console_or_disk = record on_console { disk = true }
+
 -- the name space
 abbrev pub on_names : Footprint
 on_names = record on_tables { names = true }

@@ -21,7 +21,7 @@ use Rattle.xinu_laws.proofs.Touches.Moves.{frame_goes_on, parts_signalled}
 use Rattle.xinu_laws.proofs.Preserve.{current_within}
 use Rattle.xinu_laws.proofs.Pools.Frame.{is_pool}
 use Rattle.xinu_laws.proofs.Pools.Change.{promised, pool_kept, pool_taken, pool_put_back, are_pools_set, are_pools_kept}
-use Rattle.xinu_laws.proofs.Pools.Steps.{beside_pool, pool_semaphore_within, promised_token, promised_blocked, promised_goes_on, promised_signalled, frame_pool_token, frame_pool_blocked, frame_pool_signalled}
+use Rattle.xinu_laws.proofs.Pools.Steps.{pool_semaphore_within, promised_token, promised_blocked, promised_goes_on, promised_signalled, frame_pool_token, frame_pool_blocked, frame_pool_signalled}
 
 -- what holds of the pools holds in a state
 abbrev pub HavePools : Xinu → Type 0

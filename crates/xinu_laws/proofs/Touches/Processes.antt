@@ -8,6 +8,7 @@ use Rattle.xinu_base.specs.declared.processes.State.TheVariants.{Suspended, Wait
 use Rattle.xinu_base.specs.declared.processes.Rest.{Rest}
 use Rattle.xinu_base.specs.Constants.{NPROC}
 use Rattle.xinu_laws.specs.Frame.{StillWait, waits_in}
+use Rattle.xinu_model.specs.Devices.State.{given_up}
 use Rattle.xinu_model.specs.Footprints.{on_tables, on_processes, on_deaths}
 use Rattle.xinu_model.specs.Heap.Cells as heap
 use Rattle.xinu_model.specs.Heap.Cells.{Stack}
@@ -28,7 +29,7 @@ use Rattle.xinu_laws.proofs.Frame.{frame_same, frame_trans}
 use Rattle.xinu_laws.proofs.Frame.MoveTo.{frame_move, frame_process, same_written}
 use Rattle.xinu_laws.proofs.Lists.Searches.{search_passes}
 use Rattle.xinu_laws.proofs.Tables.Alive.{was_free}
-use Rattle.xinu_laws.proofs.Touches.{StaysIn, named, parts_heap, touches_tables, touches_refl, touches_trans, touches_either, touches_if}
+use Rattle.xinu_laws.proofs.Touches.{StaysIn, named, parts_heap, parts_death, touches_tables, touches_refl, touches_trans, touches_either, touches_if}
 use Rattle.xinu_laws.proofs.Touches.Moves.{may_ready_idle, touches_move, touches_moved, still_move, touches_blocked, touches_goes_on, touches_unblock, touches_sent}
 
 -- what a state says of waiting
@@ -93,7 +94,8 @@ killed_touches p d =
       free = named refl;
       clock = λ _. refl;
       stay = named refl;
-      parts = parts_heap refl told.state.parts _ (extent_unless (heap.free_stack x.stack x.stack_size told.state.parts.heap) told.state.parts.heap (extent_freestk x.stack x.stack_size told.state.parts.heap));
+      parts = parts_death refl refl refl told.state.parts _ (given_up p told.state.parts.devices)
+          (extent_unless (heap.free_stack x.stack x.stack_size told.state.parts.heap) told.state.parts.heap (extent_freestk x.stack x.stack_size told.state.parts.heap)) refl refl;
     })
 
 -- Call 9.
