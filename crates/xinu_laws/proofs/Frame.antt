@@ -3,10 +3,10 @@ pub mod MoveTo
 pub mod Order
 pub mod Semaphores
 use Rattle.std.proofs.Common.{◌≡◌, ℕ, ◌<◌, Bool, true, false, cond, ◌&&◌, List, [], ◌∷◌, filter, length, Option, None, Some, get_or, refl, sym, ap, subst, ◌∙◌}
-use Rattle.std.proofs.lemmas.Bool.{false≢true, false_from_ne_true, and_parts, cond-false}
+use Rattle.std.proofs.lemmas.Bool.{false≢true, false_from_ne_true, and_from, and_parts, cond-false}
 use Rattle.xinu_base.specs.declared.processes.Rest.{Rest}
 use Rattle.xinu_base.specs.declared.semaphores.Owner.{Owner}
-use Rattle.xinu_laws.specs.Frame.{waits_at, Frame}
+use Rattle.xinu_laws.specs.Frame.{waits_at, Frame, StillWait}
 use Rattle.xinu_model.specs.Sound.Tables.{count_in}
 use Rattle.xinu_model.specs.Sound.Pools.{is_waiting}
 use Rattle.xinu_model.specs.Tables.{no_process, no_semaphore, Tables, process_at, semaphore_at}
@@ -77,3 +77,13 @@ frame_weaker {mine} {less} {asks} {fewer} t u f g a = record {
     narrower : (b : Bool) (left : Rest) → b && fewer left ≡ true → b && asks left ≡ true
     narrower true left h = g left h
     narrower false left h = h
+
+-- Who still waits in one of some calls still waits in one of fewer.
+pub still_weaker : {mine : ℕ → Option Owner → Bool} {asks fewer : Rest → Bool} (t u : Tables)
+    → ((left : Rest) → fewer left ≡ true → asks left ≡ true) → Frame mine asks t u → StillWait asks t u → StillWait fewer t u
+still_weaker {mine} {asks} {fewer} t u within c still = record {
+  stay = λ p h. let parts = and_parts (is_waiting (process_at t p).state) (fewer (process_at t p).rest) h in
+      let w = and_parts (is_waiting (process_at u p).state) (asks (process_at u p).rest)
+      (still.stay p (and_from (is_waiting (process_at t p).state) (asks (process_at t p).rest) parts.0 (within (process_at t p).rest parts.1))) in
+      and_from (is_waiting (process_at u p).state) (fewer (process_at u p).rest) w.0 (ap fewer (c.rests p w.1).0 ∙ parts.1);
+}

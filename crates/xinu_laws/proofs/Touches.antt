@@ -5,6 +5,7 @@ pub mod Clock
 pub mod ClockEvents
 pub mod Consoles
 pub mod Continued
+pub mod Disks
 pub mod Events
 pub mod Few
 pub mod Kept
@@ -25,11 +26,12 @@ use Rattle.xinu_base.specs.declared.semaphores.Owner.{Owner}
 use Rattle.xinu_model.specs.Console.State.{Console}
 use Rattle.xinu_model.specs.Devices.State.{Devices}
 use Rattle.xinu_model.specs.Footprints.{Footprint}
-use Rattle.xinu_laws.specs.Frame.{Frame}
+use Rattle.xinu_laws.specs.Frame.{Frame, StillWait, waits_at}
 use Rattle.xinu_model.specs.Heap.Cells.{Heap}
 use Rattle.xinu_model.specs.Machine.{Parts, Xinu, CallResult, no_hart, refused}
 use Rattle.xinu_model.specs.Names.Mounting.{NameRow}
 use Rattle.xinu_model.specs.Pools.Buffers.{BufferPool}
+use Rattle.xinu_model.specs.RawDisk.Requests.{RawDisk}
 use Rattle.xinu_model.specs.Ports.Queues.{MessagePort}
 use Rattle.xinu_model.specs.Sound.Tables.{IsInside}
 use Rattle.xinu_model.specs.Sound.State.{IsSound}
@@ -106,6 +108,29 @@ module _ {f : Footprint} where
     devices = record { console = named may; names = λ _. refl; disk = λ _. refl; files = λ _. refl };
   }
 
+  -- Another raw disk.
+  pub parts_disk : f.disk ≡ true → (p : Parts) (d : RawDisk) → KeepsParts f p (record p { devices = record p.devices { disk = d } })
+  parts_disk may p d = record {
+    extent = record { low = refl; many = refl };
+    heap = λ _. refl;
+    pools = λ _. refl;
+    ranges = λ _. refl;
+    ports = λ _. (refl, refl);
+    devices = record { console = λ _. refl; names = λ _. refl; disk = named may; files = λ _. refl };
+  }
+
+  -- Another heap of the same extent, and other disks.
+  pub parts_death : f.heap ≡ true → f.disk ≡ true → f.files ≡ true → (p : Parts) (h : Heap) (d : Devices) → HasSameExtent p.heap h
+      → d.console ≡ p.devices.console → d.names ≡ p.devices.names → KeepsParts f p (record p { heap = h; devices = d })
+  parts_death heap disk files p h d e console names = record {
+    extent = e;
+    heap = named heap;
+    pools = λ _. refl;
+    ranges = λ _. refl;
+    ports = λ _. (refl, refl);
+    devices = record { console = λ _. console; names = λ _. names; disk = named disk; files = named files };
+  }
+
   -- Other mounted prefixes.
   pub parts_names : f.names ≡ true → (p : Parts) (rows : List NameRow) → KeepsParts f p (record p { devices = record p.devices { names = rows } })
   parts_names may p rows = record {
@@ -126,16 +151,16 @@ module _ {f : Reach} where
   -- Other tables with the same stacks.
   pub touches_tables : (s : Xinu) (t : Tables) → Frame f.mine f.asks s.tables t → stacks_of t ≡ stacks_of s.tables
       → ((p : ℕ) → is_free (state_at t p) ≡ true → is_free (state_at s.tables p) ≡ true) → (f.clock ≡ false → t.ticks ≡ s.tables.ticks)
-      → Touches f s (record s { tables = t })
-  touches_tables s t c e was clock = record { frame = c; stacks = λ _. e; parts = parts_same s.parts; free = λ _. record { was = was; harts = λ p _. refl }; clock = clock }
+      → StillWait f.asks s.tables t → Touches f s (record s { tables = t })
+  touches_tables s t c e was clock stay = record { frame = c; stacks = λ _. e; parts = parts_same s.parts; free = λ _. record { was = was; harts = λ p _. refl }; clock = clock; stay = λ _. stay }
 
   -- Nothing is touched.
   pub touches_refl : (s : Xinu) → Touches f s s
-  touches_refl s = touches_tables s s.tables (frame_refl s.tables) refl (λ p h. h) (λ _. refl)
+  touches_refl s = touches_tables s s.tables (frame_refl s.tables) refl (λ p h. h) (λ _. refl) (record { stay = λ p h. h })
 
   -- Other parts of the state, and any memory.
   pub touches_parts : (s u : Xinu) → u.tables ≡ s.tables → u.harts ≡ s.harts → KeepsParts f.parts s.parts u.parts → Touches f s u
-  touches_parts s u e same k = record { frame = frame_same s.tables u.tables (ap (λ (t : Tables). t.processes) e) (ap (λ (t : Tables). t.semaphores) e); stacks = λ _. ap stacks_of e; parts = k; free = λ _. keeps_free_same s u e same; clock = λ _. ap (λ (t : Tables). t.ticks) e }
+  touches_parts s u e same k = record { frame = frame_same s.tables u.tables (ap (λ (t : Tables). t.processes) e) (ap (λ (t : Tables). t.semaphores) e); stacks = λ _. ap stacks_of e; parts = k; free = λ _. keeps_free_same s u e same; clock = λ _. ap (λ (t : Tables). t.ticks) e; stay = λ _. record { stay = λ p h. subst (λ (t : Tables). waits_at f.asks t p ≡ true) (sym e) h } }
 
   -- One step after another.
   pub touches_trans : {s u v : Xinu} → Touches f s u → Touches f u v → Touches f s v
@@ -145,6 +170,7 @@ module _ {f : Reach} where
     parts = parts_trans a.parts b.parts;
     free = λ e. keeps_free_trans (a.free e) (b.free e);
     clock = λ e. b.clock e ∙ a.clock e;
+    stay = λ e. record { stay = λ p h. (b.stay e).stay p ((a.stay e).stay p h) };
   }
 
   -- One of two ways is gone.

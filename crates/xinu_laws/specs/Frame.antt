@@ -15,6 +15,10 @@ waits_in asks x = is_waiting x.state && asks x.rest
 abbrev pub waits_at : (Rest → Bool) → Tables → ℕ → Bool
 waits_at asks t p = waits_in asks (process_at t p)
 
+-- Who waits in such a call in t still does in u.
+pub record StillWait (asks : Rest → Bool) (t u : Tables) : Type 0 where
+  pub stay : (p : ℕ) → waits_at asks t p ≡ true → waits_at asks u p ≡ true
+
 -- From t to u the semaphores that are `mine`, by number and owner, keep owner and tokens, none is new, nobody is a new waiter of one, and
 -- those who still wait in such a call do so in the same order. Whoever is in such a call in u was in it in t, waiting or not as now.
 pub record Frame (mine : ℕ → Option Owner → Bool) (asks : Rest → Bool) (t u : Tables) : Type 0 where

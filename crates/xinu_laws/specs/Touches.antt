@@ -7,7 +7,7 @@ use Rattle.xinu_base.specs.declared.semaphores.Owner.{Owner}
 use Rattle.xinu_base.specs.declared.semaphores.Owner.TheVariants as owner
 use Rattle.xinu_model.specs.Devices.State.{Devices}
 use Rattle.xinu_model.specs.Footprints.{Footprint, on_tables, on_pools, on_ports, on_console}
-use Rattle.xinu_laws.specs.Frame.{Frame}
+use Rattle.xinu_laws.specs.Frame.{Frame, StillWait}
 use Rattle.xinu_model.specs.Heap.Cells.{Heap}
 use Rattle.xinu_model.specs.Machine.{Parts, Xinu, no_hart}
 use Rattle.xinu_model.specs.Pools.Buffers.{BufferPool, pool_bytes}
@@ -96,13 +96,15 @@ pub record KeepsFree (s u : Xinu) : Type 0 where
   pub was : (p : ℕ) → is_free (state_at u.tables p) ≡ true → is_free (state_at s.tables p) ≡ true
   pub harts : (p : ℕ) → is_free (state_at u.tables p) ≡ true → slice_index_or u.harts p no_hart ≡ slice_index_or s.harts p no_hart
 
--- From s to u nothing is touched beyond this reach. If it leaves stacks alone nobody dies, and if it has no clock the ticks stay.
+-- From s to u nothing is touched beyond this reach. If it leaves stacks alone nobody dies; if it leaves the raw disk alone, all who wait in the
+-- calls that it leaves alone still do; and if it has no clock the ticks stay.
 pub record Touches (f : Reach) (s u : Xinu) : Type 0 where
   pub frame : Frame f.mine f.asks s.tables u.tables
   pub stacks : f.parts.stacks ≡ false → stacks_of u.tables ≡ stacks_of s.tables
   pub parts : KeepsParts f.parts s.parts u.parts
   pub free : f.parts.stacks ≡ false → KeepsFree s u
   pub clock : f.clock ≡ false → u.tables.ticks ≡ s.tables.ticks
+  pub stay : f.parts.disk ≡ false → StillWait f.asks s.tables u.tables
 
 -- From s to u the heap, the ranges of the pools and the stacks stay as they are.
 pub record KeepsPlaces (s u : Xinu) : Type 0 where

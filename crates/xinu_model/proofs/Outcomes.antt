@@ -1,5 +1,5 @@
 -- The outcomes of an event: there is one, and no other.
-use Rattle.std.proofs.Common.{◌≡◌, ◌==◌, ℕ, false, List, [], ◌∷◌, ◌++◌, map, Option, Some, None, if◌then◌else◌, refl, sym, ap, ◌∙◌, subst, ℤ}
+use Rattle.std.proofs.Common.{◌≡◌, ◌==◌, ℕ, true, false, List, [], ◌∷◌, ◌++◌, map, Option, Some, None, if◌then◌else◌, refl, sym, ap, ◌∙◌, subst, ℤ}
 use Rattle.std.proofs.lemmas.Bool.{cond_both}
 use Rattle.xinu_base.specs.Events.{is_built_event}
 use Rattle.xinu_base.specs.declared.events.Event.{Event}
@@ -17,6 +17,8 @@ use Rattle.xinu_model.specs.Console.Transmitting.{Sent, transmitted}
 use Rattle.xinu_model.specs.Events.{reacted, is_done, instruction_step, stepped, event_effect, effect_of, panics_in, Happens, with_executed}
 use Rattle.xinu_model.specs.Isa.Exec.{exec}
 use Rattle.xinu_model.specs.Machine.{Xinu, EventResult, current_hart, nothing_happens, return_line, switched, end_of_event, replies_of, closed}
+use Rattle.xinu_model.specs.RawDisk.Calls.{disk_of, serving, served_in}
+use Rattle.xinu_model.specs.RawDisk.Completions.{Served, raw_completed}
 use Rattle.xinu_model.specs.Sound.State.{IsSound}
 use Rattle.xinu_model.specs.Tables.{process_at}
 
@@ -65,6 +67,11 @@ sent_no_next : (sent : Option Sent) (s : Xinu) → begins_next (sent_in sent s).
 sent_no_next None s = refl
 sent_no_next (Some sent) s = refl
 
+-- the lines of a completion of the raw disk
+served_no_next : (found : Option Served) (s : Xinu) → begins_next (served_in found s).lines ≡ false
+served_no_next None s = refl
+served_no_next (Some x) s = replies_no_next (replies_of (serving x s)) s.tables.current (closed (serving x s)).current
+
 -- the lines of an event, whether the machine has it or not
 event_no_next : (s : Xinu) (e : Event) → begins_next (event_effect s e 0).lines ≡ false
 event_no_next s Step = step_no_next s
@@ -73,9 +80,9 @@ event_no_next s Tick =
 event_no_next s Dump = refl
 event_no_next s (Key b) = replies_no_next (replies_of (receiving b s)) s.tables.current (closed (receiving b s)).current
 event_no_next s Tx = sent_no_next (transmitted (console_of s)) s
-event_no_next s Disk0 = refl
+event_no_next s Disk0 = served_no_next (raw_completed true (disk_of s)) s
 event_no_next s Disk1 = refl
-event_no_next s Fail0 = refl
+event_no_next s Fail0 = served_no_next (raw_completed false (disk_of s)) s
 event_no_next s Fail1 = refl
 
 effect_no_next : (s : Xinu) (e : Event) → begins_next (effect_of s e 0).lines ≡ false

@@ -13,6 +13,7 @@ use Rattle.xinu_model.specs.Messages.{message_calls, go_on_receive}
 use Rattle.xinu_model.specs.Pools.Calls.{pool_calls, go_on_getbuf}
 use Rattle.xinu_model.specs.Ports.Calls.{port_calls, go_on_ptsend, go_on_ptrecv}
 use Rattle.xinu_model.specs.Process.Calls.{process_calls, go_on_suspend}
+use Rattle.xinu_model.specs.RawDisk.Calls.{go_on_disk}
 use Rattle.xinu_model.specs.Rows.{CallRow, found_in, done_by}
 use Rattle.xinu_model.specs.Semaphores.Calls.{semaphore_calls}
 
@@ -28,7 +29,7 @@ call_of_number number args s = done_by (found_in calls number) args s
 abbrev pub called : ℕ → List ℕ → Xinu → CallResult
 called number args s = if is_built number then call_of_number number args s else refused s
 
--- What the first step of a process does that waited, once it is current again, by what is left of its call. No call waits for a disk yet.
+-- What the first step of a process does that waited, once it is current again, by what is left of its call.
 abbrev pub continued : Rest → Xinu → CallResult
 continued rest.Receive s = go_on_receive s
 continued rest.Timed s = go_on_receive s
@@ -40,4 +41,5 @@ continued rest.TtyGet s = go_on_getc s
 continued (rest.TtyRead part) s = go_on_read part s
 continued (rest.TtyPut b returned) s = go_on_putc b returned s
 continued (rest.TtyWrite part returned) s = go_on_write part returned s
+continued (rest.Disk reply) s = go_on_disk reply s
 continued _ s = record { call = start s; answer = Silent }

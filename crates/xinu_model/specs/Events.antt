@@ -3,7 +3,7 @@ use Rattle.std.specs.Prelude.{◌≡◌, ℕ, ◌==◌, Bool, true, false, if◌
 use Rattle.xinu_base.specs.declared.syscalls.Call.{Call}
 use Rattle.xinu_base.specs.declared.events.Event.{Event}
 use Rattle.xinu_base.specs.Events.{is_built_event}
-use Rattle.xinu_base.specs.declared.events.Event.TheVariants.{Step, Tick, Key, Tx, Dump}
+use Rattle.xinu_base.specs.declared.events.Event.TheVariants.{Step, Tick, Key, Tx, Disk0, Fail0, Dump}
 use Rattle.xinu_base.specs.declared.lines.TranscriptLine.{TranscriptLine}
 use Rattle.xinu_base.specs.declared.lines.TranscriptLine.TheVariants as line
 use Rattle.xinu_base.specs.declared.processes.Rest.{Rest}
@@ -17,6 +17,7 @@ use Rattle.xinu_model.specs.Console.Signals.{keyed, transmits}
 use Rattle.xinu_model.specs.Isa.Exec.{Executed, exec}
 use Rattle.xinu_model.specs.Machine.{Xinu, current_hart, EventResult, nothing_happens, end_of_event}
 use Rattle.xinu_model.specs.Process.Death.{exit}
+use Rattle.xinu_model.specs.RawDisk.Calls.{disk_completes}
 use Rattle.xinu_model.specs.Tables.{process_at}
 use Rattle.xinu_model.specs.Text.{tables_of}
 
@@ -63,12 +64,14 @@ stepped s =
     else (if is_done rest then instruction_step s
     else end_of_event s.tables.current [] (continued rest s))
 
--- What an event prints and leaves, if this many file calls take effect in it. Nothing is completed by a disk yet.
+-- What an event prints and leaves, if this many file calls take effect in it. The file system's disk completes nothing yet.
 abbrev pub event_effect : Xinu → Event → ℕ → EventResult
 event_effect s Step choice = stepped s
 event_effect s Tick choice = ticked s
 event_effect s (Key b) choice = keyed b s
 event_effect s Tx choice = transmits s
+event_effect s Disk0 choice = disk_completes true s
+event_effect s Fail0 choice = disk_completes false s
 event_effect s Dump choice = record { lines = tables_of s; state = s; panics = false }
 event_effect s _ choice = nothing_happens s
 

@@ -36,6 +36,10 @@ on_heap = record on_tables { heap = true }
 abbrev pub on_processes : Footprint
 on_processes = record on_heap { stacks = true }
 
+-- a process that dies gives up what it asked of disks
+abbrev pub on_deaths : Footprint
+on_deaths = record on_processes { disk = true; files = true }
+
 -- the pools, which stay where they lie
 abbrev pub on_pools : Footprint
 on_pools = record on_tables { pools = true }
@@ -55,6 +59,14 @@ on_ports_and_pools = record on_ports { pools = true }
 -- the console
 abbrev pub on_console : Footprint
 on_console = record on_tables { console = true }
+
+-- the raw disk
+abbrev pub on_disk : Footprint
+on_disk = record on_tables { disk = true }
+
+-- the console or the raw disk
+abbrev pub on_console_or_disk : Footprint
+on_console_or_disk = record on_console { disk = true }
 
 -- the name space
 abbrev pub on_names : Footprint

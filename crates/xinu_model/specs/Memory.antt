@@ -1,5 +1,5 @@
 -- RAM as a list of bytes: ranges, and numbers in it, the lowest byte first (RISC-V unprivileged manual, chapter "Introduction", section "Memory").
-use Rattle.std.specs.Prelude.{ℕ, ◌+◌, ◌*◌, ◌%◌, ◌==◌, nat_le, nat_lt, Bool, ◌&&◌, zero, suc, List, ◌++◌, replicate, take, drop, slice_index}
+use Rattle.std.specs.Prelude.{ℕ, ◌+◌, ◌*◌, ◌%◌, ◌==◌, nat_le, nat_lt, Bool, ◌&&◌, zero, suc, List, [], ◌∷◌, ◌++◌, replicate, take, drop, slice_index}
 use Rattle.std.specs.Int.{bytes_low_first}
 
 -- the number of bytes of RAM
@@ -22,6 +22,11 @@ may_access address width = (address % width == 0) && in_ram address width
 abbrev pub number_at : List ℕ → ℕ → ℕ → ℕ
 number_at memory address zero = 0
 number_at memory address (suc width) = slice_index memory address + 256 * number_at memory (address + 1) width
+
+-- n bytes from an address on
+unfoldable pub bytes_from : List ℕ → ℕ → ℕ → List ℕ
+bytes_from memory address zero = []
+bytes_from memory address (suc n) = slice_index memory address ∷ bytes_from memory (address + 1) n
 
 -- the memory with these bytes from an address on
 abbrev pub with_bytes : List ℕ → ℕ → ℕ → List ℕ → List ℕ

@@ -1,5 +1,6 @@
--- The raw disk: its blocks, and the requests that wait for it (book, chapter 18).
+-- The raw disk: its blocks, the requests that wait for it, and the calls on it (book, chapter 18).
 pub mod Callers
+pub mod Calls
 pub mod Completions
 pub mod Constants
 pub mod Requests

@@ -108,7 +108,7 @@ blocked_keeps sem left s c w empty fits asked =
     let g = promised_blocked asks_output t 1 t.current x m (InSemaphore sem) here refl in
     record {
       preserved = λ n. blocked_preserves Waiting left (InSemaphore sem) s (holds_may_call s c n) (λ h. cc) (refl, refl, refl) (omega arith, empty, f) (waits_hold sem (semaphore_at t sem).owner left m f);
-      touches = touches_blocked Waiting left (InSemaphore sem) s (touched_console t sem o w) (touched_calls left asked) refl;
+      touches = touches_blocked Waiting left (InSemaphore sem) s c.tables.runs (touched_console t sem o w) (touched_calls left asked) refl;
       console = λ p. let k = p.1 in let items = k.items in let room = k.room in
           record { itself = k.itself; items = omega arith; room = omega arith; spans = spans_move t t.current x m (InSemaphore sem) p.0 k.spans };
     }
@@ -138,8 +138,8 @@ token_console sem n s c w e k =
 pub goes_on_holds : (s : Xinu) → Holds s → Holds (goes_on (held s) s)
 goes_on_holds s c = record { tables = sound_goes_on (held s) s c.tables; harts = c.harts }
 
-pub goes_on_touches : (s : Xinu) → Touches (reach on_console) s (goes_on (held s) s)
-goes_on_touches s = touches_goes_on refl (held s) s
+pub goes_on_touches : (s : Xinu) → Holds s → Touches (reach on_console) s (goes_on (held s) s)
+goes_on_touches s c = touches_goes_on refl (held s) s c.tables.runs
 
 pub goes_on_console : (s : Xinu) → Holds s → HasConsole s → HasConsole (goes_on (held s) s)
 goes_on_console s c k =

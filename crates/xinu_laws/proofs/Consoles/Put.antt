@@ -103,11 +103,11 @@ pub go_on_putc_keeps : (b : ℕ) (returned : Bool) (s : Xinu) → Holds s
 go_on_putc_keeps b true s c =
     let u = goes_on (held s) s in
     let v = put TY_NEWLINE u in
-    keeps_after s u (answers OK v) (λ p. goes_on_place s c (ap asks_output p.0) p.1) refl (goes_on_touches s)
+    keeps_after s u (answers OK v) (λ p. goes_on_place s c (ap asks_output p.0) p.1) refl (goes_on_touches s c)
     (keeps_after u v (answers OK v) (put_console TY_NEWLINE u) refl (put_touches TY_NEWLINE u) (answers_keeps OK v (put_holds TY_NEWLINE u (goes_on_holds s c))))
 go_on_putc_keeps b false s c =
     let u = goes_on (held s) s in
-    keeps_after s u (put_byte b (TtyPut b true) (answers OK) u) (λ p. goes_on_place s c (ap asks_output p.0) p.1) refl (goes_on_touches s)
+    keeps_after s u (put_byte b (TtyPut b true) (answers OK) u) (λ p. goes_on_place s c (ap asks_output p.0) p.1) refl (goes_on_touches s c)
     (put_last_keeps b (TtyPut b true) u (goes_on_holds s c) refl tt)
 
 -- this many bytes more are written
@@ -135,14 +135,14 @@ go_on_write_keeps part true s c =
     let v = put TY_NEWLINE u in
     let more = writes (part.want - suc part.done) part.at (suc part.done) v in
     keeps_after {Q = IsSpan part × HasPlace u} s u more
-    (λ p. (subst HasSpan p.0 (p.1.spans s.tables.current), goes_on_place s c (ap asks_output p.0) p.1)) refl (goes_on_touches s)
+    (λ p. (subst HasSpan p.0 (p.1.spans s.tables.current), goes_on_place s c (ap asks_output p.0) p.1)) refl (goes_on_touches s c)
     (keeps_after u v more (λ p. (p.0, put_console TY_NEWLINE u p.1)) refl (put_touches TY_NEWLINE u) (writes_on_keeps part v (put_holds TY_NEWLINE u (goes_on_holds s c))))
 go_on_write_keeps part false s c =
     let u = goes_on (held s) s in
     let then_ = writes (part.want - suc part.done) part.at (suc part.done) in
     let b = slice_index s.memory (part.at + part.done) in
     keeps_after s u (put_byte b (TtyWrite part true) then_ u)
-    (λ p. (subst HasSpan p.0 (p.1.spans s.tables.current), goes_on_place s c (ap asks_output p.0) p.1)) refl (goes_on_touches s)
+    (λ p. (subst HasSpan p.0 (p.1.spans s.tables.current), goes_on_place s c (ap asks_output p.0) p.1)) refl (goes_on_touches s c)
     (put_byte_keeps (IsSpan part) b (TtyWrite part true) then_ u (goes_on_holds s c) refl (λ r. r) (λ v d. writes_on_keeps part v d))
 
 -- `write`.

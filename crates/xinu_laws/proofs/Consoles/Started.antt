@@ -3,7 +3,7 @@ use Rattle.std.proofs.Common.{◌≡◌, ℕ, zero, suc, List, false, refl, sym,
 use Rattle.xinu_base.specs.declared.processes.Process.{Process}
 use Rattle.xinu_model.specs.Boot.{Loaded, first_semaphores, null_tables, Boots, boot}
 use Rattle.xinu_model.specs.Console.State.{first_console}
-use Rattle.xinu_model.specs.Footprints.{on_processes}
+use Rattle.xinu_model.specs.Footprints.{on_deaths}
 use Rattle.xinu_model.specs.Machine.{Xinu}
 use Rattle.xinu_model.specs.Names.Sound.{AreSoundNames}
 use Rattle.xinu_model.specs.Sound.Console.{promised, HasSpan, IsConsole}
@@ -12,6 +12,7 @@ use Rattle.xinu_model.specs.Sound.Tables.{asks_input, asks_output, IsInside}
 use Rattle.xinu_model.specs.Tables.{no_process, process_at}
 use Rattle.xinu_laws.specs.Touches.{Reach}
 use Rattle.xinu_laws.proofs.Consoles.Framed.{asks_console, is_consoles, console_framed}
+use Rattle.xinu_laws.proofs.RawDisks.Started.{disk_start}
 use Rattle.xinu_laws.proofs.Tables.Starts.{same_everywhere}
 use Rattle.xinu_laws.proofs.Touches.Boot.{HasStart, touches_start}
 
@@ -31,10 +32,10 @@ first_console_holds = record {
 
 -- the start leaves the console alone
 abbrev beside_console : Reach
-beside_console = record { mine = is_consoles; asks = asks_console; parts = on_processes; clock = false }
+beside_console = record { mine = is_consoles; asks = asks_console; parts = on_deaths; clock = false }
 
 start_reached : HasStart beside_console
-start_reached = record { nothing = refl; heap = refl; stacks = refl }
+start_reached = record { nothing = refl; heap = refl; stacks = refl; disk = refl }
 
 -- When the machine starts.
 pub devices_start : (images : List Loaded) (start : Xinu) → boot images ≡ Boots start → IsInside start.tables → AreDevices start.tables start.parts.devices
@@ -42,5 +43,6 @@ devices_start images start e inside =
     let t = touches_start start_reached images start e in
     record {
       console = subst (IsConsole start.tables) (sym (t.parts.devices.console refl)) (console_framed null_tables start.tables first_console inside t.frame first_console_holds);
+      disk = disk_start images start e;
       names = subst AreSoundNames (sym (t.parts.devices.names refl)) (record { few = omega arith; row = tt });
     }

@@ -93,7 +93,7 @@ getc_keeps s c =
 pub go_on_getc_keeps : (s : Xinu) → Holds s → KeepsConsole (((process_at s.tables s.tables.current).rest ≡ TtyGet) × HasConsole s) s (go_on_getc s)
 go_on_getc_keeps s c =
     let u = goes_on (held s) s in
-    keeps_after s u (take_next u) (λ p. goes_on_item s c (ap asks_input p.0) p.1) refl (goes_on_touches s)
+    keeps_after s u (take_next u) (λ p. goes_on_item s c (ap asks_input p.0) p.1) refl (goes_on_touches s c)
     (take_char_keeps (console_of u).committed u refl (goes_on_holds s c))
 
 -- an item is taken and stored, and the rest of the read is done
@@ -132,7 +132,7 @@ go_on_read_keeps part s c =
     let u = goes_on (held s) s in
     let then_ = reads (part.want - suc part.done) part.at (suc part.done) in
     keeps_after s u (read_next part.at part.done then_ u)
-    (λ p. (subst HasSpan p.0 (p.1.spans s.tables.current), goes_on_item s c (ap asks_input p.0) p.1)) refl (goes_on_touches s)
+    (λ p. (subst HasSpan p.0 (p.1.spans s.tables.current), goes_on_item s c (ap asks_input p.0) p.1)) refl (goes_on_touches s c)
     (read_item_keeps (IsSpan part) (console_of u).committed part.at part.done then_ u refl (goes_on_holds s c)
     (λ v d. let k = reads_keeps (part.want - suc part.done) part.at (suc part.done) v d in
     record { preserved = k.preserved; touches = k.touches; console = λ p. k.console (let left = p.0.left in let within = p.0.within in omega arith, p.1) }))

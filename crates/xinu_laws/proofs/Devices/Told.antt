@@ -1,5 +1,5 @@
 -- An answer of -1 of a call on a device tells that it was refused.
-use Rattle.std.proofs.Common.{◌≡◌, ℕ, zero, suc, ◌+◌, ◌==◌, cond, Bool, true, false, ◌&&◌, List, [], ◌∷◌, Option, Some, None, refl, ℤ, pos, negsuc}
+use Rattle.std.proofs.Common.{◌≡◌, ℕ, zero, suc, ◌+◌, ◌==◌, cond, Bool, true, false, ◌&&◌, List, [], ◌∷◌, length, Option, Some, None, refl, ℤ, pos, negsuc}
 use Rattle.std.specs.Prelude.{slice_index}
 use Rattle.std.proofs.lemmas.Bool.{cond_both}
 use Rattle.xinu_base.specs.Constants.{OK, SYSERR, EOF}
@@ -19,6 +19,10 @@ use Rattle.xinu_model.specs.Memory.{in_ram}
 use Rattle.xinu_model.specs.Semaphores.Calls.{answers}
 use Rattle.xinu_model.specs.Semaphores.Waiting.{take_token, await}
 use Rattle.xinu_model.specs.Tables.{semaphore_at}
+use Rattle.xinu_model.specs.Memory.{bytes_from}
+use Rattle.xinu_model.specs.RawDisk.Calls.{disk_of, awaits_disk, may_request, disk_read, disk_write, disk_control}
+use Rattle.xinu_model.specs.RawDisk.Constants.{RD_BLKSIZ, RD_CTL_SIZE}
+use Rattle.xinu_model.specs.Words.{signed}
 use Rattle.xinu_laws.proofs.Devices.Kept.{device_open_holds, device_close_holds, device_read_holds, device_write_holds, device_getc_holds, device_putc_holds, device_seek_holds, device_control_holds}
 use Rattle.xinu_laws.proofs.Results.Refusals.{TellsRefusal}
 
@@ -116,18 +120,32 @@ console_control_tells f s =
     cond_both (f == TC_ICHARS) (answers (pos (semaphore_at s.tables TY_ISEM).tokens) s) (control_with (controlled f (console_of s)) s) (TellsRefusal s)
     (λ _ e. absurd (cc)) (λ _. control_tells (controlled f (console_of s)) s)
 
+-- the calls on the raw disk
+disk_read_tells : (at block : ℕ) (s : Xinu) → TellsRefusal s (disk_read at block s)
+disk_read_tells at block s =
+    cond_both (may_request at block s) (awaits_disk None at block s) (refused s) (TellsRefusal s) (λ _ e. absurd (cc)) (λ _. refusal_tells s)
+
+disk_write_tells : (at block : ℕ) (s : Xinu) → TellsRefusal s (disk_write at block s)
+disk_write_tells at block s =
+    cond_both (may_request at block s) (awaits_disk (Some (bytes_from s.memory at RD_BLKSIZ)) at block s) (refused s) (TellsRefusal s)
+    (λ _ e. absurd (cc)) (λ _. refusal_tells s)
+
+disk_control_tells : (f : ℕ) (s : Xinu) → TellsRefusal s (disk_control f s)
+disk_control_tells f s =
+    cond_both (f == RD_CTL_SIZE) (answers (pos (length (disk_of s).blocks)) s) (refused s) (TellsRefusal s) (λ _ e. absurd (cc)) (λ _. refusal_tells s)
+
 -- Calls 36 to 43.
 pub device_open_tells : (dev name mode : ℕ) (s : Xinu) → TellsRefusal s (device_open dev name mode s)
-device_open_tells dev name mode s = device_open_holds (TellsRefusal s) dev name mode s (refusal_tells s) (λ e. absurd (cc))
+device_open_tells dev name mode s = device_open_holds (TellsRefusal s) dev name mode s (refusal_tells s) (λ e. absurd (cc)) (λ e. absurd (cc))
 
 pub device_close_tells : (dev : ℕ) (s : Xinu) → TellsRefusal s (device_close dev s)
 device_close_tells dev s = device_close_holds (TellsRefusal s) dev s (refusal_tells s) (λ e. absurd (cc))
 
-pub device_read_tells : (dev at : ℕ) (n : ℤ) (s : Xinu) → TellsRefusal s (device_read dev at n s)
-device_read_tells dev at n s = device_read_holds (TellsRefusal s) dev at n s (refusal_tells s) (read_tells at n s)
+pub device_read_tells : (dev at n : ℕ) (s : Xinu) → TellsRefusal s (device_read dev at n s)
+device_read_tells dev at n s = device_read_holds (TellsRefusal s) dev at n s (refusal_tells s) (read_tells at (signed n) s) (disk_read_tells at n s)
 
-pub device_write_tells : (dev at : ℕ) (n : ℤ) (s : Xinu) → TellsRefusal s (device_write dev at n s)
-device_write_tells dev at n s = device_write_holds (TellsRefusal s) dev at n s (refusal_tells s) (write_tells at n s)
+pub device_write_tells : (dev at n : ℕ) (s : Xinu) → TellsRefusal s (device_write dev at n s)
+device_write_tells dev at n s = device_write_holds (TellsRefusal s) dev at n s (refusal_tells s) (write_tells at (signed n) s) (disk_write_tells at n s)
 
 pub device_getc_tells : (dev : ℕ) (s : Xinu) → TellsRefusal s (device_getc dev s)
 device_getc_tells dev s = device_getc_holds (TellsRefusal s) dev s (refusal_tells s) (never_tells s (console_getc s) (getc_never s))
@@ -139,4 +157,4 @@ pub device_seek_tells : (dev : ℕ) (n : ℤ) (s : Xinu) → TellsRefusal s (dev
 device_seek_tells dev n s = device_seek_holds (TellsRefusal s) dev n s (refusal_tells s)
 
 pub device_control_tells : (dev f x : ℕ) (s : Xinu) → TellsRefusal s (device_control dev f x s)
-device_control_tells dev f x s = device_control_holds (TellsRefusal s) dev f x s (refusal_tells s) (console_control_tells f s)
+device_control_tells dev f x s = device_control_holds (TellsRefusal s) dev f x s (refusal_tells s) (console_control_tells f s) (disk_control_tells f s)

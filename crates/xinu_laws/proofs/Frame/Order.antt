@@ -11,7 +11,7 @@ use Rattle.xinu_laws.proofs.Lists.Counts.{first_is_counted, count_behind, get_or
 use Rattle.xinu_laws.specs.Frame.{Frame, waits_at}
 
 -- a filter that all pass
-filter_all : (test : ℕ → Bool) (l : List ℕ) → ((x : ℕ) → 0 < count_in x l → test x ≡ true) → filter test l ≡ l
+pub filter_all : (test : ℕ → Bool) (l : List ℕ) → ((x : ℕ) → 0 < count_in x l → test x ≡ true) → filter test l ≡ l
 filter_all test [] h = refl
 filter_all test (x ∷ l) h =
     ap (λ b. cond b (x ∷ filter test l) (filter test l)) (h x (first_is_counted x l)) ∙ ap (λ r. x ∷ r) (filter_all test l (λ y g. h y (count_behind y x l g)))

@@ -5,6 +5,7 @@ use Rattle.std.proofs.lemmas.Bool.{cond_both}
 use Rattle.xinu_base.specs.declared.processes.Process.{Process}
 use Rattle.xinu_base.specs.declared.registers.Hart.{Hart}
 use Rattle.xinu_laws.specs.Apart.{is_in_stack, HasStackIn, IsApart}
+use Rattle.xinu_model.specs.Devices.State.{given_up}
 use Rattle.xinu_model.specs.Heap.Cells.{Heap, cells_for, Stack, take_stack, free_stack}
 use Rattle.xinu_model.specs.Machine.{Xinu, no_hart, CallState, CallResult, start, returns, refused}
 use Rattle.xinu_model.specs.Memory.{in_ram}
@@ -88,9 +89,9 @@ apart_create entry size priority name x y s apart =
     (λ _. apart)
     (λ _. apart_created (free_process s.tables) (take_stack (stack_size size) s.parts.heap) entry size priority bytes x y s refl apart)
 
--- the machine without process p, with a heap
+-- the machine without process p and what it asked of disks, with a heap
 abbrev without : ℕ → Heap → Xinu → Xinu
-without p u s = record s { tables = move_to p no_process None Nowhere s.tables; harts = set s.harts p no_hart; parts = record s.parts { heap = u } }
+without p u s = record s { tables = move_to p no_process None Nowhere s.tables; harts = set s.harts p no_hart; parts = record s.parts { heap = u; devices = given_up p s.parts.devices } }
 
 -- a dead process leaves its stack as it is, if the heap refuses it
 apart_left : (p : ℕ) (s : Xinu) → IsApart s → IsApart (without p s.parts.heap s)

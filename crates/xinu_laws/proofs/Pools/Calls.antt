@@ -17,11 +17,11 @@ use Rattle.xinu_laws.specs.Frame.{Frame}
 use Rattle.xinu_laws.proofs.Frame.MoveTo.{owner_move}
 use Rattle.xinu_laws.proofs.Pools.Holders.{IsHolder, holder_finds, by_holder}
 use Rattle.xinu_laws.proofs.Tables.Owners.{owner_tokens, owner_signalled}
-use Rattle.xinu_laws.proofs.Touches.Moves.{touches_goes_on, parts_signalled}
+use Rattle.xinu_laws.proofs.Touches.Moves.{frame_goes_on, parts_signalled}
 use Rattle.xinu_laws.proofs.Preserve.{current_within}
 use Rattle.xinu_laws.proofs.Pools.Frame.{is_pool}
 use Rattle.xinu_laws.proofs.Pools.Change.{promised, pool_kept, pool_taken, pool_put_back, are_pools_set, are_pools_kept}
-use Rattle.xinu_laws.proofs.Pools.Steps.{beside_pool, pool_semaphore_within, promised_token, promised_blocked, promised_goes_on, promised_signalled, frame_pool_token, frame_pool_blocked, frame_pool_signalled}
+use Rattle.xinu_laws.proofs.Pools.Steps.{pool_semaphore_within, promised_token, promised_blocked, promised_goes_on, promised_signalled, frame_pool_token, frame_pool_blocked, frame_pool_signalled}
 
 -- what holds of the pools holds in a state
 abbrev pub HavePools : Xinu → Type 0
@@ -73,7 +73,7 @@ pools_go_on_getbuf i s o k e =
     let x = record (process_at t t.current) { rest = Nothing } in
     let pool = pool_at s.parts.pools i in
     pools_taken t (goes_on (held s) s) i pool.free k (k.made t.current i e) refl
-    (λ j other. (touches_goes_on {f = beside_pool j} refl (held s) s).frame) (λ r. owner_move t t.current x (held s) Nowhere r)
+    (λ j other. frame_goes_on {mine = is_pool j} {asks = asks_pool j} refl (held s) s) (λ r. owner_move t t.current x (held s) Nowhere r)
     (promised_goes_on i pool.semaphore (held s) s (let c = current_within t o in let n = o.inside.processes in omega arith) o.runs e)
 
 -- A held buffer is put back.

@@ -1,7 +1,7 @@
 -- At the start there are no pools.
 use Rattle.std.proofs.Common.{◌≡◌, false, List, refl, sym, subst}
 use Rattle.xinu_model.specs.Boot.{Loaded, Boots, boot}
-use Rattle.xinu_model.specs.Footprints.{on_processes}
+use Rattle.xinu_model.specs.Footprints.{on_deaths}
 use Rattle.xinu_model.specs.Machine.{Xinu}
 use Rattle.xinu_model.specs.Sound.Pools.{ArePools}
 use Rattle.xinu_laws.specs.Touches.{Reach}
@@ -10,10 +10,10 @@ use Rattle.xinu_laws.proofs.Touches.Boot.{HasStart, OwnsNone, touches_start, sta
 
 -- the start leaves pools alone
 abbrev beside_all_pools : Reach
-beside_all_pools = record { mine = is_pools; asks = asks_buffer; parts = on_processes; clock = false }
+beside_all_pools = record { mine = is_pools; asks = asks_buffer; parts = on_deaths; clock = false }
 
 start_reached : HasStart beside_all_pools
-start_reached = record { nothing = refl; heap = refl; stacks = refl }
+start_reached = record { nothing = refl; heap = refl; stacks = refl; disk = refl }
 
 owns_none : OwnsNone beside_all_pools
 owns_none = record { none = λ sem. refl; kernel = λ sem. refl }

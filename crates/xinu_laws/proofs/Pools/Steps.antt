@@ -21,7 +21,7 @@ use Rattle.xinu_laws.proofs.Pools.Frame.{is_pool}
 use Rattle.xinu_laws.proofs.Pools.Change.{promised}
 use Rattle.xinu_laws.proofs.Tables.MoveTo.{semaphore_within, within_table}
 use Rattle.xinu_laws.proofs.Tables.Unblock.{waiter_waits}
-use Rattle.xinu_laws.proofs.Touches.Moves.{MayTouch, touches_blocked, touches_signalled}
+use Rattle.xinu_laws.proofs.Touches.Moves.{MayTouch, frame_blocked, touches_signalled}
 use Rattle.xinu_laws.proofs.Frame.Semaphores.{frame_semaphore}
 
 -- what doesn't pass adds nothing to a count
@@ -124,7 +124,7 @@ module _ (i j : ℕ) (other : j ≢ i) where
 
   -- if a caller waits for a buffer of pool i,
   pub frame_pool_blocked : (sem : ℕ) (s : Xinu) → (semaphore_at s.tables sem).owner ≡ Some (owner.Pool i) → Frame (is_pool j) (asks_pool j) s.tables (blocked Waiting (GetBuf i) (InSemaphore sem) s).call.state.tables
-  frame_pool_blocked sem s e = (touches_blocked {f = beside_pool j} Waiting (GetBuf i) (InSemaphore sem) s (other_owner s.tables sem e) (other_number i j other) refl).frame
+  frame_pool_blocked sem s e = frame_blocked {mine = is_pool j} {asks = asks_pool j} Waiting (GetBuf i) (InSemaphore sem) s (other_owner s.tables sem e) (other_number i j other)
 
   -- and if pool i is signalled.
   pub frame_pool_signalled : (sem : ℕ) (d : CallState) → IsInside d.state.tables → (semaphore_at d.state.tables sem).owner ≡ Some (owner.Pool i) → Frame (is_pool j) (asks_pool j) d.state.tables (signalled sem d).state.tables

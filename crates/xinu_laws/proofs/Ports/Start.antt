@@ -7,7 +7,7 @@ use Rattle.xinu_model.specs.Machine.{Xinu}
 use Rattle.xinu_model.specs.Ports.Queues.{MessagePort, no_port, first_ports, most_ports, port_at, nodes}
 use Rattle.xinu_model.specs.Sound.Ports.{ArePorts}
 use Rattle.xinu_model.specs.Tables.{Tables, process_at, semaphore_at}
-use Rattle.xinu_model.specs.Footprints.{on_processes}
+use Rattle.xinu_model.specs.Footprints.{on_deaths}
 use Rattle.xinu_laws.specs.Touches.{Reach}
 use Rattle.xinu_laws.proofs.Touches.Boot.{HasStart, OwnsNone, touches_start, start_other, start_unasked}
 use Rattle.xinu_laws.proofs.Ports.Kept.{is_ports, asks_port}
@@ -37,10 +37,10 @@ no_ports t semaphores rests = record {
 
 -- the start leaves ports alone
 abbrev beside_all_ports : Reach
-beside_all_ports = record { mine = is_ports; asks = asks_port; parts = on_processes; clock = false }
+beside_all_ports = record { mine = is_ports; asks = asks_port; parts = on_deaths; clock = false }
 
 start_reached : HasStart beside_all_ports
-start_reached = record { nothing = refl; heap = refl; stacks = refl }
+start_reached = record { nothing = refl; heap = refl; stacks = refl; disk = refl }
 
 owns_none : OwnsNone beside_all_ports
 owns_none = record { none = λ sem. refl; kernel = λ sem. refl }

@@ -1,13 +1,13 @@
 -- Each call of the table, and what is left of each that waited, keeps what holds of tables, pools and ports.
-use Rattle.std.proofs.Common.{◌≡◌, ℕ, ◌%◌, Bool, true, false, not, ◌&&◌, List, Option, Some, None, refl}
+use Rattle.std.proofs.Common.{◌≡◌, ℕ, ◌%◌, Bool, true, false, not, ◌&&◌, ◌||◌, List, Option, Some, None, refl}
 use Rattle.std.specs.Prelude.{slice_index}
 use Rattle.std.specs.List.{AllByRecursion}
-use Rattle.std.proofs.lemmas.Bool.{cond_both, and_parts}
+use Rattle.std.proofs.lemmas.Bool.{cond_both, and_parts, or_parts}
 use Rattle.xinu_base.specs.Syscalls.{is_built}
 use Rattle.xinu_model.specs.Calls.{calls, call_of_number, called, continued}
 use Rattle.xinu_model.specs.Console.Putting.{go_on_putc, go_on_write}
 use Rattle.xinu_model.specs.Console.Taking.{go_on_getc, go_on_read}
-use Rattle.xinu_model.specs.Footprints.{Footprint, on_tables, on_processes, on_pools, on_ports, on_console}
+use Rattle.xinu_model.specs.Footprints.{Footprint, on_tables, on_deaths, on_pools, on_ports, on_console}
 use Rattle.xinu_model.specs.Machine.{Xinu, Answer, Returns, Waits, Gone, Panics, Silent, CallResult, replies_of, refused}
 use Rattle.xinu_model.specs.Messages.{go_on_receive}
 use Rattle.xinu_model.specs.Names.Calls.{names_of}
@@ -16,6 +16,7 @@ use Rattle.xinu_model.specs.Pools.Calls.{go_on_getbuf}
 use Rattle.xinu_model.specs.Ports.Calls.{go_on_ptsend, go_on_ptrecv}
 use Rattle.xinu_laws.specs.Preserve.{AreAlive, FitsAnswer, IsPreserved, KeepsAll, MayCall, MayCallAny}
 use Rattle.xinu_model.specs.Process.Death.{exit}
+use Rattle.xinu_model.specs.RawDisk.Calls.{go_on_disk}
 use Rattle.xinu_model.specs.Process.Calls.{go_on_suspend}
 use Rattle.xinu_model.specs.Rows.{CallRow, found_in, done_by}
 use Rattle.xinu_model.specs.Sound.Tables.{IsInside}
@@ -43,7 +44,10 @@ use Rattle.xinu_laws.proofs.Ports.Made.{PreservesPorts, ptcreate_on_ports}
 use Rattle.xinu_laws.proofs.Ports.Sends.{ptsend_on_ports, ptrecv_on_ports, go_on_ptsend_on_ports, go_on_ptrecv_on_ports}
 use Rattle.xinu_laws.proofs.Lists.RowByRow.{◌⨾◌}
 use Rattle.xinu_laws.proofs.Lists.CallRows.{of_row}
-use Rattle.xinu_laws.proofs.Touches.Kept.{keeps_pools, keeps_ports, keeps_console, keeps_names, keeps_unused}
+use Rattle.xinu_laws.proofs.RawDisks.Kept.{HasDisk}
+use Rattle.xinu_laws.proofs.RawDisks.Deaths.{kill_keeps_disk, exit_keeps_disk}
+use Rattle.xinu_laws.proofs.Touches.Disks.{go_on_disk_touches, go_on_disk_preserves}
+use Rattle.xinu_laws.proofs.Touches.Kept.{keeps_pools, keeps_ports, keeps_console, keeps_disk, keeps_names, keeps_unused}
 use Rattle.xinu_laws.proofs.Preserve.Unused.{AreUnusedAfter, exit_unused, kill_unused, create_unused}
 use Rattle.xinu_laws.proofs.Tables.Alive.{alive_callers}
 use Rattle.xinu_laws.proofs.Touches.Messages.{go_on_receive_touches}
@@ -75,13 +79,14 @@ replies_alive h k = alive_callers h.answer h.call.state.tables h.call.released k
 pub keeps_within : (f : Footprint) (s : Xinu) (h : CallResult) → MayCallAny s → Touches (reach f) s h.call.state → IsPreserved h
     → (f.pools ≡ true → ArePools h.call.state.tables h.call.state.parts.pools)
     → (f.ports ≡ true → ArePorts h.call.state.tables h.call.state.parts.ports) → (f.stacks ≡ true → AreUnusedAfter h)
-    → (f.console ≡ true → HasConsole h.call.state) → (f.names ≡ true → AreSoundNames (names_of h.call.state)) → KeepsAll h
-keeps_within f s h c t preserved pools ports unused console names = record {
+    → (f.console ≡ true → HasConsole h.call.state) → (f.names ≡ true → AreSoundNames (names_of h.call.state))
+    → (f.disk || f.files ≡ true → HasDisk h.call.state) → KeepsAll h
+keeps_within f s h c t preserved pools ports unused console names disk = record {
   preserved = preserved;
   unused = by_stacks f.stacks refl;
   pools = by_pools f.pools refl;
   ports = by_ports f.ports refl;
-  devices = record { console = by_console f.console refl; names = by_names f.names refl };
+  devices = record { console = by_console f.console refl; names = by_names f.names refl; disk = by_disk (f.disk || f.files) refl };
 }
   where
     by_pools : (b : Bool) → f.pools ≡ b → ArePools h.call.state.tables h.call.state.parts.pools
@@ -104,6 +109,12 @@ keeps_within f s h c t preserved pools ports unused console names = record {
     by_names true e = names e
     by_names false e = keeps_names e t c.devices.names
 
+    by_disk : (b : Bool) → f.disk || f.files ≡ b → HasDisk h.call.state
+    by_disk true e = disk e
+    by_disk false e =
+        let parts = or_parts f.disk f.files e in
+        keeps_disk parts.0 parts.1 t c.may.tables.inside (inside_preserved h preserved) c.devices.disk
+
 -- what holds when a process calls
 may_hold : (s : Xinu) → MayCallAny s → Holds s
 may_hold s c = record { tables = c.may.tables; harts = c.may.harts }
@@ -118,10 +129,14 @@ pub record PreservesRow (r : CallRow) : Type 0 where
   pub unused : r.touches.stacks ≡ true → (a : ℕ → ℕ) (s : Xinu) → MayCallAny s → AreUnusedAfter (r.effect a s)
   pub console : r.touches.console ≡ true → (a : ℕ → ℕ) (s : Xinu) → MayCallAny s → HasConsole (r.effect a s).call.state
   pub names : r.touches.names ≡ true → (a : ℕ → ℕ) (s : Xinu) → MayCallAny s → AreSoundNames (names_of (r.effect a s).call.state)
+  pub disk : r.touches.disk || r.touches.files ≡ true → (a : ℕ → ℕ) (s : Xinu) → MayCallAny s → HasDisk (r.effect a s).call.state
 
--- whether a footprint names no device
+-- whether a footprint names no disk, and no device
+abbrev names_no_disk : Footprint → Bool
+names_no_disk f = not (f.disk || f.files)
+
 abbrev names_no_device : Footprint → Bool
-names_no_device f = not f.console && not f.names
+names_no_device f = not f.console && (not f.names && names_no_disk f)
 
 -- and neither pools nor ports
 abbrev names_no_part : Footprint → Bool
@@ -134,10 +149,13 @@ unnamed false h e = absurd (cc)
 
 -- no device is named
 no_console : (f : Footprint) {P : Type 0} → names_no_device f ≡ true → f.console ≡ true → P
-no_console f e = unnamed f.console (and_parts (not f.console) (not f.names) e).0
+no_console f e = unnamed f.console (and_parts (not f.console) (not f.names && names_no_disk f) e).0
 
 no_names : (f : Footprint) {P : Type 0} → names_no_device f ≡ true → f.names ≡ true → P
-no_names f e = unnamed f.names (and_parts (not f.console) (not f.names) e).1
+no_names f e = unnamed f.names (and_parts (not f.names) (names_no_disk f) (and_parts (not f.console) (not f.names && names_no_disk f) e).1).0
+
+no_disk : (f : Footprint) {P : Type 0} → names_no_device f ≡ true → f.disk || f.files ≡ true → P
+no_disk f e = unnamed (f.disk || f.files) (and_parts (not f.names) (names_no_disk f) (and_parts (not f.console) (not f.names && names_no_disk f) e).1).1
 
 module _ {r : CallRow} where
   -- A call that touches no pool, no port and no device, and may make processes and end them.
@@ -153,6 +171,7 @@ module _ {r : CallRow} where
         unused = λ g a s c. unused a s c g;
         console = no_console r.touches k.1;
         names = no_names r.touches k.1;
+        disk = no_disk r.touches k.1;
       }
 
   -- A call that touches no pool, no port, no device and no stack.
@@ -176,6 +195,7 @@ module _ {r : CallRow} where
         unused = unnamed r.touches.stacks k.0;
         console = no_console r.touches k.1;
         names = no_names r.touches k.1;
+        disk = no_disk r.touches k.1;
       }
 
   -- A call that touches ports alone.
@@ -191,6 +211,7 @@ module _ {r : CallRow} where
         unused = unnamed r.touches.stacks l.0;
         console = no_console r.touches l.1;
         names = no_names r.touches l.1;
+        disk = no_disk r.touches l.1;
       }
 
   -- A call that touches both.
@@ -204,39 +225,63 @@ module _ {r : CallRow} where
         unused = unnamed r.touches.stacks h.0;
         console = no_console r.touches h.1;
         names = no_names r.touches h.1;
+        disk = no_disk r.touches h.1;
       }
 
-  -- A call on a device, which touches the console at most.
-  of_console : not r.touches.pools && (not r.touches.ports && (not r.touches.stacks && not r.touches.names)) ≡ true → ((a : ℕ → ℕ) → Keeps (r.effect a))
+  -- A death.
+  of_deaths : not r.touches.pools && (not r.touches.ports && (not r.touches.console && not r.touches.names)) ≡ true
+      → ((a : ℕ → ℕ) (s : Xinu) → MayCall s → IsPreserved (r.effect a s))
+      → ((a : ℕ → ℕ) (s : Xinu) → MayCallAny s → AreUnusedAfter (r.effect a s))
+      → ((a : ℕ → ℕ) (s : Xinu) → MayCall s → HasDisk s → HasDisk (r.effect a s).call.state) → PreservesRow r
+  of_deaths e preserved unused disk =
+      let h = and_parts (not r.touches.pools) (not r.touches.ports && (not r.touches.console && not r.touches.names)) e in
+      let l = and_parts (not r.touches.ports) (not r.touches.console && not r.touches.names) h.1 in
+      let m = and_parts (not r.touches.console) (not r.touches.names) l.1 in
+      record {
+        preserved = λ a s c. preserved a s c.may;
+        pools = unnamed r.touches.pools h.0;
+        ports = unnamed r.touches.ports l.0;
+        unused = λ _ a s c. unused a s c;
+        console = unnamed r.touches.console m.0;
+        names = unnamed r.touches.names m.1;
+        disk = λ _ a s c. disk a s c.may c.devices.disk;
+      }
+
+  -- A call on a device, which touches the console or the raw disk at most.
+  of_device : not r.touches.pools && (not r.touches.ports && (not r.touches.stacks && not r.touches.names)) ≡ true → ((a : ℕ → ℕ) → Keeps (r.effect a))
       → PreservesRow r
-  of_console e k =
+  of_device e k =
       let h = and_parts (not r.touches.pools) (not r.touches.ports && (not r.touches.stacks && not r.touches.names)) e in
       let l = and_parts (not r.touches.ports) (not r.touches.stacks && not r.touches.names) h.1 in
       let m = and_parts (not r.touches.stacks) (not r.touches.names) l.1 in
       record {
-        preserved = λ a s c. (k a s (may_hold s c)).preserved c.may.not_null;
+        preserved = λ a s c. (k a s (may_hold s c)).preserved c.devices.disk c.may.not_null;
         pools = unnamed r.touches.pools h.0;
         ports = unnamed r.touches.ports l.0;
         unused = unnamed r.touches.stacks m.0;
-        console = λ _ a s c. (k a s (may_hold s c)).console c.devices.console;
+        console = λ _ a s c. let b = k a s (may_hold s c) in b.console (inside_preserved (r.effect a s) (b.preserved c.devices.disk c.may.not_null)) c.devices.console;
         names = unnamed r.touches.names m.1;
+        disk = λ _ a s c. let b = k a s (may_hold s c) in
+            b.disk c.may.tables.inside (inside_preserved (r.effect a s) (b.preserved c.devices.disk c.may.not_null)) c.devices.disk;
       }
 
   -- A call that touches the mounted prefixes alone.
-  of_names : not r.touches.pools && (not r.touches.ports && (not r.touches.stacks && not r.touches.console)) ≡ true
+  of_names : not r.touches.pools && (not r.touches.ports && (not r.touches.stacks && (not r.touches.console && names_no_disk r.touches))) ≡ true
       → ((a : ℕ → ℕ) (s : Xinu) → MayCall s → IsPreserved (r.effect a s))
       → ((a : ℕ → ℕ) (s : Xinu) → AreSoundNames (names_of s) → AreSoundNames (names_of (r.effect a s).call.state)) → PreservesRow r
   of_names e preserved names =
-      let h = and_parts (not r.touches.pools) (not r.touches.ports && (not r.touches.stacks && not r.touches.console)) e in
-      let l = and_parts (not r.touches.ports) (not r.touches.stacks && not r.touches.console) h.1 in
-      let m = and_parts (not r.touches.stacks) (not r.touches.console) l.1 in
+      let h = and_parts (not r.touches.pools) (not r.touches.ports && (not r.touches.stacks && (not r.touches.console && names_no_disk r.touches))) e in
+      let l = and_parts (not r.touches.ports) (not r.touches.stacks && (not r.touches.console && names_no_disk r.touches)) h.1 in
+      let m = and_parts (not r.touches.stacks) (not r.touches.console && names_no_disk r.touches) l.1 in
+      let n = and_parts (not r.touches.console) (names_no_disk r.touches) m.1 in
       record {
         preserved = λ a s c. preserved a s c.may;
         pools = unnamed r.touches.pools h.0;
         ports = unnamed r.touches.ports l.0;
         unused = unnamed r.touches.stacks m.0;
-        console = unnamed r.touches.console m.1;
+        console = unnamed r.touches.console n.0;
         names = λ _ a s c. names a s c.devices.names;
+        disk = unnamed (r.touches.disk || r.touches.files) n.1;
       }
 
 -- Each call of the table.
@@ -247,11 +292,11 @@ calls_preserve =
     of_processes refl (λ a. create_preserves (a 0) (a 1) (half (a 2)) (a 3) (a 4) (a 5)) (λ a s c _. create_unused (a 0) (a 1) (half (a 2)) (a 3) (a 4) (a 5) s c) ⨾
     of_tables refl (λ a. resume_preserves (a 0)) ⨾
     of_tables refl (λ a. suspend_preserves (a 0)) ⨾
-    of_processes refl (λ a. kill_preserves (a 0)) (λ a s c _. kill_unused (a 0) s c) ⨾
+    of_deaths refl (λ a. kill_preserves (a 0)) (λ a s c. kill_unused (a 0) s c) (λ a. kill_keeps_disk (a 0)) ⨾
     of_tables refl (λ a. yield_preserves) ⨾
     of_tables refl (λ a. chprio_preserves (a 0) (half (a 1))) ⨾
     of_tables refl (λ a. getprio_preserves (a 0)) ⨾
-    of_processes refl (λ a. exit_preserves) (λ a s c _. exit_unused s c) ⨾
+    of_deaths refl (λ a. exit_preserves) (λ a s c. exit_unused s c) (λ a. exit_keeps_disk) ⨾
     of_tables refl (λ a. getmem_preserves (a 0)) ⨾
     of_tables refl (λ a. freemem_preserves (a 0) (a 1)) ⨾
     of_tables refl (λ a. getstk_preserves (a 0)) ⨾
@@ -278,14 +323,14 @@ calls_preserve =
     of_all refl (λ a s c. ptreset_keeps (a 0) (a 1) s c.may c.pools c.ports) ⨾
     of_ports refl (λ a s c. ptsend_on_ports (a 0) (a 1) s c.may c.ports) ⨾
     of_ports refl (λ a s c. ptrecv_on_ports (a 0) s c.may c.ports) ⨾
-    of_console refl (λ a. device_open_keeps (a 0) (a 1) (a 2)) ⨾
-    of_console refl (λ a. device_close_keeps (a 0)) ⨾
-    of_console refl (λ a. device_read_keeps (a 0) (a 1) (signed (a 2))) ⨾
-    of_console refl (λ a. device_write_keeps (a 0) (a 1) (signed (a 2))) ⨾
-    of_console refl (λ a. device_getc_keeps (a 0)) ⨾
-    of_console refl (λ a. device_putc_keeps (a 0) (a 1 % 256)) ⨾
-    of_console refl (λ a. device_seek_keeps (a 0) (signed (a 1))) ⨾
-    of_console refl (λ a. device_control_keeps (a 0) (a 1) (a 2)) ⨾
+    of_device refl (λ a. device_open_keeps (a 0) (a 1) (a 2)) ⨾
+    of_device refl (λ a. device_close_keeps (a 0)) ⨾
+    of_device refl (λ a. device_read_keeps (a 0) (a 1) (a 2)) ⨾
+    of_device refl (λ a. device_write_keeps (a 0) (a 1) (a 2)) ⨾
+    of_device refl (λ a. device_getc_keeps (a 0)) ⨾
+    of_device refl (λ a. device_putc_keeps (a 0) (a 1 % 256)) ⨾
+    of_device refl (λ a. device_seek_keeps (a 0) (signed (a 1))) ⨾
+    of_device refl (λ a. device_control_keeps (a 0) (a 1) (a 2)) ⨾
     of_names refl (λ a. mount_preserves (a 0) (a 1) (a 2)) (λ a. mount_keeps_names (a 0) (a 1) (a 2)) ⨾
     tt
 
@@ -295,7 +340,7 @@ pub row_keeps : (number : ℕ) (r : CallRow) → found_in calls number ≡ Some 
 row_keeps number r e a s c =
     let t = of_row Stays calls calls_touch number r e in
     let k = of_row PreservesRow calls calls_preserve number r e in
-    keeps_within r.touches s (r.effect a s) c (t a s (sound_where_called s c)) (k.preserved a s c) (λ h. k.pools h a s c) (λ h. k.ports h a s c) (λ h. k.unused h a s c) (λ h. k.console h a s c) (λ h. k.names h a s c)
+    keeps_within r.touches s (r.effect a s) c (t a s (sound_where_called s c)) (k.preserved a s c) (λ h. k.pools h a s c) (λ h. k.ports h a s c) (λ h. k.unused h a s c) (λ h. k.console h a s c) (λ h. k.names h a s c) (λ h. k.disk h a s c)
 
 -- a refusal,
 pub refused_keeps_all : (s : Xinu) → MayCallAny s → KeepsAll (refused s)
@@ -314,12 +359,12 @@ called_keeps number args s c = cond_both (is_built number) (call_of_number numbe
 
 -- the death of the caller,
 pub exit_keeps : (s : Xinu) → MayCallAny s → KeepsAll (exit s)
-exit_keeps s c = keeps_within on_processes s (exit s) c (exit_touches s (sound_where_called s c)) (exit_preserves s c.may) (λ e. absurd (cc)) (λ e. absurd (cc)) (λ _. exit_unused s c) (λ e. absurd (cc)) (λ e. absurd (cc))
+exit_keeps s c = keeps_within on_deaths s (exit s) c (exit_touches s (sound_where_called s c)) (exit_preserves s c.may) (λ e. absurd (cc)) (λ e. absurd (cc)) (λ _. exit_unused s c) (λ e. absurd (cc)) (λ e. absurd (cc)) (λ _. exit_keeps_disk s c.may c.devices.disk)
 
 -- what is left of a call on the console,
 console_continues : (s : Xinu) (h : CallResult) {Left : Type 0} → MayCallAny s → Left → KeepsConsole (Left × HasConsole s) s h → KeepsAll h
 console_continues s h c left k =
-    keeps_within on_console s h c k.touches (k.preserved c.may.not_null) (λ e. absurd (cc)) (λ e. absurd (cc)) (λ e. absurd (cc)) (λ _. k.console (left, c.devices.console)) (λ e. absurd (cc))
+    keeps_within on_console s h c k.touches (k.preserved c.may.not_null) (λ e. absurd (cc)) (λ e. absurd (cc)) (λ e. absurd (cc)) (λ _. k.console (left, c.devices.console)) (λ e. absurd (cc)) (λ e. absurd (cc))
 
 -- and what is left of any call that waited.
 pub continued_keeps : (s : Xinu) → MayCallAny s → KeepsAll (continued (process_at s.tables s.tables.current).rest s)
@@ -327,15 +372,17 @@ continued_keeps s c =
     let k = sound_where_called s c in
     let m = may_hold s c in
     continued_holds KeepsAll (process_at s.tables s.tables.current).rest s
-    (keeps_within on_tables s (go_on_receive s) c (go_on_receive_touches s k) (go_on_receive_preserves s c.may) (λ e. absurd (cc)) (λ e. absurd (cc)) (λ e. absurd (cc)) (λ e. absurd (cc)) (λ e. absurd (cc)))
-    (keeps_within on_tables s (go_on_suspend s) c (go_on_suspend_touches s k) (go_on_suspend_preserves s c.may) (λ e. absurd (cc)) (λ e. absurd (cc)) (λ e. absurd (cc)) (λ e. absurd (cc)) (λ e. absurd (cc)))
-    (λ i e. keeps_within on_pools s (go_on_getbuf i s) c (go_on_getbuf_touches i s k) (go_on_getbuf_preserves i s c.may) (λ _. pools_go_on_getbuf i s c.may.tables c.pools e) (λ g. absurd (cc)) (λ g. absurd (cc)) (λ g. absurd (cc)) (λ g. absurd (cc)))
+    (keeps_within on_tables s (go_on_receive s) c (go_on_receive_touches s k) (go_on_receive_preserves s c.may) (λ e. absurd (cc)) (λ e. absurd (cc)) (λ e. absurd (cc)) (λ e. absurd (cc)) (λ e. absurd (cc)) (λ e. absurd (cc)))
+    (keeps_within on_tables s (go_on_suspend s) c (go_on_suspend_touches s k) (go_on_suspend_preserves s c.may) (λ e. absurd (cc)) (λ e. absurd (cc)) (λ e. absurd (cc)) (λ e. absurd (cc)) (λ e. absurd (cc)) (λ e. absurd (cc)))
+    (λ i e. keeps_within on_pools s (go_on_getbuf i s) c (go_on_getbuf_touches i s k) (go_on_getbuf_preserves i s c.may) (λ _. pools_go_on_getbuf i s c.may.tables c.pools e) (λ g. absurd (cc)) (λ g. absurd (cc)) (λ g. absurd (cc)) (λ g. absurd (cc)) (λ g. absurd (cc)))
     (λ ticket message e. let p = go_on_ptsend_on_ports ticket message s c.may c.ports e in
-    keeps_within on_ports s (go_on_ptsend ticket message s) c (go_on_ptsend_touches ticket message s k) p.preserved (λ g. absurd (cc)) (λ _. p.ports) (λ g. absurd (cc)) (λ g. absurd (cc)) (λ g. absurd (cc)))
+    keeps_within on_ports s (go_on_ptsend ticket message s) c (go_on_ptsend_touches ticket message s k) p.preserved (λ g. absurd (cc)) (λ _. p.ports) (λ g. absurd (cc)) (λ g. absurd (cc)) (λ g. absurd (cc)) (λ g. absurd (cc)))
     (λ ticket e. let p = go_on_ptrecv_on_ports ticket s c.may c.ports e in
-    keeps_within on_ports s (go_on_ptrecv ticket s) c (go_on_ptrecv_touches ticket s k) p.preserved (λ g. absurd (cc)) (λ _. p.ports) (λ g. absurd (cc)) (λ g. absurd (cc)) (λ g. absurd (cc)))
+    keeps_within on_ports s (go_on_ptrecv ticket s) c (go_on_ptrecv_touches ticket s k) p.preserved (λ g. absurd (cc)) (λ _. p.ports) (λ g. absurd (cc)) (λ g. absurd (cc)) (λ g. absurd (cc)) (λ g. absurd (cc)))
     (λ e. console_continues s (go_on_getc s) c e (go_on_getc_keeps s m))
     (λ part e. console_continues s (go_on_read part s) c e (go_on_read_keeps part s m))
     (λ b returned e. console_continues s (go_on_putc b returned s) c e (go_on_putc_keeps b returned s m))
     (λ part returned e. console_continues s (go_on_write part returned s) c e (go_on_write_keeps part returned s m))
+    (λ reply e. keeps_within on_tables s (go_on_disk reply s) c (go_on_disk_touches reply s k) (go_on_disk_preserves reply s c.may)
+    (λ g. absurd (cc)) (λ g. absurd (cc)) (λ g. absurd (cc)) (λ g. absurd (cc)) (λ g. absurd (cc)) (λ g. absurd (cc)))
     (record { preserved = record { tables = c.may.tables; harts = c.may.harts; released = tt }; unused = c.unused; pools = c.pools; ports = c.ports; devices = c.devices })

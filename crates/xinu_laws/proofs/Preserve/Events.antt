@@ -1,9 +1,9 @@
 -- Each event keeps the whole state sound, and so does each run; the machine starts in a sound state.
-use Rattle.std.proofs.Common.{◌≡◌, ◌≢◌, ◌<◌, ◌==◌, ◌+◌, ℕ, Option, Some, None, List, [], ◌∷◌, cond, length, refl, ap, subst}
+use Rattle.std.proofs.Common.{◌≡◌, ◌≢◌, ◌<◌, ◌==◌, ◌+◌, ℕ, Bool, true, false, Option, Some, None, List, [], ◌∷◌, cond, length, refl, ap, subst}
 use Rattle.std.proofs.lemmas.Bool.{cond_both, eqb-false}
 use Rattle.xinu_base.specs.declared.events.End.{End}
 use Rattle.xinu_base.specs.declared.events.Event.{Event}
-use Rattle.xinu_base.specs.declared.events.Event.TheVariants.{Step, Tick, Key, Tx}
+use Rattle.xinu_base.specs.declared.events.Event.TheVariants.{Step, Tick, Key, Tx, Disk0, Fail0}
 use Rattle.xinu_base.specs.Events.{is_built_event}
 use Rattle.xinu_base.specs.declared.lines.TranscriptLine.{TranscriptLine}
 use Rattle.xinu_base.specs.declared.lines.TranscriptLine.TheVariants as line
@@ -19,6 +19,8 @@ use Rattle.xinu_model.specs.Events.{call_of, call_line, exit_call, with_executed
 use Rattle.xinu_model.specs.Isa.Exec.{exec}
 use Rattle.xinu_model.specs.Machine.{Xinu, Silent, start, CallState, CallResult, EventResult, current_hart, nothing_happens, end_of_event}
 use Rattle.xinu_model.specs.Process.Death.{exit}
+use Rattle.xinu_model.specs.RawDisk.Calls.{disk_of, after_served, serving, served_in}
+use Rattle.xinu_model.specs.RawDisk.Completions.{Served, raw_completed}
 use Rattle.xinu_model.specs.Runs.{RunsTo}
 use Rattle.xinu_model.specs.Sound.State.{IsSound}
 use Rattle.xinu_model.specs.Tables.{process_at}
@@ -27,7 +29,8 @@ use Rattle.xinu_laws.proofs.Touches.Events.{touches_end_of_event, released_by_ti
 use Rattle.xinu_laws.proofs.Consoles.Kept.{sound_holds}
 use Rattle.xinu_laws.proofs.Consoles.Signalled.{Signals, receiving_signals, sending_signals}
 use Rattle.xinu_laws.proofs.Consoles.Started.{devices_start}
-use Rattle.xinu_laws.proofs.Touches.Kept.{keeps_pools, keeps_ports, keeps_console, keeps_names, keeps_unused}
+use Rattle.xinu_laws.proofs.RawDisks.Completed.{Completes, served_completes}
+use Rattle.xinu_laws.proofs.Touches.Kept.{keeps_pools, keeps_ports, keeps_console, keeps_disk, keeps_names, keeps_unused}
 use Rattle.xinu_model.specs.Footprints.{on_tables}
 use Rattle.xinu_laws.specs.Touches.{reach, at_a_tick, Touches}
 use Rattle.xinu_laws.proofs.Tables.Ends.{sound_end_of_event, harts_end_of_event, harts_ticked, executed_may_call}
@@ -54,7 +57,7 @@ state_end_of_event was first result k =
       unused = keeps_unused (touches.free refl) k.unused;
       pools = keeps_pools refl touches k.pools;
       ports = keeps_ports refl touches tables.inside k.ports;
-      devices = record { console = keeps_console refl touches tables.inside k.devices.console; names = keeps_names refl touches k.devices.names };
+      devices = record { console = keeps_console refl touches tables.inside k.devices.console; names = keeps_names refl touches k.devices.names; disk = keeps_disk refl refl touches (inside_preserved result k.preserved) tables.inside k.devices.disk };
     }
 
 -- a process that isn't the null process may call in a sound state
@@ -100,7 +103,7 @@ state_ticked s k =
       unused = keeps_unused (touches.free refl) k.unused;
       pools = keeps_pools {f = on_tables} refl touches k.pools;
       ports = keeps_ports {f = on_tables} refl touches tables.inside k.ports;
-      devices = record { console = keeps_console {f = on_tables} refl touches tables.inside k.devices.console; names = keeps_names {f = on_tables} refl touches k.devices.names };
+      devices = record { console = keeps_console {f = on_tables} refl touches tables.inside k.devices.console; names = keeps_names {f = on_tables} refl touches k.devices.names; disk = keeps_disk {f = on_tables} refl refl touches k.tables.inside tables.inside k.devices.disk };
     }
 
 -- And so does what is under way at its end.
@@ -123,7 +126,7 @@ signals_keep_all s d k r = record {
   unused = keeps_unused (r.touches.free refl) k.unused;
   pools = keeps_pools refl r.touches k.pools;
   ports = keeps_ports refl r.touches r.tables.inside k.ports;
-  devices = record { console = r.console k.devices.console; names = keeps_names refl r.touches k.devices.names };
+  devices = record { console = r.console k.devices.console; names = keeps_names refl r.touches k.devices.names; disk = keeps_disk refl refl r.touches k.tables.inside r.tables.inside k.devices.disk };
 }
 
 -- a received character keeps the state sound,
@@ -136,12 +139,30 @@ state_sent None s e k = k
 state_sent (Some sent) s e k =
     state_end_of_event s.tables.current (line.Con sent.byte ∷ []) (sending sent s) (signals_keep_all s (after_sent sent s) k (sending_signals sent s e (sound_holds s k)))
 
+-- what serves a request keeps all
+served_keeps_all : (s : Xinu) (d : CallState) → IsSound s → Completes s d → KeepsAll (record { call = d; answer = Silent })
+served_keeps_all s d k r = record {
+  preserved = record { tables = r.tables; harts = r.harts; released = r.released };
+  unused = keeps_unused (r.touches.free refl) k.unused;
+  pools = keeps_pools refl r.touches k.pools;
+  ports = keeps_ports refl r.touches r.tables.inside k.ports;
+  devices = record { console = keeps_console refl r.touches r.tables.inside k.devices.console; names = keeps_names refl r.touches k.devices.names; disk = r.disk };
+}
+
+-- and so a completion keeps the state sound
+state_served : (good : Bool) (found : Option Served) (s : Xinu) → raw_completed good (disk_of s) ≡ found → IsSound s → IsSound (served_in found s).state
+state_served good None s e k = k
+state_served good (Some x) s e k =
+    state_end_of_event s.tables.current [] (serving x s) (served_keeps_all s (after_served x s) k (served_completes good x s e (sound_holds s k) k.devices.disk))
+
 -- What an event leaves is sound, whatever is chosen in it, and whether the machine has it or not.
 pub state_event : (s : Xinu) (e : Event) (choice : ℕ) → IsSound s → IsSound (event_effect s e choice).state
 state_event s Step choice k = state_stepped s k
 state_event s Tick choice k = state_ticked s k
 state_event s (Key b) choice k = state_keyed b s k
 state_event s Tx choice k = state_sent (transmitted (console_of s)) s refl k
+state_event s Disk0 choice k = state_served true (raw_completed true (disk_of s)) s refl k
+state_event s Fail0 choice k = state_served false (raw_completed false (disk_of s)) s refl k
 state_event s _ choice k = k
 
 state_effect : (s : Xinu) (e : Event) (choice : ℕ) → IsSound s → IsSound (effect_of s e choice).state

@@ -160,8 +160,8 @@ calls_tell =
     (λ a s k l. received_from_tells (port_at s.parts.ports (a 0)).queue (a 0) s l refl) ⨾
     (λ a s k l. status_tells (device_open_tells (a 0) (a 1) (a 2) s)) ⨾
     (λ a s k l. status_tells (device_close_tells (a 0) s)) ⨾
-    (λ a s k l. status_tells (device_read_tells (a 0) (a 1) (signed (a 2)) s)) ⨾
-    (λ a s k l. status_tells (device_write_tells (a 0) (a 1) (signed (a 2)) s)) ⨾
+    (λ a s k l. status_tells (device_read_tells (a 0) (a 1) (a 2) s)) ⨾
+    (λ a s k l. status_tells (device_write_tells (a 0) (a 1) (a 2) s)) ⨾
     (λ a s k l. status_tells (device_getc_tells (a 0) s)) ⨾
     (λ a s k l. status_tells (device_putc_tells (a 0) (a 1 % 256) s)) ⨾
     (λ a s k l. status_tells (device_seek_tells (a 0) (signed (a 1)) s)) ⨾

@@ -44,6 +44,7 @@ pub record HasStart (f : Reach) : Type 0 where
   pub nothing : f.asks Nothing ≡ false
   pub heap : f.parts.heap ≡ true
   pub stacks : f.parts.stacks ≡ true
+  pub disk : f.parts.disk ≡ true
 
 -- It leaves no semaphore alone, not even the four that devices have from the start on.
 pub record OwnsNone (f : Reach) : Type 0 where
@@ -78,6 +79,7 @@ module _ {f : Reach} (g : HasStart f) where
         stacks = named g.stacks;
         free = named g.stacks;
         clock = λ _. refl;
+        stay = named g.disk;
         parts = parts_heap g.heap s.parts stack.heap (extent_marked found.taken);
       }
 

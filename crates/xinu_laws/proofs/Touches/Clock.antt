@@ -18,7 +18,7 @@ yield_touches s i = touches_refl s
 pub sleepms_touches : (ticks : ℤ) → StaysIn on_tables (sleepms ticks)
 sleepms_touches (negsuc n) s i = touches_refl s
 sleepms_touches (pos zero) s i = touches_refl s
-sleepms_touches (pos (suc n)) s i = touches_blocked Sleeping Nothing (InSleepers (s.tables.ticks + suc n)) s tt refl refl
+sleepms_touches (pos (suc n)) s i = touches_blocked Sleeping Nothing (InSleepers (s.tables.ticks + suc n)) s i.tables.runs tt refl refl
 
 -- Call 25.
 pub sleep_touches : (seconds : ℤ) → StaysIn on_tables (sleep seconds)

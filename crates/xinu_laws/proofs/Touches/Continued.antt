@@ -5,6 +5,7 @@ use Rattle.xinu_model.specs.Calls.{continued}
 use Rattle.xinu_laws.specs.Touches.{touched_by}
 use Rattle.xinu_laws.proofs.Touches.Consoles.{go_on_getc_touches, go_on_read_touches, go_on_putc_touches, go_on_write_touches}
 use Rattle.xinu_laws.proofs.Touches.{StaysIn, touches_refl}
+use Rattle.xinu_laws.proofs.Touches.Disks.{go_on_disk_touches}
 use Rattle.xinu_laws.proofs.Touches.Messages.{go_on_receive_touches}
 use Rattle.xinu_laws.proofs.Touches.Pools.{go_on_getbuf_touches}
 use Rattle.xinu_laws.proofs.Touches.Ports.{go_on_ptsend_touches, go_on_ptrecv_touches}
@@ -22,4 +23,5 @@ continued_touches rest.TtyGet = go_on_getc_touches
 continued_touches (rest.TtyRead part) = go_on_read_touches part
 continued_touches (rest.TtyPut b returned) = go_on_putc_touches b returned
 continued_touches (rest.TtyWrite part returned) = go_on_write_touches part returned
+continued_touches (rest.Disk reply) = go_on_disk_touches reply
 continued_touches _ = λ s k. touches_refl s

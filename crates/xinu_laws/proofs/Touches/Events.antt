@@ -62,7 +62,7 @@ module _ {f : Reach} where
   touches_dispatch s p w =
       let t = s.tables in
       let u = record t { current = p; quantum = 2 } in
-      touches_trans (touches_tables s u (frame_same t u refl refl) refl (λ q h. h) (λ _. refl))
+      touches_trans (touches_tables s u (frame_same t u refl refl) refl (λ q h. h) (λ _. refl) (record { stay = λ q h. h }))
       (touches_moved (record s { tables = u }) p Current (message_at u p) Nowhere tt refl refl (record { idle = w.idle }))
 
   -- The current process is preempted.
@@ -107,6 +107,7 @@ module _ {f : Reach} where
     parts = k.parts;
     free = λ e. record { was = (k.free e).was; harts = λ p h. replies_spare_free u.tables p h replies u.harts alive ∙ (k.free e).harts p h };
     clock = k.clock;
+    stay = k.stay;
   }
 
   -- those whose tick has come go on
@@ -123,8 +124,8 @@ module _ {f : Reach} where
       let t = s.tables in
       let fresh = record t { quantum = 2 } in
       cond_both (nat_lt 1 t.quantum) (record t { quantum = t.quantum - 1 }) (resched fresh) (λ u. Touches f s (record s { tables = u }))
-      (λ _. touches_tables s (record t { quantum = t.quantum - 1 }) (frame_same t (record t { quantum = t.quantum - 1 }) refl refl) refl (λ p h. h) (λ _. refl))
-      (λ _. touches_trans (touches_tables s fresh (frame_same t fresh refl refl) refl (λ p h. h) (λ _. refl)) (touches_resched (record s { tables = fresh }) (inside_quantum t 2 o)))
+      (λ _. touches_tables s (record t { quantum = t.quantum - 1 }) (frame_same t (record t { quantum = t.quantum - 1 }) refl refl) refl (λ p h. h) (λ _. refl) (record { stay = λ p h. h }))
+      (λ _. touches_trans (touches_tables s fresh (frame_same t fresh refl refl) refl (λ p h. h) (λ _. refl) (record { stay = λ p h. h })) (touches_resched (record s { tables = fresh }) (inside_quantum t 2 o)))
 
   -- a tick later, and then the quantum falls
   touches_later : f.clock ≡ true → (owes : Bool) (s : Xinu) → IsInside (record s.tables { ticks = s.tables.ticks + 1 })
@@ -133,7 +134,7 @@ module _ {f : Reach} where
       let t = s.tables in
       let later = record t { ticks = t.ticks + 1 } in
       let u = record s { tables = later } in
-      let first : Touches f s u = touches_tables s later (frame_same t later refl refl) refl (λ p h. h) (named goes) in
+      let first : Touches f s u = touches_tables s later (frame_same t later refl refl) refl (λ p h. h) (named goes) (record { stay = λ p h. h }) in
       cond_both owes (resched later) later (λ v. Touches f s (record s { tables = quantum_falls v }))
       (λ _. touches_trans (touches_trans first (touches_resched u o)) (touches_quantum (record s { tables = resched later }) (sound_resched later o).inside))
       (λ _. touches_trans first (touches_quantum u o))

@@ -144,12 +144,12 @@ getbuf_touches i s k =
     let sem = pool.semaphore in
     touches_if s (nat_lt i (length s.parts.pools)) (await sem (GetBuf i) (take_buffer i) s)
     (λ b. let e = (pool_may_be_touched pools_reached s.tables sem i (k.pools.each i (ltb-true i (length s.parts.pools) b)).owner).owner in
-    touches_take_token (semaphore_at s.tables sem).tokens sem (GetBuf i) (take_buffer i) s e refl
+    touches_take_token (semaphore_at s.tables sem).tokens sem (GetBuf i) (take_buffer i) s k.tables.runs e refl
     (λ n _. touches_trans (touches_tokens s sem n e) (take_first_touches pool.free i (record s { tables = with_tokens sem n s.tables }))))
 
 -- The call goes on.
 pub go_on_getbuf_touches : (i : ℕ) → StaysIn on_pools (go_on_getbuf i)
-go_on_getbuf_touches i s k = touches_trans (touches_goes_on refl (held s) s) (take_first_touches (pool_at s.parts.pools i).free i (goes_on (held s) s))
+go_on_getbuf_touches i s k = touches_trans (touches_goes_on refl (held s) s k.tables.runs) (take_first_touches (pool_at s.parts.pools i).free i (goes_on (held s) s))
 
 -- a pool is made, if memory and a semaphore are found
 made_pool_touches : (found : Option Grant) (sem : Option ℕ) (size n : ℕ) (s : Xinu) → free_semaphore s.tables ≡ sem
@@ -161,7 +161,7 @@ made_pool_touches (Some grant) (Some sem) size n s e g =
     let t : Touches (reach on_new_pool) s (record s { tables = make_semaphore sem (owner.Pool i) n s.tables }) =
     touches_make_semaphore s sem (owner.Pool i) n (ap ((reach on_new_pool).mine sem) (free_semaphore_free s.tables sem e)) refl in
     let m = getmem_grants (pool_bytes size n) s.parts.heap grant g in
-    record { frame = t.frame; stacks = t.stacks; free = λ e. record { was = (t.free e).was; harts = (t.free e).harts }; clock = t.clock; parts = parts_new_pool refl refl refl s.parts grant.heap _ (extent_marked m.taken) })
+    record { frame = t.frame; stacks = t.stacks; free = λ e. record { was = (t.free e).was; harts = (t.free e).harts }; clock = t.clock; stay = t.stay; parts = parts_new_pool refl refl refl s.parts grant.heap _ (extent_marked m.taken) })
 made_pool_touches (Some grant) None size n s e g = touches_refl s
 made_pool_touches None sem size n s e g = touches_refl s
 

@@ -190,7 +190,7 @@ sent_to_touches (Some queue) q message s e k =
     let ticket = ticket_of q sem s in
     let by = (own_ports s k).send q queue e in
     let may = (port_may_be_touched q (port_reached q) s.tables sem by).owner in
-    touches_take_token (semaphore_at s.tables sem).tokens sem (PtSend ticket message) (finish_send ticket message) s may refl
+    touches_take_token (semaphore_at s.tables sem).tokens sem (PtSend ticket message) (finish_send ticket message) s k.tables.runs may refl
     (λ n tokens. let u = record s { tables = with_tokens sem n s.tables } in
     let after = after_token q sem n s k by tokens in
     touches_trans (touches_tokens s sem n may) (finish_send_touches ticket message u after.0 after.1))
@@ -207,7 +207,7 @@ received_from_touches (Some queue) q s e k =
     let ticket = ticket_of q sem s in
     let by = (own_ports s k).receive q queue e in
     let may = (port_may_be_touched q (port_reached q) s.tables sem by).owner in
-    touches_take_token (semaphore_at s.tables sem).tokens sem (PtRecv ticket) (finish_receive ticket) s may refl
+    touches_take_token (semaphore_at s.tables sem).tokens sem (PtRecv ticket) (finish_receive ticket) s k.tables.runs may refl
     (λ n tokens. let u = record s { tables = with_tokens sem n s.tables } in
     let after = after_token q sem n s k by tokens in
     touches_trans (touches_tokens s sem n may) (finish_receive_touches ticket u after.0 after.1))
@@ -226,11 +226,11 @@ after_waiting s k =
 -- The calls go on.
 pub go_on_ptsend_touches : (ticket : PortTicket) (message : ℕ) → StaysIn on_ports (go_on_ptsend ticket message)
 go_on_ptsend_touches ticket message s k =
-    let after = after_waiting s k in touches_trans (touches_goes_on refl (held s) s) (finish_send_touches ticket message (goes_on (held s) s) after.0 after.1)
+    let after = after_waiting s k in touches_trans (touches_goes_on refl (held s) s k.tables.runs) (finish_send_touches ticket message (goes_on (held s) s) after.0 after.1)
 
 pub go_on_ptrecv_touches : (ticket : PortTicket) → StaysIn on_ports (go_on_ptrecv ticket)
 go_on_ptrecv_touches ticket s k =
-    let after = after_waiting s k in touches_trans (touches_goes_on refl (held s) s) (finish_receive_touches ticket (goes_on (held s) s) after.0 after.1)
+    let after = after_waiting s k in touches_trans (touches_goes_on refl (held s) s k.tables.runs) (finish_receive_touches ticket (goes_on (held s) s) after.0 after.1)
 
 -- Call 31.
 started_port_touches : (found first : Option ℕ) (n : ℕ) (s : Xinu) → free_semaphore s.tables ≡ first

@@ -62,7 +62,7 @@ semcount_touches sem s i = touches_if s (is_good sem s.tables) _ (λ _. touches_
 pub wait_touches : (sem : ℕ) → StaysIn on_tables (wait sem)
 wait_touches sem s i = touches_if s (is_good sem s.tables) _
     (λ b. let e = (good_may_be_touched s.tables sem i.tables.inside b).owner in
-    touches_take_token (semaphore_at s.tables sem).tokens sem Nothing (answers (pos 0)) s e refl (λ n _. touches_tokens s sem n e))
+    touches_take_token (semaphore_at s.tables sem).tokens sem Nothing (answers (pos 0)) s i.tables.runs e refl (λ n _. touches_tokens s sem n e))
 
 -- Call 19.
 pub signal_touches : (sem : ℕ) → StaysIn on_tables (signal sem)

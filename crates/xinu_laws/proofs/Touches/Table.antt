@@ -10,7 +10,7 @@ use Rattle.xinu_laws.specs.Touches.{reach, Touches}
 use Rattle.xinu_model.specs.Words.{signed, half}
 use Rattle.xinu_laws.proofs.Lists.RowByRow.{◌⨾◌}
 use Rattle.xinu_laws.proofs.Lists.CallRows.{of_row}
-use Rattle.xinu_laws.proofs.Devices.Kept.{device_open_touches, device_close_touches, device_seek_touches, device_read_keeps, device_write_keeps, device_getc_keeps, device_putc_keeps, device_control_keeps, keeps_touch}
+use Rattle.xinu_laws.proofs.Devices.Kept.{device_open_touches, device_close_touches, device_seek_touches, device_getc_touches, device_putc_touches, device_control_touches, device_read_keeps, device_write_keeps, keeps_touch}
 use Rattle.xinu_laws.proofs.NameSpaces.Calls.{mount_touches}
 use Rattle.xinu_laws.proofs.Touches.{StaysIn}
 use Rattle.xinu_laws.proofs.Touches.Clock.{yield_touches, sleep_touches, sleepms_touches, clktime_touches}
@@ -66,12 +66,12 @@ calls_touch =
     (λ a. ptrecv_touches (a 0)) ⨾
     (λ a. device_open_touches (a 0) (a 1) (a 2)) ⨾
     (λ a. device_close_touches (a 0)) ⨾
-    (λ a. keeps_touch (device_read_keeps (a 0) (a 1) (signed (a 2)))) ⨾
-    (λ a. keeps_touch (device_write_keeps (a 0) (a 1) (signed (a 2)))) ⨾
-    (λ a. keeps_touch (device_getc_keeps (a 0))) ⨾
-    (λ a. keeps_touch (device_putc_keeps (a 0) (a 1 % 256))) ⨾
+    (λ a. keeps_touch (device_read_keeps (a 0) (a 1) (a 2))) ⨾
+    (λ a. keeps_touch (device_write_keeps (a 0) (a 1) (a 2))) ⨾
+    (λ a. device_getc_touches (a 0)) ⨾
+    (λ a. device_putc_touches (a 0) (a 1 % 256)) ⨾
     (λ a. device_seek_touches (a 0) (signed (a 1))) ⨾
-    (λ a. keeps_touch (device_control_keeps (a 0) (a 1) (a 2))) ⨾
+    (λ a. device_control_touches (a 0) (a 1) (a 2)) ⨾
     (λ a. mount_touches (a 0) (a 1) (a 2)) ⨾
     tt
 

@@ -1,6 +1,6 @@
--- The calls on devices: each goes to the device that its first argument names, if that offers it (book, chapter 14). The raw disk, the file
--- system and files have no calls yet.
-use Rattle.std.specs.Prelude.{ℕ, ◌%◌, if◌then◌else◌, List, [], ◌∷◌, Option, Some, None, ℤ, codes}
+-- The calls on devices: each goes to the device that its first argument names, if that offers it (book, chapter 14). The file system and
+-- files have no calls yet.
+use Rattle.std.specs.Prelude.{ℕ, ◌%◌, if◌then◌else◌, List, [], ◌∷◌, Option, Some, None, ℤ, pos, codes}
 use Rattle.xinu_base.specs.Constants.{OK}
 use Rattle.xinu_base.specs.Syscalls.{syscall}
 use Rattle.xinu_base.specs.declared.devices.Kind.{Kind}
@@ -10,12 +10,13 @@ use Rattle.xinu_base.specs.declared.devices.Op.TheVariants as op
 use Rattle.xinu_model.specs.Console.Putting.{console_putc, console_write}
 use Rattle.xinu_model.specs.Console.Signals.{console_control}
 use Rattle.xinu_model.specs.Console.Taking.{console_getc, console_read}
-use Rattle.xinu_model.specs.Devices.Table.{kind_of, offers}
+use Rattle.xinu_model.specs.Devices.Table.{DISK0, kind_of, offers}
 use Rattle.xinu_model.specs.Devices.Texts.{text_at}
-use Rattle.xinu_model.specs.Footprints.{on_tables, on_console, on_names}
+use Rattle.xinu_model.specs.Footprints.{on_tables, on_console, on_console_or_disk, on_names}
 use Rattle.xinu_model.specs.Machine.{Xinu, CallResult, refused}
 use Rattle.xinu_model.specs.Names.Calls.{mount, names_of}
 use Rattle.xinu_model.specs.Names.Mapping.{MappedName, map_name}
+use Rattle.xinu_model.specs.RawDisk.Calls.{disk_read, disk_write, disk_control}
 use Rattle.xinu_model.specs.Rows.{Status, CallRow, row}
 use Rattle.xinu_model.specs.Semaphores.Calls.{answers}
 use Rattle.xinu_model.specs.Words.{signed}
@@ -32,6 +33,7 @@ on_device call dev does s = on_kind call (kind_of dev) does s
 -- `open` of a device that isn't the name space, with the texts of a name and a mode
 abbrev pub open_direct : List ℕ → List ℕ → Kind → Xinu → CallResult
 open_direct name mode kind.Console s = answers OK s
+open_direct name mode kind.RawDisk s = answers (pos DISK0) s
 open_direct name mode _ s = refused s
 
 -- `open` of what a name is mapped to, if it is mapped
@@ -60,28 +62,31 @@ device_open dev name mode s = on_device op.Open dev (open_texts name mode) s
 -- `close` by what the device is
 abbrev pub close_as : Kind → Xinu → CallResult
 close_as kind.Console s = answers OK s
+close_as kind.RawDisk s = answers OK s
 close_as _ s = refused s
 
 -- call 37: a device is closed
 abbrev pub device_close : ℕ → Xinu → CallResult
 device_close dev s = on_device op.Close dev close_as s
 
--- `read` by what the device is, to an address, with a number of bytes
-abbrev pub read_as : ℕ → ℤ → Kind → Xinu → CallResult
-read_as at n kind.Console s = console_read at n s
+-- `read` by what the device is, to an address; the last argument is a signed number of bytes, of the raw disk the number of a block
+abbrev pub read_as : ℕ → ℕ → Kind → Xinu → CallResult
+read_as at n kind.Console s = console_read at (signed n) s
+read_as at n kind.RawDisk s = disk_read at n s
 read_as at n _ s = refused s
 
 -- call 38: a device is read
-abbrev pub device_read : ℕ → ℕ → ℤ → Xinu → CallResult
+abbrev pub device_read : ℕ → ℕ → ℕ → Xinu → CallResult
 device_read dev at n s = on_device op.Read dev (read_as at n) s
 
--- `write` by what the device is, from an address, with a number of bytes
-abbrev pub write_as : ℕ → ℤ → Kind → Xinu → CallResult
-write_as at n kind.Console s = console_write at n s
+-- `write` by what the device is, from an address; the last argument is as that of `read`
+abbrev pub write_as : ℕ → ℕ → Kind → Xinu → CallResult
+write_as at n kind.Console s = console_write at (signed n) s
+write_as at n kind.RawDisk s = disk_write at n s
 write_as at n _ s = refused s
 
 -- call 39: a device is written
-abbrev pub device_write : ℕ → ℕ → ℤ → Xinu → CallResult
+abbrev pub device_write : ℕ → ℕ → ℕ → Xinu → CallResult
 device_write dev at n s = on_device op.Write dev (write_as at n) s
 
 -- `getc` by what the device is
@@ -113,6 +118,7 @@ device_seek dev n s = on_device op.Seek dev (seek_as n) s
 -- `control` by what the device is, with a function and its argument
 abbrev pub control_as : ℕ → ℕ → Kind → Xinu → CallResult
 control_as f x kind.Console s = console_control f s
+control_as f x kind.RawDisk s = disk_control f s
 control_as f x _ s = refused s
 
 -- call 43: a control function of a device
@@ -124,8 +130,8 @@ abbrev pub device_calls : List CallRow
 device_calls =
     row (syscall 36 (codes "open") 3) on_tables Status (λ a s. device_open (a 0) (a 1) (a 2) s) ∷
     row (syscall 37 (codes "close") 1) on_tables Status (λ a s. device_close (a 0) s) ∷
-    row (syscall 38 (codes "read") 3) on_console Status (λ a s. device_read (a 0) (a 1) (signed (a 2)) s) ∷
-    row (syscall 39 (codes "write") 3) on_console Status (λ a s. device_write (a 0) (a 1) (signed (a 2)) s) ∷
+    row (syscall 38 (codes "read") 3) on_console_or_disk Status (λ a s. device_read (a 0) (a 1) (a 2) s) ∷
+    row (syscall 39 (codes "write") 3) on_console_or_disk Status (λ a s. device_write (a 0) (a 1) (a 2) s) ∷
     row (syscall 40 (codes "getc") 1) on_console Status (λ a s. device_getc (a 0) s) ∷
     row (syscall 41 (codes "putc") 2) on_console Status (λ a s. device_putc (a 0) (a 1 % 256) s) ∷
     row (syscall 42 (codes "seek") 2) on_tables Status (λ a s. device_seek (a 0) (signed (a 1)) s) ∷

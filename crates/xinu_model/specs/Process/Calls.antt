@@ -13,7 +13,7 @@ use Rattle.xinu_model.specs.Tables.{Tables, process_at, state_at, message_at, is
 use Rattle.xinu_model.specs.Process.Creation.{stack_size, new_hart, process_name, new_process, free_process, make_process}
 use Rattle.xinu_model.specs.Process.Death.{killed, exit}
 use Rattle.xinu_base.specs.Syscalls.{syscall}
-use Rattle.xinu_model.specs.Footprints.{on_tables, on_processes}
+use Rattle.xinu_model.specs.Footprints.{on_tables, on_processes, on_deaths}
 use Rattle.xinu_model.specs.Rows.{Status, Priority, CallRow, row}
 use Rattle.xinu_model.specs.Words.{half}
 use Rattle.xinu_model.specs.Clock.{yield}
@@ -98,9 +98,9 @@ process_calls =
     row (syscall 2 (codes "create") 6) on_processes Status (λ a s. create (a 0) (a 1) (half (a 2)) (a 3) (a 4) (a 5) s) ∷
     row (syscall 3 (codes "resume") 1) on_tables Priority (λ a s. resume (a 0) s) ∷
     row (syscall 4 (codes "suspend") 1) on_tables Priority (λ a s. suspend (a 0) s) ∷
-    row (syscall 5 (codes "kill") 1) on_processes Status (λ a s. kill (a 0) s) ∷
+    row (syscall 5 (codes "kill") 1) on_deaths Status (λ a s. kill (a 0) s) ∷
     row (syscall 6 (codes "yield") 0) on_tables Status (λ a s. yield s) ∷
     row (syscall 7 (codes "chprio") 2) on_tables Priority (λ a s. chprio (a 0) (half (a 1)) s) ∷
     row (syscall 8 (codes "getprio") 1) on_tables Priority (λ a s. getprio (a 0) s) ∷
-    row (syscall 9 (codes "exit") 0) on_processes Status (λ a s. exit s) ∷
+    row (syscall 9 (codes "exit") 0) on_deaths Status (λ a s. exit s) ∷
     []
