@@ -46,7 +46,7 @@ pub(crate) fn happen<H: Host>(
 }
 
 // Takes one event that isn't a step, and prints its lines. Whether the kernel panicked in it.
-#[inline(never)]
+#[cold]
 fn other_event<H: Host>(kernel: &mut Kernel, event: Event, out: &mut Printer, host: &mut H) -> bool
     requires idle { IsIdle kernel.old }
     requires sound { IsSound kernel.old.call.state }
@@ -116,7 +116,7 @@ fn react<H: Host>(kernel: &mut Kernel, outcome: Outcome, out: &mut Printer, host
 }
 
 // A call of the current process, which isn't the null process.
-#[inline(never)]
+#[cold]
 fn make_call<H: Host>(kernel: &mut Kernel, call: Call, out: &mut Printer, host: &mut H) -> bool
     requires idle { IsIdle kernel.old }
     requires not_null { kernel.old.call.state.tables.current ≢ 0 }
@@ -132,7 +132,7 @@ fn make_call<H: Host>(kernel: &mut Kernel, call: Call, out: &mut Printer, host: 
 }
 
 // The current process, which isn't the null process, dies. The line says why.
-#[inline(never)]
+#[cold]
 fn die<H: Host>(kernel: &mut Kernel, why: TranscriptLine, out: &mut Printer, host: &mut H) -> bool
     requires idle { IsIdle kernel.old }
     requires not_null { kernel.old.call.state.tables.current ≢ 0 }
@@ -161,7 +161,7 @@ fn tick<H: Host>(kernel: &mut Kernel, out: &mut Printer, host: &mut H) -> bool
 
 // Ends an event that began in process `was`, with this answer to its call, if it was one: prints the replies to released processes, the
 // caller's and the switch. Whether the kernel panicked.
-#[inline(never)]
+#[cold]
 fn end_event<H: Host>(
     kernel: &mut Kernel,
     was: Pid,

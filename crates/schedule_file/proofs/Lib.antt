@@ -1,6 +1,5 @@
 pub mod DigitLemmas
 pub mod PlaceLemmas
 pub mod RoundLemmas
-pub mod RepeatLemmas
 pub mod TypedLemmas
 pub mod ReadingLemmas

@@ -1,19 +1,8 @@
--- The element at a place of a list.
-use Rattle.std.proofs.Common.{◌≡◌, ℕ, zero, suc, ◌+◌, ◌-◌, ◌<◌, ◌≤◌, List, [], ◌∷◌, ◌++◌, length, replicate, drop, Option, Some, None, refl}
-use Rattle.std.proofs.Common.{subst, sym, ap, ◌∙◌, arith}
+-- What comes at a place of a list.
+use Rattle.std.proofs.Common.{◌≡◌, ℕ, suc, ◌+◌, ◌-◌, ◌<◌, ◌≤◌, List, [], ◌∷◌, ◌++◌, length, replicate, drop}
+use Rattle.std.proofs.Common.{sym, ap, ◌∙◌, arith}
 use Rattle.std.proofs.lemmas.List.{append_assoc, append-nil, drop-append-le, drop-replicate}
 use Rattle.std.proofs.Math.Seq.{drop-append-add}
-use Rattle.std.specs.Prelude.{slice_get, IfSome}
-use Rattle.std.specs.List.{All}
-use Rattle.std.proofs.lemmas.Option.{get_or_from_slice_get, slice_get_within}
-
--- a list from a place on begins with the element there
-pub drop_from : {X : Type 0} (xs : List X) (k : ℕ) (x : X) → slice_get xs k ≡ Some x → drop k xs ≡ x ∷ drop (k + 1) xs
-drop_from [] k x is = cc
-drop_from (y ∷ xs) zero x is = let same : x ≡ y = cc in rw same refl
-drop_from (y ∷ xs) (suc k) x is =
-    let next : suc k + 1 ≡ suc (k + 1) = omega arith in
-    rw next (drop_from xs k x is)
 
 -- at a place of a list an element comes, and then that many copies of it
 abbrev pub Comes : {X : Type 0} → List X → ℕ → ℕ → X → Type 0
@@ -50,12 +39,3 @@ comes-right {X} xs ys k more x behind comes =
     ∙ comes
     ∙ ap (λ (zs : List X). x ∷ (replicate more x ++ zs))
     (sym (drop-append-add xs ys (k - length xs + 1 + more)) ∙ ap (λ (m : ℕ). drop m (xs ++ ys)) end)
-
--- what holds of each element holds of one that was found
-found_holds : {X : Type 0} (P : X → Type 0) (xs : List X) (k : ℕ) (o : Option X) → slice_get xs k ≡ o → All P xs → IfSome o P
-found_holds P xs k None is all = tt
-found_holds P xs k (Some x) is all = subst P (get_or_from_slice_get xs k x x is) (all k x (slice_get_within xs k x is))
-
--- what holds of each element holds at each place
-pub at_each : {X : Type 0} (P : X → Type 0) (xs : List X) (k : ℕ) → All P xs → IfSome (slice_get xs k) P
-at_each P xs k all = found_holds P xs k (slice_get xs k) refl all

@@ -31,6 +31,7 @@ impl Repeat {
     }
 
     /// The event of the repeat after this many others, and how many times it comes again before the next kind of event.
+    #[cold]
     pub(crate) fn stretch_at(self, place: u32) -> (Event, u32)
         requires within { place < length (repeat_events self) }
         ensures events { drop place (repeat_events self) ≡ result.0 ∷ (replicate result.1 result.0 ++ drop (place + 1 + result.1) (repeat_events self)) }

@@ -54,6 +54,7 @@ pub(crate) fn run_images<H: Host>(
 }
 
 // Takes the events up to the end of the run, or until the host refused a line.
+#[inline(never)]
 fn take_events<H: Host>(
     machine: &mut Machine,
     schedule: &mut Schedule,
