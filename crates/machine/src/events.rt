@@ -56,7 +56,8 @@ fn other_event<H: Host>(kernel: &mut Kernel, event: Event, out: &mut Printer, ho
     ensures panics { result ≡ panics_in kernel.old.call.state event }
     ensures idle { IsIdle kernel.new }
     ensures sound { IsSound kernel.new.call.state }
-    ensures ticks { kernel.new.call.state.tables.ticks ≤ kernel.old.call.state.tables.ticks + 1 }    ensures numbers { (q : ℕ) → (port_at kernel.new.call.state.parts.ports q).seq ≤ (port_at kernel.old.call.state.parts.ports q).seq + 1 }
+    ensures ticks { kernel.new.call.state.tables.ticks ≤ kernel.old.call.state.tables.ticks + 1 }
+    ensures numbers { (q : ℕ) → (port_at kernel.new.call.state.parts.ports q).seq ≤ (port_at kernel.old.call.state.parts.ports q).seq + 1 }
 {
     match event {
         Event::Tick => tick(kernel, out, host),
