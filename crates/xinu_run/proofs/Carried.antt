@@ -1,5 +1,5 @@
 -- A command that is carried out: refused before anything was sent, stage by stage, and by a printed run.
-use Rattle.std.proofs.Common.{◌≡◌, ◌≤◌, false, ℕ, List, [], take, Option, Some, None, refl, sym, ap, subst, ◌∙◌, arith, inl, inr}
+use Rattle.std.proofs.Common.{◌≡◌, ◌≤◌, Bool, false, ℕ, List, [], take, Option, Some, None, refl, sym, ap, subst, ◌∙◌, arith, inl, inr}
 use Rattle.host_port.specs.declared.host.HostFault.{HostFault}
 use Rattle.host_port.specs.declared.host.HostFault.TheVariants as host
 use Rattle.host_port.specs.HostCalls.{Rose}
@@ -8,7 +8,7 @@ use Rattle.host_port.proofs.Prints.{grown-nil}
 use Rattle.host_port.specs.Printing.{Printing, Prints}
 use Rattle.xinu_base.specs.declared.events.Event.{Event}
 use Rattle.xinu_model.specs.Machine.{Xinu}
-use Rattle.xinu_model.specs.Text.{shown, text}
+use Rattle.xinu_model.specs.Text.{shown}
 use Rattle.xinu_model.proofs.Runs.{some_run}
 use Rattle.xinu_run.specs.Conversions.{host_refusal}
 use Rattle.xinu_run.specs.Theorem.{Carries, Deserved, IsPart, IsPartSent, IsSent, IsUnsent, IsWhole, Sends, WorkSends}
@@ -38,14 +38,14 @@ pub carries_nothing : (v : Verdict) (cause : Refusal) (h k : Outside) → Deserv
     → Carries v (Some cause) None h k
 carries_nothing (Refuses c) cause h k deserved unsent =
     record { output = only_printed 0 []; deserved = deserved; sends = unsent; refused = λ some. refl }
-carries_nothing (Does (Runs start events)) cause h k deserved unsent =
+carries_nothing (Does (Runs plain start events)) cause h k deserved unsent =
     let run = some_run events start in record {
-      output = only_printed 0 (text (transcript start run.0 run.1 run.2));
+      output = only_printed 0 (shown plain (transcript start run.0 run.1 run.2));
       deserved = deserved;
       sends = record {
         last = Some run.1;
         writes = record { lines = run.0; state = run.1; end = run.2; runs = run.3; written = refl; last = refl };
-        part = nothing_sent (only_printed 0 (text (transcript start run.0 run.1 run.2))) h k unsent;
+        part = nothing_sent (only_printed 0 (shown plain (transcript start run.0 run.1 run.2))) h k unsent;
         whole = λ none. absurd (cc);
         leaves = λ none. absurd (cc);
       };
@@ -144,18 +144,22 @@ carries_within v ended left h i j k before earlier after later carries = record 
 
 -- ---- a printed run
 
--- a printer that isn't plain and hasn't failed
+-- a printer that hasn't failed
+abbrev pub new_printer : Bool → Printing
+new_printer plain = record { plain = plain; failure = None }
+
+-- such a printer that isn't plain
 abbrev pub fresh : Printing
-fresh = record { plain = false; failure = None }
+fresh = new_printer false
 
 -- what was printed of a run was sent
-printed_sends : (start : Xinu) (events : List Event) (new : Xinu) (a e : Printing) (h k : Outside) (ended : Option Refusal) (left : Option Xinu)
-    → a ≡ fresh → (p : PrintsTranscript start events new a e h k) → (ended ≡ None → e.failure ≡ None) → (ended ≡ None → left ≡ Some new)
-    → WorkSends (Runs start events) (only_printed 0 (text (transcript start p.lines p.last p.end))) ended left h k
-printed_sends start events new a e h k ended left is_fresh p done leaves =
+printed_sends : (plain : Bool) (start : Xinu) (events : List Event) (new : Xinu) (a e : Printing) (h k : Outside) (ended : Option Refusal) (left : Option Xinu)
+    → a ≡ new_printer plain → (p : PrintsTranscript start events new a e h k) → (ended ≡ None → e.failure ≡ None) → (ended ≡ None → left ≡ Some new)
+    → WorkSends (Runs plain start events) (only_printed 0 (shown plain (transcript start p.lines p.last p.end))) ended left h k
+printed_sends plain start events new a e h k ended left is_fresh p done leaves =
     let all = transcript start p.lines p.last p.end in
     let P : List ℕ → Type 0 = λ bytes. Prints a e h k bytes in
-    let prints : Prints a e h k (text all) = subst P (ap (λ (x : Printing). shown x.plain all) is_fresh) p.prints in
+    let prints : Prints a e h k (shown plain all) = subst P (ap (λ (x : Printing). shown x.plain all) is_fresh) p.prints in
     record {
       last = Some p.last;
       writes = record { lines = p.lines; state = p.last; end = p.end; runs = p.runs; written = refl; last = refl };
@@ -175,37 +179,37 @@ printed_sends start events new a e h k ended left is_fresh p done leaves =
     }
 
 -- a run that was printed whole
-pub run_done : (v : Verdict) (start : Xinu) (events : List Event) (new : Xinu) (a e : Printing) (h k : Outside)
-    → v ≡ Does (Runs start events) → a ≡ fresh → e.failure ≡ None → PrintsTranscript start events new a e h k → Carries v None (Some new) h k
-run_done v start events new a e h k is is_fresh none p =
-    carries_as v (Does (Runs start events)) None (Some new) h k is (record {
-      output = only_printed 0 (text (transcript start p.lines p.last p.end));
-      deserved = (Runs start events, refl);
-      sends = printed_sends start events new a e h k None (Some new) is_fresh p (λ x. none) (λ x. refl);
+pub run_done : (plain : Bool) (v : Verdict) (start : Xinu) (events : List Event) (new : Xinu) (a e : Printing) (h k : Outside)
+    → v ≡ Does (Runs plain start events) → a ≡ new_printer plain → e.failure ≡ None → PrintsTranscript start events new a e h k → Carries v None (Some new) h k
+run_done plain v start events new a e h k is is_fresh none p =
+    carries_as v (Does (Runs plain start events)) None (Some new) h k is (record {
+      output = only_printed 0 (shown plain (transcript start p.lines p.last p.end));
+      deserved = (Runs plain start events, refl);
+      sends = printed_sends plain start events new a e h k None (Some new) is_fresh p (λ x. none) (λ x. refl);
       refused = λ some. absurd (cc);
     })
 
 -- why a run wasn't printed whole
-refused_deserved : (f : HostFault) (start : Xinu) (events : List Event) (new : Xinu) (a e : Printing) (h k : Outside) → a ≡ fresh
-    → e.failure ≡ Some f → PrintsTranscript start events new a e h k → Deserved (Does (Runs start events)) (Some (host_refusal f)) h k
-refused_deserved host.Failed start events new a e h k is_fresh failed p = (
+refused_deserved : (plain : Bool) (f : HostFault) (start : Xinu) (events : List Event) (new : Xinu) (a e : Printing) (h k : Outside) → a ≡ new_printer plain
+    → e.failure ≡ Some f → PrintsTranscript start events new a e h k → Deserved (Does (Runs plain start events)) (Some (host_refusal f)) h k
+refused_deserved plain host.Failed start events new a e h k is_fresh failed p = (
   (λ same. cc),
   elim (p.prints.cause failed) [
     | inl had ↦ (let none : a.failure ≡ None = ap (λ (x : Printing). x.failure) is_fresh in absurd (cc))
     | inr rose ↦ rose
   ],
 )
-refused_deserved host.NoMemory start events new a e h k is_fresh failed p = tt
+refused_deserved plain host.NoMemory start events new a e h k is_fresh failed p = tt
 
 -- a run of which the host refused a line
-pub run_refused : (v : Verdict) (f : HostFault) (r : Refusal) (start : Xinu) (events : List Event) (new : Xinu) (a e : Printing) (h k : Outside)
-    → v ≡ Does (Runs start events) → r ≡ host_refusal f → a ≡ fresh → e.failure ≡ Some f → PrintsTranscript start events new a e h k
+pub run_refused : (plain : Bool) (v : Verdict) (f : HostFault) (r : Refusal) (start : Xinu) (events : List Event) (new : Xinu) (a e : Printing) (h k : Outside)
+    → v ≡ Does (Runs plain start events) → r ≡ host_refusal f → a ≡ new_printer plain → e.failure ≡ Some f → PrintsTranscript start events new a e h k
     → Carries v (Some r) None h k
-run_refused v f r start events new a e h k is is_r is_fresh failed p =
+run_refused plain v f r start events new a e h k is is_r is_fresh failed p =
     let P : Refusal → Type 0 = λ x. Carries v (Some x) None h k in
-    subst P (sym is_r) (carries_as v (Does (Runs start events)) (Some (host_refusal f)) None h k is (record {
-      output = only_printed 0 (text (transcript start p.lines p.last p.end));
-      deserved = refused_deserved f start events new a e h k is_fresh failed p;
-      sends = printed_sends start events new a e h k (Some (host_refusal f)) None is_fresh p (λ none. absurd (cc)) (λ none. absurd (cc));
+    subst P (sym is_r) (carries_as v (Does (Runs plain start events)) (Some (host_refusal f)) None h k is (record {
+      output = only_printed 0 (shown plain (transcript start p.lines p.last p.end));
+      deserved = refused_deserved plain f start events new a e h k is_fresh failed p;
+      sends = printed_sends plain start events new a e h k (Some (host_refusal f)) None is_fresh p (λ none. absurd (cc)) (λ none. absurd (cc));
       refused = λ some. refl;
     }))

@@ -1,5 +1,5 @@
 -- The fetched bytes of the files, and the verdict on them.
-use Rattle.std.proofs.Common.{◌≡◌, ◌≢◌, ◌≤◌, ◌+◌, ℕ, List, [], ◌∷◌, length, take, Option, Some, None, refl, sym, ap, subst, ◌∙◌, arith, inl, inr}
+use Rattle.std.proofs.Common.{◌≡◌, ◌≢◌, ◌≤◌, ◌+◌, ℕ, Bool, List, [], ◌∷◌, length, take, Option, Some, None, refl, sym, ap, subst, ◌∙◌, arith, inl, inr}
 use Rattle.std.proofs.lemmas.List.{take_all}
 use Rattle.std.specs.Prelude.{MatchOption, ⊤, Err, option_map}
 use Rattle.host_port.specs.Outside.{Outside}
@@ -77,16 +77,16 @@ pub unless_fault_refused : {T : Type 0} (fault : Option Refusal) (read : Option 
 unless_fault_refused fault read next cause is = rw is refl
 
 -- a schedule file that was read
-pub schedule_read : (bytes : List ℕ) (events : List Event) (images : List (List ℕ)) → ReadsAs bytes events
-    → run_verdict bytes images ≡ images_verdict 1 images (boot_verdict events)
-schedule_read bytes events images reads =
-    unless_fault_read (option_map refusal.Schedule (schedule_fault bytes)) (events_in bytes) (λ x. images_verdict 1 images (boot_verdict x)) events (ap (option_map refusal.Schedule) reads.good) reads.reads
+pub schedule_read : (plain : Bool) (bytes : List ℕ) (events : List Event) (images : List (List ℕ)) → ReadsAs bytes events
+    → run_verdict plain bytes images ≡ images_verdict 1 images (boot_verdict plain events)
+schedule_read plain bytes events images reads =
+    unless_fault_read (option_map refusal.Schedule (schedule_fault bytes)) (events_in bytes) (λ x. images_verdict 1 images (boot_verdict plain x)) events (ap (option_map refusal.Schedule) reads.good) reads.reads
 
 -- a schedule file with a fault
-pub schedule_refused : (bytes : List ℕ) (l : ℕ) (images : List (List ℕ)) → schedule_fault bytes ≡ Some l
-    → run_verdict bytes images ≡ Refuses (refusal.Schedule l)
-schedule_refused bytes l images is =
-    unless_fault_refused (option_map refusal.Schedule (schedule_fault bytes)) (events_in bytes) (λ x. images_verdict 1 images (boot_verdict x)) (refusal.Schedule l) (ap (option_map refusal.Schedule) is)
+pub schedule_refused : (plain : Bool) (bytes : List ℕ) (l : ℕ) (images : List (List ℕ)) → schedule_fault bytes ≡ Some l
+    → run_verdict plain bytes images ≡ Refuses (refusal.Schedule l)
+schedule_refused plain bytes l images is =
+    unless_fault_refused (option_map refusal.Schedule (schedule_fault bytes)) (events_in bytes) (λ x. images_verdict 1 images (boot_verdict plain x)) (refusal.Schedule l) (ap (option_map refusal.Schedule) is)
 
 -- an image file that was read
 pub image_read : (i : ℕ) (bytes : List ℕ) (image : Loaded) (files : List (List ℕ)) (next : List Loaded → Verdict) → option_map (refusal.Image i) (image_fault bytes) ≡ None
@@ -111,10 +111,10 @@ image_fetched i bytes items files next fetched =
     ]
 
 -- the verdict on images with which the machine starts, or for which it has no room
-pub boot_verdict_at : (events : List Event) (images : List Loaded) (s : Start) → boot images ≡ s
-    → boot_verdict events images ≡ start_verdict events s
+pub boot_verdict_at : (plain : Bool) (events : List Event) (images : List Loaded) (s : Start) → boot images ≡ s
+    → boot_verdict plain events images ≡ start_verdict plain events s
 unfolding boot_verdict
-boot_verdict_at events images s is = ap (start_verdict events) is
+boot_verdict_at plain events images s is = ap (start_verdict plain events) is
 
 -- ---- no stage finds that there is no command
 
@@ -133,14 +133,14 @@ image_keeps : (i : ℕ) (fault : Option ℕ) → option_map (refusal.Image i) fa
 image_keeps i None is = cc
 image_keeps i (Some f) is = cc
 
-start_keeps : (events : List Event) (s : Start) → start_verdict events s ≢ Refuses refusal.Usage
-start_keeps events (Boots x) is = cc
-start_keeps events (Overlaps i) is = cc
-start_keeps events (NoRoom i) is = cc
+start_keeps : (plain : Bool) (events : List Event) (s : Start) → start_verdict plain events s ≢ Refuses refusal.Usage
+start_keeps plain events (Boots x) is = cc
+start_keeps plain events (Overlaps i) is = cc
+start_keeps plain events (NoRoom i) is = cc
 
-pub boot_keeps : (events : List Event) (images : List Loaded) → boot_verdict events images ≢ Refuses refusal.Usage
+pub boot_keeps : (plain : Bool) (events : List Event) (images : List Loaded) → boot_verdict plain events images ≢ Refuses refusal.Usage
 unfolding boot_verdict
-boot_keeps events images is = start_keeps events (boot images) is
+boot_keeps plain events images is = start_keeps plain events (boot images) is
 
 pub images_keep : (i : ℕ) (files : List (List ℕ)) (next : List Loaded → Verdict)
     → ((images : List Loaded) → next images ≢ Refuses refusal.Usage) → images_verdict i files next ≢ Refuses refusal.Usage
@@ -149,24 +149,24 @@ images_keep i (bytes ∷ files) next rest is =
     unless_fault_keeps (option_map (refusal.Image i) (image_fault bytes)) (loads bytes) (λ x. images_verdict (i + 1) files (λ images. next (x ∷ images))) (image_keeps i (image_fault bytes))
     (λ x. images_keep (i + 1) files (λ images. next (x ∷ images)) (λ images. rest (x ∷ images))) is
 
-pub run_keeps : (schedule : List ℕ) (images : List (List ℕ)) → run_verdict schedule images ≢ Refuses refusal.Usage
-run_keeps schedule images is =
-    unless_fault_keeps (option_map refusal.Schedule (schedule_fault schedule)) (events_in schedule) (λ events. images_verdict 1 images (boot_verdict events)) (schedule_keeps (schedule_fault schedule))
-    (λ events. images_keep 1 images (boot_verdict events) (λ x. boot_keeps events x)) is
+pub run_keeps : (plain : Bool) (schedule : List ℕ) (images : List (List ℕ)) → run_verdict plain schedule images ≢ Refuses refusal.Usage
+run_keeps plain schedule images is =
+    unless_fault_keeps (option_map refusal.Schedule (schedule_fault schedule)) (events_in schedule) (λ events. images_verdict 1 images (boot_verdict plain events)) (schedule_keeps (schedule_fault schedule))
+    (λ events. images_keep 1 images (boot_verdict plain events) (λ x. boot_keeps plain events x)) is
 
 -- ---- a machine that doesn't start
 
-boot_refused_of : (f : BootFault) (events : List Event) (images : List Loaded) (h : Outside) → Starts images (Err f)
-    → Carries (boot_verdict events images) (Some (boot_refusal f)) None h h
-boot_refused_of (boot_fault.Overlap i) events images h starts =
-    carries_nothing (boot_verdict events images) (refusal.Overlap i) h h (boot_verdict_at events images (Overlaps i) starts) (unsent_refl h)
-boot_refused_of (boot_fault.NoRoom i) events images h starts =
-    carries_nothing (boot_verdict events images) (refusal.NoRoom i) h h (boot_verdict_at events images (NoRoom i) starts) (unsent_refl h)
-boot_refused_of boot_fault.NoMemory events images h starts =
-    carries_nothing (boot_verdict events images) refusal.NoMemory h h tt (unsent_refl h)
+boot_refused_of : (plain : Bool) (f : BootFault) (events : List Event) (images : List Loaded) (h : Outside) → Starts images (Err f)
+    → Carries (boot_verdict plain events images) (Some (boot_refusal f)) None h h
+boot_refused_of plain (boot_fault.Overlap i) events images h starts =
+    carries_nothing (boot_verdict plain events images) (refusal.Overlap i) h h (boot_verdict_at plain events images (Overlaps i) starts) (unsent_refl h)
+boot_refused_of plain (boot_fault.NoRoom i) events images h starts =
+    carries_nothing (boot_verdict plain events images) (refusal.NoRoom i) h h (boot_verdict_at plain events images (NoRoom i) starts) (unsent_refl h)
+boot_refused_of plain boot_fault.NoMemory events images h starts =
+    carries_nothing (boot_verdict plain events images) refusal.NoMemory h h tt (unsent_refl h)
 
-pub boot_refused : (f : BootFault) (r : Refusal) (events : List Event) (images : List Loaded) (h : Outside) → r ≡ boot_refusal f
-    → Starts images (Err f) → Carries (boot_verdict events images) (Some r) None h h
-boot_refused f r events images h is starts =
-    let P : Refusal → Type 0 = λ x. Carries (boot_verdict events images) (Some x) None h h in
-    subst P (sym is) (boot_refused_of f events images h starts)
+pub boot_refused : (plain : Bool) (f : BootFault) (r : Refusal) (events : List Event) (images : List Loaded) (h : Outside) → r ≡ boot_refusal f
+    → Starts images (Err f) → Carries (boot_verdict plain events images) (Some r) None h h
+boot_refused plain f r events images h is starts =
+    let P : Refusal → Type 0 = λ x. Carries (boot_verdict plain events images) (Some x) None h h in
+    subst P (sym is) (boot_refused_of plain f events images h starts)

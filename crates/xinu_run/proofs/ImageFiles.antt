@@ -142,12 +142,12 @@ unfolding have_fault
 no_files = refl
 
 -- what is carried out with the images that files load
-pub files_carry : (files : List (List ℕ)) (events : List Event) (images : List Loaded) (ended : Option Refusal) (left : Option Xinu) (h k : Outside) → have_fault files ≡ false
-    → images_loaded files ≡ Some images → Carries (boot_verdict events images) ended left h k → Carries (images_verdict 1 files (boot_verdict events)) ended left h k
-files_carry files events images ended left h k good loaded carries =
-    let read = images_read 1 files (boot_verdict events) good in
+pub files_carry : (plain : Bool) (files : List (List ℕ)) (events : List Event) (images : List Loaded) (ended : Option Refusal) (left : Option Xinu) (h k : Outside) → have_fault files ≡ false
+    → images_loaded files ≡ Some images → Carries (boot_verdict plain events images) ended left h k → Carries (images_verdict 1 files (boot_verdict plain events)) ended left h k
+files_carry plain files events images ended left h k good loaded carries =
+    let read = images_read 1 files (boot_verdict plain events) good in
     let same : read.0 ≡ images = (let first = read.1.0 in cc) in
-    carries_as (images_verdict 1 files (boot_verdict events)) (boot_verdict events images) ended left h k (read.1.1 ∙ ap (boot_verdict events) same) carries
+    carries_as (images_verdict 1 files (boot_verdict plain events)) (boot_verdict plain events images) ended left h k (read.1.1 ∙ ap (boot_verdict plain events) same) carries
 
 -- ---- files one after another
 
@@ -238,25 +238,25 @@ first_and_rest (x ∷ xs) d some =
     ap (λ ys. x ∷ ys) (sym (take_all (length (x ∷ xs) - 1) xs few))
 
 -- the host didn't fetch it
-pub image_unfetched : (before : List (List ℕ)) (name : Text) (names : List Text) (events : List Event) (r : Refusal) (h k : Outside) → Fetches name (Some r) h k
-    → RunsImages before (name ∷ names) events (Some r) None h k
-image_unfetched before name names events r h k f =
+pub image_unfetched : (plain : Bool) (before : List (List ℕ)) (name : Text) (names : List Text) (events : List Event) (r : Refusal) (h k : Outside) → Fetches name (Some r) h k
+    → RunsImages plain before (name ∷ names) events (Some r) None h k
+image_unfetched plain before name names events r h k f =
     let files = before ++ image_bytes (length before + 1) (name ∷ names) h.file (λ j. []) in record {
       unseen = λ j. [];
-      stage = unfetched_stage (images_verdict 1 files (boot_verdict events)) name (map fetching names) r h k (images_keep 1 files (boot_verdict events) (λ images. boot_keeps events images)) f;
+      stage = unfetched_stage (images_verdict 1 files (boot_verdict plain events)) name (map fetching names) r h k (images_keep 1 files (boot_verdict plain events) (λ images. boot_keeps plain events images)) f;
     }
 
 -- it was fetched, and ended the run
-image_ended : (before : List (List ℕ)) (name : Text) (names : List Text) (events : List Event) (items : List ℕ) (r : Refusal) (h k : Outside) → IsFetched 1048576 (h.file name) items
-    → Fetches name None h k → ((files : List (List ℕ)) → Deserved (images_verdict 1 (before ++ items ∷ files) (boot_verdict events)) (Some r) k k)
-    → RunsImages before (name ∷ names) events (Some r) None h k
-image_ended before name names events items r h k fetched f deserved =
+image_ended : (plain : Bool) (before : List (List ℕ)) (name : Text) (names : List Text) (events : List Event) (items : List ℕ) (r : Refusal) (h k : Outside) → IsFetched 1048576 (h.file name) items
+    → Fetches name None h k → ((files : List (List ℕ)) → Deserved (images_verdict 1 (before ++ items ∷ files) (boot_verdict plain events)) (Some r) k k)
+    → RunsImages plain before (name ∷ names) events (Some r) None h k
+image_ended plain before name names events items r h k fetched f deserved =
     let files = image_bytes (length before + 1 + 1) names h.file (λ j. items) in
     let bytes = file_bytes (h.file name) items in
-    let v = images_verdict 1 (before ++ items ∷ files) (boot_verdict events) in record {
+    let v = images_verdict 1 (before ++ items ∷ files) (boot_verdict plain events) in record {
       unseen = λ j. items;
-      stage = stage_as (images_verdict 1 (before ++ bytes ∷ files) (boot_verdict events)) v (fetching name ∷ map fetching names) (Some r) None h k
-          (fetched_among 1 before bytes items files (boot_verdict events) fetched.front)
+      stage = stage_as (images_verdict 1 (before ++ bytes ∷ files) (boot_verdict plain events)) v (fetching name ∷ map fetching names) (Some r) None h k
+          (fetched_among 1 before bytes items files (boot_verdict plain events) fetched.front)
           (fetched_stage v name (map fetching names) (Some r) None h k k f (refused_stage v (map fetching names) r k (deserved files)));
     }
 
@@ -268,30 +268,30 @@ deserved_by i (Some f) r v k is refuses =
     let P : Refusal → Type 0 = λ x. Deserved v (Some x) k k in subst P same (refuses f refl)
 
 -- it has a fault
-pub image_bad : (before : List (List ℕ)) (name : Text) (names : List Text) (events : List Event) (bytes items : List ℕ) (n : ℕ) (r : Refusal) (h k : Outside) → have_fault before ≡ false
+pub image_bad : (plain : Bool) (before : List (List ℕ)) (name : Text) (names : List Text) (events : List Event) (bytes items : List ℕ) (n : ℕ) (r : Refusal) (h k : Outside) → have_fault before ≡ false
     → IsFetched 1048576 (h.file name) items → Fetches name None h k → Some r ≡ option_map (refusal.Image n) (image_fault bytes) → bytes ≡ items → n ≡ length before + 1
-    → RunsImages before (name ∷ names) events (Some r) None h k
-image_bad before name names events bytes items n r h k good fetched f judged same number =
+    → RunsImages plain before (name ∷ names) events (Some r) None h k
+image_bad plain before name names events bytes items n r h k good fetched f judged same number =
     let count : 1 + length before ≡ n = omega arith in
     let is : Some r ≡ option_map (refusal.Image n) (image_fault items) = judged ∙ ap (λ (b : List ℕ). option_map (refusal.Image n) (image_fault b)) same in
-    image_ended before name names events items r h k fetched f
-    (λ files. deserved_by n (image_fault items) r (images_verdict 1 (before ++ items ∷ files) (boot_verdict events)) k is
-    (λ fault bad. refused_among 1 before items fault files (boot_verdict events) good bad ∙ ap (λ m. Refuses (refusal.Image m fault)) count))
+    image_ended plain before name names events items r h k fetched f
+    (λ files. deserved_by n (image_fault items) r (images_verdict 1 (before ++ items ∷ files) (boot_verdict plain events)) k is
+    (λ fault bad. refused_among 1 before items fault files (boot_verdict plain events) good bad ∙ ap (λ m. Refuses (refusal.Image m fault)) count))
 
 -- memory ran out after it
-pub image_unkept : (before : List (List ℕ)) (name : Text) (names : List Text) (events : List Event) (items : List ℕ) (h k : Outside) → IsFetched 1048576 (h.file name) items
-    → Fetches name None h k → RunsImages before (name ∷ names) events (Some refusal.NoMemory) None h k
-image_unkept before name names events items h k fetched f =
-    image_ended before name names events items refusal.NoMemory h k fetched f (λ files. tt)
+pub image_unkept : (plain : Bool) (before : List (List ℕ)) (name : Text) (names : List Text) (events : List Event) (items : List ℕ) (h k : Outside) → IsFetched 1048576 (h.file name) items
+    → Fetches name None h k → RunsImages plain before (name ∷ names) events (Some refusal.NoMemory) None h k
+image_unkept plain before name names events items h k fetched f =
+    image_ended plain before name names events items refusal.NoMemory h k fetched f (λ files. tt)
 
 -- it was read, and then the images after it
-pub image_then : (before after : List (List ℕ)) (name : Text) (names : List Text) (events : List Event) (items : List ℕ) (ended : Option Refusal) (left : Option Xinu) (h j k : Outside)
-    → after ≡ before ++ items ∷ [] → IsFetched 1048576 (h.file name) items → Fetches name None h j → RunsImages after names events ended left j k
-    → RunsImages before (name ∷ names) events ended left h k
-image_then before after name names events items ended left h j k added fetched f rest =
+pub image_then : (plain : Bool) (before after : List (List ℕ)) (name : Text) (names : List Text) (events : List Event) (items : List ℕ) (ended : Option Refusal) (left : Option Xinu) (h j k : Outside)
+    → after ≡ before ++ items ∷ [] → IsFetched 1048576 (h.file name) items → Fetches name None h j → RunsImages plain after names events ended left j k
+    → RunsImages plain before (name ∷ names) events ended left h k
+image_then plain before after name names events items ended left h j k added fetched f rest =
     let i = length before + 1 in
     let unseen = with_bytes_of i items rest.unseen in
-    let next = boot_verdict events in
+    let next = boot_verdict plain events in
     let bytes = file_bytes (h.file name) items in
     let later = image_bytes (i + 1) names h.file unseen in
     let own : file_bytes (h.file name) (unseen i) ≡ bytes = ap (file_bytes (h.file name)) (with_own i items rest.unseen) in
@@ -311,14 +311,14 @@ image_then before after name names events items ended left h j k added fetched f
     }
 
 -- no image is left
-pub images_run : (before : List (List ℕ)) (events : List Event) (ended : Option Refusal) (left : Option Xinu) (h k : Outside) → Carries (images_verdict 1 before (boot_verdict events)) ended left h k
-    → k.calls ≡ h.calls → KeepsFiles h k → RunsImages before [] events ended left h k
-images_run before events ended left h k carries calls keeps =
+pub images_run : (plain : Bool) (before : List (List ℕ)) (events : List Event) (ended : Option Refusal) (left : Option Xinu) (h k : Outside) → Carries (images_verdict 1 before (boot_verdict plain events)) ended left h k
+    → k.calls ≡ h.calls → KeepsFiles h k → RunsImages plain before [] events ended left h k
+images_run plain before events ended left h k carries calls keeps =
     let same : k.calls ≡ grown h.calls [] = calls ∙ sym (grown-nil h.calls) in
-    let v = images_verdict 1 (before ++ []) (boot_verdict events) in record {
+    let v = images_verdict 1 (before ++ []) (boot_verdict plain events) in record {
       unseen = λ j. [];
       stage = record {
-        carries = carries_as v (images_verdict 1 before (boot_verdict events)) ended left h k (ap (λ bs. images_verdict 1 bs (boot_verdict events)) (append-nil before)) carries;
+        carries = carries_as v (images_verdict 1 before (boot_verdict plain events)) ended left h k (ap (λ bs. images_verdict 1 bs (boot_verdict plain events)) (append-nil before)) carries;
         calls = record { some = (0, same); all = λ none. same };
         keeps = keeps;
       };
@@ -334,43 +334,43 @@ unseen_by schedule images DiskInput = []
 unseen_by schedule images SourceInput = []
 
 -- why a schedule isn't run, before an image was fetched
-schedule_carries : (r : Refusal) (s : Text) (names : List Text) (h k : Outside) → IsScheduleCause r (h.file s) h k → IsUnsent h k
-    → (bytes : List ℕ) × Carries (run_verdict (file_bytes (h.file s) bytes) (image_bytes 1 names h.file (λ i. []))) (Some r) None h k
-schedule_carries refusal.HostFault s names h k cause unsent =
+schedule_carries : (plain : Bool) (r : Refusal) (s : Text) (names : List Text) (h k : Outside) → IsScheduleCause r (h.file s) h k → IsUnsent h k
+    → (bytes : List ℕ) × Carries (run_verdict plain (file_bytes (h.file s) bytes) (image_bytes 1 names h.file (λ i. []))) (Some r) None h k
+schedule_carries plain refusal.HostFault s names h k cause unsent =
     let images = image_bytes 1 names h.file (λ i. []) in
-    ([], carries_nothing (run_verdict (file_bytes (h.file s) []) images) refusal.HostFault h k (run_keeps (file_bytes (h.file s) []) images, cause) unsent)
-schedule_carries (refusal.Schedule l) s names h k cause unsent =
+    ([], carries_nothing (run_verdict plain (file_bytes (h.file s) []) images) refusal.HostFault h k (run_keeps plain (file_bytes (h.file s) []) images, cause) unsent)
+schedule_carries plain (refusal.Schedule l) s names h k cause unsent =
     let holds : HoldsFault (h.file s) l = cause in
     let bytes = file_bytes (h.file s) holds.unseen in
     let images = image_bytes 1 names h.file (λ i. []) in
-    (holds.unseen, carries_nothing (run_verdict bytes images) (refusal.Schedule l) h k (schedule_refused bytes l images holds.fault) unsent)
-schedule_carries refusal.NoMemory s names h k cause unsent =
-    ([], carries_nothing (run_verdict (file_bytes (h.file s) []) (image_bytes 1 names h.file (λ i. []))) refusal.NoMemory h k tt unsent)
-schedule_carries other s names h k cause unsent = absurd cause
+    (holds.unseen, carries_nothing (run_verdict plain bytes images) (refusal.Schedule l) h k (schedule_refused plain bytes l images holds.fault) unsent)
+schedule_carries plain refusal.NoMemory s names h k cause unsent =
+    ([], carries_nothing (run_verdict plain (file_bytes (h.file s) []) (image_bytes 1 names h.file (λ i. []))) refusal.NoMemory h k tt unsent)
+schedule_carries plain other s names h k cause unsent = absurd cause
 
-pub schedule_refuses : (r : Refusal) (s : Text) (names : List Text) (h k : Outside) → IsScheduleCause r (h.file s) h k → IsUnsent h k
-    → HasCalled (fetching s ∷ []) (Some r) h k → KeepsFiles h k → Performs (Some (Run (record { schedule = s; images = names }))) (Some r) None h k
-schedule_refuses r s names h k cause unsent calls keeps =
-    let held = schedule_carries r s names h k cause unsent in record {
+pub schedule_refuses : (plain : Bool) (r : Refusal) (s : Text) (names : List Text) (h k : Outside) → IsScheduleCause r (h.file s) h k → IsUnsent h k
+    → HasCalled (fetching s ∷ []) (Some r) h k → KeepsFiles h k → Performs (Some (Run (record { schedule = s; images = names; plain = plain }))) (Some r) None h k
+schedule_refuses plain r s names h k cause unsent calls keeps =
+    let held = schedule_carries plain r s names h k cause unsent in record {
       obeys = record { unseen = unseen_by held.0 (λ i. []); carries = held.1 };
       calls = called_first (fetching s) (map fetching names) r h k calls;
       keeps = keeps;
     }
 
 -- the schedule was read, and then the images
-pub run_performs : (s : Text) (names : List Text) (events : List Event) (ended : Option Refusal) (left : Option Xinu) (h j k : Outside) → HoldsSchedule (h.file s) events
-    → IsUnsent h j → HasCalled (fetching s ∷ []) None h j → KeepsFiles h j → RunsImages [] names events ended left j k
-    → Performs (Some (Run (record { schedule = s; images = names }))) ended left h k
-run_performs s names events ended left h j k holds unsent calls keeps runs =
+pub run_performs : (plain : Bool) (s : Text) (names : List Text) (events : List Event) (ended : Option Refusal) (left : Option Xinu) (h j k : Outside) → HoldsSchedule (h.file s) events
+    → IsUnsent h j → HasCalled (fetching s ∷ []) None h j → KeepsFiles h j → RunsImages plain [] names events ended left j k
+    → Performs (Some (Run (record { schedule = s; images = names; plain = plain }))) ended left h k
+run_performs plain s names events ended left h j k holds unsent calls keeps runs =
     let images = image_bytes 1 names h.file runs.unseen in
     let bytes = file_bytes (h.file s) holds.unseen in
-    let v = images_verdict 1 (image_bytes 1 names j.file runs.unseen) (boot_verdict events) in
-    let same : run_verdict bytes images ≡ v =
-    schedule_read bytes events images holds.reads
-    ∙ ap (λ (file : Text → Option (List ℕ)). images_verdict 1 (image_bytes 1 names file runs.unseen) (boot_verdict events)) (sym keeps.file) in record {
+    let v = images_verdict 1 (image_bytes 1 names j.file runs.unseen) (boot_verdict plain events) in
+    let same : run_verdict plain bytes images ≡ v =
+    schedule_read plain bytes events images holds.reads
+    ∙ ap (λ (file : Text → Option (List ℕ)). images_verdict 1 (image_bytes 1 names file runs.unseen) (boot_verdict plain events)) (sym keeps.file) in record {
       obeys = record {
         unseen = unseen_by holds.unseen runs.unseen;
-        carries = carries_as (run_verdict bytes images) v ended left h k same
+        carries = carries_as (run_verdict plain bytes images) v ended left h k same
             (carries_within v ended left h j k k unsent keeps.later (unsent_refl k) (omega arith) runs.stage.carries);
       };
       calls = called_both (fetching s ∷ []) (map fetching names) ended h j k (calls.all refl) runs.stage.calls;

@@ -80,7 +80,7 @@ due exit command old new left a = carried_due (verdict command old.file a.obeys.
 -- ---- no command
 
 command_keeps : (c : Command) (file : Text → Option (List ℕ)) (unseen : Input → List ℕ) → verdict (Some c) file unseen ≢ Refuses refusal.Usage
-command_keeps (Run r) file unseen = run_keeps (file_bytes (file r.schedule) (unseen ScheduleInput)) _
+command_keeps (Run r) file unseen = run_keeps r.plain (file_bytes (file r.schedule) (unseen ScheduleInput)) _
 command_keeps (Asm a) file unseen = asm_keeps a.elf (file_bytes (file a.source) (unseen SourceInput))
 command_keeps (Disk action) file unseen = action_keeps action _
 
@@ -180,40 +180,40 @@ says_done exit s files x good fine start is = record {
 }
 
 -- by how the machine starts
-says_start : (exit : ℕ) (s : List ℕ) (files : List (List ℕ)) (events : List Event) (images : List Loaded) (start : Start) → schedule_fault s ≡ None
-    → have_fault files ≡ false → images_loaded files ≡ Some images → boot images ≡ start → exit ≡ status_due (start_verdict events start)
+says_start : (plain : Bool) (exit : ℕ) (s : List ℕ) (files : List (List ℕ)) (events : List Event) (images : List Loaded) (start : Start) → schedule_fault s ≡ None
+    → have_fault files ≡ false → images_loaded files ≡ Some images → boot images ≡ start → exit ≡ status_due (start_verdict plain events start)
     → SaysOfFiles exit s files
 unfolding start_with
-says_start exit s files events images (Boots x) good fine loaded starts is =
+says_start plain exit s files events images (Boots x) good fine loaded starts is =
     says_done exit s files x good fine (ap (option_map boot) loaded ∙ ap Some starts) is
-says_start exit s files events images (Overlaps i) good fine loaded starts is =
+says_start plain exit s files events images (Overlaps i) good fine loaded starts is =
     says_no_start exit s files i good fine (inl (ap (option_map boot) loaded ∙ ap Some starts)) is
-says_start exit s files events images (NoRoom i) good fine loaded starts is =
+says_start plain exit s files events images (NoRoom i) good fine loaded starts is =
     says_no_start exit s files i good fine (inr (ap (option_map boot) loaded ∙ ap Some starts)) is
 
 -- by whether an image file has a fault
-says_by_images : (exit : ℕ) (s : List ℕ) (files : List (List ℕ)) (events : List Event) (bad : Bool) → schedule_fault s ≡ None → have_fault files ≡ bad
-    → exit ≡ status_due (images_verdict 1 files (boot_verdict events)) → SaysOfFiles exit s files
-says_by_images exit s files events true good bad is =
-    says_image exit s files good bad (is ∙ ap status_due (images_refused 1 files (boot_verdict events) bad).2)
-says_by_images exit s files events false good fine is =
-    let read = images_read 1 files (boot_verdict events) fine in
-    says_start exit s files events read.0 (boot read.0) good fine read.1.0 refl
-    (is ∙ ap status_due read.1.1 ∙ ap status_due (boot_verdict_at events read.0 (boot read.0) refl))
+says_by_images : (plain : Bool) (exit : ℕ) (s : List ℕ) (files : List (List ℕ)) (events : List Event) (bad : Bool) → schedule_fault s ≡ None → have_fault files ≡ bad
+    → exit ≡ status_due (images_verdict 1 files (boot_verdict plain events)) → SaysOfFiles exit s files
+says_by_images plain exit s files events true good bad is =
+    says_image exit s files good bad (is ∙ ap status_due (images_refused 1 files (boot_verdict plain events) bad).2)
+says_by_images plain exit s files events false good fine is =
+    let read = images_read 1 files (boot_verdict plain events) fine in
+    says_start plain exit s files events read.0 (boot read.0) good fine read.1.0 refl
+    (is ∙ ap status_due read.1.1 ∙ ap status_due (boot_verdict_at plain events read.0 (boot read.0) refl))
 
 -- by the fault of the schedule
-says_by_schedule : (exit : ℕ) (s : List ℕ) (files : List (List ℕ)) (f : Option ℕ) → schedule_fault s ≡ f → exit ≡ status_due (run_verdict s files)
+says_by_schedule : (plain : Bool) (exit : ℕ) (s : List ℕ) (files : List (List ℕ)) (f : Option ℕ) → schedule_fault s ≡ f → exit ≡ status_due (run_verdict plain s files)
     → SaysOfFiles exit s files
-says_by_schedule exit s files (Some l) bad is =
-    says_schedule exit s files l bad (is ∙ ap status_due (schedule_refused s l files bad))
-says_by_schedule exit s files None good is =
+says_by_schedule plain exit s files (Some l) bad is =
+    says_schedule exit s files l bad (is ∙ ap status_due (schedule_refused plain s l files bad))
+says_by_schedule plain exit s files None good is =
     let read = good_reads s good in
-    says_by_images exit s files read.0 (have_fault files) good refl
-    (is ∙ ap status_due (schedule_read s read.0 files (record { good = good; reads = read.1 })))
+    says_by_images plain exit s files read.0 (have_fault files) good refl
+    (is ∙ ap status_due (schedule_read plain s read.0 files (record { good = good; reads = read.1 })))
 
 pub says_of_files : (exit : ℕ) (files : RunFiles) (old new : Outside) (left : Option Xinu) (a : Answers exit (Some (Run files)) old new left) → exit ≢ 7 → exit ≢ 3
     → SaysOfFiles exit (file_bytes (old.file files.schedule) (a.obeys.unseen ScheduleInput)) (image_bytes 1 files.images old.file (λ i. a.obeys.unseen (ImageInput i)))
 says_of_files exit files old new left a memory fault =
     let schedule = file_bytes (old.file files.schedule) (a.obeys.unseen ScheduleInput) in
-    says_by_schedule exit schedule (image_bytes 1 files.images old.file (λ i. a.obeys.unseen (ImageInput i))) (schedule_fault schedule) refl
+    says_by_schedule files.plain exit schedule (image_bytes 1 files.images old.file (λ i. a.obeys.unseen (ImageInput i))) (schedule_fault schedule) refl
     (due exit (Some (Run files)) old new left a memory fault)

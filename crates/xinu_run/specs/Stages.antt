@@ -1,5 +1,5 @@
 -- What the stages of a command promise one another: its arguments, its files, its output.
-use Rattle.std.specs.Prelude.{◌≡◌, ◌≤◌, ◌+◌, ℕ, List, [], ◌∷◌, ◌++◌, length, map, take, true, Option, Some, None, Result, Ok, Err, option_map}
+use Rattle.std.specs.Prelude.{◌≡◌, ◌≤◌, ◌+◌, ℕ, Bool, List, [], ◌∷◌, ◌++◌, length, map, take, true, Option, Some, None, Result, Ok, Err, option_map}
 use Rattle.std.specs.List.{slice_get}
 use Rattle.std.specs.Option.{option_map_or}
 use Rattle.machine.specs.Printed.{Booted}
@@ -120,9 +120,9 @@ pub record Stage (v : Verdict) (asked : List HostCall) (ended : Option Refusal) 
 
 -- After these image files, those of these names were fetched and read in order, and then all images ran through the events, for some bytes
 -- of the files that can't be observed.
-pub record RunsImages (before : List (List ℕ)) (names : List Text) (events : List Event) (ended : Option Refusal) (left : Option Xinu) (old new : Outside) : Type 0 where
+pub record RunsImages (plain : Bool) (before : List (List ℕ)) (names : List Text) (events : List Event) (ended : Option Refusal) (left : Option Xinu) (old new : Outside) : Type 0 where
   pub unseen : ℕ → List ℕ
-  pub stage : Stage (images_verdict 1 (before ++ image_bytes (length before + 1) names old.file unseen) (boot_verdict events)) (map fetching names) ended left old new
+  pub stage : Stage (images_verdict 1 (before ++ image_bytes (length before + 1) names old.file unseen) (boot_verdict plain events)) (map fetching names) ended left old new
 
 -- A file was fetched and then set on a disk, for some bytes of it if it can't be observed.
 pub record SetsFile (disk name source out : List ℕ) (ended : Option Refusal) (old new : Outside) : Type 0 where

@@ -41,6 +41,6 @@ action_verdict (Repair image out) held = repair_verdict (held DiskInput image)
 abbrev pub verdict : Option Command → (Text → Option (List ℕ)) → (Input → List ℕ) → Verdict
 verdict None file unseen = Refuses refusal.Usage
 verdict (Some (Run r)) file unseen =
-    run_verdict (file_bytes (file r.schedule) (unseen ScheduleInput)) (image_bytes 1 r.images file (λ i. unseen (ImageInput i)))
+    run_verdict r.plain (file_bytes (file r.schedule) (unseen ScheduleInput)) (image_bytes 1 r.images file (λ i. unseen (ImageInput i)))
 verdict (Some (Asm a)) file unseen = asm_verdict a.elf (file_bytes (file a.source) (unseen SourceInput))
 verdict (Some (Disk action)) file unseen = action_verdict action (λ input name. file_bytes (file name) (unseen input))

@@ -1,12 +1,12 @@
 -- What a command deserves, a refusal by its cause or work, and what the work puts out.
-use Rattle.std.specs.Prelude.{◌≡◌, ℕ, List, [], ◌∷◌, ◌++◌, Option, Some, None}
+use Rattle.std.specs.Prelude.{◌≡◌, ℕ, Bool, List, [], ◌∷◌, ◌++◌, Option, Some, None}
 use Rattle.xinu_base.specs.declared.events.Event.{Event}
 use Rattle.xinu_base.specs.declared.events.End.{End}
 use Rattle.xinu_base.specs.declared.lines.TranscriptLine.{TranscriptLine}
 use Rattle.xinu_base.specs.declared.lines.TranscriptLine.TheVariants as line
 use Rattle.xinu_model.specs.Machine.{Xinu}
 use Rattle.xinu_model.specs.Runs.{RunsTo}
-use Rattle.xinu_model.specs.Text.{tables_of, text}
+use Rattle.xinu_model.specs.Text.{shown, tables_of}
 use Rattle.xinu_run.specs.declared.refusals.Refusal.{Refusal}
 use Rattle.xinu_run.specs.declared.refusals.Refusal.TheVariants as refusal
 
@@ -27,9 +27,10 @@ only_printed status bytes =
 abbrev pub output_of : List ℕ → Option (List ℕ) → Option (List ℕ) → Output
 output_of out disk1 image = record { status = 0; out = out; disk0 = None; disk1 = disk1; image = image }
 
--- The work that is due: a run from this start through these events; or an output, text with a disk or another file.
+-- The work that is due: a run from this start through these events, of which all lines are shown or, if it is plain, the bytes of the
+-- console alone; or an output, text with a disk or another file.
 pub data Work : Type 0 where
-  Runs : (start : Xinu) → (events : List Event) → Work
+  Runs : (plain : Bool) → (start : Xinu) → (events : List Event) → Work
   Outputs : (out : List ℕ) → (disk1 image : Option (List ℕ)) → Work
 
 -- a refusal by its cause, or the work that is due
@@ -58,13 +59,13 @@ abbrev pub transcript : Xinu → List TranscriptLine → Xinu → End → List T
 transcript start lines last end =
     line.Switch start.tables.current ∷ lines ++ tables_of last ++ line.End end ∷ []
 
--- The output is the transcript of one run from this start through these events, and this is the run's last state.
-pub record RunWrites (start : Xinu) (events : List Event) (output : Output) (left : Option Xinu) : Type 0 where
+-- The output is what is shown of the transcript of one run from this start through these events, and this is the run's last state.
+pub record RunWrites (plain : Bool) (start : Xinu) (events : List Event) (output : Output) (left : Option Xinu) : Type 0 where
   pub lines : List TranscriptLine
   pub state : Xinu
   pub end : End
   pub runs : RunsTo start events lines state end
-  pub written : output ≡ only_printed 0 (text (transcript start lines state end))
+  pub written : output ≡ only_printed 0 (shown plain (transcript start lines state end))
   pub last : left ≡ Some state
 
 -- The output is exactly this one, and no machine is left.
@@ -74,5 +75,5 @@ pub record OutputWrites (out : List ℕ) (disk1 image : Option (List ℕ)) (outp
 
 -- What work puts out, and the state that it leaves. It is a relation, since a run may have several outcomes.
 abbrev pub Writes : Work → Output → Option Xinu → Type 0
-Writes (Runs start events) output left = RunWrites start events output left
+Writes (Runs plain start events) output left = RunWrites plain start events output left
 Writes (Outputs out disk1 image) output left = OutputWrites out disk1 image output left

@@ -1,6 +1,6 @@
 //! The program: it runs images under a schedule and prints the transcript, assembles texts, and makes, checks and changes disks with files.
 //!
-//! Its commands are `run --schedule FILE IMAGE ..`, `asm SOURCE --out FILE`, which writes an ELF file with `--elf`, and `disk` with six actions: `mkfs`, `ls`, `get`, `put`, `check` and `repair`. The work is done by the top call, [`xinu`], over the host of the program; the
+//! Its commands are `run --schedule FILE IMAGE ..`, which with `--plain` prints the bytes of the console alone, `asm SOURCE --out FILE`, which writes an ELF file with `--elf`, and `disk` with six actions: `mkfs`, `ls`, `get`, `put`, `check` and `repair`. The work is done by the top call, [`xinu`], over the host of the program; the
 //! status that it answers is the program's. `specs/Theorem.antt` says what the top call does.
 #![tactic(auto)]
 

@@ -46,6 +46,7 @@ pub(crate) fn run<H: Host>(
         files.images.as_slice(),
         Vec::new(alloc),
         events,
+        files.plain,
         host,
     )
 }
@@ -75,22 +76,23 @@ fn run_from<H: Host>(
     names: &[&str],
     files: Vec<Vec<u8>>,
     schedule: Schedule,
+    plain: bool,
     host: &mut H,
 ) -> Result<Machine, Refusal>
     requires some { 1 ≤ length files.items + length names.now }
     requires few { length files.items + length names.now ≤ 8 }
     requires good { have_fault (map (λ v. v.items) files.items) ≡ false }
     requires events { length schedule ≤ 1000000000 }
-    ensures runs { RunsImages (map (λ v. v.items) files.items) (map (λ s. s.now) names.now) schedule (refusal_of result) (left_of result) (H.view host.old) (H.view host.new) }
+    ensures runs { RunsImages plain (map (λ v. v.items) files.items) (map (λ s. s.now) names.now) schedule (refusal_of result) (left_of result) (H.view host.old) (H.view host.new) }
 {
     match names {
-        [] => run_files(alloc, files.as_slice(), schedule, host),
+        [] => run_files(alloc, files.as_slice(), schedule, plain, host),
         [name, rest @ ..] => {
             let file = fetch_file(alloc, name, LONGEST_IMAGE, host)?;
             judge(file.as_slice(), files.len() as u8 + 1)?;
             let mut files = files;
             match files.push(file) {
-                Ok(()) => run_from(alloc, rest, files, schedule, host),
+                Ok(()) => run_from(alloc, rest, files, schedule, plain, host),
                 Err(_) => Err(Refusal::NoMemory),
             }
         }
@@ -121,18 +123,19 @@ fn run_files<H: Host>(
     alloc: Global,
     files: &[Vec<u8>],
     schedule: Schedule,
+    plain: bool,
     host: &mut H,
 ) -> Result<Machine, Refusal>
     requires some { 1 ≤ length files.now }
     requires few { length files.now ≤ 8 }
     requires good { have_fault (map (λ v. v.items) files.now) ≡ false }
     requires events { length schedule ≤ 1000000000 }
-    ensures carries { Carries (images_verdict 1 (map (λ v. v.items) files.now) (boot_verdict schedule)) (refusal_of result) (left_of result) (H.view host.old) (H.view host.new) }
+    ensures carries { Carries (images_verdict 1 (map (λ v. v.items) files.now) (boot_verdict plain schedule)) (refusal_of result) (left_of result) (H.view host.old) (H.view host.new) }
     ensures calls { (H.view host.new).calls ≡ (H.view host.old).calls }
     ensures keeps { KeepsFiles (H.view host.old) (H.view host.new) }
 {
     match images_of(alloc, files) {
-        Ok(images) => run_images(alloc, images.as_slice(), schedule, host),
+        Ok(images) => run_images(alloc, images.as_slice(), schedule, plain, host),
         Err(_) => Err(Refusal::NoMemory),
     }
 }

@@ -18,7 +18,8 @@ use schedule_file::Schedule;
 use std::alloc::Global;
 use xinu_base::End;
 
-/// Runs images through the events of a schedule, and answers the machine as the run left it. There are one to eight images.
+/// Runs images through the events of a schedule, and answers the machine as the run left it. There are one to eight images. If `plain`,
+/// the bytes of the console are printed and nothing else.
 ///
 /// # Errors
 /// `Overlap(i)` if and only if image `i`, counted from 1, is the first that overlaps an earlier one; else `NoRoom(i)` if and only if the
@@ -28,12 +29,13 @@ pub(crate) fn run_images<H: Host>(
     alloc: Global,
     images: &[Image<'_>],
     schedule: Schedule,
+    plain: bool,
     host: &mut H,
 ) -> Result<Machine, Refusal>
     requires some { 1 ≤ length images.now }
     requires few { length images.now ≤ 8 }
     requires events { length schedule ≤ 1000000000 }
-    ensures carries { Carries (boot_verdict schedule (map loaded_of images.now)) (refusal_of result) (left_of result) (H.view host.old) (H.view host.new) }
+    ensures carries { Carries (boot_verdict plain schedule (map loaded_of images.now)) (refusal_of result) (left_of result) (H.view host.old) (H.view host.new) }
     ensures calls { (H.view host.new).calls ≡ (H.view host.old).calls }
     ensures keeps { KeepsFiles (H.view host.old) (H.view host.new) }
 {
@@ -42,7 +44,7 @@ pub(crate) fn run_images<H: Host>(
         Err(fault) => return Err(Refusal::from(fault)),
     };
     let mut schedule = schedule;
-    let mut out = Printer::new(false);
+    let mut out = Printer::new(plain);
     machine.start(&mut out, host);
     let end = take_events(&mut machine, &mut schedule, &mut out, host);
     machine.dump(&mut out, host);

@@ -14,6 +14,7 @@ mod kernel_processes;
 mod kernel_programs;
 mod kernel_semaphores;
 mod out_of_memory;
+mod plain_output;
 mod programs;
 mod real_files;
 mod several_images;

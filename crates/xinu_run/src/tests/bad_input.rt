@@ -15,6 +15,7 @@ fn bad_arguments_are_refused(rt: HostRuntime) -> Result<(), Fail> {
         &["run", "i"],
         &["run", "i", "--schedule"],
         &["run", "--schedule", "s", "--schedule", "s", "i"],
+        &["run", "--schedule", "s", "--plain", "--plain", "i"],
         &[
             "run",
             "--schedule",

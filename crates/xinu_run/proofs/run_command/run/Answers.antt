@@ -14,7 +14,7 @@ returns-in_err-events g c =
     let names = run_names c.args.files.now in
     record {
       performs = of_err c.from_residual.result r (λ ended left. Performs (Some (Run names)) ended left h k) c.from_residual.ensures.0 c.from_residual.ensures.1
-          (schedule_refuses r names.schedule names.images h k c.in_err-events.ensures.refused c.in_err-events.ensures.unsent c.in_err-events.ensures.calls c.in_err-events.ensures.keeps);
+          (schedule_refuses names.plain r names.schedule names.images h k c.in_err-events.ensures.refused c.in_err-events.ensures.unsent c.in_err-events.ensures.calls c.in_err-events.ensures.keeps);
     }
 
 pub run_from-requires-clause-good : goal.run_from-requires-clause-good
@@ -29,9 +29,9 @@ returns g c =
     let events = c.in_ok-events.events in
     let ended = refusal_of c.run_from.result in
     let left = left_of c.run_from.result in
-    let given = subst (λ (files : List (Vec ℕ Global)). RunsImages (map (λ v. v.items) files) (map (λ s. s.now) c.as_slice.result.now) events ended left j k) c.new.ensures.items c.run_from.ensures.runs in
-    let runs = subst (λ (all : List (Bor (List ℕ))). RunsImages [] (map (λ s. s.now) all) events ended left j k) c.as_slice.ensures.value given in
+    let given = subst (λ (files : List (Vec ℕ Global)). RunsImages names.plain (map (λ v. v.items) files) (map (λ s. s.now) c.as_slice.result.now) events ended left j k) c.new.ensures.items c.run_from.ensures.runs in
+    let runs = subst (λ (all : List (Bor (List ℕ))). RunsImages names.plain [] (map (λ s. s.now) all) events ended left j k) c.as_slice.ensures.value given in
     record {
-      performs = run_performs names.schedule names.images events ended left h j k c.in_ok-events.ensures.ok c.in_ok-events.ensures.unsent c.in_ok-events.ensures.calls
+      performs = run_performs names.plain names.schedule names.images events ended left h j k c.in_ok-events.ensures.ok c.in_ok-events.ensures.unsent c.in_ok-events.ensures.calls
           c.in_ok-events.ensures.keeps runs;
     }

@@ -8,7 +8,7 @@ use Rattle.xinu_run.proofs.run_command.run_files.Goals as goal
 
 pub returns-in-Ok-clause-carries : goal.returns-in-Ok-clause-carries
 returns-in-Ok-clause-carries g c =
-    files_carry (map (λ v. v.items) c.args.files.now) c.args.schedule (map loaded_of c.as_slice.result.now) _ _ _ _ c.requires.good
+    files_carry c.args.plain (map (λ v. v.items) c.args.files.now) c.args.schedule (map loaded_of c.as_slice.result.now) _ _ _ _ c.requires.good
     (c.in-Ok.ensures.loaded ∙ ap (λ (images : List Image). Some (map loaded_of images)) (sym c.as_slice.ensures.value)) c.run_images.ensures.carries
 
 pub returns-in-Err-clause-carries : goal.returns-in-Err-clause-carries
