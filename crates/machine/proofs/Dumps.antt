@@ -3,17 +3,18 @@ use Rattle.std.proofs.Common.{◌≡◌, ◌∙◌, ℕ, List, [], ◌∷◌, �
 use Rattle.host_port.specs.Outside.{Outside}
 use Rattle.host_port.specs.Printing.{Printing, Prints}
 use Rattle.xinu_base.specs.declared.lines.TranscriptLine.{TranscriptLine}
-use Rattle.xinu_base.specs.declared.lines.TranscriptLine.TheVariants.{Console, Disk0, Disk1, Now}
+use Rattle.xinu_base.specs.declared.lines.TranscriptLine.TheVariants.{Now}
+use Rattle.xinu_model.specs.Devices.State.{first_devices}
 use Rattle.xinu_model.specs.Heap.Cells.{free_blocks, Heap}
 use Rattle.xinu_model.specs.Machine.{first_parts, Parts, Xinu}
 use Rattle.xinu_model.specs.Ports.Queues.{first_ports}
 use Rattle.xinu_model.specs.Tables.{Tables}
-use Rattle.xinu_model.specs.Text.{free_line, pool_lines, port_lines, process_lines, ready_line, semaphore_lines, shown, sleeper_line, tables_of}
+use Rattle.xinu_model.specs.Text.{device_lines, free_line, pool_lines, port_lines, process_lines, ready_line, semaphore_lines, shown, sleeper_line, tables_of}
 use Rattle.machine.proofs.ShownLines.{shown_both}
 
--- the lines of the devices
+-- the lines of the devices, which are as at the start
 abbrev pub devices : List TranscriptLine
-devices = Console ∷ Disk0 ∷ Disk1 ∷ []
+devices = device_lines first_devices
 
 -- no port is in use at the start
 no_port_lines : port_lines 0 first_ports ≡ []
@@ -28,7 +29,7 @@ tables_short s h parts =
     let t = s.tables in
     let first = Now t.ticks t.quantum ∷ process_lines 0 t.processes t.messages ++ map ready_line t.ready ++ semaphore_lines 0 t.semaphores ++ map sleeper_line t.sleepers in
     let free = map free_line (free_blocks h) in
-    ap (λ (p : Parts). first ++ map free_line (free_blocks p.heap) ++ pool_lines 0 p.pools ++ port_lines 0 p.ports ++ devices) parts
+    ap (λ (p : Parts). first ++ map free_line (free_blocks p.heap) ++ pool_lines 0 p.pools ++ port_lines 0 p.ports ++ device_lines p.devices) parts
     ∙ ap (λ l. first ++ free ++ [] ++ l ++ devices) no_port_lines
     ∙ ap (λ l. l ++ [] ++ devices) (append-nil (first ++ free))
     ∙ ap (λ l. l ++ devices) (append-nil (first ++ free))
