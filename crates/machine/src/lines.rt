@@ -10,8 +10,8 @@ ghost use Rattle.xinu_model.specs.Words as words;
 
 use host_port::Line;
 use xinu_base::{
-    Call, Cause, End, FileMoment, Pid, PoolId, State, TranscriptLine, call_args, call_name,
-    is_built,
+    Call, Cause, End, FileMoment, Pid, PoolId, State, TranscriptLine, TtyMode, call_args,
+    call_name, is_built,
 };
 
 /// The text of a line, with its line feed.
@@ -39,6 +39,11 @@ fn put_fields(text: &mut Line, line: &TranscriptLine)
             "ret",
             &[number(*p), i64::from(*value)],
         ),
+        TranscriptLine::Con(byte) => {
+            text.word("con");
+            text.word("");
+            text.hex2(*byte);
+        }
         TranscriptLine::Switch(p) => put_numbers(text, "run", &[number(*p)]),
         TranscriptLine::Now(ticks, quantum) => {
             put_numbers(text, "now", &[i64::from(*ticks), i64::from(*quantum)]);
@@ -95,9 +100,24 @@ fn put_fields(text: &mut Line, line: &TranscriptLine)
                 &[port.index() as i64, i64::from(message.cast_signed())],
             );
         }
-        TranscriptLine::Console => text.word("console cooked 0 0 0 0 run"),
-        TranscriptLine::Disk0 => text.word("disk0 0"),
-        TranscriptLine::Disk1 => text.word("disk1 clean"),
+        TranscriptLine::Console {
+            mode,
+            committed,
+            line,
+            output,
+            echo,
+            held,
+        } => put_console(text, *mode, *committed, *line, *output, *echo, *held),
+        TranscriptLine::Disk0(requests) => put_numbers(text, "disk0", &[i64::from(*requests)]),
+        TranscriptLine::OpenFile(dev, position, size) => put_numbers(
+            text,
+            "lfile",
+            &[dev.index() as i64, i64::from(*position), i64::from(*size)],
+        ),
+        TranscriptLine::Disk1(busy) => {
+            text.word("disk1");
+            text.word(busy_name(*busy));
+        }
         TranscriptLine::End(end) => {
             text.word("end");
             text.word(end_name(*end));
@@ -148,6 +168,29 @@ fn put_pool(text: &mut Line, pool: PoolId, size: u32, free: u32, held: u32)
             i64::from(held),
         ],
     );
+}
+
+// Appends the fields of the console.
+fn put_console(
+    text: &mut Line,
+    mode: TtyMode,
+    committed: u32,
+    line: u32,
+    output: u32,
+    echo: u32,
+    held: bool,
+)
+    requires { text.old ≡ [] }
+    ensures put { text.new ≡ model.with_fields [] (model.line_fields (variant.Console mode committed line output echo held)) }
+    ensures size { length text.new ≤ 150 }
+{
+    text.word("console");
+    text.word(mode_name(mode));
+    text.number(i64::from(committed));
+    text.number(i64::from(line));
+    text.number(i64::from(output));
+    text.number(i64::from(echo));
+    text.word(held_name(held));
 }
 
 // The number of a process.
@@ -282,6 +325,31 @@ fn moment_name(moment: FileMoment) -> &'static str
         FileMoment::Finished => "done",
         FileMoment::Next => "next",
     }
+}
+
+fn mode_name(mode: TtyMode) -> &'static str
+    ensures word { result.now ≡ model.mode_name mode }
+    ensures short { length result.now ≤ 6 }
+{
+    match mode {
+        TtyMode::Raw => "raw",
+        TtyMode::Cbreak => "cbreak",
+        TtyMode::Cooked => "cooked",
+    }
+}
+
+fn held_name(held: bool) -> &'static str
+    ensures word { result.now ≡ model.held_name held }
+    ensures short { length result.now ≤ 4 }
+{
+    if held { "held" } else { "run" }
+}
+
+fn busy_name(busy: bool) -> &'static str
+    ensures word { result.now ≡ model.busy_name busy }
+    ensures short { length result.now ≤ 5 }
+{
+    if busy { "busy" } else { "clean" }
 }
 
 fn end_name(end: End) -> &'static str

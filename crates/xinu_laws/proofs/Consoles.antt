@@ -1,6 +1,7 @@
 -- The console: what a received character, a transmission and a control function do to its lists (`Characters`, `Erasing`, `Steps`,
--- `Transmissions`), and that the calls on it, its interrupts and all other calls keep what holds of it and of those who wait for it.
+-- `Transmissions`), who is told of the end of the input (`Ended`), and that the calls on it, its interrupts and all other calls keep what holds of it and of those who wait for it.
 pub mod Characters
+pub mod Ended
 pub mod Erasing
 pub mod Framed
 pub mod Kept

@@ -1,6 +1,7 @@
 -- What calls answer and what examples print: refusals, signals, computed systems.
 pub mod Computed
 pub mod ComputedConsoles
+pub mod ComputedDisks
 pub mod ComputedPorts
 pub mod ComputedPriorities
 pub mod Ecall

@@ -1,6 +1,8 @@
 -- What a step of the console does to its lists, and typing as many steps.
 use Rattle.std.specs.Prelude.{◌≡◌, ℕ, true, false, List, [], ◌∷◌, ◌++◌, length}
 use Rattle.xinu_base.specs.declared.console.Item.{Item}
+use Rattle.xinu_base.specs.declared.console.Item.TheVariants.{End}
+use Rattle.xinu_base.specs.declared.console.TtyMode.TheVariants.{Cooked}
 use Rattle.xinu_model.specs.Console.Receiving.{received}
 use Rattle.xinu_model.specs.Console.Rows.{Committed}
 use Rattle.xinu_model.specs.Console.State.{Console}
@@ -24,6 +26,12 @@ pub record SendsFirst (c : Console) (sent : Sent) : Type 0 where
 pub record SameInput (c d : Console) : Type 0 where
   pub committed : d.committed ≡ c.committed
   pub line : d.line ≡ c.line
+
+-- The next item is the end mark, and it ends the input, since the mode is cooked.
+pub record IsAtEnd (c : Console) : Type 0 where
+  pub mode : c.mode ≡ Cooked
+  pub items : List Item
+  pub first : c.committed ≡ End ∷ items
 
 -- the console after these characters
 abbrev pub typing : List ℕ → Console → Console

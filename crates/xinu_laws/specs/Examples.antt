@@ -1,6 +1,7 @@
 -- Examples: small systems of processes with their calls, and what they print.
 pub mod Clock
 pub mod Consoles
+pub mod DiskCalls
 pub mod FileCalls
 pub mod FileSystems
 pub mod Heap

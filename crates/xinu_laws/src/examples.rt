@@ -12,6 +12,7 @@ ghost use Rattle.xinu_laws.specs.Examples.Messages as message_examples;
 ghost use Rattle.xinu_laws.specs.Examples.Clock as clock_examples;
 ghost use Rattle.xinu_laws.specs.Examples.Consoles as console_examples;
 ghost use Rattle.xinu_laws.specs.Examples.Consoles.{bytes_at};
+ghost use Rattle.xinu_laws.specs.Examples.DiskCalls as disk_examples;
 ghost use Rattle.xinu_laws.specs.Examples.Pools as pool_examples;
 ghost use Rattle.xinu_laws.specs.Examples.Ports as port_examples;
 ghost use Rattle.xinu_laws.specs.Examples.Played.{outcome_of, last_tables, printed, played_transcript};
@@ -131,4 +132,12 @@ pub fn console_calls()
     ensures killed_reader { printed console_examples.killed_reader ≡ console_examples.killed_reader_lines }
     ensures killed_reader_console { console_line (outcome_of console_examples.killed_reader).state.parts.devices.console ≡ console_examples.killed_reader_console }
     ensures opened_by_name { printed console_examples.opened_by_name ≡ console_examples.opened_by_name_lines }
+{}
+
+/// The raw disk: a block that is written and read back, a completion that fails, refusals, and a writer that is killed.
+pub fn disk_calls()
+    ensures written_and_read { printed disk_examples.written_and_read ≡ disk_examples.written_and_read_lines }
+    ensures written_and_read_bytes { bytes_at 511 3 disk_examples.written_and_read ≡ 0 ∷ 7 ∷ 7 ∷ [] }
+    ensures killed_writer { printed disk_examples.killed_writer ≡ disk_examples.killed_writer_lines }
+    ensures killed_writer_bytes { bytes_at 511 3 disk_examples.killed_writer ≡ 0 ∷ 7 ∷ 7 ∷ [] }
 {}

@@ -1,16 +1,20 @@
 //! What a refusal leaves, and which answers tell of one.
 
-ghost use Rattle.std.specs.Prelude.{◌≡◌, ◌⊎◌, ◌<◌, ℕ, true, false, if◌then◌else◌, nat_le, List, Some, slice_index, ◌++◌, map, take, pos};
-ghost use Rattle.xinu_base.specs.Constants.{OK, SYSERR};
+ghost use Rattle.std.specs.Prelude.{◌≡◌, ◌⊎◌, ◌<◌, ℕ, suc, ℤ, true, false, if◌then◌else◌, nat_le, List, Some, slice_index, ◌++◌, map, take, pos};
+ghost use Rattle.xinu_base.specs.Constants.{OK, SYSERR, EOF};
 ghost use Rattle.xinu_base.specs.declared.events.Event.TheVariants.{Step};
 ghost use Rattle.xinu_base.specs.declared.lines.TranscriptLine.{TranscriptLine};
 ghost use Rattle.xinu_base.specs.declared.processes.PortTicket.{PortTicket};
-ghost use Rattle.xinu_base.specs.declared.processes.Rest.TheVariants.{PtSend, PtRecv};
+ghost use Rattle.xinu_base.specs.declared.processes.Rest.TheVariants.{PtSend, PtRecv, TtyGet, TtyRead};
+ghost use Rattle.xinu_base.specs.declared.processes.Span.{Span};
+ghost use Rattle.xinu_laws.specs.Consoles.{IsAtEnd};
 ghost use Rattle.xinu_laws.specs.Moves.{ready_all};
 ghost use Rattle.xinu_laws.specs.Refusals.{AnswersFirst, IsCalling, IsRefused, LeavesRefused, value_told};
 ghost use Rattle.xinu_model.specs.Calls.{call_of_number, continued};
+ghost use Rattle.xinu_model.specs.Console.Taking.{TY_ISEM, console_of, console_getc, console_read};
 ghost use Rattle.xinu_model.specs.Events.{Happens};
 ghost use Rattle.xinu_model.specs.Machine.{Xinu, CallState, Panics, Returns, goes_on, refused};
+ghost use Rattle.xinu_model.specs.Memory.{in_ram};
 ghost use Rattle.xinu_model.specs.Messages.{held};
 ghost use Rattle.xinu_model.specs.Ports.Queues.{MessagePort, is_stale, most_nodes, nodes, port_at};
 ghost use Rattle.xinu_model.specs.Semaphores.Calls.{semdelete, semreset};
@@ -50,4 +54,18 @@ pub fn stale_tickets_are_refused()
     ensures receive { (ticket : PortTicket) (s : Xinu) → is_stale ticket s.parts.ports ≡ true → continued (PtRecv ticket) s ≡ refused (goes_on (held s) s) }
     ensures fresh_send { (ticket : PortTicket) (message : ℕ) (s : Xinu) → is_stale ticket s.parts.ports ≡ false → (continued (PtSend ticket message) s).answer ≡ (if nat_le most_nodes (nodes s.parts.ports) then Panics else Returns OK) }
     ensures fresh_receive { (ticket : PortTicket) (s : Xinu) → IsSound s → (process_at s.tables s.tables.current).rest ≡ PtRecv ticket → is_stale ticket s.parts.ports ≡ false → AnswersFirst (port_at s.parts.ports ticket.port).queue (continued (PtRecv ticket) s).answer }
+{}
+
+/// The end of the input is told by -2, which is answered if and only if the caller, once it has its token, finds the end mark first in
+/// cooked mode; a read, only if it hasn't stored a byte.
+pub fn end_of_input_is_told()
+    ensures getc { (s : Xinu) → (console_getc s).answer ≡ Returns EOF → IsAtEnd (console_of s) }
+    ensures getc_waited { (s : Xinu) → (continued TtyGet s).answer ≡ Returns EOF → IsAtEnd (console_of s) }
+    ensures read { (at : ℕ) (n : ℤ) (s : Xinu) → (console_read at n s).answer ≡ Returns EOF → IsAtEnd (console_of s) }
+    ensures read_waited { (part : Span) (s : Xinu) → (continued (TtyRead part) s).answer ≡ Returns EOF → (part.done ≡ 0) × IsAtEnd (console_of s) }
+    ensures getc_at_end { (s : Xinu) → 0 < (semaphore_at s.tables TY_ISEM).tokens → IsAtEnd (console_of s) → (console_getc s).answer ≡ Returns EOF }
+    ensures getc_waited_at_end { (s : Xinu) → IsAtEnd (console_of s) → (continued TtyGet s).answer ≡ Returns EOF }
+    ensures read_at_end { (at n : ℕ) (s : Xinu) → 0 < (semaphore_at s.tables TY_ISEM).tokens → in_ram at (suc n) ≡ true → IsAtEnd (console_of s) →
+        (console_read at (pos (suc n)) s).answer ≡ Returns EOF }
+    ensures read_waited_at_end { (part : Span) (s : Xinu) → part.done ≡ 0 → IsAtEnd (console_of s) → (continued (TtyRead part) s).answer ≡ Returns EOF }
 {}

@@ -5,7 +5,7 @@ use Rattle.xinu_base.specs.declared.syscalls.Call.{Call}
 use Rattle.xinu_base.specs.declared.events.End.{End}
 use Rattle.xinu_base.specs.declared.events.End.TheVariants.{Schedule}
 use Rattle.xinu_base.specs.declared.events.Event.{Event}
-use Rattle.xinu_base.specs.declared.events.Event.TheVariants.{Tick, Key, Tx}
+use Rattle.xinu_base.specs.declared.events.Event.TheVariants.{Tick, Key, Tx, Disk0, Fail0}
 use Rattle.xinu_base.specs.declared.lines.TranscriptLine.{TranscriptLine}
 use Rattle.xinu_base.specs.declared.lines.TranscriptLine.TheVariants as line
 use Rattle.xinu_model.specs.Boot.{null_tables, image_name}
@@ -87,12 +87,13 @@ abbrev pub times_over : ℕ → (Played → Played) → Played → Played
 times_over zero f x = x
 times_over (suc n) f x = times_over n f (f x)
 
--- what happens to a system: steps, ticks, received characters and transmissions
+-- what happens to a system: steps, ticks, received characters, transmissions, and a completion of the raw disk, good or failed
 pub data Turn : Type 0 where
   Steps : (n : ℕ) → Turn
   Ticks : (n : ℕ) → Turn
   Types : (bytes : List ℕ) → Turn
   Sends : (n : ℕ) → Turn
+  Completes : (good : Bool) → Turn
 
 abbrev pub played : List Turn → Played → Played
 played [] x = x
@@ -100,6 +101,7 @@ played (Steps n ∷ turns) x = played turns (times_over n played_step x)
 played (Ticks n ∷ turns) x = played turns (times_over n (played_event Tick) x)
 played (Types bytes ∷ turns) x = played turns (played_keys bytes x)
 played (Sends n ∷ turns) x = played turns (times_over n (played_event Tx) x)
+played (Completes good ∷ turns) x = played turns (played_event (if good then Disk0 else Fail0) x)
 
 -- An example: a system, the calls of its processes, and what happens to it.
 pub record Example : Type 0 where
