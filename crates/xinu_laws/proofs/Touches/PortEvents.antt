@@ -1,5 +1,5 @@
 -- The number of a port rises by at most one in an event.
-use Rattle.std.proofs.Common.{◌≡◌, ◌∙◌, ℕ, zero, suc, ◌+◌, ◌≤◌, ◌==◌, cond, List, [], ◌∷◌, ◌++◌, Option, Some, None, ℤ, pos, negsuc, set, nat_le, refl, sym, ap, arith}
+use Rattle.std.proofs.Common.{◌≡◌, ◌∙◌, ℕ, zero, suc, ◌+◌, ◌≤◌, ◌==◌, cond, false, List, [], ◌∷◌, ◌++◌, Option, Some, None, ℤ, pos, negsuc, set, nat_le, refl, sym, ap, arith}
 use Rattle.std.specs.Prelude.{slice_set}
 use Rattle.std.proofs.lemmas.Bool.{cond_both, eqb-false}
 use Rattle.xinu_base.specs.Constants.{OK}
@@ -26,7 +26,7 @@ use Rattle.xinu_base.specs.declared.processes.State.TheVariants.{Waiting}
 use Rattle.xinu_model.specs.Tables.{InSemaphore, process_at, semaphore_at}
 use Rattle.xinu_model.specs.Words.{signed}
 use Rattle.xinu_laws.specs.GivingAway.{next}
-use Rattle.xinu_laws.specs.Touches.{at_a_tick, Touches}
+use Rattle.xinu_laws.specs.Touches.{at_a_tick, touched_by, Touches}
 use Rattle.xinu_laws.proofs.Lists.RowByRow.{◌⨾◌}
 use Rattle.xinu_laws.proofs.Preserve.Calls.{sound_where_called}
 use Rattle.xinu_laws.proofs.Preserve.Events.{may_call, may_call_after}
@@ -197,14 +197,22 @@ ports_law = record {
       tt;
 }
 
--- so does what is left of a call that waited
+-- so does what is left of a call that waited, which leaves the ports alone unless it waited on one
+calm_once : (left : Rest) (s : Xinu) → IsSound s → (touched_by left).ports ≡ false → RisesOnce s (continued left s).call.state
+calm_once left s k e = stays_once s (continued left s).call.state ((continued_touches left s k).parts.ports e).0
+
 continued_once : (left : Rest) (s : Xinu) → IsSound s → RisesOnce s (continued left s).call.state
-continued_once rest.Receive s k = stays_once s (continued rest.Receive s).call.state ((continued_touches rest.Receive s k).parts.ports refl).0
-continued_once rest.Timed s k = stays_once s (continued rest.Timed s).call.state ((continued_touches rest.Timed s k).parts.ports refl).0
-continued_once rest.SelfSuspend s k = stays_once s (continued rest.SelfSuspend s).call.state ((continued_touches rest.SelfSuspend s k).parts.ports refl).0
-continued_once (rest.GetBuf i) s k = stays_once s (continued (rest.GetBuf i) s).call.state ((continued_touches (rest.GetBuf i) s k).parts.ports refl).0
+continued_once rest.Receive s k = calm_once rest.Receive s k refl
+continued_once rest.Timed s k = calm_once rest.Timed s k refl
+continued_once rest.SelfSuspend s k = calm_once rest.SelfSuspend s k refl
+continued_once (rest.GetBuf i) s k = calm_once (rest.GetBuf i) s k refl
 continued_once (rest.PtSend ticket message) s k = finish_send_once ticket message (goes_on (held s) s)
 continued_once (rest.PtRecv ticket) s k = finish_receive_once ticket (goes_on (held s) s)
+continued_once rest.TtyGet s k = calm_once rest.TtyGet s k refl
+continued_once (rest.TtyRead part) s k = calm_once (rest.TtyRead part) s k refl
+continued_once (rest.TtyPut b returned) s k = calm_once (rest.TtyPut b returned) s k refl
+continued_once (rest.TtyWrite part returned) s k = calm_once (rest.TtyWrite part returned) s k refl
+continued_once (rest.Disk reply) s k = calm_once (rest.Disk reply) s k refl
 continued_once _ s k = stays_once s s refl
 
 -- and what comes of an instruction
