@@ -1,6 +1,7 @@
 pub mod Released
 pub mod SemaphoreCalls
 pub mod PoolCalls
+pub mod PortCalls
 pub mod Answered
 pub mod Kept
 pub mod Rows

@@ -8,6 +8,7 @@ use Rattle.xinu_model.specs.Heap.Calls.{freemem, freestk, getmem, getstk}
 use Rattle.xinu_model.specs.Machine.{CallResult, refused, Xinu}
 use Rattle.xinu_model.specs.Messages.{receive, recvclr, recvtime, send}
 use Rattle.xinu_model.specs.Pools.Calls.{freebuf, getbuf, mkbufpool}
+use Rattle.xinu_model.specs.Ports.Calls.{ptrecv, ptsend}
 use Rattle.xinu_model.specs.Process.Calls.{chprio, create, getpid, getprio, kill, resume, suspend}
 use Rattle.xinu_model.specs.Process.Death.{exit}
 use Rattle.xinu_model.specs.Semaphores.Calls.{semcount, semcreate, semdelete, semreset, signal, signaln, wait}
@@ -137,3 +138,11 @@ module _ (number : ℕ) (args : List ℕ) (s : Xinu) (r : CallResult) where
   pub row_freebuf : number ≡ 30 → is_built number ≡ true → r ≡ freebuf (slice_index args 0) s → r ≡ called number args s
   unfolding calls
   row_freebuf e h is = is ∙ sym (by_number 30 number args s e h)
+
+  pub row_ptsend : number ≡ 34 → is_built number ≡ true → r ≡ ptsend (slice_index args 0) (slice_index args 1) s → r ≡ called number args s
+  unfolding calls
+  row_ptsend e h is = is ∙ sym (by_number 34 number args s e h)
+
+  pub row_ptrecv : number ≡ 35 → is_built number ≡ true → r ≡ ptrecv (slice_index args 0) s → r ≡ called number args s
+  unfolding calls
+  row_ptrecv e h is = is ∙ sym (by_number 35 number args s e h)

@@ -3,3 +3,4 @@ pub mod Results
 pub mod States
 pub mod Kernels
 pub mod Booted
+pub mod PortRoom

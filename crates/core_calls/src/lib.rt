@@ -32,6 +32,7 @@
 //! | 21 to 24, the receipt of a message | `message_calls.rt` |
 //! | 25 to 27 | `clock_calls.rt` |
 //! | 28 to 30, the receipt of a buffer | `pool_calls.rt` |
+//! | 34, 35, and what is left of them | `port_calls.rt` |
 //!
 //! `is_built` of `xinu_base` says which are served. The crate depends on `kernel_tables`, `freelist_memory`, `buffer_pools`, `ports`,
 //! `rv_hart`, `image_loader`, and on the laws of `xinu_laws`.
@@ -45,6 +46,7 @@ mod memory_calls;
 mod memory_map;
 mod message_calls;
 mod pool_calls;
+mod port_calls;
 mod process_calls;
 mod replies;
 mod semaphore_calls;

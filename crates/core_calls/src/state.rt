@@ -12,6 +12,7 @@ ghost use Rattle.xinu_model.specs.Events.{call_of, with_executed};
 ghost use Rattle.xinu_model.specs.Isa.Exec.{exec};
 ghost use Rattle.xinu_model.specs.Machine.{current_hart, end_of_event, Silent, start};
 ghost use Rattle.xinu_model.specs.Sound.Pools.{ArePools};
+ghost use Rattle.xinu_model.specs.Sound.Ports.{ArePorts};
 ghost use Rattle.xinu_model.specs.Sound.Tables.{IsSoundTables};
 ghost use Rattle.xinu_model.specs.Tables.{process_at, state_at};
 ghost use Rattle.xinu_model.specs.Words.{half, signed};
@@ -126,6 +127,7 @@ impl KernelState {
         requires start { IsStart self.old }
         requires sound { IsSoundTables self.old.state.tables }
         requires pools { ArePools self.old.state.tables self.old.state.parts.pools }
+        requires ports { ArePorts self.old.state.tables self.old.state.parts.ports }
         requires not_null { self.old.state.tables.current ≢ 0 }
         ensures called { came_to self.new result ≡ called call.number call.args self.old.state }
     {
@@ -172,21 +174,27 @@ impl KernelState {
             28 => self.mkbufpool(a[0], a[1]),
             29 => self.getbuf(a[0]),
             30 => self.freebuf(a[0]),
+            34 => self.ptsend(a[0], a[1]),
+            35 => self.ptrecv(a[0]),
             _ => Next::Returns(SYSERR),
         }
     }
 
-    /// Does what is left of the current process's call: the end of a self-suspension, a buffer, or the receipt of a message.
+    /// Does what is left of the current process's call: the end of a self-suspension, a buffer, a message to or from a port, or the receipt
+    /// of a message.
     pub(crate) fn go_on(&mut self) -> Next
         requires start { IsStart self.old }
         requires sound { IsSoundTables self.old.state.tables }
         requires pools { ArePools self.old.state.tables self.old.state.parts.pools }
+        requires ports { ArePorts self.old.state.tables self.old.state.parts.ports }
         requires waits { (process_at self.old.state.tables self.old.state.tables.current).rest ≢ Rest.Nothing }
         ensures continued { came_to self.new result ≡ continued (process_at self.old.state.tables self.old.state.tables.current).rest self.old.state }
     {
         match self.tables.rest() {
             Rest::SelfSuspend => self.go_on_suspend(),
             Rest::GetBuf(i) => self.go_on_getbuf(i),
+            Rest::PtSend(ticket, message) => self.go_on_ptsend(ticket, message),
+            Rest::PtRecv(ticket) => self.go_on_ptrecv(ticket),
             _ => self.go_on_receive(),
         }
     }

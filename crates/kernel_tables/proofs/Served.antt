@@ -1,6 +1,7 @@
 -- What the calls that are served leave of a call stays so, whoever moves.
 use Rattle.std.proofs.Common.{◌≡◌, ◌≢◌, ◌∙◌, ◌+◌, ℕ, zero, suc, true, false, Bool, ℤ, List, [], ◌∷◌, set, get_or, Option, Some, None, nat_lt, ◌-◌, refl, sym, subst}
 use Rattle.std.proofs.lemmas.Bool.{cond_both}
+use Rattle.xinu_base.specs.declared.processes.PortTicket.{PortTicket}
 use Rattle.xinu_base.specs.declared.processes.Process.{Process}
 use Rattle.xinu_base.specs.declared.processes.Rest.{Rest}
 use Rattle.xinu_base.specs.declared.processes.Rest.TheVariants.{Nothing, Receive, Timed, SelfSuspend, GetBuf, PtSend, PtRecv, TtyGet, TtyPut, TtyRead, TtyWrite, Disk}
@@ -125,16 +126,18 @@ rests_tick ps owes t =
     rests_twice t v (quantum_falls v) (rests_twice t u v (rests_ready_all ps t) (rests_a_tick_later owes u)) (rests_quantum_falls v)
 
 -- whatever else is left of a call is the receipt of a message
-pub receives : (r : Rest) (s : Xinu) → IsServed r → r ≢ Nothing → r ≢ SelfSuspend → ((i : ℕ) → r ≢ GetBuf i) → continued r s ≡ go_on_receive s
-receives SelfSuspend x s n m g = absurd (m refl)
-receives Nothing x s n m g = absurd (n refl)
-receives Receive x s n m g = refl
-receives Timed x s n m g = refl
-receives (GetBuf i) x s n m g = absurd (g i refl)
-receives (PtSend ticket message) x s n m g = absurd s
-receives (PtRecv ticket) x s n m g = absurd s
-receives TtyGet x s n m g = absurd s
-receives (TtyPut b r) x s n m g = absurd s
-receives (TtyRead span) x s n m g = absurd s
-receives (TtyWrite span r) x s n m g = absurd s
-receives (Disk reply) x s n m g = absurd s
+pub receives : (r : Rest) (s : Xinu) → IsServed r → r ≢ Nothing → r ≢ SelfSuspend → ((i : ℕ) → r ≢ GetBuf i)
+    → ((ticket : PortTicket) (message : ℕ) → r ≢ PtSend ticket message) → ((ticket : PortTicket) → r ≢ PtRecv ticket)
+    → continued r s ≡ go_on_receive s
+receives SelfSuspend x s n m g a b = absurd (m refl)
+receives Nothing x s n m g a b = absurd (n refl)
+receives Receive x s n m g a b = refl
+receives Timed x s n m g a b = refl
+receives (GetBuf i) x s n m g a b = absurd (g i refl)
+receives (PtSend ticket message) x s n m g a b = absurd (a ticket message refl)
+receives (PtRecv ticket) x s n m g a b = absurd (b ticket refl)
+receives TtyGet x s n m g a b = absurd s
+receives (TtyPut c r) x s n m g a b = absurd s
+receives (TtyRead span) x s n m g a b = absurd s
+receives (TtyWrite span r) x s n m g a b = absurd s
+receives (Disk reply) x s n m g a b = absurd s
