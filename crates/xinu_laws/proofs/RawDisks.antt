@@ -1,5 +1,6 @@
--- The raw disk: its requests and their callers (`Callers`, `Histories`, `Killed`), and that the calls on it, its completions, deaths and all
--- other calls keep what holds of it and of those who wait for it.
+-- The raw disk: its requests and their callers (`Callers`, `Histories`, `Killed`), what a caller answers (`Answered`), and that the calls on it,
+-- its completions, deaths and all other calls keep what holds of it and of those who wait for it.
+pub mod Answered
 pub mod Callers
 pub mod Completed
 pub mod Deaths

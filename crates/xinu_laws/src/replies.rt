@@ -1,22 +1,25 @@
 //! What a refusal leaves, and which answers tell of one.
 
-ghost use Rattle.std.specs.Prelude.{◌≡◌, ◌⊎◌, ◌<◌, ℕ, suc, ℤ, true, false, if◌then◌else◌, nat_le, List, Some, slice_index, ◌++◌, map, take, pos};
+ghost use Rattle.std.specs.Prelude.{◌≡◌, ◌⊎◌, ◌<◌, ℕ, suc, ℤ, Bool, true, false, if◌then◌else◌, nat_le, List, Some, slice_index, ◌++◌, map, take, pos};
 ghost use Rattle.xinu_base.specs.Constants.{OK, SYSERR, EOF};
 ghost use Rattle.xinu_base.specs.declared.events.Event.TheVariants.{Step};
 ghost use Rattle.xinu_base.specs.declared.lines.TranscriptLine.{TranscriptLine};
 ghost use Rattle.xinu_base.specs.declared.processes.PortTicket.{PortTicket};
-ghost use Rattle.xinu_base.specs.declared.processes.Rest.TheVariants.{PtSend, PtRecv, TtyGet, TtyRead};
+ghost use Rattle.xinu_base.specs.declared.processes.Rest.TheVariants.{PtSend, PtRecv, TtyGet, TtyRead, Disk};
 ghost use Rattle.xinu_base.specs.declared.processes.Span.{Span};
+ghost use Rattle.xinu_base.specs.declared.processes.State.TheVariants.{Ready};
 ghost use Rattle.xinu_laws.specs.Consoles.{IsAtEnd};
 ghost use Rattle.xinu_laws.specs.Moves.{ready_all};
 ghost use Rattle.xinu_laws.specs.Refusals.{AnswersFirst, IsCalling, IsRefused, LeavesRefused, value_told};
 ghost use Rattle.xinu_model.specs.Calls.{call_of_number, continued};
 ghost use Rattle.xinu_model.specs.Console.Taking.{TY_ISEM, console_of, console_getc, console_read};
 ghost use Rattle.xinu_model.specs.Events.{Happens};
-ghost use Rattle.xinu_model.specs.Machine.{Xinu, CallState, Panics, Returns, goes_on, refused};
+ghost use Rattle.xinu_model.specs.Machine.{Xinu, CallState, Panics, Returns, Waits, goes_on, refused};
 ghost use Rattle.xinu_model.specs.Memory.{in_ram};
 ghost use Rattle.xinu_model.specs.Messages.{held};
 ghost use Rattle.xinu_model.specs.Ports.Queues.{MessagePort, is_stale, most_nodes, nodes, port_at};
+ghost use Rattle.xinu_model.specs.RawDisk.Calls.{disk_of, may_request, disk_read, disk_write, after_served};
+ghost use Rattle.xinu_model.specs.RawDisk.Completions.{Served, raw_completed};
 ghost use Rattle.xinu_model.specs.Semaphores.Calls.{semdelete, semreset};
 ghost use Rattle.xinu_model.specs.Semaphores.Counts.{is_good, with_semaphore};
 ghost use Rattle.xinu_model.specs.Semaphores.Waiting.{signalled, signalled_times};
@@ -24,7 +27,7 @@ ghost use Rattle.xinu_model.specs.Sound.Pools.{ArePools};
 ghost use Rattle.xinu_model.specs.Sound.Ports.{ArePorts};
 ghost use Rattle.xinu_model.specs.Sound.State.{IsSound};
 ghost use Rattle.xinu_model.specs.Sound.Tables.{IsInside};
-ghost use Rattle.xinu_model.specs.Tables.{no_semaphore, process_at, semaphore_at};
+ghost use Rattle.xinu_model.specs.Tables.{no_semaphore, process_at, semaphore_at, state_at};
 
 /// A call that is refused in its own event changes nothing but its caller's a0 and pc, and the event prints the call and its reply.
 pub fn refusals_change_nothing()
@@ -68,4 +71,14 @@ pub fn end_of_input_is_told()
     ensures read_at_end { (at n : ℕ) (s : Xinu) → 0 < (semaphore_at s.tables TY_ISEM).tokens → in_ram at (suc n) ≡ true → IsAtEnd (console_of s) →
         (console_read at (pos (suc n)) s).answer ≡ Returns EOF }
     ensures read_waited_at_end { (part : Span) (s : Xinu) → part.done ≡ 0 → IsAtEnd (console_of s) → (continued (TtyRead part) s).answer ≡ Returns EOF }
+{}
+
+/// A read or a write of the raw disk is refused if there is no such block or its bytes would leave RAM; else its caller waits. The completion
+/// that serves its request makes it ready, and the reply of that completion is what it answers.
+pub fn disk_callers_are_answered()
+    ensures refused { (at block : ℕ) (s : Xinu) → may_request at block s ≡ false → (disk_read at block s ≡ refused s) × (disk_write at block s ≡ refused s) }
+    ensures waits { (at block : ℕ) (s : Xinu) → may_request at block s ≡ true → ((disk_read at block s).answer ≡ Waits) × ((disk_write at block s).answer ≡ Waits) }
+    ensures served { (good : Bool) (x : Served) (p : ℕ) (s : Xinu) → IsSound s → raw_completed good (disk_of s) ≡ Some x → x.request.caller ≡ Some p →
+        (state_at (after_served x s).state.tables p ≡ Ready) × ((process_at (after_served x s).state.tables p).rest ≡ Disk (Some x.reply)) }
+    ensures answered { (reply : ℤ) (s : Xinu) → (continued (Disk (Some reply)) s).answer ≡ Returns reply }
 {}

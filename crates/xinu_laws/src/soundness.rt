@@ -1,16 +1,20 @@
 //! Soundness: the machine starts in a sound state, and each event and each run keeps it so.
 
-ghost use Rattle.std.specs.Prelude.{◌≡◌, ◌<◌, length, List, ℕ, None, slice_index_or};
+ghost use Rattle.std.specs.Prelude.{◌≡◌, ◌<◌, length, List, ℕ, ℤ, true, Option, None, IsSome, slice_index_or};
 ghost use Rattle.xinu_base.specs.Constants.{NPROC};
 ghost use Rattle.xinu_base.specs.declared.events.End.{End};
 ghost use Rattle.xinu_base.specs.declared.events.Event.{Event};
 ghost use Rattle.xinu_base.specs.declared.lines.TranscriptLine.{TranscriptLine};
 ghost use Rattle.xinu_model.specs.Boot.{Loaded, Boots, boot};
+ghost use Rattle.xinu_base.specs.declared.processes.Rest.TheVariants.{Disk};
+ghost use Rattle.xinu_model.specs.Console.Constants.{TY_OBUFLEN};
+ghost use Rattle.xinu_model.specs.Console.Taking.{console_of};
 ghost use Rattle.xinu_model.specs.Events.{Happens, event_effect};
 ghost use Rattle.xinu_model.specs.Machine.{Xinu, no_hart};
 ghost use Rattle.xinu_model.specs.Runs.{RunsTo};
 ghost use Rattle.xinu_base.specs.declared.processes.State.TheVariants.{Free};
 ghost use Rattle.xinu_model.specs.Sound.State.{IsSound};
+ghost use Rattle.xinu_model.specs.Sound.Tables.{asks_input, asks_output};
 ghost use Rattle.xinu_model.specs.Tables.{message_at, no_process, no_semaphore, process_at, semaphore_at, state_at};
 
 /// The state in which the machine starts is sound.
@@ -38,4 +42,11 @@ pub fn free_places_are_fixed()
     ensures processes { (s : Xinu) (p : ℕ) → IsSound s → state_at s.tables p ≡ Free → (process_at s.tables p ≡ no_process) × (message_at s.tables p ≡ None) }
     ensures registers { (s : Xinu) (p : ℕ) → IsSound s → state_at s.tables p ≡ Free → slice_index_or s.harts p no_hart ≡ no_hart }
     ensures semaphores { (s : Xinu) (sem : ℕ) → IsSound s → (semaphore_at s.tables sem).owner ≡ None → semaphore_at s.tables sem ≡ no_semaphore }
+{}
+
+/// Who goes on with a call on a device finds what it waited for: an item of the console, room for a byte, or the reply of its request.
+pub fn what_was_waited_for_is_there()
+    ensures item { (s : Xinu) → IsSound s → asks_input (process_at s.tables s.tables.current).rest ≡ true → 0 < length (console_of s).committed }
+    ensures room { (s : Xinu) → IsSound s → asks_output (process_at s.tables s.tables.current).rest ≡ true → length (console_of s).output < TY_OBUFLEN }
+    ensures reply { (reply : Option ℤ) (s : Xinu) → IsSound s → (process_at s.tables s.tables.current).rest ≡ Disk reply → IsSome reply }
 {}
