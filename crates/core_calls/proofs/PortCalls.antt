@@ -15,15 +15,16 @@ use Rattle.xinu_base.specs.declared.processes.Rest.{Rest}
 use Rattle.xinu_base.specs.declared.processes.Rest.TheVariants.{PtRecv, PtSend}
 use Rattle.xinu_laws.proofs.Frame.MoveTo.{owner_move, tokens_move}
 use Rattle.xinu_laws.proofs.Tables.Owners.{owner_tokens}
-use Rattle.xinu_model.specs.Machine.{CallResult, Xinu}
+use Rattle.xinu_model.specs.Machine.{CallResult, refused, returns, start, Xinu}
 use Rattle.xinu_model.specs.Ports.Calls.{finish_receive, finish_send, ptrecv, ptsend, put_message, sent_to, take_from, take_message, ticket_of, with_messages}
 use Rattle.xinu_model.specs.Ports.Calls as model
 use Rattle.xinu_model.specs.Ports.Queues.{is_stale, MessagePort, most_nodes, nodes, port_at, PortQueue}
 use Rattle.xinu_model.specs.Semaphores.Counts.{count_of, most_tokens, with_tokens}
-use Rattle.xinu_model.specs.Semaphores.Waiting.{take_token}
+use Rattle.xinu_model.specs.Semaphores.Waiting.{signalled, take_token}
 use Rattle.xinu_model.specs.Sound.Ports.{ArePorts}
 use Rattle.xinu_model.specs.Sound.Tables.{FitsOwner}
 use Rattle.xinu_model.specs.Tables.{move_to, no_semaphore, Place, Semaphore, semaphore_at, Tables}
+use Rattle.xinu_model.specs.Words.{signed}
 use Rattle.core_calls.specs.PortRoom.{HaveRoom}
 
 -- Sound ports have room, also if some tokens are gone.
@@ -253,3 +254,38 @@ receive_takes s q word ticket u named i some is =
     ap (λ u. finish_receive ticket (record s { tables = u })) is
     ∙ token_taken (semaphore_at s.tables ticket.sem).tokens ticket.sem (PtRecv ticket) (finish_receive ticket) s some
     ∙ receive_awaits s q ticket i ∙ ap (λ w. ptrecv w s) named
+
+-- what comes of a message that was received, and the ports as they are then
+abbrev pub taken_from_port : Xinu → Received → PortTable → CallResult
+taken_from_port s r p =
+    returns (signalled r.send (start (record s { parts = record s.parts { ports = p.ports; next_port = p.next_port } }))) (signed r.message)
+
+-- the table of the ports of a state
+abbrev pub table_of : Xinu → PortTable
+table_of s = record { ports = s.parts.ports; next_port = s.parts.next_port }
+
+-- A message that the table gave is what call 35 takes.
+pub message_taken : (s : Xinu) (ticket : PortTicket) (r : Received) (p : PortTable)
+    → Some r ≡ (received ticket (table_of s)).0 → p ≡ (received ticket (table_of s)).1 → taken_from_port s r p ≡ finish_receive ticket s
+message_taken s ticket r p = by_stale (is_stale ticket s.parts.ports)
+  where
+    q : ℕ
+    q = ticket.port
+
+    by_messages : (queue : PortQueue) (l : List ℕ) → Some r ≡ (table.taken l queue q (table_of s)).0 → p ≡ (table.taken l queue q (table_of s)).1
+        → taken_from_port s r p ≡ take_message l queue q s
+    by_messages queue [] h g = absurd (cc)
+    by_messages queue (message ∷ l) h g =
+        let same : r ≡ record { message = message; send = queue.send } = cc in
+        ap (λ x. taken_from_port s x p) same ∙ ap (taken_from_port s (record { message = message; send = queue.send })) g
+
+    by_queue : (o : Option PortQueue) → Some r ≡ (received_from o q (table_of s)).0 → p ≡ (received_from o q (table_of s)).1
+        → taken_from_port s r p ≡ take_from o q s
+    by_queue None h g = absurd (cc)
+    by_queue (Some queue) h g = by_messages queue queue.messages h g
+
+    by_stale : (b : Bool) → Some r ≡ (received_from (cond b None (port_at s.parts.ports q).queue) q (table_of s)).0
+        → p ≡ (received_from (cond b None (port_at s.parts.ports q).queue) q (table_of s)).1
+        → taken_from_port s r p ≡ cond b (refused s) (take_from (port_at s.parts.ports q).queue q s)
+    by_stale true h g = absurd (cc)
+    by_stale false h g = by_queue (port_at s.parts.ports q).queue h g

@@ -10,7 +10,7 @@ use Rattle.xinu_model.specs.Machine.{CallState, refused, returns, start, unblock
 use Rattle.xinu_model.specs.Process.Scheduling.{ready}
 use Rattle.xinu_model.specs.Semaphores.Calls.{semdelete, semreset, signal, signaln}
 use Rattle.xinu_model.specs.Semaphores.Counts.{count_of, is_good, most_tokens, with_semaphore, with_tokens}
-use Rattle.xinu_model.specs.Semaphores.Waiting.{emptied_with, signal_first, signalled_times}
+use Rattle.xinu_model.specs.Semaphores.Waiting.{emptied_with, signal_first, signalled, signalled_times}
 use Rattle.xinu_model.specs.Tables.{no_semaphore, Semaphore, semaphore_at, Tables}
 use Rattle.core_calls.specs.Released.{replies_to}
 use Rattle.kernel_tables.specs.Waking.{are_any}
@@ -113,6 +113,15 @@ signal_releases s sem word p u named good answer is =
     ∙ sym (ap (λ b. cond (b && int_lt (count_of x) most_tokens) (returns (signal_first sem x.waiters (start s)) OK) (refused s)) good
     ∙ ap (λ b. cond b (returns (signal_first sem x.waiters (start s)) OK) (refused s)) f.below)
     ∙ ap (λ k. signal k s) named
+
+-- a signal that releases a process
+pub token_releases : (s : Xinu) (sem p : ℕ) (u : Tables) → Released p ≡ signal_answer (semaphore_at s.tables sem) → u ≡ ready p s.tables
+    → releasing OK (p ∷ []) u s ≡ signalled sem (start s)
+token_releases s sem p u answer is =
+    let t = s.tables in
+    let f = released_first (semaphore_at t sem) p answer in
+    released_then OK (p ∷ []) (p ∷ []) s (λ v. v) u refl is (same_as t u _ is (rests_ready t p))
+    ∙ sym (ap (λ l. signal_first sem l (start s)) f.first)
 
 -- call 16 with a count that isn't negative
 pub semreset_counts : (s : Xinu) (sem word : ℕ) (count : ℤ) (released : List ℕ) (u : Tables) → pos 0 ≤ℤ count → sem ≡ word

@@ -6,6 +6,7 @@ ghost use Rattle.std.specs.Prelude.{ℕ, ◌≡◌, ◌≢◌, ◌<◌, ◌≤�
 ghost use Rattle.core_calls.specs.Results.{answer_of, came_to, idle, IsIdle, IsStart, switched_to};
 ghost use Rattle.xinu_laws.specs.Preserve.{ticking};
 ghost use Rattle.xinu_model.specs.Calls.{called, continued};
+ghost use Rattle.xinu_model.specs.Devices.State.{first_devices};
 ghost use Rattle.xinu_model.specs.Events as events;
 ghost use Rattle.xinu_model.specs.Isa.Exec.{exec};
 ghost use Rattle.xinu_model.specs.Machine as model;
@@ -74,9 +75,10 @@ impl Kernel {
         self.state.pools()
     }
 
-    /// The ports.
+    /// The ports. No device was called so far.
     pub fn ports(&self) -> &Ports
         ensures ports { result.now.ports ≡ self.now.call.state.parts.ports }
+        ensures devices { self.now.call.state.parts.devices ≡ first_devices }
     {
         self.state.ports()
     }

@@ -8,6 +8,7 @@ ghost use Rattle.std.specs.Prelude.{◌≡◌, ◌≢◌, ◌<◌, ◌==◌, ◌
 ghost use Rattle.core_calls.specs.Results.{answer_so_far, came_to, IsStart, switched_to};
 ghost use Rattle.xinu_laws.specs.Preserve.{ticking};
 ghost use Rattle.xinu_model.specs.Calls.{called, continued};
+ghost use Rattle.xinu_model.specs.Devices.State.{first_devices};
 ghost use Rattle.xinu_model.specs.Events.{call_of, with_executed};
 ghost use Rattle.xinu_model.specs.Isa.Exec.{exec};
 ghost use Rattle.xinu_model.specs.Machine.{current_hart, end_of_event, Silent, start};
@@ -87,9 +88,10 @@ impl KernelState {
         &self.pools
     }
 
-    /// The ports.
+    /// The ports. No device was called so far.
     pub(crate) fn ports(&self) -> &Ports
         ensures ports { result.now.ports ≡ self.now.state.parts.ports }
+        ensures devices { self.now.state.parts.devices ≡ first_devices }
     {
         &self.ports
     }

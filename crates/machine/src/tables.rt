@@ -3,6 +3,7 @@
 ghost use Rattle.std.specs.Prelude.{◌≡◌, ◌<◌, ◌≤◌, ◌∷◌, [], length, map};
 ghost use Rattle.host_port.specs.Printing.{Prints};
 ghost use Rattle.xinu_base.specs.declared.lines.TranscriptLine.TheVariants as line;
+ghost use Rattle.xinu_model.specs.Devices.State.{first_devices};
 ghost use Rattle.xinu_model.specs.Heap.Cells.{free_blocks};
 ghost use Rattle.xinu_model.specs.Pools.Buffers.{pool_at};
 ghost use Rattle.xinu_model.specs.Ports.Queues.{port_at};
@@ -21,7 +22,7 @@ use kernel_tables::KernelTables;
 use ports::{Ports, port_numbered};
 use process_core::pid_at;
 use semaphores::sem_at;
-use xinu_base::{Owner, PoolId, Port, Sem, State, TranscriptLine};
+use xinu_base::{Owner, PoolId, Port, Sem, State, TranscriptLine, TtyMode};
 
 /// Prints the tables.
 pub(crate) fn print_tables<H: Host>(kernel: &Kernel, out: &mut Printer, host: &mut H)
@@ -227,11 +228,19 @@ fn print_messages<H: Host>(port: Port, messages: &[u32], out: &mut Printer, host
     }
 }
 
-// Prints the devices.
+// Prints the devices, which are as at the start.
 fn print_devices<H: Host>(out: &mut Printer, host: &mut H)
-    ensures prints { Prints out.old out.new (H.view host.old) (H.view host.new) (shown out.old.plain (line.Console ∷ line.Disk0 ∷ line.Disk1 ∷ [])) }
+    ensures prints { Prints out.old out.new (H.view host.old) (H.view host.new) (shown out.old.plain (text.device_lines first_devices)) }
 {
-    print_line(&TranscriptLine::Console, out, host);
-    print_line(&TranscriptLine::Disk0, out, host);
-    print_line(&TranscriptLine::Disk1, out, host);
+    let console = TranscriptLine::Console {
+        mode: TtyMode::Cooked,
+        committed: 0,
+        line: 0,
+        output: 0,
+        echo: 0,
+        held: false,
+    };
+    print_line(&console, out, host);
+    print_line(&TranscriptLine::Disk0(0), out, host);
+    print_line(&TranscriptLine::Disk1(false), out, host);
 }
