@@ -210,8 +210,8 @@ fn places(alloc: Global) -> Result<Vec<Pool>, NoMemory>
     Ok(pools)
 }
 
-// The pool of a number below 20.
-fn pool_id_at(number: usize) -> PoolId
+/// The pool of a number below 20.
+pub fn pool_id_at(number: usize) -> PoolId
     requires below { number < 20 }
     ensures pool { result ≡ number }
 {

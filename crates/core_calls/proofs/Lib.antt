@@ -1,5 +1,6 @@
 pub mod Released
 pub mod SemaphoreCalls
+pub mod PoolCalls
 pub mod Answered
 pub mod Kept
 pub mod Rows

@@ -7,6 +7,7 @@ use Rattle.xinu_model.specs.Clock.{clktime, sleep, sleepms, yield}
 use Rattle.xinu_model.specs.Heap.Calls.{freemem, freestk, getmem, getstk}
 use Rattle.xinu_model.specs.Machine.{CallResult, refused, Xinu}
 use Rattle.xinu_model.specs.Messages.{receive, recvclr, recvtime, send}
+use Rattle.xinu_model.specs.Pools.Calls.{freebuf, getbuf, mkbufpool}
 use Rattle.xinu_model.specs.Process.Calls.{chprio, create, getpid, getprio, kill, resume, suspend}
 use Rattle.xinu_model.specs.Process.Death.{exit}
 use Rattle.xinu_model.specs.Semaphores.Calls.{semcount, semcreate, semdelete, semreset, signal, signaln, wait}
@@ -124,3 +125,15 @@ module _ (number : ℕ) (args : List ℕ) (s : Xinu) (r : CallResult) where
   pub row_clktime : number ≡ 27 → is_built number ≡ true → r ≡ clktime s → r ≡ called number args s
   unfolding calls
   row_clktime e h is = is ∙ sym (by_number 27 number args s e h)
+
+  pub row_mkbufpool : number ≡ 28 → is_built number ≡ true → r ≡ mkbufpool (slice_index args 0) (slice_index args 1) s → r ≡ called number args s
+  unfolding calls
+  row_mkbufpool e h is = is ∙ sym (by_number 28 number args s e h)
+
+  pub row_getbuf : number ≡ 29 → is_built number ≡ true → r ≡ getbuf (slice_index args 0) s → r ≡ called number args s
+  unfolding calls
+  row_getbuf e h is = is ∙ sym (by_number 29 number args s e h)
+
+  pub row_freebuf : number ≡ 30 → is_built number ≡ true → r ≡ freebuf (slice_index args 0) s → r ≡ called number args s
+  unfolding calls
+  row_freebuf e h is = is ∙ sym (by_number 30 number args s e h)

@@ -17,6 +17,7 @@ use crate::kernel::Kernel;
 use crate::memory_map::{end_of_all, first_overlap, load_all};
 use crate::replies::Replies;
 use crate::state::KernelState;
+use buffer_pools::Pools;
 use freelist_memory::Heap;
 use image_loader::Image;
 use kernel_tables::KernelTables;
@@ -73,12 +74,14 @@ impl KernelState {
         load_all(&mut ram, images);
         let low = 8 * end_of_all(images).div_ceil(8);
         let heap = Heap::new(alloc, low, RAM_SIZE)?;
+        let pools = Pools::new(alloc)?;
         let tables = KernelTables::new(alloc)?;
         Ok(KernelState {
             tables,
             harts: [Hart::ZERO; 64],
             ram,
             heap,
+            pools,
             replies: Replies::new(),
             owes_resched: false,
         })

@@ -9,12 +9,14 @@ ghost use Rattle.xinu_model.specs.Calls.{called, continued};
 ghost use Rattle.xinu_model.specs.Events as events;
 ghost use Rattle.xinu_model.specs.Isa.Exec.{exec};
 ghost use Rattle.xinu_model.specs.Machine as model;
+ghost use Rattle.xinu_model.specs.Ports.Queues.{first_ports};
 ghost use Rattle.xinu_model.specs.Process.Death.{exit};
 ghost use Rattle.xinu_model.specs.Sound.State.{IsSound};
 ghost use Rattle.xinu_model.specs.Tables.{process_at};
 
 use crate::replies::{is_resched_due, write_all};
 use crate::state::KernelState;
+use buffer_pools::Pools;
 use freelist_memory::Heap;
 use kernel_tables::KernelTables;
 use rv_hart::{Outcome, step};
@@ -57,12 +59,19 @@ impl Kernel {
         self.state.tables()
     }
 
-    /// The heap. No pool was made so far, and no port.
+    /// The heap.
     pub fn heap(&self) -> &Heap
         ensures heap { result.now ≡ self.now.call.state.parts.heap }
-        ensures parts { self.now.call.state.parts ≡ model.first_parts result.now }
     {
         self.state.heap()
+    }
+
+    /// The buffer pools. No port was made so far.
+    pub fn pools(&self) -> &Pools
+        ensures pools { result.now ≡ self.now.call.state.parts.pools }
+        ensures ports { self.now.call.state.parts.ports ≡ first_ports }
+    {
+        self.state.pools()
     }
 
     /// Whether nothing is left of the current process's call, so that its next step is an instruction.

@@ -3,17 +3,20 @@
 //!
 //! Each is the row of its number in the abstract machine's table. A word that names no semaphore that a process made is refused.
 
-ghost use Rattle.std.specs.Prelude.{◌≡◌, ◌≢◌, ◌≤◌, [], false, length};
+ghost use Rattle.std.specs.Prelude.{◌≡◌, ◌≢◌, ◌≤◌, [], true, int_lt, length, IsSome};
 ghost use Rattle.core_calls.specs.Released.{replies_to};
 ghost use Rattle.core_calls.specs.Results.{came_to, IsStart};
 ghost use Rattle.kernel_tables.specs.Waking.{are_any};
 ghost use Rattle.xinu_model.specs.Semaphores.Calls as model;
+ghost use Rattle.xinu_model.specs.Semaphores.Counts.{count_of, most_tokens};
+ghost use Rattle.xinu_model.specs.Semaphores.Waiting.{signalled};
 ghost use Rattle.xinu_model.specs.Sound.Tables.{IsSoundTables};
+ghost use Rattle.xinu_model.specs.Tables.{semaphore_at};
 
 use crate::replies::answer_released;
 use crate::state::KernelState;
 use semaphores::Signalled;
-use xinu_base::{Next, Owner, Pid, Rest, SYSERR};
+use xinu_base::{Next, Owner, Pid, Rest, SYSERR, Sem};
 
 impl KernelState {
     /// Call 14: a new semaphore with this count; its number. Refused if the count is negative or no number is free.
@@ -122,6 +125,18 @@ impl KernelState {
         let released = self.tables.signaln(sem, n as u32);
         self.release(released.as_slice(), 0);
         Next::Returns(0)
+    }
+
+    /// Gives `sem`, which is in use and whose count isn't the greatest, a token: its first waiter is released, or the token is kept.
+    pub(crate) fn give_token(&mut self, sem: Sem)
+        requires start { IsStart self.old }
+        requires used { IsSome (semaphore_at self.old.state.tables sem).owner }
+        requires room { int_lt (count_of (semaphore_at self.old.state.tables sem)) most_tokens ≡ true }
+        ensures signalled { self.new ≡ signalled sem self.old }
+    {
+        if let Signalled::Released(p) = self.tables.signal(sem) {
+            self.release(&[p], 0);
+        }
     }
 
     // These processes became ready: each of whose call nothing is left gets this reply, and a resched is owed if there are any.

@@ -1,6 +1,6 @@
-//! The state of the kernel inside an event: tables, registers, RAM and heap, the replies so far, and whether a resched is owed.
+//! The state of the kernel inside an event: tables, registers, RAM, heap and pools, the replies so far, and whether a resched is owed.
 //!
-//! It depends on the kernel's tables, the processor core and the heap. No fact is kept of it: the kernel keeps what holds of all of it.
+//! It depends on the kernel's tables, the processor core, the heap and the buffer pools. No fact is kept of it: the kernel keeps what holds of all of it.
 
 ghost use Rattle.std.specs.Prelude.{◌≡◌, ◌≢◌, ◌<◌, ◌==◌, ◌↔◌, IsTrue, [], None, Some, if◌then◌else◌};
 ghost use Rattle.core_calls.specs.Results.{answer_so_far, came_to, IsStart, switched_to};
@@ -8,13 +8,16 @@ ghost use Rattle.xinu_laws.specs.Preserve.{ticking};
 ghost use Rattle.xinu_model.specs.Calls.{called, continued};
 ghost use Rattle.xinu_model.specs.Events.{call_of, with_executed};
 ghost use Rattle.xinu_model.specs.Isa.Exec.{exec};
-ghost use Rattle.xinu_model.specs.Machine.{current_hart, end_of_event, first_parts, Silent, start};
+ghost use Rattle.xinu_model.specs.Machine.{current_hart, end_of_event, Silent, start};
+ghost use Rattle.xinu_model.specs.Ports.Queues.{first_ports};
+ghost use Rattle.xinu_model.specs.Sound.Pools.{ArePools};
 ghost use Rattle.xinu_model.specs.Sound.Tables.{IsSoundTables};
 ghost use Rattle.xinu_model.specs.Tables.{process_at, state_at};
 ghost use Rattle.xinu_model.specs.Words.{half, signed};
 
 use crate::creation::Creation;
 use crate::replies::{Replies, answer_released, is_resched_due, write_all};
+use buffer_pools::Pools;
 use freelist_memory::Heap;
 use kernel_tables::KernelTables;
 use rv_hart::{Hart, Outcome, Ram, step};
@@ -32,6 +35,8 @@ pub(crate) struct KernelState {
     pub(crate) ram: Ram,
     /// The heap.
     pub(crate) heap: Heap,
+    /// The buffer pools.
+    pub(crate) pools: Pools,
     /// The replies to processes that were released in this event.
     pub(crate) replies: Replies,
     /// Whether a resched is owed at the end of the event.
@@ -66,9 +71,16 @@ impl KernelState {
     /// The heap.
     pub(crate) fn heap(&self) -> &Heap
         ensures heap { result.now ≡ self.now.state.parts.heap }
-        ensures parts { self.now.state.parts ≡ first_parts result.now }
     {
         &self.heap
+    }
+
+    /// The buffer pools.
+    pub(crate) fn pools(&self) -> &Pools
+        ensures pools { result.now ≡ self.now.state.parts.pools }
+        ensures ports { self.now.state.parts.ports ≡ first_ports }
+    {
+        &self.pools
     }
 
     /// Whether nothing is left of the current process's call.
@@ -103,6 +115,7 @@ impl KernelState {
     pub(crate) fn begin(&mut self, call: Call) -> Next
         requires start { IsStart self.old }
         requires sound { IsSoundTables self.old.state.tables }
+        requires pools { ArePools self.old.state.tables self.old.state.parts.pools }
         requires not_null { self.old.state.tables.current ≢ 0 }
         ensures called { came_to self.new result ≡ called call.number call.args self.old.state }
     {
@@ -146,19 +159,24 @@ impl KernelState {
             25 => self.sleep(signed(a[0])),
             26 => self.sleepms(signed(a[0])),
             27 => self.clktime(),
+            28 => self.mkbufpool(a[0], a[1]),
+            29 => self.getbuf(a[0]),
+            30 => self.freebuf(a[0]),
             _ => Next::Returns(SYSERR),
         }
     }
 
-    /// Does what is left of the current process's call: the end of a self-suspension, or the receipt of a message.
+    /// Does what is left of the current process's call: the end of a self-suspension, a buffer, or the receipt of a message.
     pub(crate) fn go_on(&mut self) -> Next
         requires start { IsStart self.old }
-        requires runs { state_at self.old.state.tables self.old.state.tables.current ≡ State.Current }
+        requires sound { IsSoundTables self.old.state.tables }
+        requires pools { ArePools self.old.state.tables self.old.state.parts.pools }
         requires waits { (process_at self.old.state.tables self.old.state.tables.current).rest ≢ Rest.Nothing }
         ensures continued { came_to self.new result ≡ continued (process_at self.old.state.tables self.old.state.tables.current).rest self.old.state }
     {
         match self.tables.rest() {
             Rest::SelfSuspend => self.go_on_suspend(),
+            Rest::GetBuf(i) => self.go_on_getbuf(i),
             _ => self.go_on_receive(),
         }
     }

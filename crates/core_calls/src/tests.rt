@@ -204,7 +204,7 @@ fn calls_reply_as_the_book_says(rt: HostRuntime) -> Result<(), Fail> {
         (5, [2, 0, 0, 0, 0, 0], Some(-1)),
         (8, [2, 0, 0, 0, 0, 0], Some(-1)),
         (6, [0; 6], Some(0)),
-        (28, [0; 6], Some(-1)),
+        (45, [0; 6], Some(-1)),
         (4, [1, 0, 0, 0, 0, 0], None),
     ];
     assert_eq!(rt; replies_are(&mut kernel, &processes), true);
@@ -262,6 +262,33 @@ fn killed_waiter_gives_its_place_back(rt: HostRuntime) -> Result<(), Fail> {
         (17, [4, 0, 0, 0, 0, 0], Some(1)),
     ];
     assert_eq!(rt; replies_are(&mut kernel, &calls), true);
+    Ok(())
+}
+
+#[test]
+fn buffers_are_taken_and_given_back(rt: HostRuntime) -> Result<(), Fail> {
+    let files = [file_of(4080, 4096), file_of(4000, 4096)];
+    let images = [image_of(&files[0])?, image_of(&files[1])?];
+    let Ok(mut kernel) = Kernel::new(rt.alloc(), &images) else {
+        return Err(Fail::from("no kernel"));
+    };
+    let calls = [
+        (28, [7, 1, 0, 0, 0, 0], Some(-1)),
+        (28, [9, 2, 0, 0, 0, 0], Some(0)),
+        (29, [1, 0, 0, 0, 0, 0], Some(-1)),
+        (29, [0; 6], Some(4100)),
+        (29, [0; 6], Some(4116)),
+        (11, [4096, 32, 0, 0, 0, 0], Some(0)),
+        (28, [8, 1, 0, 0, 0, 0], Some(-1)),
+        (10, [32, 0, 0, 0, 0, 0], Some(4096)),
+        (30, [4116, 0, 0, 0, 0, 0], Some(0)),
+        (30, [4116, 0, 0, 0, 0, 0], Some(-1)),
+        (29, [0; 6], Some(4116)),
+        (29, [0; 6], None),
+        (30, [4100, 0, 0, 0, 0, 0], Some(0)),
+    ];
+    assert_eq!(rt; replies_are(&mut kernel, &calls), true);
+    assert_eq!(rt; kernel.pools().count(), 1);
     Ok(())
 }
 

@@ -2,7 +2,7 @@
 //!
 //! It depends on the free list, whose cells it gives addresses. It keeps true that the heap lies in RAM, from a multiple of 8 on.
 
-ghost use Rattle.std.specs.Prelude.{◌≡◌, ◌+◌, ◌-◌, ◌*◌, ◌/◌, ◌%◌, ◌<◌, ◌≤◌, true, replicate, Some, None, IfOk, IfNone, IfSome, if◌then◌else◌, count_by, find, nat_le, unwrap_or};
+ghost use Rattle.std.specs.Prelude.{◌≡◌, ◌+◌, ◌-◌, ◌*◌, ◌/◌, ◌%◌, ◌<◌, ◌≤◌, true, replicate, Some, None, IfOk, IfNone, IfSome, if◌then◌else◌, count_by, find, nat_le, option_map, unwrap_or};
 ghost use Rattle.xinu_model.specs.Heap.Cells as heap;
 
 use crate::list::FreeList;
@@ -47,6 +47,19 @@ impl Heap {
     {
         let cells = FreeList::new(alloc, (high - low) / 8)?;
         Ok(Heap { low, cells })
+    }
+
+    /// The address that `getmem` of `n` bytes answers if it is called next.
+    pub fn place_for(&self, n: u32) -> Option<u32>
+        ensures place { result ≡ option_map (λ g. g.address) (heap.take_memory n self.now) }
+    {
+        if n == 0 {
+            return None;
+        }
+        let Some(first) = self.cells.find_low(cells_for(n)) else {
+            return None;
+        };
+        Some(self.low + 8 * first)
     }
 
     /// Takes `n` bytes, rounded up to a multiple of 8, from the lowest free block that is large enough, and answers their address.

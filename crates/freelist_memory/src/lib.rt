@@ -7,6 +7,7 @@
 //! | Call | Condition | Promise |
 //! |---|---|---|
 //! | `new` | `low_aligned`, `high_aligned`: multiples of 8; `order`: low is at most high; `in_ram`: high is at most RAM's size | `free`: all cells are free; or `NoMemory`, in this call alone |
+//! | `place_for` | | `place`: the address that `getmem` would answer |
 //! | `getmem` | | `grants`: the lowest cells that are free and enough, their address; `refuses`: `None` if and only if the machine refuses; `stays`: then nothing changes; `aligned`, `in_ram`: where the bytes are |
 //! | `getstk` | | the same of the highest cells; the answer is the address of the stack's highest word |
 //! | `freemem` | | `frees`: the cells are free, false if and only if the machine refuses; `stays`: then nothing changes |

@@ -60,6 +60,19 @@ impl FreeList {
         }
     }
 
+    /// The first of the lowest `count` free cells in a row. `None` if and only if there are none.
+    pub(crate) fn find_low(&self, count: u32) -> Option<u32>
+        requires some { 0 < count }
+        ensures found { lowest_free count self.now ≡ result }
+        ensures within { IfSome result (λ i. i + count ≤ length self.now) }
+    {
+        let Some(at) = lowest(&self.blocks, count) else {
+            return None;
+        };
+        let block = self.blocks[at];
+        Some(block.first)
+    }
+
     /// Takes the lowest `count` free cells in a row, and answers the first of them. `None` if and only if there are none.
     pub(crate) fn take_low(&mut self, count: u32) -> Option<u32>
         requires some { 0 < count }

@@ -125,16 +125,16 @@ rests_tick ps owes t =
     rests_twice t v (quantum_falls v) (rests_twice t u v (rests_ready_all ps t) (rests_a_tick_later owes u)) (rests_quantum_falls v)
 
 -- whatever else is left of a call is the receipt of a message
-pub receives : (r : Rest) (s : Xinu) → IsServed r → r ≢ Nothing → r ≢ SelfSuspend → continued r s ≡ go_on_receive s
-receives SelfSuspend x s n m = absurd (m refl)
-receives Nothing x s n m = absurd (n refl)
-receives Receive x s n m = refl
-receives Timed x s n m = refl
-receives (GetBuf i) x s n m = absurd s
-receives (PtSend ticket message) x s n m = absurd s
-receives (PtRecv ticket) x s n m = absurd s
-receives TtyGet x s n m = absurd s
-receives (TtyPut b r) x s n m = absurd s
-receives (TtyRead span) x s n m = absurd s
-receives (TtyWrite span r) x s n m = absurd s
-receives (Disk reply) x s n m = absurd s
+pub receives : (r : Rest) (s : Xinu) → IsServed r → r ≢ Nothing → r ≢ SelfSuspend → ((i : ℕ) → r ≢ GetBuf i) → continued r s ≡ go_on_receive s
+receives SelfSuspend x s n m g = absurd (m refl)
+receives Nothing x s n m g = absurd (n refl)
+receives Receive x s n m g = refl
+receives Timed x s n m g = refl
+receives (GetBuf i) x s n m g = absurd (g i refl)
+receives (PtSend ticket message) x s n m g = absurd s
+receives (PtRecv ticket) x s n m g = absurd s
+receives TtyGet x s n m g = absurd s
+receives (TtyPut b r) x s n m g = absurd s
+receives (TtyRead span) x s n m g = absurd s
+receives (TtyWrite span r) x s n m g = absurd s
+receives (Disk reply) x s n m g = absurd s

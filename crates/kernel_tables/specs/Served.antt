@@ -1,15 +1,16 @@
 -- What the kernel serves so far.
 use Rattle.std.specs.Prelude.{ℕ}
 use Rattle.xinu_base.specs.declared.processes.Rest.{Rest}
-use Rattle.xinu_base.specs.declared.processes.Rest.TheVariants.{Nothing, Receive, Timed, SelfSuspend}
+use Rattle.xinu_base.specs.declared.processes.Rest.TheVariants.{Nothing, Receive, Timed, SelfSuspend, GetBuf}
 use Rattle.xinu_model.specs.Tables.{process_at, Tables}
 
--- the calls that are served leave nothing but a message to be received and the end of a self-suspension
+-- the calls that are served leave nothing but a message to be received, the end of a self-suspension, and a buffer to be taken
 abbrev pub IsServed : Rest → Type 0
 IsServed Nothing = Unit {0}
 IsServed Receive = Unit {0}
 IsServed Timed = Unit {0}
 IsServed SelfSuspend = Unit {0}
+IsServed (GetBuf i) = Unit {0}
 IsServed _ = ⊥
 
 -- nothing else is left of any call

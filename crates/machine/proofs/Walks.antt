@@ -1,5 +1,5 @@
 -- Lists that are printed element by element.
-use Rattle.std.proofs.Common.{◌≡◌, ◌∙◌, ℕ, zero, suc, ◌+◌, ◌-◌, ◌<◌, ◌≤◌, Bool, true, false, cond, List, [], ◌∷◌, ◌++◌, append_assoc, append-nil, get_or, length, map, take, Option, Some, None, ℤ, refl, sym, ap, subst, arith}
+use Rattle.std.proofs.Common.{◌≡◌, ◌∙◌, ℕ, zero, suc, ◌+◌, ◌-◌, ◌<◌, ◌≤◌, true, cond, List, [], ◌∷◌, ◌++◌, append_assoc, append-nil, get_or, length, map, take, Option, Some, None, ℤ, refl, sym, ap, subst, arith}
 use Rattle.std.specs.Prelude.{find, is_some, nat_le, nat_lt, slice_index_or, IfSome}
 use Rattle.kernel_tables.specs.Walks.{numbers_from}
 use Rattle.xinu_model.specs.Sound.Tables.{count_in}
@@ -12,8 +12,9 @@ use Rattle.xinu_base.specs.declared.lines.TranscriptLine.TheVariants as line
 use Rattle.xinu_model.specs.Semaphores.Counts.{count_of}
 use Rattle.xinu_base.specs.declared.processes.Process.{Process}
 use Rattle.xinu_model.specs.Heap.Cells.{Block}
+use Rattle.xinu_model.specs.Pools.Buffers.{BufferPool, no_pool, pool_at}
 use Rattle.xinu_model.specs.Tables.{message_at, no_process, no_semaphore, process_at, Semaphore, semaphore_at, Tables}
-use Rattle.xinu_model.specs.Text.{is_shown, process_line, process_lines, semaphore_line, semaphore_lines, shown}
+use Rattle.xinu_model.specs.Text.{is_shown, pool_line, pool_lines, process_line, process_lines, semaphore_line, semaphore_lines, shown}
 use Rattle.machine.proofs.ShownLines.{shown_both, shown_nothing}
 
 -- Of the lines of a list those before the rest were printed.
@@ -131,6 +132,30 @@ printed_semaphore t n sem a b c h i j within is so_far one =
     ap (λ m. semaphore_lines 0 (take n t.semaphores) ++ semaphore_line m (semaphore_at t m)) is
     ∙ ap (λ m. semaphore_lines 0 (take n t.semaphores) ++ semaphore_line m (semaphore_at t n)) (sym e) ∙ sym (semaphore_lines_more 0 n t.semaphores within) in
     subst (λ ls. Prints a c h j (shown a.plain ls)) more (shown_both a b c h i j (semaphore_lines 0 (take n t.semaphores)) (semaphore_line sem (semaphore_at t sem)) so_far one)
+
+-- the lines of one pool more
+pool_lines_more : (k n : ℕ) (l : List BufferPool) → n < length l → pool_lines k (take (n + 1) l) ≡ pool_lines k (take n l) ++ pool_line (k + n) (slice_index_or l n no_pool)
+pool_lines_more k n [] h = absurd (omega (arith, h))
+pool_lines_more k zero (x ∷ l) h =
+    let e : k ≡ k + 0 = omega arith in append-nil (pool_line k x) ∙ ap (λ m. pool_line m x) e
+pool_lines_more k (suc n) (x ∷ l) h =
+    let here = pool_line k x in
+    let e : k + 1 + n ≡ k + suc n = omega arith in
+    let f : suc n + 1 ≡ suc (n + 1) = omega arith in
+    ap (λ m. pool_lines k (take m (x ∷ l))) f
+    ∙ ap (λ r. here ++ r) (pool_lines_more (k + 1) n l (omega (arith, h)) ∙ ap (λ m. pool_lines (k + 1) (take n l) ++ pool_line m (slice_index_or l n no_pool)) e)
+    ∙ sym (append_assoc here (pool_lines (k + 1) (take n l)) (pool_line (k + suc n) (slice_index_or l n no_pool)))
+
+-- The pools so far were printed, and one more.
+pub printed_pool : (pools : List BufferPool) (n pool : ℕ) (a b c : Printing) (h i j : Outside) → n < length pools → pool ≡ n
+    → Prints a b h i (shown a.plain (pool_lines 0 (take n pools))) → Prints b c i j (shown b.plain (pool_line pool (pool_at pools pool)))
+    → Prints a c h j (shown a.plain (pool_lines 0 (take (n + 1) pools)))
+printed_pool pools n pool a b c h i j within is so_far one =
+    let e : 0 + n ≡ n = omega arith in
+    let more : pool_lines 0 (take n pools) ++ pool_line pool (pool_at pools pool) ≡ pool_lines 0 (take (n + 1) pools) =
+    ap (λ m. pool_lines 0 (take n pools) ++ pool_line m (pool_at pools m)) is
+    ∙ ap (λ m. pool_lines 0 (take n pools) ++ pool_line m (pool_at pools n)) (sym e) ∙ sym (pool_lines_more 0 n pools within) in
+    subst (λ ls. Prints a c h j (shown a.plain ls)) more (shown_both a b c h i j (pool_lines 0 (take n pools)) (pool_line pool (pool_at pools pool)) so_far one)
 
 -- whether there is a first one says whether there are any
 pub shown_by : (o : Option ℕ) (l : List ℕ) → numbers_from o l ≡ l → IfSome o (λ p. 0 < count_in p l) → is_some o ≡ nat_lt 0 (length l)

@@ -1,9 +1,10 @@
 //! The tables of the machine, one line after another.
 
-ghost use Rattle.std.specs.Prelude.{◌≡◌, ◌<◌, ◌≤◌, ◌∷◌, [], map};
+ghost use Rattle.std.specs.Prelude.{◌≡◌, ◌<◌, ◌≤◌, ◌∷◌, [], length, map};
 ghost use Rattle.host_port.specs.Printing.{Prints};
 ghost use Rattle.xinu_base.specs.declared.lines.TranscriptLine.TheVariants as line;
 ghost use Rattle.xinu_model.specs.Heap.Cells.{free_blocks};
+ghost use Rattle.xinu_model.specs.Pools.Buffers.{pool_at};
 ghost use Rattle.xinu_model.specs.Sound.State.{IsSound};
 ghost use Rattle.xinu_model.specs.Sound.Tables.{IsInside};
 ghost use Rattle.xinu_model.specs.Tables.{message_at, process_at, semaphore_at};
@@ -11,13 +12,14 @@ ghost use Rattle.xinu_model.specs.Text as text;
 ghost use Rattle.xinu_model.specs.Text.{shown};
 
 use crate::printing::print_line;
+use buffer_pools::{Pools, pool_id_at};
 use core_calls::Kernel;
 use freelist_memory::Heap;
 use host_port::{Host, Printer};
 use kernel_tables::KernelTables;
 use process_core::pid_at;
 use semaphores::sem_at;
-use xinu_base::{Owner, Sem, State, TranscriptLine};
+use xinu_base::{Owner, PoolId, Sem, State, TranscriptLine};
 
 /// Prints the tables.
 pub(crate) fn print_tables<H: Host>(kernel: &Kernel, out: &mut Printer, host: &mut H)
@@ -36,6 +38,7 @@ pub(crate) fn print_tables<H: Host>(kernel: &Kernel, out: &mut Printer, host: &m
     print_semaphores(tables, out, host);
     print_sleepers(tables, out, host);
     print_free(kernel.heap(), out, host);
+    print_pools(kernel.pools(), out, host);
     print_devices(out, host);
 }
 
@@ -145,6 +148,41 @@ fn print_free<H: Host>(heap: &Heap, out: &mut Printer, host: &mut H)
     while let Some((address, bytes)) = next {
         print_line(&TranscriptLine::Free(address, bytes), out, host);
         next = heap.block_from(address + bytes);
+    }
+}
+
+// Prints the buffer pools, by number.
+fn print_pools<H: Host>(pools: &Pools, out: &mut Printer, host: &mut H)
+    ensures prints { Prints out.old out.new (H.view host.old) (H.view host.new) (shown out.old.plain (text.pool_lines 0 pools.now)) }
+{
+    for number in 0..pools.count() {
+        print_pool(pools, pool_id_at(number), out, host);
+    }
+}
+
+// Prints a pool and its free buffers.
+fn print_pool<H: Host>(pools: &Pools, pool: PoolId, out: &mut Printer, host: &mut H)
+    requires made { pool < length pools.now }
+    ensures prints { Prints out.old out.new (H.view host.old) (H.view host.new) (shown out.old.plain (text.pool_line pool (pool_at pools.now pool))) }
+{
+    let line = TranscriptLine::Pool {
+        pool,
+        size: pools.size_of(pool),
+        free: pools.free_count(pool),
+        held: pools.held(pool),
+    };
+    print_line(&line, out, host);
+    print_buffers(pools, pool, out, host);
+}
+
+// Prints the free buffers of a pool, the one that was freed last first.
+fn print_buffers<H: Host>(pools: &Pools, pool: PoolId, out: &mut Printer, host: &mut H)
+    requires made { pool < length pools.now }
+    ensures prints { Prints out.old out.new (H.view host.old) (H.view host.new) (shown out.old.plain (map (line.Buffer pool) (pool_at pools.now pool).free)) }
+{
+    for k in 0..pools.free_count(pool) {
+        let address = pools.free_at(pool, k as usize).unwrap();
+        print_line(&TranscriptLine::Buffer(pool, address), out, host);
     }
 }
 

@@ -9,6 +9,7 @@ mod host_faults;
 mod kernel_clock;
 mod kernel_heap;
 mod kernel_messages;
+mod kernel_pools;
 mod kernel_processes;
 mod kernel_programs;
 mod kernel_semaphores;

@@ -1,5 +1,5 @@
 use Rattle.std.proofs.Common.{◌∙◌, rules, sym}
-use Rattle.core_calls.proofs.Rows.{row_chprio, row_clktime, row_create, row_exit, row_freemem, row_freestk, row_getmem, row_getpid, row_getprio, row_getstk, row_kill, row_receive, row_recvclr, row_recvtime, row_resume, row_semcount, row_semcreate, row_semdelete, row_semreset, row_send, row_signal, row_signaln, row_sleep, row_sleepms, row_suspend, row_wait, row_yield}
+use Rattle.core_calls.proofs.Rows.{row_chprio, row_clktime, row_create, row_exit, row_freebuf, row_freemem, row_freestk, row_getbuf, row_getmem, row_getpid, row_getprio, row_getstk, row_kill, row_mkbufpool, row_receive, row_recvclr, row_recvtime, row_resume, row_semcount, row_semcreate, row_semdelete, row_semreset, row_send, row_signal, row_signaln, row_sleep, row_sleepms, row_suspend, row_wait, row_yield}
 use Rattle.core_calls.proofs.state.KernelState.begin.Goals as goal
 
 pub returns-in-1 : goal.returns-in-1
@@ -161,5 +161,23 @@ returns-in-26 c = record {
 pub returns-in-27 : goal.returns-in-27
 returns-in-27 c = record {
   called = row_clktime c.args.call.number c.args.call.args c.args.self.now.state _ c.in-27.is
+      (sym c.is_built.ensures ∙ c.if-not-is_built.false) (search rules);
+}
+
+pub returns-in-28 : goal.returns-in-28
+returns-in-28 c = record {
+  called = row_mkbufpool c.args.call.number c.args.call.args c.args.self.now.state _ c.in-28.is
+      (sym c.is_built.ensures ∙ c.if-not-is_built.false) (search rules);
+}
+
+pub returns-in-29 : goal.returns-in-29
+returns-in-29 c = record {
+  called = row_getbuf c.args.call.number c.args.call.args c.args.self.now.state _ c.in-29.is
+      (sym c.is_built.ensures ∙ c.if-not-is_built.false) (search rules);
+}
+
+pub returns-in-30 : goal.returns-in-30
+returns-in-30 c = record {
+  called = row_freebuf c.args.call.number c.args.call.args c.args.self.now.state _ c.in-30.is
       (sym c.is_built.ensures ∙ c.if-not-is_built.false) (search rules);
 }
