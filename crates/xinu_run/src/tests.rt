@@ -13,6 +13,7 @@ mod kernel_pools;
 mod kernel_processes;
 mod kernel_programs;
 mod kernel_semaphores;
+mod kernel_tables;
 mod out_of_memory;
 mod plain_output;
 mod programs;

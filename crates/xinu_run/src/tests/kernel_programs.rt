@@ -68,6 +68,26 @@ pub(crate) fn transcript_of_calls(
     transcript(alloc, schedule, assembled.as_slice())
 }
 
+/// The transcript of one process of priority 20 under `step 1000`, if its calls, which are separated by commas, get these replies and the
+/// tables have these lines after the ready list.
+pub(crate) fn answered(
+    alloc: Global,
+    calls: &str,
+    replies: &[i32],
+    tables: &str,
+) -> Result<String, Fail> {
+    let mut text = String::from_str(alloc, "run 1\n")?;
+    for (call, reply) in calls.split(", ").zip(replies) {
+        text.push_str(format!(in alloc; "call 1 {call}\nret 1 {reply}\n")?.as_str())?;
+    }
+    text.push_str(
+        "now 0 2\nproc 0 ready 0 0 - 70726e756c6c\nproc 1 current 20 0 - 696d61676531\nready 0 0\n",
+    )?;
+    text.push_str(tables)?;
+    text.push_str("console cooked 0 0 0 0 run\ndisk0 0\ndisk1 clean\nend schedule\n")?;
+    Ok(text)
+}
+
 // A text of assembler that makes these calls, which are separated by commas, and then loops.
 fn calling(alloc: Global, calls: &str) -> Result<String, Fail> {
     let mut text = String::new(alloc);

@@ -52,7 +52,7 @@ disk1 clean
 end schedule
 ";
 /// A killed waiter leaves the semaphore, and two signals release the two who are left.
-const KILLED_WAITER: [(u32, &str); 4] = [
+pub(crate) const KILLED_WAITER: [(u32, &str); 4] = [
     (30, "semcreate 0, wait 4, exit"),
     (30, "wait 4"),
     (30, "wait 4, exit"),
