@@ -11,7 +11,7 @@
 //! | `current`, `is_done`, `call_of`, `released` | | the current process, whether nothing is left of its call, the call in its registers, the replies to released processes |
 //! | `tables`, `heap`, `pools`, `ports` | | the parts of the state |
 //! | `instruction` | `idle`; `not_null`: the null process isn't current | `outcome`, `state`: those of `exec` |
-//! | `begin_core` | `idle`, `not_null`; `room`: the number of no port wraps | `called`: what the row of the call's number gives; a number whose call isn't built is refused; `answer`: the answer is the row's |
+//! | `begin_core` | `idle`, `not_null` | `called`: what the row of the call's number gives; a number whose call isn't built is refused; `answer`: the answer is the row's |
 //! | `go_on_core` | `idle`, `not_null`; `waits`: something is left of the call | `continued`: what the abstract machine's continuation gives; `answer` |
 //! | `die` | `idle`, `not_null` | `dies`: the caller's death, as `exit` |
 //! | `on_tick` | `idle`; `few`: the ticks don't wrap | `ticks`: the tick with its own reschedules |
