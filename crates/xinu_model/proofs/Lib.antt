@@ -1,4 +1,5 @@
 pub mod Boot
+pub mod FileOutcomes
 pub mod Heap
 pub mod Outcomes
 pub mod Runs

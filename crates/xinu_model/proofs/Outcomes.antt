@@ -1,40 +1,43 @@
 -- The outcomes of an event: there is one, and no other.
-use Rattle.std.proofs.Common.{◌≡◌, ◌==◌, ℕ, true, false, List, [], ◌∷◌, ◌++◌, map, Option, Some, None, if◌then◌else◌, refl, sym, ap, ◌∙◌, subst, ℤ}
+use Rattle.std.proofs.Common.{◌≡◌, ◌==◌, ℕ, zero, suc, ◌≤◌, nat_lt, arith, Bool, true, false, List, [], ◌∷◌, ◌++◌, map, Option, Some, None, if◌then◌else◌, refl, sym, ap, ◌∙◌, subst, ℤ}
+use Rattle.std.specs.Prelude.{is_some}
 use Rattle.std.proofs.lemmas.Bool.{cond_both}
+use Rattle.std.proofs.lemmas.Bool.Decides.{nat_tests}
 use Rattle.xinu_base.specs.Events.{is_built_event}
 use Rattle.xinu_base.specs.declared.events.Event.{Event}
 use Rattle.xinu_base.specs.declared.events.Event.TheVariants.{Step, Tick, Key, Tx, Disk0, Disk1, Fail0, Fail1, Dump}
 use Rattle.xinu_base.specs.declared.lines.TranscriptLine.{TranscriptLine}
+use Rattle.xinu_base.specs.declared.lines.TranscriptLine.TheVariants as line
 use Rattle.xinu_base.specs.declared.lines.TranscriptLine.TheVariants.{Switch}
 use Rattle.xinu_base.specs.declared.registers.Outcome.{Outcome}
 use Rattle.xinu_base.specs.declared.registers.Outcome.TheVariants as outcome
 use Rattle.xinu_model.specs.Agree.{begins_next, OutcomesAgree}
-use Rattle.xinu_model.specs.Calls.{continued}
+use Rattle.xinu_model.specs.Calls.{called, continued}
 use Rattle.xinu_model.specs.Clock.{wakeup, quantum_falls, a_tick_later}
 use Rattle.xinu_model.specs.Console.Signals.{receiving, sent_in}
 use Rattle.xinu_model.specs.Console.Taking.{console_of}
 use Rattle.xinu_model.specs.Console.Transmitting.{Sent, transmitted}
-use Rattle.xinu_model.specs.Events.{reacted, is_done, instruction_step, stepped, event_effect, effect_of, panics_in, Happens, with_executed}
+use Rattle.xinu_model.specs.Events.{call_of, call_line, exit_call, reacted, is_done, instruction_step, stepped, next_file_call, step_at_once, step_with, event_effect, effect_of, most_chosen, MayChoose, Happens, with_executed}
+use Rattle.xinu_model.specs.Files.Syscalls.{files_of, file_line, at_once}
+use Rattle.xinu_model.specs.Files.Work.{FileRequest, issued}
 use Rattle.xinu_model.specs.Isa.Exec.{exec}
 use Rattle.xinu_model.specs.Machine.{Xinu, EventResult, current_hart, nothing_happens, return_line, switched, end_of_event, replies_of, closed}
+use Rattle.xinu_model.specs.Process.Death.{exit}
 use Rattle.xinu_model.specs.RawDisk.Calls.{disk_of, serving, served_in}
 use Rattle.xinu_model.specs.RawDisk.Completions.{Served, raw_completed}
-use Rattle.xinu_model.specs.Sound.State.{IsSound}
 use Rattle.xinu_model.specs.Tables.{process_at}
+use Rattle.xinu_model.proofs.FileOutcomes.{effects_told, end_tells, choices_told, completed_no_next}
 
--- an outcome is what the event does if no file call takes effect
-outcome_is : (old : Xinu) (e : Event) (lines : List TranscriptLine) (new : Xinu) → Happens old e lines new → effect_of old e 0 ≡ record { lines = lines; state = new; panics = panics_in old e }
-outcome_is old e lines new h = ap (effect_of old e) (sym h.allowed) ∙ h.effect
+-- one choice has one outcome
+same_outcome : (old : Xinu) (e : Event) (lines others : List TranscriptLine) (new other : Xinu) (h : Happens old e lines new)
+    (k : Happens old e others other) → effect_of old e h.choice ≡ effect_of old e k.choice → (lines ≡ others) × (new ≡ other)
+same_outcome old e lines others new other h k same =
+    let all = sym h.effect ∙ same ∙ k.effect in
+    (ap (λ (x : EventResult). x.lines) all, ap (λ (x : EventResult). x.state) all)
 
--- An event has one outcome at most.
-pub one_outcome : (old : Xinu) (e : Event) (lines others : List TranscriptLine) (new other : Xinu) → Happens old e lines new → Happens old e others other → (lines ≡ others) × (new ≡ other)
-one_outcome old e lines others new other h k =
-    let same = sym (outcome_is old e lines new h) ∙ outcome_is old e others other k in
-    (ap (λ (x : EventResult). x.lines) same, ap (λ (x : EventResult). x.state) same)
-
--- An event has this outcome at least, with no file call that takes effect.
+-- An event has this outcome at least, in which no more calls on files take effect than have to.
 pub least_happens : (old : Xinu) (e : Event) → Happens old e (effect_of old e 0).lines (effect_of old e 0).state
-least_happens old e = record { choice = 0; allowed = refl; effect = refl }
+least_happens old e = record { choice = 0; allowed = omega arith; effect = refl }
 
 -- the line of a switch is none of a file call
 switch_no_next : (was is : ℕ) → begins_next (switched was is) ≡ false
@@ -73,31 +76,104 @@ served_no_next None s = refl
 served_no_next (Some x) s = replies_no_next (replies_of (serving x s)) s.tables.current (closed (serving x s)).current
 
 -- the lines of an event, whether the machine has it or not
-event_no_next : (s : Xinu) (e : Event) → begins_next (event_effect s e 0).lines ≡ false
-event_no_next s Step = step_no_next s
-event_no_next s Tick =
-    replies_no_next (wakeup s).released s.tables.current (quantum_falls (a_tick_later (wakeup s).owes_resched (wakeup s).state.tables)).current
-event_no_next s Dump = refl
-event_no_next s (Key b) = replies_no_next (replies_of (receiving b s)) s.tables.current (closed (receiving b s)).current
-event_no_next s Tx = sent_no_next (transmitted (console_of s)) s
-event_no_next s Disk0 = served_no_next (raw_completed true (disk_of s)) s
-event_no_next s Disk1 = refl
-event_no_next s Fail0 = served_no_next (raw_completed false (disk_of s)) s
-event_no_next s Fail1 = refl
+step_with_no_next : (choice : ℕ) (found : Option FileRequest) (s : Xinu) → begins_next (step_with choice found s).lines ≡ false
+step_with_no_next zero found s = step_no_next s
+step_with_no_next (suc choice) None s = step_no_next s
+step_with_no_next (suc choice) (Some a) s = refl
 
-effect_no_next : (s : Xinu) (e : Event) → begins_next (effect_of s e 0).lines ≡ false
-effect_no_next s e =
-    cond_both (is_built_event e) (event_effect s e 0) (nothing_happens s) (λ (x : EventResult). begins_next x.lines ≡ false) (λ _. event_no_next s e) (λ _. refl)
+event_no_next : (s : Xinu) (e : Event) (choice : ℕ) → begins_next (event_effect s e choice).lines ≡ false
+event_no_next s Step choice = step_with_no_next choice (next_file_call s) s
+event_no_next s Tick choice =
+    replies_no_next (wakeup s).released s.tables.current (quantum_falls (a_tick_later (wakeup s).owes_resched (wakeup s).state.tables)).current
+event_no_next s Dump choice = refl
+event_no_next s (Key b) choice = replies_no_next (replies_of (receiving b s)) s.tables.current (closed (receiving b s)).current
+event_no_next s Tx choice = sent_no_next (transmitted (console_of s)) s
+event_no_next s Disk0 choice = served_no_next (raw_completed true (disk_of s)) s
+event_no_next s Disk1 choice = completed_no_next (files_of s).calls choice s refl
+event_no_next s Fail0 choice = served_no_next (raw_completed false (disk_of s)) s
+event_no_next s Fail1 choice = refl
+
+effect_no_next : (s : Xinu) (e : Event) (choice : ℕ) → begins_next (effect_of s e choice).lines ≡ false
+effect_no_next s e choice =
+    cond_both (is_built_event e) (event_effect s e choice) (nothing_happens s) (λ (x : EventResult). begins_next x.lines ≡ false)
+    (λ _. event_no_next s e choice) (λ _. refl)
+
+-- a step in which no call on files takes effect tells of none
+step_tells : (s : Xinu) → effects_told (stepped s).lines ≡ 0
+step_tells s =
+    let rest = (process_at s.tables s.tables.current).rest in
+    let did = exec (current_hart s) s.memory in
+    cond_both (s.tables.current == 0) (nothing_happens s) (if is_done rest then instruction_step s else end_of_event s.tables.current [] (continued rest s))
+    (λ (x : EventResult). effects_told x.lines ≡ 0)
+    (λ _. refl)
+    (λ _. cond_both (is_done rest) (instruction_step s) (end_of_event s.tables.current [] (continued rest s)) (λ (x : EventResult). effects_told x.lines ≡ 0)
+    (λ _. by_outcome did.outcome (with_executed did s))
+    (λ _. end_tells s.tables.current [] (continued rest s)))
+  where
+    by_outcome : (o : Outcome) (x : Xinu) → effects_told (reacted o x).lines ≡ 0
+    by_outcome outcome.Went x = refl
+    by_outcome outcome.Call x =
+        let call = call_of (current_hart x) in end_tells x.tables.current (call_line x call ∷ []) (called call.number call.args x)
+    by_outcome outcome.Exit x = end_tells x.tables.current (call_line x (exit_call (current_hart x)) ∷ []) (exit x)
+    by_outcome (outcome.Trap cause) x = end_tells x.tables.current (line.Trap x.tables.current cause ∷ []) (exit x)
+
+-- and one in which one does tells of it
+at_once_tells : (a : FileRequest) (old : Xinu) → effects_told (step_at_once a old).lines ≡ 1
+at_once_tells a old =
+    let s = with_executed (exec (current_hart old) old.memory) old in
+    let x = issued 1 a s.memory (files_of s) in
+    end_tells s.tables.current (call_line s (call_of (current_hart s)) ∷ map file_line x.notes) (at_once a s)
+
+-- so a step tells what was chosen in it
+step_choices : (c d : ℕ) (found : Option FileRequest) (s : Xinu) → c ≤ (if is_some found then 1 else 0) → d ≤ (if is_some found then 1 else 0)
+    → (step_with c found s).lines ≡ (step_with d found s).lines → c ≡ d
+step_choices c d None s p q same = omega (arith, p, q)
+step_choices zero zero (Some a) s p q same = refl
+step_choices zero (suc d) (Some a) s p q same =
+    let x = step_tells s in
+    let y = at_once_tells a s in
+    let z = ap effects_told same in
+    absurd (omega (arith, x, y, z))
+step_choices (suc c) zero (Some a) s p q same =
+    let x = step_tells s in
+    let y = at_once_tells a s in
+    let z = ap effects_told same in
+    absurd (omega (arith, x, y, z))
+step_choices (suc c) (suc d) (Some a) s p q same = omega (arith, p, q)
+
+-- The lines of an event tell what was chosen in it.
+same_choice : (s : Xinu) (e : Event) (c d : ℕ) → MayChoose s e c → MayChoose s e d → (event_effect s e c).lines ≡ (event_effect s e d).lines → c ≡ d
+same_choice s Step c d p q same = step_choices c d (next_file_call s) s p q same
+same_choice s Disk1 c d p q same = choices_told c d (files_of s).calls s refl p q same
+same_choice s Tick c d p q same = omega (arith, p, q)
+same_choice s Dump c d p q same = omega (arith, p, q)
+same_choice s (Key b) c d p q same = omega (arith, p, q)
+same_choice s Tx c d p q same = omega (arith, p, q)
+same_choice s Disk0 c d p q same = omega (arith, p, q)
+same_choice s Fail0 c d p q same = omega (arith, p, q)
+same_choice s Fail1 c d p q same = omega (arith, p, q)
+
+-- Choices with equal lines have one effect, whether the machine has the event or not.
+same_effect : (s : Xinu) (e : Event) (c d : ℕ) → MayChoose s e c → MayChoose s e d → (effect_of s e c).lines ≡ (effect_of s e d).lines
+    → effect_of s e c ≡ effect_of s e d
+same_effect s e c d p q = by_built (is_built_event e)
+  where
+    by_built : (b : Bool) → (if b then event_effect s e c else nothing_happens s).lines ≡ (if b then event_effect s e d else nothing_happens s).lines
+        → (if b then event_effect s e c else nothing_happens s) ≡ (if b then event_effect s e d else nothing_happens s)
+    by_built false same = refl
+    by_built true same = ap (event_effect s e) (same_choice s e c d p q same)
+
+-- if nothing is chosen there is one choice
+forced_choice : (n c d : ℕ) → nat_lt 0 n ≡ false → c ≤ n → d ≤ n → c ≡ d
+forced_choice n c d never p q = let none : n ≤ 0 = grind (arith, nat_tests) in omega (arith, none, p, q)
 
 -- Outcomes agree.
 pub agree : (old : Xinu) (e : Event) → OutcomesAgree old e
 agree old e = record {
-  forced = λ _ lines others new other h k. one_outcome old e lines others new other h k;
-  told = λ lines new other h k. (one_outcome old e lines lines new other h k).1;
-  first = λ lines new h. subst (λ (l : List TranscriptLine). begins_next l ≡ false) (ap (λ (x : EventResult). x.lines) (outcome_is old e lines new h)) (effect_no_next old e);
+  forced = λ never lines others new other h k.
+      same_outcome old e lines others new other h k (ap (effect_of old e) (forced_choice (most_chosen old e) h.choice k.choice never h.allowed k.allowed));
+  told = λ lines new other h k.
+      (same_outcome old e lines lines new other h k
+      (same_effect old e h.choice k.choice h.allowed k.allowed (ap (λ (x : EventResult). x.lines) (h.effect) ∙ sym (ap (λ (x : EventResult). x.lines) k.effect)))).1;
+  first = λ lines new h. subst (λ (l : List TranscriptLine). begins_next l ≡ false) (ap (λ (x : EventResult). x.lines) h.effect) (effect_no_next old e h.choice);
 }
-
--- One text has one outcome, whatever follows it.
-pub texts_agree : (old : Xinu) (e : Event) (lines others : List TranscriptLine) (new other : Xinu) (more rest : List TranscriptLine)
-    → IsSound old → begins_next more ≡ false → begins_next rest ≡ false → Happens old e lines new → Happens old e others other → lines ++ more ≡ others ++ rest → (lines ≡ others) × (new ≡ other)
-texts_agree old e lines others new other more rest sound a b h k same = one_outcome old e lines others new other h k

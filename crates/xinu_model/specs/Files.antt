@@ -9,6 +9,7 @@ pub mod Rest
 pub mod Room
 pub mod Sound
 pub mod Stored
+pub mod Syscalls
 pub mod Systems
 pub mod Work
 pub mod Writing

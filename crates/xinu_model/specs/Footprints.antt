@@ -64,9 +64,17 @@ on_console = record on_tables { console = true }
 abbrev pub on_disk : Footprint
 on_disk = record on_tables { disk = true }
 
--- the console or the raw disk
-abbrev pub on_console_or_disk : Footprint
-on_console_or_disk = record on_console { disk = true }
+-- files
+abbrev pub on_files : Footprint
+on_files = record on_tables { files = true }
+
+-- the console or files
+abbrev pub on_console_or_files : Footprint
+on_console_or_files = record on_console { files = true }
+
+-- the console, the raw disk or files
+abbrev pub on_devices : Footprint
+on_devices = record on_console_or_files { disk = true }
 
 -- the name space
 abbrev pub on_names : Footprint

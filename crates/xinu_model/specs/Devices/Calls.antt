@@ -1,6 +1,6 @@
--- The calls on devices: each goes to the device that its first argument names, if that offers it (book, chapter 14). The file system and
--- files have no calls yet.
-use Rattle.std.specs.Prelude.{ℕ, ◌%◌, if◌then◌else◌, List, [], ◌∷◌, Option, Some, None, ℤ, pos, codes}
+-- The calls on devices: each goes to the device that its first argument names, if that offers it (book, chapter 14). Calls on the
+-- file system and on files are judged by their arguments as they are made, and by the files as they take effect.
+use Rattle.std.specs.Prelude.{ℕ, ◌-◌, ◌%◌, if◌then◌else◌, List, [], ◌∷◌, Option, Some, None, ℤ, pos, codes}
 use Rattle.xinu_base.specs.Constants.{OK}
 use Rattle.xinu_base.specs.Syscalls.{syscall}
 use Rattle.xinu_base.specs.declared.devices.Kind.{Kind}
@@ -12,7 +12,11 @@ use Rattle.xinu_model.specs.Console.Signals.{console_control}
 use Rattle.xinu_model.specs.Console.Taking.{console_getc, console_read}
 use Rattle.xinu_model.specs.Devices.Table.{DISK0, kind_of, offers}
 use Rattle.xinu_model.specs.Devices.Texts.{text_at}
-use Rattle.xinu_model.specs.Footprints.{on_tables, on_console, on_console_or_disk, on_names}
+use Rattle.xinu_model.specs.Files.Calls.{FileCall, Close, Getc, Putc, Seek}
+use Rattle.xinu_model.specs.Files.Constants.{LFILE0}
+use Rattle.xinu_model.specs.Files.Issue.{open_call, system_control_call, file_control_call, read_call, write_call}
+use Rattle.xinu_model.specs.Files.Syscalls.{asks_files}
+use Rattle.xinu_model.specs.Footprints.{on_files, on_console_or_files, on_devices, on_names}
 use Rattle.xinu_model.specs.Machine.{Xinu, CallResult, refused}
 use Rattle.xinu_model.specs.Names.Calls.{mount, names_of}
 use Rattle.xinu_model.specs.Names.Mapping.{MappedName, map_name}
@@ -34,6 +38,7 @@ on_device call dev does s = on_kind call (kind_of dev) does s
 abbrev pub open_direct : List ℕ → List ℕ → Kind → Xinu → CallResult
 open_direct name mode kind.Console s = answers OK s
 open_direct name mode kind.RawDisk s = answers (pos DISK0) s
+open_direct name mode kind.FileSystem s = asks_files (open_call name mode) 0 s
 open_direct name mode _ s = refused s
 
 -- `open` of what a name is mapped to, if it is mapped
@@ -59,82 +64,99 @@ open_texts name mode k s = open_with k (text_at name s.memory) (text_at mode s.m
 abbrev pub device_open : ℕ → ℕ → ℕ → Xinu → CallResult
 device_open dev name mode s = on_device op.Open dev (open_texts name mode) s
 
+-- which of the file devices has a number
+abbrev pub file_number : ℕ → ℕ
+file_number dev = dev - LFILE0
+
 -- `close` by what the device is
-abbrev pub close_as : Kind → Xinu → CallResult
-close_as kind.Console s = answers OK s
-close_as kind.RawDisk s = answers OK s
-close_as _ s = refused s
+abbrev pub close_as : ℕ → Kind → Xinu → CallResult
+close_as dev kind.Console s = answers OK s
+close_as dev kind.RawDisk s = answers OK s
+close_as dev kind.File s = asks_files (Some (Close (file_number dev))) 0 s
+close_as dev _ s = refused s
 
 -- call 37: a device is closed
 abbrev pub device_close : ℕ → Xinu → CallResult
-device_close dev s = on_device op.Close dev close_as s
+device_close dev s = on_device op.Close dev (close_as dev) s
 
 -- `read` by what the device is, to an address; the last argument is a signed number of bytes, of the raw disk the number of a block
-abbrev pub read_as : ℕ → ℕ → Kind → Xinu → CallResult
-read_as at n kind.Console s = console_read at (signed n) s
-read_as at n kind.RawDisk s = disk_read at n s
-read_as at n _ s = refused s
+abbrev pub read_as : ℕ → ℕ → ℕ → Kind → Xinu → CallResult
+read_as dev at n kind.Console s = console_read at (signed n) s
+read_as dev at n kind.RawDisk s = disk_read at n s
+read_as dev at n kind.File s = asks_files (read_call (file_number dev) at (signed n)) at s
+read_as dev at n _ s = refused s
 
 -- call 38: a device is read
 abbrev pub device_read : ℕ → ℕ → ℕ → Xinu → CallResult
-device_read dev at n s = on_device op.Read dev (read_as at n) s
+device_read dev at n s = on_device op.Read dev (read_as dev at n) s
 
 -- `write` by what the device is, from an address; the last argument is as that of `read`
-abbrev pub write_as : ℕ → ℕ → Kind → Xinu → CallResult
-write_as at n kind.Console s = console_write at (signed n) s
-write_as at n kind.RawDisk s = disk_write at n s
-write_as at n _ s = refused s
+abbrev pub write_as : ℕ → ℕ → ℕ → Kind → Xinu → CallResult
+write_as dev at n kind.Console s = console_write at (signed n) s
+write_as dev at n kind.RawDisk s = disk_write at n s
+write_as dev at n kind.File s = asks_files (write_call (file_number dev) at (signed n)) at s
+write_as dev at n _ s = refused s
 
 -- call 39: a device is written
 abbrev pub device_write : ℕ → ℕ → ℕ → Xinu → CallResult
-device_write dev at n s = on_device op.Write dev (write_as at n) s
+device_write dev at n s = on_device op.Write dev (write_as dev at n) s
 
 -- `getc` by what the device is
-abbrev pub getc_as : Kind → Xinu → CallResult
-getc_as kind.Console s = console_getc s
-getc_as _ s = refused s
+abbrev pub getc_as : ℕ → Kind → Xinu → CallResult
+getc_as dev kind.Console s = console_getc s
+getc_as dev kind.File s = asks_files (Some (Getc (file_number dev))) 0 s
+getc_as dev _ s = refused s
 
 -- call 40: a character is read from a device
 abbrev pub device_getc : ℕ → Xinu → CallResult
-device_getc dev s = on_device op.Getc dev getc_as s
+device_getc dev s = on_device op.Getc dev (getc_as dev) s
 
 -- `putc` by what the device is
-abbrev pub putc_as : ℕ → Kind → Xinu → CallResult
-putc_as b kind.Console s = console_putc b s
-putc_as b _ s = refused s
+abbrev pub putc_as : ℕ → ℕ → Kind → Xinu → CallResult
+putc_as dev b kind.Console s = console_putc b s
+putc_as dev b kind.File s = asks_files (Some (Putc (file_number dev) b)) 0 s
+putc_as dev b _ s = refused s
 
 -- call 41: a character is written to a device
 abbrev pub device_putc : ℕ → ℕ → Xinu → CallResult
-device_putc dev b s = on_device op.Putc dev (putc_as b) s
+device_putc dev b s = on_device op.Putc dev (putc_as dev b) s
 
 -- `seek` by what the device is
-abbrev pub seek_as : ℤ → Kind → Xinu → CallResult
-seek_as n k s = refused s
+abbrev pub seek_as : ℕ → ℤ → Kind → Xinu → CallResult
+seek_as dev n kind.File s = asks_files (Some (Seek (file_number dev) n)) 0 s
+seek_as dev n _ s = refused s
 
 -- call 42: a device has another position
 abbrev pub device_seek : ℕ → ℤ → Xinu → CallResult
-device_seek dev n s = on_device op.Seek dev (seek_as n) s
+device_seek dev n s = on_device op.Seek dev (seek_as dev n) s
+
+-- `control` of the file system, if the text at its argument is there
+abbrev pub named_control : ℕ → Option (List ℕ) → Option FileCall
+named_control f None = None
+named_control f (Some name) = system_control_call f name
 
 -- `control` by what the device is, with a function and its argument
-abbrev pub control_as : ℕ → ℕ → Kind → Xinu → CallResult
-control_as f x kind.Console s = console_control f s
-control_as f x kind.RawDisk s = disk_control f s
-control_as f x _ s = refused s
+abbrev pub control_as : ℕ → ℕ → ℕ → Kind → Xinu → CallResult
+control_as dev f x kind.Console s = console_control f s
+control_as dev f x kind.RawDisk s = disk_control f s
+control_as dev f x kind.FileSystem s = asks_files (named_control f (text_at x s.memory)) 0 s
+control_as dev f x kind.File s = asks_files (file_control_call (file_number dev) f) 0 s
+control_as dev f x _ s = refused s
 
 -- call 43: a control function of a device
 abbrev pub device_control : ℕ → ℕ → ℕ → Xinu → CallResult
-device_control dev f x s = on_device op.Control dev (control_as f x) s
+device_control dev f x s = on_device op.Control dev (control_as dev f x) s
 
 -- the calls on devices; a character is the lowest byte of its word
 abbrev pub device_calls : List CallRow
 device_calls =
-    row (syscall 36 (codes "open") 3) on_tables Status (λ a s. device_open (a 0) (a 1) (a 2) s) ∷
-    row (syscall 37 (codes "close") 1) on_tables Status (λ a s. device_close (a 0) s) ∷
-    row (syscall 38 (codes "read") 3) on_console_or_disk Status (λ a s. device_read (a 0) (a 1) (a 2) s) ∷
-    row (syscall 39 (codes "write") 3) on_console_or_disk Status (λ a s. device_write (a 0) (a 1) (a 2) s) ∷
-    row (syscall 40 (codes "getc") 1) on_console Status (λ a s. device_getc (a 0) s) ∷
-    row (syscall 41 (codes "putc") 2) on_console Status (λ a s. device_putc (a 0) (a 1 % 256) s) ∷
-    row (syscall 42 (codes "seek") 2) on_tables Status (λ a s. device_seek (a 0) (signed (a 1)) s) ∷
-    row (syscall 43 (codes "control") 3) on_console Status (λ a s. device_control (a 0) (a 1) (a 2) s) ∷
+    row (syscall 36 (codes "open") 3) on_files Status (λ a s. device_open (a 0) (a 1) (a 2) s) ∷
+    row (syscall 37 (codes "close") 1) on_files Status (λ a s. device_close (a 0) s) ∷
+    row (syscall 38 (codes "read") 3) on_devices Status (λ a s. device_read (a 0) (a 1) (a 2) s) ∷
+    row (syscall 39 (codes "write") 3) on_devices Status (λ a s. device_write (a 0) (a 1) (a 2) s) ∷
+    row (syscall 40 (codes "getc") 1) on_console_or_files Status (λ a s. device_getc (a 0) s) ∷
+    row (syscall 41 (codes "putc") 2) on_console_or_files Status (λ a s. device_putc (a 0) (a 1 % 256) s) ∷
+    row (syscall 42 (codes "seek") 2) on_files Status (λ a s. device_seek (a 0) (signed (a 1)) s) ∷
+    row (syscall 43 (codes "control") 3) on_console_or_files Status (λ a s. device_control (a 0) (a 1) (a 2) s) ∷
     row (syscall 44 (codes "mount") 3) on_names Status (λ a s. mount (a 0) (a 1) (a 2) s) ∷
     []

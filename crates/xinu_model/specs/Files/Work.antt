@@ -1,13 +1,13 @@
 -- Calls on files under way, one at a time in the order in which they were made. When the first takes effect is the machine's one free
 -- choice.
-use Rattle.std.specs.Prelude.{ℕ, zero, suc, ◌+◌, ◌*◌, nat_lt, if◌then◌else◌, List, [], ◌∷◌, ◌++◌, length, take, drop, Option, Some, None, ℤ}
+use Rattle.std.specs.Prelude.{ℕ, zero, suc, ◌+◌, ◌*◌, nat_lt, if◌then◌else◌, List, [], ◌∷◌, ◌++◌, length, Option, Some, None, ℤ}
 use Rattle.xinu_base.specs.declared.lines.FileMoment.{FileMoment}
 use Rattle.xinu_base.specs.declared.lines.FileMoment.TheVariants.{Turn, Finished, Next}
 use Rattle.xinu_model.specs.Files.Calls.{FileCall, Open, Delete, Close, Read, Write, Getc, Putc, Seek, Truncate, Size, file_effect}
 use Rattle.xinu_model.specs.Files.Room.{data_blocks, index_blocks}
 use Rattle.xinu_model.specs.Files.Stored.{file_named, bytes_in}
 use Rattle.xinu_model.specs.Files.Systems.{OpenFile, FileSystem, open_at, open_bytes}
-use Rattle.xinu_model.specs.Memory.{with_bytes}
+use Rattle.xinu_model.specs.Memory.{bytes_from, with_bytes}
 use Rattle.xinu_model.specs.RawDisk.Callers as callers
 
 -- A call under way: who waits for it, unless that was killed; the call; and the address of its bytes in RAM.
@@ -68,7 +68,7 @@ most_turns call s =
 
 -- the bytes of a write in RAM
 abbrev pub bytes_written : FileCall → ℕ → List ℕ → List ℕ
-bytes_written (Write d n) at memory = take n (drop at memory)
+bytes_written (Write d n) at memory = bytes_from memory at n
 bytes_written _ at memory = []
 
 -- the first of these calls becomes the first, with its bytes
