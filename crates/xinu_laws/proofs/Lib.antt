@@ -1,5 +1,6 @@
 pub mod Consoles
 pub mod Devices
+pub mod FileCalls
 pub mod FileSteps
 pub mod FileSystems
 pub mod Frame

@@ -8,6 +8,7 @@ pub mod Framed
 pub mod Histories
 pub mod Kept
 pub mod Killed
+pub mod Moves
 pub mod Requested
 pub mod Served
 pub mod Started

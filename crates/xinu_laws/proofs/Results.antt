@@ -2,6 +2,7 @@
 pub mod Computed
 pub mod ComputedConsoles
 pub mod ComputedDisks
+pub mod ComputedFiles
 pub mod ComputedPorts
 pub mod ComputedPriorities
 pub mod Ecall

@@ -25,6 +25,7 @@ use Rattle.xinu_base.specs.declared.processes.Rest.{Rest}
 use Rattle.xinu_base.specs.declared.semaphores.Owner.{Owner}
 use Rattle.xinu_model.specs.Console.State.{Console}
 use Rattle.xinu_model.specs.Devices.State.{Devices}
+use Rattle.xinu_model.specs.Files.Work.{FileWork}
 use Rattle.xinu_model.specs.Footprints.{Footprint}
 use Rattle.xinu_laws.specs.Frame.{Frame, StillWait, waits_at}
 use Rattle.xinu_model.specs.Heap.Cells.{Heap}
@@ -117,6 +118,17 @@ module _ {f : Footprint} where
     ranges = λ _. refl;
     ports = λ _. (refl, refl);
     devices = record { console = λ _. refl; names = λ _. refl; disk = named may; files = λ _. refl };
+  }
+
+  -- Other files, or other calls on them.
+  pub parts_files : f.files ≡ true → (p : Parts) (w : FileWork) → KeepsParts f p (record p { devices = record p.devices { files = w } })
+  parts_files may p w = record {
+    extent = record { low = refl; many = refl };
+    heap = λ _. refl;
+    pools = λ _. refl;
+    ranges = λ _. refl;
+    ports = λ _. (refl, refl);
+    devices = record { console = λ _. refl; names = λ _. refl; disk = λ _. refl; files = named may };
   }
 
   -- Another heap of the same extent, and other disks.

@@ -33,6 +33,7 @@ pub mod memory;
 pub mod moments;
 pub mod moves;
 pub mod names;
+pub mod outcomes;
 pub mod raw_disk;
 pub mod replies;
 pub mod sharing;

@@ -48,10 +48,10 @@ end_tells was first result =
     a ∙ (let z : effects_told (first ++ replies) + effects_told end ≡ effects_told first = omega (arith, b, c, d) in z)
 
 -- the lines of notes
-abbrev note_lines : List FileNote → List TranscriptLine
+abbrev pub note_lines : List FileNote → List TranscriptLine
 note_lines notes = map file_line notes
 
-notes_append : (xs ys : List FileNote) → note_lines (xs ++ ys) ≡ note_lines xs ++ note_lines ys
+pub notes_append : (xs ys : List FileNote) → note_lines (xs ++ ys) ≡ note_lines xs ++ note_lines ys
 notes_append [] ys = refl
 notes_append (x ∷ xs) ys = ap (λ l. file_line x ∷ l) (notes_append xs ys)
 
@@ -61,7 +61,7 @@ first_calls [] memory s = refl
 first_calls (a ∷ calls) memory s = refl
 
 -- the first effect leaves one call less and one note more
-effect_one : (calls : List FileRequest) (moment : FileMoment) (x : FileStep) → tells_effect (File 0 moment) ≡ 1 → 1 ≤ length calls
+pub effect_one : (calls : List FileRequest) (moment : FileMoment) (x : FileStep) → tells_effect (File 0 moment) ≡ 1 → 1 ≤ length calls
     → (length (first_effect calls moment x).work.calls + 1 ≡ length calls)
     × (effects_told (note_lines (first_effect calls moment x).notes) ≡ effects_told (note_lines x.notes) + 1)
 effect_one [] moment x e h = absurd (omega (arith, h))

@@ -29,7 +29,7 @@ use Rattle.xinu_model.specs.Tables.{process_at}
 use Rattle.xinu_model.proofs.FileOutcomes.{effects_told, end_tells, choices_told, completed_no_next}
 
 -- one choice has one outcome
-same_outcome : (old : Xinu) (e : Event) (lines others : List TranscriptLine) (new other : Xinu) (h : Happens old e lines new)
+pub same_outcome : (old : Xinu) (e : Event) (lines others : List TranscriptLine) (new other : Xinu) (h : Happens old e lines new)
     (k : Happens old e others other) → effect_of old e h.choice ≡ effect_of old e k.choice → (lines ≡ others) × (new ≡ other)
 same_outcome old e lines others new other h k same =
     let all = sym h.effect ∙ same ∙ k.effect in

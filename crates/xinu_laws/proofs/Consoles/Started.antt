@@ -12,7 +12,7 @@ use Rattle.xinu_model.specs.Sound.Tables.{asks_input, asks_output, IsInside}
 use Rattle.xinu_model.specs.Tables.{no_process, process_at}
 use Rattle.xinu_laws.specs.Touches.{Reach}
 use Rattle.xinu_laws.proofs.Consoles.Framed.{asks_console, is_consoles, console_framed}
-use Rattle.xinu_laws.proofs.RawDisks.Started.{disk_start}
+use Rattle.xinu_laws.proofs.RawDisks.Started.{disks_start}
 use Rattle.xinu_laws.proofs.Tables.Starts.{same_everywhere}
 use Rattle.xinu_laws.proofs.Touches.Boot.{HasStart, touches_start}
 
@@ -43,6 +43,7 @@ devices_start images start e inside =
     let t = touches_start start_reached images start e in
     record {
       console = subst (IsConsole start.tables) (sym (t.parts.devices.console refl)) (console_framed null_tables start.tables first_console inside t.frame first_console_holds);
-      disk = disk_start images start e;
+      disk = (disks_start images start e).raw;
+      files = (disks_start images start e).files;
       names = subst AreSoundNames (sym (t.parts.devices.names refl)) (record { few = omega arith; row = tt });
     }

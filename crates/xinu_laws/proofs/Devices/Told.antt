@@ -23,7 +23,7 @@ use Rattle.xinu_model.specs.Memory.{bytes_from}
 use Rattle.xinu_model.specs.RawDisk.Calls.{disk_of, awaits_disk, may_request, disk_read, disk_write, disk_control}
 use Rattle.xinu_model.specs.RawDisk.Constants.{RD_BLKSIZ, RD_CTL_SIZE}
 use Rattle.xinu_model.specs.Words.{signed}
-use Rattle.xinu_laws.proofs.Devices.Kept.{device_open_holds, device_close_holds, device_read_holds, device_write_holds, device_getc_holds, device_putc_holds, device_seek_holds, device_control_holds}
+use Rattle.xinu_laws.proofs.Devices.Kept.{OfFiles, device_open_holds, device_close_holds, device_read_holds, device_write_holds, device_getc_holds, device_putc_holds, device_seek_holds, device_control_holds}
 use Rattle.xinu_laws.proofs.Results.Refusals.{TellsRefusal}
 
 -- a call that never answers -1
@@ -134,27 +134,32 @@ disk_control_tells : (f : ℕ) (s : Xinu) → TellsRefusal s (disk_control f s)
 disk_control_tells f s =
     cond_both (f == RD_CTL_SIZE) (answers (pos (length (disk_of s).blocks)) s) (refused s) (TellsRefusal s) (λ _ e. absurd (cc)) (λ _. refusal_tells s)
 
+-- a call on files
+files_tell : (s : Xinu) → OfFiles (TellsRefusal s) s
+files_tell s None at asked = refusal_tells s
+files_tell s (Some call) at asked = λ e. absurd (cc)
+
 -- Calls 36 to 43.
 pub device_open_tells : (dev name mode : ℕ) (s : Xinu) → TellsRefusal s (device_open dev name mode s)
-device_open_tells dev name mode s = device_open_holds (TellsRefusal s) dev name mode s (refusal_tells s) (λ e. absurd (cc)) (λ e. absurd (cc))
+device_open_tells dev name mode s = device_open_holds (TellsRefusal s) dev name mode s (refusal_tells s) (λ e. absurd (cc)) (λ e. absurd (cc)) (files_tell s)
 
 pub device_close_tells : (dev : ℕ) (s : Xinu) → TellsRefusal s (device_close dev s)
-device_close_tells dev s = device_close_holds (TellsRefusal s) dev s (refusal_tells s) (λ e. absurd (cc))
+device_close_tells dev s = device_close_holds (TellsRefusal s) dev s (refusal_tells s) (λ e. absurd (cc)) (files_tell s)
 
 pub device_read_tells : (dev at n : ℕ) (s : Xinu) → TellsRefusal s (device_read dev at n s)
-device_read_tells dev at n s = device_read_holds (TellsRefusal s) dev at n s (refusal_tells s) (read_tells at (signed n) s) (disk_read_tells at n s)
+device_read_tells dev at n s = device_read_holds (TellsRefusal s) dev at n s (refusal_tells s) (read_tells at (signed n) s) (disk_read_tells at n s) (files_tell s)
 
 pub device_write_tells : (dev at n : ℕ) (s : Xinu) → TellsRefusal s (device_write dev at n s)
-device_write_tells dev at n s = device_write_holds (TellsRefusal s) dev at n s (refusal_tells s) (write_tells at (signed n) s) (disk_write_tells at n s)
+device_write_tells dev at n s = device_write_holds (TellsRefusal s) dev at n s (refusal_tells s) (write_tells at (signed n) s) (disk_write_tells at n s) (files_tell s)
 
 pub device_getc_tells : (dev : ℕ) (s : Xinu) → TellsRefusal s (device_getc dev s)
-device_getc_tells dev s = device_getc_holds (TellsRefusal s) dev s (refusal_tells s) (never_tells s (console_getc s) (getc_never s))
+device_getc_tells dev s = device_getc_holds (TellsRefusal s) dev s (refusal_tells s) (never_tells s (console_getc s) (getc_never s)) (files_tell s)
 
 pub device_putc_tells : (dev b : ℕ) (s : Xinu) → TellsRefusal s (device_putc dev b s)
-device_putc_tells dev b s = device_putc_holds (TellsRefusal s) dev b s (refusal_tells s) (never_tells s (console_putc b s) (putc_never b s))
+device_putc_tells dev b s = device_putc_holds (TellsRefusal s) dev b s (refusal_tells s) (never_tells s (console_putc b s) (putc_never b s)) (files_tell s)
 
 pub device_seek_tells : (dev : ℕ) (n : ℤ) (s : Xinu) → TellsRefusal s (device_seek dev n s)
-device_seek_tells dev n s = device_seek_holds (TellsRefusal s) dev n s (refusal_tells s)
+device_seek_tells dev n s = device_seek_holds (TellsRefusal s) dev n s (refusal_tells s) (files_tell s)
 
 pub device_control_tells : (dev f x : ℕ) (s : Xinu) → TellsRefusal s (device_control dev f x s)
-device_control_tells dev f x s = device_control_holds (TellsRefusal s) dev f x s (refusal_tells s) (console_control_tells f s) (disk_control_tells f s)
+device_control_tells dev f x s = device_control_holds (TellsRefusal s) dev f x s (refusal_tells s) (console_control_tells f s) (disk_control_tells f s) (files_tell s)

@@ -1,9 +1,8 @@
 -- Calls under way stay sound.
-use Rattle.std.proofs.Common.{◌≡◌, ℕ, zero, suc, ◌+◌, ◌<◌, ◌≤◌, ◌==◌, not, List, [], ◌∷◌, length, drop, filter, Option, refl, sym, ◌∙◌, subst, arith}
+use Rattle.std.proofs.Common.{◌≡◌, ℕ, zero, suc, ◌+◌, ◌<◌, ◌≤◌, ◌==◌, not, List, [], ◌∷◌, length, filter, Option, refl, sym, ap, ◌∙◌, subst, arith}
 use Rattle.std.specs.Prelude.{nat_lt, IsSome}
 use Rattle.std.specs.List.{AllByRecursion}
 use Rattle.std.proofs.lemmas.Bool.{cond_both, ltb-true}
-use Rattle.std.proofs.lemmas.List.{length-take, length-drop}
 use Rattle.xinu_base.specs.declared.lines.FileMoment.{FileMoment}
 use Rattle.xinu_base.specs.declared.lines.FileMoment.TheVariants.{Finished, Next}
 use Rattle.xinu_laws.proofs.FileSteps.Sizes.{brings, effect_brings, copied_size, nothing_copied}
@@ -14,8 +13,8 @@ use Rattle.xinu_laws.specs.FileSteps.{IsSoundStep}
 use Rattle.xinu_model.specs.Files.Calls.{FileCall, Open, Delete, Close, Read, Write, Getc, Putc, Seek, Truncate, Size, file_effect}
 use Rattle.xinu_model.specs.Files.Sound.{IsSoundFiles, InRam, IsFileRequest, HasBytes, IsFirst, IsSoundWork}
 use Rattle.xinu_model.specs.Files.Systems.{FileSystem}
-use Rattle.xinu_model.specs.Files.Work.{FileRequest, FileWork, FileStep, most_turns, bytes_written, with_first, copied, first_effect, next_effects, turned, calls_completed, least_effects, queued_after, issued, most_at_issue, orphaned_call, callers_waiting, calls_given_up}
-use Rattle.xinu_model.specs.Memory.{ram_size}
+use Rattle.xinu_model.specs.Files.Work.{FileRequest, FileWork, FileStep, most_turns, bytes_written, with_first, copied, first_effect, next_effects, turned, calls_completed, least_effects, queued_after, enqueued, issued, most_at_issue, orphaned_call, callers_waiting, calls_given_up}
+use Rattle.xinu_model.specs.Memory.{ram_size, bytes_from}
 use Rattle.xinu_model.specs.RawDisk.Callers.{is_caller, HaveCallers}
 use Rattle.xinu_model.specs.RawDisk.Callers as callers
 
@@ -23,37 +22,35 @@ use Rattle.xinu_model.specs.RawDisk.Callers as callers
 abbrev caller_of : FileRequest → Option ℕ
 caller_of a = a.caller
 
+-- bytes from an address on are as many
+pub bytes_from_size : (memory : List ℕ) (address n : ℕ) → length (bytes_from memory address n) ≡ n
+unfolding bytes_from
+bytes_from_size memory address zero = refl
+bytes_from_size memory address (suc n) = ap suc (bytes_from_size memory (address + 1) n)
+
 -- there are as many bytes as the first call writes
-has_bytes : (call : FileCall) (at : ℕ) (memory : List ℕ) → InRam call at → length memory ≡ ram_size
-    → HasBytes call (bytes_written call at memory)
-has_bytes (Write d n) at memory within size =
-    let t = length-take n (drop at memory) in
-    let u = length-drop at memory in
-    omega (arith, t, u, within, size)
-has_bytes (Open name mode) at memory within size = refl
-has_bytes (Delete name) at memory within size = refl
-has_bytes (Close d) at memory within size = refl
-has_bytes (Read d n) at memory within size = refl
-has_bytes (Getc d) at memory within size = refl
-has_bytes (Putc d b) at memory within size = refl
-has_bytes (Seek d n) at memory within size = refl
-has_bytes (Truncate d) at memory within size = refl
-has_bytes (Size d) at memory within size = refl
+has_bytes : (call : FileCall) (at : ℕ) (memory : List ℕ) → HasBytes call (bytes_written call at memory)
+has_bytes (Write d n) at memory = bytes_from_size memory at n
+has_bytes (Open name mode) at memory = refl
+has_bytes (Delete name) at memory = refl
+has_bytes (Close d) at memory = refl
+has_bytes (Read d n) at memory = refl
+has_bytes (Getc d) at memory = refl
+has_bytes (Putc d b) at memory = refl
+has_bytes (Seek d n) at memory = refl
+has_bytes (Truncate d) at memory = refl
+has_bytes (Size d) at memory = refl
 
 -- a call that becomes the first has a turn left
 turn_left : (call : FileCall) (s : FileSystem) → 0 < most_turns call s
 turn_left call s = omega arith
 
 -- the first of the calls becomes the first
-pub sound_first : (calls : List FileRequest) (memory : List ℕ) (s : FileSystem) → IsSoundFiles s → AllByRecursion IsFileRequest calls
-    → HaveCallers caller_of calls → length memory ≡ ram_size → IsSoundWork (with_first calls memory s)
-sound_first [] memory s system right have size = record { system = system; calls = tt; callers = tt; first = (refl, refl) }
-sound_first (a ∷ calls) memory s system right have size = record {
-  system = system;
-  calls = right;
-  callers = have;
-  first = (turn_left a.call s, has_bytes a.call a.at memory right.0.range size);
-}
+pub works_first : (calls : List FileRequest) (memory : List ℕ) (s : FileSystem) → IsSoundFiles s → AllByRecursion IsFileRequest calls
+    → HaveCallers caller_of calls → IsSoundWork (with_first calls memory s)
+works_first [] memory s system right have = record { system = system; calls = tt; callers = tt; first = (refl, refl) }
+works_first (a ∷ calls) memory s system right have =
+    record { system = system; calls = right; callers = have; first = (turn_left a.call s, has_bytes a.call a.at memory) }
 
 -- the calls after the first have callers
 callers_after : (a : FileRequest) (calls : List FileRequest) → HaveCallers caller_of (a ∷ calls) → HaveCallers caller_of calls
@@ -80,57 +77,49 @@ memory_size a bytes memory s right size = by_call a.call right.range (effect_bri
     by_call (Truncate d) within few = nothing_copied a.caller a.at (file_effect (Truncate d) bytes s).bytes memory few
     by_call (Size d) within few = nothing_copied a.caller a.at (file_effect (Size d) bytes s).bytes memory few
 
--- the first call takes effect
-sound_effect : (calls : List FileRequest) (moment : FileMoment) (x : FileStep) → x.work.calls ≡ calls → IsSoundStep x
-    → IsSoundStep (first_effect calls moment x)
-sound_effect [] moment x e sound = sound
-sound_effect (a ∷ calls) moment x e sound =
-    let right : AllByRecursion IsFileRequest (a ∷ calls) = subst (AllByRecursion IsFileRequest) e sound.work.calls in
-    let have : HaveCallers caller_of (a ∷ calls) = subst (HaveCallers caller_of) e sound.work.callers in
+-- The first call takes effect, and the calls under way stay sound,
+works_effect : (calls : List FileRequest) (moment : FileMoment) (x : FileStep) → x.work.calls ≡ calls → IsSoundWork x.work
+    → IsSoundWork (first_effect calls moment x).work
+works_effect [] moment x e sound = sound
+works_effect (a ∷ calls) moment x e sound =
+    let right : AllByRecursion IsFileRequest (a ∷ calls) = subst (AllByRecursion IsFileRequest) e sound.calls in
+    let have : HaveCallers caller_of (a ∷ calls) = subst (HaveCallers caller_of) e sound.callers in
     let effect = file_effect a.call x.work.bytes x.work.system in
-    let memory = copied a.caller a.at effect.bytes x.memory in
-    let size : length memory ≡ ram_size = memory_size a x.work.bytes x.memory x.work.system right.0 sound.memory in
-    record {
-      work = sound_first calls memory effect.system
-          (effect_keeps a.call x.work.bytes x.work.system right.0.call sound.work.system) right.1 (callers_after a calls have) size;
-      memory = size;
-    }
+    works_first calls (copied a.caller a.at effect.bytes x.memory) effect.system
+    (effect_keeps a.call x.work.bytes x.work.system right.0.call sound.system) right.1 (callers_after a calls have)
 
-sound_next : (k : ℕ) (x : FileStep) → IsSoundStep x → IsSoundStep (next_effects k x)
-sound_next zero x sound = sound
-sound_next (suc k) x sound = sound_next k (first_effect x.work.calls Next x) (sound_effect x.work.calls Next x refl sound)
+works_next : (k : ℕ) (x : FileStep) → IsSoundWork x.work → IsSoundWork (next_effects k x).work
+works_next zero x sound = sound
+works_next (suc k) x sound = works_next k (first_effect x.work.calls Next x) (works_effect x.work.calls Next x refl sound)
 
--- a turn that is allowed
-sound_turn : (x : FileStep) → least_effects x.work.calls x.work ≤ 0 → IsSoundStep x → IsSoundStep (turned x.work.calls x)
-sound_turn x may sound = by_calls x.work.calls refl may
+-- has a turn that is allowed,
+works_turn : (x : FileStep) → least_effects x.work.calls x.work ≤ 0 → IsSoundWork x.work → IsSoundWork (turned x.work.calls x).work
+works_turn x may sound = by_calls x.work.calls refl may
   where
-    by_calls : (calls : List FileRequest) → x.work.calls ≡ calls → least_effects calls x.work ≤ 0 → IsSoundStep (turned calls x)
+    by_calls : (calls : List FileRequest) → x.work.calls ≡ calls → least_effects calls x.work ≤ 0 → IsSoundWork (turned calls x).work
     by_calls [] e may = sound
     by_calls (a ∷ calls) e may =
         let left : x.work.turns + 1 < most_turns a.call x.work.system =
         cond_both (nat_lt (x.work.turns + 1) (most_turns a.call x.work.system)) 0 1
         (λ n. n ≤ 0 → x.work.turns + 1 < most_turns a.call x.work.system)
         (λ b _. ltb-true (x.work.turns + 1) (most_turns a.call x.work.system) b) (λ _ h. absurd (omega (arith, h))) may in
-        let first : IsFirst (a ∷ calls) x.work = subst (λ l. IsFirst l x.work) e sound.work.first in
+        let first : IsFirst (a ∷ calls) x.work = subst (λ l. IsFirst l x.work) e sound.first in
         record {
-          work = record {
-            system = sound.work.system;
-            calls = sound.work.calls;
-            callers = sound.work.callers;
-            first = subst (λ l. IsFirst l (record x.work { turns = x.work.turns + 1 })) (sym e) (left, first.1);
-          };
-          memory = sound.memory;
+          system = sound.system;
+          calls = sound.calls;
+          callers = sound.callers;
+          first = subst (λ l. IsFirst l (record x.work { turns = x.work.turns + 1 })) (sym e) (left, first.1);
         }
 
-pub sound_completed : (k : ℕ) (x : FileStep) → least_effects x.work.calls x.work ≤ k → IsSoundStep x → IsSoundStep (calls_completed k x)
-sound_completed zero x may sound = sound_turn x may sound
-sound_completed (suc k) x may sound = sound_next k (first_effect x.work.calls Finished x) (sound_effect x.work.calls Finished x refl sound)
+pub works_completed : (k : ℕ) (x : FileStep) → least_effects x.work.calls x.work ≤ k → IsSoundWork x.work → IsSoundWork (calls_completed k x).work
+works_completed zero x may sound = works_turn x may sound
+works_completed (suc k) x may sound = works_next k (first_effect x.work.calls Finished x) (works_effect x.work.calls Finished x refl sound)
 
--- A call goes after the others.
-sound_queued : (calls : List FileRequest) (a : FileRequest) (memory : List ℕ) (w : FileWork) → w.calls ≡ calls → IsSome a.caller
-    → IsFileRequest a → length memory ≡ ram_size → IsSoundWork w → IsSoundWork (queued_after calls a memory w)
-sound_queued [] a memory w e caller right size sound = sound_first (a ∷ []) memory w.system sound.system (right, tt) tt size
-sound_queued (b ∷ calls) a memory w e caller right size sound =
+-- goes after the others,
+pub works_queued : (calls : List FileRequest) (a : FileRequest) (memory : List ℕ) (w : FileWork) → w.calls ≡ calls → IsSome a.caller
+    → IsFileRequest a → IsSoundWork w → IsSoundWork (queued_after calls a memory w)
+works_queued [] a memory w e caller right sound = works_first (a ∷ []) memory w.system sound.system (right, tt) tt
+works_queued (b ∷ calls) a memory w e caller right sound =
     let have : HaveCallers caller_of (b ∷ calls) = subst (HaveCallers caller_of) e sound.callers in
     record {
       system = sound.system;
@@ -139,18 +128,50 @@ sound_queued (b ∷ calls) a memory w e caller right size sound =
       first = subst (λ l. IsFirst l w) e sound.first;
     }
 
-pub sound_issued : (choice : ℕ) (a : FileRequest) (memory : List ℕ) (w : FileWork) → choice ≤ most_at_issue w.calls → IsSome a.caller
-    → IsFileRequest a → length memory ≡ ram_size → IsSoundWork w → IsSoundStep (issued choice a memory w)
-sound_issued zero a memory w may caller right size sound =
-    record { work = sound_queued w.calls a memory w refl caller right size sound; memory = size }
-sound_issued (suc choice) a memory w may caller right size sound = by_calls w.calls refl may
+-- or takes effect as it is made.
+pub works_issued : (choice : ℕ) (a : FileRequest) (memory : List ℕ) (w : FileWork) → choice ≤ most_at_issue w.calls → IsSome a.caller
+    → IsFileRequest a → IsSoundWork w → IsSoundWork (issued choice a memory w).work
+works_issued zero a memory w may caller right sound = works_queued w.calls a memory w refl caller right sound
+works_issued (suc choice) a memory w may caller right sound = by_calls w.calls refl may
   where
     by_calls : (calls : List FileRequest) → w.calls ≡ calls → suc choice ≤ most_at_issue calls
-        → IsSoundStep (first_effect (a ∷ []) Finished (record { work = queued_after calls a memory w; memory = memory; notes = [] }))
+        → IsSoundWork (first_effect (a ∷ []) Finished (record { work = queued_after calls a memory w; memory = memory; notes = [] })).work
     by_calls [] e may =
-        sound_effect (a ∷ []) Finished (record { work = queued_after [] a memory w; memory = memory; notes = [] }) refl
-        (record { work = sound_queued [] a memory w e caller right size sound; memory = size })
+        works_effect (a ∷ []) Finished (record { work = queued_after [] a memory w; memory = memory; notes = [] }) refl
+        (works_queued [] a memory w e caller right sound)
     by_calls (b ∷ calls) e may = absurd (omega (arith, may))
+
+-- RAM keeps its size meanwhile.
+sized_effect : (calls : List FileRequest) (moment : FileMoment) (x : FileStep) → AllByRecursion IsFileRequest calls → length x.memory ≡ ram_size
+    → length (first_effect calls moment x).memory ≡ ram_size
+sized_effect [] moment x right size = size
+sized_effect (a ∷ calls) moment x right size = memory_size a x.work.bytes x.memory x.work.system right.0 size
+
+sound_effect : (moment : FileMoment) (x : FileStep) → IsSoundStep x → IsSoundStep (first_effect x.work.calls moment x)
+sound_effect moment x sound = record {
+  work = works_effect x.work.calls moment x refl sound.work;
+  memory = sized_effect x.work.calls moment x sound.work.calls sound.memory;
+}
+
+sound_next : (k : ℕ) (x : FileStep) → IsSoundStep x → IsSoundStep (next_effects k x)
+sound_next zero x sound = sound
+sound_next (suc k) x sound = sound_next k (first_effect x.work.calls Next x) (sound_effect Next x sound)
+
+pub sound_completed : (k : ℕ) (x : FileStep) → least_effects x.work.calls x.work ≤ k → IsSoundStep x → IsSoundStep (calls_completed k x)
+sound_completed zero x may sound = record { work = works_turn x may sound.work; memory = by_calls x.work.calls }
+  where
+    by_calls : (calls : List FileRequest) → length (turned calls x).memory ≡ ram_size
+    by_calls [] = sound.memory
+    by_calls (a ∷ calls) = sound.memory
+sound_completed (suc k) x may sound = sound_next k (first_effect x.work.calls Finished x) (sound_effect Finished x sound)
+
+pub sound_issued : (choice : ℕ) (a : FileRequest) (memory : List ℕ) (w : FileWork) → choice ≤ most_at_issue w.calls → IsSome a.caller
+    → IsFileRequest a → length memory ≡ ram_size → IsSoundWork w → IsSoundStep (issued choice a memory w)
+sound_issued zero a memory w may caller right size sound = record { work = works_issued zero a memory w may caller right sound; memory = size }
+sound_issued (suc choice) a memory w may caller right size sound = record {
+  work = works_issued (suc choice) a memory w may caller right sound;
+  memory = sized_effect (a ∷ []) Finished (record { work = enqueued a memory w; memory = memory; notes = [] }) (right, tt) size;
+}
 
 -- A process was killed.
 sound_calls : (p : ℕ) (l : List FileRequest) → AllByRecursion IsFileRequest l

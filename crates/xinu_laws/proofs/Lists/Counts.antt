@@ -170,6 +170,14 @@ get_or-le-total f [] i d z = omega arith
 get_or-le-total f (x ∷ xs) zero d z = omega arith
 get_or-le-total f (x ∷ xs) (suc i) d z = let e = get_or-le-total f xs i d z in omega arith
 
+-- and two elements at different places are together at most that
+pub two-le-total : {A : Type 0} (f : A → ℕ) (l : List A) (i j : ℕ) (d : A) → f d ≡ 0 → i ≢ j → f (get_or l i d) + f (get_or l j d) ≤ total f l
+two-le-total f [] i j d e n = omega (arith, e)
+two-le-total f (x ∷ xs) zero zero d e n = absurd (n refl)
+two-le-total f (x ∷ xs) zero (suc j) d e n = let h = get_or-le-total f xs j d e in omega (arith, h)
+two-le-total f (x ∷ xs) (suc i) zero d e n = let h = get_or-le-total f xs i d e in omega (arith, h)
+two-le-total f (x ∷ xs) (suc i) (suc j) d e n = let h = two-le-total f xs i j d e (λ g. n (ap suc g)) in omega (arith, h)
+
 -- one element more before a list without what passes
 absent_step : {A : Type 0} (passes : Bool) (x : A) (xs ys : List A) (n : ℕ) → cond passes (suc n) n ≡ 0 → (n ≡ 0 → ys ≡ xs) → cond (not passes) (x ∷ ys) ys ≡ x ∷ xs
 absent_step true x xs ys n z h = absurd (omega arith)

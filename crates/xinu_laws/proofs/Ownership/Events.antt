@@ -9,10 +9,11 @@ use Rattle.xinu_base.specs.declared.processes.Rest.{Rest}
 use Rattle.xinu_base.specs.declared.processes.Rest.TheVariants as rest
 use Rattle.xinu_base.specs.declared.registers.Outcome.{Outcome}
 use Rattle.xinu_base.specs.declared.registers.Outcome.TheVariants as outcome
+use Rattle.xinu_laws.proofs.FileCalls.AtOnce.{step_holds}
 use Rattle.xinu_laws.specs.Apart.{holders, IsApart}
 use Rattle.xinu_model.specs.Calls.{called, continued}
 use Rattle.xinu_model.specs.Clock.{ticked}
-use Rattle.xinu_model.specs.Events.{call_of, call_line, exit_call, with_executed, reacted, instruction_step, is_done, stepped, effect_of, Happens}
+use Rattle.xinu_model.specs.Events.{call_of, call_line, exit_call, with_executed, reacted, instruction_step, is_done, stepped, next_file_call, effect_of, Happens}
 use Rattle.xinu_laws.specs.GivingAway.{next, gives_back, GivesAway}
 use Rattle.xinu_model.specs.Machine.{Xinu, no_hart, current_hart, CallResult, EventResult, nothing_happens, end_of_event}
 use Rattle.xinu_model.specs.Process.Death.{exit}
@@ -134,7 +135,9 @@ apart_stepped s sound apart =
 
 -- What an event leaves, whatever is chosen in it.
 pub apart_effect : (s : Xinu) (e : Event) (choice : ℕ) → IsSound s → IsApart s → (GivesAway s e (effect_of s e choice).state → ⊥) → IsApart (effect_of s e choice).state
-apart_effect s Step choice sound apart = apart_stepped s sound apart
+apart_effect s Step choice sound apart =
+    step_holds (λ (x : EventResult). (GivesAway s Step x.state → ⊥) → IsApart x.state) choice (next_file_call s) s (apart_stepped s sound apart)
+    (λ a _. apart_kept (record { heap = refl; ranges = refl; stacks = refl }) apart)
 apart_effect s Tick choice sound apart = λ _. apart_kept (kept_ticked s sound) apart
 apart_effect s _ choice sound apart = λ _. apart
 

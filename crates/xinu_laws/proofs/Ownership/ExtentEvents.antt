@@ -8,7 +8,8 @@ use Rattle.xinu_base.specs.declared.registers.Outcome.{Outcome}
 use Rattle.xinu_base.specs.declared.registers.Outcome.TheVariants as outcome
 use Rattle.xinu_model.specs.Calls.{calls, continued}
 use Rattle.xinu_model.specs.Clock.{ticked}
-use Rattle.xinu_model.specs.Events.{call_of, with_executed, reacted, instruction_step, is_done, stepped, effect_of, Happens}
+use Rattle.xinu_model.specs.Events.{call_of, with_executed, reacted, instruction_step, is_done, stepped, next_file_call, effect_of, Happens}
+use Rattle.xinu_laws.proofs.FileCalls.AtOnce.{step_holds}
 use Rattle.xinu_laws.specs.GivingAway.{next}
 use Rattle.xinu_model.specs.Machine.{Xinu, current_hart, EventResult, nothing_happens, end_of_event}
 use Rattle.xinu_model.specs.Sound.State.{IsSound}
@@ -52,7 +53,7 @@ extent_stepped s k =
 
 -- what an event leaves, whatever is chosen in it
 extent_effect_of : (s : Xinu) (e : Event) (choice : ℕ) → IsSound s → HaveSameExtent s (effect_of s e choice).state
-extent_effect_of s Step choice k = extent_stepped s k
+extent_effect_of s Step choice k = step_holds (λ (x : EventResult). HaveSameExtent s x.state) choice (next_file_call s) s (extent_stepped s k) (λ a. same_extent s.parts.heap)
 extent_effect_of s Tick choice k = let touches : Touches at_a_tick s (ticked s).state = touches_ticked {f = at_a_tick} refl s k.tables in touches.parts.extent
 extent_effect_of s _ choice k = same_extent s.parts.heap
 

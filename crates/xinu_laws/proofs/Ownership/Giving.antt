@@ -4,10 +4,12 @@ use Rattle.std.specs.List.{list_all}
 use Rattle.std.proofs.lemmas.Bool.{cond_both, cond-true, cond-false, ne_eqb}
 use Rattle.xinu_base.specs.Syscalls.{is_built}
 use Rattle.xinu_base.specs.declared.events.Event.{Event}
+use Rattle.xinu_base.specs.declared.events.Event.TheVariants.{Step}
 use Rattle.xinu_base.specs.declared.lines.TranscriptLine.{TranscriptLine}
+use Rattle.xinu_laws.proofs.FileCalls.AtOnce.{step_holds}
 use Rattle.xinu_laws.specs.Apart.{holders, IsApart}
 use Rattle.xinu_model.specs.Calls.{calls, call_of_number, called, continued}
-use Rattle.xinu_model.specs.Events.{call_of, call_line, with_executed, reacted, instruction_step, is_done, stepped, effect_of, Happens}
+use Rattle.xinu_model.specs.Events.{call_of, call_line, with_executed, reacted, instruction_step, is_done, stepped, next_file_call, effect_of, Happens}
 use Rattle.xinu_laws.specs.GivingAway.{next, gives_back, GivesAway}
 use Rattle.xinu_model.specs.Footprints.{Footprint}
 use Rattle.xinu_model.specs.Machine.{Xinu, current_hart, CallResult, refused, EventResult, nothing_happens, end_of_event}
@@ -81,11 +83,13 @@ holders_given_away old e lines new sound h g =
     let call = call_of (current_hart s) in
     let result = called call.number call.args s in
     let gives : gives_back call.number ≡ true = ap (λ r. gives_back (call_of r).number) (hart_after old sound) ∙ g.number in
-    let is : (end_of_event old.tables.current (call_line s call ∷ []) result).state ≡ new =
-    sym (ap (λ (x : EventResult). x.state) (stepped_calls old e new g)) ∙ sym (ap (λ f. (effect_of old f h.choice).state) g.step) ∙ ap (λ (x : EventResult). x.state) h.effect in
+    let happened : (effect_of old Step h.choice).state ≡ new = sym (ap (λ f. (effect_of old f h.choice).state) g.step) ∙ ap (λ (x : EventResult). x.state) h.effect in
     let may = may_call_after old (may_call old sound g.runs) in
     let ended = kept_end_of_event old.tables.current (call_line s call ∷ []) result (called_keeps call.number call.args s may) in
-    subst (KeepsHolders old) is (λ a. holders_kept result.call.state (end_of_event old.tables.current (call_line s call ∷ []) result).state ended.ranges ended.stacks a ∙ holders_called call.number call.args s (sound_where_called s may) gives a)
+    step_holds (λ (x : EventResult). x.state ≡ new → KeepsHolders old new) h.choice (next_file_call old) old
+    (λ is. subst (KeepsHolders old) (sym (ap (λ (x : EventResult). x.state) (stepped_calls old e new g)) ∙ is) (λ a. holders_kept result.call.state (end_of_event old.tables.current (call_line s call ∷ []) result).state ended.ranges ended.stacks a ∙ holders_called call.number call.args s (sound_where_called s may) gives a))
+    (λ b is. subst (KeepsHolders old) is (λ a. refl))
+    happened
 
 -- An event that gives away what is held leaves an address claimed twice.
 pub given_away_is_shared : (old : Xinu) (e : Event) (lines : List TranscriptLine) (new : Xinu) → IsSound old → Happens old e lines new

@@ -7,10 +7,11 @@ use Rattle.xinu_base.specs.declared.lines.TranscriptLine.{TranscriptLine}
 use Rattle.xinu_base.specs.declared.lines.TranscriptLine.TheVariants as line
 use Rattle.xinu_base.specs.declared.registers.Outcome.{Outcome}
 use Rattle.xinu_base.specs.declared.registers.Outcome.TheVariants as outcome
+use Rattle.xinu_laws.proofs.FileCalls.AtOnce.{step_holds}
 use Rattle.xinu_laws.specs.GivingAway.{next}
 use Rattle.xinu_laws.specs.Grants.{GivesOnlyFree}
 use Rattle.xinu_model.specs.Calls.{calls, call_of_number, called, continued}
-use Rattle.xinu_model.specs.Events.{call_of, call_line, exit_call, with_executed, reacted, instruction_step, is_done, stepped, effect_of, Happens}
+use Rattle.xinu_model.specs.Events.{call_of, call_line, exit_call, with_executed, reacted, instruction_step, is_done, stepped, next_file_call, effect_of, Happens}
 use Rattle.xinu_model.specs.Footprints.{Footprint}
 use Rattle.xinu_model.specs.Machine.{Xinu, current_hart, EventResult, nothing_happens, end_of_event}
 use Rattle.xinu_model.specs.Process.Death.{exit}
@@ -91,7 +92,8 @@ stepped_gives s sound =
 
 -- What an event leaves, whatever is chosen in it.
 effect_gives : (s : Xinu) (e : Event) (choice : ℕ) → IsSound s → GivesOnlyFree s (effect_of s e choice).state
-effect_gives s Step choice sound = stepped_gives s sound
+effect_gives s Step choice sound =
+    step_holds (λ (x : EventResult). GivesOnlyFree s x.state) choice (next_file_call s) s (stepped_gives s sound) (λ a. gives_same s)
 effect_gives s Tick choice sound = gives_kept (kept_ticked s sound)
 effect_gives s _ choice sound = gives_same s
 

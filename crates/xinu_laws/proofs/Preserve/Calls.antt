@@ -44,10 +44,11 @@ use Rattle.xinu_laws.proofs.Ports.Made.{PreservesPorts, ptcreate_on_ports}
 use Rattle.xinu_laws.proofs.Ports.Sends.{ptsend_on_ports, ptrecv_on_ports, go_on_ptsend_on_ports, go_on_ptrecv_on_ports}
 use Rattle.xinu_laws.proofs.Lists.RowByRow.{◌⨾◌}
 use Rattle.xinu_laws.proofs.Lists.CallRows.{of_row}
-use Rattle.xinu_laws.proofs.RawDisks.Kept.{HasDisk}
+use Rattle.xinu_laws.proofs.RawDisks.Framed.{disks_in, with_disks}
+use Rattle.xinu_laws.proofs.RawDisks.Moves.{HasDisks}
 use Rattle.xinu_laws.proofs.RawDisks.Deaths.{kill_keeps_disk, exit_keeps_disk}
 use Rattle.xinu_laws.proofs.Touches.Disks.{go_on_disk_touches, go_on_disk_preserves}
-use Rattle.xinu_laws.proofs.Touches.Kept.{keeps_pools, keeps_ports, keeps_console, keeps_disk, keeps_names, keeps_unused}
+use Rattle.xinu_laws.proofs.Touches.Kept.{keeps_pools, keeps_ports, keeps_console, keeps_disks, keeps_names, keeps_unused}
 use Rattle.xinu_laws.proofs.Preserve.Unused.{AreUnusedAfter, exit_unused, kill_unused, create_unused}
 use Rattle.xinu_laws.proofs.Tables.Alive.{alive_callers}
 use Rattle.xinu_laws.proofs.Touches.Messages.{go_on_receive_touches}
@@ -80,13 +81,13 @@ pub keeps_within : (f : Footprint) (s : Xinu) (h : CallResult) → MayCallAny s 
     → (f.pools ≡ true → ArePools h.call.state.tables h.call.state.parts.pools)
     → (f.ports ≡ true → ArePorts h.call.state.tables h.call.state.parts.ports) → (f.stacks ≡ true → AreUnusedAfter h)
     → (f.console ≡ true → HasConsole h.call.state) → (f.names ≡ true → AreSoundNames (names_of h.call.state))
-    → (f.disk || f.files ≡ true → HasDisk h.call.state) → KeepsAll h
+    → (f.disk || f.files ≡ true → HasDisks h.call.state) → KeepsAll h
 keeps_within f s h c t preserved pools ports unused console names disk = record {
   preserved = preserved;
   unused = by_stacks f.stacks refl;
   pools = by_pools f.pools refl;
   ports = by_ports f.ports refl;
-  devices = record { console = by_console f.console refl; names = by_names f.names refl; disk = by_disk (f.disk || f.files) refl };
+  devices = with_disks (by_console f.console refl) (by_names f.names refl) (by_disk (f.disk || f.files) refl);
 }
   where
     by_pools : (b : Bool) → f.pools ≡ b → ArePools h.call.state.tables h.call.state.parts.pools
@@ -109,11 +110,11 @@ keeps_within f s h c t preserved pools ports unused console names disk = record 
     by_names true e = names e
     by_names false e = keeps_names e t c.devices.names
 
-    by_disk : (b : Bool) → f.disk || f.files ≡ b → HasDisk h.call.state
+    by_disk : (b : Bool) → f.disk || f.files ≡ b → HasDisks h.call.state
     by_disk true e = disk e
     by_disk false e =
         let parts = or_parts f.disk f.files e in
-        keeps_disk parts.0 parts.1 t c.may.tables.inside (inside_preserved h preserved) c.devices.disk
+        keeps_disks parts.0 parts.1 t c.may.tables.inside (inside_preserved h preserved) (disks_in c.devices)
 
 -- what holds when a process calls
 may_hold : (s : Xinu) → MayCallAny s → Holds s
@@ -129,7 +130,7 @@ pub record PreservesRow (r : CallRow) : Type 0 where
   pub unused : r.touches.stacks ≡ true → (a : ℕ → ℕ) (s : Xinu) → MayCallAny s → AreUnusedAfter (r.effect a s)
   pub console : r.touches.console ≡ true → (a : ℕ → ℕ) (s : Xinu) → MayCallAny s → HasConsole (r.effect a s).call.state
   pub names : r.touches.names ≡ true → (a : ℕ → ℕ) (s : Xinu) → MayCallAny s → AreSoundNames (names_of (r.effect a s).call.state)
-  pub disk : r.touches.disk || r.touches.files ≡ true → (a : ℕ → ℕ) (s : Xinu) → MayCallAny s → HasDisk (r.effect a s).call.state
+  pub disk : r.touches.disk || r.touches.files ≡ true → (a : ℕ → ℕ) (s : Xinu) → MayCallAny s → HasDisks (r.effect a s).call.state
 
 -- whether a footprint names no disk, and no device
 abbrev names_no_disk : Footprint → Bool
@@ -232,7 +233,7 @@ module _ {r : CallRow} where
   of_deaths : not r.touches.pools && (not r.touches.ports && (not r.touches.console && not r.touches.names)) ≡ true
       → ((a : ℕ → ℕ) (s : Xinu) → MayCall s → IsPreserved (r.effect a s))
       → ((a : ℕ → ℕ) (s : Xinu) → MayCallAny s → AreUnusedAfter (r.effect a s))
-      → ((a : ℕ → ℕ) (s : Xinu) → MayCall s → HasDisk s → HasDisk (r.effect a s).call.state) → PreservesRow r
+      → ((a : ℕ → ℕ) (s : Xinu) → MayCall s → HasDisks s → HasDisks (r.effect a s).call.state) → PreservesRow r
   of_deaths e preserved unused disk =
       let h = and_parts (not r.touches.pools) (not r.touches.ports && (not r.touches.console && not r.touches.names)) e in
       let l = and_parts (not r.touches.ports) (not r.touches.console && not r.touches.names) h.1 in
@@ -244,10 +245,10 @@ module _ {r : CallRow} where
         unused = λ _ a s c. unused a s c;
         console = unnamed r.touches.console m.0;
         names = unnamed r.touches.names m.1;
-        disk = λ _ a s c. disk a s c.may c.devices.disk;
+        disk = λ _ a s c. disk a s c.may (disks_in c.devices);
       }
 
-  -- A call on a device, which touches the console or the raw disk at most.
+  -- A call on a device, which touches the console, the raw disk and files at most.
   of_device : not r.touches.pools && (not r.touches.ports && (not r.touches.stacks && not r.touches.names)) ≡ true → ((a : ℕ → ℕ) → Keeps (r.effect a))
       → PreservesRow r
   of_device e k =
@@ -255,14 +256,14 @@ module _ {r : CallRow} where
       let l = and_parts (not r.touches.ports) (not r.touches.stacks && not r.touches.names) h.1 in
       let m = and_parts (not r.touches.stacks) (not r.touches.names) l.1 in
       record {
-        preserved = λ a s c. (k a s (may_hold s c)).preserved c.devices.disk c.may.not_null;
+        preserved = λ a s c. (k a s (may_hold s c)).preserved (disks_in c.devices) c.may.not_null;
         pools = unnamed r.touches.pools h.0;
         ports = unnamed r.touches.ports l.0;
         unused = unnamed r.touches.stacks m.0;
-        console = λ _ a s c. let b = k a s (may_hold s c) in b.console (inside_preserved (r.effect a s) (b.preserved c.devices.disk c.may.not_null)) c.devices.console;
+        console = λ _ a s c. let b = k a s (may_hold s c) in b.console (inside_preserved (r.effect a s) (b.preserved (disks_in c.devices) c.may.not_null)) c.devices.console;
         names = unnamed r.touches.names m.1;
         disk = λ _ a s c. let b = k a s (may_hold s c) in
-            b.disk c.may.tables.inside (inside_preserved (r.effect a s) (b.preserved c.devices.disk c.may.not_null)) c.devices.disk;
+            b.disks c.may.tables.inside (inside_preserved (r.effect a s) (b.preserved (disks_in c.devices) c.may.not_null)) (disks_in c.devices);
       }
 
   -- A call that touches the mounted prefixes alone.
@@ -359,7 +360,7 @@ called_keeps number args s c = cond_both (is_built number) (call_of_number numbe
 
 -- the death of the caller,
 pub exit_keeps : (s : Xinu) → MayCallAny s → KeepsAll (exit s)
-exit_keeps s c = keeps_within on_deaths s (exit s) c (exit_touches s (sound_where_called s c)) (exit_preserves s c.may) (λ e. absurd (cc)) (λ e. absurd (cc)) (λ _. exit_unused s c) (λ e. absurd (cc)) (λ e. absurd (cc)) (λ _. exit_keeps_disk s c.may c.devices.disk)
+exit_keeps s c = keeps_within on_deaths s (exit s) c (exit_touches s (sound_where_called s c)) (exit_preserves s c.may) (λ e. absurd (cc)) (λ e. absurd (cc)) (λ _. exit_unused s c) (λ e. absurd (cc)) (λ e. absurd (cc)) (λ _. exit_keeps_disk s c.may (disks_in c.devices))
 
 -- what is left of a call on the console,
 console_continues : (s : Xinu) (h : CallResult) {Left : Type 0} → MayCallAny s → Left → KeepsConsole (Left × HasConsole s) s h → KeepsAll h

@@ -1,9 +1,10 @@
 -- Each event keeps the whole state sound, and so does each run; the machine starts in a sound state.
-use Rattle.std.proofs.Common.{◌≡◌, ◌≢◌, ◌<◌, ◌==◌, ◌+◌, ℕ, Bool, true, false, Option, Some, None, List, [], ◌∷◌, cond, length, refl, ap, subst}
+use Rattle.std.proofs.Common.{◌≡◌, ◌≢◌, ◌<◌, ◌≤◌, ◌==◌, ◌+◌, ℕ, zero, suc, map, sym, arith, Bool, true, false, Option, Some, None, List, [], ◌∷◌, cond, length, refl, ap, subst}
+use Rattle.std.specs.Prelude.{is_some}
 use Rattle.std.proofs.lemmas.Bool.{cond_both, eqb-false}
 use Rattle.xinu_base.specs.declared.events.End.{End}
 use Rattle.xinu_base.specs.declared.events.Event.{Event}
-use Rattle.xinu_base.specs.declared.events.Event.TheVariants.{Step, Tick, Key, Tx, Disk0, Fail0}
+use Rattle.xinu_base.specs.declared.events.Event.TheVariants.{Step, Tick, Key, Tx, Disk0, Disk1, Fail0}
 use Rattle.xinu_base.specs.Events.{is_built_event}
 use Rattle.xinu_base.specs.declared.lines.TranscriptLine.{TranscriptLine}
 use Rattle.xinu_base.specs.declared.lines.TranscriptLine.TheVariants as line
@@ -15,7 +16,9 @@ use Rattle.xinu_model.specs.Clock.{due, ticked}
 use Rattle.xinu_model.specs.Console.Signals.{receiving, keyed, after_sent, sending, sent_in}
 use Rattle.xinu_model.specs.Console.Taking.{console_of}
 use Rattle.xinu_model.specs.Console.Transmitting.{Sent, transmitted}
-use Rattle.xinu_model.specs.Events.{call_of, call_line, exit_call, with_executed, reacted, is_done, instruction_step, stepped, event_effect, effect_of}
+use Rattle.xinu_model.specs.Events.{call_of, call_line, exit_call, with_executed, reacted, is_done, instruction_step, stepped, next_file_call, step_at_once, step_with, event_effect, effect_of}
+use Rattle.xinu_model.specs.Files.Syscalls.{files_of, file_step, file_line, completing, completed_in, at_once}
+use Rattle.xinu_model.specs.Files.Work.{FileRequest, calls_completed, least_effects, issued}
 use Rattle.xinu_model.specs.Isa.Exec.{exec}
 use Rattle.xinu_model.specs.Machine.{Xinu, Silent, start, CallState, CallResult, EventResult, current_hart, nothing_happens, end_of_event}
 use Rattle.xinu_model.specs.Process.Death.{exit}
@@ -29,8 +32,11 @@ use Rattle.xinu_laws.proofs.Touches.Events.{touches_end_of_event, released_by_ti
 use Rattle.xinu_laws.proofs.Consoles.Kept.{sound_holds}
 use Rattle.xinu_laws.proofs.Consoles.Signalled.{Signals, receiving_signals, sending_signals}
 use Rattle.xinu_laws.proofs.Consoles.Started.{devices_start}
+use Rattle.xinu_laws.proofs.FileCalls.AtOnce.{next_is, next_can, not_null_makes, at_once_keeps}
+use Rattle.xinu_laws.proofs.FileCalls.Completed.{step_completes}
+use Rattle.xinu_laws.proofs.RawDisks.Framed.{disks_in, with_disks}
 use Rattle.xinu_laws.proofs.RawDisks.Completed.{Completes, served_completes}
-use Rattle.xinu_laws.proofs.Touches.Kept.{keeps_pools, keeps_ports, keeps_console, keeps_disk, keeps_names, keeps_unused}
+use Rattle.xinu_laws.proofs.Touches.Kept.{keeps_pools, keeps_ports, keeps_console, keeps_disks, keeps_names, keeps_unused}
 use Rattle.xinu_model.specs.Footprints.{on_tables}
 use Rattle.xinu_laws.specs.Touches.{reach, at_a_tick, Touches}
 use Rattle.xinu_laws.proofs.Tables.Ends.{sound_end_of_event, harts_end_of_event, harts_ticked, executed_may_call}
@@ -57,7 +63,7 @@ state_end_of_event was first result k =
       unused = keeps_unused (touches.free refl) k.unused;
       pools = keeps_pools refl touches k.pools;
       ports = keeps_ports refl touches tables.inside k.ports;
-      devices = record { console = keeps_console refl touches tables.inside k.devices.console; names = keeps_names refl touches k.devices.names; disk = keeps_disk refl refl touches (inside_preserved result k.preserved) tables.inside k.devices.disk };
+      devices = with_disks (keeps_console refl touches tables.inside k.devices.console) (keeps_names refl touches k.devices.names) (keeps_disks refl refl touches (inside_preserved result k.preserved) tables.inside (disks_in k.devices));
     }
 
 -- a process that isn't the null process may call in a sound state
@@ -103,7 +109,7 @@ state_ticked s k =
       unused = keeps_unused (touches.free refl) k.unused;
       pools = keeps_pools {f = on_tables} refl touches k.pools;
       ports = keeps_ports {f = on_tables} refl touches tables.inside k.ports;
-      devices = record { console = keeps_console {f = on_tables} refl touches tables.inside k.devices.console; names = keeps_names {f = on_tables} refl touches k.devices.names; disk = keeps_disk {f = on_tables} refl refl touches k.tables.inside tables.inside k.devices.disk };
+      devices = with_disks (keeps_console {f = on_tables} refl touches tables.inside k.devices.console) (keeps_names {f = on_tables} refl touches k.devices.names) (keeps_disks {f = on_tables} refl refl touches k.tables.inside tables.inside (disks_in k.devices));
     }
 
 -- And so does what is under way at its end.
@@ -126,7 +132,7 @@ signals_keep_all s d k r = record {
   unused = keeps_unused (r.touches.free refl) k.unused;
   pools = keeps_pools refl r.touches k.pools;
   ports = keeps_ports refl r.touches r.tables.inside k.ports;
-  devices = record { console = r.console k.devices.console; names = keeps_names refl r.touches k.devices.names; disk = keeps_disk refl refl r.touches k.tables.inside r.tables.inside k.devices.disk };
+  devices = with_disks (r.console k.devices.console) (keeps_names refl r.touches k.devices.names) (keeps_disks refl refl r.touches k.tables.inside r.tables.inside (disks_in k.devices));
 }
 
 -- a received character keeps the state sound,
@@ -146,23 +152,55 @@ served_keeps_all s d k r = record {
   unused = keeps_unused (r.touches.free refl) k.unused;
   pools = keeps_pools refl r.touches k.pools;
   ports = keeps_ports refl r.touches r.tables.inside k.ports;
-  devices = record { console = keeps_console refl r.touches r.tables.inside k.devices.console; names = keeps_names refl r.touches k.devices.names; disk = r.disk };
+  devices = with_disks (keeps_console refl r.touches r.tables.inside k.devices.console) (keeps_names refl r.touches k.devices.names) r.disks;
 }
 
 -- and so a completion keeps the state sound
 state_served : (good : Bool) (found : Option Served) (s : Xinu) → raw_completed good (disk_of s) ≡ found → IsSound s → IsSound (served_in found s).state
 state_served good None s e k = k
 state_served good (Some x) s e k =
-    state_end_of_event s.tables.current [] (serving x s) (served_keeps_all s (after_served x s) k (served_completes good x s e (sound_holds s k) k.devices.disk))
+    state_end_of_event s.tables.current [] (serving x s) (served_keeps_all s (after_served x s) k (served_completes good x s e (sound_holds s k) (disks_in k.devices)))
+
+-- and so does a good completion of the files' disk, whatever is chosen in it
+state_completed : (calls : List FileRequest) (choice : ℕ) (s : Xinu) → (files_of s).calls ≡ calls → IsSound s → IsSound (completed_in calls choice s).state
+state_completed [] choice s e k = k
+state_completed (a ∷ calls) choice s e k =
+    let n = least_effects (a ∷ calls) (files_of s) + choice in
+    let x = calls_completed n (file_step s) in
+    let few : least_effects (files_of s).calls (files_of s) ≤ n = subst (λ l. least_effects l (files_of s) ≤ n) (sym e) (omega arith) in
+    let r = step_completes n s few (sound_holds s k) (disks_in k.devices) in
+    state_end_of_event s.tables.current (map file_line x.notes) (completing x s) (record {
+      preserved = record { tables = r.tables; harts = r.harts; released = r.released };
+      unused = keeps_unused (r.touches.free refl) k.unused;
+      pools = keeps_pools refl r.touches k.pools;
+      ports = keeps_ports refl r.touches r.tables.inside k.ports;
+      devices = with_disks (keeps_console refl r.touches r.tables.inside k.devices.console) (keeps_names refl r.touches k.devices.names) r.disks;
+    })
+
+-- and a step in which a call on files takes effect as it is made
+state_at_once : (a : FileRequest) (s : Xinu) → next_file_call s ≡ Some a → IsSound s → IsSound (step_at_once a s).state
+state_at_once a s made k =
+    let u = with_executed (exec (current_hart s) s.memory) s in
+    let x = issued 1 a u.memory (files_of u) in
+    let m = next_is s a made in
+    let after = state_stepped s k in
+    state_end_of_event u.tables.current (call_line u (call_of (current_hart u)) ∷ map file_line x.notes) (at_once a u)
+    (at_once_keeps a u (may_call_after s (may_call s k (not_null_makes s a made))) m.none (ap is_some m.caller) (next_can s a made after.devices.files.itself))
+
+state_step_with : (choice : ℕ) (found : Option FileRequest) (s : Xinu) → next_file_call s ≡ found → IsSound s → IsSound (step_with choice found s).state
+state_step_with zero found s e k = state_stepped s k
+state_step_with (suc choice) None s e k = state_stepped s k
+state_step_with (suc choice) (Some a) s e k = state_at_once a s e k
 
 -- What an event leaves is sound, whatever is chosen in it, and whether the machine has it or not.
 pub state_event : (s : Xinu) (e : Event) (choice : ℕ) → IsSound s → IsSound (event_effect s e choice).state
-state_event s Step choice k = state_stepped s k
+state_event s Step choice k = state_step_with choice (next_file_call s) s refl k
 state_event s Tick choice k = state_ticked s k
 state_event s (Key b) choice k = state_keyed b s k
 state_event s Tx choice k = state_sent (transmitted (console_of s)) s refl k
 state_event s Disk0 choice k = state_served true (raw_completed true (disk_of s)) s refl k
 state_event s Fail0 choice k = state_served false (raw_completed false (disk_of s)) s refl k
+state_event s Disk1 choice k = state_completed (files_of s).calls choice s refl k
 state_event s _ choice k = k
 
 state_effect : (s : Xinu) (e : Event) (choice : ℕ) → IsSound s → IsSound (effect_of s e choice).state

@@ -1,5 +1,5 @@
 -- The callers of requests after a process was killed.
-use Rattle.std.proofs.Common.{◌≡◌, ℕ, Bool, true, false, not, ◌==◌, List, [], ◌∷◌, ◌++◌, filter, Option, Some, None, refl, sym, ap, ◌∙◌}
+use Rattle.std.proofs.Common.{◌≡◌, ℕ, Bool, true, false, not, ◌==◌, List, [], ◌∷◌, ◌++◌, filter, Option, Some, None, refl, sym, ap, ◌∙◌, append_assoc}
 use Rattle.std.specs.Prelude.{IsSome}
 use Rattle.std.proofs.lemmas.Bool.{cond_both, cond-true, cond-false, not-true}
 use Rattle.xinu_laws.proofs.Lists.Orders.{all_filter}
@@ -54,3 +54,9 @@ module _ {A : Type 0} (caller : A → Option ℕ) where
       → HaveCallers caller (given_up caller orphaned p l)
   have_callers_given_up orphaned p [] h = tt
   have_callers_given_up orphaned p (a ∷ rest) h = all_filter (λ b. IsSome (caller b)) (λ b. not (is_caller p (caller b))) rest h
+
+  -- One more living caller waits after the others.
+  pub callers_last : (l : List A) (a : A) (p : ℕ) → caller a ≡ Some p → callers caller (l ++ a ∷ []) ≡ callers caller l ++ p ∷ []
+  callers_last [] a p e = ap (λ o. living o ++ []) e
+  callers_last (b ∷ l) a p e =
+      ap (λ k. living (caller b) ++ k) (callers_last l a p e) ∙ sym (append_assoc (living (caller b)) (callers caller l) (p ∷ []))

@@ -1,4 +1,4 @@
--- When the machine starts, what holds of the raw disk holds: nobody has asked anything of it.
+-- When the machine starts, what holds of the disks holds: nobody has asked anything of them.
 use Rattle.std.proofs.Common.{◌≡◌, ℕ, zero, suc, ◌+◌, Bool, true, false, List, [], ◌∷◌, length, Option, Some, None, replicate, refl, sym, ap, subst, ◌∙◌, arith}
 use Rattle.std.proofs.lemmas.List.{length-replicate}
 use Rattle.std.specs.List.{AllByRecursion}
@@ -11,13 +11,16 @@ use Rattle.xinu_model.specs.Heap.Cells.{Stack, take_stack}
 use Rattle.xinu_model.specs.Machine.{Xinu}
 use Rattle.xinu_model.specs.Process.Creation.{stack_size}
 use Rattle.xinu_model.specs.RawDisk.Constants.{RD_BLKSIZ}
-use Rattle.xinu_model.specs.Sound.Disks.{HasReply, IsRawDisk}
+use Rattle.xinu_model.specs.Files.Sound.{IsSoundWork}
+use Rattle.xinu_model.specs.Sound.Disks.{HasReply}
 use Rattle.xinu_model.specs.Sound.Pools.{is_waiting}
 use Rattle.xinu_model.specs.Sound.Tables.{count_in}
-use Rattle.xinu_model.specs.Tables.{process_at, state_at, semaphore_at}
+use Rattle.xinu_model.specs.Tables.{Semaphore, Tables, process_at, state_at, semaphore_at}
+use Rattle.xinu_laws.specs.Frame.{Frame}
 use Rattle.xinu_laws.specs.Touches.{Reach}
+use Rattle.xinu_laws.proofs.FileSystems.Started.{sound_start}
 use Rattle.xinu_laws.proofs.Lists.Counts.{none_counted}
-use Rattle.xinu_laws.proofs.RawDisks.Framed.{is_disks, asks_disk}
+use Rattle.xinu_laws.proofs.RawDisks.Framed.{AreDisks, is_disks, asks_disk}
 use Rattle.xinu_laws.proofs.Tables.Starts.{boots_from}
 use Rattle.xinu_laws.proofs.Touches.Boot.{HasStart, touches_start, start_unasked}
 
@@ -43,7 +46,7 @@ booted_devices None images start e =
 pub start_devices : (images : List Loaded) (start : Xinu) → boot images ≡ Boots start → start.parts.devices ≡ first_devices
 start_devices images start e = booted_devices (first_overlap 1 [] images) images start e
 
--- the start leaves the raw disk's semaphore and calls alone
+-- the start leaves the disks' semaphores and calls alone
 abbrev beside_disk : Reach
 beside_disk = record { mine = is_disks; asks = asks_disk; parts = on_deaths; clock = false }
 
@@ -64,23 +67,52 @@ whole_blocks : AllByRecursion (λ (b : List ℕ). length b ≡ RD_BLKSIZ) empty_
 unfolding empty_blocks
 whole_blocks = blocks_whole 64
 
--- nobody waits for the raw disk at first, and there is no token
-first_disk_semaphore : ((semaphore_at null_tables 2).waiters ≡ []) × ((semaphore_at null_tables 2).tokens ≡ 0)
-unfolding first_semaphores
-first_disk_semaphore = (refl, refl)
+-- nobody waits for a disk at first, and there is no token
+pub record WaitsForNone (x : Semaphore) : Type 0 where
+  pub waiters : x.waiters ≡ []
+  pub tokens : x.tokens ≡ 0
 
-first_owned : is_disks 2 (semaphore_at null_tables 2).owner ≡ true
+first_raw : WaitsForNone (semaphore_at null_tables 2)
 unfolding first_semaphores
-first_owned = refl
+first_raw = record { waiters = refl; tokens = refl }
+
+first_files : WaitsForNone (semaphore_at null_tables 3)
+unfolding first_semaphores
+first_files = record { waiters = refl; tokens = refl }
+
+raw_owned : is_disks 2 (semaphore_at null_tables 2).owner ≡ true
+unfolding first_semaphores
+raw_owned = refl
+
+files_owned : is_disks 3 (semaphore_at null_tables 3).owner ≡ true
+unfolding first_semaphores
+files_owned = refl
+
+-- it stays so while the machine starts
+none_waits : (sem : ℕ) (t u : Tables) → Frame is_disks asks_disk t u → is_disks sem (semaphore_at t sem).owner ≡ true → WaitsForNone (semaphore_at t sem)
+    → WaitsForNone (semaphore_at u sem)
+none_waits sem t u framed owned w = record {
+  waiters = none_counted (semaphore_at u sem).waiters
+      (λ p h. let g = framed.waiters sem p owned h in let n : count_in p (semaphore_at t sem).waiters ≡ 0 = ap (count_in p) w.waiters in omega arith);
+  tokens = (framed.kept sem owned).1 ∙ w.tokens;
+}
+
+-- no file is there, and none is called
+first_work : IsSoundWork first_devices.files
+first_work = record { system = sound_start 256 [] tt tt (omega arith) refl; calls = tt; callers = tt; first = (refl, refl) }
 
 -- When the machine starts.
-pub disk_start : (images : List Loaded) (start : Xinu) → boot images ≡ Boots start → IsRawDisk start.tables start.parts.devices.disk
-disk_start images start e =
+pub disks_start : (images : List Loaded) (start : Xinu) → boot images ≡ Boots start → AreDisks start.tables start.parts.devices
+disks_start images start e =
     let t = touches_start start_reached images start e in
-    subst (λ (d : Devices). IsRawDisk start.tables d.disk) (sym (start_devices images start e)) (record {
-      itself = record { blocks = whole_blocks; requests = tt; callers = tt };
-      waiters = none_counted (semaphore_at start.tables 2).waiters
-          (λ p h. let w = t.frame.waiters 2 p first_owned h in let n : count_in p (semaphore_at null_tables 2).waiters ≡ 0 = ap (count_in p) first_disk_semaphore.0 in omega arith);
-      tokens = (t.frame.kept 2 first_owned).1 ∙ first_disk_semaphore.1;
-      replies = λ p. no_reply (process_at start.tables p).rest (is_waiting (state_at start.tables p)) (start_unasked start_reached images start e p);
+    let raw = none_waits 2 null_tables start.tables t.frame raw_owned first_raw in
+    let files = none_waits 3 null_tables start.tables t.frame files_owned first_files in
+    subst (AreDisks start.tables) (sym (start_devices images start e)) (record {
+      raw = record {
+        itself = record { blocks = whole_blocks; requests = tt; callers = tt };
+        waiters = raw.waiters;
+        tokens = raw.tokens;
+        replies = λ p. no_reply (process_at start.tables p).rest (is_waiting (state_at start.tables p)) (start_unasked start_reached images start e p);
+      };
+      files = record { itself = first_work; waiters = files.waiters; tokens = files.tokens };
     })

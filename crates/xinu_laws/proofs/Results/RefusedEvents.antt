@@ -10,12 +10,14 @@ use Rattle.xinu_base.specs.declared.registers.Hart.{Hart}
 use Rattle.xinu_base.specs.declared.registers.Outcome.{Outcome}
 use Rattle.xinu_model.specs.Calls.{called, continued}
 use Rattle.xinu_model.specs.Events.{call_of, call_line, with_executed, reacted, instruction_step, is_done, stepped, Happens}
+use Rattle.xinu_model.specs.Files.Syscalls.{files_of}
 use Rattle.xinu_model.specs.Machine.{Xinu, EventResult, current_hart, nothing_happens, end_of_event, refused, switched}
 use Rattle.xinu_model.specs.Sound.State.{IsSound}
 use Rattle.xinu_model.specs.Tables.{process_at}
 use Rattle.xinu_model.specs.Words.{word}
 use Rattle.xinu_laws.specs.GivingAway.{next}
 use Rattle.xinu_laws.specs.Refusals.{IsCalling, IsRefused, LeavesRefused}
+use Rattle.xinu_laws.proofs.FileCalls.AtOnce.{only_step}
 use Rattle.xinu_laws.proofs.Lists.Maps.{set_twice}
 use Rattle.xinu_laws.proofs.Ownership.Events.{hart_after}
 use Rattle.xinu_laws.proofs.Results.Ecall.{exec_leaves_call}
@@ -60,7 +62,7 @@ refused_events old lines new sound k none h =
     ∙ ap (λ c. end_of_event p (call_line s c ∷ []) (called c.number c.args s)) same
     ∙ ap (end_of_event p (call_line s (call_of (current_hart old)) ∷ [])) none
     ∙ refused_end s (next old).hart (call_line s (call_of (current_hart old))) (hart_after old sound) in
-    let are = sym h.effect ∙ step in
+    let are = sym h.effect ∙ only_step h.choice old (ap (λ (x : EventResult). files_of x.state) step) ∙ step in
     let state : new ≡ refused_state s (next old).hart = ap (λ (x : EventResult). x.state) are in
     record {
       tables = ap (λ (x : Xinu). x.tables) state;

@@ -12,12 +12,12 @@ use Rattle.xinu_model.specs.Sound.Pools.{ArePools}
 use Rattle.xinu_model.specs.Names.Sound.{AreSoundNames}
 use Rattle.xinu_model.specs.Sound.Ports.{ArePorts}
 use Rattle.xinu_model.specs.Sound.Console.{IsConsole}
-use Rattle.xinu_model.specs.Sound.Disks.{IsRawDisk}
+use Rattle.xinu_model.specs.Sound.Disks.{IsRawDisk, IsFileDisk}
 use Rattle.xinu_model.specs.Sound.State.{AreUnused}
 use Rattle.xinu_laws.specs.Touches.{Reach, reach, spares, spares_device, spares_rest, KeepsFree, KeepsPlaces, Touches}
 use Rattle.xinu_laws.proofs.Frame.{frame_weaker, still_weaker}
 use Rattle.xinu_laws.proofs.Consoles.Framed.{is_consoles, asks_console, console_framed}
-use Rattle.xinu_laws.proofs.RawDisks.Framed.{is_disks, asks_disk, disk_framed}
+use Rattle.xinu_laws.proofs.RawDisks.Framed.{AreDisks, is_disks, asks_disk, disks_framed}
 use Rattle.xinu_laws.proofs.Pools.Frame.{is_pools, asks_buffer, are_pools_framed}
 use Rattle.xinu_laws.proofs.Ports.Kept.{is_ports, asks_port, ports_framed}
 
@@ -55,13 +55,13 @@ module _ (f : Footprint) where
   console_calls_spared e (TtyWrite part returned) h = ap not e
   console_calls_spared e _ h = absurd (false≢true h)
 
-  -- and the raw disk
-  disk_spared : f.disk ≡ false → (sem : ℕ) (o : Option Owner) → is_disks sem o ≡ true → spares f sem o ≡ true
-  disk_spared e zero (Some owner.Device) h = absurd (false≢true h)
-  disk_spared e (suc zero) (Some owner.Device) h = absurd (false≢true h)
-  disk_spared e (suc (suc zero)) (Some owner.Device) h = ap not e
-  disk_spared e (suc (suc (suc sem))) (Some owner.Device) h = absurd (false≢true h)
-  disk_spared e sem _ h = absurd (false≢true h)
+  -- and the disks
+  disks_spared : f.disk ≡ false → f.files ≡ false → (sem : ℕ) (o : Option Owner) → is_disks sem o ≡ true → spares f sem o ≡ true
+  disks_spared e files zero (Some owner.Device) h = absurd (false≢true h)
+  disks_spared e files (suc zero) (Some owner.Device) h = absurd (false≢true h)
+  disks_spared e files (suc (suc zero)) (Some owner.Device) h = ap not e
+  disks_spared e files (suc (suc (suc sem))) (Some owner.Device) h = ap not files
+  disks_spared e files sem _ h = absurd (false≢true h)
 
   disk_calls_spared : f.disk ≡ false → f.files ≡ false → (left : Rest) → asks_disk left ≡ true → spares_rest f left ≡ true
   disk_calls_spared e files (Disk reply) h = ap (λ b. not b && not f.files) e ∙ ap not files
@@ -85,12 +85,16 @@ module _ {f : Footprint} {s u : Xinu} where
   keeps_console e t o k = subst (IsConsole u.tables) (sym (t.parts.devices.console e))
       (console_framed s.tables u.tables s.parts.devices.console o (frame_weaker s.tables u.tables (console_spared f e) (console_calls_spared f e) t.frame) k)
 
-  -- A step that may not change the disks keeps what holds of the raw disk, if it keeps what holds of the tables.
-  pub keeps_disk : {clock : Bool} → f.disk ≡ false → f.files ≡ false → Touches (record (reach f) { clock = clock }) s u → IsInside s.tables
-      → IsInside u.tables → IsRawDisk s.tables s.parts.devices.disk → IsRawDisk u.tables u.parts.devices.disk
-  keeps_disk e files t was o k = subst (IsRawDisk u.tables) (sym (t.parts.devices.disk e))
-      (disk_framed s.tables u.tables s.parts.devices.disk was o (frame_weaker s.tables u.tables (disk_spared f e) (disk_calls_spared f e files) t.frame)
-      (still_weaker s.tables u.tables (disk_calls_spared f e files) t.frame (t.stay e)) k)
+  -- A step that may not change the disks keeps what holds of them, if it keeps what holds of the tables.
+  pub keeps_disks : {clock : Bool} → f.disk ≡ false → f.files ≡ false → Touches (record (reach f) { clock = clock }) s u → IsInside s.tables
+      → IsInside u.tables → AreDisks s.tables s.parts.devices → AreDisks u.tables u.parts.devices
+  keeps_disks e files t was o k =
+      let same = disks_framed s.tables u.tables s.parts.devices was o (frame_weaker s.tables u.tables (disks_spared f e files) (disk_calls_spared f e files) t.frame)
+      (still_weaker s.tables u.tables (disk_calls_spared f e files) t.frame (t.stay e)) k in
+      record {
+        raw = subst (IsRawDisk u.tables) (sym (t.parts.devices.disk e)) same.raw;
+        files = subst (IsFileDisk u.tables) (sym (t.parts.devices.files files)) same.files;
+      }
 
   -- A step that may not change the mounted prefixes keeps what holds of them.
   pub keeps_names : {clock : Bool} → f.names ≡ false → Touches (record (reach f) { clock = clock }) s u → AreSoundNames s.parts.devices.names

@@ -1,0 +1,6 @@
+-- Files as processes call them: that the calls (`Asked`), a call that takes effect as it is made (`AtOnce`), and good completions of their
+-- disk (`Completed`) keep what holds of files and of those who wait for them; and that a text tells which calls took effect (`Texts`).
+pub mod Asked
+pub mod AtOnce
+pub mod Completed
+pub mod Texts

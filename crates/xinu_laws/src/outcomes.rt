@@ -1,0 +1,15 @@
+//! The outcomes of an event whose text is known: one text has one.
+
+ghost use Rattle.std.specs.Prelude.{◌≡◌, ◌++◌, List, false};
+ghost use Rattle.xinu_base.specs.declared.events.Event.{Event};
+ghost use Rattle.xinu_base.specs.declared.lines.TranscriptLine.{TranscriptLine};
+ghost use Rattle.xinu_model.specs.Agree.{begins_next};
+ghost use Rattle.xinu_model.specs.Events.{Happens};
+ghost use Rattle.xinu_model.specs.Machine.{Xinu};
+ghost use Rattle.xinu_model.specs.Sound.State.{IsSound};
+
+/// One text has one outcome: from a sound state, two whose lines begin one text are equal, unless what follows one of them begins with a
+/// file call that took effect as the next one.
+pub fn texts_agree()
+    ensures { (old : Xinu) (e : Event) (lines others : List TranscriptLine) (new other : Xinu) (more rest : List TranscriptLine) → IsSound old → begins_next more ≡ false → begins_next rest ≡ false → Happens old e lines new → Happens old e others other → lines ++ more ≡ others ++ rest → (lines ≡ others) × (new ≡ other) }
+{}
