@@ -1,5 +1,5 @@
 -- From what an event does to that it happened.
-use Rattle.std.proofs.Common.{◌≡◌, ◌≢◌, false, cond, List, [], refl, sym, ap, subst, ◌∙◌, Bool}
+use Rattle.std.proofs.Common.{◌≡◌, ◌≢◌, false, cond, List, [], refl, sym, ap, subst, ◌∙◌, arith, Bool}
 use Rattle.std.proofs.lemmas.Bool.{ne_eqb}
 use Rattle.host_port.specs.Outside.{Outside}
 use Rattle.host_port.specs.Printing.{Printing}
@@ -22,7 +22,7 @@ happened old new e panics before after was is k =
     let effect = effect_of old e 0 in
     record {
       lines = effect.lines;
-      happens = record { choice = 0; allowed = refl; effect = ap (λ (s : Xinu). record { lines = effect.lines; state = s; panics = effect.panics }) k.state };
+      happens = record { choice = 0; allowed = omega arith; effect = ap (λ (s : Xinu). record { lines = effect.lines; state = s; panics = effect.panics }) k.state };
       prints = k.prints;
     }
 

@@ -3,6 +3,7 @@ pub mod Clock
 pub mod Consoles
 pub mod DiskCalls
 pub mod FileCalls
+pub mod FileSyscalls
 pub mod FileSystems
 pub mod Heap
 pub mod Messages

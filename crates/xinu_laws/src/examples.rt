@@ -3,7 +3,7 @@
 //! Each function does nothing; its contract says what an example prints. The examples and the lines that are expected of them are in
 //! `specs/`, a file for each subject. A system makes its calls directly, so that all calls of the table can be tried.
 
-ghost use Rattle.std.specs.Prelude.{◌≡◌, [], ◌∷◌, ◌++◌, map, true};
+ghost use Rattle.std.specs.Prelude.{◌≡◌, [], ◌∷◌, ◌++◌, drop, map, replicate, true};
 ghost use Rattle.xinu_laws.specs.Examples.Processes as process_examples;
 ghost use Rattle.xinu_laws.specs.Examples.Priorities as priority_examples;
 ghost use Rattle.xinu_laws.specs.Examples.Heap as heap_examples;
@@ -13,11 +13,12 @@ ghost use Rattle.xinu_laws.specs.Examples.Clock as clock_examples;
 ghost use Rattle.xinu_laws.specs.Examples.Consoles as console_examples;
 ghost use Rattle.xinu_laws.specs.Examples.Consoles.{bytes_at};
 ghost use Rattle.xinu_laws.specs.Examples.DiskCalls as disk_examples;
+ghost use Rattle.xinu_laws.specs.Examples.FileSyscalls as file_examples;
 ghost use Rattle.xinu_laws.specs.Examples.Pools as pool_examples;
 ghost use Rattle.xinu_laws.specs.Examples.Ports as port_examples;
 ghost use Rattle.xinu_laws.specs.Examples.Played.{outcome_of, last_tables, printed, played_transcript};
 ghost use Rattle.xinu_model.specs.Memory.{number_at};
-ghost use Rattle.xinu_model.specs.Text.{console_line, pool_lines, port_lines, semaphore_lines, sleeper_line};
+ghost use Rattle.xinu_model.specs.Text.{console_line, device_lines, pool_lines, port_lines, semaphore_lines, sleeper_line};
 
 /// Processes: turns, a preemption, a process that suspends itself, refusals, a full table.
 pub fn processes()
@@ -140,4 +141,16 @@ pub fn disk_calls()
     ensures written_and_read_bytes { bytes_at 511 3 disk_examples.written_and_read ≡ 0 ∷ 7 ∷ 7 ∷ [] }
     ensures killed_writer { printed disk_examples.killed_writer ≡ disk_examples.killed_writer_lines }
     ensures killed_writer_bytes { bytes_at 511 3 disk_examples.killed_writer ≡ 0 ∷ 7 ∷ 7 ∷ [] }
+{}
+
+/// Files: a full disk, on which a write is cut short; a writer that is killed while its call waits; two calls that take effect at one
+/// completion, in their order; and a file that is deleted.
+pub fn file_syscalls()
+    ensures full_disk { printed file_examples.full_disk ≡ file_examples.full_disk_lines }
+    ensures killed_writer { printed file_examples.killed_writer ≡ file_examples.killed_writer_lines }
+    ensures killed_writer_bytes { file_examples.stored_bytes file_examples.killed_writer ≡ replicate 600 7 }
+    ensures killed_writer_files { drop 2 (device_lines (outcome_of file_examples.killed_writer).state.parts.devices) ≡ file_examples.killed_writer_files }
+    ensures two_at_once { printed file_examples.two_at_once ≡ file_examples.two_at_once_lines }
+    ensures two_at_once_bytes { file_examples.stored_bytes file_examples.two_at_once ≡ 65 ∷ 66 ∷ [] }
+    ensures deleted { printed file_examples.deleted ≡ file_examples.deleted_lines }
 {}

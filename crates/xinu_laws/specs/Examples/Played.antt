@@ -1,16 +1,18 @@
 -- Systems of processes, each with a list of calls, to work out what the definitions say of an example.
-use Rattle.std.specs.Prelude.{ℕ, zero, suc, ◌+◌, ◌==◌, Bool, true, false, if◌then◌else◌, List, [], ◌∷◌, ◌++◌, replicate, slice_index_or, slice_set, None, unwrap_or, pos}
+use Rattle.std.specs.Prelude.{ℕ, zero, suc, ◌+◌, ◌==◌, Bool, true, false, if◌then◌else◌, List, [], ◌∷◌, ◌++◌, map, replicate, slice_index_or, slice_set, Option, Some, None, unwrap_or, pos}
 use Rattle.xinu_base.specs.Constants.{NPROC}
 use Rattle.xinu_base.specs.declared.syscalls.Call.{Call}
 use Rattle.xinu_base.specs.declared.events.End.{End}
 use Rattle.xinu_base.specs.declared.events.End.TheVariants.{Schedule}
 use Rattle.xinu_base.specs.declared.events.Event.{Event}
-use Rattle.xinu_base.specs.declared.events.Event.TheVariants.{Tick, Key, Tx, Disk0, Fail0}
+use Rattle.xinu_base.specs.declared.events.Event.TheVariants.{Tick, Key, Tx, Disk0, Disk1, Fail0}
 use Rattle.xinu_base.specs.declared.lines.TranscriptLine.{TranscriptLine}
 use Rattle.xinu_base.specs.declared.lines.TranscriptLine.TheVariants as line
 use Rattle.xinu_model.specs.Boot.{null_tables, image_name}
 use Rattle.xinu_model.specs.Calls.{call_of_number, continued}
-use Rattle.xinu_model.specs.Events.{is_done, event_effect}
+use Rattle.xinu_model.specs.Events.{is_done, made_first, event_effect}
+use Rattle.xinu_model.specs.Files.Syscalls.{files_of, file_line, at_once}
+use Rattle.xinu_model.specs.Files.Work.{FileRequest, issued}
 use Rattle.xinu_model.specs.Machine.{Xinu, first_parts, no_hart, EventResult, end_of_event}
 use Rattle.xinu_model.specs.Process.Scheduling.{resched, ready}
 use Rattle.xinu_model.specs.Process.Creation.{new_process}
@@ -62,20 +64,45 @@ called_next (call ∷ rest) x =
     let p = s.tables.current in
     after (end_of_event p (line.Call p call ∷ []) (call_of_number call.number call.args s)) (slice_set x.programs p rest) x
 
--- a step: the current process goes on with the call in which it waited, or makes its next one
-abbrev pub played_step : Played → Played
-played_step x =
+-- the same, but a call on files takes effect as it is made, if none is before it
+abbrev pub made_at_once : Option FileRequest → Call → List Call → Played → Played
+made_at_once None call rest x = called_next (call ∷ rest) x
+made_at_once (Some a) call rest x =
+    let s = x.state in
+    let p = s.tables.current in
+    let notes = (issued 1 a s.memory (files_of s)).notes in
+    after (end_of_event p (line.Call p call ∷ map file_line notes) (at_once a s)) (slice_set x.programs p rest) x
+
+abbrev pub called_at_once : List Call → Played → Played
+called_at_once [] x = x
+called_at_once (call ∷ rest) x =
+    let s = x.state in
+    let waits = call_of_number call.number call.args s in
+    made_at_once (made_first s.tables.current (files_of s).calls (files_of waits.call.state).calls) call rest x
+
+-- a step: the current process goes on with the call in which it waited, or makes its next one, in one of both ways
+abbrev pub played_with : (List Call → Played → Played) → Played → Played
+played_with call_next x =
     let s = x.state in
     let p = s.tables.current in
     let rest = (process_at s.tables p).rest in
     if x.panicked then x
     else (if p == 0 then x
-    else (if is_done rest then called_next (slice_index_or x.programs p []) x
+    else (if is_done rest then call_next (slice_index_or x.programs p []) x
     else after (end_of_event p [] (continued rest s)) x.programs x))
 
--- an event that isn't a step, whether the machine has it or not
+abbrev pub played_step : Played → Played
+played_step x = played_with called_next x
+
+abbrev pub played_at_once : Played → Played
+played_at_once x = played_with called_at_once x
+
+-- an event that isn't a step, whether the machine has it or not, in which so many calls on files more take effect than have to
+abbrev pub played_choice : ℕ → Event → Played → Played
+played_choice choice e x = after (event_effect x.state e choice) x.programs x
+
 abbrev pub played_event : Event → Played → Played
-played_event e x = after (event_effect x.state e 0) x.programs x
+played_event e x = played_choice 0 e x
 
 -- characters are received, one after another
 abbrev pub played_keys : List ℕ → Played → Played
@@ -87,13 +114,16 @@ abbrev pub times_over : ℕ → (Played → Played) → Played → Played
 times_over zero f x = x
 times_over (suc n) f x = times_over n f (f x)
 
--- what happens to a system: steps, ticks, received characters, transmissions, and a completion of the raw disk, good or failed
+-- What happens to a system: steps, ticks, received characters, transmissions, and a completion of the raw disk, good or failed; steps in which calls
+-- on files take effect as they are made; and a good completion of the files' disk, at which so many calls more take effect than have to.
 pub data Turn : Type 0 where
   Steps : (n : ℕ) → Turn
   Ticks : (n : ℕ) → Turn
   Types : (bytes : List ℕ) → Turn
   Sends : (n : ℕ) → Turn
   Completes : (good : Bool) → Turn
+  StepsAtOnce : (n : ℕ) → Turn
+  Finishes : (more : ℕ) → Turn
 
 abbrev pub played : List Turn → Played → Played
 played [] x = x
@@ -102,6 +132,8 @@ played (Ticks n ∷ turns) x = played turns (times_over n (played_event Tick) x)
 played (Types bytes ∷ turns) x = played turns (played_keys bytes x)
 played (Sends n ∷ turns) x = played turns (times_over n (played_event Tx) x)
 played (Completes good ∷ turns) x = played turns (played_event (if good then Disk0 else Fail0) x)
+played (StepsAtOnce n ∷ turns) x = played turns (times_over n played_at_once x)
+played (Finishes more ∷ turns) x = played turns (played_choice more Disk1 x)
 
 -- An example: a system, the calls of its processes, and what happens to it.
 pub record Example : Type 0 where
