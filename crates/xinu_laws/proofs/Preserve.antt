@@ -1,6 +1,7 @@
 -- What holds of a call before its event is closed, and what the calls have in common.
 pub mod Calls
 pub mod Continued
+pub mod Disks
 pub mod Events
 pub mod Memory
 pub mod Messages

@@ -5,6 +5,7 @@ pub mod FileEffects
 pub mod FileSteps
 pub mod Frame
 pub mod FreeCells
+pub mod GivenDisks
 pub mod GivingAway
 pub mod Grants
 pub mod Moves

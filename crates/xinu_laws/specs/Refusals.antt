@@ -1,6 +1,7 @@
 -- Which answers tell that a call was refused, and what else a call that waited answers.
 use Rattle.std.specs.Prelude.{◌≡◌, ◌≢◌, ℕ, List, [], ◌∷◌, Option, None, Some, option_map, slice_set, ℤ}
 use Rattle.xinu_base.specs.Constants.{SYSERR}
+use Rattle.xinu_base.specs.declared.lines.FileMoment.TheVariants.{Finished}
 use Rattle.xinu_base.specs.declared.lines.TranscriptLine.{TranscriptLine}
 use Rattle.xinu_base.specs.declared.lines.TranscriptLine.TheVariants as line
 use Rattle.xinu_base.specs.declared.processes.Rest.TheVariants.{Nothing}
@@ -65,3 +66,11 @@ pub record LeavesRefused (old : Xinu) (printed : List TranscriptLine) (new : Xin
   pub memory : new.memory ≡ old.memory
   pub harts : new.harts ≡ slice_set old.harts old.tables.current (record { regs = slice_set (current_hart old).regs 10 (word SYSERR); pc = following (current_hart old) })
   pub lines : printed ≡ line.Call old.tables.current (call_of (current_hart old)) ∷ line.Return old.tables.current SYSERR ∷ []
+
+-- The same of an event in which a call on files takes effect as it is made, and is refused then: it has a line of its own, before the reply.
+pub record LeavesRefusedEffect (old : Xinu) (printed : List TranscriptLine) (new : Xinu) : Type 0 where
+  pub tables : new.tables ≡ old.tables
+  pub parts : new.parts ≡ old.parts
+  pub memory : new.memory ≡ old.memory
+  pub harts : new.harts ≡ slice_set old.harts old.tables.current (record { regs = slice_set (current_hart old).regs 10 (word SYSERR); pc = following (current_hart old) })
+  pub lines : printed ≡ line.Call old.tables.current (call_of (current_hart old)) ∷ line.File old.tables.current Finished ∷ line.Return old.tables.current SYSERR ∷ []

@@ -1,8 +1,9 @@
 //! What a refusal leaves, and which answers tell of one.
 
-ghost use Rattle.std.specs.Prelude.{◌≡◌, ◌⊎◌, ◌<◌, ℕ, suc, ℤ, Bool, true, false, if◌then◌else◌, nat_le, List, Some, slice_index, ◌++◌, map, take, pos};
+ghost use Rattle.std.specs.Prelude.{◌≡◌, ◌⊎◌, ◌<◌, ℕ, suc, ℤ, Bool, true, false, if◌then◌else◌, nat_le, List, [], ◌∷◌, None, Some, slice_index, ◌++◌, map, take, pos};
 ghost use Rattle.xinu_base.specs.Constants.{OK, SYSERR, EOF};
 ghost use Rattle.xinu_base.specs.declared.events.Event.TheVariants.{Step};
+ghost use Rattle.xinu_base.specs.declared.lines.FileMoment.{FileMoment};
 ghost use Rattle.xinu_base.specs.declared.lines.TranscriptLine.{TranscriptLine};
 ghost use Rattle.xinu_base.specs.declared.processes.PortTicket.{PortTicket};
 ghost use Rattle.xinu_base.specs.declared.processes.Rest.TheVariants.{PtSend, PtRecv, TtyGet, TtyRead, Disk};
@@ -10,10 +11,14 @@ ghost use Rattle.xinu_base.specs.declared.processes.Span.{Span};
 ghost use Rattle.xinu_base.specs.declared.processes.State.TheVariants.{Ready};
 ghost use Rattle.xinu_laws.specs.Consoles.{IsAtEnd};
 ghost use Rattle.xinu_laws.specs.Moves.{ready_all};
-ghost use Rattle.xinu_laws.specs.Refusals.{AnswersFirst, IsCalling, IsRefused, LeavesRefused, value_told};
+ghost use Rattle.xinu_laws.specs.GivingAway.{next};
+ghost use Rattle.xinu_laws.specs.Refusals.{AnswersFirst, IsCalling, IsRefused, LeavesRefused, LeavesRefusedEffect, value_told};
 ghost use Rattle.xinu_model.specs.Calls.{call_of_number, continued};
 ghost use Rattle.xinu_model.specs.Console.Taking.{TY_ISEM, console_of, console_getc, console_read};
-ghost use Rattle.xinu_model.specs.Events.{Happens};
+ghost use Rattle.xinu_model.specs.Events.{Happens, next_file_call, step_at_once, with_executed};
+ghost use Rattle.xinu_model.specs.Files.Calls.{FileCall, file_effect};
+ghost use Rattle.xinu_model.specs.Files.Syscalls.{files_of, request_for, asks_files, file_step, after_step, at_once};
+ghost use Rattle.xinu_model.specs.Files.Work.{FileRequest, FileNote, bytes_written, calls_completed};
 ghost use Rattle.xinu_model.specs.Machine.{Xinu, CallState, Panics, Returns, Waits, goes_on, refused};
 ghost use Rattle.xinu_model.specs.Memory.{in_ram};
 ghost use Rattle.xinu_model.specs.Messages.{held};
@@ -81,4 +86,27 @@ pub fn disk_callers_are_answered()
     ensures served { (good : Bool) (x : Served) (p : ℕ) (s : Xinu) → IsSound s → raw_completed good (disk_of s) ≡ Some x → x.request.caller ≡ Some p →
         (state_at (after_served x s).state.tables p ≡ Ready) × ((process_at (after_served x s).state.tables p).rest ≡ Disk (Some x.reply)) }
     ensures answered { (reply : ℤ) (s : Xinu) → (continued (Disk (Some reply)) s).answer ≡ Returns reply }
+{}
+
+/// A call on files that its arguments refuse changes nothing; else it goes after those under way, and its caller waits. A good completion makes
+/// each caller ready of whose call it tells that it took effect, and what that replied is what the caller answers. A call that takes effect as
+/// it is made is answered so in its own event.
+pub fn file_callers_are_answered()
+    ensures refused { (at : ℕ) (s : Xinu) → asks_files None at s ≡ refused s }
+    ensures waits { (call : FileCall) (at : ℕ) (s : Xinu) → (asks_files (Some call) at s).answer ≡ Waits }
+    ensures queued { (call : FileCall) (at : ℕ) (s : Xinu) →
+        (files_of (asks_files (Some call) at s).call.state).calls ≡ (files_of s).calls ++ request_for call at s ∷ [] }
+    ensures told { (k p : ℕ) (moment : FileMoment) (reply : ℤ) (before after : List FileNote) (s : Xinu) → IsSound s →
+        (calls_completed k (file_step s)).notes ≡ before ++ (record { caller = Some p; moment = moment; reply = Some reply }) ∷ after →
+        (state_at (after_step (calls_completed k (file_step s)) s).state.tables p ≡ Ready) ×
+        ((process_at (after_step (calls_completed k (file_step s)) s).state.tables p).rest ≡ Disk (Some reply)) }
+    ensures at_once { (a : FileRequest) (s : Xinu) → (files_of s).calls ≡ [] →
+        (at_once a s).answer ≡ Returns (file_effect a.call (bytes_written a.call a.at s.memory) (files_of s).system).reply }
+{}
+
+/// A call on files that takes effect as it is made, and is refused then, changes nothing but its caller's a0 and pc. Its event prints the call,
+/// that it took effect, and its reply.
+pub fn refused_effects_are_told()
+    ensures { (a : FileRequest) (old : Xinu) → IsSound old → IsCalling old → next_file_call old ≡ Some a →
+        (at_once a (with_executed (next old) old)).answer ≡ Returns SYSERR → LeavesRefusedEffect old (step_at_once a old).lines (step_at_once a old).state }
 {}

@@ -5,7 +5,8 @@ ghost use Rattle.xinu_base.specs.Constants.{NPROC};
 ghost use Rattle.xinu_base.specs.declared.events.End.{End};
 ghost use Rattle.xinu_base.specs.declared.events.Event.{Event};
 ghost use Rattle.xinu_base.specs.declared.lines.TranscriptLine.{TranscriptLine};
-ghost use Rattle.xinu_model.specs.Boot.{Loaded, Boots, boot};
+ghost use Rattle.xinu_laws.specs.GivenDisks.{AreSoundDisks};
+ghost use Rattle.xinu_model.specs.Boot.{Loaded, Boots, Disks, first_disks, boot, boot_on};
 ghost use Rattle.xinu_base.specs.declared.processes.Rest.TheVariants.{Disk};
 ghost use Rattle.xinu_model.specs.Console.Constants.{TY_OBUFLEN};
 ghost use Rattle.xinu_model.specs.Console.Taking.{console_of};
@@ -20,6 +21,13 @@ ghost use Rattle.xinu_model.specs.Tables.{message_at, no_process, no_semaphore, 
 /// The state in which the machine starts is sound.
 pub fn boot_is_sound()
     ensures { (images : List Loaded) (start : Xinu) → length images < NPROC → boot images ≡ Boots start → IsSound start }
+{}
+
+/// So is that on disks that are given, if their blocks are whole and their files sound. On those that the machine has if it is given none it
+/// starts as it does without.
+pub fn boot_on_disks_is_sound()
+    ensures given { (disks : Disks) (images : List Loaded) (start : Xinu) → length images < NPROC → AreSoundDisks disks → boot_on disks images ≡ Boots start → IsSound start }
+    ensures first { (images : List Loaded) (start : Xinu) → boot images ≡ Boots start → boot_on first_disks images ≡ Boots start }
 {}
 
 /// Each event keeps a state sound, whatever is chosen in it.

@@ -5,6 +5,9 @@ use Rattle.xinu_base.specs.Constants.{NPROC, NSEM, QUANTUM}
 use Rattle.xinu_base.specs.declared.processes.Process.{Process}
 use Rattle.xinu_base.specs.declared.processes.State.TheVariants.{Current}
 use Rattle.xinu_base.specs.declared.semaphores.Owner.TheVariants.{Device}
+use Rattle.xinu_model.specs.Devices.State.{empty_blocks}
+use Rattle.xinu_model.specs.Files.Stored.{StoredFile}
+use Rattle.xinu_model.specs.Files.Systems.{closed_system}
 use Rattle.xinu_model.specs.Heap.Cells.{Heap, cells_for, Stack, take_stack}
 use Rattle.xinu_model.specs.Machine.{Xinu, first_parts, no_hart}
 use Rattle.xinu_model.specs.Memory.{ram_size, with_bytes, zeros, ranges_meet}
@@ -158,3 +161,29 @@ unless_overlap None images = and_then (all_made 1 images (loaded_machine images)
 -- The start of the machine with some images, which are numbered from 1 on.
 abbrev pub boot : List Loaded → Start
 boot images = unless_overlap (first_overlap 1 [] images) images
+
+-- Disks that the machine is given: the blocks of the raw one, how many blocks that of files has, and its files.
+pub record Disks : Type 0 where
+  pub blocks : List (List ℕ)
+  pub size : ℕ
+  pub files : List StoredFile
+
+-- those that it has if it is given none
+abbrev pub first_disks : Disks
+first_disks = record { blocks = empty_blocks; size = 256; files = [] }
+
+-- the machine with these disks, of which nothing was asked yet
+abbrev pub on_disks : Disks → Xinu → Xinu
+on_disks d s =
+    record s {
+      parts = record s.parts {
+        devices = record s.parts.devices {
+          disk = record { blocks = d.blocks; requests = [] };
+          files = record { system = closed_system d.size d.files; calls = []; turns = 0; bytes = [] };
+        };
+      };
+    }
+
+-- The start of the machine with some images, on disks that it is given.
+abbrev pub boot_on : Disks → List Loaded → Start
+boot_on disks images = and_then (boot images) (λ s. Boots (on_disks disks s))

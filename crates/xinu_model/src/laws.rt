@@ -1,4 +1,4 @@
-//! The laws on outcomes: they agree, there is one, and one text has one. Each is the contract of a function that does nothing.
+//! The laws on outcomes: they agree, and there is one. Each is the contract of a function that does nothing.
 
 ghost use Rattle.std.specs.Prelude.{List};
 ghost use Rattle.xinu_base.specs.declared.events.End.{End};

@@ -1,4 +1,4 @@
-//! The abstract machine: definitions, and the laws on its outcomes.
+//! The abstract machine: definitions, and the laws on its outcomes. That one text has one outcome is a law of `xinu_laws`.
 //!
 //! Nothing of it runs. `specs/` has a file or a folder for each subject: `Process`, `Semaphores`, `Messages`, `Clock`, `Heap`, `Pools`,
 //! `Ports`, `Console`, `RawDisk`, `Files`, `Names`, `Devices` (what each device offers), `Isa` (the instructions), then `Machine` (the
@@ -9,7 +9,6 @@
 //! | Law | Says |
 //! |---|---|
 //! | [`laws::outcomes_agree`] | if nothing is chosen in an event, its lines and the state after it are determined by the state before; equal lines have equal states; no outcome begins with a file call that took effect as the next one |
-//! | [`laws::texts_agree`] | two outcomes whose lines begin one text are equal |
 //! | [`laws::events_happen`], [`laws::runs_happen`] | each event has an outcome, and there is a run through each list of events, from each state |
 //!
 //! They speak of all calls of the table, whether they are built or not.

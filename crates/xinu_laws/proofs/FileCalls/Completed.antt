@@ -91,7 +91,7 @@ split_callers (suc k) (a ∷ l) =
     append_assoc (living a.caller) (callers (λ (o : Option ℕ). o) (map (λ (b : FileRequest). b.caller) (take k l))) (callers_waiting (drop k l))
     ∙ ap (λ m. living a.caller ++ m) (split_callers k l)
 
-told_and_left : (k : ℕ) (x : FileStep) → x.notes ≡ []
+pub told_and_left : (k : ℕ) (x : FileStep) → x.notes ≡ []
     → callers_waiting x.work.calls ≡ told_living (calls_completed k x).notes ++ callers_waiting (calls_completed k x).work.calls
 told_and_left k x none =
     let a : callers_told (calls_completed k x).notes ≡ map (λ (a : FileRequest). a.caller) (take k x.work.calls) =

@@ -49,7 +49,7 @@ first_append : (reply : Option ℤ) (caller : Option ℕ) (all more : List (Opti
 first_append None caller all more = refl
 first_append (Some reply) caller all more = refl
 
-told_append : (notes more : List FileNote) → callers_told (notes ++ more) ≡ callers_told notes ++ callers_told more
+pub told_append : (notes more : List FileNote) → callers_told (notes ++ more) ≡ callers_told notes ++ callers_told more
 told_append [] more = refl
 told_append (n ∷ notes) more =
     ap (caller_first n.reply n.caller) (told_append notes more) ∙ first_append n.reply n.caller (callers_told notes) (callers_told more)

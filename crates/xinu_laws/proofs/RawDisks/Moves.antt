@@ -110,7 +110,7 @@ module _ (k p : ℕ) (reply : ℤ) (l : List ℕ) (t : Tables) (few : suc (suc k
       subst (λ w. FitsOwner (suc (suc k)) w (process_at t p).rest) (sound.inside.devices (suc (suc k)) few) (sound.inside.rests (suc (suc k)) p is_counted)
 
   -- it is none of the others,
-  first_once : count_in p l ≡ 0
+  pub first_once : count_in p l ≡ 0
   first_once =
       let a = sound.inside.waiting p in
       let b : waiting_places (state_at t p) ≡ 1 = ap waiting_places first_waits in

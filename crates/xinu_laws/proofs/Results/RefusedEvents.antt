@@ -1,23 +1,26 @@
 -- An event in which a call is refused changes the caller's a0 and pc alone, and prints the call and its reply.
-use Rattle.std.proofs.Common.{◌≡◌, ℕ, ◌==◌, false, cond, List, [], ◌∷◌, refl, sym, ap, ◌∙◌}
-use Rattle.std.specs.Prelude.{slice_set}
+use Rattle.std.proofs.Common.{◌≡◌, ℕ, ◌==◌, false, cond, List, [], ◌∷◌, ◌++◌, map, Some, refl, sym, ap, ◌∙◌}
+use Rattle.std.specs.Prelude.{slice_set, unwrap_or}
 use Rattle.std.proofs.lemmas.Bool.{cond-true, cond-false, eq-eqb, ne_eqb}
 use Rattle.xinu_base.specs.Constants.{SYSERR}
 use Rattle.xinu_base.specs.declared.events.Event.TheVariants.{Step}
+use Rattle.xinu_base.specs.declared.lines.FileMoment.TheVariants.{Finished}
 use Rattle.xinu_base.specs.declared.lines.TranscriptLine.{TranscriptLine}
 use Rattle.xinu_base.specs.declared.lines.TranscriptLine.TheVariants as line
 use Rattle.xinu_base.specs.declared.registers.Hart.{Hart}
 use Rattle.xinu_base.specs.declared.registers.Outcome.{Outcome}
 use Rattle.xinu_model.specs.Calls.{called, continued}
-use Rattle.xinu_model.specs.Events.{call_of, call_line, with_executed, reacted, instruction_step, is_done, stepped, Happens}
-use Rattle.xinu_model.specs.Files.Syscalls.{files_of}
-use Rattle.xinu_model.specs.Machine.{Xinu, EventResult, current_hart, nothing_happens, end_of_event, refused, switched}
+use Rattle.xinu_model.specs.Events.{call_of, call_line, with_executed, reacted, instruction_step, is_done, stepped, next_file_call, step_at_once, Happens}
+use Rattle.xinu_model.specs.Files.Syscalls.{files_of, at_once}
+use Rattle.xinu_model.specs.Files.Work.{FileRequest}
+use Rattle.xinu_model.specs.Machine.{Xinu, Returns, EventResult, current_hart, nothing_happens, end_of_event, and_callers, return_line, refused, switched, with_replies}
 use Rattle.xinu_model.specs.Sound.State.{IsSound}
 use Rattle.xinu_model.specs.Tables.{process_at}
 use Rattle.xinu_model.specs.Words.{word}
 use Rattle.xinu_laws.specs.GivingAway.{next}
-use Rattle.xinu_laws.specs.Refusals.{IsCalling, IsRefused, LeavesRefused}
-use Rattle.xinu_laws.proofs.FileCalls.AtOnce.{only_step}
+use Rattle.xinu_laws.specs.Refusals.{IsCalling, IsRefused, LeavesRefused, LeavesRefusedEffect}
+use Rattle.xinu_laws.proofs.FileCalls.AtOnce.{next_is, only_step}
+use Rattle.xinu_laws.proofs.FileCalls.Answered.{refused_leaves_all}
 use Rattle.xinu_laws.proofs.Lists.Maps.{set_twice}
 use Rattle.xinu_laws.proofs.Ownership.Events.{hart_after}
 use Rattle.xinu_laws.proofs.Results.Ecall.{exec_leaves_call}
@@ -72,4 +75,29 @@ refused_events old lines new sound k none h =
           ∙ set_twice old.harts p (next old).hart (record (next old).hart { regs = slice_set (next old).hart.regs 10 (word SYSERR) })
           ∙ ap (λ (x : Hart). slice_set old.harts p (record x { regs = slice_set x.regs 10 (word SYSERR) })) did.0;
       lines = ap (λ (x : EventResult). x.lines) are;
+    }
+
+-- A step in which a call on files takes effect as it is made, and is refused then.
+pub refused_effects : (a : FileRequest) (old : Xinu) → IsSound old → IsCalling old → next_file_call old ≡ Some a
+    → (at_once a (with_executed (next old) old)).answer ≡ Returns SYSERR → LeavesRefusedEffect old (step_at_once a old).lines (step_at_once a old).state
+refused_effects a old sound k made refused =
+    let p = old.tables.current in
+    let s = with_executed (next old) old in
+    let did = exec_leaves_call (current_hart old) old.memory k.call in
+    let m = next_is old a made in
+    let leaves = refused_leaves_all a s sound.devices.files.itself m.none refused in
+    let hart = hart_after old sound in
+    let call : call_of (current_hart s) ≡ call_of (current_hart old) = ap call_of hart ∙ ap call_of did.0 in
+    record {
+      tables = leaves.tables;
+      parts = leaves.parts;
+      memory = leaves.memory ∙ did.1;
+      harts = ap (λ answer. with_replies (and_callers answer p []) s.harts) refused
+          ∙ ap (λ h. slice_set s.harts p (record h { regs = slice_set h.regs 10 (word SYSERR) })) hart
+          ∙ set_twice old.harts p (next old).hart (record (next old).hart { regs = slice_set (next old).hart.regs 10 (word SYSERR) })
+          ∙ ap (λ (x : Hart). slice_set old.harts p (record x { regs = slice_set x.regs 10 (word SYSERR) })) did.0;
+      lines = ap (λ c. (line.Call p c ∷ line.File (unwrap_or a.caller 0) Finished ∷ []) ++ map return_line (and_callers (at_once a s).answer p []) ++ switched p p) call
+          ∙ ap (λ o. (line.Call p (call_of (current_hart old)) ∷ line.File (unwrap_or o 0) Finished ∷ []) ++ map return_line (and_callers (at_once a s).answer p []) ++ switched p p) m.caller
+          ∙ ap (λ answer. (line.Call p (call_of (current_hart old)) ∷ line.File p Finished ∷ []) ++ map return_line (and_callers answer p []) ++ switched p p) refused
+          ∙ ap (λ l. line.Call p (call_of (current_hart old)) ∷ line.File p Finished ∷ line.Return p SYSERR ∷ l) (no_switch p);
     }
