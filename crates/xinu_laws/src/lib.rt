@@ -8,7 +8,7 @@
 //! | [`soundness`] | boot is sound, and each event and run keeps it so, also the events that the machine hasn't yet; a free place holds its fixed value; who goes on with a call on a device finds what it waited for |
 //! | [`moments`] | what holds at each moment of an event: each row, each continuation, a death, a tick, a resched and the end of an event keep it. The kernel's code will cite these |
 //! | [`moves`] | the moves of a process, signals and waits, as the kernel's code makes them |
-//! | [`outcomes`] | two outcomes of one event whose lines begin one text are equal |
+//! | [`outcomes`] | each choice that is allowed in an event has an outcome; two outcomes of one event whose lines begin one text are equal |
 //! | [`footprints`] | the rows are the calls that a transcript names; each call touches no more than its footprint; waiters keep their order |
 //! | [`replies`] | a call that is refused in its own event changes a0 and pc alone, and prints its call and its reply; -1 tells a refusal, except as a value; a deleted semaphore refuses those who wait, and every other release of them answers 0; who waited on a port is refused if and only if it was renewed; a `getc` or `read` of the console answers -2 if and only if it finds the end mark first in cooked mode; a caller of the raw disk answers what its own completion replies, and a caller of files what its own call does; a call on files that is refused as it takes effect prints that it did |
 //! | [`signals`] | n signals at once are n signals, one after another |
