@@ -1,5 +1,5 @@
 -- What a caller of files answers: what its call replies as it takes effect, at a completion or as it is made.
-use Rattle.std.proofs.Common.{◌≡◌, ◌≢◌, ℕ, zero, suc, ◌+◌, ◌<◌, ◌≤◌, ◌==◌, Bool, true, false, cond, List, [], ◌∷◌, ◌++◌, length, take, drop, Option, Some, None, refl, sym, ap, subst, ◌∙◌, arith, append_assoc, append-nil, take-append-drop, ℤ}
+use Rattle.std.proofs.Common.{◌≡◌, ℕ, suc, ◌+◌, ◌==◌, cond, List, [], ◌∷◌, ◌++◌, take, drop, Option, Some, None, refl, sym, ap, subst, ◌∙◌, arith, append_assoc, append-nil, take-append-drop, ℤ}
 use Rattle.std.proofs.lemmas.Bool.{cond_both, eq-eqb}
 use Rattle.xinu_base.specs.Constants.{SYSERR}
 use Rattle.xinu_base.specs.declared.lines.FileMoment.{FileMoment}
@@ -11,7 +11,7 @@ use Rattle.xinu_model.specs.Files.Calls.{file_effect}
 use Rattle.xinu_model.specs.Files.Sound.{IsFirst, IsSoundWork}
 use Rattle.xinu_model.specs.Files.Syscalls.{files_of, file_step, with_step, told, all_told, after_step, at_once}
 use Rattle.xinu_model.specs.Files.Systems.{FileEffect, replies}
-use Rattle.xinu_model.specs.Files.Work.{FileRequest, FileWork, FileNote, bytes_written, copied, calls_completed, least_effects, queued_after, enqueued, issued, callers_waiting}
+use Rattle.xinu_model.specs.Files.Work.{FileRequest, FileWork, FileNote, bytes_written, copied, calls_completed, queued_after, enqueued, issued, callers_waiting}
 use Rattle.xinu_model.specs.Machine.{Xinu, CallState, Returns, start}
 use Rattle.xinu_model.specs.RawDisk.Callers.{living, callers}
 use Rattle.xinu_model.specs.RawDisk.Calls.{keep_reply}
@@ -21,7 +21,7 @@ use Rattle.xinu_model.specs.Tables.{process_at, state_at, message_at, semaphore_
 use Rattle.xinu_laws.proofs.FileCalls.Completed.{told_living, all_tells, told_and_left}
 use Rattle.xinu_laws.proofs.FileSystems.Refusals.{effect_spares}
 use Rattle.xinu_laws.proofs.FileSteps.Order.{told_append}
-use Rattle.xinu_laws.proofs.Lists.Counts.{times-append, count_behind}
+use Rattle.xinu_laws.proofs.Lists.Counts.{times-append}
 use Rattle.xinu_laws.proofs.RawDisks.Moves.{first_once, first_within}
 use Rattle.xinu_laws.proofs.Tables.MoveTo.{by_number, process_move_same, process_move_other}
 
@@ -44,10 +44,10 @@ others_told p (n ∷ notes) d none = by_note (λ x f. others_told p notes x f) n
         let t = d.state.tables in
         let y : Process = record (process_at t q) { state = Ready; rest = Disk (Some reply) } in
         by_number p q (λ r. count_in r (q ∷ told_living notes) ≡ 0 → (count_in r (told_living notes) ≡ 0 → process_at (all_told notes (keep_reply q reply d)).state.tables r ≡ process_at (keep_reply q reply d).state.tables r)
-            → process_at (all_told notes (keep_reply q reply d)).state.tables r ≡ process_at t r)
+        → process_at (all_told notes (keep_reply q reply d)).state.tables r ≡ process_at t r)
         (λ f _. absurd (let g : count_in q (q ∷ told_living notes) ≡ suc (count_in q (told_living notes)) = ap (λ b. cond b (suc (count_in q (told_living notes))) (count_in q (told_living notes))) (eq-eqb q q refl) in omega (arith, f, g)))
         (λ n f rest. rest (cond_both (q == p) (suc (count_in p (told_living notes))) (count_in p (told_living notes)) (λ m. m ≡ 0 → count_in p (told_living notes) ≡ 0) (λ _ h. absurd (omega (arith, h))) (λ _ h. h) f)
-            ∙ process_move_other t p q y (message_at t q) InReady n)
+        ∙ process_move_other t p q y (message_at t q) InReady n)
         none (go (keep_reply q reply d))
 
 -- notes are told one after another

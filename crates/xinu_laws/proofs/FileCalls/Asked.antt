@@ -1,14 +1,14 @@
 -- The calls on files keep what holds of them, and touch nothing else.
-use Rattle.std.proofs.Common.{◌≡◌, ◌≢◌, ℕ, ◌+◌, ◌<◌, ◌≤◌, ◌==◌, Bool, true, false, not, ◌&&◌, List, [], ◌∷◌, ◌++◌, length, Option, Some, None, refl, sym, ap, subst, ◌∙◌, arith, ℤ, pos, negsuc}
+use Rattle.std.proofs.Common.{◌≡◌, ℕ, ◌+◌, ◌==◌, true, false, not, List, [], ◌∷◌, ◌++◌, Option, Some, None, refl, sym, ap, subst, ◌∙◌, arith, ℤ, pos, negsuc}
 use Rattle.std.proofs.lemmas.Bool.{cond_both, and_right, leb-true}
 use Rattle.xinu_base.specs.declared.files.OpenMode.{OpenMode}
 use Rattle.xinu_base.specs.declared.processes.Rest.TheVariants.{Disk}
 use Rattle.xinu_base.specs.declared.processes.State.TheVariants.{Waiting}
 use Rattle.xinu_laws.specs.Touches.{reach, KeepsParts, Touches}
 use Rattle.xinu_model.specs.Devices.Calls.{named_control}
-use Rattle.xinu_model.specs.Files.Calls.{FileCall, Open, Delete, Read, Write, Truncate, Size}
+use Rattle.xinu_model.specs.Files.Calls.{FileCall, Delete, Read, Write, Truncate, Size}
 use Rattle.xinu_model.specs.Files.Constants.{LF_CTL_DEL, LF_CTL_TRUNC, LF_CTL_SIZE}
-use Rattle.xinu_model.specs.Files.Issue.{open_in, open_call, system_control_call, file_control_call, read_call, write_call}
+use Rattle.xinu_model.specs.Files.Issue.{open_in, open_call, file_control_call, read_call, write_call}
 use Rattle.xinu_model.specs.Files.Modes.{mode_of}
 use Rattle.xinu_model.specs.Files.Sound.{IsFileCall, InRam, IsFileRequest}
 use Rattle.xinu_model.specs.Files.Stored.{is_file_name}

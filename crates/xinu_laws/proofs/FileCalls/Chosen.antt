@@ -1,8 +1,7 @@
 -- Each choice that is allowed has an outcome: a step in which a call on files is made doesn't end in a panic.
-use Rattle.std.proofs.Common.{◌≡◌, ◌≢◌, ◌⊎◌, ◌∙◌, ℕ, zero, suc, ◌≤◌, ◌==◌, ◌||◌, ◌%◌, Bool, true, false, cond, List, [], ◌∷◌, Option, Some, None, refl, sym, ap, subst, inl, inr, ⊎_elim, arith, ℤ, pos}
-use Rattle.std.specs.Prelude.{is_some, if◌then◌else◌}
+use Rattle.std.proofs.Common.{◌≡◌, ◌≢◌, ◌⊎◌, ◌∙◌, ℕ, zero, suc, ◌==◌, ◌||◌, ◌%◌, Bool, true, false, cond, List, [], ◌∷◌, Option, Some, None, refl, sym, ap, inl, inr, ⊎_elim}
+use Rattle.std.specs.Prelude.{if◌then◌else◌}
 use Rattle.std.proofs.lemmas.Bool.{cond_both, eqb-false}
-use Rattle.xinu_base.specs.Constants.{OK}
 use Rattle.xinu_base.specs.Events.{is_built_event}
 use Rattle.xinu_base.specs.declared.events.Event.{Event}
 use Rattle.xinu_base.specs.declared.events.Event.TheVariants.{Step, Tick, Key, Tx, Disk0, Disk1, Fail0, Fail1, Dump}
@@ -16,7 +15,7 @@ use Rattle.xinu_base.specs.declared.registers.Outcome.TheVariants as outcome
 use Rattle.xinu_laws.specs.Preserve.{FitsAnswer, MayCallAny, KeepsAll}
 use Rattle.xinu_laws.specs.Touches.{reach, touched_by, Touches}
 use Rattle.xinu_model.specs.Calls.{calls, called, continued}
-use Rattle.xinu_model.specs.Events.{call_of, call_line, exit_call, with_executed, reacted, instruction_step, is_done, stepped, next_file_call, step_with, event_effect, effect_of, panics_in, MayChoose, Happens}
+use Rattle.xinu_model.specs.Events.{call_of, call_line, exit_call, with_executed, reacted, instruction_step, is_done, stepped, next_file_call, step_with, event_effect, effect_of, MayChoose, Happens}
 use Rattle.xinu_model.specs.Files.Syscalls.{files_of, completed_in}
 use Rattle.xinu_model.specs.Files.Work.{FileRequest, orphaned_call}
 use Rattle.xinu_model.specs.Footprints.{Footprint, on_tables, on_console, on_disk}
@@ -27,7 +26,7 @@ use Rattle.xinu_model.specs.Process.Calls.{kill}
 use Rattle.xinu_model.specs.Process.Death.{killed, exit}
 use Rattle.xinu_model.specs.RawDisk.Callers as callers
 use Rattle.xinu_model.specs.Sound.State.{IsSound}
-use Rattle.xinu_model.specs.Tables.{Tables, process_at, state_at, message_at, is_free, InSemaphore}
+use Rattle.xinu_model.specs.Tables.{process_at, state_at, message_at, is_free, InSemaphore}
 use Rattle.xinu_model.specs.Words.{signed}
 use Rattle.xinu_laws.proofs.Consoles.Kept.{sound_holds}
 use Rattle.xinu_laws.proofs.Consoles.Put.{putc_keeps, write_keeps}

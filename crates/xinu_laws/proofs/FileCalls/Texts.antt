@@ -1,6 +1,6 @@
 -- A text tells how many calls on files took effect in the event with which it begins.
 use Rattle.std.proofs.Common.{◌≡◌, ◌≢◌, ◌==◌, ℕ, zero, suc, ◌+◌, ◌-◌, ◌<◌, ◌≤◌, Bool, true, false, List, [], ◌∷◌, ◌++◌, map, length, if◌then◌else◌, Option, Some, None, refl, sym, ap, ◌∙◌, subst, ℤ, arith, append_assoc, append-nil}
-use Rattle.std.specs.Prelude.{unwrap_or, is_some}
+use Rattle.std.specs.Prelude.{is_some}
 use Rattle.std.proofs.lemmas.Bool.{cond_both, eqb-true}
 use Rattle.xinu_base.specs.Events.{is_built_event}
 use Rattle.xinu_base.specs.declared.events.Event.{Event}
@@ -12,11 +12,11 @@ use Rattle.xinu_base.specs.declared.processes.State.TheVariants.{Current, Waitin
 use Rattle.xinu_base.specs.declared.registers.Outcome.{Outcome}
 use Rattle.xinu_base.specs.declared.registers.Outcome.TheVariants as outcome
 use Rattle.xinu_base.specs.declared.syscalls.Call.{Call}
-use Rattle.xinu_model.proofs.FileOutcomes.{effect_one, notes_append, note_lines, least_le}
+use Rattle.xinu_model.proofs.FileOutcomes.{effect_one, note_lines, least_le}
 use Rattle.xinu_model.proofs.Outcomes.{same_outcome}
 use Rattle.xinu_model.specs.Agree.{begins_next}
 use Rattle.xinu_model.specs.Calls.{called, continued}
-use Rattle.xinu_model.specs.Events.{call_of, exit_call, with_executed, reacted, instruction_step, is_done, stepped, next_file_call, step_with, event_effect, effect_of, MayChoose, Happens}
+use Rattle.xinu_model.specs.Events.{call_of, exit_call, with_executed, reacted, instruction_step, is_done, stepped, next_file_call, step_with, event_effect, MayChoose, Happens}
 use Rattle.xinu_model.specs.Files.Calls.{file_effect}
 use Rattle.xinu_model.specs.Files.Syscalls.{files_of, file_step, completing, completed_in}
 use Rattle.xinu_model.specs.Files.Work.{FileRequest, FileNote, FileStep, had_turn, took_effect, first_effect, next_effects, turned, calls_completed, least_effects, callers_waiting}

@@ -1,5 +1,5 @@
 -- The machine starts in a sound state on any sound disks, and on those that it has if it is given none as without them.
-use Rattle.std.proofs.Common.{◌≡◌, ℕ, ◌<◌, ◌∙◌, List, [], length, refl, sym, ap, subst}
+use Rattle.std.proofs.Common.{◌≡◌, ◌<◌, ◌∙◌, List, [], length, refl, sym, ap, subst}
 use Rattle.xinu_base.specs.Constants.{NPROC}
 use Rattle.xinu_model.specs.Boot.{Loaded, Boots, Disks, first_disks, on_disks, boot, boot_on, and_then}
 use Rattle.xinu_model.specs.Devices.State.{Devices, first_devices}

@@ -1,7 +1,6 @@
 -- The calls on the raw disk keep what holds of it, and touch nothing else.
-use Rattle.std.proofs.Common.{◌≡◌, ◌≢◌, ℕ, zero, suc, ◌+◌, ◌<◌, ◌==◌, true, false, cond, List, [], ◌∷◌, ◌++◌, length, Option, Some, None, refl, sym, ap, subst, ◌∙◌, arith, get_or-set_same, ℤ, pos}
+use Rattle.std.proofs.Common.{◌≡◌, ◌≢◌, ℕ, ◌==◌, true, false, cond, List, [], ◌∷◌, ◌++◌, length, Option, Some, None, refl, sym, ap, subst, ◌∙◌, arith, ℤ, pos}
 use Rattle.std.proofs.lemmas.Bool.{cond_both, and_parts, ltb-true}
-use Rattle.xinu_base.specs.declared.processes.Process.{Process}
 use Rattle.xinu_base.specs.declared.processes.Rest.TheVariants.{Disk}
 use Rattle.xinu_base.specs.declared.processes.State.TheVariants.{Waiting}
 use Rattle.xinu_laws.specs.Preserve.{IsPreserved}

@@ -5,7 +5,7 @@ use Rattle.std.specs.List.{AllByRecursion}
 use Rattle.xinu_base.specs.declared.processes.Rest.{Rest}
 use Rattle.xinu_base.specs.declared.processes.Rest.TheVariants.{Disk}
 use Rattle.xinu_model.specs.Boot.{Loaded, first_overlap, first_semaphores, null_tables, loaded_machine, with_image, Boots, and_then, where_stack, all_made, all_started, unless_overlap, boot}
-use Rattle.xinu_model.specs.Devices.State.{Devices, empty_blocks, first_devices}
+use Rattle.xinu_model.specs.Devices.State.{empty_blocks, first_devices}
 use Rattle.xinu_model.specs.Footprints.{on_deaths}
 use Rattle.xinu_model.specs.Heap.Cells.{Stack, take_stack}
 use Rattle.xinu_model.specs.Machine.{Xinu}

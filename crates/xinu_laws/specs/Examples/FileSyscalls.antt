@@ -1,5 +1,5 @@
 -- Examples: files as processes call them.
-use Rattle.std.specs.Prelude.{ℕ, List, [], ◌∷◌, ◌++◌, pos, negsuc, replicate, true}
+use Rattle.std.specs.Prelude.{ℕ, List, [], ◌∷◌, pos, negsuc, replicate, true}
 use Rattle.xinu_base.specs.declared.lines.FileMoment.TheVariants.{Turn, Finished, Next}
 use Rattle.xinu_base.specs.declared.lines.TranscriptLine.{TranscriptLine}
 use Rattle.xinu_base.specs.declared.lines.TranscriptLine.TheVariants.{Call, File, Return, Switch, OpenFile, Disk1}
