@@ -30,6 +30,3 @@ mod pool;
 mod pools;
 
 pub use pools::{Pools, pool_id_at};
-
-#[cfg(test)]
-mod tests;

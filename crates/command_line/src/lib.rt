@@ -26,6 +26,3 @@ pub use command::{Command, command_of};
 pub use disk_args::DiskAction;
 pub use refusal::ArgsFault;
 pub use run_args::RunFiles;
-
-#[cfg(test)]
-mod tests;

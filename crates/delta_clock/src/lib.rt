@@ -21,6 +21,3 @@
 mod clock;
 
 pub use clock::Clock;
-
-#[cfg(test)]
-mod tests;

@@ -23,6 +23,3 @@ mod switch;
 
 pub use switch::{NoSuch, device, kind_of, offers};
 pub use xinu_base::{Dev, Kind, Op};
-
-#[cfg(test)]
-mod tests;

@@ -27,6 +27,3 @@ pub use faults::{ElfFault, LoadFault};
 pub use files::load;
 pub use reader::read_elf;
 pub use writer::write_elf;
-
-#[cfg(test)]
-mod tests;

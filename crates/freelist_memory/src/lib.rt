@@ -26,6 +26,3 @@ mod heap;
 mod list;
 
 pub use heap::Heap;
-
-#[cfg(test)]
-mod tests;

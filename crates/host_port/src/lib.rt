@@ -59,6 +59,3 @@ pub use memory::MemoryHost;
 pub use printer::Printer;
 pub use quiet::QuietMemoryHost;
 pub use real::RealHost;
-
-#[cfg(test)]
-mod tests;

@@ -20,6 +20,3 @@ pub use faults::ImageFault;
 pub use images::Image;
 pub use parts::Part;
 pub use reader::read_image;
-
-#[cfg(test)]
-mod tests;

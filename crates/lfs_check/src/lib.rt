@@ -32,6 +32,3 @@ pub use laws::{
 pub use repair::kept_entries;
 pub use rules::{entry_is_used, size_fault, used_count};
 pub use survey::file_blocks;
-
-#[cfg(test)]
-mod tests;

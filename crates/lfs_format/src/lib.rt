@@ -58,6 +58,3 @@ pub struct Dir1 {
     pub files: u32,
     pub entries: [Entry1; 20],
 }
-
-#[cfg(test)]
-mod tests;

@@ -26,6 +26,3 @@ pub use lfs_format::{
 };
 pub use mend::{Repaired, repair};
 pub use raw_image::RawImage;
-
-#[cfg(test)]
-mod tests;

@@ -17,6 +17,3 @@
 mod slots;
 
 pub use slots::Slots;
-
-#[cfg(test)]
-mod tests;

@@ -28,6 +28,3 @@ mod table;
 
 pub use moves::{Received, Sent};
 pub use table::{PortEntry, PortHead, Ports, port_numbered};
-
-#[cfg(test)]
-mod tests;

@@ -37,6 +37,3 @@ mod scheduling;
 
 pub use procs::{Procs, pid_at};
 pub use scheduling::{READY, SLEEPERS};
-
-#[cfg(test)]
-mod tests;

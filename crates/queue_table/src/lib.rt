@@ -34,6 +34,3 @@ pub use table::QueueTable;
 
 /// The kernel's table: 64 processes; queues 0 to 127 are for the semaphores, 128 is the ready list, 129 the sleepers.
 pub type Lists = QueueTable<64, 130>;
-
-#[cfg(test)]
-mod tests;

@@ -29,6 +29,3 @@ pub use assembler::assemble;
 pub use examples::worked_examples;
 pub use faults::AsmFault;
 pub use laws::assembled_loads;
-
-#[cfg(test)]
-mod tests;

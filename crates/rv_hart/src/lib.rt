@@ -23,6 +23,3 @@ mod ram;
 pub use fetch::step;
 pub use ram::{OutOfRam, Ram};
 pub use xinu_base::{Cause, Hart, Outcome, RAM_SIZE};
-
-#[cfg(test)]
-mod tests;

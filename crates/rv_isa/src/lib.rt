@@ -31,6 +31,3 @@ pub use instr::Instr;
 pub use placing::word_with;
 pub use ranges::valid;
 pub use rows::{Form, ROWS, Row, row_named, rows_apart, rows_have_words, table};
-
-#[cfg(test)]
-mod tests;

@@ -24,6 +24,3 @@ mod schedules;
 pub use faults::ScheduleFault;
 pub use schedules::Schedule;
 pub use xinu_base::Event;
-
-#[cfg(test)]
-mod tests;

@@ -30,6 +30,3 @@ mod waiting;
 
 pub use sems::{SemaphoreEntry, Sems, sem_at};
 pub use waiting::Signalled;
-
-#[cfg(test)]
-mod tests;

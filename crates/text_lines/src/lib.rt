@@ -16,6 +16,3 @@
 mod lines;
 
 pub use lines::{first_line, first_token};
-
-#[cfg(test)]
-mod tests;

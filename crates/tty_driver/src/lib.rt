@@ -30,6 +30,3 @@ mod tty;
 
 pub use tty::{Tty, TtySizes};
 pub use xinu_base::{Item, TtyMode};
-
-#[cfg(test)]
-mod tests;

@@ -39,6 +39,3 @@ pub use syscalls::{Call, Next, call_args, call_name, is_built};
 /// The answer of a call that found no memory.
 #[derive(Clone, Copy, Debug, PartialEq, Eq)]
 pub struct NoMemory;
-
-#[cfg(test)]
-mod tests;

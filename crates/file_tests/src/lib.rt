@@ -1,0 +1,19 @@
+//! Tests of the readers and writers of files, and of the command line, over the public calls of their crates.
+#![tactic(auto)]
+
+#[cfg(test)]
+mod arguments;
+#[cfg(test)]
+mod disk_check;
+#[cfg(test)]
+mod disk_format;
+#[cfg(test)]
+mod disk_layout;
+#[cfg(test)]
+mod elf_files;
+#[cfg(test)]
+mod image_files;
+#[cfg(test)]
+mod lines;
+#[cfg(test)]
+mod schedules;

@@ -1,0 +1,18 @@
+//! Tests of what the kernel runs on, over the public calls of the crates: instructions and memory, the assembler, the table of devices,
+//! the console, the host.
+#![tactic(auto)]
+
+#[cfg(test)]
+mod assembler;
+#[cfg(test)]
+mod hart;
+#[cfg(test)]
+mod host;
+#[cfg(test)]
+mod isa;
+#[cfg(test)]
+mod numbers;
+#[cfg(test)]
+mod switch;
+#[cfg(test)]
+mod tty;

@@ -1,8 +1,0 @@
--- `churn`: every process is in the queue.
-use Rattle.std.proofs.Common.{◌≡◌, ◌<◌, ℕ, Some}
-use Rattle.queue_table.specs.Lists.{place}
-use Rattle.queue_table.specs.Table.{lists}
-use Rattle.queue_table.proofs.tests.churn.Given as goal
-
-abbrev pub invariant-loop-j : goal.invariant-loop-j
-invariant-loop-j l = (p : ℕ) → p < 60000 → place (lists l.table) p ≡ Some 0
