@@ -6,3 +6,4 @@ pub mod TextLemmas
 pub mod MeaningLemmas
 pub mod FittingLemmas
 pub mod LineLemmas
+pub mod RegisterLemmas

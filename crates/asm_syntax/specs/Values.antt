@@ -17,13 +17,17 @@ registers =
     (codes "s8", 24) ∷ (codes "s9", 25) ∷ (codes "s10", 26) ∷ (codes "s11", 27) ∷ (codes "t3", 28) ∷ (codes "t4", 29) ∷
     (codes "t5", 30) ∷ (codes "t6", 31) ∷ []
 
+-- the register of a name in the calling convention
+unfoldable pub register_named : List ℕ → Option ℕ
+register_named name = named_in registers name
+
 -- the register of a name: `x` and its number without a leading zero, or its name in the calling convention
 abbrev pub register_of : List ℕ → Option ℕ
-register_of (x ∷ d ∷ []) = if (x == 120) && is_between 48 57 d then Some (d - 48) else named_in registers (x ∷ d ∷ [])
+register_of (x ∷ d ∷ []) = if (x == 120) && is_between 48 57 d then Some (d - 48) else register_named (x ∷ d ∷ [])
 register_of (x ∷ d ∷ e ∷ []) =
     if (x == 120) && is_between 49 51 d && is_between 48 57 e && nat_lt ((d - 48) * 10 + (e - 48)) 32 then Some ((d - 48) * 10 + (e - 48))
-    else named_in registers (x ∷ d ∷ e ∷ [])
-register_of name = named_in registers name
+    else register_named (x ∷ d ∷ e ∷ [])
+register_of name = register_named name
 
 -- the number of the first of these calls that has a name
 abbrev pub call_among : List Syscall → List ℕ → Option ℕ

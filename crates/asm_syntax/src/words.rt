@@ -1,9 +1,8 @@
 //! Names, registers and calls.
 
-ghost use Rattle.std.specs.Prelude.{◌≡◌, ◌<◌, ◌≤◌, IfSome, Some};
+ghost use Rattle.std.specs.Prelude.{◌≡◌, ◌<◌, ◌≤◌, IfSome, Some, map};
 ghost use Rattle.std.specs.List.{list_all};
 ghost use Rattle.asm_syntax.specs.Numbers.{is_between};
-ghost use Rattle.asm_syntax.specs.Meanings.{named_in};
 ghost use Rattle.asm_syntax.specs.Numbers as numbers;
 ghost use Rattle.asm_syntax.specs.Values as values;
 
@@ -45,16 +44,6 @@ pub(crate) fn is_within(low: u8, high: u8, b: u8) -> bool
     low <= b && b <= high
 }
 
-// The arms of a search for a name among literals.
-macro_rules! named {
-    ($name:expr, $($literal:literal $value:literal)*) => {{
-        $(if $name == $literal.as_slice() {
-            return Some($value);
-        })*
-        None
-    }};
-}
-
 /// The register of a name: `x` and its number, or its name in the calling convention.
 pub(crate) fn register_of(name: &[u8]) -> Option<u8>
     ensures register { result ≡ values.register_of name.now }
@@ -80,16 +69,30 @@ pub(crate) fn register_of(name: &[u8]) -> Option<u8>
     register_named(name)
 }
 
+// The registers' names in the calling convention, by their numbers.
+const REGISTERS: [&str; 32] = [
+    "zero", "ra", "sp", "gp", "tp", "t0", "t1", "t2", "s0", "s1", "a0", "a1", "a2", "a3", "a4",
+    "a5", "a6", "a7", "s2", "s3", "s4", "s5", "s6", "s7", "s8", "s9", "s10", "s11", "t3", "t4",
+    "t5", "t6",
+];
+
+// The names, as a value that a contract can name.
+fn register_names() -> [&'static str; 32]
+    ensures names { map (λ name. name.now) result ≡ map (λ row. row.0) values.registers }
+{
+    REGISTERS
+}
+
 // The register of a name in the calling convention.
 fn register_named(name: &[u8]) -> Option<u8>
-    ensures register { result ≡ named_in values.registers name.now }
+    ensures register { result ≡ values.register_named name.now }
     ensures small { IfSome result (λ n. n < 32) }
 {
-    named!(
-        name,
-        b"zero" 0 b"ra" 1 b"sp" 2 b"gp" 3 b"tp" 4 b"t0" 5 b"t1" 6 b"t2" 7
-        b"s0" 8 b"s1" 9 b"a0" 10 b"a1" 11 b"a2" 12 b"a3" 13 b"a4" 14 b"a5" 15
-        b"a6" 16 b"a7" 17 b"s2" 18 b"s3" 19 b"s4" 20 b"s5" 21 b"s6" 22 b"s7" 23
-        b"s8" 24 b"s9" 25 b"s10" 26 b"s11" 27 b"t3" 28 b"t4" 29 b"t5" 30 b"t6" 31
-    )
+    let names = register_names();
+    for number in 0..32u8 {
+        if name == names[usize::from(number)].as_bytes() {
+            return Some(number);
+        }
+    }
+    None
 }
