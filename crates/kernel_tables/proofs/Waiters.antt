@@ -6,8 +6,9 @@ use Rattle.std.proofs.lemmas.Bool.Decides.{nat_tests}
 use Rattle.std.proofs.lemmas.List.{set-set}
 use Rattle.queue_table.specs.Lists.{Entry}
 use Rattle.process_core.specs.Tables.{Beside, process_in, ProcessTable, tables_of, with_process}
-use Rattle.semaphores.specs.Counts.{beside, entry_at, number_for, SemaphoreTable, tokens_of, with_made}
+use Rattle.semaphores.specs.Counts.{beside, entry_at, number_for, SemaphoreTable, tokens_of, two_numbers, with_made, with_two}
 use Rattle.semaphores.proofs.Counting.{owner_at}
+use Rattle.semaphores.proofs.Finding.{are_found}
 use Rattle.semaphores.specs.Signals.{after_signal, answer_to, signal_answer}
 use Rattle.semaphores.specs.declared.waiting.Signalled.{Signalled}
 use Rattle.semaphores.specs.declared.waiting.Signalled.TheVariants.{Full, Kept, Released}
@@ -18,15 +19,15 @@ use Rattle.xinu_base.specs.declared.semaphores.Owner.{Owner}
 use Rattle.xinu_base.specs.declared.semaphores.Owner.TheVariants.{Device}
 use Rattle.xinu_model.specs.Machine.{Xinu}
 use Rattle.xinu_model.specs.Process.Scheduling.{in_state}
-use Rattle.xinu_model.specs.Semaphores.Counts.{count_of, free_semaphore, is_good, most_tokens, with_semaphore, with_tokens}
+use Rattle.xinu_model.specs.Semaphores.Counts.{count_of, free_semaphore, make_semaphore, most_tokens, with_semaphore, with_tokens}
 use Rattle.xinu_model.specs.Sound.Tables.{count_in, FitsOwner, IsInside, IsSoundTables}
 use Rattle.xinu_model.specs.Tables.{InSemaphore, message_at, move_to, no_process, no_semaphore, Place, process_at, Semaphore, semaphore_at, Tables}
 use Rattle.xinu_laws.specs.Moves.{ready_all}
 use Rattle.xinu_laws.proofs.Lists.Counts.{first_is_counted}
 use Rattle.xinu_laws.proofs.Lists.Searches.{search_within}
 use Rattle.xinu_laws.proofs.Preserve.{current_within, waits_hold}
-use Rattle.xinu_laws.proofs.Preserve.Semaphores.{free_semaphore_free, good_semaphore}
-use Rattle.xinu_laws.proofs.Tables.Changes.{inside_given_up, inside_made_semaphore, inside_tokens, sound_token_taken}
+use Rattle.xinu_laws.proofs.Preserve.Semaphores.{free_semaphore_free}
+use Rattle.xinu_laws.proofs.Tables.Changes.{inside_given_up, inside_made_semaphore, inside_tokens, owned_is_no_device, sound_token_taken}
 use Rattle.xinu_laws.proofs.Tables.MoveTo.{inside_move}
 use Rattle.xinu_laws.proofs.Tables.Scheduling.{inside_ready}
 use Rattle.xinu_laws.proofs.Tables.Unblock.{can_be_ready_waiters, can_be_ready_waiting, owner_ready, sound_ready_all, sound_signalled_times, unblock_all_ready, waiter_waits, waiters_gone}
@@ -47,7 +48,20 @@ inside_made (Some sem) by z t o e n =
     let f = found_free z t sem e in
     inside_made_semaphore t sem (tokens_of z) by o (search_within _ 128 (t.last_semaphore + 1) sem f) (free_semaphore_free t sem f) n
 
+-- two semaphores are made if two numbers are found
+pub inside_two : (found : Option (ℕ × ℕ)) (by : Owner) (z : ℤ) (t : Tables) → IsInside t → found ≡ two_numbers by z t → by ≢ Device
+    → IsInside (with_two found by z t)
+inside_two None by z t o e n = o
+inside_two (Some (first, second)) by z t o e n =
+    let f = are_found first second by z t e in
+    inside_made (Some second) by (pos 0) (make_semaphore first by (tokens_of z) t) (inside_made (Some first) by z t o f.one n) f.other n
+
 -- no call changes then
+pub rests_two : (found : Option (ℕ × ℕ)) (by : Owner) (z : ℤ) (t : Tables) → SameRests t (with_two found by z t)
+rests_two None by z t = record { same = λ p. refl }
+rests_two (Some (first, second)) by z t = record { same = λ p. refl }
+
+-- and none if one is
 pub rests_made : (found : Option ℕ) (by : Owner) (z : ℤ) (t : Tables) → SameRests t (with_made found by z t)
 rests_made None by z t = record { same = λ p. refl }
 rests_made (Some sem) by z t = record { same = λ p. refl }
@@ -137,13 +151,12 @@ inside_reset t sem n k w used =
     inside_tokens (ready_all ps t) sem n (sound_all_ready t sem k).inside w (λ e. used (sym (owner_ready ps t sem) ∙ e))
     (inr (waiters_gone t sem))
 
--- a semaphore that a process made is given up
-pub inside_deleted : (t : Tables) (sem : ℕ) → IsSoundTables t → is_good sem t ≡ true
+-- a semaphore that isn't a device's is given up
+pub inside_deleted : (t : Tables) (sem : ℕ) → IsSoundTables t → sem < 128 → (semaphore_at t sem).owner ≢ Some Device
     → IsInside (with_semaphore sem no_semaphore (ready_all (semaphore_at t sem).waiters t))
-inside_deleted t sem k h =
-    let g = good_semaphore t sem k.inside h in
-    inside_given_up (ready_all (semaphore_at t sem).waiters t) sem (sound_all_ready t sem k).inside g.within g.no_device
-    (waiters_gone t sem)
+inside_deleted t sem k w n =
+    inside_given_up (ready_all (semaphore_at t sem).waiters t) sem (sound_all_ready t sem k).inside w
+    (owned_is_no_device t sem k.inside n) (waiters_gone t sem)
 
 -- a semaphore that is written twice is the second
 pub written_twice : (sem n : ℕ) (y : Semaphore) (t : Tables) → with_semaphore sem y (with_tokens sem n t) ≡ with_semaphore sem y t

@@ -9,7 +9,7 @@
 //! |---|---|
 //! | what is read: the current process, its rest, states, priorities, names, messages | `tables.rt` |
 //! | `resched`, `ready`, `suspend_ready`, `suspend_self`, `set_priority`, `make`, `bury`, `go_on` | `process_moves.rt` |
-//! | `make_semaphore`, `wait`, `signal`, `signaln`, `reset_semaphore`, `delete_semaphore` | `semaphore_moves.rt` |
+//! | `make_semaphore`, `make_two_semaphores`, `wait`, `signal`, `signaln`, `reset_semaphore`, `delete_semaphore` | `semaphore_moves.rt` |
 //! | `send_to`, `take_message`, `listen`, `listen_for` | `message_moves.rt` |
 //! | `sleep`, `tick` | `clock_moves.rt` |
 //! | the ready list, the waiters and the sleepers, one process after another | `walks.rt` |

@@ -2,13 +2,13 @@
 //!
 //! It depends on the tables. Each call is one move of the abstract machine.
 
-ghost use Rattle.std.specs.Prelude.{◌≡◌, ◌≢◌, ◌≤◌, ◌+◌, ◌-◌, ◌+ℤ◌, ◌≤ℤ◌, true, false, not, pos, int_lt, nat_lt, length, take, IfSome, IfNone, IsSome, if◌then◌else◌};
+ghost use Rattle.std.specs.Prelude.{◌≡◌, ◌≢◌, ◌≤◌, ◌+◌, ◌-◌, ◌+ℤ◌, ◌≤ℤ◌, true, false, not, pos, Some, int_lt, nat_lt, length, take, IfSome, IfNone, IsSome, if◌then◌else◌};
 ghost use Rattle.kernel_tables.specs.Served.{IsServed};
-ghost use Rattle.semaphores.specs.Counts.{number_for, tokens_of, with_made};
+ghost use Rattle.semaphores.specs.Counts.{number_for, tokens_of, two_numbers, with_made, with_two};
 ghost use Rattle.semaphores.specs.Signals.{after_signal, signal_answer};
 ghost use Rattle.xinu_laws.specs.Moves.{ready_all};
 ghost use Rattle.xinu_model.specs.Semaphores.Counts.{count_of, is_good, most_tokens, with_semaphore, with_tokens};
-ghost use Rattle.xinu_model.specs.Sound.Tables.{FitsOwner};
+ghost use Rattle.xinu_model.specs.Sound.Tables.{FitsOwner, IsInside};
 ghost use Rattle.xinu_model.specs.Tables.{InSemaphore, message_at, move_to, no_semaphore, process_at, semaphore_at, state_at};
 
 use crate::current::leave_rest;
@@ -64,6 +64,16 @@ impl KernelTables {
         self.sems.create(owner, count)
     }
 
+    /// Two new semaphores of one owner that isn't a device, the first with this count and the second with no tokens. `None`, and nothing
+    /// changes, if and only if the count is negative or fewer than two numbers are free.
+    pub fn make_two_semaphores(&mut self, owner: &Owner, count: i32) -> Option<(Sem, Sem)>
+        requires no_device { owner.now ≢ Owner.Device }
+        ensures found { result ≡ two_numbers owner.now count self.old }
+        ensures made { self.new ≡ with_two result owner.now count self.old }
+    {
+        self.sems.create_two(owner, count)
+    }
+
     /// Takes a token of `sem`, or puts the current process, which runs and isn't the null process, last among its waiters, with this
     /// left of its call. True if and only if a token was taken.
     pub fn wait(&mut self, sem: Sem, rest: Rest) -> bool
@@ -82,9 +92,11 @@ impl KernelTables {
         took
     }
 
-    /// Gives `sem` a token, which makes its first waiter ready or is kept. Refused if the count is the greatest.
+    /// Gives `sem` a token, which makes its first waiter ready or is kept. Refused if the count is the greatest. The tables were as at each
+    /// moment of an event, so whoever waited is in a call that waits for what the owner of `sem` gives.
     pub fn signal(&mut self, sem: Sem) -> Signalled
         requires used { IsSome (semaphore_at self.old sem).owner }
+        ensures inside { IsInside self.old }
         ensures answer { result ≡ signal_answer (semaphore_at self.old sem) }
         ensures signalled { self.new ≡ after_signal result sem self.old }
     {
@@ -117,10 +129,11 @@ impl KernelTables {
             .release_all(&mut self.lists, &mut self.procs, sem, count)
     }
 
-    /// Makes all waiters of `sem`, which a process made, ready in order, and gives it up. Those who waited.
+    /// Makes all waiters of `sem`, which isn't a device's, ready in order, and gives it up. Those who waited.
     pub fn delete_semaphore(&mut self, sem: Sem) -> ArrayVec<Pid, 64>
         requires runs { state_at self.old self.old.current ≡ State.Current }
-        requires good { is_good sem self.old ≡ true }
+        requires used { IsSome (semaphore_at self.old sem).owner }
+        requires no_device { (semaphore_at self.old sem).owner ≢ Some Owner.Device }
         ensures released { result.items ≡ (semaphore_at self.old sem).waiters }
         ensures deleted { self.new ≡ (let t = self.old in with_semaphore sem no_semaphore (ready_all (semaphore_at t sem).waiters t)) }
     {

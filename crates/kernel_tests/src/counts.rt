@@ -38,6 +38,27 @@ fn create(sems: &mut Sems, lists: &Lists, count: i32) -> Option<Sem>
     sems.create(Owner::Image, count)
 }
 
+// Two new semaphores of a process's; their numbers.
+fn create_two(sems: &mut Sems, lists: &Lists, count: i32) -> Option<(usize, usize)>
+    requires counts { Counts (table.lists lists.now) sems.old.entries }
+    ensures counts { Counts (table.lists lists.now) sems.new.entries }
+{
+    match sems.create_two(&Owner::Image, count) {
+        Some((first, second)) => Some((first.index(), second.index())),
+        None => None,
+    }
+}
+
+// So many new semaphores of a process's.
+fn create_many(sems: &mut Sems, lists: &Lists, many: u32)
+    requires counts { Counts (table.lists lists.now) sems.old.entries }
+    ensures counts { Counts (table.lists lists.now) sems.new.entries }
+{
+    for _ in 0..many {
+        create(sems, lists, 1);
+    }
+}
+
 // The current process waits, if it runs and the semaphore is in use.
 fn wait(sems: &mut Sems, lists: &mut Lists, procs: &mut Procs, sem: Sem) -> Result<bool, Fail>
     requires fits { Fits (table.lists lists.old) procs.old.processes }
@@ -220,5 +241,17 @@ fn the_search_goes_round(rt: HostRuntime) -> Result<(), Fail> {
     delete(&mut sems, &lists, sem_at(7));
     assert_eq!(rt; create(&mut sems, &lists, 0), Some(sem_at(7)));
     assert_eq!(rt; create(&mut sems, &lists, 0), Some(sem_at(9)));
+    Ok(())
+}
+
+#[test]
+fn two_are_made_or_none(rt: HostRuntime) -> Result<(), Fail> {
+    let (mut sems, _procs, lists) = new_tables(rt.alloc())?;
+    assert_eq!(rt; create_two(&mut sems, &lists, 5), Some((4, 5)));
+    assert_eq!(rt; create_two(&mut sems, &lists, -1), None);
+    create_many(&mut sems, &lists, 121);
+    assert_eq!(rt; create_two(&mut sems, &lists, 1), None);
+    assert_eq!(rt; sems.free_count(), 1);
+    assert_eq!(rt; create(&mut sems, &lists, 0), Some(sem_at(127)));
     Ok(())
 }

@@ -3,7 +3,7 @@ use Rattle.std.proofs.Common.{◌≡◌, ◌≢◌, ◌∙◌, int_lt, nat_lt, I
 use Rattle.std.proofs.Math.ListN.{length-set}
 use Rattle.std.proofs.lemmas.Bool.{cases_eq}
 use Rattle.std.proofs.lemmas.Int.{ints}
-use Rattle.std.proofs.lemmas.List.{map-set, set-get_or, length-map}
+use Rattle.std.proofs.lemmas.List.{map-set, set-get_or, set-set, length-map}
 use Rattle.queue_table.specs.Lists.{Entry, list_at}
 use Rattle.xinu_base.specs.declared.semaphores.Owner.{Owner}
 use Rattle.xinu_model.specs.Semaphores.Counts.{count_of, make_semaphore, with_semaphore, with_tokens}
@@ -11,7 +11,7 @@ use Rattle.xinu_model.specs.Tables.{Tables, Semaphore, no_semaphore, semaphore_a
 use Rattle.process_core.specs.Tables.{ProcessTable, Mark, numbers, semaphore_of, semaphores_of, sleepers_of, tables_of}
 use Rattle.process_core.proofs.Semaphores.{no_mark, get_or-take, semaphores-get, semaphores-mark}
 use Rattle.semaphores.specs.declared.sems.SemaphoreEntry.{SemaphoreEntry}
-use Rattle.semaphores.specs.Counts.{SemaphoreTable, Counts, no_entry, entry_at, tokens_of, waiting_of, mark_in, beside, with_count, with_entry}
+use Rattle.semaphores.specs.Counts.{SemaphoreTable, Counts, no_entry, entry_at, tokens_of, waiting_of, mark_in, beside, with_count, with_entry, with_made_entry}
 
 -- the mark of a semaphore
 pub mark_at : (es : List SemaphoreEntry) (sem : ℕ) → get_or (map mark_in es) sem no_mark ≡ mark_in (entry_at es sem)
@@ -143,6 +143,18 @@ made ls p c sem by z m ticks k lt none =
     ap (λ (t : Tables). record t { last_semaphore = sem }) (entered ls p c sem e m ticks lt)
     ∙ ap (λ (l : List Entry). record (with_semaphore sem (semaphore_of l (mark_in e)) t) { last_semaphore = sem })
     (unused_empty ls c.entries sem k lt none)
+
+-- what was made at a free number is free again
+pub undone : (ls : List (List Entry)) (c : SemaphoreTable) (sem : ℕ) (by : Owner) (z : ℤ) → Counts ls c.entries
+    → (entry_at c.entries sem).owner ≡ None
+    → record (with_entry sem no_entry (with_made_entry (Some sem) by z c)) { last_semaphore = c.last_semaphore } ≡ c
+undone ls c sem by z k none =
+    let e : entry_at c.entries sem ≡ no_entry
+    = ap (λ o. record { owner = o; count = (entry_at c.entries sem).count }) none
+    ∙ ap (λ n. record { owner = None; count = n }) (k.unused sem none) in
+    ap (λ l. record { entries = l; last_semaphore = c.last_semaphore })
+    (set-set c.entries sem (record { owner = Some by; count = z }) no_entry ∙ ap (set c.entries sem) (sym e)
+    ∙ set-get_or c.entries sem no_entry)
 
 -- another count is another number of tokens
 pub recounted : (ls : List (List Entry)) (p : ProcessTable) (c : SemaphoreTable) (sem : ℕ) (z : ℤ) (m : List (Option ℕ)) (ticks : ℕ)

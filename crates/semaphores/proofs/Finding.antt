@@ -8,12 +8,12 @@ use Rattle.std.proofs.lemmas.Int.{ints}
 use Rattle.queue_table.specs.Lists.{Entry}
 use Rattle.xinu_base.specs.declared.semaphores.Owner.{Owner}
 use Rattle.xinu_model.specs.Searches.{going_round, numbers_from, search}
-use Rattle.xinu_model.specs.Semaphores.Counts.{free_semaphore}
+use Rattle.xinu_model.specs.Semaphores.Counts.{free_semaphore, make_semaphore}
 use Rattle.xinu_model.specs.Tables.{Tables, semaphore_at}
 use Rattle.process_core.specs.Tables.{ProcessTable, tables_of}
 use Rattle.process_core.proofs.Searches.{find_none, find_passes}
 use Rattle.semaphores.specs.declared.sems.SemaphoreEntry.{SemaphoreEntry}
-use Rattle.semaphores.specs.Counts.{SemaphoreTable, beside, entry_at, number_for}
+use Rattle.semaphores.specs.Counts.{SemaphoreTable, beside, entry_at, number_for, paired, second_number, tokens_of, two_numbers}
 use Rattle.semaphores.proofs.Counting.{owner_at}
 
 -- whether the number of a semaphore is free
@@ -65,3 +65,42 @@ none_free es first None le h e = λ sem lt none.
       | inr above ↦ find_none (is_free_in es) first (128 - first) (sym h) sem above (omega arith)
     ] in
     let y : true ≡ false = sym (ap (λ (o : Option Owner). not (is_some o)) none) ∙ z in absurd (cc)
+
+-- the numbers of a pair, if there is one
+abbrev one_of : Option (ℕ × ℕ) → ℕ
+one_of None = 0
+one_of (Some x) = x.0
+
+abbrev other_of : Option (ℕ × ℕ) → ℕ
+other_of None = 0
+other_of (Some x) = x.1
+
+-- What is known of two numbers that were found: each is what the search finds.
+pub record AreFound (first second : ℕ) (by : Owner) (z : ℤ) (t : Tables) : Type 0 where
+  pub one : Some first ≡ number_for z t
+  pub other : Some second ≡ free_semaphore (make_semaphore first by (tokens_of z) t)
+
+pub are_found : (first second : ℕ) (by : Owner) (z : ℤ) (t : Tables) → ◌≡◌ {A = Option (ℕ × ℕ)} (Some (first, second)) (two_numbers by z t)
+    → AreFound first second by z t
+are_found first second by z t e = by_first (number_for z t) refl e
+  where
+    by_second : (a : ℕ) (o : Option ℕ) → Some a ≡ number_for z t → o ≡ free_semaphore (make_semaphore a by (tokens_of z) t)
+        → ◌≡◌ {A = Option (ℕ × ℕ)} (Some (first, second)) (paired a o) → AreFound first second by z t
+    by_second a None f g h = absurd (cc)
+    by_second a (Some b) f g h =
+        let p : first ≡ a = ap one_of h in
+        let q : second ≡ b = ap other_of h in
+        record {
+          one = ap (λ n. Some n) p ∙ f;
+          other = ap (λ n. Some n) q ∙ g ∙ ap (λ n. free_semaphore (make_semaphore n by (tokens_of z) t)) (sym p);
+        }
+
+    by_first : (o : Option ℕ) → o ≡ number_for z t → ◌≡◌ {A = Option (ℕ × ℕ)} (Some (first, second)) (second_number o by z t)
+        → AreFound first second by z t
+    by_first None f h = absurd (cc)
+    by_first (Some a) f h = by_second a (free_semaphore (make_semaphore a by (tokens_of z) t)) f refl h
+
+-- whoever gets a number has a count that isn't negative
+pub found_count : (z : ℤ) (t : Tables) (first : ℕ) → Some first ≡ number_for z t → pos 0 ≤ℤ z
+found_count (pos n) t first e = omega (arith, ints)
+found_count (negsuc n) t first e = absurd (cc)

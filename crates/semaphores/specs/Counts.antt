@@ -79,3 +79,22 @@ with_made None by count t = t
 abbrev pub with_made_entry : Option ℕ → Owner → ℤ → SemaphoreTable → SemaphoreTable
 with_made_entry (Some sem) by count s = record (with_entry sem (record { owner = Some by; count = count }) s) { last_semaphore = sem }
 with_made_entry None by count s = s
+
+-- a number and another one, if that was found
+abbrev pub paired : ℕ → Option ℕ → Option (ℕ × ℕ)
+paired first None = None
+paired first (Some second) = Some (first, second)
+
+-- the numbers of two new semaphores, if the first got one: the second is sought after the first is made
+abbrev pub second_number : Option ℕ → Owner → ℤ → Tables → Option (ℕ × ℕ)
+second_number None by count t = None
+second_number (Some first) by count t = paired first (free_semaphore (make_semaphore first by (tokens_of count) t))
+
+-- the numbers of two new semaphores, the first with this count and the second with no tokens
+abbrev pub two_numbers : Owner → ℤ → Tables → Option (ℕ × ℕ)
+two_numbers by count t = second_number (number_for count t) by count t
+
+-- the tables with both, if they got numbers
+abbrev pub with_two : Option (ℕ × ℕ) → Owner → ℤ → Tables → Tables
+with_two None by count t = t
+with_two (Some (first, second)) by count t = make_semaphore second by 0 (make_semaphore first by (tokens_of count) t)

@@ -10,6 +10,7 @@
 //! |---|---|---|
 //! | `new` | | `starts`: four semaphores of the kernel's; `beside`: they are those of the machine's start; `never`: there is always room; `counts`: they fit new lists |
 //! | `create` | | `found`: the number that the machine's search finds, `None` if and only if the count is negative or no number is free; `full`: no number is free then; `made`: the machine's `make_semaphore` |
+//! | `create_two` | | `found`, `made`: two in a row, the second with no tokens, or neither: `None` if and only if the count is negative or fewer than two numbers are free |
 //! | `free_count` | | `count`: how many numbers are free |
 //! | `owner_of` | | `owner`: the machine's, `None` if and only if the number is free |
 //! | `count` | `counts` | `count`: the machine's `count_of`, tokens less waiters |

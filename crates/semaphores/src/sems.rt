@@ -45,7 +45,7 @@ impl Model for Sems {
 }
 
 impl Sems {
-    ghost use Rattle.semaphores.specs.Counts.{Counts, SemaphoreTable, beside, entry_at, kernel_semaphores, no_entry, number_for, with_count, with_entry, with_made, with_made_entry};
+    ghost use Rattle.semaphores.specs.Counts.{Counts, SemaphoreTable, beside, entry_at, kernel_semaphores, no_entry, number_for, two_numbers, with_count, with_entry, with_made, with_made_entry, with_two};
 
     /// Semaphores 0 to 3, which are the kernel's: console input, console output with 64 tokens, the callers of the raw disk and
     /// those of the file system. The table is part of the value, so there is always room for it.
@@ -87,6 +87,21 @@ impl Sems {
             }
             None => None,
         }
+    }
+
+    /// Two new semaphores of one owner, the first with this count and the second with no tokens. `None`, and nothing changes, if and
+    /// only if the count is negative or fewer than two numbers are free.
+    pub fn create_two(&mut self, owner: &Owner, count: i32) -> Option<(Sem, Sem)>
+        ensures found { (ls : List (List Entry)) (s : ProcessTable) (m : List (Option ℕ)) (ticks : ℕ) → Counts ls self.old.entries →
+            result ≡ two_numbers owner.now count (tables_of ls s (beside self.old m ticks)) }
+        ensures made { (ls : List (List Entry)) (s : ProcessTable) (m : List (Option ℕ)) (ticks : ℕ) → Counts ls self.old.entries →
+            tables_of ls s (beside self.new m ticks) ≡ with_two result owner.now count (tables_of ls s (beside self.old m ticks)) }
+        ensures counts { (ls : List (List Entry)) → Counts ls self.old.entries → Counts ls self.new.entries }
+    {
+        let last = self.last_given();
+        let first = self.create(*owner, count)?;
+        let second = self.create_second(*owner, first, last)?;
+        Some((first, second))
     }
 
     /// How many numbers are free.
@@ -206,6 +221,41 @@ impl Sems {
         ensures within { sem < 128 }
     {
         self.entries[sem.index()] = entry;
+    }
+
+    // The last number given.
+    fn last_given(&self) -> Sem
+        ensures last { result ≡ self.now.last_semaphore }
+    {
+        self.last
+    }
+
+    // A semaphore with no tokens after `first`, which was made just now. `None` if and only if no number is free; then `first` is free
+    // again, and this is the last number given.
+    fn create_second(&mut self, owner: Owner, first: Sem, last: Sem) -> Option<Sem>
+        ensures found { (ls : List (List Entry)) (s : ProcessTable) (m : List (Option ℕ)) (ticks : ℕ) →
+            result ≡ free_semaphore (tables_of ls s (beside self.old m ticks)) }
+        ensures made { IfSome result (λ sem. (ls : List (List Entry)) (s : ProcessTable) (m : List (Option ℕ)) (ticks : ℕ) →
+            Counts ls self.old.entries →
+            tables_of ls s (beside self.new m ticks) ≡ with_made (Some sem) owner (pos 0) (tables_of ls s (beside self.old m ticks))) }
+        ensures counts { IfSome result (λ _. (ls : List (List Entry)) → Counts ls self.old.entries → Counts ls self.new.entries) }
+        ensures undone { IfNone result (self.new ≡ record (with_entry first no_entry self.old) { last_semaphore = last }) }
+    {
+        match self.create(owner, 0) {
+            Some(second) => Some(second),
+            None => {
+                self.forget(first, last);
+                None
+            }
+        }
+    }
+
+    // The number of `sem` is free again, and this is the last number given.
+    fn forget(&mut self, sem: Sem, last: Sem)
+        ensures sems { self.new ≡ record (with_entry sem no_entry self.old) { last_semaphore = last } }
+    {
+        self.set_entry(sem, free_entry());
+        self.set_last(last);
     }
 
     // The last number given.

@@ -22,6 +22,9 @@ signal-requires-clause-used c =
 pub signal-requires-clause-fits : goal.signal-requires-clause-fits
 signal-requires-clause-fits c = let k = c.self.inside in inside_fits k.lists k.procs (beside k.sems k.slots k.clock) c.self.invariant.inside
 
+pub returns-clause-inside : goal.returns-clause-inside
+returns-clause-inside c = subst IsInside c.self.view_is c.self.invariant.inside
+
 pub invariant_of-self : goal.invariant_of-self
 invariant_of-self c =
     let k = c.self.inside in
