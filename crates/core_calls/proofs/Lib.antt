@@ -1,7 +1,11 @@
 pub mod Released
 pub mod SemaphoreCalls
+pub mod GoingOn
 pub mod PoolCalls
+pub mod Disposals
 pub mod PortCalls
+pub mod InTurn
+pub mod PortRenewals
 pub mod Answered
 pub mod Kept
 pub mod Rows

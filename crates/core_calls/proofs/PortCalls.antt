@@ -1,6 +1,5 @@
 -- The calls on ports: what is done is what they do.
 use Rattle.std.proofs.Common.{◌≡◌, ◌∙◌, ℕ, zero, suc, ◌-◌, ◌<◌, ◌≤◌, Bool, true, false, cond, nat_le, nat_lt, int_lt, List, [], ◌∷◌, length, set, get_or, Option, Some, None, refl, sym, ap, subst, arith}
-use Rattle.std.specs.Prelude.{IsSome}
 use Rattle.std.proofs.lemmas.Bool.{leb-false}
 use Rattle.std.proofs.lemmas.Int.{ints}
 use Rattle.ports.specs.Calls.{queue_by, received, received_from, sent, ticket_from, ticket_to, with_last}
@@ -26,6 +25,7 @@ use Rattle.xinu_model.specs.Sound.Tables.{FitsOwner}
 use Rattle.xinu_model.specs.Tables.{move_to, no_semaphore, Place, Semaphore, semaphore_at, Tables}
 use Rattle.xinu_model.specs.Words.{signed}
 use Rattle.core_calls.specs.PortRoom.{HaveRoom}
+use Rattle.core_calls.specs.Released.{IsOfPart}
 
 -- Sound ports have room, also if some tokens are gone.
 pub have_room : (t u : Tables) (ports : List MessagePort) → ArePorts t ports → ((r : ℕ) → (semaphore_at u r).owner ≡ (semaphore_at t r).owner)
@@ -39,8 +39,8 @@ have_room t u ports a owners fewer = record {
       let m = k.messages in
       let n = k.room in
       record {
-        senders = subst IsSome (sym (owners queue.send ∙ k.send_owner)) refl;
-        receivers = subst IsSome (sym (owners queue.receive ∙ k.receive_owner)) refl;
+        senders = subst IsOfPart (sym (owners queue.send ∙ k.send_owner)) tt;
+        receivers = subst IsOfPart (sym (owners queue.receive ∙ k.receive_owner)) tt;
         messages = omega (arith, r, m);
         room = omega (arith, s, n);
       });
@@ -109,8 +109,8 @@ few_tokens x n h g = grind (arith, ints)
 
 -- So the receivers of a message that was put can be signalled.
 pub receivers_used : (t : Tables) (ports : List MessagePort) (ticket : PortTicket) (sem : ℕ) → HaveRoom t ports → IsPut ticket sem ports
-    → IsSome (semaphore_at t sem).owner
-receivers_used t ports ticket sem k p = subst (λ s. IsSome (semaphore_at t s).owner) (sym p.is) (k.each ticket.port p.queue p.used).receivers
+    → IsOfPart (semaphore_at t sem).owner
+receivers_used t ports ticket sem k p = subst (λ s. IsOfPart (semaphore_at t s).owner) (sym p.is) (k.each ticket.port p.queue p.used).receivers
 
 pub receivers_below : (t : Tables) (ports : List MessagePort) (ticket : PortTicket) (sem : ℕ) → HaveRoom t ports → IsPut ticket sem ports
     → int_lt (count_of (semaphore_at t sem)) most_tokens ≡ true
@@ -152,8 +152,8 @@ is_taken ticket r p h = by_stale (is_stale ticket p.ports) h
 
 -- So the senders to its port can be signalled, if the first count is a signed number.
 pub senders_used : (t : Tables) (ports : List MessagePort) (ticket : PortTicket) (r : Received) → HaveRoom t ports → IsTaken ticket r ports
-    → IsSome (semaphore_at t r.send).owner
-senders_used t ports ticket r k p = subst (λ s. IsSome (semaphore_at t s).owner) (sym p.is) (k.each ticket.port p.queue p.used).senders
+    → IsOfPart (semaphore_at t r.send).owner
+senders_used t ports ticket r k p = subst (λ s. IsOfPart (semaphore_at t s).owner) (sym p.is) (k.each ticket.port p.queue p.used).senders
 
 pub senders_below : (t : Tables) (ports : List MessagePort) (ticket : PortTicket) (r : Received) → HaveRoom t ports → (p : IsTaken ticket r ports)
     → p.queue.first_count ≤ 2147483647 → int_lt (count_of (semaphore_at t r.send)) most_tokens ≡ true

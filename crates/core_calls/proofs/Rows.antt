@@ -8,7 +8,7 @@ use Rattle.xinu_model.specs.Heap.Calls.{freemem, freestk, getmem, getstk}
 use Rattle.xinu_model.specs.Machine.{CallResult, refused, Xinu}
 use Rattle.xinu_model.specs.Messages.{receive, recvclr, recvtime, send}
 use Rattle.xinu_model.specs.Pools.Calls.{freebuf, getbuf, mkbufpool}
-use Rattle.xinu_model.specs.Ports.Calls.{ptrecv, ptsend}
+use Rattle.xinu_model.specs.Ports.Calls.{ptcreate, ptdelete, ptrecv, ptreset, ptsend}
 use Rattle.xinu_model.specs.Process.Calls.{chprio, create, getpid, getprio, kill, resume, suspend}
 use Rattle.xinu_model.specs.Process.Death.{exit}
 use Rattle.xinu_model.specs.Semaphores.Calls.{semcount, semcreate, semdelete, semreset, signal, signaln, wait}
@@ -138,6 +138,18 @@ module _ (number : ℕ) (args : List ℕ) (s : Xinu) (r : CallResult) where
   pub row_freebuf : number ≡ 30 → is_built number ≡ true → r ≡ freebuf (slice_index args 0) s → r ≡ called number args s
   unfolding calls
   row_freebuf e h is = is ∙ sym (by_number 30 number args s e h)
+
+  pub row_ptcreate : number ≡ 31 → is_built number ≡ true → r ≡ ptcreate (signed (slice_index args 0)) s → r ≡ called number args s
+  unfolding calls
+  row_ptcreate e h is = is ∙ sym (by_number 31 number args s e h)
+
+  pub row_ptdelete : number ≡ 32 → is_built number ≡ true → r ≡ ptdelete (slice_index args 0) (slice_index args 1) s → r ≡ called number args s
+  unfolding calls
+  row_ptdelete e h is = is ∙ sym (by_number 32 number args s e h)
+
+  pub row_ptreset : number ≡ 33 → is_built number ≡ true → r ≡ ptreset (slice_index args 0) (slice_index args 1) s → r ≡ called number args s
+  unfolding calls
+  row_ptreset e h is = is ∙ sym (by_number 33 number args s e h)
 
   pub row_ptsend : number ≡ 34 → is_built number ≡ true → r ≡ ptsend (slice_index args 0) (slice_index args 1) s → r ≡ called number args s
   unfolding calls

@@ -89,7 +89,7 @@ pub record IsFirst (x : Semaphore) (p : ℕ) : Type 0 where
   pub others : List ℕ
   pub first : x.waiters ≡ p ∷ others
 
-released_first : (x : Semaphore) (p : ℕ) → Released p ≡ signal_answer x → IsFirst x p
+pub released_first : (x : Semaphore) (p : ℕ) → Released p ≡ signal_answer x → IsFirst x p
 released_first x p h = by_count (int_lt (count_of x) most_tokens) refl h
   where
     by_waiters : (l : List ℕ) → x.waiters ≡ l → int_lt (count_of x) most_tokens ≡ true → Released p ≡ answer_to l → IsFirst x p

@@ -1,13 +1,14 @@
 -- What is known of the ports when a caller goes on with a token of one.
-use Rattle.std.specs.Prelude.{◌≡◌, ℕ, ◌+◌, ◌≤◌, List, length, Some, IsSome}
+use Rattle.std.specs.Prelude.{◌≡◌, ℕ, ◌+◌, ◌≤◌, List, length, Some}
+use Rattle.core_calls.specs.Released.{IsOfPart}
 use Rattle.xinu_model.specs.Ports.Queues.{MessagePort, PortQueue, port_at}
 use Rattle.xinu_model.specs.Tables.{semaphore_at, Tables}
 
--- What holds of a port in use: its semaphores are in use, there is a message for each token of the receivers, and the room that is left
+-- What holds of a port in use: its semaphores are those of a port, there is a message for each token of the receivers, and the room that is left
 -- and the messages are together at most the first count.
 pub record HasRoom (t : Tables) (queue : PortQueue) : Type 0 where
-  pub senders : IsSome (semaphore_at t queue.send).owner
-  pub receivers : IsSome (semaphore_at t queue.receive).owner
+  pub senders : IsOfPart (semaphore_at t queue.send).owner
+  pub receivers : IsOfPart (semaphore_at t queue.receive).owner
   pub messages : (semaphore_at t queue.receive).tokens ≤ length queue.messages
   pub room : (semaphore_at t queue.send).tokens + length queue.messages ≤ queue.first_count
 

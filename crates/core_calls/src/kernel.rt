@@ -2,7 +2,7 @@
 //!
 //! It depends on the kernel's state. What each call of the abstract machine keeps is kept true at each moment.
 
-ghost use Rattle.std.specs.Prelude.{◌≡◌, ◌≢◌, ◌<◌, ◌≤◌, length, ◌==◌, ◌↔◌, IsTrue, [], if◌then◌else◌, Some, None};
+ghost use Rattle.std.specs.Prelude.{ℕ, ◌≡◌, ◌≢◌, ◌<◌, ◌≤◌, length, ◌==◌, ◌↔◌, IsTrue, [], if◌then◌else◌, Some, None};
 ghost use Rattle.core_calls.specs.Results.{answer_of, came_to, idle, IsIdle, IsStart, switched_to};
 ghost use Rattle.xinu_laws.specs.Preserve.{ticking};
 ghost use Rattle.xinu_model.specs.Calls.{called, continued};
@@ -10,6 +10,7 @@ ghost use Rattle.xinu_model.specs.Devices.State.{first_devices};
 ghost use Rattle.xinu_model.specs.Events as events;
 ghost use Rattle.xinu_model.specs.Isa.Exec.{exec};
 ghost use Rattle.xinu_model.specs.Machine as model;
+ghost use Rattle.xinu_model.specs.Ports.Queues.{port_at};
 ghost use Rattle.xinu_model.specs.Process.Death.{exit};
 ghost use Rattle.xinu_model.specs.Sound.State.{IsSound};
 ghost use Rattle.xinu_model.specs.Tables.{process_at};
@@ -74,9 +75,10 @@ impl Kernel {
         self.state.pools()
     }
 
-    /// The ports. No device was called so far.
+    /// The ports, of which there are thirty. No device was called so far.
     pub fn ports(&self) -> &Ports
         ensures ports { result.now.ports ≡ self.now.call.state.parts.ports }
+        ensures many { length result.now.ports ≡ 30 }
         ensures devices { self.now.call.state.parts.devices ≡ first_devices }
     {
         self.state.ports()
@@ -108,10 +110,11 @@ impl Kernel {
         self.state.instruction()
     }
 
-    /// Begins a call of the current process. A number whose call isn't built is refused.
+    /// Begins a call of the current process. A number whose call isn't built is refused. The sequence number of a port may rise.
     pub fn begin_core(&mut self, call: Call) -> Next
         requires idle { IsIdle self.old }
         requires not_null { self.old.call.state.tables.current ≢ 0 }
+        requires numbers { (q : ℕ) → (port_at self.old.call.state.parts.ports q).seq < 4294967295 }
         ensures called { self.new ≡ called call.number call.args self.old.call.state }
         ensures answer { self.new.answer ≡ answer_of result }
     {

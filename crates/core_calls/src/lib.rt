@@ -1,4 +1,4 @@
-//! The kernel and its calls on processes, memory, semaphores, messages, the clock and buffer pools (book, chapters 4 to 10 and 13).
+//! The kernel and its calls on processes, memory, semaphores, messages, the clock, buffer pools and ports (book, chapters 4 to 11 and 13).
 //!
 //! A clause sees a `Kernel` as a `CallResult` of the abstract machine: its state inside an event, the replies to released processes so
 //! far, whether a resched is owed, and how the event's call went. Between events it is idle: `idle s` in `specs/Results.antt`. A call, what
@@ -9,9 +9,9 @@
 //! |---|---|---|
 //! | `Kernel::new` | `few`: at most eight images | `booted`: idle in the state in which the images boot, or boot's own refusal; or `NoMemory` |
 //! | `current`, `is_done`, `call_of`, `released` | | the current process, whether nothing is left of its call, the call in its registers, the replies to released processes |
-//! | `tables`, `heap`, `pools`, `ports` | | the parts of the state |
+//! | `tables`, `heap`, `pools`, `ports` | | the parts of the state; there are thirty ports |
 //! | `instruction` | `idle`; `not_null`: the null process isn't current | `outcome`, `state`: those of `exec` |
-//! | `begin_core` | `idle`, `not_null` | `called`: what the row of the call's number gives; a number whose call isn't built is refused; `answer`: the answer is the row's |
+//! | `begin_core` | `idle`, `not_null`; `numbers`: the number of each port can rise | `called`: what the row of the call's number gives; a number whose call isn't built is refused; `answer`: the answer is the row's |
 //! | `go_on_core` | `idle`, `not_null`; `waits`: something is left of the call | `continued`: what the abstract machine's continuation gives; `answer` |
 //! | `die` | `idle`, `not_null` | `dies`: the caller's death, as `exit` |
 //! | `on_tick` | `idle`; `few`: the ticks don't wrap | `ticks`: the tick with its own reschedules |
@@ -21,7 +21,7 @@
 //! each call keeps (`KeepsAll` of `xinu_laws`). So no call has a condition on lists, states or counts, and the crates above name none. The
 //! tables are those of `kernel_tables`, with one small method for each move of the abstract machine.
 //!
-//! Calls 1 to 30 have their code here, one file for each family:
+//! Calls 1 to 35 have their code here, one file for each family:
 //!
 //! | Calls | File |
 //! |---|---|
@@ -32,7 +32,7 @@
 //! | 21 to 24, the receipt of a message | `message_calls.rt` |
 //! | 25 to 27 | `clock_calls.rt` |
 //! | 28 to 30, the receipt of a buffer | `pool_calls.rt` |
-//! | 34, 35, and what is left of them | `port_calls.rt` |
+//! | 31 to 35, and what is left of 34 and 35 | `port_calls.rt` |
 //!
 //! `is_built` of `xinu_base` says which are served. The crate depends on `kernel_tables`, `freelist_memory`, `buffer_pools`, `ports`,
 //! `rv_hart`, `image_loader`, and on the laws of `xinu_laws`.

@@ -3,10 +3,11 @@
 //! A pool has a semaphore of its own, with a token for each buffer that can be had. Only `mkbufpool` takes memory of the heap, and only
 //! a buffer that is taken has its pool's number written before it.
 
-ghost use Rattle.std.specs.Prelude.{◌≡◌, ◌≢◌, ◌<◌, length};
+ghost use Rattle.std.specs.Prelude.{◌≡◌, ◌≢◌, ◌<◌, is_some, length};
 ghost use Rattle.core_calls.specs.Results.{came_to, IsStart};
-ghost use Rattle.xinu_model.specs.Pools.Buffers.{pool_at};
+ghost use Rattle.xinu_model.specs.Pools.Buffers.{holder, pool_at};
 ghost use Rattle.xinu_model.specs.Pools.Calls as model;
+ghost use Rattle.xinu_model.specs.Ports.Calls.{freed_buffers};
 ghost use Rattle.xinu_model.specs.Sound.Pools.{ArePools};
 ghost use Rattle.xinu_model.specs.Sound.Tables.{IsSoundTables};
 ghost use Rattle.xinu_model.specs.Tables.{process_at};
@@ -82,12 +83,36 @@ impl KernelState {
         requires pools { ArePools self.old.state.tables self.old.state.parts.pools }
         ensures freebuf { came_to self.new result ≡ model.freebuf a self.old.state }
     {
+        if self.free_buffer(a) {
+            Next::Returns(0)
+        } else {
+            Next::Returns(SYSERR)
+        }
+    }
+
+    /// Gives back the buffers at these addresses, one after another. An address at which none is held is passed over.
+    pub(crate) fn free_buffers(&mut self, addresses: &[u32])
+        requires sound { IsSoundTables self.old.state.tables }
+        requires pools { ArePools self.old.state.tables self.old.state.parts.pools }
+        ensures freed { self.new ≡ freed_buffers addresses.now self.old }
+    {
+        for a in addresses {
+            self.free_buffer(*a);
+        }
+    }
+
+    // Gives back the buffer at an address. Whether one was held there; if none was nothing changes.
+    fn free_buffer(&mut self, a: u32) -> bool
+        requires pools { ArePools self.old.state.tables self.old.state.parts.pools }
+        ensures freed { self.new ≡ model.freed_buffer a self.old }
+        ensures held { result ≡ is_some (holder a self.old.state.parts.pools) }
+    {
         let Some(i) = self.pools.free(a) else {
-            return Next::Returns(SYSERR);
+            return false;
         };
         let sem = self.pools.sem_of(i).unwrap();
         self.give_token(sem);
-        Next::Returns(0)
+        true
     }
 
     // Takes the buffer of pool `i` that was freed last, and writes the pool's number before it.

@@ -2,11 +2,12 @@
 //!
 //! It depends on registers and on the kernel's tables.
 
-ghost use Rattle.std.specs.Prelude.{◌≡◌, ◌≤◌, ◌<◌, ◌+◌, ◌||◌, ◌++◌, [], length};
+ghost use Rattle.std.specs.Prelude.{◌≡◌, ◌≤◌, ◌<◌, ◌+◌, ◌||◌, ◌++◌, [], true, if◌then◌else◌, length};
 ghost use Rattle.arrayvec.specs.ArrayVec.{array_vec_len};
 ghost use Rattle.core_calls.specs.Released.{replies_to};
 ghost use Rattle.core_calls.specs.Results as results;
 ghost use Rattle.core_calls.specs.Results.{answer_so_far};
+ghost use Rattle.kernel_tables.specs.Waking.{are_any};
 ghost use Rattle.xinu_model.specs.Machine as model;
 ghost use Rattle.xinu_model.specs.Tables.{process_at};
 
@@ -37,6 +38,13 @@ pub(crate) fn is_resched_due(owes_resched: bool, answer: Option<Next>) -> bool
     ensures due { result ≡ (owes_resched || model.is_off (answer_so_far answer)) }
 {
     owes_resched || matches!(answer, Some(Next::Waits | Next::Gone))
+}
+
+/// Whether a resched is owed once these processes became ready, who go on by themselves.
+pub(crate) fn owes_after(owes_resched: bool, released: &[Pid]) -> bool
+    ensures owes { result ≡ (if are_any released.now then true else owes_resched) }
+{
+    owes_resched || !released.is_empty()
 }
 
 /// Keeps a reply of this value for each of these processes, which were released, of whose call nothing is left.

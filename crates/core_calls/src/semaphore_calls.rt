@@ -3,8 +3,8 @@
 //!
 //! Each is the row of its number in the abstract machine's table. A word that names no semaphore that a process made is refused.
 
-ghost use Rattle.std.specs.Prelude.{◌≡◌, ◌≢◌, ◌≤◌, [], true, int_lt, length, IsSome};
-ghost use Rattle.core_calls.specs.Released.{replies_to};
+ghost use Rattle.std.specs.Prelude.{◌≡◌, ◌≢◌, ◌≤◌, [], true, int_lt, length};
+ghost use Rattle.core_calls.specs.Released.{IsOfPart, replies_to};
 ghost use Rattle.core_calls.specs.Results.{came_to, IsStart};
 ghost use Rattle.kernel_tables.specs.Waking.{are_any};
 ghost use Rattle.xinu_model.specs.Semaphores.Calls as model;
@@ -127,15 +127,15 @@ impl KernelState {
         Next::Returns(0)
     }
 
-    /// Gives `sem`, which is in use and whose count isn't the greatest, a token: its first waiter is released, or the token is kept.
+    /// Gives `sem`, which a pool or a port has and whose count isn't the greatest, a token: its first waiter is released, and goes on by
+    /// itself, or the token is kept.
     pub(crate) fn give_token(&mut self, sem: Sem)
-        requires start { IsStart self.old }
-        requires used { IsSome (semaphore_at self.old.state.tables sem).owner }
+        requires part { IsOfPart (semaphore_at self.old.state.tables sem).owner }
         requires room { int_lt (count_of (semaphore_at self.old.state.tables sem)) most_tokens ≡ true }
         ensures signalled { self.new ≡ signalled sem self.old }
     {
-        if let Signalled::Released(p) = self.tables.signal(sem) {
-            self.release(&[p], 0);
+        if let Signalled::Released(_) = self.tables.signal(sem) {
+            self.owes_resched = true;
         }
     }
 

@@ -4,7 +4,7 @@
 //! It depends on the kernel's tables, the processor core, the heap, the buffer pools and the ports. No fact is kept of it: the kernel keeps
 //! what holds of all of it.
 
-ghost use Rattle.std.specs.Prelude.{◌≡◌, ◌≢◌, ◌<◌, ◌==◌, ◌↔◌, IsTrue, [], None, Some, if◌then◌else◌};
+ghost use Rattle.std.specs.Prelude.{ℕ, ◌≡◌, ◌≢◌, ◌<◌, ◌==◌, ◌↔◌, IsTrue, [], None, Some, if◌then◌else◌};
 ghost use Rattle.core_calls.specs.Results.{answer_so_far, came_to, IsStart, switched_to};
 ghost use Rattle.xinu_laws.specs.Preserve.{ticking};
 ghost use Rattle.xinu_model.specs.Calls.{called, continued};
@@ -12,6 +12,7 @@ ghost use Rattle.xinu_model.specs.Devices.State.{first_devices};
 ghost use Rattle.xinu_model.specs.Events.{call_of, with_executed};
 ghost use Rattle.xinu_model.specs.Isa.Exec.{exec};
 ghost use Rattle.xinu_model.specs.Machine.{current_hart, end_of_event, Silent, start};
+ghost use Rattle.xinu_model.specs.Ports.Queues.{port_at};
 ghost use Rattle.xinu_model.specs.Sound.Pools.{ArePools};
 ghost use Rattle.xinu_model.specs.Sound.Ports.{ArePorts};
 ghost use Rattle.xinu_model.specs.Sound.Tables.{IsSoundTables};
@@ -131,6 +132,7 @@ impl KernelState {
         requires pools { ArePools self.old.state.tables self.old.state.parts.pools }
         requires ports { ArePorts self.old.state.tables self.old.state.parts.ports }
         requires not_null { self.old.state.tables.current ≢ 0 }
+        requires numbers { (q : ℕ) → (port_at self.old.state.parts.ports q).seq < 4294967295 }
         ensures called { came_to self.new result ≡ called call.number call.args self.old.state }
     {
         if !is_built(call.number) {
@@ -176,6 +178,9 @@ impl KernelState {
             28 => self.mkbufpool(a[0], a[1]),
             29 => self.getbuf(a[0]),
             30 => self.freebuf(a[0]),
+            31 => self.ptcreate(signed(a[0])),
+            32 => self.ptdelete(a[0], a[1]),
+            33 => self.ptreset(a[0], a[1]),
             34 => self.ptsend(a[0], a[1]),
             35 => self.ptrecv(a[0]),
             _ => Next::Returns(SYSERR),

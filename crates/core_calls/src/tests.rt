@@ -1,10 +1,13 @@
 //! Boot, the calls of a program, and a tick.
 
+ghost use Rattle.std.specs.Prelude.{ℕ, ◌<◌, IfSome};
 ghost use Rattle.core_calls.specs.Results.{IsIdle};
+ghost use Rattle.xinu_model.specs.Ports.Queues.{port_at};
 
 use crate::{BootFault, Kernel};
 use byteorder::{ByteOrder, LittleEndian};
 use image_loader::{Image, read_image};
+use ports::port_numbered;
 use rv_hart::Outcome;
 use std::test::Fail;
 use xinu_base::{Call, Next, Pid};
@@ -39,6 +42,19 @@ fn image_of(file: &[u8]) -> Result<Image<'_>, Fail> {
     }
 }
 
+// `None` if the sequence number of a port can't rise.
+fn numbers_left(kernel: &Kernel) -> Option<()>
+    ensures numbers { IfSome result (λ _. (q : ℕ) → (port_at kernel.now.call.state.parts.ports q).seq < 4294967295) }
+{
+    let ports = kernel.ports();
+    for number in 0..30 {
+        if ports.seq_of(port_numbered(number)) == u32::MAX {
+            return None;
+        }
+    }
+    Some(())
+}
+
 // One step: the number and the answer of its call, and who became current.
 fn step(kernel: &mut Kernel) -> Option<(u32, Next, Option<Pid>)>
     requires idle { IsIdle kernel.old }
@@ -51,6 +67,7 @@ fn step(kernel: &mut Kernel) -> Option<(u32, Next, Option<Pid>)>
         Outcome::Went => None,
         Outcome::Call => {
             let call = kernel.call_of();
+            numbers_left(kernel)?;
             let next = kernel.begin_core(call);
             Some((call.number, next, kernel.close_event()))
         }
@@ -146,6 +163,7 @@ fn reply(kernel: &mut Kernel, number: u32, args: [u32; 6]) -> Option<i32>
     if kernel.current() == Pid::default() {
         return None;
     }
+    numbers_left(kernel)?;
     let next = kernel.begin_core(Call { number, args });
     kernel.close_event();
     match next {

@@ -1,5 +1,5 @@
 use Rattle.std.proofs.Common.{◌∙◌, rules, sym}
-use Rattle.core_calls.proofs.Rows.{row_chprio, row_clktime, row_create, row_exit, row_freebuf, row_freemem, row_freestk, row_getbuf, row_getmem, row_getpid, row_getprio, row_getstk, row_kill, row_mkbufpool, row_ptrecv, row_ptsend, row_receive, row_recvclr, row_recvtime, row_resume, row_semcount, row_semcreate, row_semdelete, row_semreset, row_send, row_signal, row_signaln, row_sleep, row_sleepms, row_suspend, row_wait, row_yield}
+use Rattle.core_calls.proofs.Rows.{row_chprio, row_clktime, row_create, row_exit, row_freebuf, row_freemem, row_freestk, row_getbuf, row_getmem, row_getpid, row_getprio, row_getstk, row_kill, row_mkbufpool, row_ptcreate, row_ptdelete, row_ptrecv, row_ptreset, row_ptsend, row_receive, row_recvclr, row_recvtime, row_resume, row_semcount, row_semcreate, row_semdelete, row_semreset, row_send, row_signal, row_signaln, row_sleep, row_sleepms, row_suspend, row_wait, row_yield}
 use Rattle.core_calls.proofs.state.KernelState.begin.Goals as goal
 
 pub returns-in-1 : goal.returns-in-1
@@ -179,6 +179,24 @@ returns-in-29 c = record {
 pub returns-in-30 : goal.returns-in-30
 returns-in-30 c = record {
   called = row_freebuf c.args.call.number c.args.call.args c.args.self.now.state _ c.in-30.is
+      (sym c.is_built.ensures ∙ c.if-not-is_built.false) (search rules);
+}
+
+pub returns-in-31 : goal.returns-in-31
+returns-in-31 c = record {
+  called = row_ptcreate c.args.call.number c.args.call.args c.args.self.now.state _ c.in-31.is
+      (sym c.is_built.ensures ∙ c.if-not-is_built.false) (search rules);
+}
+
+pub returns-in-32 : goal.returns-in-32
+returns-in-32 c = record {
+  called = row_ptdelete c.args.call.number c.args.call.args c.args.self.now.state _ c.in-32.is
+      (sym c.is_built.ensures ∙ c.if-not-is_built.false) (search rules);
+}
+
+pub returns-in-33 : goal.returns-in-33
+returns-in-33 c = record {
+  called = row_ptreset c.args.call.number c.args.call.args c.args.self.now.state _ c.in-33.is
       (sym c.is_built.ensures ∙ c.if-not-is_built.false) (search rules);
 }
 

@@ -11,8 +11,8 @@ use Rattle.core_calls.specs.PortRoom.{HaveRoom}
 use Rattle.core_calls.proofs.PortCalls.{is_taken, message_taken, senders_below, senders_used}
 use Rattle.core_calls.proofs.state.KernelState.finish_receive.Goals as goal
 
-pub give_token-requires-clause-used : goal.give_token-requires-clause-used
-give_token-requires-clause-used c =
+pub give_token-requires-clause-part : goal.give_token-requires-clause-part
+give_token-requires-clause-part c =
     let R : CallState → Type 0 = λ d. HaveRoom d.state.tables d.state.parts.ports in
     senders_used c.self.inside.tables c.self.inside.ports.ports c.args.ticket c.in-Some.received (subst R (sym c.self.view_is) c.requires.room)
     (is_taken c.args.ticket c.in-Some.received c.self.inside.ports c.in-Some.ensures.answer)

@@ -4,8 +4,8 @@ use Rattle.core_calls.specs.PortRoom.{HaveRoom}
 use Rattle.core_calls.proofs.PortCalls.{is_put, receivers_below, receivers_used}
 use Rattle.core_calls.proofs.state.KernelState.finish_send.Goals as goal
 
-pub give_token-requires-clause-used : goal.give_token-requires-clause-used
-give_token-requires-clause-used c =
+pub give_token-requires-clause-part : goal.give_token-requires-clause-part
+give_token-requires-clause-part c =
     let R : CallState → Type 0 = λ d. HaveRoom d.state.tables d.state.parts.ports in
     receivers_used c.self.inside.tables c.self.inside.ports.ports c.args.ticket c.in-Put.sem (subst R (sym c.self.view_is) c.requires.room)
     (is_put c.args.ticket c.args.message c.in-Put.sem c.self.inside.ports c.in-Put.ensures.answer)
