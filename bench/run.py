@@ -5,8 +5,9 @@ usage: bench/run.py [STEPS]        (200000000 steps if none are given)
 
 It builds both programs, writes the images of bench/images.py and prints for each loop and program the seconds of processor time, the
 steps per second and the greatest memory in use. The last line of each loop is the ratio of their speeds. A loop of calls is assembled
-by `xinu_run asm` and takes a hundredth of the steps; beside its events per second are the bytes of its transcript. The last lines are ticks beside one sleeper
-and beside sixty. No part of the gate."""
+by `xinu_run asm` and takes a hundredth of the steps; beside its events per second are the bytes of its transcript. Then come ticks
+beside one sleeper and beside sixty, and last the eight texts of bench/system, which together use all calls, with the greatest memory
+of the program once it had begun to print and at the end. No part of the gate."""
 import os
 import subprocess
 import sys
@@ -16,6 +17,7 @@ import time
 BENCH = os.path.dirname(os.path.abspath(__file__))
 CRATE = os.path.join(BENCH, "..", "crates", "xinu_run")
 PROGRAM = os.path.join(CRATE, "out", "xinu_run")
+SYSTEM = os.path.join(BENCH, "system")
 DATA = ["run", "--schedule", "data/four_steps.txt", "data/getpid_and_exit.xim"]
 
 YIELD = "loop: sys yield\n j loop\n"
@@ -49,17 +51,19 @@ name: .ascii "sleeper"
 
 
 def timed(words, stdin, stdout=os.devnull):
-    """The processor seconds and the greatest memory in kilobytes of a program."""
+    """The processor seconds of a program, and its greatest memory in kilobytes, at the end and once it had begun to print."""
     with open(stdin, "rb") as source, open(stdout, "wb") as sink:
         process = subprocess.Popen(words, stdin=source, stdout=sink)
-        memory, ended = 0, 0
+        memory, first, ended = 0, 0, 0
         while not ended:
             time.sleep(0.05)
             memory = max(memory, greatest_memory(process.pid))
+            if not first and os.fstat(sink.fileno()).st_size:
+                first = memory
             ended, status, usage = os.wait4(process.pid, os.WNOHANG)
     if status != 0:
         sys.exit(f"{words[0]} ended with status {status}")
-    return usage.ru_utime + usage.ru_stime, memory
+    return usage.ru_utime + usage.ru_stime, memory, first
 
 
 def greatest_memory(pid):
@@ -85,7 +89,7 @@ def time_calls(folder, steps):
         with open(schedule, "w", encoding="ascii") as file:
             file.write("step 6\ntick 1\n" * (steps // 7) if name == "sleep" else f"step {steps}\n")
         images = [assembled(folder, f"{name}{k}", text) for k, text in enumerate(texts)]
-        seconds, memory = timed([PROGRAM, "run", "--schedule", schedule, *images], schedule, transcript)
+        seconds, memory, _ = timed([PROGRAM, "run", "--schedule", schedule, *images], schedule, transcript)
         written = os.path.getsize(transcript)
         print(f"{name:6} {seconds:17.2f} s {steps / seconds / 1e6:7.2f} million events/s {written:10} bytes {memory:7} KB")
 
@@ -97,8 +101,22 @@ def time_ticks(folder, ticks):
         file.write(f"step 4000\ntick {ticks}\n")
     for count in (1, 60):
         image = assembled(folder, f"sleepers{count}", SLEEPERS.format(count=count))
-        seconds, memory = timed([PROGRAM, "run", "--schedule", schedule, image], schedule, transcript)
+        seconds, memory, _ = timed([PROGRAM, "run", "--schedule", schedule, image], schedule, transcript)
         print(f"tick   {count:2} asleep {seconds:7.2f} s {ticks / seconds / 1e6:7.2f} million ticks/s {memory:7} KB")
+
+
+def time_system(folder, rounds):
+    """Prints the time and the memory of eight images that use all calls of the kernel, in rounds of 99 steps and a tick."""
+    schedule, transcript = os.path.join(folder, "schedule"), os.path.join(folder, "transcript")
+    with open(schedule, "w", encoding="ascii") as file:
+        file.write("step 99\ntick 1\n" * rounds)
+    images = []
+    for name in sorted(os.listdir(SYSTEM)):
+        with open(os.path.join(SYSTEM, name), encoding="ascii") as text:
+            images.append(assembled(folder, name, text.read()))
+    seconds, memory, first = timed([PROGRAM, "run", "--schedule", schedule, *images], schedule, transcript)
+    written = os.path.getsize(transcript)
+    print(f"system {seconds:17.2f} s {rounds / seconds / 1e4:7.2f} million events/s {written:10} bytes {first:7} KB, {memory:7} KB at the end")
 
 
 def main():
@@ -116,12 +134,13 @@ def main():
             proved = [PROGRAM, "run", "--schedule", schedule, image]
             speeds = []
             for name, words in (("xinu_run", proved), ("plain C", [plain, str(steps)])):
-                seconds, memory = timed(words, image)
+                seconds, memory, _ = timed(words, image)
                 speeds.append(steps / seconds)
                 print(f"{loop:6} {name:9} {seconds:7.2f} s {steps / seconds / 1e6:7.1f} million steps/s {memory:7} KB")
             print(f"{loop:6} ratio     {speeds[0] / speeds[1]:7.2f}")
         time_calls(folder, max(steps // 100, 1))
         time_ticks(folder, 1_900_000)
+        time_system(folder, 100_000)
 
 
 if __name__ == "__main__":

@@ -311,6 +311,41 @@ fn buffers_are_taken_and_given_back(rt: HostRuntime) -> Result<(), Fail> {
 }
 
 #[test]
+fn ports_are_made_reset_and_deleted(rt: HostRuntime) -> Result<(), Fail> {
+    let files = [file_of(4080, 4096)];
+    let images = [image_of(&files[0])?];
+    let Ok(mut kernel) = Kernel::new(rt.alloc(), &images) else {
+        return Err(Fail::from("no kernel"));
+    };
+    let minus = u32::MAX;
+    let calls = [
+        (31, [minus, 0, 0, 0, 0, 0], Some(-1)),
+        (31, [2, 0, 0, 0, 0, 0], Some(0)),
+        (34, [0, 7, 0, 0, 0, 0], Some(0)),
+        (34, [0, minus, 0, 0, 0, 0], Some(0)),
+        (35, [0; 6], Some(7)),
+        (35, [0; 6], Some(-1)),
+        (33, [0, 2, 0, 0, 0, 0], Some(-1)),
+        (34, [1, 7, 0, 0, 0, 0], Some(-1)),
+        (28, [8, 1, 0, 0, 0, 0], Some(0)),
+        (29, [0; 6], Some(4100)),
+        (34, [0, 4100, 0, 0, 0, 0], Some(0)),
+        (33, [0; 6], Some(0)),
+        (34, [0, 4100, 0, 0, 0, 0], Some(0)),
+        (34, [0, 8, 0, 0, 0, 0], Some(0)),
+        (32, [0, 1, 0, 0, 0, 0], Some(0)),
+        (30, [4100, 0, 0, 0, 0, 0], Some(-1)),
+        (35, [0; 6], Some(-1)),
+        (31, [0; 6], Some(0)),
+        (14, [0; 6], Some(9)),
+        (34, [0, 7, 0, 0, 0, 0], None),
+    ];
+    assert_eq!(rt; replies_are(&mut kernel, &calls), true);
+    assert_eq!(rt; kernel.ports().nodes(), 0);
+    Ok(())
+}
+
+#[test]
 fn messages_are_sent_and_sleepers_wake(rt: HostRuntime) -> Result<(), Fail> {
     let files = [file_of(0, 4096)];
     let images = [image_of(&files[0])?];

@@ -33,5 +33,5 @@ fn calls_have_names(rt: HostRuntime) {
         assert_eq!(rt; call_name(number), name);
         assert_eq!(rt; call_args(number), args);
     }
-    assert!(rt; is_built(1) && is_built(30) && !is_built(31));
+    assert!(rt; is_built(1) && is_built(35) && !is_built(36));
 }

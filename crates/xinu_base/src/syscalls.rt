@@ -29,7 +29,7 @@ pub enum Next {
 pub fn is_built(number: u32) -> bool
     ensures { result ≡ syscalls.is_built number }
 {
-    matches!(number, 1..=30)
+    matches!(number, 1..=35)
 }
 
 /// The name of the call of this number, and `unknown` for a number that has none.

@@ -11,6 +11,7 @@ mod kernel_dumps;
 mod kernel_heap;
 mod kernel_messages;
 mod kernel_pools;
+mod kernel_ports;
 mod kernel_processes;
 mod kernel_programs;
 mod kernel_semaphores;

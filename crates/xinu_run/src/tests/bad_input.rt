@@ -49,6 +49,7 @@ fn bad_schedules_are_refused_whatever_the_image_is(rt: HostRuntime) -> Result<()
     for (schedule, text) in [
         ("step 0", "xinu: schedule line 1\n"),
         ("step", "xinu: schedule line 1\n"),
+        ("roun", "xinu: schedule line 1\n"),
         ("Step 4", "xinu: schedule line 1\n"),
         ("step 4\r", "xinu: schedule line 1\n"),
         ("type 6 ", "xinu: schedule line 1\n"),
@@ -92,6 +93,24 @@ fn bad_images_are_refused(rt: HostRuntime) -> Result<(), Fail> {
         assert_eq!(rt; refusal_of(rt.alloc(), &RUN, &mut host)?, status, "{text}");
         assert_eq!(rt; host.sent(Channel::Out), b"".as_slice());
         assert_eq!(rt; host.sent(Channel::Fault), text.as_bytes());
+    }
+    Ok(())
+}
+
+#[test]
+fn each_beginning_of_an_image_is_refused(rt: HostRuntime) -> Result<(), Fail> {
+    let mut beginning = Vec::new(rt.alloc());
+    for byte in GETPID_AND_EXIT {
+        let text = if beginning.len() < 28 {
+            "xinu: image 1 fault 1\n"
+        } else {
+            "xinu: image 1 fault 4\n"
+        };
+        let mut host = quiet_host(rt.alloc(), b"step 4", beginning.as_slice())?;
+        assert_eq!(rt; refusal_of(rt.alloc(), &RUN, &mut host)?, 4, "{text}");
+        assert_eq!(rt; host.sent(Channel::Out), b"".as_slice());
+        assert_eq!(rt; host.sent(Channel::Fault), text.as_bytes());
+        beginning.push(byte)?;
     }
     Ok(())
 }

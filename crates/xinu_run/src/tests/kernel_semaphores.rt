@@ -176,6 +176,27 @@ next:   li a0, 0
         bne s0, zero, next
 end:    j end
 ";
+/// Makes all semaphores of processes; then a pool is refused, with one semaphore free a port too, and the pool gets that semaphore.
+const LEAVES_ONE: &str = "
+        li s0, 124
+next:   li a0, 0
+        sys semcreate
+        addi s0, s0, -1
+        bne s0, zero, next
+        li a0, 8
+        li a1, 1
+        sys mkbufpool
+        li a0, 9
+        sys semdelete
+        li a0, 1
+        sys ptcreate
+        li a0, 8
+        li a1, 1
+        sys mkbufpool
+        li a0, 0
+        sys semcreate
+end:    j end
+";
 
 // The transcript of the process that makes all semaphores.
 fn all_made(alloc: Global) -> Result<String, Fail> {
@@ -198,6 +219,29 @@ fn all_made(alloc: Global) -> Result<String, Fail> {
     Ok(lines)
 }
 
+// The transcript of the process that leaves one semaphore to pools and ports.
+fn one_left(alloc: Global) -> Result<String, Fail> {
+    let mut lines = String::from_str(alloc, "run 1\n")?;
+    for number in 4..128_u32 {
+        lines.push_str(format!(in alloc; "call 1 semcreate 0\nret 1 {number}\n")?.as_str())?;
+    }
+    lines.push_str(
+        "call 1 mkbufpool 8 1\nret 1 -1\ncall 1 semdelete 9\nret 1 0\ncall 1 ptcreate 1\nret 1 -1\n",
+    )?;
+    lines.push_str("call 1 mkbufpool 8 1\nret 1 0\ncall 1 semcreate 0\nret 1 -1\n")?;
+    lines.push_str(
+        "now 0 2\nproc 0 ready 0 0 - 70726e756c6c\nproc 1 current 20 0 - 696d61676531\nready 0 0\n",
+    )?;
+    for number in 4..128_u32 {
+        if number != 9 {
+            lines.push_str(format!(in alloc; "sem {number} 0\n")?.as_str())?;
+        }
+    }
+    lines.push_str("free 4112 1040368\npool 0 8 1 0\nbuf 0 4100\n")?;
+    lines.push_str("console cooked 0 0 0 0 run\ndisk0 0\ndisk1 clean\nend schedule\n")?;
+    Ok(lines)
+}
+
 #[test]
 fn waiters_are_released(rt: HostRuntime) -> Result<(), Fail> {
     for (programs, printed) in [
@@ -216,6 +260,14 @@ fn waiters_are_released(rt: HostRuntime) -> Result<(), Fail> {
 fn all_semaphores_are_made(rt: HostRuntime) -> Result<(), Fail> {
     let found = transcript(rt.alloc(), "step 1000", &[(20, MAKES_ALL)])?;
     let printed = all_made(rt.alloc())?;
+    assert_eq!(rt; found.as_slice(), printed.as_bytes(), "{printed}");
+    Ok(())
+}
+
+#[test]
+fn pools_and_ports_take_semaphores(rt: HostRuntime) -> Result<(), Fail> {
+    let found = transcript(rt.alloc(), "step 1000", &[(20, LEAVES_ONE)])?;
+    let printed = one_left(rt.alloc())?;
     assert_eq!(rt; found.as_slice(), printed.as_bytes(), "{printed}");
     Ok(())
 }
