@@ -6,7 +6,7 @@ usage: bench/run.py [STEPS]        (200000000 steps if none are given)
 It builds both programs, writes the images of bench/images.py and prints for each loop and program the seconds of processor time, the
 steps per second and the greatest memory in use. The last line of each loop is the ratio of their speeds. A loop of calls is assembled
 by `xinu_run asm` and takes a hundredth of the steps; beside its events per second are the bytes of its transcript. Then come ticks
-beside one sleeper and beside sixty, and last the eight texts of bench/system, which together use all calls, with the greatest memory
+beside one sleeper and beside sixty, and last the eight texts of bench/system, which together use calls 1 to 35, with the greatest memory
 of the program once it had begun to print and at the end. No part of the gate."""
 import os
 import subprocess
@@ -106,7 +106,7 @@ def time_ticks(folder, ticks):
 
 
 def time_system(folder, rounds):
-    """Prints the time and the memory of eight images that use all calls of the kernel, in rounds of 99 steps and a tick."""
+    """Prints the time and the memory of eight images that together use calls 1 to 35, in rounds of 99 steps and a tick."""
     schedule, transcript = os.path.join(folder, "schedule"), os.path.join(folder, "transcript")
     with open(schedule, "w", encoding="ascii") as file:
         file.write("step 99\ntick 1\n" * rounds)

@@ -1,5 +1,5 @@
 -- The messages of a port are given back as buffers, one after another: what holds of tables, pools and ports is kept.
-use Rattle.std.proofs.Common.{◌≡◌, ◌∙◌, ℕ, ◌==◌, Bool, true, false, cond, List, [], ◌∷◌, Option, None, Some, refl, sym, ap}
+use Rattle.std.proofs.Common.{◌≡◌, ◌∙◌, ℕ, ◌==◌, true, false, cond, List, [], ◌∷◌, Option, None, Some, refl, ap}
 use Rattle.std.proofs.lemmas.Bool.{cond_both}
 use Rattle.std.specs.Prelude.{is_some}
 use Rattle.xinu_laws.proofs.Pools.Calls.{pools_freed_buffer}
@@ -8,7 +8,7 @@ use Rattle.xinu_laws.proofs.Touches.Kept.{keeps_ports}
 use Rattle.xinu_laws.proofs.Touches.Pools.{freed_buffer_touches, own_semaphores, pools_reached}
 use Rattle.xinu_laws.specs.Touches.{reach, Touches}
 use Rattle.xinu_model.specs.Footprints.{on_pools}
-use Rattle.xinu_model.specs.Machine.{CallResult, CallState, refused, returns, start, Xinu}
+use Rattle.xinu_model.specs.Machine.{CallState, returns, start, Xinu}
 use Rattle.xinu_model.specs.Pools.Buffers.{holder}
 use Rattle.xinu_model.specs.Pools.Calls.{freebuf, freed_buffer, freed_by, given_to}
 use Rattle.xinu_model.specs.Ports.Calls.{disposed, freed_buffers}

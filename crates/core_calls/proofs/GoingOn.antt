@@ -1,5 +1,5 @@
--- Whoever waits on a semaphore of a pool or a port goes on by itself: it isn't answered when it is released.
-use Rattle.std.proofs.Common.{◌≡◌, ◌≢◌, ◌∙◌, ◌<◌, ℕ, ℤ, pos, true, cond, List, [], ◌∷◌, ◌++◌, Option, None, Some, refl, sym, ap}
+-- Whoever waits on a semaphore of a pool, a port or a device goes on by itself: it isn't answered when it is released.
+use Rattle.std.proofs.Common.{◌≡◌, ◌≢◌, ◌∙◌, ◌<◌, ℕ, zero, suc, ℤ, pos, true, cond, List, [], ◌∷◌, ◌++◌, Option, None, Some, refl, sym, ap}
 use Rattle.std.proofs.lemmas.List.{append-nil}
 use Rattle.std.specs.Prelude.{IsSome}
 use Rattle.semaphores.specs.Signals.{signal_answer}
@@ -13,27 +13,20 @@ use Rattle.xinu_laws.specs.Moves.{ready_all}
 use Rattle.xinu_model.specs.Machine.{CallState, reply_at_unblock}
 use Rattle.xinu_model.specs.Process.Scheduling.{ready}
 use Rattle.xinu_model.specs.Semaphores.Waiting.{emptied, signal_first, signalled}
-use Rattle.xinu_model.specs.Sound.Tables.{count_in, FitsOwner, IsForPort, IsInside}
+use Rattle.xinu_model.specs.Sound.Tables.{asks_input, asks_output, count_in, FitsDevice, FitsOwner, IsForPort, IsInside}
 use Rattle.xinu_model.specs.Tables.{process_at, semaphore_at, Tables}
 use Rattle.kernel_tables.specs.Waking.{are_any}
 use Rattle.core_calls.specs.Released.{IsOfPart, replies_to}
 use Rattle.core_calls.proofs.Released.{unblocked}
 use Rattle.core_calls.proofs.SemaphoreCalls.{released_first}
 
--- such a semaphore is in use, and isn't a device's
+-- such a semaphore is in use
 pub part_used : (o : Option Owner) → IsOfPart o → IsSome o
 part_used (Some (owner.Pool i)) h = refl
 part_used (Some (owner.Port q)) h = refl
 part_used None h = absurd h
 part_used (Some owner.Image) h = absurd h
-part_used (Some owner.Device) h = absurd h
-
-pub part_no_device : (o : Option Owner) → IsOfPart o → o ≢ Some owner.Device
-part_no_device (Some (owner.Pool i)) h e = cc
-part_no_device (Some (owner.Port q)) h e = cc
-part_no_device None h e = absurd h
-part_no_device (Some owner.Image) h e = absurd h
-part_no_device (Some owner.Device) h e = absurd h
+part_used (Some owner.Device) h = refl
 
 -- something is left of the call of whoever waits there
 port_rest : (q sem : ℕ) (r : Rest) → IsForPort q sem r → r ≢ Nothing
@@ -41,12 +34,17 @@ port_rest q sem (PtSend ticket message) f e = cc
 port_rest q sem (PtRecv ticket) f e = cc
 port_rest q sem _ f e = absurd f
 
+device_rest : (sem : ℕ) (r : Rest) → FitsDevice sem r → r ≢ Nothing
+device_rest zero r f e = let g = ap asks_input e in cc
+device_rest (suc zero) r f e = let g = ap asks_output e in cc
+device_rest (suc (suc sem)) r f e = cc
+
 part_rest : (sem : ℕ) (o : Option Owner) (r : Rest) → IsOfPart o → FitsOwner sem o r → r ≢ Nothing
 part_rest sem (Some (owner.Pool i)) r h f e = cc
 part_rest sem (Some (owner.Port q)) r h f e = port_rest q sem r f e
 part_rest sem None r h f e = absurd h
 part_rest sem (Some owner.Image) r h f e = absurd h
-part_rest sem (Some owner.Device) r h f e = absurd h
+part_rest sem (Some owner.Device) r h f e = device_rest sem r f e
 
 pub part_waiters : (t : Tables) (sem : ℕ) → IsInside t → IsOfPart (semaphore_at t sem).owner
     → (p : ℕ) → 0 < count_in p (semaphore_at t sem).waiters → (process_at t p).rest ≢ Nothing

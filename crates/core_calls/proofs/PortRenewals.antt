@@ -1,7 +1,8 @@
 -- A port is made, deleted or reset: what is done is what calls 31 to 33 do.
-use Rattle.std.proofs.Common.{◌≡◌, ◌≢◌, ◌∙◌, ℕ, ◌<◌, ◌≤◌, Bool, true, false, cond, nat_le, ℤ, pos, negsuc, ◌≤ℤ◌, List, [], ◌∷◌, Option, None, Some, option_map, refl, sym, ap, subst, arith}
+use Rattle.std.proofs.Common.{◌≡◌, ◌≢◌, ◌∙◌, ℕ, ◌<◌, ◌≤◌, true, cond, nat_le, ℤ, pos, negsuc, ◌≤ℤ◌, List, [], Option, None, Some, option_map, refl, sym, ap, subst, arith}
 use Rattle.std.proofs.lemmas.Bool.Decides.{nat_tests}
 use Rattle.std.proofs.lemmas.Int.{ints}
+use Rattle.std.specs.Prelude.{IsSome}
 use Rattle.ports.specs.Calls.{free_place, with_deleted, with_made, with_reset}
 use Rattle.ports.specs.Calls as table
 use Rattle.ports.specs.Table.{head_of, PortTable}
@@ -9,15 +10,16 @@ use Rattle.ports.specs.declared.table.PortHead.{PortHead}
 use Rattle.semaphores.specs.Counts.{paired, second_number, tokens_of, two_numbers, with_two}
 use Rattle.semaphores.proofs.Finding.{are_found}
 use Rattle.xinu_base.specs.Constants.{OK}
+use Rattle.xinu_base.specs.declared.semaphores.Owner.{Owner}
 use Rattle.xinu_base.specs.declared.semaphores.Owner.TheVariants as owner
 use Rattle.xinu_base.specs.declared.processes.State.TheVariants.{Current}
 use Rattle.xinu_laws.specs.Moves.{ready_all}
 use Rattle.xinu_laws.proofs.Tables.Unblock.{owner_ready}
 use Rattle.xinu_model.specs.Machine.{CallState, refused, returns, start, Xinu}
-use Rattle.xinu_model.specs.Ports.Calls.{cleared, deleted, disposed, emptied_port, free_port, made_port, ptcreate, ptdelete, ptreset, renewed, started_port}
+use Rattle.xinu_model.specs.Ports.Calls.{cleared, deleted, disposed, emptied_port, made_port, ptcreate, ptdelete, ptreset, renewed, started_port}
 use Rattle.xinu_model.specs.Ports.Calls as model
 use Rattle.xinu_model.specs.Ports.Queues.{MessagePort, port_at, PortQueue, queued}
-use Rattle.xinu_model.specs.Semaphores.Counts.{free_semaphore, make_semaphore, with_semaphore, with_tokens}
+use Rattle.xinu_model.specs.Semaphores.Counts.{free_semaphore, make_semaphore}
 use Rattle.xinu_model.specs.Semaphores.Waiting.{emptied}
 use Rattle.xinu_model.specs.Sound.Pools.{ArePools}
 use Rattle.xinu_model.specs.Sound.Ports.{ArePorts}
@@ -59,10 +61,6 @@ senders_part : (q : ℕ) (queue : PortQueue) (t : Tables) (ports : List MessageP
     → IsOfPart (semaphore_at t queue.send).owner
 senders_part q queue t ports a used = subst IsOfPart (sym (a.each q queue used).send_owner) tt
 
-receivers_part : (q : ℕ) (queue : PortQueue) (t : Tables) (ports : List MessagePort) → ArePorts t ports → (port_at ports q).queue ≡ Some queue
-    → IsOfPart (semaphore_at t queue.receive).owner
-receivers_part q queue t ports a used = subst IsOfPart (sym (a.each q queue used).receive_owner) tt
-
 -- What is known of the state in which port q, which has this head, is renewed.
 pub record IsRenewable (q : ℕ) (head : PortHead) (d : CallState) : Type 0 where
   pub tables : IsSoundTables d.state.tables
@@ -74,17 +72,25 @@ pub is_renewable : (q : ℕ) (head : PortHead) (d e : CallState) → d ≡ e →
 is_renewable q head d e same k a h =
     subst (IsRenewable q head) (sym same) (record { tables = k; ports = a; has = has_head head (port_at e.state.parts.ports q).queue h })
 
-pub head_part : (q : ℕ) (head : PortHead) (d : CallState) → IsRenewable q head d → IsOfPart (semaphore_at d.state.tables head.send).owner
-head_part q head d r = subst (λ (x : PortHead). IsOfPart (semaphore_at d.state.tables x.send).owner) (sym r.has.is)
-    (senders_part q r.has.queue d.state.tables d.state.parts.ports r.ports r.has.used)
+-- its semaphores are its own, so they are in use, and no device's
+pub send_owner : (q : ℕ) (head : PortHead) (d : CallState) → IsRenewable q head d
+    → (semaphore_at d.state.tables head.send).owner ≡ Some (owner.Port q)
+send_owner q head d r = subst (λ (x : PortHead). (semaphore_at d.state.tables x.send).owner ≡ Some (owner.Port q)) (sym r.has.is)
+    (r.ports.each q r.has.queue r.has.used).send_owner
 
--- What is known once the senders went on: the caller runs, and the receivers are those of a port.
-pub record CanFollow (t : Tables) (receive : ℕ) : Type 0 where
+pub port_used : (q : ℕ) (o : Option Owner) → o ≡ Some (owner.Port q) → IsSome o
+port_used q o e = subst IsSome (sym e) refl
+
+pub port_no_device : (q : ℕ) (o : Option Owner) → o ≡ Some (owner.Port q) → o ≢ Some owner.Device
+port_no_device q o e f = let g = sym e ∙ f in cc
+
+-- What is known once the senders went on: the caller runs, and the receivers are those of the port.
+pub record CanFollow (q receive : ℕ) (t : Tables) : Type 0 where
   pub runs : state_at t t.current ≡ Current
-  pub part : IsOfPart (semaphore_at t receive).owner
+  pub owned : (semaphore_at t receive).owner ≡ Some (owner.Port q)
 
 pub can_follow : (q : ℕ) (head : PortHead) (d : CallState) (u : Tables) (f : Semaphore → Semaphore) → IsRenewable q head d
-    → u ≡ released_to head.send f d.state.tables → CanFollow u head.receive
+    → u ≡ released_to head.send f d.state.tables → CanFollow q head.receive u
 can_follow q head d u f w is =
     let t = d.state.tables in
     let h = w.has in
@@ -96,9 +102,9 @@ can_follow q head d u f w is =
     let same : (semaphore_at (released_to head.send f t) head.receive).owner ≡ Some (owner.Port q)
     = ap (λ (x : Semaphore). x.owner) (changed_other v head.send head.receive f n)
     ∙ owner_ready (semaphore_at t head.send).waiters t head.receive ∙ ap (λ r. (semaphore_at t r).owner) r ∙ i.receive_owner in
-    subst (λ u. CanFollow u head.receive) (sym is) (record {
+    subst (CanFollow q head.receive) (sym is) (record {
       runs = (sound_all_ready t head.send w.tables).runs;
-      part = subst IsOfPart (sym same) tt;
+      owned = same;
     })
 
 -- all who wait on the two semaphores of a port go on

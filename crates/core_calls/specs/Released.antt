@@ -10,8 +10,9 @@ abbrev pub replies_to : ℤ → List ℕ → Tables → List (ℕ × ℤ)
 replies_to value [] t = []
 replies_to value (p ∷ ps) t = reply_at_unblock value p (process_at t p).rest ++ replies_to value ps t
 
--- a semaphore of a pool or a port: whoever waits there goes on by itself when it is released, and isn't answered then
+-- a semaphore of a pool, a port or a device: whoever waits there goes on by itself when it is released, and isn't answered then
 abbrev pub IsOfPart : Option Owner → Type 0
 IsOfPart (Some (owner.Pool i)) = Unit {0}
 IsOfPart (Some (owner.Port q)) = Unit {0}
+IsOfPart (Some owner.Device) = Unit {0}
 IsOfPart _ = ⊥

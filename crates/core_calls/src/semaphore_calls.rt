@@ -127,7 +127,7 @@ impl KernelState {
         Next::Returns(0)
     }
 
-    /// Gives `sem`, which a pool or a port has and whose count isn't the greatest, a token: its first waiter is released, and goes on by
+    /// Gives `sem`, which no process made and whose count isn't the greatest, a token: its first waiter is released, and goes on by
     /// itself, or the token is kept.
     pub(crate) fn give_token(&mut self, sem: Sem)
         requires part { IsOfPart (semaphore_at self.old.state.tables sem).owner }

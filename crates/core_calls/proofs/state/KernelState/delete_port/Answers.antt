@@ -6,8 +6,7 @@ use Rattle.xinu_model.specs.Semaphores.Waiting.{emptied}
 use Rattle.xinu_model.specs.Tables.{semaphore_at}
 use Rattle.kernel_tables.specs.Waking.{are_any}
 use Rattle.core_calls.specs.States.{kernel_state}
-use Rattle.core_calls.proofs.GoingOn.{part_no_device, part_used}
-use Rattle.core_calls.proofs.PortRenewals.{can_follow, given_up, head_part, is_renewable, port_deleted, renewed_in}
+use Rattle.core_calls.proofs.PortRenewals.{can_follow, given_up, is_renewable, port_deleted, port_no_device, port_used, renewed_in, send_owner}
 use Rattle.core_calls.proofs.state.KernelState.delete_port.Goals as goal
 
 pub delete_semaphore-senders-requires-clause-runs : goal.delete_semaphore-senders-requires-clause-runs
@@ -20,13 +19,13 @@ pub delete_semaphore-senders-requires-clause-used : goal.delete_semaphore-sender
 delete_semaphore-senders-requires-clause-used c =
     let d = kernel_state c.self.inside in
     let r = is_renewable c.args.q c.args.head.now d c.args.self.now c.self.view_is c.requires.sound c.requires.ports c.requires.used in
-    part_used (semaphore_at d.state.tables c.args.head.now.send).owner (head_part c.args.q c.args.head.now d r)
+    port_used c.args.q (semaphore_at d.state.tables c.args.head.now.send).owner (send_owner c.args.q c.args.head.now d r)
 
 pub delete_semaphore-senders-requires-clause-no_device : goal.delete_semaphore-senders-requires-clause-no_device
 delete_semaphore-senders-requires-clause-no_device c =
     let d = kernel_state c.self.inside in
     let r = is_renewable c.args.q c.args.head.now d c.args.self.now c.self.view_is c.requires.sound c.requires.ports c.requires.used in
-    part_no_device (semaphore_at d.state.tables c.args.head.now.send).owner (head_part c.args.q c.args.head.now d r)
+    port_no_device c.args.q (semaphore_at d.state.tables c.args.head.now.send).owner (send_owner c.args.q c.args.head.now d r)
 
 pub delete_semaphore-receivers-requires-clause-runs : goal.delete_semaphore-receivers-requires-clause-runs
 delete_semaphore-receivers-requires-clause-runs c =
@@ -42,7 +41,7 @@ delete_semaphore-receivers-requires-clause-used c =
     let r = is_renewable c.args.q c.args.head.now d c.args.self.now c.self.view_is c.requires.sound c.requires.ports c.requires.used in
     let u = c.delete_semaphore-senders.new.self in
     let f = can_follow c.args.q c.args.head.now d u given_up r c.delete_semaphore-senders.ensures.deleted in
-    part_used (semaphore_at u c.args.head.now.receive).owner f.part
+    port_used c.args.q (semaphore_at u c.args.head.now.receive).owner f.owned
 
 pub delete_semaphore-receivers-requires-clause-no_device : goal.delete_semaphore-receivers-requires-clause-no_device
 delete_semaphore-receivers-requires-clause-no_device c =
@@ -50,7 +49,7 @@ delete_semaphore-receivers-requires-clause-no_device c =
     let r = is_renewable c.args.q c.args.head.now d c.args.self.now c.self.view_is c.requires.sound c.requires.ports c.requires.used in
     let u = c.delete_semaphore-senders.new.self in
     let f = can_follow c.args.q c.args.head.now d u given_up r c.delete_semaphore-senders.ensures.deleted in
-    part_no_device (semaphore_at u c.args.head.now.receive).owner f.part
+    port_no_device c.args.q (semaphore_at u c.args.head.now.receive).owner f.owned
 
 pub returns : goal.returns
 returns c =
@@ -64,9 +63,9 @@ returns c =
     let p = c.delete.new.self in
     let O : Bool → CallState = λ b. record (renewed_in v senders receivers p d) { owes_resched = b } in
     let owes : c.owes_after-self-inside-2.result ≡ cond (are_any receivers) true (cond (are_any senders) true d.owes_resched)
-        = c.owes_after-self-inside-2.ensures.owes ∙ ap (λ l. cond (are_any l) true c.owes_after-self-inside.result) c.as_slice-2.ensures.value
-        ∙ ap (λ b. cond (are_any receivers) true b)
-        (c.owes_after-self-inside.ensures.owes ∙ ap (λ l. cond (are_any l) true d.owes_resched) c.as_slice.ensures.value) in
+    = c.owes_after-self-inside-2.ensures.owes ∙ ap (λ l. cond (are_any l) true c.owes_after-self-inside.result) c.as_slice-2.ensures.value
+    ∙ ap (λ b. cond (are_any receivers) true b)
+    (c.owes_after-self-inside.ensures.owes ∙ ap (λ l. cond (are_any l) true d.owes_resched) c.as_slice.ensures.value) in
     record {
       deleted = λ queue used. (
           let U : CallState → Type 0 = λ d. (port_at d.state.parts.ports q).queue ≡ Some queue in

@@ -16,10 +16,9 @@ loop-a-preserved c =
     let left = drop-cons all c.loop-a.a-index 0 c.loop-a-test.true ∙ ap (λ n. a ∷ drop n all) (sym (add-one c.loop-a.a-index)) in
     let is = sym c.free_buffer.ensures.freed in
     let S : CallState → Type 0 = λ e. IsSoundTables e.state.tables in
-    let P : CallState → Type 0 = λ e. ArePools e.state.tables e.state.parts.pools in
-    (
+    let P : CallState → Type 0 = λ e. ArePools e.state.tables e.state.parts.pools in (
       subst S is k.tables,
       subst P is k.pools,
-        ap (freed_buffers (drop (c.loop-a.a-index + 1) all)) c.free_buffer.ensures.freed
-            ∙ sym (ap (λ l. freed_buffers l d) left) ∙ i.2,
+      ap (freed_buffers (drop (c.loop-a.a-index + 1) all)) c.free_buffer.ensures.freed
+          ∙ sym (ap (λ l. freed_buffers l d) left) ∙ i.2,
     )

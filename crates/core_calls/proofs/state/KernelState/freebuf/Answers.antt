@@ -1,4 +1,4 @@
-use Rattle.std.proofs.Common.{◌∙◌, pos, negsuc, sym, ap, subst}
+use Rattle.std.proofs.Common.{◌∙◌, pos, negsuc, sym, ap}
 use Rattle.xinu_base.specs.declared.syscalls.Next.TheVariants.{Returns}
 use Rattle.xinu_model.specs.Pools.Calls.{freed_buffer}
 use Rattle.core_calls.specs.Results.{came_to}

@@ -1,6 +1,7 @@
 use Rattle.std.proofs.Common.{◌≡◌, ◌∙◌, pos, negsuc, ap, rules, sym, subst, w32}
 use Rattle.std.proofs.lemmas.Int.{to_z-of_z}
 use mir.Val.{SFits, of_z, to_z}
+use Rattle.ports.specs.Calls.{with_made}
 use Rattle.xinu_base.specs.declared.syscalls.Next.TheVariants.{Returns}
 use Rattle.xinu_model.specs.Machine.{CallState, refused}
 use Rattle.xinu_model.specs.Machine as machine
@@ -8,6 +9,7 @@ use Rattle.xinu_model.specs.Ports.Calls.{ptcreate}
 use Rattle.xinu_model.specs.Tables.{Tables}
 use Rattle.core_calls.specs.Results.{came_to, IsStart}
 use Rattle.core_calls.specs.States.{kernel_state}
+use Rattle.core_calls.proofs.PortCalls.{table_of}
 use Rattle.core_calls.proofs.PortRenewals.{no_port_made, no_two_made, ptcreate_is}
 use Rattle.core_calls.proofs.state.KernelState.ptcreate.Goals as goal
 
@@ -39,7 +41,10 @@ returns c =
     let q = c.in-Some.q in
     let t = c.make_two_semaphores.new.self in
     let p = c.make.new.self in
-    let two = c.in-Some-make_two_semaphores.send-1-given.0.0 in
+    let z = to_z w32 (of_z w32 c.args.count) in
+    let send = c.in-Some-make_two_semaphores.send in
+    let receive = c.in-Some-make_two_semaphores.receive in
+    let made : p ≡ with_made q (record { first_count = z; send = send; receive = receive }) (table_of d.state) = search rules in
     let begins = (subst IsStart (sym c.self.view_is) c.requires.start).is in
     let fits : SFits w32 c.args.count = search rules in
     let value : to_z w32 c.index.result ≡ pos q = search rules in
@@ -49,8 +54,8 @@ returns c =
     record {
       ptcreate = ap (λ v. machine.returns (W d) v) value
           ∙ ap (λ d. machine.returns (W d) (pos q)) begins
-          ∙ ptcreate_is d.state q two.0 two.1 (to_z w32 (of_z w32 c.args.count)) t p
-          c.in-Some.ensures.found c.in-Some-make_two_semaphores.ensures.found c.in-Some-make_two_semaphores.ensures.made c.make.ensures.made
+          ∙ ptcreate_is d.state q send receive z t p c.in-Some.ensures.found
+          c.in-Some-make_two_semaphores.ensures'.found c.in-Some-make_two_semaphores.ensures'.made made
           ∙ ap (λ z. ptcreate z d.state) (to_z-of_z w32 c.args.count fits)
           ∙ ap (λ (d : CallState). ptcreate c.args.count d.state) c.self.view_is;
     }

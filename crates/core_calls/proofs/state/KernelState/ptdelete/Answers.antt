@@ -14,45 +14,45 @@ pub delete_port-requires-clause-sound : goal.delete_port-requires-clause-sound
 delete_port-requires-clause-sound c =
     let d = kernel_state c.self.inside in
     let was = c.dispose.ensures.disposed
-        ∙ ap (λ d. disposed c.args.how (queued (port_at d.state.parts.ports c.in-Some.q).queue) d) (sym c.self.view_is) in
+    ∙ ap (λ d. disposed c.args.how (queued (port_at d.state.parts.ports c.in-Some.q).queue) d) (sym c.self.view_is) in
     let x = is_disposed c.in-Some.q c.args.how c.in-Some-head_of.head d c.dispose.new.self c.args.self.now c.self.view_is c.requires.sound
-        c.requires.pools c.requires.ports c.requires.numbers c.in-Some-head_of.ensures.head was in
+    c.requires.pools c.requires.ports c.requires.numbers c.in-Some-head_of.ensures.head was in
     x.tables
 
 pub delete_port-requires-clause-ports : goal.delete_port-requires-clause-ports
 delete_port-requires-clause-ports c =
     let d = kernel_state c.self.inside in
     let was = c.dispose.ensures.disposed
-        ∙ ap (λ d. disposed c.args.how (queued (port_at d.state.parts.ports c.in-Some.q).queue) d) (sym c.self.view_is) in
+    ∙ ap (λ d. disposed c.args.how (queued (port_at d.state.parts.ports c.in-Some.q).queue) d) (sym c.self.view_is) in
     let x = is_disposed c.in-Some.q c.args.how c.in-Some-head_of.head d c.dispose.new.self c.args.self.now c.self.view_is c.requires.sound
-        c.requires.pools c.requires.ports c.requires.numbers c.in-Some-head_of.ensures.head was in
+    c.requires.pools c.requires.ports c.requires.numbers c.in-Some-head_of.ensures.head was in
     x.ports
 
 pub delete_port-requires-clause-used : goal.delete_port-requires-clause-used
 delete_port-requires-clause-used c =
     let d = kernel_state c.self.inside in
     let was = c.dispose.ensures.disposed
-        ∙ ap (λ d. disposed c.args.how (queued (port_at d.state.parts.ports c.in-Some.q).queue) d) (sym c.self.view_is) in
+    ∙ ap (λ d. disposed c.args.how (queued (port_at d.state.parts.ports c.in-Some.q).queue) d) (sym c.self.view_is) in
     let x = is_disposed c.in-Some.q c.args.how c.in-Some-head_of.head d c.dispose.new.self c.args.self.now c.self.view_is c.requires.sound
-        c.requires.pools c.requires.ports c.requires.numbers c.in-Some-head_of.ensures.head was in
+    c.requires.pools c.requires.ports c.requires.numbers c.in-Some-head_of.ensures.head was in
     x.used
 
 pub delete_port-requires-clause-number : goal.delete_port-requires-clause-number
 delete_port-requires-clause-number c =
     let d = kernel_state c.self.inside in
     let was = c.dispose.ensures.disposed
-        ∙ ap (λ d. disposed c.args.how (queued (port_at d.state.parts.ports c.in-Some.q).queue) d) (sym c.self.view_is) in
+    ∙ ap (λ d. disposed c.args.how (queued (port_at d.state.parts.ports c.in-Some.q).queue) d) (sym c.self.view_is) in
     let x = is_disposed c.in-Some.q c.args.how c.in-Some-head_of.head d c.dispose.new.self c.args.self.now c.self.view_is c.requires.sound
-        c.requires.pools c.requires.ports c.requires.numbers c.in-Some-head_of.ensures.head was in
+    c.requires.pools c.requires.ports c.requires.numbers c.in-Some-head_of.ensures.head was in
     x.number
 
 pub returns : goal.returns
 returns c =
     let d = kernel_state c.self.inside in
     let was = c.dispose.ensures.disposed
-        ∙ ap (λ d. disposed c.args.how (queued (port_at d.state.parts.ports c.in-Some.q).queue) d) (sym c.self.view_is) in
+    ∙ ap (λ d. disposed c.args.how (queued (port_at d.state.parts.ports c.in-Some.q).queue) d) (sym c.self.view_is) in
     let x = is_disposed c.in-Some.q c.args.how c.in-Some-head_of.head d c.dispose.new.self c.args.self.now c.self.view_is c.requires.sound
-        c.requires.pools c.requires.ports c.requires.numbers c.in-Some-head_of.ensures.head was in
+    c.requires.pools c.requires.ports c.requires.numbers c.in-Some-head_of.ensures.head was in
     let q = c.in-Some.q in
     let how = c.args.how in
     let h = has_head c.in-Some-head_of.head (port_at d.state.parts.ports q).queue c.in-Some-head_of.ensures.head in

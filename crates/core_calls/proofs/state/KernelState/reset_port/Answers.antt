@@ -9,8 +9,7 @@ use Rattle.xinu_model.specs.Semaphores.Waiting.{emptied}
 use Rattle.xinu_model.specs.Tables.{semaphore_at}
 use Rattle.kernel_tables.specs.Waking.{are_any}
 use Rattle.core_calls.specs.States.{kernel_state}
-use Rattle.core_calls.proofs.GoingOn.{part_used}
-use Rattle.core_calls.proofs.PortRenewals.{can_follow, head_counted, head_part, is_renewable, port_reset, renewed_in, with_count}
+use Rattle.core_calls.proofs.PortRenewals.{can_follow, head_counted, is_renewable, port_reset, port_used, renewed_in, send_owner, with_count}
 use Rattle.core_calls.proofs.InTurn.{released_to}
 use Rattle.core_calls.proofs.state.KernelState.reset_port.Goals as goal
 
@@ -24,7 +23,7 @@ pub reset_semaphore-senders-requires-clause-used : goal.reset_semaphore-senders-
 reset_semaphore-senders-requires-clause-used c =
     let d = kernel_state c.self.inside in
     let r = is_renewable c.args.q c.args.head.now d c.args.self.now c.self.view_is c.requires.sound c.requires.ports c.requires.used in
-    part_used (semaphore_at d.state.tables c.args.head.now.send).owner (head_part c.args.q c.args.head.now d r)
+    port_used c.args.q (semaphore_at d.state.tables c.args.head.now.send).owner (send_owner c.args.q c.args.head.now d r)
 
 pub reset_semaphore-senders-requires-clause-tokens : goal.reset_semaphore-senders-requires-clause-tokens
 reset_semaphore-senders-requires-clause-tokens c =
@@ -40,7 +39,7 @@ reset_semaphore-receivers-requires-clause-runs c =
     let u = c.reset_semaphore-senders.new.self in
     let fits : SFits w32 c.args.head.now.first_count = search rules in
     let between = c.reset_semaphore-senders.ensures.reset
-        ∙ ap (λ z. released_to c.args.head.now.send (with_count (tokens_of z)) d.state.tables) (to_z-of_z w32 c.args.head.now.first_count fits) in
+    ∙ ap (λ z. released_to c.args.head.now.send (with_count (tokens_of z)) d.state.tables) (to_z-of_z w32 c.args.head.now.first_count fits) in
     let f = can_follow c.args.q c.args.head.now d u (with_count (tokens_of c.args.head.now.first_count)) r between in
     f.runs
 
@@ -51,9 +50,9 @@ reset_semaphore-receivers-requires-clause-used c =
     let u = c.reset_semaphore-senders.new.self in
     let fits : SFits w32 c.args.head.now.first_count = search rules in
     let between = c.reset_semaphore-senders.ensures.reset
-        ∙ ap (λ z. released_to c.args.head.now.send (with_count (tokens_of z)) d.state.tables) (to_z-of_z w32 c.args.head.now.first_count fits) in
+    ∙ ap (λ z. released_to c.args.head.now.send (with_count (tokens_of z)) d.state.tables) (to_z-of_z w32 c.args.head.now.first_count fits) in
     let f = can_follow c.args.q c.args.head.now d u (with_count (tokens_of c.args.head.now.first_count)) r between in
-    part_used (semaphore_at u c.args.head.now.receive).owner f.part
+    port_used c.args.q (semaphore_at u c.args.head.now.receive).owner f.owned
 
 pub returns : goal.returns
 returns c =
@@ -66,13 +65,13 @@ returns c =
     let v = c.reset_semaphore-receivers.new.self in
     let fits : SFits w32 head.first_count = search rules in
     let between = c.reset_semaphore-senders.ensures.reset
-        ∙ ap (λ z. released_to head.send (with_count (tokens_of z)) d.state.tables) (to_z-of_z w32 head.first_count fits) in
+    ∙ ap (λ z. released_to head.send (with_count (tokens_of z)) d.state.tables) (to_z-of_z w32 head.first_count fits) in
     let p = c.reset.new.self in
     let O : Bool → CallState = λ b. record (renewed_in v senders receivers p d) { owes_resched = b } in
     let owes : c.owes_after-self-inside-2.result ≡ cond (are_any receivers) true (cond (are_any senders) true d.owes_resched)
-        = c.owes_after-self-inside-2.ensures.owes ∙ ap (λ l. cond (are_any l) true c.owes_after-self-inside.result) c.as_slice-2.ensures.value
-        ∙ ap (λ b. cond (are_any receivers) true b)
-        (c.owes_after-self-inside.ensures.owes ∙ ap (λ l. cond (are_any l) true d.owes_resched) c.as_slice.ensures.value) in
+    = c.owes_after-self-inside-2.ensures.owes ∙ ap (λ l. cond (are_any l) true c.owes_after-self-inside.result) c.as_slice-2.ensures.value
+    ∙ ap (λ b. cond (are_any receivers) true b)
+    (c.owes_after-self-inside.ensures.owes ∙ ap (λ l. cond (are_any l) true d.owes_resched) c.as_slice.ensures.value) in
     record {
       reset = λ queue used. (
           let U : CallState → Type 0 = λ d. (port_at d.state.parts.ports q).queue ≡ Some queue in

@@ -12,9 +12,9 @@ returns-in_err-second-clause-made c ls s m ticks k =
     let old = c.args.self.now in
     let first = c.in_ok-first.first in
     let e : c.create_second.new.self ≡ old = c.in_err-second.ensures.undone
-        ∙ ap (λ l. record (with_entry first no_entry c.create.new.self) { last_semaphore = l }) c.last_given-last.ensures.last
-        ∙ ap (λ (x : SemaphoreTable). record (with_entry first no_entry x) { last_semaphore = old.last_semaphore }) c.in_ok-first.ensures.sems
-        ∙ undone ls old first _ _ k c.in_ok-first.ensures.free in
+    ∙ ap (λ l. record (with_entry first no_entry c.create.new.self) { last_semaphore = l }) c.last_given-last.ensures.last
+    ∙ ap (λ (x : SemaphoreTable). record (with_entry first no_entry x) { last_semaphore = old.last_semaphore }) c.in_ok-first.ensures.sems
+    ∙ undone ls old first _ _ k c.in_ok-first.ensures.free in
     rw (c.from_residual-in_err-second.ensures) (ap (λ (x : SemaphoreTable). tables_of ls s (beside x m ticks)) e)
 
 pub returns-clause-made : goal.returns-clause-made
