@@ -135,15 +135,22 @@ signals_keep_all s d k r = record {
   devices = with_disks (r.console k.devices.console) (keeps_names refl r.touches k.devices.names) (keeps_disks refl refl r.touches k.tables.inside r.tables.inside (disks_in k.devices));
 }
 
+-- A received character keeps all, and so does a byte that is sent.
+pub receiving_keeps : (b : ℕ) (s : Xinu) → IsSound s → KeepsAll (receiving b s)
+receiving_keeps b s k = signals_keep_all s (receiving b s).call k (receiving_signals b s (sound_holds s k))
+
+pub sending_keeps : (sent : Sent) (s : Xinu) → transmitted (console_of s) ≡ Some sent → IsSound s → KeepsAll (sending sent s)
+sending_keeps sent s e k = signals_keep_all s (after_sent sent s) k (sending_signals sent s e (sound_holds s k))
+
 -- a received character keeps the state sound,
 state_keyed : (b : ℕ) (s : Xinu) → IsSound s → IsSound (keyed b s).state
-state_keyed b s k = state_end_of_event s.tables.current [] (receiving b s) (signals_keep_all s (receiving b s).call k (receiving_signals b s (sound_holds s k)))
+state_keyed b s k = state_end_of_event s.tables.current [] (receiving b s) (receiving_keeps b s k)
 
 -- and so does a transmission
 state_sent : (found : Option Sent) (s : Xinu) → transmitted (console_of s) ≡ found → IsSound s → IsSound (sent_in found s).state
 state_sent None s e k = k
 state_sent (Some sent) s e k =
-    state_end_of_event s.tables.current (line.Con sent.byte ∷ []) (sending sent s) (signals_keep_all s (after_sent sent s) k (sending_signals sent s e (sound_holds s k)))
+    state_end_of_event s.tables.current (line.Con sent.byte ∷ []) (sending sent s) (sending_keeps sent s e k)
 
 -- what serves a request keeps all
 served_keeps_all : (s : Xinu) (d : CallState) → IsSound s → Completes s d → KeepsAll (record { call = d; answer = Silent })
