@@ -133,6 +133,14 @@ impl Ram {
         Ok(())
     }
 
+    /// The bytes from an address to the end of RAM.
+    pub fn bytes_from(&self, a: u32) -> &[u8]
+        ensures bytes { result.now ≡ drop a self.now }
+    {
+        let at = a as usize;
+        if at < SIZE { &self.bytes[at..] } else { &[] }
+    }
+
     /// The bytes of a range. Refused if and only if it isn't in RAM.
     pub fn copy_out(&self, a: u32, n: usize) -> Result<&[u8], OutOfRam>
         ensures answer { is_ok result ≡ in_ram a n }
