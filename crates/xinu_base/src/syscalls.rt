@@ -32,6 +32,13 @@ pub fn is_built(number: u32) -> bool
     matches!(number, 1..=35)
 }
 
+/// Whether the machine has the device of this number.
+pub fn is_built_device(dev: u32) -> bool
+    ensures { result ≡ syscalls.is_built_device dev }
+{
+    dev == 0
+}
+
 /// The name of the call of this number, and `unknown` for a number that has none.
 pub fn call_name(number: u32) -> &'static str
     ensures name { result.now ≡ syscalls.name_of number }

@@ -1,10 +1,13 @@
 //! What holds at each moment of an event: the laws that the kernel's code cites.
 
 ghost use Rattle.std.specs.Prelude.{◌≡◌, ◌≢◌, ◌+◌, ◌≤◌, ℕ, true, false, [], List, Some, slice_index};
-ghost use Rattle.xinu_base.specs.Syscalls.{is_built};
+ghost use Rattle.xinu_base.specs.Syscalls.{is_served};
 ghost use Rattle.xinu_base.specs.declared.lines.TranscriptLine.{TranscriptLine};
 ghost use Rattle.xinu_model.specs.Calls.{calls, call_of_number, called, continued};
 ghost use Rattle.xinu_model.specs.Clock.{ticked};
+ghost use Rattle.xinu_model.specs.Console.Signals.{keyed, receiving, sending, transmits};
+ghost use Rattle.xinu_model.specs.Console.Taking.{console_of};
+ghost use Rattle.xinu_model.specs.Console.Transmitting.{Sent, transmitted};
 ghost use Rattle.xinu_model.specs.Events.{stepped, with_executed};
 ghost use Rattle.xinu_model.specs.Isa.Exec.{exec};
 ghost use Rattle.xinu_model.specs.Machine.{Xinu, CallResult, current_hart, refused, replies_of, end_of_event};
@@ -17,11 +20,11 @@ ghost use Rattle.xinu_model.specs.Sound.Tables.{IsInside, IsSoundTables};
 ghost use Rattle.xinu_model.specs.Sound.State.{IsSound};
 ghost use Rattle.xinu_model.specs.Tables.{Tables, process_at};
 
-/// The call of a number does what the row of this number says. A call that is built is carried out so, and any other is refused.
+/// The call of a number does what the row of this number says. A call that is served is carried out so, and any other is refused.
 pub fn calls_are_rows()
     ensures row { (number : ℕ) (args : List ℕ) (s : Xinu) (r : CallRow) → found_in calls number ≡ Some r → call_of_number number args s ≡ r.effect (slice_index args) s }
-    ensures built { (number : ℕ) (args : List ℕ) (s : Xinu) → is_built number ≡ true → called number args s ≡ call_of_number number args s }
-    ensures other { (number : ℕ) (args : List ℕ) (s : Xinu) → is_built number ≡ false → called number args s ≡ refused s }
+    ensures served { (number : ℕ) (args : List ℕ) (s : Xinu) → is_served number args ≡ true → called number args s ≡ call_of_number number args s }
+    ensures other { (number : ℕ) (args : List ℕ) (s : Xinu) → is_served number args ≡ false → called number args s ≡ refused s }
 {}
 
 /// In a sound state, and after an instruction, any process but the null process may call; what a call keeps holds inside an event, and its
@@ -60,6 +63,14 @@ pub fn ticks_keep_all()
 pub fn ticks_move_the_clock()
     ensures step { (s : Xinu) → IsSound s → (stepped s).state.tables.ticks ≡ s.tables.ticks }
     ensures tick { (s : Xinu) → (ticked s).state.tables.ticks ≡ s.tables.ticks + 1 }
+    ensures key { (b : ℕ) (s : Xinu) → IsSound s → (keyed b s).state.tables.ticks ≡ s.tables.ticks }
+    ensures sent { (s : Xinu) → IsSound s → (transmits s).state.tables.ticks ≡ s.tables.ticks }
+{}
+
+/// A received character keeps what a call keeps, and so does a byte that is sent.
+pub fn interrupts_keep_all()
+    ensures received { (b : ℕ) (s : Xinu) → IsSound s → KeepsAll (receiving b s) }
+    ensures sent { (sent : Sent) (s : Xinu) → transmitted (console_of s) ≡ Some sent → IsSound s → KeepsAll (sending sent s) }
 {}
 
 /// The number of a port rises by at most one in an event.

@@ -1,6 +1,6 @@
 -- The table of calls, and what is left of those that waited (book, chapters 4 to 15 and the appendix on system calls).
 use Rattle.std.specs.Prelude.{ℕ, if◌then◌else◌, List, ◌++◌}
-use Rattle.xinu_base.specs.Syscalls.{is_built}
+use Rattle.xinu_base.specs.Syscalls.{is_served}
 use Rattle.xinu_base.specs.declared.processes.Rest.{Rest}
 use Rattle.xinu_base.specs.declared.processes.Rest.TheVariants as rest
 use Rattle.xinu_model.specs.Clock.{clock_calls}
@@ -25,9 +25,9 @@ calls = process_calls ++ (memory_calls ++ (semaphore_calls ++ (message_calls ++ 
 abbrev pub call_of_number : ℕ → List ℕ → Xinu → CallResult
 call_of_number number args s = done_by (found_in calls number) args s
 
--- the same; a number whose call isn't built is refused
+-- the same; refused if the call isn't built, or goes to a device that isn't
 abbrev pub called : ℕ → List ℕ → Xinu → CallResult
-called number args s = if is_built number then call_of_number number args s else refused s
+called number args s = if is_served number args then call_of_number number args s else refused s
 
 -- What the first step of a process does that waited, once it is current again, by what is left of its call.
 abbrev pub continued : Rest → Xinu → CallResult

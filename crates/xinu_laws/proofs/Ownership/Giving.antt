@@ -2,7 +2,7 @@
 use Rattle.std.proofs.Common.{◌≡◌, ℕ, ◌==◌, ◌&&◌, ◌||◌, Bool, false, true, not, cond, List, [], ◌∷◌, Option, Some, None, refl, sym, ap, subst, ◌∙◌, arith}
 use Rattle.std.specs.List.{list_all}
 use Rattle.std.proofs.lemmas.Bool.{cond_both, cond-true, cond-false, ne_eqb}
-use Rattle.xinu_base.specs.Syscalls.{is_built}
+use Rattle.xinu_base.specs.Syscalls.{is_served}
 use Rattle.xinu_base.specs.declared.events.Event.{Event}
 use Rattle.xinu_base.specs.declared.events.Event.TheVariants.{Step}
 use Rattle.xinu_base.specs.declared.lines.TranscriptLine.{TranscriptLine}
@@ -63,7 +63,7 @@ holders_call number args s k g = by_row (found_in calls number) refl
 holders_called : (number : ℕ) (args : List ℕ) (s : Xinu) → IsSound s → gives_back number ≡ true
     → KeepsHolders s (called number args s).call.state
 holders_called number args s k g =
-    cond_both (is_built number) (call_of_number number args s) (refused s) (λ (h : CallResult). KeepsHolders s h.call.state) (λ _. holders_call number args s k g) (λ _ a. refl)
+    cond_both (is_served number args) (call_of_number number args s) (refused s) (λ (h : CallResult). KeepsHolders s h.call.state) (λ _. holders_call number args s k g) (λ _ a. refl)
 
 -- the step that gives away is the call
 stepped_calls : (old : Xinu) (e : Event) (new : Xinu) → GivesAway old e new

@@ -51,7 +51,7 @@ grants_law = record {
 pub call_gives : (number : ℕ) (args : List ℕ) (s : Xinu) → IsSound s → GivesOnlyFree s (call_of_number number args s).call.state
 call_gives number args s sound = law_of_few grants_law number args s sound
 
--- and a call that is built or refused.
+-- and a call that is served or refused.
 called_gives : (number : ℕ) (args : List ℕ) (s : Xinu) → IsSound s → GivesOnlyFree s (called number args s).call.state
 called_gives number args s sound = built_law_of_few grants_law number args s sound
 

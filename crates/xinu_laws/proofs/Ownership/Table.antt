@@ -49,6 +49,6 @@ apart_law = record {
       tt;
 }
 
--- So the call of any number does, and a call that is built or refused.
+-- So the call of any number does, and a call that is served or refused.
 pub called_apart : (number : ℕ) (args : List ℕ) (s : Xinu) → IsSound s → KeepsApart number s (called number args s).call.state
 called_apart number args s sound = built_law_of_few apart_law number args s sound

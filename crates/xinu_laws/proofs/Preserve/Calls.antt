@@ -3,7 +3,7 @@ use Rattle.std.proofs.Common.{◌≡◌, ℕ, ◌%◌, Bool, true, false, not, �
 use Rattle.std.specs.Prelude.{slice_index}
 use Rattle.std.specs.List.{AllByRecursion}
 use Rattle.std.proofs.lemmas.Bool.{cond_both, and_parts, or_parts}
-use Rattle.xinu_base.specs.Syscalls.{is_built}
+use Rattle.xinu_base.specs.Syscalls.{is_served}
 use Rattle.xinu_model.specs.Calls.{calls, call_of_number, called, continued}
 use Rattle.xinu_model.specs.Console.Putting.{go_on_putc, go_on_write}
 use Rattle.xinu_model.specs.Console.Taking.{go_on_getc, go_on_read}
@@ -347,7 +347,7 @@ row_keeps number r e a s c =
 pub refused_keeps_all : (s : Xinu) → MayCallAny s → KeepsAll (refused s)
 refused_keeps_all s c = record { preserved = record { tables = c.may.tables; harts = c.may.harts; released = tt }; unused = c.unused; pools = c.pools; ports = c.ports; devices = c.devices }
 
--- the call of any number, whether it is built or not,
+-- the call of any number, whether it is served or not,
 pub call_keeps : (number : ℕ) (args : List ℕ) (s : Xinu) → MayCallAny s → KeepsAll (call_of_number number args s)
 call_keeps number args s c = by_row (found_in calls number) refl
   where
@@ -356,7 +356,7 @@ call_keeps number args s c = by_row (found_in calls number) refl
     by_row (Some r) e = row_keeps number r e (slice_index args) s c
 
 pub called_keeps : (number : ℕ) (args : List ℕ) (s : Xinu) → MayCallAny s → KeepsAll (called number args s)
-called_keeps number args s c = cond_both (is_built number) (call_of_number number args s) (refused s) KeepsAll (λ _. call_keeps number args s c) (λ _. refused_keeps_all s c)
+called_keeps number args s c = cond_both (is_served number args) (call_of_number number args s) (refused s) KeepsAll (λ _. call_keeps number args s c) (λ _. refused_keeps_all s c)
 
 -- the death of the caller,
 pub exit_keeps : (s : Xinu) → MayCallAny s → KeepsAll (exit s)

@@ -1,11 +1,14 @@
 -- The clock goes on in ticks alone, by one in each.
-use Rattle.std.proofs.Common.{◌≡◌, ◌∙◌, false, ℕ, ◌+◌, ◌-◌, ◌==◌, ◌||◌, cond, List, [], ◌∷◌, ℤ, ap, refl}
+use Rattle.std.proofs.Common.{◌≡◌, ◌∙◌, false, ℕ, ◌+◌, ◌-◌, ◌==◌, ◌||◌, cond, List, [], ◌∷◌, Option, Some, None, ℤ, ap, refl}
 use Rattle.std.specs.Prelude.{nat_lt}
 use Rattle.std.proofs.lemmas.Bool.{cond_both, eqb-false}
 use Rattle.xinu_base.specs.declared.registers.Outcome.{Outcome}
 use Rattle.xinu_base.specs.declared.registers.Outcome.TheVariants as outcome
 use Rattle.xinu_model.specs.Calls.{called, calls, continued}
 use Rattle.xinu_model.specs.Clock.{due, quantum_falls, a_tick_later, ticked, wakeup}
+use Rattle.xinu_model.specs.Console.Signals.{keyed, receiving, sending, sent_in, transmits}
+use Rattle.xinu_model.specs.Console.Taking.{console_of}
+use Rattle.xinu_model.specs.Console.Transmitting.{Sent, transmitted}
 use Rattle.xinu_model.specs.Events.{call_of, with_executed, reacted, instruction_step, is_done, stepped}
 use Rattle.xinu_model.specs.Machine.{Xinu, CallResult, CallState, closed, current_hart, EventResult, is_off, nothing_happens, end_of_event, start, unblock_all}
 use Rattle.xinu_model.specs.Process.Death.{exit}
@@ -13,6 +16,8 @@ use Rattle.xinu_model.specs.Process.Scheduling.{dispatch_first, is_current, keep
 use Rattle.xinu_model.specs.Sound.State.{IsSound}
 use Rattle.xinu_model.specs.Tables.{process_at, state_at, Tables}
 use Rattle.xinu_laws.specs.GivingAway.{next}
+use Rattle.xinu_laws.proofs.Consoles.Kept.{sound_holds}
+use Rattle.xinu_laws.proofs.Consoles.Signalled.{receiving_signals, sending_signals}
 use Rattle.xinu_laws.proofs.Preserve.Calls.{sound_where_called}
 use Rattle.xinu_laws.proofs.Preserve.Events.{may_call, may_call_after}
 use Rattle.xinu_laws.proofs.Touches.Continued.{continued_touches}
@@ -66,6 +71,17 @@ ticks_stepped s k =
     cond_both (is_done left) (instruction_step s) goes_on (λ (e : EventResult). KeepsTicks s e.state)
     (λ _. let u = with_executed (next s) s in ticks_reacted (next s).outcome u (sound_where_called u (may_call_after s c)))
     (λ _. closed_ticks (continued left s) ∙ (continued_touches left s k).clock refl))
+
+-- Neither a received character nor a transmission moves the clock.
+pub ticks_keyed : (b : ℕ) (s : Xinu) → IsSound s → KeepsTicks s (keyed b s).state
+ticks_keyed b s k = closed_ticks (receiving b s) ∙ (receiving_signals b s (sound_holds s k)).touches.clock refl
+
+ticks_sent : (found : Option Sent) (s : Xinu) → transmitted (console_of s) ≡ found → IsSound s → KeepsTicks s (sent_in found s).state
+ticks_sent None s e k = refl
+ticks_sent (Some sent) s e k = closed_ticks (sending sent s) ∙ (sending_signals sent s e (sound_holds s k)).touches.clock refl
+
+pub ticks_transmits : (s : Xinu) → IsSound s → KeepsTicks s (transmits s).state
+ticks_transmits s k = ticks_sent (transmitted (console_of s)) s refl k
 
 -- those who are released leave the clock alone
 released_ticks : (ps : List ℕ) (d : CallState) → (unblock_all ps d).state.tables.ticks ≡ d.state.tables.ticks

@@ -3,7 +3,7 @@ use Rattle.std.proofs.Common.{◌≡◌, ℕ, Bool, true, false, List, filter, O
 use Rattle.std.specs.List.{AllByRecursion}
 use Rattle.std.specs.Prelude.{slice_index}
 use Rattle.std.proofs.lemmas.Bool.{cond_both}
-use Rattle.xinu_base.specs.Syscalls.{is_built}
+use Rattle.xinu_base.specs.Syscalls.{is_served}
 use Rattle.xinu_laws.specs.Touches.{reach, Touches}
 use Rattle.xinu_model.specs.Calls.{calls, call_of_number, called}
 use Rattle.xinu_model.specs.Footprints.{Footprint}
@@ -44,7 +44,7 @@ module _ {names : Footprint → Bool} {Law : CallLaw} (k : IsLawOfFew names Law)
               k.others number r.touches s (r.effect (slice_index args) s).call.state h
               (subst (λ x. Touches (reach r.touches) s (done_by x args s).call.state) e (call_touches number args s r sound e))
 
-  -- whether it is built or refused.
+  -- whether it is served or refused.
   pub built_law_of_few : Law number s (called number args s).call.state
   built_law_of_few =
-      cond_both (is_built number) (call_of_number number args s) (refused s) (λ (h : CallResult). Law number s h.call.state) (λ _. law_of_few) (λ _. k.same number s)
+      cond_both (is_served number args) (call_of_number number args s) (refused s) (λ (h : CallResult). Law number s h.call.state) (λ _. law_of_few) (λ _. k.same number s)

@@ -8,8 +8,8 @@ use Rattle.xinu_laws.proofs.moments.calls_are_rows.Goals as goal
 pub returns-clause-row : goal.returns-clause-row
 returns-clause-row c = λ number args s r e. ap (λ x. done_by x args s) e
 
-pub returns-clause-built : goal.returns-clause-built
-returns-clause-built c = λ number args s e. cond-true _ (call_of_number number args s) (refused s) e
+pub returns-clause-served : goal.returns-clause-served
+returns-clause-served c = λ number args s e. cond-true _ (call_of_number number args s) (refused s) e
 
 pub returns-clause-other : goal.returns-clause-other
 returns-clause-other c = λ number args s e. cond-false _ (call_of_number number args s) (refused s) e
