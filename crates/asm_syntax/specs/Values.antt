@@ -1,5 +1,5 @@
 -- The values of operands: registers by their names, calls by theirs, texts by their bytes.
-use Rattle.std.specs.Prelude.{ℕ, ◌+◌, ◌-◌, ◌*◌, ◌==◌, nat_lt, if◌then◌else◌, ◌&&◌, ◌||◌, ℤ, List, [], ◌∷◌, Option, Some, None, codes}
+use Rattle.std.specs.Prelude.{ℕ, ◌+◌, ◌-◌, ◌*◌, ◌==◌, nat_lt, if◌then◌else◌, ◌&&◌, ℤ, List, [], ◌∷◌, Option, Some, None, codes}
 use Rattle.std.specs.Str.{bytes_eq}
 use Rattle.xinu_base.specs.Syscalls.{Syscall, syscalls}
 use Rattle.asm_syntax.specs.Numbers.{is_between}

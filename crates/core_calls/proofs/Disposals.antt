@@ -1,5 +1,5 @@
 -- The messages of a port are given back as buffers, one after another: what holds of tables, pools and ports is kept.
-use Rattle.std.proofs.Common.{◌≡◌, ◌∙◌, ℕ, ◌==◌, true, false, cond, List, [], ◌∷◌, Option, None, Some, refl, ap}
+use Rattle.std.proofs.Common.{◌≡◌, ◌∙◌, ℕ, ◌==◌, true, false, List, [], ◌∷◌, Option, None, Some, refl}
 use Rattle.std.proofs.lemmas.Bool.{cond_both}
 use Rattle.std.specs.Prelude.{is_some}
 use Rattle.xinu_laws.proofs.Pools.Calls.{pools_freed_buffer}

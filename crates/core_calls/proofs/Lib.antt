@@ -6,6 +6,11 @@ pub mod Disposals
 pub mod PortCalls
 pub mod InTurn
 pub mod PortRenewals
+pub mod ConsoleTokens
+pub mod ConsoleReads
+pub mod ConsoleWrites
+pub mod ConsoleSignals
+pub mod DeviceCalls
 pub mod Answered
 pub mod Kept
 pub mod Rows

@@ -1,9 +1,11 @@
 -- The rows of the table of calls that are served.
-use Rattle.std.proofs.Common.{◌≡◌, ◌∙◌, ℕ, List, true, cond, sym, ap}
-use Rattle.std.specs.Prelude.{slice_index}
-use Rattle.xinu_base.specs.Syscalls.{is_built}
+use Rattle.std.proofs.Common.{◌≡◌, ◌∙◌, ℕ, List, true, false, cond, sym, ap}
+use Rattle.std.specs.Prelude.{slice_index, ◌%◌, if◌then◌else◌}
+use Rattle.core_calls.specs.Devices.{if_built}
+use Rattle.xinu_base.specs.Syscalls.{has_device, is_built}
 use Rattle.xinu_model.specs.Calls.{call_of_number, called, calls}
 use Rattle.xinu_model.specs.Clock.{clktime, sleep, sleepms, yield}
+use Rattle.xinu_model.specs.Devices.Calls.{device_close, device_control, device_getc, device_open, device_putc, device_read, device_seek, device_write}
 use Rattle.xinu_model.specs.Heap.Calls.{freemem, freestk, getmem, getstk}
 use Rattle.xinu_model.specs.Machine.{CallResult, refused, Xinu}
 use Rattle.xinu_model.specs.Messages.{receive, recvclr, recvtime, send}
@@ -14,9 +16,12 @@ use Rattle.xinu_model.specs.Process.Death.{exit}
 use Rattle.xinu_model.specs.Semaphores.Calls.{semcount, semcreate, semdelete, semreset, signal, signaln, wait}
 use Rattle.xinu_model.specs.Words.{half, signed}
 
--- a call of this number, which is built
-by_number : (n number : ℕ) (args : List ℕ) (s : Xinu) → number ≡ n → is_built number ≡ true → called number args s ≡ call_of_number n args s
-by_number n number args s e h = ap (λ b. cond b (call_of_number number args s) (refused s)) h ∙ ap (λ n. call_of_number n args s) e
+-- a call of this number, which is built; it is refused if it is on a device that isn't
+by_number : (n number : ℕ) (args : List ℕ) (s : Xinu) → number ≡ n → is_built number ≡ true
+    → called number args s ≡ (if has_device n args then call_of_number n args s else refused s)
+by_number n number args s e h =
+    ap (λ b. cond (cond b (has_device number args) false) (call_of_number number args s) (refused s)) h
+    ∙ ap (λ n. cond (has_device n args) (call_of_number n args s) (refused s)) e
 
 module _ (number : ℕ) (args : List ℕ) (s : Xinu) (r : CallResult) where
   pub row_getpid : number ≡ 1 → is_built number ≡ true → r ≡ getpid s → r ≡ called number args s
@@ -158,3 +163,35 @@ module _ (number : ℕ) (args : List ℕ) (s : Xinu) (r : CallResult) where
   pub row_ptrecv : number ≡ 35 → is_built number ≡ true → r ≡ ptrecv (slice_index args 0) s → r ≡ called number args s
   unfolding calls
   row_ptrecv e h is = is ∙ sym (by_number 35 number args s e h)
+
+  pub row_open : number ≡ 36 → is_built number ≡ true → r ≡ if_built (slice_index args 0) (device_open (slice_index args 0) (slice_index args 1) (slice_index args 2)) s → r ≡ called number args s
+  unfolding calls
+  row_open e h is = is ∙ sym (by_number 36 number args s e h)
+
+  pub row_close : number ≡ 37 → is_built number ≡ true → r ≡ if_built (slice_index args 0) (device_close (slice_index args 0)) s → r ≡ called number args s
+  unfolding calls
+  row_close e h is = is ∙ sym (by_number 37 number args s e h)
+
+  pub row_read : number ≡ 38 → is_built number ≡ true → r ≡ if_built (slice_index args 0) (device_read (slice_index args 0) (slice_index args 1) (slice_index args 2)) s → r ≡ called number args s
+  unfolding calls
+  row_read e h is = is ∙ sym (by_number 38 number args s e h)
+
+  pub row_write : number ≡ 39 → is_built number ≡ true → r ≡ if_built (slice_index args 0) (device_write (slice_index args 0) (slice_index args 1) (slice_index args 2)) s → r ≡ called number args s
+  unfolding calls
+  row_write e h is = is ∙ sym (by_number 39 number args s e h)
+
+  pub row_getc : number ≡ 40 → is_built number ≡ true → r ≡ if_built (slice_index args 0) (device_getc (slice_index args 0)) s → r ≡ called number args s
+  unfolding calls
+  row_getc e h is = is ∙ sym (by_number 40 number args s e h)
+
+  pub row_putc : number ≡ 41 → is_built number ≡ true → r ≡ if_built (slice_index args 0) (device_putc (slice_index args 0) (slice_index args 1 % 256)) s → r ≡ called number args s
+  unfolding calls
+  row_putc e h is = is ∙ sym (by_number 41 number args s e h)
+
+  pub row_seek : number ≡ 42 → is_built number ≡ true → r ≡ if_built (slice_index args 0) (device_seek (slice_index args 0) (signed (slice_index args 1))) s → r ≡ called number args s
+  unfolding calls
+  row_seek e h is = is ∙ sym (by_number 42 number args s e h)
+
+  pub row_control : number ≡ 43 → is_built number ≡ true → r ≡ if_built (slice_index args 0) (device_control (slice_index args 0) (slice_index args 1) (slice_index args 2)) s → r ≡ called number args s
+  unfolding calls
+  row_control e h is = is ∙ sym (by_number 43 number args s e h)

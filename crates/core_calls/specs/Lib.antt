@@ -4,3 +4,5 @@ pub mod States
 pub mod Kernels
 pub mod Booted
 pub mod PortRoom
+pub mod Consoles
+pub mod Devices

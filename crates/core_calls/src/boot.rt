@@ -25,6 +25,7 @@ use ports::Ports;
 use process_core::pid_at;
 use rv_hart::{Hart, RAM_SIZE, Ram};
 use std::alloc::Global;
+use tty_driver::Tty;
 use xinu_base::{NoMemory, Pid, State};
 
 /// Why a kernel wasn't booted.
@@ -34,7 +35,7 @@ pub enum BootFault {
     Overlap(u8),
     /// The heap has no room for the stack of the image with this number.
     NoRoom(u8),
-    /// There was no memory for RAM, tables or heap.
+    /// There was no memory for RAM, tables, heap, pools or console.
     NoMemory,
 }
 
@@ -68,6 +69,7 @@ impl Kernel {
 
 impl KernelState {
     // The state in which the images are in RAM, and no process but the null process was made.
+    #[tactic(auto, unfolding(crate::specs::Devices::untouched_devices))]
     fn loaded(alloc: Global, images: &[Image<'_>]) -> Result<Self, NoMemory>
         ensures loaded { IfOk result (λ k. k ≡ start (boot.loaded_machine (map loaded_of images.now))) }
     {
@@ -77,6 +79,7 @@ impl KernelState {
         let heap = Heap::new(alloc, low, RAM_SIZE)?;
         let pools = Pools::new(alloc)?;
         let ports = Ports::new(alloc)?;
+        let tty = Tty::new(alloc)?;
         let tables = KernelTables::new(alloc)?;
         Ok(KernelState {
             tables,
@@ -85,6 +88,7 @@ impl KernelState {
             heap,
             pools,
             ports,
+            tty,
             replies: Replies::new(),
             owes_resched: false,
         })

@@ -2,14 +2,19 @@
 //!
 //! It depends on the kernel's state. What each call of the abstract machine keeps is kept true at each moment.
 
-ghost use Rattle.std.specs.Prelude.{ℕ, ◌≡◌, ◌≢◌, ◌<◌, ◌≤◌, length, ◌==◌, ◌↔◌, IsTrue, [], if◌then◌else◌, Some, None};
+ghost use Rattle.std.specs.Prelude.{ℕ, ◌≡◌, ◌≢◌, ◌<◌, ◌≤◌, length, ◌==◌, ◌↔◌, IsTrue, [], if◌then◌else◌, option_map, Some, None};
+ghost use Rattle.core_calls.specs.Consoles.{after_sending};
 ghost use Rattle.core_calls.specs.Results.{answer_of, came_to, idle, IsIdle, IsStart, switched_to};
 ghost use Rattle.xinu_laws.specs.Preserve.{ticking};
 ghost use Rattle.xinu_model.specs.Calls.{called, continued};
+ghost use Rattle.xinu_model.specs.Console.Signals.{receiving};
+ghost use Rattle.xinu_model.specs.Console.Taking.{console_of};
+ghost use Rattle.xinu_model.specs.Console.Transmitting.{transmitted};
 ghost use Rattle.xinu_model.specs.Devices.State.{first_devices};
 ghost use Rattle.xinu_model.specs.Events as events;
 ghost use Rattle.xinu_model.specs.Isa.Exec.{exec};
 ghost use Rattle.xinu_model.specs.Machine as model;
+ghost use Rattle.xinu_model.specs.Machine.{Silent};
 ghost use Rattle.xinu_model.specs.Ports.Queues.{port_at};
 ghost use Rattle.xinu_model.specs.Process.Death.{exit};
 ghost use Rattle.xinu_model.specs.Sound.State.{IsSound};
@@ -23,6 +28,7 @@ use kernel_tables::KernelTables;
 use ports::Ports;
 use rv_hart::{Outcome, step};
 use std::marker::Model;
+use tty_driver::Tty;
 use xinu_base::{Call, Next, Pid, Rest, State};
 
 /// The kernel. A clause sees the state of the abstract machine inside an event, and how the event's call goes.
@@ -75,13 +81,21 @@ impl Kernel {
         self.state.pools()
     }
 
-    /// The ports, of which there are thirty. No device was called so far.
+    /// The ports, of which there are thirty.
     pub fn ports(&self) -> &Ports
         ensures ports { result.now.ports ≡ self.now.call.state.parts.ports }
         ensures many { length result.now.ports ≡ 30 }
-        ensures devices { self.now.call.state.parts.devices ≡ first_devices }
     {
         self.state.ports()
+    }
+
+    /// The console. No other device is called so far.
+    #[tactic(auto, unfolding(crate::specs::Devices::untouched_devices))]
+    pub fn tty(&self) -> &Tty
+        ensures tty { result.now ≡ self.now.call.state.parts.devices.console }
+        ensures devices { self.now.call.state.parts.devices ≡ record first_devices { console = result.now } }
+    {
+        self.state.tty()
     }
 
     /// Whether nothing is left of the current process's call, so that its next step is an instruction.
@@ -144,6 +158,26 @@ impl Kernel {
     {
         self.state.tick();
         self.answer = None;
+    }
+
+    /// A character is received from the console.
+    pub fn on_type(&mut self, b: u8)
+        requires idle { IsIdle self.old }
+        ensures received { self.new ≡ receiving b self.old.call.state }
+    {
+        self.state.on_type(b);
+        self.answer = None;
+    }
+
+    /// The console may send a byte. `None`, and nothing changes, if and only if output is held or there is nothing to be sent.
+    pub fn on_tx(&mut self) -> Option<u8>
+        requires idle { IsIdle self.old }
+        ensures byte { result ≡ option_map (λ sent. sent.byte) (transmitted (console_of self.old.call.state)) }
+        ensures sent { self.new ≡ record { call = after_sending (transmitted (console_of self.old.call.state)) self.old.call.state; answer = Silent } }
+    {
+        let byte = self.state.on_tx();
+        self.answer = None;
+        byte
     }
 
     /// The replies of this event to released processes, in order.

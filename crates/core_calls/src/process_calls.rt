@@ -144,6 +144,7 @@ impl KernelState {
 
     // `p`, which isn't the null process, dies: its parent is sent its number, its stack is free, unless the heap refuses it, and so
     // is its number.
+    #[tactic(auto, unfolding(crate::specs::Devices::untouched_devices))]
     fn end(&mut self, p: Pid)
         requires not_null { p ≢ 0 }
         ensures killed { self.new ≡ killed p self.old }

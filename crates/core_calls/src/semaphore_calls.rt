@@ -139,8 +139,8 @@ impl KernelState {
         }
     }
 
-    // These processes became ready: each of whose call nothing is left gets this reply, and a resched is owed if there are any.
-    fn release(&mut self, released: &[Pid], value: i32)
+    /// These processes became ready: each of whose call nothing is left gets this reply, and a resched is owed if there are any.
+    pub(crate) fn release(&mut self, released: &[Pid], value: i32)
         requires none { self.old.released ≡ [] }
         requires few { length released.now ≤ 64 }
         ensures released { self.new ≡

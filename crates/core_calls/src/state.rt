@@ -1,20 +1,22 @@
-//! The state of the kernel inside an event: tables, registers, RAM, heap, pools and ports, the replies so far, and whether a
+//! The state of the kernel inside an event: tables, registers, RAM, heap, pools, ports and console, the replies so far, and whether a
 //! resched is owed.
 //!
-//! It depends on the kernel's tables, the processor core, the heap, the buffer pools and the ports. No fact is kept of it: the kernel keeps
-//! what holds of all of it.
+//! It depends on the kernel's tables, the processor core, the heap, the buffer pools, the ports and the console's driver. No fact is kept of
+//! it: the kernel keeps what holds of all of it.
 
 ghost use Rattle.std.specs.Prelude.{ℕ, ◌≡◌, ◌≢◌, ◌<◌, ◌==◌, ◌↔◌, IsTrue, [], None, Some, if◌then◌else◌};
+ghost use Rattle.core_calls.specs.Devices.{untouched_devices};
 ghost use Rattle.core_calls.specs.Results.{answer_so_far, came_to, IsStart, switched_to};
 ghost use Rattle.xinu_laws.specs.Preserve.{ticking};
 ghost use Rattle.xinu_model.specs.Calls.{called, continued};
-ghost use Rattle.xinu_model.specs.Devices.State.{first_devices};
 ghost use Rattle.xinu_model.specs.Events.{call_of, with_executed};
 ghost use Rattle.xinu_model.specs.Isa.Exec.{exec};
 ghost use Rattle.xinu_model.specs.Machine.{current_hart, end_of_event, Silent, start};
 ghost use Rattle.xinu_model.specs.Ports.Queues.{port_at};
+ghost use Rattle.xinu_model.specs.Sound.Devices.{AreDevices};
 ghost use Rattle.xinu_model.specs.Sound.Pools.{ArePools};
 ghost use Rattle.xinu_model.specs.Sound.Ports.{ArePorts};
+ghost use Rattle.xinu_model.specs.Sound.State.{AreHarts};
 ghost use Rattle.xinu_model.specs.Sound.Tables.{IsSoundTables};
 ghost use Rattle.xinu_model.specs.Tables.{process_at, state_at};
 ghost use Rattle.xinu_model.specs.Words.{half, signed};
@@ -27,6 +29,7 @@ use kernel_tables::KernelTables;
 use ports::Ports;
 use rv_hart::{Hart, Outcome, Ram, step};
 use std::marker::Model;
+use tty_driver::Tty;
 use xinu_base::{Call, Next, Pid, Rest, SYSERR, State, is_built};
 
 /// The state. A clause sees the abstract machine's inside an event.
@@ -44,6 +47,8 @@ pub(crate) struct KernelState {
     pub(crate) pools: Pools,
     /// The ports.
     pub(crate) ports: Ports,
+    /// The console.
+    pub(crate) tty: Tty,
     /// The replies to processes that were released in this event.
     pub(crate) replies: Replies,
     /// Whether a resched is owed at the end of the event.
@@ -89,12 +94,19 @@ impl KernelState {
         &self.pools
     }
 
-    /// The ports. No device was called so far.
+    /// The ports.
     pub(crate) fn ports(&self) -> &Ports
         ensures ports { result.now.ports ≡ self.now.state.parts.ports }
-        ensures devices { self.now.state.parts.devices ≡ first_devices }
     {
         &self.ports
+    }
+
+    /// The console.
+    pub(crate) fn tty(&self) -> &Tty
+        ensures tty { result.now ≡ self.now.state.parts.devices.console }
+        ensures devices { self.now.state.parts.devices ≡ record untouched_devices { console = result.now } }
+    {
+        &self.tty
     }
 
     /// Whether nothing is left of the current process's call.
@@ -131,6 +143,8 @@ impl KernelState {
         requires sound { IsSoundTables self.old.state.tables }
         requires pools { ArePools self.old.state.tables self.old.state.parts.pools }
         requires ports { ArePorts self.old.state.tables self.old.state.parts.ports }
+        requires devices { AreDevices self.old.state.tables self.old.state.parts.devices }
+        requires harts { AreHarts self.old.state.harts }
         requires not_null { self.old.state.tables.current ≢ 0 }
         requires numbers { (q : ℕ) → (port_at self.old.state.parts.ports q).seq < 4294967295 }
         ensures called { came_to self.new result ≡ called call.number call.args self.old.state }
@@ -183,17 +197,28 @@ impl KernelState {
             33 => self.ptreset(a[0], a[1]),
             34 => self.ptsend(a[0], a[1]),
             35 => self.ptrecv(a[0]),
+            36 => self.device_open(a[0], a[1], a[2]),
+            37 => self.device_close(a[0]),
+            38 => self.device_read(a[0], a[1], a[2]),
+            39 => self.device_write(a[0], a[1], a[2]),
+            40 => self.device_getc(a[0]),
+            41 => self.device_putc(a[0], a[1]),
+            42 => self.device_seek(),
+            43 => self.device_control(a[0], a[1], a[2]),
             _ => Next::Returns(SYSERR),
         }
     }
 
-    /// Does what is left of the current process's call: the end of a self-suspension, a buffer, a message to or from a port, or the receipt
-    /// of a message.
+    /// Does what is left of the current process's call: the end of a self-suspension, a buffer, a message to or from a port, items or bytes of
+    /// the console, or the receipt of a message.
     pub(crate) fn go_on(&mut self) -> Next
         requires start { IsStart self.old }
         requires sound { IsSoundTables self.old.state.tables }
         requires pools { ArePools self.old.state.tables self.old.state.parts.pools }
         requires ports { ArePorts self.old.state.tables self.old.state.parts.ports }
+        requires devices { AreDevices self.old.state.tables self.old.state.parts.devices }
+        requires harts { AreHarts self.old.state.harts }
+        requires not_null { self.old.state.tables.current ≢ 0 }
         requires waits { (process_at self.old.state.tables self.old.state.tables.current).rest ≢ Rest.Nothing }
         ensures continued { came_to self.new result ≡ continued (process_at self.old.state.tables self.old.state.tables.current).rest self.old.state }
     {
@@ -202,6 +227,10 @@ impl KernelState {
             Rest::GetBuf(i) => self.go_on_getbuf(i),
             Rest::PtSend(ticket, message) => self.go_on_ptsend(ticket, message),
             Rest::PtRecv(ticket) => self.go_on_ptrecv(ticket),
+            Rest::TtyGet => self.go_on_getc(),
+            Rest::TtyRead(part) => self.go_on_read(part),
+            Rest::TtyPut(b, returned) => self.go_on_putc(b, returned),
+            Rest::TtyWrite(part, returned) => self.go_on_write(part, returned),
             _ => self.go_on_receive(),
         }
     }
@@ -241,8 +270,8 @@ fn half(word: u32) -> i16
     ((word % 65536) as u16).cast_signed()
 }
 
-// A word as a signed number.
-fn signed(word: u32) -> i32
+/// A word as a signed number.
+pub(crate) fn signed(word: u32) -> i32
     ensures signed { result ≡ signed word }
 {
     word.cast_signed()

@@ -5,8 +5,8 @@
 mod version_1;
 mod version_2;
 
-use lfs_check::{CheckFault, Report, check};
 use byteorder::{ByteOrder, LittleEndian};
+use lfs_check::{CheckFault, Report, check};
 use std::alloc::Global;
 use std::process::Abort;
 

@@ -1,6 +1,8 @@
 //! Bytes of blocks as the layout gives them, read and written.
 
-use lfs_format::{Dir, Entry, Index, NULL, read_dir, read_dir_1, read_index, write_dir, write_index};
+use lfs_format::{
+    Dir, Entry, Index, NULL, read_dir, read_dir_1, read_index, write_dir, write_index,
+};
 
 const BLANK: Entry = Entry {
     size: 0,

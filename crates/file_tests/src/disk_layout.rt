@@ -2,8 +2,8 @@
 
 mod migration;
 
-use lfs_layout::{CheckFault, CleanImage, RawImage, check, repair};
 use byteorder::{ByteOrder, LittleEndian};
+use lfs_layout::{CheckFault, CleanImage, RawImage, check, repair};
 use std::alloc::Global;
 use std::process::Abort;
 

@@ -2,8 +2,8 @@
 
 ghost use Rattle.std.specs.Prelude.{◌≤◌};
 
-use elf_loader::{ElfFault, LoadFault, load, read_elf, write_elf};
 use byteorder::{ByteOrder, LittleEndian};
+use elf_loader::{ElfFault, LoadFault, load, read_elf, write_elf};
 use image_loader::{ImageFault, read_image};
 use std::test::Fail;
 

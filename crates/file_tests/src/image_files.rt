@@ -1,8 +1,8 @@
 //! Image files, each with its image or its fault.
 
+use byteorder::{ByteOrder, LittleEndian};
 use image_loader::ImageFault::{Entry, Length, Magic, Place, Priority, Short, Version};
 use image_loader::read_image;
-use byteorder::{ByteOrder, LittleEndian};
 use std::test::Fail;
 
 /// A program of four instructions: two calls, each with its number in a register.

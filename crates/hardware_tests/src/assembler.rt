@@ -1,7 +1,7 @@
 //! Texts with the files that they are assembled to, and texts with their faults.
 
-use rv_asm::{AsmFault, assemble, assembled_loads, worked_examples};
 use image_loader::read_image;
+use rv_asm::{AsmFault, assemble, assembled_loads, worked_examples};
 use std::alloc::Global;
 use std::process::Abort;
 use std::test::Fail;

@@ -1,7 +1,7 @@
 //! The bounds of the numbers, and the names of calls at the ends of their table.
 
-use xinu_base::{Dev, Pid, PoolId, Port, Sem, call_args, call_name, is_built, is_built_device};
 use std::test::Fail;
+use xinu_base::{Dev, Pid, PoolId, Port, Sem, call_args, call_name, is_built, is_built_device};
 
 #[test]
 fn numbers_end_at_their_bounds(rt: HostRuntime) -> Result<(), Fail> {
@@ -33,6 +33,6 @@ fn calls_have_names(rt: HostRuntime) {
         assert_eq!(rt; call_name(number), name);
         assert_eq!(rt; call_args(number), args);
     }
-    assert!(rt; is_built(1) && is_built(35) && !is_built(36));
+    assert!(rt; is_built(1) && is_built(43) && !is_built(44));
     assert!(rt; is_built_device(0) && !is_built_device(2));
 }

@@ -1,9 +1,9 @@
 //! Characters in each mode, a typed session, and what the calls answer.
 
-use tty_driver::{Item, Tty, TtyMode, TtySizes};
 use std::alloc::Global;
 use std::process::Abort;
 use std::test::Fail;
+use tty_driver::{Item, Tty, TtyMode, TtySizes};
 
 mod characters;
 

@@ -5,6 +5,7 @@ use Rattle.xinu_base.specs.declared.processes.PortTicket.{PortTicket}
 use Rattle.xinu_base.specs.declared.processes.Process.{Process}
 use Rattle.xinu_base.specs.declared.processes.Rest.{Rest}
 use Rattle.xinu_base.specs.declared.processes.Rest.TheVariants.{Nothing, Receive, Timed, SelfSuspend, GetBuf, PtSend, PtRecv, TtyGet, TtyPut, TtyRead, TtyWrite, Disk}
+use Rattle.xinu_base.specs.declared.processes.Span.{Span}
 use Rattle.xinu_base.specs.declared.processes.State.TheVariants.{Ready, Current}
 use Rattle.xinu_laws.specs.Moves.{ready_all}
 use Rattle.xinu_model.specs.Calls.{continued}
@@ -128,16 +129,18 @@ rests_tick ps owes t =
 -- whatever else is left of a call is the receipt of a message
 pub receives : (r : Rest) (s : Xinu) → IsServed r → r ≢ Nothing → r ≢ SelfSuspend → ((i : ℕ) → r ≢ GetBuf i)
     → ((ticket : PortTicket) (message : ℕ) → r ≢ PtSend ticket message) → ((ticket : PortTicket) → r ≢ PtRecv ticket)
+    → r ≢ TtyGet → ((part : Span) → r ≢ TtyRead part)
+    → ((b : ℕ) (returned : Bool) → r ≢ TtyPut b returned) → ((part : Span) (returned : Bool) → r ≢ TtyWrite part returned)
     → continued r s ≡ go_on_receive s
-receives SelfSuspend x s n m g a b = absurd (m refl)
-receives Nothing x s n m g a b = absurd (n refl)
-receives Receive x s n m g a b = refl
-receives Timed x s n m g a b = refl
-receives (GetBuf i) x s n m g a b = absurd (g i refl)
-receives (PtSend ticket message) x s n m g a b = absurd (a ticket message refl)
-receives (PtRecv ticket) x s n m g a b = absurd (b ticket refl)
-receives TtyGet x s n m g a b = absurd s
-receives (TtyPut c r) x s n m g a b = absurd s
-receives (TtyRead span) x s n m g a b = absurd s
-receives (TtyWrite span r) x s n m g a b = absurd s
-receives (Disk reply) x s n m g a b = absurd s
+receives SelfSuspend x s n m g a b c d e f = absurd (m refl)
+receives Nothing x s n m g a b c d e f = absurd (n refl)
+receives Receive x s n m g a b c d e f = refl
+receives Timed x s n m g a b c d e f = refl
+receives (GetBuf i) x s n m g a b c d e f = absurd (g i refl)
+receives (PtSend ticket message) x s n m g a b c d e f = absurd (a ticket message refl)
+receives (PtRecv ticket) x s n m g a b c d e f = absurd (b ticket refl)
+receives TtyGet x s n m g a b c d e f = absurd (c refl)
+receives (TtyRead part) x s n m g a b c d e f = absurd (d part refl)
+receives (TtyPut h r) x s n m g a b c d e f = absurd (e h r refl)
+receives (TtyWrite part r) x s n m g a b c d e f = absurd (f part r refl)
+receives (Disk reply) x s n m g a b c d e f = absurd s

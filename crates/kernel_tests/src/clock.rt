@@ -4,8 +4,8 @@ ghost use Rattle.std.specs.Prelude.{IfOk};
 ghost use Rattle.delta_clock.specs.Wakeups.{WakesLater};
 ghost use Rattle.queue_table.specs.Table as table;
 
-use delta_clock::Clock;
 use arrayvec::ArrayVec;
+use delta_clock::Clock;
 use process_core::{SLEEPERS, pid_at};
 use queue_table::Lists;
 use std::alloc::Global;

@@ -5,10 +5,10 @@ ghost use Rattle.process_core.specs.Fits.{Fits};
 ghost use Rattle.queue_table.specs.Table as table;
 ghost use Rattle.semaphores.specs.Counts.{Counts};
 
-use semaphores::{Sems, Signalled, sem_at};
 use arrayvec::ArrayVec;
 use process_core::{Procs, pid_at};
 use queue_table::Lists;
+use semaphores::{Sems, Signalled, sem_at};
 use std::alloc::Global;
 use std::test::Fail;
 use xinu_base::{Owner, Pid, Sem};

@@ -8,6 +8,8 @@ mod counts;
 #[cfg(test)]
 mod heap;
 #[cfg(test)]
+mod kernel;
+#[cfg(test)]
 mod lists;
 #[cfg(test)]
 mod message_ports;

@@ -1,5 +1,5 @@
 -- If an image is booted, a process lives besides the null process at the start; and the clock and the numbers of the ports begin at 0.
-use Rattle.std.proofs.Common.{◌≡◌, ◌≢◌, ◌∙◌, ℕ, suc, ◌+◌, ◌<◌, ◌≤◌, ◌&&◌, false, cond, List, [], ◌∷◌, drop, get_or, length, set, Option, Some, None, ℤ, refl, sym, ap, subst, inl, inr, arith, get_or-set_same, get_or-set_other}
+use Rattle.std.proofs.Common.{◌≡◌, ◌≢◌, ◌∙◌, ℕ, ◌+◌, ◌<◌, ◌≤◌, ◌&&◌, false, List, [], ◌∷◌, drop, get_or, length, Option, Some, None, ℤ, refl, sym, ap, subst, inl, inr, arith, get_or-set_same, get_or-set_other}
 use Rattle.std.specs.List.{list_all}
 use Rattle.std.proofs.lemmas.Bool.{cases_eq, cases_lt, cond_both}
 use Rattle.std.proofs.lemmas.List.{get_or_past}
@@ -13,7 +13,7 @@ use Rattle.xinu_model.specs.Heap.Cells.{Stack, take_stack}
 use Rattle.xinu_model.specs.Machine.{Xinu}
 use Rattle.xinu_model.specs.Ports.Queues.{first_ports, MessagePort, no_port, port_at}
 use Rattle.xinu_model.specs.Process.Creation.{stack_size}
-use Rattle.xinu_model.specs.Process.Scheduling.{dispatch, dispatch_first, in_state, is_current, keeps_cpu, preempt, ready, resched}
+use Rattle.xinu_model.specs.Process.Scheduling.{dispatch_first, in_state, is_current, keeps_cpu, preempt, ready, resched}
 use Rattle.xinu_model.specs.Runs.{is_over}
 use Rattle.xinu_model.specs.Tables.{InReady, is_free, message_at, move_to, no_process, Nowhere, Place, process_at, state_at, Tables}
 

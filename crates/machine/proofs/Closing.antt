@@ -1,5 +1,5 @@
 -- The end of an event is printed.
-use Rattle.std.proofs.Common.{◌≡◌, ◌≢◌, ◌∙◌, ℕ, Bool, List, [], ◌∷◌, ◌++◌, map, append-nil, Option, Some, None, ℤ, refl, sym, ap, subst}
+use Rattle.std.proofs.Common.{◌≡◌, ◌∙◌, ℕ, Bool, List, [], ◌∷◌, ◌++◌, map, Option, Some, None, ℤ, refl, sym, ap, subst}
 use Rattle.std.proofs.lemmas.List.{map-append}
 use Rattle.core_calls.specs.Results.{answer_so_far, idle}
 use Rattle.host_port.specs.Outside.{Outside}
@@ -8,7 +8,7 @@ use Rattle.machine.specs.Printed.{EffectPrints}
 use Rattle.xinu_base.specs.declared.lines.TranscriptLine.{TranscriptLine}
 use Rattle.xinu_base.specs.declared.syscalls.Next.{Next}
 use Rattle.xinu_base.specs.declared.syscalls.Next.TheVariants as next
-use Rattle.xinu_model.specs.Machine.{and_callers, Answer, CallResult, closed, end_of_event, EventResult, is_panic, replies_of, return_line, Returns, switched, Xinu}
+use Rattle.xinu_model.specs.Machine.{and_callers, CallResult, closed, end_of_event, EventResult, is_panic, replies_of, return_line, switched, Xinu}
 use Rattle.xinu_model.specs.Text.{shown}
 use Rattle.machine.proofs.ShownLines.{shown_both}
 

@@ -1,5 +1,5 @@
 -- From what an event does to that it happened.
-use Rattle.std.proofs.Common.{◌≡◌, ◌≢◌, false, cond, List, [], refl, sym, ap, subst, ◌∙◌, arith, Bool}
+use Rattle.std.proofs.Common.{◌≡◌, ◌≢◌, ℕ, false, cond, [], refl, sym, ap, subst, ◌∙◌, arith, Bool}
 use Rattle.std.proofs.lemmas.Bool.{ne_eqb}
 use Rattle.host_port.specs.Outside.{Outside}
 use Rattle.host_port.specs.Printing.{Printing}
@@ -7,11 +7,10 @@ use Rattle.machine.proofs.ShownLines.{shown_nothing}
 use Rattle.machine.specs.Printed.{EffectPrints, EventPrints}
 use Rattle.xinu_base.specs.declared.events.Event.{Event}
 use Rattle.xinu_base.specs.declared.events.Event.TheVariants.{Step, Tick, Key, Tx, Disk0, Disk1, Fail0, Fail1, Dump}
-use Rattle.xinu_base.specs.declared.lines.TranscriptLine.{TranscriptLine}
 use Rattle.xinu_base.specs.declared.processes.Rest.{Rest}
 use Rattle.xinu_base.specs.declared.processes.Rest.TheVariants.{Nothing}
 use Rattle.xinu_model.specs.Calls.{continued}
-use Rattle.xinu_model.specs.Events.{effect_of, instruction_step, is_done, stepped, Happens}
+use Rattle.xinu_model.specs.Events.{effect_of, instruction_step, is_done, stepped}
 use Rattle.xinu_model.specs.Machine.{Xinu, end_of_event, EventResult, nothing_happens}
 use Rattle.xinu_model.specs.Tables.{process_at}
 
@@ -53,14 +52,14 @@ goes_on_later s n w =
     waits Nothing n = absurd (n refl)
     waits _ n = refl
 
--- every other event does nothing, but for the printing of the tables
-pub other_does : (old : Xinu) (e : Event) → e ≢ Step → e ≢ Tick → e ≢ Dump → effect_of old e 0 ≡ nothing_happens old
-other_does old Step a b c = absurd (a refl)
-other_does old Tick a b c = absurd (b refl)
-other_does old Dump a b c = absurd (c refl)
-other_does old (Key k) a b c = refl
-other_does old Tx a b c = refl
-other_does old Disk0 a b c = refl
-other_does old Disk1 a b c = refl
-other_does old Fail0 a b c = refl
-other_does old Fail1 a b c = refl
+-- the events of disks do nothing
+pub other_does : (old : Xinu) (e : Event) → e ≢ Step → e ≢ Tick → ((b : ℕ) → e ≢ Key b) → e ≢ Tx → e ≢ Dump → effect_of old e 0 ≡ nothing_happens old
+other_does old Step a b k t c = absurd (a refl)
+other_does old Tick a b k t c = absurd (b refl)
+other_does old (Key x) a b k t c = absurd (k x refl)
+other_does old Tx a b k t c = absurd (t refl)
+other_does old Dump a b k t c = absurd (c refl)
+other_does old Disk0 a b k t c = refl
+other_does old Disk1 a b k t c = refl
+other_does old Fail0 a b k t c = refl
+other_does old Fail1 a b k t c = refl

@@ -3,6 +3,7 @@ pub mod Boots
 pub mod Closing
 pub mod Dumps
 pub mod Happenings
+pub mod Transmissions
 pub mod Lives
 pub mod Printings
 pub mod ShownLines

@@ -1,23 +1,21 @@
--- The lines so far, and one more.
-use Rattle.std.proofs.Common.{◌≡◌, ℕ, ◌+◌, ◌<◌, Bool, true, false, List, [], ◌∷◌, ◌++◌, length, take, get_or, refl, sym, ap, ◌∙◌, subst, append-nil, if◌then◌else◌}
-use Rattle.std.proofs.lemmas.List.{take_more}
-use Rattle.host_port.specs.Outside.{Outside}
-use Rattle.host_port.specs.Printing.{Printing, Prints}
-use Rattle.machine.proofs.ShownLines.{shown_both}
+-- One line, by its text or by the byte of the console that it tells.
+use Rattle.std.proofs.Common.{◌≡◌, ◌≢◌, ℕ, Bool, true, false, [], ◌∷◌, ◌++◌, refl, sym, ap, append-nil, if◌then◌else◌}
+use Rattle.host_port.specs.LineText.{con_text}
 use Rattle.xinu_base.specs.declared.lines.TranscriptLine.{TranscriptLine}
-use Rattle.xinu_model.specs.Text.{line_text, shown}
+use Rattle.xinu_base.specs.declared.lines.TranscriptLine.TheVariants as line
+use Rattle.xinu_model.specs.Text.{line_text, sent_byte, shown}
 
--- what is shown of one line
-pub shown_line : (plain : Bool) (line : TranscriptLine) → (if plain then [] else line_text line) ≡ shown plain (line ∷ [])
-shown_line true line = refl
-shown_line false line = sym (append-nil (line_text line))
+-- any other line than `con` tells of no byte
+pub no_byte : (l : TranscriptLine) → ((b : ℕ) → l ≢ line.Con b) → sent_byte l ≡ []
+no_byte (line.Con b) n = absurd (n b refl)
+no_byte _ n = refl
 
--- One more line was printed.
-pub prints_line : (a b c : Printing) (h i j : Outside) (lines : List TranscriptLine) (k : ℕ) (line : TranscriptLine) (bytes : List ℕ) → k < length lines → line ≡ get_or lines k line → bytes ≡ line_text line → Prints a b h i (shown a.plain (take k lines)) → Prints b c i j (if b.plain then [] else bytes) → Prints a c h j (shown a.plain (take (k + 1) lines))
-prints_line a b c h i j lines k line bytes within is renders before after =
-    let one : (if b.plain then [] else bytes) ≡ shown b.plain (line ∷ []) =
-    ap (λ (t : List ℕ). if b.plain then [] else t) renders ∙ shown_line b.plain line in
-    let more : take k lines ++ line ∷ [] ≡ take (k + 1) lines =
-    ap (λ (x : TranscriptLine). take k lines ++ x ∷ []) is ∙ sym (take_more lines k line within) in
-    subst (λ (ls : List TranscriptLine). Prints a c h j (shown a.plain ls)) more
-    (shown_both a b c h i j (take k lines) (line ∷ []) before (subst (λ (t : List ℕ). Prints b c i j t) one after))
+-- what is shown of such a line
+pub shown_line : (plain : Bool) (l : TranscriptLine) → ((b : ℕ) → l ≢ line.Con b) → (if plain then [] else line_text l) ≡ shown plain (l ∷ [])
+shown_line true l n = sym (ap (λ bytes. bytes ++ []) (no_byte l n))
+shown_line false l n = sym (append-nil (line_text l))
+
+-- and of a byte that the console sent
+pub shown_byte : (plain : Bool) (b : ℕ) → (if plain then b ∷ [] else con_text b) ≡ shown plain (line.Con b ∷ [])
+shown_byte true b = refl
+shown_byte false b = refl

@@ -5,7 +5,7 @@ use Rattle.host_port.proofs.Prints.{prints_both, prints_nothing}
 use Rattle.host_port.specs.Outside.{Outside}
 use Rattle.host_port.specs.Printing.{Printing, Prints}
 use Rattle.xinu_base.specs.declared.lines.TranscriptLine.{TranscriptLine}
-use Rattle.xinu_model.specs.Text.{line_text, text, shown}
+use Rattle.xinu_model.specs.Text.{line_text, sent_byte, sent_bytes, shown, text}
 
 -- the text of lines, and of lines after them
 pub text-append : (first second : List TranscriptLine) → text (first ++ second) ≡ text first ++ text second
@@ -13,9 +13,15 @@ text-append [] second = refl
 text-append (line ∷ first) second =
     ap (λ t. line_text line ++ t) (text-append first second) ∙ sym (append_assoc (line_text line) (text first) (text second))
 
+-- the bytes that the console sent in lines, and in lines after them
+pub sent-append : (first second : List TranscriptLine) → sent_bytes (first ++ second) ≡ sent_bytes first ++ sent_bytes second
+sent-append [] second = refl
+sent-append (line ∷ first) second =
+    ap (λ t. sent_byte line ++ t) (sent-append first second) ∙ sym (append_assoc (sent_byte line) (sent_bytes first) (sent_bytes second))
+
 -- what is shown of lines, and of lines after them
 pub shown-append : (plain : Bool) (first second : List TranscriptLine) → shown plain (first ++ second) ≡ shown plain first ++ shown plain second
-shown-append true first second = refl
+shown-append true first second = sent-append first second
 shown-append false first second = text-append first second
 
 -- Lines that were printed, and lines that were printed after them, were printed as one list.

@@ -4,6 +4,7 @@ ghost use Rattle.std.specs.Prelude.{◌≡◌, ◌≤◌, IfOk, length, map};
 ghost use Rattle.image_loader.specs.Images.{loaded_of};
 ghost use Rattle.machine.specs.Starts.{Starts};
 ghost use Rattle.xinu_laws.specs.Apart.{IsApart};
+ghost use Rattle.xinu_model.specs.Sound.State.{IsSound};
 
 use crate::machine::Machine;
 use core_calls::{BootFault, Kernel};
@@ -22,6 +23,7 @@ impl Machine {
         requires few { length images.now ≤ 8 }
         ensures starts { Starts (map loaded_of images.now) result }
         ensures apart { IfOk result (λ m. IsApart m.state) }
+        ensures sound { IfOk result (λ m. IsSound m.state) }
     {
         let kernel = Kernel::new(alloc, images)?;
         Ok(Machine {

@@ -1,4 +1,5 @@
-//! Events: a step of the current process, a tick of the clock, the printing of the tables (book, chapters 12 and 13).
+//! Events: a step of the current process, a tick of the clock, the console's interrupts, the printing of the tables (book, chapters 12, 13
+//! and 15).
 
 ghost use Rattle.std.specs.Prelude.{ℕ, ◌≡◌, ◌≢◌, ◌<◌, ◌≤◌, ◌+◌, ◌∷◌, [], map};
 ghost use Rattle.core_calls.specs.Results.{answer_so_far, IsIdle};
@@ -7,6 +8,7 @@ ghost use Rattle.machine.specs.Printed.{EffectPrints, EventPrints};
 ghost use Rattle.xinu_base.specs.declared.lines.TranscriptLine.TheVariants as line;
 ghost use Rattle.xinu_model.specs.Calls.{called};
 ghost use Rattle.xinu_model.specs.Clock.{ticked};
+ghost use Rattle.xinu_model.specs.Console.Signals.{keyed, transmits};
 ghost use Rattle.xinu_model.specs.Events.{panics_in, reacted, stepped};
 ghost use Rattle.xinu_model.specs.Machine as model;
 ghost use Rattle.xinu_model.specs.Ports.Queues.{port_at};
@@ -61,6 +63,8 @@ fn other_event<H: Host>(kernel: &mut Kernel, event: Event, out: &mut Printer, ho
 {
     match event {
         Event::Tick => tick(kernel, out, host),
+        Event::Key(b) => receive(kernel, b, out, host),
+        Event::Tx => transmit(kernel, out, host),
         Event::Dump => {
             print_tables(kernel, out, host);
             false
@@ -158,6 +162,36 @@ fn tick<H: Host>(kernel: &mut Kernel, out: &mut Printer, host: &mut H) -> bool
     let current = kernel.current();
     kernel.on_tick();
     end_event(kernel, current, None, out, host)
+}
+
+// A character is received from the console.
+fn receive<H: Host>(kernel: &mut Kernel, b: u8, out: &mut Printer, host: &mut H) -> bool
+    requires idle { IsIdle kernel.old }
+    ensures effect { EffectPrints (keyed b kernel.old.call.state) kernel.new.call.state result out.old out.new (H.view host.old) (H.view host.new) }
+    ensures idle { IsIdle kernel.new }
+    ensures sound { IsSound kernel.new.call.state }
+{
+    let current = kernel.current();
+    kernel.on_type(b);
+    end_event(kernel, current, None, out, host)
+}
+
+// The console may send a byte, whose line comes first.
+fn transmit<H: Host>(kernel: &mut Kernel, out: &mut Printer, host: &mut H) -> bool
+    requires idle { IsIdle kernel.old }
+    requires sound { IsSound kernel.old.call.state }
+    ensures effect { EffectPrints (transmits kernel.old.call.state) kernel.new.call.state result out.old out.new (H.view host.old) (H.view host.new) }
+    ensures idle { IsIdle kernel.new }
+    ensures sound { IsSound kernel.new.call.state }
+{
+    let current = kernel.current();
+    match kernel.on_tx() {
+        Some(b) => {
+            print_line(&TranscriptLine::Con(b), out, host);
+            end_event(kernel, current, None, out, host)
+        }
+        None => false,
+    }
 }
 
 // Ends an event that began in process `was`, with this answer to its call, if it was one: prints the replies to released processes, the

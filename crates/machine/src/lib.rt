@@ -6,12 +6,13 @@
 //!
 //! | Call | Condition | Promise |
 //! |---|---|---|
-//! | [`Machine::boot`] | one to eight images | `starts`: the machine stands for the state in which `boot` of the abstract machine starts; or `Overlap` or `NoRoom` exactly as it says; or `NoMemory`; `apart`: no address has two owners |
+//! | [`Machine::boot`] | one to eight images | `starts`: the machine stands for the state in which `boot` of the abstract machine starts; or `Overlap` or `NoRoom` exactly as it says; or `NoMemory`; `apart`: no address has two owners; `sound`: what always holds between two events holds |
 //! | [`Machine::start`] | | prints the `run` line of the first process |
-//! | [`Machine::event`] | `goes_on`: no event ended the run; `few`: fewer than 10^9 were taken | `happens`: the machine goes to a state that `Happens` allows, and prints its lines; `goes`: the answer says how the run ends with this event, if it does; `apart`: no address comes to have two owners, unless a process gives back what a pool or a stack has, and pools and stacks get only what was free; `lived`, `counted`, `over` |
+//! | [`Machine::event`] | `goes_on`: no event ended the run; `few`: fewer than 10^9 were taken | `happens`: the machine goes to a state that `Happens` allows, and prints its lines; `goes`: the answer says how the run ends with this event, if it does; `apart`: no address comes to have two owners, unless a process gives back what a pool or a stack has, and pools and stacks get only what was free; `sound`: what always holds between two events holds, of the console as of the other parts; `lived`, `counted`, `over` |
 //! | [`Machine::dump`] | | prints the tables of the state |
 //!
-//! Printing is `Prints` of `host_port`: all bytes unless the printer fails, else a prefix of them. No call but `boot` takes memory, and no
+//! Printing is `Prints` of `host_port`: all bytes unless the printer fails, else a prefix of them; if the output is plain, of the bytes that
+//! the console sent (`shown`). No call but `boot` takes memory, and no
 //! list of lines is collected. The kernel is `core_calls`.
 #![tactic(auto)]
 

@@ -63,7 +63,7 @@ impl Machine {
     ///
     /// `Panic` comes if and only if the kernel panicked in this event, else `Done` if and only if the last process beside the null process
     /// died in it. An event that the machine doesn't have yet changes and prints nothing. No address comes to have two owners in it, unless a
-    /// process gives back what a pool or a stack has.
+    /// process gives back what a pool or a stack has. What always holds between two events holds after it.
     pub fn event<H: Host>(&mut self, event: Event, out: &mut Printer, host: &mut H) -> Go
         requires goes_on { self.old.over ≡ false }
         requires few { self.old.events < 1000000000 }
@@ -71,6 +71,7 @@ impl Machine {
         ensures lived { runs.is_over self.old.state ≡ false }
         ensures goes { end_of_go result ≡ end_with (panics_in self.old.state event) (runs.is_over self.new.state) }
         ensures apart { KeepsApart self.old.state event self.new.state }
+        ensures sound { IsSound self.new.state }
         ensures counted { self.new.events ≡ self.old.events + 1 }
         ensures over { self.new.over ≡ is_some (end_of_go result) }
     {

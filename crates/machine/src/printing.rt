@@ -1,4 +1,4 @@
-//! Printing: one `emit` for each line.
+//! Printing: one `emit` for each line; if the output is plain, one for each byte that the console sent.
 
 ghost use Rattle.std.specs.Prelude.{◌≡◌, ◌∷◌, [], map};
 ghost use Rattle.host_port.specs.Printing.{Prints};
@@ -9,11 +9,14 @@ use crate::lines::render;
 use host_port::{Host, Printer};
 use xinu_base::{Pid, TranscriptLine};
 
-/// Prints a line.
+/// Prints a line. If the output is plain, only the byte of a line `con` is printed, as it is.
 pub(crate) fn print_line<H: Host>(line: &TranscriptLine, out: &mut Printer, host: &mut H)
     ensures prints { Prints out.old out.new (H.view host.old) (H.view host.new) (shown out.old.plain (line.now ∷ [])) }
 {
-    out.line(host, &render(line));
+    match line {
+        TranscriptLine::Con(b) => out.con(host, *b),
+        _ => out.line(host, &render(line)),
+    }
 }
 
 /// Prints the replies to released processes, in order.

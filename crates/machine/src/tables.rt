@@ -22,7 +22,8 @@ use kernel_tables::KernelTables;
 use ports::{Ports, port_numbered};
 use process_core::pid_at;
 use semaphores::sem_at;
-use xinu_base::{Owner, PoolId, Port, Sem, State, TranscriptLine, TtyMode};
+use tty_driver::Tty;
+use xinu_base::{Owner, PoolId, Port, Sem, State, TranscriptLine};
 
 /// Prints the tables.
 pub(crate) fn print_tables<H: Host>(kernel: &Kernel, out: &mut Printer, host: &mut H)
@@ -43,7 +44,7 @@ pub(crate) fn print_tables<H: Host>(kernel: &Kernel, out: &mut Printer, host: &m
     print_free(kernel.heap(), out, host);
     print_pools(kernel.pools(), out, host);
     print_ports(kernel.ports(), out, host);
-    print_devices(out, host);
+    print_devices(kernel.tty(), out, host);
 }
 
 // Prints the processes, by number.
@@ -228,19 +229,27 @@ fn print_messages<H: Host>(port: Port, messages: &[u32], out: &mut Printer, host
     }
 }
 
-// Prints the devices, which are as at the start.
-fn print_devices<H: Host>(out: &mut Printer, host: &mut H)
-    ensures prints { Prints out.old out.new (H.view host.old) (H.view host.new) (shown out.old.plain (text.device_lines first_devices)) }
+// Prints the devices. All but the console are as at the start.
+fn print_devices<H: Host>(tty: &Tty, out: &mut Printer, host: &mut H)
+    ensures prints { Prints out.old out.new (H.view host.old) (H.view host.new) (shown out.old.plain (text.device_lines (record first_devices { console = tty.now }))) }
 {
-    let console = TranscriptLine::Console {
-        mode: TtyMode::Cooked,
-        committed: 0,
-        line: 0,
-        output: 0,
-        echo: 0,
-        held: false,
-    };
-    print_line(&console, out, host);
+    print_console(tty, out, host);
     print_line(&TranscriptLine::Disk0(0), out, host);
     print_line(&TranscriptLine::Disk1(false), out, host);
+}
+
+// Prints the console: its mode, how much it holds, and whether output is held.
+fn print_console<H: Host>(tty: &Tty, out: &mut Printer, host: &mut H)
+    ensures prints { Prints out.old out.new (H.view host.old) (H.view host.new) (shown out.old.plain (text.console_line tty.now ∷ [])) }
+{
+    let sizes = tty.sizes();
+    let line = TranscriptLine::Console {
+        mode: tty.mode(),
+        committed: sizes.committed as u32,
+        line: sizes.line as u32,
+        output: sizes.output as u32,
+        echo: sizes.echo as u32,
+        held: sizes.held,
+    };
+    print_line(&line, out, host);
 }

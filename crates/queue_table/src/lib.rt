@@ -21,7 +21,7 @@
 //! After each call the entries are *linked* (clause `linked`): followed from a queue's head they give exactly its list of processes and keys,
 //! followed back from its tail the same list reversed, and no process is met in two lists. The table keeps this as a ghost fact.
 //! `proofs/Laws.antt` has the laws for callers; none names an entry. It holds for every P and Q with P + 2Q at most 65535. The test
-//! `a_removal_makes_no_search` of `kernel_tests` shows that a removal makes no search. The crate depends on `xinu_base`.
+//! `a_removal_makes_no_search` shows that a removal makes no search. The crate depends on `xinu_base`.
 #![tactic(auto)]
 
 mod delays;

@@ -1,8 +1,5 @@
 //! What happens to the machine, and how a run ends.
 
-ghost use Rattle.std.specs.Prelude.{◌≡◌};
-ghost use Rattle.xinu_base.specs.Events as events;
-
 /// One event of a schedule.
 #[derive(Clone, Copy, Debug, PartialEq, Eq)]
 pub enum Event {
@@ -24,13 +21,6 @@ pub enum Event {
     Fail1,
     /// The tables are printed.
     Dump,
-}
-
-/// Whether the machine has this event.
-pub fn is_built_event(event: Event) -> bool
-    ensures built { result ≡ events.is_built_event event }
-{
-    matches!(event, Event::Step | Event::Tick | Event::Dump)
 }
 
 /// How a run ended.

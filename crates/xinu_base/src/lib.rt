@@ -7,7 +7,6 @@
 //! | [`Pid`], [`Sem`], [`PoolId`], [`Port`], [`Dev`] | seen as numbers: `from_word` gives one if and only if the word is below the bound, `index` gives it back |
 //! | [`call_name`], [`call_args`], [`is_built`] | the name and the number of arguments of a call, and whether the kernel has it: the table `syscalls` in `specs/Syscalls.antt` |
 //! | [`is_built_device`] | whether the machine has a device; a call on any other is refused (`is_served`) |
-//! | [`is_built_event`] | whether the machine has an event (`specs/Events.antt`) |
 //! | all other types | plain data: a contract sees their fields |
 //!
 //! `specs/Insert.antt` has the two insertions of the kernel's lists, `specs/Constants.antt` the constants by the book's names,
@@ -29,7 +28,7 @@ mod syscalls;
 pub use console::{Item, TtyMode};
 pub use constants::{INITRET, MINSTK, QUANTUM, RAM_SIZE, SYSERR};
 pub use devices::{Kind, Op};
-pub use events::{End, Event, is_built_event};
+pub use events::{End, Event};
 pub use files::OpenMode;
 pub use lines::{FileMoment, TranscriptLine};
 pub use numbers::{Dev, Pid, PoolId, Port, Sem};

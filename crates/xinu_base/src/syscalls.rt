@@ -29,7 +29,7 @@ pub enum Next {
 pub fn is_built(number: u32) -> bool
     ensures { result ≡ syscalls.is_built number }
 {
-    matches!(number, 1..=35)
+    matches!(number, 1..=43)
 }
 
 /// Whether the machine has the device of this number.

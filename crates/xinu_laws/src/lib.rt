@@ -6,7 +6,7 @@
 //! | Module | Its laws |
 //! |---|---|
 //! | [`soundness`] | boot is sound, on given disks too, and each event and run keeps it so, also the events that the machine hasn't yet; a free place holds its fixed value; who goes on with a call on a device finds what it waited for |
-//! | [`moments`] | what holds at each moment of an event: each row, each continuation, a death, a tick, a resched and the end of an event keep it. The kernel's code will cite these |
+//! | [`moments`] | what holds at each moment of an event: each row, each continuation, a death, a tick, a received character, a transmission, a resched and the end of an event keep it. The kernel's code will cite these |
 //! | [`moves`] | the moves of a process, signals and waits, as the kernel's code makes them |
 //! | [`outcomes`] | each choice that is allowed in an event has an outcome; two outcomes of one event whose lines begin one text are equal |
 //! | [`footprints`] | the rows are the calls that a transcript names; each call touches no more than its footprint; waiters keep their order |

@@ -77,6 +77,8 @@ pub fn interrupts_keep_all()
 pub fn ports_are_renewed_once()
     ensures step { (s : Xinu) → IsSound s → (q : ℕ) → (port_at (stepped s).state.parts.ports q).seq ≤ (port_at s.parts.ports q).seq + 1 }
     ensures tick { (s : Xinu) → IsSound s → (q : ℕ) → (port_at (ticked s).state.parts.ports q).seq ≤ (port_at s.parts.ports q).seq + 1 }
+    ensures key { (b : ℕ) (s : Xinu) → IsSound s → (q : ℕ) → (port_at (keyed b s).state.parts.ports q).seq ≤ (port_at s.parts.ports q).seq + 1 }
+    ensures sent { (s : Xinu) → IsSound s → (q : ℕ) → (port_at (transmits s).state.parts.ports q).seq ≤ (port_at s.parts.ports q).seq + 1 }
 {}
 
 /// A resched inside an event leaves sound tables.

@@ -148,9 +148,19 @@ abbrev pub text : List TranscriptLine → List ℕ
 text [] = []
 text (line ∷ lines) = line_text line ++ text lines
 
--- what is printed of lines: nothing if the output is plain
+-- the byte that the console sent, if the line is of one
+abbrev pub sent_byte : TranscriptLine → List ℕ
+sent_byte (line.Con b) = b ∷ []
+sent_byte _ = []
+
+-- the bytes that the console sent
+abbrev pub sent_bytes : List TranscriptLine → List ℕ
+sent_bytes [] = []
+sent_bytes (line ∷ lines) = sent_byte line ++ sent_bytes lines
+
+-- what is printed of lines: all of them, or if the output is plain the bytes that the console sent
 abbrev pub shown : Bool → List TranscriptLine → List ℕ
-shown true lines = []
+shown true lines = sent_bytes lines
 shown false lines = text lines
 
 -- the line of an entry of the process table, unless its number is free

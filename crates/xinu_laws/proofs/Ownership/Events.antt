@@ -1,8 +1,8 @@
 -- Each event keeps each address claimed at most once, unless it gives away what is held.
-use Rattle.std.proofs.Common.{◌≡◌, ◌≢◌, ℕ, ◌<◌, ◌≤◌, ◌==◌, true, false, cond, List, [], ◌∷◌, refl, sym, ap, subst, ◌∙◌, arith, ⊎_elim, get_or-set_same}
+use Rattle.std.proofs.Common.{◌≡◌, ◌≢◌, ℕ, ◌<◌, ◌≤◌, ◌==◌, true, false, cond, List, [], ◌∷◌, Option, Some, None, refl, sym, ap, subst, ◌∙◌, arith, ⊎_elim, get_or-set_same}
 use Rattle.std.proofs.lemmas.Bool.{cond_both, cases_lt, eqb-false}
 use Rattle.xinu_base.specs.declared.events.Event.{Event}
-use Rattle.xinu_base.specs.declared.events.Event.TheVariants.{Step, Tick}
+use Rattle.xinu_base.specs.declared.events.Event.TheVariants.{Step, Tick, Key, Tx}
 use Rattle.xinu_base.specs.declared.lines.TranscriptLine.{TranscriptLine}
 use Rattle.xinu_base.specs.declared.lines.TranscriptLine.TheVariants as line
 use Rattle.xinu_base.specs.declared.processes.Rest.{Rest}
@@ -13,12 +13,17 @@ use Rattle.xinu_laws.proofs.FileCalls.AtOnce.{step_holds}
 use Rattle.xinu_laws.specs.Apart.{holders, IsApart}
 use Rattle.xinu_model.specs.Calls.{called, continued}
 use Rattle.xinu_model.specs.Clock.{ticked}
+use Rattle.xinu_model.specs.Console.Signals.{keyed, receiving, sending, sent_in, transmits}
+use Rattle.xinu_model.specs.Console.Taking.{console_of}
+use Rattle.xinu_model.specs.Console.Transmitting.{Sent, transmitted}
 use Rattle.xinu_model.specs.Events.{call_of, call_line, exit_call, with_executed, reacted, instruction_step, is_done, stepped, next_file_call, effect_of, Happens}
 use Rattle.xinu_laws.specs.GivingAway.{next, gives_back, GivesAway}
 use Rattle.xinu_model.specs.Machine.{Xinu, no_hart, current_hart, CallResult, EventResult, nothing_happens, end_of_event}
 use Rattle.xinu_model.specs.Process.Death.{exit}
 use Rattle.xinu_model.specs.Sound.State.{IsSound}
 use Rattle.xinu_model.specs.Tables.{process_at}
+use Rattle.xinu_laws.proofs.Consoles.Kept.{sound_holds}
+use Rattle.xinu_laws.proofs.Consoles.Signalled.{receiving_signals, sending_signals}
 use Rattle.xinu_laws.proofs.Ownership.Claims.{apart_kept}
 use Rattle.xinu_laws.proofs.Ownership.Memory.{FreesNothingHeld}
 use Rattle.xinu_laws.proofs.Ownership.Processes.{apart_exit}
@@ -27,7 +32,7 @@ use Rattle.xinu_laws.specs.Preserve.{MayCallAny, KeepsAll}
 use Rattle.xinu_laws.specs.Touches.{reach, at_a_tick, touched_by, KeepsPlaces, Touches}
 use Rattle.xinu_laws.proofs.Ownership.Table.{names_places, places_stay, called_apart}
 use Rattle.xinu_laws.proofs.Preserve.Calls.{sound_where_called, inside_preserved, replies_alive, called_keeps, exit_keeps, continued_keeps}
-use Rattle.xinu_laws.proofs.Preserve.Events.{may_call, may_call_after}
+use Rattle.xinu_laws.proofs.Preserve.Events.{may_call, may_call_after, receiving_keeps, sending_keeps}
 use Rattle.xinu_laws.proofs.Touches.Continued.{continued_touches}
 use Rattle.xinu_laws.proofs.Touches.Events.{touches_end_of_event, touches_ticked}
 use Rattle.xinu_laws.proofs.Touches.Kept.{keeps_places}
@@ -42,6 +47,25 @@ kept_end_of_event was first result k =
 -- So does a tick,
 pub kept_ticked : (s : Xinu) → IsSound s → KeepsPlaces s (ticked s).state
 kept_ticked s sound = let touches : Touches at_a_tick s (ticked s).state = touches_ticked refl s sound.tables in keeps_places touches refl refl refl
+
+-- a received character,
+kept_both : {s u v : Xinu} → KeepsPlaces s u → KeepsPlaces u v → KeepsPlaces s v
+kept_both k l = record { heap = l.heap ∙ k.heap; ranges = l.ranges ∙ k.ranges; stacks = l.stacks ∙ k.stacks }
+
+pub kept_keyed : (b : ℕ) (s : Xinu) → IsSound s → KeepsPlaces s (keyed b s).state
+kept_keyed b s sound =
+    kept_both (keeps_places (receiving_signals b s (sound_holds s sound)).touches refl refl refl)
+    (kept_end_of_event s.tables.current [] (receiving b s) (receiving_keeps b s sound))
+
+-- a transmission,
+kept_sent : (found : Option Sent) (s : Xinu) → transmitted (console_of s) ≡ found → IsSound s → KeepsPlaces s (sent_in found s).state
+kept_sent None s e sound = record { heap = refl; ranges = refl; stacks = refl }
+kept_sent (Some sent) s e sound =
+    kept_both (keeps_places (sending_signals sent s e (sound_holds s sound)).touches refl refl refl)
+    (kept_end_of_event s.tables.current (line.Con sent.byte ∷ []) (sending sent s) (sending_keeps sent s e sound))
+
+pub kept_transmits : (s : Xinu) → IsSound s → KeepsPlaces s (transmits s).state
+kept_transmits s sound = kept_sent (transmitted (console_of s)) s refl sound
 
 -- and a call that goes on.
 places_spared : (left : Rest) → names_places (touched_by left) ≡ false
@@ -139,6 +163,8 @@ apart_effect s Step choice sound apart =
     step_holds (λ (x : EventResult). (GivesAway s Step x.state → ⊥) → IsApart x.state) choice (next_file_call s) s (apart_stepped s sound apart)
     (λ a _. apart_kept (record { heap = refl; ranges = refl; stacks = refl }) apart)
 apart_effect s Tick choice sound apart = λ _. apart_kept (kept_ticked s sound) apart
+apart_effect s (Key b) choice sound apart = λ _. apart_kept (kept_keyed b s sound) apart
+apart_effect s Tx choice sound apart = λ _. apart_kept (kept_transmits s sound) apart
 apart_effect s _ choice sound apart = λ _. apart
 
 -- Each event keeps each address claimed at most once, unless it gives away what is held.

@@ -1,13 +1,16 @@
 -- Each event leaves the heap where it begins, with as many cells as it has.
-use Rattle.std.proofs.Common.{refl, false, ℕ, ◌==◌, cond, List, [], ap, subst}
+use Rattle.std.proofs.Common.{◌≡◌, refl, false, ℕ, ◌==◌, cond, List, [], Option, Some, None, ap, subst}
 use Rattle.std.proofs.lemmas.Bool.{cond_both, eqb-false}
 use Rattle.xinu_base.specs.declared.events.Event.{Event}
-use Rattle.xinu_base.specs.declared.events.Event.TheVariants.{Step, Tick}
+use Rattle.xinu_base.specs.declared.events.Event.TheVariants.{Step, Tick, Key, Tx}
 use Rattle.xinu_base.specs.declared.lines.TranscriptLine.{TranscriptLine}
 use Rattle.xinu_base.specs.declared.registers.Outcome.{Outcome}
 use Rattle.xinu_base.specs.declared.registers.Outcome.TheVariants as outcome
 use Rattle.xinu_model.specs.Calls.{calls, continued}
 use Rattle.xinu_model.specs.Clock.{ticked}
+use Rattle.xinu_model.specs.Console.Signals.{sent_in, transmits}
+use Rattle.xinu_model.specs.Console.Taking.{console_of}
+use Rattle.xinu_model.specs.Console.Transmitting.{Sent, transmitted}
 use Rattle.xinu_model.specs.Events.{call_of, with_executed, reacted, instruction_step, is_done, stepped, next_file_call, effect_of, Happens}
 use Rattle.xinu_laws.proofs.FileCalls.AtOnce.{step_holds}
 use Rattle.xinu_laws.specs.GivingAway.{next}
@@ -15,6 +18,8 @@ use Rattle.xinu_model.specs.Machine.{Xinu, current_hart, EventResult, nothing_ha
 use Rattle.xinu_model.specs.Sound.State.{IsSound}
 use Rattle.xinu_model.specs.Tables.{process_at}
 use Rattle.xinu_laws.specs.Touches.{at_a_tick, HasSameExtent, Touches}
+use Rattle.xinu_laws.proofs.Consoles.Kept.{sound_holds}
+use Rattle.xinu_laws.proofs.Consoles.Signalled.{receiving_signals, sending_signals}
 use Rattle.xinu_laws.proofs.HeapCells.Extent.{same_extent}
 use Rattle.xinu_laws.proofs.Preserve.Calls.{sound_where_called}
 use Rattle.xinu_laws.proofs.Preserve.Events.{may_call, may_call_after}
@@ -51,10 +56,17 @@ extent_stepped s k =
     (λ _. let u = with_executed (next s) s in extent_reacted (next s).outcome u (sound_where_called u (may_call_after s c)))
     (λ _. (continued_touches left s k).parts.extent))
 
+-- a transmission
+extent_sent : (found : Option Sent) (s : Xinu) → transmitted (console_of s) ≡ found → IsSound s → HaveSameExtent s (sent_in found s).state
+extent_sent None s e k = same_extent s.parts.heap
+extent_sent (Some sent) s e k = (sending_signals sent s e (sound_holds s k)).touches.parts.extent
+
 -- what an event leaves, whatever is chosen in it
 extent_effect_of : (s : Xinu) (e : Event) (choice : ℕ) → IsSound s → HaveSameExtent s (effect_of s e choice).state
 extent_effect_of s Step choice k = step_holds (λ (x : EventResult). HaveSameExtent s x.state) choice (next_file_call s) s (extent_stepped s k) (λ a. same_extent s.parts.heap)
 extent_effect_of s Tick choice k = let touches : Touches at_a_tick s (ticked s).state = touches_ticked {f = at_a_tick} refl s k.tables in touches.parts.extent
+extent_effect_of s (Key b) choice k = (receiving_signals b s (sound_holds s k)).touches.parts.extent
+extent_effect_of s Tx choice k = extent_sent (transmitted (console_of s)) s refl k
 extent_effect_of s _ choice k = same_extent s.parts.heap
 
 -- Each event leaves the heap where it begins, with as many cells as it has.

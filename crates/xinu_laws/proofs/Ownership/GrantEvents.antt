@@ -2,7 +2,7 @@
 use Rattle.std.proofs.Common.{◌≢◌, ℕ, ◌==◌, Bool, ◌||◌, cond, List, [], ◌∷◌, ap, subst, arith}
 use Rattle.std.proofs.lemmas.Bool.{cond_both, eqb-false, or_parts}
 use Rattle.xinu_base.specs.declared.events.Event.{Event}
-use Rattle.xinu_base.specs.declared.events.Event.TheVariants.{Step, Tick}
+use Rattle.xinu_base.specs.declared.events.Event.TheVariants.{Step, Tick, Key, Tx}
 use Rattle.xinu_base.specs.declared.lines.TranscriptLine.{TranscriptLine}
 use Rattle.xinu_base.specs.declared.lines.TranscriptLine.TheVariants as line
 use Rattle.xinu_base.specs.declared.registers.Outcome.{Outcome}
@@ -19,7 +19,7 @@ use Rattle.xinu_model.specs.Sound.State.{IsSound}
 use Rattle.xinu_model.specs.Tables.{process_at}
 use Rattle.xinu_model.specs.Words.{half}
 use Rattle.xinu_laws.proofs.Lists.RowByRow.{◌⨾◌}
-use Rattle.xinu_laws.proofs.Ownership.Events.{kept_continued, kept_end_of_event, kept_executed, kept_ticked, may_call_next}
+use Rattle.xinu_laws.proofs.Ownership.Events.{kept_continued, kept_end_of_event, kept_executed, kept_keyed, kept_ticked, kept_transmits, may_call_next}
 use Rattle.xinu_laws.proofs.Ownership.Grants.{gives_after, gives_before, gives_create, gives_exit, gives_kept, gives_kill, gives_mkbufpool, gives_nothing, gives_within}
 use Rattle.xinu_laws.proofs.Preserve.Calls.{called_keeps, continued_keeps, exit_keeps, sound_where_called}
 use Rattle.xinu_laws.proofs.Preserve.Events.{may_call}
@@ -95,6 +95,8 @@ effect_gives : (s : Xinu) (e : Event) (choice : ℕ) → IsSound s → GivesOnly
 effect_gives s Step choice sound =
     step_holds (λ (x : EventResult). GivesOnlyFree s x.state) choice (next_file_call s) s (stepped_gives s sound) (λ a. gives_same s)
 effect_gives s Tick choice sound = gives_kept (kept_ticked s sound)
+effect_gives s (Key b) choice sound = gives_kept (kept_keyed b s sound)
+effect_gives s Tx choice sound = gives_kept (kept_transmits s sound)
 effect_gives s _ choice sound = gives_same s
 
 -- Each event.

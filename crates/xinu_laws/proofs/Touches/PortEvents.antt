@@ -11,6 +11,9 @@ use Rattle.xinu_base.specs.declared.registers.Outcome.TheVariants as outcome
 use Rattle.xinu_base.specs.declared.semaphores.Owner.TheVariants as owner
 use Rattle.xinu_model.specs.Calls.{called, calls, continued}
 use Rattle.xinu_model.specs.Clock.{ticked}
+use Rattle.xinu_model.specs.Console.Signals.{keyed, sent_in, transmits}
+use Rattle.xinu_model.specs.Console.Taking.{console_of}
+use Rattle.xinu_model.specs.Console.Transmitting.{Sent, transmitted}
 use Rattle.xinu_model.specs.Events.{call_of, with_executed, reacted, instruction_step, is_done, stepped}
 use Rattle.xinu_model.specs.Machine.{Xinu, CallResult, CallState, current_hart, EventResult, blocked, goes_on, nothing_happens, end_of_event, Panics, Parts, refused, returns, start}
 use Rattle.xinu_model.specs.Messages.{held}
@@ -27,6 +30,8 @@ use Rattle.xinu_model.specs.Tables.{InSemaphore, process_at, semaphore_at}
 use Rattle.xinu_model.specs.Words.{signed}
 use Rattle.xinu_laws.specs.GivingAway.{next}
 use Rattle.xinu_laws.specs.Touches.{at_a_tick, touched_by, Touches}
+use Rattle.xinu_laws.proofs.Consoles.Kept.{sound_holds}
+use Rattle.xinu_laws.proofs.Consoles.Signalled.{receiving_signals, sending_signals}
 use Rattle.xinu_laws.proofs.Lists.RowByRow.{◌⨾◌}
 use Rattle.xinu_laws.proofs.Preserve.Calls.{sound_where_called}
 use Rattle.xinu_laws.proofs.Preserve.Events.{may_call, may_call_after}
@@ -237,3 +242,14 @@ stepped_once s k =
 -- A tick leaves the ports alone.
 pub ticked_once : (s : Xinu) → IsSound s → RisesOnce s (ticked s).state
 ticked_once s k = let t : Touches at_a_tick s (ticked s).state = touches_ticked refl s k.tables in stays_once s (ticked s).state (t.parts.ports refl).0
+
+-- Neither a received character nor a transmission touches them.
+pub keyed_once : (b : ℕ) (s : Xinu) → IsSound s → RisesOnce s (keyed b s).state
+keyed_once b s k = stays_once s (keyed b s).state ((receiving_signals b s (sound_holds s k)).touches.parts.ports refl).0
+
+sent_once : (found : Option Sent) (s : Xinu) → transmitted (console_of s) ≡ found → IsSound s → RisesOnce s (sent_in found s).state
+sent_once None s e k = stays_once s s refl
+sent_once (Some sent) s e k = stays_once s (sent_in (Some sent) s).state ((sending_signals sent s e (sound_holds s k)).touches.parts.ports refl).0
+
+pub transmits_once : (s : Xinu) → IsSound s → RisesOnce s (transmits s).state
+transmits_once s k = sent_once (transmitted (console_of s)) s refl k

@@ -33,22 +33,16 @@ pub(crate) fn transcript(
     schedule: &str,
     programs: &[(u32, &str)],
 ) -> Result<Vec<u8>, Fail> {
-    let mut host = QuietMemoryHost::new(alloc);
-    host.add_file("s", schedule.as_bytes())?;
-    let mut place = 0_u32;
-    for (name, (priority, text)) in RUN[3..].iter().zip(programs) {
-        let file = image(alloc, place, *priority, text)?;
-        host.add_file(name, file.as_slice())?;
-        place = place.wrapping_add(4096);
-    }
-    let Some(args) = RUN.get(..programs.len().saturating_add(3)) else {
-        return Err("too many programs")?;
-    };
-    let mut last = None;
-    if status_of(alloc, args, &mut host, &mut last)? != 0 {
-        return Err("a refusal")?;
-    }
-    Ok(Vec::from_slice(alloc, host.sent(Channel::Out))?)
+    output(alloc, &[], schedule, programs)
+}
+
+/// What the same programs send to the console.
+pub(crate) fn plain_output(
+    alloc: Global,
+    schedule: &str,
+    programs: &[(u32, &str)],
+) -> Result<Vec<u8>, Fail> {
+    output(alloc, &["--plain"], schedule, programs)
 }
 
 /// The transcript of programs of these priorities, each a list of calls.
@@ -88,8 +82,35 @@ pub(crate) fn answered(
     Ok(text)
 }
 
-// A text of assembler that makes these calls, which are separated by commas, and then loops.
-fn calling(alloc: Global, calls: &str) -> Result<String, Fail> {
+// What a run of these programs writes, with more options.
+fn output(
+    alloc: Global,
+    options: &[&'static str],
+    schedule: &str,
+    programs: &[(u32, &str)],
+) -> Result<Vec<u8>, Fail> {
+    let mut host = QuietMemoryHost::new(alloc);
+    host.add_file("s", schedule.as_bytes())?;
+    let mut place = 0_u32;
+    for (name, (priority, text)) in RUN[3..].iter().zip(programs) {
+        let file = image(alloc, place, *priority, text)?;
+        host.add_file(name, file.as_slice())?;
+        place = place.wrapping_add(4096);
+    }
+    let Some(args) = RUN.get(..programs.len().saturating_add(3)) else {
+        return Err("too many programs")?;
+    };
+    let mut all = Vec::from_slice(alloc, args)?;
+    all.extend_from_slice(options)?;
+    let mut last = None;
+    if status_of(alloc, all.as_slice(), &mut host, &mut last)? != 0 {
+        return Err("a refusal")?;
+    }
+    Ok(Vec::from_slice(alloc, host.sent(Channel::Out))?)
+}
+
+/// A text of assembler that makes these calls, which are separated by commas, and then loops.
+pub(crate) fn calling(alloc: Global, calls: &str) -> Result<String, Fail> {
     let mut text = String::new(alloc);
     for call in calls.split(", ") {
         add_call(alloc, &mut text, call)?;

@@ -34,9 +34,9 @@ fn runs_are_printed_whole(rt: HostRuntime) -> Result<(), Fail> {
         ("step 1000000000", &GETPID_AND_EXIT, EXITED),
         ("round 925069", &GETPID_AND_EXIT, EXITED),
         ("", &GETPID_AND_EXIT, NOT_STARTED),
-        // Events of devices, of which the machine has none yet.
+        // Nothing is to be sent, and no request is under way.
         (
-            "type 61\ntx 1\ndisk0 1\ndisk1 1\nfail0\nfail1",
+            "tx 1\ndisk0 1\ndisk1 1\nfail0\nfail1",
             &GETPID_AND_EXIT,
             NOT_STARTED,
         ),

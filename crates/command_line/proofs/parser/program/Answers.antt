@@ -23,10 +23,10 @@ returns c =
     c.subcommand_required.ensures
     ∙ ap (λ (f : Command-F Command). record f { subcommand_required = true })
     (c.disable_version_flag.ensures
-      ∙ ap (λ (f : Command-F Command). record f { disable_version_flag = true })
-      (c.disable_help_subcommand.ensures
-        ∙ ap (λ (f : Command-F Command). record f { disable_help_subcommand = true })
-        (c.disable_help_flag.ensures ∙ ap (λ (f : Command-F Command). record f { disable_help_flag = true }) c.no_binary_name.ensures))) in
+    ∙ ap (λ (f : Command-F Command). record f { disable_version_flag = true })
+    (c.disable_help_subcommand.ensures
+    ∙ ap (λ (f : Command-F Command). record f { disable_help_subcommand = true })
+    (c.disable_help_flag.ensures ∙ ap (λ (f : Command-F Command). record f { disable_help_flag = true }) c.no_binary_name.ensures))) in
     record {
       told = ap app_of_fields fields ∙ ap told_of c.new.ensures.app;
       local = ap (λ (f : Command-F Command). f.has_globals) fields ∙ c.new.ensures.local;

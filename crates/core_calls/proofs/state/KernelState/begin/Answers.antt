@@ -1,5 +1,7 @@
 use Rattle.std.proofs.Common.{◌∙◌, rules, sym}
-use Rattle.core_calls.proofs.Rows.{row_chprio, row_clktime, row_create, row_exit, row_freebuf, row_freemem, row_freestk, row_getbuf, row_getmem, row_getpid, row_getprio, row_getstk, row_kill, row_mkbufpool, row_ptcreate, row_ptdelete, row_ptrecv, row_ptreset, row_ptsend, row_receive, row_recvclr, row_recvtime, row_resume, row_semcount, row_semcreate, row_semdelete, row_semreset, row_send, row_signal, row_signaln, row_sleep, row_sleepms, row_suspend, row_wait, row_yield}
+use Rattle.std.specs.Prelude.{slice_index}
+use Rattle.xinu_model.specs.Words.{signed}
+use Rattle.core_calls.proofs.Rows.{row_chprio, row_clktime, row_close, row_control, row_create, row_exit, row_freebuf, row_freemem, row_freestk, row_getbuf, row_getc, row_getmem, row_getpid, row_getprio, row_getstk, row_kill, row_mkbufpool, row_open, row_ptcreate, row_ptdelete, row_ptrecv, row_ptreset, row_ptsend, row_putc, row_read, row_receive, row_recvclr, row_recvtime, row_resume, row_seek, row_semcount, row_semcreate, row_semdelete, row_semreset, row_send, row_signal, row_signaln, row_sleep, row_sleepms, row_suspend, row_wait, row_write, row_yield}
 use Rattle.core_calls.proofs.state.KernelState.begin.Goals as goal
 
 pub returns-in-1 : goal.returns-in-1
@@ -209,5 +211,53 @@ returns-in-34 c = record {
 pub returns-in-35 : goal.returns-in-35
 returns-in-35 c = record {
   called = row_ptrecv c.args.call.number c.args.call.args c.args.self.now.state _ c.in-35.is
+      (sym c.is_built.ensures ∙ c.if-not-is_built.false) (search rules);
+}
+
+pub returns-in-36 : goal.returns-in-36
+returns-in-36 c = record {
+  called = row_open c.args.call.number c.args.call.args c.args.self.now.state _ c.in-36.is
+      (sym c.is_built.ensures ∙ c.if-not-is_built.false) (search rules);
+}
+
+pub returns-in-37 : goal.returns-in-37
+returns-in-37 c = record {
+  called = row_close c.args.call.number c.args.call.args c.args.self.now.state _ c.in-37.is
+      (sym c.is_built.ensures ∙ c.if-not-is_built.false) (search rules);
+}
+
+pub returns-in-38 : goal.returns-in-38
+returns-in-38 c = record {
+  called = row_read c.args.call.number c.args.call.args c.args.self.now.state _ c.in-38.is
+      (sym c.is_built.ensures ∙ c.if-not-is_built.false) (search rules);
+}
+
+pub returns-in-39 : goal.returns-in-39
+returns-in-39 c = record {
+  called = row_write c.args.call.number c.args.call.args c.args.self.now.state _ c.in-39.is
+      (sym c.is_built.ensures ∙ c.if-not-is_built.false) (search rules);
+}
+
+pub returns-in-40 : goal.returns-in-40
+returns-in-40 c = record {
+  called = row_getc c.args.call.number c.args.call.args c.args.self.now.state _ c.in-40.is
+      (sym c.is_built.ensures ∙ c.if-not-is_built.false) (search rules);
+}
+
+pub returns-in-41 : goal.returns-in-41
+returns-in-41 c = record {
+  called = row_putc c.args.call.number c.args.call.args c.args.self.now.state _ c.in-41.is
+      (sym c.is_built.ensures ∙ c.if-not-is_built.false) (search rules);
+}
+
+pub returns-in-42 : goal.returns-in-42
+returns-in-42 c = record {
+  called = row_seek c.args.call.number c.args.call.args c.args.self.now.state _ c.in-42.is
+      (sym c.is_built.ensures ∙ c.if-not-is_built.false) (c.device_seek.ensures.seek (slice_index c.args.call.args 0) (signed (slice_index c.args.call.args 1)));
+}
+
+pub returns-in-43 : goal.returns-in-43
+returns-in-43 c = record {
+  called = row_control c.args.call.number c.args.call.args c.args.self.now.state _ c.in-43.is
       (sym c.is_built.ensures ∙ c.if-not-is_built.false) (search rules);
 }

@@ -26,3 +26,9 @@ invariant_of-result c =
 pub returns-clause-apart : goal.returns-clause-apart
 returns-clause-apart c =
     apart_boot (map loaded_of c.args.images.now) c.in_ok-kernel.kernel.call.state c.in_ok-kernel.ensures.booted.0
+
+pub returns-clause-sound : goal.returns-clause-sound
+returns-clause-sound c =
+    let n = length-map c.args.images.now loaded_of in
+    let few = c.requires.few in
+    sound_boot (map loaded_of c.args.images.now) c.in_ok-kernel.kernel.call.state (omega (arith, n, few)) c.in_ok-kernel.ensures.booted.0
