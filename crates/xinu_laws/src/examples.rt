@@ -118,8 +118,8 @@ pub fn port_numbers()
     ensures whose_semaphores_semaphores { semaphore_lines 0 (outcome_of port_examples.whose_semaphores).state.tables.semaphores ≡ port_examples.whose_semaphores_semaphores }
 {}
 
-/// The console: a line that is edited and read, the end mark, raw mode, a newline that is held, a write that waits for room, refusals, and a
-/// reader that is killed after it was released. It is opened by a mounted name too.
+/// The console: a line that is edited and read, the end mark, a read in raw mode that waits twice, a newline that is held, a write that waits
+/// for room, refusals, and a reader that is killed after it was released. It is opened by a mounted name too.
 pub fn console_calls()
     ensures session { printed console_examples.session ≡ console_examples.session_lines }
     ensures session_bytes { bytes_at 2048 3 console_examples.session ≡ 97 ∷ 99 ∷ 10 ∷ [] }

@@ -29,17 +29,19 @@ session_lines =
 abbrev pub bytes_at : ℕ → ℕ → Example → List ℕ
 bytes_at address n example = take n (drop address (outcome_of example).state.memory)
 
--- Raw mode: no character has a meaning, and nothing is echoed.
+-- Raw mode: no character has a meaning, and nothing is echoed. A read of two bytes waits for each of them.
 abbrev pub raw_read : Example
 raw_read = record {
   start = console_system (20 ∷ []);
   programs = (sys_control 0 1 0 ∷ sys_read 0 2048 2 ∷ []) ∷ [];
-  turns = Steps 100 ∷ Types (8 ∷ 13 ∷ []) ∷ Steps 100 ∷ [];
+  turns = Steps 100 ∷ Types (8 ∷ []) ∷ Steps 100 ∷ Types (13 ∷ []) ∷ Steps 100 ∷ [];
 }
 
 abbrev pub raw_read_lines : List TranscriptLine
 raw_read_lines =
-    Switch 1 ∷ Call 1 (sys_control 0 1 0) ∷ Return 1 (pos 0) ∷ Call 1 (sys_read 0 2048 2) ∷ Switch 0 ∷ Switch 1 ∷ Return 1 (pos 2) ∷ []
+    Switch 1 ∷ Call 1 (sys_control 0 1 0) ∷ Return 1 (pos 0) ∷ Call 1 (sys_read 0 2048 2) ∷
+    Switch 0 ∷ Switch 1 ∷ Switch 0 ∷ Switch 1 ∷ Return 1 (pos 2) ∷
+    []
 
 abbrev pub raw_console_line : TranscriptLine
 raw_console_line = Console Raw 0 0 0 0 false
