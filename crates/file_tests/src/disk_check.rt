@@ -10,8 +10,31 @@ use lfs_check::{CheckFault, Report, check};
 use std::alloc::Global;
 use std::process::Abort;
 
+/// Writes of two words.
+pub type Writes = ((usize, u32), (usize, u32));
+
 /// Writes of two words, the rule that they break and its lowest block.
-pub type Damage = ([(usize, u32); 2], u8, u32);
+pub type Damage = ((usize, u32), (usize, u32), u8, u32);
+
+/// Sizes in bytes, versions, and the rule and the block that are named for so many zeros.
+const SIZES: [(usize, u32, u8, u32); 12] = [
+    // 0, 1 and 7 blocks of version 1, and 8 and 13 of version 2
+    (0, 0, 0, 0),
+    (512, 0, 0, 0),
+    (3584, 0, 0, 0),
+    (4096, 2, 0, 0),
+    (6656, 2, 0, 0),
+    // no whole blocks
+    (4095, 0, 0, 0),
+    (3000, 0, 0, 0),
+    // 65536 and 65537 blocks of version 1
+    (33_554_432, 0, 4, 0),
+    (33_554_944, 0, 0, 0),
+    // 65537, 65542 and 65543 blocks of version 2
+    (33_554_944, 2, 2, 1),
+    (33_557_504, 2, 2, 1),
+    (33_558_016, 2, 0, 0),
+];
 
 // Writes a word, if it is in the image.
 fn put(image: &mut Vec<u8>, at: usize, word: u32) {
@@ -53,88 +76,86 @@ fn reports(rt: &impl Abort, alloc: Global, image: &[u8], counts: (u32, u32, u32)
     }
 }
 
-#[test]
-fn harmless_writes_in_version_1(rt: HostRuntime) {
-    for writes in version_1::HARMLESS.iter() {
-        let mut image = image_of(&rt, rt.alloc(), 70, &version_1::WORDS);
-        put(&mut image, writes[0].0, writes[0].1);
-        put(&mut image, writes[1].0, writes[1].1);
-        assert!(rt; reports(&rt, rt.alloc(), &image, version_1::REPORT));
+// Whether an image of 70 blocks with these words is clean after each of the writes, with these counts.
+fn are_harmless(
+    rt: &impl Abort,
+    alloc: Global,
+    words: &[(usize, u32)],
+    writes: &[Writes],
+    counts: (u32, u32, u32),
+) -> bool {
+    for (first, second) in writes {
+        let mut image = image_of(rt, alloc, 70, words);
+        put(&mut image, first.0, first.1);
+        put(&mut image, second.0, second.1);
+        if !reports(rt, alloc, &image, counts) {
+            return false;
+        }
     }
+    true
 }
 
-#[test]
-fn damaged_images_of_version_1(rt: HostRuntime) {
-    for (writes, rule, block) in version_1::DAMAGES.iter() {
-        let mut image = image_of(&rt, rt.alloc(), 70, &version_1::WORDS);
-        put(&mut image, writes[0].0, writes[0].1);
-        put(&mut image, writes[1].0, writes[1].1);
-        assert!(rt; names(&rt, rt.alloc(), &image, *rule, *block), "{writes:?}");
-    }
-}
-
-#[test]
-fn harmless_writes_in_version_2(rt: HostRuntime) {
-    for writes in version_2::HARMLESS.iter() {
-        let mut image = image_of(&rt, rt.alloc(), 70, &version_2::WORDS);
-        put(&mut image, writes[0].0, writes[0].1);
-        put(&mut image, writes[1].0, writes[1].1);
-        assert!(rt; reports(&rt, rt.alloc(), &image, version_2::REPORT));
-    }
-}
-
-#[test]
-fn damaged_images_of_version_2(rt: HostRuntime) {
-    for (writes, rule, block) in version_2::DAMAGES.iter() {
-        let mut image = image_of(&rt, rt.alloc(), 70, &version_2::WORDS);
-        put(&mut image, writes[0].0, writes[0].1);
-        put(&mut image, writes[1].0, writes[1].1);
-        assert!(rt; names(&rt, rt.alloc(), &image, *rule, *block), "{writes:?}");
-    }
-}
-
-#[test]
-fn sizes_that_break_rule_0(rt: HostRuntime) {
-    for blocks in [0u16, 1, 7] {
+// Fails at the first of the damages that is named otherwise, in an image of 70 blocks with these words.
+fn are_named(rt: &impl Abort, alloc: Global, words: &[(usize, u32)], damages: &[Damage]) {
+    for (first, second, rule, block) in damages {
+        let mut image = image_of(rt, alloc, 70, words);
+        put(&mut image, first.0, first.1);
+        put(&mut image, second.0, second.1);
         assert!(rt;
-            names(
-                &rt,
-                rt.alloc(),
-                &image_of(&rt, rt.alloc(), blocks, &[]),
-                0,
-                0
-            )
+            names(rt, alloc, &image, *rule, *block),
+            "{first:?} {second:?}"
         );
     }
-    for blocks in [8u16, 13] {
-        assert!(rt;
-            names(
-                &rt,
-                rt.alloc(),
-                &image_of(&rt, rt.alloc(), blocks, &[(492, 2)]),
-                0,
-                0
-            )
-        );
-    }
-    let mut short = image_of(&rt, rt.alloc(), 8, &[]);
-    short.truncate(4095);
-    assert!(rt; names(&rt, rt.alloc(), &short, 0, 0));
-    short.truncate(3000);
-    assert!(rt; names(&rt, rt.alloc(), &short, 0, 0));
+}
+
+#[test]
+fn harmless_writes(rt: HostRuntime) {
+    assert!(rt;
+        are_harmless(
+            &rt,
+            rt.alloc(),
+            &version_1::WORDS,
+            &version_1::HARMLESS,
+            version_1::REPORT
+        )
+    );
+    assert!(rt;
+        are_harmless(
+            &rt,
+            rt.alloc(),
+            &version_2::WORDS,
+            &version_2::HARMLESS,
+            version_2::REPORT
+        )
+    );
+}
+
+#[test]
+fn damaged_images(rt: HostRuntime) {
+    are_named(&rt, rt.alloc(), &version_1::WORDS, &version_1::DAMAGES);
+    are_named(&rt, rt.alloc(), &version_2::WORDS, &version_2::DAMAGES);
+}
+
+// Whether the check of this many zeros, with a version, names this rule and this block.
+fn size_names(
+    rt: &impl Abort,
+    alloc: Global,
+    size: usize,
+    version: u32,
+    rule: u8,
+    block: u32,
+) -> bool {
+    let mut image = vec![in alloc; 0u8; size].expect(rt, "memory");
+    put(&mut image, 492, version);
+    names(rt, alloc, &image, rule, block)
 }
 
 #[test]
 fn the_number_of_blocks_is_judged_by_the_version(rt: HostRuntime) {
-    let mut most = image_of(&rt, rt.alloc(), 65535, &[]);
-    most.resize(512 * 65536, 0).expect(&rt, "memory");
-    assert!(rt; names(&rt, rt.alloc(), &most, 4, 0));
-    most.resize(512 * 65537, 0).expect(&rt, "memory");
-    assert!(rt; names(&rt, rt.alloc(), &most, 0, 0));
-    put(&mut most, 492, 2);
-    assert!(rt; names(&rt, rt.alloc(), &most, 2, 1));
-    most.resize(512 * 65542, 0).expect(&rt, "memory");
-    assert!(rt; names(&rt, rt.alloc(), &most, 2, 1));
-    most.resize(512 * 65543, 0).expect(&rt, "memory");
-    assert!(rt; names(&rt, rt.alloc(), &most, 0, 0));
+    for (size, version, rule, block) in SIZES.iter() {
+        assert!(rt;
+            size_names(&rt, rt.alloc(), *size, *version, *rule, *block),
+            "{size}"
+        );
+    }
 }

@@ -20,10 +20,10 @@ fn the_first_directory_block_of_256_empty_blocks(rt: HostRuntime) {
     };
     let mut block = [7u8; 512];
     write_dir(&dir, &mut block);
-    assert!(rt; block[..12] == [10u8, 0, 0, 0, 0, 0, 0, 0, 0, 0, 0, 0][..]);
-    assert!(rt; block[492..496] == [2u8, 0, 0, 0][..]);
-    assert!(rt; block[12..492].iter().all(|b| *b == 0));
-    assert!(rt; block[496..].iter().all(|b| *b == 0));
+    let mut wanted = [0u8; 512];
+    wanted[0] = 10;
+    wanted[492] = 2;
+    assert!(rt; block == wanted);
 }
 
 #[test]
@@ -37,10 +37,8 @@ fn the_last_entry_of_a_block_ends_before_byte_480(rt: HostRuntime) {
     block[480] = b'x';
     let dir = read_dir(&block);
     let last = dir.entries[12];
-    assert!(rt; last.size == 0x0200_0001);
-    assert!(rt; last.first == 3);
-    assert!(rt; last.name[0] == b'n');
-    assert!(rt; last.name[27] == b'e');
+    assert!(rt; last.size == 0x0200_0001 && last.first == 3);
+    assert!(rt; last.name[0] == b'n' && last.name[27] == b'e');
 }
 
 #[test]
@@ -55,10 +53,8 @@ fn an_entry_of_version_1_has_24_bytes(rt: HostRuntime) {
     let dir = read_dir_1(&block);
     assert!(rt; dir.files == 1);
     let second = dir.entries[1];
-    assert!(rt; second.size == 5);
-    assert!(rt; second.first == 6);
-    assert!(rt; second.name[0] == b'a');
-    assert!(rt; second.name[15] == b'z');
+    assert!(rt; second.size == 5 && second.first == 6);
+    assert!(rt; second.name[0] == b'a' && second.name[15] == b'z');
     let last = dir.entries[19];
     assert!(rt; last.size == 9);
 }
@@ -74,9 +70,7 @@ fn the_seventh_index_block_begins_at_byte_432(rt: HostRuntime) {
     write_index(&index, &mut block, 6);
     assert!(rt; block[432..440] == [255u8, 255, 255, 255, 0, 32, 0, 0][..]);
     assert!(rt; block[500..505] == [4u8, 3, 2, 1, 0][..]);
-    assert!(rt; block[..432].iter().all(|b| *b == 0));
+    assert!(rt; block[..432] == [0u8; 432][..]);
     let again = read_index(&block, 6);
-    assert!(rt; again.next == NULL);
-    assert!(rt; again.offset == 8192);
-    assert!(rt; again.blocks[15] == 0x0102_0304);
+    assert!(rt; again.next == NULL && again.offset == 8192 && again.blocks[15] == 0x0102_0304);
 }

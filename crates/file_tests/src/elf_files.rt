@@ -5,6 +5,8 @@ ghost use Rattle.std.specs.Prelude.{◌≤◌};
 use byteorder::{ByteOrder, LittleEndian};
 use elf_loader::{ElfFault, LoadFault, load, read_elf, write_elf};
 use image_loader::{ImageFault, read_image};
+use std::alloc::Global;
+use std::process::Abort;
 use std::test::Fail;
 
 /// A program of four instructions, as an assembler and a linker make it: the file's header, the header of one loaded segment of
@@ -26,141 +28,133 @@ const IMAGE: [u8; 44] = [
     0x93, 0x08, 0x10, 0x00, 0x73, 0x00, 0x00, 0x00, 0x93, 0x08, 0x90, 0x00, 0x73, 0x00, 0x00, 0x00,
 ];
 
-// The program with another half word at a place.
-fn with_half(at: usize, half: u16) -> [u8; 100]
-    requires { at ≤ 98 }
-{
-    let mut file = PROGRAM;
-    LittleEndian::write_u16(&mut file[at..], half);
-    file
+/// Another word of the program, at a place, and the first test that then fails.
+const FAULTS: [(usize, u32, ElfFault); 21] = [
+    // words of 64 bits, and the highest byte first
+    (4, 0x0001_0102, ElfFault::Class),
+    (4, 0x0001_0201, ElfFault::Class),
+    // version 0
+    (4, 0x0000_0101, ElfFault::Class),
+    // a library, and another machine
+    (16, 0x00F3_0003, ElfFault::Kind),
+    (16, 0x003E_0002, ElfFault::Kind),
+    // headers of 40 bytes
+    (40, 0x0028_0034, ElfFault::Headers),
+    // more headers than bytes
+    (44, 3, ElfFault::Headers),
+    // headers after the end, and at the end of all words
+    (28, 69, ElfFault::Headers),
+    (28, u32::MAX, ElfFault::Headers),
+    // a program that loads it
+    (52, 3, ElfFault::Dynamic),
+    // more bytes than addresses
+    (72, 15, ElfFault::Segment),
+    // bytes after the end of the file, and from the end of all words
+    (56, 85, ElfFault::Segment),
+    (56, u32::MAX, ElfFault::Segment),
+    // addresses after RAM, and at the end of all words
+    (60, 1_048_561, ElfFault::Segment),
+    (60, u32::MAX, ElfFault::Segment),
+    // no segment, one that isn't loaded, and one without an address
+    (44, 0, ElfFault::Entry),
+    (52, 2, ElfFault::Entry),
+    (72, 0, ElfFault::Entry),
+    // an odd entry, one ahead of the segment, and one after its bytes
+    (24, 65_622, ElfFault::Entry),
+    (24, 65_616, ElfFault::Entry),
+    (24, 65_636, ElfFault::Entry),
+];
+
+/// Another word of the file that is written for the image, at a place, and the priority and the stack that are read, or the fault.
+const NOTES: [(usize, u32, Result<(i16, u32), ElfFault>); 11] = [
+    // the note as it is
+    (140, 8192, Ok((21, 8192))),
+    // another name, and a longer one
+    (128, 0x554E_4959, Ok((20, 4096))),
+    (116, 6, Ok((20, 4096))),
+    // a description of three words
+    (120, 12, Ok((20, 4096))),
+    // another type, and a segment of another type
+    (124, 2, Ok((20, 4096))),
+    (84, 5, Ok((20, 4096))),
+    // a segment that leaves the file, and one that is a byte short
+    (88, 133, Ok((20, 4096))),
+    (100, 27, Ok((20, 4096))),
+    // priorities 0, 32767 and 32768
+    (136, 0, Err(ElfFault::Note)),
+    (136, 32_767, Ok((32_767, 8192))),
+    (136, 32_768, Err(ElfFault::Note)),
+];
+
+// Writes a word into a file, if it has that place.
+fn put(file: &mut [u8], at: usize, word: u32) {
+    if at < file.len() && file.len() - at >= 4 {
+        LittleEndian::write_u32(&mut file[at..], word);
+    }
 }
 
 // The program with another word at a place.
-fn with_word(at: usize, word: u32) -> [u8; 100]
-    requires { at ≤ 96 }
-{
+fn with_word(at: usize, word: u32) -> [u8; 100] {
     let mut file = PROGRAM;
-    LittleEndian::write_u32(&mut file[at..], word);
+    put(&mut file, at, word);
     file
 }
 
+// Whether the file loads as one part with these bytes, at this place and of this size.
+fn has_part(file: &[u8], bytes: &[u8], place: u32, size: u32) -> bool {
+    match load(file) {
+        Ok(image) => match image.parts.as_slice() {
+            [part] => part.bytes == bytes && part.place == place && part.size == size,
+            _ => false,
+        },
+        Err(_) => false,
+    }
+}
+
+// The entry, the priority and the stack of a file that loads.
+fn settings(file: &[u8]) -> Option<(u32, i16, u32)> {
+    let image = load(file).ok()?;
+    Some((image.entry, image.priority, image.stack))
+}
+
 #[test]
-fn a_program_is_its_loaded_segments(rt: HostRuntime) -> Result<(), Fail> {
+fn a_program_is_its_loaded_segments(rt: HostRuntime) {
     // eight addresses more than bytes
     let file = with_word(72, 24);
-    let image = load(&file).ok().ok_or("an image")?;
-    assert_eq!(rt; image.parts.len(), 1);
-    let part = image.parts.as_slice().first().ok_or("a part")?;
-    assert_eq!(rt; (part.place, part.size), (65_620, 24));
-    assert_eq!(rt; part.bytes, &PROGRAM[84..]);
-    assert_eq!(rt;
-        (image.entry, image.priority, image.stack),
-        (65_620, 20, 4096)
-    );
-    Ok(())
+    assert!(rt; has_part(&file, &PROGRAM[84..], 65_620, 24));
+    assert_eq!(rt; settings(&file), Some((65_620, 20, 4096)));
 }
 
 #[test]
 fn the_first_test_that_fails_is_the_fault(rt: HostRuntime) {
-    for (name, file, fault) in [
-        ("words of 64 bits", with_half(4, 0x0102), ElfFault::Class),
-        (
-            "the highest byte first",
-            with_half(4, 0x0201),
-            ElfFault::Class,
-        ),
-        ("version 0", with_half(6, 0), ElfFault::Class),
-        ("a library", with_half(16, 3), ElfFault::Kind),
-        ("another machine", with_half(18, 62), ElfFault::Kind),
-        ("headers of 40 bytes", with_half(42, 40), ElfFault::Headers),
-        (
-            "more headers than bytes",
-            with_half(44, 3),
-            ElfFault::Headers,
-        ),
-        (
-            "headers after the end",
-            with_word(28, 69),
-            ElfFault::Headers,
-        ),
-        (
-            "headers at the end of all words",
-            with_word(28, u32::MAX),
-            ElfFault::Headers,
-        ),
-        (
-            "a program that loads it",
-            with_word(52, 3),
-            ElfFault::Dynamic,
-        ),
-        (
-            "more bytes than addresses",
-            with_word(72, 15),
-            ElfFault::Segment,
-        ),
-        (
-            "bytes after the end of the file",
-            with_word(56, 85),
-            ElfFault::Segment,
-        ),
-        (
-            "bytes from the end of all words",
-            with_word(56, u32::MAX),
-            ElfFault::Segment,
-        ),
-        (
-            "addresses after RAM",
-            with_word(60, 1_048_561),
-            ElfFault::Segment,
-        ),
-        (
-            "addresses at the end of all words",
-            with_word(60, u32::MAX),
-            ElfFault::Segment,
-        ),
-        ("no segment", with_half(44, 0), ElfFault::Entry),
-        (
-            "a segment that isn't loaded",
-            with_word(52, 2),
-            ElfFault::Entry,
-        ),
-        (
-            "a segment without an address",
-            with_word(72, 0),
-            ElfFault::Entry,
-        ),
-        ("an odd entry", with_word(24, 65_622), ElfFault::Entry),
-        (
-            "an entry ahead of the segment",
-            with_word(24, 65_616),
-            ElfFault::Entry,
-        ),
-        (
-            "an entry after its bytes",
-            with_word(24, 65_636),
-            ElfFault::Entry,
-        ),
-    ] {
-        assert_eq!(rt; load(&file).err(), Some(LoadFault::Elf(fault)), "{name}");
+    for (at, word, fault) in FAULTS.iter() {
+        assert_eq!(rt;
+            load(&with_word(*at, *word)).err(),
+            Some(LoadFault::Elf(*fault)),
+            "{word} at {at}"
+        );
     }
-    for n in 0..100 {
-        let fault = if n < 52 {
-            ElfFault::Short
-        } else if n < 84 {
-            ElfFault::Headers
-        } else {
-            ElfFault::Segment
-        };
-        assert_eq!(rt; read_elf(&PROGRAM[..n]).err(), Some(fault), "{n} bytes");
+}
+
+// The fault of the first bytes of the program.
+fn fault_of_first(n: usize) -> Option<ElfFault> {
+    read_elf(PROGRAM.get(..n)?).err()
+}
+
+// Asserts the fault of the first bytes of the program, for these numbers of them.
+fn are_faulty(rt: &impl Abort, from: usize, to: usize, fault: ElfFault) {
+    for n in from..to {
+        assert!(rt; fault_of_first(n) == Some(fault), "{n} bytes");
     }
-    assert_eq!(rt;
-        load(&PROGRAM[..3]).err(),
-        Some(LoadFault::Image(ImageFault::Short))
-    );
-    assert_eq!(rt;
-        load(&PROGRAM[..4]).err(),
-        Some(LoadFault::Elf(ElfFault::Short))
-    );
+}
+
+#[test]
+fn a_program_that_is_cut_has_a_fault(rt: HostRuntime) {
+    are_faulty(&rt, 0, 52, ElfFault::Short);
+    are_faulty(&rt, 52, 84, ElfFault::Headers);
+    are_faulty(&rt, 84, 100, ElfFault::Segment);
+    assert!(rt; load(&PROGRAM[..3]).err() == Some(LoadFault::Image(ImageFault::Short)));
+    assert!(rt; load(&PROGRAM[..4]).err() == Some(LoadFault::Elf(ElfFault::Short)));
 }
 
 // Writes the header of a segment of four bytes, which are the last of a file of 344.
@@ -174,88 +168,92 @@ fn put_segment(file: &mut [u8; 344], at: usize, kind: u32, place: u32)
     LittleEndian::write_u32(&mut file[at + 20..], 4);
 }
 
+// A file with nine segments, of which those outside RAM are of a kind that isn't loaded.
+fn with_segments(places: [u32; 9]) -> [u8; 344] {
+    let mut file = [0u8; 344];
+    file[..52].copy_from_slice(&PROGRAM[..52]);
+    LittleEndian::write_u16(&mut file[44..], 9);
+    LittleEndian::write_u32(&mut file[24..], 4);
+    for i in 0..9 {
+        let kind = if places[i] < 1_048_576 { 1 } else { 6 };
+        put_segment(&mut file, 52 + 32 * i, kind, places[i]);
+    }
+    file
+}
+
+/// Places of nine segments, and the fault.
+const SEGMENTS: [(&[u32; 9], Option<ElfFault>); 4] = [
+    (&[0, 4, 8, 12, 16, 20, 24, 28, 2_000_000], None),
+    (&[0, 4, 8, 12, 16, 20, 24, 28, 32], Some(ElfFault::TooMany)),
+    (
+        &[0, 4, 8, 12, 16, 20, 24, 27, 2_000_000],
+        Some(ElfFault::Meet),
+    ),
+    (
+        &[24, 4, 8, 12, 16, 20, 27, 31, 2_000_000],
+        Some(ElfFault::Meet),
+    ),
+];
+
 #[test]
 fn at_most_eight_segments_that_do_not_meet_are_loaded(rt: HostRuntime) {
-    for (places, fault) in [
-        ([0, 4, 8, 12, 16, 20, 24, 28, 2_000_000], None),
-        ([0, 4, 8, 12, 16, 20, 24, 28, 32], Some(ElfFault::TooMany)),
-        (
-            [0, 4, 8, 12, 16, 20, 24, 27, 2_000_000],
-            Some(ElfFault::Meet),
-        ),
-        (
-            [24, 4, 8, 12, 16, 20, 27, 31, 2_000_000],
-            Some(ElfFault::Meet),
-        ),
-    ] {
-        let mut file = [0u8; 344];
-        file[..52].copy_from_slice(&PROGRAM[..52]);
-        LittleEndian::write_u16(&mut file[44..], 9);
-        LittleEndian::write_u32(&mut file[24..], 4);
-        for i in 0..9 {
-            // a segment of another kind isn't loaded, wherever it is
-            let kind = if places[i] < 1_048_576 { 1 } else { 6 };
-            put_segment(&mut file, 52 + 32 * i, kind, places[i]);
-        }
-        assert_eq!(rt; read_elf(&file).err(), fault);
+    for (places, fault) in SEGMENTS.iter() {
+        assert_eq!(rt; read_elf(&with_segments(**places)).err(), *fault);
     }
+}
+
+// The ELF file that is written for the image.
+fn written(alloc: Global) -> Result<Vec<u8>, Fail> {
+    let image = read_image(&IMAGE).ok().ok_or("an image")?;
+    let file = write_elf(alloc, &image).ok().ok_or("memory")?;
+    Ok(file)
 }
 
 #[test]
 fn a_written_file_is_read_back(rt: HostRuntime) -> Result<(), Fail> {
-    let image = read_image(&IMAGE).ok().ok_or("an image")?;
-    let file = write_elf(rt.alloc(), &image).ok().ok_or("memory")?;
+    let file = written(rt.alloc())?;
     assert_eq!(rt; file.len(), 160);
-    let read = load(&file).ok().ok_or("an image")?;
-    let part = read.parts.as_slice().first().ok_or("a part")?;
-    assert_eq!(rt; (part.place, part.size), (0, 16));
-    assert_eq!(rt; part.bytes, &IMAGE[28..]);
-    assert_eq!(rt; (read.entry, read.priority, read.stack), (0, 21, 8192));
+    assert!(rt; has_part(&file, &IMAGE[28..], 0, 16));
+    assert_eq!(rt; settings(&file), Some((0, 21, 8192)));
     Ok(())
+}
+
+// The priority and the stack of the written file with another word, or its fault.
+fn noted(alloc: Global, at: usize, word: u32) -> Result<Result<(i16, u32), ElfFault>, Fail> {
+    let mut file = written(alloc)?;
+    put(&mut file, at, word);
+    Ok(match read_elf(&file) {
+        Ok(image) => Ok((image.priority, image.stack)),
+        Err(fault) => Err(fault),
+    })
 }
 
 #[test]
 fn a_note_that_counts_is_the_first_of_its_name(rt: HostRuntime) -> Result<(), Fail> {
-    let image = read_image(&IMAGE).ok().ok_or("an image")?;
-    for (name, at, word, settings) in [
-        ("the note", 140, 8192, Ok((21, 8192))),
-        ("another name", 128, 0x554E_4959, Ok((20, 4096))),
-        ("a longer name", 116, 6, Ok((20, 4096))),
-        ("a description of three words", 120, 12, Ok((20, 4096))),
-        ("another type", 124, 2, Ok((20, 4096))),
-        ("a segment of another type", 84, 5, Ok((20, 4096))),
-        ("a segment that leaves the file", 88, 133, Ok((20, 4096))),
-        ("a segment that is a byte short", 100, 27, Ok((20, 4096))),
-        ("priority 0", 136, 0, Err(ElfFault::Note)),
-        ("priority 32767", 136, 32_767, Ok((32_767, 8192))),
-        ("priority 32768", 136, 32_768, Err(ElfFault::Note)),
-    ] {
-        let mut file = write_elf(rt.alloc(), &image).ok().ok_or("memory")?;
-        if file.len() != 160 || at > 156 {
-            return Err("a word of 160 bytes")?;
-        }
-        file[at..at + 4].copy_from_slice(&u32::to_le_bytes(word));
-        let read = read_elf(&file).map(|image| (image.priority, image.stack));
-        assert_eq!(rt; read, settings, "{name}");
+    for (at, word, wanted) in NOTES.iter() {
+        assert_eq!(rt; noted(rt.alloc(), *at, *word)?, *wanted, "{word} at {at}");
     }
     Ok(())
 }
 
+/// The faults of ELF files, each with its number.
+const NUMBERS: [(ElfFault, u8); 10] = [
+    (ElfFault::Short, 11),
+    (ElfFault::Class, 12),
+    (ElfFault::Kind, 13),
+    (ElfFault::Headers, 14),
+    (ElfFault::Dynamic, 15),
+    (ElfFault::Segment, 16),
+    (ElfFault::TooMany, 17),
+    (ElfFault::Meet, 18),
+    (ElfFault::Entry, 19),
+    (ElfFault::Note, 20),
+];
+
 #[test]
 fn faults_have_numbers(rt: HostRuntime) {
-    for (number, fault) in [
-        (11, ElfFault::Short),
-        (12, ElfFault::Class),
-        (13, ElfFault::Kind),
-        (14, ElfFault::Headers),
-        (15, ElfFault::Dynamic),
-        (16, ElfFault::Segment),
-        (17, ElfFault::TooMany),
-        (18, ElfFault::Meet),
-        (19, ElfFault::Entry),
-        (20, ElfFault::Note),
-    ] {
-        assert_eq!(rt; LoadFault::Elf(fault).number(), number);
+    for (fault, number) in NUMBERS.iter() {
+        assert!(rt; LoadFault::Elf(*fault).number() == *number, "{number}");
     }
-    assert_eq!(rt; LoadFault::Image(ImageFault::Priority).number(), 7);
+    assert!(rt; LoadFault::Image(ImageFault::Priority).number() == 7);
 }

@@ -30,18 +30,20 @@ fn has_tokens(line: &[u8], tokens: &[&[u8]]) -> bool {
     first_token(rest).is_none()
 }
 
+/// Texts with their lines.
+const TEXTS: [(&[u8], &[&[u8]]); 5] = [
+    (b"", &[]),
+    (b"one", &[b"one"]),
+    (b"one\n", &[b"one"]),
+    (b"one\r\n\ntwo\r", &[b"one", b"", b"two\r"]),
+    (b"\r\r\n\n", &[b"\r", b""]),
+];
+
 #[test]
 fn texts_are_cut_into_lines(rt: HostRuntime) {
-    assert!(rt; has_lines(b"".as_slice(), &[]));
-    assert!(rt; has_lines(b"one".as_slice(), &[b"one".as_slice()]));
-    assert!(rt; has_lines(b"one\n".as_slice(), &[b"one".as_slice()]));
-    assert!(rt;
-        has_lines(
-            b"one\r\n\ntwo\r".as_slice(),
-            &[b"one".as_slice(), b"", b"two\r"]
-        )
-    );
-    assert!(rt; has_lines(b"\r\r\n\n".as_slice(), &[b"\r".as_slice(), b""]));
+    for (text, lines) in TEXTS.iter() {
+        assert!(rt; has_lines(text, lines), "{text:?}");
+    }
 }
 
 #[test]

@@ -13,6 +13,8 @@ mod isa;
 #[cfg(test)]
 mod numbers;
 #[cfg(test)]
+mod rows;
+#[cfg(test)]
 mod switch;
 #[cfg(test)]
 mod tty;

@@ -1,22 +1,41 @@
 //! The bounds of the numbers, and the names of calls at the ends of their table.
 
-use std::test::Fail;
+use crate::rows::same;
 use xinu_base::{Dev, Pid, PoolId, Port, Sem, call_args, call_name, is_built, is_built_device};
 
+// These five give a number's index, if the word is one.
+fn pid(w: u32) -> Option<usize> {
+    Some(Pid::from_word(w)?.index())
+}
+
+fn sem(w: u32) -> Option<usize> {
+    Some(Sem::from_word(w)?.index())
+}
+
+fn pool(w: u32) -> Option<usize> {
+    Some(PoolId::from_word(w)?.index())
+}
+
+fn port(w: u32) -> Option<usize> {
+    Some(Port::from_word(w)?.index())
+}
+
+fn dev(w: u32) -> Option<usize> {
+    Some(Dev::from_word(w)?.index())
+}
+
 #[test]
-fn numbers_end_at_their_bounds(rt: HostRuntime) -> Result<(), Fail> {
-    assert_eq!(rt; Pid::from_word(63).ok_or("63")?.index(), 63);
-    assert_eq!(rt; Pid::from_word(64), None);
-    assert_eq!(rt; Sem::from_word(127).ok_or("127")?.index(), 127);
-    assert_eq!(rt; Sem::from_word(128), None);
-    assert_eq!(rt; PoolId::from_word(19).ok_or("19")?.index(), 19);
-    assert_eq!(rt; PoolId::from_word(20), None);
-    assert_eq!(rt; Port::from_word(29).ok_or("29")?.index(), 29);
-    assert_eq!(rt; Port::from_word(30), None);
-    assert_eq!(rt; Dev::from_word(9).ok_or("9")?.index(), 9);
-    assert_eq!(rt; Dev::from_word(10), None);
-    assert_eq!(rt; Pid::default().index(), 0);
-    Ok(())
+fn numbers_end_at_their_bounds(rt: HostRuntime) {
+    for (last, next, index) in [
+        (pid(63), pid(64), 63),
+        (sem(127), sem(128), 127),
+        (pool(19), pool(20), 19),
+        (port(29), port(30), 29),
+        (dev(9), dev(10), 9),
+    ] {
+        same(&rt, index, (last, next), (Some(index), None));
+    }
+    same(&rt, "default", Pid::default().index(), 0);
 }
 
 #[test]
@@ -30,9 +49,19 @@ fn calls_have_names(rt: HostRuntime) {
         (44, "mount", 3),
         (45, "unknown", 1),
     ] {
-        assert_eq!(rt; call_name(number), name);
-        assert_eq!(rt; call_args(number), args);
+        same(
+            &rt,
+            number,
+            (call_name(number), call_args(number)),
+            (name, args),
+        );
     }
-    assert!(rt; is_built(1) && is_built(43) && !is_built(44));
-    assert!(rt; is_built_device(0) && !is_built_device(2));
+    let calls = [is_built(1), is_built(43), is_built(44)];
+    let devices = [is_built_device(0), is_built_device(2)];
+    same(
+        &rt,
+        "built",
+        (calls, devices),
+        ([true, true, false], [true, false]),
+    );
 }

@@ -1,7 +1,7 @@
 //! The table of devices, row by row.
 
+use crate::rows::same;
 use device_switch::{Kind, NoSuch, Op, device, kind_of, offers};
-use std::test::Fail;
 
 const OPS: [Op; 8] = [
     Op::Open,
@@ -25,15 +25,20 @@ fn row(word: u32) -> Result<(Kind, [bool; 8]), NoSuch> {
 }
 
 #[test]
-fn each_device_has_its_row(rt: HostRuntime) -> Result<(), Fail> {
+fn each_device_has_its_row(rt: HostRuntime) {
     let t = true;
     let f = false;
-    assert_eq!(rt; row(0), Ok((Kind::Console, [t, t, t, t, t, t, f, t])));
-    assert_eq!(rt; row(1), Ok((Kind::NameSpace, [t, f, f, f, f, f, f, f])));
-    assert_eq!(rt; row(2), Ok((Kind::RawDisk, [t, t, t, t, f, f, f, t])));
-    assert_eq!(rt; row(3), Ok((Kind::FileSystem, [t, f, f, f, f, f, f, t])));
     let file = Ok((Kind::File, [f, t, t, t, t, t, t, t]));
-    assert_eq!(rt; (row(4), row(9)), (file, file));
-    assert_eq!(rt; (row(10), row(u32::MAX)), (Err(NoSuch), Err(NoSuch)));
-    Ok(())
+    for (word, wanted) in [
+        (0, Ok((Kind::Console, [t, t, t, t, t, t, f, t]))),
+        (1, Ok((Kind::NameSpace, [t, f, f, f, f, f, f, f]))),
+        (2, Ok((Kind::RawDisk, [t, t, t, t, f, f, f, t]))),
+        (3, Ok((Kind::FileSystem, [t, f, f, f, f, f, f, t]))),
+        (4, file),
+        (9, file),
+        (10, Err(NoSuch)),
+        (u32::MAX, Err(NoSuch)),
+    ] {
+        same(&rt, word, row(word), wanted);
+    }
 }

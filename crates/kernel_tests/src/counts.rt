@@ -5,13 +5,42 @@ ghost use Rattle.process_core.specs.Fits.{Fits};
 ghost use Rattle.queue_table.specs.Table as table;
 ghost use Rattle.semaphores.specs.Counts.{Counts};
 
-use arrayvec::ArrayVec;
+use crate::answers::joined;
 use process_core::{Procs, pid_at};
 use queue_table::Lists;
 use semaphores::{Sems, Signalled, sem_at};
 use std::alloc::Global;
 use std::test::Fail;
 use xinu_base::{Owner, Pid, Sem};
+
+// A call on the numbers of semaphores, or what is read of them: how many are free.
+#[derive(Drop)]
+enum Call {
+    Create(i32),
+    CreateTwo(i32),
+    CreateMany(u32),
+    Delete(usize),
+    Free,
+}
+
+// A call on a semaphore, or what is read of it: its count, and whose it is.
+#[derive(Drop)]
+enum Waiting {
+    Create(i32),
+    AddWaiter(usize),
+    Wait(usize),
+    Forget(usize),
+    Signal(usize),
+    Signaln(usize, u32),
+    Reset(usize, i32),
+    Count(usize),
+    Owner(usize),
+}
+
+// A signal at the greatest count.
+const FULL: i64 = -2;
+// A semaphore of the kernel's own.
+const DEVICE: i64 = -3;
 
 // New semaphores, a new process table and new lists.
 fn new_tables(alloc: Global) -> Result<(Sems, Procs, Lists), Fail>
@@ -31,105 +60,138 @@ fn new_tables(alloc: Global) -> Result<(Sems, Procs, Lists), Fail>
 }
 
 // A new semaphore of a process's.
-fn create(sems: &mut Sems, lists: &Lists, count: i32) -> Option<Sem>
+fn create(sems: &mut Sems, lists: &Lists, count: i32) -> i64
     requires counts { Counts (table.lists lists.now) sems.old.entries }
     ensures counts { Counts (table.lists lists.now) sems.new.entries }
 {
-    sems.create(Owner::Image, count)
+    match sems.create(Owner::Image, count) {
+        Some(sem) => sem.index() as i64,
+        None => -1,
+    }
 }
 
-// Two new semaphores of a process's; their numbers.
-fn create_two(sems: &mut Sems, lists: &Lists, count: i32) -> Option<(usize, usize)>
+// Two new semaphores of a process's; their numbers, with three digits for the second.
+fn create_two(sems: &mut Sems, lists: &Lists, count: i32) -> i64
     requires counts { Counts (table.lists lists.now) sems.old.entries }
     ensures counts { Counts (table.lists lists.now) sems.new.entries }
 {
     match sems.create_two(&Owner::Image, count) {
-        Some((first, second)) => Some((first.index(), second.index())),
-        None => None,
+        Some((first, second)) => (1000 * first.index() + second.index()) as i64,
+        None => -1,
     }
 }
 
-// So many new semaphores of a process's.
-fn create_many(sems: &mut Sems, lists: &Lists, many: u32)
+// So many new semaphores of a process's; the number of the last.
+fn create_many(sems: &mut Sems, lists: &Lists, many: u32) -> i64
     requires counts { Counts (table.lists lists.now) sems.old.entries }
     ensures counts { Counts (table.lists lists.now) sems.new.entries }
 {
+    let mut last = -1;
     for _ in 0..many {
-        create(sems, lists, 1);
+        last = create(sems, lists, 1);
+    }
+    last
+}
+
+// A semaphore on which nobody waits is given up.
+fn delete(sems: &mut Sems, lists: &Lists, sem: Sem) -> i64
+    requires counts { Counts (table.lists lists.now) sems.old.entries }
+    ensures counts { Counts (table.lists lists.now) sems.new.entries }
+{
+    if !lists.is_empty(sem.index()) {
+        return -1;
+    }
+    sems.delete(lists, sem);
+    0
+}
+
+// What a call answers; -1 if it is refused.
+fn reply(sems: &mut Sems, lists: &Lists, call: &Call) -> i64
+    requires counts { Counts (table.lists lists.now) sems.old.entries }
+    ensures counts { Counts (table.lists lists.now) sems.new.entries }
+{
+    match *call {
+        Call::Create(count) => create(sems, lists, count),
+        Call::CreateTwo(count) => create_two(sems, lists, count),
+        Call::CreateMany(many) => create_many(sems, lists, many),
+        Call::Delete(number) => delete(sems, lists, sem_at(number % 128)),
+        Call::Free => sems.free_count() as i64,
     }
 }
 
-// The current process waits, if it runs and the semaphore is in use.
-fn wait(sems: &mut Sems, lists: &mut Lists, procs: &mut Procs, sem: Sem) -> Result<bool, Fail>
+// The first call whose answer is another than wanted: its row, and the answer.
+fn first_wrong(sems: &mut Sems, lists: &Lists, calls: &[(Call, i64)]) -> Option<(usize, i64)>
+    requires counts { Counts (table.lists lists.now) sems.old.entries }
+    ensures counts { Counts (table.lists lists.now) sems.new.entries }
+{
+    for row in 0..calls.len() {
+        let (call, wanted) = &calls[row];
+        let answer = reply(sems, lists, call);
+        if answer != *wanted {
+            return Some((row, answer));
+        }
+    }
+    None
+}
+
+// The current process waits, if it runs and the semaphore is in use; 1 if there was a token.
+fn wait(sems: &mut Sems, lists: &mut Lists, procs: &mut Procs, sem: Sem) -> i64
     requires fits { Fits (table.lists lists.old) procs.old.processes }
     requires counts { Counts (table.lists lists.old) sems.old.entries }
     ensures fits { Fits (table.lists lists.new) procs.new.processes }
     ensures counts { Counts (table.lists lists.new) sems.new.entries }
 {
     if sems.owner_of(sem).is_none() || !procs.is_running() {
-        return Err(Fail::from("cannot wait"));
+        return -1;
     }
-    Ok(sems.wait(lists, procs, sem))
+    i64::from(sems.wait(lists, procs, sem))
 }
 
-// A signal, if the semaphore is in use.
-fn signal(
-    sems: &mut Sems,
-    lists: &mut Lists,
-    procs: &mut Procs,
-    sem: Sem,
-) -> Result<Signalled, Fail>
+// A signal, if the semaphore is in use; who goes on.
+fn signal(sems: &mut Sems, lists: &mut Lists, procs: &mut Procs, sem: Sem) -> i64
     requires fits { Fits (table.lists lists.old) procs.old.processes }
     requires counts { Counts (table.lists lists.old) sems.old.entries }
     ensures fits { Fits (table.lists lists.new) procs.new.processes }
     ensures counts { Counts (table.lists lists.new) sems.new.entries }
 {
     if sems.owner_of(sem).is_none() {
-        return Err(Fail::from("not in use"));
+        return -1;
     }
-    Ok(sems.signal(lists, procs, sem))
+    match sems.signal(lists, procs, sem) {
+        Signalled::Full => FULL,
+        Signalled::Kept => 0,
+        Signalled::Released(p) => p.index() as i64,
+    }
 }
 
-// So many signals, if there is room for them.
-fn signaln(
-    sems: &mut Sems,
-    lists: &mut Lists,
-    procs: &mut Procs,
-    sem: Sem,
-    n: u32,
-) -> Result<ArrayVec<Pid, 64>, Fail>
+// So many signals, if there is room for them; who goes on.
+fn signaln(sems: &mut Sems, lists: &mut Lists, procs: &mut Procs, sem: Sem, n: u32) -> i64
     requires fits { Fits (table.lists lists.old) procs.old.processes }
     requires counts { Counts (table.lists lists.old) sems.old.entries }
     ensures fits { Fits (table.lists lists.new) procs.new.processes }
     ensures counts { Counts (table.lists lists.new) sems.new.entries }
 {
     if sems.owner_of(sem).is_none() || n > 1000 || !sems.has_room(lists, sem, n) {
-        return Err(Fail::from("no room"));
+        return -1;
     }
-    Ok(sems.signaln(lists, procs, sem, n))
+    joined(sems.signaln(lists, procs, sem, n).as_slice())
 }
 
-// All waiters go on, if the semaphore is in use.
-fn reset(
-    sems: &mut Sems,
-    lists: &mut Lists,
-    procs: &mut Procs,
-    sem: Sem,
-    count: i32,
-) -> Result<ArrayVec<Pid, 64>, Fail>
+// All waiters go on, if the semaphore is in use; who they are.
+fn reset(sems: &mut Sems, lists: &mut Lists, procs: &mut Procs, sem: Sem, count: i32) -> i64
     requires fits { Fits (table.lists lists.old) procs.old.processes }
     requires counts { Counts (table.lists lists.old) sems.old.entries }
     ensures fits { Fits (table.lists lists.new) procs.new.processes }
     ensures counts { Counts (table.lists lists.new) sems.new.entries }
 {
     if sems.owner_of(sem).is_none() || count < 0 {
-        return Err(Fail::from("cannot reset"));
+        return -1;
     }
-    Ok(sems.release_all(lists, procs, sem, count))
+    joined(sems.release_all(lists, procs, sem, count).as_slice())
 }
 
 // A process that waits is forgotten.
-fn forget(sems: &mut Sems, lists: &mut Lists, procs: &Procs, p: Pid) -> Result<(), Fail>
+fn forget(sems: &mut Sems, lists: &mut Lists, procs: &Procs, p: Pid) -> i64
     requires fits { Fits (table.lists lists.old) procs.now.processes }
     requires counts { Counts (table.lists lists.old) sems.old.entries }
     ensures fits { Fits (table.lists lists.new) procs.now.processes }
@@ -138,120 +200,159 @@ fn forget(sems: &mut Sems, lists: &mut Lists, procs: &Procs, p: Pid) -> Result<(
     match lists.place_of(p.index()) {
         Some(q) if q < 128 => {
             sems.forget_waiter(lists, p);
-            Ok(())
+            0
         }
-        _ => Err(Fail::from("does not wait")),
+        _ => -1,
     }
 }
 
-// A semaphore on which nobody waits is given up.
-fn delete(sems: &mut Sems, lists: &Lists, sem: Sem)
-    requires counts { Counts (table.lists lists.now) sems.old.entries }
-    ensures counts { Counts (table.lists lists.now) sems.new.entries }
-{
-    if lists.is_empty(sem.index()) {
-        sems.delete(lists, sem);
-    }
-}
-
-// A new process runs and waits for a token.
-fn add_waiter(sems: &mut Sems, lists: &mut Lists, procs: &mut Procs, sem: Sem) -> Result<(), Fail>
+// A new process runs and waits for a token; 0 if there is none.
+fn add_waiter(sems: &mut Sems, lists: &mut Lists, procs: &mut Procs, sem: Sem) -> i64
     requires fits { Fits (table.lists lists.old) procs.old.processes }
     requires counts { Counts (table.lists lists.old) sems.old.entries }
     ensures fits { Fits (table.lists lists.new) procs.new.processes }
     ensures counts { Counts (table.lists lists.new) sems.new.entries }
 {
     let Some(p) = procs.place_free() else {
-        return Err(Fail::from("no number is free"));
+        return -1;
     };
     procs.make(p, 30, Pid::default(), b"image", (8188, 400));
     procs.ready_defer(lists, p);
     procs.resched(lists);
-    if wait(sems, lists, procs, sem)? {
-        return Err(Fail::from("there was a token"));
+    wait(sems, lists, procs, sem)
+}
+
+// Whose a semaphore is; 0 for another than the kernel, and -1 if it isn't in use.
+fn owner(sems: &Sems, sem: Sem) -> i64 {
+    match sems.owner_of(sem) {
+        Some(Owner::Device) => DEVICE,
+        Some(_) => 0,
+        None => -1,
     }
-    Ok(())
+}
+
+// What a call answers; -1 if it is refused.
+fn waiting_reply(sems: &mut Sems, lists: &mut Lists, procs: &mut Procs, call: &Waiting) -> i64
+    requires fits { Fits (table.lists lists.old) procs.old.processes }
+    requires counts { Counts (table.lists lists.old) sems.old.entries }
+    ensures fits { Fits (table.lists lists.new) procs.new.processes }
+    ensures counts { Counts (table.lists lists.new) sems.new.entries }
+{
+    match *call {
+        Waiting::Create(count) => create(sems, lists, count),
+        Waiting::AddWaiter(number) => add_waiter(sems, lists, procs, sem_at(number % 128)),
+        Waiting::Wait(number) => wait(sems, lists, procs, sem_at(number % 128)),
+        Waiting::Forget(number) => forget(sems, lists, procs, pid_at(number % 64)),
+        Waiting::Signal(number) => signal(sems, lists, procs, sem_at(number % 128)),
+        Waiting::Signaln(number, n) => signaln(sems, lists, procs, sem_at(number % 128), n),
+        Waiting::Reset(number, count) => reset(sems, lists, procs, sem_at(number % 128), count),
+        Waiting::Count(number) => i64::from(sems.count(lists, sem_at(number % 128))),
+        Waiting::Owner(number) => owner(sems, sem_at(number % 128)),
+    }
+}
+
+// The first call whose answer is another than wanted: its row, and the answer.
+fn first_wrong_waiting(
+    sems: &mut Sems,
+    lists: &mut Lists,
+    procs: &mut Procs,
+    calls: &[(Waiting, i64)],
+) -> Option<(usize, i64)>
+    requires fits { Fits (table.lists lists.old) procs.old.processes }
+    requires counts { Counts (table.lists lists.old) sems.old.entries }
+    ensures fits { Fits (table.lists lists.new) procs.new.processes }
+    ensures counts { Counts (table.lists lists.new) sems.new.entries }
+{
+    for row in 0..calls.len() {
+        let (call, wanted) = &calls[row];
+        let answer = waiting_reply(sems, lists, procs, call);
+        if answer != *wanted {
+            return Some((row, answer));
+        }
+    }
+    None
+}
+
+// The first call on new semaphores whose answer is another than wanted.
+fn wrong_of(alloc: Global, calls: &[(Call, i64)]) -> Result<Option<(usize, i64)>, Fail> {
+    let (mut sems, _procs, lists) = new_tables(alloc)?;
+    Ok(first_wrong(&mut sems, &lists, calls))
+}
+
+// The same, for calls of those who wait.
+fn wrong_of_waiting(alloc: Global, calls: &[(Waiting, i64)]) -> Result<Option<(usize, i64)>, Fail> {
+    let (mut sems, mut procs, mut lists) = new_tables(alloc)?;
+    Ok(first_wrong_waiting(&mut sems, &mut lists, &mut procs, calls))
 }
 
 #[test]
 fn waiters_go_on_in_order(rt: HostRuntime) -> Result<(), Fail> {
-    let (mut sems, mut procs, mut lists) = new_tables(rt.alloc())?;
-    let sem = create(&mut sems, &lists, 0).ok_or("no semaphore")?;
-    assert_eq!(rt; sem, sem_at(4));
-    add_waiter(&mut sems, &mut lists, &mut procs, sem)?;
-    add_waiter(&mut sems, &mut lists, &mut procs, sem)?;
-    add_waiter(&mut sems, &mut lists, &mut procs, sem)?;
-    assert_eq!(rt; sems.count(&lists, sem), -3);
-    forget(&mut sems, &mut lists, &procs, pid_at(2))?;
-    assert_eq!(rt; sems.count(&lists, sem), -2);
-    let released = signaln(&mut sems, &mut lists, &mut procs, sem, 3)?;
-    assert_eq!(rt; released.as_slice(), [pid_at(1), pid_at(3)].as_slice());
-    assert_eq!(rt; sems.count(&lists, sem), 1);
-    let released = reset(&mut sems, &mut lists, &mut procs, sem, i32::MAX)?;
-    assert!(rt; released.is_empty());
-    assert_eq!(rt;
-        signal(&mut sems, &mut lists, &mut procs, sem)?,
-        Signalled::Full
-    );
-    assert!(rt; !sems.has_room(&lists, sem, 1));
+    let calls = [
+        (Waiting::Create(0), 4),
+        (Waiting::AddWaiter(4), 0),
+        (Waiting::AddWaiter(4), 0),
+        (Waiting::AddWaiter(4), 0),
+        (Waiting::Count(4), -3),
+        (Waiting::Forget(2), 0),
+        (Waiting::Count(4), -2),
+        (Waiting::Signaln(4, 3), 103),
+        (Waiting::Count(4), 1),
+        (Waiting::Reset(4, i32::MAX), 0),
+        (Waiting::Signal(4), FULL),
+        (Waiting::Signaln(4, 1), -1),
+    ];
+    assert_eq!(rt; wrong_of_waiting(rt.alloc(), &calls)?, None);
     Ok(())
 }
 
 #[test]
 fn a_token_is_kept_or_given_on(rt: HostRuntime) -> Result<(), Fail> {
-    let (mut sems, mut procs, mut lists) = new_tables(rt.alloc())?;
-    assert_eq!(rt; sems.owner_of(sem_at(3)), Some(Owner::Device));
-    assert_eq!(rt; sems.owner_of(sem_at(4)), None);
-    let output = sem_at(1);
-    assert!(rt; wait(&mut sems, &mut lists, &mut procs, output)?);
-    assert_eq!(rt; sems.count(&lists, output), 63);
-    assert_eq!(rt;
-        signal(&mut sems, &mut lists, &mut procs, output)?,
-        Signalled::Kept
-    );
-    assert_eq!(rt; sems.count(&lists, output), 64);
-    let input = sem_at(0);
-    add_waiter(&mut sems, &mut lists, &mut procs, input)?;
-    add_waiter(&mut sems, &mut lists, &mut procs, input)?;
-    assert_eq!(rt;
-        signal(&mut sems, &mut lists, &mut procs, input)?,
-        Signalled::Released(pid_at(1))
-    );
-    let released = reset(&mut sems, &mut lists, &mut procs, input, 0)?;
-    assert_eq!(rt; released.as_slice(), [pid_at(2)].as_slice());
-    assert_eq!(rt; sems.count(&lists, input), 0);
+    let calls = [
+        (Waiting::Owner(3), DEVICE),
+        (Waiting::Owner(4), -1),
+        (Waiting::Wait(1), 1),
+        (Waiting::Count(1), 63),
+        (Waiting::Signal(1), 0),
+        (Waiting::Count(1), 64),
+        (Waiting::AddWaiter(0), 0),
+        (Waiting::AddWaiter(0), 0),
+        (Waiting::Signal(0), 1),
+        (Waiting::Reset(0, 0), 2),
+        (Waiting::Count(0), 0),
+    ];
+    assert_eq!(rt; wrong_of_waiting(rt.alloc(), &calls)?, None);
     Ok(())
 }
 
 #[test]
 fn the_search_goes_round(rt: HostRuntime) -> Result<(), Fail> {
-    let (mut sems, _procs, lists) = new_tables(rt.alloc())?;
-    assert_eq!(rt; create(&mut sems, &lists, -1), None);
-    for number in 4..128 {
-        assert_eq!(rt; create(&mut sems, &lists, 1), Some(sem_at(number)));
-    }
-    assert_eq!(rt;
-        (create(&mut sems, &lists, 0), sems.free_count()),
-        (None, 0)
-    );
-    delete(&mut sems, &lists, sem_at(9));
-    delete(&mut sems, &lists, sem_at(5));
-    assert_eq!(rt; sems.free_count(), 2);
-    assert_eq!(rt; create(&mut sems, &lists, 0), Some(sem_at(5)));
-    delete(&mut sems, &lists, sem_at(7));
-    assert_eq!(rt; create(&mut sems, &lists, 0), Some(sem_at(7)));
-    assert_eq!(rt; create(&mut sems, &lists, 0), Some(sem_at(9)));
+    let calls = [
+        (Call::Create(-1), -1),
+        (Call::CreateMany(124), 127),
+        (Call::Create(0), -1),
+        (Call::Free, 0),
+        (Call::Delete(9), 0),
+        (Call::Delete(5), 0),
+        (Call::Free, 2),
+        (Call::Create(0), 5),
+        (Call::Delete(7), 0),
+        (Call::Create(0), 7),
+        (Call::Create(0), 9),
+    ];
+    assert_eq!(rt; wrong_of(rt.alloc(), &calls)?, None);
     Ok(())
 }
 
 #[test]
 fn two_are_made_or_none(rt: HostRuntime) -> Result<(), Fail> {
-    let (mut sems, _procs, lists) = new_tables(rt.alloc())?;
-    assert_eq!(rt; create_two(&mut sems, &lists, 5), Some((4, 5)));
-    assert_eq!(rt; create_two(&mut sems, &lists, -1), None);
-    create_many(&mut sems, &lists, 121);
-    assert_eq!(rt; create_two(&mut sems, &lists, 1), None);
-    assert_eq!(rt; sems.free_count(), 1);
-    assert_eq!(rt; create(&mut sems, &lists, 0), Some(sem_at(127)));
+    let calls = [
+        (Call::CreateTwo(5), 4_005),
+        (Call::CreateTwo(-1), -1),
+        (Call::CreateMany(121), 126),
+        (Call::CreateTwo(1), -1),
+        (Call::Free, 1),
+        (Call::Create(0), 127),
+    ];
+    assert_eq!(rt; wrong_of(rt.alloc(), &calls)?, None);
     Ok(())
 }

@@ -1,39 +1,50 @@
 //! Pools whose buffers are taken and given back.
 
-use buffer_pools::Pools;
+use buffer_pools::{Pools, pool_id_at};
 use std::alloc::Global;
 use std::test::Fail;
 use xinu_base::{PoolId, Sem};
+
+// A call on the pools.
+#[derive(Drop)]
+enum Call {
+    Make(u32, u32, u32),
+    Get(usize),
+    Free(u32),
+}
 
 fn new_pools(alloc: Global) -> Result<Pools, Fail> {
     Pools::new(alloc).map_err(|_| Fail::from("no memory"))
 }
 
 // A pool, if its conditions hold.
-fn make(pools: &mut Pools, base: u32, size: u32, number: u32) -> Result<PoolId, Fail> {
+fn make(pools: &mut Pools, base: u32, size: u32, number: u32) -> i64 {
     if pools.count() >= 20 || size > 8192 || number > 2048 || base > 1000000 {
-        return Err(Fail::from("no room"));
+        return -1;
     }
     if base + number * (size + 4) > 1048576 || base % 4 != 0 || size % 4 != 0 {
-        return Err(Fail::from("no place"));
+        return -1;
     }
-    Ok(pools.make(base, size, number, Sem::default()))
+    pools.make(base, size, number, Sem::default()).index() as i64
 }
 
 // A buffer of a pool, if one is free.
-fn get(pools: &mut Pools, i: PoolId) -> Result<u32, Fail> {
+fn get(pools: &mut Pools, i: PoolId) -> i64 {
     if i.index() >= pools.count() || pools.free_count(i) == 0 {
-        return Err(Fail::from("no buffer"));
+        return -1;
     }
-    Ok(pools.get_part(i))
+    i64::from(pools.get_part(i))
 }
 
 // The size of a pool's buffers, how many are free and how many are held, and the first two free ones.
-fn shown(pools: &Pools, i: PoolId) -> Result<(u32, u32, u32, Option<u32>, Option<u32>), Fail> {
+type Shown = (u32, u32, u32, Option<u32>, Option<u32>);
+
+// What is shown of a pool.
+fn shown(pools: &Pools, i: PoolId) -> Option<Shown> {
     if i.index() >= pools.count() {
-        return Err(Fail::from("no pool"));
+        return None;
     }
-    Ok((
+    Some((
         pools.size_of(i),
         pools.free_count(i),
         pools.held(i),
@@ -42,40 +53,59 @@ fn shown(pools: &Pools, i: PoolId) -> Result<(u32, u32, u32, Option<u32>, Option
     ))
 }
 
-#[test]
-fn a_buffer_is_given_back_once(rt: HostRuntime) -> Result<(), Fail> {
-    let mut pools = new_pools(rt.alloc())?;
-    let i = make(&mut pools, 8192, 12, 2)?;
-    assert_eq!(rt; i.index(), 0);
-    assert_eq!(rt; pools.free(8196), None);
-    assert_eq!(rt; get(&mut pools, i)?, 8196);
-    assert_eq!(rt; get(&mut pools, i)?, 8212);
-    assert_eq!(rt; shown(&pools, i)?, (12, 0, 2, None, None));
-    assert_eq!(rt; pools.free(8196), Some(i));
-    assert_eq!(rt; get(&mut pools, i)?, 8196);
-    for a in [8192, 8200, 8208, 8228, 0] {
-        assert_eq!(rt; pools.free(a), None);
+// What a call answers: a number or an address; -1 if it is refused.
+fn reply(pools: &mut Pools, call: &Call) -> i64 {
+    match *call {
+        Call::Make(base, size, number) => make(pools, base, size, number),
+        Call::Get(number) => get(pools, pool_id_at(number % 20)),
+        Call::Free(a) => pools.free(a).map_or(-1, |i| i.index() as i64),
     }
-    assert_eq!(rt; pools.free(8212), Some(i));
-    assert_eq!(rt; pools.free(8212), None);
-    assert_eq!(rt; shown(&pools, i)?, (12, 1, 1, Some(8212), None));
-    Ok(())
+}
+
+// The first call whose answer is another than wanted: its row, and the answer.
+fn first_wrong(pools: &mut Pools, calls: &[(Call, i64)]) -> Option<(usize, i64)> {
+    for row in 0..calls.len() {
+        let (call, wanted) = &calls[row];
+        let answer = reply(pools, call);
+        if answer != *wanted {
+            return Some((row, answer));
+        }
+    }
+    None
+}
+
+// The first call on new pools whose answer is another than wanted, and what is shown of the first pool after them.
+fn wrong_of(
+    alloc: Global,
+    calls: &[(Call, i64)],
+) -> Result<(Option<(usize, i64)>, Option<Shown>), Fail> {
+    let mut pools = new_pools(alloc)?;
+    let row = first_wrong(&mut pools, calls);
+    Ok((row, shown(&pools, pool_id_at(0))))
 }
 
 #[test]
-fn the_buffer_freed_last_is_the_first(rt: HostRuntime) -> Result<(), Fail> {
-    let mut pools = new_pools(rt.alloc())?;
-    let one = make(&mut pools, 4096, 8, 1)?;
-    let two = make(&mut pools, 4112, 8, 2)?;
-    assert_eq!(rt; get(&mut pools, two)?, 4116);
-    assert_eq!(rt; get(&mut pools, two)?, 4128);
+fn a_buffer_is_given_back_once(rt: HostRuntime) -> Result<(), Fail> {
+    let calls = [
+        (Call::Make(8192, 12, 2), 0),
+        (Call::Free(8196), -1),
+        (Call::Get(0), 8196),
+        (Call::Get(0), 8212),
+        (Call::Get(0), -1),
+        (Call::Free(8196), 0),
+        (Call::Get(0), 8196),
+        (Call::Free(8192), -1),
+        (Call::Free(8200), -1),
+        (Call::Free(8208), -1),
+        (Call::Free(8228), -1),
+        (Call::Free(0), -1),
+        (Call::Free(8212), 0),
+        (Call::Free(8212), -1),
+    ];
     assert_eq!(rt;
-        (pools.free(4116), pools.free(4128)),
-        (Some(two), Some(two))
+        wrong_of(rt.alloc(), &calls)?,
+        (None, Some((12, 1, 1, Some(8212), None)))
     );
-    assert_eq!(rt; shown(&pools, two)?, (8, 2, 0, Some(4128), Some(4116)));
-    assert_eq!(rt; get(&mut pools, two)?, 4128);
-    assert_eq!(rt; shown(&pools, one)?, (8, 1, 0, Some(4100), None));
     Ok(())
 }
 
@@ -83,8 +113,8 @@ fn the_buffer_freed_last_is_the_first(rt: HostRuntime) -> Result<(), Fail> {
 fn ranges_meet_a_pool(rt: HostRuntime) -> Result<(), Fail> {
     let mut pools = new_pools(rt.alloc())?;
     assert!(rt; !pools.meets(4096, 24));
-    make(&mut pools, 8192, 8, 1)?;
-    make(&mut pools, 4096, 8, 2)?;
+    make(&mut pools, 8192, 8, 1);
+    make(&mut pools, 4096, 8, 2);
     for (base, bytes, wanted) in [
         (4096, 24, true),
         (4119, 1, true),
@@ -97,19 +127,5 @@ fn ranges_meet_a_pool(rt: HostRuntime) -> Result<(), Fail> {
     ] {
         assert_eq!(rt; pools.meets(base, bytes), wanted);
     }
-    Ok(())
-}
-
-#[test]
-fn there_are_twenty_pools(rt: HostRuntime) -> Result<(), Fail> {
-    let mut pools = new_pools(rt.alloc())?;
-    for k in 0..20u32 {
-        let next = PoolId::from_word(k);
-        assert_eq!(rt; pools.next_pool(), next);
-        let i = make(&mut pools, 4096 + 16 * k, 8, 1)?;
-        assert_eq!(rt; Some(i), next);
-        assert_eq!(rt; pools.sem_of(i), Some(Sem::default()));
-    }
-    assert_eq!(rt; (pools.next_pool(), pools.count()), (None, 20));
     Ok(())
 }

@@ -7,9 +7,6 @@ const RUN: bool = false;
 
 const HELD: bool = true;
 
-// How the end mark shows among bytes.
-const END: u8 = 0xff;
-
 // A console before a character is received.
 #[derive(Clone, Copy)]
 struct Before<'a> {
@@ -47,8 +44,8 @@ fn send_all_but(tty: &mut Tty, unsent: usize) {
 }
 
 // The console as it is before.
-fn console(alloc: Global, before: &Before<'_>) -> Result<Tty, Fail> {
-    let mut tty = new_tty(alloc)?;
+fn console(rt: &impl Abort, alloc: Global, before: &Before<'_>) -> Tty {
+    let mut tty = new_tty(rt, alloc);
     tty.control(2);
     for _ in 0..before.waiting {
         tty.receive(b'x');
@@ -60,44 +57,38 @@ fn console(alloc: Global, before: &Before<'_>) -> Result<Tty, Fail> {
         tty.receive(*b);
         send_all_but(&mut tty, before.unsent);
     }
-    Ok(tty)
+    tty
 }
 
-// The input after the first items, the line with it.
-fn input_after(tty: &mut Tty, alloc: Global, waiting: usize) -> Result<Vec<u8>, Fail> {
+// Takes the first items, and these after them, the line with them: whether they were all that there were.
+fn gives_after(tty: &mut Tty, waiting: usize, bytes: &[u8]) -> bool {
     tty.control(1);
     for _ in 0..waiting {
         taken(tty);
     }
-    let mut bytes = Vec::new(alloc);
-    for _ in 0..128u32 {
-        match taken(tty) {
-            Some(Item::Char(b)) => bytes.push(b)?,
-            Some(Item::End) => bytes.push(END)?,
-            None => {}
-        }
-    }
-    Ok(bytes)
+    gives(tty, bytes)
+}
+
+// What a character commits, how long the line is then, and whether output is held.
+fn answer(tty: &mut Tty, b: u8) -> (u32, usize, bool) {
+    let count = tty.receive(b);
+    let sizes = tty.sizes();
+    (count, sizes.line, sizes.held)
+}
+
+// Receives the character of a row, and looks at the input and the echo.
+fn check_row(rt: &impl Abort, tty: &mut Tty, waiting: usize, row: &Row<'_>) {
+    let (b, count, line, held, input, echo) = *row;
+    let answer = answer(tty, b);
+    let right = (gives_after(tty, waiting, input), sends(tty, echo));
+    same(rt, b, (answer, right), ((count, line, held), (true, true)));
 }
 
 // Each character does what its row says.
-fn check(rt: &impl Abort, alloc: Global, before: Before<'_>, rows: &[Row<'_>]) -> Result<(), Fail> {
-    for (b, count, line, held, input, echo) in rows {
-        let mut tty = console(alloc, &before)?;
-        assert_eq!(rt; tty.receive(*b), *count, "{b}");
-        let sizes = tty.sizes();
-        assert_eq!(rt; (sizes.line, sizes.held), (*line, *held), "{b}");
-        assert_eq!(rt;
-            input_after(&mut tty, alloc, before.waiting)?.as_slice(),
-            *input,
-            "{b}"
-        );
-        for _ in 0..before.unsent {
-            tty.transmit();
-        }
-        assert_eq!(rt; sent(&mut tty, alloc)?.as_slice(), *echo, "{b}");
+fn check(rt: &impl Abort, alloc: Global, before: Before<'_>, rows: &[Row<'_>]) {
+    for row in rows {
+        check_row(rt, &mut console(rt, alloc, &before), before.waiting, row);
     }
-    Ok(())
 }
 
 // A console in a mode with echo on, and all of it sent.
@@ -111,8 +102,19 @@ fn in_mode(mode: TtyMode, waiting: usize, typed: &[u8]) -> Before<'_> {
     }
 }
 
+// A console in a mode with echo off.
+fn silent_in(mode: TtyMode, waiting: usize, typed: &[u8]) -> Before<'_> {
+    Before {
+        mode,
+        waiting,
+        echo: false,
+        unsent: 0,
+        typed,
+    }
+}
+
 #[test]
-fn in_raw_mode(rt: HostRuntime) -> Result<(), Fail> {
+fn in_raw_mode(rt: HostRuntime) {
     let alloc = rt.alloc();
     let raw = TtyMode::Raw;
     check(
@@ -129,23 +131,23 @@ fn in_raw_mode(rt: HostRuntime) -> Result<(), Fail> {
             (0x13, 1, 0, RUN, b"\x13", b""),
             (0x15, 1, 0, RUN, b"\x15", b""),
         ],
-    )?;
+    );
     check(
         &rt,
         alloc,
         in_mode(raw, 127, b""),
         &[(b'a', 1, 0, RUN, b"a", b"")],
-    )?;
+    );
     check(
         &rt,
         alloc,
         in_mode(raw, 128, b""),
         &[(b'a', 0, 0, RUN, b"", b"")],
-    )
+    );
 }
 
 #[test]
-fn in_cbreak_mode(rt: HostRuntime) -> Result<(), Fail> {
+fn in_cbreak_mode(rt: HostRuntime) {
     let alloc = rt.alloc();
     let cbreak = TtyMode::Cbreak;
     check(
@@ -163,7 +165,7 @@ fn in_cbreak_mode(rt: HostRuntime) -> Result<(), Fail> {
             (0x11, 0, 0, RUN, b"", b""),
             (0x13, 0, 0, HELD, b"", b""),
         ],
-    )?;
+    );
     check(
         &rt,
         alloc,
@@ -173,28 +175,29 @@ fn in_cbreak_mode(rt: HostRuntime) -> Result<(), Fail> {
             (0x11, 0, 0, RUN, b"", b""),
             (0x13, 0, 0, HELD, b"", b""),
         ],
-    )?;
+    );
     check(
         &rt,
         alloc,
         in_mode(cbreak, 127, b""),
         &[(b'a', 1, 0, RUN, b"a", b"a")],
-    )?;
+    );
     let full = [
         (b'a', 0, 0, RUN, b"".as_slice(), b"\x07".as_slice()),
         (0x13, 0, 0, HELD, b"", b""),
     ];
-    check(&rt, alloc, in_mode(cbreak, 128, b""), &full)?;
-    let mut silent = in_mode(cbreak, 0, b"");
-    silent.echo = false;
-    check(&rt, alloc, silent, &[(b'a', 1, 0, RUN, b"a", b"")])?;
-    let mut silent = in_mode(cbreak, 128, b"");
-    silent.echo = false;
-    check(&rt, alloc, silent, &full)
+    check(&rt, alloc, in_mode(cbreak, 128, b""), &full);
+    check(
+        &rt,
+        alloc,
+        silent_in(cbreak, 0, b""),
+        &[(b'a', 1, 0, RUN, b"a", b"")],
+    );
+    check(&rt, alloc, silent_in(cbreak, 128, b""), &full);
 }
 
 #[test]
-fn in_cooked_mode(rt: HostRuntime) -> Result<(), Fail> {
+fn in_cooked_mode(rt: HostRuntime) {
     let alloc = rt.alloc();
     let cooked = TtyMode::Cooked;
     check(
@@ -219,7 +222,7 @@ fn in_cooked_mode(rt: HostRuntime) -> Result<(), Fail> {
             (0x11, 0, 0, RUN, b"", b""),
             (0x13, 0, 0, HELD, b"", b""),
         ],
-    )?;
+    );
     check(
         &rt,
         alloc,
@@ -233,7 +236,7 @@ fn in_cooked_mode(rt: HostRuntime) -> Result<(), Fail> {
             (0x04, 0, 3, RUN, b"ab\x04", b"^D"),
             (0x13, 0, 2, HELD, b"ab", b""),
         ],
-    )?;
+    );
     check(
         &rt,
         alloc,
@@ -245,24 +248,22 @@ fn in_cooked_mode(rt: HostRuntime) -> Result<(), Fail> {
             (0x11, 0, 1, RUN, b"a", b""),
             (0x13, 0, 1, HELD, b"a", b""),
         ],
-    )?;
-    let mut silent = in_mode(cooked, 0, b"a");
-    silent.echo = false;
+    );
     check(
         &rt,
         alloc,
-        silent,
+        silent_in(cooked, 0, b"a"),
         &[
             (b'b', 0, 2, RUN, b"ab", b""),
             (0x08, 0, 0, RUN, b"", b""),
             (0x15, 0, 0, RUN, b"", b""),
             (0x0a, 2, 0, RUN, b"a\n", b""),
         ],
-    )
+    );
 }
 
 #[test]
-fn erased_columns(rt: HostRuntime) -> Result<(), Fail> {
+fn erased_columns(rt: HostRuntime) {
     let one = b"\x08 \x08".as_slice();
     let two = b"\x08 \x08\x08 \x08".as_slice();
     for (b, echo) in [
@@ -279,13 +280,12 @@ fn erased_columns(rt: HostRuntime) -> Result<(), Fail> {
             rt.alloc(),
             in_mode(TtyMode::Cooked, 0, &typed),
             &[(0x08, 0, 1, RUN, b".", echo)],
-        )?;
+        );
     }
-    Ok(())
 }
 
 #[test]
-fn with_no_room(rt: HostRuntime) -> Result<(), Fail> {
+fn with_no_room(rt: HostRuntime) {
     let alloc = rt.alloc();
     let cooked = TtyMode::Cooked;
     let full = [
@@ -296,10 +296,8 @@ fn with_no_room(rt: HostRuntime) -> Result<(), Fail> {
         (0x08, 0, 0, RUN, b"", b""),
         (0x13, 0, 0, HELD, b"", b""),
     ];
-    check(&rt, alloc, in_mode(cooked, 128, b""), &full)?;
-    let mut silent = in_mode(cooked, 128, b"");
-    silent.echo = false;
-    check(&rt, alloc, silent, &full)?;
+    check(&rt, alloc, in_mode(cooked, 128, b""), &full);
+    check(&rt, alloc, silent_in(cooked, 128, b""), &full);
     check(
         &rt,
         alloc,
@@ -309,7 +307,7 @@ fn with_no_room(rt: HostRuntime) -> Result<(), Fail> {
             (0x0a, 1, 0, RUN, b"\n", b"\r\n"),
             (0x04, 1, 0, RUN, b"\xff", b""),
         ],
-    )?;
+    );
     check(
         &rt,
         alloc,
@@ -321,17 +319,34 @@ fn with_no_room(rt: HostRuntime) -> Result<(), Fail> {
             (0x15, 0, 0, RUN, b"", b"\r\n"),
             (0x0a, 2, 0, RUN, b"a\n", b"\r\n"),
         ],
-    )?;
+    );
     check(
         &rt,
         alloc,
         in_mode(cooked, 126, b""),
         &[(b'a', 0, 1, RUN, b"a", b"a")],
-    )
+    );
+}
+
+// Sends so many bytes of echo: whether each is of an `x`.
+fn sends_echo(tty: &mut Tty, unsent: usize) -> bool {
+    for _ in 0..unsent {
+        if tty.transmit() != Some((b'x', false)) {
+            return false;
+        }
+    }
+    true
+}
+
+// Receives a character that commits nothing: what is echoed after the bytes that weren't sent.
+fn check_echo(rt: &impl Abort, tty: &mut Tty, unsent: usize, b: u8, echo: &[u8]) {
+    let count = tty.receive(b);
+    let right = (sends_echo(tty, unsent), sends(tty, echo));
+    same(rt, (unsent, b), (count, right), (0, (true, true)));
 }
 
 #[test]
-fn with_little_room_for_echo(rt: HostRuntime) -> Result<(), Fail> {
+fn with_little_room_for_echo(rt: HostRuntime) {
     for (waiting, unsent, b, echo) in [
         (20, 20, b'a', b"".as_slice()),
         (20, 19, b'a', b"a"),
@@ -340,14 +355,13 @@ fn with_little_room_for_echo(rt: HostRuntime) -> Result<(), Fail> {
         (128, 20, b'a', b""),
         (128, 19, b'a', b"\x07"),
     ] {
-        let mut before = in_mode(TtyMode::Cooked, waiting, b"");
-        before.unsent = unsent;
-        let mut tty = console(rt.alloc(), &before)?;
-        assert_eq!(rt; tty.receive(b), 0, "{b}");
-        for _ in 0..unsent {
-            assert_eq!(rt; tty.transmit(), Some((b'x', false)), "{b}");
-        }
-        assert_eq!(rt; sent(&mut tty, rt.alloc())?.as_slice(), echo, "{b}");
+        let before = Before {
+            mode: TtyMode::Cooked,
+            waiting,
+            echo: true,
+            unsent,
+            typed: b"",
+        };
+        check_echo(&rt, &mut console(&rt, rt.alloc(), &before), unsent, b, echo);
     }
-    Ok(())
 }

@@ -1,7 +1,7 @@
 -- The clock fits the lists at each tick.
 use Rattle.queue_table.specs.Table.{lists}
 use Rattle.delta_clock.specs.Wakeups.{WakesLater}
-use Rattle.kernel_tests.proofs.clock.a_second_is_a_thousand_ticks.Given as goal
+use Rattle.kernel_tests.proofs.clock.tick_many.Given as goal
 
 abbrev pub invariant-loop : goal.invariant-loop
-invariant-loop g l = WakesLater (lists l.lists)
+invariant-loop l = WakesLater (lists l.lists)
