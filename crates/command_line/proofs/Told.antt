@@ -1,5 +1,5 @@
 -- A chain of `subcommand` tells the parser what it adds.
-use Rattle.std.proofs.Common.{◌≡◌, ◌∙◌, ◌||◌, false, ap₂}
+use Rattle.std.proofs.Common.{◌≡◌, ◌∙◌, ◌||◌, false, refl, ap₂}
 use Rattle.std.specs.Prelude.{Result, IfOk}
 use Rattle.std.proofs.lemmas.Result.{IfOk-weaker}
 use Rattle.clap.specs.Built.{AddsSubcommand}
@@ -25,3 +25,12 @@ one_more old sub new app leaf adds t s = record {
 pub last_one : {E : Type 0} (r : Result Command E) (old sub : Command) (app leaf : App) → IfOk r (AddsSubcommand old sub) → IsTold app old → IsTold leaf sub
     → IfOk r (λ c. app_of c ≡ with_subcommand app leaf.top)
 last_one r old sub app leaf adds t s = IfOk-weaker r _ _ (λ new a. (one_more old sub new app leaf a t s).told) adds
+
+pub added_told : {E : Type 0} (r : Result Command E) (old sub : Command) (leaf : App) → IfOk r (AddsSubcommand old sub) → (out-Command old).has_globals ≡ false
+    → IsTold leaf sub → IfOk r (λ c. app_of c ≡ with_subcommand (app_of old) leaf.top)
+added_told r old sub leaf adds local s = last_one r old sub (app_of old) leaf adds (is_told (app_of old) old refl local) s
+
+pub added_local : {E : Type 0} (r : Result Command E) (old sub : Command) (leaf : App) → IfOk r (AddsSubcommand old sub) → (out-Command old).has_globals ≡ false
+    → IsTold leaf sub → IfOk r (λ c. (out-Command c).has_globals ≡ false)
+added_local r old sub leaf adds local s =
+    IfOk-weaker r _ _ (λ new a. (one_more old sub new (app_of old) leaf a (is_told (app_of old) old refl local) s).local) adds

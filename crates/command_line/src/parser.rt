@@ -2,6 +2,7 @@
 
 ghost use Rattle.std.specs.Prelude.{◌≡◌, ◌∷◌, [], IfOk, IsErrOf, None, true, false, codes, map};
 ghost use Rattle.std.specs.String.{string_bytes};
+ghost use Rattle.clap.specs.Simple.{with_rule, with_subcommand};
 ghost use Rattle.clap.specs.Words.{app_of, fault_of, is_simple, is_simple_and_free, rule_of, subcommand_of, subcommand_rows_of};
 ghost use Rattle.clap.specs.declared.builder.command.Command.TheViews.{out-Command as fields_of};
 ghost use Rattle.command_line.specs.Reading.{flag_option, value_option};
@@ -67,13 +68,12 @@ fn command_parser<'a>(alloc: Global) -> Result<Command<'a>, AllocError>
 fn disk_parser<'a>(alloc: Global) -> Result<Command<'a>, AllocError>
     ensures told { IfOk result (λ c. app_of c ≡ disk_app) }
 {
-    program(alloc, "disk")
-        .subcommand(writing(alloc, "mkfs")?)?
-        .subcommand(printing(alloc, "ls")?)?
-        .subcommand(writing(alloc, "get")?)?
-        .subcommand(writing(alloc, "put")?)?
-        .subcommand(printing(alloc, "check")?)?
-        .subcommand(writing(alloc, "repair")?)
+    let disk = with_writing(program(alloc, "disk"), alloc, "mkfs")?;
+    let disk = with_printing(disk, alloc, "ls")?;
+    let disk = with_writing(disk, alloc, "get")?;
+    let disk = with_writing(disk, alloc, "put")?;
+    let disk = with_printing(disk, alloc, "check")?;
+    with_writing(disk, alloc, "repair")
 }
 
 // A program: its first argument is a command's name, and it has no flag of its own, not even for help.
@@ -89,15 +89,40 @@ fn program<'a>(alloc: Global, name: &'a str) -> Command<'a>
         .subcommand_required(true)
 }
 
+// The program with an action that writes a file.
+fn with_writing<'a>(
+    program: Command<'a>,
+    alloc: Global,
+    name: &'a str,
+) -> Result<Command<'a>, AllocError>
+    requires local { (fields_of program).has_globals ≡ false }
+    ensures told { IfOk result (λ c. app_of c ≡ with_subcommand (app_of program.entry) (command_app (disk.writing name.entry.now)).top) }
+    ensures local { IfOk result (λ c. (fields_of c).has_globals ≡ false) }
+{
+    program.subcommand(writing(alloc, name)?)
+}
+
+// The program with an action that only prints.
+fn with_printing<'a>(
+    program: Command<'a>,
+    alloc: Global,
+    name: &'a str,
+) -> Result<Command<'a>, AllocError>
+    requires local { (fields_of program).has_globals ≡ false }
+    ensures told { IfOk result (λ c. app_of c ≡ with_subcommand (app_of program.entry) (command_app (disk.printing name.entry.now)).top) }
+    ensures local { IfOk result (λ c. (fields_of c).has_globals ≡ false) }
+{
+    program.subcommand(printing(alloc, name)?)
+}
+
 // The command `run`, with its options.
 fn run_command<'a>(alloc: Global) -> Result<Command<'a>, AllocError>
     ensures told { IfOk result (λ c. app_of c ≡ command_app run_row) }
     ensures local { IfOk result (λ c. (fields_of c).has_globals ≡ false) }
 {
-    Command::new(alloc, "run")
-        .arg(valued(alloc, "schedule"))?
-        .arg(flag(alloc, "plain"))?
-        .arg(args(alloc))
+    let command = with_value(Command::new(alloc, "run"), alloc, "schedule")?;
+    let command = with_flag(command, alloc, "plain")?;
+    with_args(command, alloc)
 }
 
 // The command `asm`, with its options.
@@ -105,10 +130,9 @@ fn asm_command<'a>(alloc: Global) -> Result<Command<'a>, AllocError>
     ensures told { IfOk result (λ c. app_of c ≡ command_app asm_row) }
     ensures local { IfOk result (λ c. (fields_of c).has_globals ≡ false) }
 {
-    Command::new(alloc, "asm")
-        .arg(valued(alloc, "out"))?
-        .arg(flag(alloc, "elf"))?
-        .arg(args(alloc))
+    let command = with_value(Command::new(alloc, "asm"), alloc, "out")?;
+    let command = with_flag(command, alloc, "elf")?;
+    with_args(command, alloc)
 }
 
 // An action that writes a file.
@@ -116,9 +140,8 @@ fn writing<'a>(alloc: Global, name: &'a str) -> Result<Command<'a>, AllocError>
     ensures told { IfOk result (λ c. app_of c ≡ command_app (disk.writing name.entry.now)) }
     ensures local { IfOk result (λ c. (fields_of c).has_globals ≡ false) }
 {
-    Command::new(alloc, name)
-        .arg(valued(alloc, "out"))?
-        .arg(args(alloc))
+    let command = with_value(Command::new(alloc, name), alloc, "out")?;
+    with_args(command, alloc)
 }
 
 // An action that only prints.
@@ -126,7 +149,42 @@ fn printing<'a>(alloc: Global, name: &'a str) -> Result<Command<'a>, AllocError>
     ensures told { IfOk result (λ c. app_of c ≡ command_app (disk.printing name.entry.now)) }
     ensures local { IfOk result (λ c. (fields_of c).has_globals ≡ false) }
 {
-    Command::new(alloc, name).arg(args(alloc))
+    with_args(Command::new(alloc, name), alloc)
+}
+
+// The command with the option `--name VALUE`.
+fn with_value<'a>(
+    command: Command<'a>,
+    alloc: Global,
+    name: &'a str,
+) -> Result<Command<'a>, AllocError>
+    requires local { (fields_of command).has_globals ≡ false }
+    ensures told { IfOk result (λ c. app_of c ≡ with_rule (app_of command.entry) (option_rule (value_option name.entry.now))) }
+    ensures local { IfOk result (λ c. (fields_of c).has_globals ≡ false) }
+{
+    command.arg(valued(alloc, name))
+}
+
+// The command with the option `--name`.
+fn with_flag<'a>(
+    command: Command<'a>,
+    alloc: Global,
+    name: &'a str,
+) -> Result<Command<'a>, AllocError>
+    requires local { (fields_of command).has_globals ≡ false }
+    ensures told { IfOk result (λ c. app_of c ≡ with_rule (app_of command.entry) (option_rule (flag_option name.entry.now))) }
+    ensures local { IfOk result (λ c. (fields_of c).has_globals ≡ false) }
+{
+    command.arg(flag(alloc, name))
+}
+
+// The command with positional arguments.
+fn with_args<'a>(command: Command<'a>, alloc: Global) -> Result<Command<'a>, AllocError>
+    requires local { (fields_of command).has_globals ≡ false }
+    ensures told { IfOk result (λ c. app_of c ≡ with_rule (app_of command.entry) arg_rule) }
+    ensures local { IfOk result (λ c. (fields_of c).has_globals ≡ false) }
+{
+    command.arg(args(alloc))
 }
 
 // The option `--name VALUE`.

@@ -34,11 +34,7 @@ fn put_fields(text: &mut Line, line: &TranscriptLine)
         TranscriptLine::Call(p, call) => put_call(text, *p, call),
         TranscriptLine::Trap(p, cause) => put_state(text, "trap", *p, cause_name(*cause)),
         TranscriptLine::File(p, moment) => put_state(text, "file", *p, moment_name(*moment)),
-        TranscriptLine::Return(p, value) => put_numbers(
-            text,
-            "ret",
-            &[number(*p), i64::from(*value)],
-        ),
+        TranscriptLine::Return(p, value) => put_two(text, "ret", number(*p), i64::from(*value)),
         TranscriptLine::Con(byte) => {
             text.word("con");
             text.word("");
@@ -46,7 +42,7 @@ fn put_fields(text: &mut Line, line: &TranscriptLine)
         }
         TranscriptLine::Switch(p) => put_numbers(text, "run", &[number(*p)]),
         TranscriptLine::Now(ticks, quantum) => {
-            put_numbers(text, "now", &[i64::from(*ticks), i64::from(*quantum)]);
+            put_two(text, "now", i64::from(*ticks), i64::from(*quantum));
         }
         TranscriptLine::Process {
             process,
@@ -60,20 +56,16 @@ fn put_fields(text: &mut Line, line: &TranscriptLine)
             put_message(text, *message);
             put_name(text, name);
         }
-        TranscriptLine::Ready(p, key) => put_numbers(text, "ready", &[number(*p), i64::from(*key)]),
+        TranscriptLine::Ready(p, key) => put_two(text, "ready", number(*p), i64::from(*key)),
         TranscriptLine::Semaphore(sem, count) => {
-            put_numbers(text, "sem", &[sem.index() as i64, i64::from(*count)]);
+            put_two(text, "sem", sem.index() as i64, i64::from(*count));
         }
-        TranscriptLine::Waiter(sem, p) => put_numbers(
-            text,
-            "wait",
-            &[sem.index() as i64, number(*p)],
-        ),
+        TranscriptLine::Waiter(sem, p) => put_two(text, "wait", sem.index() as i64, number(*p)),
         TranscriptLine::Sleeper(p, wake) => {
-            put_numbers(text, "sleep", &[number(*p), i64::from(*wake)]);
+            put_two(text, "sleep", number(*p), i64::from(*wake));
         }
         TranscriptLine::Free(address, bytes) => {
-            put_numbers(text, "free", &[i64::from(*address), i64::from(*bytes)]);
+            put_two(text, "free", i64::from(*address), i64::from(*bytes));
         }
         TranscriptLine::Pool {
             pool,
@@ -82,7 +74,7 @@ fn put_fields(text: &mut Line, line: &TranscriptLine)
             held,
         } => put_pool(text, *pool, *size, *free, *held),
         TranscriptLine::Buffer(pool, address) => {
-            put_numbers(text, "buf", &[pool.index() as i64, i64::from(*address)]);
+            put_two(text, "buf", pool.index() as i64, i64::from(*address));
         }
         TranscriptLine::Port {
             port,
@@ -94,10 +86,11 @@ fn put_fields(text: &mut Line, line: &TranscriptLine)
             &[port.index() as i64, i64::from(*seq), i64::from(*messages)],
         ),
         TranscriptLine::Node(port, message) => {
-            put_numbers(
+            put_two(
                 text,
                 "node",
-                &[port.index() as i64, i64::from(message.cast_signed())],
+                port.index() as i64,
+                i64::from(message.cast_signed()),
             );
         }
         TranscriptLine::Console {
@@ -123,6 +116,16 @@ fn put_fields(text: &mut Line, line: &TranscriptLine)
             text.word(end_name(*end));
         }
     }
+}
+
+// Appends a field and two numbers.
+fn put_two(text: &mut Line, field: &str, first: i64, second: i64)
+    requires empty { text.old ≡ [] }
+    requires short { length field.now ≤ 5 }
+    ensures put { text.new ≡ model.with_fields [] (field.now ∷ signed_decimal first ∷ signed_decimal second ∷ []) }
+    ensures size { length text.new ≤ 150 }
+{
+    put_numbers(text, field, &[first, second]);
 }
 
 // Appends a field and numbers.

@@ -4,7 +4,7 @@
 /// the RV32I base).
 ///
 /// The immediate of `Lui` and `Auipc` is the value whose lowest 12 bits are zero; that of a shift is its amount.
-#[derive(Clone, Copy, Debug, PartialEq, Eq)]
+#[derive(Clone, Copy)]
 pub enum Instr {
     /// Load upper immediate.
     Lui { rd: u8, imm: i32 },

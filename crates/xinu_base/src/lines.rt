@@ -19,7 +19,7 @@ pub enum FileMoment {
 }
 
 /// One line of a transcript.
-#[derive(Clone, Copy, Debug, PartialEq, Eq)]
+#[derive(Clone, Copy)]
 pub enum TranscriptLine {
     /// A process made a call.
     Call(Pid, Call),
