@@ -1,22 +1,7 @@
-//! The program: it runs images under a schedule and prints the transcript, assembles texts, and makes, checks and changes disks with files.
+//! The program: it does what its arguments say and exits with the status of that.
 //!
-//! Its commands are `run --schedule FILE IMAGE ..`, which with `--plain` prints the bytes of the console alone, `asm SOURCE --out FILE`, which writes an ELF file with `--elf`, and `disk` with six actions: `mkfs`, `ls`, `get`, `put`, `check` and `repair`. The work is done by the top call, [`xinu`], over the host of the program; the
-//! status that it answers is the program's. `specs/Theorem.antt` says what the top call does.
+//! The work is done by the top call, [`xinu`] of `xinu_commands`, over the host of the program.
 #![tactic(auto)]
-
-mod asm_command;
-mod commands;
-mod disk;
-mod disk_lines;
-mod fetching;
-pub mod laws;
-mod refusals;
-mod run_command;
-mod runs;
-mod sending;
-#[cfg(test)]
-mod tests;
-mod top;
 
 use host_port::RealHost;
 use std::alloc::Global;
@@ -24,7 +9,7 @@ use std::env;
 use std::io::{self, ErrorKind};
 use std::process::ExitCode;
 use std::rt::Env;
-pub use top::xinu;
+use xinu_commands::xinu;
 
 fn main(rt: HostRuntime) -> ExitCode {
     let alloc = rt.alloc();

@@ -1,0 +1,215 @@
+-- A command that is carried out: refused before anything was sent, stage by stage, and by a printed run.
+use Rattle.std.proofs.Common.{◌≡◌, ◌≤◌, Bool, false, ℕ, List, [], take, Option, Some, None, refl, sym, ap, subst, ◌∙◌, arith, inl, inr}
+use Rattle.host_port.specs.declared.host.HostFault.{HostFault}
+use Rattle.host_port.specs.declared.host.HostFault.TheVariants as host
+use Rattle.host_port.specs.HostCalls.{Rose}
+use Rattle.host_port.specs.Outside.{Outside, grown}
+use Rattle.host_port.proofs.Prints.{grown-nil}
+use Rattle.host_port.specs.Printing.{Printing, Prints}
+use Rattle.xinu_base.specs.declared.events.Event.{Event}
+use Rattle.xinu_model.specs.Machine.{Xinu}
+use Rattle.xinu_model.specs.Text.{shown}
+use Rattle.xinu_model.proofs.Runs.{some_run}
+use Rattle.xinu_commands.specs.Conversions.{host_refusal}
+use Rattle.xinu_commands.specs.Theorem.{Carries, Deserved, IsPart, IsPartSent, IsSent, IsUnsent, IsWhole, Sends, WorkSends}
+use Rattle.xinu_commands.specs.Work.{Output, Verdict, Refuses, Does, Runs, Outputs, only_printed, output_of, transcript}
+use Rattle.xinu_commands.specs.declared.refusals.Refusal.{Refusal}
+use Rattle.xinu_commands.specs.declared.refusals.Refusal.TheVariants as refusal
+use Rattle.xinu_commands.proofs.Printed.{PrintsTranscript}
+
+-- ---- nothing was sent
+
+-- nothing was sent of a file, if its channel stayed
+part_unsent : (bytes old new : Option (List ℕ)) → new ≡ old → IsPart bytes old new
+part_unsent None old new same = same
+part_unsent (Some bytes) old new same = inl same
+
+-- of any output nothing was sent yet
+pub nothing_sent : (output : Output) (h k : Outside) → IsUnsent h k → IsPartSent output h k
+nothing_sent output h k unsent = record {
+  out = (0, unsent.out ∙ sym (grown-nil h.out));
+  disk0 = part_unsent output.disk0 h.disk0 k.disk0 unsent.disk0;
+  disk1 = part_unsent output.disk1 h.disk1 k.disk1 unsent.disk1;
+  image = part_unsent output.image h.image k.image unsent.image;
+}
+
+-- A command that is refused before anything was sent is carried out whatever its verdict is, since there is a run through all events.
+pub carries_nothing : (v : Verdict) (cause : Refusal) (h k : Outside) → Deserved v (Some cause) h k → IsUnsent h k
+    → Carries v (Some cause) None h k
+carries_nothing (Refuses c) cause h k deserved unsent =
+    record { output = only_printed 0 []; deserved = deserved; sends = unsent; refused = λ some. refl }
+carries_nothing (Does (Runs plain start events)) cause h k deserved unsent =
+    let run = some_run events start in record {
+      output = only_printed 0 (shown plain (transcript start run.0 run.1 run.2));
+      deserved = deserved;
+      sends = record {
+        last = Some run.1;
+        writes = record { lines = run.0; state = run.1; end = run.2; runs = run.3; written = refl; last = refl };
+        part = nothing_sent (only_printed 0 (shown plain (transcript start run.0 run.1 run.2))) h k unsent;
+        whole = λ none. absurd (cc);
+        leaves = λ none. absurd (cc);
+      };
+      refused = λ some. refl;
+    }
+carries_nothing (Does (Outputs out disk1 file)) cause h k deserved unsent = record {
+  output = output_of out disk1 file;
+  deserved = deserved;
+  sends = record {
+    last = None;
+    writes = record { written = refl; last = refl };
+    part = nothing_sent (output_of out disk1 file) h k unsent;
+    whole = λ none. absurd (cc);
+    leaves = λ none. absurd (cc);
+  };
+  refused = λ some. refl;
+}
+
+-- nothing changed on a channel
+pub unsent_refl : (h : Outside) → IsUnsent h h
+unsent_refl h = record { out = refl; disk0 = refl; disk1 = refl; image = refl }
+
+pub unsent_both : (h i k : Outside) → IsUnsent h i → IsUnsent i k → IsUnsent h k
+unsent_both h i k first second = record {
+  out = second.out ∙ first.out;
+  disk0 = second.disk0 ∙ first.disk0;
+  disk1 = second.disk1 ∙ first.disk1;
+  image = second.image ∙ first.image;
+}
+
+-- ---- from one stage to the next
+
+-- the same verdict in another form
+pub carries_as : (v w : Verdict) (ended : Option Refusal) (left : Option Xinu) (h k : Outside) → v ≡ w → Carries w ended left h k
+    → Carries v ended left h k
+carries_as v w ended left h k same carries =
+    let P : Verdict → Type 0 = λ x. Carries x ended left h k in subst P (sym same) carries
+
+deserved_within : (v : Verdict) (ended : Option Refusal) (h i j k : Outside) → h.faults ≤ i.faults → j.faults ≤ k.faults
+    → Deserved v ended i j → Deserved v ended h k
+deserved_within v None h i j k before after deserved = deserved
+deserved_within v (Some refusal.HostFault) h i j k before after deserved =
+    (deserved.0, (let rose : Rose i.faults j.faults = deserved.1 in omega arith))
+deserved_within v (Some refusal.NoMemory) h i j k before after deserved = tt
+deserved_within v (Some other) h i j k before after deserved = deserved
+
+pub whole_within : (bytes h i j k : Option (List ℕ)) → i ≡ h → k ≡ j → IsWhole bytes i j → IsWhole bytes h k
+whole_within bytes h i j k before after whole =
+    let P : Option (List ℕ) → Type 0 = λ x. IsWhole bytes x j in
+    let Q : Option (List ℕ) → Type 0 = λ x. IsWhole bytes h x in
+    subst Q (sym after) (subst P before whole)
+
+pub part_within : (bytes h i j k : Option (List ℕ)) → i ≡ h → k ≡ j → IsPart bytes i j → IsPart bytes h k
+part_within bytes h i j k before after part =
+    let P : Option (List ℕ) → Type 0 = λ x. IsPart bytes x j in
+    let Q : Option (List ℕ) → Type 0 = λ x. IsPart bytes h x in
+    subst Q (sym after) (subst P before part)
+
+sent_within : (output : Output) (h i j k : Outside) → IsUnsent h i → IsUnsent j k → IsSent output i j → IsSent output h k
+sent_within output h i j k before after sent = record {
+  out = after.out ∙ sent.out ∙ ap (λ (o : Option (List ℕ)). grown o output.out) before.out;
+  disk0 = whole_within output.disk0 h.disk0 i.disk0 j.disk0 k.disk0 before.disk0 after.disk0 sent.disk0;
+  disk1 = whole_within output.disk1 h.disk1 i.disk1 j.disk1 k.disk1 before.disk1 after.disk1 sent.disk1;
+  image = whole_within output.image h.image i.image j.image k.image before.image after.image sent.image;
+}
+
+part_sent_within : (output : Output) (h i j k : Outside) → IsUnsent h i → IsUnsent j k → IsPartSent output i j → IsPartSent output h k
+part_sent_within output h i j k before after sent = record {
+  out = (sent.out.0, after.out ∙ sent.out.1 ∙ ap (λ (o : Option (List ℕ)). grown o (take sent.out.0 output.out)) before.out);
+  disk0 = part_within output.disk0 h.disk0 i.disk0 j.disk0 k.disk0 before.disk0 after.disk0 sent.disk0;
+  disk1 = part_within output.disk1 h.disk1 i.disk1 j.disk1 k.disk1 before.disk1 after.disk1 sent.disk1;
+  image = part_within output.image h.image i.image j.image k.image before.image after.image sent.image;
+}
+
+sends_within : (v : Verdict) (output : Output) (ended : Option Refusal) (left : Option Xinu) (h i j k : Outside) → IsUnsent h i
+    → IsUnsent j k → Sends v output ended left i j → Sends v output ended left h k
+sends_within (Refuses cause) output ended left h i j k before after sends =
+    unsent_both h j k (unsent_both h i j before sends) after
+sends_within (Does work) output ended left h i j k before after sends = record {
+  last = sends.last;
+  writes = sends.writes;
+  part = part_sent_within output h i j k before after sends.part;
+  whole = λ none. sent_within output h i j k before after (sends.whole none);
+  leaves = sends.leaves;
+}
+
+-- What is carried out from one moment to another is so from before to after, if nothing is sent there.
+pub carries_within : (v : Verdict) (ended : Option Refusal) (left : Option Xinu) (h i j k : Outside) → IsUnsent h i → h.faults ≤ i.faults
+    → IsUnsent j k → j.faults ≤ k.faults → Carries v ended left i j → Carries v ended left h k
+carries_within v ended left h i j k before earlier after later carries = record {
+  output = carries.output;
+  deserved = deserved_within v ended h i j k earlier later carries.deserved;
+  sends = sends_within v carries.output ended left h i j k before after carries.sends;
+  refused = carries.refused;
+}
+
+-- ---- a printed run
+
+-- a printer that hasn't failed
+abbrev pub new_printer : Bool → Printing
+new_printer plain = record { plain = plain; failure = None }
+
+-- such a printer that isn't plain
+abbrev pub fresh : Printing
+fresh = new_printer false
+
+-- what was printed of a run was sent
+printed_sends : (plain : Bool) (start : Xinu) (events : List Event) (new : Xinu) (a e : Printing) (h k : Outside) (ended : Option Refusal) (left : Option Xinu)
+    → a ≡ new_printer plain → (p : PrintsTranscript start events new a e h k) → (ended ≡ None → e.failure ≡ None) → (ended ≡ None → left ≡ Some new)
+    → WorkSends (Runs plain start events) (only_printed 0 (shown plain (transcript start p.lines p.last p.end))) ended left h k
+printed_sends plain start events new a e h k ended left is_fresh p done leaves =
+    let all = transcript start p.lines p.last p.end in
+    let P : List ℕ → Type 0 = λ bytes. Prints a e h k bytes in
+    let prints : Prints a e h k (shown plain all) = subst P (ap (λ (x : Printing). shown x.plain all) is_fresh) p.prints in
+    record {
+      last = Some p.last;
+      writes = record { lines = p.lines; state = p.last; end = p.end; runs = p.runs; written = refl; last = refl };
+      part = record {
+        out = (prints.part.0, ap (λ (x : Outside). x.out) prints.part.1);
+        disk0 = ap (λ (x : Outside). x.disk0) prints.part.1;
+        disk1 = ap (λ (x : Outside). x.disk1) prints.part.1;
+        image = ap (λ (x : Outside). x.image) prints.part.1;
+      };
+      whole = λ none. record {
+        out = ap (λ (x : Outside). x.out) (prints.whole (done none)).1;
+        disk0 = ap (λ (x : Outside). x.disk0) prints.part.1;
+        disk1 = ap (λ (x : Outside). x.disk1) prints.part.1;
+        image = ap (λ (x : Outside). x.image) prints.part.1;
+      };
+      leaves = λ none. leaves none ∙ ap Some (sym (p.whole (done none)));
+    }
+
+-- a run that was printed whole
+pub run_done : (plain : Bool) (v : Verdict) (start : Xinu) (events : List Event) (new : Xinu) (a e : Printing) (h k : Outside)
+    → v ≡ Does (Runs plain start events) → a ≡ new_printer plain → e.failure ≡ None → PrintsTranscript start events new a e h k → Carries v None (Some new) h k
+run_done plain v start events new a e h k is is_fresh none p =
+    carries_as v (Does (Runs plain start events)) None (Some new) h k is (record {
+      output = only_printed 0 (shown plain (transcript start p.lines p.last p.end));
+      deserved = (Runs plain start events, refl);
+      sends = printed_sends plain start events new a e h k None (Some new) is_fresh p (λ x. none) (λ x. refl);
+      refused = λ some. absurd (cc);
+    })
+
+-- why a run wasn't printed whole
+refused_deserved : (plain : Bool) (f : HostFault) (start : Xinu) (events : List Event) (new : Xinu) (a e : Printing) (h k : Outside) → a ≡ new_printer plain
+    → e.failure ≡ Some f → PrintsTranscript start events new a e h k → Deserved (Does (Runs plain start events)) (Some (host_refusal f)) h k
+refused_deserved plain host.Failed start events new a e h k is_fresh failed p = (
+  (λ same. cc),
+  elim (p.prints.cause failed) [
+    | inl had ↦ (let none : a.failure ≡ None = ap (λ (x : Printing). x.failure) is_fresh in absurd (cc))
+    | inr rose ↦ rose
+  ],
+)
+refused_deserved plain host.NoMemory start events new a e h k is_fresh failed p = tt
+
+-- a run of which the host refused a line
+pub run_refused : (plain : Bool) (v : Verdict) (f : HostFault) (r : Refusal) (start : Xinu) (events : List Event) (new : Xinu) (a e : Printing) (h k : Outside)
+    → v ≡ Does (Runs plain start events) → r ≡ host_refusal f → a ≡ new_printer plain → e.failure ≡ Some f → PrintsTranscript start events new a e h k
+    → Carries v (Some r) None h k
+run_refused plain v f r start events new a e h k is is_r is_fresh failed p =
+    let P : Refusal → Type 0 = λ x. Carries v (Some x) None h k in
+    subst P (sym is_r) (carries_as v (Does (Runs plain start events)) (Some (host_refusal f)) None h k is (record {
+      output = only_printed 0 (shown plain (transcript start p.lines p.last p.end));
+      deserved = refused_deserved plain f start events new a e h k is_fresh failed p;
+      sends = printed_sends plain start events new a e h k (Some (host_refusal f)) None is_fresh p (λ none. absurd (cc)) (λ none. absurd (cc));
+      refused = λ some. refl;
+    }))

@@ -1,0 +1,40 @@
+-- What a fetch of a host is for `asm` and for an action on a disk.
+use Rattle.std.proofs.Common.{◌≡◌, ◌≤◌, ◌+◌, ℕ, List, [], ◌∷◌, length, take, Option, Some, None, sym, ap, subst}
+use Rattle.std.specs.Prelude.{MatchOption, ⊤}
+use Rattle.host_port.specs.declared.host.HostFault.{HostFault}
+use Rattle.host_port.specs.declared.host.HostFault.TheVariants as host
+use Rattle.host_port.specs.HostCalls.{Rose}
+use Rattle.host_port.specs.Outside.{Outside, HostCall, counted, fetching, with_calls}
+use Rattle.xinu_commands.specs.Conversions.{host_refusal}
+use Rattle.xinu_commands.specs.Stages.{Fetches, IsFetched, KeepsFiles}
+use Rattle.xinu_commands.specs.declared.refusals.Refusal.{Refusal}
+use Rattle.xinu_commands.proofs.Answered.{fetched_unsent}
+use Rattle.xinu_commands.proofs.Files.{held_fetched}
+use Rattle.xinu_commands.proofs.Sent.{host_cause}
+
+pub fetched_front : (most : ℕ) (file : Option (List ℕ)) (items : List ℕ) → length items ≤ most + 1 → MatchOption file ⊤ (λ bytes. items ≡ take (most + 1) bytes) → IsFetched most file items
+fetched_front most file items few is = record { front = held_fetched file items (most + 1) few is }
+
+keeps : (h k : Outside) (calls : List HostCall) → k ≡ counted (with_calls h calls) k.faults → h.faults ≤ k.faults → KeepsFiles h k
+keeps h k calls is later = record { file = ap (λ (x : Outside). x.file) is; fault = ap (λ (x : Outside). x.fault) is; later = later }
+
+-- a file that was fetched
+pub fetched : (name : List ℕ) (h k : Outside) → k ≡ counted (with_calls h (fetching name ∷ [])) k.faults → h.faults ≤ k.faults → Fetches name None h k
+fetched name h k is later = record {
+  unsent = fetched_unsent h k (fetching name ∷ []) k.faults is;
+  cause = tt;
+  calls = record { some = (1, ap (λ (x : Outside). x.calls) is); all = λ none. ap (λ (x : Outside). x.calls) is };
+  keeps = keeps h k (fetching name ∷ []) is later;
+}
+
+-- a file that the host refused
+pub unfetched : (name : List ℕ) (f : HostFault) (r : Refusal) (n : ℕ) (h k : Outside) → r ≡ host_refusal f → k ≡ counted (with_calls h (take n (fetching name ∷ []))) k.faults
+    → (f ≡ host.Failed → Rose h.faults k.faults) → h.faults ≤ k.faults → Fetches name (Some r) h k
+unfetched name f r n h k is_r is rose later =
+    let P : Refusal → Type 0 = λ x. Fetches name (Some x) h k in
+    subst P (sym is_r) (record {
+      unsent = fetched_unsent h k (take n (fetching name ∷ [])) k.faults is;
+      cause = host_cause (Some f) h k (λ same. rose (cc));
+      calls = record { some = (n, ap (λ (x : Outside). x.calls) is); all = λ none. absurd (cc) };
+      keeps = keeps h k (take n (fetching name ∷ [])) is later;
+    })

@@ -1,0 +1,172 @@
+-- The fetched bytes of the files, and the verdict on them.
+use Rattle.std.proofs.Common.{◌≡◌, ◌≢◌, ◌≤◌, ◌+◌, ℕ, Bool, List, [], ◌∷◌, length, take, Option, Some, None, refl, sym, ap, subst, ◌∙◌, arith, inl, inr}
+use Rattle.std.proofs.lemmas.List.{take_all}
+use Rattle.std.specs.Prelude.{MatchOption, ⊤, Err, option_map}
+use Rattle.host_port.specs.Outside.{Outside}
+use Rattle.elf_loader.specs.LoadedFiles.{loads}
+use Rattle.schedule_file.specs.ScheduleFiles.{Bad, Many, Names, events_in}
+use Rattle.schedule_file.specs.declared.faults.ScheduleFault.{ScheduleFault}
+use Rattle.schedule_file.specs.declared.faults.ScheduleFault.TheVariants as schedule
+use Rattle.xinu_base.specs.declared.events.Event.{Event}
+use Rattle.xinu_model.specs.Boot.{Loaded, Start, Boots, Overlaps, NoRoom, boot}
+use Rattle.machine.specs.Starts.{Starts}
+use Rattle.core_calls.specs.declared.boot.BootFault.{BootFault}
+use Rattle.core_calls.specs.declared.boot.BootFault.TheVariants as boot_fault
+use Rattle.xinu_commands.specs.Conversions.{boot_refusal, schedule_refusal}
+use Rattle.xinu_commands.specs.InputFaults.{ReadsAs, schedule_fault, image_fault}
+use Rattle.xinu_commands.specs.Stages.{HoldsFault, HoldsSchedule, IsScheduleCause}
+use Rattle.xinu_commands.specs.Theorem.{Carries}
+use Rattle.xinu_commands.specs.RunVerdict.{run_verdict, start_verdict, boot_verdict, images_verdict}
+use Rattle.xinu_commands.specs.Verdict.{file_bytes}
+use Rattle.xinu_commands.specs.Work.{Verdict, Refuses, unless_fault}
+use Rattle.xinu_commands.specs.declared.refusals.Refusal.{Refusal}
+use Rattle.xinu_commands.specs.declared.refusals.Refusal.TheVariants as refusal
+use Rattle.xinu_commands.proofs.Carried.{carries_nothing, unsent_refl}
+use Rattle.xinu_commands.proofs.InputFaults.{cases_fetched, schedule_fault-fetched, schedule_fault-short, schedule_whole, image_fault-long}
+
+-- ---- a file that was fetched
+
+-- What was fetched is the first bytes of what the file holds, with what was fetched in place of bytes that can't be observed.
+pub held_fetched : (file : Option (List ℕ)) (items : List ℕ) (n : ℕ) → length items ≤ n
+    → MatchOption file ⊤ (λ bytes. items ≡ take n bytes) → items ≡ take n (file_bytes file items)
+held_fetched None items n few fetched = sym (take_all n items few)
+held_fetched (Some bytes) items n few fetched = fetched
+
+-- The schedule file holds the events that were read of it.
+pub holds_events : (file : Option (List ℕ)) (items : List ℕ) (events : List Event) → length items ≤ 4194305
+    → MatchOption file ⊤ (λ bytes. items ≡ take 4194305 bytes) → ReadsAs items events → HoldsSchedule file events
+holds_events file items events few fetched reads =
+    let P : List ℕ → Type 0 = λ s. ReadsAs s events in record {
+      unseen = items;
+      reads = subst P (sym (schedule_whole (file_bytes file items) items (held_fetched file items 4194305 few fetched) reads.good)) reads;
+    }
+
+-- The schedule file has the fault of the fetched bytes.
+pub holds_fault : (file : Option (List ℕ)) (items : List ℕ) (l : ℕ) → length items ≤ 4194305
+    → MatchOption file ⊤ (λ bytes. items ≡ take 4194305 bytes) → schedule_fault items ≡ Some l → HoldsFault file l
+holds_fault file items l few fetched is = record {
+  unseen = items;
+  fault = schedule_fault-fetched (file_bytes file items) items (held_fetched file items 4194305 few fetched) ∙ is;
+}
+
+-- why the fetched bytes aren't read
+schedule_cause_of : (f : ScheduleFault) (file : Option (List ℕ)) (items : List ℕ) (h k : Outside) → length items ≤ 4194305
+    → length items ≤ 4194304 → MatchOption file ⊤ (λ bytes. items ≡ take 4194305 bytes) → Names f items
+    → IsScheduleCause (schedule_refusal f) file h k
+schedule_cause_of (schedule.BadLine l) file items h k few short fetched names =
+    holds_fault file items l few fetched (schedule_fault-short items (Bad l) short names.0)
+schedule_cause_of (schedule.TooMany l) file items h k few short fetched names =
+    holds_fault file items l few fetched (schedule_fault-short items (Many l) short names.0)
+schedule_cause_of schedule.NoMemory file items h k few short fetched names = tt
+
+pub schedule_cause : (f : ScheduleFault) (r : Refusal) (file : Option (List ℕ)) (items : List ℕ) (h k : Outside) → r ≡ schedule_refusal f
+    → length items ≤ 4194305 → length items ≤ 4194304 → MatchOption file ⊤ (λ bytes. items ≡ take 4194305 bytes) → Names f items
+    → IsScheduleCause r file h k
+schedule_cause f r file items h k is few short fetched names =
+    let P : Refusal → Type 0 = λ x. IsScheduleCause x file h k in
+    subst P (sym is) (schedule_cause_of f file items h k few short fetched names)
+
+-- ---- the verdict's stages
+
+pub unless_fault_read : {T : Type 0} (fault : Option Refusal) (read : Option T) (next : T → Verdict) (x : T) → fault ≡ None → read ≡ Some x
+    → unless_fault fault read next ≡ next x
+unless_fault_read fault read next x none some = rw (none, some) refl
+
+pub unless_fault_refused : {T : Type 0} (fault : Option Refusal) (read : Option T) (next : T → Verdict) (cause : Refusal) → fault ≡ Some cause
+    → unless_fault fault read next ≡ Refuses cause
+unless_fault_refused fault read next cause is = rw is refl
+
+-- a schedule file that was read
+pub schedule_read : (plain : Bool) (bytes : List ℕ) (events : List Event) (images : List (List ℕ)) → ReadsAs bytes events
+    → run_verdict plain bytes images ≡ images_verdict 1 images (boot_verdict plain events)
+schedule_read plain bytes events images reads =
+    unless_fault_read (option_map refusal.Schedule (schedule_fault bytes)) (events_in bytes) (λ x. images_verdict 1 images (boot_verdict plain x)) events (ap (option_map refusal.Schedule) reads.good) reads.reads
+
+-- a schedule file with a fault
+pub schedule_refused : (plain : Bool) (bytes : List ℕ) (l : ℕ) (images : List (List ℕ)) → schedule_fault bytes ≡ Some l
+    → run_verdict plain bytes images ≡ Refuses (refusal.Schedule l)
+schedule_refused plain bytes l images is =
+    unless_fault_refused (option_map refusal.Schedule (schedule_fault bytes)) (events_in bytes) (λ x. images_verdict 1 images (boot_verdict plain x)) (refusal.Schedule l) (ap (option_map refusal.Schedule) is)
+
+-- an image file that was read
+pub image_read : (i : ℕ) (bytes : List ℕ) (image : Loaded) (files : List (List ℕ)) (next : List Loaded → Verdict) → option_map (refusal.Image i) (image_fault bytes) ≡ None
+    → loads bytes ≡ Some image → images_verdict i (bytes ∷ files) next ≡ images_verdict (i + 1) files (λ images. next (image ∷ images))
+image_read i bytes image files next good is =
+    unless_fault_read (option_map (refusal.Image i) (image_fault bytes)) (loads bytes) (λ x. images_verdict (i + 1) files (λ images. next (x ∷ images))) image good is
+
+-- an image file with a fault
+pub image_refused : (i : ℕ) (bytes : List ℕ) (f : ℕ) (files : List (List ℕ)) (next : List Loaded → Verdict) → image_fault bytes ≡ Some f
+    → images_verdict i (bytes ∷ files) next ≡ Refuses (refusal.Image i f)
+image_refused i bytes f files next is =
+    unless_fault_refused (option_map (refusal.Image i) (image_fault bytes)) (loads bytes) (λ x. images_verdict (i + 1) files (λ images. next (x ∷ images))) (refusal.Image i f) (ap (option_map (refusal.Image i)) is)
+
+-- The fetched bytes of an image are judged as the whole file is.
+pub image_fetched : (i : ℕ) (bytes items : List ℕ) (files : List (List ℕ)) (next : List Loaded → Verdict) → items ≡ take 1048577 bytes
+    → images_verdict i (bytes ∷ files) next ≡ images_verdict i (items ∷ files) next
+image_fetched i bytes items files next fetched =
+    elim (cases_fetched bytes items 1048576 fetched) [
+      | inl same ↦ ap (λ (b : List ℕ). images_verdict i (b ∷ files) next) same
+      | inr long ↦ image_refused i bytes 0 files next (image_fault-long bytes long.0)
+          ∙ sym (image_refused i items 0 files next (image_fault-long items long.1))
+    ]
+
+-- the verdict on images with which the machine starts, or for which it has no room
+pub boot_verdict_at : (plain : Bool) (events : List Event) (images : List Loaded) (s : Start) → boot images ≡ s
+    → boot_verdict plain events images ≡ start_verdict plain events s
+unfolding boot_verdict
+boot_verdict_at plain events images s is = ap (start_verdict plain events) is
+
+-- ---- no stage finds that there is no command
+
+pub unless_fault_keeps : {T : Type 0} (fault : Option Refusal) (read : Option T) (next : T → Verdict) → fault ≢ Some refusal.Usage
+    → ((x : T) → next x ≢ Refuses refusal.Usage) → unless_fault fault read next ≢ Refuses refusal.Usage
+unless_fault_keeps (Some cause) read next other rest is =
+    let same : cause ≡ refusal.Usage = cc in other (ap Some same)
+unless_fault_keeps None None next other rest is = cc
+unless_fault_keeps None (Some x) next other rest is = rest x is
+
+schedule_keeps : (fault : Option ℕ) → option_map refusal.Schedule fault ≢ Some refusal.Usage
+schedule_keeps None is = cc
+schedule_keeps (Some l) is = cc
+
+image_keeps : (i : ℕ) (fault : Option ℕ) → option_map (refusal.Image i) fault ≢ Some refusal.Usage
+image_keeps i None is = cc
+image_keeps i (Some f) is = cc
+
+start_keeps : (plain : Bool) (events : List Event) (s : Start) → start_verdict plain events s ≢ Refuses refusal.Usage
+start_keeps plain events (Boots x) is = cc
+start_keeps plain events (Overlaps i) is = cc
+start_keeps plain events (NoRoom i) is = cc
+
+pub boot_keeps : (plain : Bool) (events : List Event) (images : List Loaded) → boot_verdict plain events images ≢ Refuses refusal.Usage
+unfolding boot_verdict
+boot_keeps plain events images is = start_keeps plain events (boot images) is
+
+pub images_keep : (i : ℕ) (files : List (List ℕ)) (next : List Loaded → Verdict)
+    → ((images : List Loaded) → next images ≢ Refuses refusal.Usage) → images_verdict i files next ≢ Refuses refusal.Usage
+images_keep i [] next rest is = rest [] is
+images_keep i (bytes ∷ files) next rest is =
+    unless_fault_keeps (option_map (refusal.Image i) (image_fault bytes)) (loads bytes) (λ x. images_verdict (i + 1) files (λ images. next (x ∷ images))) (image_keeps i (image_fault bytes))
+    (λ x. images_keep (i + 1) files (λ images. next (x ∷ images)) (λ images. rest (x ∷ images))) is
+
+pub run_keeps : (plain : Bool) (schedule : List ℕ) (images : List (List ℕ)) → run_verdict plain schedule images ≢ Refuses refusal.Usage
+run_keeps plain schedule images is =
+    unless_fault_keeps (option_map refusal.Schedule (schedule_fault schedule)) (events_in schedule) (λ events. images_verdict 1 images (boot_verdict plain events)) (schedule_keeps (schedule_fault schedule))
+    (λ events. images_keep 1 images (boot_verdict plain events) (λ x. boot_keeps plain events x)) is
+
+-- ---- a machine that doesn't start
+
+boot_refused_of : (plain : Bool) (f : BootFault) (events : List Event) (images : List Loaded) (h : Outside) → Starts images (Err f)
+    → Carries (boot_verdict plain events images) (Some (boot_refusal f)) None h h
+boot_refused_of plain (boot_fault.Overlap i) events images h starts =
+    carries_nothing (boot_verdict plain events images) (refusal.Overlap i) h h (boot_verdict_at plain events images (Overlaps i) starts) (unsent_refl h)
+boot_refused_of plain (boot_fault.NoRoom i) events images h starts =
+    carries_nothing (boot_verdict plain events images) (refusal.NoRoom i) h h (boot_verdict_at plain events images (NoRoom i) starts) (unsent_refl h)
+boot_refused_of plain boot_fault.NoMemory events images h starts =
+    carries_nothing (boot_verdict plain events images) refusal.NoMemory h h tt (unsent_refl h)
+
+pub boot_refused : (plain : Bool) (f : BootFault) (r : Refusal) (events : List Event) (images : List Loaded) (h : Outside) → r ≡ boot_refusal f
+    → Starts images (Err f) → Carries (boot_verdict plain events images) (Some r) None h h
+boot_refused plain f r events images h is starts =
+    let P : Refusal → Type 0 = λ x. Carries (boot_verdict plain events images) (Some x) None h h in
+    subst P (sym is) (boot_refused_of plain f events images h starts)

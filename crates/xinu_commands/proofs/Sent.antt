@@ -1,0 +1,287 @@
+-- What was printed and written is the output of an action, as far as the host took it.
+use Rattle.std.proofs.Common.{◌≡◌, ◌≢◌, ◌∙◌, ◌≤◌, inl, inr, ℕ, Bool, true, false, List, [], ◌∷◌, length, take, Option, Some, None, refl, sym, ap, subst, arith}
+use Rattle.std.specs.Prelude.{if◌then◌else◌, option_map}
+use Rattle.std.proofs.lemmas.List.{take_all}
+use Rattle.host_port.specs.declared.host.Channel.{Channel}
+use Rattle.host_port.specs.declared.host.Channel.TheVariants.{Out, Fault, Disk0, Disk1, Image}
+use Rattle.host_port.specs.declared.host.HostFault.{HostFault}
+use Rattle.host_port.specs.declared.host.HostFault.TheVariants as host
+use Rattle.host_port.specs.HostCalls.{Rose}
+use Rattle.host_port.specs.Outside.{Outside, HostCall, appended, counted, emptied_channel, grown, made_empty, with_calls}
+use Rattle.host_port.specs.Printing.{Printing, Prints}
+use Rattle.host_port.proofs.Prints.{grown-nil}
+use Rattle.xinu_commands.specs.Conversions.{host_refusal}
+use Rattle.xinu_commands.specs.Stages.{IsHostCause, SendsOutput, output_on}
+use Rattle.xinu_commands.specs.Theorem.{IsPartSent, IsSent}
+use Rattle.xinu_commands.specs.Work.{output_of}
+use Rattle.xinu_commands.specs.declared.refusals.Refusal.{Refusal}
+use Rattle.xinu_commands.specs.declared.refusals.Refusal.TheVariants as refusal
+use Rattle.xinu_commands.proofs.Called.{keeps_both}
+use Rattle.xinu_commands.proofs.Carried.{fresh, nothing_sent, part_within, whole_within}
+
+-- why a host ended an action
+pub host_cause : (f : Option HostFault) (h k : Outside) → (f ≡ Some host.Failed → Rose h.faults k.faults) → IsHostCause (option_map host_refusal f) h k
+host_cause None h k rose = tt
+host_cause (Some host.Failed) h k rose = rose refl
+host_cause (Some host.NoMemory) h k rose = tt
+
+pub cause_within : (ended : Option Refusal) (h i k : Outside) → h.faults ≤ i.faults → IsHostCause ended i k → IsHostCause ended h k
+cause_within None h i k later cause = tt
+cause_within (Some refusal.HostFault) h i k later cause = (let rose : Rose i.faults k.faults = cause in omega arith)
+cause_within (Some refusal.NoMemory) h i k later cause = tt
+cause_within (Some other) h i k later cause = absurd cause
+
+-- ---- text
+
+no_failure : (f : Option HostFault) → option_map host_refusal f ≡ None → f ≡ None
+no_failure None is = refl
+no_failure (Some host.Failed) is = absurd (cc)
+no_failure (Some host.NoMemory) is = absurd (cc)
+
+-- text that was printed
+pub text_sent : (text : List ℕ) (a e : Printing) (ended : Option Refusal) (h k : Outside) → a ≡ fresh → Prints a e h k text → ended ≡ option_map host_refusal e.failure
+    → SendsOutput (output_of text None None) [] ended h k
+text_sent text a e ended h k is_fresh p is =
+    let P : Option Refusal → Type 0 = λ x. SendsOutput (output_of text None None) [] x h k in
+    subst P (sym is) (record {
+      part = record {
+        out = (p.part.0, ap (λ (x : Outside). x.out) p.part.1);
+        disk0 = ap (λ (x : Outside). x.disk0) p.part.1;
+        disk1 = ap (λ (x : Outside). x.disk1) p.part.1;
+        image = ap (λ (x : Outside). x.image) p.part.1;
+      };
+      whole = λ none. record {
+        out = ap (λ (x : Outside). x.out) (p.whole (no_failure e.failure none)).1;
+        disk0 = ap (λ (x : Outside). x.disk0) p.part.1;
+        disk1 = ap (λ (x : Outside). x.disk1) p.part.1;
+        image = ap (λ (x : Outside). x.image) p.part.1;
+      };
+      cause = host_cause e.failure h k (λ failed. elim (p.cause failed) [
+        | inl had ↦ (let none : a.failure ≡ None = ap (λ (x : Printing). x.failure) is_fresh in absurd (cc))
+        | inr rose ↦ rose
+      ]);
+      calls = record { some = (0, same_calls); all = λ none. same_calls };
+      keeps = record { file = ap (λ (x : Outside). x.file) p.part.1; fault = ap (λ (x : Outside). x.fault) p.part.1; later = p.later };
+    })
+  where
+    same_calls : k.calls ≡ grown h.calls []
+    same_calls = ap (λ (x : Outside). x.calls) p.part.1 ∙ sym (grown-nil h.calls)
+
+-- a printer that isn't plain prints the whole line
+pub line_printed : (a e : Printing) (h k : Outside) (text : List ℕ) → a ≡ fresh → Prints a e h k (if a.plain then [] else text) → Prints a e h k text
+line_printed a e h k text is p = (let P : Printing → Type 0 = λ x. Prints a e h k (if x.plain then [] else text) in subst P is p)
+
+-- ---- a file
+
+-- a channel that has a file
+data HasFile : Channel → Type 0 where
+  on_disk0 : HasFile Disk0
+  on_disk1 : HasFile Disk1
+  on_image : HasFile Image
+
+has_file : (c : Channel) → c ≢ Out → c ≢ Fault → HasFile c
+has_file Out not_out not_fault = absurd (not_out refl)
+has_file Fault not_out not_fault = absurd (not_fault refl)
+has_file Disk0 not_out not_fault = on_disk0
+has_file Disk1 not_out not_fault = on_disk1
+has_file Image not_out not_fault = on_image
+
+-- the channel was made empty for a file and these bytes were written, after these calls
+abbrev written : Outside → Channel → List HostCall → List ℕ → ℕ → Outside
+written h c calls bytes m = counted (appended (with_calls (made_empty h c) calls) c bytes) m
+
+module _ (calls : List HostCall) (bytes : List ℕ) (h k : Outside) (m : ℕ) where
+  -- on the other channels nothing is due
+  out_part : k.out ≡ h.out → (n : ℕ) × (k.out ≡ grown h.out (take n []))
+  out_part same = (0, same ∙ sym (grown-nil h.out))
+
+  out_whole : k.out ≡ h.out → k.out ≡ grown h.out []
+  out_whole same = same ∙ sym (grown-nil h.out)
+
+  part_of : (c : Channel) → HasFile c → (n : ℕ) → k ≡ written h c calls (take n bytes) m → IsPartSent (output_on c bytes) h k
+  part_of c on_disk0 n is = record {
+    out = out_part (ap (λ (x : Outside). x.out) is);
+    disk0 = inr (n, ap (λ (x : Outside). x.disk0) is);
+    disk1 = ap (λ (x : Outside). x.disk1) is;
+    image = ap (λ (x : Outside). x.image) is;
+  }
+  part_of c on_disk1 n is = record {
+    out = out_part (ap (λ (x : Outside). x.out) is);
+    disk0 = ap (λ (x : Outside). x.disk0) is;
+    disk1 = inr (n, ap (λ (x : Outside). x.disk1) is);
+    image = ap (λ (x : Outside). x.image) is;
+  }
+  part_of c on_image n is = record {
+    out = out_part (ap (λ (x : Outside). x.out) is);
+    disk0 = ap (λ (x : Outside). x.disk0) is;
+    disk1 = ap (λ (x : Outside). x.disk1) is;
+    image = inr (n, ap (λ (x : Outside). x.image) is);
+  }
+
+  whole_of : (c : Channel) → HasFile c → k ≡ written h c calls bytes m → IsSent (output_on c bytes) h k
+  whole_of c on_disk0 is = record {
+    out = out_whole (ap (λ (x : Outside). x.out) is);
+    disk0 = ap (λ (x : Outside). x.disk0) is;
+    disk1 = ap (λ (x : Outside). x.disk1) is;
+    image = ap (λ (x : Outside). x.image) is;
+  }
+  whole_of c on_disk1 is = record {
+    out = out_whole (ap (λ (x : Outside). x.out) is);
+    disk0 = ap (λ (x : Outside). x.disk0) is;
+    disk1 = ap (λ (x : Outside). x.disk1) is;
+    image = ap (λ (x : Outside). x.image) is;
+  }
+  whole_of c on_image is = record {
+    out = out_whole (ap (λ (x : Outside). x.out) is);
+    disk0 = ap (λ (x : Outside). x.disk0) is;
+    disk1 = ap (λ (x : Outside). x.disk1) is;
+    image = ap (λ (x : Outside). x.image) is;
+  }
+
+  -- what is left alone, and which calls were made
+  file_of : (c : Channel) → HasFile c → k ≡ written h c calls bytes m → k.file ≡ h.file
+  file_of c on_disk0 is = ap (λ (x : Outside). x.file) is
+  file_of c on_disk1 is = ap (λ (x : Outside). x.file) is
+  file_of c on_image is = ap (λ (x : Outside). x.file) is
+
+  fault_of : (c : Channel) → HasFile c → k ≡ written h c calls bytes m → k.fault ≡ h.fault
+  fault_of c on_disk0 is = ap (λ (x : Outside). x.fault) is
+  fault_of c on_disk1 is = ap (λ (x : Outside). x.fault) is
+  fault_of c on_image is = ap (λ (x : Outside). x.fault) is
+
+  calls_of : (c : Channel) → HasFile c → k ≡ written h c calls bytes m → k.calls ≡ grown h.calls calls
+  calls_of c on_disk0 is = ap (λ (x : Outside). x.calls) is
+  calls_of c on_disk1 is = ap (λ (x : Outside). x.calls) is
+  calls_of c on_image is = ap (λ (x : Outside). x.calls) is
+
+-- a channel that was made empty holds nothing
+empty_written : (h : Outside) (c : Channel) → HasFile c → (calls : List HostCall) (m : ℕ) → counted (with_calls (made_empty h c) calls) m ≡ written h c calls [] m
+empty_written h c on_disk0 calls m = ap (λ (o : Option (List ℕ)). record h { disk0 = o; calls = grown h.calls calls; faults = m }) (sym (grown-nil (emptied_channel h.disk0)))
+empty_written h c on_disk1 calls m = ap (λ (o : Option (List ℕ)). record h { disk1 = o; calls = grown h.calls calls; faults = m }) (sym (grown-nil (emptied_channel h.disk1)))
+empty_written h c on_image calls m = ap (λ (o : Option (List ℕ)). record h { image = o; calls = grown h.calls calls; faults = m }) (sym (grown-nil (emptied_channel h.image)))
+
+-- two changes one after the other
+after_naming : (h i k : Outside) (c : Channel) → HasFile c → (call : HostCall) (bytes : List ℕ) (m n : ℕ) → i ≡ counted (with_calls (made_empty h c) (call ∷ [])) m → k ≡ counted (appended i c bytes) n
+    → k ≡ written h c (call ∷ []) bytes n
+after_naming h i k c on_disk0 call bytes m n first second = second ∙ ap (λ (x : Outside). counted (appended x Disk0 bytes) n) first
+after_naming h i k c on_disk1 call bytes m n first second = second ∙ ap (λ (x : Outside). counted (appended x Disk1 bytes) n) first
+after_naming h i k c on_image call bytes m n first second = second ∙ ap (λ (x : Outside). counted (appended x Image bytes) n) first
+
+module _ (c : Channel) (f : HasFile c) (call : HostCall) (bytes : List ℕ) where
+  -- a file that was named and written up to some byte
+  written_sends : (ended : Option Refusal) (n : ℕ) (h k : Outside) → k ≡ written h c (call ∷ []) (take n bytes) k.faults → (ended ≡ None → k ≡ written h c (call ∷ []) bytes k.faults)
+      → IsHostCause ended h k → h.faults ≤ k.faults → SendsOutput (output_on c bytes) (call ∷ []) ended h k
+  written_sends ended n h k part whole cause later = record {
+    part = part_of (call ∷ []) bytes h k k.faults c f n part;
+    whole = λ none. whole_of (call ∷ []) bytes h k k.faults c f (whole none);
+    cause = cause;
+    calls = record {
+      some = (1, calls_of (call ∷ []) (take n bytes) h k k.faults c f part);
+      all = λ none. calls_of (call ∷ []) bytes h k k.faults c f (whole none);
+    };
+    keeps = record {
+      file = file_of (call ∷ []) (take n bytes) h k k.faults c f part;
+      fault = fault_of (call ∷ []) (take n bytes) h k k.faults c f part;
+      later = later;
+    };
+  }
+
+  -- a file that the host didn't make
+  unnamed_by : (is_made_empty : Bool) (r : Refusal) (n : ℕ) (h k : Outside) → k ≡ counted (with_calls (if is_made_empty then made_empty h c else h) (take n (call ∷ []))) k.faults
+      → IsHostCause (Some r) h k → h.faults ≤ k.faults → SendsOutput (output_on c bytes) (call ∷ []) (Some r) h k
+  unnamed_by true r n h k is cause later =
+      let whole = is ∙ empty_written h c f (take n (call ∷ [])) k.faults in
+      record {
+        part = part_of (take n (call ∷ [])) bytes h k k.faults c f 0 whole;
+        whole = λ none. absurd (cc);
+        cause = cause;
+        calls = record { some = (n, calls_of (take n (call ∷ [])) [] h k k.faults c f whole); all = λ none. absurd (cc) };
+        keeps = record {
+          file = file_of (take n (call ∷ [])) [] h k k.faults c f whole;
+          fault = fault_of (take n (call ∷ [])) [] h k k.faults c f whole;
+          later = later;
+        };
+      }
+  unnamed_by false r n h k is cause later = record {
+    part = nothing_sent (output_on c bytes) h k (record {
+      out = ap (λ (x : Outside). x.out) is;
+      disk0 = ap (λ (x : Outside). x.disk0) is;
+      disk1 = ap (λ (x : Outside). x.disk1) is;
+      image = ap (λ (x : Outside). x.image) is;
+    });
+    whole = λ none. absurd (cc);
+    cause = cause;
+    calls = record { some = (n, ap (λ (x : Outside). x.calls) is); all = λ none. absurd (cc) };
+    keeps = record { file = ap (λ (x : Outside). x.file) is; fault = ap (λ (x : Outside). x.fault) is; later = later };
+  }
+
+-- the host refused to make the file
+pub unnamed : (c : Channel) → c ≢ Out → c ≢ Fault → (call : HostCall) (bytes : List ℕ) (f : HostFault) (r : Refusal) (b : Bool) (n : ℕ) (h k : Outside) → r ≡ host_refusal f
+    → k ≡ counted (with_calls (if b then made_empty h c else h) (take n (call ∷ []))) k.faults → (f ≡ host.Failed → Rose h.faults k.faults) → h.faults ≤ k.faults
+    → SendsOutput (output_on c bytes) (call ∷ []) (Some r) h k
+unnamed c not_out not_fault call bytes f r b n h k is_r is rose later =
+    let P : Refusal → Type 0 = λ x. SendsOutput (output_on c bytes) (call ∷ []) (Some x) h k in
+    subst P (sym is_r) (unnamed_by c (has_file c not_out not_fault) call bytes b (host_refusal f) n h k is (host_cause (Some f) h k (λ same. rose (cc))) later)
+
+-- the host refused to write all bytes
+pub unwritten : (c : Channel) → c ≢ Out → c ≢ Fault → (call : HostCall) (bytes : List ℕ) (f : HostFault) (r : Refusal) (n : ℕ) (h i k : Outside) → r ≡ host_refusal f
+    → i ≡ counted (with_calls (made_empty h c) (call ∷ [])) i.faults → k ≡ counted (appended i c (take n bytes)) k.faults → (f ≡ host.Failed → Rose i.faults k.faults)
+    → h.faults ≤ i.faults → i.faults ≤ k.faults → SendsOutput (output_on c bytes) (call ∷ []) (Some r) h k
+unwritten c not_out not_fault call bytes f r n h i k is_r first second rose before after =
+    let P : Refusal → Type 0 = λ x. SendsOutput (output_on c bytes) (call ∷ []) (Some x) h k in
+    let file = has_file c not_out not_fault in
+    let cause : IsHostCause (Some (host_refusal f)) h k = host_cause (Some f) h k (λ same. (let later : Rose i.faults k.faults = rose (cc) in omega arith)) in
+    subst P (sym is_r) (written_sends c file call bytes (Some (host_refusal f)) n h k (after_naming h i k c file call (take n bytes) i.faults k.faults first second) (λ none. absurd (cc)) cause (omega arith))
+
+-- all bytes were written
+pub file_written : (c : Channel) → c ≢ Out → c ≢ Fault → (call : HostCall) (bytes : List ℕ) (h i k : Outside) → i ≡ counted (with_calls (made_empty h c) (call ∷ [])) i.faults
+    → k ≡ counted (appended i c bytes) k.faults → h.faults ≤ i.faults → i.faults ≤ k.faults → SendsOutput (output_on c bytes) (call ∷ []) None h k
+file_written c not_out not_fault call bytes h i k first second before after =
+    let file = has_file c not_out not_fault in
+    let whole = after_naming h i k c file call bytes i.faults k.faults first second in
+    let all : take (length bytes) bytes ≡ bytes = take_all (length bytes) bytes (omega arith) in
+    let P : List ℕ → Type 0 = λ b. k ≡ written h c (call ∷ []) b k.faults in
+    written_sends c file call bytes None (length bytes) h k (subst P (sym all) whole) (λ none. whole) tt (omega arith)
+
+-- ---- text, and then a disk
+
+nothing_more : {T : Type 0} (n : ℕ) (o : Option (List T)) → grown o (take n []) ≡ o
+nothing_more n o = ap (grown o) (take_all n [] (omega arith)) ∙ grown-nil o
+
+-- the text was printed, and then the disk was written
+pub both_sent : (text disk : List ℕ) (calls : List HostCall) (ended : Option Refusal) (h i k : Outside) → SendsOutput (output_of text None None) [] None h i
+    → SendsOutput (output_of [] (Some disk) None) calls ended i k → SendsOutput (output_of text (Some disk) None) calls ended h k
+both_sent text disk calls ended h i k first second =
+    let before = first.whole refl in
+    let same_calls : i.calls ≡ h.calls = first.calls.all refl ∙ grown-nil h.calls in
+    let all : take (length text) text ≡ text = take_all (length text) text (omega arith) in record {
+      part = record {
+        out = (length text, second.part.out.1 ∙ nothing_more second.part.out.0 i.out ∙ before.out ∙ ap (grown h.out) (sym all));
+        disk0 = second.part.disk0 ∙ before.disk0;
+        disk1 = part_within (Some disk) h.disk1 i.disk1 k.disk1 k.disk1 before.disk1 refl second.part.disk1;
+        image = second.part.image ∙ before.image;
+      };
+      whole = λ none. let after = second.whole none in record {
+        out = after.out ∙ grown-nil i.out ∙ before.out;
+        disk0 = after.disk0 ∙ before.disk0;
+        disk1 = whole_within (Some disk) h.disk1 i.disk1 k.disk1 k.disk1 before.disk1 refl after.disk1;
+        image = after.image ∙ before.image;
+      };
+      cause = cause_within ended h i k first.keeps.later second.cause;
+      calls = record {
+        some = (second.calls.some.0, second.calls.some.1 ∙ ap (λ (o : Option (List HostCall)). grown o (take second.calls.some.0 calls)) same_calls);
+        all = λ none. second.calls.all none ∙ ap (λ (o : Option (List HostCall)). grown o calls) same_calls;
+      };
+      keeps = keeps_both h i k first.keeps second.keeps;
+    }
+
+-- the text wasn't printed
+pub text_unsent : (text disk : List ℕ) (calls : List HostCall) (r : Refusal) (h i : Outside) → SendsOutput (output_of text None None) [] (Some r) h i
+    → SendsOutput (output_of text (Some disk) None) calls (Some r) h i
+text_unsent text disk calls r h i first = record {
+  part = record { out = first.part.out; disk0 = first.part.disk0; disk1 = inl first.part.disk1; image = first.part.image };
+  whole = λ none. absurd (cc);
+  cause = first.cause;
+  calls = record { some = (0, first.calls.some.1 ∙ nothing_more first.calls.some.0 h.calls ∙ sym (grown-nil h.calls)); all = λ none. absurd (cc) };
+  keeps = first.keeps;
+}

@@ -1,0 +1,136 @@
+-- What the stages of a command promise one another: its arguments, its files, its output.
+use Rattle.std.specs.Prelude.{◌≡◌, ◌≤◌, ◌+◌, ℕ, Bool, List, [], ◌∷◌, ◌++◌, length, map, take, true, Option, Some, None, Result, Ok, Err, option_map}
+use Rattle.std.specs.List.{slice_get}
+use Rattle.std.specs.Option.{option_map_or}
+use Rattle.machine.specs.Printed.{Booted}
+use Rattle.command_line.specs.Commands.{Command}
+use Rattle.command_line.specs.DiskArgs.{DiskAction, Mkfs, Put}
+use Rattle.command_line.specs.Reading.{Text}
+use Rattle.host_port.specs.HostCalls.{Rose}
+use Rattle.host_port.specs.Outside.{Outside, HostCall, fetching, naming}
+use Rattle.host_port.specs.declared.host.Channel.{Channel}
+use Rattle.host_port.specs.declared.host.Channel.TheVariants.{Out, Fault, Disk0, Disk1, Image}
+use Rattle.lfs_layout.specs.Files.{files_of, is_text, listing}
+use Rattle.xinu_base.specs.declared.events.Event.{Event}
+use Rattle.xinu_model.specs.Machine.{Xinu}
+use Rattle.xinu_commands.specs.Calls.{calls_of}
+use Rattle.xinu_commands.specs.DiskVerdict.{file_line, put_verdict}
+use Rattle.xinu_commands.specs.InputFaults.{ReadsAs, schedule_fault}
+use Rattle.xinu_commands.specs.RunVerdict.{boot_verdict, images_verdict}
+use Rattle.xinu_commands.specs.Theorem.{Carries, HasCalled, IsPartSent, IsSent, IsUnsent, Obeys}
+use Rattle.xinu_commands.specs.Verdict.{file_bytes, image_bytes}
+use Rattle.xinu_commands.specs.Work.{Output, Verdict, output_of}
+use Rattle.xinu_commands.specs.declared.refusals.Refusal.{Refusal}
+use Rattle.xinu_commands.specs.declared.refusals.Refusal.TheVariants as refusal
+
+-- A file reads as these events, if it can't be observed for some bytes.
+pub record HoldsSchedule (file : Option (List ℕ)) (events : List Event) : Type 0 where
+  pub unseen : List ℕ
+  pub reads : ReadsAs (file_bytes file unseen) events
+
+-- A file has a fault at this line, if it can't be observed for some bytes.
+pub record HoldsFault (file : Option (List ℕ)) (line : ℕ) : Type 0 where
+  pub unseen : List ℕ
+  pub fault : schedule_fault (file_bytes file unseen) ≡ Some line
+
+-- Why a schedule file isn't read: it has a fault at a line, the host failed, or memory ran out.
+abbrev pub IsScheduleCause : Refusal → Option (List ℕ) → Outside → Outside → Type 0
+IsScheduleCause (refusal.Schedule l) file old new = HoldsFault file l
+IsScheduleCause refusal.HostFault file old new = Rose old.faults new.faults
+IsScheduleCause refusal.NoMemory file old new = Unit {0}
+IsScheduleCause _ file old new = ⊥
+
+-- The files and what was sent on Fault stayed as they were, and the count of faults didn't fall.
+pub record KeepsFiles (old new : Outside) : Type 0 where
+  pub file : new.file ≡ old.file
+  pub fault : new.fault ≡ old.fault
+  pub later : old.faults ≤ new.faults
+
+-- the refusal with which something ended
+abbrev pub refusal_of : {T : Type 0} → Result T Refusal → Option Refusal
+refusal_of (Ok x) = None
+refusal_of (Err cause) = Some cause
+
+-- the state of the machine that was left
+abbrev pub left_of : Result Booted Refusal → Option Xinu
+left_of (Ok m) = Some m.state
+left_of (Err cause) = None
+
+-- the same, if there may be no machine
+abbrev pub last_of : Result (Option Booted) Refusal → Option Xinu
+last_of (Ok m) = option_map (λ b. b.state) m
+last_of (Err cause) = None
+
+-- ---- the stages of `asm` and of an action on a disk
+
+-- a number of blocks that a disk can have
+pub record IsBlockCount (blocks : ℕ) : Type 0 where
+  pub low : 14 ≤ blocks
+  pub high : blocks ≤ 65542
+
+-- what arguments make sure of: a disk can have so many blocks, and a file on a disk this name
+abbrev pub IsPossible : DiskAction → Type 0
+IsPossible (Mkfs blocks out) = IsBlockCount blocks
+IsPossible (Put image name source out) = is_text name ≡ true
+IsPossible _ = Unit {0}
+
+-- What a host did for this end: it failed only if the count of faults rose; memory may run out at any time.
+abbrev pub IsHostCause : Option Refusal → Outside → Outside → Type 0
+IsHostCause None old new = Unit {0}
+IsHostCause (Some refusal.HostFault) old new = Rose old.faults new.faults
+IsHostCause (Some refusal.NoMemory) old new = Unit {0}
+IsHostCause (Some _) old new = ⊥
+
+-- These bytes were fetched of a file: its first ones, up to one more than this many.
+pub record IsFetched (most : ℕ) (file : Option (List ℕ)) (bytes : List ℕ) : Type 0 where
+  pub front : bytes ≡ take (most + 1) (file_bytes file bytes)
+
+-- A file was fetched, or the host refused it. Nothing was sent.
+pub record Fetches (name : List ℕ) (ended : Option Refusal) (old new : Outside) : Type 0 where
+  pub unsent : IsUnsent old new
+  pub cause : IsHostCause ended old new
+  pub calls : HasCalled (fetching name ∷ []) ended old new
+  pub keeps : KeepsFiles old new
+
+-- the line of the file at a place in the order of names, if a disk has one
+unfoldable pub line_at : ℕ → List ℕ → List ℕ
+line_at k disk = option_map_or file_line (slice_get (listing (files_of disk)) k) []
+
+-- bytes on one channel: on one that has a file, as those of the file
+abbrev pub output_on : Channel → List ℕ → Output
+output_on Out bytes = output_of bytes None None
+output_on Fault bytes = output_of [] None None
+output_on Disk0 bytes = record (output_of [] None None) { disk0 = Some bytes }
+output_on Disk1 bytes = output_of [] (Some bytes) None
+output_on Image bytes = output_of [] None (Some bytes)
+
+-- An output was sent, after these calls: all of it, or a part of it up to a refusal of the host.
+pub record SendsOutput (output : Output) (asked : List HostCall) (ended : Option Refusal) (old new : Outside) : Type 0 where
+  pub part : IsPartSent output old new
+  pub whole : ended ≡ None → IsSent output old new
+  pub cause : IsHostCause ended old new
+  pub calls : HasCalled asked ended old new
+  pub keeps : KeepsFiles old new
+
+-- What is left of a command, with this verdict and these calls, was carried out.
+pub record Stage (v : Verdict) (asked : List HostCall) (ended : Option Refusal) (left : Option Xinu) (old new : Outside) : Type 0 where
+  pub carries : Carries v ended left old new
+  pub calls : HasCalled asked ended old new
+  pub keeps : KeepsFiles old new
+
+-- After these image files, those of these names were fetched and read in order, and then all images ran through the events, for some bytes
+-- of the files that can't be observed.
+pub record RunsImages (plain : Bool) (before : List (List ℕ)) (names : List Text) (events : List Event) (ended : Option Refusal) (left : Option Xinu) (old new : Outside) : Type 0 where
+  pub unseen : ℕ → List ℕ
+  pub stage : Stage (images_verdict 1 (before ++ image_bytes (length before + 1) names old.file unseen) (boot_verdict plain events)) (map fetching names) ended left old new
+
+-- A file was fetched and then set on a disk, for some bytes of it if it can't be observed.
+pub record SetsFile (disk name source out : List ℕ) (ended : Option Refusal) (old new : Outside) : Type 0 where
+  pub unseen : List ℕ
+  pub stage : Stage (put_verdict name (file_bytes (old.file source) unseen) disk) (fetching source ∷ naming Disk1 out ∷ []) ended None old new
+
+-- A command was carried out.
+pub record Performs (command : Option Command) (ended : Option Refusal) (left : Option Xinu) (old new : Outside) : Type 0 where
+  pub obeys : Obeys command ended left old new
+  pub calls : HasCalled (calls_of command) ended old new
+  pub keeps : KeepsFiles old new

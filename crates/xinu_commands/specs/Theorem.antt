@@ -1,0 +1,108 @@
+-- The main theorem's statement: what the top call does. Read `Answers`, at the end, first; `verdict` is in Verdict.antt, `Writes` in Work.antt.
+use Rattle.std.specs.Prelude.{◌≡◌, ◌≢◌, ◌≤◌, ◌⊎◌, ℕ, List, take, Option, Some, None, IsSome}
+use Rattle.command_line.specs.Commands.{Command}
+use Rattle.host_port.specs.HostCalls.{Rose}
+use Rattle.host_port.specs.Outside.{Outside, HostCall, emptied_channel, grown}
+use Rattle.xinu_model.specs.Machine.{Xinu}
+use Rattle.xinu_commands.specs.Calls.{calls_of}
+use Rattle.xinu_commands.specs.Refusals.{status_of, text_of}
+use Rattle.xinu_commands.specs.Verdict.{Input, verdict}
+use Rattle.xinu_commands.specs.Work.{Output, Verdict, Refuses, Does, Work, Writes}
+use Rattle.xinu_commands.specs.declared.refusals.Refusal.{Refusal}
+use Rattle.xinu_commands.specs.declared.refusals.Refusal.TheVariants as refusal
+
+-- Why a command ended as it did. It was done only if its verdict is work. A host fault came only if the count of faults rose, and only
+-- in a command; memory may run out at any time; any other refusal came only if it is the verdict.
+abbrev pub Deserved : Verdict → Option Refusal → Outside → Outside → Type 0
+Deserved v None old new = (work : Work) × (v ≡ Does work)
+Deserved v (Some refusal.HostFault) old new = (v ≢ Refuses refusal.Usage) × Rose old.faults new.faults
+Deserved v (Some refusal.NoMemory) old new = Unit {0}
+Deserved v (Some cause) old new = v ≡ Refuses cause
+
+-- A channel without a file stays as it was; one with a file was made empty and holds the bytes.
+abbrev pub IsWhole : Option (List ℕ) → Option (List ℕ) → Option (List ℕ) → Type 0
+IsWhole None old new = new ≡ old
+IsWhole (Some bytes) old new = new ≡ grown (emptied_channel old) bytes
+
+-- The same up to some moment: the channel is as it was, or was made empty and holds a prefix of the bytes.
+abbrev pub IsPart : Option (List ℕ) → Option (List ℕ) → Option (List ℕ) → Type 0
+IsPart None old new = new ≡ old
+IsPart (Some bytes) old new = (new ≡ old) ⊎ ((n : ℕ) × (new ≡ grown (emptied_channel old) (take n bytes)))
+
+-- The whole output was sent.
+pub record IsSent (output : Output) (old new : Outside) : Type 0 where
+  pub out : new.out ≡ grown old.out output.out
+  pub disk0 : IsWhole output.disk0 old.disk0 new.disk0
+  pub disk1 : IsWhole output.disk1 old.disk1 new.disk1
+  pub image : IsWhole output.image old.image new.image
+
+-- Of the output on each channel a prefix was sent.
+pub record IsPartSent (output : Output) (old new : Outside) : Type 0 where
+  pub out : (n : ℕ) × (new.out ≡ grown old.out (take n output.out))
+  pub disk0 : IsPart output.disk0 old.disk0 new.disk0
+  pub disk1 : IsPart output.disk1 old.disk1 new.disk1
+  pub image : IsPart output.image old.image new.image
+
+-- No channel changed but perhaps Fault.
+pub record IsUnsent (old new : Outside) : Type 0 where
+  pub out : new.out ≡ old.out
+  pub disk0 : new.disk0 ≡ old.disk0
+  pub disk1 : new.disk1 ≡ old.disk1
+  pub image : new.image ≡ old.image
+
+-- Of an output that the work may have a prefix was sent; if the command was done all of it, and the work's last state is left.
+pub record WorkSends (work : Work) (output : Output) (ended : Option Refusal) (left : Option Xinu) (old new : Outside) : Type 0 where
+  pub last : Option Xinu
+  pub writes : Writes work output last
+  pub part : IsPartSent output old new
+  pub whole : ended ≡ None → IsSent output old new
+  pub leaves : ended ≡ None → left ≡ last
+
+-- What is sent by the verdict: nothing if it is a refusal.
+abbrev pub Sends : Verdict → Output → Option Refusal → Option Xinu → Outside → Outside → Type 0
+Sends (Refuses cause) output ended left old new = IsUnsent old new
+Sends (Does work) output ended left old new = WorkSends work output ended left old new
+
+-- A command with this verdict was carried out, to its end or up to a refusal, which leaves no machine.
+pub record Carries (v : Verdict) (ended : Option Refusal) (left : Option Xinu) (old new : Outside) : Type 0 where
+  pub output : Output
+  pub deserved : Deserved v ended old new
+  pub sends : Sends v output ended left old new
+  pub refused : IsSome ended → left ≡ None
+
+-- A command was carried out as its verdict says, for some bytes of the files that can't be observed.
+pub record Obeys (command : Option Command) (ended : Option Refusal) (left : Option Xinu) (old new : Outside) : Type 0 where
+  pub unseen : Input → List ℕ
+  pub carries : Carries (verdict command old.file unseen) ended left old new
+
+-- The exit status is that of the output, or that of the refusal unless memory runs out while the text of the refusal is sent.
+abbrev pub IsStatus : Option Refusal → Output → ℕ → Type 0
+IsStatus None output exit = exit ≡ output.status
+IsStatus (Some cause) output exit = exit ≢ 7 → exit ≡ status_of cause
+
+-- Fault has grown by a prefix of the refusal's text; by all of it unless a fault came or memory ran out.
+pub record SendsText (cause : Refusal) (exit : ℕ) (old new : Outside) : Type 0 where
+  pub part : (n : ℕ) × (new.fault ≡ grown old.fault (take n (text_of cause)))
+  pub whole : exit ≢ 7 → (Rose old.faults new.faults → ⊥) → new.fault ≡ grown old.fault (text_of cause)
+
+-- Fault stays as it was if the command was done; else it has the text of the refusal.
+abbrev pub IsMessage : Option Refusal → ℕ → Outside → Outside → Type 0
+IsMessage None exit old new = new.fault ≡ old.fault
+IsMessage (Some cause) exit old new = SendsText cause exit old new
+
+-- The files that the command names were fetched, and named for their channels, in order; all of them if it was done.
+pub record HasCalled (calls : List HostCall) (ended : Option Refusal) (old new : Outside) : Type 0 where
+  pub some : (n : ℕ) × (new.calls ≡ grown old.calls (take n calls))
+  pub all : ended ≡ None → new.calls ≡ grown old.calls calls
+
+-- The theorem. The command was done, or refused for a cause, as it deserves by the bytes of its files (`obeys`). Its status and its
+-- message say which. It asked the host for the files that it names, in order; no file that can be observed changed, and the count of
+-- faults never falls.
+pub record Answers (exit : ℕ) (command : Option Command) (old new : Outside) (left : Option Xinu) : Type 0 where
+  pub ended : Option Refusal
+  pub obeys : Obeys command ended left old new
+  pub status : IsStatus ended obeys.carries.output exit
+  pub message : IsMessage ended exit old new
+  pub calls : HasCalled (calls_of command) ended old new
+  pub files : new.file ≡ old.file
+  pub faults : old.faults ≤ new.faults

@@ -1,0 +1,64 @@
+//! What the exit statuses mean: laws about every answer of the top call, and one about the files that `asm` writes. Each is the contract of a
+//! function that does nothing.
+
+ghost use Rattle.std.specs.Prelude.{◌≡◌, ◌≢◌, ◌↔◌, ◌==◌, ◌∷◌, [], ℕ, Bool, IsTrue, List, Option, Some, None, IsSome};
+ghost use Rattle.std.specs.List.{list_any};
+ghost use Rattle.command_line.specs.AsmArgs.{AsmFiles};
+ghost use Rattle.command_line.specs.Commands.{Command, Run, Asm, Disk};
+ghost use Rattle.command_line.specs.DiskArgs.{DiskAction};
+ghost use Rattle.command_line.specs.Reading.{Text};
+ghost use Rattle.command_line.specs.RunArgs.{RunFiles};
+ghost use Rattle.elf_loader.specs.LoadedFiles.{loads};
+ghost use Rattle.host_port.specs.HostCalls.{Rose};
+ghost use Rattle.host_port.specs.Outside.{Outside};
+ghost use Rattle.image_loader.specs.ImageFiles.{image_in};
+ghost use Rattle.rv_asm.specs.Assembly.{Makes, assembly};
+ghost use Rattle.xinu_model.specs.Boot.{Loaded};
+ghost use Rattle.xinu_model.specs.Machine.{Xinu};
+ghost use Rattle.xinu_commands.specs.AsmVerdict.{written_file};
+ghost use Rattle.xinu_commands.specs.Statuses.{SaysOfDisk, SaysOfFiles, SaysOfSource, status_due, statuses};
+ghost use Rattle.xinu_commands.specs.Theorem.{Answers};
+ghost use Rattle.xinu_commands.specs.Verdict.{ScheduleInput, ImageInput, SourceInput, file_bytes, image_bytes, verdict};
+
+/// The exit status is 0, 2, 3, 4, 5, 6, 7, 8, 9, 12 or 13.
+pub fn statuses_are_these()
+    ensures { (exit : ℕ) (command : Option Command) (old new : Outside) (left : Option Xinu) → Answers exit command old new left → IsTrue (list_any (λ n. exit == n) statuses) }
+{}
+
+/// The exit status is exactly that of the verdict, unless the host failed or memory ran out.
+pub fn statuses_are_due()
+    ensures { (exit : ℕ) (command : Option Command) (old new : Outside) (left : Option Xinu) (a : Answers exit command old new left) → exit ≢ 7 → exit ≢ 3 → exit ≡ status_due (verdict command old.file a.obeys.unseen) }
+{}
+
+/// The exit status is 2 if and only if the arguments give no command, unless memory ran out.
+pub fn no_command_is_status_2()
+    ensures { (exit : ℕ) (command : Option Command) (old new : Outside) (left : Option Xinu) → Answers exit command old new left → exit ≢ 7 → exit ≡ 2 ↔ (command ≡ None) }
+{}
+
+/// The exit status is 3 only if there was a command and the host's count of faults rose.
+pub fn host_faults_are_counted()
+    ensures { (exit : ℕ) (command : Option Command) (old new : Outside) (left : Option Xinu) → Answers exit command old new left → exit ≡ 3 → IsSome command × Rose old.faults new.faults }
+{}
+
+/// The exit status of a run is 5 if and only if the schedule file has a fault; if it has none, 4 if and only if an image file has one; if none
+/// has one, 8 if and only if an image overlaps an earlier one or the heap has no room for the stack of one, and else 0: unless the host failed
+/// or memory ran out.
+pub fn statuses_say_of_files()
+    ensures { (exit : ℕ) (files : RunFiles) (old new : Outside) (left : Option Xinu) (a : Answers exit (Some (Run files)) old new left) → exit ≢ 7 → exit ≢ 3 → SaysOfFiles exit (file_bytes (old.file files.schedule) (a.obeys.unseen ScheduleInput)) (image_bytes 1 files.images old.file (λ i. a.obeys.unseen (ImageInput i))) }
+{}
+
+/// The exit status of `asm` is 9 if and only if the source is too long or has a fault, and else 0: unless the host failed or memory ran out.
+pub fn statuses_say_of_sources()
+    ensures { (exit : ℕ) (files : AsmFiles) (old new : Outside) (left : Option Xinu) (a : Answers exit (Some (Asm files)) old new left) → exit ≢ 7 → exit ≢ 3 → SaysOfSource exit (file_bytes (old.file files.source) (a.obeys.unseen SourceInput)) }
+{}
+
+/// The file that `asm` writes of a text that is assembled loads, and as an image file and as an ELF file it is the same image.
+pub fn written_files_load()
+    ensures { (elf : Bool) (source file : List ℕ) → assembly source ≡ Makes file → (image : Loaded) × ((image_in file ≡ Some image) × (loads (written_file elf file) ≡ Some image)) }
+{}
+
+/// The exit status of an action on a disk is 6 if and only if the disk breaks a rule; if it breaks none, 12 if and only if it lacks the file
+/// that is asked for, 13 if and only if it has no room for the file that is set, and else 0: unless the host failed or memory ran out.
+pub fn statuses_say_of_disks()
+    ensures { (exit : ℕ) (action : DiskAction) (old new : Outside) (left : Option Xinu) (a : Answers exit (Some (Disk action)) old new left) → exit ≢ 7 → exit ≢ 3 → SaysOfDisk exit action (λ input name. file_bytes (old.file name) (a.obeys.unseen input)) }
+{}

@@ -1,0 +1,25 @@
+//! The commands of the program: it runs images under a schedule and prints the transcript, assembles texts, and makes, checks and changes
+//! disks with files.
+//!
+//! The commands are `run --schedule FILE IMAGE ..`, which with `--plain` prints the bytes of the console alone, `asm SOURCE --out FILE`, which
+//! writes an ELF file with `--elf`, and `disk` with six actions: `mkfs`, `ls`, `get`, `put`, `check` and `repair`. Each goes over any host.
+//!
+//! | Call | Promise |
+//! |---|---|
+//! | [`xinu`], the top call | `answers`: the status, what was sent and the machine that is left are what the bytes of the host's files deserve (`specs/Theorem.antt`) |
+//! | [`laws`] | what each exit status means |
+#![tactic(auto)]
+
+mod asm_command;
+mod commands;
+mod disk;
+mod disk_lines;
+mod fetching;
+pub mod laws;
+mod refusals;
+mod run_command;
+mod runs;
+mod sending;
+mod top;
+
+pub use top::xinu;

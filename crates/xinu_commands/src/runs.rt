@@ -1,0 +1,96 @@
+//! The run of images through the events of a schedule.
+
+ghost use Rattle.std.specs.Prelude.{◌≡◌, ◌+◌, ◌≤◌, ◌∷◌, [], false, length, map};
+ghost use Rattle.host_port.specs.Printing.{Prints};
+ghost use Rattle.image_loader.specs.Images.{loaded_of};
+ghost use Rattle.xinu_base.specs.declared.lines.TranscriptLine.TheVariants as line;
+ghost use Rattle.xinu_model.specs.Text.{shown};
+ghost use Rattle.xinu_commands.specs.Stages.{KeepsFiles, left_of, refusal_of};
+ghost use Rattle.xinu_commands.specs.Theorem.{Carries};
+ghost use Rattle.xinu_commands.specs.Transcripts.{RunPrints};
+ghost use Rattle.xinu_commands.specs.RunVerdict.{boot_verdict};
+
+use crate::refusals::Refusal;
+use host_port::{Host, Line, Printer};
+use image_loader::Image;
+use machine::{Go, Machine};
+use schedule_file::Schedule;
+use std::alloc::Global;
+use xinu_base::End;
+
+/// Runs images through the events of a schedule, and answers the machine as the run left it. There are one to eight images. If `plain`,
+/// the bytes of the console are printed and nothing else.
+///
+/// # Errors
+/// `Overlap(i)` if and only if image `i`, counted from 1, is the first that overlaps an earlier one; else `NoRoom(i)` if and only if the
+/// heap after the images has no room for the stack of image `i`, and it is the first; unless memory runs out; `HostFault` if the host
+/// refused a line; `NoMemory`.
+pub(crate) fn run_images<H: Host>(
+    alloc: Global,
+    images: &[Image<'_>],
+    schedule: Schedule,
+    plain: bool,
+    host: &mut H,
+) -> Result<Machine, Refusal>
+    requires some { 1 ≤ length images.now }
+    requires few { length images.now ≤ 8 }
+    requires events { length schedule ≤ 1000000000 }
+    ensures carries { Carries (boot_verdict plain schedule (map loaded_of images.now)) (refusal_of result) (left_of result) (H.view host.old) (H.view host.new) }
+    ensures calls { (H.view host.new).calls ≡ (H.view host.old).calls }
+    ensures keeps { KeepsFiles (H.view host.old) (H.view host.new) }
+{
+    let mut machine = match Machine::boot(alloc, images) {
+        Ok(machine) => machine,
+        Err(fault) => return Err(Refusal::from(fault)),
+    };
+    let mut schedule = schedule;
+    let mut out = Printer::new(plain);
+    machine.start(&mut out, host);
+    let end = take_events(&mut machine, &mut schedule, &mut out, host);
+    machine.dump(&mut out, host);
+    print_end(end, &mut out, host);
+    match out.failed() {
+        None => Ok(machine),
+        Some(fault) => Err(Refusal::from(fault)),
+    }
+}
+
+// Takes the events up to the end of the run, or until the host refused a line.
+#[inline(never)]
+fn take_events<H: Host>(
+    machine: &mut Machine,
+    schedule: &mut Schedule,
+    out: &mut Printer,
+    host: &mut H,
+) -> End
+    requires over { machine.old.over ≡ false }
+    requires few { machine.old.events + length schedule.old ≤ 1000000000 }
+    ensures { RunPrints machine.old.state schedule.old machine.new.state result out.old out.new (H.view host.old) (H.view host.new) }
+{
+    while out.failed().is_none() {
+        let Some(event) = schedule.next_event() else {
+            return End::Schedule;
+        };
+        match machine.event(event, out, host) {
+            Go::Goes => {}
+            Go::Done => return End::Done,
+            Go::Panic => return End::Panic,
+        }
+    }
+    End::Schedule
+}
+
+// Prints the last line.
+fn print_end<H: Host>(end: End, out: &mut Printer, host: &mut H)
+    ensures { Prints out.old out.new (H.view host.old) (H.view host.new) (shown out.old.plain (line.End end ∷ [])) }
+{
+    let mut line = Line::new();
+    line.word("end");
+    line.word(match end {
+        End::Schedule => "schedule",
+        End::Done => "done",
+        End::Panic => "panic",
+    });
+    line.end();
+    out.line(host, &line);
+}

@@ -1,0 +1,89 @@
+//! What `asm` and an action on a disk send: lines on Out, and a file.
+
+ghost use Rattle.std.specs.Prelude.{◌≡◌, ◌≢◌, ◌∷◌, [], None, option_map, if◌then◌else◌};
+ghost use Rattle.host_port.specs.Outside.{naming};
+ghost use Rattle.host_port.specs.Printing.{Prints};
+ghost use Rattle.lfs_layout.specs.Images.{IsCleanImage};
+ghost use Rattle.xinu_commands.specs.Conversions.{host_refusal};
+ghost use Rattle.xinu_commands.specs.DiskVerdict.{file_lines};
+ghost use Rattle.xinu_commands.specs.Stages.{SendsOutput, line_at, output_on, refusal_of};
+ghost use Rattle.xinu_commands.specs.Work.{output_of};
+
+use crate::disk_lines::file_line;
+use crate::refusals::Refusal;
+use host_port::{Channel, Host, Line, Printer};
+use lfs_layout::CleanImage;
+
+/// The most files of a disk.
+const MOST_FILES: usize = 78;
+
+/// Writes a file: names it for a channel, `Disk0`, `Disk1` or `Image`, and sends its bytes there.
+///
+/// # Errors
+/// `HostFault` if the host failed; `NoMemory`.
+pub(crate) fn send_file<H: Host>(
+    host: &mut H,
+    channel: Channel,
+    name: &str,
+    bytes: &[u8],
+) -> Result<(), Refusal>
+    requires not_out { channel ≢ Channel.Out }
+    requires not_fault { channel ≢ Channel.Fault }
+    ensures sends { SendsOutput (output_on channel bytes.now) (naming channel name.now ∷ []) (refusal_of result) (H.view host.old) (H.view host.new) }
+{
+    match host.name_out(channel, name) {
+        Ok(()) => {}
+        Err(fault) => return Err(Refusal::from(fault)),
+    }
+    match host.emit(channel, bytes) {
+        Ok(()) => Ok(()),
+        Err(fault) => Err(Refusal::from(fault)),
+    }
+}
+
+/// Prints a line.
+///
+/// # Errors
+/// `HostFault` if the host failed; `NoMemory`.
+pub(crate) fn print_line<H: Host>(host: &mut H, line: &Line) -> Result<(), Refusal>
+    ensures sends { SendsOutput (output_of line.now None None) [] (refusal_of result) (H.view host.old) (H.view host.new) }
+{
+    let mut out = Printer::new(false);
+    out.line(host, line);
+    printed(&out)
+}
+
+/// Prints a line for each file of a disk.
+///
+/// # Errors
+/// `HostFault` if the host failed; `NoMemory`.
+pub(crate) fn print_files<H: Host>(host: &mut H, image: &CleanImage) -> Result<(), Refusal>
+    requires clean { IsCleanImage image.now }
+    ensures sends { SendsOutput (output_of (file_lines image.now) None None) [] (refusal_of result) (H.view host.old) (H.view host.new) }
+{
+    let mut out = Printer::new(false);
+    for k in 0..MOST_FILES {
+        print_file(&mut out, host, image, k);
+    }
+    printed(&out)
+}
+
+// Prints the line of the file at a place in the order of names, if there is one.
+fn print_file<H: Host>(out: &mut Printer, host: &mut H, image: &CleanImage, k: usize)
+    ensures prints { Prints out.old out.new (H.view host.old) (H.view host.new) (if out.old.plain then [] else line_at k image.now) }
+{
+    match image.file_at(k) {
+        Some((name, size)) => out.line(host, &file_line(name.as_slice(), size)),
+        None => {}
+    }
+}
+
+// Whether all that was printed was sent.
+fn printed(out: &Printer) -> Result<(), Refusal>
+    ensures refused { refusal_of result ≡ option_map host_refusal out.now.failure }
+{
+    match out.failed() {
+        None => Ok(()),
+        Some(fault) => Err(Refusal::from(fault)),
+    }
+}

@@ -1,5 +1,0 @@
-use Rattle.xinu_run.proofs.Statuses.{says_of_files}
-use Rattle.xinu_run.proofs.laws.statuses_say_of_files.Goals as goal
-
-pub returns : goal.returns
-returns c = says_of_files

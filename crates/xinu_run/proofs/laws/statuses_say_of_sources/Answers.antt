@@ -1,5 +1,0 @@
-use Rattle.xinu_run.proofs.AsmStatuses.{says_of_source}
-use Rattle.xinu_run.proofs.laws.statuses_say_of_sources.Goals as goal
-
-pub returns : goal.returns
-returns c = says_of_source

@@ -1,5 +1,0 @@
-use Rattle.xinu_run.proofs.WrittenFiles.{written_files-load}
-use Rattle.xinu_run.proofs.laws.written_files_load.Goals as goal
-
-pub returns : goal.returns
-returns c = written_files-load
