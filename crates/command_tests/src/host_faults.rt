@@ -59,20 +59,20 @@ fn prints(
 }
 
 // How many lines a run sends during which a call failed, if they are those of the whole run.
-fn lines_before(alloc: Global, call: u64) -> Result<usize, Fail> {
+fn lines_before(alloc: Global, call: u64) -> Result<u64, Fail> {
     let (status, host) = after(alloc, &RUN, call, 0)?;
     let out = host.sent(Channel::Out);
     if status != 3 || !EXITED.as_bytes().starts_with(out) {
         return Err("another run")?;
     }
-    Ok(out.iter().filter(|b| **b == b'\n').count())
+    Ok(out.iter().filter(|b| **b == b'\n').count() as u64)
 }
 
 // The schedule and the image are fetched, and then each line is sent.
 #[test]
 fn a_failing_call_ends_the_run(rt: HostRuntime) -> Result<(), Fail> {
-    for (call, lines) in [(1, 0), (2, 0), (3, 0), (4, 1), (9, 6), (14, 11)] {
-        assert_eq!(rt; lines_before(rt.alloc(), call)?, lines);
+    for call in 1..15 {
+        assert_eq!(rt; lines_before(rt.alloc(), call)?, call.saturating_sub(3));
     }
     Ok(())
 }
