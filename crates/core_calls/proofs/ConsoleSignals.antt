@@ -12,7 +12,7 @@ use Rattle.tty_driver.specs.Transmitting.{count_by}
 use Rattle.xinu_base.specs.Constants.{OK, SYSERR}
 use Rattle.xinu_laws.proofs.Consoles.Characters.{received_goes, controlled_goes}
 use Rattle.xinu_laws.proofs.Preserve.Events.{sending_keeps}
-use Rattle.xinu_laws.specs.Moves.{ready_all}
+use Rattle.xinu_model.specs.Process.Scheduling.{ready_all}
 use Rattle.xinu_laws.specs.Preserve.{KeepsAll}
 use Rattle.xinu_model.specs.Console.Controls.{after_control, controlled}
 use Rattle.xinu_model.specs.Console.Receiving.{received}

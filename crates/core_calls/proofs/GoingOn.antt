@@ -9,9 +9,8 @@ use Rattle.xinu_base.specs.declared.processes.Rest.TheVariants.{Nothing, PtRecv,
 use Rattle.xinu_base.specs.declared.semaphores.Owner.{Owner}
 use Rattle.xinu_base.specs.declared.semaphores.Owner.TheVariants as owner
 use Rattle.xinu_laws.proofs.Lists.Counts.{count_behind, first_is_counted}
-use Rattle.xinu_laws.specs.Moves.{ready_all}
 use Rattle.xinu_model.specs.Machine.{CallState, reply_at_unblock}
-use Rattle.xinu_model.specs.Process.Scheduling.{ready}
+use Rattle.xinu_model.specs.Process.Scheduling.{ready, ready_all}
 use Rattle.xinu_model.specs.Semaphores.Waiting.{emptied, signal_first, signalled}
 use Rattle.xinu_model.specs.Sound.Tables.{asks_input, asks_output, count_in, FitsDevice, FitsOwner, IsForPort, IsInside}
 use Rattle.xinu_model.specs.Tables.{process_at, semaphore_at, Tables}

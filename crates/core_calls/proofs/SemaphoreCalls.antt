@@ -5,9 +5,8 @@ use Rattle.semaphores.specs.Counts.{tokens_of}
 use Rattle.semaphores.specs.Signals.{answer_to, signal_answer}
 use Rattle.semaphores.specs.declared.waiting.Signalled.TheVariants.{Full, Released}
 use Rattle.xinu_base.specs.Constants.{OK, SYSERR}
-use Rattle.xinu_laws.specs.Moves.{ready_all}
 use Rattle.xinu_model.specs.Machine.{CallState, refused, returns, start, unblock_all_with, with_tables, Xinu}
-use Rattle.xinu_model.specs.Process.Scheduling.{ready}
+use Rattle.xinu_model.specs.Process.Scheduling.{ready, ready_all}
 use Rattle.xinu_model.specs.Semaphores.Calls.{semdelete, semreset, signal, signaln}
 use Rattle.xinu_model.specs.Semaphores.Counts.{count_of, is_good, most_tokens, with_semaphore, with_tokens}
 use Rattle.xinu_model.specs.Semaphores.Waiting.{emptied_with, signal_first, signalled, signalled_times}

@@ -3,9 +3,8 @@ use Rattle.std.proofs.Common.{◌≡◌, ◌∙◌, ℕ, Bool, true, false, not,
 use Rattle.std.specs.List.{AllByRecursion, filter}
 use Rattle.std.proofs.lemmas.Bool.{cases_Bool, cases_eq, false≢true}
 use Rattle.std.proofs.lemmas.Bool.Decides.{nat_tests}
-use Rattle.xinu_laws.specs.Moves.{ready_all}
 use Rattle.xinu_model.specs.Clock.{due}
-use Rattle.xinu_model.specs.Process.Scheduling.{ready}
+use Rattle.xinu_model.specs.Process.Scheduling.{ready, ready_all}
 use Rattle.xinu_model.specs.Tables.{Tables, entries_without}
 use Rattle.delta_clock.specs.Wakeups.{not_due}
 

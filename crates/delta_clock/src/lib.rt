@@ -15,7 +15,7 @@
 //!
 //! `lists` and `others` say which queues change; `fits` that lists and processes go on fitting. For the crates above `proofs/Ready` has the
 //! law `ready_due`: that the due become ready is the machine's step, whether or not they have left the sleepers before. The crate depends on
-//! `process_core`, `queue_table` and the definition `ready_all` of `xinu_laws`.
+//! `process_core` and `queue_table`.
 #![tactic(auto)]
 
 mod clock;

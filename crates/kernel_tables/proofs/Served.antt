@@ -7,13 +7,12 @@ use Rattle.xinu_base.specs.declared.processes.Rest.{Rest}
 use Rattle.xinu_base.specs.declared.processes.Rest.TheVariants.{Nothing, Receive, Timed, SelfSuspend, GetBuf, PtSend, PtRecv, TtyGet, TtyPut, TtyRead, TtyWrite, Disk}
 use Rattle.xinu_base.specs.declared.processes.Span.{Span}
 use Rattle.xinu_base.specs.declared.processes.State.TheVariants.{Ready, Current}
-use Rattle.xinu_laws.specs.Moves.{ready_all}
 use Rattle.xinu_model.specs.Calls.{continued}
 use Rattle.xinu_model.specs.Clock.{a_tick_later, quantum_falls}
 use Rattle.xinu_model.specs.Machine.{CallState, with_tables, Xinu}
 use Rattle.xinu_model.specs.Messages.{can_get, delivered, go_on_receive, listens, sent}
 use Rattle.xinu_model.specs.Process.Calls.{is_ready, with_priority}
-use Rattle.xinu_model.specs.Process.Scheduling.{dispatch_first, in_state, is_current, keeps_cpu, preempt, ready, resched}
+use Rattle.xinu_model.specs.Process.Scheduling.{dispatch_first, in_state, is_current, keeps_cpu, preempt, ready, resched, ready_all}
 use Rattle.xinu_model.specs.Tables.{InReady, message_at, move_to, no_process, Nowhere, Place, process_at, state_at, Tables}
 use Rattle.kernel_tables.specs.Served.{AreServed, IsServed}
 

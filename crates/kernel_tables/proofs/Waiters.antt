@@ -18,11 +18,10 @@ use Rattle.xinu_base.specs.declared.processes.State.TheVariants.{Waiting}
 use Rattle.xinu_base.specs.declared.semaphores.Owner.{Owner}
 use Rattle.xinu_base.specs.declared.semaphores.Owner.TheVariants.{Device}
 use Rattle.xinu_model.specs.Machine.{Xinu}
-use Rattle.xinu_model.specs.Process.Scheduling.{in_state}
+use Rattle.xinu_model.specs.Process.Scheduling.{in_state, ready_all}
 use Rattle.xinu_model.specs.Semaphores.Counts.{count_of, free_semaphore, make_semaphore, most_tokens, with_semaphore, with_tokens}
 use Rattle.xinu_model.specs.Sound.Tables.{count_in, FitsOwner, IsInside, IsSoundTables}
 use Rattle.xinu_model.specs.Tables.{InSemaphore, message_at, move_to, no_process, no_semaphore, Place, process_at, Semaphore, semaphore_at, Tables}
-use Rattle.xinu_laws.specs.Moves.{ready_all}
 use Rattle.xinu_laws.proofs.Lists.Counts.{first_is_counted}
 use Rattle.xinu_laws.proofs.Lists.Searches.{search_within}
 use Rattle.xinu_laws.proofs.Preserve.{current_within, waits_hold}

@@ -8,8 +8,7 @@ use Rattle.delta_clock.specs.Wakeups.{AreOut, not_due}
 use Rattle.delta_clock.proofs.Ready.{ready_due}
 use Rattle.process_core.specs.Fits.{Fits}
 use Rattle.process_core.specs.Tables.{Beside, ProcessTable, tables_of}
-use Rattle.xinu_laws.specs.Moves.{ready_all}
-use Rattle.xinu_model.specs.Process.Scheduling.{ready, resched}
+use Rattle.xinu_model.specs.Process.Scheduling.{ready, resched, ready_all}
 use Rattle.xinu_model.specs.Tables.{Tables}
 use Rattle.xinu_model.specs.Clock.{a_tick_later, due}
 use Rattle.xinu_laws.proofs.Tables.Ticks.{ticks_ready}

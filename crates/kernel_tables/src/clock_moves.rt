@@ -5,7 +5,7 @@
 ghost use Rattle.std.specs.Prelude.{◌≡◌, ◌≢◌, ◌≤◌, ◌+◌, ◌/◌, ◌<◌, ◌≤ℤ◌, pos};
 ghost use Rattle.kernel_tables.specs.Waking.{are_any};
 ghost use Rattle.process_core.specs.Tables.{wake_tick};
-ghost use Rattle.xinu_laws.specs.Moves.{ready_all};
+ghost use Rattle.xinu_model.specs.Process.Scheduling.{ready_all};
 ghost use Rattle.xinu_model.specs.Clock.{a_tick_later, due, quantum_falls};
 ghost use Rattle.xinu_model.specs.Tables.{InSleepers, message_at, move_to, process_at, state_at};
 

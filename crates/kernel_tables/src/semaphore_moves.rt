@@ -6,7 +6,7 @@ ghost use Rattle.std.specs.Prelude.{◌≡◌, ◌≢◌, ◌≤◌, ◌+◌, �
 ghost use Rattle.kernel_tables.specs.Served.{IsServed};
 ghost use Rattle.semaphores.specs.Counts.{number_for, tokens_of, two_numbers, with_made, with_two};
 ghost use Rattle.semaphores.specs.Signals.{after_signal, signal_answer};
-ghost use Rattle.xinu_laws.specs.Moves.{ready_all};
+ghost use Rattle.xinu_model.specs.Process.Scheduling.{ready_all};
 ghost use Rattle.xinu_model.specs.Semaphores.Counts.{count_of, is_good, most_tokens, with_semaphore, with_tokens};
 ghost use Rattle.xinu_model.specs.Sound.Tables.{FitsOwner, IsInside};
 ghost use Rattle.xinu_model.specs.Tables.{InSemaphore, message_at, move_to, no_semaphore, process_at, semaphore_at, state_at};

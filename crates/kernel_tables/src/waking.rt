@@ -9,7 +9,7 @@ ghost use Rattle.process_core.specs.Fits.{Fits};
 ghost use Rattle.process_core.specs.Tables.{Beside, tables_of};
 ghost use Rattle.queue_table.specs.Lists.{list_at};
 ghost use Rattle.queue_table.specs.Table as table;
-ghost use Rattle.xinu_laws.specs.Moves.{ready_all};
+ghost use Rattle.xinu_model.specs.Process.Scheduling.{ready_all};
 ghost use Rattle.xinu_model.specs.Process.Scheduling as model;
 
 use process_core::Procs;

@@ -7,7 +7,7 @@ use Rattle.queue_table.specs.declared.table.QueueTable.{QueueTable}
 use Rattle.queue_table.specs.Table.{lists}
 use Rattle.queue_table.specs.Lists.{Entry, first_process, list_at, place, rest_of, with_list}
 use Rattle.queue_table.proofs.Laws.{below_P, disjoint, first_is, first_placed, place-some}
-use Rattle.xinu_laws.specs.Moves.{ready_all}
+use Rattle.xinu_model.specs.Process.Scheduling.{ready_all}
 use Rattle.xinu_model.specs.Tables.{Nowhere, message_at, move_to, process_at}
 use Rattle.process_core.proofs.Lengths.{short}
 use Rattle.process_core.specs.Fits.{Fits}

@@ -23,7 +23,7 @@
 //! | `forget_waiter` | `waits`: p is in the queue of a semaphore; `counts` | `forgotten`: the machine moves p out of all lists; `absent`: p is in none |
 //!
 //! `others` says which queues stay. For the crates above `proofs/Counting` has what is read off the entries (`seen_at`, `count_at`,
-//! `owner_at`). The crate depends on `process_core`, `queue_table` and the definition `ready_all` of `xinu_laws`.
+//! `owner_at`). The crate depends on `process_core` and `queue_table`.
 #![tactic(auto)]
 
 mod sems;

@@ -8,8 +8,7 @@ ghost use Rattle.process_core.specs.Tables.{Beside, ProcessTable, numbers, proce
 ghost use Rattle.queue_table.specs.Lists.{all_without, first_process, list_at, place, rest_of};
 ghost use Rattle.queue_table.specs.Table as table;
 ghost use Rattle.xinu_base.specs.declared.processes.Process.{Process};
-ghost use Rattle.xinu_laws.specs.Moves.{ready_all};
-ghost use Rattle.xinu_model.specs.Process.Scheduling.{in_state};
+ghost use Rattle.xinu_model.specs.Process.Scheduling.{in_state, ready_all};
 ghost use Rattle.xinu_model.specs.Semaphores.Counts.{most_tokens, with_tokens};
 ghost use Rattle.xinu_model.specs.Tables.{InSemaphore, Nowhere, message_at, move_to, process_at, semaphore_at};
 

@@ -4,7 +4,7 @@
 //!
 //! | What | Promise |
 //! |---|---|
-//! | [`Pid`], [`Sem`], [`PoolId`], [`Port`], [`Dev`] | seen as numbers: `from_word` gives one if and only if the word is below the bound, `index` gives it back |
+//! | [`Below`]: [`Pid`], [`Sem`], [`PoolId`], [`Port`], [`Dev`] | seen as numbers: `from_word` gives one if and only if the word is below the bound, `index` gives it back |
 //! | [`call_name`], [`call_args`], [`is_built`] | the name and the number of arguments of a call, and whether the kernel has it: the table `syscalls` in `specs/Syscalls.antt` |
 //! | [`is_built_device`] | whether the machine has a device; a call on any other is refused (`is_served`) |
 //! | all other types | plain data: a contract sees their fields |
@@ -31,7 +31,7 @@ pub use devices::{Kind, Op};
 pub use events::{End, Event};
 pub use files::OpenMode;
 pub use lines::{FileMoment, TranscriptLine};
-pub use numbers::{Dev, Pid, PoolId, Port, Sem};
+pub use numbers::{Below, Dev, Pid, PoolId, Port, Sem};
 pub use processes::{PortTicket, Process, Rest, Span, State};
 pub use registers::{Cause, Hart, Outcome};
 pub use semaphores::Owner;

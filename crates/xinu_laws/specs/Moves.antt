@@ -1,11 +1,10 @@
 -- When a process may move to another state and place, and become ready.
-use Rattle.std.specs.Prelude.{◌≡◌, ◌≢◌, ℕ, ◌<◌, List, [], ◌∷◌, Option}
+use Rattle.std.specs.Prelude.{◌≡◌, ◌≢◌, ℕ, ◌<◌, Option}
 use Rattle.xinu_base.specs.Constants.{NPROC, NSEM}
 use Rattle.xinu_base.specs.declared.processes.Process.{Process}
 use Rattle.xinu_base.specs.declared.processes.Rest.TheVariants.{Nothing}
 use Rattle.xinu_base.specs.declared.processes.State.{State}
 use Rattle.xinu_base.specs.declared.processes.State.TheVariants.{Free, Current}
-use Rattle.xinu_model.specs.Process.Scheduling.{ready}
 use Rattle.xinu_model.specs.Sound.Tables.{ready_places, waiting_places, sleeping_places, CanRun, HoldsFor, FitsMessage, FitsOwner, IsFixed}
 use Rattle.xinu_model.specs.Tables.{Tables, process_at, state_at, message_at, semaphore_at, Place, InReady, InSemaphore, InSleepers}
 
@@ -49,8 +48,3 @@ pub record CanBeReady (t : Tables) (q : ℕ) : Type 0 where
   pub alive : state_at t q ≢ Free
   pub idle : state_at t q ≢ Current
   pub holds : HoldsFor (process_at t q).rest (message_at t q)
-
--- these processes become ready, one after another
-abbrev pub ready_all : List ℕ → Tables → Tables
-ready_all [] t = t
-ready_all (p ∷ ps) t = ready_all ps (ready p t)

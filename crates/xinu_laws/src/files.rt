@@ -92,7 +92,7 @@ pub fn file_calls_answer()
         pos 4 ∷ OK ∷ pos 1 ∷ SYSERR ∷ OK ∷ pos 65 ∷ EOF ∷ OK ∷ pos 0 ∷ SYSERR ∷ OK ∷ OK ∷ SYSERR ∷ SYSERR ∷ [] }
     ensures nothing_left { after_tasks one_file (blank_files 256) ≡ blank_files 256 }
     ensures full_disk { replies_to full_disk (blank_files 14) ≡ pos 4 ∷ pos 2048 ∷ pos 5 ∷ pos 1536 ∷ SYSERR ∷ [] }
-    ensures big_file { replies_to big_file (blank_files 256) ≡ pos 4 ∷ pos 8193 ∷ OK ∷ pos 4 ∷ pos 8191 ∷ pos 2 ∷ OK ∷ EOF ∷ OK ∷ [] }
+    ensures big_file { replies_to big_file (blank_files 256) ≡ pos 4 ∷ pos 8193 ∷ OK ∷ pos 4 ∷ OK ∷ pos 2 ∷ OK ∷ EOF ∷ OK ∷ [] }
     ensures modes { replies_to modes (blank_files 256) ≡ SYSERR ∷ pos 4 ∷ SYSERR ∷ OK ∷ OK ∷ SYSERR ∷ pos 4 ∷ SYSERR ∷ pos 65 ∷ OK ∷
         pos 4 ∷ SYSERR ∷ OK ∷ [] }
     ensures seventh { replies_to seven_opens (blank_files 256) ≡ pos 4 ∷ pos 5 ∷ pos 6 ∷ pos 7 ∷ pos 8 ∷ pos 9 ∷ SYSERR ∷ OK ∷ pos 6 ∷ [] }

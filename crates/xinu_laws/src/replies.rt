@@ -10,7 +10,7 @@ ghost use Rattle.xinu_base.specs.declared.processes.Rest.TheVariants.{PtSend, Pt
 ghost use Rattle.xinu_base.specs.declared.processes.Span.{Span};
 ghost use Rattle.xinu_base.specs.declared.processes.State.TheVariants.{Ready};
 ghost use Rattle.xinu_laws.specs.Consoles.{IsAtEnd};
-ghost use Rattle.xinu_laws.specs.Moves.{ready_all};
+ghost use Rattle.xinu_model.specs.Process.Scheduling.{ready_all};
 ghost use Rattle.xinu_laws.specs.GivingAway.{next};
 ghost use Rattle.xinu_laws.specs.Refusals.{AnswersFirst, IsCalling, IsRefused, LeavesRefused, LeavesRefusedEffect, value_told};
 ghost use Rattle.xinu_model.specs.Calls.{call_of_number, continued};

@@ -83,7 +83,7 @@ read_gives s d n f at may some ahead =
 
 -- a seek up to the end
 pub seek_moves : (s : FileSystem) (d n : ℕ) (f : OpenFile) → open_at s d ≡ Some f → n ≤ length (open_bytes f s)
-    → file_effect (Seek d (pos n)) [] s ≡ replies (pos n) (moved d f n s)
+    → file_effect (Seek d (pos n)) [] s ≡ replies (pos 0) (moved d f n s)
 seek_moves s d n f at within =
     ap (λ x. on_open x (λ f. seek_file d (pos n) f s) s) at
     ∙ cond-false (nat_lt (length (open_bytes f s)) n) _ _ (le-ltb (length (open_bytes f s)) n within)

@@ -4,11 +4,10 @@ use Rattle.xinu_base.specs.declared.processes.Process.{Process}
 use Rattle.xinu_base.specs.declared.processes.State.TheVariants.{Ready}
 use Rattle.xinu_base.specs.declared.semaphores.Owner.TheVariants as owner
 use Rattle.xinu_base.specs.Constants.{OK}
-use Rattle.xinu_laws.specs.Moves.{ready_all}
 use Rattle.xinu_laws.specs.Preserve.{AreAlive}
 use Rattle.xinu_laws.proofs.Tables.Alive.{alive_emptied}
 use Rattle.xinu_model.specs.Machine.{Xinu, CallState}
-use Rattle.xinu_model.specs.Process.Scheduling.{in_state, ready}
+use Rattle.xinu_model.specs.Process.Scheduling.{in_state, ready, ready_all}
 use Rattle.xinu_model.specs.Ports.Queues.{PortQueue}
 use Rattle.xinu_model.specs.Semaphores.Waiting.{emptied}
 use Rattle.xinu_model.specs.Sound.Tables.{IsSoundTables}

@@ -8,9 +8,8 @@ use Rattle.xinu_base.specs.declared.processes.Process.{Process}
 use Rattle.xinu_base.specs.declared.processes.Rest.{Rest}
 use Rattle.xinu_base.specs.declared.processes.Rest.TheVariants.{Nothing}
 use Rattle.xinu_base.specs.declared.processes.State.TheVariants.{Ready}
-use Rattle.xinu_laws.specs.Moves.{ready_all}
 use Rattle.xinu_model.specs.Machine.{Xinu, CallState, CallResult, start, reply_at_unblock, unblock_with, unblock_all_with}
-use Rattle.xinu_model.specs.Process.Scheduling.{in_state, ready}
+use Rattle.xinu_model.specs.Process.Scheduling.{in_state, ready, ready_all}
 use Rattle.xinu_model.specs.Semaphores.Calls.{semdelete, semreset}
 use Rattle.xinu_model.specs.Semaphores.Counts.{with_semaphore, is_good}
 use Rattle.xinu_model.specs.Semaphores.Waiting.{signal_first, signalled, signalled_times, emptied_with}

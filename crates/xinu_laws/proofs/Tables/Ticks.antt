@@ -5,10 +5,10 @@ use Rattle.std.specs.List.{AllByRecursion}
 use Rattle.std.proofs.lemmas.Bool.{cases_eq, cond_both, eq-eqb}
 use Rattle.xinu_base.specs.declared.processes.State.{State}
 use Rattle.xinu_base.specs.declared.processes.State.TheVariants.{Free, Current, Receiving, Sleeping, Timed}
-use Rattle.xinu_laws.specs.Moves.{CanBeReady, ready_all}
+use Rattle.xinu_laws.specs.Moves.{CanBeReady}
 use Rattle.xinu_model.specs.Clock.{due, quantum_falls, wakeup, a_tick_later, ticked}
 use Rattle.xinu_model.specs.Machine.{Xinu, start}
-use Rattle.xinu_model.specs.Process.Scheduling.{ready, resched}
+use Rattle.xinu_model.specs.Process.Scheduling.{ready, resched, ready_all}
 use Rattle.xinu_model.specs.Sound.Tables.{entries_of, IsInside, IsSoundTables}
 use Rattle.xinu_model.specs.Tables.{Tables, state_at, entries_without}
 use Rattle.xinu_laws.proofs.Tables.Scheduling.{sleeping_of, holds_at, inside_quantum, inside_ticks, sound_resched}

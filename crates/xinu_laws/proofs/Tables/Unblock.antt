@@ -6,9 +6,9 @@ use Rattle.std.proofs.lemmas.List.{take_all}
 use Rattle.xinu_base.specs.Constants.{OK}
 use Rattle.xinu_base.specs.declared.processes.Process.{Process}
 use Rattle.xinu_base.specs.declared.processes.State.TheVariants.{Free, Current, Ready, Waiting}
-use Rattle.xinu_laws.specs.Moves.{CanBeReady, ready_all}
+use Rattle.xinu_laws.specs.Moves.{CanBeReady}
 use Rattle.xinu_model.specs.Machine.{Xinu, CallState, unblock_with, unblock_all, unblock_all_with}
-use Rattle.xinu_model.specs.Process.Scheduling.{in_state, ready}
+use Rattle.xinu_model.specs.Process.Scheduling.{in_state, ready, ready_all}
 use Rattle.xinu_model.specs.Semaphores.Counts.{with_tokens}
 use Rattle.xinu_model.specs.Semaphores.Waiting.{signal_first, signalled, signalled_times, emptied, emptied_with}
 use Rattle.xinu_model.specs.Sound.Tables.{count_in, HasOneKind, HoldsFor, IsInside, IsSoundTables}

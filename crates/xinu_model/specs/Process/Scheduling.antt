@@ -19,6 +19,11 @@ in_state state x = record x { state = state }
 abbrev pub ready : ℕ → Tables → Tables
 ready p t = move_to p (in_state Ready (process_at t p)) (message_at t p) InReady t
 
+-- these processes become ready, one after another
+abbrev pub ready_all : List ℕ → Tables → Tables
+ready_all [] t = t
+ready_all (p ∷ ps) t = ready_all ps (ready p t)
+
 -- p becomes the current process, with a fresh quantum
 abbrev pub dispatch : ℕ → Tables → Tables
 dispatch p t = move_to p (in_state Current (process_at t p)) (message_at t p) Nowhere (record t { current = p; quantum = QUANTUM })

@@ -2,8 +2,7 @@ use Rattle.std.proofs.Common.{◌∙◌, ◌<◌, sym, ap, arith, take}
 use Rattle.queue_table.specs.Lists.{list_at, rest_of}
 use Rattle.queue_table.specs.Table.{lists}
 use Rattle.queue_table.proofs.Laws.{first_is, first_none, place_rest, rest_of_none}
-use Rattle.xinu_laws.specs.Moves.{ready_all}
-use Rattle.xinu_model.specs.Process.Scheduling.{ready}
+use Rattle.xinu_model.specs.Process.Scheduling.{ready, ready_all}
 use Rattle.process_core.specs.Tables.{numbers, tables_of}
 use Rattle.process_core.proofs.Moves.{ready-left}
 use Rattle.semaphores.proofs.Releasing.{first_left, first_left_fits}

@@ -2,7 +2,7 @@ use Rattle.std.proofs.Common.{◌≡◌, ◌≢◌, ◌∙◌, Some, ap, sym, su
 use Rattle.queue_table.specs.Table.{lists}
 use Rattle.process_core.proofs.Inside.{inside_fits}
 use Rattle.semaphores.specs.Counts.{beside}
-use Rattle.xinu_laws.specs.Moves.{ready_all}
+use Rattle.xinu_model.specs.Process.Scheduling.{ready_all}
 use Rattle.xinu_model.specs.Semaphores.Counts.{with_semaphore}
 use Rattle.xinu_model.specs.Sound.Tables.{IsInside, IsSoundTables}
 use Rattle.xinu_base.specs.declared.semaphores.Owner.TheVariants.{Device}

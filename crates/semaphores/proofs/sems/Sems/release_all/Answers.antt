@@ -4,7 +4,7 @@ use Rattle.std.proofs.lemmas.List.{drop_all, take_all}
 use mir.Val.{SFits}
 use Rattle.queue_table.specs.Lists.{list_at}
 use Rattle.queue_table.specs.Table.{lists}
-use Rattle.xinu_laws.specs.Moves.{ready_all}
+use Rattle.xinu_model.specs.Process.Scheduling.{ready_all}
 use Rattle.xinu_model.specs.Semaphores.Counts.{with_tokens}
 use Rattle.process_core.proofs.Lengths.{short}
 use Rattle.process_core.specs.Tables.{numbers, tables_of}

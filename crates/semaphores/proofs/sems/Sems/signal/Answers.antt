@@ -2,7 +2,7 @@ use Rattle.std.proofs.Common.{◌≡◌, ◌∙◌, suc, ℤ, pos, ◌+ℤ◌, i
 use Rattle.queue_table.specs.Lists.{Entry, list_at, rest_of}
 use Rattle.queue_table.specs.Table.{lists}
 use Rattle.queue_table.proofs.Laws.{first_is, first_none}
-use Rattle.xinu_laws.specs.Moves.{ready_all}
+use Rattle.xinu_model.specs.Process.Scheduling.{ready_all}
 use Rattle.xinu_model.specs.Semaphores.Counts.{count_of, most_tokens, with_tokens}
 use Rattle.xinu_model.specs.Tables.{Semaphore, semaphore_at}
 use Rattle.process_core.specs.Tables.{numbers, tables_of}

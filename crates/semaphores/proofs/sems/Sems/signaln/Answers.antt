@@ -2,7 +2,7 @@ use Rattle.std.proofs.Common.{◌≡◌, ◌∙◌, ◌-◌, ◌+◌, pos, ◌+�
 use Rattle.std.proofs.lemmas.List.{length-drop}
 use Rattle.queue_table.specs.Lists.{list_at}
 use Rattle.queue_table.specs.Table.{lists}
-use Rattle.xinu_laws.specs.Moves.{ready_all}
+use Rattle.xinu_model.specs.Process.Scheduling.{ready_all}
 use Rattle.xinu_model.specs.Semaphores.Counts.{with_tokens}
 use Rattle.xinu_model.specs.Tables.{semaphore_at}
 use Rattle.process_core.specs.Tables.{numbers, tables_of}
