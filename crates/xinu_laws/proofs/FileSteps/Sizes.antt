@@ -70,7 +70,7 @@ gets d f s =
 seeks : (d : ℕ) (n : ℤ) (f : OpenFile) (s : FileSystem) → Few 0 (seek_file d n f s)
 seeks d (negsuc n) f s = none
 seeks d (pos n) f s =
-    cond_both (nat_lt (length (open_bytes f s)) n) (refused_effect s) (replies (pos n) (moved d f n s)) (Few 0) (λ _. none) (λ _. none)
+    cond_both (nat_lt (length (open_bytes f s)) n) (refused_effect s) (replies OK (moved d f n s)) (Few 0) (λ _. none) (λ _. none)
 
 writes : (d : ℕ) (bytes : List ℕ) (f : OpenFile) (s : FileSystem) → Few 0 (write_file d bytes f s)
 writes d bytes f s =

@@ -4,6 +4,7 @@ use Rattle.std.specs.Prelude.{nat_le, nat_lt}
 use Rattle.std.specs.List.{AllByRecursion}
 use Rattle.std.proofs.lemmas.Bool.{cond_both, or_parts, not-false, leb-false, ltb-false}
 use Rattle.std.proofs.lemmas.List.{length-append, length-take, length-drop}
+use Rattle.xinu_base.specs.Constants.{OK}
 use Rattle.xinu_base.specs.declared.files.OpenMode.{OpenMode}
 use Rattle.xinu_laws.proofs.FileSystems.Devices.{at_each, none_counted, device_beside, has_file, others_differ, not_open, once_written}
 use Rattle.xinu_laws.proofs.FileSystems.Orders.{same_bytes}
@@ -245,7 +246,7 @@ getc_keeps s sound d f at within =
 seek_keeps : (s : FileSystem) → IsSoundFiles s → (d : ℕ) (n : ℤ) (f : OpenFile) → open_at s d ≡ Some f → Keeps (seek_file d n f s)
 seek_keeps s sound d (negsuc n) f at = sound
 seek_keeps s sound d (pos n) f at =
-    cond_both (nat_lt (length (open_bytes f s)) n) (refused_effect s) (replies (pos n) (moved d f n s)) Keeps (λ _. sound)
+    cond_both (nat_lt (length (open_bytes f s)) n) (refused_effect s) (replies OK (moved d f n s)) Keeps (λ _. sound)
     (λ e. sound_moved s d f n at (ltb-false (length (open_bytes f s)) n e) sound)
 
 write_keeps : (s : FileSystem) → IsSoundFiles s → (d : ℕ) (bytes : List ℕ) (f : OpenFile) → open_at s d ≡ Some f

@@ -114,10 +114,10 @@ gets s d f =
 seeks : (s : FileSystem) (d : ℕ) (n : ℤ) (f : OpenFile) → Spares s (bytes_eq f.name) (Some d) (seek_file d n f s)
 seeks s d (negsuc n) f = spares_all s (bytes_eq f.name) (Some d) SYSERR
 seeks s d (pos n) f =
-    cond_both (nat_lt (length (open_bytes f s)) n) (refused_effect s) (replies (pos n) (moved d f n s))
+    cond_both (nat_lt (length (open_bytes f s)) n) (refused_effect s) (replies OK (moved d f n s))
     (Spares s (bytes_eq f.name) (Some d))
     (λ _. spares_all s (bytes_eq f.name) (Some d) SYSERR)
-    (λ _. spares_done s (bytes_eq f.name) (Some d) (replies (pos n) (moved d f n s)) n refl refl (λ other _. refl)
+    (λ _. spares_done s (bytes_eq f.name) (Some d) (replies OK (moved d f n s)) 0 refl refl (λ other _. refl)
     (λ i ne. beside s d i (Some (record f { position = n })) ne))
 
 writes : (s : FileSystem) (d : ℕ) (bytes : List ℕ) (f : OpenFile) → Spares s (bytes_eq f.name) (Some d) (write_file d bytes f s)
