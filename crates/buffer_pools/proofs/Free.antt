@@ -7,7 +7,7 @@ use Rattle.std.proofs.lemmas.List.{reverse-append}
 use Rattle.std.proofs.lemmas.List.Sorted.{IsPermutation-reverse, list_any-IsPermutation}
 use Rattle.xinu_model.specs.Pools.Buffers.{BufferPool, addresses, buffers, is_held, is_in, new_pool, with_free}
 use Rattle.xinu_model.specs.Sound.Tables.{count_in}
-use Rattle.xinu_laws.proofs.Pools.Buffers.{buffers_distinct, held_put_back, held_taken, is_out_uncounted, new_pool_buffers, new_pool_number}
+use Rattle.table_laws.proofs.Buffers.{buffers_distinct, held_put_back, held_taken, is_out_uncounted, new_pool_buffers, new_pool_number}
 use Rattle.buffer_pools.specs.Buffers.{HasBuffers}
 
 -- A search that compares the other way round, over the list in reverse, finds the same.

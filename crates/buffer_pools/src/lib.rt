@@ -23,7 +23,7 @@
 //! `specs/Buffers.antt`). The lists of free buffers are outside of the machine's RAM, so a process that writes into a free buffer harms
 //! nothing. `new` takes memory for twenty lists of 2048 addresses, no other call takes any. `free` costs time in proportion to the free
 //! buffers of the pools, the other calls in proportion to the pools or less. The crate depends on `xinu_base`, on the definitions of
-//! `xinu_model`, and on the laws on buffers of `xinu_laws`.
+//! `xinu_model`, and on the laws on buffers of `table_laws`.
 #![tactic(auto)]
 
 mod pool;

@@ -8,7 +8,7 @@ use Rattle.xinu_base.specs.declared.processes.Rest.{Rest}
 use Rattle.xinu_base.specs.declared.processes.Rest.TheVariants.{Nothing, PtRecv, PtSend}
 use Rattle.xinu_base.specs.declared.semaphores.Owner.{Owner}
 use Rattle.xinu_base.specs.declared.semaphores.Owner.TheVariants as owner
-use Rattle.xinu_laws.proofs.Lists.Counts.{count_behind, first_is_counted}
+use Rattle.table_laws.proofs.Lists.Counts.{count_behind, first_is_counted}
 use Rattle.xinu_model.specs.Machine.{CallState, reply_at_unblock}
 use Rattle.xinu_model.specs.Process.Scheduling.{ready, ready_all}
 use Rattle.xinu_model.specs.Semaphores.Waiting.{emptied, signal_first, signalled}

@@ -1,7 +1,7 @@
 -- Two semaphores are changed, and before each change those who wait there become ready. The first change may as well come after all have.
 use Rattle.std.proofs.Common.{◌≡◌, ◌≢◌, ◌∙◌, ℕ, List, [], ◌∷◌, set, refl, sym, ap, get_or-set_other}
 use Rattle.std.proofs.lemmas.List.{map-set}
-use Rattle.xinu_laws.proofs.Tables.Places.{semaphore_at_without}
+use Rattle.table_laws.proofs.Tables.Places.{semaphore_at_without}
 use Rattle.xinu_model.specs.Process.Scheduling.{ready, ready_all}
 use Rattle.xinu_model.specs.Semaphores.Counts.{with_semaphore}
 use Rattle.xinu_model.specs.Tables.{no_semaphore, Semaphore, semaphore_at, semaphore_without, Tables, waits_without}

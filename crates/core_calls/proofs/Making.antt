@@ -10,8 +10,8 @@ use Rattle.xinu_model.specs.Machine.{Xinu}
 use Rattle.xinu_model.specs.Process.Creation.{stack_size}
 use Rattle.xinu_model.specs.Process.Scheduling.{in_state, ready}
 use Rattle.xinu_model.specs.Tables.{InReady, message_at, no_process, Nowhere, process_at, state_at, Tables}
-use Rattle.xinu_laws.proofs.Tables.MoveTo.{state_move_other}
-use Rattle.xinu_laws.proofs.Tables.Starts.{all_are_made, none_made, same_everywhere}
+use Rattle.table_laws.proofs.Tables.MoveTo.{state_move_other}
+use Rattle.table_laws.proofs.Tables.Starts.{all_are_made, none_made, same_everywhere}
 use Rattle.xinu_laws.proofs.Preserve.Events.{sound_boot}
 use Rattle.xinu_laws.specs.Preserve.{KeepsAll}
 use Rattle.core_calls.specs.Results.{idle}

@@ -2,7 +2,7 @@
 use Rattle.std.proofs.Common.{◌≡◌, ℕ, ◌<◌, length, arith}
 use Rattle.xinu_base.specs.declared.processes.Rest.TheVariants.{GetBuf}
 use Rattle.xinu_laws.proofs.Pools.Steps.{promised_goes_on}
-use Rattle.xinu_laws.proofs.Preserve.{current_within}
+use Rattle.table_laws.proofs.Preserve.{current_within}
 use Rattle.xinu_model.specs.Machine.{Xinu}
 use Rattle.xinu_model.specs.Messages.{held}
 use Rattle.xinu_model.specs.Pools.Buffers.{pool_at}

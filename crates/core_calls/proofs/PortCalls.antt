@@ -12,8 +12,8 @@ use Rattle.xinu_base.specs.declared.processes.PortTicket.{PortTicket}
 use Rattle.xinu_base.specs.declared.processes.Process.{Process}
 use Rattle.xinu_base.specs.declared.processes.Rest.{Rest}
 use Rattle.xinu_base.specs.declared.processes.Rest.TheVariants.{PtRecv, PtSend}
-use Rattle.xinu_laws.proofs.Frame.MoveTo.{owner_move, tokens_move}
-use Rattle.xinu_laws.proofs.Tables.Owners.{owner_tokens}
+use Rattle.table_laws.proofs.Frame.MoveTo.{owner_move, tokens_move}
+use Rattle.table_laws.proofs.Tables.Owners.{owner_tokens}
 use Rattle.xinu_model.specs.Machine.{CallResult, refused, returns, start, Xinu}
 use Rattle.xinu_model.specs.Ports.Calls.{finish_receive, finish_send, ptrecv, ptsend, put_message, sent_to, take_from, take_message, ticket_of, with_messages}
 use Rattle.xinu_model.specs.Ports.Calls as model

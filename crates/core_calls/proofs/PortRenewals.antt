@@ -14,7 +14,7 @@ use Rattle.xinu_base.specs.declared.semaphores.Owner.{Owner}
 use Rattle.xinu_base.specs.declared.semaphores.Owner.TheVariants as owner
 use Rattle.xinu_base.specs.declared.processes.State.TheVariants.{Current}
 use Rattle.xinu_model.specs.Process.Scheduling.{ready_all}
-use Rattle.xinu_laws.proofs.Tables.Unblock.{owner_ready}
+use Rattle.table_laws.proofs.Tables.Unblock.{owner_ready}
 use Rattle.xinu_model.specs.Machine.{CallState, refused, returns, start, Xinu}
 use Rattle.xinu_model.specs.Ports.Calls.{cleared, deleted, disposed, emptied_port, made_port, ptcreate, ptdelete, ptreset, renewed, started_port}
 use Rattle.xinu_model.specs.Ports.Calls as model

@@ -5,7 +5,7 @@ use Rattle.xinu_base.specs.declared.processes.Rest.{Rest}
 use Rattle.xinu_base.specs.declared.processes.Span.{Span}
 use Rattle.xinu_base.specs.declared.syscalls.Next.{Next}
 use Rattle.xinu_base.specs.declared.syscalls.Next.TheVariants as next
-use Rattle.xinu_laws.specs.Preserve.{MayCall}
+use Rattle.table_laws.specs.Preserve.{MayCall}
 use Rattle.xinu_model.specs.Console.Constants.{TY_OBUFLEN}
 use Rattle.xinu_model.specs.Console.Putting.{TY_OSEM, writes}
 use Rattle.xinu_model.specs.Console.Signals.{after_sent}

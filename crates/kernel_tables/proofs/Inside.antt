@@ -11,12 +11,12 @@ use Rattle.xinu_model.specs.Process.Calls.{is_ready, with_priority}
 use Rattle.xinu_model.specs.Process.Scheduling.{in_state, ready, resched}
 use Rattle.xinu_model.specs.Sound.Tables.{CanRun, FitsMessage, HoldsFor, IsInside, IsSoundTables}
 use Rattle.xinu_model.specs.Tables.{InReady, message_at, move_to, Nowhere, Place, process_at, state_at, Tables}
-use Rattle.xinu_laws.specs.Moves.{FitsPlace, IsPlaceOf}
-use Rattle.xinu_laws.proofs.Preserve.{current_within}
-use Rattle.xinu_laws.proofs.Preserve.Processes.{is_ready_of}
-use Rattle.xinu_laws.proofs.Tables.Changes.{inside_process}
-use Rattle.xinu_laws.proofs.Tables.MoveTo.{inside_move, within_table}
-use Rattle.xinu_laws.proofs.Tables.Scheduling.{holds_at, inside_last_process, inside_quantum, inside_ready, null_rest_at, sound_resched}
+use Rattle.table_laws.specs.Moves.{FitsPlace, IsPlaceOf}
+use Rattle.table_laws.proofs.Preserve.{current_within}
+use Rattle.table_laws.proofs.Tables.States.{is_ready_of}
+use Rattle.table_laws.proofs.Tables.Changes.{inside_process}
+use Rattle.table_laws.proofs.Tables.MoveTo.{inside_move, within_table}
+use Rattle.table_laws.proofs.Tables.Scheduling.{holds_at, inside_last_process, inside_quantum, inside_ready, null_rest_at, sound_resched}
 
 -- a suspended process becomes ready
 pub inside_resumed : (t : Tables) (p : ℕ) → IsInside t → state_at t p ≡ Suspended → IsInside (ready p t)

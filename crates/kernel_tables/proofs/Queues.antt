@@ -11,7 +11,7 @@ use Rattle.semaphores.specs.Counts.{Counts}
 use Rattle.semaphores.specs.declared.sems.SemaphoreEntry.{SemaphoreEntry}
 use Rattle.xinu_model.specs.Sound.Tables.{IsInside}
 use Rattle.xinu_model.specs.Tables.{state_at}
-use Rattle.xinu_laws.proofs.Tables.Scheduling.{sleeping_of}
+use Rattle.table_laws.proofs.Tables.Scheduling.{sleeping_of}
 use Rattle.kernel_tables.specs.Queues.{ArePlaced, AreQueues}
 
 -- the state of a process, by the tables and by the process table

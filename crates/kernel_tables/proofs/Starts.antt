@@ -4,7 +4,7 @@ use Rattle.xinu_model.specs.Boot.{null_tables}
 use Rattle.xinu_model.specs.Tables.{no_process}
 use Rattle.xinu_base.specs.declared.processes.Process.{Process}
 use Rattle.std.specs.Prelude.{slice_index_or}
-use Rattle.xinu_laws.proofs.Tables.Starts.{same_everywhere}
+use Rattle.table_laws.proofs.Tables.Starts.{same_everywhere}
 use Rattle.kernel_tables.specs.Served.{AreServed, IsServed}
 
 -- nothing is left of any call

@@ -22,14 +22,14 @@ use Rattle.xinu_model.specs.Process.Scheduling.{in_state, ready_all}
 use Rattle.xinu_model.specs.Semaphores.Counts.{count_of, free_semaphore, make_semaphore, most_tokens, with_semaphore, with_tokens}
 use Rattle.xinu_model.specs.Sound.Tables.{count_in, FitsOwner, IsInside, IsSoundTables}
 use Rattle.xinu_model.specs.Tables.{InSemaphore, message_at, move_to, no_process, no_semaphore, Place, process_at, Semaphore, semaphore_at, Tables}
-use Rattle.xinu_laws.proofs.Lists.Counts.{first_is_counted}
-use Rattle.xinu_laws.proofs.Lists.Searches.{search_within}
-use Rattle.xinu_laws.proofs.Preserve.{current_within, waits_hold}
-use Rattle.xinu_laws.proofs.Preserve.Semaphores.{free_semaphore_free}
-use Rattle.xinu_laws.proofs.Tables.Changes.{inside_given_up, inside_made_semaphore, inside_tokens, owned_is_no_device, sound_token_taken}
-use Rattle.xinu_laws.proofs.Tables.MoveTo.{inside_move}
-use Rattle.xinu_laws.proofs.Tables.Scheduling.{inside_ready}
-use Rattle.xinu_laws.proofs.Tables.Unblock.{can_be_ready_waiters, can_be_ready_waiting, owner_ready, sound_ready_all, sound_signalled_times, unblock_all_ready, waiter_waits, waiters_gone}
+use Rattle.table_laws.proofs.Lists.Counts.{first_is_counted}
+use Rattle.table_laws.proofs.Lists.Searches.{search_within}
+use Rattle.table_laws.proofs.Preserve.{current_within, waits_hold}
+use Rattle.table_laws.proofs.Tables.Found.{free_semaphore_free}
+use Rattle.table_laws.proofs.Tables.Changes.{inside_given_up, inside_made_semaphore, inside_tokens, owned_is_no_device, sound_token_taken}
+use Rattle.table_laws.proofs.Tables.MoveTo.{inside_move}
+use Rattle.table_laws.proofs.Tables.Scheduling.{inside_ready}
+use Rattle.table_laws.proofs.Tables.Unblock.{can_be_ready_waiters, can_be_ready_waiting, owner_ready, sound_ready_all, sound_signalled_times, unblock_all_ready, waiter_waits, waiters_gone}
 use Rattle.kernel_tables.proofs.Sent.{with_these}
 use Rattle.kernel_tables.proofs.Served.{rests_ready, rests_ready_all, SameRests, served_move}
 use Rattle.kernel_tables.specs.Served.{AreServed, IsServed}

@@ -11,7 +11,7 @@ use Rattle.process_core.specs.Tables.{Beside, ProcessTable, tables_of}
 use Rattle.xinu_model.specs.Process.Scheduling.{ready, resched, ready_all}
 use Rattle.xinu_model.specs.Tables.{Tables}
 use Rattle.xinu_model.specs.Clock.{a_tick_later, due}
-use Rattle.xinu_laws.proofs.Tables.Ticks.{ticks_ready}
+use Rattle.table_laws.proofs.Tables.Ticks.{ticks_ready}
 use Rattle.kernel_tables.specs.Waking.{are_any}
 use Rattle.xinu_model.specs.Sound.Tables.{count_in}
 

@@ -16,7 +16,7 @@
 //!
 //! Each says that the new tables are those of the model's move on the old ones, and what it answers. What is left of a call is what the calls
 //! that are served leave (`specs/Served.antt`). `new` alone takes memory. The crate depends on `process_core`, `semaphores`, `delta_clock`,
-//! `messages` and `queue_table`, and on the laws of `xinu_laws`.
+//! `messages` and `queue_table`, and on the laws of `table_laws`.
 #![tactic(auto)]
 
 mod clock_moves;

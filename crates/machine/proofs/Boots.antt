@@ -6,7 +6,7 @@ use Rattle.std.proofs.lemmas.List.{get_or_past}
 use Rattle.xinu_base.specs.declared.processes.Process.{Process}
 use Rattle.xinu_base.specs.declared.processes.State.{State}
 use Rattle.xinu_base.specs.declared.processes.State.TheVariants.{Current, Free, Ready, Suspended}
-use Rattle.xinu_laws.proofs.Tables.Starts.{all_are_made, boots_from, none_made, same_everywhere}
+use Rattle.table_laws.proofs.Tables.Starts.{all_are_made, boots_from, none_made, same_everywhere}
 use Rattle.xinu_laws.proofs.Touches.ClockEvents.{resched_ticks}
 use Rattle.xinu_model.specs.Boot.{all_made, all_ready, all_started, boot, Boots, first_overlap, Loaded, loaded_machine, unless_overlap, where_stack, with_image}
 use Rattle.xinu_model.specs.Heap.Cells.{Stack, take_stack}

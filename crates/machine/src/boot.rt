@@ -3,7 +3,7 @@
 ghost use Rattle.std.specs.Prelude.{◌≡◌, ◌≤◌, IfOk, length, map};
 ghost use Rattle.image_loader.specs.Images.{loaded_of};
 ghost use Rattle.machine.specs.Starts.{Starts};
-ghost use Rattle.xinu_laws.specs.Apart.{IsApart};
+ghost use Rattle.xinu_laws.specs.Ownership.Apart.{IsApart};
 ghost use Rattle.xinu_model.specs.Sound.State.{IsSound};
 
 use crate::machine::Machine;

@@ -1,5 +1,4 @@
 -- What holds of the pools is kept.
-pub mod Buffers
 pub mod Calls
 pub mod Change
 pub mod Frame

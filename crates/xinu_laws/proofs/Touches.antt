@@ -27,7 +27,7 @@ use Rattle.xinu_model.specs.Console.State.{Console}
 use Rattle.xinu_model.specs.Devices.State.{Devices}
 use Rattle.xinu_model.specs.Files.Work.{FileWork}
 use Rattle.xinu_model.specs.Footprints.{Footprint}
-use Rattle.xinu_laws.specs.Frame.{Frame, StillWait, waits_at}
+use Rattle.table_laws.specs.Frame.{Frame, StillWait, waits_at}
 use Rattle.xinu_model.specs.Heap.Cells.{Heap}
 use Rattle.xinu_model.specs.Machine.{Parts, Xinu, CallResult, no_hart, refused}
 use Rattle.xinu_model.specs.Names.Mounting.{NameRow}
@@ -38,7 +38,7 @@ use Rattle.xinu_model.specs.Sound.Tables.{IsInside}
 use Rattle.xinu_model.specs.Sound.State.{IsSound}
 use Rattle.xinu_model.specs.Tables.{Tables, state_at, is_free}
 use Rattle.xinu_laws.specs.Touches.{Reach, reach, stacks_of, range_of, HasSameExtent, KeepsDevices, KeepsFree, KeepsParts, Touches}
-use Rattle.xinu_laws.proofs.Frame.{frame_same, frame_refl, frame_trans, frame_weaker}
+use Rattle.table_laws.proofs.Frame.{frame_same, frame_refl, frame_trans, frame_weaker}
 
 -- Nobody dies if tables and registers stay,
 keeps_free_same : (s u : Xinu) → u.tables ≡ s.tables → u.harts ≡ s.harts → KeepsFree s u

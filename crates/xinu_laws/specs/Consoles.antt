@@ -1,9 +1,8 @@
--- What a step of the console does to its lists, and typing as many steps.
-use Rattle.std.specs.Prelude.{◌≡◌, ℕ, true, false, List, [], ◌∷◌, ◌++◌, length}
+-- What a step of the console does to its lists.
+use Rattle.std.specs.Prelude.{◌≡◌, true, false, List, [], ◌∷◌, ◌++◌, length}
 use Rattle.xinu_base.specs.declared.console.Item.{Item}
 use Rattle.xinu_base.specs.declared.console.Item.TheVariants.{End}
 use Rattle.xinu_base.specs.declared.console.TtyMode.TheVariants.{Cooked}
-use Rattle.xinu_model.specs.Console.Receiving.{received}
 use Rattle.xinu_model.specs.Console.Rows.{Committed}
 use Rattle.xinu_model.specs.Console.State.{Console}
 use Rattle.xinu_model.specs.Console.Transmitting.{Sent}
@@ -32,8 +31,3 @@ pub record IsAtEnd (c : Console) : Type 0 where
   pub mode : c.mode ≡ Cooked
   pub items : List Item
   pub first : c.committed ≡ End ∷ items
-
--- the console after these characters
-abbrev pub typing : List ℕ → Console → Console
-typing [] c = c
-typing (b ∷ bytes) c = typing bytes (received b c).console

@@ -1,6 +1,6 @@
--- Calls on files one after another, and which file and which device a call is about.
-use Rattle.std.specs.Prelude.{ℕ, Bool, List, [], ◌∷◌, Option, Some, None, ℤ, bytes_eq}
-use Rattle.xinu_model.specs.Files.Calls.{FileCall, Open, Delete, Close, Read, Write, Getc, Putc, Seek, Truncate, Size, file_effect}
+-- Which file and which device a call on files is about.
+use Rattle.std.specs.Prelude.{ℕ, Bool, List, Option, Some, None, bytes_eq}
+use Rattle.xinu_model.specs.Files.Calls.{FileCall, Open, Delete, Close, Read, Write, Getc, Putc, Seek, Truncate, Size}
 use Rattle.xinu_model.specs.Files.Systems.{FileSystem, open_at, has_open, free_device}
 
 -- whether a call names the file of this name, or its device has it open
@@ -28,17 +28,3 @@ device_of (Putc d b) s = Some d
 device_of (Seek d n) s = Some d
 device_of (Truncate d) s = Some d
 device_of (Size d) s = Some d
-
--- a call with the bytes that it writes, if it does
-pub record FileTask : Type 0 where
-  pub call : FileCall
-  pub bytes : List ℕ
-
--- the replies to calls, and the file system after them
-abbrev pub replies_to : List FileTask → FileSystem → List ℤ
-replies_to [] s = []
-replies_to (t ∷ tasks) s = let e = file_effect t.call t.bytes s in e.reply ∷ replies_to tasks e.system
-
-abbrev pub after_tasks : List FileTask → FileSystem → FileSystem
-after_tasks [] s = s
-after_tasks (t ∷ tasks) s = after_tasks tasks (file_effect t.call t.bytes s).system

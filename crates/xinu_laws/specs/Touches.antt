@@ -7,7 +7,7 @@ use Rattle.xinu_base.specs.declared.semaphores.Owner.{Owner}
 use Rattle.xinu_base.specs.declared.semaphores.Owner.TheVariants as owner
 use Rattle.xinu_model.specs.Devices.State.{Devices}
 use Rattle.xinu_model.specs.Footprints.{Footprint, on_tables, on_pools, on_ports, on_console}
-use Rattle.xinu_laws.specs.Frame.{Frame, StillWait}
+use Rattle.table_laws.specs.Frame.{Frame, StillWait}
 use Rattle.xinu_model.specs.Heap.Cells.{Heap}
 use Rattle.xinu_model.specs.Machine.{Parts, Xinu, no_hart}
 use Rattle.xinu_model.specs.Pools.Buffers.{BufferPool, pool_bytes}

@@ -1,11 +1,10 @@
 //! The console by itself (book, chapter 15): what always holds of it, and what its steps do.
 
-ghost use Rattle.std.specs.Prelude.{◌≡◌, ◌⊎◌, ◌+◌, ◌<◌, ◌≤◌, ℕ, true, [], ◌∷◌, ◌++◌, length, replicate, Some, None};
+ghost use Rattle.std.specs.Prelude.{◌≡◌, ◌⊎◌, ◌+◌, ◌<◌, ◌≤◌, ℕ, true, [], ◌∷◌, length, Some, None};
 ghost use Rattle.xinu_base.specs.declared.console.Item.{Item};
-ghost use Rattle.xinu_base.specs.declared.console.Item.TheVariants.{Char, End};
 ghost use Rattle.xinu_base.specs.declared.console.TtyMode.TheVariants.{Cooked};
-ghost use Rattle.xinu_laws.specs.Consoles.{Appends, SameInput, SendsFirst, typing};
-ghost use Rattle.xinu_laws.specs.Examples.Typing.{raw_console, full_console, almost_full_console, silent_console};
+ghost use Rattle.xinu_laws.specs.Consoles.{Appends, SameInput, SendsFirst};
+ghost use Rattle.xinu_model.specs.Console.Typing.{typing};
 ghost use Rattle.xinu_model.specs.Console.Constants.{TY_IBUFLEN, TY_OBUFLEN, TY_BACKSP, TY_BLANK};
 ghost use Rattle.xinu_model.specs.Console.Controls.{controlled};
 ghost use Rattle.xinu_model.specs.Console.Receiving.{received};
@@ -43,29 +42,4 @@ pub fn the_first_byte_is_sent()
 pub fn erasing_undoes_typing()
     ensures undone { (b : ℕ) (c : Console) → c.mode ≡ Cooked → TY_BLANK ≤ b → input_size c + 1 < TY_IBUFLEN →
         SameInput c (typing (b ∷ TY_BACKSP ∷ []) c) }
-{}
-
-/// What some typed characters leave: a line with an erased character, an erase on an empty line with and without items before it, the
-/// two columns of a tab, a killed line, the end mark and its character in a line, the characters that stop output and let it go on,
-/// raw mode, and the bell if there is no room.
-pub fn typed_characters_leave()
-    ensures line { typing (97 ∷ 98 ∷ 8 ∷ 99 ∷ 13 ∷ []) first_console ≡
-        record first_console { committed = Char 97 ∷ Char 99 ∷ Char 10 ∷ []; echo = 97 ∷ 98 ∷ 8 ∷ 32 ∷ 8 ∷ 99 ∷ 13 ∷ 10 ∷ [] } }
-    ensures nothing_to_erase { typing (8 ∷ []) first_console ≡ first_console }
-    ensures committed_stays { typing (97 ∷ 13 ∷ 8 ∷ []) first_console ≡
-        record first_console { committed = Char 97 ∷ Char 10 ∷ []; echo = 97 ∷ 13 ∷ 10 ∷ [] } }
-    ensures two_columns { typing (9 ∷ 8 ∷ []) first_console ≡
-        record first_console { echo = 94 ∷ 73 ∷ 8 ∷ 32 ∷ 8 ∷ 8 ∷ 32 ∷ 8 ∷ [] } }
-    ensures killed { typing (97 ∷ 98 ∷ 21 ∷ []) first_console ≡ record first_console { echo = 97 ∷ 98 ∷ 13 ∷ 10 ∷ [] } }
-    ensures end_mark { typing (4 ∷ []) first_console ≡ record first_console { committed = End ∷ [] } }
-    ensures end_character { typing (97 ∷ 4 ∷ []) first_console ≡
-        record first_console { line = 97 ∷ 4 ∷ []; echo = 97 ∷ 94 ∷ 68 ∷ [] } }
-    ensures stops { typing (19 ∷ []) first_console ≡ record first_console { is_held = true } }
-    ensures goes_on { typing (19 ∷ 97 ∷ []) first_console ≡ record first_console { line = 97 ∷ []; echo = 97 ∷ [] } }
-    ensures silent { typing (97 ∷ 13 ∷ []) silent_console ≡ record silent_console { committed = Char 97 ∷ Char 10 ∷ [] } }
-    ensures raw { typing (8 ∷ 13 ∷ 19 ∷ []) raw_console ≡
-        record raw_console { committed = Char 8 ∷ Char 13 ∷ Char 19 ∷ [] } }
-    ensures bell { typing (97 ∷ []) full_console ≡ record full_console { echo = 7 ∷ [] } }
-    ensures room_for_newline { typing (97 ∷ 10 ∷ []) almost_full_console ≡
-        record almost_full_console { committed = replicate 127 (Char 120) ++ Char 10 ∷ []; echo = 7 ∷ 13 ∷ 10 ∷ [] } }
 {}

@@ -1,24 +1,18 @@
 //! Calls on files under way, apart from the processes that make them: what always holds of them, their order, and how long they take.
 
-ghost use Rattle.std.specs.Prelude.{◌≡◌, ◌++◌, ◌+◌, ◌<◌, ◌≤◌, ◌==◌, ℕ, suc, true, false, not, List, [], ◌∷◌, length, map, filter, take, drop, slice_index_or, Some, None, IsSome, pos};
-ghost use Rattle.xinu_base.specs.Constants.{OK};
-ghost use Rattle.xinu_base.specs.declared.lines.FileMoment.TheVariants.{Turn, Finished, Next};
-ghost use Rattle.xinu_laws.specs.Examples.FileCalls.{idle_work, killed_writer, read_then_write};
-ghost use Rattle.xinu_laws.specs.Examples.FileSystems.{mode_rw, blank_files, big_file};
-ghost use Rattle.xinu_laws.specs.FileEffects.{after_tasks};
-ghost use Rattle.xinu_laws.specs.FileSteps.{callers_told, first_moment, IsSoundStep};
-ghost use Rattle.xinu_model.specs.Files.Calls.{FileCall, Open, Close, Write};
+ghost use Rattle.std.specs.Prelude.{◌≡◌, ◌++◌, ◌+◌, ◌<◌, ◌≤◌, ◌==◌, ℕ, suc, true, false, not, List, [], ◌∷◌, length, map, filter, take, drop, Some, None, IsSome};
+ghost use Rattle.xinu_base.specs.declared.lines.FileMoment.TheVariants.{Turn, Finished};
+ghost use Rattle.xinu_laws.specs.FileWork.{callers_told, first_moment, IsSoundStep};
 ghost use Rattle.xinu_model.specs.Files.Rest.{is_at_rest, is_busy};
 ghost use Rattle.xinu_model.specs.Files.Sound.{IsSoundFiles, IsFileRequest, IsSoundWork};
-ghost use Rattle.xinu_model.specs.Files.Stored.{bytes_in, file_named};
-ghost use Rattle.xinu_model.specs.Files.Systems.{FileSystem, open_at, closed_system};
-ghost use Rattle.xinu_model.specs.Files.Work.{FileRequest, FileWork, FileNote, FileStep, most_turns, calls_completed, least_effects, most_effects, issued, most_at_issue, callers_waiting, calls_given_up};
+ghost use Rattle.xinu_model.specs.Files.Systems.{FileSystem};
+ghost use Rattle.xinu_model.specs.Files.Work.{FileRequest, FileWork, FileStep, most_turns, calls_completed, least_effects, most_effects, issued, most_at_issue, callers_waiting, calls_given_up};
 ghost use Rattle.xinu_model.specs.Memory.{ram_size};
 
-/// The calls under way stay sound, and RAM keeps its size: as a call is made, whether it waits or takes effect at once; at a good
+/// The calls under way stay sound, and RAM keeps its size: when there is none; as a call is made, whether it waits or takes effect at once; at a good
 /// completion, whichever number of calls it lets take effect; and as a process is killed.
 pub fn work_stays_sound()
-    ensures starts { (s : FileSystem) → IsSoundFiles s → IsSoundWork (idle_work s) }
+    ensures starts { (s : FileSystem) → IsSoundFiles s → IsSoundWork (record { system = s; calls = []; turns = 0; bytes = [] }) }
     ensures issued { (choice : ℕ) (a : FileRequest) (memory : List ℕ) (w : FileWork) → choice ≤ most_at_issue w.calls → IsSome a.caller →
         IsFileRequest a → length memory ≡ ram_size → IsSoundWork w → IsSoundStep (issued choice a memory w) }
     ensures completed { (effects : ℕ) (x : FileStep) → least_effects x.work.calls x.work ≤ effects → IsSoundStep x →
@@ -72,20 +66,4 @@ pub fn killed_callers_leave_the_first_call()
 /// If no file is open and no call under way, all files are at rest.
 pub fn what_isnt_busy_is_at_rest()
     ensures rest { (name : List ℕ) (w : FileWork) → is_busy w ≡ false → is_at_rest name w ≡ true }
-{}
-
-/// What becomes of some calls: a killed writer's bytes are written and nobody is answered; of a read and a write that take effect at one
-/// completion, the write has the byte that the read brought to its address; and the bounds of some calls.
-pub fn calls_under_way()
-    ensures killed { bytes_in (file_named (97 ∷ []) (calls_completed 1 killed_writer).work.system.files) ≡
-        take 600 (drop 100 killed_writer.memory) }
-    ensures killed_told { (calls_completed 1 killed_writer).notes ≡
-        (record { caller = None; moment = Finished; reply = Some (pos 600) }) ∷ [] }
-    ensures together { bytes_in (file_named (97 ∷ []) (calls_completed 2 read_then_write).work.system.files) ≡ 65 ∷ 65 ∷ [] }
-    ensures together_told { (calls_completed 2 read_then_write).notes ≡
-        (record { caller = Some 1; moment = Finished; reply = Some (pos 1) }) ∷
-        (record { caller = Some 2; moment = Next; reply = Some (pos 1) }) ∷ [] }
-    ensures write_bound { most_turns (Write 0 8193) (after_tasks (take 1 big_file) (blank_files 256)) ≡ 168 }
-    ensures close_bound { most_turns (Close 0) (after_tasks (take 2 big_file) (blank_files 256)) ≡ 184 }
-    ensures open_bound { most_turns (Open (97 ∷ []) mode_rw) (blank_files 256) ≡ 32 }
 {}

@@ -1,14 +1,12 @@
 //! The files and the open devices by themselves (book, chapter 19): what always holds of them, and what the calls on files do.
 
-ghost use Rattle.std.specs.Prelude.{◌≡◌, ◌≢◌, ◌+◌, ◌<◌, ◌≤◌, ℕ, true, false, List, [], ◌∷◌, ◌++◌, length, take, drop, replicate, Some, None, pos};
+ghost use Rattle.std.specs.Prelude.{◌≡◌, ◌≢◌, ◌+◌, ◌<◌, ◌≤◌, ℕ, true, false, List, [], length, take, drop, Some, None, pos};
 ghost use Rattle.std.specs.List.{AllByRecursion};
 ghost use Rattle.xinu_base.specs.Constants.{OK, SYSERR, EOF};
 ghost use Rattle.xinu_base.specs.declared.files.OpenMode.{OpenMode};
-ghost use Rattle.xinu_laws.specs.Examples.FileSystems.{blank_files, mode_rw, one_file, full_disk, big_file, modes, seven_opens};
-ghost use Rattle.xinu_laws.specs.FileEffects.{is_about, device_of, replies_to, after_tasks};
+ghost use Rattle.xinu_laws.specs.FileEffects.{is_about, device_of};
 ghost use Rattle.xinu_model.specs.Files.Calls.{FileCall, Open, Delete, Read, Write, Seek, file_effect};
 ghost use Rattle.xinu_model.specs.Files.Constants.{LF_NUM_DIR_ENT, LFILE0};
-ghost use Rattle.xinu_model.specs.Files.Issue.{open_call};
 ghost use Rattle.xinu_model.specs.Files.Opening.{opening};
 ghost use Rattle.xinu_model.specs.Files.Reading.{bytes_ahead, taken};
 ghost use Rattle.xinu_model.specs.Files.Room.{they_fit};
@@ -83,30 +81,4 @@ pub fn written_bytes_are_read_back()
         drop (position + length new) (overwritten position new old) ≡ drop (position + length new) old }
     ensures read { (s : FileSystem) (d n : ℕ) (f : OpenFile) → open_at s d ≡ Some f → f.may_read ≡ true → 0 < n →
         f.position < length (open_bytes f s) → file_effect (Read d n) [] s ≡ taken (bytes_ahead n f s) d f s }
-{}
-
-/// What some calls answer: one file of one byte, from its making to its end; a full disk, on which a write is cut short and another
-/// refused; a file of more than one index block, read back over its end; modes; and a seventh open file.
-pub fn file_calls_answer()
-    ensures one_file { replies_to one_file (blank_files 256) ≡
-        pos 4 ∷ OK ∷ pos 1 ∷ SYSERR ∷ OK ∷ pos 65 ∷ EOF ∷ OK ∷ pos 0 ∷ SYSERR ∷ OK ∷ OK ∷ SYSERR ∷ SYSERR ∷ [] }
-    ensures nothing_left { after_tasks one_file (blank_files 256) ≡ blank_files 256 }
-    ensures full_disk { replies_to full_disk (blank_files 14) ≡ pos 4 ∷ pos 2048 ∷ pos 5 ∷ pos 1536 ∷ SYSERR ∷ [] }
-    ensures big_file { replies_to big_file (blank_files 256) ≡ pos 4 ∷ pos 8193 ∷ OK ∷ pos 4 ∷ OK ∷ pos 2 ∷ OK ∷ EOF ∷ OK ∷ [] }
-    ensures modes { replies_to modes (blank_files 256) ≡ SYSERR ∷ pos 4 ∷ SYSERR ∷ OK ∷ OK ∷ SYSERR ∷ pos 4 ∷ SYSERR ∷ pos 65 ∷ OK ∷
-        pos 4 ∷ SYSERR ∷ OK ∷ [] }
-    ensures seventh { replies_to seven_opens (blank_files 256) ≡ pos 4 ∷ pos 5 ∷ pos 6 ∷ pos 7 ∷ pos 8 ∷ pos 9 ∷ SYSERR ∷ OK ∷ pos 6 ∷ [] }
-{}
-
-/// Which texts name and open a file: a name of 27 bytes but not of 28, and not the empty one; a mode without letters, but not one with
-/// another letter, a letter twice, or both old and new.
-pub fn texts_that_open()
-    ensures longest { open_call (replicate 27 97) (114 ∷ 119 ∷ []) ≡ Some (Open (replicate 27 97) mode_rw) }
-    ensures too_long { open_call (replicate 28 97) (114 ∷ 119 ∷ []) ≡ None }
-    ensures empty { open_call [] (114 ∷ 119 ∷ []) ≡ None }
-    ensures no_letter { open_call (97 ∷ []) [] ≡
-        Some (Open (97 ∷ []) (record { read = false; write = false; only_old = false; only_new = false })) }
-    ensures other_letter { open_call (97 ∷ []) (114 ∷ 120 ∷ []) ≡ None }
-    ensures twice { open_call (97 ∷ []) (114 ∷ 114 ∷ []) ≡ None }
-    ensures old_and_new { open_call (97 ∷ []) (111 ∷ 110 ∷ []) ≡ None }
 {}

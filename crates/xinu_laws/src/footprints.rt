@@ -1,20 +1,17 @@
 //! Footprints: which parts of the state each call may change.
 
-ghost use Rattle.std.specs.Prelude.{◌≡◌, ℕ, true, false, List, Some, Option, Bool, filter, length, map, take};
+ghost use Rattle.std.specs.Prelude.{◌≡◌, ℕ, true, false, List, Some, length, map, take};
 ghost use Rattle.xinu_base.specs.declared.lines.TranscriptLine.{TranscriptLine};
 ghost use Rattle.xinu_base.specs.declared.processes.Rest.{Rest};
-ghost use Rattle.xinu_base.specs.declared.semaphores.Owner.{Owner};
 ghost use Rattle.xinu_model.specs.Calls.{calls, call_of_number, continued};
 ghost use Rattle.xinu_model.specs.Clock.{ticked};
-ghost use Rattle.xinu_model.specs.Footprints.{on_tables};
-ghost use Rattle.xinu_laws.specs.Frame.{Frame, waits_at};
+ghost use Rattle.table_laws.specs.Frame.{Frame};
 ghost use Rattle.xinu_model.specs.Machine.{Xinu, CallResult, replies_of, end_of_event};
-ghost use Rattle.xinu_laws.specs.Preserve.{AreAlive};
+ghost use Rattle.table_laws.specs.Preserve.{AreAlive};
 ghost use Rattle.xinu_model.specs.Rows.{CallRow, found_in};
-ghost use Rattle.xinu_model.specs.Sound.Tables.{IsInside, FitsOwner};
+ghost use Rattle.xinu_model.specs.Sound.Tables.{IsInside};
 ghost use Rattle.xinu_model.specs.Sound.State.{IsSound};
 ghost use Rattle.xinu_base.specs.Syscalls.{syscalls};
-ghost use Rattle.xinu_model.specs.Tables.{Tables, semaphore_at};
 ghost use Rattle.xinu_laws.specs.Touches.{Reach, reach, touched_by, stacks_of, KeepsParts, Touches};
 
 /// The rows have the numbers, names and arities that the transcript prints.
@@ -40,10 +37,4 @@ pub fn ends_stay_within()
         × (f.parts.stacks ≡ false → stacks_of (end_of_event was first result).state.tables ≡ stacks_of result.call.state.tables)
         × KeepsParts f.parts result.call.state.parts (end_of_event was first result).state.parts }
     ensures replies { (f : Reach) (was : ℕ) (first : List TranscriptLine) (result : CallResult) → IsInside result.call.state.tables → AreAlive result.call.state.tables (replies_of result) → Touches f result.call.state (end_of_event was first result).state }
-{}
-
-/// On a semaphore that is left alone those wait who waited before and still do, in the same order.
-pub fn waiters_keep_their_order()
-    ensures { (mine : ℕ → Option Owner → Bool) (asks : Rest → Bool) (t u : Tables) (sem : ℕ) → Frame mine asks t u → IsInside u → mine sem (semaphore_at t sem).owner ≡ true
-        → ((left : Rest) → FitsOwner sem (semaphore_at u sem).owner left → asks left ≡ true) → (semaphore_at u sem).waiters ≡ filter (waits_at asks u) (semaphore_at t sem).waiters }
 {}

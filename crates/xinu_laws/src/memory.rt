@@ -3,8 +3,8 @@
 ghost use Rattle.std.specs.Prelude.{◌≡◌, ◌<◌, ◌≤◌, ◌+◌, ℕ, Bool, length, pos, true, false, List, Some, None};
 ghost use Rattle.xinu_base.specs.declared.events.Event.{Event};
 ghost use Rattle.xinu_base.specs.declared.lines.TranscriptLine.{TranscriptLine};
-ghost use Rattle.xinu_laws.specs.Apart.{is_in_free};
-ghost use Rattle.xinu_laws.specs.Grants.{GivesOnlyFree};
+ghost use Rattle.xinu_laws.specs.Ownership.Apart.{is_in_free};
+ghost use Rattle.xinu_laws.specs.Ownership.Grants.{GivesOnlyFree};
 ghost use Rattle.xinu_model.specs.Calls.{call_of_number};
 ghost use Rattle.xinu_model.specs.Heap.Calls.{getmem, getstk};
 ghost use Rattle.xinu_model.specs.Events.{Happens};

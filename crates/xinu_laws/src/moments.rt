@@ -12,13 +12,13 @@ ghost use Rattle.xinu_model.specs.Events.{stepped, with_executed};
 ghost use Rattle.xinu_model.specs.Isa.Exec.{exec};
 ghost use Rattle.xinu_model.specs.Machine.{Xinu, CallResult, current_hart, refused, replies_of, end_of_event};
 ghost use Rattle.xinu_model.specs.Ports.Queues.{port_at};
-ghost use Rattle.xinu_model.specs.Process.Scheduling.{resched};
-ghost use Rattle.xinu_laws.specs.Preserve.{AreAlive, KeepsAll, MayCallAny, ticking};
+ghost use Rattle.xinu_laws.specs.Preserve.{KeepsAll, MayCallAny, ticking};
+ghost use Rattle.table_laws.specs.Preserve.{AreAlive};
 ghost use Rattle.xinu_model.specs.Process.Death.{exit};
 ghost use Rattle.xinu_model.specs.Rows.{CallRow, found_in};
-ghost use Rattle.xinu_model.specs.Sound.Tables.{IsInside, IsSoundTables};
+ghost use Rattle.xinu_model.specs.Sound.Tables.{IsInside};
 ghost use Rattle.xinu_model.specs.Sound.State.{IsSound};
-ghost use Rattle.xinu_model.specs.Tables.{Tables, process_at};
+ghost use Rattle.xinu_model.specs.Tables.{process_at};
 
 /// The call of a number does what the row of this number says. A call that is served is carried out so, and any other is refused.
 pub fn calls_are_rows()
@@ -79,11 +79,6 @@ pub fn ports_are_renewed_once()
     ensures tick { (s : Xinu) → IsSound s → (q : ℕ) → (port_at (ticked s).state.parts.ports q).seq ≤ (port_at s.parts.ports q).seq + 1 }
     ensures key { (b : ℕ) (s : Xinu) → IsSound s → (q : ℕ) → (port_at (keyed b s).state.parts.ports q).seq ≤ (port_at s.parts.ports q).seq + 1 }
     ensures sent { (s : Xinu) → IsSound s → (q : ℕ) → (port_at (transmits s).state.parts.ports q).seq ≤ (port_at s.parts.ports q).seq + 1 }
-{}
-
-/// A resched inside an event leaves sound tables.
-pub fn rescheds_are_sound()
-    ensures { (t : Tables) → IsInside t → IsSoundTables (resched t) }
 {}
 
 /// The end of an event leaves a sound state.

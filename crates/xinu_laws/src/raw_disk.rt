@@ -1,11 +1,10 @@
 //! The raw disk by itself (book, chapter 18): its requests, their order, and what becomes of blocks.
 
-ghost use Rattle.std.specs.Prelude.{◌≡◌, ◌≢◌, ◌++◌, ◌<◌, ℕ, Bool, true, false, List, [], ◌∷◌, length, filter, not, ◌==◌, slice_set, Some, None, IsSome};
+ghost use Rattle.std.specs.Prelude.{◌≡◌, ◌≢◌, ◌++◌, ◌<◌, ℕ, Bool, true, false, List, [], ◌∷◌, length, filter, not, ◌==◌, Some, None, IsSome};
 ghost use Rattle.xinu_base.specs.Constants.{OK, SYSERR};
-ghost use Rattle.xinu_laws.specs.Examples.RawDisks.{block_of, blank_disk, write_request, read_request};
-ghost use Rattle.xinu_laws.specs.RawDisks.{DiskStep, Requests, Completes, after_steps, made_in, served_in, requests_of, replies_given};
+ghost use Rattle.xinu_model.specs.RawDisk.Histories.{DiskStep, after_steps, made_in, served_in, requests_of};
 ghost use Rattle.xinu_model.specs.RawDisk.Completions.{Served, served, raw_completed, after_completion};
-ghost use Rattle.xinu_model.specs.RawDisk.Requests.{Request, RawDisk, has_block, block_at, requested, orphaned_request, requesters, requests_given_up};
+ghost use Rattle.xinu_model.specs.RawDisk.Requests.{Request, RawDisk, block_at, requested, requesters, requests_given_up};
 ghost use Rattle.xinu_model.specs.RawDisk.Sound.{IsRequest, IsSoundRawDisk};
 
 /// Each step keeps the raw disk sound, and the number of its blocks: a request for a block that there is, a completion, good or failed,
@@ -49,26 +48,4 @@ pub fn killed_callers_wait_no_longer()
     ensures first { (p : ℕ) (good : Bool) (d : RawDisk) →
         (after_completion (raw_completed good (requests_given_up p d)) (requests_given_up p d)).blocks ≡
         (after_completion (raw_completed good d) d).blocks }
-{}
-
-/// A written block, a failed read, and a block that there isn't, on a disk of 64 blocks. A writer that is killed while its request is the
-/// first: after a good completion the block is written, after a failed one it isn't, and nobody is answered.
-pub fn raw_disk()
-    ensures replies { replies_given (served_in (Requests (write_request 63 (block_of 65)) ∷ Completes true ∷ Requests (read_request 63) ∷
-        Completes false ∷ Completes true ∷ []) blank_disk) ≡ OK ∷ SYSERR ∷ [] }
-    ensures outside { has_block 64 blank_disk ≡ false }
-    ensures inside { has_block 63 blank_disk ≡ true }
-    ensures block { block_at (after_steps (Requests (write_request 63 (block_of 65)) ∷ Completes true ∷ []) blank_disk) 63 ≡ block_of 65 }
-    ensures killed { raw_completed true (requests_given_up 1 (requested (write_request 1 (block_of 65)) blank_disk)) ≡ Some (record {
-      request = orphaned_request (write_request 1 (block_of 65));
-      reply = OK;
-      bytes = [];
-      disk = record blank_disk { blocks = slice_set blank_disk.blocks 1 (block_of 65) };
-    }) }
-    ensures killed_in_vain { raw_completed false (requests_given_up 1 (requested (write_request 1 (block_of 65)) blank_disk)) ≡ Some (record {
-      request = orphaned_request (write_request 1 (block_of 65));
-      reply = SYSERR;
-      bytes = [];
-      disk = blank_disk;
-    }) }
 {}

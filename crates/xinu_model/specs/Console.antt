@@ -11,3 +11,4 @@ pub mod Sound
 pub mod State
 pub mod Taking
 pub mod Transmitting
+pub mod Typing

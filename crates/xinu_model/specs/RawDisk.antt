@@ -3,5 +3,6 @@ pub mod Callers
 pub mod Calls
 pub mod Completions
 pub mod Constants
+pub mod Histories
 pub mod Requests
 pub mod Sound

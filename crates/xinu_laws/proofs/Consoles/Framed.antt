@@ -6,7 +6,7 @@ use Rattle.xinu_base.specs.declared.processes.Rest.{Rest}
 use Rattle.xinu_base.specs.declared.processes.Rest.TheVariants.{TtyGet, TtyPut, TtyRead, TtyWrite}
 use Rattle.xinu_base.specs.declared.semaphores.Owner.{Owner}
 use Rattle.xinu_base.specs.declared.semaphores.Owner.TheVariants.{Device}
-use Rattle.xinu_laws.specs.Frame.{Frame}
+use Rattle.table_laws.specs.Frame.{Frame}
 use Rattle.xinu_model.specs.Console.State.{Console}
 use Rattle.xinu_model.specs.Sound.Console.{is_released, promised, HasSpan, IsConsole}
 use Rattle.xinu_model.specs.Sound.Pools.{is_waiting}

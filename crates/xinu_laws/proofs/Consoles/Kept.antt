@@ -3,7 +3,7 @@ use Rattle.std.proofs.Common.{◌≡◌, ◌≢◌, ℕ, zero, suc, ◌<◌, ◌
 use Rattle.xinu_base.specs.declared.processes.Rest.{Rest}
 use Rattle.xinu_base.specs.declared.processes.Rest.TheVariants.{Nothing, TtyGet, TtyPut, TtyRead, TtyWrite}
 use Rattle.xinu_base.specs.declared.processes.State.TheVariants.{Waiting}
-use Rattle.xinu_laws.specs.Preserve.{IsPreserved, MayCall}
+use Rattle.table_laws.specs.Preserve.{IsPreserved, MayCall}
 use Rattle.xinu_laws.specs.Touches.{reach, KeepsParts, Touches}
 use Rattle.xinu_model.specs.Console.State.{Console}
 use Rattle.xinu_model.specs.Console.Taking.{console_of}
@@ -18,9 +18,9 @@ use Rattle.xinu_model.specs.Sound.Tables.{asks_input, asks_output, FitsDevice, F
 use Rattle.xinu_model.specs.Tables.{Tables, process_at, message_at, semaphore_at, Nowhere, InSemaphore}
 use Rattle.xinu_laws.proofs.Consoles.Framed.{asks_console}
 use Rattle.xinu_laws.proofs.Consoles.Promised.{promised_token, promised_token_other, promised_blocked, promised_goes_on_other, spans_move}
-use Rattle.xinu_laws.proofs.Preserve.{current_within, blocked_preserves, sound_goes_on, waits_hold}
-use Rattle.xinu_laws.proofs.Tables.Changes.{sound_token_taken}
-use Rattle.xinu_laws.proofs.Tables.MoveTo.{by_number}
+use Rattle.table_laws.proofs.Preserve.{current_within, blocked_preserves, sound_goes_on, waits_hold}
+use Rattle.table_laws.proofs.Tables.Changes.{sound_token_taken}
+use Rattle.table_laws.proofs.Tables.MoveTo.{by_number}
 use Rattle.xinu_laws.proofs.Touches.{parts_console, touches_parts, touches_refl, touches_trans}
 use Rattle.xinu_laws.proofs.Touches.Moves.{touches_blocked, touches_goes_on, touches_tokens}
 

@@ -15,11 +15,11 @@ use Rattle.xinu_model.specs.Sound.Console.{is_released, promised, HasSpan}
 use Rattle.xinu_model.specs.Sound.Pools.{is_waiting}
 use Rattle.xinu_model.specs.Sound.Tables.{times, count_in, IsInside, IsSoundTables}
 use Rattle.xinu_model.specs.Tables.{no_process, Semaphore, no_semaphore, Tables, process_at, state_at, message_at, semaphore_at, Place, Nowhere, InReady, move_to}
-use Rattle.xinu_laws.proofs.Frame.MoveTo.{same_written, read_written, tokens_move}
-use Rattle.xinu_laws.proofs.Lists.Counts.{times-set, first_is_counted, count_behind}
+use Rattle.table_laws.proofs.Frame.MoveTo.{same_written, read_written, tokens_move}
+use Rattle.table_laws.proofs.Lists.Counts.{times-set, first_is_counted, count_behind}
 use Rattle.xinu_laws.proofs.Pools.Steps.{at_most_one}
-use Rattle.xinu_laws.proofs.Tables.MoveTo.{by_number, within_table}
-use Rattle.xinu_laws.proofs.Tables.Unblock.{waiter_waits, sound_unblock_all, can_be_ready_waiters, all_take}
+use Rattle.table_laws.proofs.Tables.MoveTo.{by_number, within_table}
+use Rattle.table_laws.proofs.Tables.Unblock.{waiter_waits, sound_unblock_all, can_be_ready_waiters, all_take}
 use Rattle.xinu_laws.proofs.Touches.Moves.{counted_take}
 
 -- what doesn't pass adds nothing to a count, and what passes adds one

@@ -5,7 +5,7 @@ use Rattle.std.proofs.lemmas.List.{length-append}
 use Rattle.xinu_base.specs.declared.processes.Rest.{Rest}
 use Rattle.xinu_base.specs.declared.processes.Rest.TheVariants.{TtyGet, TtyPut, TtyRead, TtyWrite}
 use Rattle.xinu_laws.specs.Consoles.{Appends, SendsFirst}
-use Rattle.xinu_laws.specs.Preserve.{AreAlive}
+use Rattle.table_laws.specs.Preserve.{AreAlive}
 use Rattle.xinu_laws.specs.Touches.{reach, Touches}
 use Rattle.xinu_model.specs.Console.Controls.{controlled}
 use Rattle.xinu_model.specs.Console.Putting.{TY_OSEM}
@@ -29,10 +29,10 @@ use Rattle.xinu_laws.proofs.Consoles.Framed.{input_asks, output_asks}
 use Rattle.xinu_laws.proofs.Consoles.Kept.{Holds, HasConsole, KeepsConsole, answers_keeps, refused_keeps, touched_calls, touched_console, console_touches}
 use Rattle.xinu_laws.proofs.Consoles.Promised.{promised_signals, promised_signals_other, spans_unblock_all}
 use Rattle.xinu_laws.proofs.Consoles.Transmissions.{sent_is_first, sound_transmitted}
-use Rattle.xinu_laws.proofs.Results.Signals.{signals_are_repeated}
-use Rattle.xinu_laws.proofs.Tables.Alive.{alive_signalled_times}
-use Rattle.xinu_laws.proofs.Tables.Harts.{harts_same}
-use Rattle.xinu_laws.proofs.Tables.Unblock.{unblock_all_ready, sound_signalled_times}
+use Rattle.table_laws.proofs.Tables.Signals.{signals_are_repeated}
+use Rattle.table_laws.proofs.Tables.Alive.{alive_signalled_times}
+use Rattle.table_laws.proofs.Tables.Harts.{harts_same}
+use Rattle.table_laws.proofs.Tables.Unblock.{unblock_all_ready, sound_signalled_times}
 use Rattle.xinu_laws.proofs.Touches.{touches_trans}
 use Rattle.xinu_laws.proofs.Touches.Moves.{MayTouch, touches_signalled_times}
 

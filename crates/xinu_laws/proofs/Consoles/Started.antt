@@ -13,7 +13,7 @@ use Rattle.xinu_model.specs.Tables.{no_process, process_at}
 use Rattle.xinu_laws.specs.Touches.{Reach}
 use Rattle.xinu_laws.proofs.Consoles.Framed.{asks_console, is_consoles, console_framed}
 use Rattle.xinu_laws.proofs.RawDisks.Started.{disks_start}
-use Rattle.xinu_laws.proofs.Tables.Starts.{same_everywhere}
+use Rattle.table_laws.proofs.Tables.Starts.{same_everywhere}
 use Rattle.xinu_laws.proofs.Touches.Boot.{HasStart, touches_start}
 
 -- nothing is promised at first but the tokens of the output

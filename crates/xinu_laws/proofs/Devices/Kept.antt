@@ -22,7 +22,7 @@ use Rattle.xinu_model.specs.Machine.{Xinu, CallResult, refused}
 use Rattle.xinu_model.specs.Names.Calls.{names_of}
 use Rattle.xinu_model.specs.Names.Mapping.{MappedName, map_name}
 use Rattle.xinu_model.specs.Semaphores.Calls.{answers}
-use Rattle.xinu_laws.specs.Preserve.{IsPreserved}
+use Rattle.table_laws.specs.Preserve.{IsPreserved}
 use Rattle.xinu_model.specs.Devices.Table.{DISK0}
 use Rattle.xinu_model.specs.RawDisk.Calls.{disk_of, disk_read, disk_write, disk_control}
 use Rattle.xinu_model.specs.RawDisk.Constants.{RD_CTL_SIZE}
@@ -31,7 +31,7 @@ use Rattle.xinu_model.specs.Sound.Tables.{IsInside}
 use Rattle.xinu_model.specs.Words.{signed}
 use Rattle.xinu_laws.proofs.RawDisks.Kept.{KeepsDisks, disk_read_keeps, disk_write_keeps, disk_control_keeps}
 use Rattle.xinu_laws.proofs.RawDisks.Moves.{HasDisks}
-use Rattle.xinu_laws.proofs.FileCalls.Asked.{IsAsked, open_asked, control_asked, file_control_asked, read_asked, write_asked, asks_touches, asks_keeps}
+use Rattle.xinu_laws.proofs.FileSyscalls.Asked.{IsAsked, open_asked, control_asked, file_control_asked, read_asked, write_asked, asks_touches, asks_keeps}
 use Rattle.xinu_laws.proofs.Touches.Kept.{keeps_console, keeps_disks, touches_below}
 use Rattle.xinu_laws.proofs.Consoles.Kept.{Holds, HasConsole, KeepsConsole, sound_holds, answers_keeps, refused_keeps}
 use Rattle.xinu_laws.proofs.Consoles.Put.{putc_keeps, write_keeps}

@@ -24,7 +24,7 @@ use Rattle.xinu_model.specs.RawDisk.Calls.{disk_of, awaits_disk, may_request, di
 use Rattle.xinu_model.specs.RawDisk.Constants.{RD_BLKSIZ, RD_CTL_SIZE}
 use Rattle.xinu_model.specs.Words.{signed}
 use Rattle.xinu_laws.proofs.Devices.Kept.{OfFiles, device_open_holds, device_close_holds, device_read_holds, device_write_holds, device_getc_holds, device_putc_holds, device_seek_holds, device_control_holds}
-use Rattle.xinu_laws.proofs.Results.Refusals.{TellsRefusal}
+use Rattle.xinu_laws.proofs.Reply.Refusals.{TellsRefusal}
 
 -- a call that never answers -1
 abbrev NeverRefuses : CallResult → Type 0

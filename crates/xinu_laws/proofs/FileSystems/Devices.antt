@@ -3,7 +3,7 @@ use Rattle.std.proofs.Common.{◌≡◌, ◌≢◌, ℕ, zero, suc, ◌+◌, ◌
 use Rattle.std.specs.List.{list_any}
 use Rattle.std.proofs.lemmas.Bool.{cond_both, or_parts, false≢true, false_from_ne_true}
 use Rattle.xinu_laws.proofs.FileSystems.Orders.{own_bytes, differ}
-use Rattle.xinu_laws.proofs.Lists.Maps.{one, times_first, times_set}
+use Rattle.table_laws.proofs.Lists.Maps.{one, times_first, times_set}
 use Rattle.xinu_model.specs.Files.Sound.{IsOpened, IsDevice, IsSoundFiles}
 use Rattle.xinu_model.specs.Files.Stored.{StoredFile, file_named}
 use Rattle.xinu_model.specs.Files.Systems.{OpenFile, FileSystem, open_at, has_open, is_open, free_device}

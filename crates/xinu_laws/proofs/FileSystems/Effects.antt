@@ -10,8 +10,8 @@ use Rattle.xinu_laws.proofs.FileSystems.Devices.{at_each, none_counted, device_b
 use Rattle.xinu_laws.proofs.FileSystems.Orders.{same_bytes}
 use Rattle.xinu_laws.proofs.FileSystems.Rooms.{fit_empty, fit_emptied, fit_without, greatest_passes}
 use Rattle.xinu_laws.proofs.FileSystems.Stored.{renewed, names_rewritten, count_rewritten, named_rewritten, named_beside, own_rewritten, count_stored, all_stored, order_stored, named_stored, other_stored, names_without, count_without, other_without}
-use Rattle.xinu_laws.proofs.Lists.Maps.{one}
-use Rattle.xinu_laws.proofs.Lists.Orders.{all_filter, order_filter}
+use Rattle.table_laws.proofs.Lists.Maps.{one}
+use Rattle.table_laws.proofs.Lists.Orders.{all_filter, order_filter}
 use Rattle.xinu_model.specs.Files.Constants.{LF_NUM_DIR_ENT, Nlfl}
 use Rattle.xinu_model.specs.Files.Calls.{FileCall, Open, Delete, Close, Read, Write, Getc, Putc, Seek, Truncate, Size, file_effect}
 use Rattle.xinu_model.specs.Files.Opening.{opening, opened, with_created, open_stored, open_file, close_file, delete_file}

@@ -3,7 +3,7 @@ use Rattle.std.proofs.Common.{◌≡◌, ℕ, suc, ◌≤◌, true, false, cond,
 use Rattle.std.specs.List.{AllByRecursion}
 use Rattle.std.proofs.lemmas.Bool.{cond_both, cond-true, cond-false, not-true, not-false}
 use Rattle.xinu_laws.proofs.FileSystems.Orders.{precedes-trans, precedes-total, same_bytes, own_bytes, differ, before_differs}
-use Rattle.xinu_laws.proofs.Lists.Orders.{all_weaker}
+use Rattle.table_laws.proofs.Lists.Orders.{all_weaker}
 use Rattle.xinu_model.specs.Files.Stored.{StoredFile, precedes, file_names, is_named, file_named, with_stored, with_contents, without_file}
 use Rattle.xinu_model.specs.Sound.Tables.{IsInOrder}
 

@@ -2,7 +2,7 @@
 use Rattle.std.proofs.Common.{◌≡◌, ◌⊎◌, ℕ, ◌+◌, ◌-◌, ◌*◌, ◌/◌, ◌<◌, ◌≤◌, Bool, false, not, ◌&&◌, length, get_or, sym, ap, ◌∙◌, arith, inl, inr, ⊎_elim}
 use Rattle.std.specs.Prelude.{nat_le}
 use Rattle.std.proofs.lemmas.Bool.{cases_lt, le-leb, lt-leb, and_left}
-use Rattle.xinu_laws.specs.Apart.{is_in_free}
+use Rattle.xinu_laws.specs.Ownership.Apart.{is_in_free}
 use Rattle.xinu_model.specs.Heap.Cells.{Heap, marked}
 use Rattle.xinu_laws.proofs.HeapCells.Rows.{AreCells, length-marked, marked_inside, marked_below, marked_behind}
 

@@ -3,7 +3,7 @@ use Rattle.std.proofs.Common.{◌≡◌, ℕ, ◌+◌, ◌-◌, ◌*◌, ◌/◌
 use Rattle.std.specs.Prelude.{nat_lt}
 use Rattle.std.proofs.lemmas.Bool.{true≢false, cond_both, cases_lt, ltb-false, eqb-true, eqb-false, not-false, or_parts}
 use Rattle.xinu_laws.specs.FreeCells.{IsLeast, IsGreatest, BeginNowhere}
-use Rattle.xinu_laws.specs.Apart.{is_in_free}
+use Rattle.xinu_laws.specs.Ownership.Apart.{is_in_free}
 use Rattle.xinu_model.specs.Heap.Cells.{Heap, cells_for, begins_with, highest_free, lowest_free, marked, Grant, grant_at, take_memory, Stack, stack_at, take_stack, freed, free_memory, free_stack}
 use Rattle.xinu_laws.proofs.HeapCells.Rows.{cells_there, begins_past}
 use Rattle.xinu_laws.proofs.HeapCells.Found.{OfFound, lowest_says, highest_says}

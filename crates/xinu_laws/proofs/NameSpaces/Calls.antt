@@ -2,7 +2,7 @@
 use Rattle.std.proofs.Common.{◌≡◌, ◌<◌, ℕ, zero, suc, true, List, Option, Some, None, refl, arith}
 use Rattle.std.specs.Prelude.{is_some}
 use Rattle.std.proofs.lemmas.Bool.{cond_both}
-use Rattle.xinu_laws.specs.Preserve.{IsPreserved}
+use Rattle.table_laws.specs.Preserve.{IsPreserved}
 use Rattle.xinu_laws.specs.Touches.{reach, Touches}
 use Rattle.xinu_model.specs.Devices.Table.{kind_of}
 use Rattle.xinu_model.specs.Devices.Texts.{text_at}
@@ -12,8 +12,8 @@ use Rattle.xinu_model.specs.Names.Calls.{names_of, with_names, mount_rows, mount
 use Rattle.xinu_model.specs.Names.Mounting.{NameRow, mounted}
 use Rattle.xinu_model.specs.Names.Sound.{AreSoundNames}
 use Rattle.xinu_laws.proofs.NameSpaces.Mounts.{mounted_sound}
-use Rattle.xinu_laws.proofs.Preserve.{Preserves, refused_preserves}
-use Rattle.xinu_laws.proofs.Results.Refusals.{TellsRefusal}
+use Rattle.table_laws.proofs.Preserve.{Preserves, refused_preserves}
+use Rattle.xinu_laws.proofs.Reply.Refusals.{TellsRefusal}
 use Rattle.xinu_laws.proofs.Touches.{StaysIn, parts_names, touches_parts, touches_refl}
 
 -- the number of a device is below 10

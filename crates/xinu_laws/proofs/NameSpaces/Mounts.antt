@@ -3,7 +3,7 @@ use Rattle.std.proofs.Common.{◌≡◌, ◌<◌, ◌&&◌, true, List, [], ◌�
 use Rattle.std.specs.Prelude.{nat_le, nat_lt}
 use Rattle.std.proofs.lemmas.Bool.{cond_both, and_parts, leb-true, ltb-true}
 use Rattle.std.proofs.lemmas.List.{length-append}
-use Rattle.xinu_laws.proofs.Lists.Orders.{all_append}
+use Rattle.table_laws.proofs.Lists.Orders.{all_append}
 use Rattle.xinu_model.specs.Names.Constants.{NNAMES, NM_PRELEN, NM_REPLLEN}
 use Rattle.xinu_model.specs.Names.Mounting.{NameRow, may_mount, mounted}
 use Rattle.xinu_model.specs.Names.Sound.{IsNameRow, AreSoundNames}

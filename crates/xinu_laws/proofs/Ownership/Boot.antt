@@ -1,7 +1,7 @@
 -- When the machine starts, each address is claimed at most once.
 use Rattle.std.proofs.Common.{◌≡◌, ℕ, false, zero, suc, ◌+◌, List, [], ◌∷◌, get_or, Option, Some, None, refl, ap, subst, arith, inl}
 use Rattle.std.specs.Prelude.{replicate}
-use Rattle.xinu_laws.specs.Apart.{is_in_free, is_in_stack, IsApart}
+use Rattle.xinu_laws.specs.Ownership.Apart.{is_in_free, is_in_stack, IsApart}
 use Rattle.xinu_model.specs.Boot.{Loaded, first_overlap, fresh_heap, null_process, loaded_machine, image_process, with_image, Start, Boots, Overlaps, NoRoom, and_then, where_stack, all_made, all_started, unless_overlap, boot}
 use Rattle.xinu_model.specs.Heap.Cells.{Stack, take_stack}
 use Rattle.xinu_model.specs.Machine.{Xinu}
@@ -13,7 +13,7 @@ use Rattle.xinu_model.specs.Footprints.{on_tables}
 use Rattle.xinu_laws.specs.Touches.{Reach, KeepsPlaces, Touches}
 use Rattle.xinu_laws.proofs.Touches.Boot.{touches_all_started}
 use Rattle.xinu_laws.proofs.Touches.Kept.{keeps_places}
-use Rattle.xinu_laws.proofs.Lists.Maps.{one, times_first, times_none}
+use Rattle.table_laws.proofs.Lists.Maps.{one, times_first, times_none}
 use Rattle.xinu_laws.proofs.Ownership.Processes.{apart_made}
 
 -- each of some free numbers has no stack

@@ -3,14 +3,14 @@ use Rattle.std.proofs.Common.{◌≡◌, ◌⊎◌, ℕ, ◌+◌, ◌*◌, ◌%�
 use Rattle.std.specs.Prelude.{nat_le, nat_lt}
 use Rattle.std.proofs.lemmas.Bool.{cases_Bool, cases_lt, and_parts, and_from, ltb-true, leb-true, lt-ltb, le-leb}
 use Rattle.xinu_base.specs.declared.processes.Process.{Process}
-use Rattle.xinu_laws.specs.Apart.{is_in_free, is_in_pool, is_in_stack, holders, HasStackIn, IsApart}
+use Rattle.xinu_laws.specs.Ownership.Apart.{is_in_free, is_in_pool, is_in_stack, holders, HasStackIn, IsApart}
 use Rattle.xinu_model.specs.Heap.Cells.{Heap}
 use Rattle.xinu_model.specs.Machine.{Xinu}
 use Rattle.xinu_model.specs.Pools.Buffers.{BufferPool, pool_bytes}
 use Rattle.xinu_model.specs.Sound.Tables.{times}
 use Rattle.xinu_model.specs.Tables.{no_process, Tables, process_at}
 use Rattle.xinu_laws.specs.Touches.{stack_of, stacks_of, range_of, KeepsPlaces}
-use Rattle.xinu_laws.proofs.Lists.Maps.{one, times-map, get_or_seen}
+use Rattle.table_laws.proofs.Lists.Maps.{one, times-map, get_or_seen}
 use Rattle.xinu_laws.proofs.HeapCells.Marked.{AreMarked, free_inside, free_outside}
 
 -- whether an address lies in a stack, by its highest word and its bytes

@@ -9,15 +9,15 @@ use Rattle.xinu_base.specs.declared.processes.Rest.{Rest}
 use Rattle.xinu_base.specs.declared.processes.Rest.TheVariants as rest
 use Rattle.xinu_base.specs.declared.registers.Outcome.{Outcome}
 use Rattle.xinu_base.specs.declared.registers.Outcome.TheVariants as outcome
-use Rattle.xinu_laws.proofs.FileCalls.AtOnce.{step_holds}
-use Rattle.xinu_laws.specs.Apart.{holders, IsApart}
+use Rattle.xinu_laws.proofs.FileSyscalls.AtOnce.{step_holds}
+use Rattle.xinu_laws.specs.Ownership.Apart.{holders, IsApart}
 use Rattle.xinu_model.specs.Calls.{called, continued}
 use Rattle.xinu_model.specs.Clock.{ticked}
 use Rattle.xinu_model.specs.Console.Signals.{keyed, receiving, sending, sent_in, transmits}
 use Rattle.xinu_model.specs.Console.Taking.{console_of}
 use Rattle.xinu_model.specs.Console.Transmitting.{Sent, transmitted}
 use Rattle.xinu_model.specs.Events.{call_of, call_line, exit_call, with_executed, reacted, instruction_step, is_done, stepped, next_file_call, effect_of, Happens}
-use Rattle.xinu_laws.specs.GivingAway.{next, gives_back, GivesAway}
+use Rattle.xinu_laws.specs.Ownership.GivingAway.{next, gives_back, GivesAway}
 use Rattle.xinu_model.specs.Machine.{Xinu, no_hart, current_hart, CallResult, EventResult, nothing_happens, end_of_event}
 use Rattle.xinu_model.specs.Process.Death.{exit}
 use Rattle.xinu_model.specs.Sound.State.{IsSound}
@@ -36,7 +36,7 @@ use Rattle.xinu_laws.proofs.Preserve.Events.{may_call, may_call_after, receiving
 use Rattle.xinu_laws.proofs.Touches.Continued.{continued_touches}
 use Rattle.xinu_laws.proofs.Touches.Events.{touches_end_of_event, touches_ticked}
 use Rattle.xinu_laws.proofs.Touches.Kept.{keeps_places}
-use Rattle.xinu_laws.proofs.Preserve.{current_within}
+use Rattle.table_laws.proofs.Preserve.{current_within}
 
 -- The end of an event leaves the places as they are.
 pub kept_end_of_event : (was : ℕ) (first : List TranscriptLine) (result : CallResult) → KeepsAll result → KeepsPlaces result.call.state (end_of_event was first result).state

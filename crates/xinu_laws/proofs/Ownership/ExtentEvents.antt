@@ -8,12 +8,12 @@ use Rattle.xinu_base.specs.declared.registers.Outcome.{Outcome}
 use Rattle.xinu_base.specs.declared.registers.Outcome.TheVariants as outcome
 use Rattle.xinu_model.specs.Calls.{calls, continued}
 use Rattle.xinu_model.specs.Clock.{ticked}
-use Rattle.xinu_model.specs.Console.Signals.{sent_in, transmits}
+use Rattle.xinu_model.specs.Console.Signals.{sent_in}
 use Rattle.xinu_model.specs.Console.Taking.{console_of}
 use Rattle.xinu_model.specs.Console.Transmitting.{Sent, transmitted}
 use Rattle.xinu_model.specs.Events.{call_of, with_executed, reacted, instruction_step, is_done, stepped, next_file_call, effect_of, Happens}
-use Rattle.xinu_laws.proofs.FileCalls.AtOnce.{step_holds}
-use Rattle.xinu_laws.specs.GivingAway.{next}
+use Rattle.xinu_laws.proofs.FileSyscalls.AtOnce.{step_holds}
+use Rattle.xinu_laws.specs.Ownership.GivingAway.{next}
 use Rattle.xinu_model.specs.Machine.{Xinu, current_hart, EventResult, nothing_happens, end_of_event}
 use Rattle.xinu_model.specs.Sound.State.{IsSound}
 use Rattle.xinu_model.specs.Tables.{process_at}

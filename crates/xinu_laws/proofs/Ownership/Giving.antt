@@ -6,11 +6,11 @@ use Rattle.xinu_base.specs.Syscalls.{is_served}
 use Rattle.xinu_base.specs.declared.events.Event.{Event}
 use Rattle.xinu_base.specs.declared.events.Event.TheVariants.{Step}
 use Rattle.xinu_base.specs.declared.lines.TranscriptLine.{TranscriptLine}
-use Rattle.xinu_laws.proofs.FileCalls.AtOnce.{step_holds}
-use Rattle.xinu_laws.specs.Apart.{holders, IsApart}
+use Rattle.xinu_laws.proofs.FileSyscalls.AtOnce.{step_holds}
+use Rattle.xinu_laws.specs.Ownership.Apart.{holders, IsApart}
 use Rattle.xinu_model.specs.Calls.{calls, call_of_number, called, continued}
 use Rattle.xinu_model.specs.Events.{call_of, call_line, with_executed, reacted, instruction_step, is_done, stepped, next_file_call, effect_of, Happens}
-use Rattle.xinu_laws.specs.GivingAway.{next, gives_back, GivesAway}
+use Rattle.xinu_laws.specs.Ownership.GivingAway.{next, gives_back, GivesAway}
 use Rattle.xinu_model.specs.Footprints.{Footprint}
 use Rattle.xinu_model.specs.Machine.{Xinu, current_hart, CallResult, refused, EventResult, nothing_happens, end_of_event}
 use Rattle.xinu_model.specs.Rows.{CallRow, found_in, done_by}
@@ -19,8 +19,8 @@ use Rattle.xinu_model.specs.Sound.State.{IsSound}
 use Rattle.xinu_model.specs.Tables.{process_at}
 use Rattle.xinu_laws.proofs.Ownership.Claims.{holders_kept}
 use Rattle.xinu_laws.proofs.Ownership.Events.{hart_after, kept_end_of_event}
-use Rattle.xinu_laws.proofs.Lists.Maps.{one}
-use Rattle.xinu_laws.proofs.Lists.CallRows.{of_row, number_of_row, all_rows}
+use Rattle.table_laws.proofs.Lists.Maps.{one}
+use Rattle.xinu_laws.proofs.Rows.CallRows.{of_row, number_of_row, all_rows}
 use Rattle.xinu_laws.proofs.Preserve.Calls.{sound_where_called, called_keeps}
 use Rattle.xinu_laws.proofs.Preserve.Events.{may_call, may_call_after}
 use Rattle.xinu_laws.proofs.Touches.Table.{call_touches}

@@ -7,9 +7,9 @@ use Rattle.xinu_base.specs.declared.lines.TranscriptLine.{TranscriptLine}
 use Rattle.xinu_base.specs.declared.lines.TranscriptLine.TheVariants as line
 use Rattle.xinu_base.specs.declared.registers.Outcome.{Outcome}
 use Rattle.xinu_base.specs.declared.registers.Outcome.TheVariants as outcome
-use Rattle.xinu_laws.proofs.FileCalls.AtOnce.{step_holds}
-use Rattle.xinu_laws.specs.GivingAway.{next}
-use Rattle.xinu_laws.specs.Grants.{GivesOnlyFree}
+use Rattle.xinu_laws.proofs.FileSyscalls.AtOnce.{step_holds}
+use Rattle.xinu_laws.specs.Ownership.GivingAway.{next}
+use Rattle.xinu_laws.specs.Ownership.Grants.{GivesOnlyFree}
 use Rattle.xinu_model.specs.Calls.{calls, call_of_number, called, continued}
 use Rattle.xinu_model.specs.Events.{call_of, call_line, exit_call, with_executed, reacted, instruction_step, is_done, stepped, next_file_call, effect_of, Happens}
 use Rattle.xinu_model.specs.Footprints.{Footprint}
@@ -18,7 +18,7 @@ use Rattle.xinu_model.specs.Process.Death.{exit}
 use Rattle.xinu_model.specs.Sound.State.{IsSound}
 use Rattle.xinu_model.specs.Tables.{process_at}
 use Rattle.xinu_model.specs.Words.{half}
-use Rattle.xinu_laws.proofs.Lists.RowByRow.{◌⨾◌}
+use Rattle.xinu_laws.proofs.Rows.RowByRow.{◌⨾◌}
 use Rattle.xinu_laws.proofs.Ownership.Events.{kept_continued, kept_end_of_event, kept_executed, kept_keyed, kept_ticked, kept_transmits, may_call_next}
 use Rattle.xinu_laws.proofs.Ownership.Grants.{gives_after, gives_before, gives_create, gives_exit, gives_kept, gives_kill, gives_mkbufpool, gives_nothing, gives_within}
 use Rattle.xinu_laws.proofs.Preserve.Calls.{called_keeps, continued_keeps, exit_keeps, sound_where_called}

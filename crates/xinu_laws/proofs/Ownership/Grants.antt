@@ -4,8 +4,8 @@ use Rattle.std.specs.Prelude.{int_lt, nat_lt}
 use Rattle.std.proofs.lemmas.Bool.{cases_Bool, cond_both}
 use Rattle.xinu_base.specs.declared.processes.Process.{Process}
 use Rattle.xinu_base.specs.declared.registers.Hart.{Hart}
-use Rattle.xinu_laws.specs.Apart.{is_in_free, is_in_pool, is_in_stack, holders}
-use Rattle.xinu_laws.specs.Grants.{GivesOnlyFree}
+use Rattle.xinu_laws.specs.Ownership.Apart.{is_in_free, is_in_pool, is_in_stack, holders}
+use Rattle.xinu_laws.specs.Ownership.Grants.{GivesOnlyFree}
 use Rattle.xinu_model.specs.Footprints.{on_tables}
 use Rattle.xinu_model.specs.Heap.Calls.{getmem, getstk, granted, stacked}
 use Rattle.xinu_model.specs.Heap.Cells.{Grant, Stack, take_memory, take_stack}
@@ -20,8 +20,8 @@ use Rattle.xinu_model.specs.Process.Death.{killed, exit}
 use Rattle.xinu_model.specs.Semaphores.Counts.{free_semaphore}
 use Rattle.xinu_model.specs.Tables.{no_process, process_at, state_at, is_free}
 use Rattle.xinu_laws.proofs.HeapCells.Taken.{grants_were_free, stacks_were_free}
-use Rattle.xinu_laws.proofs.Lists.Counts.{times-append}
-use Rattle.xinu_laws.proofs.Lists.Maps.{one, times_first, times_set}
+use Rattle.table_laws.proofs.Lists.Counts.{times-append}
+use Rattle.table_laws.proofs.Lists.Maps.{one, times_first, times_set}
 use Rattle.xinu_laws.proofs.Ownership.Claims.{empty_stack, holders_kept, pool_parts, stack_parts}
 use Rattle.xinu_laws.specs.Touches.{reach, range_of, stacks_of, KeepsPlaces, Touches}
 use Rattle.xinu_laws.proofs.Touches.Moves.{touches_sent}

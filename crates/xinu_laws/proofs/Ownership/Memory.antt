@@ -3,7 +3,7 @@
 use Rattle.std.proofs.Common.{◌≡◌, ℕ, true, false, [], ◌∷◌, length, Option, Some, None, refl, ap, arith, ⊎_elim, ◌&&◌}
 use Rattle.std.specs.Prelude.{nat_lt}
 use Rattle.std.proofs.lemmas.Bool.{cond_both, cases_Bool}
-use Rattle.xinu_laws.specs.Apart.{is_in_free, is_in_pool, holders, IsApart}
+use Rattle.xinu_laws.specs.Ownership.Apart.{is_in_free, is_in_pool, holders, IsApart}
 use Rattle.xinu_model.specs.Heap.Cells as heap
 use Rattle.xinu_model.specs.Heap.Cells.{Heap, cells_for, Grant, Stack}
 use Rattle.xinu_model.specs.Machine.{Xinu, CallResult, refused}
@@ -13,10 +13,10 @@ use Rattle.xinu_model.specs.Pools.Buffers.{most_pools, pool_bytes, whole_words, 
 use Rattle.xinu_model.specs.Semaphores.Counts.{free_semaphore}
 use Rattle.xinu_model.specs.Tables.{process_at}
 use Rattle.xinu_laws.proofs.Ownership.Claims.{stack_stays, low_stays, pool_parts, InCells, claim_taken}
-use Rattle.xinu_laws.proofs.Lists.Maps.{one, times_first}
+use Rattle.table_laws.proofs.Lists.Maps.{one, times_first}
 use Rattle.xinu_laws.proofs.HeapCells.Marked.{AreMarked, as_many_cells}
 use Rattle.xinu_laws.proofs.HeapCells.Taken.{room_in_cells, getmem_grants, getstk_finds, freemem_frees, freestk_frees}
-use Rattle.xinu_laws.proofs.Lists.Counts.{times-append}
+use Rattle.table_laws.proofs.Lists.Counts.{times-append}
 
 -- No address that is free in u, and wasn't in s, was held by a pool or a stack.
 abbrev pub FreesNothingHeld : Xinu → Xinu → Type 0

@@ -1,13 +1,13 @@
 -- What it means that no address is claimed twice: stacks, pools and free cells share nothing, and the heap takes back each stack.
 use Rattle.std.proofs.Common.{◌≡◌, ◌≢◌, ℕ, zero, suc, ◌+◌, ◌≤◌, Bool, true, false, List, [], ◌∷◌, get_or, refl, ap, arith}
 use Rattle.std.proofs.lemmas.Bool.{false_from_ne_true}
-use Rattle.xinu_laws.specs.Apart.{is_in_free, is_in_pool, is_in_stack, IsApart}
+use Rattle.xinu_laws.specs.Ownership.Apart.{is_in_free, is_in_pool, is_in_stack, IsApart}
 use Rattle.xinu_model.specs.Machine.{Xinu}
 use Rattle.xinu_model.specs.Pools.Buffers.{no_pool, pool_at}
 use Rattle.xinu_model.specs.Sound.Tables.{times}
 use Rattle.xinu_model.specs.Tables.{no_process, process_at}
 use Rattle.xinu_laws.proofs.Ownership.Claims.{empty_stack, pool_parts}
-use Rattle.xinu_laws.proofs.Lists.Maps.{one, times_first}
+use Rattle.table_laws.proofs.Lists.Maps.{one, times_first}
 
 -- an element that passes a test is counted
 pub times_at : {A : Type 0} (test : A → Bool) (l : List A) (i : ℕ) (d : A) → test d ≡ false → one (test (get_or l i d)) ≤ times test l

@@ -4,7 +4,7 @@ use Rattle.std.specs.Prelude.{int_lt, unwrap_or}
 use Rattle.std.proofs.lemmas.Bool.{cond_both}
 use Rattle.xinu_base.specs.declared.processes.Process.{Process}
 use Rattle.xinu_base.specs.declared.registers.Hart.{Hart}
-use Rattle.xinu_laws.specs.Apart.{is_in_stack, HasStackIn, IsApart}
+use Rattle.xinu_laws.specs.Ownership.Apart.{is_in_stack, HasStackIn, IsApart}
 use Rattle.xinu_model.specs.Devices.State.{given_up}
 use Rattle.xinu_model.specs.Heap.Cells.{Heap, cells_for, Stack, take_stack, free_stack}
 use Rattle.xinu_model.specs.Machine.{Xinu, no_hart, CallState, CallResult, start, returns, refused}
@@ -19,7 +19,7 @@ use Rattle.xinu_model.specs.Footprints.{on_tables}
 use Rattle.xinu_laws.specs.Touches.{reach, stack_of, KeepsPlaces, Touches}
 use Rattle.xinu_laws.proofs.Touches.Kept.{keeps_places}
 use Rattle.xinu_laws.proofs.Touches.Moves.{touches_sent}
-use Rattle.xinu_laws.proofs.Lists.Maps.{one, times_set}
+use Rattle.table_laws.proofs.Lists.Maps.{one, times_set}
 use Rattle.xinu_laws.proofs.HeapCells.Marked.{as_many_cells}
 use Rattle.xinu_laws.proofs.HeapCells.Taken.{getstk_finds, freestk_frees}
 

@@ -3,9 +3,9 @@ use Rattle.std.proofs.Common.{◌≡◌, List, [], ◌∷◌, Option, Some, None
 use Rattle.xinu_base.specs.declared.events.End.{End}
 use Rattle.xinu_base.specs.declared.events.Event.{Event}
 use Rattle.xinu_base.specs.declared.lines.TranscriptLine.{TranscriptLine}
-use Rattle.xinu_laws.specs.Apart.{IsApart}
+use Rattle.xinu_laws.specs.Ownership.Apart.{IsApart}
 use Rattle.xinu_model.specs.Events.{panics_in, Happens}
-use Rattle.xinu_laws.specs.GivingAway.{GivesNothingAway}
+use Rattle.xinu_laws.specs.Ownership.GivingAway.{GivesNothingAway}
 use Rattle.xinu_model.specs.Machine.{Xinu}
 use Rattle.xinu_model.specs.Runs.{is_over, end_with, Follows, RunsTo}
 use Rattle.xinu_model.specs.Sound.State.{IsSound}

@@ -1,10 +1,10 @@
 -- Each call keeps each address claimed at most once. Only the calls whose footprint names the heap, stacks or where pools lie need a proof.
 use Rattle.std.proofs.Common.{◌≡◌, ℕ, Bool, true, false, ◌||◌, List, refl}
 use Rattle.std.proofs.lemmas.Bool.{or_parts}
-use Rattle.xinu_laws.specs.Apart.{IsApart}
+use Rattle.xinu_laws.specs.Ownership.Apart.{IsApart}
 use Rattle.xinu_model.specs.Calls.{calls, called}
 use Rattle.xinu_model.specs.Footprints.{Footprint}
-use Rattle.xinu_laws.specs.GivingAway.{gives_back}
+use Rattle.xinu_laws.specs.Ownership.GivingAway.{gives_back}
 use Rattle.xinu_model.specs.Machine.{Xinu}
 use Rattle.xinu_model.specs.Sound.State.{IsSound}
 use Rattle.xinu_laws.specs.Touches.{reach, KeepsPlaces, Touches}
@@ -12,7 +12,7 @@ use Rattle.xinu_model.specs.Words.{half}
 use Rattle.xinu_laws.proofs.Ownership.Claims.{apart_kept}
 use Rattle.xinu_laws.proofs.Ownership.Memory.{FreesNothingHeld, apart_getmem, apart_freemem, apart_getstk, apart_freestk, apart_mkbufpool}
 use Rattle.xinu_laws.proofs.Ownership.Processes.{apart_create, apart_exit, apart_kill}
-use Rattle.xinu_laws.proofs.Lists.RowByRow.{◌⨾◌}
+use Rattle.xinu_laws.proofs.Rows.RowByRow.{◌⨾◌}
 use Rattle.xinu_laws.proofs.Touches.Kept.{keeps_places}
 use Rattle.xinu_laws.proofs.Touches.Few.{CallLaw, IsLawOfFew, built_law_of_few}
 

@@ -13,12 +13,12 @@ use Rattle.xinu_model.specs.Semaphores.Waiting.{signalled, take_token, await}
 use Rattle.xinu_model.specs.Sound.Tables.{IsInside, IsSoundTables}
 use Rattle.xinu_model.specs.Sound.Pools.{asks_pool, ArePools}
 use Rattle.xinu_model.specs.Tables.{Tables, process_at, message_at, semaphore_at, Nowhere, InSemaphore}
-use Rattle.xinu_laws.specs.Frame.{Frame}
-use Rattle.xinu_laws.proofs.Frame.MoveTo.{owner_move}
+use Rattle.table_laws.specs.Frame.{Frame}
+use Rattle.table_laws.proofs.Frame.MoveTo.{owner_move}
 use Rattle.xinu_laws.proofs.Pools.Holders.{IsHolder, holder_finds, by_holder}
-use Rattle.xinu_laws.proofs.Tables.Owners.{owner_tokens, owner_signalled}
+use Rattle.table_laws.proofs.Tables.Owners.{owner_tokens, owner_signalled}
 use Rattle.xinu_laws.proofs.Touches.Moves.{frame_goes_on, parts_signalled}
-use Rattle.xinu_laws.proofs.Preserve.{current_within}
+use Rattle.table_laws.proofs.Preserve.{current_within}
 use Rattle.xinu_laws.proofs.Pools.Frame.{is_pool}
 use Rattle.xinu_laws.proofs.Pools.Change.{promised, pool_kept, pool_taken, pool_put_back, are_pools_set, are_pools_kept}
 use Rattle.xinu_laws.proofs.Pools.Steps.{pool_semaphore_within, promised_token, promised_blocked, promised_goes_on, promised_signalled, frame_pool_token, frame_pool_blocked, frame_pool_signalled}

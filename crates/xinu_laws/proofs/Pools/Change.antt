@@ -10,11 +10,11 @@ use Rattle.xinu_model.specs.Pools.Buffers.{BufferPool, no_pool, pool_at, pool_by
 use Rattle.xinu_model.specs.Sound.Tables.{times, count_in}
 use Rattle.xinu_model.specs.Sound.Pools.{asks_pool, is_released_to_pool, IsSoundPool, ArePools}
 use Rattle.xinu_model.specs.Tables.{Tables, process_at, semaphore_at}
-use Rattle.xinu_laws.specs.Frame.{Frame}
-use Rattle.xinu_laws.proofs.Frame.MoveTo.{same_written}
-use Rattle.xinu_laws.proofs.Pools.Buffers.{is_out_uncounted, held_taken, held_put_back}
+use Rattle.table_laws.specs.Frame.{Frame}
+use Rattle.table_laws.proofs.Frame.MoveTo.{same_written}
+use Rattle.table_laws.proofs.Buffers.{is_out_uncounted, held_taken, held_put_back}
 use Rattle.xinu_laws.proofs.Pools.Frame.{is_pool, sound_pool_framed}
-use Rattle.xinu_laws.proofs.Tables.MoveTo.{by_number}
+use Rattle.table_laws.proofs.Tables.MoveTo.{by_number}
 
 -- how many buffers of pool i are promised: the tokens of its semaphore, and those who were released and haven't taken theirs
 abbrev pub promised : ℕ → ℕ → Tables → ℕ

@@ -5,7 +5,7 @@ use Rattle.xinu_base.specs.declared.processes.Rest.{Rest}
 use Rattle.xinu_base.specs.declared.processes.Rest.TheVariants.{Nothing, GetBuf}
 use Rattle.xinu_base.specs.declared.semaphores.Owner.{Owner}
 use Rattle.xinu_base.specs.declared.semaphores.Owner.TheVariants as owner
-use Rattle.xinu_laws.specs.Frame.{Frame}
+use Rattle.table_laws.specs.Frame.{Frame}
 use Rattle.xinu_model.specs.Pools.Buffers.{BufferPool, pool_at}
 use Rattle.xinu_model.specs.Sound.Tables.{times}
 use Rattle.xinu_model.specs.Sound.Pools.{is_waiting, asks_pool, is_released_to_pool, IsSoundPool, ArePools}

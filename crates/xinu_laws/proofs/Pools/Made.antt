@@ -16,13 +16,13 @@ use Rattle.xinu_model.specs.Semaphores.Counts.{free_semaphore, make_semaphore}
 use Rattle.xinu_model.specs.Sound.Tables.{times, IsInside}
 use Rattle.xinu_model.specs.Sound.Pools.{is_waiting, asks_pool, is_released_to_pool, IsSoundPool, ArePools}
 use Rattle.xinu_model.specs.Tables.{no_process, Semaphore, no_semaphore, Tables, process_at, semaphore_at}
-use Rattle.xinu_laws.proofs.Frame.Semaphores.{frame_make_semaphore}
-use Rattle.xinu_laws.proofs.Preserve.Semaphores.{free_semaphore_free}
-use Rattle.xinu_laws.proofs.Pools.Buffers.{length-addresses, buffers_distinct, new_pool_buffers, new_pool_number}
+use Rattle.table_laws.proofs.Frame.Semaphores.{frame_make_semaphore}
+use Rattle.table_laws.proofs.Tables.Found.{free_semaphore_free}
+use Rattle.table_laws.proofs.Buffers.{length-addresses, buffers_distinct, new_pool_buffers, new_pool_number}
 use Rattle.xinu_laws.proofs.Pools.Calls.{HavePools}
 use Rattle.xinu_laws.proofs.Pools.Frame.{is_pool, asks_pool_of, sound_pool_framed}
-use Rattle.xinu_laws.proofs.Tables.MoveTo.{by_number}
-use Rattle.xinu_laws.proofs.Lists.Searches.{search_within}
+use Rattle.table_laws.proofs.Tables.MoveTo.{by_number}
+use Rattle.table_laws.proofs.Lists.Searches.{search_within}
 
 -- none passes where each fails
 times-none : {A : Type 0} (test : A → Bool) (l : List A) (d : A) → ((p : ℕ) → test (get_or l p d) ≡ false) → times test l ≡ 0

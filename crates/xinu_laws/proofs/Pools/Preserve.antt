@@ -12,15 +12,15 @@ use Rattle.xinu_model.specs.Pools.Calls.{with_pool, made_pool, is_pool_size, mkb
 use Rattle.xinu_model.specs.Pools.Buffers.{most_pools, pool_at, pool_bytes, whole_words, meets_pool, holder, with_free}
 use Rattle.xinu_model.specs.Semaphores.Counts.{free_semaphore, with_tokens}
 use Rattle.xinu_model.specs.Sound.Tables.{FitsOwner, IsInside, IsSoundTables}
-use Rattle.xinu_laws.specs.Preserve.{AreAlive, IsPreserved, MayCall}
-use Rattle.xinu_laws.proofs.Preserve.{Preserves, refused_preserves, either_preserves, goes_on_may_call, await_preserves}
-use Rattle.xinu_laws.proofs.Tables.Alive.{alive_signalled}
+use Rattle.table_laws.specs.Preserve.{AreAlive, IsPreserved, MayCall}
+use Rattle.table_laws.proofs.Preserve.{Preserves, refused_preserves, either_preserves, goes_on_may_call, await_preserves}
+use Rattle.table_laws.proofs.Tables.Alive.{alive_signalled}
 use Rattle.xinu_laws.proofs.Preserve.Semaphores.{sound_found_semaphore, harts_signalled}
 use Rattle.xinu_laws.proofs.Pools.Holders.{IsHolder, holder_finds, by_holder}
 use Rattle.xinu_laws.proofs.Pools.Calls.{HavePools}
-use Rattle.xinu_laws.proofs.Tables.MoveTo.{semaphore_within}
-use Rattle.xinu_laws.proofs.Tables.Unblock.{sound_signalled}
-use Rattle.xinu_laws.proofs.Tables.Harts.{harts_same}
+use Rattle.table_laws.proofs.Tables.MoveTo.{semaphore_within}
+use Rattle.table_laws.proofs.Tables.Unblock.{sound_signalled}
+use Rattle.table_laws.proofs.Tables.Harts.{harts_same}
 
 -- a pool is made, if memory and a semaphore are found
 made_pool_preserves : (found : Option Grant) (sem : Option ℕ) (size n : ℕ) (s : Xinu) → free_semaphore s.tables ≡ sem → MayCall s → IsPreserved (made_pool found sem size n s)

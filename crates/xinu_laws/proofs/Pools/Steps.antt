@@ -6,7 +6,7 @@ use Rattle.xinu_base.specs.declared.processes.Rest.TheVariants.{Nothing, GetBuf}
 use Rattle.xinu_base.specs.declared.processes.State.TheVariants.{Current, Ready, Waiting}
 use Rattle.xinu_base.specs.declared.semaphores.Owner.TheVariants as owner
 use Rattle.xinu_model.specs.Footprints.{on_tables}
-use Rattle.xinu_laws.specs.Frame.{Frame}
+use Rattle.table_laws.specs.Frame.{Frame}
 use Rattle.xinu_model.specs.Machine.{Xinu, CallState, blocked, goes_on}
 use Rattle.xinu_model.specs.Process.Scheduling.{in_state}
 use Rattle.xinu_model.specs.Semaphores.Counts.{with_tokens}
@@ -15,14 +15,14 @@ use Rattle.xinu_model.specs.Sound.Tables.{count_in, FitsOwner, IsInside}
 use Rattle.xinu_model.specs.Sound.Pools.{is_waiting, asks_pool, is_released_to_pool}
 use Rattle.xinu_model.specs.Tables.{no_process, Semaphore, no_semaphore, Tables, process_at, state_at, message_at, semaphore_at, Place, Nowhere, InReady, InSemaphore, move_to}
 use Rattle.xinu_laws.specs.Touches.{Reach}
-use Rattle.xinu_laws.proofs.Frame.MoveTo.{tokens_move}
-use Rattle.xinu_laws.proofs.Lists.Counts.{times-set, first_is_counted}
+use Rattle.table_laws.proofs.Frame.MoveTo.{tokens_move}
+use Rattle.table_laws.proofs.Lists.Counts.{times-set, first_is_counted}
 use Rattle.xinu_laws.proofs.Pools.Frame.{is_pool}
 use Rattle.xinu_laws.proofs.Pools.Change.{promised}
-use Rattle.xinu_laws.proofs.Tables.MoveTo.{semaphore_within, within_table}
-use Rattle.xinu_laws.proofs.Tables.Unblock.{waiter_waits}
+use Rattle.table_laws.proofs.Tables.MoveTo.{semaphore_within, within_table}
+use Rattle.table_laws.proofs.Tables.Unblock.{waiter_waits}
 use Rattle.xinu_laws.proofs.Touches.Moves.{MayTouch, frame_blocked, touches_signalled}
-use Rattle.xinu_laws.proofs.Frame.Semaphores.{frame_semaphore}
+use Rattle.table_laws.proofs.Frame.Semaphores.{frame_semaphore}
 
 -- what doesn't pass adds nothing to a count
 counts_none : (b : Bool) → b ≡ false → cond {A = ℕ} b 1 0 ≡ 0

@@ -4,18 +4,18 @@ use Rattle.xinu_base.specs.declared.processes.Process.{Process}
 use Rattle.xinu_base.specs.declared.processes.State.TheVariants.{Ready}
 use Rattle.xinu_base.specs.declared.semaphores.Owner.TheVariants as owner
 use Rattle.xinu_base.specs.Constants.{OK}
-use Rattle.xinu_laws.specs.Preserve.{AreAlive}
-use Rattle.xinu_laws.proofs.Tables.Alive.{alive_emptied}
+use Rattle.table_laws.specs.Preserve.{AreAlive}
+use Rattle.table_laws.proofs.Tables.Alive.{alive_emptied}
 use Rattle.xinu_model.specs.Machine.{Xinu, CallState}
 use Rattle.xinu_model.specs.Process.Scheduling.{in_state, ready, ready_all}
 use Rattle.xinu_model.specs.Ports.Queues.{PortQueue}
 use Rattle.xinu_model.specs.Semaphores.Waiting.{emptied}
 use Rattle.xinu_model.specs.Sound.Tables.{IsSoundTables}
 use Rattle.xinu_model.specs.Tables.{no_process, Semaphore, Tables, process_at, message_at, semaphore_at, numbers_without}
-use Rattle.xinu_laws.proofs.Frame.MoveTo.{same_written}
+use Rattle.table_laws.proofs.Frame.MoveTo.{same_written}
 use Rattle.xinu_laws.proofs.Touches.Moves.{parts_emptied}
 use Rattle.xinu_laws.proofs.Preserve.Semaphores.{harts_emptied}
-use Rattle.xinu_laws.proofs.Tables.Unblock.{unblock_all_ready, sound_emptied, emptied_has_no_waiters, owner_emptied}
+use Rattle.table_laws.proofs.Tables.Unblock.{unblock_all_ready, sound_emptied, emptied_has_no_waiters, owner_emptied}
 use Rattle.xinu_laws.proofs.Ports.Kept.{KeepsRests, keeps_rests_trans}
 use Rattle.xinu_laws.proofs.Ports.Moves.{left_for_ready}
 

@@ -11,15 +11,15 @@ use Rattle.xinu_model.specs.Ports.Calls.{freed_buffers, disposed, cleared, delet
 use Rattle.xinu_model.specs.Sound.Tables.{IsSoundTables}
 use Rattle.xinu_model.specs.Sound.Pools.{ArePools}
 use Rattle.xinu_model.specs.Sound.Ports.{ArePorts}
-use Rattle.xinu_laws.specs.Preserve.{AreAlive, IsPreserved, MayCall}
-use Rattle.xinu_laws.proofs.Preserve.{refused_preserves}
+use Rattle.table_laws.specs.Preserve.{AreAlive, IsPreserved, MayCall}
+use Rattle.table_laws.proofs.Preserve.{refused_preserves}
 use Rattle.xinu_laws.proofs.Pools.Calls.{pools_freed_buffer}
 use Rattle.xinu_laws.proofs.Pools.Preserve.{sound_freed_buffer, harts_freed_buffer, alive_freed_buffer}
 use Rattle.xinu_laws.proofs.Touches.Kept.{keeps_pools, keeps_ports}
 use Rattle.xinu_laws.proofs.Touches.Pools.{pools_reached, own_semaphores, freed_buffer_touches}
 use Rattle.xinu_laws.proofs.Ports.Renewals.{IsRenewed, port_deleted, port_reset}
 use Rattle.xinu_laws.proofs.Ports.Signals.{HasPorts}
-use Rattle.xinu_laws.proofs.Tables.Harts.{harts_same}
+use Rattle.table_laws.proofs.Tables.Harts.{harts_same}
 use Rattle.xinu_model.specs.Sound.State.{AreHarts}
 
 -- What a call keeps that changes pools and ports, and no free number.

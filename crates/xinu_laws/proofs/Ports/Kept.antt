@@ -12,7 +12,7 @@ use Rattle.xinu_model.specs.Sound.Tables.{times, count_in, IsForPort, FitsOwner,
 use Rattle.xinu_model.specs.Sound.Pools.{is_waiting}
 use Rattle.xinu_model.specs.Sound.Ports.{sends_to, receives_from, is_released_sender, is_released_receiver, IsSoundPort, ArePorts}
 use Rattle.xinu_model.specs.Tables.{no_process, Tables, process_at, semaphore_at}
-use Rattle.xinu_laws.specs.Frame.{Frame}
+use Rattle.table_laws.specs.Frame.{Frame}
 use Rattle.xinu_laws.proofs.Pools.Frame.{times-le}
 
 -- whether a semaphore's owner is a port

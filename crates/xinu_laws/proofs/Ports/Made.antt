@@ -12,12 +12,12 @@ use Rattle.xinu_model.specs.Sound.Ports.{ArePorts}
 use Rattle.xinu_laws.specs.Touches.{Touches}
 use Rattle.xinu_model.specs.Tables.{Semaphore, no_semaphore, Tables, semaphore_at}
 use Rattle.xinu_laws.proofs.Touches.Ports.{with_port_touches}
-use Rattle.xinu_laws.proofs.Tables.Changes.{sound_made_semaphore}
-use Rattle.xinu_laws.specs.Preserve.{IsPreserved, MayCall}
-use Rattle.xinu_laws.proofs.Preserve.{refused_preserves}
-use Rattle.xinu_laws.proofs.Preserve.Semaphores.{free_semaphore_free}
-use Rattle.xinu_laws.proofs.Tables.MoveTo.{by_number}
-use Rattle.xinu_laws.proofs.Lists.Searches.{search_passes, search_within}
+use Rattle.table_laws.proofs.Tables.Changes.{sound_made_semaphore}
+use Rattle.table_laws.specs.Preserve.{IsPreserved, MayCall}
+use Rattle.table_laws.proofs.Preserve.{refused_preserves}
+use Rattle.table_laws.proofs.Tables.Found.{free_semaphore_free}
+use Rattle.table_laws.proofs.Tables.MoveTo.{by_number}
+use Rattle.table_laws.proofs.Lists.Searches.{search_passes, search_within}
 use Rattle.xinu_laws.proofs.Ports.Renewed.{IsNewPort, ports_renewed}
 use Rattle.xinu_laws.proofs.Ports.Renewals.{beside_ports, port_reached_alone}
 use Rattle.xinu_laws.proofs.Ports.Signals.{HasPorts}

@@ -12,8 +12,8 @@ use Rattle.xinu_model.specs.Sound.Tables.{times, IsInside}
 use Rattle.xinu_model.specs.Sound.Pools.{is_waiting}
 use Rattle.xinu_model.specs.Sound.Ports.{is_released_sender, is_released_receiver, IsSoundPort, ArePorts}
 use Rattle.xinu_model.specs.Tables.{no_process, Semaphore, no_semaphore, Tables, process_at, semaphore_at, Nowhere, move_to}
-use Rattle.xinu_laws.proofs.Lists.Counts.{times-set}
-use Rattle.xinu_laws.proofs.Tables.MoveTo.{by_number}
+use Rattle.table_laws.proofs.Lists.Counts.{times-set}
+use Rattle.table_laws.proofs.Tables.MoveTo.{by_number}
 use Rattle.xinu_laws.proofs.Ports.Counts.{nodes-set}
 use Rattle.xinu_laws.proofs.Ports.Kept.{KeepsCounts, HasCounts, counts_kept, ports_kept}
 use Rattle.xinu_laws.proofs.Ports.Moves.{keeps_port_left, keeps_rests_set, left_for_nowhere}

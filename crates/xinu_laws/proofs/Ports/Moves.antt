@@ -11,9 +11,9 @@ use Rattle.xinu_model.specs.Semaphores.Counts.{with_semaphore, with_tokens}
 use Rattle.xinu_model.specs.Sound.Tables.{times, count_in, IsForPort}
 use Rattle.xinu_model.specs.Sound.Ports.{sends_to, receives_from, is_released_sender, is_released_receiver}
 use Rattle.xinu_model.specs.Tables.{no_process, Semaphore, no_semaphore, Tables, process_at, message_at, semaphore_at, numbers_without, semaphore_without, Nowhere, InReady, move_to}
-use Rattle.xinu_laws.proofs.Lists.Counts.{times-set, numbers_without_same, numbers_without_other}
-use Rattle.xinu_laws.proofs.Tables.Places.{semaphore_at_without}
-use Rattle.xinu_laws.proofs.Tables.MoveTo.{by_number}
+use Rattle.table_laws.proofs.Lists.Counts.{times-set, numbers_without_same, numbers_without_other}
+use Rattle.table_laws.proofs.Tables.Places.{semaphore_at_without}
+use Rattle.table_laws.proofs.Tables.MoveTo.{by_number}
 use Rattle.xinu_laws.proofs.Ports.Kept.{asks_port, KeepsPort, KeepsCounts, KeepsRests}
 
 -- and its counts.

@@ -4,7 +4,7 @@ use Rattle.xinu_base.specs.declared.semaphores.Owner.TheVariants as owner
 use Rattle.xinu_model.specs.Machine.{Parts, CallState}
 use Rattle.xinu_model.specs.Ports.Queues.{PortQueue, port_at}
 use Rattle.xinu_model.specs.Footprints.{on_ports}
-use Rattle.xinu_laws.specs.Preserve.{AreAlive}
+use Rattle.table_laws.specs.Preserve.{AreAlive}
 use Rattle.xinu_laws.specs.Touches.{Reach, reach, Touches}
 use Rattle.xinu_model.specs.Ports.Calls.{renewed, deleted, emptied_port}
 use Rattle.xinu_model.specs.Semaphores.Counts.{with_semaphore, with_tokens}
@@ -12,12 +12,12 @@ use Rattle.xinu_model.specs.Semaphores.Waiting.{emptied}
 use Rattle.xinu_model.specs.Sound.Tables.{IsSoundTables}
 use Rattle.xinu_model.specs.Sound.Ports.{ArePorts}
 use Rattle.xinu_model.specs.Tables.{Semaphore, no_semaphore, Tables, semaphore_at}
-use Rattle.xinu_laws.proofs.Frame.MoveTo.{same_written}
+use Rattle.table_laws.proofs.Frame.MoveTo.{same_written}
 use Rattle.xinu_laws.proofs.Touches.{touches_trans}
 use Rattle.xinu_laws.proofs.Touches.Ports.{HasPort, port_reached, port_cleared_touches, deleted_touches, emptied_port_touches}
-use Rattle.xinu_laws.proofs.Tables.Changes.{owned_is_no_device, sound_given_up, sound_tokens}
-use Rattle.xinu_laws.proofs.Tables.Owners.{owner_tokens}
-use Rattle.xinu_laws.proofs.Tables.MoveTo.{by_number, semaphore_within}
+use Rattle.table_laws.proofs.Tables.Changes.{owned_is_no_device, sound_given_up, sound_tokens}
+use Rattle.table_laws.proofs.Tables.Owners.{owner_tokens}
+use Rattle.table_laws.proofs.Tables.MoveTo.{by_number, semaphore_within}
 use Rattle.xinu_laws.proofs.Ports.Cleared.{port_cleared}
 use Rattle.xinu_laws.proofs.Ports.Kept.{keeps_rests_trans}
 use Rattle.xinu_laws.proofs.Ports.Messages.{port_within}

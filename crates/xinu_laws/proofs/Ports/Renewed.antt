@@ -14,8 +14,8 @@ use Rattle.xinu_model.specs.Sound.Tables.{times, count_in, IsForPort, IsInside}
 use Rattle.xinu_model.specs.Sound.Pools.{is_waiting}
 use Rattle.xinu_model.specs.Sound.Ports.{sends_to, receives_from, is_released_sender, is_released_receiver, IsSoundPort, ArePorts}
 use Rattle.xinu_model.specs.Tables.{no_process, Tables, process_at, semaphore_at}
-use Rattle.xinu_laws.specs.Frame.{Frame}
-use Rattle.xinu_laws.proofs.Tables.MoveTo.{by_number}
+use Rattle.table_laws.specs.Frame.{Frame}
+use Rattle.table_laws.proofs.Tables.MoveTo.{by_number}
 use Rattle.xinu_laws.proofs.Ports.Counts.{times_none, nodes-set}
 use Rattle.xinu_laws.proofs.Ports.Kept.{asks_port, KeepsRests, Covers, counts_kept, sound_port_kept, keeps_port_framed, keeps_counts_framed}
 

@@ -18,19 +18,19 @@ use Rattle.xinu_model.specs.Sound.Pools.{is_waiting}
 use Rattle.xinu_model.specs.Sound.Ports.{is_ticket_of, sends_to, receives_from, is_released_sender, is_released_receiver, IsSoundPort, ArePorts}
 use Rattle.xinu_model.specs.Tables.{Tables, process_at, message_at, semaphore_at, InSemaphore}
 use Rattle.xinu_model.specs.Words.{signed}
-use Rattle.xinu_laws.proofs.Tables.Changes.{sound_token_taken}
-use Rattle.xinu_laws.specs.Preserve.{AreAlive, MayCall}
-use Rattle.xinu_laws.proofs.Preserve.{current_within, blocked_preserves, goes_on_may_call, tables_may_call, waits_hold}
+use Rattle.table_laws.proofs.Tables.Changes.{sound_token_taken}
+use Rattle.table_laws.specs.Preserve.{AreAlive, MayCall}
+use Rattle.table_laws.proofs.Preserve.{current_within, blocked_preserves, goes_on_may_call, tables_may_call, waits_hold}
 use Rattle.xinu_laws.proofs.Preserve.Semaphores.{harts_signalled}
-use Rattle.xinu_laws.proofs.Tables.MoveTo.{semaphore_within}
-use Rattle.xinu_laws.proofs.Tables.Unblock.{sound_signalled}
+use Rattle.table_laws.proofs.Tables.MoveTo.{semaphore_within}
+use Rattle.table_laws.proofs.Tables.Unblock.{sound_signalled}
 use Rattle.xinu_laws.proofs.Ports.Finish.{WhereFresh, put_kept, take_first_kept, fresh_seq}
 use Rattle.xinu_laws.proofs.Ports.Made.{PreservesPorts, refused_on_ports}
 use Rattle.xinu_laws.proofs.Ports.Messages.{ports_take_room, ports_take_turn, ports_go_on, room_go_on, message_go_on}
 use Rattle.xinu_laws.proofs.Ports.Signals.{HasPorts, HasMessage, HasRoom}
 use Rattle.xinu_laws.proofs.Ports.Waits.{IsCallOn, ports_wait, sender_call, receiver_call}
-use Rattle.xinu_laws.proofs.Tables.Alive.{alive_signalled}
-use Rattle.xinu_laws.proofs.Tables.Harts.{harts_same}
+use Rattle.table_laws.proofs.Tables.Alive.{alive_signalled}
+use Rattle.table_laws.proofs.Tables.Harts.{harts_same}
 use Rattle.xinu_model.specs.Sound.State.{AreHarts}
 
 -- a semaphore of a port is in the table

@@ -14,8 +14,8 @@ use Rattle.xinu_model.specs.Semaphores.Waiting.{signal_first, signalled}
 use Rattle.xinu_model.specs.Sound.Tables.{times, count_in, waiting_places, FitsOwner, IsInside}
 use Rattle.xinu_model.specs.Sound.Ports.{sends_to, receives_from, is_released_sender, is_released_receiver, IsSoundPort, ArePorts}
 use Rattle.xinu_model.specs.Tables.{Semaphore, no_semaphore, Tables, process_at, state_at, message_at, semaphore_at}
-use Rattle.xinu_laws.proofs.Lists.Counts.{first_is_counted, get_or-le-total}
-use Rattle.xinu_laws.proofs.Tables.MoveTo.{within_table, semaphore_within}
+use Rattle.table_laws.proofs.Lists.Counts.{first_is_counted, get_or-le-total}
+use Rattle.table_laws.proofs.Tables.MoveTo.{within_table, semaphore_within}
 use Rattle.xinu_laws.proofs.Ports.Kept.{KeepsPort, KeepsCounts, KeepsRests, HasCounts, counts_kept, ports_kept}
 use Rattle.xinu_laws.proofs.Ports.Moves.{keeps_port_tokens, keeps_rests_semaphore, keeps_counts_semaphore, keeps_port_ready, keeps_rests_ready, keeps_counts_ready, left_for_ready, senders_ready, receivers_ready}
 use Rattle.xinu_laws.proofs.Pools.Steps.{at_most_one}

@@ -14,11 +14,11 @@ use Rattle.xinu_model.specs.Sound.Pools.{is_waiting}
 use Rattle.xinu_model.specs.Sound.Ports.{receives_from, is_released_receiver}
 use Rattle.xinu_model.specs.Sound.State.{IsSound}
 use Rattle.xinu_model.specs.Tables.{process_at}
-use Rattle.xinu_laws.specs.Refusals.{AnswersFirst}
+use Rattle.xinu_laws.specs.Replies.{AnswersFirst}
 use Rattle.xinu_laws.proofs.Ports.Messages.{message_go_on}
 use Rattle.xinu_laws.proofs.Ports.Finish.{fresh_seq}
 use Rattle.xinu_laws.proofs.Ports.Sends.{own_ticket}
-use Rattle.xinu_laws.proofs.Preserve.{current_within}
+use Rattle.table_laws.proofs.Preserve.{current_within}
 
 -- A ticket is stale if its port has a later number.
 pub later_is_stale : (ticket : PortTicket) (ports : List MessagePort) → ticket.seq < (port_at ports ticket.port).seq → is_stale ticket ports ≡ true

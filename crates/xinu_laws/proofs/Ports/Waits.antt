@@ -11,9 +11,9 @@ use Rattle.xinu_model.specs.Ports.Queues.{PortQueue, MessagePort, port_at}
 use Rattle.xinu_model.specs.Sound.Tables.{count_in, IsInside}
 use Rattle.xinu_model.specs.Sound.Ports.{is_released_sender, is_released_receiver, IsSoundPort, ArePorts}
 use Rattle.xinu_model.specs.Tables.{no_process, Tables, process_at, semaphore_at, numbers_without, waits_without, InSemaphore, move_to}
-use Rattle.xinu_laws.proofs.Lists.Counts.{times-set, numbers_without_same, numbers_without_other, count_last_other}
-use Rattle.xinu_laws.proofs.Tables.Places.{IsInTable, length-waits_without}
-use Rattle.xinu_laws.proofs.Tables.MoveTo.{by_number, process_move_same, process_move_other, semaphore_move_cases}
+use Rattle.table_laws.proofs.Lists.Counts.{times-set, numbers_without_same, numbers_without_other, count_last_other}
+use Rattle.table_laws.proofs.Tables.Places.{IsInTable, length-waits_without}
+use Rattle.table_laws.proofs.Tables.MoveTo.{by_number, process_move_same, process_move_other, semaphore_move_cases}
 use Rattle.xinu_laws.proofs.Ports.Kept.{KeepsCounts, counts_kept}
 use Rattle.xinu_laws.proofs.Ports.Signals.{port_semaphore_within}
 

@@ -14,7 +14,8 @@ use Rattle.xinu_model.specs.Names.Calls.{names_of}
 use Rattle.xinu_model.specs.Names.Sound.{AreSoundNames}
 use Rattle.xinu_model.specs.Pools.Calls.{go_on_getbuf}
 use Rattle.xinu_model.specs.Ports.Calls.{go_on_ptsend, go_on_ptrecv}
-use Rattle.xinu_laws.specs.Preserve.{AreAlive, FitsAnswer, IsPreserved, KeepsAll, MayCall, MayCallAny}
+use Rattle.xinu_laws.specs.Preserve.{KeepsAll, MayCallAny}
+use Rattle.table_laws.specs.Preserve.{AreAlive, FitsAnswer, IsPreserved, MayCall}
 use Rattle.xinu_model.specs.Process.Death.{exit}
 use Rattle.xinu_model.specs.RawDisk.Calls.{go_on_disk}
 use Rattle.xinu_model.specs.Process.Calls.{go_on_suspend}
@@ -42,15 +43,15 @@ use Rattle.xinu_laws.proofs.Pools.Made.{pools_mkbufpool}
 use Rattle.xinu_laws.proofs.Ports.Deletions.{PreservesAll, ptdelete_keeps, ptreset_keeps}
 use Rattle.xinu_laws.proofs.Ports.Made.{PreservesPorts, ptcreate_on_ports}
 use Rattle.xinu_laws.proofs.Ports.Sends.{ptsend_on_ports, ptrecv_on_ports, go_on_ptsend_on_ports, go_on_ptrecv_on_ports}
-use Rattle.xinu_laws.proofs.Lists.RowByRow.{◌⨾◌}
-use Rattle.xinu_laws.proofs.Lists.CallRows.{of_row}
+use Rattle.xinu_laws.proofs.Rows.RowByRow.{◌⨾◌}
+use Rattle.xinu_laws.proofs.Rows.CallRows.{of_row}
 use Rattle.xinu_laws.proofs.RawDisks.Framed.{disks_in, with_disks}
 use Rattle.xinu_laws.proofs.RawDisks.Moves.{HasDisks}
 use Rattle.xinu_laws.proofs.RawDisks.Deaths.{kill_keeps_disk, exit_keeps_disk}
 use Rattle.xinu_laws.proofs.Touches.Disks.{go_on_disk_touches, go_on_disk_preserves}
 use Rattle.xinu_laws.proofs.Touches.Kept.{keeps_pools, keeps_ports, keeps_console, keeps_disks, keeps_names, keeps_unused}
 use Rattle.xinu_laws.proofs.Preserve.Unused.{AreUnusedAfter, exit_unused, kill_unused, create_unused}
-use Rattle.xinu_laws.proofs.Tables.Alive.{alive_callers}
+use Rattle.table_laws.proofs.Tables.Alive.{alive_callers}
 use Rattle.xinu_laws.proofs.Touches.Messages.{go_on_receive_touches}
 use Rattle.xinu_laws.proofs.Touches.Pools.{go_on_getbuf_touches}
 use Rattle.xinu_laws.proofs.Touches.Ports.{go_on_ptsend_touches, go_on_ptrecv_touches}

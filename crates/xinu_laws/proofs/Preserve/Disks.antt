@@ -10,7 +10,7 @@ use Rattle.xinu_model.specs.Sound.State.{IsSound}
 use Rattle.xinu_laws.specs.GivenDisks.{AreSoundDisks}
 use Rattle.xinu_laws.proofs.Preserve.Events.{sound_boot}
 use Rattle.xinu_laws.proofs.RawDisks.Started.{start_devices}
-use Rattle.xinu_laws.proofs.Tables.Starts.{boots_from}
+use Rattle.table_laws.proofs.Tables.Starts.{boots_from}
 
 -- a sound state of which nothing was asked is sound on other disks
 sound_on : (d : Disks) (s : Xinu) → AreSoundDisks d → s.parts.devices.disk.requests ≡ [] → s.parts.devices.files.calls ≡ [] → IsSound s

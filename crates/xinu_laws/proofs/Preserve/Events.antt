@@ -32,25 +32,25 @@ use Rattle.xinu_laws.proofs.Touches.Events.{touches_end_of_event, released_by_ti
 use Rattle.xinu_laws.proofs.Consoles.Kept.{sound_holds}
 use Rattle.xinu_laws.proofs.Consoles.Signalled.{Signals, receiving_signals, sending_signals}
 use Rattle.xinu_laws.proofs.Consoles.Started.{devices_start}
-use Rattle.xinu_laws.proofs.FileCalls.AtOnce.{next_is, next_can, not_null_makes, at_once_keeps}
-use Rattle.xinu_laws.proofs.FileCalls.Completed.{step_completes}
+use Rattle.xinu_laws.proofs.FileSyscalls.AtOnce.{next_is, next_can, not_null_makes, at_once_keeps}
+use Rattle.xinu_laws.proofs.FileSyscalls.Completed.{step_completes}
 use Rattle.xinu_laws.proofs.RawDisks.Framed.{disks_in, with_disks}
 use Rattle.xinu_laws.proofs.RawDisks.Completed.{Completes, served_completes}
 use Rattle.xinu_laws.proofs.Touches.Kept.{keeps_pools, keeps_ports, keeps_console, keeps_disks, keeps_names, keeps_unused}
 use Rattle.xinu_model.specs.Footprints.{on_tables}
 use Rattle.xinu_laws.specs.Touches.{reach, at_a_tick, Touches}
-use Rattle.xinu_laws.proofs.Tables.Ends.{sound_end_of_event, harts_end_of_event, harts_ticked, executed_may_call}
+use Rattle.table_laws.proofs.Tables.Ends.{sound_end_of_event, harts_end_of_event, harts_ticked, executed_may_call}
 use Rattle.xinu_laws.proofs.Ports.Start.{ports_start}
-use Rattle.xinu_laws.proofs.Tables.Unblock.{unblock_all_ready}
+use Rattle.table_laws.proofs.Tables.Unblock.{unblock_all_ready}
 use Rattle.xinu_laws.proofs.Preserve.Runs.{IsKept, runs_keep}
 use Rattle.xinu_laws.specs.Preserve.{MayCallAny, KeepsAll, ticking}
 use Rattle.xinu_laws.proofs.Preserve.Calls.{inside_preserved, replies_alive, called_keeps, exit_keeps, continued_keeps}
 use Rattle.xinu_laws.proofs.Preserve.Unused.{unused_start}
-use Rattle.xinu_laws.proofs.Tables.Starts.{sound_start}
-use Rattle.xinu_laws.proofs.Tables.Unused.{unused_executed}
+use Rattle.table_laws.proofs.Tables.Starts.{sound_start}
+use Rattle.table_laws.proofs.Tables.Unused.{unused_executed}
 use Rattle.xinu_model.proofs.ZeroRegister.{zero_register_of_step}
-use Rattle.xinu_laws.proofs.Tables.Ticks.{sound_ticked}
-use Rattle.xinu_laws.proofs.Tables.Harts.{harts_same}
+use Rattle.table_laws.proofs.Tables.Ticks.{sound_ticked}
+use Rattle.table_laws.proofs.Tables.Harts.{harts_same}
 
 -- The end of an event leaves a sound state.
 pub state_end_of_event : (was : ℕ) (first : List TranscriptLine) (result : CallResult) → KeepsAll result → IsSound (end_of_event was first result).state

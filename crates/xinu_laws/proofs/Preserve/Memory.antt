@@ -3,7 +3,7 @@ use Rattle.std.proofs.Common.{ℕ, Option, Some, None}
 use Rattle.xinu_model.specs.Heap.Cells as heap
 use Rattle.xinu_model.specs.Heap.Cells.{Heap, Grant, Stack}
 use Rattle.xinu_model.specs.Heap.Calls.{granted, stacked, given_back, getmem, freemem, getstk, freestk}
-use Rattle.xinu_laws.proofs.Preserve.{Preserves, refused_preserves}
+use Rattle.table_laws.proofs.Preserve.{Preserves, refused_preserves}
 
 -- what was granted
 granted_preserves : (found : Option Grant) → Preserves (granted found)

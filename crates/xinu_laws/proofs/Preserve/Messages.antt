@@ -8,10 +8,10 @@ use Rattle.xinu_model.specs.Machine.{Xinu, CallResult, start, goes_on}
 use Rattle.xinu_base.specs.Constants.{TIMEOUT}
 use Rattle.xinu_model.specs.Messages.{can_get, delivered, received, held, send, receive, recvclr, recvtime, go_on_receive}
 use Rattle.xinu_model.specs.Tables.{Nowhere, InSleepers}
-use Rattle.xinu_laws.proofs.Tables.Deaths.{can_get_alive, sound_delivered, delivered_changes}
-use Rattle.xinu_laws.specs.Preserve.{AreAlive, IsPreserved, MayCall}
-use Rattle.xinu_laws.proofs.Preserve.{Preserves, refused_preserves, answers_preserves, either_preserves, blocked_preserves, goes_on_may_call}
-use Rattle.xinu_laws.proofs.Tables.Harts.{harts_same}
+use Rattle.table_laws.proofs.Tables.Deaths.{can_get_alive, sound_delivered, delivered_changes}
+use Rattle.table_laws.specs.Preserve.{AreAlive, IsPreserved, MayCall}
+use Rattle.table_laws.proofs.Preserve.{Preserves, refused_preserves, answers_preserves, either_preserves, blocked_preserves, goes_on_may_call}
+use Rattle.table_laws.proofs.Tables.Harts.{harts_same}
 
 -- Call 21.
 pub send_preserves : (p message : ℕ) → Preserves (send p message)

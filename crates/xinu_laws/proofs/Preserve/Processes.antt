@@ -1,12 +1,14 @@
 -- The calls on processes keep what holds of the tables.
-use Rattle.std.proofs.Common.{◌≡◌, ◌≢◌, ℕ, ◌+◌, ◌<◌, ◌==◌, true, not, ◌||◌, List, refl, sym, subst, ◌∙◌, ⊎_elim, inr, ap, false, Option, Some, None, ℤ, pos}
+use Rattle.std.proofs.Common.{◌≡◌, ◌≢◌, ℕ, ◌<◌, ◌==◌, not, ◌||◌, List, refl, sym, subst, ◌∙◌, ⊎_elim, inr, ap, false, Option, Some, None, ℤ, pos}
 use Rattle.std.specs.Prelude.{int_lt, drop, slice_set, take}
 use Rattle.std.proofs.lemmas.Bool.{cond_both, or_parts, eqb-false}
 use Rattle.xinu_base.specs.declared.processes.Process.{Process}
 use Rattle.xinu_base.specs.declared.processes.Rest.TheVariants.{Nothing, SelfSuspend}
 use Rattle.xinu_base.specs.declared.processes.State.{State}
-use Rattle.xinu_base.specs.declared.processes.State.TheVariants.{Free, Current, Ready, Receiving, Sleeping, Suspended, Waiting, Timed}
-use Rattle.xinu_laws.specs.Moves.{CanMove, IsPlaceOf}
+use Rattle.xinu_base.specs.declared.processes.State.TheVariants.{Free, Current, Ready, Suspended}
+use Rattle.table_laws.proofs.Tables.Found.{free_process_free, free_process_within}
+use Rattle.table_laws.proofs.Tables.States.{is_ready_of, suspended_of}
+use Rattle.table_laws.specs.Moves.{CanMove, IsPlaceOf}
 use Rattle.xinu_model.specs.Heap.Cells.{Stack, take_stack}
 use Rattle.xinu_model.specs.Machine.{Xinu, start, goes_on}
 use Rattle.xinu_model.specs.Memory.{in_ram}
@@ -17,36 +19,13 @@ use Rattle.xinu_model.specs.Process.Calls.{is_suspended, is_ready, getpid, creat
 use Rattle.xinu_model.specs.Process.Death.{exit}
 use Rattle.xinu_model.specs.Sound.Tables.{CanRun, HoldsFor, FitsMessage, IsInside, IsSoundTables}
 use Rattle.xinu_model.specs.Tables.{Tables, process_at, state_at, message_at, is_free, move_to, Nowhere, InReady}
-use Rattle.xinu_laws.proofs.Tables.Changes.{sound_process}
-use Rattle.xinu_laws.proofs.Tables.Deaths.{free_of, not_free, inside_killed, sound_killed, harts_killed, nobody_answered}
-use Rattle.xinu_laws.specs.Preserve.{IsPreserved, MayCall}
-use Rattle.xinu_laws.proofs.Preserve.{Preserves, current_within, refused_preserves, answers_preserves, either_preserves, blocked_preserves, goes_on_may_call}
-use Rattle.xinu_laws.proofs.Tables.Scheduling.{holds_at, null_rest_at, inside_last_process, sound_move, sound_ready, idle_differs}
-use Rattle.xinu_laws.proofs.Tables.MoveTo.{within_table}
-use Rattle.xinu_laws.proofs.Lists.Searches.{search_passes, search_within}
-use Rattle.xinu_laws.proofs.Tables.Harts.{harts_set}
-
--- who passes the test is suspended
-pub suspended_of : (s : State) → is_suspended s ≡ true → s ≡ Suspended
-suspended_of Suspended h = refl
-suspended_of Free h = cc
-suspended_of Current h = cc
-suspended_of Ready h = cc
-suspended_of Receiving h = cc
-suspended_of Sleeping h = cc
-suspended_of Waiting h = cc
-suspended_of Timed h = cc
-
--- who passes the test is ready
-pub is_ready_of : (s : State) → is_ready s ≡ true → s ≡ Ready
-is_ready_of Ready h = refl
-is_ready_of Free h = cc
-is_ready_of Current h = cc
-is_ready_of Suspended h = cc
-is_ready_of Receiving h = cc
-is_ready_of Sleeping h = cc
-is_ready_of Waiting h = cc
-is_ready_of Timed h = cc
+use Rattle.table_laws.proofs.Tables.Changes.{sound_process}
+use Rattle.table_laws.proofs.Tables.Deaths.{not_free, inside_killed, sound_killed, harts_killed, nobody_answered}
+use Rattle.table_laws.specs.Preserve.{IsPreserved, MayCall}
+use Rattle.table_laws.proofs.Preserve.{Preserves, current_within, refused_preserves, answers_preserves, either_preserves, blocked_preserves, goes_on_may_call}
+use Rattle.table_laws.proofs.Tables.Scheduling.{holds_at, null_rest_at, inside_last_process, sound_move, sound_ready, idle_differs}
+use Rattle.table_laws.proofs.Tables.MoveTo.{within_table}
+use Rattle.table_laws.proofs.Tables.Harts.{harts_set}
 
 -- a free number isn't that of the null process
 free_is_not_null : (t : Tables) (p : ℕ) → IsInside t → state_at t p ≡ Free → p ≢ 0
@@ -69,14 +48,6 @@ sound_made_process t p x k within free state rest =
     } in
     let made = sound_move t p x None Nowhere k (λ e. let f = subst (λ r. state_at t r ≡ Current) (sym e) k.runs in cc) c in
     record { inside = inside_last_process (move_to p x None Nowhere t) p made.inside; runs = made.runs }
-
--- a search for a free number finds one that is free
-pub free_process_free : (t : Tables) (p : ℕ) → free_process t ≡ Some p → state_at t p ≡ Free
-free_process_free t p e = free_of (state_at t p) (search_passes (λ r. is_free (state_at t r)) 64 (t.last_process + 1) p e)
-
--- and one of the table
-pub free_process_within : (t : Tables) (p : ℕ) → free_process t ≡ Some p → p < 64
-free_process_within t p e = search_within (λ r. is_free (state_at t r)) 64 (t.last_process + 1) p e
 
 -- Call 1.
 pub getpid_preserves : Preserves getpid

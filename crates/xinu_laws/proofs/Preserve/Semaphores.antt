@@ -12,14 +12,15 @@ use Rattle.xinu_model.specs.Semaphores.Waiting.{emptied, signal_first, signalled
 use Rattle.xinu_model.specs.Semaphores.Calls.{answers, made_semaphore, semcreate, semdelete, semreset, semcount, wait, signal, signaln}
 use Rattle.xinu_model.specs.Sound.Tables.{FitsOwner, IsInside, IsSoundTables}
 use Rattle.xinu_model.specs.Tables.{no_semaphore, Tables, semaphore_at}
-use Rattle.xinu_laws.proofs.Tables.Changes.{sound_tokens, sound_given_up, sound_made_semaphore, owned_is_no_device}
-use Rattle.xinu_laws.specs.Preserve.{IsPreserved, MayCall}
-use Rattle.xinu_laws.proofs.Preserve.{Preserves, refused_preserves, answers_preserves, either_preserves, await_preserves}
-use Rattle.xinu_laws.proofs.Tables.MoveTo.{semaphore_within}
-use Rattle.xinu_laws.proofs.Tables.Unblock.{unblock_all_ready, emptied_alike, owner_emptied, sound_emptied, emptied_has_no_waiters, sound_signalled, sound_signalled_times}
-use Rattle.xinu_laws.proofs.Lists.Searches.{search_passes, search_within}
-use Rattle.xinu_laws.proofs.Tables.Harts.{harts_same}
-use Rattle.xinu_laws.proofs.Tables.Alive.{alive_signalled, alive_signalled_times, alive_emptied}
+use Rattle.table_laws.proofs.Tables.Found.{free_semaphore_free}
+use Rattle.table_laws.proofs.Tables.Changes.{sound_tokens, sound_given_up, sound_made_semaphore, owned_is_no_device}
+use Rattle.table_laws.specs.Preserve.{IsPreserved, MayCall}
+use Rattle.table_laws.proofs.Preserve.{Preserves, refused_preserves, answers_preserves, either_preserves, await_preserves}
+use Rattle.table_laws.proofs.Tables.MoveTo.{semaphore_within}
+use Rattle.table_laws.proofs.Tables.Unblock.{unblock_all_ready, emptied_alike, owner_emptied, sound_emptied, emptied_has_no_waiters, sound_signalled, sound_signalled_times}
+use Rattle.table_laws.proofs.Lists.Searches.{search_within}
+use Rattle.table_laws.proofs.Tables.Harts.{harts_same}
+use Rattle.table_laws.proofs.Tables.Alive.{alive_signalled, alive_signalled_times, alive_emptied}
 
 -- whose semaphore a process may name
 images_of : (by : Option Owner) → is_images by ≡ true → by ≡ Some Image
@@ -40,14 +41,6 @@ pub good_semaphore : (t : Tables) (sem : ℕ) → IsInside t → is_good sem t �
 good_semaphore t sem o h =
     let e = images_of (semaphore_at t sem).owner h in
     record { owner = e; within = semaphore_within t sem o.semaphores (λ f. cc); no_device = owned_is_no_device t sem o (λ f. cc) }
-
--- a search for a free number finds one that isn't in use
-pub free_semaphore_free : (t : Tables) (sem : ℕ) → free_semaphore t ≡ Some sem → (semaphore_at t sem).owner ≡ None
-free_semaphore_free t sem e = unused (semaphore_at t sem).owner (search_passes (λ r. not (is_some (semaphore_at t r).owner)) 128 (t.last_semaphore + 1) sem e)
-  where
-    unused : (by : Option Owner) → not (is_some by) ≡ true → by ≡ None
-    unused None h = refl
-    unused (Some by) h = cc
 
 -- A semaphore is made if a search found a number.
 pub sound_found_semaphore : (t : Tables) (sem tokens : ℕ) (by : Owner) → IsSoundTables t → free_semaphore t ≡ Some sem → by ≢ Device → IsSoundTables (make_semaphore sem by tokens t)

@@ -15,9 +15,9 @@ use Rattle.xinu_model.specs.Process.Creation.{stack_size, new_hart, new_process,
 use Rattle.xinu_model.specs.Process.Death.{killed, exit}
 use Rattle.xinu_model.specs.Sound.State.{AreUnused}
 use Rattle.xinu_model.specs.Tables.{process_at, state_at, is_free}
-use Rattle.xinu_laws.proofs.Preserve.Processes.{free_process_within}
-use Rattle.xinu_laws.proofs.Tables.Starts.{none_made, all_are_made, boots_from}
-use Rattle.xinu_laws.proofs.Tables.Unused.{unused_made, unused_gone}
+use Rattle.table_laws.proofs.Tables.Found.{free_process_within}
+use Rattle.table_laws.proofs.Tables.Starts.{none_made, all_are_made, boots_from}
+use Rattle.table_laws.proofs.Tables.Unused.{unused_made, unused_gone}
 use Rattle.xinu_laws.proofs.Touches.Boot.{touches_all_started}
 use Rattle.xinu_laws.proofs.Touches.Kept.{keeps_unused}
 use Rattle.xinu_laws.proofs.Touches.Moves.{touches_sent}

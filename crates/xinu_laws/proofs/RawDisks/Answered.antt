@@ -14,10 +14,10 @@ use Rattle.xinu_model.specs.RawDisk.Requests.{requesters}
 use Rattle.xinu_model.specs.Sound.State.{IsSound}
 use Rattle.xinu_model.specs.Sound.Tables.{count_in}
 use Rattle.xinu_model.specs.Tables.{process_at, state_at, message_at, semaphore_at, InReady}
-use Rattle.xinu_laws.proofs.Lists.Counts.{first_is_counted}
+use Rattle.table_laws.proofs.Lists.Counts.{first_is_counted}
 use Rattle.xinu_laws.proofs.RawDisks.Served.{serves_first}
-use Rattle.xinu_laws.proofs.Tables.MoveTo.{process_move_same, within_table}
-use Rattle.xinu_laws.proofs.Tables.Unblock.{waiter_waits}
+use Rattle.table_laws.proofs.Tables.MoveTo.{process_move_same, within_table}
+use Rattle.table_laws.proofs.Tables.Unblock.{waiter_waits}
 
 -- who may not ask is refused,
 pub asks_in_vain : (at block : ℕ) (s : Xinu) → may_request at block s ≡ false → (disk_read at block s ≡ refused s) × (disk_write at block s ≡ refused s)

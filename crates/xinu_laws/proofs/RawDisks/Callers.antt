@@ -2,7 +2,7 @@
 use Rattle.std.proofs.Common.{◌≡◌, ℕ, Bool, true, false, not, ◌==◌, List, [], ◌∷◌, ◌++◌, filter, Option, Some, None, refl, sym, ap, ◌∙◌, append_assoc}
 use Rattle.std.specs.Prelude.{IsSome}
 use Rattle.std.proofs.lemmas.Bool.{cond_both, cond-true, cond-false, not-true}
-use Rattle.xinu_laws.proofs.Lists.Orders.{all_filter}
+use Rattle.table_laws.proofs.Lists.Orders.{all_filter}
 use Rattle.xinu_model.specs.RawDisk.Callers.{is_caller, living, callers, HaveCallers, others, given_up}
 
 -- whether a process isn't p

@@ -1,6 +1,6 @@
 -- A completion of the raw disk keeps what holds of the disks, of tables and of registers, and touches nothing else.
 use Rattle.std.proofs.Common.{◌≡◌, ℕ, Bool, ◌∷◌, ◌++◌, Option, Some, None, refl, ap, ◌∙◌, arith, List, ℤ}
-use Rattle.xinu_laws.specs.Preserve.{AreAlive}
+use Rattle.table_laws.specs.Preserve.{AreAlive}
 use Rattle.xinu_laws.specs.Touches.{reach, Touches}
 use Rattle.xinu_model.specs.Files.Work.{copied}
 use Rattle.xinu_model.specs.Footprints.{on_disk}

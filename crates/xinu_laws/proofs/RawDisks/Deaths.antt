@@ -1,7 +1,7 @@
 -- A death gives up what the process asked of the disks, and keeps what holds of them.
 use Rattle.std.proofs.Common.{ℕ, ◌<◌, ◌==◌, ◌||◌, None, refl, sym, ap, ◌∙◌}
 use Rattle.std.proofs.lemmas.Bool.{both_ways, cond_both, or_parts}
-use Rattle.xinu_laws.specs.Preserve.{MayCall}
+use Rattle.table_laws.specs.Preserve.{MayCall}
 use Rattle.xinu_laws.specs.Touches.{reach, Touches}
 use Rattle.xinu_model.specs.Footprints.{on_tables}
 use Rattle.xinu_model.specs.Machine.{Xinu, CallState, CallResult, start, refused}
@@ -12,14 +12,14 @@ use Rattle.xinu_model.specs.RawDisk.Calls.{disk_of}
 use Rattle.xinu_model.specs.Sound.Tables.{IsInside}
 use Rattle.xinu_model.specs.Tables.{Semaphore, no_process, process_at, state_at, is_free, numbers_without, Nowhere}
 use Rattle.xinu_model.specs.Files.Syscalls.{files_of}
-use Rattle.xinu_laws.proofs.FileSteps.Sound.{sound_given_up, callers_stay}
-use Rattle.xinu_laws.proofs.Frame.MoveTo.{tokens_move}
-use Rattle.xinu_laws.proofs.Preserve.{current_within}
-use Rattle.xinu_laws.proofs.Tables.MoveTo.{within_table}
+use Rattle.xinu_laws.proofs.FileWork.Sound.{sound_given_up, callers_stay}
+use Rattle.table_laws.proofs.Frame.MoveTo.{tokens_move}
+use Rattle.table_laws.proofs.Preserve.{current_within}
+use Rattle.table_laws.proofs.Tables.MoveTo.{within_table}
 use Rattle.xinu_laws.proofs.RawDisks.Moves.{HasDisks, replies_move}
 use Rattle.xinu_laws.proofs.RawDisks.Killed.{callers_left, sound_left}
-use Rattle.xinu_laws.proofs.Tables.Deaths.{inside_sent}
-use Rattle.xinu_laws.proofs.Tables.Places.{semaphore_at_without}
+use Rattle.table_laws.proofs.Tables.Deaths.{inside_sent}
+use Rattle.table_laws.proofs.Tables.Places.{semaphore_at_without}
 use Rattle.xinu_laws.proofs.Touches.Kept.{keeps_disks}
 use Rattle.xinu_laws.proofs.Touches.Moves.{touches_sent}
 

@@ -4,7 +4,7 @@ use Rattle.xinu_base.specs.declared.processes.Rest.{Rest}
 use Rattle.xinu_base.specs.declared.processes.Rest.TheVariants.{Disk}
 use Rattle.xinu_base.specs.declared.semaphores.Owner.{Owner}
 use Rattle.xinu_base.specs.declared.semaphores.Owner.TheVariants.{Device}
-use Rattle.xinu_laws.specs.Frame.{Frame, StillWait, waits_at}
+use Rattle.table_laws.specs.Frame.{Frame, StillWait, waits_at}
 use Rattle.xinu_model.specs.Devices.State.{Devices}
 use Rattle.xinu_model.specs.Names.Sound.{AreSoundNames}
 use Rattle.xinu_model.specs.Sound.Console.{IsConsole}
@@ -13,8 +13,8 @@ use Rattle.xinu_model.specs.Sound.Disks.{HasReply, IsRawDisk, IsFileDisk}
 use Rattle.xinu_model.specs.Sound.Pools.{is_waiting}
 use Rattle.xinu_model.specs.Sound.Tables.{count_in, FitsOwner, IsInside}
 use Rattle.xinu_model.specs.Tables.{Tables, process_at, state_at, semaphore_at}
-use Rattle.xinu_laws.proofs.Frame.Order.{filter_all, waiters_kept}
-use Rattle.xinu_laws.proofs.Tables.Unblock.{waiter_waits}
+use Rattle.table_laws.proofs.Frame.Order.{filter_all, waiters_kept}
+use Rattle.table_laws.proofs.Tables.Unblock.{waiter_waits}
 
 -- What holds of the raw disk and of files, and of those who wait for them.
 pub record AreDisks (t : Tables) (d : Devices) : Type 0 where

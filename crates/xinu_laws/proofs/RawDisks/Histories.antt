@@ -1,6 +1,6 @@
 -- Requests are served once each, in their order.
 use Rattle.std.proofs.Common.{◌≡◌, Bool, true, false, List, [], ◌∷◌, ◌++◌, Some, None, refl, sym, ap, ◌∙◌, append_assoc, append-nil}
-use Rattle.xinu_laws.specs.RawDisks.{DiskStep, Requests, Completes, after_step, after_steps, made_in, served_in, served_first, requests_of}
+use Rattle.xinu_model.specs.RawDisk.Histories.{DiskStep, Requests, Completes, after_step, after_steps, made_in, served_in, served_first, requests_of}
 use Rattle.xinu_model.specs.RawDisk.Completions.{Served, transferred, served, first_served, after_completion}
 use Rattle.xinu_model.specs.RawDisk.Requests.{Request, RawDisk, requested}
 

@@ -3,7 +3,7 @@ use Rattle.std.proofs.Common.{◌≡◌, ◌≢◌, ℕ, ◌==◌, true, false, 
 use Rattle.std.proofs.lemmas.Bool.{cond_both, and_parts, ltb-true}
 use Rattle.xinu_base.specs.declared.processes.Rest.TheVariants.{Disk}
 use Rattle.xinu_base.specs.declared.processes.State.TheVariants.{Waiting}
-use Rattle.xinu_laws.specs.Preserve.{IsPreserved}
+use Rattle.table_laws.specs.Preserve.{IsPreserved}
 use Rattle.xinu_laws.specs.Touches.{reach, KeepsParts, Touches}
 use Rattle.xinu_model.specs.Footprints.{Footprint, on_disk}
 use Rattle.xinu_model.specs.Machine.{Xinu, CallResult, refused}
@@ -17,9 +17,9 @@ use Rattle.xinu_model.specs.Sound.Pools.{is_waiting}
 use Rattle.xinu_model.specs.Sound.Tables.{FitsOwner}
 use Rattle.xinu_model.specs.Tables.{process_at, state_at, message_at, semaphore_at, InSemaphore}
 use Rattle.xinu_laws.proofs.Consoles.Kept.{Holds}
-use Rattle.xinu_laws.proofs.Frame.MoveTo.{tokens_move}
-use Rattle.xinu_laws.proofs.FileSteps.Sound.{bytes_from_size}
-use Rattle.xinu_laws.proofs.Preserve.{current_within, blocked_preserves}
+use Rattle.table_laws.proofs.Frame.MoveTo.{tokens_move}
+use Rattle.xinu_laws.proofs.FileWork.Sound.{bytes_from_size}
+use Rattle.table_laws.proofs.Preserve.{current_within, blocked_preserves}
 use Rattle.xinu_laws.proofs.RawDisks.Moves.{HasDisks, replies_move, waiter_added, waiters_elsewhere}
 use Rattle.xinu_laws.proofs.RawDisks.Requested.{requesters_more, sound_requested}
 use Rattle.xinu_laws.proofs.Touches.{parts_disk, touches_parts, touches_refl, touches_trans}

@@ -2,7 +2,7 @@
 use Rattle.std.proofs.Common.{◌≡◌, ℕ, not, ◌==◌, List, [], ◌∷◌, length, filter, refl}
 use Rattle.std.specs.List.{AllByRecursion}
 use Rattle.std.proofs.lemmas.Bool.{cond_both}
-use Rattle.xinu_laws.proofs.Lists.Orders.{all_filter}
+use Rattle.table_laws.proofs.Lists.Orders.{all_filter}
 use Rattle.xinu_laws.proofs.RawDisks.Callers.{callers_given_up, have_callers_given_up}
 use Rattle.xinu_model.specs.RawDisk.Callers.{is_caller}
 use Rattle.xinu_model.specs.RawDisk.Callers as callers

@@ -5,20 +5,20 @@ use Rattle.xinu_base.specs.declared.processes.Process.{Process}
 use Rattle.xinu_base.specs.declared.processes.Rest.TheVariants.{Disk}
 use Rattle.xinu_base.specs.declared.processes.State.{State}
 use Rattle.xinu_base.specs.declared.processes.State.TheVariants.{Free, Current, Ready, Receiving, Sleeping, Suspended, Waiting, Timed}
-use Rattle.xinu_laws.specs.Moves.{CanMove}
+use Rattle.table_laws.specs.Moves.{CanMove}
 use Rattle.xinu_laws.specs.Touches.{Reach, Touches}
 use Rattle.xinu_model.specs.Machine.{Xinu}
 use Rattle.xinu_model.specs.Sound.Disks.{HasReply}
 use Rattle.xinu_model.specs.Sound.Pools.{is_waiting}
 use Rattle.xinu_model.specs.Sound.Tables.{count_in, waiting_places, FitsOwner, IsInside, IsSoundTables}
 use Rattle.xinu_model.specs.Tables.{Semaphore, no_semaphore, Tables, process_at, state_at, message_at, semaphore_at, waits_without, numbers_without, Place, InReady, InSemaphore, move_to}
-use Rattle.xinu_laws.proofs.Frame.MoveTo.{tokens_move}
-use Rattle.xinu_laws.proofs.Lists.Counts.{first_is_counted, get_or-le-total, two-le-total, filter_absent}
+use Rattle.table_laws.proofs.Frame.MoveTo.{tokens_move}
+use Rattle.table_laws.proofs.Lists.Counts.{first_is_counted, get_or-le-total, two-le-total, filter_absent}
 use Rattle.xinu_laws.proofs.RawDisks.Framed.{AreDisks}
-use Rattle.xinu_laws.proofs.Tables.MoveTo.{by_number, process_move_same, process_move_other, within_table}
-use Rattle.xinu_laws.proofs.Tables.Places.{length-waits_without, semaphore_at_without}
-use Rattle.xinu_laws.proofs.Tables.Scheduling.{idle_differs, sound_move}
-use Rattle.xinu_laws.proofs.Tables.Unblock.{waiter_waits}
+use Rattle.table_laws.proofs.Tables.MoveTo.{by_number, process_move_same, process_move_other, within_table}
+use Rattle.table_laws.proofs.Tables.Places.{length-waits_without, semaphore_at_without}
+use Rattle.table_laws.proofs.Tables.Scheduling.{idle_differs, sound_move}
+use Rattle.table_laws.proofs.Tables.Unblock.{waiter_waits}
 use Rattle.xinu_laws.proofs.Touches.Moves.{touches_unasked}
 
 -- what holds of the disks of a state

@@ -4,7 +4,7 @@ use Rattle.std.specs.Prelude.{IsSome}
 use Rattle.xinu_model.specs.RawDisk.Callers.{living, HaveCallers}
 use Rattle.xinu_model.specs.RawDisk.Requests.{Request, RawDisk, requested, requesters}
 use Rattle.xinu_model.specs.RawDisk.Sound.{IsRequest, IsSoundRawDisk}
-use Rattle.xinu_laws.proofs.Lists.Orders.{all_append}
+use Rattle.table_laws.proofs.Lists.Orders.{all_append}
 
 -- one more living caller
 pub requesters_more : (l : List Request) (r : Request) (p : ℕ) → r.caller ≡ Some p → requesters (l ++ r ∷ []) ≡ requesters l ++ p ∷ []

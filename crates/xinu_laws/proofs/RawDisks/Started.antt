@@ -16,12 +16,12 @@ use Rattle.xinu_model.specs.Sound.Disks.{HasReply}
 use Rattle.xinu_model.specs.Sound.Pools.{is_waiting}
 use Rattle.xinu_model.specs.Sound.Tables.{count_in}
 use Rattle.xinu_model.specs.Tables.{Semaphore, Tables, process_at, state_at, semaphore_at}
-use Rattle.xinu_laws.specs.Frame.{Frame}
+use Rattle.table_laws.specs.Frame.{Frame}
 use Rattle.xinu_laws.specs.Touches.{Reach}
 use Rattle.xinu_laws.proofs.FileSystems.Started.{sound_start}
-use Rattle.xinu_laws.proofs.Lists.Counts.{none_counted}
+use Rattle.table_laws.proofs.Lists.Counts.{none_counted}
 use Rattle.xinu_laws.proofs.RawDisks.Framed.{AreDisks, is_disks, asks_disk}
-use Rattle.xinu_laws.proofs.Tables.Starts.{boots_from}
+use Rattle.table_laws.proofs.Tables.Starts.{boots_from}
 use Rattle.xinu_laws.proofs.Touches.Boot.{HasStart, touches_start, start_unasked}
 
 -- the processes that are made leave the devices as they are

@@ -14,9 +14,9 @@ use Rattle.xinu_model.specs.Tables.{no_process, Semaphore, no_semaphore, process
 use Rattle.xinu_laws.specs.Touches.{Reach, Touches}
 use Rattle.xinu_laws.proofs.HeapCells.Taken.{getstk_finds}
 use Rattle.xinu_laws.proofs.HeapCells.Extent.{extent_marked}
-use Rattle.xinu_laws.proofs.Frame.{frame_same, frame_trans}
-use Rattle.xinu_laws.proofs.Frame.MoveTo.{frame_move}
-use Rattle.xinu_laws.proofs.Tables.Starts.{boots_from, same_everywhere}
+use Rattle.table_laws.proofs.Frame.{frame_same, frame_trans}
+use Rattle.table_laws.proofs.Frame.MoveTo.{frame_move}
+use Rattle.table_laws.proofs.Tables.Starts.{boots_from, same_everywhere}
 use Rattle.xinu_laws.proofs.Touches.{named, parts_heap, touches_refl, touches_trans}
 use Rattle.xinu_laws.proofs.Touches.Events.{touches_resched_if}
 use Rattle.xinu_laws.proofs.Touches.Moves.{MayReady, may_ready_framed, touches_moved}

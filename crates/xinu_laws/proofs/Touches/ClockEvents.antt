@@ -15,7 +15,7 @@ use Rattle.xinu_model.specs.Process.Death.{exit}
 use Rattle.xinu_model.specs.Process.Scheduling.{dispatch_first, is_current, keeps_cpu, preempt, ready, resched}
 use Rattle.xinu_model.specs.Sound.State.{IsSound}
 use Rattle.xinu_model.specs.Tables.{process_at, state_at, Tables}
-use Rattle.xinu_laws.specs.GivingAway.{next}
+use Rattle.xinu_laws.specs.Ownership.GivingAway.{next}
 use Rattle.xinu_laws.proofs.Consoles.Kept.{sound_holds}
 use Rattle.xinu_laws.proofs.Consoles.Signalled.{receiving_signals, sending_signals}
 use Rattle.xinu_laws.proofs.Preserve.Calls.{sound_where_called}

@@ -3,7 +3,7 @@ use Rattle.std.proofs.Common.{Option, Some, None, refl, ℤ}
 use Rattle.xinu_model.specs.Footprints.{on_tables}
 use Rattle.xinu_model.specs.Messages.{held}
 use Rattle.xinu_model.specs.RawDisk.Calls.{go_on_disk}
-use Rattle.xinu_laws.proofs.Preserve.{Preserves, goes_on_may_call}
+use Rattle.table_laws.proofs.Preserve.{Preserves, goes_on_may_call}
 use Rattle.xinu_laws.proofs.Touches.{StaysIn, touches_refl}
 use Rattle.xinu_laws.proofs.Touches.Moves.{touches_goes_on}
 

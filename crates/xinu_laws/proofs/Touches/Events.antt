@@ -14,21 +14,22 @@ use Rattle.xinu_model.specs.Sound.Pools.{is_waiting}
 use Rattle.xinu_model.specs.Tables.{Tables, process_at, state_at, message_at, is_free, entries_without, Nowhere, InReady}
 use Rattle.xinu_base.specs.Constants.{OK}
 use Rattle.xinu_model.specs.Footprints.{on_tables}
-use Rattle.xinu_laws.specs.Preserve.{AreAlive, ticking}
-use Rattle.xinu_laws.proofs.Lists.Orders.{all_weaker}
-use Rattle.xinu_laws.proofs.Tables.Alive.{alive_kept, alive_unblock_all, replies_spare_free}
+use Rattle.xinu_laws.specs.Preserve.{ticking}
+use Rattle.table_laws.specs.Preserve.{AreAlive}
+use Rattle.table_laws.proofs.Lists.Orders.{all_weaker}
+use Rattle.table_laws.proofs.Tables.Alive.{alive_kept, alive_unblock_all, replies_spare_free}
 use Rattle.xinu_laws.specs.Touches.{Reach, reach, at_a_tick, Touches}
-use Rattle.xinu_laws.proofs.Lists.Counts.{entries_without_other, first_has_entry}
-use Rattle.xinu_laws.proofs.Frame.{frame_same}
-use Rattle.xinu_laws.proofs.Tables.Scheduling.{ready_of, current_of, sleeping_of, inside_quantum, sound_resched}
-use Rattle.xinu_laws.proofs.Tables.Places.{ready_in_other}
-use Rattle.xinu_laws.proofs.Tables.MoveTo.{by_number}
+use Rattle.table_laws.proofs.Lists.Counts.{entries_without_other, first_has_entry}
+use Rattle.table_laws.proofs.Frame.{frame_same}
+use Rattle.table_laws.proofs.Tables.Scheduling.{ready_of, current_of, sleeping_of, inside_quantum, sound_resched}
+use Rattle.table_laws.proofs.Tables.Places.{ready_in_other}
+use Rattle.table_laws.proofs.Tables.MoveTo.{by_number}
 use Rattle.xinu_laws.proofs.Touches.{named, touches_tables, touches_refl, touches_trans}
 use Rattle.xinu_laws.proofs.Touches.Moves.{MayReady, may_ready_idle, may_ready_framed, touches_moved, touches_unblock_all}
-use Rattle.xinu_laws.proofs.Lists.Maps.{times-map}
-use Rattle.xinu_laws.proofs.Frame.MoveTo.{times-filter-le}
-use Rattle.xinu_laws.proofs.Tables.Unblock.{unblock_all_ready, all_counted}
-use Rattle.xinu_laws.proofs.Tables.Ticks.{sound_later}
+use Rattle.table_laws.proofs.Lists.Maps.{times-map}
+use Rattle.table_laws.proofs.Frame.MoveTo.{times-filter-le}
+use Rattle.table_laws.proofs.Tables.Unblock.{unblock_all_ready, all_counted}
+use Rattle.table_laws.proofs.Tables.Ticks.{sound_later}
 
 -- who is in the ready list can become ready
 may_ready_ready : (asks : Rest → Bool) (t : Tables) → IsInside t → (p : ℕ) → 0 < entries_of p t.ready → MayReady asks t p

@@ -10,7 +10,7 @@ use Rattle.xinu_model.specs.Footprints.{Footprint}
 use Rattle.xinu_model.specs.Machine.{Xinu, CallResult, refused}
 use Rattle.xinu_model.specs.Rows.{CallRow, found_in, done_by}
 use Rattle.xinu_model.specs.Sound.State.{IsSound}
-use Rattle.xinu_laws.proofs.Lists.CallRows.{of_few, number_of_row}
+use Rattle.xinu_laws.proofs.Rows.CallRows.{of_few, number_of_row}
 use Rattle.xinu_laws.proofs.Touches.Table.{call_touches}
 
 -- What a call does with its number, the state before it and the state after it.

@@ -15,7 +15,7 @@ use Rattle.xinu_model.specs.Sound.Console.{IsConsole}
 use Rattle.xinu_model.specs.Sound.Disks.{IsRawDisk, IsFileDisk}
 use Rattle.xinu_model.specs.Sound.State.{AreUnused}
 use Rattle.xinu_laws.specs.Touches.{Reach, reach, spares, spares_device, spares_rest, KeepsFree, KeepsPlaces, Touches}
-use Rattle.xinu_laws.proofs.Frame.{frame_weaker, still_weaker}
+use Rattle.table_laws.proofs.Frame.{frame_weaker, still_weaker}
 use Rattle.xinu_laws.proofs.Consoles.Framed.{is_consoles, asks_console, console_framed}
 use Rattle.xinu_laws.proofs.RawDisks.Framed.{AreDisks, is_disks, asks_disk, disks_framed}
 use Rattle.xinu_laws.proofs.Pools.Frame.{is_pools, asks_buffer, are_pools_framed}

@@ -8,7 +8,7 @@ use Rattle.xinu_base.specs.declared.processes.Rest.TheVariants.{Nothing}
 use Rattle.xinu_base.specs.declared.processes.State.{State}
 use Rattle.xinu_base.specs.declared.processes.State.TheVariants.{Free, Current, Ready, Receiving, Sleeping, Suspended, Waiting, Timed}
 use Rattle.xinu_base.specs.declared.semaphores.Owner.{Owner}
-use Rattle.xinu_laws.specs.Frame.{waits_in, waits_at, Frame, StillWait}
+use Rattle.table_laws.specs.Frame.{waits_in, waits_at, Frame, StillWait}
 use Rattle.xinu_model.specs.Machine.{Xinu, CallState, CallResult, with_tables, unblock, unblock_all, blocked, goes_on}
 use Rattle.xinu_model.specs.Messages.{listens, can_get, delivered, sent}
 use Rattle.xinu_model.specs.Process.Scheduling.{in_state}
@@ -18,13 +18,13 @@ use Rattle.xinu_model.specs.Sound.Tables.{count_in, FitsOwner, IsInside}
 use Rattle.xinu_model.specs.Sound.Pools.{is_waiting}
 use Rattle.xinu_model.specs.Tables.{Semaphore, Tables, process_at, state_at, message_at, semaphore_at, is_free, Place, Nowhere, InReady, InSemaphore, move_to, no_process}
 use Rattle.xinu_laws.specs.Touches.{Reach, stack_of, Touches}
-use Rattle.xinu_laws.proofs.Lists.Maps.{map_set_same}
-use Rattle.xinu_laws.proofs.Lists.Counts.{times-append, first_is_counted, count_behind}
-use Rattle.xinu_laws.proofs.Frame.{frame_same}
-use Rattle.xinu_laws.proofs.Frame.MoveTo.{IsFramePlace, IsFrameChange, frame_move}
-use Rattle.xinu_laws.proofs.Frame.Semaphores.{others_framed, frame_semaphore, frame_make_semaphore}
-use Rattle.xinu_laws.proofs.Tables.Alive.{was_free}
-use Rattle.xinu_laws.proofs.Tables.MoveTo.{by_number}
+use Rattle.table_laws.proofs.Lists.Maps.{map_set_same}
+use Rattle.table_laws.proofs.Lists.Counts.{times-append, first_is_counted, count_behind}
+use Rattle.table_laws.proofs.Frame.{frame_same}
+use Rattle.table_laws.proofs.Frame.MoveTo.{IsFramePlace, IsFrameChange, frame_move}
+use Rattle.table_laws.proofs.Frame.Semaphores.{others_framed, frame_semaphore, frame_make_semaphore}
+use Rattle.table_laws.proofs.Tables.Alive.{was_free}
+use Rattle.table_laws.proofs.Tables.MoveTo.{by_number}
 use Rattle.xinu_laws.proofs.Touches.{touches_tables, touches_refl, touches_trans}
 
 -- Process p can become ready: if it is in a call that is left alone, it doesn't wait.

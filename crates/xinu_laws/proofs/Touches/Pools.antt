@@ -19,15 +19,15 @@ use Rattle.xinu_model.specs.Sound.Pools.{ArePools}
 use Rattle.xinu_model.specs.Sound.State.{IsSound}
 use Rattle.xinu_model.specs.Tables.{Tables, semaphore_at}
 use Rattle.xinu_laws.specs.Touches.{Reach, reach, range_of, Touches}
-use Rattle.xinu_laws.proofs.Lists.Maps.{map_set_same}
+use Rattle.table_laws.proofs.Lists.Maps.{map_set_same}
 use Rattle.xinu_laws.proofs.HeapCells.Taken.{getmem_grants}
 use Rattle.xinu_laws.proofs.HeapCells.Extent.{extent_marked}
-use Rattle.xinu_laws.proofs.Frame.MoveTo.{same_written}
-use Rattle.xinu_laws.proofs.Preserve.Semaphores.{free_semaphore_free}
+use Rattle.table_laws.proofs.Frame.MoveTo.{same_written}
+use Rattle.table_laws.proofs.Tables.Found.{free_semaphore_free}
 use Rattle.xinu_laws.proofs.Pools.Holders.{holder_finds, by_holder}
-use Rattle.xinu_laws.proofs.Tables.Owners.{owner_signalled}
-use Rattle.xinu_laws.proofs.Tables.MoveTo.{semaphore_within}
-use Rattle.xinu_laws.proofs.Tables.Unblock.{sound_signalled}
+use Rattle.table_laws.proofs.Tables.Owners.{owner_signalled}
+use Rattle.table_laws.proofs.Tables.MoveTo.{semaphore_within}
+use Rattle.table_laws.proofs.Tables.Unblock.{sound_signalled}
 use Rattle.xinu_laws.proofs.Touches.{StaysIn, parts_new_pool, parts_pools, touches_parts, touches_refl, touches_trans, touches_either, touches_if}
 use Rattle.xinu_laws.proofs.Touches.Moves.{MayTouch, touches_tokens, touches_make_semaphore, parts_signalled, touches_signalled, touches_take_token, touches_goes_on}
 

@@ -1,5 +1,5 @@
 -- The number of a port rises by at most one in an event.
-use Rattle.std.proofs.Common.{◌≡◌, ◌∙◌, ℕ, zero, suc, ◌+◌, ◌≤◌, ◌==◌, cond, false, List, [], ◌∷◌, ◌++◌, Option, Some, None, ℤ, pos, negsuc, set, nat_le, refl, sym, ap, arith}
+use Rattle.std.proofs.Common.{◌≡◌, ◌∙◌, ℕ, zero, suc, ◌+◌, ◌≤◌, ◌==◌, cond, false, List, [], ◌∷◌, ◌++◌, Option, Some, None, ℤ, pos, negsuc, set, nat_le, refl, ap, arith}
 use Rattle.std.specs.Prelude.{slice_set}
 use Rattle.std.proofs.lemmas.Bool.{cond_both, eqb-false}
 use Rattle.xinu_base.specs.Constants.{OK}
@@ -9,7 +9,7 @@ use Rattle.xinu_base.specs.declared.processes.Rest.TheVariants as rest
 use Rattle.xinu_base.specs.declared.registers.Outcome.{Outcome}
 use Rattle.xinu_base.specs.declared.registers.Outcome.TheVariants as outcome
 use Rattle.xinu_base.specs.declared.semaphores.Owner.TheVariants as owner
-use Rattle.xinu_model.specs.Calls.{called, calls, continued}
+use Rattle.xinu_model.specs.Calls.{calls, continued}
 use Rattle.xinu_model.specs.Clock.{ticked}
 use Rattle.xinu_model.specs.Console.Signals.{keyed, sent_in, transmits}
 use Rattle.xinu_model.specs.Console.Taking.{console_of}
@@ -20,7 +20,7 @@ use Rattle.xinu_model.specs.Messages.{held}
 use Rattle.xinu_model.specs.Process.Death.{exit}
 use Rattle.xinu_model.specs.Pools.Buffers.{holder, pool_at, with_free}
 use Rattle.xinu_model.specs.Pools.Calls.{freed_buffer, given_to}
-use Rattle.xinu_model.specs.Ports.Calls.{cleared, deleted, deleted_where, disposed, emptied_port, finish_receive, finish_send, free_port, freed_buffers, made_port, ptcreate, ptdelete, ptrecv, ptreset, ptsend, put_message, received_from, reset_where, sent_to, started_port, take_from, take_message, ticket_of, with_messages, with_port}
+use Rattle.xinu_model.specs.Ports.Calls.{cleared, deleted, deleted_where, disposed, emptied_port, finish_receive, finish_send, free_port, freed_buffers, made_port, ptcreate, put_message, received_from, reset_where, sent_to, started_port, take_from, take_message, ticket_of, with_messages, with_port}
 use Rattle.xinu_model.specs.Ports.Queues.{MessagePort, PortQueue, is_stale, most_nodes, nodes, port_at}
 use Rattle.xinu_model.specs.Semaphores.Counts.{free_semaphore, make_semaphore, with_tokens}
 use Rattle.xinu_model.specs.Semaphores.Waiting.{emptied, signalled, take_token}
@@ -28,11 +28,11 @@ use Rattle.xinu_model.specs.Sound.State.{IsSound}
 use Rattle.xinu_base.specs.declared.processes.State.TheVariants.{Waiting}
 use Rattle.xinu_model.specs.Tables.{InSemaphore, process_at, semaphore_at}
 use Rattle.xinu_model.specs.Words.{signed}
-use Rattle.xinu_laws.specs.GivingAway.{next}
+use Rattle.xinu_laws.specs.Ownership.GivingAway.{next}
 use Rattle.xinu_laws.specs.Touches.{at_a_tick, touched_by, Touches}
 use Rattle.xinu_laws.proofs.Consoles.Kept.{sound_holds}
 use Rattle.xinu_laws.proofs.Consoles.Signalled.{receiving_signals, sending_signals}
-use Rattle.xinu_laws.proofs.Lists.RowByRow.{◌⨾◌}
+use Rattle.xinu_laws.proofs.Rows.RowByRow.{◌⨾◌}
 use Rattle.xinu_laws.proofs.Preserve.Calls.{sound_where_called}
 use Rattle.xinu_laws.proofs.Preserve.Events.{may_call, may_call_after}
 use Rattle.xinu_laws.proofs.Touches.Continued.{continued_touches}

@@ -17,14 +17,14 @@ use Rattle.xinu_model.specs.Sound.Tables.{IsInside, IsSoundTables, FitsOwner, Is
 use Rattle.xinu_model.specs.Sound.State.{IsSound}
 use Rattle.xinu_model.specs.Tables.{no_semaphore, Tables, process_at, semaphore_at, Nowhere}
 use Rattle.xinu_laws.specs.Touches.{Reach, reach, Touches}
-use Rattle.xinu_laws.proofs.Tables.Changes.{sound_token_taken}
-use Rattle.xinu_laws.proofs.Preserve.{sound_goes_on}
-use Rattle.xinu_laws.proofs.Frame.MoveTo.{owner_move}
-use Rattle.xinu_laws.proofs.Preserve.Semaphores.{free_semaphore_free}
-use Rattle.xinu_laws.proofs.Tables.Owners.{owner_tokens}
+use Rattle.table_laws.proofs.Tables.Changes.{sound_token_taken}
+use Rattle.table_laws.proofs.Preserve.{sound_goes_on}
+use Rattle.table_laws.proofs.Frame.MoveTo.{owner_move}
+use Rattle.table_laws.proofs.Tables.Found.{free_semaphore_free}
+use Rattle.table_laws.proofs.Tables.Owners.{owner_tokens}
 use Rattle.xinu_laws.proofs.Ports.Kept.{is_ports}
-use Rattle.xinu_laws.proofs.Tables.MoveTo.{semaphore_within}
-use Rattle.xinu_laws.proofs.Tables.Unblock.{sound_emptied, owner_emptied}
+use Rattle.table_laws.proofs.Tables.MoveTo.{semaphore_within}
+use Rattle.table_laws.proofs.Tables.Unblock.{sound_emptied, owner_emptied}
 use Rattle.xinu_laws.proofs.Touches.{StaysIn, parts_ports, touches_parts, touches_refl, touches_trans, touches_either, touches_if}
 use Rattle.xinu_laws.proofs.Touches.Moves.{MayTouch, touches_semaphore, touches_tokens, touches_make_semaphore, touches_signalled, touches_emptied, still_touched, touches_take_token, touches_goes_on}
 use Rattle.xinu_laws.proofs.Touches.Pools.{HasPools, OwnSemaphores, own_semaphores, freed_buffers_touch, freed_buffers_sound}

@@ -7,7 +7,7 @@ use Rattle.xinu_base.specs.declared.processes.State.{State}
 use Rattle.xinu_base.specs.declared.processes.State.TheVariants.{Suspended, Waiting}
 use Rattle.xinu_base.specs.declared.processes.Rest.{Rest}
 use Rattle.xinu_base.specs.Constants.{NPROC}
-use Rattle.xinu_laws.specs.Frame.{StillWait, waits_in}
+use Rattle.table_laws.specs.Frame.{StillWait, waits_in}
 use Rattle.xinu_model.specs.Devices.State.{given_up}
 use Rattle.xinu_model.specs.Footprints.{on_tables, on_processes, on_deaths}
 use Rattle.xinu_model.specs.Heap.Cells as heap
@@ -22,13 +22,13 @@ use Rattle.xinu_model.specs.Process.Death.{killed, exit}
 use Rattle.xinu_model.specs.Sound.Pools.{is_waiting}
 use Rattle.xinu_laws.specs.Touches.{stack_of, reach, Touches}
 use Rattle.xinu_model.specs.Tables.{Tables, no_process, process_at, state_at, message_at, is_free, Nowhere, InReady, move_to}
-use Rattle.xinu_laws.proofs.Lists.Maps.{map_set_same}
+use Rattle.table_laws.proofs.Lists.Maps.{map_set_same}
 use Rattle.xinu_laws.proofs.HeapCells.Taken.{getstk_finds}
 use Rattle.xinu_laws.proofs.HeapCells.Extent.{extent_marked, extent_freestk, extent_unless}
-use Rattle.xinu_laws.proofs.Frame.{frame_same, frame_trans}
-use Rattle.xinu_laws.proofs.Frame.MoveTo.{frame_move, frame_process, same_written}
-use Rattle.xinu_laws.proofs.Lists.Searches.{search_passes}
-use Rattle.xinu_laws.proofs.Tables.Alive.{was_free}
+use Rattle.table_laws.proofs.Frame.{frame_same, frame_trans}
+use Rattle.table_laws.proofs.Frame.MoveTo.{frame_move, frame_process, same_written}
+use Rattle.table_laws.proofs.Lists.Searches.{search_passes}
+use Rattle.table_laws.proofs.Tables.Alive.{was_free}
 use Rattle.xinu_laws.proofs.Touches.{StaysIn, named, parts_heap, parts_death, touches_tables, touches_refl, touches_trans, touches_either, touches_if}
 use Rattle.xinu_laws.proofs.Touches.Moves.{may_ready_idle, touches_move, touches_moved, still_move, touches_blocked, touches_goes_on, touches_unblock, touches_sent}
 

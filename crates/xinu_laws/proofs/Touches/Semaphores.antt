@@ -13,8 +13,9 @@ use Rattle.xinu_model.specs.Semaphores.Calls.{answers, made_semaphore, semcreate
 use Rattle.xinu_model.specs.Sound.Tables.{FitsOwner, IsInside}
 use Rattle.xinu_model.specs.Tables.{no_semaphore, Tables, semaphore_at}
 use Rattle.xinu_laws.specs.Touches.{reach, Touches}
-use Rattle.xinu_laws.proofs.Preserve.Semaphores.{good_semaphore, free_semaphore_free}
-use Rattle.xinu_laws.proofs.Tables.Unblock.{emptied_alike}
+use Rattle.xinu_laws.proofs.Preserve.Semaphores.{good_semaphore}
+use Rattle.table_laws.proofs.Tables.Found.{free_semaphore_free}
+use Rattle.table_laws.proofs.Tables.Unblock.{emptied_alike}
 use Rattle.xinu_laws.proofs.Touches.{StaysIn, touches_refl, touches_trans, touches_if}
 use Rattle.xinu_laws.proofs.Touches.Moves.{MayTouch, touches_semaphore, touches_tokens, touches_make_semaphore, touches_signalled, touches_emptied, still_touched, touches_signalled_times, touches_take_token}
 

@@ -8,8 +8,8 @@ use Rattle.xinu_model.specs.Rows.{CallRow, found_in, done_by}
 use Rattle.xinu_model.specs.Sound.State.{IsSound}
 use Rattle.xinu_laws.specs.Touches.{reach, Touches}
 use Rattle.xinu_model.specs.Words.{signed, half}
-use Rattle.xinu_laws.proofs.Lists.RowByRow.{◌⨾◌}
-use Rattle.xinu_laws.proofs.Lists.CallRows.{of_row}
+use Rattle.xinu_laws.proofs.Rows.RowByRow.{◌⨾◌}
+use Rattle.xinu_laws.proofs.Rows.CallRows.{of_row}
 use Rattle.xinu_laws.proofs.Devices.Kept.{device_open_touches, device_close_touches, device_seek_touches, device_getc_touches, device_putc_touches, device_control_touches, device_read_keeps, device_write_keeps, keeps_touch}
 use Rattle.xinu_laws.proofs.NameSpaces.Calls.{mount_touches}
 use Rattle.xinu_laws.proofs.Touches.{StaysIn}

@@ -1,4 +1,4 @@
-use Rattle.xinu_laws.proofs.FileSteps.Order.{calls_left, calls_told, same_told, turn_first, finished_first}
+use Rattle.xinu_laws.proofs.FileWork.Order.{calls_left, calls_told, same_told, turn_first, finished_first}
 use Rattle.xinu_laws.proofs.file_work.calls_take_effect_in_order.Goals as goal
 
 pub returns-clause-left : goal.returns-clause-left

@@ -1,4 +1,4 @@
-use Rattle.xinu_laws.proofs.FileSteps.Rest.{idle_rests}
+use Rattle.xinu_laws.proofs.FileWork.Rest.{idle_rests}
 use Rattle.xinu_laws.proofs.file_work.what_isnt_busy_is_at_rest.Goals as goal
 
 pub returns : goal.returns

@@ -1,4 +1,4 @@
-use Rattle.xinu_laws.proofs.FileSteps.Sound.{sound_issued, sound_completed, sound_given_up}
+use Rattle.xinu_laws.proofs.FileWork.Sound.{sound_issued, sound_completed, sound_given_up}
 use Rattle.xinu_laws.proofs.file_work.work_stays_sound.Goals as goal
 
 pub returns-clause-issued : goal.returns-clause-issued

@@ -1,4 +1,4 @@
-use Rattle.xinu_laws.proofs.Lists.CallRows.{rows_are_syscalls}
+use Rattle.xinu_laws.proofs.Rows.CallRows.{rows_are_syscalls}
 use Rattle.xinu_laws.proofs.footprints.rows_are_syscalls.Goals as goal
 
 pub returns : goal.returns

@@ -1,4 +1,4 @@
-use Rattle.xinu_laws.proofs.FileCalls.Chosen.{choice_happens}
+use Rattle.xinu_laws.proofs.FileSyscalls.Chosen.{choice_happens}
 use Rattle.xinu_laws.proofs.outcomes.choices_happen.Goals as goal
 
 pub returns : goal.returns

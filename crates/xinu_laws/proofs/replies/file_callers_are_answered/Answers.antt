@@ -1,6 +1,6 @@
 use Rattle.std.proofs.Common.{refl}
 use Rattle.xinu_model.specs.Files.Syscalls.{files_of, request_for}
-use Rattle.xinu_laws.proofs.FileCalls.Answered.{callers_are_told, answered_at_once, call_queued}
+use Rattle.xinu_laws.proofs.FileSyscalls.Answered.{callers_are_told, answered_at_once, call_queued}
 use Rattle.xinu_laws.proofs.replies.file_callers_are_answered.Goals as goal
 
 pub returns-clause-queued : goal.returns-clause-queued

@@ -1,4 +1,4 @@
-use Rattle.xinu_laws.proofs.Results.Values.{refused_or_told}
+use Rattle.xinu_laws.proofs.Reply.Values.{refused_or_told}
 use Rattle.xinu_laws.proofs.replies.refusals_are_told.Goals as goal
 
 pub returns : goal.returns

@@ -1,4 +1,4 @@
-use Rattle.xinu_laws.proofs.Results.RefusedEvents.{refused_events}
+use Rattle.xinu_laws.proofs.Reply.RefusedEvents.{refused_events}
 use Rattle.xinu_laws.proofs.replies.refusals_change_nothing.Goals as goal
 
 pub returns : goal.returns

@@ -1,4 +1,4 @@
-use Rattle.xinu_laws.proofs.Results.RefusedEvents.{refused_effects}
+use Rattle.xinu_laws.proofs.Reply.RefusedEvents.{refused_effects}
 use Rattle.xinu_laws.proofs.replies.refused_effects_are_told.Goals as goal
 
 pub returns : goal.returns

@@ -1,4 +1,4 @@
-use Rattle.xinu_laws.proofs.Results.Released.{released_by_delete, left_by_delete, released_by_reset, released_by_signal, released_by_signals}
+use Rattle.xinu_laws.proofs.Reply.Released.{released_by_delete, left_by_delete, released_by_reset, released_by_signal, released_by_signals}
 use Rattle.xinu_laws.proofs.replies.waiters_are_answered.Goals as goal
 
 pub returns : goal.returns

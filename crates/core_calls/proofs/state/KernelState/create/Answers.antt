@@ -1,5 +1,5 @@
 use Rattle.std.proofs.Common.{sym}
-use Rattle.xinu_laws.proofs.Preserve.Processes.{free_process_free}
+use Rattle.table_laws.proofs.Tables.Found.{free_process_free}
 use Rattle.core_calls.proofs.state.KernelState.create.Goals as goal
 
 pub make_on_stack-requires-clause-free : goal.make_on_stack-requires-clause-free

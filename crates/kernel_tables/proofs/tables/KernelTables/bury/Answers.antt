@@ -4,8 +4,8 @@ use Rattle.process_core.proofs.Inside.{inside_fits}
 use Rattle.queue_table.specs.Table.{lists}
 use Rattle.xinu_model.specs.Sound.Tables.{IsInside}
 use Rattle.xinu_model.specs.Tables.{no_process, Nowhere}
-use Rattle.xinu_laws.proofs.Tables.Deaths.{can_move_free}
-use Rattle.xinu_laws.proofs.Tables.MoveTo.{inside_move}
+use Rattle.table_laws.proofs.Tables.Deaths.{can_move_free}
+use Rattle.table_laws.proofs.Tables.MoveTo.{inside_move}
 use Rattle.kernel_tables.specs.KernelTables.{kernel_tables}
 use Rattle.kernel_tables.specs.Served.{AreServed}
 use Rattle.semaphores.specs.Counts.{beside}

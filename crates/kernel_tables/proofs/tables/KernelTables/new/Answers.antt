@@ -6,7 +6,7 @@ use Rattle.queue_table.specs.Lists.{Entry}
 use Rattle.semaphores.specs.Counts.{Counts, beside}
 use Rattle.xinu_model.specs.Boot.{null_tables}
 use Rattle.xinu_model.specs.Sound.Tables.{IsInside}
-use Rattle.xinu_laws.proofs.Tables.Starts.{inside_null}
+use Rattle.table_laws.proofs.Tables.Starts.{inside_null}
 use Rattle.delta_clock.specs.Wakeups.{WakesLater}
 use Rattle.kernel_tables.specs.KernelTables.{kernel_tables}
 use Rattle.kernel_tables.specs.Served.{AreServed}

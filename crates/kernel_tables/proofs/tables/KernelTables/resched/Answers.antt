@@ -3,7 +3,7 @@ use Rattle.queue_table.specs.Table.{lists}
 use Rattle.process_core.proofs.Inside.{inside_fits}
 use Rattle.xinu_model.specs.Process.Scheduling.{resched}
 use Rattle.xinu_model.specs.Sound.Tables.{IsInside}
-use Rattle.xinu_laws.proofs.Tables.Scheduling.{sound_resched}
+use Rattle.table_laws.proofs.Tables.Scheduling.{sound_resched}
 use Rattle.kernel_tables.specs.KernelTables.{kernel_tables}
 use Rattle.kernel_tables.specs.Served.{AreServed}
 use Rattle.semaphores.specs.Counts.{beside}

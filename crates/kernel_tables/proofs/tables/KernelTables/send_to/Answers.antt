@@ -6,7 +6,7 @@ use Rattle.semaphores.specs.Counts.{beside}
 use Rattle.xinu_model.specs.Machine.{CallState}
 use Rattle.xinu_model.specs.Messages.{sent}
 use Rattle.xinu_model.specs.Sound.Tables.{IsInside}
-use Rattle.xinu_laws.proofs.Tables.Deaths.{inside_sent}
+use Rattle.table_laws.proofs.Tables.Deaths.{inside_sent}
 use Rattle.kernel_tables.specs.KernelTables.{kernel_tables}
 use Rattle.kernel_tables.specs.Served.{AreServed}
 use Rattle.kernel_tables.proofs.Queues.{inside_placed, queues_later}

@@ -16,7 +16,7 @@ use Rattle.kernel_tables.proofs.tables.KernelTables.signaln.Goals as goal
 use Rattle.std.proofs.Common.{int_lt, pos, ◌+ℤ◌, false}
 use Rattle.semaphores.proofs.Counting.{count_at}
 use Rattle.xinu_model.specs.Semaphores.Counts.{count_of, most_tokens}
-use Rattle.xinu_laws.proofs.Tables.MoveTo.{semaphore_within}
+use Rattle.table_laws.proofs.Tables.MoveTo.{semaphore_within}
 
 pub signaln-requires-clause-used : goal.signaln-requires-clause-used
 signaln-requires-clause-used c =

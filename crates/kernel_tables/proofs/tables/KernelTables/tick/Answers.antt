@@ -3,7 +3,7 @@ use Rattle.queue_table.specs.Table.{lists}
 use Rattle.process_core.specs.Tables.{tables_of}
 use Rattle.process_core.proofs.Inside.{inside_fits}
 use Rattle.semaphores.specs.Counts.{beside}
-use Rattle.xinu_laws.proofs.Tables.Ticks.{sound_later, sound_quantum}
+use Rattle.table_laws.proofs.Tables.Ticks.{sound_later, sound_quantum}
 use Rattle.xinu_model.specs.Clock.{a_tick_later, due, quantum_falls}
 use Rattle.xinu_model.specs.Process.Scheduling.{resched, ready_all}
 use Rattle.xinu_model.specs.Sound.Tables.{IsInside, IsSoundTables}

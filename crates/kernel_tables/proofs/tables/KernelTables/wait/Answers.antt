@@ -13,7 +13,7 @@ use Rattle.kernel_tables.specs.Served.{AreServed}
 use Rattle.kernel_tables.proofs.Queues.{queues_counted}
 use Rattle.kernel_tables.proofs.Running.{current_in}
 use Rattle.kernel_tables.proofs.Waiters.{entry_used, fits_used, inside_waits, left_waiting, served_waits}
-use Rattle.xinu_laws.proofs.Preserve.{current_within}
+use Rattle.table_laws.proofs.Preserve.{current_within}
 use Rattle.kernel_tables.proofs.tables.KernelTables.wait.Goals as goal
 
 pub wait-took-requires-clause-used : goal.wait-took-requires-clause-used

@@ -1,0 +1,5 @@
+pub mod Buffers
+pub mod Frame
+pub mod Lists
+pub mod Preserve
+pub mod Tables

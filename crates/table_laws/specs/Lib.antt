@@ -1,0 +1,4 @@
+pub mod Frame
+pub mod Moves
+pub mod Preserve
+pub mod Repeated

@@ -1,0 +1,7 @@
+-- What becomes of the examples, by computation.
+pub mod Calls
+pub mod Consoles
+pub mod Disks
+pub mod Files
+pub mod Ports
+pub mod Priorities

@@ -1,0 +1,3 @@
+-- The rows of a table: found by number, and proofs a row a line.
+pub mod CallRows
+pub mod RowByRow

@@ -1,5 +1,0 @@
-use Rattle.xinu_laws.proofs.Frame.Order.{waiters_kept}
-use Rattle.xinu_laws.proofs.footprints.waiters_keep_their_order.Goals as goal
-
-pub returns : goal.returns
-returns c = λ mine asks t u sem frame o m fits. waiters_kept t u sem frame o m fits

@@ -1,5 +1,0 @@
-use Rattle.xinu_laws.proofs.Tables.Unblock.{unblock_all_with_ready}
-use Rattle.xinu_laws.proofs.moves.the_unblocked_become_ready.Goals as goal
-
-pub returns : goal.returns
-returns c = unblock_all_with_ready
