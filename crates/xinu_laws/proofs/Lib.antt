@@ -12,4 +12,5 @@ pub mod Preserve
 pub mod RawDisks
 pub mod Reply
 pub mod Rows
+pub mod RunOutcomes
 pub mod Touches

@@ -3,6 +3,7 @@ pub mod FileEffects
 pub mod FileWork
 pub mod FreeCells
 pub mod GivenDisks
+pub mod Outcomes
 pub mod Ownership
 pub mod Preserve
 pub mod Replies
