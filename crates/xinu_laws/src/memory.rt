@@ -27,7 +27,8 @@ pub fn grants_were_free()
     ensures getstk { (n top : ℕ) (s : Xinu) → (getstk n s).answer ≡ Returns (pos top) → (a : ℕ) → a < top + 4 → top + 4 ≤ a + n → (is_in_free a s.parts.heap ≡ true) × (is_in_free a (getstk n s).call.state.parts.heap ≡ false) }
 {}
 
-/// What a pool or a stack has after a call or an event, and none had before, was free before it, whatever processes gave back earlier.
+/// An address that more pools and stacks have after a call or an event than before it was free before it, whatever processes gave back
+/// earlier.
 pub fn holders_get_only_free_memory()
     ensures calls { (number : ℕ) (args : List ℕ) (s : Xinu) → IsSound s → GivesOnlyFree s (call_of_number number args s).call.state }
     ensures events { (old : Xinu) (e : Event) (lines : List TranscriptLine) (new : Xinu) → IsSound old → Happens old e lines new → GivesOnlyFree old new }

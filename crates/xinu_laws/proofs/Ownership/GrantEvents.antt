@@ -1,4 +1,5 @@
--- What a pool or a stack has after a call or an event and not before was free before it: only those calls that touch stacks or ranges are to be looked at.
+-- What more pools and stacks have after a call or an event than before it was free before it: only those calls that touch stacks or ranges are
+-- to be looked at.
 use Rattle.std.proofs.Common.{◌≢◌, ℕ, ◌==◌, Bool, ◌||◌, cond, List, [], ◌∷◌, ap, subst, arith}
 use Rattle.std.proofs.lemmas.Bool.{cond_both, eqb-false, or_parts}
 use Rattle.xinu_base.specs.declared.events.Event.{Event}

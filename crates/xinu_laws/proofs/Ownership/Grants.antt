@@ -28,7 +28,7 @@ use Rattle.xinu_laws.proofs.Touches.Moves.{touches_sent}
 
 -- where no address has more holders nothing is given
 pub gives_nothing : (s u : Xinu) → ((a : ℕ) → holders u a ≤ holders s a) → GivesOnlyFree s u
-gives_nothing s u few a none some = let f = few a in absurd (omega arith)
+gives_nothing s u few a more = let f = few a in absurd (omega arith)
 
 -- nor if all places stay as they are
 pub gives_kept : {s u : Xinu} → KeepsPlaces s u → GivesOnlyFree s u
@@ -40,16 +40,16 @@ gives_within s u ranges stacks = gives_nothing s u (λ a. let e = holders_kept s
 
 -- what is given before the places stay, or after it
 pub gives_before : (s u v : Xinu) → GivesOnlyFree s u → KeepsPlaces u v → GivesOnlyFree s v
-gives_before s u v g k a none some = let e = holders_kept u v k.ranges k.stacks a in g a none (omega arith)
+gives_before s u v g k a more = let e = holders_kept u v k.ranges k.stacks a in g a (omega arith)
 
 pub gives_after : (s u v : Xinu) → KeepsPlaces s u → GivesOnlyFree u v → GivesOnlyFree s v
-gives_after s u v k g a none some =
-    let e = holders_kept s u k.ranges k.stacks a in subst (λ h. is_in_free a h ≡ true) k.heap (g a (omega arith) some)
+gives_after s u v k g a more =
+    let e = holders_kept s u k.ranges k.stacks a in subst (λ h. is_in_free a h ≡ true) k.heap (g a (omega arith))
 
 -- A process is made on a stack that was free.
 gives_made : (p : ℕ) (x : Process) (hart : Hart) (stack : Stack) (wanted : ℕ) (s : Xinu) → take_stack wanted s.parts.heap ≡ Some stack → x.stack ≡ stack.top → x.stack_size ≡ wanted
     → GivesOnlyFree s (make_process p x hart stack s)
-gives_made p x hart stack wanted s e top size a none some =
+gives_made p x hart stack wanted s e top size a more =
     let set = times_set (is_in_stack a) s.tables.processes p x no_process (empty_stack a no_process refl) in
     ⊎_elim
     (λ (inside : is_in_stack a x ≡ true). let parts = stack_parts a x inside in (stacks_were_free wanted s.parts.heap stack e a (omega arith) (omega arith)).0)
@@ -99,7 +99,7 @@ gives_kill p s =
 
 -- A pool is made of memory that was free.
 gives_with_pool : (grant : Grant) (sem size n : ℕ) (s : Xinu) → take_memory (pool_bytes size n) s.parts.heap ≡ Some grant → GivesOnlyFree s (with_pool grant sem size n s).call.state
-gives_with_pool grant sem size n s e a none some =
+gives_with_pool grant sem size n s e a more =
     let pool = new_pool grant.address size n sem in
     let both = times-append (is_in_pool a) s.parts.pools (pool ∷ []) in
     let new = times_first (is_in_pool a) pool [] in
