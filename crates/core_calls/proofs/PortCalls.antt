@@ -25,7 +25,7 @@ use Rattle.xinu_model.specs.Sound.Tables.{FitsOwner}
 use Rattle.xinu_model.specs.Tables.{move_to, no_semaphore, Place, Semaphore, semaphore_at, Tables}
 use Rattle.xinu_model.specs.Words.{signed}
 use Rattle.core_calls.specs.PortRoom.{HaveRoom}
-use Rattle.core_calls.specs.Released.{IsOfPart}
+use Rattle.kernel_state.specs.Released.{IsOfPart}
 
 -- Sound ports have room, also if some tokens are gone.
 pub have_room : (t u : Tables) (ports : List MessagePort) → ArePorts t ports → ((r : ℕ) → (semaphore_at u r).owner ≡ (semaphore_at t r).owner)

@@ -27,9 +27,9 @@ use Rattle.xinu_model.specs.Sound.Tables.{IsSoundTables}
 use Rattle.xinu_model.specs.Tables.{no_semaphore, Semaphore, semaphore_at, state_at, Tables}
 use Rattle.kernel_tables.specs.Waking.{are_any}
 use Rattle.kernel_tables.proofs.Waiters.{sound_all_ready}
-use Rattle.core_calls.specs.Released.{IsOfPart}
+use Rattle.kernel_state.specs.Released.{IsOfPart}
 use Rattle.core_calls.proofs.Disposals.{disposed_keeps}
-use Rattle.core_calls.proofs.GoingOn.{emptied_is, gone_on}
+use Rattle.kernel_state.proofs.GoingOn.{emptied_is, gone_on}
 use Rattle.core_calls.proofs.InTurn.{changed, changed_other, in_turn, IsBlind, released_to}
 use Rattle.core_calls.proofs.PortCalls.{table_of}
 

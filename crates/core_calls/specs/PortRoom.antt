@@ -1,6 +1,6 @@
 -- What is known of the ports when a caller goes on with a token of one.
 use Rattle.std.specs.Prelude.{◌≡◌, ℕ, ◌+◌, ◌≤◌, List, length, Some}
-use Rattle.core_calls.specs.Released.{IsOfPart}
+use Rattle.kernel_state.specs.Released.{IsOfPart}
 use Rattle.xinu_model.specs.Ports.Queues.{MessagePort, PortQueue, port_at}
 use Rattle.xinu_model.specs.Tables.{semaphore_at, Tables}
 

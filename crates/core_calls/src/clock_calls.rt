@@ -3,52 +3,51 @@
 //! Each is the row of its number in the abstract machine's table. Call 6, `yield`, is with the calls on processes.
 
 ghost use Rattle.std.specs.Prelude.{◌≡◌, ◌≢◌};
-ghost use Rattle.core_calls.specs.Results.{came_to, IsStart};
+ghost use Rattle.kernel_state.specs.Results.{came_to, IsStart};
 ghost use Rattle.xinu_model.specs.Clock as model;
 ghost use Rattle.xinu_model.specs.Sound.Tables.{IsSoundTables};
 
-use crate::state::KernelState;
+use crate::process_calls::yield_now;
+use kernel_state::KernelState;
 use xinu_base::{Next, SYSERR};
 
-impl KernelState {
-    /// Call 25: the caller sleeps so many seconds. Refused if they are negative or more than 2147483.
-    pub(crate) fn sleep(&mut self, seconds: i32) -> Next
-        requires start { IsStart self.old }
-        requires sound { IsSoundTables self.old.state.tables }
-        requires not_null { self.old.state.tables.current ≢ 0 }
-        ensures sleep { came_to self.new result ≡ model.sleep seconds self.old.state }
-    {
-        if seconds < 0 {
-            return Next::Returns(SYSERR);
-        }
-        if seconds > 2_147_483 {
-            return Next::Returns(SYSERR);
-        }
-        self.sleepms(1000 * seconds)
+/// Call 25: the caller sleeps so many seconds. Refused if they are negative or more than 2147483.
+pub(crate) fn sleep(k: &mut KernelState, seconds: i32) -> Next
+    requires start { IsStart k.old }
+    requires sound { IsSoundTables k.old.state.tables }
+    requires not_null { k.old.state.tables.current ≢ 0 }
+    ensures sleep { came_to k.new result ≡ model.sleep seconds k.old.state }
+{
+    if seconds < 0 {
+        return Next::Returns(SYSERR);
     }
+    if seconds > 2_147_483 {
+        return Next::Returns(SYSERR);
+    }
+    sleepms(k, 1000 * seconds)
+}
 
-    /// Call 26: the caller sleeps so many ticks; for 0 it lets the others run. Refused if they are negative.
-    pub(crate) fn sleepms(&mut self, delay: i32) -> Next
-        requires start { IsStart self.old }
-        requires sound { IsSoundTables self.old.state.tables }
-        requires not_null { self.old.state.tables.current ≢ 0 }
-        ensures sleepms { came_to self.new result ≡ model.sleepms delay self.old.state }
-    {
-        if delay < 0 {
-            return Next::Returns(SYSERR);
-        }
-        if delay == 0 {
-            return self.yield_now();
-        }
-        self.tables.sleep(delay);
-        Next::Waits
+/// Call 26: the caller sleeps so many ticks; for 0 it lets the others run. Refused if they are negative.
+pub(crate) fn sleepms(k: &mut KernelState, delay: i32) -> Next
+    requires start { IsStart k.old }
+    requires sound { IsSoundTables k.old.state.tables }
+    requires not_null { k.old.state.tables.current ≢ 0 }
+    ensures sleepms { came_to k.new result ≡ model.sleepms delay k.old.state }
+{
+    if delay < 0 {
+        return Next::Returns(SYSERR);
     }
+    if delay == 0 {
+        return yield_now(k);
+    }
+    k.tables.sleep(delay);
+    Next::Waits
+}
 
-    /// Call 27: the seconds since the start.
-    pub(crate) fn clktime(&self) -> Next
-        requires start { IsStart self.now }
-        ensures clktime { came_to self.now result ≡ model.clktime self.now.state }
-    {
-        Next::Returns(self.tables.seconds() as i32)
-    }
+/// Call 27: the seconds since the start.
+pub(crate) fn clktime(k: &KernelState) -> Next
+    requires start { IsStart k.now }
+    ensures clktime { came_to k.now result ≡ model.clktime k.now.state }
+{
+    Next::Returns(k.tables.seconds() as i32)
 }

@@ -6,7 +6,7 @@
 
 ghost use Rattle.std.specs.Prelude.{ℕ, ◌≡◌, ◌≢◌, ◌<◌, option_map, Some};
 ghost use Rattle.core_calls.specs.PortRoom.{HaveRoom};
-ghost use Rattle.core_calls.specs.Results.{came_to, IsStart};
+ghost use Rattle.kernel_state.specs.Results.{came_to, IsStart};
 ghost use Rattle.ports.specs.Table.{head_of};
 ghost use Rattle.xinu_model.specs.Ports.Calls as model;
 ghost use Rattle.xinu_model.specs.Ports.Queues.{port_at, PortQueue, queued};
@@ -15,214 +15,212 @@ ghost use Rattle.xinu_model.specs.Sound.Pools.{ArePools};
 ghost use Rattle.xinu_model.specs.Sound.Ports.{ArePorts};
 ghost use Rattle.xinu_model.specs.Sound.Tables.{IsSoundTables};
 
-use crate::replies::owes_after;
-use crate::state::KernelState;
+use crate::pool_calls::free_buffers;
+use kernel_state::{KernelState, owes_after};
 use ports::{PortHead, Sent};
 use xinu_base::{Next, Owner, Port, PortTicket, Rest, SYSERR};
 
-impl KernelState {
-    /// Call 31: a port that can hold `count` messages; its number. Refused if the count is negative, or no port or no two semaphores are
-    /// free.
-    pub(crate) fn ptcreate(&mut self, count: i32) -> Next
-        requires start { IsStart self.old }
-        requires numbers { (q : ℕ) → (port_at self.old.state.parts.ports q).seq < 4294967295 }
-        ensures ptcreate { came_to self.new result ≡ model.ptcreate count self.old.state }
-    {
-        let Some(q) = self.ports.place_free() else {
-            return Next::Returns(SYSERR);
-        };
-        let Some((send, receive)) = self.tables.make_two_semaphores(&Owner::Port(q), count) else {
-            return Next::Returns(SYSERR);
-        };
-        self.ports.make(q, count, send, receive);
-        Next::Returns(q.index() as i32)
-    }
+/// Call 31: a port that can hold `count` messages; its number. Refused if the count is negative, or no port or no two semaphores are
+/// free.
+pub(crate) fn ptcreate(k: &mut KernelState, count: i32) -> Next
+    requires start { IsStart k.old }
+    requires numbers { (q : ℕ) → (port_at k.old.state.parts.ports q).seq < 4294967295 }
+    ensures ptcreate { came_to k.new result ≡ model.ptcreate count k.old.state }
+{
+    let Some(q) = k.ports.place_free() else {
+        return Next::Returns(SYSERR);
+    };
+    let Some((send, receive)) = k.tables.make_two_semaphores(&Owner::Port(q), count) else {
+        return Next::Returns(SYSERR);
+    };
+    k.ports.make(q, count, send, receive);
+    Next::Returns(q.index() as i32)
+}
 
-    /// Call 32: the port that a word names is deleted, its messages dropped (0) or given back as buffers (1). All who wait on it go on, the
-    /// senders first. Refused if the port isn't in use, or `how` is neither.
-    pub(crate) fn ptdelete(&mut self, word: u32, how: u32) -> Next
-        requires start { IsStart self.old }
-        requires sound { IsSoundTables self.old.state.tables }
-        requires pools { ArePools self.old.state.tables self.old.state.parts.pools }
-        requires ports { ArePorts self.old.state.tables self.old.state.parts.ports }
-        requires numbers { (q : ℕ) → (port_at self.old.state.parts.ports q).seq < 4294967295 }
-        ensures ptdelete { came_to self.new result ≡ model.ptdelete word how self.old.state }
-    {
-        let Some(q) = Port::from_word(word) else {
-            return Next::Returns(SYSERR);
-        };
-        let Some(head) = self.ports.head_of(q) else {
-            return Next::Returns(SYSERR);
-        };
-        if how > 1 {
-            return Next::Returns(SYSERR);
-        }
-        self.dispose(q, how);
-        self.delete_port(q, &head);
-        Next::Returns(0)
+/// Call 32: the port that a word names is deleted, its messages dropped (0) or given back as buffers (1). All who wait on it go on, the
+/// senders first. Refused if the port isn't in use, or `how` is neither.
+pub(crate) fn ptdelete(k: &mut KernelState, word: u32, how: u32) -> Next
+    requires start { IsStart k.old }
+    requires sound { IsSoundTables k.old.state.tables }
+    requires pools { ArePools k.old.state.tables k.old.state.parts.pools }
+    requires ports { ArePorts k.old.state.tables k.old.state.parts.ports }
+    requires numbers { (q : ℕ) → (port_at k.old.state.parts.ports q).seq < 4294967295 }
+    ensures ptdelete { came_to k.new result ≡ model.ptdelete word how k.old.state }
+{
+    let Some(q) = Port::from_word(word) else {
+        return Next::Returns(SYSERR);
+    };
+    let Some(head) = k.ports.head_of(q) else {
+        return Next::Returns(SYSERR);
+    };
+    if how > 1 {
+        return Next::Returns(SYSERR);
     }
+    dispose(k, q, how);
+    delete_port(k, q, &head);
+    Next::Returns(0)
+}
 
-    /// Call 33: the port that a word names is as it was made, its messages dropped (0) or given back as buffers (1). All who wait on it go
-    /// on, the senders first. Refused if the port isn't in use, or `how` is neither.
-    pub(crate) fn ptreset(&mut self, word: u32, how: u32) -> Next
-        requires start { IsStart self.old }
-        requires sound { IsSoundTables self.old.state.tables }
-        requires pools { ArePools self.old.state.tables self.old.state.parts.pools }
-        requires ports { ArePorts self.old.state.tables self.old.state.parts.ports }
-        requires numbers { (q : ℕ) → (port_at self.old.state.parts.ports q).seq < 4294967295 }
-        ensures ptreset { came_to self.new result ≡ model.ptreset word how self.old.state }
-    {
-        let Some(q) = Port::from_word(word) else {
-            return Next::Returns(SYSERR);
-        };
-        let Some(head) = self.ports.head_of(q) else {
-            return Next::Returns(SYSERR);
-        };
-        if how > 1 {
-            return Next::Returns(SYSERR);
-        }
-        self.dispose(q, how);
-        self.reset_port(q, &head);
-        Next::Returns(0)
+/// Call 33: the port that a word names is as it was made, its messages dropped (0) or given back as buffers (1). All who wait on it go
+/// on, the senders first. Refused if the port isn't in use, or `how` is neither.
+pub(crate) fn ptreset(k: &mut KernelState, word: u32, how: u32) -> Next
+    requires start { IsStart k.old }
+    requires sound { IsSoundTables k.old.state.tables }
+    requires pools { ArePools k.old.state.tables k.old.state.parts.pools }
+    requires ports { ArePorts k.old.state.tables k.old.state.parts.ports }
+    requires numbers { (q : ℕ) → (port_at k.old.state.parts.ports q).seq < 4294967295 }
+    ensures ptreset { came_to k.new result ≡ model.ptreset word how k.old.state }
+{
+    let Some(q) = Port::from_word(word) else {
+        return Next::Returns(SYSERR);
+    };
+    let Some(head) = k.ports.head_of(q) else {
+        return Next::Returns(SYSERR);
+    };
+    if how > 1 {
+        return Next::Returns(SYSERR);
     }
+    dispose(k, q, how);
+    reset_port(k, q, &head);
+    Next::Returns(0)
+}
 
-    /// Call 34: a message for the port that a word names; the caller waits for room. Refused if the port isn't in use. The kernel panics if
-    /// all ports together are full.
-    pub(crate) fn ptsend(&mut self, word: u32, message: u32) -> Next
-        requires start { IsStart self.old }
-        requires sound { IsSoundTables self.old.state.tables }
-        requires ports { ArePorts self.old.state.tables self.old.state.parts.ports }
-        requires not_null { self.old.state.tables.current ≢ 0 }
-        ensures ptsend { came_to self.new result ≡ model.ptsend word message self.old.state }
-    {
-        let Some(q) = Port::from_word(word) else {
-            return Next::Returns(SYSERR);
-        };
-        let Some(ticket) = self.ports.send_ticket(q) else {
-            return Next::Returns(SYSERR);
-        };
-        if self.tables.wait(ticket.sem, left_of_send(&ticket, message)) {
-            self.finish_send(ticket, message)
-        } else {
-            Next::Waits
-        }
+/// Call 34: a message for the port that a word names; the caller waits for room. Refused if the port isn't in use. The kernel panics if
+/// all ports together are full.
+pub(crate) fn ptsend(k: &mut KernelState, word: u32, message: u32) -> Next
+    requires start { IsStart k.old }
+    requires sound { IsSoundTables k.old.state.tables }
+    requires ports { ArePorts k.old.state.tables k.old.state.parts.ports }
+    requires not_null { k.old.state.tables.current ≢ 0 }
+    ensures ptsend { came_to k.new result ≡ model.ptsend word message k.old.state }
+{
+    let Some(q) = Port::from_word(word) else {
+        return Next::Returns(SYSERR);
+    };
+    let Some(ticket) = k.ports.send_ticket(q) else {
+        return Next::Returns(SYSERR);
+    };
+    if k.tables.wait(ticket.sem, left_of_send(&ticket, message)) {
+        finish_send(k, ticket, message)
+    } else {
+        Next::Waits
     }
+}
 
-    /// What is left of call 34 once the caller was released: its message goes into the port, unless the port changed.
-    pub(crate) fn go_on_ptsend(&mut self, ticket: PortTicket, message: u32) -> Next
-        requires start { IsStart self.old }
-        requires sound { IsSoundTables self.old.state.tables }
-        requires ports { ArePorts self.old.state.tables self.old.state.parts.ports }
-        ensures goes_on { came_to self.new result ≡ model.go_on_ptsend ticket message self.old.state }
-    {
-        self.tables.go_on();
-        self.finish_send(ticket, message)
+/// What is left of call 34 once the caller was released: its message goes into the port, unless the port changed.
+pub(crate) fn go_on_ptsend(k: &mut KernelState, ticket: PortTicket, message: u32) -> Next
+    requires start { IsStart k.old }
+    requires sound { IsSoundTables k.old.state.tables }
+    requires ports { ArePorts k.old.state.tables k.old.state.parts.ports }
+    ensures goes_on { came_to k.new result ≡ model.go_on_ptsend ticket message k.old.state }
+{
+    k.tables.go_on();
+    finish_send(k, ticket, message)
+}
+
+/// Call 35: the first message of the port that a word names, for which the caller waits. Refused if the port isn't in use.
+pub(crate) fn ptrecv(k: &mut KernelState, word: u32) -> Next
+    requires start { IsStart k.old }
+    requires sound { IsSoundTables k.old.state.tables }
+    requires ports { ArePorts k.old.state.tables k.old.state.parts.ports }
+    requires not_null { k.old.state.tables.current ≢ 0 }
+    ensures ptrecv { came_to k.new result ≡ model.ptrecv word k.old.state }
+{
+    let Some(q) = Port::from_word(word) else {
+        return Next::Returns(SYSERR);
+    };
+    let Some(ticket) = k.ports.receive_ticket(q) else {
+        return Next::Returns(SYSERR);
+    };
+    if k.tables.wait(ticket.sem, left_of_receive(&ticket)) {
+        finish_receive(k, ticket)
+    } else {
+        Next::Waits
     }
+}
 
-    /// Call 35: the first message of the port that a word names, for which the caller waits. Refused if the port isn't in use.
-    pub(crate) fn ptrecv(&mut self, word: u32) -> Next
-        requires start { IsStart self.old }
-        requires sound { IsSoundTables self.old.state.tables }
-        requires ports { ArePorts self.old.state.tables self.old.state.parts.ports }
-        requires not_null { self.old.state.tables.current ≢ 0 }
-        ensures ptrecv { came_to self.new result ≡ model.ptrecv word self.old.state }
-    {
-        let Some(q) = Port::from_word(word) else {
-            return Next::Returns(SYSERR);
-        };
-        let Some(ticket) = self.ports.receive_ticket(q) else {
-            return Next::Returns(SYSERR);
-        };
-        if self.tables.wait(ticket.sem, left_of_receive(&ticket)) {
-            self.finish_receive(ticket)
-        } else {
-            Next::Waits
-        }
+/// What is left of call 35 once the caller was released: it takes the first message of the port, unless the port changed.
+pub(crate) fn go_on_ptrecv(k: &mut KernelState, ticket: PortTicket) -> Next
+    requires start { IsStart k.old }
+    requires sound { IsSoundTables k.old.state.tables }
+    requires ports { ArePorts k.old.state.tables k.old.state.parts.ports }
+    ensures goes_on { came_to k.new result ≡ model.go_on_ptrecv ticket k.old.state }
+{
+    k.tables.go_on();
+    finish_receive(k, ticket)
+}
+
+// The messages of port `q` are dropped, or given back as buffers if `how` is 1.
+fn dispose(k: &mut KernelState, q: Port, how: u32)
+    requires sound { IsSoundTables k.old.state.tables }
+    requires pools { ArePools k.old.state.tables k.old.state.parts.pools }
+    ensures disposed { k.new ≡ model.disposed how (queued (port_at k.old.state.parts.ports q).queue) k.old }
+{
+    if how == 1 {
+        let messages = k.ports.messages_of(q);
+        free_buffers(k, messages.as_slice());
     }
+}
 
-    /// What is left of call 35 once the caller was released: it takes the first message of the port, unless the port changed.
-    pub(crate) fn go_on_ptrecv(&mut self, ticket: PortTicket) -> Next
-        requires start { IsStart self.old }
-        requires sound { IsSoundTables self.old.state.tables }
-        requires ports { ArePorts self.old.state.tables self.old.state.parts.ports }
-        ensures goes_on { came_to self.new result ≡ model.go_on_ptrecv ticket self.old.state }
-    {
-        self.tables.go_on();
-        self.finish_receive(ticket)
-    }
+// All who wait on port `q`, which has this head, go on, the senders first, and its semaphores and its number are free.
+fn delete_port(k: &mut KernelState, q: Port, head: &PortHead)
+    requires sound { IsSoundTables k.old.state.tables }
+    requires ports { ArePorts k.old.state.tables k.old.state.parts.ports }
+    requires used { Some head.now ≡ option_map head_of (port_at k.old.state.parts.ports q).queue }
+    requires number { (port_at k.old.state.parts.ports q).seq < 4294967295 }
+    ensures deleted { (queue : PortQueue) → (port_at k.old.state.parts.ports q).queue ≡ Some queue →
+        k.new ≡ model.deleted q queue (emptied queue.receive (emptied queue.send k.old)) }
+{
+    let senders = k.tables.delete_semaphore(head.send);
+    k.owes_resched = owes_after(k.owes_resched, senders.as_slice());
+    let receivers = k.tables.delete_semaphore(head.receive);
+    k.owes_resched = owes_after(k.owes_resched, receivers.as_slice());
+    k.ports.delete(q);
+}
 
-    // The messages of port `q` are dropped, or given back as buffers if `how` is 1.
-    fn dispose(&mut self, q: Port, how: u32)
-        requires sound { IsSoundTables self.old.state.tables }
-        requires pools { ArePools self.old.state.tables self.old.state.parts.pools }
-        ensures disposed { self.new ≡ model.disposed how (queued (port_at self.old.state.parts.ports q).queue) self.old }
-    {
-        if how == 1 {
-            let messages = self.ports.messages_of(q);
-            self.free_buffers(messages.as_slice());
-        }
-    }
+// All who wait on port `q`, which has this head, go on, the senders first, and it is as it was made.
+fn reset_port(k: &mut KernelState, q: Port, head: &PortHead)
+    requires sound { IsSoundTables k.old.state.tables }
+    requires ports { ArePorts k.old.state.tables k.old.state.parts.ports }
+    requires used { Some head.now ≡ option_map head_of (port_at k.old.state.parts.ports q).queue }
+    requires number { (port_at k.old.state.parts.ports q).seq < 4294967295 }
+    ensures reset { (queue : PortQueue) → (port_at k.old.state.parts.ports q).queue ≡ Some queue →
+        k.new ≡ model.emptied_port q queue (emptied queue.receive (emptied queue.send k.old)) }
+{
+    let senders = k.tables.reset_semaphore(head.send, head.first_count);
+    k.owes_resched = owes_after(k.owes_resched, senders.as_slice());
+    let receivers = k.tables.reset_semaphore(head.receive, 0);
+    k.owes_resched = owes_after(k.owes_resched, receivers.as_slice());
+    k.ports.reset(q);
+}
 
-    // All who wait on port `q`, which has this head, go on, the senders first, and its semaphores and its number are free.
-    fn delete_port(&mut self, q: Port, head: &PortHead)
-        requires sound { IsSoundTables self.old.state.tables }
-        requires ports { ArePorts self.old.state.tables self.old.state.parts.ports }
-        requires used { Some head.now ≡ option_map head_of (port_at self.old.state.parts.ports q).queue }
-        requires number { (port_at self.old.state.parts.ports q).seq < 4294967295 }
-        ensures deleted { (queue : PortQueue) → (port_at self.old.state.parts.ports q).queue ≡ Some queue →
-            self.new ≡ model.deleted q queue (emptied queue.receive (emptied queue.send self.old)) }
-    {
-        let senders = self.tables.delete_semaphore(head.send);
-        self.owes_resched = owes_after(self.owes_resched, senders.as_slice());
-        let receivers = self.tables.delete_semaphore(head.receive);
-        self.owes_resched = owes_after(self.owes_resched, receivers.as_slice());
-        self.ports.delete(q);
-    }
-
-    // All who wait on port `q`, which has this head, go on, the senders first, and it is as it was made.
-    fn reset_port(&mut self, q: Port, head: &PortHead)
-        requires sound { IsSoundTables self.old.state.tables }
-        requires ports { ArePorts self.old.state.tables self.old.state.parts.ports }
-        requires used { Some head.now ≡ option_map head_of (port_at self.old.state.parts.ports q).queue }
-        requires number { (port_at self.old.state.parts.ports q).seq < 4294967295 }
-        ensures reset { (queue : PortQueue) → (port_at self.old.state.parts.ports q).queue ≡ Some queue →
-            self.new ≡ model.emptied_port q queue (emptied queue.receive (emptied queue.send self.old)) }
-    {
-        let senders = self.tables.reset_semaphore(head.send, head.first_count);
-        self.owes_resched = owes_after(self.owes_resched, senders.as_slice());
-        let receivers = self.tables.reset_semaphore(head.receive, 0);
-        self.owes_resched = owes_after(self.owes_resched, receivers.as_slice());
-        self.ports.reset(q);
-    }
-
-    // Puts a message into the port of a ticket, for a caller that has a token, and signals the receivers.
-    fn finish_send(&mut self, ticket: PortTicket, message: u32) -> Next
-        requires start { IsStart self.old }
-        requires room { HaveRoom self.old.state.tables self.old.state.parts.ports }
-        ensures finished { came_to self.new result ≡ model.finish_send ticket message self.old.state }
-    {
-        match self.ports.send(ticket, message) {
-            Sent::Stale => Next::Returns(SYSERR),
-            Sent::Full => Next::Panics,
-            Sent::Put(sem) => {
-                self.give_token(sem);
-                Next::Returns(0)
-            }
+// Puts a message into the port of a ticket, for a caller that has a token, and signals the receivers.
+fn finish_send(k: &mut KernelState, ticket: PortTicket, message: u32) -> Next
+    requires start { IsStart k.old }
+    requires room { HaveRoom k.old.state.tables k.old.state.parts.ports }
+    ensures finished { came_to k.new result ≡ model.finish_send ticket message k.old.state }
+{
+    match k.ports.send(ticket, message) {
+        Sent::Stale => Next::Returns(SYSERR),
+        Sent::Full => Next::Panics,
+        Sent::Put(sem) => {
+            k.give_token(sem);
+            Next::Returns(0)
         }
     }
+}
 
-    // Takes the first message of the port of a ticket, for a caller that has a token, and signals the senders.
-    fn finish_receive(&mut self, ticket: PortTicket) -> Next
-        requires start { IsStart self.old }
-        requires room { HaveRoom self.old.state.tables self.old.state.parts.ports }
-        ensures finished { came_to self.new result ≡ model.finish_receive ticket self.old.state }
-    {
-        let Some(received) = self.ports.receive(ticket) else {
-            return Next::Returns(SYSERR);
-        };
-        self.give_token(received.send);
-        Next::Returns(received.message.cast_signed())
-    }
+// Takes the first message of the port of a ticket, for a caller that has a token, and signals the senders.
+fn finish_receive(k: &mut KernelState, ticket: PortTicket) -> Next
+    requires start { IsStart k.old }
+    requires room { HaveRoom k.old.state.tables k.old.state.parts.ports }
+    ensures finished { came_to k.new result ≡ model.finish_receive ticket k.old.state }
+{
+    let Some(received) = k.ports.receive(ticket) else {
+        return Next::Returns(SYSERR);
+    };
+    k.give_token(received.send);
+    Next::Returns(received.message.cast_signed())
 }
 
 // What is left of the call of a sender that waits.

@@ -7,12 +7,15 @@
 //! |---|---|
 //! | [`read_image`] | `loads`: an image is answered if and only if the bytes load, and it is what header and content say; `fault`: a refusal is the first field that doesn't hold. It takes no memory |
 //! | [`Image`] | each has one to eight parts, each in RAM with at most as many bytes as addresses; no two share an address; the entry is a word of one part; the priority is 1 to 32767 (`IsImage`, a ghost fact) |
+//! | [`Image::overlaps`], [`Part::meets`] | whether two images, or two parts, share an address, as `overlap` and `parts_meet` of the abstract machine say |
+//! | [`Image::end`] | the greatest address after one of its parts, at most 1048576 |
 //! | [`ImageFault::number`] | the number by which a fault is reported |
 #![tactic(auto)]
 
 mod faults;
 mod header;
 mod images;
+mod memory_map;
 mod parts;
 mod reader;
 

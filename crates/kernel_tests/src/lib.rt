@@ -10,8 +10,6 @@ mod counts;
 #[cfg(test)]
 mod heap;
 #[cfg(test)]
-mod kernel;
-#[cfg(test)]
 mod lists;
 #[cfg(test)]
 mod message_ports;
@@ -21,3 +19,5 @@ mod message_slots;
 mod pools;
 #[cfg(test)]
 mod processes;
+#[cfg(test)]
+mod programs;

@@ -1,7 +1,7 @@
 -- The end of an event is printed.
 use Rattle.std.proofs.Common.{◌≡◌, ◌∙◌, ℕ, Bool, List, [], ◌∷◌, ◌++◌, map, Option, Some, None, ℤ, refl, sym, ap, subst}
 use Rattle.std.proofs.lemmas.List.{map-append}
-use Rattle.core_calls.specs.Results.{answer_so_far, idle}
+use Rattle.kernel_state.specs.Results.{answer_so_far, idle}
 use Rattle.host_port.specs.Outside.{Outside}
 use Rattle.host_port.specs.Printing.{Printing, Prints}
 use Rattle.machine.specs.Printed.{EffectPrints}

@@ -7,5 +7,4 @@ pub mod Transmissions
 pub mod Lives
 pub mod Printings
 pub mod ShownLines
-pub mod Texts
 pub mod Walks

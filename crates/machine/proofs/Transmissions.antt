@@ -1,8 +1,8 @@
 -- A byte of the console was sent, or none.
 use Rattle.std.proofs.Common.{◌≡◌, ◌∙◌, ℕ, Bool, false, [], ◌∷◌, Option, Some, None, sym, ap, subst}
 use Rattle.std.specs.Prelude.{option_map}
-use Rattle.core_calls.specs.Consoles.{after_sending}
-use Rattle.core_calls.specs.Results.{idle, IsIdle}
+use Rattle.io_calls.specs.Consoles.{after_sending}
+use Rattle.kernel_state.specs.Results.{idle, IsIdle}
 use Rattle.host_port.specs.Outside.{Outside}
 use Rattle.host_port.specs.Printing.{Printing, Prints}
 use Rattle.machine.proofs.Closing.{effect_as, first_printed}

@@ -1,6 +1,6 @@
 -- What a machine stands for, and what holds of it between any two events.
 use Rattle.std.specs.Prelude.{◌≡◌, ◌≤◌, false, ℕ}
-use Rattle.core_calls.specs.Results.{IsIdle}
+use Rattle.kernel_state.specs.Results.{IsIdle}
 use Rattle.machine.specs.Printed.{Booted}
 use Rattle.machine.specs.declared.machine.Machine.TheInside.{Inside}
 use Rattle.xinu_model.specs.Ports.Queues.{port_at}

@@ -1,7 +1,7 @@
 -- How a machine starts.
 use Rattle.std.specs.Prelude.{◌≡◌, false, List, Result, Ok, Err}
-use Rattle.core_calls.specs.declared.boot.BootFault.{BootFault}
-use Rattle.core_calls.specs.declared.boot.BootFault.TheVariants as fault
+use Rattle.kernel_boot.specs.declared.initialize.BootFault.{BootFault}
+use Rattle.kernel_boot.specs.declared.initialize.BootFault.TheVariants as fault
 use Rattle.machine.specs.Printed.{Booted}
 use Rattle.xinu_model.specs.Boot.{Loaded, Boots, NoRoom, Overlaps, boot}
 

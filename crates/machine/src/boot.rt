@@ -7,8 +7,8 @@ ghost use Rattle.xinu_laws.specs.Ownership.Apart.{IsApart};
 ghost use Rattle.xinu_model.specs.Sound.State.{IsSound};
 
 use crate::machine::Machine;
-use core_calls::{BootFault, Kernel};
 use image_loader::Image;
+use kernel::{BootFault, Kernel};
 use std::alloc::Global;
 
 impl Machine {

@@ -2,7 +2,7 @@
 //! and 15).
 
 ghost use Rattle.std.specs.Prelude.{ℕ, ◌≡◌, ◌≢◌, ◌<◌, ◌≤◌, ◌+◌, ◌∷◌, [], map};
-ghost use Rattle.core_calls.specs.Results.{answer_so_far, IsIdle};
+ghost use Rattle.kernel_state.specs.Results.{answer_so_far, IsIdle};
 ghost use Rattle.host_port.specs.Printing.{Prints};
 ghost use Rattle.machine.specs.Printed.{EffectPrints, EventPrints};
 ghost use Rattle.xinu_base.specs.declared.lines.TranscriptLine.TheVariants as line;
@@ -18,8 +18,8 @@ ghost use Rattle.xinu_model.specs.Text.{shown};
 
 use crate::printing::{print_line, print_replies, print_reply, print_switch};
 use crate::tables::print_tables;
-use core_calls::Kernel;
 use host_port::{Host, Printer};
+use kernel::Kernel;
 use rv_hart::Outcome;
 use xinu_base::{Call, Event, Next, Pid, TranscriptLine};
 
@@ -66,7 +66,7 @@ fn other_event<H: Host>(kernel: &mut Kernel, event: Event, out: &mut Printer, ho
         Event::Key(b) => receive(kernel, b, out, host),
         Event::Tx => transmit(kernel, out, host),
         Event::Dump => {
-            print_tables(kernel, out, host);
+            print_tables(kernel.state(), out, host);
             false
         }
         _ => false,
@@ -87,8 +87,8 @@ fn step<H: Host>(kernel: &mut Kernel, out: &mut Printer, host: &mut H) -> bool
         return false;
     }
     if !kernel.is_done() {
-        let next = kernel.go_on_core();
-        return end_event(kernel, current, Some(next), out, host);
+        kernel.go_on_core();
+        return end_event(kernel, current, out, host);
     }
     let outcome = kernel.instruction();
     react(kernel, outcome, out, host)
@@ -132,8 +132,8 @@ fn make_call<H: Host>(kernel: &mut Kernel, call: Call, out: &mut Printer, host: 
 {
     let current = kernel.current();
     print_line(&TranscriptLine::Call(current, call), out, host);
-    let next = kernel.begin_core(call);
-    end_event(kernel, current, Some(next), out, host)
+    kernel.begin_core(call);
+    end_event(kernel, current, out, host)
 }
 
 // The current process, which isn't the null process, dies. The line says why.
@@ -148,7 +148,7 @@ fn die<H: Host>(kernel: &mut Kernel, why: TranscriptLine, out: &mut Printer, hos
     let current = kernel.current();
     print_line(&why, out, host);
     kernel.die();
-    end_event(kernel, current, Some(Next::Gone), out, host)
+    end_event(kernel, current, out, host)
 }
 
 // A tick of the clock.
@@ -161,7 +161,7 @@ fn tick<H: Host>(kernel: &mut Kernel, out: &mut Printer, host: &mut H) -> bool
 {
     let current = kernel.current();
     kernel.on_tick();
-    end_event(kernel, current, None, out, host)
+    end_event(kernel, current, out, host)
 }
 
 // A character is received from the console.
@@ -173,7 +173,7 @@ fn receive<H: Host>(kernel: &mut Kernel, b: u8, out: &mut Printer, host: &mut H)
 {
     let current = kernel.current();
     kernel.on_type(b);
-    end_event(kernel, current, None, out, host)
+    end_event(kernel, current, out, host)
 }
 
 // The console may send a byte, whose line comes first.
@@ -188,40 +188,33 @@ fn transmit<H: Host>(kernel: &mut Kernel, out: &mut Printer, host: &mut H) -> bo
     match kernel.on_tx() {
         Some(b) => {
             print_line(&TranscriptLine::Con(b), out, host);
-            end_event(kernel, current, None, out, host)
+            end_event(kernel, current, out, host)
         }
         None => false,
     }
 }
 
-// Ends an event that began in process `was`, with this answer to its call, if it was one: prints the replies to released processes, the
-// caller's and the switch. Whether the kernel panicked.
+// Ends an event that began in process `was`: prints the replies to released processes, the caller's and the switch. Whether the kernel
+// panicked.
 #[cold]
-fn end_event<H: Host>(
-    kernel: &mut Kernel,
-    was: Pid,
-    answer: Option<Next>,
-    out: &mut Printer,
-    host: &mut H,
-) -> bool
-    requires answer { kernel.old.answer ≡ answer_so_far answer }
+fn end_event<H: Host>(kernel: &mut Kernel, was: Pid, out: &mut Printer, host: &mut H) -> bool
     ensures effect { EffectPrints (model.end_of_event was [] kernel.old) kernel.new.call.state result out.old out.new (H.view host.old) (H.view host.new) }
     ensures idle { IsIdle kernel.new }
     ensures sound { IsSound kernel.new.call.state }
 {
-    print_answers(kernel, answer, out, host);
+    let answer = kernel.answer();
+    print_answers(kernel, out, host);
     kernel.close_event();
     print_switch(was, kernel.current(), out, host);
     is_panic(answer)
 }
 
 // Prints the replies to released processes, and the caller's.
-fn print_answers<H: Host>(kernel: &Kernel, answer: Option<Next>, out: &mut Printer, host: &mut H)
-    requires answer { kernel.now.answer ≡ answer_so_far answer }
+fn print_answers<H: Host>(kernel: &Kernel, out: &mut Printer, host: &mut H)
     ensures prints { Prints out.old out.new (H.view host.old) (H.view host.new) (shown out.old.plain (map model.return_line (model.replies_of kernel.now))) }
 {
-    print_replies(kernel.released(), out, host);
-    match answer {
+    print_replies(kernel.state().released(), out, host);
+    match kernel.answer() {
         Some(Next::Returns(value)) => print_reply(kernel.current(), value, out, host),
         _ => {}
     }

@@ -13,16 +13,15 @@
 //!
 //! Printing is `Prints` of `host_port`: all bytes unless the printer fails, else a prefix of them; if the output is plain, of the bytes that
 //! the console sent (`shown`). No call but `boot` takes memory, and no
-//! list of lines is collected. The kernel is `core_calls`.
+//! list of lines is collected. The kernel is `kernel`, and a line as its bytes `transcript`.
 #![tactic(auto)]
 
 mod boot;
 mod events;
-mod lines;
 mod machine;
 mod printing;
 mod tables;
 
-pub use core_calls::BootFault;
+pub use kernel::BootFault;
 pub use machine::{Go, Machine};
 pub use xinu_base::Event;

@@ -15,8 +15,9 @@ ghost use Rattle.xinu_model.specs.Text.{shown, tables_of};
 use crate::events::happen;
 use crate::printing::print_line;
 use crate::tables::print_tables;
-use core_calls::Kernel;
 use host_port::{Host, Printer};
+use kernel::Kernel;
+use kernel_state::KernelState;
 use std::marker::Model;
 use xinu_base::{Event, Pid, TranscriptLine};
 
@@ -77,7 +78,7 @@ impl Machine {
     {
         self.events += 1;
         let panics = happen(&mut self.kernel, event, out, host);
-        let go = go_on(panics, &self.kernel);
+        let go = go_on(panics, self.kernel.state());
         if go != Go::Goes {
             self.has_ended = true;
         }
@@ -88,29 +89,29 @@ impl Machine {
     pub fn dump<H: Host>(&self, out: &mut Printer, host: &mut H)
         ensures { Prints out.old out.new (H.view host.old) (H.view host.new) (shown out.old.plain (tables_of self.now.state)) }
     {
-        print_tables(&self.kernel, out, host);
+        print_tables(self.kernel.state(), out, host);
     }
 }
 
 // Whether the null process alone is left. Nothing is counted while another process runs.
-fn is_over(kernel: &Kernel) -> bool
-    requires sound { IsSound kernel.now.call.state }
-    ensures over { result ≡ runs.is_over kernel.now.call.state }
+fn is_over(k: &KernelState) -> bool
+    requires sound { IsSound k.now.state }
+    ensures over { result ≡ runs.is_over k.now.state }
 {
-    if kernel.current() != Pid::default() {
+    if k.current() != Pid::default() {
         return false;
     }
-    kernel.tables().is_over()
+    k.tables.is_over()
 }
 
 // What an event means for the run, by whether the kernel panicked in it and whether the null process alone is left.
-fn go_on(panics: bool, kernel: &Kernel) -> Go
-    requires sound { IsSound kernel.now.call.state }
-    ensures goes { end_of_go result ≡ end_with panics (runs.is_over kernel.now.call.state) }
+fn go_on(panics: bool, k: &KernelState) -> Go
+    requires sound { IsSound k.now.state }
+    ensures goes { end_of_go result ≡ end_with panics (runs.is_over k.now.state) }
 {
     if panics {
         Go::Panic
-    } else if is_over(kernel) {
+    } else if is_over(k) {
         Go::Done
     } else {
         Go::Goes

@@ -5,8 +5,8 @@ ghost use Rattle.host_port.specs.Printing.{Prints};
 ghost use Rattle.xinu_model.specs.Machine.{return_line, switched};
 ghost use Rattle.xinu_model.specs.Text.{shown};
 
-use crate::lines::render;
 use host_port::{Host, Printer};
+use transcript::render;
 use xinu_base::{Pid, TranscriptLine};
 
 /// Prints a line. If the output is plain, only the byte of a line `con` is printed, as it is.

@@ -15,9 +15,9 @@ ghost use Rattle.xinu_model.specs.Text.{shown};
 
 use crate::printing::print_line;
 use buffer_pools::{Pools, pool_id_at};
-use core_calls::Kernel;
 use freelist_memory::Heap;
 use host_port::{Host, Printer};
+use kernel_state::KernelState;
 use kernel_tables::KernelTables;
 use ports::{Ports, port_numbered};
 use process_core::pid_at;
@@ -26,12 +26,13 @@ use tty_driver::Tty;
 use xinu_base::{Owner, PoolId, Port, Sem, State, TranscriptLine};
 
 /// Prints the tables.
-pub(crate) fn print_tables<H: Host>(kernel: &Kernel, out: &mut Printer, host: &mut H)
-    requires sound { IsSound kernel.now.call.state }
-    requires few { kernel.now.call.state.tables.ticks ≤ 1000000000 }
-    ensures prints { Prints out.old out.new (H.view host.old) (H.view host.new) (shown out.old.plain (text.tables_of kernel.now.call.state)) }
+#[tactic(auto, unfolding(kernel_state::specs::Devices::untouched_devices))]
+pub(crate) fn print_tables<H: Host>(k: &KernelState, out: &mut Printer, host: &mut H)
+    requires sound { IsSound k.now.state }
+    requires few { k.now.state.tables.ticks ≤ 1000000000 }
+    ensures prints { Prints out.old out.new (H.view host.old) (H.view host.new) (shown out.old.plain (text.tables_of k.now.state)) }
 {
-    let tables = kernel.tables();
+    let tables = &k.tables;
     print_line(
         &TranscriptLine::Now(tables.ticks(), tables.quantum()),
         out,
@@ -41,10 +42,10 @@ pub(crate) fn print_tables<H: Host>(kernel: &Kernel, out: &mut Printer, host: &m
     print_ready(tables, out, host);
     print_semaphores(tables, out, host);
     print_sleepers(tables, out, host);
-    print_free(kernel.heap(), out, host);
-    print_pools(kernel.pools(), out, host);
-    print_ports(kernel.ports(), out, host);
-    print_devices(kernel.tty(), out, host);
+    print_free(&k.heap, out, host);
+    print_pools(&k.pools, out, host);
+    print_ports(&k.ports, out, host);
+    print_devices(&k.tty, out, host);
 }
 
 // Prints the processes, by number.

@@ -2,4 +2,5 @@ pub mod Constants
 pub mod Events
 pub mod Hexadecimal
 pub mod Insert
+pub mod Names
 pub mod Syscalls

@@ -1,5 +1,8 @@
 //! What happens to the machine, and how a run ends.
 
+ghost use Rattle.std.specs.Prelude.{◌≡◌, ◌≤◌, length};
+ghost use Rattle.xinu_base.specs.Names.{end_name};
+
 /// One event of a schedule.
 #[derive(Clone, Copy, Debug, PartialEq, Eq)]
 pub enum Event {
@@ -32,4 +35,18 @@ pub enum End {
     Done,
     /// The kernel panicked.
     Panic,
+}
+
+impl End {
+    /// The word that stands for the end in a transcript.
+    pub fn name(self) -> &'static str
+        ensures word { result.now ≡ end_name self }
+        ensures short { length result.now ≤ 8 }
+    {
+        match self {
+            End::Schedule => "schedule",
+            End::Done => "done",
+            End::Panic => "panic",
+        }
+    }
 }

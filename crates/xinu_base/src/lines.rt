@@ -1,5 +1,8 @@
 //! The lines of a transcript, as data.
 
+ghost use Rattle.std.specs.Prelude.{◌≡◌, ◌≤◌, length};
+ghost use Rattle.xinu_base.specs.Names.{moment_name};
+
 use crate::console::TtyMode;
 use crate::events::End;
 use crate::numbers::{Dev, Pid, PoolId, Port, Sem};
@@ -16,6 +19,20 @@ pub enum FileMoment {
     Finished,
     /// It took effect at the completion at which it became the first.
     Next,
+}
+
+impl FileMoment {
+    /// The word that stands for the moment in a transcript.
+    pub fn name(self) -> &'static str
+        ensures word { result.now ≡ moment_name self }
+        ensures short { length result.now ≤ 4 }
+    {
+        match self {
+            FileMoment::Turn => "turn",
+            FileMoment::Finished => "done",
+            FileMoment::Next => "next",
+        }
+    }
 }
 
 /// One line of a transcript.

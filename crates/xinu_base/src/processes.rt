@@ -1,5 +1,8 @@
 //! Processes: their states, and what is left of a call that waited (book, chapter 5, `process.h`).
 
+ghost use Rattle.std.specs.Prelude.{◌≡◌, ◌≤◌, length};
+ghost use Rattle.xinu_base.specs.Names.{state_name};
+
 use crate::numbers::{Pid, PoolId, Port, Sem};
 
 /// What a process is doing.
@@ -21,6 +24,25 @@ pub enum State {
     Waiting,
     /// It waits for a message, and is among the sleepers too.
     Timed,
+}
+
+impl State {
+    /// The word that stands for the state in a transcript.
+    pub fn name(self) -> &'static str
+        ensures word { result.now ≡ state_name self }
+        ensures short { length result.now ≤ 7 }
+    {
+        match self {
+            State::Free => "free",
+            State::Current => "current",
+            State::Ready => "ready",
+            State::Receiving => "receive",
+            State::Sleeping => "sleep",
+            State::Suspended => "suspend",
+            State::Waiting => "wait",
+            State::Timed => "timed",
+        }
+    }
 }
 
 /// A range of RAM that a console call works through, in bytes.

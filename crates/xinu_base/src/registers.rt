@@ -1,5 +1,8 @@
 //! The registers of a process, and what may come of one instruction.
 
+ghost use Rattle.std.specs.Prelude.{◌≡◌, ◌≤◌, length};
+ghost use Rattle.xinu_base.specs.Names.{cause_name};
+
 /// The registers of a process on the one processor core.
 #[derive(Clone, Copy, Debug, PartialEq, Eq)]
 pub struct Hart {
@@ -32,6 +35,23 @@ pub enum Cause {
     Load,
     /// A store writes to an address that isn't a multiple of its width, or outside RAM.
     Store,
+}
+
+impl Cause {
+    /// The word that stands for the cause in a transcript.
+    pub fn name(self) -> &'static str
+        ensures word { result.now ≡ cause_name self }
+        ensures short { length result.now ≤ 7 }
+    {
+        match self {
+            Cause::Fetch => "fetch",
+            Cause::Illegal => "illegal",
+            Cause::Break => "break",
+            Cause::Target => "target",
+            Cause::Load => "load",
+            Cause::Store => "store",
+        }
+    }
 }
 
 /// What came of one instruction.

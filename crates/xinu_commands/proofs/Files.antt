@@ -10,8 +10,8 @@ use Rattle.schedule_file.specs.declared.faults.ScheduleFault.TheVariants as sche
 use Rattle.xinu_base.specs.declared.events.Event.{Event}
 use Rattle.xinu_model.specs.Boot.{Loaded, Start, Boots, Overlaps, NoRoom, boot}
 use Rattle.machine.specs.Starts.{Starts}
-use Rattle.core_calls.specs.declared.boot.BootFault.{BootFault}
-use Rattle.core_calls.specs.declared.boot.BootFault.TheVariants as boot_fault
+use Rattle.kernel_boot.specs.declared.initialize.BootFault.{BootFault}
+use Rattle.kernel_boot.specs.declared.initialize.BootFault.TheVariants as boot_fault
 use Rattle.xinu_commands.specs.Conversions.{boot_refusal, schedule_refusal}
 use Rattle.xinu_commands.specs.InputFaults.{ReadsAs, schedule_fault, image_fault}
 use Rattle.xinu_commands.specs.Stages.{HoldsFault, HoldsSchedule, IsScheduleCause}

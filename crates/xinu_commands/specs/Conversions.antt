@@ -3,8 +3,8 @@ use Rattle.command_line.specs.declared.refusal.ArgsFault.{ArgsFault}
 use Rattle.command_line.specs.declared.refusal.ArgsFault.TheVariants as words
 use Rattle.host_port.specs.declared.host.HostFault.{HostFault}
 use Rattle.host_port.specs.declared.host.HostFault.TheVariants as host
-use Rattle.core_calls.specs.declared.boot.BootFault.{BootFault}
-use Rattle.core_calls.specs.declared.boot.BootFault.TheVariants as boot
+use Rattle.kernel_boot.specs.declared.initialize.BootFault.{BootFault}
+use Rattle.kernel_boot.specs.declared.initialize.BootFault.TheVariants as boot
 use Rattle.lfs_check.specs.declared.faults.CheckFault.{CheckFault}
 use Rattle.lfs_check.specs.declared.faults.CheckFault.TheVariants as check
 use Rattle.schedule_file.specs.declared.faults.ScheduleFault.{ScheduleFault}

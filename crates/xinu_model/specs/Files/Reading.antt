@@ -31,7 +31,7 @@ getc_file d f s = if not f.may_read then refused_effect s else first_byte (bytes
 -- `seek`: a position up to the end.
 abbrev pub seek_file : ℕ → ℤ → OpenFile → FileSystem → FileEffect
 seek_file d (negsuc n) f s = refused_effect s
-seek_file d (pos n) f s = if nat_lt (length (open_bytes f s)) n then refused_effect s else replies (pos 0) (moved d f n s)
+seek_file d (pos n) f s = if nat_lt (length (open_bytes f s)) n then refused_effect s else replies OK (moved d f n s)
 
 -- A file device's `control` that tells the size.
 abbrev pub size_of_file : OpenFile → FileSystem → FileEffect

@@ -1,13 +1,22 @@
+use Rattle.std.proofs.Common.{ap, length, sym, ◌∙◌}
+use Rattle.kernel_state.specs.Devices.{untouched_devices}
 use Rattle.machine.proofs.Dumps.{tables_printed}
 use Rattle.machine.proofs.tables.print_tables.Goals as goal
+use Rattle.xinu_model.specs.Machine.{CallState}
+
+pub print_ports-requires-clause-many : goal.print_ports-requires-clause-many
+print_ports-requires-clause-many g c = ap (λ (d : CallState). length d.state.parts.ports) c.k.view_is ∙ c.requires.sound.ports.many
 
 pub returns : goal.returns
+unfolding untouched_devices
 returns g c =
-    let s = c.args.kernel.now.call.state in
-    let t = c.tables-tables.result.now in
+    let s = c.args.k.now.state in
+    let k = c.k.inside in
+    let v = c.k.view_is in
     record {
-      prints = tables_printed s t c.heap.result.now c.pools.result.now c.ports.result.now.ports c.tty.result.now c.ticks.result c.quantum.result _ _ _ _ _ _ _ _ _ _ _ _ _ _ _ _ _ _ _ _
-          c.tables-tables.ensures.tables c.heap.ensures.heap c.pools.ensures.pools c.ports.ensures.ports c.tty.ensures.devices c.ticks.ensures.ticks c.quantum.ensures.quantum
+      prints = tables_printed s k.tables k.heap k.pools k.ports.ports k.tty c.ticks.result c.quantum.result _ _ _ _ _ _ _ _ _ _ _ _ _ _ _ _ _ _ _ _
+          (ap (λ (d : CallState). d.state.tables) v) (ap (λ (d : CallState). d.state.parts.heap) v) (ap (λ (d : CallState). d.state.parts.pools) v)
+          (ap (λ (d : CallState). d.state.parts.ports) v) (sym (ap (λ (d : CallState). d.state.parts.devices) v)) c.ticks.ensures.ticks c.quantum.ensures.quantum
           c.print_line.ensures.prints c.print_processes.ensures.prints c.print_ready.ensures.prints c.print_semaphores.ensures.prints c.print_sleepers.ensures.prints
           c.print_free.ensures.prints c.print_pools.ensures.prints c.print_ports.ensures.prints c.print_devices.ensures.prints;
     }

@@ -1,0 +1,18 @@
+use Rattle.std.proofs.Common.{◌∙◌, pos, ap}
+use Rattle.xinu_laws.specs.Preserve.{ticking}
+use Rattle.xinu_model.specs.Machine.{CallState}
+use Rattle.kernel_state.specs.Released.{replies_to}
+use Rattle.kernel_state.specs.States.{kernel_state}
+use Rattle.kernel_state.proofs.Released.{ticking_is}
+use Rattle.core_calls.proofs.dispatch.tick.Goals as goal
+
+pub returns : goal.returns
+returns c =
+    let s = (kernel_state c.k.inside).state in
+    let u = c.tick-woken.new.self in
+    record {
+      ticks = ticking_is s c.tick-woken.result.items u _ c.k.inside.owes_resched c.tick-woken.ensures.due c.tick-woken.ensures.ticked
+          (c.answer_released.ensures.replies ∙ ap (λ ps. replies_to (pos 0) ps u) c.as_slice.ensures.value)
+          (ap (λ (d : CallState). d.owes_resched) (c.k.view_is ∙ c.requires.start.is))
+          ∙ ap (λ (d : CallState). ticking d.state) c.k.view_is;
+    }

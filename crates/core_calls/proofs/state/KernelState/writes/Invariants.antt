@@ -1,6 +1,0 @@
-use Rattle.std.proofs.Common.{◌≡◌}
-use Rattle.core_calls.specs.Consoles.{IsWriting}
-use Rattle.core_calls.proofs.state.KernelState.writes.Given as goal
-
-abbrev pub invariant-loop-done : goal.invariant-loop-done
-invariant-loop-done l = (l.done-end ≡ l.part.want) × IsWriting l.part l.fn.self.state l.done l.self

@@ -1,0 +1,107 @@
+//! The calls by their numbers, 1 to 35, what is left of those that wait, and a tick of the clock.
+
+ghost use Rattle.std.specs.Prelude.{ℕ, ◌≡◌, ◌≢◌, ◌<◌, ◌≤◌, true, false};
+ghost use Rattle.kernel_state.specs.Calling.{IsCalling};
+ghost use Rattle.kernel_state.specs.Results.{came_to, IsStart};
+ghost use Rattle.kernel_state.specs.Families.{is_on_device};
+ghost use Rattle.xinu_base.specs.Syscalls.{is_built};
+ghost use Rattle.xinu_laws.specs.Preserve.{ticking};
+ghost use Rattle.xinu_model.specs.Calls.{called, continued};
+ghost use Rattle.xinu_model.specs.Machine.{Silent};
+ghost use Rattle.xinu_model.specs.Ports.Queues.{port_at};
+ghost use Rattle.xinu_model.specs.Tables.{process_at, state_at};
+
+use crate::clock_calls::{clktime, sleep, sleepms};
+use crate::creation::create;
+use crate::memory_calls::{freemem, freestk, getmem, getstk};
+use crate::message_calls::{go_on_receive, receive, recvclr, recvtime, send};
+use crate::pool_calls::{freebuf, getbuf, go_on_getbuf, mkbufpool};
+use crate::port_calls::{go_on_ptrecv, go_on_ptsend, ptcreate, ptdelete, ptrecv, ptreset, ptsend};
+use crate::process_calls::{chprio, exit, getpid, getprio, go_on_suspend, kill, resume, suspend, yield_now};
+use crate::semaphore_calls::{semcount, semcreate, semdelete, semreset, signal, signaln, wait};
+use kernel_state::{Creation, KernelState, answer_released, half, signed};
+use xinu_base::{Call, Next, Rest, SYSERR, State};
+
+/// Begins the call of a number from 1 to 35.
+pub fn begin(k: &mut KernelState, call: Call) -> Next
+    requires core { call.number ≤ 35 }
+    requires built { is_built call.number ≡ true }
+    requires calling { IsCalling k.old }
+    requires numbers { (q : ℕ) → (port_at k.old.state.parts.ports q).seq < 4294967295 }
+    ensures called { came_to k.new result ≡ called call.number call.args k.old.state }
+{
+    let a = call.args;
+    match call.number {
+        1 => getpid(k),
+        2 => create(k, Creation {
+                entry: a[0],
+                stack: a[1],
+                priority: half(a[2]),
+                args: (a[4], a[5]),
+            },
+            a[3],
+        ),
+        3 => resume(k, a[0]),
+        4 => suspend(k, a[0]),
+        5 => kill(k, a[0]),
+        6 => yield_now(k),
+        7 => chprio(k, a[0], half(a[1])),
+        8 => getprio(k, a[0]),
+        9 => exit(k),
+        10 => getmem(k, a[0]),
+        11 => freemem(k, a[0], a[1]),
+        12 => getstk(k, a[0]),
+        13 => freestk(k, a[0], a[1]),
+        14 => semcreate(k, signed(a[0])),
+        15 => semdelete(k, a[0]),
+        16 => semreset(k, a[0], signed(a[1])),
+        17 => semcount(k, a[0]),
+        18 => wait(k, a[0]),
+        19 => signal(k, a[0]),
+        20 => signaln(k, a[0], signed(a[1])),
+        21 => send(k, a[0], a[1]),
+        22 => receive(k),
+        23 => recvclr(k),
+        24 => recvtime(k, signed(a[0])),
+        25 => sleep(k, signed(a[0])),
+        26 => sleepms(k, signed(a[0])),
+        27 => clktime(k),
+        28 => mkbufpool(k, a[0], a[1]),
+        29 => getbuf(k, a[0]),
+        30 => freebuf(k, a[0]),
+        31 => ptcreate(k, signed(a[0])),
+        32 => ptdelete(k, a[0], a[1]),
+        33 => ptreset(k, a[0], a[1]),
+        34 => ptsend(k, a[0], a[1]),
+        35 => ptrecv(k, a[0]),
+        _ => Next::Returns(SYSERR),
+    }
+}
+
+/// Does what is left of the current process's call: the end of a self-suspension, a buffer, a message to or from a port, items or bytes of
+/// the console, or the receipt of a message.
+pub fn go_on(k: &mut KernelState) -> Next
+    requires calling { IsCalling k.old }
+    requires core { is_on_device (process_at k.old.state.tables k.old.state.tables.current).rest ≡ false }
+    requires waits { (process_at k.old.state.tables k.old.state.tables.current).rest ≢ Rest.Nothing }
+    ensures continued { came_to k.new result ≡ continued (process_at k.old.state.tables k.old.state.tables.current).rest k.old.state }
+{
+    match k.tables.rest() {
+        Rest::SelfSuspend => go_on_suspend(k),
+        Rest::GetBuf(i) => go_on_getbuf(k, i),
+        Rest::PtSend(ticket, message) => go_on_ptsend(k, ticket, message),
+        Rest::PtRecv(ticket) => go_on_ptrecv(k, ticket),
+        _ => go_on_receive(k),
+    }
+}
+
+/// A tick of the clock, with its own reschedules.
+pub fn tick(k: &mut KernelState)
+    requires start { IsStart k.old }
+    requires runs { state_at k.old.state.tables k.old.state.tables.current ≡ State.Current }
+    requires few { k.old.state.tables.ticks < 4294967295 }
+    ensures ticks { record { call = k.new; answer = Silent } ≡ ticking k.old.state }
+{
+    let woken = k.tables.tick();
+    answer_released(&mut k.replies, &k.tables, woken.as_slice(), 0);
+}

@@ -1,0 +1,6 @@
+use Rattle.std.proofs.Common.{◌≡◌}
+use Rattle.io_calls.specs.Consoles.{IsReading}
+use Rattle.io_calls.proofs.console_reads.reads.Given as goal
+
+abbrev pub invariant-loop-done : goal.invariant-loop-done
+invariant-loop-done l = (l.done-end ≡ l.part.want) × IsReading l.part l.fn.k.state l.done l.k

@@ -1,0 +1,51 @@
+//! The calls on devices by their numbers, and what is left of those that wait.
+
+ghost use Rattle.std.specs.Prelude.{◌≡◌, ◌≢◌, ◌≤◌, true, false};
+ghost use Rattle.kernel_state.specs.Families.{is_on_device};
+ghost use Rattle.kernel_state.specs.Calling.{IsCalling};
+ghost use Rattle.kernel_state.specs.Results.{came_to, IsStart};
+ghost use Rattle.xinu_base.specs.Syscalls.{is_built};
+ghost use Rattle.xinu_model.specs.Calls.{called, continued};
+ghost use Rattle.xinu_model.specs.Tables.{process_at};
+
+use crate::console_reads::{go_on_getc, go_on_read};
+use crate::console_writes::{go_on_putc, go_on_write};
+use crate::device_calls::{device_close, device_control, device_getc, device_open, device_putc, device_read, device_seek, device_write};
+use kernel_state::KernelState;
+use xinu_base::{Call, Next, Rest, SYSERR};
+
+/// Begins the call of a number from 36 on.
+pub fn begin(k: &mut KernelState, call: Call) -> Next
+    requires io { 36 ≤ call.number }
+    requires built { is_built call.number ≡ true }
+    requires calling { IsCalling k.old }
+    ensures called { came_to k.new result ≡ called call.number call.args k.old.state }
+{
+    let a = call.args;
+    match call.number {
+        36 => device_open(k, a[0], a[1], a[2]),
+        37 => device_close(k, a[0]),
+        38 => device_read(k, a[0], a[1], a[2]),
+        39 => device_write(k, a[0], a[1], a[2]),
+        40 => device_getc(k, a[0]),
+        41 => device_putc(k, a[0], a[1]),
+        42 => device_seek(k),
+        43 => device_control(k, a[0], a[1], a[2]),
+        _ => Next::Returns(SYSERR),
+    }
+}
+
+/// Does what is left of the current process's call on a device: items or bytes of the console.
+pub fn go_on(k: &mut KernelState) -> Next
+    requires calling { IsCalling k.old }
+    requires io { is_on_device (process_at k.old.state.tables k.old.state.tables.current).rest ≡ true }
+    ensures continued { came_to k.new result ≡ continued (process_at k.old.state.tables k.old.state.tables.current).rest k.old.state }
+{
+    match k.tables.rest() {
+        Rest::TtyGet => go_on_getc(k),
+        Rest::TtyRead(part) => go_on_read(k, part),
+        Rest::TtyPut(b, returned) => go_on_putc(k, b, returned),
+        Rest::TtyWrite(part, returned) => go_on_write(k, part, returned),
+        _ => Next::Returns(SYSERR),
+    }
+}

@@ -1,0 +1,30 @@
+//! The calls on devices, 36 to 43, what is left of them, and the interrupts of the console (book, chapters 14 and 15).
+//!
+//! | Calls | File |
+//! |---|---|
+//! | 36 to 43, by the device; one that isn't built is refused | `device_calls.rt` |
+//! | `getc` and `read` of the console, and what is left of them | `console_reads.rt` |
+//! | `putc` and `write` of the console, and what is left of them | `console_writes.rt` |
+//! | `control` of the console, a character, a transmission | `console_signals.rt` |
+//! | the tokens of the console's semaphores | `console_tokens.rt` |
+//! | by their numbers, and what is left of them | `dispatch.rt` |
+//!
+//! | Call | Condition | Promise |
+//! |---|---|---|
+//! | [`begin`] | `io`, `built`: a number from 36 on; `calling`: what holds when a process calls | `called`: what the row of the number gives |
+//! | [`go_on`] | `calling`; `io`: something is left of a call on a device | `continued`: what the abstract machine's continuation gives |
+//! | [`on_type`], [`on_tx`] | `start` and what holds of the console | a character is received; a byte is sent, if there is one |
+//!
+//! Each call is a function over a `KernelState`, and its clause is the abstract machine's own. `is_built_device` of `xinu_base` says which
+//! devices are served. The crate depends on `kernel_state`, `device_switch` and `tty_driver`; it doesn't know `core_calls`.
+#![tactic(auto)]
+
+mod console_reads;
+mod console_signals;
+mod console_tokens;
+mod console_writes;
+mod device_calls;
+mod dispatch;
+
+pub use console_signals::{on_tx, on_type};
+pub use dispatch::{begin, go_on};

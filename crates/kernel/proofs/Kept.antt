@@ -1,0 +1,44 @@
+-- What holds of a kernel between two events and inside one.
+use Rattle.std.proofs.Common.{◌≡◌, ◌≢◌, Option, None, Some, [], ap, subst}
+use Rattle.io_calls.specs.Consoles.{after_sending}
+use Rattle.xinu_laws.proofs.Preserve.Events.{may_call, may_call_after, sending_keeps, state_end_of_event}
+use Rattle.xinu_model.specs.Console.Taking.{console_of}
+use Rattle.xinu_model.specs.Console.Transmitting.{Sent, transmitted}
+use Rattle.xinu_model.specs.Machine.{CallResult, current_hart, end_of_event, Silent, Xinu}
+use Rattle.kernel_state.specs.Results.{idle, IsIdle, IsStart}
+use Rattle.xinu_laws.specs.Preserve.{KeepsAll, MayCallAny}
+use Rattle.xinu_model.specs.Events.{with_executed}
+use Rattle.xinu_model.specs.Isa.Exec.{exec}
+use Rattle.xinu_model.specs.Sound.State.{IsSound}
+
+-- a sound state is kept while no event is under way
+pub kept_idle : (s : Xinu) → IsSound s → KeepsAll (idle s)
+kept_idle s k = record { preserved = record { tables = k.tables; harts = k.harts; released = tt }; unused = k.unused; pools = k.pools; ports = k.ports; devices = k.devices }
+
+-- and it is sound then
+pub idle_sound : (h : CallResult) → IsIdle h → KeepsAll h → IsSound h.call.state
+idle_sound h i k =
+    let j : KeepsAll (idle h.call.state) = subst KeepsAll i.is k in
+    record { tables = j.preserved.tables; harts = j.preserved.harts; unused = j.unused; pools = j.pools; ports = j.ports; devices = j.devices }
+
+-- a process that isn't the null process may call
+pub idle_may_call : (h : CallResult) → IsIdle h → KeepsAll h → h.call.state.tables.current ≢ 0 → MayCallAny h.call.state
+idle_may_call h i k n = may_call h.call.state (idle_sound h i k) n
+
+-- in an idle kernel nothing was done
+pub idle_start : (h : CallResult) → IsIdle h → IsStart h.call
+idle_start h i = record { is = ap (λ (h : CallResult). h.call) i.is }
+
+-- after an instruction the state is sound
+pub executed_sound : (s : Xinu) → MayCallAny s → IsSound (with_executed (exec (current_hart s) s.memory) s)
+executed_sound s m = let c = may_call_after s m in record { tables = c.may.tables; harts = c.may.harts; unused = c.unused; pools = c.pools; ports = c.ports; devices = c.devices }
+
+-- and so is it after an event
+pub closed_kept : (h : CallResult) → KeepsAll h → KeepsAll (idle (end_of_event 0 [] h).state)
+closed_kept h k = kept_idle (end_of_event 0 [] h).state (state_end_of_event 0 [] h k)
+
+-- What a transmission leaves keeps all, whether a byte is sent or not.
+pub after_sending_keeps : (found : Option Sent) (s : Xinu) → transmitted (console_of s) ≡ found → IsSound s
+    → KeepsAll (record { call = after_sending found s; answer = Silent })
+after_sending_keeps None s e k = kept_idle s k
+after_sending_keeps (Some sent) s e k = sending_keeps sent s e k

@@ -1,0 +1,13 @@
+-- What a kernel stands for, and what holds of it at each moment.
+use Rattle.kernel.specs.declared.kernel.Kernel.TheInside.{Inside}
+use Rattle.kernel_state.specs.Results.{answer_so_far}
+use Rattle.xinu_laws.specs.Preserve.{KeepsAll}
+use Rattle.xinu_model.specs.Machine.{CallResult}
+
+-- the state inside an event, and how its call goes
+abbrev pub kernel_result : Inside → CallResult
+kernel_result k = record { call = k.state; answer = answer_so_far k.answer }
+
+-- what each call keeps holds
+pub record IsKernel (k : Inside) : Type 0 where
+  pub keeps : KeepsAll (kernel_result k)

@@ -1,0 +1,224 @@
+//! The kernel: a call, what is left of one, a death or a tick begins an event, and `close_event` ends it (book, chapters 4 to 6 and 13).
+//!
+//! It depends on the kernel's state. What each call of the abstract machine keeps is kept true at each moment.
+
+ghost use Rattle.std.specs.Prelude.{ℕ, ◌≡◌, ◌≢◌, ◌<◌, ◌≤◌, length, map, ◌↔◌, IsTrue, [], option_map};
+ghost use Rattle.image_loader.specs.Images.{loaded_of};
+ghost use Rattle.io_calls.specs.Consoles.{after_sending};
+ghost use Rattle.kernel.specs.Booted.{Booted};
+ghost use Rattle.kernel_state.specs.Calling.{IsCalling};
+ghost use Rattle.kernel_state.specs.Results.{answer_of, answer_so_far, came_to, idle, IsIdle, IsStart};
+ghost use Rattle.xinu_laws.specs.Preserve.{ticking};
+ghost use Rattle.xinu_model.specs.Calls.{called, continued};
+ghost use Rattle.xinu_model.specs.Console.Signals.{receiving};
+ghost use Rattle.xinu_model.specs.Console.Taking.{console_of};
+ghost use Rattle.xinu_model.specs.Console.Transmitting.{transmitted};
+ghost use Rattle.xinu_model.specs.Events as events;
+ghost use Rattle.xinu_model.specs.Isa.Exec.{exec};
+ghost use Rattle.xinu_model.specs.Machine as model;
+ghost use Rattle.xinu_model.specs.Machine.{Silent};
+ghost use Rattle.xinu_model.specs.Ports.Queues.{port_at};
+ghost use Rattle.xinu_model.specs.Process.Death.{exit};
+ghost use Rattle.xinu_model.specs.Sound.State.{IsSound};
+ghost use Rattle.xinu_model.specs.Tables.{process_at};
+
+use image_loader::Image;
+use kernel_boot::{BootFault, boot};
+use kernel_state::KernelState;
+use rv_hart::Outcome;
+use std::alloc::Global;
+use std::marker::Model;
+use xinu_base::{Call, Next, Pid, Rest, SYSERR, is_built};
+
+/// The kernel. A clause sees the state of the abstract machine inside an event, and how the event's call goes.
+#[derive(Drop)]
+pub struct Kernel {
+    // The state.
+    state: KernelState,
+    // How the event's call went.
+    answer: Option<Next>,
+}
+
+impl Model for Kernel {
+    ghost use Rattle.xinu_model.specs.Machine.{CallResult};
+
+    ghost Value = { CallResult };
+
+    ghost use Rattle.kernel.specs.Kernels.{kernel_result, IsKernel};
+
+    ghost view = { kernel_result };
+
+    ghost invariant = { IsKernel };
+}
+
+impl Kernel {
+    /// A kernel that holds the images and is about to run their processes. There are at most eight.
+    ///
+    /// # Errors
+    ///
+    /// `Overlap` if and only if an image overlaps an earlier one; else `NoRoom` if and only if the heap after the images has no room
+    /// for a stack; `NoMemory`.
+    pub fn new(alloc: Global, images: &[Image<'_>]) -> Result<Self, BootFault>
+        requires few { length images.now ≤ 8 }
+        ensures booted { Booted (map loaded_of images.now) result }
+    {
+        let state = boot(alloc, images)?;
+        Ok(Kernel {
+            state,
+            answer: None,
+        })
+    }
+
+    /// The state inside the event: tables, heap, pools, ports and devices, and the replies to released processes so far.
+    pub fn state(&self) -> &KernelState
+        ensures state { result.now ≡ self.now.call }
+    {
+        &self.state
+    }
+
+    /// How the event's call went so far. `None` if there is no call.
+    pub fn answer(&self) -> Option<Next>
+        ensures answer { self.now.answer ≡ answer_so_far result }
+    {
+        self.answer
+    }
+
+    /// The current process.
+    pub fn current(&self) -> Pid
+        ensures current { result ≡ self.now.call.state.tables.current }
+    {
+        self.state.current()
+    }
+
+    /// Whether nothing is left of the current process's call, so that its next step is an instruction.
+    pub fn is_done(&self) -> bool
+        ensures done { IsTrue result ↔ ((process_at self.now.call.state.tables self.now.call.state.tables.current).rest ≡ Rest.Nothing) }
+    {
+        self.state.is_done()
+    }
+
+    /// The call that the current process's registers ask for.
+    pub fn call_of(&self) -> Call
+        ensures call { result ≡ events.call_of (model.current_hart self.now.call.state) }
+    {
+        self.state.call_of()
+    }
+
+    /// Carries out one instruction of the current process, which isn't the null process.
+    pub fn instruction(&mut self) -> Outcome
+        requires idle { IsIdle self.old }
+        requires not_null { self.old.call.state.tables.current ≢ 0 }
+        ensures outcome { result ≡ (exec (model.current_hart self.old.call.state) self.old.call.state.memory).outcome }
+        ensures idle { IsIdle self.new }
+        ensures sound { IsSound self.new.call.state }
+        ensures state { self.new ≡ idle (events.with_executed (exec (model.current_hart self.old.call.state) self.old.call.state.memory) self.old.call.state) }
+    {
+        self.state.instruction()
+    }
+
+    /// Begins a call of the current process. A number whose call isn't built is refused. The sequence number of a port may rise.
+    pub fn begin_core(&mut self, call: Call) -> Next
+        requires idle { IsIdle self.old }
+        requires not_null { self.old.call.state.tables.current ≢ 0 }
+        requires numbers { (q : ℕ) → (port_at self.old.call.state.parts.ports q).seq < 4294967295 }
+        ensures called { self.new ≡ called call.number call.args self.old.call.state }
+        ensures answer { self.new.answer ≡ answer_of result }
+    {
+        let next = begin(&mut self.state, call);
+        self.answer = Some(next);
+        next
+    }
+
+    /// Does what is left of the call in which the current process waited.
+    pub fn go_on_core(&mut self) -> Next
+        requires idle { IsIdle self.old }
+        requires not_null { self.old.call.state.tables.current ≢ 0 }
+        requires waits { (process_at self.old.call.state.tables self.old.call.state.tables.current).rest ≢ Rest.Nothing }
+        ensures continued { self.new ≡ continued (process_at self.old.call.state.tables self.old.call.state.tables.current).rest self.old.call.state }
+        ensures answer { self.new.answer ≡ answer_of result }
+    {
+        let next = go_on(&mut self.state);
+        self.answer = Some(next);
+        next
+    }
+
+    /// A tick of the clock, with its own reschedules.
+    pub fn on_tick(&mut self)
+        requires idle { IsIdle self.old }
+        requires few { self.old.call.state.tables.ticks < 4294967295 }
+        ensures ticks { self.new ≡ ticking self.old.call.state }
+    {
+        core_calls::tick(&mut self.state);
+        self.answer = None;
+    }
+
+    /// A character is received from the console.
+    pub fn on_type(&mut self, b: u8)
+        requires idle { IsIdle self.old }
+        ensures received { self.new ≡ receiving b self.old.call.state }
+    {
+        io_calls::on_type(&mut self.state, b);
+        self.answer = None;
+    }
+
+    /// The console may send a byte. `None`, and nothing changes, if and only if output is held or there is nothing to be sent.
+    pub fn on_tx(&mut self) -> Option<u8>
+        requires idle { IsIdle self.old }
+        ensures byte { result ≡ option_map (λ sent. sent.byte) (transmitted (console_of self.old.call.state)) }
+        ensures sent { self.new ≡ record { call = after_sending (transmitted (console_of self.old.call.state)) self.old.call.state; answer = Silent } }
+    {
+        let byte = io_calls::on_tx(&mut self.state);
+        self.answer = None;
+        byte
+    }
+
+    /// The current process dies, by `exit` or by a trap.
+    pub fn die(&mut self)
+        requires idle { IsIdle self.old }
+        requires not_null { self.old.call.state.tables.current ≢ 0 }
+        ensures dies { self.new ≡ exit self.old.call.state }
+    {
+        let next = core_calls::exit(&mut self.state);
+        self.answer = Some(next);
+    }
+
+    /// Ends the event: its one resched, and the replies.
+    pub fn close_event(&mut self)
+        ensures idle { IsIdle self.new }
+        ensures closed { self.new ≡ idle (model.end_of_event 0 [] self.old).state }
+        ensures sound { IsSound self.new.call.state }
+    {
+        let answer = self.answer;
+        self.state.close(answer);
+        self.answer = None;
+    }
+}
+
+// Begins the call of a number; any number whose call isn't built is refused.
+fn begin(k: &mut KernelState, call: Call) -> Next
+    requires calling { IsCalling k.old }
+    requires numbers { (q : ℕ) → (port_at k.old.state.parts.ports q).seq < 4294967295 }
+    ensures called { came_to k.new result ≡ called call.number call.args k.old.state }
+{
+    if !is_built(call.number) {
+        return Next::Returns(SYSERR);
+    }
+    if call.number < 36 {
+        core_calls::begin(k, call)
+    } else {
+        io_calls::begin(k, call)
+    }
+}
+
+// Does what is left of the current process's call.
+fn go_on(k: &mut KernelState) -> Next
+    requires calling { IsCalling k.old }
+    requires waits { (process_at k.old.state.tables k.old.state.tables.current).rest ≢ Rest.Nothing }
+    ensures continued { came_to k.new result ≡ continued (process_at k.old.state.tables k.old.state.tables.current).rest k.old.state }
+{
+    if k.is_on_device() {
+        io_calls::go_on(k)
+    } else {
+        core_calls::go_on(k)
+    }
+}

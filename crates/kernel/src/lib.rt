@@ -1,0 +1,30 @@
+//! The kernel: which family a call is of, a death, a tick, the interrupts of devices, and the end of an event.
+//!
+//! A clause sees a [`Kernel`] as a `CallResult` of the abstract machine: its state inside an event, the replies to released processes so
+//! far, whether a resched is owed, and how the event's call went. Between events it is idle: `idle s` in `specs/Results` of `kernel_state`.
+//! A call, what is left of one, a death or a tick makes of an idle kernel what the abstract machine's own row or step gives, and
+//! `close_event` makes it the idle kernel of the event's end. Replies are written into registers there, those of released processes first.
+//!
+//! | Call | Condition | Promise |
+//! |---|---|---|
+//! | `Kernel::new` | `few`: at most eight images | `booted`: idle in the state in which the images boot, or boot's own refusal; or `NoMemory` |
+//! | `state`, `answer` | | the state, with its parts and the replies to released processes; how the event's call went so far |
+//! | `current`, `is_done`, `call_of` | | the current process, whether nothing is left of its call, the call in its registers |
+//! | `instruction` | `idle`; `not_null`: the null process isn't current | `outcome`, `state`: those of `exec` |
+//! | `begin_core` | `idle`, `not_null`; `numbers`: the number of each port can rise | `called`: what the row of the call's number gives; a number whose call isn't built is refused; `answer`: the answer is the row's |
+//! | `go_on_core` | `idle`, `not_null`; `waits`: something is left of the call | `continued`: what the abstract machine's continuation gives; `answer` |
+//! | `die` | `idle`, `not_null` | `dies`: the caller's death, as `exit` |
+//! | `on_tick` | `idle`; `few`: the ticks don't wrap | `ticks`: the tick with its own reschedules |
+//! | `on_type` | `idle` | `received`: a character is received |
+//! | `on_tx` | `idle` | `byte`, `sent`: the byte that the console sends; `None`, and nothing changes, if and only if output is held or there is none |
+//! | `close_event` | | `closed`: idle in the state at the end of the event |
+//!
+//! That a kernel stands for a state that is sound, inside an event or between two, is kept by the type: the invariant of `Kernel` is what
+//! each call keeps (`KeepsAll` of `xinu_laws`). So no call has a condition on lists, states or counts, and the crates above name none.
+//! `is_built` of `xinu_base` says which calls are served. The crate depends on `kernel_boot`, `core_calls` and `io_calls`.
+#![tactic(auto)]
+
+mod kernel;
+
+pub use kernel::Kernel;
+pub use kernel_boot::BootFault;

@@ -1,0 +1,22 @@
+use Rattle.std.proofs.Common.{◌≡◌, ◌∙◌, None, map, ap, arith, sym, subst}
+use Rattle.std.proofs.lemmas.List.{length-map}
+use Rattle.image_loader.specs.Images.{loaded_of}
+use Rattle.xinu_base.specs.declared.processes.State.TheVariants.{Free}
+use Rattle.xinu_model.specs.Boot as boot
+use Rattle.xinu_model.specs.Machine.{CallState}
+use Rattle.xinu_model.specs.Tables.{state_at}
+use Rattle.kernel_boot.proofs.Making.{none_made_free, suspended_made}
+use Rattle.kernel_boot.proofs.initialize.boot.Goals as goal
+
+pub make_all-requires-clause-none : goal.make_all-requires-clause-none
+make_all-requires-clause-none c j le =
+    let F : CallState → Type 0 = λ d. state_at d.state.tables j ≡ Free in
+    subst F (sym c.in-Ok.ensures.loaded) (none_made_free (map loaded_of c.args.images.now) j le)
+
+pub start_all-requires-clause-suspended : goal.start_all-requires-clause-suspended
+start_all-requires-clause-suspended c j low high =
+    let images = map loaded_of c.args.images.now in
+    let n = length-map c.args.images.now loaded_of in
+    let few = c.requires.few in
+    let made = ap (λ (d : CallState). boot.all_made 1 images d.state) (sym c.in-Ok.ensures.loaded) ∙ c.in_default-make_all.ensures.made in
+    suspended_made images c.make_all.new.k.state (omega (arith, n, few)) made j low (omega (arith, n, high))

@@ -1,0 +1,158 @@
+//! Boot: RAM holds the images, the heap gives their stacks, and their processes are ready (book, chapter 22, `initialize.c`).
+//!
+//! It depends on the kernel's state and the places of images in RAM.
+
+ghost use Rattle.std.specs.Prelude.{◌≡◌, ◌≢◌, ◌≤◌, ◌<◌, ◌+◌, ℕ, length, map, IfOk, IfSome, IfNone, if◌then◌else◌};
+ghost use Rattle.image_loader.specs.Images.{loaded_of};
+ghost use Rattle.kernel_boot.specs.Boots.{BootsAs};
+ghost use Rattle.kernel_state.specs.Results.{IsStart};
+ghost use Rattle.xinu_model.specs.Boot as boot;
+ghost use Rattle.xinu_model.specs.Heap.Cells as cells;
+ghost use Rattle.xinu_model.specs.Machine.{start};
+ghost use Rattle.xinu_model.specs.Process.Creation.{stack_size};
+ghost use Rattle.xinu_model.specs.Tables.{state_at};
+
+use crate::memory_map::{end_of_all, first_overlap, load_all};
+use buffer_pools::Pools;
+use freelist_memory::Heap;
+use image_loader::Image;
+use kernel_state::{Creation, KernelState, Replies, make_on_stack};
+use kernel_tables::KernelTables;
+use ports::Ports;
+use process_core::pid_at;
+use rv_hart::{Hart, RAM_SIZE, Ram};
+use std::alloc::Global;
+use tty_driver::Tty;
+use xinu_base::{NoMemory, Pid, State};
+
+/// Why a kernel wasn't booted.
+#[derive(Clone, Copy, Debug, PartialEq, Eq)]
+pub enum BootFault {
+    /// The image with this number, counted from 1, overlaps an earlier one.
+    Overlap(u8),
+    /// The heap has no room for the stack of the image with this number.
+    NoRoom(u8),
+    /// There was no memory for RAM, tables, heap, pools or console.
+    NoMemory,
+}
+
+/// The state in which the images are in RAM and are about to run. There are at most eight.
+///
+/// # Errors
+///
+/// `Overlap` if and only if an image overlaps an earlier one; else `NoRoom` if and only if the heap after the images has no room
+/// for a stack; `NoMemory`.
+pub fn boot(alloc: Global, images: &[Image<'_>]) -> Result<KernelState, BootFault>
+    requires few { length images.now ≤ 8 }
+    ensures booted { BootsAs (map loaded_of images.now) result }
+{
+    if let Some(number) = first_overlap(images) {
+        return Err(BootFault::Overlap(number));
+    }
+    let Ok(mut state) = loaded(alloc, images) else {
+        return Err(BootFault::NoMemory);
+    };
+    if let Some(number) = make_all(&mut state, images) {
+        return Err(BootFault::NoRoom(number));
+    }
+    start_all(&mut state, images);
+    Ok(state)
+}
+
+// The state in which the images are in RAM, and no process but the null process was made.
+#[tactic(auto, unfolding(kernel_state::specs::Devices::untouched_devices))]
+fn loaded(alloc: Global, images: &[Image<'_>]) -> Result<KernelState, NoMemory>
+    ensures loaded { IfOk result (λ k. k ≡ start (boot.loaded_machine (map loaded_of images.now))) }
+{
+    let mut ram = Ram::new(alloc)?;
+    load_all(&mut ram, images);
+    let low = 8 * end_of_all(images).div_ceil(8);
+    let heap = Heap::new(alloc, low, RAM_SIZE)?;
+    let pools = Pools::new(alloc)?;
+    let ports = Ports::new(alloc)?;
+    let tty = Tty::new(alloc)?;
+    let tables = KernelTables::new(alloc)?;
+    Ok(KernelState {
+        tables,
+        harts: [Hart::ZERO; 64],
+        ram,
+        heap,
+        pools,
+        ports,
+        tty,
+        replies: Replies::new(),
+        owes_resched: false,
+    })
+}
+
+// Makes the first processes of the images, in order. The number of the first image for whose stack the heap has no room.
+fn make_all(k: &mut KernelState, images: &[Image<'_>]) -> Option<u8>
+    requires start { IsStart k.old }
+    requires few { length images.now ≤ 8 }
+    requires none { (j : ℕ) → 1 ≤ j → state_at k.old.state.tables j ≡ State.Free }
+    ensures made { IfNone result (boot.all_made 1 (map loaded_of images.now) k.old.state ≡ boot.Boots k.new.state) }
+    ensures no_room { IfSome result (λ i. boot.all_made 1 (map loaded_of images.now) k.old.state ≡ boot.NoRoom i) }
+    ensures start { IfNone result (IsStart k.new) }
+{
+    let mut number = 1;
+    for image in images {
+        if !make_image(k, number, image) {
+            return Some(number);
+        }
+        number += 1;
+    }
+    None
+}
+
+// Makes the first process of an image. False if the heap has no room for its stack.
+fn make_image(k: &mut KernelState, number: u8, image: &Image<'_>) -> bool
+    requires start { IsStart k.old }
+    requires below { number < 9 }
+    requires free { state_at k.old.state.tables number ≡ State.Free }
+    ensures made { boot.where_stack (cells.take_stack (stack_size (loaded_of image.now).stack) k.old.state.parts.heap) number (loaded_of image.now) k.old.state ≡ (if result then boot.Boots k.new.state else boot.NoRoom number) }
+    ensures start { IsStart k.new }
+{
+    let mut name = *b"image0\0\0\0\0\0\0\0\0\0";
+    name[5] += number;
+    let p = pid_at(usize::from(number));
+    let new = Creation {
+        entry: image.entry,
+        stack: image.stack,
+        priority: image.priority,
+        args: (0, 0),
+    };
+    make_on_stack(
+        &mut k.tables,
+        &mut k.harts,
+        &mut k.heap,
+        p,
+        Pid::default(),
+        &name,
+        new,
+    )
+    .is_some()
+}
+
+// The processes of the images become ready in order, with one resched.
+fn start_all(k: &mut KernelState, images: &[Image<'_>])
+    requires start { IsStart k.old }
+    requires few { length images.now ≤ 8 }
+    requires suspended { (j : ℕ) → 0 < j → j < 1 + length images.now → state_at k.old.state.tables j ≡ State.Suspended }
+    ensures started { k.new ≡ start (boot.all_started (map loaded_of images.now) k.old.state) }
+{
+    ready_all(&mut k.tables, images);
+    k.tables.resched();
+}
+
+// The processes of the images become ready in order.
+fn ready_all(tables: &mut KernelTables, images: &[Image<'_>])
+    requires few { length images.now ≤ 8 }
+    requires suspended { (j : ℕ) → 0 < j → j < 1 + length images.now → state_at tables.old j ≡ State.Suspended }
+    ensures ready { tables.new ≡ boot.all_ready 1 (map loaded_of images.now) tables.old }
+{
+    let mut number = 1;
+    for _image in images {
+        tables.ready(pid_at(number));
+        number += 1;
+    }
+}

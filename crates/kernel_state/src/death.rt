@@ -1,0 +1,27 @@
+//! How a process dies (book, chapter 5, `kill.c`).
+
+ghost use Rattle.std.specs.Prelude.{◌≡◌, ◌≢◌};
+ghost use Rattle.xinu_model.specs.Process.Death.{killed};
+
+use crate::state::KernelState;
+use rv_hart::Hart;
+use xinu_base::Pid;
+
+impl KernelState {
+    /// `p`, which isn't the null process, dies: its parent is sent its number, its stack is free, unless the heap refuses it, and so
+    /// is its number.
+    #[tactic(auto, unfolding(crate::specs::Devices::untouched_devices))]
+    pub fn end(&mut self, p: Pid)
+        requires not_null { p ≢ 0 }
+        ensures killed { self.new ≡ killed p self.old }
+    {
+        let parent = self.tables.parent_of(p);
+        let (stack, size) = self.tables.stack_of(p);
+        if self.tables.send_to(parent, p.index() as u32) {
+            self.owes_resched = true;
+        }
+        self.tables.bury(p);
+        self.harts[p.index()] = Hart::ZERO;
+        self.heap.freestk(stack, size);
+    }
+}

@@ -1,0 +1,28 @@
+//! The kernel's state inside an event, and the moves that several families of calls make.
+//!
+//! A clause sees a [`KernelState`] as the abstract machine's `CallState`: its state inside an event, the replies to released processes so
+//! far, and whether a resched is owed. No fact is kept of it, so its parts are public: whoever changes one owes the clause of the call that
+//! does, and `kernel` keeps what holds of all of it.
+//!
+//! | Call | Promise |
+//! |---|---|
+//! | `current`, `is_done`, `is_on_device`, `call_of`, `released` | the current process; whether nothing is left of its call, and whether what is left is of a call on a device; the call in its registers; the replies so far |
+//! | `instruction` | `exec` of the current process |
+//! | `release`, `give_token` | who waited on a semaphore is ready, and is answered if nothing is left of its call: `replies_to`, `signalled` |
+//! | `end` | a process dies: `killed` |
+//! | `close` | the event's one resched, and the replies in registers: `end_of_event` |
+//! | [`make_on_stack`] | a new process on a stack of the heap: `where_stack` |
+//! | [`answer_released`], [`owes_after`] | replies to processes that became ready, and whether a resched is owed for them |
+//!
+//! The crate depends on `kernel_tables`, `freelist_memory`, `buffer_pools`, `ports`, `tty_driver` and `rv_hart`, whose values are its parts.
+#![tactic(auto)]
+
+mod death;
+mod new_process;
+mod releases;
+mod replies;
+mod state;
+
+pub use new_process::{Creation, make_on_stack};
+pub use replies::{Replies, answer_released, owes_after};
+pub use state::{KernelState, half, signed};

@@ -1,0 +1,145 @@
+//! The state of the kernel inside an event: tables, registers, RAM, heap, pools, ports and console, the replies so far, and whether a
+//! resched is owed.
+//!
+//! It depends on the kernel's tables, the processor core, the heap, the buffer pools, the ports and the console's driver. No fact is kept of
+//! it: the kernel keeps what holds of all of it.
+
+ghost use Rattle.std.specs.Prelude.{◌≡◌, ◌≤◌, ◌↔◌, IsTrue, [], length};
+ghost use Rattle.kernel_state.specs.Devices.{untouched_devices};
+ghost use Rattle.kernel_state.specs.Families.{is_on_device};
+ghost use Rattle.kernel_state.specs.Results.{answer_so_far, came_to, IsStart};
+ghost use Rattle.xinu_laws.specs.Preserve.{ticking};
+ghost use Rattle.xinu_model.specs.Calls.{called, continued};
+ghost use Rattle.xinu_model.specs.Events.{call_of, with_executed};
+ghost use Rattle.xinu_model.specs.Isa.Exec.{exec};
+ghost use Rattle.xinu_model.specs.Machine.{current_hart, end_of_event, Silent, start};
+ghost use Rattle.xinu_model.specs.Ports.Queues.{port_at};
+ghost use Rattle.xinu_model.specs.Sound.Devices.{AreDevices};
+ghost use Rattle.xinu_model.specs.Sound.Pools.{ArePools};
+ghost use Rattle.xinu_model.specs.Sound.Ports.{ArePorts};
+ghost use Rattle.xinu_model.specs.Sound.State.{AreHarts};
+ghost use Rattle.xinu_model.specs.Sound.Tables.{IsSoundTables};
+ghost use Rattle.xinu_model.specs.Tables.{process_at, state_at};
+ghost use Rattle.xinu_model.specs.Words.{half, signed};
+
+use crate::replies::{Replies, is_resched_due, write_all};
+use buffer_pools::Pools;
+use freelist_memory::Heap;
+use kernel_tables::KernelTables;
+use ports::Ports;
+use rv_hart::{Hart, Outcome, Ram, step};
+use std::marker::Model;
+use tty_driver::Tty;
+use xinu_base::{Call, Next, Pid, Rest};
+
+/// The state. A clause sees the abstract machine's inside an event.
+#[derive(Drop)]
+pub struct KernelState {
+    /// The tables.
+    pub tables: KernelTables,
+    /// The registers of each process, by its number.
+    pub harts: [Hart; 64],
+    /// The memory.
+    pub ram: Ram,
+    /// The heap.
+    pub heap: Heap,
+    /// The buffer pools.
+    pub pools: Pools,
+    /// The ports.
+    pub ports: Ports,
+    /// The console.
+    pub tty: Tty,
+    /// The replies to processes that were released in this event.
+    pub replies: Replies,
+    /// Whether a resched is owed at the end of the event.
+    pub owes_resched: bool,
+}
+
+impl Model for KernelState {
+    ghost use Rattle.xinu_model.specs.Machine.{CallState};
+
+    ghost Value = { CallState };
+
+    ghost use Rattle.kernel_state.specs.States.{kernel_state};
+
+    ghost view = { kernel_state };
+}
+
+impl KernelState {
+    /// The current process.
+    pub fn current(&self) -> Pid
+        ensures current { result ≡ self.now.state.tables.current }
+    {
+        self.tables.current()
+    }
+
+    /// Whether nothing is left of the current process's call.
+    pub fn is_done(&self) -> bool
+        ensures done { IsTrue result ↔ ((process_at self.now.state.tables self.now.state.tables.current).rest ≡ Rest.Nothing) }
+    {
+        self.tables.is_done()
+    }
+
+    /// Whether what is left of the current process's call is of one on a device.
+    pub fn is_on_device(&self) -> bool
+        ensures on { result ≡ is_on_device (process_at self.now.state.tables self.now.state.tables.current).rest }
+    {
+        matches!(self.tables.rest(), Rest::TtyGet | Rest::TtyRead(_) | Rest::TtyPut(_, _) | Rest::TtyWrite(_, _) | Rest::Disk(_))
+    }
+
+    /// The call that the current process's registers ask for.
+    pub fn call_of(&self) -> Call
+        ensures call { result ≡ call_of (current_hart self.now.state) }
+    {
+        let hart = &self.harts[self.tables.current().index()];
+        let regs = &hart.regs;
+        Call {
+            number: regs[17],
+            args: [regs[10], regs[11], regs[12], regs[13], regs[14], regs[15]],
+        }
+    }
+
+    /// Carries out one instruction of the current process.
+    pub fn instruction(&mut self) -> Outcome
+        ensures outcome { result ≡ (exec (current_hart self.old.state) self.old.state.memory).outcome }
+        ensures state { self.new ≡ record self.old { state = with_executed (exec (current_hart self.old.state) self.old.state.memory) self.old.state } }
+    {
+        let current = self.tables.current();
+        step(&mut self.harts[current.index()], &mut self.ram)
+    }
+
+    /// The replies of this event to released processes, in order.
+    pub fn released(&self) -> &[(Pid, i32)]
+        ensures released { result.now ≡ self.now.released }
+        ensures few { length result.now ≤ 64 }
+    {
+        self.replies.as_slice()
+    }
+
+    /// Ends the event of a call that went so: its one resched, and the replies.
+    pub fn close(&mut self, answer: Option<Next>)
+        ensures closed { self.new ≡ start (end_of_event 0 [] (record { call = self.old; answer = answer_so_far answer })).state }
+    {
+        let caller = self.tables.current();
+        write_all(&mut self.harts, self.replies.as_slice(), answer, caller);
+        if is_resched_due(self.owes_resched, answer) {
+            self.tables.resched();
+        }
+        self.replies.clear();
+        self.owes_resched = false;
+    }
+}
+
+/// The low 16 bits of a word, with their sign.
+pub fn half(word: u32) -> i16
+    ensures half { result ≡ half word }
+{
+    ((word % 65536) as u16).cast_signed()
+}
+
+/// A word as a signed number.
+pub fn signed(word: u32) -> i32
+    ensures signed { result ≡ signed word }
+{
+    word.cast_signed()
+}
