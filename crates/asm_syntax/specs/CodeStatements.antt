@@ -8,7 +8,7 @@ use Rattle.asm_syntax.specs.Texts.{text_bytes}
 use Rattle.asm_syntax.specs.declared.statements.Statement.{Statement}
 use Rattle.asm_syntax.specs.declared.statements.Statement.TheVariants.{Empty, Malformed, Unresolved, Excessive, One, Two, Branch, JumpTo}
 use Rattle.asm_syntax.specs.declared.statements.Statement.TheVariants.{AddressOf, Word, Byte, Text, WordAt, Zeros, Align, Place, Entry}
-use Rattle.asm_syntax.specs.declared.statements.Statement.TheVariants.{Priority, Stack}
+use Rattle.asm_syntax.specs.declared.statements.Statement.TheVariants.{Priority, Stack, NameFor, NegativeFor}
 
 -- the statement that the code has
 abbrev pub seen_statement : Statement → spec.Statement
@@ -16,6 +16,8 @@ seen_statement Empty = spec.Empty
 seen_statement Malformed = spec.Malformed
 seen_statement Unresolved = spec.Unresolved
 seen_statement Excessive = spec.Excessive
+seen_statement (NameFor field) = spec.NameFor field
+seen_statement (NegativeFor field) = spec.NegativeFor field
 seen_statement (One word) = spec.Code (word ∷ [])
 seen_statement (Two first second) = spec.Code (first ∷ second ∷ [])
 seen_statement (Branch bits rs1 rs2 l) = spec.Branch bits rs1 rs2 l.now

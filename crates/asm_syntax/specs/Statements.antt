@@ -3,6 +3,8 @@ use Rattle.std.specs.Prelude.{ℕ, ◌+◌, ◌-◌, ◌*◌, ◌/◌, ◌%◌, 
 use Rattle.std.specs.Prelude.{◌∷◌, Option, Some, None}
 use Rattle.xinu_model.specs.Isa.Instructions.{Form, FormU, FormJ, FormI, FormB, FormS, FormShift, FormR, FormFence, FormWhole}
 use Rattle.rv_isa.specs.Encoding.{placed}
+use Rattle.asm_syntax.specs.declared.statements.HeaderField.{HeaderField}
+use Rattle.asm_syntax.specs.declared.statements.HeaderField.TheVariants.{PlaceField, PriorityField, StackField}
 use Rattle.asm_syntax.specs.Tokens.{Token, Blank, Colon, Word, tokens_of, solid}
 use Rattle.asm_syntax.specs.Numbers.{is_name}
 use Rattle.asm_syntax.specs.Operands.{Operand, operands_of}
@@ -11,13 +13,16 @@ use Rattle.asm_syntax.specs.Meanings.{DotPlace, DotEntry, DotPriority, DotStack,
 use Rattle.asm_syntax.specs.Values.{Value, RegisterValue, NumberValue, OffsetValue, LabelValue, CallValue, TextValue, Fitting, AnyWrong}
 use Rattle.asm_syntax.specs.Values.{AnyUnknown, AllFit, fitting}
 
--- A statement. The first four put nothing: there is none, it hasn't the form, it has a name that isn't known, a number doesn't fit.
--- Those that follow put instructions, those after them other bytes, and the last four set fields of the image's header.
+-- A statement. The first six put nothing: there is none, it hasn't the form, it has a name that isn't known, a number doesn't fit, and
+-- a directive that sets a field of the header has a name, or a negative number, in place of its number. Those that follow put
+-- instructions, those after them other bytes, and the last four set fields of the image's header.
 pub data Statement : Type 0 where
   Empty : Statement
   Malformed : Statement
   Unresolved : Statement
   Excessive : Statement
+  NameFor : HeaderField → Statement
+  NegativeFor : HeaderField → Statement
   Code : List ℕ → Statement
   Branch : ℕ → ℕ → ℕ → List ℕ → Statement
   JumpTo : ℕ → List ℕ → Statement
@@ -45,10 +50,10 @@ magnitude (negsuc n) = 0
 abbrev pub within : ℤ → ℤ → ℤ → Statement → Statement
 within low n high statement = if int_le low n && int_le n high then statement else Excessive
 
--- a number that may not be negative; whether it fits is judged where it is used
-abbrev pub unsigned : ℤ → (ℕ → Statement) → Statement
-unsigned (pos n) statement = statement n
-unsigned (negsuc n) statement = Excessive
+-- a number for a field of the header, which may not be negative; whether it fits is judged where it is used
+abbrev pub unsigned : ℤ → HeaderField → (ℕ → Statement) → Statement
+unsigned (pos n) field statement = statement n
+unsigned (negsuc n) field statement = NegativeFor field
 
 -- one instruction
 abbrev pub one : ℕ → Form → ℕ → ℕ → ℕ → ℕ → Statement
@@ -95,16 +100,24 @@ made DotByte (NumberValue n ∷ []) = within (negsuc 127) n (pos 255) (Bytes (wo
 made DotZero (NumberValue n ∷ []) = within (pos 0) n (pos 1048576) (Zeros (magnitude n))
 made DotAscii (TextValue bytes ∷ []) = Bytes bytes
 made DotAlign [] = Align
-made DotPlace (NumberValue n ∷ []) = unsigned n Place
+made DotPlace (NumberValue n ∷ []) = unsigned n PlaceField Place
 made DotEntry (LabelValue l ∷ []) = Entry l
-made DotPriority (NumberValue n ∷ []) = unsigned n Priority
-made DotStack (NumberValue n ∷ []) = unsigned n Stack
+made DotPriority (NumberValue n ∷ []) = unsigned n PriorityField Priority
+made DotStack (NumberValue n ∷ []) = unsigned n StackField Stack
 made meaning values = Malformed
+
+-- the statement of a word with an operand that has a name which isn't known; a directive of the header keeps its field, since a repeated
+-- or late one is a wrong form whatever its operand is
+abbrev pub unresolved : Meaning → Statement
+unresolved DotPlace = NameFor PlaceField
+unresolved DotPriority = NameFor PriorityField
+unresolved DotStack = NameFor StackField
+unresolved meaning = Unresolved
 
 -- the statement of a word whose operands fit, or don't
 abbrev pub made_of : Meaning → Fitting → Statement
 made_of meaning AnyWrong = Malformed
-made_of meaning AnyUnknown = Unresolved
+made_of meaning AnyUnknown = unresolved meaning
 made_of meaning (AllFit values) = made meaning values
 
 -- the statement of a word that may be known, with its operands

@@ -10,7 +10,7 @@ ghost use Rattle.asm_syntax.specs.Values.{fitting};
 
 use crate::encoding::word_of;
 use crate::operands::Operand;
-use crate::statements::Statement;
+use crate::statements::{HeaderField, Statement};
 use crate::values::{Fit, label, number, text};
 
 /// `.word`: a number or a label.
@@ -108,10 +108,10 @@ pub(crate) fn place<'a>(operands: &[Operand<'a>]) -> Statement<'a>
     match operands {
         [a] => match number(a) {
             Fit::Wrong => Statement::Malformed,
-            Fit::Unknown => Statement::Unresolved,
+            Fit::Unknown => Statement::NameFor(HeaderField::PlaceField),
             Fit::Fits(n) => {
                 if n < 0 {
-                    Statement::Excessive
+                    Statement::NegativeFor(HeaderField::PlaceField)
                 } else {
                     Statement::Place(n as u64)
                 }
@@ -144,10 +144,10 @@ pub(crate) fn priority<'a>(operands: &[Operand<'a>]) -> Statement<'a>
     match operands {
         [a] => match number(a) {
             Fit::Wrong => Statement::Malformed,
-            Fit::Unknown => Statement::Unresolved,
+            Fit::Unknown => Statement::NameFor(HeaderField::PriorityField),
             Fit::Fits(n) => {
                 if n < 0 {
-                    Statement::Excessive
+                    Statement::NegativeFor(HeaderField::PriorityField)
                 } else {
                     Statement::Priority(n as u64)
                 }
@@ -165,10 +165,10 @@ pub(crate) fn stack<'a>(operands: &[Operand<'a>]) -> Statement<'a>
     match operands {
         [a] => match number(a) {
             Fit::Wrong => Statement::Malformed,
-            Fit::Unknown => Statement::Unresolved,
+            Fit::Unknown => Statement::NameFor(HeaderField::StackField),
             Fit::Fits(n) => {
                 if n < 0 {
-                    Statement::Excessive
+                    Statement::NegativeFor(HeaderField::StackField)
                 } else {
                     Statement::Stack(n as u64)
                 }

@@ -31,5 +31,5 @@ mod words;
 
 pub use encoding::{load, word_of};
 pub use lines::{first_label, statement_in};
-pub use statements::Statement;
+pub use statements::{HeaderField, Statement};
 pub use texts::next_byte;

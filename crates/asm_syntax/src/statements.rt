@@ -1,5 +1,16 @@
 //! Statements: what a line asks for after its labels.
 
+/// A field of the image's header that a directive sets to a number.
+#[derive(Clone, Copy, Drop)]
+pub enum HeaderField {
+    /// Where the content begins.
+    PlaceField,
+    /// The priority of the process.
+    PriorityField,
+    /// The size of its stack.
+    StackField,
+}
+
 /// A statement.
 #[derive(Clone, Copy, Drop)]
 pub enum Statement<'a> {
@@ -11,6 +22,10 @@ pub enum Statement<'a> {
     Unresolved,
     /// A number doesn't fit.
     Excessive,
+    /// A directive that sets this field has a name in place of its number.
+    NameFor(HeaderField),
+    /// A directive that sets this field has a negative number.
+    NegativeFor(HeaderField),
     /// An instruction.
     One(u32),
     /// Two instructions.

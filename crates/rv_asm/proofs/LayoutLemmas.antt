@@ -6,8 +6,8 @@ use Rattle.std.proofs.lemmas.Bool.Decides.{nat_tests}
 use Rattle.std.proofs.lemmas.Bool.{eqb-true, leb-true}
 use Rattle.std.specs.List.{flat_map}
 use Rattle.std.proofs.lemmas.List.{length-replicate}
-use Rattle.asm_syntax.specs.Statements.{Statement, Empty, Malformed, Unresolved, Excessive, Code, Branch, JumpTo, AddressOf, Bytes, WordAt}
-use Rattle.asm_syntax.specs.Statements.{Zeros, Align, Place, Entry, Priority, Stack, word_bytes}
+use Rattle.asm_syntax.specs.Statements.{Statement, Empty, Malformed, Unresolved, Excessive, NameFor, NegativeFor, Code, Branch, JumpTo, AddressOf}
+use Rattle.asm_syntax.specs.Statements.{Bytes, WordAt, Zeros, Align, Place, Entry, Priority, Stack, word_bytes}
 use Rattle.rv_asm.specs.Layouts.{size_at, Labels, Layout, after_statement}
 use Rattle.rv_asm.specs.Faults.{is_bad, is_excessive}
 use Rattle.rv_asm.specs.Assembly.{bytes_at}
@@ -23,6 +23,8 @@ length-bytes_at labels at Empty = refl
 length-bytes_at labels at Malformed = refl
 length-bytes_at labels at Unresolved = refl
 length-bytes_at labels at Excessive = refl
+length-bytes_at labels at (NameFor field) = refl
+length-bytes_at labels at (NegativeFor field) = refl
 length-bytes_at labels at (Code words) = length-words words
 length-bytes_at labels at (Branch bits rs1 rs2 l) = refl
 length-bytes_at labels at (JumpTo rd l) = refl
@@ -90,6 +92,8 @@ keeps-statement Empty s size good fit keeps = keeps-content s size 0 false (omeg
 keeps-statement Malformed s size good fit keeps = cc
 keeps-statement Unresolved s size good fit keeps = keeps-content s size 0 false (omega (arith, keeps.inside)) (λ e. refl) keeps
 keeps-statement Excessive s size good fit keeps = cc
+keeps-statement (NameFor field) s size good fit keeps = keeps-content s size 0 false (omega (arith, keeps.inside)) (λ e. refl) keeps
+keeps-statement (NegativeFor field) s size good fit keeps = cc
 keeps-statement (Code words) s size good fit keeps =
     keeps-content s size (4 * length words) true (fits _ s.at (4 * length words) fit keeps.inside) (λ e. cc) keeps
 keeps-statement (Branch bits rs1 rs2 l) s size good fit keeps = keeps-content s size 4 true (fits _ s.at 4 fit keeps.inside) (λ e. cc) keeps

@@ -5,8 +5,8 @@ use Rattle.std.specs.Prelude.{◌==◌, nat_le, unwrap_or, is_none, is_some}
 use Rattle.std.proofs.lemmas.Bool.Decides.{nat_tests}
 use Rattle.std.proofs.lemmas.Bool.{eqb-true, leb-true, and_parts}
 use Rattle.image_loader.specs.ImageFiles.{image_in}
-use Rattle.asm_syntax.specs.Statements.{Statement, Empty, Malformed, Unresolved, Excessive, Code, Branch, JumpTo, AddressOf, Bytes, WordAt}
-use Rattle.asm_syntax.specs.Statements.{Zeros, Align, Place, Entry, Priority, Stack, Line}
+use Rattle.asm_syntax.specs.Statements.{Statement, Empty, Malformed, Unresolved, Excessive, NameFor, NegativeFor, Code, Branch, JumpTo, AddressOf}
+use Rattle.asm_syntax.specs.Statements.{Bytes, WordAt, Zeros, Align, Place, Entry, Priority, Stack, Line}
 use Rattle.rv_asm.specs.Layouts.{Labels, Layout, start, after_statement, after_labels, after, after_all}
 use Rattle.rv_asm.specs.Faults.{fault_of, first_fault, fault_or, is_bad, is_double, is_unknown, is_excessive, is_astray, astray_at}
 use Rattle.rv_asm.specs.Faults.{first_astray, address}
@@ -74,6 +74,8 @@ entry-statement labels place end at Empty s good is = is
 entry-statement labels place end at Malformed s good is = is
 entry-statement labels place end at Unresolved s good is = is
 entry-statement labels place end at Excessive s good is = is
+entry-statement labels place end at (NameFor field) s good is = is
+entry-statement labels place end at (NegativeFor field) s good is = is
 entry-statement labels place end at (Code words) s good is = is
 entry-statement labels place end at (Branch bits rs1 rs2 l) s good is = is
 entry-statement labels place end at (JumpTo rd l) s good is = is

@@ -1,19 +1,29 @@
 -- The faults of a text: those of a line by itself in their order, and those of offsets and addresses that labels give.
 use Rattle.std.specs.Prelude.{ℕ, ◌+◌, ◌-◌, ◌%◌, ◌==◌, nat_le, nat_lt, int_le, Bool, true, false, not, if◌then◌else◌, ◌&&◌, ◌||◌, ℤ, pos}
 use Rattle.std.specs.Prelude.{negsuc, ◌-ℤ◌, List, [], ◌∷◌, Option, Some, None, is_some, is_none, unwrap_or}
-use Rattle.asm_syntax.specs.Statements.{Statement, Malformed, Unresolved, Excessive, Branch, JumpTo, Place, Entry, Priority, Stack, Line}
-use Rattle.asm_syntax.specs.Statements.{word_of}
+use Rattle.asm_syntax.specs.Statements.{Statement, Malformed, Unresolved, Excessive, NameFor, NegativeFor, Branch, JumpTo, Place, Entry}
+use Rattle.asm_syntax.specs.Statements.{Priority, Stack, Line, word_of}
+use Rattle.asm_syntax.specs.declared.statements.HeaderField.{HeaderField}
+use Rattle.asm_syntax.specs.declared.statements.HeaderField.TheVariants.{PlaceField, PriorityField, StackField}
 use Rattle.rv_asm.specs.Layouts.{size_at, is_code, used_label, Labels, labelled, Layout, after_labels, after}
 use Rattle.rv_asm.specs.declared.faults.AsmFault.{AsmFault}
 use Rattle.rv_asm.specs.declared.faults.AsmFault.TheVariants.{BadLine, UnknownName, OutOfRange, DoubleLabel}
 
--- a statement without a form, or a directive that is repeated, or a `.place` after a label or content
+-- whether a directive that sets a field is repeated, or is a `.place` after a label or content
+abbrev pub is_settled : HeaderField → Layout → Bool
+is_settled PlaceField s = is_some s.place || s.begun
+is_settled PriorityField s = is_some s.priority
+is_settled StackField s = is_some s.stack
+
+-- a statement without a form, or a directive that is repeated or late, whatever its operand is
 abbrev pub is_bad : Statement → Layout → Bool
 is_bad Malformed s = true
-is_bad (Place n) s = is_some s.place || s.begun
+is_bad (NameFor field) s = is_settled field s
+is_bad (NegativeFor field) s = is_settled field s
+is_bad (Place n) s = is_settled PlaceField s
 is_bad (Entry l) s = is_some s.entry
-is_bad (Priority n) s = is_some s.priority
-is_bad (Stack n) s = is_some s.stack
+is_bad (Priority n) s = is_settled PriorityField s
+is_bad (Stack n) s = is_settled StackField s
 is_bad statement s = false
 
 -- one of these names is a label already, or is here twice
@@ -29,11 +39,13 @@ is_missing labels (Some name) = is_none (labels name)
 -- a name that isn't known, given all labels of the text
 abbrev pub is_unknown : Labels → Statement → Bool
 is_unknown labels Unresolved = true
+is_unknown labels (NameFor field) = true
 is_unknown labels statement = is_missing labels (used_label statement)
 
 -- a number that doesn't fit, a misaligned instruction, or bytes that leave RAM
 abbrev pub is_excessive : Statement → ℕ → Bool
 is_excessive Excessive at = true
+is_excessive (NegativeFor field) at = true
 is_excessive (Place n) at = not ((n % 4 == 0) && nat_le n 1048576)
 is_excessive (Priority n) at = not (nat_le 1 n && nat_le n 32767)
 is_excessive (Stack n) at = nat_lt 4294967295 n

@@ -11,7 +11,7 @@ use crate::faults::AsmFault;
 use crate::labels::Labels;
 use crate::layouts::Layout;
 use crate::sizes::{is_code, size_at};
-use asm_syntax::Statement;
+use asm_syntax::{HeaderField, Statement};
 
 /// How many bytes RAM has.
 const RAM: u64 = 0x10_0000;
@@ -40,17 +40,29 @@ pub(crate) fn fault_in(
     }
 }
 
-// Whether a statement hasn't the form, or is a directive that is repeated or late.
+// Whether a statement hasn't the form, or is a directive that is repeated or late, whatever its operand is.
 fn is_bad(statement: &Statement<'_>, layout: &Layout<'_>) -> bool
     ensures bad { result ≡ spec.is_bad (seen_statement statement.now) (seen_layout layout.now) }
 {
     match statement {
         Statement::Malformed => true,
-        Statement::Place(_) => layout.place.is_some() || layout.begun,
+        Statement::NameFor(field) | Statement::NegativeFor(field) => is_settled(*field, layout),
+        Statement::Place(_) => is_settled(HeaderField::PlaceField, layout),
         Statement::Entry(_) => layout.entry.is_some(),
-        Statement::Priority(_) => layout.priority.is_some(),
-        Statement::Stack(_) => layout.stack.is_some(),
+        Statement::Priority(_) => is_settled(HeaderField::PriorityField, layout),
+        Statement::Stack(_) => is_settled(HeaderField::StackField, layout),
         _ => false,
+    }
+}
+
+// Whether a directive that sets a field is repeated, or is a `.place` after a label or content.
+fn is_settled(field: HeaderField, layout: &Layout<'_>) -> bool
+    ensures settled { result ≡ spec.is_settled field (seen_layout layout.now) }
+{
+    match field {
+        HeaderField::PlaceField => layout.place.is_some() || layout.begun,
+        HeaderField::PriorityField => layout.priority.is_some(),
+        HeaderField::StackField => layout.stack.is_some(),
     }
 }
 
@@ -59,7 +71,7 @@ fn is_unknown(labels: &Labels<'_>, statement: &Statement<'_>) -> bool
     ensures unknown { result ≡ spec.is_unknown (found labels.now) (seen_statement statement.now) }
 {
     match statement {
-        Statement::Unresolved => true,
+        Statement::Unresolved | Statement::NameFor(_) => true,
         Statement::Branch { label, .. } => labels.address(label).is_none(),
         Statement::JumpTo { label, .. } => labels.address(label).is_none(),
         Statement::AddressOf { label, .. } => labels.address(label).is_none(),
@@ -75,7 +87,7 @@ fn is_excessive(statement: &Statement<'_>, at: u64) -> bool
     ensures excessive { result ≡ spec.is_excessive (seen_statement statement.now) at }
 {
     match statement {
-        Statement::Excessive => true,
+        Statement::Excessive | Statement::NegativeFor(_) => true,
         Statement::Place(n) => !(*n % 4 == 0 && *n <= RAM),
         Statement::Priority(n) => !(1 <= *n && *n <= 32767),
         Statement::Stack(n) => *n > 0xffff_ffff,

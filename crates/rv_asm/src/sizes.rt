@@ -28,6 +28,8 @@ pub(crate) fn size_at(at: u64, statement: &Statement<'_>) -> u64
         | Statement::Malformed
         | Statement::Unresolved
         | Statement::Excessive
+        | Statement::NameFor(_)
+        | Statement::NegativeFor(_)
         | Statement::Place(_)
         | Statement::Entry(_)
         | Statement::Priority(_)

@@ -11,4 +11,4 @@ use Rattle.rv_asm.proofs.examples.worked_examples.Goals as goal
 pub returns : goal.returns
 unfolding assembly meaning_of row_named call_of register_named
 returns c =
-    All-from_recursion IsAssembled examples (refl, (refl, (refl, (refl, (refl, (refl, (refl, (refl, (refl, (refl, (refl, tt)))))))))))
+    All-from_recursion IsAssembled examples (refl, (refl, (refl, (refl, (refl, (refl, (refl, (refl, (refl, (refl, (refl, (refl, (refl, (refl, (refl, tt)))))))))))))))
