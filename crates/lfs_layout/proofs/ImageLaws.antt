@@ -1,5 +1,5 @@
 -- Laws of images and their files.
-use Rattle.std.proofs.Common.{◌≡◌, ℕ, suc, ◌+◌, ◌-◌, ◌<◌, ◌≤◌, Bool, true, false, cond, not, ◌&&◌, nat_eq, nat_le, List, [], ◌∷◌, ◌++◌, length, filter, count_by, refl, sym, ap, ◌∙◌, arith, None}
+use Rattle.std.proofs.Common.{◌≡◌, ℕ, suc, ◌+◌, ◌-◌, ◌*◌, ◌<◌, ◌≤◌, Bool, true, false, cond, not, ◌&&◌, nat_eq, nat_le, List, [], ◌∷◌, ◌++◌, length, filter, count_by, refl, sym, ap, ◌∙◌, arith, None}
 use Rattle.std.proofs.lemmas.Bool.{false≢true}
 use Rattle.std.proofs.lemmas.Bool.Decides.{nat_tests}
 use Rattle.std.proofs.lemmas.List.Sums.{sum_by-cons, length-filter}
@@ -7,17 +7,20 @@ use Rattle.lfs_format.specs.declared.Entry.{Entry}
 use Rattle.lfs_format.specs.declared.Index.{Index}
 use Rattle.lfs_check.specs.declared.geometry.Geometry.{Geometry}
 use Rattle.lfs_check.specs.Geometries.{index_count, first_data}
-use Rattle.lfs_check.specs.Rules.{entry_is_used, begins_right, ends_right, is_dir_block, block_in}
+use Rattle.lfs_check.specs.Rules.{entry_is_used, rule_0, begins_right, ends_right, is_dir_block, block_in}
 use Rattle.lfs_check.specs.Fields.{is_version_2, geometry_of, fields_of, directory_entries}
 use Rattle.lfs_check.specs.Faults.{fault, report}
 use Rattle.lfs_check.specs.Kept.{kept_entries}
 use Rattle.lfs_check.proofs.Nones.{first_from-each}
 use Rattle.lfs_check.proofs.Images.{image_size, image_counts}
 use Rattle.lfs_check.proofs.KeepsAll.{keeps_all}
-use Rattle.lfs_layout.specs.Files.{File, content_of, files_in, placed_files, files_of, is_before, with_file, sorted, blocks_for, total_for, have_room, without_name, with_set}
-use Rattle.lfs_layout.specs.Made.{geometry_2}
+use Rattle.lfs_layout.specs.Files.{Clean, File, names_right, names_of, content_of, files_in, placed_files, files_of, is_before, with_file, sorted, blocks_for, total_for, have_room, without_name, with_set}
+use Rattle.lfs_layout.specs.Made.{geometry_2, image_with, Room}
 use Rattle.lfs_layout.specs.Images.{kept_files, repaired, repaired_blocks}
 use Rattle.lfs_layout.proofs.MadeClean.{made_sorted}
+use Rattle.lfs_layout.proofs.MadeFields.{length_image}
+use Rattle.lfs_layout.proofs.MadeFiles.{made_files}
+use Rattle.lfs_layout.proofs.MadeRules.{made_faultless}
 use Rattle.lfs_layout.proofs.Repairs.{repaired_room, repaired_names}
 
 either-way : (b : Bool) (P : Bool → Type 0) → (b ≡ true → P true) → (b ≡ false → P false) → P b
@@ -67,6 +70,23 @@ repaired_files image e =
     let g = geometry_of image in let ix = (fields_of g image).indexes in
     made_sorted (repaired_blocks image) (kept_files image) (repaired_room image (image_size image e)) (repaired_names image)
     ∙ ap (λ es. sorted (files_in g ix image es)) (keeps_all image e) ∙ ap sorted (files_used g ix image (directory_entries g image))
+
+-- an image that is made is clean for its files
+pub made_is_clean : (n : ℕ) (files : List File) → Room n files → names_right 27 [] (names_of files) ≡ true
+    → Clean (image_with n files) (sorted files)
+made_is_clean n files r names = record { faultless = made_faultless n files r names; read = made_sorted n files r names }
+
+-- a repaired image is one that is made, so its entries are those of the kept files
+pub repaired_holds : (image : List ℕ) → rule_0 (geometry_of image) image ≡ None → placed_files (repaired image) ≡ kept_files image
+repaired_holds image size = made_files (repaired_blocks image) (kept_files image) (repaired_room image size) (repaired_names image)
+
+-- it is clean for these files
+pub repaired_is_clean : (image : List ℕ) → rule_0 (geometry_of image) image ≡ None → Clean (repaired image) (sorted (kept_files image))
+repaired_is_clean image size = made_is_clean (repaired_blocks image) (kept_files image) (repaired_room image size) (repaired_names image)
+
+-- and its blocks are whole
+pub repaired_length : (image : List ℕ) → rule_0 (geometry_of image) image ≡ None → length (repaired image) ≡ 512 * repaired_blocks image
+repaired_length image size = length_image (repaired_blocks image) (kept_files image) (repaired_room image size)
 
 -- the report
 

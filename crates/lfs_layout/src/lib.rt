@@ -19,7 +19,10 @@ mod raw_image;
 mod reading;
 
 pub use clean_image::{CleanImage, is_file_name};
-pub use laws::{files_are_reported, long_files_have_no_room, repair_keeps_a_clean_image};
+pub use laws::{
+    files_are_reported, long_files_have_no_room, made_images_hold_their_files,
+    repair_keeps_a_clean_image, repaired_images_hold_the_kept_files,
+};
 pub use lfs_check::{CheckFault, DiskFault, Report, check};
 pub use lfs_format::{
     Dir, Dir1, Entry, Entry1, Index, NULL, read_dir, read_dir_1, read_index, write_dir, write_index,
