@@ -1,5 +1,6 @@
 -- How files lie on a disk that is built.
 use Rattle.std.proofs.Common.{◌≡◌, ℕ, zero, suc, ◌+◌, ◌-◌, ◌<◌, ◌≤◌, Bool, true, false, cond, not, ◌&&◌, nat_lt, List, [], ◌∷◌, length, get_or, slice_index, refl, sym, ap, ◌∙◌, subst, arith, ⊎_elim}
+use Rattle.std.proofs.Math.Bool.{and-true}
 use Rattle.std.proofs.lemmas.Bool.{cases_lt}
 use Rattle.std.proofs.lemmas.Bool.Decides.{nat_tests}
 use Rattle.lfs_format.specs.declared.Entry.{Entry}
@@ -92,7 +93,3 @@ built_lies g d geo b =
           let v : within B (B + (g.blocks - B)) n ≡ within B g.blocks n = ap (λ k. within B k n) (let q : B + (g.blocks - B) ≡ g.blocks = omega (arith, rb) in q) in
           omega (arith, t, u, m, v));
     }
-  where
-    and-true : (b : Bool) → b && true ≡ b
-    and-true true = refl
-    and-true false = refl

@@ -1,5 +1,6 @@
 -- How files lie on a disk with no file.
 use Rattle.std.proofs.Common.{◌≡◌, ℕ, zero, suc, ◌+◌, ◌-◌, ◌<◌, ◌≤◌, Bool, true, false, cond, not, ◌&&◌, nat_lt, nat_eq, List, [], ◌∷◌, length, replicate, slice_index, slice_index_or, refl, sym, ap, ◌∙◌, arith, ⊎_elim}
+use Rattle.std.proofs.Math.Bool.{and-true}
 use Rattle.std.proofs.lemmas.Bool.{cases_lt, cases_eq, false≢true}
 use Rattle.std.proofs.lemmas.Bool.Decides.{nat_tests}
 use Rattle.lfs_check.specs.declared.geometry.Geometry.{Geometry}
@@ -92,7 +93,3 @@ empty_lies g d geo e =
           let q : ◌≡◌ {A = ℕ} (cond (nat_lt b (first_data g + (g.blocks - first_data g)) && not (nat_lt b (first_data g))) 1 0) (cond (nat_lt b g.blocks && not (nat_lt b (first_data g))) 1 0) =
           ap (λ n. cond (nat_lt b n && not (nat_lt b (first_data g))) 1 0) up in omega (arith, t, z, q));
     }
-  where
-    and-true : (b : Bool) → b && true ≡ b
-    and-true true = refl
-    and-true false = refl

@@ -1,6 +1,6 @@
 -- If no number is met twice, a walk ends at null.
 use Rattle.std.proofs.Common.{◌≡◌, ℕ, zero, suc, ◌+◌, ◌-◌, ◌<◌, ◌≤◌, Bool, true, false, cond, not, ◌&&◌, ◌||◌, nat_lt, nat_le, nat_eq, List, [], ◌∷◌, ◌++◌, length, slice_index, refl, sym, ap, ◌∙◌, arith, length-append, ⊎_elim}
-use Rattle.std.proofs.lemmas.Bool.{cases_lt, cases_eq, false≢true}
+use Rattle.std.proofs.lemmas.Bool.{cases_lt, cases_eq, false≢true, not-false}
 use Rattle.std.proofs.lemmas.Bool.Decides.{nat_tests}
 use Rattle.lfs_check.specs.Walks.{walk, walk_end, walk_goes_on, is_met}
 use Rattle.lfs_check.specs.Meets.{null, times_met}
@@ -74,16 +74,12 @@ no-end links low high steps n short once a b =
     let p : nat_lt E high ≡ true = grind (arith, nat_tests) in
     let q : nat_lt E low ≡ false = grind (arith, nat_tests) in
     let r : not (is_met E W) ≡ false = sym (let s : walk_goes_on low high W E ≡ not (is_met E W) = rw (p, q) refl in s) ∙ stop in
-    let m : is_met E W ≡ true = flip (is_met E W) r in
+    let m : is_met E W ≡ true = not-false (is_met E W) r in
     let one = met-times E W m in
     let o = once E a b in
     let t = times-append E W (E ∷ []) in
     let self = times-one E in
     omega (arith, one, o, t, self)
-  where
-    flip : (b : Bool) → not b ≡ false → b ≡ true
-    flip true e = refl
-    flip false e = absurd (false≢true (sym e))
 
 -- a walk of a free chain ends at null
 pub free-end : (links : List ℕ) (low high steps n : ℕ) → high - low ≤ steps

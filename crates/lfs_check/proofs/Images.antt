@@ -1,6 +1,6 @@
 -- What it means that an image has no fault.
 use Rattle.std.proofs.Common.{◌≡◌, ℕ, ◌*◌, ◌/◌, ◌%◌, ◌≤◌, Bool, true, false, cond, ◌&&◌, nat_eq, nat_le, List, length, drop, refl, ap, ◌∙◌, arith, length-drop, Option, Some, None}
-use Rattle.std.proofs.lemmas.Bool.{false≢true}
+use Rattle.std.proofs.lemmas.Bool.{false≢true, and_parts}
 use Rattle.std.proofs.lemmas.Bool.Decides.{nat_tests}
 use Rattle.lfs_format.specs.declared.Index.{Index}
 use Rattle.lfs_check.specs.declared.geometry.Geometry.{Geometry}
@@ -34,15 +34,11 @@ fields_shape g image = record {
       ∙ (let l = length-drop 2 ws in let n = length-words_of 18 (drop (index_place g i) image) in omega (arith, l, n)));
 }
 
-both : (a b : Bool) → a && b ≡ true → (a ≡ true) × (b ≡ true)
-both true b e = (refl, e)
-both false b e = absurd (false≢true e)
-
 size_facts : (fewest most n : ℕ) → nat_eq (n % 512) 0 && nat_le (512 * fewest) n && nat_le n (512 * most) ≡ true → (512 * fewest ≤ n) × (n ≤ 512 * most)
 size_facts fewest most n e =
     let a = nat_eq (n % 512) 0 in let b = nat_le (512 * fewest) n in let c = nat_le n (512 * most) in
-    let all = both (a && b) c e in
-    let two = both a b all.0 in
+    let all = and_parts (a && b) c e in
+    let two = and_parts a b all.0 in
     ((let t = two.1 in grind (arith, nat_tests)), (let t = all.1 in grind (arith, nat_tests)))
 
 -- an image of the right size has a geometry
@@ -76,9 +72,9 @@ sized_blocks image r0 =
     let n = length image in
     let P : Bool → Type 0 = λ v. rule_0 (record { dirs = cond v 6 1; blocks = n / 512 }) image ≡ None → n % 512 ≡ 0 in
     let yes : P true = λ r. (let a = nat_eq (n % 512) 0 in let b = nat_le (512 * 14) n in let c = nat_le n (512 * 65542) in
-    let t : a ≡ true = (both a b (both (a && b) c (cond-none (a && b && c) 0 r)).0).0 in grind (arith, nat_tests)) in
+    let t : a ≡ true = (and_parts a b (and_parts (a && b) c (cond-none (a && b && c) 0 r)).0).0 in grind (arith, nat_tests)) in
     let no : P false = λ r. (let a = nat_eq (n % 512) 0 in let b = nat_le (512 * 8) n in let c = nat_le n (512 * 65536) in
-    let t : a ≡ true = (both a b (both (a && b) c (cond-none (a && b && c) 0 r)).0).0 in grind (arith, nat_tests)) in
+    let t : a ≡ true = (and_parts a b (and_parts (a && b) c (cond-none (a && b && c) 0 r)).0).0 in grind (arith, nat_tests)) in
     let all : (v : Bool) → P v = λ v. elim v as (λ v. P v) [ true ↦ yes | false ↦ no ] in
     let z = all (is_version_2 image) r0 in omega (arith, z)
 

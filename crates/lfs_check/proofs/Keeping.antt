@@ -1,7 +1,7 @@
 -- Each block of the entries that are kept is in them once.
 use Rattle.std.proofs.Common.{◌≡◌, ℕ, ◌+◌, ◌≤◌, Bool, true, false, cond, ◌&&◌, nat_eq, List, [], ◌∷◌, ◌++◌, refl, sym, ap, ◌∙◌, arith, ⊎_elim}
 use Rattle.std.specs.List.{flat_map}
-use Rattle.std.proofs.lemmas.Bool.{cases_lt, false≢true}
+use Rattle.std.proofs.lemmas.Bool.{cases_lt, false≢true, and_parts}
 use Rattle.std.proofs.lemmas.Bool.Decides.{nat_tests}
 use Rattle.lfs_format.specs.declared.Entry.{Entry}
 use Rattle.lfs_format.specs.declared.Index.{Index}
@@ -11,14 +11,10 @@ use Rattle.lfs_check.specs.Clean.{chain_in, data_in}
 use Rattle.lfs_check.specs.Kept.{is_whole, is_kept, kept_from, stand_once, whole_chains, whole_datas}
 use Rattle.lfs_check.proofs.Steps.{times-append}
 
-both-true : (a b : Bool) → a && b ≡ true → (a ≡ true) × (b ≡ true)
-both-true true b e = (refl, e)
-both-true false b e = absurd (false≢true e)
-
 stand-at : (xs all : List ℕ) (n : ℕ) → stand_once xs all ≡ true → 1 ≤ times_met n xs → times_met n all ≡ 1
 stand-at [] all n s h = absurd (omega (arith, h))
 stand-at (x ∷ xs) all n s h =
-    let both = both-true (nat_eq (times_met x all) 1) (stand_once xs all) s in
+    let both = and_parts (nat_eq (times_met x all) 1) (stand_once xs all) s in
     let P : Bool → Type 0 = λ b. nat_eq x n ≡ b → 1 ≤ cond b 1 0 + times_met n xs → times_met n all ≡ 1 in
     let yes : P true = λ t k. (let same : x ≡ n = grind (arith, nat_tests) in let one : times_met x all ≡ 1 = (let t = both.0 in grind (arith, nat_tests)) in ap (λ m. times_met m all) (sym same) ∙ one) in
     let no : P false = λ t k. stand-at xs all n both.1 (omega (arith, k)) in
@@ -49,7 +45,7 @@ kept-once g ix f all es before (e ∷ rest) n keeps =
 kept-facts : (g : Geometry) (ix : List Index) (es before : List Entry) (e : Entry) → is_kept g ix es before e ≡ true
     → (is_whole g ix e ≡ true) × ((stand_once (chain_in g ix e) (whole_chains g ix es) ≡ true) × (stand_once (data_in g ix e) (whole_datas g ix es) ≡ true))
 kept-facts g ix es before e k =
-    let d = both-true _ _ k in let c = both-true _ _ d.0 in let h = both-true _ _ c.0 in (h.0, (c.1, d.1))
+    let d = and_parts _ _ k in let c = and_parts _ _ d.0 in let h = and_parts _ _ c.0 in (h.0, (c.1, d.1))
 
 -- No block is in the chains of two kept entries, nor twice in one.
 pub kept_apart : (g : Geometry) (ix : List Index) (es : List Entry) (n : ℕ)

@@ -3,7 +3,7 @@ use Rattle.std.proofs.Common.{◌≡◌, ℕ, zero, suc, ◌-◌, ◌<◌, ◌�
 use Rattle.std.specs.List.{flat_map, list_any}
 use Rattle.std.proofs.Math.ListN.{get_or-map}
 use Rattle.std.proofs.lemmas.List.{get_or-append_right}
-use Rattle.std.proofs.lemmas.Bool.{false≢true}
+use Rattle.std.proofs.lemmas.Bool.{false≢true, and_parts, and_from, or_parts}
 use Rattle.std.proofs.lemmas.Bool.Decides.{nat_tests}
 use Rattle.lfs_format.specs.declared.Entry.{Entry}
 use Rattle.lfs_format.specs.declared.Index.{Index}
@@ -23,20 +23,13 @@ use Rattle.lfs_check.proofs.Steps.{times-at, times-append, times_in-part, at_mos
 use Rattle.lfs_check.proofs.Cleans.{FileFacts, file_facts}
 use Rattle.lfs_check.proofs.Images.{image_passes, image_lies, image_names, image_sizes}
 
-and-true : (a b : Bool) → a && b ≡ true → (a ≡ true) × (b ≡ true)
-and-true true b e = (refl, e)
-and-true false b e = absurd (false≢true e)
-
-and-join : (a b : Bool) → a ≡ true → b ≡ true → a && b ≡ true
-and-join a b p q = ap (λ v. v && b) p ∙ q
-
-either-way : (b : Bool) (P : Bool → Type 0) → (b ≡ true → P true) → (b ≡ false → P false) → P b
+pub either-way : (b : Bool) (P : Bool → Type 0) → (b ≡ true → P true) → (b ≡ false → P false) → P b
 either-way true P t f = t refl
 either-way false P t f = f refl
 
 -- rules 1 and 3 at an entry
 
-none-failing : (g : Geometry) (o : Option ℕ) → in_entry_block g o ≡ None → o ≡ None
+pub none-failing : (g : Geometry) (o : Option ℕ) → in_entry_block g o ≡ None → o ≡ None
 none-failing g None e = refl
 none-failing g (Some k) e = absurd (cc (e))
 
@@ -51,18 +44,18 @@ passed-at f before (x ∷ es) e zero h = (before, (passed (f before x) (length b
 passed-at f before (x ∷ es) e (suc k) h = passed-at f (before ++ x ∷ []) es (passed (f before x) (length before) (first_failing f (before ++ x ∷ []) es) e).1 k (omega (arith, h))
 
 name-right : (g : Geometry) (before : List Entry) (e : Entry) → entry_is_used e ≡ true → has_bad_name g before e ≡ false → (is_name (longest_name g) e.name ≡ true) × (has_name before e.name ≡ false)
-name-right g before e u b = split (is_name (longest_name g) e.name) (has_name before e.name) (sym (ap (λ v. v && (not (is_name (longest_name g) e.name) || has_name before e.name)) u) ∙ b)
+name-right g before e u b = not_or_parts (is_name (longest_name g) e.name) (has_name before e.name) (sym (ap (λ v. v && (not (is_name (longest_name g) e.name) || has_name before e.name)) u) ∙ b)
   where
-    split : (a c : Bool) → not a || c ≡ false → (a ≡ true) × (c ≡ false)
-    split true c q = (refl, q)
-    split false c q = absurd (false≢true (sym q))
+    not_or_parts : (a c : Bool) → not a || c ≡ false → (a ≡ true) × (c ≡ false)
+    not_or_parts true c q = (refl, q)
+    not_or_parts false c q = absurd (false≢true (sym q))
 
 -- each number of a list is met once
 once-all : (xs all : List ℕ) → ((j : ℕ) → j < length xs → times_met (slice_index xs j) all ≡ 1) → stand_once xs all ≡ true
 once-all [] all h = refl
 once-all (x ∷ xs) all h =
     let o = h 0 (omega arith) in let t : nat_eq (times_met x all) 1 ≡ true = grind (arith, nat_tests) in
-    and-join (nat_eq (times_met x all) 1) (stand_once xs all) t (once-all xs all (λ j m. h (suc j) (omega (arith, m))))
+    and_from (nat_eq (times_met x all) 1) (stand_once xs all) t (once-all xs all (λ j m. h (suc j) (omega (arith, m))))
 
 times-part : (n : ℕ) (f : Entry → List ℕ) (es : List Entry) (j : ℕ) → j < length es → times_met n (f (get_or es j void_entry)) ≤ times_met n (flat_map f es)
 times-part n f [] j h = absurd (omega (arith, h))
@@ -97,6 +90,7 @@ clear_image image e =
     }
 
 module _ (g : Geometry) (d : Shape) (c : Clear g d) where
+
   -- a used entry is whole
   used_whole : (k : ℕ) → k < length d.entries → entry_is_used (get_or d.entries k void_entry) ≡ true → is_whole g d.indexes (get_or d.entries k void_entry) ≡ true
   used_whole k h u =
@@ -105,19 +99,19 @@ module _ (g : Geometry) (d : Shape) (c : Clear g d) where
       let s = passed-at (λ before e. is_larger (room g) e) [] d.entries c.sizes k h in
       let name = (name-right g n.0 e u n.1).0 in
       let small : not (is_larger (room g) e) ≡ true = ap not s.1 in
-      let fields = and-join (entry_is_used e && is_name (longest_name g) e.name) (not (is_larger (room g) e)) (and-join (entry_is_used e) (is_name (longest_name g) e.name) u name) small in
+      let fields = and_from (entry_is_used e && is_name (longest_name g) e.name) (not (is_larger (room g) e)) (and_from (entry_is_used e) (is_name (longest_name g) e.name) u name) small in
       let len = f.len in let end = f.end in
       let a : nat_eq (length (met_of g ix e)) (need_index e) ≡ true = grind (arith, nat_tests) in
       let b : nat_eq (end_of_walk g ix e) null ≡ true = grind (arith, nat_tests) in
       let r : is_none (rows_fault g ix (need_data e) (met_of g ix e)) ≡ true = ap is_none (rows-none g ix (need_data e) (met_of g ix e) f.rows) in
       let o : is_none (offsets_fault g ix 0 (met_of g ix e)) ≡ true = ap is_none (offsets-none g ix 0 (met_of g ix e) f.offsets) in
-      let walk = and-join _ _ (and-join _ _ (and-join _ _ a b) r) o in
+      let walk = and_from _ _ (and_from _ _ (and_from _ _ a b) r) o in
       let once : (j : ℕ) → j < length (data_in g ix e) → times_met (slice_index (data_in g ix e) j) (data_in g ix e) ≡ 1 = λ j m.
       (let n = slice_index (data_in g ix e) j in let low = times-at (data_in g ix e) j n m refl in let most = c.one_data n in
       let part = times_in-part n (map (data_in g ix) d.entries) k in
       let mine : times_met n (numbers_at (map (data_in g ix) d.entries) k) ≡ times_met n (data_in g ix e) = ap (times_met n) (get_or-map (data_in g ix) d.entries k void_entry) in
       omega (arith, low, most, part, mine)) in
-      and-join (has_sound_fields g e && has_sound_walk g ix e) (stand_once (data_in g ix e) (data_in g ix e)) (and-join (has_sound_fields g e) (has_sound_walk g ix e) fields walk) (once-all (data_in g ix e) (data_in g ix e) once)
+      and_from (has_sound_fields g e && has_sound_walk g ix e) (stand_once (data_in g ix e) (data_in g ix e)) (and_from (has_sound_fields g e) (has_sound_walk g ix e) fields walk) (once-all (data_in g ix e) (data_in g ix e) once)
 
   -- its numbers are once in those of all whole entries
   used_once : (f : Entry → List ℕ) → ((n : ℕ) → times_in n (map f d.entries) ≤ 1) → (k : ℕ) → k < length d.entries → entry_is_used (get_or d.entries k void_entry) ≡ true
@@ -131,20 +125,16 @@ module _ (g : Geometry) (d : Shape) (c : Clear g d) where
       let most = part-most g ix n f d.entries in let o = one n in omega (arith, low, mine, part, most, o)))
 
   whole_used : (e : Entry) → is_whole g d.indexes e ≡ true → entry_is_used e ≡ true
-  whole_used e w = (and-true (entry_is_used e) _ (and-true (entry_is_used e && is_name (longest_name g) e.name) _ (and-true (has_sound_fields g e) _ (and-true (has_sound_fields g e && has_sound_walk g d.indexes e) _ w).0).0).0).0
+  whole_used e w = (and_parts (entry_is_used e) _ (and_parts (entry_is_used e && is_name (longest_name g) e.name) _ (and_parts (has_sound_fields g e) _ (and_parts (has_sound_fields g e && has_sound_walk g d.indexes e) _ w).0).0).0).0
 
   not_hidden : (before : List Entry) (name : List ℕ) → has_name before name ≡ false → list_any (λ f. is_whole g d.indexes f && bytes_eq f.name name) before ≡ false
   unfolding has_name
   not_hidden [] name e = refl
   not_hidden (x ∷ before) name e =
-      let two = or-none (entry_is_used x && bytes_eq x.name name) (list_any (λ f. entry_is_used f && bytes_eq f.name name) before) e in
+      let two = or_parts (entry_is_used x && bytes_eq x.name name) (list_any (λ f. entry_is_used f && bytes_eq f.name name) before) e in
       let here : is_whole g d.indexes x && bytes_eq x.name name ≡ false = either-way (is_whole g d.indexes x) (λ v. is_whole g d.indexes x ≡ v → v && bytes_eq x.name name ≡ false)
       (λ _ w. sym (ap (λ v. v && bytes_eq x.name name) (whole_used x w)) ∙ two.0) (λ _ w. refl) refl in
       ap (λ v. v || list_any (λ f. is_whole g d.indexes f && bytes_eq f.name name) before) here ∙ not_hidden before name two.1
-    where
-      or-none : (a b : Bool) → a || b ≡ false → (a ≡ false) × (b ≡ false)
-      or-none true b e = absurd (false≢true (sym e))
-      or-none false b e = (refl, e)
 
   -- so the entries that are kept are those that are used
   keeps_from : (before rest : List Entry) → d.entries ≡ before ++ rest → first_failing (has_bad_name g) before rest ≡ None → kept_from g d.indexes d.entries before rest ≡ filter entry_is_used rest
@@ -161,7 +151,7 @@ module _ (g : Geometry) (d : Shape) (c : Clear g d) where
       let same : is_kept g ix es before e ≡ entry_is_used e = either-way (entry_is_used e) (λ v. entry_is_used e ≡ v → is_kept g ix es before e ≡ v)
       (λ _ u. (let w = is_kept_at before e u p.0 (length before) h at in w))
       (λ _ u. either-way (is_kept g ix es before e) (λ v. is_kept g ix es before e ≡ v → v ≡ false)
-      (λ _ s. absurd (false≢true (sym u ∙ whole_used e (and-true (is_whole g ix e) _ (and-true (is_whole g ix e && not (is_hidden g ix before e)) _ (and-true _ _ s).0).0).0))) (λ _ s. refl) refl)
+      (λ _ s. absurd (false≢true (sym u ∙ whole_used e (and_parts (is_whole g ix e) _ (and_parts (is_whole g ix e && not (is_hidden g ix before e)) _ (and_parts _ _ s).0).0).0))) (λ _ s. refl) refl)
       refl in
       ap (λ v. cond v (e ∷ K) K) same ∙ ap (λ xs. cond (entry_is_used e) (e ∷ xs) xs) i
     where
@@ -175,7 +165,7 @@ module _ (g : Geometry) (d : Shape) (c : Clear g d) where
           let hid : not (is_hidden g ix before e) ≡ true = ap not (not_hidden before e.name (name-right g before e u b).1) in
           let chain : stand_once (chain_in g ix e) (whole_chains g ix es) ≡ true = sym (ap (λ y. stand_once (chain_in g ix y) (whole_chains g ix es)) at) ∙ used_once (chain_in g ix) c.one_index k h ux in
           let blocks : stand_once (data_in g ix e) (whole_datas g ix es) ≡ true = sym (ap (λ y. stand_once (data_in g ix y) (whole_datas g ix es)) at) ∙ used_once (data_in g ix) c.one_data k h ux in
-          and-join _ _ (and-join _ _ (and-join _ _ w hid) chain) blocks
+          and_from _ _ (and_from _ _ (and_from _ _ w hid) chain) blocks
 
 pub keeps_all : (image : List ℕ) → fault image ≡ None
     → kept_entries (geometry_of image) (fields_of (geometry_of image) image).indexes (directory_entries (geometry_of image) image) ≡ filter entry_is_used (directory_entries (geometry_of image) image)

@@ -1,8 +1,9 @@
 -- The entries that are kept, found by counts of the blocks of whole entries.
 use Rattle.std.proofs.Common.{◌≡◌, ℕ, suc, ◌<◌, ◌≤◌, Bool, true, false, cond, not, ◌&&◌, ◌||◌, nat_eq, nat_lt, nat_le, min, List, [], ◌∷◌, ◌++◌, length, slice_index, take, refl, sym, ap, ◌∙◌, arith, Option, Some, None, ⊎_elim, bytes_eq}
+use Rattle.std.proofs.Math.Bool.{or-false}
 use Rattle.std.specs.List.{flat_map, list_any}
 use Rattle.std.proofs.lemmas.List.Folds.{list_any-append}
-use Rattle.std.proofs.lemmas.Bool.{cases_lt, false≢true}
+use Rattle.std.proofs.lemmas.Bool.{cases_lt, false≢true, and_parts}
 use Rattle.std.proofs.lemmas.Bool.Decides.{nat_tests}
 use Rattle.lfs_format.specs.declared.Entry.{Entry}
 use Rattle.lfs_format.specs.declared.Index.{Index}
@@ -18,11 +19,7 @@ use Rattle.lfs_check.proofs.Nones.{rows-each}
 use Rattle.lfs_check.proofs.Rows.{fits-range, rows-fit}
 use Rattle.lfs_check.proofs.Steps.{times-at}
 
-and-true : (a b : Bool) → a && b ≡ true → (a ≡ true) × (b ≡ true)
-and-true true b e = (refl, e)
-and-true false b e = absurd (false≢true e)
-
-none-is : (o : Option ℕ) → is_none o ≡ true → o ≡ None
+pub none-is : (o : Option ℕ) → is_none o ≡ true → o ≡ None
 none-is None e = refl
 none-is (Some a) e = absurd (false≢true e)
 
@@ -48,7 +45,7 @@ pub sound_below : (g : Geometry) (ix : List Index) (e : Entry) → Rows g ix →
 sound_below g ix e r w =
     let d = nat_eq (length (met_of g ix e)) (need_index e) in let f = nat_eq (end_of_walk g ix e) null in
     let h = is_none (rows_fault g ix (need_data e) (met_of g ix e)) in let i = is_none (offsets_fault g ix 0 (met_of g ix e)) in
-    let rows = none-is (rows_fault g ix (need_data e) (met_of g ix e)) (and-true (d && f) h (and-true (d && f && h) i w).0).1 in
+    let rows = none-is (rows_fault g ix (need_data e) (met_of g ix e)) (and_parts (d && f) h (and_parts (d && f && h) i w).0).1 in
     let wide : (j : ℕ) → j < length (met_of g ix e) → length (data_row ix (slice_index (met_of g ix e) j)) ≡ 16 = λ j h. r (slice_index (met_of g ix e) j) (walk-within (nexts_of ix) 0 (index_count g) (need_index e) e.first j h).1 in
     let fit = rows-fit g ix (need_data e) (met_of g ix e) wide (rows-each g ix (need_data e) (met_of g ix e) rows) in
     let xs = take (need_data e) (flat_map (data_row ix) (met_of g ix e)) in
@@ -81,20 +78,16 @@ flat_whole g ix f (e ∷ es) =
     let all : (b : Bool) → P b = λ b. elim b as (λ b. P b) [ true ↦ ap (λ xs. f e ++ xs) i | false ↦ i ] in
     all (is_whole g ix e)
 
-or-nil : (a b : Bool) → a || (b || false) ≡ a || b
-or-nil a true = refl
-or-nil a false = refl
-
-or-none : (a : Bool) → a || false ≡ a
-or-none true = refl
-or-none false = refl
+pub or_or_false : (a b : Bool) → a || (b || false) ≡ a || b
+or_or_false a true = refl
+or_or_false a false = refl
 
 -- what is known of a whole entry
 sound_of : (g : Geometry) (ix : List Index) (e : Entry) → is_whole g ix e ≡ true → (entry_is_used e ≡ true) × (has_sound_walk g ix e ≡ true)
 sound_of g ix e w =
-    let s = (and-true (has_sound_fields g e && has_sound_walk g ix e) (stand_once (data_in g ix e) (data_in g ix e)) w).0 in
-    let p = and-true (has_sound_fields g e) (has_sound_walk g ix e) s in
-    ((and-true (entry_is_used e) _ (and-true (entry_is_used e && _) _ p.0).0).0, p.1)
+    let s = (and_parts (has_sound_fields g e && has_sound_walk g ix e) (stand_once (data_in g ix e) (data_in g ix e)) w).0 in
+    let p = and_parts (has_sound_fields g e) (has_sound_walk g ix e) s in
+    ((and_parts (entry_is_used e) _ (and_parts (entry_is_used e && _) _ p.0).0).0, p.1)
 
 -- found among whole entries alone
 pub kept_found : (g : Geometry) (ix : List Index) (es : List Entry) (chains blocks : List ℕ) → Rows g ix
@@ -109,13 +102,13 @@ kept_found g ix es chains blocks r cs bs before wholes (e ∷ rest) same =
     let hid = is_hidden g ix before e in
     let K = kept_from g ix es (before ++ e ∷ []) rest in
     let push : (x : List ℕ) → list_any (λ f. is_whole g ix f && bytes_eq f.name x) (before ++ e ∷ []) ≡ list_any (λ f. is_whole g ix f && bytes_eq f.name x) before || (a && bytes_eq e.name x) = λ x.
-    list_any-append (λ f. is_whole g ix f && bytes_eq f.name x) before (e ∷ []) ∙ or-nil (list_any (λ f. is_whole g ix f && bytes_eq f.name x) before) (a && bytes_eq e.name x) in
+    list_any-append (λ f. is_whole g ix f && bytes_eq f.name x) before (e ∷ []) ∙ or_or_false (list_any (λ f. is_whole g ix f && bytes_eq f.name x) before) (a && bytes_eq e.name x) in
     let W = whole_entries g ix rest in
     let P : Bool → Type 0 = λ v. a ≡ v → kept_counted g ix chains blocks wholes (cond v (e ∷ W) W) ≡ cond (v && not hid && c && d) (e ∷ K) K in
     let yes : P true = λ w. (
     let f = sound_of g ix e w in
     let more : (x : List ℕ) → has_name (wholes ++ e ∷ []) x ≡ list_any (λ f. is_whole g ix f && bytes_eq f.name x) (before ++ e ∷ []) = λ x.
-    list_any-append (λ (z : Entry). entry_is_used z && bytes_eq z.name x) wholes (e ∷ []) ∙ or-nil (has_name wholes x) (entry_is_used e && bytes_eq e.name x)
+    list_any-append (λ (z : Entry). entry_is_used z && bytes_eq z.name x) wholes (e ∷ []) ∙ or_or_false (has_name wholes x) (entry_is_used e && bytes_eq e.name x)
     ∙ ap (λ v. has_name wholes x || (v && bytes_eq e.name x)) f.0 ∙ ap (λ v. v || bytes_eq e.name x) (same x)
     ∙ sym (push x ∙ ap (λ v. list_any (λ f. is_whole g ix f && bytes_eq f.name x) before || (v && bytes_eq e.name x)) w) in
     let i = kept_found g ix es chains blocks r cs bs (before ++ e ∷ []) (wholes ++ e ∷ []) rest more in
@@ -126,7 +119,7 @@ kept_found g ix es chains blocks r cs bs before wholes (e ∷ rest) same =
     ∙ ap (λ v. cond (not hid && v && counted_once (data_in g ix e) blocks) (e ∷ rest_of) rest_of) one ∙ ap (λ v. cond (not hid && c && v) (e ∷ rest_of) rest_of) two
     ∙ ap (λ xs. cond (not hid && c && d) (e ∷ xs) xs) i) in
     let no : P false = λ w. kept_found g ix es chains blocks r cs bs (before ++ e ∷ []) wholes rest
-    (λ x. same x ∙ sym (push x ∙ ap (λ v. list_any (λ f. is_whole g ix f && bytes_eq f.name x) before || (v && bytes_eq e.name x)) w ∙ or-none (list_any (λ f. is_whole g ix f && bytes_eq f.name x) before))) in
+    (λ x. same x ∙ sym (push x ∙ ap (λ v. list_any (λ f. is_whole g ix f && bytes_eq f.name x) before || (v && bytes_eq e.name x)) w ∙ or-false (list_any (λ f. is_whole g ix f && bytes_eq f.name x) before))) in
     let all : (v : Bool) → P v = λ v. elim v as (λ v. P v) [ true ↦ yes | false ↦ no ] in
     all a refl
 

@@ -1,6 +1,6 @@
 -- What it means that nothing is at fault.
 use Rattle.std.proofs.Common.{◌≡◌, ℕ, zero, suc, ◌+◌, ◌-◌, ◌*◌, ◌<◌, ◌≤◌, Bool, true, false, cond, nat_eq, nat_le, List, [], ◌∷◌, length, get_or, slice_index, refl, sym, ap, ◌∙◌, arith, Option, Some, None, ⊎_elim}
-use Rattle.std.proofs.lemmas.Bool.{cases_lt, cases_eq, false≢true}
+use Rattle.std.proofs.lemmas.Bool.{cases_lt, cases_eq, false≢true, eqb-true}
 use Rattle.std.proofs.lemmas.Bool.Decides.{nat_tests}
 use Rattle.lfs_format.specs.declared.Entry.{Entry}
 use Rattle.lfs_format.specs.declared.Index.{Index}
@@ -55,14 +55,11 @@ rows-none g ix wanted (m ∷ met) all =
     (cond-true (row_fits g wanted (data_row ix m)) _ (ap (λ w. row_fits g w (data_row ix m)) (let q : wanted ≡ wanted - 16 * 0 = omega arith in q) ∙ all 0 (omega arith)))
     (rows-none g ix (wanted - 16) met (λ j h. ap (λ w. row_fits g w (data_row ix (slice_index met j))) (let q : wanted - 16 - 16 * j ≡ wanted - 16 * suc j = omega arith in q) ∙ all (suc j) (omega arith)))
 
-eq-of : (a b : ℕ) → nat_eq a b ≡ true → a ≡ b
-eq-of a b t = grind (arith, nat_tests)
-
 pub offsets-each : (g : Geometry) (ix : List Index) (offset : ℕ) (met : List ℕ) → offsets_fault g ix offset met ≡ None → (j : ℕ) → j < length met → (get_or ix (slice_index met j) (record { next = 0; offset = 0; blocks = [] })).offset ≡ offset + 8192 * j
 unfolding offsets_fault
 offsets-each g ix offset [] e j h = absurd (omega (arith, h))
 offsets-each g ix offset (m ∷ met) e zero h =
-    eq-of _ offset (cond-none _ _ (least-nones (offset_fault g ix offset m) (offsets_fault g ix (offset + 8192) met) e).0) ∙ (let q : offset ≡ offset + 8192 * 0 = omega arith in q)
+    eqb-true _ offset (cond-none _ _ (least-nones (offset_fault g ix offset m) (offsets_fault g ix (offset + 8192) met) e).0) ∙ (let q : offset ≡ offset + 8192 * 0 = omega arith in q)
 offsets-each g ix offset (m ∷ met) e (suc j) h =
     offsets-each g ix (offset + 8192) met (least-nones (offset_fault g ix offset m) (offsets_fault g ix (offset + 8192) met) e).1 j (omega arith) ∙ (let q : offset + 8192 + 8192 * j ≡ offset + 8192 * suc j = omega arith in q)
 

@@ -3,7 +3,7 @@ use Rattle.std.proofs.Common.{◌≡◌, ℕ, zero, suc, ◌+◌, ◌-◌, ◌*�
 use Rattle.std.specs.List.{flat_map}
 use Rattle.std.proofs.lemmas.List.{take_all, drop_all, take-take, take-append-le, drop-append-le, drop-drop, take-replicate, drop-take}
 use Rattle.std.proofs.Math.Seq.{take-append-add}
-use Rattle.std.proofs.lemmas.Bool.{cases_lt, false≢true}
+use Rattle.std.proofs.lemmas.Bool.{cases_lt, false≢true, and_parts}
 use Rattle.std.proofs.lemmas.Bool.Decides.{nat_tests}
 use Rattle.lfs_format.specs.declared.Index.{Index}
 use Rattle.lfs_check.specs.declared.geometry.Geometry.{Geometry}
@@ -11,10 +11,6 @@ use Rattle.lfs_check.specs.Geometries.{first_data}
 use Rattle.lfs_check.specs.Meets.{null, times_met}
 use Rattle.lfs_check.specs.Checks.{row_fits, data_row, number_fits, is_between}
 use Rattle.lfs_check.proofs.Steps.{times-append}
-
-and-true : (a b : Bool) → a && b ≡ true → (a ≡ true) × (b ≡ true)
-and-true true b e = (refl, e)
-and-true false b e = absurd (false≢true e)
 
 null-of : (b : ℕ) → nat_eq b null ≡ true → b ≡ null
 null-of b t = grind (arith, nat_tests)
@@ -25,12 +21,12 @@ unfolding row_fits
 fits-is g zero [] e = refl
 fits-is g (suc w) [] e = ap (λ k. replicate k null) (let q : 0 ≡ 0 - suc w = omega arith in q)
 fits-is g zero (x ∷ xs) e =
-    let t : nat_eq x null ≡ true = (and-true (number_fits g 0 x) (row_fits g 0 xs) e).0 in
-    let i : xs ≡ replicate (length xs - 0) null = fits-is g 0 xs (and-true (number_fits g 0 x) (row_fits g 0 xs) e).1 in
+    let t : nat_eq x null ≡ true = (and_parts (number_fits g 0 x) (row_fits g 0 xs) e).0 in
+    let i : xs ≡ replicate (length xs - 0) null = fits-is g 0 xs (and_parts (number_fits g 0 x) (row_fits g 0 xs) e).1 in
     let n : length (x ∷ xs) - 0 ≡ suc (length xs - 0) = omega arith in
     ap (λ y. y ∷ xs) (null-of x t) ∙ ap (λ l. null ∷ l) i ∙ sym (ap (λ k. replicate k null) n)
 fits-is g (suc w) (x ∷ xs) e =
-    let i = fits-is g w xs (let s = (and-true (number_fits g (suc w) x) (row_fits g (suc w - 1) xs) e).1 in ap (λ k. row_fits g k xs) (let q : w ≡ suc w - 1 = omega arith in q) ∙ s) in
+    let i = fits-is g w xs (let s = (and_parts (number_fits g (suc w) x) (row_fits g (suc w - 1) xs) e).1 in ap (λ k. row_fits g k xs) (let q : w ≡ suc w - 1 = omega arith in q) ∙ s) in
     ap (λ l. x ∷ l) i ∙ ap (λ k. x ∷ (take w xs ++ replicate k null)) (let q : length xs - w ≡ length (x ∷ xs) - suc w = omega arith in q)
 
 -- those wanted are in range
@@ -39,7 +35,7 @@ unfolding row_fits
 fits-range g zero xs e b out = refl
 fits-range g (suc w) [] e b out = refl
 fits-range g (suc w) (x ∷ xs) e b out =
-    let both = and-true (number_fits g (suc w) x) (row_fits g (suc w - 1) xs) e in
+    let both = and_parts (number_fits g (suc w) x) (row_fits g (suc w - 1) xs) e in
     let i = fits-range g w xs (ap (λ k. row_fits g k xs) (let q : w ≡ suc w - 1 = omega arith in q) ∙ both.1) b out in
     let inside : is_between (first_data g) g.blocks x ≡ true = sym (ap (λ t. cond t (is_between (first_data g) g.blocks x) (nat_eq x null)) (let q : nat_lt 0 (suc w) ≡ true = grind (arith, nat_tests) in q)) ∙ both.0 in
     let P : Bool → Type 0 = λ t. nat_eq x b ≡ t → cond t 1 0 + times_met b (take w xs) ≡ 0 in
@@ -52,7 +48,7 @@ pub fits-append : (g : Geometry) (w : ℕ) (xs ys : List ℕ) → row_fits g w x
 unfolding row_fits
 fits-append g w [] ys a b = ap (λ k. row_fits g k ys) (let q : w ≡ w - 0 = omega arith in q) ∙ b
 fits-append g w (x ∷ xs) ys a b =
-    let both = and-true (number_fits g w x) (row_fits g (w - 1) xs) a in
+    let both = and_parts (number_fits g w x) (row_fits g (w - 1) xs) a in
     let i = fits-append g (w - 1) xs ys both.1 (ap (λ k. row_fits g k ys) (let q : w - 1 - length xs ≡ w - length (x ∷ xs) = omega arith in q) ∙ b) in
     ap (λ t. t && row_fits g (w - 1) (xs ++ ys)) both.0 ∙ i
 

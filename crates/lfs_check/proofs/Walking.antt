@@ -1,5 +1,6 @@
 -- Lemmas on walks.
 use Rattle.std.proofs.Common.{◌≡◌, ℕ, zero, suc, ◌-◌, ◌<◌, ◌≤◌, Bool, true, false, not, ◌&&◌, ◌||◌, nat_lt, nat_eq, List, [], ◌∷◌, ◌++◌, length, get_or, slice_index, slice_set, refl, sym, ap, ◌∙◌, arith, get_or-set_other, get_or-set_same, eq-eqb, ⊎_elim}
+use Rattle.std.proofs.Math.Bool.{or-false, or-true}
 use Rattle.std.proofs.Common.{◌+◌, length-append, cond}
 use Rattle.std.proofs.lemmas.List.{get_or_at}
 use Rattle.std.proofs.Math.ListN.{get_or-append}
@@ -15,14 +16,6 @@ pub is_met-push : (n m : ℕ) (met : List ℕ) → is_met n (met ++ m ∷ []) �
 is_met-push n m [] = elim (nat_eq m n) as (λ b. b || false ≡ false || b) [ true ↦ refl | false ↦ refl ]
 is_met-push n m (x ∷ met) =
     elim (nat_eq x n) as (λ b. b || is_met n (met ++ m ∷ []) ≡ (b || is_met n met) || nat_eq m n) [ true ↦ refl | false ↦ is_met-push n m met ]
-
-or-true : (b : Bool) → b || true ≡ true
-or-true true = refl
-or-true false = refl
-
-or-false : (b : Bool) → b || false ≡ b
-or-false true = refl
-or-false false = refl
 
 -- one number more
 pub Marks-more : (seen : List Bool) (met : List ℕ) (size m : ℕ) → m < length seen → Marks seen met size → Marks (slice_set seen m true) (met ++ m ∷ []) size

@@ -1,5 +1,7 @@
 -- The files of a clean image have room on it, and on the image of version 2 that is six blocks larger.
 use Rattle.std.proofs.Common.{◌≡◌, ℕ, zero, suc, ◌+◌, ◌-◌, ◌*◌, ◌/◌, ◌<◌, ◌≤◌, Bool, true, false, cond, not, ◌&&◌, nat_eq, nat_lt, List, [], ◌∷◌, length, get_or, slice_index, take, drop, map, replicate, refl, sym, ap, ◌∙◌, subst, arith, length-append, length-take, length-drop, None, ⊎_elim, Option, Some}
+use Rattle.lfs_check.proofs.KeepsAll.{none-failing}
+use Rattle.std.proofs.Math.Bool.{and-true}
 use Rattle.std.specs.List.{flat_map}
 use Rattle.std.proofs.lemmas.List.{get_or-map, length-map, length-replicate, drop-drop}
 use Rattle.std.proofs.lemmas.Bool.{cases_lt}
@@ -24,7 +26,7 @@ use Rattle.lfs_layout.specs.Files.{placed_files, total_for, is_among, names_righ
 use Rattle.lfs_layout.specs.Made.{geometry_2, Room}
 use Rattle.lfs_layout.proofs.Joins.{length_joined}
 use Rattle.lfs_layout.proofs.Regions.{each_append}
-use Rattle.lfs_layout.proofs.CleanRoom.{AllWhole, totals, names_from, names_longer, files_few, files_wide}
+use Rattle.lfs_layout.proofs.CleanRoom.{AllWhole, totals, names_from, names_longer, files_few, files_wide, length_block}
 
 abbrev shape_of : List ℕ → Shape
 shape_of image = fields_of (geometry_of image) image
@@ -71,10 +73,6 @@ clean_totals image e =
     let one = t.0 in let two = t.1 in
     (omega (arith, one, datas), omega (arith, two, chains))
   where
-    and-true : (b : Bool) → b && true ≡ b
-    and-true true = refl
-    and-true false = refl
-
     low_range : (many i : ℕ) → in_range 0 many i ≡ cond (nat_lt i many) 1 0
     low_range many i = let f : nat_lt i 0 ≡ false = grind (arith, nat_tests) in ap (λ v. cond (nat_lt i many && not v) 1 0) f ∙ ap (λ v. cond v 1 0) (and-true (nat_lt i many))
 
@@ -82,10 +80,6 @@ clean_totals image e =
 no_names : (x : List ℕ) → has_name [] x ≡ is_among [] x
 unfolding has_name
 no_names x = refl
-
-in_block_none : (g : Geometry) (o : Option ℕ) → in_entry_block g o ≡ None → o ≡ None
-in_block_none g None e = refl
-in_block_none g (Some k) e = absurd (cc (e))
 
 pub longest_most : (g : Geometry) → longest_name g ≤ 27
 longest_most g =
@@ -96,7 +90,7 @@ longest_most g =
 pub placed_names : (image : List ℕ) → fault image ≡ None → names_right 27 [] (names_of (placed_files image)) ≡ true
 placed_names image e =
     let g = geometry_of image in let d = shape_of image in
-    let r = in_block_none g (first_failing (has_bad_name g) [] d.entries) (image_names image e) in
+    let r = none-failing g (first_failing (has_bad_name g) [] d.entries) (image_names image e) in
     names_longer (longest_name g) 27 [] (names_of (placed_files image)) (longest_most g) (names_from g d.indexes image [] [] d.entries no_names r)
 
 -- entries
@@ -116,9 +110,6 @@ name_length : (size at : ℕ) (block : List ℕ) → length block ≡ 512 → 20
 name_length size at block l h =
     let a = length-drop 12 block in let b = length-drop at (drop 12 block) in let c = length-drop 8 (drop at (drop 12 block)) in
     let t = length-take size (drop 8 (drop at (drop 12 block))) in omega (arith, a, b, c, t, l, h)
-
-length_block : (image : List ℕ) (n b : ℕ) → length image ≡ 512 * n → b < n → length (block_in image b) ≡ 512
-length_block image n b l h = let t = length-take 512 (drop (512 * b) image) in let d = length-drop (512 * b) image in omega (arith, t, d, l, h)
 
 abbrev no_entry_1 : Entry1
 no_entry_1 = record { size = 0; first = 0; name = [] }

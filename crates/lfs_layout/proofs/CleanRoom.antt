@@ -1,8 +1,10 @@
 -- The files of an image need no more room than it has, and have names.
 use Rattle.std.proofs.Common.{◌≡◌, ℕ, zero, suc, ◌*◌, ◌<◌, ◌≤◌, Bool, true, false, cond, not, ◌&&◌, ◌||◌, nat_lt, nat_le, List, [], ◌∷◌, ◌++◌, length, get_or, slice_index, take, drop, refl, sym, ap, ◌∙◌, arith, length-append, length-take, length-drop, Option, Some, None, bytes_eq}
+use Rattle.lfs_check.proofs.KeptRead.{or_or_false}
+use Rattle.std.proofs.Math.Bool.{or-false}
 use Rattle.std.specs.List.{flat_map}
 use Rattle.std.proofs.lemmas.List.Folds.{list_any-append}
-use Rattle.std.proofs.lemmas.Bool.{false≢true}
+use Rattle.std.proofs.lemmas.Bool.{false≢true, and_parts}
 use Rattle.std.proofs.lemmas.Bool.Decides.{nat_tests}
 use Rattle.lfs_format.specs.declared.Entry.{Entry}
 use Rattle.lfs_format.specs.declared.Index.{Index}
@@ -24,7 +26,7 @@ pub record Whole (g : Geometry) (ix : List Index) (n : ℕ) (e : Entry) : Type 0
 abbrev pub AllWhole : Geometry → List Index → ℕ → List Entry → Type 0
 AllWhole g ix n es = (k : ℕ) → k < length es → entry_is_used (get_or es k void_entry) ≡ true → Whole g ix n (get_or es k void_entry)
 
-length_block : (image : List ℕ) (n b : ℕ) → length image ≡ 512 * n → b < n → length (block_in image b) ≡ 512
+pub length_block : (image : List ℕ) (n b : ℕ) → length image ≡ 512 * n → b < n → length (block_in image b) ≡ 512
 length_block image n b l h = let t = length-take 512 (drop (512 * b) image) in let d = length-drop (512 * b) image in omega (arith, t, d, l, h)
 
 length_blocks : (image : List ℕ) (n : ℕ) (bs : List ℕ) → length image ≡ 512 * n → ((j : ℕ) → j < length bs → slice_index bs j < n) → length (flat_map (block_in image) bs) ≡ 512 * length bs
@@ -64,25 +66,13 @@ totals g ix image n (e ∷ es) l all =
 
 -- names
 
-and-true : (a b : Bool) → a && b ≡ true → (a ≡ true) × (b ≡ true)
-and-true true b e = (refl, e)
-and-true false b e = absurd (false≢true e)
-
 pub cond_none : (b : Bool) (x : ℕ) (r : Option ℕ) → cond b (Some x) r ≡ None → (b ≡ false) × (r ≡ None)
 cond_none true x r e = absurd (cc (e))
 cond_none false x r e = (refl, e)
 
-or-false : (a b : Bool) → not a || b ≡ false → (a ≡ true) × (b ≡ false)
-or-false true b e = (refl, e)
-or-false false b e = absurd (false≢true (sym e))
-
-or-nil : (a b : Bool) → a || (b || false) ≡ a || b
-or-nil a true = refl
-or-nil a false = refl
-
-or-none : (a : Bool) → a || false ≡ a
-or-none true = refl
-or-none false = refl
+not_or_parts : (a b : Bool) → not a || b ≡ false → (a ≡ true) × (b ≡ false)
+not_or_parts true b e = (refl, e)
+not_or_parts false b e = absurd (false≢true (sym e))
 
 -- the used names of entries that break no rule are names, and apart
 pub names_from : (g : Geometry) (ix : List Index) (image : List ℕ) (before : List Entry) (names : List (List ℕ)) (es : List Entry) → ((x : List ℕ) → has_name before x ≡ is_among names x)
@@ -95,18 +85,18 @@ names_from g ix image before names (x ∷ es) same e =
     let f : File = record { name = x.name; bytes = content_of g ix image x } in
     let P : Bool → Type 0 = λ b. entry_is_used x ≡ b → b && (not (is_name (longest_name g) x.name) || has_name before x.name) ≡ false
     → names_right (longest_name g) names (names_of (cond b (f ∷ rest) rest)) ≡ true in
-    let yes : P true = λ u h. (let two = or-false (is_name (longest_name g) x.name) (has_name before x.name) h in
+    let yes : P true = λ u h. (let two = not_or_parts (is_name (longest_name g) x.name) (has_name before x.name) h in
     let more : (y : List ℕ) → has_name (before ++ x ∷ []) y ≡ is_among (names ++ x.name ∷ []) y = λ y.
-    list_any-append (λ (z : Entry). entry_is_used z && bytes_eq z.name y) before (x ∷ []) ∙ or-nil (has_name before y) (entry_is_used x && bytes_eq x.name y)
+    list_any-append (λ (z : Entry). entry_is_used z && bytes_eq z.name y) before (x ∷ []) ∙ or_or_false (has_name before y) (entry_is_used x && bytes_eq x.name y)
     ∙ ap (λ v. has_name before y || (v && bytes_eq x.name y)) u ∙ ap (λ v. v || bytes_eq x.name y) (same y)
-    ∙ sym (list_any-append (λ z. bytes_eq z y) names (x.name ∷ []) ∙ or-nil (is_among names y) (bytes_eq x.name y)) in
+    ∙ sym (list_any-append (λ z. bytes_eq z y) names (x.name ∷ []) ∙ or_or_false (is_among names y) (bytes_eq x.name y)) in
     let fresh : is_among names x.name ≡ false = sym (same x.name) ∙ two.1 in
     ap (λ v. v && not (is_among names x.name) && names_right (longest_name g) (names ++ x.name ∷ []) (names_of rest)) two.0
     ∙ ap (λ v. not v && names_right (longest_name g) (names ++ x.name ∷ []) (names_of rest)) fresh
     ∙ names_from g ix image (before ++ x ∷ []) (names ++ x.name ∷ []) es more parts.1) in
     let no : P false = λ u h. (let more : (y : List ℕ) → has_name (before ++ x ∷ []) y ≡ is_among names y = λ y.
-    list_any-append (λ (z : Entry). entry_is_used z && bytes_eq z.name y) before (x ∷ []) ∙ or-nil (has_name before y) (entry_is_used x && bytes_eq x.name y)
-    ∙ ap (λ v. has_name before y || (v && bytes_eq x.name y)) u ∙ or-none (has_name before y) ∙ same y in
+    list_any-append (λ (z : Entry). entry_is_used z && bytes_eq z.name y) before (x ∷ []) ∙ or_or_false (has_name before y) (entry_is_used x && bytes_eq x.name y)
+    ∙ ap (λ v. has_name before y || (v && bytes_eq x.name y)) u ∙ or-false (has_name before y) ∙ same y in
     names_from g ix image (before ++ x ∷ []) names es more parts.1) in
     let split : (b : Bool) → P b = λ b. elim b as (λ b. P b) [ true ↦ yes | false ↦ no ] in
     split (entry_is_used x) refl parts.0
@@ -116,8 +106,8 @@ name_longer : (a b : ℕ) (name : List ℕ) → a ≤ b → is_name a name ≡ t
 unfolding is_name
 name_longer a b name h e =
     let n = text_length name in
-    let one = and-true (nat_lt 0 n && nat_le n a) (are_zeros (drop n name)) e in
-    let two = and-true (nat_lt 0 n) (nat_le n a) one.0 in
+    let one = and_parts (nat_lt 0 n && nat_le n a) (are_zeros (drop n name)) e in
+    let two = and_parts (nat_lt 0 n) (nat_le n a) one.0 in
     let low : n ≤ a = (let t = two.1 in grind (arith, nat_tests)) in
     let t : nat_le n b ≡ true = (let q : n ≤ b = omega (arith, low, h) in grind (arith, nat_tests)) in
     ap (λ v. v && nat_le n b && are_zeros (drop n name)) two.0 ∙ ap (λ v. v && are_zeros (drop n name)) t ∙ one.1
@@ -125,8 +115,8 @@ name_longer a b name h e =
 pub names_longer : (a b : ℕ) (before names : List (List ℕ)) → a ≤ b → names_right a before names ≡ true → names_right b before names ≡ true
 names_longer a b before [] h e = refl
 names_longer a b before (n ∷ names) h e =
-    let one = and-true (is_name a n && not (is_among before n)) (names_right a (before ++ n ∷ []) names) e in
-    let two = and-true (is_name a n) (not (is_among before n)) one.0 in
+    let one = and_parts (is_name a n && not (is_among before n)) (names_right a (before ++ n ∷ []) names) e in
+    let two = and_parts (is_name a n) (not (is_among before n)) one.0 in
     ap (λ v. v && not (is_among before n) && names_right b (before ++ n ∷ []) names) (name_longer a b n h two.0)
     ∙ ap (λ v. v && names_right b (before ++ n ∷ []) names) two.1 ∙ names_longer a b (before ++ n ∷ []) names h one.1
 

@@ -1,10 +1,11 @@
 -- Lemmas on the files with one set.
 use Rattle.std.proofs.Common.{◌≡◌, ℕ, zero, suc, ◌+◌, ◌-◌, ◌<◌, ◌≤◌, Bool, true, false, cond, not, ◌&&◌, ◌||◌, nat_eq, nat_lt, nat_le, List, [], ◌∷◌, ◌++◌, length, get_or, drop, replicate, refl, sym, ap, ◌∙◌, arith, length-append, bytes_eq, Some}
+use Rattle.lfs_check.proofs.KeptRead.{or_or_false}
 use Rattle.std.specs.Option.{option_map}
 use Rattle.std.specs.List.{list_all, prefix_len}
 use Rattle.std.proofs.lemmas.List.{drop_at, length-replicate}
 use Rattle.std.proofs.lemmas.List.Folds.{list_any-append}
-use Rattle.std.proofs.lemmas.Bool.{false≢true}
+use Rattle.std.proofs.lemmas.Bool.{false≢true, and_parts, not-true, or_parts}
 use Rattle.std.proofs.lemmas.Bool.Decides.{nat_tests}
 use Rattle.lfs_format.specs.declared.Entry.{Entry}
 use Rattle.lfs_format.specs.declared.Index.{Index}
@@ -14,22 +15,6 @@ use Rattle.lfs_check.specs.Rules.{entry_is_used, is_name, text_length, are_zeros
 use Rattle.lfs_layout.specs.Files.{File, content_of, files_in, total_for, have_room, is_among, names_right, names_of, without_name, with_set, is_text, padded_name, other_entries, content_named, entry_named}
 use Rattle.lfs_layout.specs.Made.{geometry_2, no_file, Room}
 use Rattle.lfs_layout.proofs.Regions.{each_append}
-
-and-true : (a b : Bool) → a && b ≡ true → (a ≡ true) × (b ≡ true)
-and-true true b e = (refl, e)
-and-true false b e = absurd (false≢true e)
-
-not-true : (a : Bool) → not a ≡ true → a ≡ false
-not-true true e = absurd (false≢true e)
-not-true false e = refl
-
-or-none : (a b : Bool) → a || b ≡ false → (a ≡ false) × (b ≡ false)
-or-none true b e = absurd (false≢true (sym e))
-or-none false b e = (refl, e)
-
-or-nil : (a b : Bool) → a || (b || false) ≡ a || b
-or-nil a true = refl
-or-nil a false = refl
 
 -- the files of the entries without those of a name
 pub files_without : (g : Geometry) (ix : List Index) (image name : List ℕ) (es : List Entry) → files_in g ix image (other_entries name es) ≡ without_name name (files_in g ix image es)
@@ -65,18 +50,18 @@ among_not name (f ∷ files) =
 abbrev Fewer : List (List ℕ) → List (List ℕ) → Type 0
 Fewer few many = (x : List ℕ) → is_among many x ≡ false → is_among few x ≡ false
 
-among_push : (names : List (List ℕ)) (n x : List ℕ) → is_among (names ++ n ∷ []) x ≡ is_among names x || bytes_eq n x
-among_push names n x = list_any-append (λ y. bytes_eq y x) names (n ∷ []) ∙ or-nil (is_among names x) (bytes_eq n x)
+pub among_push : (names : List (List ℕ)) (n x : List ℕ) → is_among (names ++ n ∷ []) x ≡ is_among names x || bytes_eq n x
+among_push names n x = list_any-append (λ y. bytes_eq y x) names (n ∷ []) ∙ or_or_false (is_among names x) (bytes_eq n x)
 
 names_fewer : (name : List ℕ) (few many : List (List ℕ)) (files : List File) → Fewer few many → names_right 27 many (names_of files) ≡ true → names_right 27 few (names_of (without_name name files)) ≡ true
 names_fewer name few many [] h e = refl
 names_fewer name few many (f ∷ files) h e =
     let n = f.name in
-    let one = and-true (is_name 27 n && not (is_among many n)) (names_right 27 (many ++ n ∷ []) (names_of files)) e in
-    let two = and-true (is_name 27 n) (not (is_among many n)) one.0 in
+    let one = and_parts (is_name 27 n && not (is_among many n)) (names_right 27 (many ++ n ∷ []) (names_of files)) e in
+    let two = and_parts (is_name 27 n) (not (is_among many n)) one.0 in
     let P : Bool → Type 0 = λ b. names_right 27 few (names_of (cond b (without_name name files) (f ∷ without_name name files))) ≡ true in
-    let yes : P true = names_fewer name few (many ++ n ∷ []) files (λ x q. h x (or-none (is_among many x) (bytes_eq n x) (sym (among_push many n x) ∙ q)).0) one.1 in
-    let both : Fewer (few ++ n ∷ []) (many ++ n ∷ []) = λ x q. (let p = or-none (is_among many x) (bytes_eq n x) (sym (among_push many n x) ∙ q) in
+    let yes : P true = names_fewer name few (many ++ n ∷ []) files (λ x q. h x (or_parts (is_among many x) (bytes_eq n x) (sym (among_push many n x) ∙ q)).0) one.1 in
+    let both : Fewer (few ++ n ∷ []) (many ++ n ∷ []) = λ x q. (let p = or_parts (is_among many x) (bytes_eq n x) (sym (among_push many n x) ∙ q) in
     among_push few n x ∙ ap (λ b. b || bytes_eq n x) (h x p.0) ∙ p.1) in
     let rest = names_right 27 (few ++ n ∷ []) (names_of (without_name name files)) in
     let no : P false =
@@ -88,8 +73,8 @@ names_push : (before : List (List ℕ)) (files : List File) (f : File) → names
     → names_right 27 before (names_of (files ++ f ∷ [])) ≡ true
 names_push before [] f e n p q = ap (λ b. b && not (is_among before f.name) && true) n ∙ ap (λ b. not b && true) p
 names_push before (x ∷ files) f e n p q =
-    let one = and-true (is_name 27 x.name && not (is_among before x.name)) (names_right 27 (before ++ x.name ∷ []) (names_of files)) e in
-    let r = or-none (bytes_eq x.name f.name) (is_among (names_of files) f.name) q in
+    let one = and_parts (is_name 27 x.name && not (is_among before x.name)) (names_right 27 (before ++ x.name ∷ []) (names_of files)) e in
+    let r = or_parts (bytes_eq x.name f.name) (is_among (names_of files) f.name) q in
     ap (λ b. b && names_right 27 (before ++ x.name ∷ []) (names_of (files ++ f ∷ []))) one.0
     ∙ names_push (before ++ x.name ∷ []) files f one.1 n (among_push before x.name f.name ∙ ap (λ b. b || bytes_eq x.name f.name) p ∙ r.0) r.1
 
@@ -103,7 +88,7 @@ unfolding text_length
 text_runs [] zero e = refl
 text_runs [] (suc m) e = refl
 text_runs (x ∷ text) m e =
-    let p = and-true (not (nat_eq x 0)) (list_all (λ b. not (nat_eq b 0)) text) e in
+    let p = and_parts (not (nat_eq x 0)) (list_all (λ b. not (nat_eq b 0)) text) e in
     let i = text_runs text m p.1 in
     ap (λ b. cond b (1 + prefix_len (λ c. not (nat_eq c 0)) (text ++ replicate m 0)) 0) p.0 ∙ (omega (arith, i))
 
@@ -114,7 +99,7 @@ zeros (suc m) = zeros m
 pub text_name : (text : List ℕ) → is_text text ≡ true → is_name 27 (padded_name text) ≡ true
 unfolding is_name
 text_name text e =
-    let one = and-true (nat_lt 0 (length text) && nat_le (length text) 27) (list_all (λ b. not (nat_eq b 0)) text) e in
+    let one = and_parts (nat_lt 0 (length text) && nat_le (length text) 27) (list_all (λ b. not (nat_eq b 0)) text) e in
     let l = text_runs text (28 - length text) one.1 in
     let n = padded_name text in
     ap (λ k. nat_lt 0 k && nat_le k 27 && are_zeros (drop k n)) l ∙ ap (λ b. b && are_zeros (drop (length text) n)) one.0
@@ -122,8 +107,8 @@ text_name text e =
 
 pub text_short : (text : List ℕ) → is_text text ≡ true → length text ≤ 27
 text_short text e =
-    let one = and-true (nat_lt 0 (length text) && nat_le (length text) 27) (list_all (λ b. not (nat_eq b 0)) text) e in
-    let two = and-true (nat_lt 0 (length text)) (nat_le (length text) 27) one.0 in
+    let one = and_parts (nat_lt 0 (length text) && nat_le (length text) 27) (list_all (λ b. not (nat_eq b 0)) text) e in
+    let two = and_parts (nat_lt 0 (length text)) (nat_le (length text) 27) one.0 in
     let t = two.1 in grind (arith, nat_tests)
 
 length_padded_name : (text : List ℕ) → length text ≤ 27 → length (padded_name text) ≡ 28
@@ -157,8 +142,8 @@ set_room n files text bytes low high w t e =
     let f : File = record { name = padded_name text; bytes = bytes } in
     let g = geometry_2 n in let all = with_set f files in
     let P : File → Type 0 = λ x. length x.name ≡ 28 in
-    let one = and-true (nat_le (length all) 78 && nat_le (total_for 512 all) (g.blocks - first_data g)) (nat_le (total_for 8192 all) (index_count g)) e in
-    let two = and-true (nat_le (length all) 78) (nat_le (total_for 512 all) (g.blocks - first_data g)) one.0 in
+    let one = and_parts (nat_le (length all) 78 && nat_le (total_for 512 all) (g.blocks - first_data g)) (nat_le (total_for 8192 all) (index_count g)) e in
+    let two = and_parts (nat_le (length all) 78) (nat_le (total_for 512 all) (g.blocks - first_data g)) one.0 in
     record {
       low = low;
       high = high;

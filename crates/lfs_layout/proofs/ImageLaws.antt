@@ -1,6 +1,6 @@
 -- Laws of images and their files.
 use Rattle.std.proofs.Common.{◌≡◌, ℕ, suc, ◌+◌, ◌-◌, ◌*◌, ◌<◌, ◌≤◌, Bool, true, false, cond, not, ◌&&◌, nat_eq, nat_le, List, [], ◌∷◌, ◌++◌, length, filter, count_by, refl, sym, ap, ◌∙◌, arith, None}
-use Rattle.std.proofs.lemmas.Bool.{false≢true}
+use Rattle.std.proofs.lemmas.Bool.{false≢true, and_parts, not-false, eqb-true}
 use Rattle.std.proofs.lemmas.Bool.Decides.{nat_tests}
 use Rattle.std.proofs.lemmas.List.Sums.{sum_by-cons, length-filter}
 use Rattle.lfs_format.specs.declared.Entry.{Entry}
@@ -13,7 +13,7 @@ use Rattle.lfs_check.specs.Faults.{fault, report}
 use Rattle.lfs_check.specs.Kept.{kept_entries}
 use Rattle.lfs_check.proofs.Nones.{first_from-each}
 use Rattle.lfs_check.proofs.Images.{image_size, image_counts}
-use Rattle.lfs_check.proofs.KeepsAll.{keeps_all}
+use Rattle.lfs_check.proofs.KeepsAll.{keeps_all, either-way}
 use Rattle.lfs_layout.specs.Files.{Clean, File, names_right, names_of, content_of, files_in, placed_files, files_of, is_before, with_file, sorted, blocks_for, total_for, have_room, without_name, with_set}
 use Rattle.lfs_layout.specs.Made.{geometry_2, image_with, Room}
 use Rattle.lfs_layout.specs.Images.{kept_files, repaired, repaired_blocks}
@@ -22,10 +22,6 @@ use Rattle.lfs_layout.proofs.MadeFields.{length_image}
 use Rattle.lfs_layout.proofs.MadeFiles.{made_files}
 use Rattle.lfs_layout.proofs.MadeRules.{made_faultless}
 use Rattle.lfs_layout.proofs.Repairs.{repaired_room, repaired_names}
-
-either-way : (b : Bool) (P : Bool → Type 0) → (b ≡ true → P true) → (b ≡ false → P false) → P b
-either-way true P t f = t refl
-either-way false P t f = f refl
 
 -- unused entries have no files
 files_used : (g : Geometry) (ix : List Index) (image : List ℕ) (es : List Entry) → files_in g ix image (filter entry_is_used es) ≡ files_in g ix image es
@@ -90,25 +86,14 @@ repaired_length image size = length_image (repaired_blocks image) (kept_files im
 
 -- the report
 
-and-true : (a b : Bool) → a && b ≡ true → (a ≡ true) × (b ≡ true)
-and-true true b e = (refl, e)
-and-true false b e = absurd (false≢true e)
-
-not-false : (a : Bool) → not a ≡ false → a ≡ true
-not-false true e = refl
-not-false false e = absurd (false≢true (sym e))
-
 pub reported_files : (image : List ℕ) → fault image ≡ None → (report image).files ≡ length (files_of image)
 reported_files image e =
     let g = geometry_of image in let d = fields_of g image in
     let some : 0 < g.dirs = either-way (is_version_2 image) (λ v. 0 < cond v 6 1) (λ _. omega arith) (λ _. omega arith) in
     let first = not-false (is_dir_block g d.header d.entries image 0) (first_from-each (λ k. not (is_dir_block g d.header d.entries image k)) 0 g.dirs (image_counts image e) 0 (omega arith) (omega (arith, some))) in
-    let t : nat_eq (count_by entry_is_used d.entries) d.header.files ≡ true = (and-true (begins_right d.header d.entries (block_in image 0) 0) (ends_right g (block_in image 0)) first).0 in
-    let same : count_by entry_is_used d.entries ≡ d.header.files = eq_of (count_by entry_is_used d.entries) d.header.files t in
+    let t : nat_eq (count_by entry_is_used d.entries) d.header.files ≡ true = (and_parts (begins_right d.header d.entries (block_in image 0) 0) (ends_right g (block_in image 0)) first).0 in
+    let same : count_by entry_is_used d.entries ≡ d.header.files = eqb-true (count_by entry_is_used d.entries) d.header.files t in
     sym same ∙ used_files image e
-  where
-    eq_of : (a b : ℕ) → nat_eq a b ≡ true → a ≡ b
-    eq_of a b t = grind (arith, nat_tests)
 
 -- a file that is too long
 

@@ -52,15 +52,6 @@ joined_pieces w zero xs = ap (λ k. take k xs) (let e : 0 ≡ w * 0 = omega arit
 joined_pieces w (suc n) xs =
     ap (λ x. x ++ take w (drop (w * n) xs)) (joined_pieces w n xs) ∙ sym (take-add (w * n) w xs) ∙ ap (λ k. take k xs) (let e : w * n + w ≡ w * suc n = grind arith in e)
 
-pub length_upwards : (low many : ℕ) → length (upwards low many) ≡ many
-length_upwards low zero = refl
-length_upwards low (suc many) = let i = length_upwards (suc low) many in omega (arith, i)
-
-pub upwards_at : (low many j d : ℕ) → j < many → get_or (upwards low many) j d ≡ low + j
-upwards_at low zero j d h = absurd (omega (arith, h))
-upwards_at low (suc many) zero d h = omega arith
-upwards_at low (suc many) (suc j) d h = let i = upwards_at (suc low) many j d (omega arith) in omega (arith, i)
-
 pub upwards_more : (low many : ℕ) → upwards low (suc many) ≡ upwards low many ++ (low + many) ∷ []
 upwards_more low zero = ap (λ k. k ∷ []) (let e : low ≡ low + 0 = omega arith in e)
 upwards_more low (suc many) = ap (λ t. low ∷ t) (upwards_more (suc low) many ∙ ap (λ k. upwards (suc low) many ++ k ∷ []) (let e : suc low + many ≡ low + suc many = omega arith in e))

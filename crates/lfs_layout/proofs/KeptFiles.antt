@@ -1,8 +1,10 @@
 -- The files of the entries that are kept have room, and names that are apart.
 use Rattle.std.proofs.Common.{◌≡◌, ℕ, zero, suc, ◌+◌, ◌-◌, ◌*◌, ◌<◌, ◌≤◌, Bool, true, false, cond, not, ◌&&◌, ◌||◌, nat_eq, nat_lt, nat_le, List, [], ◌∷◌, ◌++◌, length, get_or, slice_index, take, refl, sym, ap, ◌∙◌, arith, length-take, Option, Some, None, ⊎_elim, bytes_eq}
+use Rattle.std.proofs.Math.Bool.{and-true}
+use Rattle.lfs_check.proofs.KeptRead.{none-is, or_or_false}
 use Rattle.std.specs.List.{flat_map, list_any}
 use Rattle.std.proofs.lemmas.List.Folds.{list_any-append}
-use Rattle.std.proofs.lemmas.Bool.{cases_lt, false≢true}
+use Rattle.std.proofs.lemmas.Bool.{cases_lt, false≢true, and_parts, not-true, or_parts}
 use Rattle.std.proofs.lemmas.Bool.Decides.{nat_tests}
 use Rattle.lfs_format.specs.declared.Entry.{Entry}
 use Rattle.lfs_format.specs.declared.Index.{Index}
@@ -23,18 +25,6 @@ use Rattle.lfs_check.proofs.Keeping.{kept_apart}
 use Rattle.lfs_layout.specs.Files.{File, content_of, files_in, total_for, is_among, names_right, names_of}
 use Rattle.lfs_layout.proofs.CleanRoom.{Whole, totals}
 
-and-true : (a b : Bool) → a && b ≡ true → (a ≡ true) × (b ≡ true)
-and-true true b e = (refl, e)
-and-true false b e = absurd (false≢true e)
-
-not-true : (a : Bool) → not a ≡ true → a ≡ false
-not-true true e = absurd (false≢true e)
-not-true false e = refl
-
-none-is : (o : Option ℕ) → is_none o ≡ true → o ≡ None
-none-is None e = refl
-none-is (Some a) e = absurd (false≢true e)
-
 -- what is known of a whole entry
 record WholeFacts (g : Geometry) (ix : List Index) (e : Entry) : Type 0 where
   used : entry_is_used e ≡ true
@@ -47,12 +37,12 @@ whole_facts g ix e w =
     let a = entry_is_used e in let b = is_name (longest_name g) e.name in let c = not (is_larger (room g) e) in
     let d = nat_eq (length (met_of g ix e)) (need_index e) in let f = nat_eq (end_of_walk g ix e) null in
     let h = is_none (rows_fault g ix (need_data e) (met_of g ix e)) in let i = is_none (offsets_fault g ix 0 (met_of g ix e)) in
-    let sound = and-true (has_sound_fields g e && has_sound_walk g ix e) (stand_once (data_in g ix e) (data_in g ix e)) w in
-    let s = and-true (has_sound_fields g e) (has_sound_walk g ix e) sound.0 in
-    let m = and-true a b (and-true (a && b) c s.0).0 in
-    let q = and-true (d && f && h) i s.1 in
-    let p = and-true (d && f) h q.0 in
-    let o = and-true d f p.0 in
+    let sound = and_parts (has_sound_fields g e && has_sound_walk g ix e) (stand_once (data_in g ix e) (data_in g ix e)) w in
+    let s = and_parts (has_sound_fields g e) (has_sound_walk g ix e) sound.0 in
+    let m = and_parts a b (and_parts (a && b) c s.0).0 in
+    let q = and_parts (d && f && h) i s.1 in
+    let p = and_parts (d && f) h q.0 in
+    let o = and_parts d f p.0 in
     record {
       used = m.0;
       name = m.1;
@@ -130,7 +120,7 @@ kept_whole g ix es before (e ∷ rest) k h =
     whole_of s =
         let a = is_whole g ix e in let b = not (is_hidden g ix before e) in
         let c = stand_once (chain_in g ix e) (whole_chains g ix es) in let d = stand_once (data_in g ix e) (whole_datas g ix es) in
-        (and-true a b (and-true (a && b) c (and-true (a && b && c) d s).0).0).0
+        (and_parts a b (and_parts (a && b) c (and_parts (a && b && c) d s).0).0).0
 
     push : (x : Entry) (xs : List Entry) → is_whole g ix x ≡ true → ((k : ℕ) → k < length xs → is_whole g ix (get_or xs k void_entry) ≡ true) → (k : ℕ) → k < length (x ∷ xs) → is_whole g ix (get_or (x ∷ xs) k void_entry) ≡ true
     push x xs w all zero m = w
@@ -168,31 +158,19 @@ kept_totals g ix image es r l =
     within_is low high b s = ⊎_elim
         (λ (lt : b < low). (let t : nat_le low b ≡ false = grind (arith, nat_tests) in ap (λ v. v && nat_lt b high) t))
         (λ (ge : low ≤ b). (let t : nat_le low b ≡ true = grind (arith, nat_tests) in let u : nat_lt b low ≡ false = grind (arith, nat_tests) in
-        ap (λ v. v && nat_lt b high) t ∙ sym (ap (λ v. nat_lt b high && not v) u ∙ and_true (nat_lt b high)) ∙ s))
+        ap (λ v. v && nat_lt b high) t ∙ sym (ap (λ v. nat_lt b high && not v) u ∙ and-true (nat_lt b high)) ∙ s))
         (cases_lt b low)
-      where
-        and_true : (b : Bool) → b && true ≡ b
-        and_true true = refl
-        and_true false = refl
 
 -- names
 
 among_push : (names : List (List ℕ)) (n x : List ℕ) → is_among (names ++ n ∷ []) x ≡ is_among names x || bytes_eq n x
-among_push names n x = list_any-append (λ y. bytes_eq y x) names (n ∷ []) ∙ or-nil (is_among names x) (bytes_eq n x)
-  where
-    or-nil : (a b : Bool) → a || (b || false) ≡ a || b
-    or-nil a true = refl
-    or-nil a false = refl
+among_push names n x = list_any-append (λ y. bytes_eq y x) names (n ∷ []) ∙ or_or_false (is_among names x) (bytes_eq n x)
 
 abbrev whole_named : Geometry → List Index → List Entry → List ℕ → Bool
 whole_named g ix before x = list_any (λ f. is_whole g ix f && bytes_eq f.name x) before
 
 named_push : (g : Geometry) (ix : List Index) (before : List Entry) (e : Entry) (x : List ℕ) → whole_named g ix (before ++ e ∷ []) x ≡ whole_named g ix before x || (is_whole g ix e && bytes_eq e.name x)
-named_push g ix before e x = list_any-append (λ f. is_whole g ix f && bytes_eq f.name x) before (e ∷ []) ∙ or-nil (whole_named g ix before x) (is_whole g ix e && bytes_eq e.name x)
-  where
-    or-nil : (a b : Bool) → a || (b || false) ≡ a || b
-    or-nil a true = refl
-    or-nil a false = refl
+named_push g ix before e x = list_any-append (λ f. is_whole g ix f && bytes_eq f.name x) before (e ∷ []) ∙ or_or_false (whole_named g ix before x) (is_whole g ix e && bytes_eq e.name x)
 
 -- the names of kept entries are apart
 pub kept_names : (g : Geometry) (ix : List Index) (image : List ℕ) (es before : List Entry) (names : List (List ℕ)) (rest : List Entry)
@@ -204,25 +182,21 @@ kept_names g ix image es before names (e ∷ rest) h =
     let yes : P true = λ s. (
     let a = is_whole g ix e in let b = not (is_hidden g ix before e) in
     let c = stand_once (chain_in g ix e) (whole_chains g ix es) in let d = stand_once (data_in g ix e) (whole_datas g ix es) in
-    let two = and-true a b (and-true (a && b) c (and-true (a && b && c) d s).0).0 in
+    let two = and_parts a b (and_parts (a && b) c (and_parts (a && b && c) d s).0).0 in
     let f = whole_facts g ix e two.0 in
     let fresh = h e.name (not-true (is_hidden g ix before e) two.1) in
     let file : File = record { name = e.name; bytes = content_of g ix image e } in
     let more : (x : List ℕ) → whole_named g ix (before ++ e ∷ []) x ≡ false → is_among (names ++ e.name ∷ []) x ≡ false = λ x q. (
-    let p = or-no (whole_named g ix before x) (a && bytes_eq e.name x) (sym (named_push g ix before e x) ∙ q) in
+    let p = or_parts (whole_named g ix before x) (a && bytes_eq e.name x) (sym (named_push g ix before e x) ∙ q) in
     among_push names e.name x ∙ ap (λ v. v || bytes_eq e.name x) (h x p.0) ∙ (sym (ap (λ v. v && bytes_eq e.name x) two.0) ∙ p.1)) in
     let tail = names_right (longest_name g) (names ++ e.name ∷ []) (names_of (files_in g ix image K)) in
     ap (λ u. names_right (longest_name g) names (names_of (cond u (file ∷ files_in g ix image K) (files_in g ix image K)))) f.used
     ∙ ap (λ v. v && not (is_among names e.name) && tail) f.name ∙ ap (λ v. not v && tail) fresh
     ∙ kept_names g ix image es (before ++ e ∷ []) (names ++ e.name ∷ []) rest more) in
     let no : P false = λ s. kept_names g ix image es (before ++ e ∷ []) names rest
-    (λ x q. h x (or-no (whole_named g ix before x) (is_whole g ix e && bytes_eq e.name x) (sym (named_push g ix before e x) ∙ q)).0) in
+    (λ x q. h x (or_parts (whole_named g ix before x) (is_whole g ix e && bytes_eq e.name x) (sym (named_push g ix before e x) ∙ q)).0) in
     let all : (b : Bool) → P b = λ b. elim b as (λ b. P b) [ true ↦ yes | false ↦ no ] in
     all (is_kept g ix es before e) refl
-  where
-    or-no : (a b : Bool) → a || b ≡ false → (a ≡ false) × (b ≡ false)
-    or-no true b q = absurd (false≢true (sym q))
-    or-no false b q = (refl, q)
 
 -- they are no more than all entries, and as wide
 pub kept_few : (g : Geometry) (ix : List Index) (es before rest : List Entry) → length (kept_from g ix es before rest) ≤ length rest
@@ -251,4 +225,4 @@ pub kept_is_used : (g : Geometry) (ix : List Index) (es before : List Entry) (e 
 kept_is_used g ix es before e s =
     let a = is_whole g ix e in let b = not (is_hidden g ix before e) in
     let c = stand_once (chain_in g ix e) (whole_chains g ix es) in let d = stand_once (data_in g ix e) (whole_datas g ix es) in
-    (whole_facts g ix e (and-true a b (and-true (a && b) c (and-true (a && b && c) d s).0).0).0).used
+    (whole_facts g ix e (and_parts a b (and_parts (a && b) c (and_parts (a && b && c) d s).0).0).0).used

@@ -1,10 +1,11 @@
 -- The k-th file of a clean image in the order of names, found among its entries.
 use Rattle.std.proofs.Common.{◌≡◌, ℕ, suc, ◌+◌, ◌*◌, ◌/◌, ◌≤◌, Bool, true, false, cond, not, ◌&&◌, nat_eq, nat_lt, nat_le, List, [], ◌∷◌, ◌++◌, length, map, refl, sym, ap, ◌∙◌, arith, Option, Some, count_by, slice_get, is_some, zero}
+use Rattle.lfs_check.proofs.KeepsAll.{either-way}
 use Rattle.std.specs.List.{find}
 use Rattle.std.specs.Option.{option_map}
 use Rattle.std.proofs.lemmas.Option.{slice_get-map}
 use Rattle.std.proofs.lemmas.List.Sums.{sum_by-cons}
-use Rattle.std.proofs.lemmas.Bool.{false≢true}
+use Rattle.std.proofs.lemmas.Bool.{false≢true, and_parts}
 use Rattle.std.proofs.lemmas.Bool.Decides.{nat_tests}
 use Rattle.lfs_format.specs.declared.Entry.{Entry}
 use Rattle.lfs_format.specs.declared.Index.{Index}
@@ -17,14 +18,6 @@ use Rattle.lfs_layout.specs.Images.{IsCleanImage}
 use Rattle.lfs_layout.proofs.CleanRoom.{AllWhole, length_bytes}
 use Rattle.lfs_layout.proofs.CleanOpens.{all_whole, placed_names, placed_room}
 use Rattle.lfs_layout.proofs.Ordered.{sorted_at}
-
-and-true : (a b : Bool) → a && b ≡ true → (a ≡ true) × (b ≡ true)
-and-true true b e = (refl, e)
-and-true false b e = absurd (false≢true e)
-
-either-way : (b : Bool) (P : Bool → Type 0) → (b ≡ true → P true) → (b ≡ false → P false) → P b
-either-way true P t f = t refl
-either-way false P t f = f refl
 
 abbrev entry_shown : Entry → List ℕ × ℕ
 entry_shown e = (bare_name e.name, e.size)
@@ -71,8 +64,8 @@ found_named g ix image longest before q (y ∷ es) x r e =
     either-way (entry_is_used y)
     (λ u. names_right longest before (names_of (cond u (f ∷ rest) rest)) ≡ true → cond (u && q y) (Some y) later ≡ Some x → is_name longest x.name ≡ true)
     (λ _ r e. (
-    let one = and-true (is_name longest y.name && not (is_among before y.name)) (names_right longest (before ++ y.name ∷ []) (names_of rest)) r in
-    let mine = (and-true (is_name longest y.name) (not (is_among before y.name)) one.0).0 in
+    let one = and_parts (is_name longest y.name && not (is_among before y.name)) (names_right longest (before ++ y.name ∷ []) (names_of rest)) r in
+    let mine = (and_parts (is_name longest y.name) (not (is_among before y.name)) one.0).0 in
     either-way (q y) (λ v. cond v (Some y) later ≡ Some x → is_name longest x.name ≡ true)
     (λ _ e. (let s : y ≡ x = cc in sym (ap (λ (z : Entry). is_name longest z.name) s) ∙ mine))
     (λ _ e. found_named g ix image longest (before ++ y.name ∷ []) q es x one.1 e)
@@ -83,8 +76,8 @@ found_named g ix image longest before q (y ∷ es) x r e =
 name_short : (longest : ℕ) (name : List ℕ) → is_name longest name ≡ true → text_length name ≤ longest
 unfolding is_name
 name_short longest name e =
-    let one = and-true (nat_lt 0 (text_length name) && nat_le (text_length name) longest) _ e in
-    let two = and-true (nat_lt 0 (text_length name)) (nat_le (text_length name) longest) one.0 in
+    let one = and_parts (nat_lt 0 (text_length name) && nat_le (text_length name) longest) _ e in
+    let two = and_parts (nat_lt 0 (text_length name)) (nat_le (text_length name) longest) one.0 in
     let t = two.1 in grind (arith, nat_tests)
 
 -- a clean image has the entries of version 2

@@ -1,5 +1,6 @@
 -- On an image that is made files lie: each takes the lowest free blocks in the order of the entries.
 use Rattle.std.proofs.Common.{◌≡◌, ℕ, zero, suc, ◌+◌, ◌-◌, ◌<◌, ◌≤◌, true, false, cond, nat_lt, List, [], ◌∷◌, ◌++◌, length, get_or, slice_index_or, map, replicate, refl, sym, ap, ◌∙◌, subst, arith}
+use Rattle.lfs_check.proofs.Empties.{length-upwards, upwards-at}
 use Rattle.std.proofs.lemmas.List.{get_or-append-add}
 use Rattle.std.proofs.Math.ListN.{get_or-append}
 use Rattle.std.proofs.lemmas.Bool.{false≢true}
@@ -21,7 +22,6 @@ use Rattle.lfs_check.proofs.Images.{fields_shape}
 use Rattle.lfs_check.proofs.Theorems.{built_passes}
 use Rattle.lfs_layout.specs.Files.{File, total_for}
 use Rattle.lfs_layout.specs.Made.{indexes_needed, data_needed, entry_for, entries_for, no_entry, index_end, data_end, file_index, indexes_for, free_index, all_indexes, image_with, geometry_2, no_file, Room}
-use Rattle.lfs_layout.proofs.Joins.{length_upwards, upwards_at}
 use Rattle.lfs_layout.proofs.MadeParts.{length_indexes_for, free_index_at}
 use Rattle.lfs_layout.proofs.MadeFields.{header_read, entries_read, indexes_read, link_read}
 
@@ -84,11 +84,11 @@ lie-files d a b (f ∷ files) m used all =
     ∙ ap (λ k. get_or (mine ++ indexes_for (a + n) (b + w) files) k no_index) (let e : n + j ≡ length mine + j = omega (arith, len) in e)
     ∙ get_or-append-add mine (indexes_for (a + n) (b + w) files) j no_index) in (
       (λ v. record {
-        indexes = length_upwards a n;
-        datas = length_upwards b w;
+        indexes = length-upwards a n;
+        datas = length-upwards b w;
         first = first_is a n;
-        each = λ j h. (let lt : j < n = (let l = length_upwards a n in omega (arith, l, h)) in
-            ap (index_in d) (upwards_at a n j 0 lt) ∙ all j (omega (arith, lt))
+        each = λ j h. (let lt : j < n = (let l = length-upwards a n in omega (arith, l, h)) in
+            ap (index_in d) (upwards-at a n j 0 lt) ∙ all j (omega (arith, lt))
             ∙ get_or-append mine (indexes_for (a + n) (b + w) files) no_index j (omega (arith, len, lt)) ∙ numbered-at (file_index a b f) n j no_index lt);
       }),
       subst P (ap (λ k. a + k) en) (subst Q (ap (λ k. b + k) ew) rest),

@@ -1,5 +1,6 @@
 -- The parts of an image that is made: the entries, the index blocks and the data blocks that it is made of.
 use Rattle.std.proofs.Common.{◌≡◌, ℕ, zero, suc, ◌+◌, ◌-◌, ◌*◌, ◌^◌, ◌<◌, ◌≤◌, true, false, cond, nat_lt, List, [], ◌∷◌, ◌++◌, length, get_or, slice_index_or, take, drop, map, replicate, refl, sym, ap, ◌∙◌, subst, arith, length-append, length-take, ⊎_elim}
+use Rattle.lfs_check.proofs.Empties.{length-upwards, upwards-at}
 use Rattle.std.proofs.lemmas.List.{length-replicate, length-map, get_or_past}
 use Rattle.std.proofs.lemmas.Bool.{cases_lt}
 use Rattle.std.proofs.lemmas.Bool.Decides.{nat_tests}
@@ -17,7 +18,6 @@ use Rattle.lfs_check.specs.Built.{chain_head}
 use Rattle.lfs_check.proofs.Numbered.{length_numbered, numbered-at}
 use Rattle.lfs_layout.specs.Files.{File, total_for}
 use Rattle.lfs_layout.specs.Made.{indexes_needed, data_needed, entries_for, no_entry, all_entries, index_end, file_index, indexes_for, free_index, all_indexes, padded, no_file}
-use Rattle.lfs_layout.proofs.Joins.{length_upwards, upwards_at}
 use Rattle.lfs_layout.proofs.Regions.{AllFit, fit_append, fit_take, fit_drop, fit_replicate, each_append, IndexFits}
 
 -- numbers that fit in a word
@@ -35,8 +35,8 @@ next_fits end n h = ⊎_elim
 
 upwards_fit : (low many d k : ℕ) → low + many < 2 ^ 32 → d < 2 ^ 32 → get_or (upwards low many) k d < 2 ^ 32
 upwards_fit low many d k h e = ⊎_elim
-    (λ lt. (let a = upwards_at low many k d lt in omega (arith, a, h, lt)))
-    (λ ge. (let a = get_or_past (upwards low many) k d (let l = length_upwards low many in omega (arith, l, ge)) in omega (arith, a, e)))
+    (λ lt. (let a = upwards-at low many k d lt in omega (arith, a, h, lt)))
+    (λ ge. (let a = get_or_past (upwards low many) k d (let l = length-upwards low many in omega (arith, l, ge)) in omega (arith, a, e)))
     (cases_lt k many)
 
 -- the entries of files
@@ -87,7 +87,7 @@ length_indexes_for a b (f ∷ files) =
 pub length_all_indexes : (g : Geometry) (files : List File) → total_for 8192 files ≤ index_count g → length (all_indexes g files) ≡ index_count g
 length_all_indexes g files h =
     let rest = upwards (index_end files) (index_count g - index_end files) in
-    let i = length_indexes_for 0 (first_data g) files in let m = length-map rest (free_index g) in let u = length_upwards (index_end files) (index_count g - index_end files) in
+    let i = length_indexes_for 0 (first_data g) files in let m = length-map rest (free_index g) in let u = length-upwards (index_end files) (index_count g - index_end files) in
     let l = length-append (indexes_for 0 (first_data g) files) (map (free_index g) rest) in omega (arith, i, m, u, l, h)
 
 words_fit : (next offset : ℕ) (blocks : List ℕ) → next < 2 ^ 32 → offset < 2 ^ 32 → AllFit blocks → AllFit (next ∷ offset ∷ blocks)
@@ -136,7 +136,7 @@ all_indexes_fit g files c p q =
     let many = index_count g - index_end files in
     each_append P (indexes_for 0 (first_data g) files) (map (free_index g) (upwards (index_end files) many)) no_index
     (indexes_for_fit 0 (first_data g) files (omega (arith, c, p)) (omega (arith, q)))
-    (λ k h. (let m = length-map (upwards (index_end files) many) (free_index g) in let u = length_upwards (index_end files) many in
+    (λ k h. (let m = length-map (upwards (index_end files) many) (free_index g) in let u = length-upwards (index_end files) many in
     subst P (sym (free_index_at g (index_end files) many k (omega (arith, m, u, h)))) (free_index_fits g (index_end files + k) c)))
 
 -- the data blocks of files

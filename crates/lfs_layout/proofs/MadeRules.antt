@@ -1,11 +1,12 @@
 -- An image that is made breaks no rule.
 use Rattle.std.proofs.Common.{◌≡◌, ℕ, zero, suc, ◌+◌, ◌-◌, ◌*◌, ◌/◌, ◌%◌, ◌<◌, ◌≤◌, Bool, true, false, cond, not, ◌&&◌, ◌||◌, nat_eq, nat_lt, nat_le, List, [], ◌∷◌, ◌++◌, length, slice_index, take, drop, replicate, refl, sym, ap, ◌∙◌, arith, Option, Some, None, ⊎_elim, bytes_eq, count_by}
+use Rattle.lfs_check.proofs.KeptRead.{or_or_false}
 use Rattle.std.specs.List.{prefix_len}
 use Rattle.std.proofs.lemmas.List.{drop-take, drop-drop}
 use Rattle.std.proofs.lemmas.List.Folds.{list_any-append}
 use Rattle.std.proofs.lemmas.List.Recursion.{is_count_by}
 use Rattle.std.proofs.lemmas.Slice.Eq.{bytes_eq-Decides}
-use Rattle.std.proofs.lemmas.Bool.{cases_lt, false≢true}
+use Rattle.std.proofs.lemmas.Bool.{cases_lt, false≢true, and_parts, not-true}
 use Rattle.std.proofs.lemmas.Bool.Decides.{nat_tests}
 use Rattle.lfs_format.specs.declared.Entry.{Entry}
 use Rattle.lfs_format.specs.Words.{word_of, words_of, word_bytes}
@@ -25,14 +26,6 @@ use Rattle.lfs_layout.specs.Made.{indexes_needed, entry_for, entries_for, no_ent
 use Rattle.lfs_layout.proofs.Regions.{dir_bytes_begin}
 use Rattle.lfs_layout.proofs.MadeFields.{dir_block, dir_block_end, header_read, entries_read, length_image}
 use Rattle.lfs_layout.proofs.MadeLies.{AreUsed, shape_made, made_passes}
-
-and-true : (a b : Bool) → a && b ≡ true → (a ≡ true) × (b ≡ true)
-and-true true b e = (refl, e)
-and-true false b e = absurd (false≢true e)
-
-not-true : (a : Bool) → not a ≡ true → a ≡ false
-not-true true e = absurd (false≢true e)
-not-true false e = refl
 
 -- its version, its size and its geometry
 version_read : (n : ℕ) (files : List File) → Room n files → word_of (drop 492 (image_with n files)) ≡ 2
@@ -79,18 +72,14 @@ name_used longest (x ∷ name) e =
 pub used_names : (before : List (List ℕ)) (files : List File) → names_right 27 before (names_of files) ≡ true → AreUsed files
 used_names before [] e k h = absurd (omega (arith, h))
 used_names before (f ∷ files) e zero h =
-    name_used 27 f.name (and-true (is_name 27 f.name) (not (is_among before f.name)) (and-true (is_name 27 f.name && not (is_among before f.name)) (names_right 27 (before ++ f.name ∷ []) (names_of files)) e).0).0
+    name_used 27 f.name (and_parts (is_name 27 f.name) (not (is_among before f.name)) (and_parts (is_name 27 f.name && not (is_among before f.name)) (names_right 27 (before ++ f.name ∷ []) (names_of files)) e).0).0
 used_names before (f ∷ files) e (suc k) h =
-    used_names (before ++ f.name ∷ []) files (and-true (is_name 27 f.name && not (is_among before f.name)) (names_right 27 (before ++ f.name ∷ []) (names_of files)) e).1 k (omega (arith, h))
+    used_names (before ++ f.name ∷ []) files (and_parts (is_name 27 f.name && not (is_among before f.name)) (names_right 27 (before ++ f.name ∷ []) (names_of files)) e).1 k (omega (arith, h))
 
 none_named : (g : Geometry) (before : List Entry) (m : ℕ) → first_failing (has_bad_name g) before (replicate m no_entry) ≡ None
 unfolding first_failing
 none_named g before zero = refl
 none_named g before (suc m) = none_named g (before ++ no_entry ∷ []) m
-
-or-nil : (a b : Bool) → a || (b || false) ≡ a || b
-or-nil a true = refl
-or-nil a false = refl
 
 -- the names of entries that were made of files with right names
 names_pass : (n : ℕ) (before : List Entry) (names : List (List ℕ)) (a : ℕ) (files : List File) (m : ℕ) → ((x : List ℕ) → has_name before x ≡ is_among names x) → names_right 27 names (names_of files) ≡ true
@@ -98,16 +87,16 @@ names_pass : (n : ℕ) (before : List Entry) (names : List (List ℕ)) (a : ℕ)
 unfolding first_failing has_name
 names_pass n before names a [] m same e = none_named (geometry_2 n) before m
 names_pass n before names a (f ∷ files) m same e =
-    let both = and-true (is_name 27 f.name && not (is_among names f.name)) (names_right 27 (names ++ f.name ∷ []) (names_of files)) e in
-    let two = and-true (is_name 27 f.name) (not (is_among names f.name)) both.0 in
+    let both = and_parts (is_name 27 f.name && not (is_among names f.name)) (names_right 27 (names ++ f.name ∷ []) (names_of files)) e in
+    let two = and_parts (is_name 27 f.name) (not (is_among names f.name)) both.0 in
     let used = name_used 27 f.name two.0 in
     let fresh : has_name before f.name ≡ false = same f.name ∙ not-true (is_among names f.name) two.1 in
     let test : has_bad_name (geometry_2 n) before (entry_for a f) ≡ false =
     ap (λ v. v && (not (is_name 27 f.name) || has_name before f.name)) used ∙ ap (λ v. not v || has_name before f.name) two.0 ∙ fresh in
     let more : (x : List ℕ) → has_name (before ++ entry_for a f ∷ []) x ≡ is_among (names ++ f.name ∷ []) x = λ x.
-    list_any-append (λ (g : Entry). entry_is_used g && bytes_eq g.name x) before (entry_for a f ∷ []) ∙ or-nil (has_name before x) (entry_is_used (entry_for a f) && bytes_eq f.name x)
+    list_any-append (λ (g : Entry). entry_is_used g && bytes_eq g.name x) before (entry_for a f ∷ []) ∙ or_or_false (has_name before x) (entry_is_used (entry_for a f) && bytes_eq f.name x)
     ∙ ap (λ v. has_name before x || (v && bytes_eq f.name x)) used ∙ ap (λ v. v || bytes_eq f.name x) (same x)
-    ∙ sym (list_any-append (λ y. bytes_eq y x) names (f.name ∷ []) ∙ or-nil (is_among names x) (bytes_eq f.name x)) in
+    ∙ sym (list_any-append (λ y. bytes_eq y x) names (f.name ∷ []) ∙ or_or_false (is_among names x) (bytes_eq f.name x)) in
     ap (λ v. cond v (Some (length before)) (first_failing (has_bad_name (geometry_2 n)) (before ++ entry_for a f ∷ []) (entries_for (a + indexes_needed f) files ++ replicate m no_entry))) test
     ∙ names_pass n (before ++ entry_for a f ∷ []) (names ++ f.name ∷ []) (a + indexes_needed f) files m more both.1
 

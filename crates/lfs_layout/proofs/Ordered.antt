@@ -1,30 +1,13 @@
 -- Files in the order of their names: the k-th is the one that exactly k names come before.
 use Rattle.std.proofs.Common.{◌≡◌, ℕ, zero, suc, ◌+◌, ◌<◌, ◌≤◌, Bool, true, false, cond, not, ◌&&◌, ◌||◌, nat_eq, nat_lt, List, [], ◌∷◌, ◌++◌, refl, sym, ap, ◌∙◌, arith, Some, None, bytes_eq, count_by, slice_get, ⊎_elim, ◌⊎◌, inl, inr}
+use Rattle.lfs_check.proofs.KeepsAll.{either-way}
 use Rattle.std.specs.List.{list_all, find}
-use Rattle.std.proofs.lemmas.Bool.{cases_lt, false≢true}
+use Rattle.std.proofs.lemmas.Bool.{cases_lt, false≢true, and_parts, and_from, not-true, or_left, or_parts, or_right}
 use Rattle.std.proofs.lemmas.Bool.Decides.{nat_tests}
 use Rattle.std.proofs.lemmas.List.Folds.{list_any-append}
 use Rattle.std.proofs.lemmas.List.Sums.{sum_by-cons}
 use Rattle.lfs_check.specs.Rules.{is_name}
 use Rattle.lfs_layout.specs.Files.{File, is_before, with_file, sorted, is_among, names_right, names_of}
-
-and-true : (a b : Bool) → a && b ≡ true → (a ≡ true) × (b ≡ true)
-and-true true b e = (refl, e)
-and-true false b e = absurd (false≢true e)
-
-and-join : (a b : Bool) → a ≡ true → b ≡ true → a && b ≡ true
-and-join a b p q = ap (λ v. v && b) p ∙ q
-
-not-true : (a : Bool) → not a ≡ true → a ≡ false
-not-true true e = absurd (false≢true e)
-not-true false e = refl
-
-or-first : (a b : Bool) → a ≡ true → a || b ≡ true
-or-first a b e = ap (λ v. v || b) e
-
-either-way : (b : Bool) (P : Bool → Type 0) → (b ≡ true → P true) → (b ≡ false → P false) → P b
-either-way true P t f = t refl
-either-way false P t f = f refl
 
 -- The order of names.
 
@@ -90,7 +73,7 @@ bytes-same [] [] e = refl
 bytes-same [] (y ∷ b) e = absurd (false≢true e)
 bytes-same (x ∷ a) [] e = absurd (false≢true e)
 bytes-same (x ∷ a) (y ∷ b) e =
-    let p = and-true (nat_eq x y) (bytes_eq a b) e in let t = p.0 in let s : x ≡ y = grind (arith, nat_tests) in
+    let p = and_parts (nat_eq x y) (bytes_eq a b) e in let t = p.0 in let s : x ≡ y = grind (arith, nat_tests) in
     ap (λ v. v ∷ a) s ∙ ap (λ r. y ∷ r) (bytes-same a b p.1)
 
 -- Counts.
@@ -114,12 +97,12 @@ count_swap p f g files more i =
 -- A file among others in their order.
 
 all_with : (p : File → Bool) (f : File) (files : List File) → p f ≡ true → list_all p files ≡ true → list_all p (with_file f files) ≡ true
-all_with p f [] h e = and-join (p f) true h refl
+all_with p f [] h e = and_from (p f) true h refl
 all_with p f (g ∷ files) h e =
-    let two = and-true (p g) (list_all p files) e in
+    let two = and_parts (p g) (list_all p files) e in
     either-way (is_before f.name g.name) (λ v. list_all p (cond v (f ∷ g ∷ files) (g ∷ with_file f files)) ≡ true)
-    (λ s. and-join (p f) (p g && list_all p files) h e)
-    (λ s. and-join (p g) (list_all p (with_file f files)) two.0 (all_with p f files h two.1))
+    (λ s. and_from (p f) (p g && list_all p files) h e)
+    (λ s. and_from (p g) (list_all p (with_file f files)) two.0 (all_with p f files h two.1))
 
 pub count_with : (p : File → Bool) (f : File) (files : List File) → count_by p (with_file f files) ≡ count_by p (f ∷ files)
 count_with p f [] = refl
@@ -154,22 +137,18 @@ ascends (f ∷ files) = list_all (λ (g : File). is_before f.name g.name) files 
 all_after : (a b : List ℕ) (files : List File) → is_before a b ≡ true → list_all (λ (g : File). is_before b g.name) files ≡ true → list_all (λ (g : File). is_before a g.name) files ≡ true
 all_after a b [] h e = refl
 all_after a b (g ∷ files) h e =
-    let two = and-true (is_before b g.name) (list_all (λ (g : File). is_before b g.name) files) e in
-    and-join (is_before a g.name) (list_all (λ (g : File). is_before a g.name) files) (before-trans a b g.name h two.0) (all_after a b files h two.1)
-
-or-none : (a b : Bool) → a || b ≡ false → (a ≡ false) × (b ≡ false)
-or-none true b e = absurd (false≢true (sym e))
-or-none false b e = (refl, e)
+    let two = and_parts (is_before b g.name) (list_all (λ (g : File). is_before b g.name) files) e in
+    and_from (is_before a g.name) (list_all (λ (g : File). is_before a g.name) files) (before-trans a b g.name h two.0) (all_after a b files h two.1)
 
 ascends_with : (f : File) (files : List File) → ascends files ≡ true → is_among (names_of files) f.name ≡ false → ascends (with_file f files) ≡ true
 ascends_with f [] e n = refl
 ascends_with f (g ∷ files) e n =
-    let two = and-true (list_all (λ (h : File). is_before g.name h.name) files) (ascends files) e in
-    let apart = or-none (bytes_eq g.name f.name) (is_among (names_of files) f.name) n in
+    let two = and_parts (list_all (λ (h : File). is_before g.name h.name) files) (ascends files) e in
+    let apart = or_parts (bytes_eq g.name f.name) (is_among (names_of files) f.name) n in
     either-way (is_before f.name g.name) (λ v. is_before f.name g.name ≡ v → ascends (cond v (f ∷ g ∷ files) (g ∷ with_file f files)) ≡ true)
-    (λ _ s. and-join (is_before f.name g.name && list_all (λ (h : File). is_before f.name h.name) files) (list_all (λ (h : File). is_before g.name h.name) files && ascends files)
-    (and-join (is_before f.name g.name) (list_all (λ (h : File). is_before f.name h.name) files) s (all_after f.name g.name files s two.0)) e)
-    (λ _ s. and-join (list_all (λ (h : File). is_before g.name h.name) (with_file f files)) (ascends (with_file f files))
+    (λ _ s. and_from (is_before f.name g.name && list_all (λ (h : File). is_before f.name h.name) files) (list_all (λ (h : File). is_before g.name h.name) files && ascends files)
+    (and_from (is_before f.name g.name) (list_all (λ (h : File). is_before f.name h.name) files) s (all_after f.name g.name files s two.0)) e)
+    (λ _ s. and_from (list_all (λ (h : File). is_before g.name h.name) (with_file f files)) (ascends (with_file f files))
     (all_with (λ (h : File). is_before g.name h.name) f files (before-total f.name g.name s (bytes-swap f.name g.name ∙ apart.0)) two.0) (ascends_with f files two.1 apart.1))
     refl
 
@@ -177,26 +156,22 @@ ascends_with f (g ∷ files) e n =
 right_apart : (longest : ℕ) (before names : List (List ℕ)) (x : List ℕ) → is_among before x ≡ true → names_right longest before names ≡ true → is_among names x ≡ false
 right_apart longest before [] x a e = refl
 right_apart longest before (n ∷ names) x a e =
-    let one = and-true (is_name longest n && not (is_among before n)) (names_right longest (before ++ n ∷ []) names) e in
-    let new = not-true (is_among before n) (and-true (is_name longest n) (not (is_among before n)) one.0).1 in
+    let one = and_parts (is_name longest n && not (is_among before n)) (names_right longest (before ++ n ∷ []) names) e in
+    let new = not-true (is_among before n) (and_parts (is_name longest n) (not (is_among before n)) one.0).1 in
     either-way (bytes_eq n x) (λ v. v || is_among names x ≡ false)
     (λ s. absurd (false≢true (sym new ∙ ap (is_among before) (bytes-same n x s) ∙ a)))
-    (λ s. right_apart longest (before ++ n ∷ []) names x (list_any-append (λ m. bytes_eq m x) before (n ∷ []) ∙ or-first (is_among before x) (bytes_eq n x || false) a) one.1)
+    (λ s. right_apart longest (before ++ n ∷ []) names x (list_any-append (λ m. bytes_eq m x) before (n ∷ []) ∙ or_left (is_among before x) (bytes_eq n x || false) a) one.1)
 
 bytes-self : (a : List ℕ) → bytes_eq a a ≡ true
 bytes-self [] = refl
-bytes-self (x ∷ a) = let e : nat_eq x x ≡ true = grind (arith, nat_tests) in and-join (nat_eq x x) (bytes_eq a a) e (bytes-self a)
-
-or-last : (a b : Bool) → b ≡ true → a || b ≡ true
-or-last true b e = refl
-or-last false b e = e
+bytes-self (x ∷ a) = let e : nat_eq x x ≡ true = grind (arith, nat_tests) in and_from (nat_eq x x) (bytes_eq a a) e (bytes-self a)
 
 sorted_ascends : (longest : ℕ) (before : List (List ℕ)) (files : List File) → names_right longest before (names_of files) ≡ true → ascends (sorted files) ≡ true
 sorted_ascends longest before [] e = refl
 sorted_ascends longest before (f ∷ files) e =
     let n = f.name in
-    let rest = (and-true (is_name longest n && not (is_among before n)) (names_right longest (before ++ n ∷ []) (names_of files)) e).1 in
-    let here : is_among (before ++ n ∷ []) n ≡ true = list_any-append (λ m. bytes_eq m n) before (n ∷ []) ∙ or-last (is_among before n) (bytes_eq n n || false) (or-first (bytes_eq n n) false (bytes-self n)) in
+    let rest = (and_parts (is_name longest n && not (is_among before n)) (names_right longest (before ++ n ∷ []) (names_of files)) e).1 in
+    let here : is_among (before ++ n ∷ []) n ≡ true = list_any-append (λ m. bytes_eq m n) before (n ∷ []) ∙ or_right (is_among before n) (bytes_eq n n || false) (or_left (bytes_eq n n) false (bytes-self n)) in
     ascends_with f (sorted files) (sorted_ascends longest (before ++ n ∷ []) files rest) (among_sorted files n ∙ right_apart longest (before ++ n ∷ []) (names_of files) n here rest)
 
 -- The k-th.
@@ -212,7 +187,7 @@ has_rank files k f = nat_eq (rank files f.name) k
 find_same : (p q t : File → Bool) (files : List File) → ((f : File) → t f ≡ true → p f ≡ q f) → list_all t files ≡ true → (find p files ≡ find q files) × (count_by p files ≡ count_by q files)
 find_same p q t [] h e = (refl, refl)
 find_same p q t (f ∷ files) h e =
-    let two = and-true (t f) (list_all t files) e in let i = find_same p q t files h two.1 in let s = h f two.0 in (
+    let two = and_parts (t f) (list_all t files) e in let i = find_same p q t files h two.1 in let s = h f two.0 in (
       ap (λ v. cond v (Some f) (find p files)) s ∙ ap (λ o. cond (q f) (Some f) o) i.0,
       count_more p f files ∙ ap (λ v. cond v 1 0 + count_by p files) s ∙ ap (λ n. cond (q f) 1 0 + n) i.1 ∙ sym (count_more q f files),
     )
@@ -220,7 +195,7 @@ find_same p q t (f ∷ files) h e =
 none_before : (f : File) (files : List File) → list_all (λ (g : File). is_before f.name g.name) files ≡ true → count_by (λ (g : File). is_before g.name f.name) files ≡ 0
 none_before f [] e = refl
 none_before f (g ∷ files) e =
-    let two = and-true (is_before f.name g.name) (list_all (λ (g : File). is_before f.name g.name) files) e in
+    let two = and_parts (is_before f.name g.name) (list_all (λ (g : File). is_before f.name g.name) files) e in
     count_no (λ (h : File). is_before h.name f.name) g files (before-not f.name g.name two.0) ∙ none_before f files two.1
 
 never : (files : List File) → (find (λ (f : File). false) files ≡ None) × (count_by (λ (f : File). false) files ≡ 0)
@@ -256,9 +231,9 @@ ranked_later f files k e i =
 -- among files in order the k-th has k before it, and no other has
 ranked : (files : List File) (k : ℕ) → ascends files ≡ true → Ranked files k
 ranked [] k e = record { found = refl; once = omega arith }
-ranked (f ∷ files) zero e = ranked_first f files (and-true (list_all (λ (g : File). is_before f.name g.name) files) (ascends files) e).0
+ranked (f ∷ files) zero e = ranked_first f files (and_parts (list_all (λ (g : File). is_before f.name g.name) files) (ascends files) e).0
 ranked (f ∷ files) (suc k) e =
-    let two = and-true (list_all (λ (g : File). is_before f.name g.name) files) (ascends files) e in
+    let two = and_parts (list_all (λ (g : File). is_before f.name g.name) files) (ascends files) e in
     ranked_later f files k two.0 (ranked files k two.1)
 
 -- what one file alone passes is found in every order
