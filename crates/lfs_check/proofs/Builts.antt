@@ -16,14 +16,17 @@ use Rattle.lfs_check.specs.Empty.{upwards, next_upwards}
 use Rattle.lfs_check.specs.Built.{index_need, data_need, runs, run_end, LieFrom, chain_head, IsBuilt, built_places}
 use Rattle.lfs_check.proofs.Empties.{upwards-chain, upwards-times}
 
+-- one list for each entry
 length-runs : (need : Entry → ℕ) (a : ℕ) (es : List Entry) → length (runs need a es) ≡ length es
 length-runs need a [] = refl
 length-runs need a (e ∷ es) = (let i = length-runs need (a + need e) es in omega (arith, i))
 
+-- a run ends no lower than it begins
 run-up : (need : Entry → ℕ) (a : ℕ) (es : List Entry) → a ≤ run_end need a es
 run-up need a [] = omega arith
 run-up need a (e ∷ es) = (let i = run-up need (a + need e) es in omega (arith, i))
 
+-- 1 if a number lies between two others, else 0
 abbrev pub within : ℕ → ℕ → ℕ → ℕ
 within low high n = cond (nat_lt n high && not (nat_lt n low)) 1 0
 
@@ -36,6 +39,7 @@ within-more a b c n p q = ⊎_elim
     let z : within a b n ≡ 0 = rw x refl in let w : within b c n ≡ within a c n = ap (λ t. cond (nat_lt n c && not t) 1 0) (x ∙ sym y) in omega (arith, z, w)))
     (cases_lt n b)
 
+-- the runs of entries meet each number between their ends once, and no other
 times-runs : (need : Entry → ℕ) (a n : ℕ) (es : List Entry) → times_in n (runs need a es) ≡ within a (run_end need a es) n
 times-runs need a n [] = (let u = upwards-times a 0 n in u ∙ ap (λ k. within a k n) (let q : a + 0 ≡ a = omega arith in q))
 times-runs need a n (e ∷ es) =
@@ -44,6 +48,7 @@ times-runs need a n (e ∷ es) =
     let m = within-more a (a + need e) (run_end need (a + need e) es) n (omega arith) (run-up need (a + need e) es) in
     omega (arith, i, u, m)
 
+-- entries that lie one after another each lie as their runs say
 lies-each : (d : Shape) (a b : ℕ) (es : List Entry) → LieFrom d a b es → (k : ℕ) → k < length es → entry_is_used (get_or es k void_entry) ≡ true
     → FileLies d (get_or es k void_entry) (numbers_at (runs index_need a es) k) (numbers_at (runs data_need b es) k)
 lies-each d a b [] l k h u = absurd (omega (arith, h))
@@ -53,11 +58,13 @@ lies-each d a b (e ∷ es) l zero h u =
     subst P (sym (ap (λ c. cond c (need_index e) 0) u)) (subst Q (sym (ap (λ c. cond c (need_data e) 0) u)) (l.0 u))
 lies-each d a b (e ∷ es) l (suc k) h u = lies-each d (a + index_need e) (b + data_need e) es l.1 k (omega arith) u
 
+-- an entry that needs nothing has an empty run
 none-each : (need : Entry → ℕ) (a : ℕ) (es : List Entry) (k : ℕ) → k < length es → need (get_or es k void_entry) ≡ 0 → numbers_at (runs need a es) k ≡ []
 none-each need a [] k h z = refl
 none-each need a (e ∷ es) zero h z = ap (upwards a) z
 none-each need a (e ∷ es) (suc k) h z = none-each need (a + need e) es k (omega arith) z
 
+-- a free list that links upwards is a chain of its numbers
 free-chain : (next : ℕ → ℕ) (low high head : ℕ) → low ≤ high → head ≡ chain_head low high → ((i : ℕ) → low ≤ i → i < high → next i ≡ next_upwards high i) → IsChain next head (upwards low (high - low))
 free-chain next low high head le e all = ⊎_elim
     (λ (lt : low < high). (let t : nat_lt low high ≡ true = grind (arith, nat_tests) in

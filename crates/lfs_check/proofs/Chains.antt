@@ -12,11 +12,13 @@ abbrev pub Goes : List ℕ → ℕ → List ℕ → ℕ → Type 0
 Goes links n [] e = n ≡ e
 Goes links n (x ∷ xs) e = (n ≡ x) × Goes links (slice_index links x) xs e
 
+-- a walk meets what it met before, and then new numbers that go by the links to its end
 pub record Walked (links : List ℕ) (n : ℕ) (met : List ℕ) (w : List ℕ) (e : ℕ) : Type 0 where
   pub new : List ℕ
   pub is : w ≡ met ++ new
   pub goes : Goes links n new e
 
+-- every walk is such a one
 pub walk-goes : (links : List ℕ) (low high steps : ℕ) (met : List ℕ) (n : ℕ) → Walked links n met (walk links low high steps met n) (walk_end links low high steps met n)
 unfolding walk walk_end
 walk-goes links low high zero met n = record { new = []; is = sym (append-nil met); goes = refl }
@@ -36,10 +38,12 @@ Goes-chain links n (x ∷ xs) g =
     let P : ℕ → Type 0 = λ m. IsChain (λ b. slice_index links b) m (x ∷ xs) in
     subst P (sym g.0) (IsChain-more (λ b. slice_index links b) (slice_index links x) x xs i refl)
 
+-- a chain is a walk that ends at null
 pub chain-Goes : (links : List ℕ) (n : ℕ) (xs : List ℕ) → IsChain (λ b. slice_index links b) n xs → Goes links n xs null
 chain-Goes links n [] c = c.starts
 chain-Goes links n (x ∷ xs) c = (c.starts, chain-Goes links (slice_index links x) xs (record { starts = c.goes_on 0 (omega arith); goes_on = λ j h. c.goes_on (suc j) (omega arith) }))
 
+-- a number that was met no times isn't among those met
 times-is_met : (n : ℕ) (met : List ℕ) → times_met n met ≡ 0 → is_met n met ≡ false
 times-is_met n [] z = refl
 times-is_met n (m ∷ met) z =

@@ -22,6 +22,7 @@ pub record Changes (d d' : Shape) (p : Places) (e : ℕ) (entry' : Entry) (chain
   pub same_index : (i : ℕ) → times_met i chain' + times_met i held_index' ≡ times_met i (numbers_at p.chains e) + times_met i p.held_index
   pub same_data : (b : ℕ) → times_met b blocks' + times_met b held_data' ≡ times_met b (numbers_at p.datas e) + times_met b p.held_data
 
+-- files still lie if one entry, its chain, its blocks and what is held are exchanged for others with the same blocks in all
 pub Laid-changed : (many low high : ℕ) (d d' : Shape) (p : Places) (e : ℕ) (entry' : Entry) (chain' blocks' held_index' held_data' : List ℕ)
     → Changes d d' p e entry' chain' blocks' held_index' held_data' → Laid many low high d p
     → Laid many low high d' (record p { chains = slice_set p.chains e chain'; datas = slice_set p.datas e blocks'; held_index = held_index'; held_data = held_data' })

@@ -1,5 +1,6 @@
 -- A disk on which no rule is broken is one on which files lie, with nothing held.
 use Rattle.std.proofs.Common.{◌≡◌, ℕ, zero, suc, ◌+◌, ◌-◌, ◌*◌, ◌<◌, ◌≤◌, Bool, true, false, cond, not, ◌&&◌, nat_lt, nat_le, nat_eq, List, [], ◌∷◌, ◌++◌, length, map, take, get_or, slice_index, slice_index_or, refl, sym, ap, ◌∙◌, subst, arith, length-take, ⊎_elim, None}
+use Rattle.std.proofs.lemmas.List.{length-map}
 use Rattle.std.specs.List.{flat_map}
 use Rattle.std.proofs.Math.ListN.{get_or-map}
 use Rattle.std.proofs.lemmas.Bool.{cases_lt}
@@ -21,6 +22,7 @@ use Rattle.lfs_check.proofs.Walking.{walk-within, walk-few}
 use Rattle.lfs_check.proofs.Steps.{times-append}
 use Rattle.lfs_check.proofs.Chains.{walk-goes, Goes-chain, Goes}
 
+-- the index block of a number
 abbrev pub row_index : List Index → ℕ → Index
 row_index ix i = slice_index_or ix i no_index
 
@@ -37,24 +39,29 @@ times-flat n f [] j h = absurd (omega (arith, h))
 times-flat n f (e ∷ es) zero h = (let t = times-append n (f e) (flat_map f es) in omega (arith, t))
 times-flat n f (e ∷ es) (suc j) h = (let t = times-append n (f e) (flat_map f es) in let i = times-flat n f es j (omega arith) in omega (arith, t, i))
 
+-- a choice whose test is true
 pub used-cond : {A : Type 0} → (b : Bool) (x y : A) → b ≡ true → cond b x y ≡ x
 used-cond b x y e = ap (λ c. cond c x y) e
 
+-- on a disk that passes each index block is met once
 pub once_index : (g : Geometry) (d : Shape) → Passes g d → (i : ℕ) → i < index_count g → times_met i (index_numbers g d) ≡ 1
 once_index g d p i h =
     let six = first_from-each (λ i. nat_le 2 (times_met i (index_numbers g d))) 0 (index_count g) (block-nones g _ _ p.six).0 i (omega arith) (omega (arith, h)) in
     let seven = first_from-each (λ i. nat_le (times_met i (index_numbers g d)) 0) 0 (index_count g) (block-nones g _ _ p.seven).0 i (omega arith) (omega (arith, h)) in
     let a = not-twice i (index_numbers g d) six in let b = not-never i (index_numbers g d) seven in omega (arith, a, b)
 
+-- what was met at most once and at least once was met once
 once_rule : (n : ℕ) (xs : List ℕ) → nat_le 2 (times_met n xs) ≡ false → nat_le (times_met n xs) 0 ≡ false → times_met n xs ≡ 1
 once_rule n xs six seven = (let a = not-twice n xs six in let b = not-never n xs seven in omega (arith, a, b))
 
+-- on a disk that passes each data block is met once
 pub once_data : (g : Geometry) (d : Shape) → Passes g d → (b : ℕ) → first_data g ≤ b → b < g.blocks → times_met b (data_numbers g d) ≡ 1
 once_data g d p b l h =
     let top : b < first_data g + (g.blocks - first_data g) = omega (arith, h, l) in
     once_rule b (data_numbers g d) (first_from-each (λ b. nat_le 2 (times_met b (data_numbers g d))) (first_data g) (g.blocks - first_data g) (block-nones g _ _ p.six).1 b l top)
     (first_from-each (λ b. nat_le (times_met b (data_numbers g d)) 0) (first_data g) (g.blocks - first_data g) (block-nones g _ _ p.seven).1 b l top)
 
+-- what passing says of the file of one used entry
 pub file_facts : (g : Geometry) (d : Shape) → Passes g d → (k : ℕ) → k < length d.entries → entry_is_used (entry_in d k) ≡ true → FileFacts g d.indexes (entry_in d k)
 file_facts g d p k h used =
     let e = entry_in d k in
@@ -83,12 +90,14 @@ file_facts g d p k h used =
     (cases_lt (length W) (need_index e)) in
     record { len = split.0; end = split.1; rows = rows-each g ix (need_data e) W parts.1; offsets = offsets-each g ix 0 W five }
 
+-- an index block is its three fields
 index-is : (i : Index) (n o : ℕ) (b : List ℕ) → i.next ≡ n → i.offset ≡ o → i.blocks ≡ b → i ≡ record { next = n; offset = o; blocks = b }
 index-is i n o b p q r =
     ap (λ (x : ℕ). let m : Index = record { next = x; offset = i.offset; blocks = i.blocks } in m) p
     ∙ ap (λ (x : ℕ). let m : Index = record { next = n; offset = x; blocks = i.blocks } in m) q
     ∙ ap (λ (x : List ℕ). let m : Index = record { next = n; offset = o; blocks = x } in m) r
 
+-- a file whose walk and numbers are right lies
 pub file_lies : (g : Geometry) (d : Shape) → IsShape g d → (e : Entry) → FileFacts g d.indexes e
     → FileLies d e (met_of g d.indexes e) (take (need_data e) (flat_map (data_row d.indexes) (met_of g d.indexes e)))
 file_lies g d s e f =
@@ -112,6 +121,7 @@ file_lies g d s e f =
           (rows-are g ix (need_data e) W wide f.rows j h);
     }
 
+-- the index blocks of all files are met as often as their chains have them
 pub chain-times : (g : Geometry) (ix : List Index) (i : ℕ) (es : List Entry) → i < null → ((k : ℕ) → k < length es → entry_is_used (get_or es k void_entry) ≡ true → end_of_walk g ix (get_or es k void_entry) ≡ null)
     → times_met i (flat_map (file_index_numbers g ix) es) ≡ times_in i (map (chain_in g ix) es)
 chain-times g ix i [] h ends = refl
@@ -123,6 +133,7 @@ chain-times g ix i (e ∷ es) h ends =
     let one = all (entry_is_used e) refl in
     omega (arith, t, r, one)
 
+-- the data blocks of all files are met as often as their lists have them
 pub data-times : (g : Geometry) (ix : List Index) (b : ℕ) (es : List Entry) → b < null
     → ((k : ℕ) → k < length es → entry_is_used (get_or es k void_entry) ≡ true → row_fits g (need_data (get_or es k void_entry)) (flat_map (data_row ix) (met_of g ix (get_or es k void_entry))) ≡ true)
     → times_met b (flat_map (file_data_numbers g ix) es) ≡ times_in b (map (data_in g ix) es)
@@ -136,6 +147,7 @@ data-times g ix b (e ∷ es) h fits =
     let one = all (entry_is_used e) refl in
     omega (arith, t, r, one)
 
+-- a number beyond the index blocks is in no chain
 chain-out : (g : Geometry) (ix : List Index) (i : ℕ) (es : List Entry) → index_count g ≤ i → times_in i (map (chain_in g ix) es) ≡ 0
 chain-out g ix i [] h = refl
 chain-out g ix i (e ∷ es) h =
@@ -145,6 +157,7 @@ chain-out g ix i (e ∷ es) h =
     let all : (b : Bool) → P b = λ b. elim b as (λ b. P b) [ true ↦ z | false ↦ refl ] in
     let one = all (entry_is_used e) in omega (arith, r, one)
 
+-- a number that isn't a data block's is in no file
 data-out : (g : Geometry) (ix : List Index) (b : ℕ) (es : List Entry) → is_between (first_data g) g.blocks b ≡ false
     → ((k : ℕ) → k < length es → entry_is_used (get_or es k void_entry) ≡ true → row_fits g (need_data (get_or es k void_entry)) (flat_map (data_row ix) (met_of g ix (get_or es k void_entry))) ≡ true)
     → times_in b (map (data_in g ix) es) ≡ 0
@@ -156,6 +169,7 @@ data-out g ix b (e ∷ es) h fits =
     let all : (c : Bool) → P c = λ c. elim c as (λ c. P c) [ true ↦ (λ u. fits-range g (need_data e) rows (fits 0 (omega arith) u) b h) | false ↦ (λ u. refl) ] in
     let one = all (entry_is_used e) refl in omega (arith, r, one)
 
+-- a disk that passes rules 4 to 7 has files that lie, with nothing held
 pub passes_lies : (g : Geometry) (d : Shape) → IsGeometry g → IsShape g d → Passes g d → LaidIn g d (places_of g d)
 passes_lies g d geo s p =
     let ix = d.indexes in
@@ -184,8 +198,8 @@ passes_lies g d geo s p =
     λ b out z. (let a = times-out (first_data g) g.blocks b Wd (walk-within d.links (first_data g) g.blocks g.blocks d.header.free_data) out in
     let c = data-out g ix b es (out-within (first_data g) g.blocks b out) fits in omega (arith, a, c, z)) in
     record {
-      chains = length-mapped (chain_in g ix) es;
-      datas = length-mapped (data_in g ix) es;
+      chains = length-map es (chain_in g ix);
+      datas = length-map es (data_in g ix);
       file = λ k h u. (let e = get_or es k void_entry in
           let P : List ℕ → Type 0 = λ xs. FileLies d e xs (numbers_at (map (data_in g ix) es) k) in
           let Q : List ℕ → Type 0 = λ xs. FileLies d e (met_of g ix e) xs in
@@ -214,7 +228,3 @@ passes_lies g d geo s p =
           (λ ge. out_data b (λ x y. omega (arith, y, ge)) (let y : nat_lt b g.blocks ≡ false = grind (arith, nat_tests) in rw y refl))
           (cases_lt b g.blocks);
     }
-  where
-    length-mapped : (f : Entry → List ℕ) (es : List Entry) → length (map f es) ≡ length es
-    length-mapped f [] = refl
-    length-mapped f (e ∷ es) = (let i = length-mapped f es in omega (arith, i))

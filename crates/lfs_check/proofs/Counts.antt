@@ -5,22 +5,27 @@ use Rattle.std.proofs.lemmas.Bool.{cases_eq}
 use Rattle.std.proofs.lemmas.Bool.Decides.{nat_tests}
 use Rattle.lfs_check.specs.Meets.{times_met, lowest_from, counted_more}
 
+-- a search that has numbers left tests the first of them
 first_from-step : (test : ℕ → Bool) (n m k : ℕ) → m ≡ suc k → lowest_from test n m ≡ cond (test n) (Some n) (lowest_from test (suc n) k)
 unfolding lowest_from
 first_from-step test n m k e = ap (lowest_from test n) e
 
+-- a number that passes, with none before it, is the lowest
 pub first_from-yes : (test : ℕ → Bool) (low many i : ℕ) → i < many → test (low + i) ≡ true → lowest_from test (low + i) (many - i) ≡ lowest_from test low many → Some (low + i) ≡ lowest_from test low many
 first_from-yes test low many i h t e = sym (sym e ∙ first_from-step test (low + i) (many - i) (many - suc i) (omega arith) ∙ ap (λ b. cond b (Some (low + i)) (lowest_from test (suc (low + i)) (many - suc i))) t)
 
+-- a number that fails is passed over
 pub first_from-no : (test : ℕ → Bool) (low many i : ℕ) → i < many → test (low + i) ≡ false → lowest_from test (low + i) (many - i) ≡ lowest_from test low many → lowest_from test (low + (i + 1)) (many - (i + 1)) ≡ lowest_from test low many
 first_from-no test low many i h t e =
     sym (sym e ∙ first_from-step test (low + i) (many - i) (many - (i + 1)) (omega arith) ∙ ap (λ b. cond b (Some (low + i)) (lowest_from test (suc (low + i)) (many - (i + 1)))) t
     ∙ ap (λ n. lowest_from test n (many - (i + 1))) (let q : suc (low + i) ≡ low + (i + 1) = omega arith in q))
 
+-- a search over all numbers without success finds none
 pub first_from-none : (test : ℕ → Bool) (low many i : ℕ) → many ≤ i → lowest_from test (low + i) (many - i) ≡ lowest_from test low many → None ≡ lowest_from test low many
 unfolding lowest_from
 first_from-none test low many i h e = sym (sym e ∙ ap (lowest_from test (low + i)) (let z : many - i ≡ 0 = omega arith in z))
 
+-- one number more at the end of a list is met once more
 pub meets-push : (n x : ℕ) (xs : List ℕ) → times_met n (xs ++ x ∷ []) ≡ times_met n xs + cond (nat_eq x n) 1 0
 meets-push n x [] = omega arith
 meets-push n x (y ∷ xs) = let i = meets-push n x xs in omega (arith, i)
@@ -47,5 +52,6 @@ counted-more counts met high i h l each n below =
     let c = all (nat_lt x (length counts)) in omega (arith, c, m, was)))
     (cases_eq x n)
 
+-- counting a number keeps how many counts there are
 pub length-counted : (counts : List ℕ) (at : ℕ) → length (counted_more counts at) ≡ length counts
 length-counted counts at = elim (nat_lt at (length counts)) as (λ b. length (cond b (slice_set counts at (min 2 (slice_index counts at + 1))) counts) ≡ length counts) [ true ↦ length-set counts at (min 2 (slice_index counts at + 1)) | false ↦ refl ]

@@ -10,15 +10,18 @@ use Rattle.lfs_check.specs.Laid.{Shape, IsChain, index_in, numbers_at, times_in}
 use Rattle.lfs_check.specs.Clean.{LaidIn}
 use Rattle.lfs_check.specs.Empty.{upwards, IsEmpty, next_upwards, empty_places}
 
+-- as many numbers as are wanted
 pub length-upwards : (low many : ℕ) → length (upwards low many) ≡ many
 length-upwards low zero = refl
 length-upwards low (suc many) = (let i = length-upwards (suc low) many in omega (arith, i))
 
+-- number j upwards is j after the first
 pub upwards-at : (low many j d : ℕ) → j < many → slice_index_or (upwards low many) j d ≡ low + j
 upwards-at low zero j d h = absurd (omega (arith, h))
 upwards-at low (suc many) zero d h = omega arith
 upwards-at low (suc many) (suc j) d h = upwards-at (suc low) many j d (omega arith) ∙ (let q : suc low + j ≡ low + suc j = omega arith in q)
 
+-- after each number upwards comes its next, and null after the last
 upwards-next_upwards : (low many j : ℕ) → j < many → slice_index_or (upwards low many) (suc j) null ≡ next_upwards (low + many) (low + j)
 upwards-next_upwards low many j h = ⊎_elim
     (λ lt. (let t : nat_lt (suc (low + j)) (low + many) ≡ true = (let q : suc (low + j) < low + many = omega (arith, lt) in grind (arith, nat_tests)) in
@@ -32,6 +35,7 @@ upwards-next_upwards low many j h = ⊎_elim
     past (x ∷ xs) zero h = absurd (omega (arith, h))
     past (x ∷ xs) (suc n) h = past xs n (omega arith)
 
+-- numbers upwards are a chain if each links to the next
 pub upwards-chain : (next : ℕ → ℕ) (low many head : ℕ) → 0 < many → head ≡ low → ((j : ℕ) → j < many → next (low + j) ≡ next_upwards (low + many) (low + j)) → IsChain next head (upwards low many)
 upwards-chain next low many head some e all = record {
   starts = e ∙ (let q : low ≡ low + 0 = omega arith in q) ∙ sym (upwards-at low many 0 null some);
@@ -39,6 +43,7 @@ upwards-chain next low many head some e all = record {
       ap next (upwards-at low many j 0 lt) ∙ all j lt ∙ sym (upwards-next_upwards low many j lt));
 }
 
+-- numbers upwards meet each of their range once
 pub upwards-times : (low many n : ℕ) → times_met n (upwards low many) ≡ cond (nat_lt n (low + many) && not (nat_lt n low)) 1 0
 upwards-times low zero n = ⊎_elim
     (λ lt. (let a : nat_lt n (low + 0) ≡ true = (let q : n < low + 0 = omega (arith, lt) in grind (arith, nat_tests)) in let b : nat_lt n low ≡ true = grind (arith, nat_tests) in rw (a, b) refl))
@@ -59,15 +64,18 @@ upwards-times low (suc many) n =
     l ∙ i ∙ ap (λ x. cond (x && not (nat_lt n (suc low))) 1 0) e ∙ ap (λ x. cond (nat_lt n (low + suc many) && not x) 1 0) same))
     (cases_eq n low)
 
+-- empty lists have no number
 no-lists : (n k : ℕ) → times_in n (replicate k []) ≡ 0
 no-lists n zero = refl
 no-lists n (suc k) = (let i = no-lists n k in omega (arith, i))
 
+-- each of several empty lists is empty
 no-list : (k e : ℕ) → numbers_at (replicate k []) e ≡ []
 no-list zero e = refl
 no-list (suc k) zero = refl
 no-list (suc k) (suc e) = no-list k e
 
+-- as many empty lists as are wanted
 length-lists : (k : ℕ) → length (replicate {A = List ℕ} k []) ≡ k
 length-lists zero = refl
 length-lists (suc k) = (let i = length-lists k in omega (arith, i))

@@ -1,5 +1,6 @@
 -- If no number is met twice, a walk ends at null.
 use Rattle.std.proofs.Common.{◌≡◌, ℕ, zero, suc, ◌+◌, ◌-◌, ◌<◌, ◌≤◌, Bool, true, false, cond, not, ◌&&◌, ◌||◌, nat_lt, nat_le, nat_eq, List, [], ◌∷◌, ◌++◌, length, slice_index, refl, sym, ap, ◌∙◌, arith, length-append, ⊎_elim}
+use Rattle.std.proofs.Math.Bool.{and-false}
 use Rattle.std.proofs.lemmas.Bool.{cases_lt, cases_eq, false≢true, not-false}
 use Rattle.std.proofs.lemmas.Bool.Decides.{nat_tests}
 use Rattle.lfs_check.specs.Walks.{walk, walk_end, walk_goes_on, is_met}
@@ -23,6 +24,7 @@ walk-stops links low high (suc steps) met n h =
     let all : (b : Bool) → P b = λ b. elim b as (λ b. P b) [ true ↦ yes | false ↦ no ] in
     all (walk_goes_on low high met n) refl h
 
+-- a number among those met was met at least once
 pub met-times : (n : ℕ) (met : List ℕ) → is_met n met ≡ true → 1 ≤ times_met n met
 met-times n [] e = absurd (false≢true e)
 met-times n (m ∷ met) e =
@@ -32,19 +34,18 @@ met-times n (m ∷ met) e =
     let all : (b : Bool) → P b = λ b. elim b as (λ b. P b) [ true ↦ yes | false ↦ no ] in
     all (nat_eq m n) e
 
+-- a number that passes the test of a range is in it
 pub within-of : (low high n : ℕ) → is_between low high n ≡ true → (low ≤ n) × (n < high)
 within-of low high n t = (
   ⊎_elim (λ lt. (let f : nat_le low n ≡ false = grind (arith, nat_tests) in absurd (false≢true (sym (ap (λ b. b && nat_lt n high) f) ∙ t)))) (λ ge. ge) (cases_lt n low),
-  ⊎_elim (λ lt. lt) (λ ge. (let f : nat_lt n high ≡ false = grind (arith, nat_tests) in absurd (false≢true (sym (ap (λ b. nat_le low n && b) f ∙ no (nat_le low n)) ∙ t)))) (cases_lt n high),
+  ⊎_elim (λ lt. lt) (λ ge. (let f : nat_lt n high ≡ false = grind (arith, nat_tests) in absurd (false≢true (sym (ap (λ b. nat_le low n && b) f ∙ and-false (nat_le low n)) ∙ t)))) (cases_lt n high),
 )
-  where
-    no : (b : Bool) → b && false ≡ false
-    no true = refl
-    no false = refl
 
+-- a number in a range passes its test
 pub of-within : (low high n : ℕ) → low ≤ n → n < high → is_between low high n ≡ true
 of-within low high n a b = (let p : nat_le low n ≡ true = grind (arith, nat_tests) in let q : nat_lt n high ≡ true = grind (arith, nat_tests) in rw (p, q) refl)
 
+-- a number that isn't in a range fails its test
 pub out-within : (low high n : ℕ) → (low ≤ n → n < high → ⊥) → is_between low high n ≡ false
 out-within low high n out = by (is_between low high n) refl
   where
@@ -61,9 +62,11 @@ times-out low high b (x ∷ xs) all out =
     let t : nat_eq x b ≡ false = (let ne : x ≡ b → ⊥ = λ e. out (omega (arith, here.0, e)) (omega (arith, here.1, e)) in ⊎_elim (λ e. absurd (ne e)) (λ o. grind (arith, nat_tests)) (cases_eq x b)) in
     rw t (omega (arith, i))
 
+-- a list of one number meets it once
 times-one : (n : ℕ) → times_met n (n ∷ []) ≡ 1
 times-one n = (let s : nat_eq n n ≡ true = grind (arith, nat_tests) in rw s refl)
 
+-- a walk that had steps left, and met no number twice, ended outside its range
 pub no-end : (links : List ℕ) (low high steps n : ℕ) → length (walk links low high steps [] n) < steps
     → ((b : ℕ) → low ≤ b → b < high → times_met b (walk links low high steps [] n ++ walk_end links low high steps [] n ∷ []) ≤ 1)
     → low ≤ walk_end links low high steps [] n → walk_end links low high steps [] n < high → ⊥

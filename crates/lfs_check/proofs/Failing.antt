@@ -10,6 +10,7 @@ first_failing_more : (f : List Entry → Entry → Bool) (xs : List Entry) (i : 
 unfolding first_failing
 first_failing_more f xs i d h = rw (drop_more xs i d h, take_more xs i d h) refl
 
+-- once all entries were tested none fails
 pub first_failing_all : (f : List Entry → Entry → Bool) (xs before : List Entry) (i : ℕ) → length xs ≤ i
     → first_failing f before (drop i xs) ≡ None
 unfolding first_failing
@@ -22,6 +23,7 @@ first_failing_found f xs i d h t e =
     let n : length (take i xs) ≡ i = omega (arith, length-take i xs) in
     sym (sym e ∙ first_failing_more f xs i d h ∙ ap (λ b. cond b (Some (length (take i xs))) (first_failing f (take (i + 1) xs) (drop (i + 1) xs))) t ∙ ap Some n)
 
+-- an entry that passes is passed over
 pub first_failing_passed : (f : List Entry → Entry → Bool) (xs : List Entry) (i : ℕ) (d : Entry) → i < length xs → f (take i xs) (get_or xs i d) ≡ false
     → first_failing f (take i xs) (drop i xs) ≡ first_failing f [] xs → first_failing f (take (i + 1) xs) (drop (i + 1) xs) ≡ first_failing f [] xs
 first_failing_passed f xs i d h t e = sym (sym e ∙ first_failing_more f xs i d h ∙ ap (λ b. cond b (Some (length (take i xs))) (first_failing f (take (i + 1) xs) (drop (i + 1) xs))) t)

@@ -17,14 +17,17 @@ use Rattle.lfs_check.proofs.Numbered.{length_numbered, numbered-at}
 use Rattle.lfs_check.proofs.Nones.{cond-none}
 use Rattle.lfs_check.proofs.Cleans.{passes_lies}
 
+-- neither of two faults is there if the first of both isn't
 first-nones : (a b : Option DiskFault) → either_fault a b ≡ None → (a ≡ None) × (b ≡ None)
 first-nones None b e = (refl, e)
 first-nones (Some a) b e = absurd (cc (e))
 
+-- a rule without a block isn't broken
 named-none : (rule : ℕ) (o : Option ℕ) → named rule o ≡ None → o ≡ None
 named-none rule None e = refl
 named-none rule (Some b) e = absurd (cc (e))
 
+-- the fields of an image have the lengths that a disk needs
 pub fields_shape : (g : Geometry) (image : List ℕ) → IsShape g (fields_of g image)
 fields_shape g image = record {
   indexes = length_numbered (index_in_bytes g image) (index_count g);
@@ -34,6 +37,7 @@ fields_shape g image = record {
       ∙ (let l = length-drop 2 ws in let n = length-words_of 18 (drop (index_place g i) image) in omega (arith, l, n)));
 }
 
+-- the test of rule 0 as two bounds
 size_facts : (fewest most n : ℕ) → nat_eq (n % 512) 0 && nat_le (512 * fewest) n && nat_le n (512 * most) ≡ true → (512 * fewest ≤ n) × (n ≤ 512 * most)
 size_facts fewest most n e =
     let a = nat_eq (n % 512) 0 in let b = nat_le (512 * fewest) n in let c = nat_le n (512 * most) in
@@ -51,6 +55,7 @@ image_geometry image e =
     let all : (v : Bool) → P v = λ v. elim v as (λ v. P v) [ true ↦ yes | false ↦ no ] in
     all (is_version_2 image) e
 
+-- an image without a fault passes rules 4 to 7
 pub image_passes : (image : List ℕ) → fault image ≡ None → Passes (geometry_of image) (fields_of (geometry_of image) image)
 image_passes image e =
     let walks = (first-nones _ _ (first-nones (named 0 (rule_0 (geometry_of image) image)) _ e).1).1 in
@@ -67,6 +72,7 @@ image_lies image e =
 pub image_size : (image : List ℕ) → fault image ≡ None → rule_0 (geometry_of image) image ≡ None
 image_size image e = named-none 0 (rule_0 (geometry_of image) image) (first-nones (named 0 (rule_0 (geometry_of image) image)) _ e).0
 
+-- an image of a right size is whole blocks
 pub sized_blocks : (image : List ℕ) → rule_0 (geometry_of image) image ≡ None → length image ≡ 512 * (length image / 512)
 sized_blocks image r0 =
     let n = length image in
@@ -78,9 +84,11 @@ sized_blocks image r0 =
     let all : (v : Bool) → P v = λ v. elim v as (λ v. P v) [ true ↦ yes | false ↦ no ] in
     let z = all (is_version_2 image) r0 in omega (arith, z)
 
+-- an image without a fault is whole blocks
 pub whole_blocks : (image : List ℕ) → fault image ≡ None → length image ≡ 512 * (length image / 512)
 whole_blocks image e = sized_blocks image (image_size image e)
 
+-- an image without a fault breaks no rule on names
 pub image_names : (image : List ℕ) → fault image ≡ None → rule_1 (geometry_of image) (directory_entries (geometry_of image) image) ≡ None
 image_names image e =
     let g = geometry_of image in let d = fields_of g image in
@@ -111,5 +119,6 @@ sized_most image r0 =
     let all : (v : Bool) → P v = λ v. elim v as (λ v. P v) [ true ↦ yes | false ↦ no ] in
     all (is_version_2 image) r0
 
+-- an image without a fault has as many blocks as its version allows
 pub image_blocks : (image : List ℕ) → fault image ≡ None → (cond (is_version_2 image) 14 8 ≤ length image / 512) × (length image / 512 ≤ cond (is_version_2 image) 65542 65536)
 image_blocks image e = sized_most image (image_size image e)

@@ -11,6 +11,7 @@ use Rattle.lfs_check.specs.Clean.{chain_in, data_in}
 use Rattle.lfs_check.specs.Kept.{is_whole, is_kept, kept_from, stand_once, whole_chains, whole_datas}
 use Rattle.lfs_check.proofs.Steps.{times-append}
 
+-- a number of a list whose numbers stand once in another is there once
 stand-at : (xs all : List ℕ) (n : ℕ) → stand_once xs all ≡ true → 1 ≤ times_met n xs → times_met n all ≡ 1
 stand-at [] all n s h = absurd (omega (arith, h))
 stand-at (x ∷ xs) all n s h =
@@ -21,6 +22,7 @@ stand-at (x ∷ xs) all n s h =
     let split : (b : Bool) → P b = λ b. elim b as (λ b. P b) [ true ↦ yes | false ↦ no ] in
     split (nat_eq x n) refl h
 
+-- the blocks of the whole entries among some
 abbrev whole_part : Geometry → List Index → (Entry → List ℕ) → List Entry → List ℕ
 whole_part g ix f es = flat_map (λ e. cond (is_whole g ix e) (f e) []) es
 
@@ -42,6 +44,7 @@ kept-once g ix f all es before (e ∷ rest) n keeps =
     let split : (b : Bool) → P b = λ b. elim b as (λ b. P b) [ true ↦ yes | false ↦ no ] in
     split (is_kept g ix es before e) refl
 
+-- a kept entry is whole, and its blocks stand once among those of the whole entries
 kept-facts : (g : Geometry) (ix : List Index) (es before : List Entry) (e : Entry) → is_kept g ix es before e ≡ true
     → (is_whole g ix e ≡ true) × ((stand_once (chain_in g ix e) (whole_chains g ix es) ≡ true) × (stand_once (data_in g ix e) (whole_datas g ix es) ≡ true))
 kept-facts g ix es before e k =

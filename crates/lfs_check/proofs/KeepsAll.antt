@@ -23,26 +23,31 @@ use Rattle.lfs_check.proofs.Steps.{times-at, times-append, times_in-part, at_mos
 use Rattle.lfs_check.proofs.Cleans.{FileFacts, file_facts}
 use Rattle.lfs_check.proofs.Images.{image_passes, image_lies, image_names, image_sizes}
 
+-- a proof by the two values of a test
 pub either-way : (b : Bool) (P : Bool → Type 0) → (b ≡ true → P true) → (b ≡ false → P false) → P b
 either-way true P t f = t refl
 either-way false P t f = f refl
 
 -- rules 1 and 3 at an entry
 
+-- no entry failed if no block was named
 pub none-failing : (g : Geometry) (o : Option ℕ) → in_entry_block g o ≡ None → o ≡ None
 none-failing g None e = refl
 none-failing g (Some k) e = absurd (cc (e))
 
+-- a search that found none passed its first entry and found none after it
 passed : (b : Bool) (k : ℕ) (o : Option ℕ) → cond b (Some k) o ≡ None → (b ≡ false) × (o ≡ None)
 passed true k o e = absurd (cc (e))
 passed false k o e = (refl, e)
 
+-- a search that found none passed each entry
 passed-at : (f : List Entry → Entry → Bool) (before es : List Entry) → first_failing f before es ≡ None → (k : ℕ) → k < length es → (seen : List Entry) × (f seen (get_or es k void_entry) ≡ false)
 unfolding first_failing
 passed-at f before [] e k h = absurd (omega (arith, h))
 passed-at f before (x ∷ es) e zero h = (before, (passed (f before x) (length before) (first_failing f (before ++ x ∷ []) es) e).0)
 passed-at f before (x ∷ es) e (suc k) h = passed-at f (before ++ x ∷ []) es (passed (f before x) (length before) (first_failing f (before ++ x ∷ []) es) e).1 k (omega (arith, h))
 
+-- a used entry that passes rule 1 has a name, which no earlier one has
 name-right : (g : Geometry) (before : List Entry) (e : Entry) → entry_is_used e ≡ true → has_bad_name g before e ≡ false → (is_name (longest_name g) e.name ≡ true) × (has_name before e.name ≡ false)
 name-right g before e u b = not_or_parts (is_name (longest_name g) e.name) (has_name before e.name) (sym (ap (λ v. v && (not (is_name (longest_name g) e.name) || has_name before e.name)) u) ∙ b)
   where
@@ -57,6 +62,7 @@ once-all (x ∷ xs) all h =
     let o = h 0 (omega arith) in let t : nat_eq (times_met x all) 1 ≡ true = grind (arith, nat_tests) in
     and_from (nat_eq (times_met x all) 1) (stand_once xs all) t (once-all xs all (λ j m. h (suc j) (omega (arith, m))))
 
+-- a list is met no more often than all lists together
 times-part : (n : ℕ) (f : Entry → List ℕ) (es : List Entry) (j : ℕ) → j < length es → times_met n (f (get_or es j void_entry)) ≤ times_met n (flat_map f es)
 times-part n f [] j h = absurd (omega (arith, h))
 times-part n f (e ∷ es) zero h = (let t = times-append n (f e) (flat_map f es) in omega (arith, t))
@@ -78,6 +84,7 @@ record Clear (g : Geometry) (d : Shape) : Type 0 where
   one_index : (i : ℕ) → times_in i (map (chain_in g d.indexes) d.entries) ≤ 1
   one_data : (b : ℕ) → times_in b (map (data_in g d.indexes) d.entries) ≤ 1
 
+-- what an image without a fault gives for its entries
 clear_image : (image : List ℕ) → fault image ≡ None → Clear (geometry_of image) (fields_of (geometry_of image) image)
 clear_image image e =
     let g = geometry_of image in let d = fields_of g image in let l = image_lies image e in
@@ -167,6 +174,7 @@ module _ (g : Geometry) (d : Shape) (c : Clear g d) where
           let blocks : stand_once (data_in g ix e) (whole_datas g ix es) ≡ true = sym (ap (λ y. stand_once (data_in g ix y) (whole_datas g ix es)) at) ∙ used_once (data_in g ix) c.one_data k h ux in
           and_from _ _ (and_from _ _ (and_from _ _ w hid) chain) blocks
 
+-- of an image without a fault all used entries are kept
 pub keeps_all : (image : List ℕ) → fault image ≡ None
     → kept_entries (geometry_of image) (fields_of (geometry_of image) image).indexes (directory_entries (geometry_of image) image) ≡ filter entry_is_used (directory_entries (geometry_of image) image)
 keeps_all image e =

@@ -19,6 +19,7 @@ use Rattle.lfs_check.proofs.Nones.{rows-each}
 use Rattle.lfs_check.proofs.Rows.{fits-range, rows-fit}
 use Rattle.lfs_check.proofs.Steps.{times-at}
 
+-- the test for no fault
 pub none-is : (o : Option ℕ) → is_none o ≡ true → o ≡ None
 none-is None e = refl
 none-is (Some a) e = absurd (false≢true e)
@@ -30,6 +31,7 @@ one_same c t e = ⊎_elim
     (λ (ge : 2 ≤ t). (let a : nat_eq c 1 ≡ false = (let s : c ≡ 2 = omega (arith, e, ge) in grind (arith, nat_tests)) in let b : nat_eq t 1 ≡ false = grind (arith, nat_tests) in a ∙ sym b))
     (cases_lt t 2)
 
+-- a list whose numbers were counted once stands once in all that was counted
 pub once_counted : (xs counts all : List ℕ) (high : ℕ) → ((n : ℕ) → n < high → slice_index counts n ≡ min 2 (times_met n all)) → ((j : ℕ) → j < length xs → slice_index xs j < high) → counted_once xs counts ≡ stand_once xs all
 once_counted [] counts all high each below = refl
 once_counted (x ∷ xs) counts all high each below =
@@ -63,6 +65,7 @@ sound_below g ix e r w =
     within_no true y e = e
     within_no false y e = refl
 
+-- the index blocks of a file are below their number
 pub chain_below : (g : Geometry) (ix : List Index) (e : Entry) (j : ℕ) → j < length (chain_in g ix e) → slice_index (chain_in g ix e) j < index_count g
 chain_below g ix e =
     let P : Bool → Type 0 = λ v. (j : ℕ) → j < length (cond v (met_of g ix e) []) → slice_index (cond v (met_of g ix e) []) j < index_count g in
@@ -78,6 +81,7 @@ flat_whole g ix f (e ∷ es) =
     let all : (b : Bool) → P b = λ b. elim b as (λ b. P b) [ true ↦ ap (λ xs. f e ++ xs) i | false ↦ i ] in
     all (is_whole g ix e)
 
+-- a last alternative that fails adds nothing
 pub or_or_false : (a b : Bool) → a || (b || false) ≡ a || b
 or_or_false a true = refl
 or_or_false a false = refl
@@ -123,6 +127,7 @@ kept_found g ix es chains blocks r cs bs before wholes (e ∷ rest) same =
     let all : (v : Bool) → P v = λ v. elim v as (λ v. P v) [ true ↦ yes | false ↦ no ] in
     all a refl
 
+-- no entry before, no whole one of that name
 pub no_wholes : (g : Geometry) (ix : List Index) (x : List ℕ) → has_name [] x ≡ list_any (λ f. is_whole g ix f && bytes_eq f.name x) []
 unfolding has_name
 no_wholes g ix x = refl

@@ -33,6 +33,7 @@ along links low high steps n xs top room c range once = chain-walk links low hig
 in-index : (g : Geometry) (i : ℕ) → 1 ≤ cond (nat_lt i (index_count g)) 1 0 → i < index_count g
 in-index g i h = ⊎_elim (λ lt. lt) (λ ge. (let e : nat_lt i (index_count g) ≡ false = grind (arith, nat_tests) in let z : ◌≡◌ {A = ℕ} (cond (nat_lt i (index_count g)) 1 0) 0 = ap (λ c. cond c 1 0) e in absurd (omega (arith, h, z)))) (cases_lt i (index_count g))
 
+-- a number that a range counts is in it
 in-data : (low high b : ℕ) → 1 ≤ cond (nat_lt b high && not (nat_lt b low)) 1 0 → (low ≤ b) × (b < high)
 in-data low high b h = (
   ⊎_elim (λ lt. (let a : nat_lt b low ≡ true = grind (arith, nat_tests) in
@@ -45,6 +46,7 @@ in-data low high b h = (
     both_ways true = refl
     both_ways false = refl
 
+-- a chain by the index blocks is one by the list of their nexts
 nexts-chain : (d : Shape) (n : ℕ) (xs : List ℕ) → IsChain (λ i. (index_in d i).next) n xs → IsChain (λ i. slice_index (nexts_of d.indexes) i) n xs
 nexts-chain d n xs c = IsChain-same (λ i. (index_in d i).next) (λ i. slice_index (nexts_of d.indexes) i) n xs c (λ j h. get_or-map (λ (i : Index). i.next) d.indexes (slice_index xs j) no_index)
 
@@ -56,6 +58,7 @@ pub record Agrees (g : Geometry) (d : Shape) (e : Entry) (chain blocks : List �
   pub offsets : (j : ℕ) → j < length chain → (slice_index_or d.indexes (slice_index chain j) no_index).offset ≡ 0 + 8192 * j
   pub numbers : take (need_data e) (flat_map (data_row d.indexes) chain) ≡ blocks
 
+-- the file of a used entry that lies is read as its chain and its data blocks
 pub file_agrees : (g : Geometry) (d : Shape) (p : Places) → IsGeometry g → LaidIn g d p → (k : ℕ) → k < length d.entries → entry_is_used (entry_in d k) ≡ true → Agrees g d (entry_in d k) (numbers_at p.chains k) (numbers_at p.datas k)
 file_agrees g d p geo l k h used =
     let e = entry_in d k in
@@ -87,6 +90,7 @@ file_agrees g d p geo l k h used =
     at-drop [] (suc n) i = refl
     at-drop (x ∷ xs) (suc n) i = at-drop xs n i ∙ ap (slice_index (x ∷ xs)) (let q : suc (n + i) ≡ suc n + i = omega arith in q)
 
+-- the chain that is read is the file's
 pub chains-read : (g : Geometry) (d : Shape) (p : Places) → IsGeometry g → LaidIn g d p → (k : ℕ) → k < length d.entries → chain_in g d.indexes (entry_in d k) ≡ numbers_at p.chains k
 chains-read g d p geo l k h =
     let e = entry_in d k in
@@ -94,6 +98,7 @@ chains-read g d p geo l k h =
     let all : (b : Bool) → P b = λ b. elim b as (λ b. P b) [ true ↦ (λ u. (file_agrees g d p geo l k h u).met) | false ↦ (λ u. sym (l.no_file k h u).0) ] in
     all (entry_is_used e) refl
 
+-- the data blocks that are read are the file's
 pub datas-read : (g : Geometry) (d : Shape) (p : Places) → IsGeometry g → LaidIn g d p → (k : ℕ) → k < length d.entries → data_in g d.indexes (entry_in d k) ≡ numbers_at p.datas k
 datas-read g d p geo l k h =
     let e = entry_in d k in
@@ -110,10 +115,12 @@ times_in-same n f (e ∷ es) (x ∷ ls) l same =
     let i = times_in-same n f es ls (omega (arith, l)) (λ k h. same (suc k) (omega arith)) in
     let h = ap (times_met n) (same 0 (omega arith)) in omega (arith, i, h)
 
+-- nothing is below zero, so a range from zero has only its upper bound
 zero-low : (b : Bool) (i : ℕ) → cond b 1 0 ≤ cond (b && not (nat_lt i 0)) 1 0
 zero-low true i = (let f : nat_lt i 0 ≡ false = grind (arith, nat_tests) in rw f (omega arith))
 zero-low false i = omega arith
 
+-- the walk of the free index blocks meets all of them, and ends with null
 walk_index : (g : Geometry) (d : Shape) (p : Places) → IsGeometry g → LaidIn g d p → (free_index_of g d ≡ p.free_index) × (free_index_end g d ≡ null)
 walk_index g d p geo l =
     let few = geo.few in let most = geo.many in let dirs = geo.dirs in
@@ -123,6 +130,7 @@ walk_index g d p geo l =
     (λ j h. (let i = slice_index p.free_index j in let has = times-at p.free_index j i h refl in let one = l.one_index i in (omega arith, in-index g i (omega (arith, has, one)))))
     (λ i. (let one = l.one_index i in let o = at_most_one (nat_lt i (index_count g)) in omega (arith, one, o)))
 
+-- the walk of the free data blocks meets all of them, and ends with null
 walk_data : (g : Geometry) (d : Shape) (p : Places) → IsGeometry g → LaidIn g d p → (free_data_of g d ≡ p.free_data) × (free_data_end g d ≡ null)
 walk_data g d p geo l =
     let few = geo.few in let most = geo.many in let dirs = geo.dirs in
@@ -132,9 +140,11 @@ walk_data g d p geo l =
     (λ j h. (let b = slice_index p.free_data j in let has = times-at p.free_data j b h refl in let one = l.one_data b in in-data (first_data g) g.blocks b (omega (arith, has, one))))
     (λ b. (let one = l.one_data b in let o = at_most_one (nat_lt b g.blocks && not (nat_lt b (first_data g))) in omega (arith, one, o)))
 
+-- the free blocks that are read are those of the disk
 free_read : (g : Geometry) (d : Shape) (p : Places) → IsGeometry g → LaidIn g d p → (free_index_of g d ≡ p.free_index) × (free_data_of g d ≡ p.free_data)
 free_read g d p geo l = ((walk_index g d p geo l).0, (walk_data g d p geo l).0)
 
+-- a disk whose files lie, with nothing held, passes rules 4 to 7
 pub lies_passes : (g : Geometry) (d : Shape) (p : Places) → IsGeometry g → IsShape g d → LaidIn g d p → p.held_index ≡ [] → p.held_data ≡ [] → Passes g d
 lies_passes g d p geo s l hi hd =
     let ix = d.indexes in
@@ -192,6 +202,7 @@ lies_passes g d p geo s l hi hd =
     by_use true x f = f refl
     by_use false x f = refl
 
+-- lists that agree at each entry are those of the entries
 lists-same : (f : Entry → List ℕ) (es : List Entry) (ls : List (List ℕ)) → length ls ≡ length es → ((k : ℕ) → k < length es → f (get_or es k void_entry) ≡ numbers_at ls k) → map f es ≡ ls
 lists-same f [] [] l same = refl
 lists-same f [] (x ∷ ls) l same = absurd (omega (arith, l))

@@ -12,6 +12,7 @@ use Rattle.lfs_check.specs.Meets.{null, times_met}
 use Rattle.lfs_check.specs.Checks.{row_fits, data_row, number_fits, is_between}
 use Rattle.lfs_check.proofs.Steps.{times-append}
 
+-- the test for null
 null-of : (b : ℕ) → nat_eq b null ≡ true → b ≡ null
 null-of b t = grind (arith, nat_tests)
 
@@ -44,6 +45,7 @@ fits-range g (suc w) (x ∷ xs) e b out =
     let all : (t : Bool) → P t = λ t. elim t as (λ t. P t) [ true ↦ yes | false ↦ no ] in
     all (nat_eq x b) refl
 
+-- numbers fit if the first ones fit, and the rest what is still wanted then
 pub fits-append : (g : Geometry) (w : ℕ) (xs ys : List ℕ) → row_fits g w xs ≡ true → row_fits g (w - length xs) ys ≡ true → row_fits g w (xs ++ ys) ≡ true
 unfolding row_fits
 fits-append g w [] ys a b = ap (λ k. row_fits g k ys) (let q : w ≡ w - 0 = omega arith in q) ∙ b
@@ -59,6 +61,7 @@ length-rows ix (m ∷ met) all =
     let i = length-rows ix met (λ j h. all (suc j) (omega arith)) in let h = all 0 (omega arith) in
     length-append (data_row ix m) (flat_map (data_row ix) met) ∙ (omega (arith, i, h))
 
+-- the numbers of all index blocks fit what a file needs if each block's do
 pub rows-fit : (g : Geometry) (ix : List Index) (w : ℕ) (met : List ℕ) → ((j : ℕ) → j < length met → length (data_row ix (slice_index met j)) ≡ 16)
     → ((j : ℕ) → j < length met → row_fits g (w - 16 * j) (data_row ix (slice_index met j)) ≡ true) → row_fits g w (flat_map (data_row ix) met) ≡ true
 unfolding row_fits
@@ -69,6 +72,7 @@ rows-fit g ix w (m ∷ met) wide all =
     (ap (λ k. row_fits g k (flat_map (data_row ix) met)) (let q : w - length (data_row ix m) ≡ w - 16 = omega (arith, n) in q)
     ∙ rows-fit g ix (w - 16) met (λ j h. wide (suc j) (omega arith)) (λ j h. ap (λ k. row_fits g k (data_row ix (slice_index met j))) (let q : w - 16 - 16 * j ≡ w - 16 * suc j = omega arith in q) ∙ all (suc j) (omega arith)))
 
+-- dropping from a beginning leaves a shorter beginning
 drop-take-sub : (n w : ℕ) (xs : List ℕ) → drop n (take w xs) ≡ take (w - n) (drop n xs)
 drop-take-sub n w xs = ⊎_elim
     (λ lt. drop_all n (take w xs) (omega (arith, lt, length-take w xs)) ∙ ap (λ k. take k (drop n xs)) (let q : 0 ≡ w - n = omega (arith, lt) in q))
@@ -107,6 +111,7 @@ rows-are g ix w (m ∷ met) wide all (suc j) h =
     rows-are g ix (w - 16) met (λ j h. wide (suc j) (omega arith)) (λ j h. ap (λ k. row_fits g k (data_row ix (slice_index met j))) (let q : w - 16 - 16 * j ≡ w - 16 * suc j = omega arith in q) ∙ all (suc j) (omega arith)) j (omega arith)
     ∙ ap (λ l. take 16 (l ++ replicate 16 null)) (sym skip)
 
+-- a block's number isn't among nulls
 pub times-nulls : (b k : ℕ) → b < null → times_met b (replicate k null) ≡ 0
 times-nulls b zero h = refl
 times-nulls b (suc k) h = let t : nat_eq null b ≡ false = grind (arith, nat_tests) in let i = times-nulls b k h in rw t (omega (arith, i))

@@ -16,6 +16,7 @@ times-at [] j n h e = absurd (omega arith)
 times-at (x ∷ xs) zero n h e = let t : nat_eq x n ≡ true = eq-eqb x n e in rw t (omega arith)
 times-at (x ∷ xs) (suc j) n h e = let i = times-at xs j n (omega arith) e in omega (arith, i)
 
+-- a number at two places is met at least twice
 pub times-two : (xs : List ℕ) (j k n : ℕ) → j ≢ k → j < length xs → k < length xs → slice_index xs j ≡ n → slice_index xs k ≡ n → 2 ≤ times_met n xs
 times-two [] j k n ne h i e f = absurd (omega arith)
 times-two (x ∷ xs) zero zero n ne h i e f = absurd (ne refl)
@@ -46,6 +47,7 @@ IsChain-more next head b rest c e = record { starts = refl; goes_on = at_each }
 pub IsChain-same : (next next' : ℕ → ℕ) (head : ℕ) (chain : List ℕ) → IsChain next head chain → ((j : ℕ) → j < length chain → next' (slice_index chain j) ≡ next (slice_index chain j)) → IsChain next' head chain
 IsChain-same next next' head chain c same = record { starts = c.starts; goes_on = λ j h. same j h ∙ c.goes_on j h }
 
+-- a number is in two lists as often as in both together
 pub times-append : (n : ℕ) (xs ys : List ℕ) → times_met n (xs ++ ys) ≡ times_met n xs + times_met n ys
 times-append n [] ys = omega arith
 times-append n (x ∷ xs) ys = let i = times-append n xs ys in omega (arith, i)
@@ -70,6 +72,7 @@ times_in-set n [] e l' h = absurd (omega arith)
 times_in-set n (l ∷ lists) zero l' h = omega arith
 times_in-set n (l ∷ lists) (suc e) l' h = let i = times_in-set n lists e l' (omega arith) in omega (arith, i)
 
+-- a test counts for at most one
 pub at_most_one : (b : Bool) → cond b 1 0 ≤ 1
 at_most_one true = omega arith
 at_most_one false = omega arith
@@ -98,6 +101,7 @@ held_data_alone many low high d p b l h =
     let most = at_most_one (nat_lt b high && not (nat_lt b low)) in
     (omega (arith, one, most), omega (arith, one, most))
 
+-- a held index block is in no chain and isn't free
 pub held_index_alone : (many low high : ℕ) (d : Shape) (p : Places) (i : ℕ) → Laid many low high d p → 1 ≤ times_met i p.held_index → (times_met i p.free_index ≡ 0) × (times_in i p.chains ≡ 0)
 held_index_alone many low high d p i l h =
     let one = l.one_index i in
@@ -219,6 +223,7 @@ FileLies-other many low high d p e f i index l ne has lies =
 abbrev pub added : Shape → ℕ → ℕ → Entry → Index → Shape
 added d e i entry index = entry_put (index_put d i index) e entry
 
+-- files still lie after a held data block was added to one of them
 pub Laid-data_added : (many low high : ℕ) (d : Shape) (p : Places) (e j b : ℕ) (rest : List ℕ) (entry' : Entry) → Laid many low high d p
     → e < length d.entries → entry_is_used (entry_in d e) ≡ true → entry_is_used entry' ≡ true
     → p.held_data ≡ b ∷ rest → suc j ≡ length (numbers_at p.chains e) → length (numbers_at p.datas e) < 16 * length (numbers_at p.chains e)

@@ -9,12 +9,15 @@ use Rattle.lfs_check.specs.Rules.{entry_is_used}
 use Rattle.lfs_check.specs.Laid.{Shape, Places, Laid}
 use Rattle.lfs_check.specs.Checks.{met_of, need_data, data_row, free_index_of, free_data_of, rule_4, rule_5, rule_6, rule_7}
 
+-- the index blocks of the file of an entry: an unused one has none
 abbrev pub chain_in : Geometry → List Index → Entry → List ℕ
 chain_in g indexes e = cond (entry_is_used e) (met_of g indexes e) []
 
+-- the data blocks of the file of an entry, as many as its size needs
 abbrev pub data_in : Geometry → List Index → Entry → List ℕ
 data_in g indexes e = cond (entry_is_used e) (take (need_data e) (flat_map (data_row indexes) (met_of g indexes e))) []
 
+-- whose the blocks of a disk are, as they are read off it
 abbrev pub places_of : Geometry → Shape → Places
 places_of g d = record {
   chains = map (chain_in g d.indexes) d.entries;
@@ -38,5 +41,6 @@ pub record Passes (g : Geometry) (d : Shape) : Type 0 where
   pub six : rule_6 g d ≡ None
   pub seven : rule_7 g d ≡ None
 
+-- files lie on a disk of this geometry
 abbrev pub LaidIn : Geometry → Shape → Places → Type 0
 LaidIn g d p = Laid (index_count g) (first_data g) g.blocks d p

@@ -23,6 +23,7 @@ pub record IsEmpty (g : Geometry) (d : Shape) : Type 0 where
   pub nexts : (i : ℕ) → i < index_count g → (index_in d i).next ≡ next_upwards (index_count g) i
   pub links : (b : ℕ) → first_data g ≤ b → b < g.blocks → slice_index d.links b ≡ next_upwards g.blocks b
 
+-- whose the blocks of a disk without files are: all are free
 abbrev pub empty_places : Geometry → Shape → Places
 empty_places g d = record {
   chains = replicate (length d.entries) [];

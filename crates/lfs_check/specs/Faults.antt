@@ -17,6 +17,7 @@ abbrev pub named : ℕ → Option ℕ → Option DiskFault
 named rule None = None
 named rule (Some block) = Some (record { block = block; rule = rule })
 
+-- a fault, or else another
 abbrev pub either_fault : Option DiskFault → Option DiskFault → Option DiskFault
 either_fault None b = b
 either_fault (Some a) b = Some a
@@ -42,6 +43,7 @@ fault image = either_fault (named 0 (rule_0 (geometry_of image) image)) (shape_f
 abbrev pub counted_report : Geometry → Shape → Report
 counted_report g d = record { files = d.header.files; free_data = length (free_data_of g d); free_index = length (free_index_of g d) }
 
+-- what is on an image
 abbrev pub report : List ℕ → Report
 report image = counted_report (geometry_of image) (fields_of (geometry_of image) image)
 

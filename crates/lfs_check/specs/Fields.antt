@@ -22,6 +22,7 @@ is_version_2 image = nat_eq (length image % 512) 0 && nat_le 4096 (length image)
 abbrev pub dirs_of : List ℕ → ℕ
 dirs_of image = cond (is_version_2 image) 6 1
 
+-- the geometry of an image
 abbrev pub geometry_of : List ℕ → Geometry
 geometry_of image = record { dirs = dirs_of image; blocks = length image / 512 }
 
@@ -39,9 +40,11 @@ joined f (suc n) = joined f n ++ f n
 abbrev pub widened : Entry1 → Entry
 widened e = record { size = e.size; first = e.first; name = e.name ++ replicate 12 0 }
 
+-- the counts of a directory block of version 1
 abbrev pub header_1 : Dir1 → Header
 header_1 dir = record { free_data = dir.free_data; free_index = dir.free_index; files = dir.files }
 
+-- the counts of a directory block of version 2
 abbrev pub header_2 : Dir → Header
 header_2 dir = record { free_data = dir.free_data; free_index = dir.free_index; files = dir.files }
 
@@ -53,9 +56,11 @@ directory_header g image = cond (is_version_1 g) (header_1 (dir_1_of (block_in i
 abbrev pub entries_1 : List ℕ → List Entry
 entries_1 image = map widened (dir_1_of (block_in image 0)).entries
 
+-- the entries of the six directory blocks of version 2
 abbrev pub entries_2 : List ℕ → List Entry
 entries_2 image = joined (λ d. (dir_of (block_in image d)).entries) 6
 
+-- the entries of the directory
 abbrev pub directory_entries : Geometry → List ℕ → List Entry
 directory_entries g image = cond (is_version_1 g) (entries_1 image) (entries_2 image)
 
@@ -63,6 +68,7 @@ directory_entries g image = cond (is_version_1 g) (entries_1 image) (entries_2 i
 abbrev pub index_place : Geometry → ℕ → ℕ
 index_place g i = 512 * index_block g i + 72 * (i % 7)
 
+-- an index block as its bytes say
 abbrev pub index_in_bytes : Geometry → List ℕ → ℕ → Index
 index_in_bytes g image i = index_of (drop (index_place g i) image)
 

@@ -30,6 +30,7 @@ longest_name g = cond (is_version_1 g) 15 27
 abbrev pub fewest_blocks : Geometry → ℕ
 fewest_blocks g = cond (is_version_1 g) 8 14
 
+-- the most blocks of a disk
 abbrev pub most_blocks : Geometry → ℕ
 most_blocks g = cond (is_version_1 g) 65536 65542
 

@@ -10,6 +10,7 @@ use Rattle.lfs_check.specs.Meets.{null, times_met}
 use Rattle.lfs_check.specs.Checks.{met_of, end_of_walk, need_index, need_data, rows_fault, offsets_fault}
 use Rattle.lfs_check.specs.Clean.{chain_in, data_in}
 
+-- whether there is no block
 abbrev pub is_none : Option ℕ → Bool
 is_none None = true
 is_none (Some a) = false
@@ -28,6 +29,7 @@ has_sound_walk g indexes e =
     nat_eq (length (met_of g indexes e)) (need_index e) && nat_eq (end_of_walk g indexes e) null
     && is_none (rows_fault g indexes (need_data e) (met_of g indexes e)) && is_none (offsets_fault g indexes 0 (met_of g indexes e))
 
+-- a sound entry has sound fields and a sound walk
 abbrev pub is_sound : Geometry → List Index → Entry → Bool
 is_sound g indexes e = has_sound_fields g e && has_sound_walk g indexes e
 
@@ -39,6 +41,7 @@ is_whole g indexes e = is_sound g indexes e && stand_once (data_in g indexes e) 
 abbrev pub whole_chains : Geometry → List Index → List Entry → List ℕ
 whole_chains g indexes es = flat_map (λ e. cond (is_whole g indexes e) (chain_in g indexes e) []) es
 
+-- the data blocks of all whole entries
 abbrev pub whole_datas : Geometry → List Index → List Entry → List ℕ
 whole_datas g indexes es = flat_map (λ e. cond (is_whole g indexes e) (data_in g indexes e) []) es
 
@@ -57,6 +60,7 @@ abbrev pub kept_from : Geometry → List Index → List Entry → List Entry →
 kept_from g indexes es before [] = []
 kept_from g indexes es before (e ∷ rest) = cond (is_kept g indexes es before e) (e ∷ kept_from g indexes es (before ++ e ∷ []) rest) (kept_from g indexes es (before ++ e ∷ []) rest)
 
+-- all kept entries, in their order
 abbrev pub kept_entries : Geometry → List Index → List Entry → List Entry
 kept_entries g indexes es = kept_from g indexes es [] es
 
@@ -69,6 +73,7 @@ whole_entries g indexes (e ∷ es) = cond (is_whole g indexes e) (e ∷ whole_en
 abbrev pub counted_once : List ℕ → List ℕ → Bool
 counted_once xs counts = list_all (λ n. nat_eq (slice_index counts n) 1) xs
 
+-- the kept entries by the counts of their blocks, without those whose name an earlier one has
 abbrev pub kept_counted : Geometry → List Index → List ℕ → List ℕ → List Entry → List Entry → List Entry
 kept_counted g indexes chains datas before [] = []
 kept_counted g indexes chains datas before (e ∷ es) =

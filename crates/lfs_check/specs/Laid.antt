@@ -15,12 +15,15 @@ pub record Shape : Type 0 where
   -- the first word of each block, which is the next of a free data block
   pub links : List ℕ
 
+-- an index block that stands for one that isn't there
 abbrev pub no_index : Index
 no_index = record { next = 0; offset = 0; blocks = [] }
 
+-- the index block of a number
 abbrev pub index_in : Shape → ℕ → Index
 index_in d i = slice_index_or d.indexes i no_index
 
+-- the entry of a number
 abbrev pub entry_in : Shape → ℕ → Entry
 entry_in d e = slice_index_or d.entries e void_entry
 
@@ -40,6 +43,7 @@ pub record Places : Type 0 where
   pub held_index : List ℕ
   pub held_data : List ℕ
 
+-- the list of a number
 abbrev pub numbers_at : List (List ℕ) → ℕ → List ℕ
 numbers_at lists e = slice_index_or lists e []
 
@@ -76,6 +80,7 @@ pub record Laid (many low high : ℕ) (d : Shape) (p : Places) : Type 0 where
 
 -- the steps of a call on the fields
 
+-- the disk with other counts
 abbrev pub with_header : Shape → Header → Shape
 with_header d header = record d { header = header }
 

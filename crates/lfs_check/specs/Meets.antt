@@ -1,6 +1,7 @@
 -- What walks met, and how often.
 use Rattle.std.specs.Prelude.{ℕ, zero, suc, ◌+◌, Bool, cond, nat_lt, nat_eq, min, List, [], ◌∷◌, length, slice_index, slice_set, Option, Some, None}
 
+-- the number that names no block
 abbrev pub null : ℕ
 null = 4294967295
 

@@ -16,6 +16,7 @@ entry_is_used entry = not (nat_eq (slice_index entry.name 0) 0)
 unfoldable pub text_length : List ℕ → ℕ
 text_length name = prefix_len (λ b. not (nat_eq b 0)) name
 
+-- whether each byte is zero
 abbrev pub are_zeros : List ℕ → Bool
 are_zeros bytes = list_all (λ b. nat_eq b 0) bytes
 
@@ -45,6 +46,7 @@ rule_0 g image = cond (nat_eq (length image % 512) 0 && nat_le (512 * fewest_blo
 abbrev pub has_bad_name : Geometry → List Entry → Entry → Bool
 has_bad_name g before e = entry_is_used e && (not (is_name (longest_name g) e.name) || has_name before e.name)
 
+-- rule 1: the lowest entry with a bad or repeated name
 abbrev pub rule_1 : Geometry → List Entry → Option ℕ
 rule_1 g entries = in_entry_block g (first_failing (has_bad_name g) [] entries)
 
@@ -62,9 +64,11 @@ begins_right header entries block d = cond (nat_eq d 0) (nat_eq (count_by entry_
 abbrev pub ends_right : Geometry → List ℕ → Bool
 ends_right g block = cond (is_version_1 g) (are_zeros (drop 492 block)) (bytes_eq (drop 480 block) dir_ending)
 
+-- whether a directory block is right outside its entries
 abbrev pub is_dir_block : Geometry → Header → List Entry → List ℕ → ℕ → Bool
 is_dir_block g header entries image d = begins_right header entries (block_in image d) d && ends_right g (block_in image d)
 
+-- rule 2: the lowest directory block that isn't
 abbrev pub rule_2 : Geometry → Header → List Entry → List ℕ → Option ℕ
 rule_2 g header entries image = lowest_from (λ d. not (is_dir_block g header entries image d)) 0 g.dirs
 
@@ -72,5 +76,6 @@ rule_2 g header entries image = lowest_from (λ d. not (is_dir_block g header en
 abbrev pub is_larger : ℕ → Entry → Bool
 is_larger most e = entry_is_used e && nat_lt most e.size
 
+-- rule 3: the lowest entry with a size that is too large
 abbrev pub rule_3 : Geometry → List Entry → Option ℕ
 rule_3 g entries = in_entry_block g (first_failing (λ before e. is_larger (room g) e) [] entries)

@@ -2,6 +2,7 @@
 use Rattle.std.specs.Prelude.{ℕ, zero, suc, Bool, false, cond, not, ◌&&◌, nat_lt, nat_eq, List, [], ◌∷◌, ◌++◌, slice_index, slice_index_or}
 use Rattle.std.specs.List.{list_any}
 
+-- whether a number is among those met
 abbrev pub is_met : ℕ → List ℕ → Bool
 is_met n met = list_any (λ m. nat_eq m n) met
 

@@ -10,7 +10,7 @@ use crate::walks::Walk;
 use lfs_format::{Entry, Index, NULL};
 
 /// The lower of two blocks, if there is one.
-pub fn least(a: Option<u32>, b: Option<u32>) -> Option<u32>
+pub(crate) fn least(a: Option<u32>, b: Option<u32>) -> Option<u32>
     ensures { result ≡ least a b }
 {
     match (a, b) {
@@ -62,7 +62,7 @@ fn holder_of(geometry: Geometry, block: u32, met: &[u32]) -> u32
 }
 
 /// Rule 4 for the free data blocks.
-pub fn free_data_fault(geometry: Geometry, met: &[u32], end: u32) -> Option<u32>
+pub(crate) fn free_data_fault(geometry: Geometry, met: &[u32], end: u32) -> Option<u32>
     requires geometry { IsGeometry geometry }
     ensures { result ≡ free_data_fault geometry met.now end }
 {
@@ -74,7 +74,7 @@ pub fn free_data_fault(geometry: Geometry, met: &[u32], end: u32) -> Option<u32>
 }
 
 /// Rule 4 for the free index blocks.
-pub fn free_index_fault(geometry: Geometry, met: &[u32], end: u32) -> Option<u32>
+pub(crate) fn free_index_fault(geometry: Geometry, met: &[u32], end: u32) -> Option<u32>
     requires geometry { IsGeometry geometry }
     ensures { result ≡ free_index_fault geometry met.now end }
 {
@@ -113,7 +113,7 @@ fn file_may_end(geometry: Geometry, need: usize, len: usize, end: u32) -> bool
 }
 
 /// Rule 4 for the end of the walk of the file of entry `k`.
-pub fn end_fault(geometry: Geometry, k: usize, entry: &Entry, met: &[u32], end: u32) -> Option<u32>
+pub(crate) fn end_fault(geometry: Geometry, k: usize, entry: &Entry, met: &[u32], end: u32) -> Option<u32>
     requires geometry { IsGeometry geometry }
     requires few { k < 78 }
     ensures { result ≡ end_fault geometry k entry.now met.now end }
@@ -166,7 +166,7 @@ fn row_fault(geometry: Geometry, indexes: &[Index], wanted: usize, i: u32) -> Op
 }
 
 /// Rule 4 for the data numbers in the index blocks of a file.
-pub fn rows_fault(geometry: Geometry, indexes: &[Index], wanted: usize, met: &[u32]) -> Option<u32>
+pub(crate) fn rows_fault(geometry: Geometry, indexes: &[Index], wanted: usize, met: &[u32]) -> Option<u32>
     requires geometry { IsGeometry geometry }
     requires below { (j : ℕ) → j < length met.now → slice_index met.now j < length indexes.now }
     ensures { result ≡ rows_fault geometry indexes.now wanted met.now }
@@ -195,7 +195,7 @@ fn offset_fault(geometry: Geometry, indexes: &[Index], offset: usize, i: u32) ->
 }
 
 /// Rule 5 for the index blocks of a file.
-pub fn offsets_fault(geometry: Geometry, indexes: &[Index], met: &[u32]) -> Option<u32>
+pub(crate) fn offsets_fault(geometry: Geometry, indexes: &[Index], met: &[u32]) -> Option<u32>
     requires geometry { IsGeometry geometry }
     requires few { length met.now ≤ 2 ^ 20 }
     requires below { (j : ℕ) → j < length met.now → slice_index met.now j < length indexes.now }

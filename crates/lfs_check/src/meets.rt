@@ -10,13 +10,13 @@ use std::alloc::{AllocError, Global};
 
 /// The lowest block that was met too often, and the lowest that was not met.
 #[derive(Clone, Copy)]
-pub struct Met {
+pub(crate) struct Met {
     pub rule_6: Option<u32>,
     pub rule_7: Option<u32>,
 }
 
 /// Counts the numbers of index blocks and of data blocks that were met.
-pub fn count_all(
+pub(crate) fn count_all(
     alloc: Global,
     geometry: Geometry,
     indexes: &[u32],
@@ -35,7 +35,7 @@ pub fn count_all(
 }
 
 /// How often each number below `high` was met: 0, 1, or 2 for more.
-pub fn count_meets(alloc: Global, met: &[u32], high: u32) -> Result<Vec<u8>, AllocError>
+pub(crate) fn count_meets(alloc: Global, met: &[u32], high: u32) -> Result<Vec<u8>, AllocError>
     ensures len { IfOk result (λ c. length c.items ≡ high) }
     ensures each { IfOk result (λ c. (n : ℕ) → n < high → slice_index c.items n ≡ min 2 (times_met n met.now)) }
 {
@@ -56,8 +56,8 @@ fn count_one(counts: &mut Vec<u8>, at: usize)
     }
 }
 
-/// Rule 6: the lowest number that was met twice.
-pub fn twice_fault(counts: &[u8], low: u32, many: u32) -> Option<u32>
+// Rule 6: the lowest number that was met twice.
+fn twice_fault(counts: &[u8], low: u32, many: u32) -> Option<u32>
     requires room { low + many ≤ length counts.now }
     requires small { length counts.now < 2 ^ 32 }
     ensures { result ≡ lowest_from (λ n. nat_le 2 (slice_index counts.now n)) low many }
@@ -70,8 +70,8 @@ pub fn twice_fault(counts: &[u8], low: u32, many: u32) -> Option<u32>
     None
 }
 
-/// Rule 7: the lowest number that was not met.
-pub fn missing_fault(counts: &[u8], low: u32, many: u32) -> Option<u32>
+// Rule 7: the lowest number that was not met.
+fn missing_fault(counts: &[u8], low: u32, many: u32) -> Option<u32>
     requires room { low + many ≤ length counts.now }
     requires small { length counts.now < 2 ^ 32 }
     ensures { result ≡ lowest_from (λ n. nat_le (slice_index counts.now n) 0) low many }

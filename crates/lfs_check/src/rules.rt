@@ -24,7 +24,7 @@ pub fn size_fault(geometry: Geometry, bytes: &[u8]) -> Option<u32>
 
 /// Rule 1: the names of used entries are names, and no two the same.
 #[tactic(auto, using(crate::proofs::Failing::first_failing_all))]
-pub fn name_fault(geometry: Geometry, entries: &[Entry]) -> Option<u32>
+pub(crate) fn name_fault(geometry: Geometry, entries: &[Entry]) -> Option<u32>
     requires few { length entries.now ≤ 78 }
     ensures { result ≡ rule_1 geometry entries.now }
 {
@@ -37,7 +37,7 @@ pub fn name_fault(geometry: Geometry, entries: &[Entry]) -> Option<u32>
 }
 
 /// Rule 2: the number of files is that of the used entries, and the bytes outside the entries are right.
-pub fn count_fault(
+pub(crate) fn count_fault(
     geometry: Geometry,
     header: Header,
     entries: &[Entry],
@@ -57,7 +57,7 @@ pub fn count_fault(
 
 /// Rule 3: no file is larger than all data blocks together.
 #[tactic(auto, using(crate::proofs::Failing::first_failing_all))]
-pub fn file_size_fault(geometry: Geometry, entries: &[Entry]) -> Option<u32>
+pub(crate) fn file_size_fault(geometry: Geometry, entries: &[Entry]) -> Option<u32>
     requires geometry { IsGeometry geometry }
     requires few { length entries.now ≤ 78 }
     ensures { result ≡ rule_3 geometry entries.now }

@@ -18,7 +18,7 @@ use std::alloc::{AllocError, Global};
 
 /// What walks have met so far, and where they broke rules 4 and 5.
 #[derive(Drop)]
-pub struct Survey {
+pub(crate) struct Survey {
     pub rule_4: Option<u32>,
     pub rule_5: Option<u32>,
     pub index_numbers: Vec<u32>,
@@ -48,7 +48,7 @@ pub fn file_blocks(
 }
 
 /// The index blocks of the file of an entry.
-pub fn file_chain(
+pub(crate) fn file_chain(
     alloc: Global,
     geometry: Geometry,
     indexes: &[Index],
@@ -70,7 +70,7 @@ pub fn file_chain(
 }
 
 /// Walks the index blocks of the file of an entry.
-pub fn walk_file(
+pub(crate) fn walk_file(
     alloc: Global,
     geometry: Geometry,
     indexes: &[Index],
@@ -96,7 +96,7 @@ pub fn walk_file(
 }
 
 // Appends what a walk met and the number that ended it.
-pub fn add_walk(numbers: &mut Vec<u32>, walk: &Walk) -> Result<(), AllocError>
+pub(crate) fn add_walk(numbers: &mut Vec<u32>, walk: &Walk) -> Result<(), AllocError>
     ensures { OnOk result (numbers.new.items ≡ numbers.old.items ++ (walk.now.met.items ++ walk.now.end ∷ [])) }
 {
     numbers.extend_from_slice(&walk.met)?;
@@ -180,7 +180,7 @@ fn survey_file(
 }
 
 /// The files of all entries.
-pub fn survey_files(
+pub(crate) fn survey_files(
     survey: &mut Survey,
     alloc: Global,
     geometry: Geometry,

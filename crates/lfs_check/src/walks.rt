@@ -7,7 +7,7 @@ use std::alloc::{AllocError, Global};
 
 /// What a walk met, in order, and the number that ended it.
 #[derive(Drop)]
-pub struct Walk {
+pub(crate) struct Walk {
     pub met: Vec<u32>,
     pub end: u32,
 }
@@ -21,7 +21,7 @@ fn may_go_on(seen: &[bool], low: u32, high: u32, at: u32) -> bool
 }
 
 /// Walks a chain from `start`, at most `steps` numbers long, over numbers from `low` to `high`.
-pub fn walk_chain(
+pub(crate) fn walk_chain(
     alloc: Global,
     links: &[u32],
     low: u32,

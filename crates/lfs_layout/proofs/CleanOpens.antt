@@ -28,6 +28,7 @@ use Rattle.lfs_layout.proofs.Joins.{length_joined}
 use Rattle.lfs_layout.proofs.Regions.{each_append}
 use Rattle.lfs_layout.proofs.CleanRoom.{AllWhole, totals, names_from, names_longer, files_few, files_wide, length_block}
 
+-- the fields of an image
 abbrev shape_of : List ℕ → Shape
 shape_of image = fields_of (geometry_of image) image
 
@@ -55,6 +56,7 @@ all_whole image e k h u =
           (cases_lt b g.blocks));
     }
 
+-- a number is in the lists of entries one after another as often as in each of them together
 times_flat : (n : ℕ) (f : Entry → List ℕ) (es : List Entry) → times_met n (flat_map f es) ≡ times_in n (map f es)
 times_flat n f [] = refl
 times_flat n f (e ∷ es) = let i = times_flat n f es in let a = times-append n (f e) (flat_map f es) in omega (arith, i, a)
@@ -81,12 +83,14 @@ no_names : (x : List ℕ) → has_name [] x ≡ is_among [] x
 unfolding has_name
 no_names x = refl
 
+-- no version has names of more than 27 bytes
 pub longest_most : (g : Geometry) → longest_name g ≤ 27
 longest_most g =
     let P : Bool → Type 0 = λ v. cond v 15 27 ≤ 27 in
     let all : (v : Bool) → P v = λ v. elim v as (λ v. P v) [ true ↦ omega arith | false ↦ omega arith ] in
     all (nat_eq g.dirs 1)
 
+-- the names of an image without a fault can be, and no two are the same
 pub placed_names : (image : List ℕ) → fault image ≡ None → names_right 27 [] (names_of (placed_files image)) ≡ true
 placed_names image e =
     let g = geometry_of image in let d = shape_of image in
@@ -99,6 +103,7 @@ unfolding pieces_of
 length_pieces read w zero bytes = refl
 length_pieces read w (suc n) bytes = let i = length_pieces read w n (drop w bytes) in omega (arith, i)
 
+-- piece k is what is read at its place
 pieces_at : {A : Type 0} → (read : List ℕ → A) (w n : ℕ) (bytes : List ℕ) (k : ℕ) (d : A) → k < n → get_or (pieces_of read w n bytes) k d ≡ read (drop (w * k) bytes)
 unfolding pieces_of
 pieces_at read w zero bytes k d h = absurd (omega (arith, h))
@@ -106,14 +111,17 @@ pieces_at read w (suc n) bytes zero d h = ap (λ j. read (drop j bytes)) (let e 
 pieces_at read w (suc n) bytes (suc k) d h =
     pieces_at read w n (drop w bytes) k d (omega arith) ∙ ap read (drop-drop (w * k) w bytes ∙ ap (λ j. drop j bytes) (let e : w + w * k ≡ w * suc k = grind arith in e))
 
+-- a name in a directory block has as many bytes as its field
 name_length : (size at : ℕ) (block : List ℕ) → length block ≡ 512 → 20 + at + size ≤ 512 → length (take size (drop 8 (drop at (drop 12 block)))) ≡ size
 name_length size at block l h =
     let a = length-drop 12 block in let b = length-drop at (drop 12 block) in let c = length-drop 8 (drop at (drop 12 block)) in
     let t = length-take size (drop 8 (drop at (drop 12 block))) in omega (arith, a, b, c, t, l, h)
 
+-- an entry of version 1 that stands for one that isn't there
 abbrev no_entry_1 : Entry1
 no_entry_1 = record { size = 0; first = 0; name = [] }
 
+-- version 1 has 20 entries, each with a name of 28 bytes
 pub wide_1 : (image : List ℕ) (n : ℕ) → length image ≡ 512 * n → 1 ≤ n → (length (entries_1 image) ≡ 20) × ((k : ℕ) → k < length (entries_1 image) → length (get_or (entries_1 image) k void_entry).name ≡ 28)
 unfolding dir_1_of
 wide_1 image n l h =
@@ -129,6 +137,7 @@ wide_1 image n l h =
           ap (λ (e : Entry). length e.name) at ∙ (omega (arith, nm, a, r))),
     )
 
+-- a directory block of version 2 has 13 entries, each with a name of 28 bytes
 block_wide : (image : List ℕ) (n d : ℕ) → length image ≡ 512 * n → d < n → (length (dir_of (block_in image d)).entries ≡ 13) × ((k : ℕ) → k < length (dir_of (block_in image d)).entries → length (get_or (dir_of (block_in image d)).entries k void_entry).name ≡ 28)
 unfolding dir_of
 block_wide image n d l h =
@@ -136,11 +145,13 @@ block_wide image n d l h =
     let len = length_pieces entry_of 36 13 (drop 12 b) in
     (len, λ k lt. ap (λ (e : Entry). length e.name) (pieces_at entry_of 36 13 (drop 12 b) k void_entry (omega (arith, lt, len))) ∙ name_length 28 (36 * k) b bl (omega (arith, lt, len)))
 
+-- what is true of each element of lists is true of those of the joined list
 joined_each : (P : Entry → Type 0) (f : ℕ → List Entry) (n : ℕ) → ((d : ℕ) → d < n → (k : ℕ) → k < length (f d) → P (get_or (f d) k void_entry)) → (k : ℕ) → k < length (joined f n) → P (get_or (joined f n) k void_entry)
 unfolding joined
 joined_each P f zero all k h = absurd (omega (arith, h))
 joined_each P f (suc n) all k h = each_append P (joined f n) (f n) void_entry (joined_each P f n (λ d m. all d (omega (arith, m)))) (all n (omega arith)) k h
 
+-- version 2 has 78 entries, each with a name of 28 bytes
 pub wide_2 : (image : List ℕ) (n : ℕ) → length image ≡ 512 * n → 6 ≤ n → (length (entries_2 image) ≡ 78) × ((k : ℕ) → k < length (entries_2 image) → length (get_or (entries_2 image) k void_entry).name ≡ 28)
 wide_2 image n l h =
     let f : ℕ → List Entry = λ d. (dir_of (block_in image d)).entries in
@@ -173,6 +184,7 @@ migrated_room image e v =
       wide = files_wide (geometry_of image) d.indexes image d.entries (subst Q (sym es) w.1);
     }
 
+-- the files of a clean image of version 2 have room on it
 pub placed_room : (image : List ℕ) → fault image ≡ None → is_version_2 image ≡ true → Room (length image / 512) (placed_files image)
 placed_room image e v =
     let n = length image / 512 in let d = shape_of image in

@@ -23,12 +23,15 @@ pub record Whole (g : Geometry) (ix : List Index) (n : ℕ) (e : Entry) : Type 0
   pub datas : length (data_in g ix e) ≡ need_data e
   pub below : (j : ℕ) → j < length (data_in g ix e) → slice_index (data_in g ix e) j < n
 
+-- each used entry is whole
 abbrev pub AllWhole : Geometry → List Index → ℕ → List Entry → Type 0
 AllWhole g ix n es = (k : ℕ) → k < length es → entry_is_used (get_or es k void_entry) ≡ true → Whole g ix n (get_or es k void_entry)
 
+-- a block of an image has 512 bytes
 pub length_block : (image : List ℕ) (n b : ℕ) → length image ≡ 512 * n → b < n → length (block_in image b) ≡ 512
 length_block image n b l h = let t = length-take 512 (drop (512 * b) image) in let d = length-drop (512 * b) image in omega (arith, t, d, l, h)
 
+-- blocks of an image have 512 bytes each
 length_blocks : (image : List ℕ) (n : ℕ) (bs : List ℕ) → length image ≡ 512 * n → ((j : ℕ) → j < length bs → slice_index bs j < n) → length (flat_map (block_in image) bs) ≡ 512 * length bs
 length_blocks image n [] l all = refl
 length_blocks image n (b ∷ bs) l all =
@@ -41,9 +44,11 @@ length_bytes g ix image n e l w =
     let b = length_blocks image n (data_in g ix e) l w.below in let t = length-take e.size (flat_map (block_in image) (data_in g ix e)) in
     let d = w.datas in omega (arith, b, t, d)
 
+-- an unused entry has no data blocks
 no_data : (g : Geometry) (ix : List Index) (e : Entry) → entry_is_used e ≡ false → length (data_in g ix e) ≡ 0
 no_data g ix e u = ap (λ b. length (cond b (take (need_data e) (flat_map (data_row ix) (met_of g ix e))) [])) u
 
+-- an unused entry has no index blocks
 no_chain : (g : Geometry) (ix : List Index) (e : Entry) → entry_is_used e ≡ false → length (chain_in g ix e) ≡ 0
 no_chain g ix e u = ap (λ b. length (cond b (met_of g ix e) [])) u
 
@@ -66,10 +71,12 @@ totals g ix image n (e ∷ es) l all =
 
 -- names
 
+-- a test that names a block if it holds, and then others, held for none
 pub cond_none : (b : Bool) (x : ℕ) (r : Option ℕ) → cond b (Some x) r ≡ None → (b ≡ false) × (r ≡ None)
 cond_none true x r e = absurd (cc (e))
 cond_none false x r e = (refl, e)
 
+-- the parts of a refuted implication
 not_or_parts : (a b : Bool) → not a || b ≡ false → (a ≡ true) × (b ≡ false)
 not_or_parts true b e = (refl, e)
 not_or_parts false b e = absurd (false≢true (sym e))
@@ -112,6 +119,7 @@ name_longer a b name h e =
     let t : nat_le n b ≡ true = (let q : n ≤ b = omega (arith, low, h) in grind (arith, nat_tests)) in
     ap (λ v. v && nat_le n b && are_zeros (drop n name)) two.0 ∙ ap (λ v. v && are_zeros (drop n name)) t ∙ one.1
 
+-- names that can be in one version can be in one with longer names
 pub names_longer : (a b : ℕ) (before names : List (List ℕ)) → a ≤ b → names_right a before names ≡ true → names_right b before names ≡ true
 names_longer a b before [] h e = refl
 names_longer a b before (n ∷ names) h e =
@@ -130,6 +138,7 @@ files_few g ix image (e ∷ es) =
     let split : (b : Bool) → P b = λ b. elim b as (λ b. P b) [ true ↦ omega (arith, i) | false ↦ omega (arith, i) ] in
     split (entry_is_used e)
 
+-- the files of entries have names as wide as theirs
 pub files_wide : (g : Geometry) (ix : List Index) (image : List ℕ) (es : List Entry) → ((k : ℕ) → k < length es → length (get_or es k void_entry).name ≡ 28)
     → (k : ℕ) → k < length (files_in g ix image es) → length (get_or (files_in g ix image es) k no_file).name ≡ 28
 files_wide g ix image [] all k h = absurd (omega (arith, h))

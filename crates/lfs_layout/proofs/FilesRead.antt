@@ -21,9 +21,11 @@ files_more xs k x h e =
     drop_more (all_files xs) k (file_of x) (let l = length-map xs file_of in omega (arith, l, h))
     ∙ ap (λ f. f ∷ drop (k + 1) (all_files xs)) (get_or-map file_of xs k x (file_of x) h ∙ ap file_of (sym e))
 
+-- after all files none is left
 pub files_all : (xs : List NamedFile) (k : ℕ) → length xs ≤ k → drop k (all_files xs) ≡ []
 files_all xs k h = drop_all k (all_files xs) (let l = length-map xs file_of in omega (arith, l, h))
 
+-- as many files as are named
 pub length_all_files : (xs : List NamedFile) → length (all_files xs) ≡ length xs
 length_all_files xs = length-map xs file_of
 
@@ -69,5 +71,6 @@ pub flat_more : (f : ℕ → List ℕ) (low many : ℕ) → flat_map f (upwards 
 flat_more f low many =
     ap (flat_map f) (upwards_more low many) ∙ flat_map-append f (upwards low many) ((low + many) ∷ []) ∙ ap (λ x. flat_map f (upwards low many) ++ x) (append-nil (f (low + many)))
 
+-- one number more upwards is one value more at the end
 pub map_upwards_more : (f : ℕ → Index) (low many : ℕ) → map f (upwards low (suc many)) ≡ map f (upwards low many) ++ f (low + many) ∷ []
 map_upwards_more f low many = ap (map f) (upwards_more low many) ∙ map_push f (upwards low many) (low + many)

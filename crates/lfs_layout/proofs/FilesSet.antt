@@ -37,6 +37,7 @@ files_without g ix image name (e ∷ es) =
 
 -- names
 
+-- the name of a file that was taken away is among none
 among_not : (name : List ℕ) (files : List File) → is_among (names_of (without_name name files)) name ≡ false
 among_not name [] = refl
 among_not name (f ∷ files) =
@@ -47,12 +48,15 @@ among_not name (f ∷ files) =
     let all : (b : Bool) → P b = λ b. elim b as (λ b. P b) [ true ↦ yes | false ↦ no ] in
     all (bytes_eq f.name name) refl
 
+-- each name that isn't among many isn't among few
 abbrev Fewer : List (List ℕ) → List (List ℕ) → Type 0
 Fewer few many = (x : List ℕ) → is_among many x ≡ false → is_among few x ≡ false
 
+-- one name more at the end
 pub among_push : (names : List (List ℕ)) (n x : List ℕ) → is_among (names ++ n ∷ []) x ≡ is_among names x || bytes_eq n x
 among_push names n x = list_any-append (λ y. bytes_eq y x) names (n ∷ []) ∙ or_or_false (is_among names x) (bytes_eq n x)
 
+-- files without that of a name keep names that are right, since fewer come before each
 names_fewer : (name : List ℕ) (few many : List (List ℕ)) (files : List File) → Fewer few many → names_right 27 many (names_of files) ≡ true → names_right 27 few (names_of (without_name name files)) ≡ true
 names_fewer name few many [] h e = refl
 names_fewer name few many (f ∷ files) h e =
@@ -69,6 +73,7 @@ names_fewer name few many (f ∷ files) h e =
     let all : (b : Bool) → P b = λ b. elim b as (λ b. P b) [ true ↦ yes | false ↦ no ] in
     all (bytes_eq n name)
 
+-- a file with a new name at the end keeps names that are right
 names_push : (before : List (List ℕ)) (files : List File) (f : File) → names_right 27 before (names_of files) ≡ true → is_name 27 f.name ≡ true → is_among before f.name ≡ false → is_among (names_of files) f.name ≡ false
     → names_right 27 before (names_of (files ++ f ∷ [])) ≡ true
 names_push before [] f e n p q = ap (λ b. b && not (is_among before f.name) && true) n ∙ ap (λ b. not b && true) p
@@ -92,10 +97,12 @@ text_runs (x ∷ text) m e =
     let i = text_runs text m p.1 in
     ap (λ b. cond b (1 + prefix_len (λ c. not (nat_eq c 0)) (text ++ replicate m 0)) 0) p.0 ∙ (omega (arith, i))
 
-zeros : (m : ℕ) → are_zeros (replicate m 0) ≡ true
-zeros zero = refl
-zeros (suc m) = zeros m
+-- zeros are zeros
+are_zeros_replicate : (m : ℕ) → are_zeros (replicate m 0) ≡ true
+are_zeros_replicate zero = refl
+are_zeros_replicate (suc m) = are_zeros_replicate m
 
+-- a text that can be a name is one with zeros after it
 pub text_name : (text : List ℕ) → is_text text ≡ true → is_name 27 (padded_name text) ≡ true
 unfolding is_name
 text_name text e =
@@ -103,14 +110,16 @@ text_name text e =
     let l = text_runs text (28 - length text) one.1 in
     let n = padded_name text in
     ap (λ k. nat_lt 0 k && nat_le k 27 && are_zeros (drop k n)) l ∙ ap (λ b. b && are_zeros (drop (length text) n)) one.0
-    ∙ ap are_zeros (drop_at text (replicate (28 - length text) 0) (length text) refl) ∙ zeros (28 - length text)
+    ∙ ap are_zeros (drop_at text (replicate (28 - length text) 0) (length text) refl) ∙ are_zeros_replicate (28 - length text)
 
+-- a text that can be a name has at most 27 bytes
 pub text_short : (text : List ℕ) → is_text text ≡ true → length text ≤ 27
 text_short text e =
     let one = and_parts (nat_lt 0 (length text) && nat_le (length text) 27) (list_all (λ b. not (nat_eq b 0)) text) e in
     let two = and_parts (nat_lt 0 (length text)) (nat_le (length text) 27) one.0 in
     let t = two.1 in grind (arith, nat_tests)
 
+-- a padded name has 28 bytes
 length_padded_name : (text : List ℕ) → length text ≤ 27 → length (padded_name text) ≡ 28
 length_padded_name text h = let a = length-append text (replicate (28 - length text) 0) in let r = length-replicate {A = ℕ} (28 - length text) 0 in omega (arith, a, r, h)
 
@@ -118,22 +127,24 @@ length_padded_name text h = let a = length-append text (replicate (28 - length t
 abbrev Wide : List File → Type 0
 Wide files = (k : ℕ) → k < length files → length (get_or files k no_file).name ≡ 28
 
+-- fewer files are as wide
 wide_without : (name : List ℕ) (files : List File) → Wide files → Wide (without_name name files)
 wide_without name [] w k h = absurd (omega (arith, h))
 wide_without name (f ∷ files) w k h =
     let i = wide_without name files (λ j m. w (suc j) (omega (arith, m))) in
-    let here : Wide (f ∷ without_name name files) = more f (without_name name files) (w 0 (omega arith)) i in
+    let here : Wide (f ∷ without_name name files) = wide_more f (without_name name files) (w 0 (omega arith)) i in
     let P : Bool → Type 0 = λ b. Wide (cond b (without_name name files) (f ∷ without_name name files)) in
     let all : (b : Bool) → P b = λ b. elim b as (λ b. P b) [ true ↦ i | false ↦ here ] in
     all (bytes_eq f.name name) k h
   where
-    more : (f : File) (files : List File) → length f.name ≡ 28 → Wide files → Wide (f ∷ files)
-    more f files e w zero h = e
-    more f files e w (suc k) h = w k (omega (arith, h))
+    wide_more : (f : File) (files : List File) → length f.name ≡ 28 → Wide files → Wide (f ∷ files)
+    wide_more f files e w zero h = e
+    wide_more f files e w (suc k) h = w k (omega (arith, h))
 
-only : (f : File) → length f.name ≡ 28 → Wide (f ∷ [])
-only f e zero h = e
-only f e (suc k) h = absurd (omega (arith, h))
+-- one file with a name of 28 bytes
+wide_alone : (f : File) → length f.name ≡ 28 → Wide (f ∷ [])
+wide_alone f e zero h = e
+wide_alone f e (suc k) h = absurd (omega (arith, h))
 
 -- the files with one set have room if the test says so
 pub set_room : (n : ℕ) (files : List File) (text bytes : List ℕ) → 14 ≤ n → n ≤ 65542 → Wide files → is_text text ≡ true
@@ -150,7 +161,7 @@ set_room n files text bytes low high w t e =
       data_room = (let t = two.1 in grind (arith, nat_tests));
       index_room = (let t = one.1 in grind (arith, nat_tests));
       few = (let t = two.0 in grind (arith, nat_tests));
-      wide = each_append P (without_name (padded_name text) files) (f ∷ []) no_file (wide_without (padded_name text) files w) (only f (length_padded_name text (text_short text t)));
+      wide = each_append P (without_name (padded_name text) files) (f ∷ []) no_file (wide_without (padded_name text) files w) (wide_alone f (length_padded_name text (text_short text t)));
     }
 
 -- the bytes of a name are those of its first entry

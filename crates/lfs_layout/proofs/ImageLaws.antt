@@ -34,6 +34,7 @@ files_used g ix image (e ∷ es) =
     (λ _ u. i)
     refl
 
+-- as many files as used entries
 files_counted : (g : Geometry) (ix : List Index) (image : List ℕ) (es : List Entry) → length (files_in g ix image es) ≡ count_by entry_is_used es
 files_counted g ix image [] = refl
 files_counted g ix image (e ∷ es) =
@@ -42,25 +43,30 @@ files_counted g ix image (e ∷ es) =
     either-way (entry_is_used e) (λ u. length (cond u (f ∷ rest) rest) ≡ cond u 1 0 + count_by entry_is_used es) (λ _. omega (arith, i)) (λ _. omega (arith, i))
     ∙ sym (sum_by-cons (λ (h : Entry). cond (entry_is_used h) 1 0) e es)
 
+-- one file more among those in order
 length-with : (f : File) (files : List File) → length (with_file f files) ≡ suc (length files)
 length-with f [] = refl
 length-with f (g ∷ files) =
     let i = length-with f files in
     either-way (is_before f.name g.name) (λ v. length (cond v (f ∷ g ∷ files) (g ∷ with_file f files)) ≡ suc (suc (length files))) (λ _. refl) (λ _. omega (arith, i))
 
+-- as many files in order
 length-sorted : (files : List File) → length (sorted files) ≡ length files
 length-sorted [] = refl
 length-sorted (f ∷ files) = let i = length-sorted files in let w = length-with f (sorted files) in omega (arith, i, w)
 
+-- an image without a fault has as many used entries as files
 pub used_files : (image : List ℕ) → fault image ≡ None → count_by entry_is_used (directory_entries (geometry_of image) image) ≡ length (files_of image)
 used_files image e =
     let g = geometry_of image in
     sym (length-sorted (placed_files image) ∙ files_counted g (fields_of g image).indexes image (directory_entries g image))
 
+-- its repair keeps as many entries as it has files
 pub all_kept : (image : List ℕ) → fault image ≡ None
     → length (kept_entries (geometry_of image) (fields_of (geometry_of image) image).indexes (directory_entries (geometry_of image) image)) ≡ length (files_of image)
 all_kept image e = ap length (keeps_all image e) ∙ length-filter entry_is_used (directory_entries (geometry_of image) image) ∙ used_files image e
 
+-- its repair has the same files
 pub repaired_files : (image : List ℕ) → fault image ≡ None → files_of (repaired image) ≡ files_of image
 repaired_files image e =
     let g = geometry_of image in let ix = (fields_of g image).indexes in
@@ -86,6 +92,7 @@ repaired_length image size = length_image (repaired_blocks image) (kept_files im
 
 -- the report
 
+-- its report has the number of its files, by rule 2
 pub reported_files : (image : List ℕ) → fault image ≡ None → (report image).files ≡ length (files_of image)
 reported_files image e =
     let g = geometry_of image in let d = fields_of g image in
@@ -97,21 +104,23 @@ reported_files image e =
 
 -- a file that is too long
 
+-- the blocks of all files are no fewer than those of the last one
 last_counts : (width : ℕ) (files : List File) (f : File) → blocks_for width f ≤ total_for width (files ++ f ∷ [])
 last_counts width [] f = omega arith
 last_counts width (x ∷ files) f = let i = last_counts width files f in omega (arith, i)
 
+-- a file of more than 65,542 blocks has no room
 pub long_no_room : (n : ℕ) (file : File) (files : List File) → n ≤ 65542 → 33557504 < length file.bytes → have_room (geometry_2 n) (with_set file files) ≡ false
 long_no_room n file files most long =
     let all = with_set file files in let g = geometry_2 n in
     let need : 65543 ≤ blocks_for 512 file = omega (arith, long) in
     let low : blocks_for 512 file ≤ total_for 512 all = last_counts 512 (without_name file.name files) file in
     let over : g.blocks - first_data g < total_for 512 all = omega (arith, need, low, most) in
-    none (nat_le (length all) 78) (nat_le (total_for 512 all) (g.blocks - first_data g)) (nat_le (total_for 8192 all) (index_count g)) (more (total_for 512 all) (g.blocks - first_data g) over)
+    and_middle (nat_le (length all) 78) (nat_le (total_for 512 all) (g.blocks - first_data g)) (nat_le (total_for 8192 all) (index_count g)) (nat_le-above (total_for 512 all) (g.blocks - first_data g) over)
   where
-    more : (a b : ℕ) → b < a → nat_le a b ≡ false
-    more a b h = grind (arith, nat_tests)
+    nat_le-above : (a b : ℕ) → b < a → nat_le a b ≡ false
+    nat_le-above a b h = grind (arith, nat_tests)
 
-    none : (a b c : Bool) → b ≡ false → a && b && c ≡ false
-    none true b c e = ap (λ v. v && c) e
-    none false b c e = refl
+    and_middle : (a b c : Bool) → b ≡ false → a && b && c ≡ false
+    and_middle true b c e = ap (λ v. v && c) e
+    and_middle false b c e = refl

@@ -11,6 +11,7 @@ pub drop_past : {A : Type 0} → (xs ys : List A) (m n k : ℕ) → length xs �
 drop_past xs ys m n k l e =
     ap (λ j. drop j (xs ++ ys)) (let q : n ≡ m + k = e in q) ∙ sym (drop-drop k m (xs ++ ys)) ∙ ap (drop k) (drop_at xs ys m l)
 
+-- lists of one length, joined
 pub length_joined : {A : Type 0} → (f : ℕ → List A) (w n : ℕ) → ((k : ℕ) → k < n → length (f k) ≡ w) → length (joined f n) ≡ w * n
 unfolding joined
 length_joined f w zero all = let e : 0 ≡ w * 0 = omega arith in e
@@ -31,15 +32,18 @@ joined_at f w (suc n) k rest all h =
     ap (take w) (drop_at (joined f n) (f n ++ rest) (w * k) (l ∙ ap (λ j. w * j) (sym e))) ∙ take_at (f n) rest w (all n (omega arith)) ∙ ap f (sym e)))
     (cases_lt k n)
 
+-- lists that agree at each number are joined alike
 pub joined_same : {A : Type 0} → (f g : ℕ → List A) (n : ℕ) → ((k : ℕ) → k < n → f k ≡ g k) → joined f n ≡ joined g n
 unfolding joined
 joined_same f g zero all = refl
 joined_same f g (suc n) all = ap (λ x. x ++ f n) (joined_same f g n (λ k h. all k (omega arith))) ∙ ap (λ x. joined g n ++ x) (all n (omega arith))
 
+-- nothing is taken from nothing
 take-none : {A : Type 0} → (n : ℕ) → take {A = A} n [] ≡ []
 take-none zero = refl
 take-none (suc n) = refl
 
+-- what is taken in two steps
 take-add : {A : Type 0} → (m n : ℕ) (xs : List A) → take (m + n) xs ≡ take m xs ++ take n (drop m xs)
 take-add zero n xs = ap (λ k. take k xs) (let e : 0 + n ≡ n = omega arith in e)
 take-add (suc m) n [] = ap (λ k. take k []) (let e : suc m + n ≡ suc (m + n) = omega arith in e) ∙ sym (take-none n)
@@ -52,6 +56,7 @@ joined_pieces w zero xs = ap (λ k. take k xs) (let e : 0 ≡ w * 0 = omega arit
 joined_pieces w (suc n) xs =
     ap (λ x. x ++ take w (drop (w * n) xs)) (joined_pieces w n xs) ∙ sym (take-add (w * n) w xs) ∙ ap (λ k. take k xs) (let e : w * n + w ≡ w * suc n = grind arith in e)
 
+-- one number more upwards
 pub upwards_more : (low many : ℕ) → upwards low (suc many) ≡ upwards low many ++ (low + many) ∷ []
 upwards_more low zero = ap (λ k. k ∷ []) (let e : low ≡ low + 0 = omega arith in e)
 upwards_more low (suc many) = ap (λ t. low ∷ t) (upwards_more (suc low) many ∙ ap (λ k. upwards (suc low) many ++ k ∷ []) (let e : suc low + many ≡ low + suc many = omega arith in e))
@@ -63,6 +68,7 @@ length_flat_upwards f w low (suc many) all =
     let i = length_flat_upwards f w (suc low) many all in let l = all low in let a = length-append (f low) (flat_map f (upwards (suc low) many)) in
     let e : w * suc many ≡ w + w * many = grind arith in omega (arith, i, l, a, e)
 
+-- block j of the blocks of numbers upwards
 pub flat_upwards_at : (f : ℕ → List ℕ) (w low many j : ℕ) → ((k : ℕ) → length (f k) ≡ w) → j < many → take w (drop (w * j) (flat_map f (upwards low many))) ≡ f (low + j)
 flat_upwards_at f w low zero j all h = absurd (omega (arith, h))
 flat_upwards_at f w low (suc many) zero all h =

@@ -29,9 +29,10 @@ use Rattle.lfs_layout.proofs.CleanRoom.{Whole, totals}
 record WholeFacts (g : Geometry) (ix : List Index) (e : Entry) : Type 0 where
   used : entry_is_used e ≡ true
   name : is_name (longest_name g) e.name ≡ true
-  len : length (met_of g ix e) ≡ need_index e
+  as_needed : length (met_of g ix e) ≡ need_index e
   rows : rows_fault g ix (need_data e) (met_of g ix e) ≡ None
 
+-- the tests of a whole entry, one by one
 whole_facts : (g : Geometry) (ix : List Index) (e : Entry) → is_whole g ix e ≡ true → WholeFacts g ix e
 whole_facts g ix e w =
     let a = entry_is_used e in let b = is_name (longest_name g) e.name in let c = not (is_larger (room g) e) in
@@ -46,7 +47,7 @@ whole_facts g ix e w =
     record {
       used = m.0;
       name = m.1;
-      len = (let t = o.0 in grind (arith, nat_tests));
+      as_needed = (let t = o.0 in grind (arith, nat_tests));
       rows = none-is (rows_fault g ix (need_data e) (met_of g ix e)) p.1;
     }
 
@@ -54,9 +55,11 @@ whole_facts g ix e w =
 abbrev pub Rows : Geometry → List Index → Type 0
 Rows g ix = (i : ℕ) → i < index_count g → length (data_row ix i) ≡ 16
 
+-- each index block of a file has 16 numbers
 rows_of : (g : Geometry) (ix : List Index) (e : Entry) → Rows g ix → (j : ℕ) → j < length (met_of g ix e) → length (data_row ix (slice_index (met_of g ix e) j)) ≡ 16
 rows_of g ix e r j h = r (slice_index (met_of g ix e) j) (walk-within (nexts_of ix) 0 (index_count g) (need_index e) e.first j h).1
 
+-- the data numbers of a whole entry fit what it needs
 data_fits : (g : Geometry) (ix : List Index) (e : Entry) → Rows g ix → WholeFacts g ix e → row_fits g (need_data e) (flat_map (data_row ix) (met_of g ix e)) ≡ true
 data_fits g ix e r f = rows-fit g ix (need_data e) (met_of g ix e) (rows_of g ix e r) (rows-each g ix (need_data e) (met_of g ix e) f.rows)
 
@@ -66,6 +69,7 @@ data_none g ix e b r w out =
     let f = whole_facts g ix e w in
     ap (λ v. times_met b (cond v (take (need_data e) (flat_map (data_row ix) (met_of g ix e))) [])) f.used ∙ fits-range g (need_data e) (flat_map (data_row ix) (met_of g ix e)) (data_fits g ix e r f) b out
 
+-- a number that is no smaller than all of a list isn't in it
 times_none : (i high : ℕ) (xs : List ℕ) → high ≤ i → ((j : ℕ) → j < length xs → slice_index xs j < high) → times_met i xs ≡ 0
 times_none i high [] h all = refl
 times_none i high (x ∷ xs) h all =
@@ -73,6 +77,7 @@ times_none i high (x ∷ xs) h all =
     let n = times_none i high xs h (λ j m. all (suc j) (omega (arith, m))) in
     ap (λ v. cond v 1 0 + times_met i xs) t ∙ (omega (arith, n))
 
+-- a number beyond the index blocks isn't in a chain
 chain_none : (g : Geometry) (ix : List Index) (e : Entry) (i : ℕ) → index_count g ≤ i → times_met i (chain_in g ix e) ≡ 0
 chain_none g ix e i h =
     let P : Bool → Type 0 = λ v. times_met i (cond v (met_of g ix e) []) ≡ 0 in
@@ -85,7 +90,7 @@ pub whole_is : (g : Geometry) (ix : List Index) (e : Entry) → Rows g ix → is
 whole_is g ix e r w =
     let f = whole_facts g ix e w in
     let all = flat_map (data_row ix) (met_of g ix e) in
-    let l = length-rows ix (met_of g ix e) (rows_of g ix e r) in let n = f.len in
+    let l = length-rows ix (met_of g ix e) (rows_of g ix e r) in let n = f.as_needed in
     let t = length-take (need_data e) all in
     let d : length (data_in g ix e) ≡ length (take (need_data e) all) = ap (λ v. length (cond v (take (need_data e) all) [])) f.used in
     record {
@@ -126,6 +131,7 @@ kept_whole g ix es before (e ∷ rest) k h =
     push x xs w all zero m = w
     push x xs w all (suc j) m = all j (omega (arith, m))
 
+-- a number that is in no list isn't in all of them
 flat_none : (f : Entry → List ℕ) (n : ℕ) (es : List Entry) → ((k : ℕ) → k < length es → times_met n (f (get_or es k void_entry)) ≡ 0) → times_met n (flat_map f es) ≡ 0
 flat_none f n [] all = refl
 flat_none f n (e ∷ es) all =
@@ -163,12 +169,15 @@ kept_totals g ix image es r l =
 
 -- names
 
+-- one name more at the end
 among_push : (names : List (List ℕ)) (n x : List ℕ) → is_among (names ++ n ∷ []) x ≡ is_among names x || bytes_eq n x
 among_push names n x = list_any-append (λ y. bytes_eq y x) names (n ∷ []) ∙ or_or_false (is_among names x) (bytes_eq n x)
 
+-- whether a whole entry among some has a name
 abbrev whole_named : Geometry → List Index → List Entry → List ℕ → Bool
 whole_named g ix before x = list_any (λ f. is_whole g ix f && bytes_eq f.name x) before
 
+-- one entry more at the end
 named_push : (g : Geometry) (ix : List Index) (before : List Entry) (e : Entry) (x : List ℕ) → whole_named g ix (before ++ e ∷ []) x ≡ whole_named g ix before x || (is_whole g ix e && bytes_eq e.name x)
 named_push g ix before e x = list_any-append (λ f. is_whole g ix f && bytes_eq f.name x) before (e ∷ []) ∙ or_or_false (whole_named g ix before x) (is_whole g ix e && bytes_eq e.name x)
 
@@ -207,6 +216,7 @@ kept_few g ix es before (e ∷ rest) =
     let all : (b : Bool) → P b = λ b. elim b as (λ b. P b) [ true ↦ omega (arith, i) | false ↦ omega (arith, i) ] in
     all (is_kept g ix es before e)
 
+-- the kept entries have names of 28 bytes if all have
 pub kept_wide : (g : Geometry) (ix : List Index) (es before rest : List Entry) → ((k : ℕ) → k < length rest → length (get_or rest k void_entry).name ≡ 28)
     → (k : ℕ) → k < length (kept_from g ix es before rest) → length (get_or (kept_from g ix es before rest) k void_entry).name ≡ 28
 kept_wide g ix es before [] w k h = absurd (omega (arith, h))
@@ -221,6 +231,7 @@ kept_wide g ix es before (e ∷ rest) w k h =
     push x xs w all zero m = w
     push x xs w all (suc j) m = all j (omega (arith, m))
 
+-- a kept entry is used
 pub kept_is_used : (g : Geometry) (ix : List Index) (es before : List Entry) (e : Entry) → is_kept g ix es before e ≡ true → entry_is_used e ≡ true
 kept_is_used g ix es before e s =
     let a = is_whole g ix e in let b = not (is_hidden g ix before e) in

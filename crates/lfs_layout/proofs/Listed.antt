@@ -19,9 +19,11 @@ use Rattle.lfs_layout.proofs.CleanRoom.{AllWhole, length_bytes}
 use Rattle.lfs_layout.proofs.CleanOpens.{all_whole, placed_names, placed_room}
 use Rattle.lfs_layout.proofs.Ordered.{sorted_at}
 
+-- what a listing shows of an entry
 abbrev entry_shown : Entry → List ℕ × ℕ
 entry_shown e = (bare_name e.name, e.size)
 
+-- what a listing shows of a file
 abbrev file_shown : File → List ℕ × ℕ
 file_shown f = (bare_name f.name, length f.bytes)
 
@@ -73,6 +75,7 @@ found_named g ix image longest before q (y ∷ es) x r e =
     (λ _ r e. found_named g ix image longest before q es x r e)
     r e
 
+-- a name that can be is no longer than the longest
 name_short : (longest : ℕ) (name : List ℕ) → is_name longest name ≡ true → text_length name ≤ longest
 unfolding is_name
 name_short longest name e =
@@ -88,6 +91,7 @@ clean_entries image c = ap (λ b. let g : Geometry = record { dirs = cond b 6 1;
 pub clean_size : (image : List ℕ) → IsCleanImage image → 3072 ≤ length image
 clean_size image c = (let r = (placed_room image c.faultless c.version).low in omega (arith, r))
 
+-- the entry that has exactly so many used names before it
 abbrev pub nth : List Entry → ℕ → Option Entry
 nth es k = find (λ (e : Entry). entry_is_used e && nat_eq (names_before es e.name) k) es
 
@@ -120,5 +124,6 @@ shown_within h [] k = (let l : nat_lt k 0 ≡ false = grind (arith, nat_tests) i
 shown_within h (x ∷ xs) zero = (let l : nat_lt 0 (suc (length xs)) ≡ true = grind (arith, nat_tests) in sym l)
 shown_within h (x ∷ xs) (suc k) = shown_within h xs k ∙ (let l : nat_lt k (length xs) ≡ nat_lt (suc k) (suc (length xs)) = grind (arith, nat_tests) in l)
 
+-- the listing has a k-th line if there is a k-th file
 pub listed_within : (files : List File) (k : ℕ) → is_some (slice_get (listing files) k) ≡ nat_lt k (length files)
 listed_within files k = shown_within (λ (f : File). (bare_name f.name, length f.bytes)) files k

@@ -10,12 +10,15 @@ use Rattle.lfs_layout.proofs.MadeRules.{version_is_2, made_faultless}
 use Rattle.lfs_layout.proofs.MadeFiles.{made_files}
 use Rattle.lfs_layout.proofs.CleanOpens.{migrated_room, placed_names}
 
+-- an image that is made is clean and of version 2
 pub made_clean : (n : ℕ) (files : List File) → Room n files → names_right 27 [] (names_of files) ≡ true → IsCleanImage (image_with n files)
 made_clean n files r e = record { faultless = made_faultless n files r e; version = version_is_2 n files r }
 
+-- its files in order are those that it was made of
 pub made_sorted : (n : ℕ) (files : List File) → Room n files → names_right 27 [] (names_of files) ≡ true → files_of (image_with n files) ≡ sorted files
 made_sorted n files r e = ap sorted (made_files n files r e)
 
+-- no files have room on every disk
 pub empty_room : (n : ℕ) → 14 ≤ n → n ≤ 65542 → Room n []
 empty_room n low high = record { low = low; high = high; data_room = omega arith; index_room = omega arith; few = omega arith; wide = λ k h. absurd (omega (arith, h)) }
 
@@ -28,6 +31,7 @@ opened_clean image e =
     let all : (v : Bool) → P v = λ v. elim v as (λ v. P v) [ true ↦ yes | false ↦ no ] in
     all (is_version_2 image) refl
 
+-- an image that is opened has its files
 pub opened_files : (image : List ℕ) → fault image ≡ None → files_of (opened image) ≡ files_of image
 opened_files image e =
     let P : Bool → Type 0 = λ v. is_version_2 image ≡ v → files_of (cond v image (image_with (length image / 512 + 6) (placed_files image))) ≡ files_of image in

@@ -26,20 +26,24 @@ use Rattle.lfs_layout.proofs.Joins.{drop_past, length_joined, joined_at, joined_
 use Rattle.lfs_layout.proofs.Regions.{IndexFits, index_read, length_indexes, length_dir_bytes, dir_bytes_end, word_in_block}
 use Rattle.lfs_layout.proofs.MadeParts.{head_fits, next_fits, length_all_entries, all_entries_fit, length_all_indexes, all_indexes_fit, length_files_data}
 
+-- a count fits a word in the first directory block, and is zero in the others
 dir_number_fits : (d x : ℕ) → x < 2 ^ 32 → cond (nat_eq d 0) x 0 < 2 ^ 32
 dir_number_fits zero x h = h
 dir_number_fits (suc d) x h = let t : nat_eq (suc d) 0 ≡ false = grind (arith, nat_tests) in let e : cond (nat_eq (suc d) 0) x 0 ≡ 0 = ap (λ b. cond b x 0) t in omega (arith, e)
 
+-- each directory block has 13 entries
 dir_entries_length : (n : ℕ) (files : List File) (d : ℕ) → Room n files → d < 6 → length (take 13 (drop (13 * d) (all_entries files))) ≡ 13
 dir_entries_length n files d r h =
     let f = r.few in let l = length_all_entries files f in let e = length-drop (13 * d) (all_entries files) in let t = length-take 13 (drop (13 * d) (all_entries files)) in
     omega (arith, l, e, t, h)
 
+-- each entry fits its bytes
 entries_fit : (n : ℕ) (files : List File) → Room n files → (k : ℕ) → k < 78 → EntryFits (get_or (all_entries files) k void_entry)
 entries_fit n files r k h =
     let f = r.few in let l = length_all_entries files f in let p = r.data_room in let q = r.index_room in let hi = r.high in
     all_entries_fit files (omega (arith, p, hi)) (omega (arith, q, hi)) r.wide k (omega (arith, l, h))
 
+-- each entry of a directory block fits its bytes
 dir_entries_fit : (n : ℕ) (files : List File) (d : ℕ) → Room n files → d < 6 → (k : ℕ) → k < 13 → EntryFits (get_or (take 13 (drop (13 * d) (all_entries files))) k void_entry)
 dir_entries_fit n files d r h k m =
     let P : Entry → Type 0 = λ e. EntryFits e in
@@ -47,12 +51,15 @@ dir_entries_fit n files d r h k m =
     sym (get_or-take 13 (drop (13 * d) (all_entries files)) k void_entry m ∙ get_or-drop (13 * d) (all_entries files) k void_entry) in
     subst P e (entries_fit n files r (13 * d + k) (omega (arith, h, m)))
 
+-- directory block d of an image that is made
 abbrev dir_at : ℕ → List File → ℕ → Dir
 dir_at n files d = dir_for (header_for (geometry_2 n) files) (all_entries files) d
 
+-- it has 512 bytes
 length_dir_at : (n : ℕ) (files : List File) → Room n files → (d : ℕ) → d < 6 → length (dir_bytes (dir_at n files d)) ≡ 512
 length_dir_at n files r d h = length_dir_bytes (dir_at n files d) (dir_entries_length n files d r h) (dir_entries_fit n files d r h)
 
+-- the directory blocks have 3,072 bytes
 pub length_dirs : (n : ℕ) (files : List File) → Room n files → length (dirs_bytes (geometry_2 n) files) ≡ 3072
 length_dirs n files r = length_joined (λ d. dir_bytes (dir_at n files d)) 512 6 (length_dir_at n files r)
 
@@ -61,6 +68,7 @@ pub dir_block : (n : ℕ) (files : List File) → Room n files → (d : ℕ) →
 unfolding image_with
 dir_block n files r d h = joined_at (λ d. dir_bytes (dir_at n files d)) 512 6 d _ (length_dir_at n files r) h
 
+-- directory block d is read as it was made
 pub dir_read : (n : ℕ) (files : List File) → Room n files → (d : ℕ) → d < 6 → dir_of (block_in (image_with n files) d) ≡ dir_at n files d
 dir_read n files r d h =
     let hi = r.high in let few = r.few in
@@ -71,9 +79,11 @@ dir_read n files r d h =
     (dir_number_fits d (length files) (omega (arith, few)))
     (dir_entries_length n files d r h) (dir_entries_fit n files d r h)
 
+-- the counts are read as they were made
 pub header_read : (n : ℕ) (files : List File) → Room n files → directory_header (geometry_2 n) (image_with n files) ≡ header_for (geometry_2 n) files
 header_read n files r = ap header_2 (dir_read n files r 0 (omega arith))
 
+-- the entries are read as they were made
 pub entries_read : (n : ℕ) (files : List File) → Room n files → directory_entries (geometry_2 n) (image_with n files) ≡ all_entries files
 entries_read n files r =
     let few = r.few in
@@ -86,6 +96,7 @@ indexes_fit n files r =
     let hi = r.high in let p = r.data_room in let lo = r.low in
     all_indexes_fit (geometry_2 n) files (omega (arith, hi)) r.index_room (omega (arith, p, hi, lo))
 
+-- the index blocks of disk block d are seven of all of them
 disk_part : (n : ℕ) (files : List File) → Room n files → (d : ℕ) → d < index_disks (geometry_2 n)
     → (length (take 7 (drop (7 * d) (all_indexes (geometry_2 n) files))) ≡ 7) × ((k : ℕ) → k < 7 → IndexFits (get_or (take 7 (drop (7 * d) (all_indexes (geometry_2 n) files))) k no_index))
 disk_part n files r d h =
@@ -96,6 +107,7 @@ disk_part n files r d h =
       λ k m. subst P (sym (get_or-take 7 (drop (7 * d) ixs) k no_index m ∙ get_or-drop (7 * d) ixs k no_index)) (indexes_fit n files r (7 * d + k) (omega (arith, l, h, m))),
     )
 
+-- a disk block of index blocks has 512 bytes
 length_index_disk : (n : ℕ) (files : List File) → Room n files → (d : ℕ) → d < index_disks (geometry_2 n) → length (index_disk (all_indexes (geometry_2 n) files) d) ≡ 512
 length_index_disk n files r d h =
     let part = take 7 (drop (7 * d) (all_indexes (geometry_2 n) files)) in
@@ -103,9 +115,11 @@ length_index_disk n files r d h =
     let l = length_indexes part (λ k m. p.1 k (omega (arith, m, seven))) in
     let z = length-replicate {A = ℕ} 8 0 in let a = length-append (flat_map index_bytes part) (replicate 8 0) in omega (arith, seven, l, z, a)
 
+-- all disk blocks of index blocks have 512 bytes each
 pub length_index_disks : (n : ℕ) (files : List File) → Room n files → length (indexes_bytes (geometry_2 n) files) ≡ 512 * index_disks (geometry_2 n)
 length_index_disks n files r = length_joined (index_disk (all_indexes (geometry_2 n) files)) 512 (index_disks (geometry_2 n)) (length_index_disk n files r)
 
+-- disk block 6 + d is that of index blocks d
 index_disk_block : (n : ℕ) (files : List File) → Room n files → (d : ℕ) → d < index_disks (geometry_2 n) → take 512 (drop (512 * (6 + d)) (image_with n files)) ≡ index_disk (all_indexes (geometry_2 n) files) d
 unfolding image_with
 index_disk_block n files r d h =
@@ -113,6 +127,7 @@ index_disk_block n files r d h =
     ap (take 512) (drop_past (dirs_bytes g files) (indexes_bytes g files ++ all_data g files) 3072 (512 * (6 + d)) (512 * d) (length_dirs n files r) (omega arith))
     ∙ joined_at (index_disk (all_indexes g files)) 512 (index_disks g) d (all_data g files) (length_index_disk n files r) h
 
+-- index block i is read as it was made
 index_is_read : (n : ℕ) (files : List File) → Room n files → (i : ℕ) → i < index_count (geometry_2 n) → index_in_bytes (geometry_2 n) (image_with n files) i ≡ get_or (all_indexes (geometry_2 n) files) i no_index
 index_is_read n files r i h =
     let image = image_with n files in let ixs = all_indexes (geometry_2 n) files in
@@ -130,6 +145,7 @@ index_is_read n files r i h =
     ∙ index_read part (replicate 8 0) k (λ j m. p.1 j (omega (arith, m, wide))) (omega (arith, wide, seven))
     ∙ get_or-take 7 (drop (7 * d) ixs) k no_index seven ∙ get_or-drop (7 * d) ixs k no_index ∙ ap (λ m. get_or ixs m no_index) (let e : 7 * d + k ≡ i = omega arith in e)
 
+-- the index blocks are read as they were made
 pub indexes_read : (n : ℕ) (files : List File) → Room n files → numbered_values (index_in_bytes (geometry_2 n) (image_with n files)) (index_count (geometry_2 n)) ≡ all_indexes (geometry_2 n) files
 indexes_read n files r =
     let f = index_in_bytes (geometry_2 n) (image_with n files) in let m = index_count (geometry_2 n) in let ixs = all_indexes (geometry_2 n) files in
@@ -145,10 +161,12 @@ data_region n files r q =
     drop_past (dirs_bytes g files) (indexes_bytes g files ++ all_data g files) 3072 (512 * (first_data g + q)) (512 * (k + q)) (length_dirs n files r) (omega arith)
     ∙ drop_past (indexes_bytes g files) (all_data g files) (512 * k) (512 * (k + q)) (512 * q) (length_index_disks n files r) (omega arith)
 
+-- a free data block has 512 bytes
 length_free_data : (g : Geometry) (b : ℕ) → length (free_data g b) ≡ 512
 length_free_data g b =
     let l = length-little (next_upwards g.blocks b) in let r = length-replicate {A = ℕ} 508 0 in let a = length-append (little_bytes 4 (next_upwards g.blocks b)) (replicate 508 0) in omega (arith, l, r, a)
 
+-- an image that is made has as many blocks as it should
 pub length_image : (n : ℕ) (files : List File) → Room n files → length (image_with n files) ≡ 512 * n
 unfolding image_with
 length_image n files r =

@@ -20,12 +20,15 @@ use Rattle.lfs_layout.proofs.MadeFields.{entries_read, data_region}
 use Rattle.lfs_layout.proofs.MadeLies.{AreUsed, shape_made, made_passes}
 use Rattle.lfs_layout.proofs.MadeRules.{made_geometry_is, used_names}
 
+-- equal lists begin alike
 head_same : (x y : List ℕ) (xs ys : List (List ℕ)) → x ∷ xs ≡ y ∷ ys → x ≡ y
 head_same x y xs ys e = ap (λ l. get_or l 0 []) e
 
+-- equal lists go on alike
 tail_same : (x y : List ℕ) (xs ys : List (List ℕ)) → x ∷ xs ≡ y ∷ ys → xs ≡ ys
 tail_same x y xs ys e = ap (drop 1) e
 
+-- entries without a file have no files
 no_files : (g : Geometry) (ix : List Index) (image : List ℕ) (m : ℕ) → files_in g ix image (replicate m no_entry) ≡ []
 no_files g ix image zero = refl
 no_files g ix image (suc m) = no_files g ix image m

@@ -29,6 +29,7 @@ use Rattle.lfs_layout.proofs.MadeFields.{header_read, entries_read, indexes_read
 abbrev pub AreUsed : List File → Type 0
 AreUsed files = (k : ℕ) → k < length files → entry_is_used (entry_for 0 (get_or files k no_file)) ≡ true
 
+-- an entry without a file isn't used
 used_none : entry_is_used no_entry ≡ false
 used_none = refl
 
@@ -37,6 +38,7 @@ run_end-none : (need : Entry → ℕ) (a m : ℕ) → need no_entry ≡ 0 → ru
 run_end-none need a zero z = refl
 run_end-none need a (suc m) z = ap (λ k. run_end need k (replicate m no_entry)) (let e : a + need no_entry ≡ a = omega (arith, z) in e) ∙ run_end-none need a m z
 
+-- the files need as many index blocks as all of them together
 pub index_run : (a i : ℕ) (files : List File) (m : ℕ) → AreUsed files → run_end index_need a (entries_for i files ++ replicate m no_entry) ≡ a + total_for 8192 files
 index_run a i [] m used = run_end-none index_need a m refl ∙ (let e : a ≡ a + 0 = omega arith in e)
 index_run a i (f ∷ files) m used =
@@ -45,6 +47,7 @@ index_run a i (f ∷ files) m used =
     ∙ index_run (a + indexes_needed f) (i + indexes_needed f) files m (λ k h. used (suc k) (omega (arith, h)))
     ∙ (let q : a + indexes_needed f + total_for 8192 files ≡ a + total_for 8192 (f ∷ files) = omega arith in q)
 
+-- the files need as many data blocks as all of them together
 pub data_run : (b i : ℕ) (files : List File) (m : ℕ) → AreUsed files → run_end data_need b (entries_for i files ++ replicate m no_entry) ≡ b + total_for 512 files
 data_run b i [] m used = run_end-none data_need b m refl ∙ (let e : b ≡ b + 0 = omega arith in e)
 data_run b i (f ∷ files) m used =
@@ -53,10 +56,12 @@ data_run b i (f ∷ files) m used =
     ∙ data_run (b + data_needed f) (i + indexes_needed f) files m (λ k h. used (suc k) (omega (arith, h)))
     ∙ (let q : b + data_needed f + total_for 512 files ≡ b + total_for 512 (f ∷ files) = omega arith in q)
 
+-- the first of numbers upwards, or null
 first_is : (a n : ℕ) → chain_head a (a + n) ≡ slice_index_or (upwards a n) 0 null
 first_is a zero = (let t : nat_lt a (a + 0) ≡ false = (let h : a + 0 ≤ a = omega arith in grind (arith, nat_tests)) in ap (λ b. cond b a null) t)
 first_is a (suc n) = (let t : nat_lt a (a + suc n) ≡ true = (let h : a < a + suc n = omega arith in grind (arith, nat_tests)) in ap (λ b. cond b a null) t)
 
+-- entries without a file lie anywhere
 lie-none : (d : Shape) (a b m : ℕ) → LieFrom d a b (replicate m no_entry)
 lie-none d a b zero = tt
 lie-none d a b (suc m) =
@@ -94,6 +99,7 @@ lie-files d a b (f ∷ files) m used all =
       subst P (ap (λ k. a + k) en) (subst Q (ap (λ k. b + k) ew) rest),
     )
 
+-- the fields of an image that is made
 abbrev pub shape_made : ℕ → List File → Shape
 shape_made n files = fields_of (geometry_2 n) (image_with n files)
 
@@ -127,6 +133,7 @@ made_built n files r used =
       links = λ b lo hi. numbered-at (link_in_bytes (image_with n files)) n b 0 hi ∙ link_read n files r b (omega (arith, lo, dr)) hi;
     }
 
+-- an image that is made has room for a directory, index blocks and data
 pub made_geometry : (n : ℕ) (files : List File) → Room n files → IsGeometry (geometry_2 n)
 made_geometry n files r = record { dirs = omega arith; few = (let l = r.low in omega (arith, l)); many = r.high }
 

@@ -36,6 +36,7 @@ version_read n files r =
     let block : take 512 x ≡ block_in x 0 = ap (λ k. take 512 (drop k x)) (let e : 0 ≡ 512 * 0 = omega arith in e) in
     ap (λ ws. slice_index ws 0) (sym (words_of-take 1 20 (drop 492 x) (omega arith))) ∙ ap word_of (cut ∙ ap (drop 492) block ∙ sym (drop-drop 12 480 (block_in x 0)) ∙ ap (drop 12) (dir_block_end n files r 0 (omega arith)))
 
+-- an image that is made has version 2
 pub version_is_2 : (n : ℕ) (files : List File) → Room n files → is_version_2 (image_with n files) ≡ true
 version_is_2 n files r =
     let size = length (image_with n files) in
@@ -45,12 +46,14 @@ version_is_2 n files r =
     let c : nat_eq (word_of (drop 492 (image_with n files))) 2 ≡ true = ap (λ w. nat_eq w 2) (version_read n files r) in
     ap (λ v. v && nat_le 4096 size && nat_eq (word_of (drop 492 (image_with n files))) 2) a ∙ ap (λ v. v && nat_eq (word_of (drop 492 (image_with n files))) 2) b ∙ c
 
+-- its geometry is the one that it was made with
 pub made_geometry_is : (n : ℕ) (files : List File) → Room n files → geometry_of (image_with n files) ≡ geometry_2 n
 made_geometry_is n files r =
     let l = length_image n files r in
     ap (λ v. let g : Geometry = record { dirs = cond v 6 1; blocks = length (image_with n files) / 512 } in g) (version_is_2 n files r)
     ∙ ap (λ k. let g : Geometry = record { dirs = 6; blocks = k } in g) (let e : length (image_with n files) / 512 ≡ n = omega (arith, l) in e)
 
+-- its size is right
 made_rule_0 : (n : ℕ) (files : List File) → Room n files → rule_0 (geometry_2 n) (image_with n files) ≡ None
 made_rule_0 n files r =
     let size = length (image_with n files) in
@@ -69,6 +72,7 @@ name_used longest (x ∷ name) e =
     let all : (b : Bool) → P b = λ b. elim b as (λ b. P b) [ true ↦ (λ t. refl) | false ↦ (λ t. absurd (false≢true t)) ] in
     all (not (nat_eq x 0)) e
 
+-- files whose names are right have used entries
 pub used_names : (before : List (List ℕ)) (files : List File) → names_right 27 before (names_of files) ≡ true → AreUsed files
 used_names before [] e k h = absurd (omega (arith, h))
 used_names before (f ∷ files) e zero h =
@@ -76,6 +80,7 @@ used_names before (f ∷ files) e zero h =
 used_names before (f ∷ files) e (suc k) h =
     used_names (before ++ f.name ∷ []) files (and_parts (is_name 27 f.name && not (is_among before f.name)) (names_right 27 (before ++ f.name ∷ []) (names_of files)) e).1 k (omega (arith, h))
 
+-- entries without a file have no bad name
 none_named : (g : Geometry) (before : List Entry) (m : ℕ) → first_failing (has_bad_name g) before (replicate m no_entry) ≡ None
 unfolding first_failing
 none_named g before zero = refl
@@ -100,10 +105,12 @@ names_pass n before names a (f ∷ files) m same e =
     ap (λ v. cond v (Some (length before)) (first_failing (has_bad_name (geometry_2 n)) (before ++ entry_for a f ∷ []) (entries_for (a + indexes_needed f) files ++ replicate m no_entry))) test
     ∙ names_pass n (before ++ entry_for a f ∷ []) (names ++ f.name ∷ []) (a + indexes_needed f) files m more both.1
 
+-- no name is among none
 no_names : (x : List ℕ) → has_name [] x ≡ is_among [] x
 unfolding has_name
 no_names x = refl
 
+-- its names are right
 made_rule_1 : (n : ℕ) (files : List File) → Room n files → names_right 27 [] (names_of files) ≡ true → rule_1 (geometry_2 n) (directory_entries (geometry_2 n) (image_with n files)) ≡ None
 made_rule_1 n files r e =
     ap (rule_1 (geometry_2 n)) (entries_read n files r) ∙ ap (in_entry_block (geometry_2 n)) (names_pass n [] [] 0 files (78 - length files) no_names e)
@@ -113,10 +120,12 @@ abbrev used_in : List Entry → ℕ
 used_in [] = 0
 used_in (e ∷ es) = cond (entry_is_used e) (1 + used_in es) (used_in es)
 
+-- entries without a file aren't used
 none_used : (m : ℕ) → used_in (replicate m no_entry) ≡ 0
 none_used zero = refl
 none_used (suc m) = none_used m
 
+-- as many used entries as files
 files_used : (a : ℕ) (files : List File) (m : ℕ) → AreUsed files → used_in (entries_for a files ++ replicate m no_entry) ≡ length files
 files_used a [] m used = none_used m
 files_used a (f ∷ files) m used =
@@ -124,10 +133,12 @@ files_used a (f ∷ files) m used =
     let rest = used_in (entries_for (a + indexes_needed f) files ++ replicate m no_entry) in
     ap (λ v. cond v (1 + rest) rest) (used 0 (omega arith)) ∙ (omega (arith, i))
 
+-- as many entries are used as the directory says
 count_read : (n : ℕ) (files : List File) → Room n files → AreUsed files → count_by entry_is_used (directory_entries (geometry_2 n) (image_with n files)) ≡ length files
 count_read n files r used =
     ap (count_by entry_is_used) (entries_read n files r) ∙ sym (is_count_by used_in entry_is_used refl (λ e es. refl) (all_entries files)) ∙ files_used 0 files (78 - length files) used
 
+-- the later directory blocks begin with zeros
 begin_zeros : (header : Header) (entries : List Entry) (d : ℕ) → 0 < d → are_zeros (take 12 (dir_bytes (dir_for header entries d))) ≡ true
 unfolding word_bytes
 begin_zeros header entries d h =
@@ -135,6 +146,7 @@ begin_zeros header entries d h =
     let t : nat_eq d 0 ≡ false = grind (arith, nat_tests) in
     ap are_zeros (dir_bytes_begin dir) ∙ ap (λ v. are_zeros (word_bytes (cond v header.free_data 0 ∷ cond v header.free_index 0 ∷ cond v header.files 0 ∷ []))) t
 
+-- each directory block is right outside its entries
 dir_right : (n : ℕ) (files : List File) → Room n files → AreUsed files → (d : ℕ) → d < 6
     → is_dir_block (geometry_2 n) (directory_header (geometry_2 n) (image_with n files)) (directory_entries (geometry_2 n) (image_with n files)) (image_with n files) d ≡ true
 dir_right n files r used d h =
@@ -151,6 +163,7 @@ dir_right n files r used d h =
     (cases_lt d 1) in
     ap (λ v. v && ends_right g (block_in image d)) begins ∙ ends
 
+-- its directory blocks are right
 made_rule_2 : (n : ℕ) (files : List File) → Room n files → AreUsed files → rule_2 (geometry_2 n) (directory_header (geometry_2 n) (image_with n files)) (directory_entries (geometry_2 n) (image_with n files)) (image_with n files) ≡ None
 made_rule_2 n files r used =
     first_from-nothing (λ d. not (is_dir_block (geometry_2 n) (directory_header (geometry_2 n) (image_with n files)) (directory_entries (geometry_2 n) (image_with n files)) (image_with n files) d)) 0 6
@@ -162,6 +175,7 @@ unfolding first_failing
 none_larger most before zero = refl
 none_larger most before (suc m) = none_larger most (before ++ no_entry ∷ []) m
 
+-- no file with room is larger than all data blocks
 sizes_pass : (most : ℕ) (before : List Entry) (a : ℕ) (files : List File) (m : ℕ) → AreUsed files → 512 * total_for 512 files ≤ most → first_failing (λ before e. is_larger most e) before (entries_for a files ++ replicate m no_entry) ≡ None
 unfolding first_failing
 sizes_pass most before a [] m used h = none_larger most before m
@@ -172,11 +186,13 @@ sizes_pass most before a (f ∷ files) m used h =
     ap (λ v. cond (v && nat_lt most (length f.bytes)) (Some (length before)) rest) (used 0 (omega arith)) ∙ ap (λ v. cond v (Some (length before)) rest) t
     ∙ sizes_pass most (before ++ entry_for a f ∷ []) (a + indexes_needed f) files m (λ k l. used (suc k) (omega (arith, l))) (omega (arith, h))
 
+-- its sizes are right
 made_rule_3 : (n : ℕ) (files : List File) → Room n files → AreUsed files → rule_3 (geometry_2 n) (directory_entries (geometry_2 n) (image_with n files)) ≡ None
 made_rule_3 n files r used =
     let d = r.data_room in
     ap (rule_3 (geometry_2 n)) (entries_read n files r) ∙ ap (in_entry_block (geometry_2 n)) (sizes_pass (room (geometry_2 n)) [] 0 files (78 - length files) used (omega (arith, d)))
 
+-- the first of two faults isn't there if neither is
 first-none : (a b : Option DiskFault) → a ≡ None → b ≡ None → either_fault a b ≡ None
 first-none a b p q = ap (λ x. either_fault x b) p ∙ q
 

@@ -17,22 +17,26 @@ use Rattle.lfs_layout.proofs.Joins.{drop_past}
 abbrev pub AllFit : List ℕ → Type 0
 AllFit xs = (k : ℕ) → slice_index xs k < 2 ^ 32
 
+-- two lists of words are one
 pub fit_append : (xs ys : List ℕ) → AllFit xs → AllFit ys → AllFit (xs ++ ys)
 fit_append [] ys p q k = q k
 fit_append (x ∷ xs) ys p q zero = p 0
 fit_append (x ∷ xs) ys p q (suc k) = fit_append xs ys (λ j. p (suc j)) q k
 
+-- a beginning of words is words
 pub fit_take : (n : ℕ) (xs : List ℕ) → AllFit xs → AllFit (take n xs)
 fit_take zero xs p k = omega arith
 fit_take (suc n) [] p k = omega arith
 fit_take (suc n) (x ∷ xs) p zero = p 0
 fit_take (suc n) (x ∷ xs) p (suc k) = fit_take n xs (λ j. p (suc j)) k
 
+-- an end of words is words
 pub fit_drop : (n : ℕ) (xs : List ℕ) → AllFit xs → AllFit (drop n xs)
 fit_drop zero xs p k = p k
 fit_drop (suc n) [] p k = omega arith
 fit_drop (suc n) (x ∷ xs) p k = fit_drop n xs (λ j. p (suc j)) k
 
+-- a word repeated is words
 pub fit_replicate : (n x : ℕ) → x < 2 ^ 32 → AllFit (replicate n x)
 fit_replicate zero x h k = omega arith
 fit_replicate (suc n) x h zero = h
@@ -50,9 +54,11 @@ pub record IndexFits (index : Index) : Type 0 where
   pub words : AllFit (index_words index)
   pub wide : length index.blocks ≡ 16
 
+-- an index block has 18 words
 length-index_words : (index : Index) → IndexFits index → length (index_words index) ≡ 18
 length-index_words index f = let w = f.wide in omega (arith, w)
 
+-- an index block has 72 bytes
 pub length_index_bytes : (index : Index) → IndexFits index → length (index_bytes index) ≡ 72
 length_index_bytes index f = length-word_bytes (index_words index) ∙ (let w = length-index_words index f in omega (arith, w))
 
@@ -71,12 +77,14 @@ index_read (y ∷ ys) rest (suc k) all h =
     ∙ drop_past (index_bytes y) (flat_map index_bytes ys ++ rest) 72 (72 * suc k) (72 * k) (length_index_bytes y f) (let e : 72 * suc k ≡ 72 + 72 * k = omega arith in e))
     ∙ index_read ys rest k (λ j m. all (suc j) (omega (arith, m))) (omega (arith, h))
 
+-- index blocks have 72 bytes each
 pub length_indexes : (ys : List Index) → ((k : ℕ) → k < length ys → IndexFits (get_or ys k no_index)) → length (flat_map index_bytes ys) ≡ 72 * length ys
 length_indexes [] all = refl
 length_indexes (y ∷ ys) all =
     let i = length_indexes ys (λ j m. all (suc j) (omega (arith, m))) in let l = length_index_bytes y (all 0 (omega arith)) in
     let a = length-append (index_bytes y) (flat_map index_bytes ys) in omega (arith, i, l, a)
 
+-- entries have 36 bytes each
 pub length_entries : (es : List Entry) → ((k : ℕ) → k < length es → EntryFits (get_or es k void_entry)) → length (flat_map entry_bytes es) ≡ 36 * length es
 length_entries [] all = refl
 length_entries (e ∷ es) all =

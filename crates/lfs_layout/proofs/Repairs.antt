@@ -18,14 +18,17 @@ use Rattle.lfs_layout.proofs.CleanRoom.{names_longer, files_few, files_wide}
 use Rattle.lfs_layout.proofs.CleanOpens.{wide_1, wide_2, longest_most}
 use Rattle.lfs_layout.proofs.KeptFiles.{kept_totals, kept_names, kept_few, kept_wide, kept_is_used}
 
+-- each index block of an image has 16 data numbers
 rows_16 : (image : List ℕ) → (i : ℕ) → i < index_count (geometry_of image) → length (get_or (fields_of (geometry_of image) image).indexes i (record { next = 0; offset = 0; blocks = [] })).blocks ≡ 16
 rows_16 image i h = (fields_shape (geometry_of image) image).rows i h
 
+-- the names of the kept files can be, and no two are the same
 pub repaired_names : (image : List ℕ) → names_right 27 [] (names_of (kept_files image)) ≡ true
 repaired_names image =
     let g = geometry_of image in let d = fields_of g image in
     names_longer (longest_name g) 27 [] (names_of (kept_files image)) (longest_most g) (kept_names g d.indexes image d.entries [] [] d.entries (λ x q. refl))
 
+-- the kept files are no more than 78, with names of 28 bytes
 few_and_wide : (image : List ℕ) → (length (fields_of (geometry_of image) image).entries ≤ 78) → ((k : ℕ) → k < length (fields_of (geometry_of image) image).entries → length (get_or (fields_of (geometry_of image) image).entries k void_entry).name ≡ 28)
     → (n : ℕ) → 14 ≤ n → n ≤ 65542 → total_for 512 (kept_files image) ≤ n - first_data (geometry_2 n) → total_for 8192 (kept_files image) ≤ index_count (geometry_2 n) → Room n (kept_files image)
 few_and_wide image f w n low high one two =
@@ -39,6 +42,7 @@ few_and_wide image f w n low high one two =
       wide = files_wide g d.indexes image K (kept_wide g d.indexes d.entries [] d.entries w);
     }
 
+-- the kept files have room on the repaired disk, since no block is in two of them
 pub repaired_room : (image : List ℕ) → rule_0 (geometry_of image) image ≡ None → Room (repaired_blocks image) (kept_files image)
 repaired_room image r0 =
     let n = length image / 512 in let g = geometry_of image in let d = fields_of g image in
@@ -74,6 +78,7 @@ abbrev used_in : List Entry → ℕ
 used_in [] = 0
 used_in (e ∷ es) = cond (entry_is_used e) (1 + used_in es) (used_in es)
 
+-- no more entries are kept than are used among those left
 kept_used : (g : Geometry) (ix : List Index) (es before rest : List Entry) → length (kept_from g ix es before rest) ≤ used_in rest
 kept_used g ix es before [] = omega arith
 kept_used g ix es before (e ∷ rest) =
@@ -86,12 +91,15 @@ kept_used g ix es before (e ∷ rest) =
     let all : (b : Bool) → P b = λ b. elim b as (λ b. P b) [ true ↦ yes | false ↦ no ] in
     all (is_kept g ix es before e) refl
 
+-- no more entries are kept than are used
 pub kept_most : (g : Geometry) (ix : List Index) (es : List Entry) → length (kept_entries g ix es) ≤ count_by entry_is_used es
 kept_most g ix es = (let k = kept_used g ix es [] es in let c = is_count_by used_in entry_is_used refl (λ e es. refl) es in omega (arith, k, c))
 
+-- six blocks more unless there are six directory blocks
 six_or : (v : Bool) → ◌≡◌ {A = ℕ} (cond (nat_eq (cond v 6 1) 6) 0 6) (cond v 0 6)
 six_or true = refl
 six_or false = refl
 
+-- the blocks of the repaired image by the geometry
 pub blocks_are : (image : List ℕ) → (geometry_of image).blocks + cond (nat_eq (geometry_of image).dirs 6) 0 6 ≡ repaired_blocks image
 blocks_are image = ap (λ k. length image / 512 + k) (six_or (is_version_2 image))

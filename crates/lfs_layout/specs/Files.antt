@@ -45,6 +45,7 @@ abbrev pub with_file : File → List File → List File
 with_file file [] = file ∷ []
 with_file file (f ∷ files) = cond (is_before file.name f.name) (file ∷ f ∷ files) (f ∷ with_file file files)
 
+-- files in the order of their names
 abbrev pub sorted : List File → List File
 sorted [] = []
 sorted (f ∷ files) = with_file f (sorted files)
@@ -70,6 +71,7 @@ pub record Clean (image : List ℕ) (files : List File) : Type 0 where
 abbrev pub blocks_for : ℕ → File → ℕ
 blocks_for width f = (length f.bytes + (width - 1)) / width
 
+-- how many blocks of a width all files need
 abbrev pub total_for : ℕ → List File → ℕ
 total_for width [] = 0
 total_for width (f ∷ files) = blocks_for width f + total_for width files
@@ -87,6 +89,7 @@ abbrev pub names_right : ℕ → List (List ℕ) → List (List ℕ) → Bool
 names_right longest before [] = true
 names_right longest before (n ∷ names) = is_name longest n && not (is_among before n) && names_right longest (before ++ n ∷ []) names
 
+-- the names of files
 abbrev pub names_of : List File → List (List ℕ)
 names_of files = map (λ (f : File). f.name) files
 
@@ -95,6 +98,7 @@ abbrev pub without_name : List ℕ → List File → List File
 without_name name [] = []
 without_name name (f ∷ files) = cond (bytes_eq f.name name) (without_name name files) (f ∷ without_name name files)
 
+-- the files with one set: it comes last, in the place of one with its name
 abbrev pub with_set : File → List File → List File
 with_set file files = without_name file.name files ++ file ∷ []
 

@@ -26,6 +26,7 @@ geometry_2 n = record { dirs = 6; blocks = n }
 abbrev pub indexes_needed : File → ℕ
 indexes_needed f = blocks_for 8192 f
 
+-- how many data blocks a file needs
 abbrev pub data_needed : File → ℕ
 data_needed f = blocks_for 512 f
 
@@ -33,6 +34,7 @@ data_needed f = blocks_for 512 f
 abbrev pub entry_for : ℕ → File → Entry
 entry_for a f = record { size = length f.bytes; first = chain_head a (a + indexes_needed f); name = f.name }
 
+-- the entries of files, of which the first takes index blocks from a on
 abbrev pub entries_for : ℕ → List File → List Entry
 entries_for a [] = []
 entries_for a (f ∷ files) = entry_for a f ∷ entries_for (a + indexes_needed f) files
@@ -49,6 +51,7 @@ all_entries files = entries_for 0 files ++ replicate (78 - length files) no_entr
 abbrev pub index_end : List File → ℕ
 index_end files = 0 + total_for 8192 files
 
+-- the first data block after those of files
 abbrev pub data_end : Geometry → List File → ℕ
 data_end g files = first_data g + total_for 512 files
 
@@ -73,6 +76,7 @@ dir_for header entries d = record {
 abbrev pub file_index : ℕ → ℕ → File → ℕ → Index
 file_index a b f j = index_for j (upwards a (indexes_needed f)) (upwards b (data_needed f))
 
+-- the index blocks of files one after another
 abbrev pub indexes_for : ℕ → ℕ → List File → List Index
 indexes_for a b [] = []
 indexes_for a b (f ∷ files) = numbered_values (file_index a b f) (indexes_needed f) ++ indexes_for (a + indexes_needed f) (b + data_needed f) files
@@ -105,6 +109,7 @@ all_data g files = flat_map padded files ++ flat_map (free_data g) (upwards (dat
 abbrev pub dirs_bytes : Geometry → List File → List ℕ
 dirs_bytes g files = joined (λ d. dir_bytes (dir_for (header_for g files) (all_entries files) d)) 6
 
+-- the bytes of all disk blocks of index blocks
 abbrev pub indexes_bytes : Geometry → List File → List ℕ
 indexes_bytes g files = joined (index_disk (all_indexes g files)) (index_disks g)
 
@@ -129,5 +134,6 @@ pub record Room (n : ℕ) (files : List File) : Type 0 where
 abbrev pub file_of : NamedFile → File
 file_of f = record { name = f.name; bytes = f.bytes.items }
 
+-- the files of a list of the program
 abbrev pub all_files : List NamedFile → List File
 all_files files = map file_of files

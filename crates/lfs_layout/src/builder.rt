@@ -14,7 +14,7 @@ use lfs_format::{Entry, Index};
 use std::alloc::{AllocError, Global};
 
 /// The image of version 2 with these files, each of which takes the lowest free blocks.
-pub fn build(alloc: Global, blocks: u32, files: &[NamedFile]) -> Result<Vec<u8>, AllocError>
+pub(crate) fn build(alloc: Global, blocks: u32, files: &[NamedFile]) -> Result<Vec<u8>, AllocError>
     requires { Room blocks (all_files files.now) }
     ensures { IfOk result (λ v. v.items ≡ image_with blocks (all_files files.now)) }
 {

@@ -12,7 +12,7 @@ use lfs_format::{Dir, Entry, NULL, write_dir};
 use std::alloc::{AllocError, Global};
 
 /// The entries of files, and entries without a file after them.
-pub fn make_entries(
+pub(crate) fn make_entries(
     alloc: Global,
     blocks: u32,
     files: &[NamedFile],
@@ -28,7 +28,7 @@ pub fn make_entries(
 }
 
 /// The counts of the directory.
-pub fn make_header(blocks: u32, files: &[NamedFile]) -> Header
+pub(crate) fn make_header(blocks: u32, files: &[NamedFile]) -> Header
     requires { Room blocks (all_files files.now) }
     ensures { result ≡ header_for (geometry_2 blocks) (all_files files.now) }
 {
@@ -41,7 +41,7 @@ pub fn make_header(blocks: u32, files: &[NamedFile]) -> Header
 }
 
 /// Directory block `d`.
-pub fn make_dir(header: Header, entries: &[Entry], d: usize) -> [u8; 512]
+pub(crate) fn make_dir(header: Header, entries: &[Entry], d: usize) -> [u8; 512]
     requires len { length entries.now ≡ 78 }
     requires below { d < 6 }
     ensures { result ≡ dir_bytes (dir_for header entries.now d) }

@@ -6,13 +6,13 @@ ghost use Rattle.lfs_layout.specs.Made.{indexes_needed, data_needed, file_of, al
 
 /// A file: its name with the zeros after it, and its bytes.
 #[derive(Drop)]
-pub struct NamedFile {
+pub(crate) struct NamedFile {
     pub name: [u8; 28],
     pub bytes: Vec<u8>,
 }
 
 /// Whether files have room on a disk of version 2: their number, their data blocks and their index blocks.
-pub fn have_room(blocks: u32, files: &[NamedFile]) -> bool
+pub(crate) fn have_room(blocks: u32, files: &[NamedFile]) -> bool
     requires low { 14 ≤ blocks }
     requires high { blocks ≤ 65542 }
     ensures { result ≡ have_room (geometry_2 blocks) (all_files files.now) }

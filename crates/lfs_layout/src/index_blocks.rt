@@ -13,7 +13,7 @@ use lfs_format::{Index, NULL, write_index};
 use std::alloc::{AllocError, Global};
 
 /// All index blocks: those of files, and the free ones, each of which names the next.
-pub fn make_indexes(
+pub(crate) fn make_indexes(
     alloc: Global,
     blocks: u32,
     files: &[NamedFile],
@@ -30,7 +30,7 @@ pub fn make_indexes(
 }
 
 /// A disk block of the seven index blocks from `7 * d` on.
-pub fn make_disk(indexes: &[Index], d: usize) -> [u8; 512]
+pub(crate) fn make_disk(indexes: &[Index], d: usize) -> [u8; 512]
     requires { 7 * d + 7 ≤ length indexes.now }
     ensures { result ≡ index_disk indexes.now d }
 {

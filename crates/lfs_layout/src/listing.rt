@@ -13,7 +13,7 @@ use lfs_check::{block_at, entry_is_used};
 use lfs_format::{Entry, read_dir};
 
 /// Name and size of the `k`-th file of a clean image in the order of names, if there is one.
-pub fn file_at(image: &[u8], k: usize) -> Option<(ArrayVec<u8, 27>, u32)>
+pub(crate) fn file_at(image: &[u8], k: usize) -> Option<(ArrayVec<u8, 27>, u32)>
     requires { IsCleanImage image.now }
     ensures file { MatchOption result (slice_get (listing (files_of image.now)) k ≡ None) (λ f. slice_get (listing (files_of image.now)) k ≡ Some (f.0.items, f.1)) }
     ensures within { is_some result ≡ nat_lt k (length (files_of image.now)) }

@@ -15,7 +15,7 @@ use lfs_format::{Entry, Index};
 use std::alloc::{AllocError, Global};
 
 /// The files of an image, in the order of its entries.
-pub fn read_files(
+pub(crate) fn read_files(
     alloc: Global,
     geometry: Geometry,
     image: &[u8],
@@ -32,7 +32,7 @@ pub fn read_files(
 
 /// The files of an image but that of a name, in the order of its entries.
 #[tactic(auto, using(crate::proofs::FilesSet::files_without))]
-pub fn read_others(
+pub(crate) fn read_others(
     alloc: Global,
     geometry: Geometry,
     image: &[u8],
@@ -68,7 +68,7 @@ fn entries_without(
 }
 
 /// The bytes of the file of a name, if there is one.
-pub fn read_named(
+pub(crate) fn read_named(
     alloc: Global,
     geometry: Geometry,
     image: &[u8],
@@ -105,7 +105,7 @@ fn entry_named(entries: &[Entry], name: &[u8; 28]) -> Option<Entry>
 }
 
 /// The files of the used ones among entries, in their order.
-pub fn read_entries(
+pub(crate) fn read_entries(
     alloc: Global,
     geometry: Geometry,
     indexes: &[Index],
@@ -131,8 +131,8 @@ pub fn read_entries(
     Ok(files)
 }
 
-/// The bytes of the file of an entry.
-pub fn read_bytes(
+// The bytes of the file of an entry.
+fn read_bytes(
     alloc: Global,
     geometry: Geometry,
     indexes: &[Index],

@@ -7,6 +7,7 @@ use Rattle.lfs_layout.proofs.CleanOpens.{migrated_room}
 use Rattle.lfs_layout.proofs.clean_image.migrate.Goals as goal
 use Rattle.lfs_layout.proofs.clean_image.migrate.Goals.{After-deref}
 
+-- the files that were read are those of the image
 placed : (c : After-deref) → all_files c.deref.result.now ≡ placed_files c.args.bytes.now
 placed c =
     let image = c.args.bytes.now in let n = length image / 512 in

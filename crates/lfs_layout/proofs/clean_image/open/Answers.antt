@@ -7,6 +7,7 @@ use Rattle.lfs_layout.proofs.CleanOpens.{migrated_room, placed_names}
 use Rattle.lfs_layout.proofs.MadeClean.{made_clean}
 use Rattle.lfs_layout.proofs.clean_image.open.Goals as goal
 
+-- an image without six directory blocks has version 1
 not_six : (v : Bool) → (◌≡◌ {A = ℕ} (cond v 6 1) 6 → ⊥) → v ≡ false
 not_six true h = absurd (h refl)
 not_six false h = refl

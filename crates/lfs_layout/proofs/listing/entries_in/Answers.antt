@@ -10,6 +10,7 @@ use Rattle.lfs_check.proofs.Numbered.{joined_none, joined_more}
 use borrow.Rule.Slice.PartMut.{same_len_mid}
 use Rattle.lfs_layout.proofs.listing.entries_in.Goals as goal
 
+-- the entries of a directory block
 abbrev entries_at : List ℕ → ℕ → List Entry
 entries_at image d = (dir_of (block_in image d)).entries
 

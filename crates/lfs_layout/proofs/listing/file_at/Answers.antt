@@ -5,6 +5,7 @@ use Rattle.lfs_layout.specs.Files.{bare_name, files_of, listing}
 use Rattle.lfs_layout.proofs.Listed.{nth, listed_at, listed_within, nth_short}
 use Rattle.lfs_layout.proofs.listing.file_at.Goals as goal
 
+-- what is answered for an entry
 abbrev shown : Entry → List ℕ × ℕ
 shown e = (bare_name e.name, e.size)
 

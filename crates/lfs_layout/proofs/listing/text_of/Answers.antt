@@ -4,19 +4,21 @@ use Rattle.std.proofs.lemmas.Bool.Decides.{nat_tests}
 use Rattle.lfs_check.specs.Rules.{text_length}
 use Rattle.lfs_layout.proofs.listing.text_of.Goals as goal
 
--- a zero ends the text, and another byte goes on
+-- a zero ends the text
 text_ends : (name : List ℕ) (i : ℕ) → i < length name → get_or name i 0 ≡ 0 → text_length (drop i name) ≡ 0
 unfolding text_length
 text_ends name i h e =
     let t : not (nat_eq (get_or name i 0) 0) ≡ false = grind (arith, nat_tests) in
     ap text_length (drop_more name i 0 h) ∙ ap (λ v. cond v (1 + text_length (drop (i + 1) name)) 0) t
 
+-- another byte goes on
 text_goes_on : (name : List ℕ) (i : ℕ) → i < length name → get_or name i 0 ≢ 0 → text_length (drop i name) ≡ 1 + text_length (drop (i + 1) name)
 unfolding text_length
 text_goes_on name i h n =
     let t : not (nat_eq (get_or name i 0) 0) ≡ true = grind (arith, nat_tests) in
     ap text_length (drop_more name i 0 h) ∙ ap (λ v. cond v (1 + text_length (drop (i + 1) name)) 0) t
 
+-- nothing is left after the end of a name
 text_out : (name : List ℕ) (i : ℕ) → length name ≤ i → text_length (drop i name) ≡ 0
 unfolding text_length
 text_out name i h = ap text_length (drop_all i name h)
