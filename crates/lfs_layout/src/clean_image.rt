@@ -44,10 +44,8 @@ impl CleanImage {
         ensures image { MatchResult result (λ c. (fault bytes.items ≡ None) × (c ≡ opened bytes.items)) (λ e. Refuses (fault bytes.items) e) }
         ensures files { IfOk result (λ c. files_of c ≡ files_of bytes.items) }
     {
-        match check(alloc, &bytes) {
-            Ok(_) => open(alloc, bytes),
-            Err(fault) => Err(fault),
-        }
+        let _report = check(alloc, &bytes)?;
+        open(alloc, bytes)
     }
 
     /// The clean image that was made.
@@ -234,10 +232,8 @@ fn open(alloc: Global, bytes: Vec<u8>) -> Result<CleanImage, CheckFault>
     if dirs_of(&bytes) == 6 {
         return Ok(CleanImage { bytes });
     }
-    match migrate(alloc, &bytes) {
-        Ok(bytes) => Ok(CleanImage { bytes }),
-        Err(_) => Err(CheckFault::NoMemory),
-    }
+    let bytes = migrate(alloc, &bytes)?;
+    Ok(CleanImage { bytes })
 }
 
 // The image of version 2 with the files of an image of version 1.

@@ -46,10 +46,7 @@ pub fn repair(alloc: Global, bytes: &[u8]) -> Result<Repaired, CheckFault>
     let geometry = Geometry { dirs, blocks };
     match size_fault(geometry, bytes) {
         Some(block) => Err(CheckFault::Broken(DiskFault { block, rule: 0 })),
-        None => match rebuild(alloc, geometry, bytes) {
-            Ok(repaired) => Ok(repaired),
-            Err(_) => Err(CheckFault::NoMemory),
-        },
+        None => Ok(rebuild(alloc, geometry, bytes)?),
     }
 }
 

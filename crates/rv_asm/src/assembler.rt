@@ -36,14 +36,9 @@ pub fn assemble(alloc: Global, text: &[u8]) -> Result<Vec<u8>, AsmFault>
     ensures assembled { MatchResult result (λ file. spec.assembly text.now ≡ spec.Makes file.items) (λ fault. spec.IsFaultOf fault text.now) }
     ensures loads { IfOk result (λ file. is_some (image_in file.items) ≡ true) }
 {
-    let all = match lay_out(alloc, text) {
-        Ok(layout) => layout,
-        Err(_) => return Err(AsmFault::NoMemory),
-    };
-    match run_over(alloc, &all, text) {
-        Ok(pass) => finish(alloc, &all, &pass),
-        Err(fault) => Err(fault),
-    }
+    let all = lay_out(alloc, text)?;
+    let pass = run_over(alloc, &all, text)?;
+    finish(alloc, &all, &pass)
 }
 
 // The image file, if no offset or entry is at fault and there is content.
@@ -56,10 +51,8 @@ fn finish(alloc: Global, all: &Layout<'_>, pass: &Pass<'_>) -> Result<Vec<u8>, A
     if is_void(all, pass.content.len()) {
         return Err(AsmFault::BadLine(0));
     }
-    match image_file(alloc, all, pass.content.as_slice()) {
-        Ok(file) => Ok(file),
-        Err(_) => Err(AsmFault::NoMemory),
-    }
+    let file = image_file(alloc, all, pass.content.as_slice())?;
+    Ok(file)
 }
 
 // Whether there is too little content for an image.

@@ -1,5 +1,9 @@
 //! Why a text isn't assembled.
 
+ghost use Rattle.std.specs.Prelude.{◌≡◌};
+
+use std::alloc::AllocError;
+
 /// The first fault of a text. Lines are counted from 1.
 #[derive(Clone, Copy, Debug, PartialEq, Eq)]
 pub enum AsmFault {
@@ -14,4 +18,14 @@ pub enum AsmFault {
     DoubleLabel(u32),
     /// There was no memory for the image file or the labels.
     NoMemory,
+}
+
+impl From<AllocError> for AsmFault {
+    ghost use Rattle.rv_asm.specs.declared.faults.AsmFault.TheVariants.{NoMemory};
+
+    ghost from_gives = { λ _ e. e ≡ NoMemory };
+
+    fn from(_e: AllocError) -> AsmFault {
+        AsmFault::NoMemory
+    }
 }

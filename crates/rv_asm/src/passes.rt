@@ -38,10 +38,7 @@ impl<'a> Pass<'a> {
         ensures content { OnOk result (self.new.content.items ≡ self.old.content.items ++ bytes_at (found all.now.labels) self.old.layout.at (line_of line.now).statement) }
         ensures astray { OnOk result (self.new.astray ≡ fault_or self.old.astray (astray_at (found all.now.labels) (unwrap_or all.now.place 0) all.now.at number self.old.layout.at (line_of line.now).statement)) }
     {
-        let (double, rest) = match self.layout.take_labels(line) {
-            Ok(taken) => taken,
-            Err(_) => return Err(AsmFault::NoMemory),
-        };
+        let (double, rest) = self.layout.take_labels(line)?;
         let statement = statement_in(rest);
         match fault_in(&all.labels, number, &statement, double, &self.layout) {
             Some(fault) => Err(fault),
@@ -65,13 +62,9 @@ impl<'a> Pass<'a> {
         let at = self.layout.at;
         let is_late = is_astray(&all.labels, all.place.unwrap_or(0), all.at, at, statement);
         self.astray = first(self.astray, is_late, number);
-        match push_statement(&mut self.content, &all.labels, at, statement) {
-            Ok(()) => {
-                self.layout.take(statement);
-                Ok(())
-            }
-            Err(_) => Err(AsmFault::NoMemory),
-        }
+        push_statement(&mut self.content, &all.labels, at, statement)?;
+        self.layout.take(statement);
+        Ok(())
     }
 }
 

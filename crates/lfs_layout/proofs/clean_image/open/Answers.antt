@@ -12,10 +12,10 @@ not_six : (v : Bool) → (◌≡◌ {A = ℕ} (cond v 6 1) 6 → ⊥) → v ≡ 
 not_six true h = absurd (h refl)
 not_six false h = refl
 
-pub invariant_of-result-in-Ok : goal.invariant_of-result-in-Ok
-invariant_of-result-in-Ok c =
+pub invariant_of-result-2 : goal.invariant_of-result-2
+invariant_of-result-2 c =
     let image = c.args.bytes.items in
     let old : is_version_2 image ≡ false = not_six (is_version_2 image) (λ e. c.if-dirs_of-eq6.false (c.dirs_of.ensures ∙ ap dirs_of c.deref.ensures.value ∙ e)) in
-    let made : c.in-Ok.bytes.items ≡ image_with (length image / 512 + 6) (placed_files image) = c.in-Ok.ensures ∙ ap (λ im. image_with (length im / 512 + 6) (placed_files im)) c.deref-2.ensures.value in
+    let made : c.in_ok-bytes.bytes.items ≡ image_with (length image / 512 + 6) (placed_files image) = c.in_ok-bytes.ensures ∙ ap (λ im. image_with (length im / 512 + 6) (placed_files im)) c.deref-2.ensures.value in
     let P : List ℕ → Type 0 = λ im. IsCleanImage im in
     subst P (sym made) (made_clean (length image / 512 + 6) (placed_files image) (migrated_room image c.requires old) (placed_names image c.requires))
