@@ -1,20 +1,17 @@
 -- The calls on semaphores by which processes are released.
-use Rattle.std.proofs.Common.{◌≡◌, ◌∙◌, ◌+◌, ◌-◌, ℕ, Bool, true, false, cond, ◌&&◌, not, ℤ, pos, negsuc, ◌+ℤ◌, int_lt, List, [], ◌∷◌, length, take, refl, sym, ap, subst, arith, ◌≤ℤ◌, nat_abs}
+use Rattle.std.proofs.Common.{◌≡◌, ◌∙◌, ◌+◌, ◌-◌, ℕ, true, false, cond, ◌&&◌, not, ℤ, pos, negsuc, ◌+ℤ◌, int_lt, List, [], ◌∷◌, length, take, refl, sym, ap, subst, arith, ◌≤ℤ◌, nat_abs}
 use Rattle.std.proofs.lemmas.Int.{ints}
 use Rattle.semaphores.specs.Counts.{tokens_of}
-use Rattle.semaphores.specs.Signals.{answer_to, signal_answer}
-use Rattle.semaphores.specs.declared.waiting.Signalled.TheVariants.{Full, Released}
+use Rattle.semaphores.specs.Signals.{signal_answer}
+use Rattle.semaphores.specs.declared.waiting.Signalled.TheVariants.{Released}
 use Rattle.xinu_base.specs.Constants.{OK, SYSERR}
-use Rattle.xinu_model.specs.Machine.{CallState, refused, returns, start, unblock_all_with, with_tables, Xinu}
+use Rattle.xinu_model.specs.Machine.{CallState, refused, returns, start, with_tables, Xinu}
 use Rattle.xinu_model.specs.Process.Scheduling.{ready, ready_all}
 use Rattle.xinu_model.specs.Semaphores.Calls.{semdelete, semreset, signal, signaln}
 use Rattle.xinu_model.specs.Semaphores.Counts.{count_of, is_good, most_tokens, with_semaphore, with_tokens}
 use Rattle.xinu_model.specs.Semaphores.Waiting.{emptied_with, signal_first, signalled, signalled_times}
-use Rattle.xinu_model.specs.Tables.{no_semaphore, Semaphore, semaphore_at, Tables}
-use Rattle.kernel_state.specs.Released.{replies_to}
-use Rattle.kernel_tables.specs.Waking.{are_any}
-use Rattle.kernel_state.proofs.Released.{owed_for, unblocked}
-use Rattle.kernel_state.proofs.Together.{IsFirst, released_first, released_then, releasing}
+use Rattle.xinu_model.specs.Tables.{no_semaphore, semaphore_at, Tables}
+use Rattle.kernel_state.proofs.Together.{released_first, released_then, releasing}
 use Rattle.kernel_tables.proofs.Served.{rests_ready, SameRests}
 use Rattle.kernel_tables.proofs.Waiters.{rests_written}
 

@@ -17,7 +17,9 @@ use crate::memory_calls::{freemem, freestk, getmem, getstk};
 use crate::message_calls::{go_on_receive, receive, recvclr, recvtime, send};
 use crate::pool_calls::{freebuf, getbuf, go_on_getbuf, mkbufpool};
 use crate::port_calls::{go_on_ptrecv, go_on_ptsend, ptcreate, ptdelete, ptrecv, ptreset, ptsend};
-use crate::process_calls::{chprio, exit, getpid, getprio, go_on_suspend, kill, resume, suspend, yield_now};
+use crate::process_calls::{
+    chprio, exit, getpid, getprio, go_on_suspend, kill, resume, suspend, yield_now,
+};
 use crate::semaphore_calls::{semcount, semcreate, semdelete, semreset, signal, signaln, wait};
 use kernel_state::{Creation, KernelState, answer_released, half, signed};
 use xinu_base::{Call, Next, Rest, SYSERR, State};
@@ -33,7 +35,9 @@ pub fn begin(k: &mut KernelState, call: Call) -> Next
     let a = call.args;
     match call.number {
         1 => getpid(k),
-        2 => create(k, Creation {
+        2 => create(
+            k,
+            Creation {
                 entry: a[0],
                 stack: a[1],
                 priority: half(a[2]),

@@ -3,16 +3,13 @@ use Rattle.std.proofs.Common.{◌≡◌, ◌∙◌, ◌+◌, ◌-◌, ◌≤◌,
 use Rattle.std.proofs.lemmas.Int.{ints}
 use Rattle.std.proofs.lemmas.List.{length-append}
 use Rattle.kernel_state.proofs.Together.{released_then, releasing}
-use Rattle.io_calls.specs.Consoles.{after_sending}
 use Rattle.kernel_state.specs.Results.{IsStart}
 use Rattle.kernel_tables.proofs.Served.{SameRests}
 use Rattle.kernel_tables.proofs.Waiters.{rests_written}
 use Rattle.tty_driver.specs.Transmitting.{count_by}
 use Rattle.xinu_base.specs.Constants.{OK, SYSERR}
 use Rattle.xinu_laws.proofs.Consoles.Characters.{received_goes, controlled_goes}
-use Rattle.xinu_laws.proofs.Preserve.Events.{sending_keeps}
 use Rattle.xinu_model.specs.Process.Scheduling.{ready_all}
-use Rattle.xinu_laws.specs.Preserve.{KeepsAll}
 use Rattle.xinu_model.specs.Console.Controls.{after_control, controlled}
 use Rattle.xinu_model.specs.Console.Receiving.{received}
 use Rattle.xinu_model.specs.Console.Rows.{Committed}
@@ -20,13 +17,11 @@ use Rattle.xinu_model.specs.Console.Signals.{console_control, control_with}
 use Rattle.xinu_model.specs.Console.Sound.{IsSoundConsole}
 use Rattle.xinu_model.specs.Console.State.{Console}
 use Rattle.xinu_model.specs.Console.Taking.{console_of, TY_ISEM, with_console}
-use Rattle.xinu_model.specs.Console.Transmitting.{Sent, transmitted}
-use Rattle.xinu_model.specs.Machine.{CallState, Returns, Silent, start, Xinu}
+use Rattle.xinu_model.specs.Machine.{CallState, Returns, start, Xinu}
 use Rattle.xinu_model.specs.Semaphores.Calls.{answers}
 use Rattle.xinu_model.specs.Semaphores.Counts.{count_of, most_tokens, with_tokens}
 use Rattle.xinu_model.specs.Semaphores.Waiting.{signalled_times}
 use Rattle.xinu_model.specs.Sound.Console.{IsConsole}
-use Rattle.xinu_model.specs.Sound.State.{IsSound}
 use Rattle.xinu_model.specs.Tables.{Semaphore, semaphore_at, Tables}
 
 -- n signals of a semaphore at once

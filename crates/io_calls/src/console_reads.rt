@@ -82,11 +82,14 @@ fn read_range(k: &mut KernelState, at: u32, n: u32) -> Next
     if n > RAM_SIZE || at > RAM_SIZE - n {
         return Next::Returns(SYSERR);
     }
-    reads(k, Span {
-        at,
-        done: 0,
-        want: n,
-    })
+    reads(
+        k,
+        Span {
+            at,
+            done: 0,
+            want: n,
+        },
+    )
 }
 
 /// What is left of a read once the caller was released: the item for which it waited, and the rest.
@@ -98,11 +101,14 @@ pub(crate) fn go_on_read(k: &mut KernelState, part: Span) -> Next
     resume_item(k);
     match read_item(k, part.at, part.done) {
         Some(next) => next,
-        None => reads(k, Span {
-            at: part.at,
-            done: part.done + 1,
-            want: part.want,
-        }),
+        None => reads(
+            k,
+            Span {
+                at: part.at,
+                done: part.done + 1,
+                want: part.want,
+            },
+        ),
     }
 }
 

@@ -15,8 +15,7 @@ ghost use Rattle.xinu_model.specs.Sound.Console.{IsConsole};
 ghost use Rattle.xinu_model.specs.Sound.Tables.{IsSoundTables};
 ghost use Rattle.xinu_model.specs.Tables.{semaphore_at};
 
-use crate::console_tokens::input_tokens;
-use crate::console_tokens::{input_sem, output_sem};
+use crate::console_tokens::{input_sem, input_tokens, output_sem};
 use kernel_state::KernelState;
 use xinu_base::{Next, SYSERR};
 

@@ -12,11 +12,11 @@ ghost use Rattle.xinu_model.specs.Devices.Calls as model;
 ghost use Rattle.xinu_model.specs.Devices.Texts.{text_at, text_in};
 ghost use Rattle.xinu_model.specs.Machine.{CallResult, Xinu};
 
+use crate::console_reads::{console_getc, console_read};
 use crate::console_signals::console_control;
 use crate::console_writes::{console_putc, console_write};
-use crate::console_reads::{console_getc, console_read};
-use kernel_state::{KernelState, signed};
 use device_switch::{Kind, Op, device, kind_of, offers};
+use kernel_state::{KernelState, signed};
 use rv_hart::Ram;
 use xinu_base::{Next, SYSERR, is_built_device};
 

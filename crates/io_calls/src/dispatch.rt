@@ -10,7 +10,10 @@ ghost use Rattle.xinu_model.specs.Tables.{process_at};
 
 use crate::console_reads::{go_on_getc, go_on_read};
 use crate::console_writes::{go_on_putc, go_on_write};
-use crate::device_calls::{device_close, device_control, device_getc, device_open, device_putc, device_read, device_seek, device_write};
+use crate::device_calls::{
+    device_close, device_control, device_getc, device_open, device_putc, device_read, device_seek,
+    device_write,
+};
 use kernel_state::KernelState;
 use xinu_base::{Call, Next, Rest, SYSERR};
 

@@ -1,21 +1,15 @@
 -- Processes that are released together, and the first who waits.
-use Rattle.std.proofs.Common.{◌≡◌, ◌∙◌, ◌+◌, ◌-◌, ℕ, Bool, true, false, cond, ◌&&◌, not, ℤ, pos, negsuc, ◌+ℤ◌, int_lt, List, [], ◌∷◌, length, take, refl, sym, ap, subst, arith, ◌≤ℤ◌, nat_abs}
-use Rattle.std.proofs.lemmas.Int.{ints}
-use Rattle.semaphores.specs.Counts.{tokens_of}
+use Rattle.std.proofs.Common.{◌≡◌, ◌∙◌, ℕ, Bool, true, false, cond, ℤ, int_lt, List, [], ◌∷◌, refl, sym, ap}
 use Rattle.semaphores.specs.Signals.{answer_to, signal_answer}
 use Rattle.semaphores.specs.declared.waiting.Signalled.TheVariants.{Full, Released}
-use Rattle.xinu_base.specs.Constants.{OK, SYSERR}
-use Rattle.xinu_model.specs.Machine.{CallState, refused, returns, start, unblock_all_with, with_tables, Xinu}
-use Rattle.xinu_model.specs.Process.Scheduling.{ready, ready_all}
-use Rattle.xinu_model.specs.Semaphores.Calls.{semdelete, semreset, signal, signaln}
-use Rattle.xinu_model.specs.Semaphores.Counts.{count_of, is_good, most_tokens, with_semaphore, with_tokens}
-use Rattle.xinu_model.specs.Semaphores.Waiting.{emptied_with, signal_first, signalled, signalled_times}
-use Rattle.xinu_model.specs.Tables.{no_semaphore, Semaphore, semaphore_at, Tables}
+use Rattle.xinu_model.specs.Machine.{CallState, start, unblock_all_with, with_tables, Xinu}
+use Rattle.xinu_model.specs.Process.Scheduling.{ready_all}
+use Rattle.xinu_model.specs.Semaphores.Counts.{count_of, most_tokens}
+use Rattle.xinu_model.specs.Tables.{Semaphore, Tables}
 use Rattle.kernel_state.specs.Released.{replies_to}
 use Rattle.kernel_tables.specs.Waking.{are_any}
 use Rattle.kernel_state.proofs.Released.{owed_for, unblocked}
-use Rattle.kernel_tables.proofs.Served.{rests_ready, SameRests}
-use Rattle.kernel_tables.proofs.Waiters.{rests_written}
+use Rattle.kernel_tables.proofs.Served.{SameRests}
 
 -- what is under way once these became ready, in these tables
 abbrev pub releasing : ℤ → List ℕ → Tables → Xinu → CallState
@@ -49,4 +43,3 @@ released_first x p h = by_count (int_lt (count_of x) most_tokens) refl h
     by_count : (b : Bool) → int_lt (count_of x) most_tokens ≡ b → Released p ≡ cond b (answer_to x.waiters) Full → IsFirst x p
     by_count true e h = by_waiters x.waiters refl e h
     by_count false e h = absurd (cc)
-

@@ -19,12 +19,7 @@ use xinu_base::{Hart, Next, Pid};
 pub type Replies = ArrayVec<(Pid, i32), 64>;
 
 /// Writes the replies to released processes, and then the caller's.
-pub fn write_all(
-    harts: &mut [Hart; 64],
-    replies: &[(Pid, i32)],
-    answer: Option<Next>,
-    caller: Pid,
-)
+pub fn write_all(harts: &mut [Hart; 64], replies: &[(Pid, i32)], answer: Option<Next>, caller: Pid)
     ensures written { harts.new ≡ model.with_replies (model.and_callers (answer_so_far answer) caller replies.now) harts.old }
 {
     write_replies(harts, replies);
@@ -48,12 +43,7 @@ pub fn owes_after(owes_resched: bool, released: &[Pid]) -> bool
 }
 
 /// Keeps a reply of this value for each of these processes, which were released, of whose call nothing is left.
-pub fn answer_released(
-    replies: &mut Replies,
-    tables: &KernelTables,
-    released: &[Pid],
-    value: i32,
-)
+pub fn answer_released(replies: &mut Replies, tables: &KernelTables, released: &[Pid], value: i32)
     requires none { replies.old.items ≡ [] }
     requires few { length released.now ≤ 64 }
     ensures replies { replies.new.items ≡ replies_to value released.now tables.now }

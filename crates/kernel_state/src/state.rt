@@ -84,7 +84,14 @@ impl KernelState {
     pub fn is_on_device(&self) -> bool
         ensures on { result ≡ is_on_device (process_at self.now.state.tables self.now.state.tables.current).rest }
     {
-        matches!(self.tables.rest(), Rest::TtyGet | Rest::TtyRead(_) | Rest::TtyPut(_, _) | Rest::TtyWrite(_, _) | Rest::Disk(_))
+        matches!(
+            self.tables.rest(),
+            Rest::TtyGet
+                | Rest::TtyRead(_)
+                | Rest::TtyPut(_, _)
+                | Rest::TtyWrite(_, _)
+                | Rest::Disk(_)
+        )
     }
 
     /// The call that the current process's registers ask for.

@@ -10,7 +10,9 @@ ghost use Rattle.xinu_model.specs.Text as model;
 ghost use Rattle.xinu_model.specs.Words as words;
 
 use host_port::Line;
-use xinu_base::{Call, Pid, PoolId, State, TranscriptLine, TtyMode, call_args, call_name, is_built};
+use xinu_base::{
+    Call, Pid, PoolId, State, TranscriptLine, TtyMode, call_args, call_name, is_built,
+};
 
 /// The text of a line, with its line feed.
 pub fn render(line: &TranscriptLine) -> Line

@@ -4,8 +4,8 @@ use Rattle.machine.proofs.Dumps.{tables_printed}
 use Rattle.machine.proofs.tables.print_tables.Goals as goal
 use Rattle.xinu_model.specs.Machine.{CallState}
 
-pub print_ports-requires-clause-many : goal.print_ports-requires-clause-many
-print_ports-requires-clause-many g c = ap (λ (d : CallState). length d.state.parts.ports) c.k.view_is ∙ c.requires.sound.ports.many
+pub print_ports-requires : goal.print_ports-requires
+print_ports-requires g c = record { many = ap (λ (d : CallState). length d.state.parts.ports) c.k.view_is ∙ c.requires.sound.ports.many }
 
 pub returns : goal.returns
 unfolding untouched_devices

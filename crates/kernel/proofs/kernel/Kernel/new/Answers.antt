@@ -1,4 +1,4 @@
-use Rattle.std.proofs.Common.{◌≡◌, ◌∙◌, map, None, ap, arith, sym, subst}
+use Rattle.std.proofs.Common.{◌≡◌, map, None, ap, arith, sym, subst}
 use Rattle.std.proofs.lemmas.List.{length-map}
 use Rattle.image_loader.specs.Images.{loaded_of}
 use Rattle.kernel.proofs.Kept.{kept_idle}
