@@ -1,13 +1,11 @@
 //! Call 2: a new process (book, chapters 5 and 9, `create.c`).
 
-ghost use Rattle.std.specs.Prelude.{◌≡◌, ◌≤◌, ◌%◌, ◌-◌, length, take, drop, IfSome, IfNone, None, Some, slice_set, true, false};
+ghost use Rattle.std.specs.Prelude.{◌≡◌, ◌≤◌, ◌-◌, length, take, drop, IfSome, IfNone, None, Some, true, false};
 ghost use Rattle.kernel_state.specs.Results.{came_to, IsStart};
 ghost use Rattle.process_core.specs.Starts.{padded};
-ghost use Rattle.xinu_model.specs.Heap.Cells as cells;
 ghost use Rattle.xinu_model.specs.Memory.{in_ram};
 ghost use Rattle.xinu_model.specs.Process.Calls as model;
 ghost use Rattle.xinu_model.specs.Process.Creation as creation;
-ghost use Rattle.xinu_model.specs.Tables.{move_to, Nowhere, state_at};
 
 use kernel_state::{Creation, KernelState, make_on_stack};
 use rv_hart::Ram;

@@ -6,7 +6,7 @@ ghost use Rattle.std.specs.Prelude.{◌≡◌, ◌≢◌};
 ghost use Rattle.kernel_state.specs.Results.{came_to, IsStart};
 ghost use Rattle.xinu_model.specs.Clock as clock;
 ghost use Rattle.xinu_model.specs.Process.Calls as model;
-ghost use Rattle.xinu_model.specs.Process.Death.{exit, killed};
+ghost use Rattle.xinu_model.specs.Process.Death.{exit};
 ghost use Rattle.xinu_model.specs.Sound.Tables.{IsSoundTables};
 ghost use Rattle.xinu_model.specs.Tables.{state_at};
 

@@ -3,15 +3,10 @@
 //!
 //! Each is the row of its number in the abstract machine's table. A word that names no semaphore that a process made is refused.
 
-ghost use Rattle.std.specs.Prelude.{◌≡◌, ◌≢◌, ◌≤◌, [], true, int_lt, length};
-ghost use Rattle.kernel_state.specs.Released.{IsOfPart, replies_to};
+ghost use Rattle.std.specs.Prelude.{◌≡◌, ◌≢◌};
 ghost use Rattle.kernel_state.specs.Results.{came_to, IsStart};
-ghost use Rattle.kernel_tables.specs.Waking.{are_any};
 ghost use Rattle.xinu_model.specs.Semaphores.Calls as model;
-ghost use Rattle.xinu_model.specs.Semaphores.Counts.{count_of, most_tokens};
-ghost use Rattle.xinu_model.specs.Semaphores.Waiting.{signalled};
 ghost use Rattle.xinu_model.specs.Sound.Tables.{IsSoundTables};
-ghost use Rattle.xinu_model.specs.Tables.{semaphore_at};
 
 use kernel_state::KernelState;
 use semaphores::Signalled;

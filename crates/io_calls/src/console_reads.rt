@@ -3,9 +3,9 @@
 //!
 //! Each item is taken by a token. In cooked mode the end mark is the end of the input, and a read ends with its line.
 
-ghost use Rattle.std.specs.Prelude.{◌≡◌, ◌<◌, ◌≤◌, ◌+◌, ◌-◌, IfNone, length};
+ghost use Rattle.std.specs.Prelude.{◌≡◌, ◌<◌, ◌≤◌, ◌+◌, ◌-◌, IfNone};
 ghost use Rattle.io_calls.specs.Consoles.{Begins, HasItem, unless_ended};
-ghost use Rattle.kernel_state.specs.Results.{came_to, IsStart};
+ghost use Rattle.kernel_state.specs.Results.{came_to};
 ghost use Rattle.xinu_model.specs.Console.Taking as model;
 ghost use Rattle.xinu_model.specs.Machine.{CallResult, Xinu};
 ghost use Rattle.xinu_model.specs.Memory.{ram_size};

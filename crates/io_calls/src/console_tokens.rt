@@ -4,16 +4,15 @@
 //! Who has a token of the input finds an item that is promised to nobody else (`HasItem`), and who has one of the output finds room
 //! (`HasPlace`). A step inside a call says for every continuation what it leaves to be done.
 
-ghost use Rattle.std.specs.Prelude.{◌≡◌, ◌<◌, ◌≤◌, ◌+◌, ◌∷◌, [], true, length, slice_index};
+ghost use Rattle.std.specs.Prelude.{◌≡◌, ◌<◌, ◌∷◌, [], true, slice_index};
 ghost use Rattle.io_calls.specs.Consoles.{Begins, GoesOn, HasItem, HasPlace, if_taken};
-ghost use Rattle.kernel_state.specs.Results.{came_to, IsStart};
 ghost use Rattle.xinu_model.specs.Console.Putting as model;
 ghost use Rattle.xinu_model.specs.Console.Taking as taking;
 ghost use Rattle.xinu_model.specs.Machine as machine;
 ghost use Rattle.xinu_model.specs.Machine.{Xinu, CallResult};
 ghost use Rattle.xinu_model.specs.Memory.{ram_size, with_bytes};
 ghost use Rattle.xinu_model.specs.Messages.{held};
-ghost use Rattle.xinu_model.specs.Semaphores.Waiting.{await, signalled_times};
+ghost use Rattle.xinu_model.specs.Semaphores.Waiting.{await};
 ghost use Rattle.xinu_model.specs.Sound.Tables.{asks_input, asks_output, IsSoundTables};
 ghost use Rattle.xinu_model.specs.Tables.{semaphore_at};
 

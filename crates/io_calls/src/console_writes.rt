@@ -5,7 +5,7 @@
 
 ghost use Rattle.std.specs.Prelude.{◌≡◌, ◌≤◌, ◌+◌, ◌-◌, true};
 ghost use Rattle.io_calls.specs.Consoles.{Begins, HasPlace};
-ghost use Rattle.kernel_state.specs.Results.{came_to, IsStart};
+ghost use Rattle.kernel_state.specs.Results.{came_to};
 ghost use Rattle.xinu_base.specs.Constants.{OK};
 ghost use Rattle.xinu_base.specs.declared.processes.Rest.TheVariants as rest;
 ghost use Rattle.xinu_model.specs.Console.Putting as model;

@@ -1,9 +1,9 @@
 //! The calls on devices by their numbers, and what is left of those that wait.
 
-ghost use Rattle.std.specs.Prelude.{◌≡◌, ◌≢◌, ◌≤◌, true, false};
+ghost use Rattle.std.specs.Prelude.{◌≡◌, ◌≤◌, true};
 ghost use Rattle.kernel_state.specs.Families.{is_on_device};
 ghost use Rattle.kernel_state.specs.Calling.{IsCalling};
-ghost use Rattle.kernel_state.specs.Results.{came_to, IsStart};
+ghost use Rattle.kernel_state.specs.Results.{came_to};
 ghost use Rattle.xinu_base.specs.Syscalls.{is_built};
 ghost use Rattle.xinu_model.specs.Calls.{called, continued};
 ghost use Rattle.xinu_model.specs.Tables.{process_at};

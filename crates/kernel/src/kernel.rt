@@ -7,7 +7,7 @@ ghost use Rattle.image_loader.specs.Images.{loaded_of};
 ghost use Rattle.io_calls.specs.Consoles.{after_sending};
 ghost use Rattle.kernel.specs.Booted.{Booted};
 ghost use Rattle.kernel_state.specs.Calling.{IsCalling};
-ghost use Rattle.kernel_state.specs.Results.{answer_of, answer_so_far, came_to, idle, IsIdle, IsStart};
+ghost use Rattle.kernel_state.specs.Results.{answer_of, answer_so_far, came_to, idle, IsIdle};
 ghost use Rattle.xinu_laws.specs.Preserve.{ticking};
 ghost use Rattle.xinu_model.specs.Calls.{called, continued};
 ghost use Rattle.xinu_model.specs.Console.Signals.{receiving};
@@ -69,9 +69,10 @@ impl Kernel {
         })
     }
 
-    /// The state inside the event: tables, heap, pools, ports and devices, and the replies to released processes so far.
+    /// The state inside the event: tables, heap, pools, thirty ports and devices, and the replies to released processes so far.
     pub fn state(&self) -> &KernelState
         ensures state { result.now ≡ self.now.call }
+        ensures many { length result.now.state.parts.ports ≡ 30 }
     {
         &self.state
     }

@@ -2,7 +2,7 @@
 //!
 //! It depends on the kernel's state and the places of images in RAM.
 
-ghost use Rattle.std.specs.Prelude.{◌≡◌, ◌≢◌, ◌≤◌, ◌<◌, ◌+◌, ℕ, length, map, IfOk, IfSome, IfNone, if◌then◌else◌};
+ghost use Rattle.std.specs.Prelude.{◌≡◌, ◌≤◌, ◌<◌, ◌+◌, ℕ, length, map, IfOk, IfSome, IfNone, if◌then◌else◌};
 ghost use Rattle.image_loader.specs.Images.{loaded_of};
 ghost use Rattle.kernel_boot.specs.Boots.{BootsAs};
 ghost use Rattle.kernel_state.specs.Results.{IsStart};

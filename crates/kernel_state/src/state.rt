@@ -5,21 +5,12 @@
 //! it: the kernel keeps what holds of all of it.
 
 ghost use Rattle.std.specs.Prelude.{◌≡◌, ◌≤◌, ◌↔◌, IsTrue, [], length};
-ghost use Rattle.kernel_state.specs.Devices.{untouched_devices};
 ghost use Rattle.kernel_state.specs.Families.{is_on_device};
-ghost use Rattle.kernel_state.specs.Results.{answer_so_far, came_to, IsStart};
-ghost use Rattle.xinu_laws.specs.Preserve.{ticking};
-ghost use Rattle.xinu_model.specs.Calls.{called, continued};
+ghost use Rattle.kernel_state.specs.Results.{answer_so_far};
 ghost use Rattle.xinu_model.specs.Events.{call_of, with_executed};
 ghost use Rattle.xinu_model.specs.Isa.Exec.{exec};
-ghost use Rattle.xinu_model.specs.Machine.{current_hart, end_of_event, Silent, start};
-ghost use Rattle.xinu_model.specs.Ports.Queues.{port_at};
-ghost use Rattle.xinu_model.specs.Sound.Devices.{AreDevices};
-ghost use Rattle.xinu_model.specs.Sound.Pools.{ArePools};
-ghost use Rattle.xinu_model.specs.Sound.Ports.{ArePorts};
-ghost use Rattle.xinu_model.specs.Sound.State.{AreHarts};
-ghost use Rattle.xinu_model.specs.Sound.Tables.{IsSoundTables};
-ghost use Rattle.xinu_model.specs.Tables.{process_at, state_at};
+ghost use Rattle.xinu_model.specs.Machine.{current_hart, end_of_event, start};
+ghost use Rattle.xinu_model.specs.Tables.{process_at};
 ghost use Rattle.xinu_model.specs.Words.{half, signed};
 
 use crate::replies::{Replies, is_resched_due, write_all};

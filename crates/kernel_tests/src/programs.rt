@@ -1,6 +1,6 @@
 //! Boot, the steps of a program, and a tick.
 
-ghost use Rattle.std.specs.Prelude.{ℕ, ◌<◌, IfOk, IfSome};
+ghost use Rattle.std.specs.Prelude.{ℕ, ◌≡◌, ◌<◌, IfOk, IfSome, length};
 ghost use Rattle.kernel_state.specs.Results.{IsIdle};
 ghost use Rattle.xinu_model.specs.Ports.Queues.{port_at};
 
@@ -46,6 +46,7 @@ fn image_of(file: &[u8]) -> Result<Image<'_>, Fail> {
 
 // `None` if the sequence number of a port can't rise.
 fn numbers_left(k: &KernelState) -> Option<()>
+    requires many { length k.now.state.parts.ports ≡ 30 }
     ensures numbers { IfSome result (λ _. (q : ℕ) → (port_at k.now.state.parts.ports q).seq < 4294967295) }
 {
     let ports = &k.ports;

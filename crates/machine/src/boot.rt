@@ -1,6 +1,6 @@
 //! Boot: a machine whose kernel holds the images (book, chapter 22).
 
-ghost use Rattle.std.specs.Prelude.{◌≡◌, ◌≤◌, IfOk, length, map};
+ghost use Rattle.std.specs.Prelude.{◌≤◌, IfOk, length, map};
 ghost use Rattle.image_loader.specs.Images.{loaded_of};
 ghost use Rattle.machine.specs.Starts.{Starts};
 ghost use Rattle.xinu_laws.specs.Ownership.Apart.{IsApart};

@@ -1,6 +1,6 @@
 //! Printing: one `emit` for each line; if the output is plain, one for each byte that the console sent.
 
-ghost use Rattle.std.specs.Prelude.{◌≡◌, ◌∷◌, [], map};
+ghost use Rattle.std.specs.Prelude.{◌∷◌, [], map};
 ghost use Rattle.host_port.specs.Printing.{Prints};
 ghost use Rattle.xinu_model.specs.Machine.{return_line, switched};
 ghost use Rattle.xinu_model.specs.Text.{shown};

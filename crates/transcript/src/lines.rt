@@ -1,13 +1,12 @@
 //! The lines of a transcript as text.
 
-ghost use Rattle.std.specs.Prelude.{◌≡◌, ◌+◌, ◌*◌, ◌++◌, ◌≤◌, ◌^◌, ◌<◌, [], ◌∷◌, codes, length, map, take, pos};
+ghost use Rattle.std.specs.Prelude.{◌≡◌, ◌+◌, ◌*◌, ◌++◌, ◌≤◌, ◌<◌, [], ◌∷◌, codes, length, map, pos};
 ghost use Rattle.std.specs.Fmt.{decimal, signed_decimal};
 ghost use Rattle.host_port.specs.LineText.{blanked};
 ghost use Rattle.xinu_base.specs.declared.lines.TranscriptLine.TheVariants as variant;
 ghost use Rattle.xinu_model.specs.Process.Creation as processes;
 ghost use Rattle.xinu_base.specs.Names as names;
 ghost use Rattle.xinu_model.specs.Text as model;
-ghost use Rattle.xinu_model.specs.Words as words;
 
 use host_port::Line;
 use xinu_base::{
