@@ -97,7 +97,6 @@ clear_image image e =
     }
 
 module _ (g : Geometry) (d : Shape) (c : Clear g d) where
-
   -- a used entry is whole
   used_whole : (k : ℕ) → k < length d.entries → entry_is_used (get_or d.entries k void_entry) ≡ true → is_whole g d.indexes (get_or d.entries k void_entry) ≡ true
   used_whole k h u =

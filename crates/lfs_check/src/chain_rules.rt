@@ -113,7 +113,13 @@ fn file_may_end(geometry: Geometry, need: usize, len: usize, end: u32) -> bool
 }
 
 /// Rule 4 for the end of the walk of the file of entry `k`.
-pub(crate) fn end_fault(geometry: Geometry, k: usize, entry: &Entry, met: &[u32], end: u32) -> Option<u32>
+pub(crate) fn end_fault(
+    geometry: Geometry,
+    k: usize,
+    entry: &Entry,
+    met: &[u32],
+    end: u32,
+) -> Option<u32>
     requires geometry { IsGeometry geometry }
     requires few { k < 78 }
     ensures { result ≡ end_fault geometry k entry.now met.now end }
@@ -166,7 +172,12 @@ fn row_fault(geometry: Geometry, indexes: &[Index], wanted: usize, i: u32) -> Op
 }
 
 /// Rule 4 for the data numbers in the index blocks of a file.
-pub(crate) fn rows_fault(geometry: Geometry, indexes: &[Index], wanted: usize, met: &[u32]) -> Option<u32>
+pub(crate) fn rows_fault(
+    geometry: Geometry,
+    indexes: &[Index],
+    wanted: usize,
+    met: &[u32],
+) -> Option<u32>
     requires geometry { IsGeometry geometry }
     requires below { (j : ℕ) → j < length met.now → slice_index met.now j < length indexes.now }
     ensures { result ≡ rows_fault geometry indexes.now wanted met.now }

@@ -2,7 +2,7 @@
 
 ghost use Rattle.std.specs.Prelude.{◌≡◌, ◌+◌, ◌*◌, ◌≤◌, ◌++◌, ◌∷◌, [], length, IfOk, None};
 ghost use Rattle.lfs_check.specs.Geometries.{index_count, IsGeometry};
-ghost use Rattle.lfs_check.specs.Checks.{nexts_of, rule_4, rule_5, rule_6, rule_7, free_data_fault, free_index_fault, least, free_data_of, free_index_of, free_data_end, free_index_end, index_numbers, data_numbers};
+ghost use Rattle.lfs_check.specs.Checks.{rule_4, rule_5, rule_6, rule_7, free_data_fault, free_index_fault, least, free_data_of, free_index_of, free_data_end, free_index_end, index_numbers, data_numbers};
 ghost use Rattle.lfs_check.specs.Fields.{fields_of, directory_header, directory_entries, geometry_of};
 ghost use Rattle.lfs_check.specs.Faults.{named, either_fault, IsCheckResult, dir_fault, walks_fault, shape_fault, counted_report, fault, report};
 
@@ -11,6 +11,7 @@ use crate::faults::{CheckFault, DiskFault, Report, fault_at, first_of_two};
 use crate::fields::{Header, dirs_of, read_directory, read_indexes, read_links, read_nexts};
 use crate::geometry::{Geometry, data_from, indexes_on};
 use crate::meets::count_all;
+use crate::parts::Fields;
 use crate::rules::{count_fault, file_size_fault, name_fault, size_fault};
 use crate::survey::{Survey, add_walk, survey_files};
 use crate::walks::{Walk, walk_chain};
@@ -156,14 +157,17 @@ fn walk_all(
         indexes_on(geometry) as usize,
         header.free_index,
     )?;
+    let fields = Fields {
+        geometry,
+        indexes,
+        nexts: nexts.as_slice(),
+    };
     let survey = survey_all(
         alloc,
-        geometry,
+        &fields,
         header,
         entries,
-        indexes,
         links,
-        &nexts,
         &free_data,
         &free_index,
     )?;
@@ -184,30 +188,25 @@ fn walk_all(
 // The walks of all chains of a disk.
 fn survey_all(
     alloc: Global,
-    geometry: Geometry,
+    fields: &Fields<'_>,
     header: Header,
     entries: &[Entry],
-    indexes: &[Index],
     links: &[u32],
-    nexts: &[u32],
     free_data: &Walk,
     free_index: &Walk,
 ) -> Result<Survey, AllocError>
-    requires geometry { IsGeometry geometry }
     requires few { length entries.now ≤ 78 }
-    requires indexes { length indexes.now ≡ index_count geometry }
-    requires nexts { nexts.now ≡ nexts_of indexes.now }
-    requires data_met { free_data.now.met.items ≡ free_data_of geometry (record { header = header; entries = entries.now; indexes = indexes.now; links = links.now }) }
-    requires data_end { free_data.now.end ≡ free_data_end geometry (record { header = header; entries = entries.now; indexes = indexes.now; links = links.now }) }
-    requires index_met { free_index.now.met.items ≡ free_index_of geometry (record { header = header; entries = entries.now; indexes = indexes.now; links = links.now }) }
-    requires index_end { free_index.now.end ≡ free_index_end geometry (record { header = header; entries = entries.now; indexes = indexes.now; links = links.now }) }
-    ensures rule_4 { IfOk result (λ s. s.rule_4 ≡ rule_4 geometry (record { header = header; entries = entries.now; indexes = indexes.now; links = links.now })) }
-    ensures rule_5 { IfOk result (λ s. s.rule_5 ≡ rule_5 geometry (record { header = header; entries = entries.now; indexes = indexes.now; links = links.now })) }
-    ensures index_numbers { IfOk result (λ s. s.index_numbers.items ≡ index_numbers geometry (record { header = header; entries = entries.now; indexes = indexes.now; links = links.now })) }
-    ensures data_numbers { IfOk result (λ s. s.data_numbers.items ≡ data_numbers geometry (record { header = header; entries = entries.now; indexes = indexes.now; links = links.now })) }
+    requires data_met { free_data.now.met.items ≡ free_data_of fields.now.geometry (record { header = header; entries = entries.now; indexes = fields.now.indexes.now; links = links.now }) }
+    requires data_end { free_data.now.end ≡ free_data_end fields.now.geometry (record { header = header; entries = entries.now; indexes = fields.now.indexes.now; links = links.now }) }
+    requires index_met { free_index.now.met.items ≡ free_index_of fields.now.geometry (record { header = header; entries = entries.now; indexes = fields.now.indexes.now; links = links.now }) }
+    requires index_end { free_index.now.end ≡ free_index_end fields.now.geometry (record { header = header; entries = entries.now; indexes = fields.now.indexes.now; links = links.now }) }
+    ensures rule_4 { IfOk result (λ s. s.rule_4 ≡ rule_4 fields.now.geometry (record { header = header; entries = entries.now; indexes = fields.now.indexes.now; links = links.now })) }
+    ensures rule_5 { IfOk result (λ s. s.rule_5 ≡ rule_5 fields.now.geometry (record { header = header; entries = entries.now; indexes = fields.now.indexes.now; links = links.now })) }
+    ensures index_numbers { IfOk result (λ s. s.index_numbers.items ≡ index_numbers fields.now.geometry (record { header = header; entries = entries.now; indexes = fields.now.indexes.now; links = links.now })) }
+    ensures data_numbers { IfOk result (λ s. s.data_numbers.items ≡ data_numbers fields.now.geometry (record { header = header; entries = entries.now; indexes = fields.now.indexes.now; links = links.now })) }
 {
-    let mut survey = begin_survey(alloc, geometry, free_data, free_index)?;
-    survey_files(&mut survey, alloc, geometry, indexes, nexts, entries)?;
+    let mut survey = begin_survey(alloc, fields.geometry, free_data, free_index)?;
+    survey_files(&mut survey, alloc, fields, entries)?;
     Ok(survey)
 }
 

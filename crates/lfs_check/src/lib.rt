@@ -14,6 +14,7 @@
 //! | [`read_directory`] | `header`, `entries`: the counts and the entries of the image; `few`: at most 78 |
 //! | [`read_indexes`], [`read_links`] | `items`: the index blocks and the first words of all blocks; `len`: how many there are |
 //! | [`read_nexts`] | the next of each index block |
+//! | [`Fields`] | `right`, `count`, `chained`: a geometry, all its index blocks and the next of each; the walks of files read these |
 //! | [`block_at`] | the bytes of a block |
 //! | [`entry_is_used`], [`used_count`] | whether an entry is used, and how many are |
 //! | [`indexes_needed`], [`data_needed`] | how many blocks the file of an entry needs |
@@ -37,6 +38,7 @@ mod fields;
 mod geometry;
 mod laws;
 mod meets;
+mod parts;
 mod repair;
 mod rules;
 mod survey;
@@ -53,6 +55,7 @@ pub use laws::{
     built_is_clean, clean_image_keeps_all, clean_image_lies, clean_is_laid, empty_is_clean,
     kept_are_apart, migration_fits, places_are_read,
 };
+pub use parts::Fields;
 pub use repair::kept_entries;
 pub use rules::{entry_is_used, size_fault, used_count};
 pub use survey::file_blocks;

@@ -5,38 +5,34 @@ ghost use Rattle.std.specs.List.{flat_map};
 ghost use Rattle.lfs_check.specs.Geometries.{index_count, room, IsGeometry};
 ghost use Rattle.lfs_check.specs.Rules.{is_larger};
 ghost use Rattle.lfs_check.specs.Meets.{times_met};
-ghost use Rattle.lfs_check.specs.Checks.{nexts_of, met_of, end_of_walk, data_row};
+ghost use Rattle.lfs_check.specs.Checks.{met_of, end_of_walk, data_row};
 ghost use Rattle.lfs_check.specs.Clean.{chain_in, data_in};
 ghost use Rattle.lfs_check.specs.Kept.{has_sound_fields, has_sound_walk, is_whole, is_none, whole_entries, kept_entries, kept_counted, counted_once};
 
 use crate::chain_rules::{data_needed, indexes_needed, offsets_fault, rows_fault};
 use crate::geometry::{Geometry, data_from, indexes_on};
 use crate::meets::count_meets;
+use crate::parts::Fields;
 use crate::rules::{entry_is_used, is_repeated, is_text};
 use crate::survey::{file_blocks, file_chain, walk_file};
 use crate::walks::Walk;
-use lfs_format::{Entry, Index, NULL};
+use lfs_format::{Entry, NULL};
 use std::alloc::{AllocError, Global};
 
 /// The entries that are kept, in their order: each is whole, no lower whole entry has its name, and it shares no block with
 /// another whole entry.
 pub fn kept_entries(
     alloc: Global,
-    geometry: Geometry,
-    indexes: &[Index],
-    nexts: &[u32],
+    fields: &Fields<'_>,
     entries: &[Entry],
 ) -> Result<Vec<Entry>, AllocError>
-    requires geometry { IsGeometry geometry }
-    requires count { length indexes.now ≡ index_count geometry }
-    requires nexts { nexts.now ≡ nexts_of indexes.now }
-    requires rows { (i : ℕ) → i < index_count geometry → length (data_row indexes.now i) ≡ 16 }
-    ensures { IfOk result (λ v. v.items ≡ kept_entries geometry indexes.now entries.now) }
+    requires rows { (i : ℕ) → i < index_count fields.now.geometry → length (data_row fields.now.indexes.now i) ≡ 16 }
+    ensures { IfOk result (λ v. v.items ≡ kept_entries fields.now.geometry fields.now.indexes.now entries.now) }
 {
-    let wholes = find_wholes(alloc, geometry, indexes, nexts, entries)?;
-    let chains = count_chains(alloc, geometry, indexes, nexts, &wholes)?;
-    let blocks = count_blocks(alloc, geometry, indexes, nexts, &wholes)?;
-    let kept = keep(alloc, geometry, indexes, nexts, &wholes, &chains, &blocks)?;
+    let wholes = find_wholes(alloc, fields, entries)?;
+    let chains = count_chains(alloc, fields, &wholes)?;
+    let blocks = count_blocks(alloc, fields, &wholes)?;
+    let kept = keep(alloc, fields, &wholes, &chains, &blocks)?;
     Ok(kept)
 }
 
@@ -68,63 +64,53 @@ fn is_none(found: Option<u32>) -> bool
 }
 
 // Whether the walk of an entry meets what its size needs.
-fn has_sound_walk(geometry: Geometry, indexes: &[Index], entry: &Entry, walk: &Walk) -> bool
-    requires geometry { IsGeometry geometry }
-    requires met { walk.now.met.items ≡ met_of geometry indexes.now entry.now }
-    requires end { walk.now.end ≡ end_of_walk geometry indexes.now entry.now }
-    requires below { (j : ℕ) → j < length walk.now.met.items → slice_index walk.now.met.items j < length indexes.now }
+fn has_sound_walk(fields: &Fields<'_>, entry: &Entry, walk: &Walk) -> bool
+    requires met { walk.now.met.items ≡ met_of fields.now.geometry fields.now.indexes.now entry.now }
+    requires end { walk.now.end ≡ end_of_walk fields.now.geometry fields.now.indexes.now entry.now }
+    requires below { (j : ℕ) → j < length walk.now.met.items → slice_index walk.now.met.items j < length fields.now.indexes.now }
     requires few { length walk.now.met.items ≤ 2 ^ 20 }
-    ensures { result ≡ has_sound_walk geometry indexes.now entry.now }
+    ensures { result ≡ has_sound_walk fields.now.geometry fields.now.indexes.now entry.now }
 {
     walk.met.len() == indexes_needed(entry)
         && walk.end == NULL
-        && is_none(rows_fault(geometry, indexes, data_needed(entry), &walk.met))
-        && is_none(offsets_fault(geometry, indexes, &walk.met))
+        && is_none(rows_fault(
+            fields.geometry,
+            fields.indexes,
+            data_needed(entry),
+            &walk.met,
+        ))
+        && is_none(offsets_fault(fields.geometry, fields.indexes, &walk.met))
 }
 
 // Whether an entry is whole: its fields and its walk are sound, and no data block is met twice in it.
-fn is_whole(
-    alloc: Global,
-    geometry: Geometry,
-    indexes: &[Index],
-    nexts: &[u32],
-    entry: &Entry,
-) -> Result<bool, AllocError>
-    requires geometry { IsGeometry geometry }
-    requires count { length indexes.now ≡ index_count geometry }
-    requires nexts { nexts.now ≡ nexts_of indexes.now }
-    requires rows { (i : ℕ) → i < index_count geometry → length (data_row indexes.now i) ≡ 16 }
-    ensures { IfOk result (λ b. b ≡ is_whole geometry indexes.now entry.now) }
+fn is_whole(alloc: Global, fields: &Fields<'_>, entry: &Entry) -> Result<bool, AllocError>
+    requires rows { (i : ℕ) → i < index_count fields.now.geometry → length (data_row fields.now.indexes.now i) ≡ 16 }
+    ensures { IfOk result (λ b. b ≡ is_whole fields.now.geometry fields.now.indexes.now entry.now) }
 {
-    if !has_sound_fields(geometry, entry) {
+    if !has_sound_fields(fields.geometry, entry) {
         return Ok(false);
     }
-    let walk = walk_file(alloc, geometry, indexes, nexts, entry)?;
-    if !has_sound_walk(geometry, indexes, entry, &walk) {
+    let walk = walk_file(alloc, fields, entry)?;
+    if !has_sound_walk(fields, entry, &walk) {
         return Ok(false);
     }
-    let numbers = file_blocks(alloc, geometry, indexes, nexts, entry)?;
-    let counts = count_meets(alloc, &numbers, geometry.blocks)?;
+    let numbers = file_blocks(alloc, fields, entry)?;
+    let counts = count_meets(alloc, &numbers, fields.geometry.blocks)?;
     Ok(are_once(&numbers, &counts))
 }
 
 // The whole entries, in their order.
 fn find_wholes(
     alloc: Global,
-    geometry: Geometry,
-    indexes: &[Index],
-    nexts: &[u32],
+    fields: &Fields<'_>,
     entries: &[Entry],
 ) -> Result<Vec<Entry>, AllocError>
-    requires geometry { IsGeometry geometry }
-    requires count { length indexes.now ≡ index_count geometry }
-    requires nexts { nexts.now ≡ nexts_of indexes.now }
-    requires rows { (i : ℕ) → i < index_count geometry → length (data_row indexes.now i) ≡ 16 }
-    ensures { IfOk result (λ v. v.items ≡ whole_entries geometry indexes.now entries.now) }
+    requires rows { (i : ℕ) → i < index_count fields.now.geometry → length (data_row fields.now.indexes.now i) ≡ 16 }
+    ensures { IfOk result (λ v. v.items ≡ whole_entries fields.now.geometry fields.now.indexes.now entries.now) }
 {
     let mut wholes = Vec::new(alloc);
     for entry in entries {
-        if is_whole(alloc, geometry, indexes, nexts, entry)? {
+        if is_whole(alloc, fields, entry)? {
             wholes.push(*entry)?;
         }
     }
@@ -134,67 +120,52 @@ fn find_wholes(
 // How often each index block is in the chains of entries.
 fn count_chains(
     alloc: Global,
-    geometry: Geometry,
-    indexes: &[Index],
-    nexts: &[u32],
+    fields: &Fields<'_>,
     entries: &[Entry],
 ) -> Result<Vec<u8>, AllocError>
-    requires geometry { IsGeometry geometry }
-    requires count { length indexes.now ≡ index_count geometry }
-    requires nexts { nexts.now ≡ nexts_of indexes.now }
-    ensures { IfOk result (λ c. (n : ℕ) → n < index_count geometry → slice_index c.items n ≡ min 2 (times_met n (flat_map (chain_in geometry indexes.now) entries.now))) }
+    ensures { IfOk result (λ c. (n : ℕ) → n < index_count fields.now.geometry → slice_index c.items n ≡ min 2 (times_met n (flat_map (chain_in fields.now.geometry fields.now.indexes.now) entries.now))) }
 {
     let mut numbers = Vec::new(alloc);
     for entry in entries {
-        let chain = file_chain(alloc, geometry, indexes, nexts, entry)?;
+        let chain = file_chain(alloc, fields, entry)?;
         numbers.extend_from_slice(&chain)?;
     }
-    let counts = count_meets(alloc, &numbers, indexes_on(geometry))?;
+    let counts = count_meets(alloc, &numbers, indexes_on(fields.geometry))?;
     Ok(counts)
 }
 
 // How often each data block is in the files of entries.
 fn count_blocks(
     alloc: Global,
-    geometry: Geometry,
-    indexes: &[Index],
-    nexts: &[u32],
+    fields: &Fields<'_>,
     entries: &[Entry],
 ) -> Result<Vec<u8>, AllocError>
-    requires geometry { IsGeometry geometry }
-    requires count { length indexes.now ≡ index_count geometry }
-    requires nexts { nexts.now ≡ nexts_of indexes.now }
-    ensures { IfOk result (λ c. (n : ℕ) → n < geometry.blocks → slice_index c.items n ≡ min 2 (times_met n (flat_map (data_in geometry indexes.now) entries.now))) }
+    ensures { IfOk result (λ c. (n : ℕ) → n < fields.now.geometry.blocks → slice_index c.items n ≡ min 2 (times_met n (flat_map (data_in fields.now.geometry fields.now.indexes.now) entries.now))) }
 {
     let mut numbers = Vec::new(alloc);
     for entry in entries {
-        let blocks = file_blocks(alloc, geometry, indexes, nexts, entry)?;
+        let blocks = file_blocks(alloc, fields, entry)?;
         numbers.extend_from_slice(&blocks)?;
     }
-    let counts = count_meets(alloc, &numbers, geometry.blocks)?;
+    let counts = count_meets(alloc, &numbers, fields.geometry.blocks)?;
     Ok(counts)
 }
 
 // Those of whole entries that are kept, by the counts of their blocks.
 fn keep(
     alloc: Global,
-    geometry: Geometry,
-    indexes: &[Index],
-    nexts: &[u32],
+    fields: &Fields<'_>,
     wholes: &[Entry],
     chains: &[u8],
     blocks: &[u8],
 ) -> Result<Vec<Entry>, AllocError>
-    requires geometry { IsGeometry geometry }
-    requires count { length indexes.now ≡ index_count geometry }
-    requires nexts { nexts.now ≡ nexts_of indexes.now }
-    ensures { IfOk result (λ v. v.items ≡ kept_counted geometry indexes.now chains.now blocks.now [] wholes.now) }
+    ensures { IfOk result (λ v. v.items ≡ kept_counted fields.now.geometry fields.now.indexes.now chains.now blocks.now [] wholes.now) }
 {
     let mut kept = Vec::new(alloc);
     for k in 0..wholes.len() {
         let entry = wholes[k];
-        let chain = file_chain(alloc, geometry, indexes, nexts, &entry)?;
-        let numbers = file_blocks(alloc, geometry, indexes, nexts, &entry)?;
+        let chain = file_chain(alloc, fields, &entry)?;
+        let numbers = file_blocks(alloc, fields, &entry)?;
         if !is_repeated(&wholes[..k], &entry.name)
             && are_once(&chain, chains)
             && are_once(&numbers, blocks)

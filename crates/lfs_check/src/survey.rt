@@ -2,15 +2,15 @@
 
 ghost use Rattle.std.specs.Prelude.{◌≡◌, ℕ, ◌+◌, ◌*◌, ◌≤◌, ◌<◌, ◌^◌, ◌++◌, ◌∷◌, [], length, slice_index, slice_index_or, drop, IfOk, OnOk, map, None};
 ghost use Rattle.std.specs.List.{flat_map};
-ghost use Rattle.lfs_check.specs.Geometries.{index_count, IsGeometry};
-ghost use Rattle.lfs_check.specs.Checks.{least, need_index, need_data, nexts_of, met_of, end_of_walk, end_fault, rows_fault, offsets_fault, file_fault_4, file_fault_5, file_index_numbers, file_data_numbers, data_row, lowest_of};
+ghost use Rattle.lfs_check.specs.Checks.{least, need_index, need_data, met_of, end_of_walk, end_fault, rows_fault, offsets_fault, file_fault_4, file_fault_5, file_index_numbers, file_data_numbers, data_row, lowest_of};
 ghost use Rattle.lfs_check.specs.Rules.{entry_is_used};
 ghost use Rattle.lfs_check.specs.Clean.{chain_in, data_in};
 
 use crate::chain_rules::{
     data_needed, end_fault, indexes_needed, least, offsets_fault, rows_fault,
 };
-use crate::geometry::{Geometry, indexes_on};
+use crate::geometry::indexes_on;
+use crate::parts::Fields;
 use crate::rules::entry_is_used;
 use crate::walks::{Walk, walk_chain};
 use lfs_format::{Entry, Index};
@@ -28,20 +28,15 @@ pub(crate) struct Survey {
 /// The data blocks of the file of an entry: as many of the numbers in its index blocks as its size needs.
 pub fn file_blocks(
     alloc: Global,
-    geometry: Geometry,
-    indexes: &[Index],
-    nexts: &[u32],
+    fields: &Fields<'_>,
     entry: &Entry,
 ) -> Result<Vec<u32>, AllocError>
-    requires geometry { IsGeometry geometry }
-    requires count { length indexes.now ≡ index_count geometry }
-    requires nexts { nexts.now ≡ nexts_of indexes.now }
-    ensures { IfOk result (λ v. v.items ≡ data_in geometry indexes.now entry.now) }
+    ensures { IfOk result (λ v. v.items ≡ data_in fields.now.geometry fields.now.indexes.now entry.now) }
 {
     let mut numbers = Vec::new(alloc);
     if entry_is_used(entry) {
-        let walk = walk_file(alloc, geometry, indexes, nexts, entry)?;
-        add_rows(&mut numbers, indexes, &walk.met)?;
+        let walk = walk_file(alloc, fields, entry)?;
+        add_rows(&mut numbers, fields.indexes, &walk.met)?;
         numbers.truncate(data_needed(entry));
     }
     Ok(numbers)
@@ -50,18 +45,13 @@ pub fn file_blocks(
 /// The index blocks of the file of an entry.
 pub(crate) fn file_chain(
     alloc: Global,
-    geometry: Geometry,
-    indexes: &[Index],
-    nexts: &[u32],
+    fields: &Fields<'_>,
     entry: &Entry,
 ) -> Result<Vec<u32>, AllocError>
-    requires geometry { IsGeometry geometry }
-    requires count { length indexes.now ≡ index_count geometry }
-    requires nexts { nexts.now ≡ nexts_of indexes.now }
-    ensures { IfOk result (λ v. v.items ≡ chain_in geometry indexes.now entry.now) }
+    ensures { IfOk result (λ v. v.items ≡ chain_in fields.now.geometry fields.now.indexes.now entry.now) }
 {
     if entry_is_used(entry) {
-        let walk = walk_file(alloc, geometry, indexes, nexts, entry)?;
+        let walk = walk_file(alloc, fields, entry)?;
         let Walk { met, end: _ } = walk;
         Ok(met)
     } else {
@@ -72,24 +62,19 @@ pub(crate) fn file_chain(
 /// Walks the index blocks of the file of an entry.
 pub(crate) fn walk_file(
     alloc: Global,
-    geometry: Geometry,
-    indexes: &[Index],
-    nexts: &[u32],
+    fields: &Fields<'_>,
     entry: &Entry,
 ) -> Result<Walk, AllocError>
-    requires geometry { IsGeometry geometry }
-    requires count { length indexes.now ≡ index_count geometry }
-    requires nexts { nexts.now ≡ nexts_of indexes.now }
-    ensures met { IfOk result (λ w. w.met.items ≡ met_of geometry indexes.now entry.now) }
-    ensures end { IfOk result (λ w. w.end ≡ end_of_walk geometry indexes.now entry.now) }
-    ensures below { IfOk result (λ w. (j : ℕ) → j < length w.met.items → slice_index w.met.items j < length indexes.now) }
+    ensures met { IfOk result (λ w. w.met.items ≡ met_of fields.now.geometry fields.now.indexes.now entry.now) }
+    ensures end { IfOk result (λ w. w.end ≡ end_of_walk fields.now.geometry fields.now.indexes.now entry.now) }
+    ensures below { IfOk result (λ w. (j : ℕ) → j < length w.met.items → slice_index w.met.items j < length fields.now.indexes.now) }
     ensures few { IfOk result (λ w. length w.met.items ≤ 2 ^ 20) }
 {
     walk_chain(
         alloc,
-        nexts,
+        fields.nexts,
         0,
-        indexes_on(geometry),
+        indexes_on(fields.geometry),
         indexes_needed(entry),
         entry.first,
     )
@@ -128,27 +113,33 @@ fn add_rows(numbers: &mut Vec<u32>, indexes: &[Index], met: &[u32]) -> Result<()
 // The file of a used entry.
 fn survey_walk(
     survey: &mut Survey,
-    geometry: Geometry,
-    indexes: &[Index],
+    fields: &Fields<'_>,
     k: usize,
     entry: &Entry,
     walk: &Walk,
 ) -> Result<(), AllocError>
-    requires geometry { IsGeometry geometry }
     requires few { k < 78 }
     requires short { length walk.now.met.items ≤ 2 ^ 20 }
-    requires below { (j : ℕ) → j < length walk.now.met.items → slice_index walk.now.met.items j < length indexes.now }
-    ensures rule_4 { OnOk result (survey.new.rule_4 ≡ least survey.old.rule_4 (least (end_fault geometry k entry.now walk.now.met.items walk.now.end) (rows_fault geometry indexes.now (need_data entry.now) walk.now.met.items))) }
-    ensures rule_5 { OnOk result (survey.new.rule_5 ≡ least survey.old.rule_5 (offsets_fault geometry indexes.now 0 walk.now.met.items)) }
+    requires below { (j : ℕ) → j < length walk.now.met.items → slice_index walk.now.met.items j < length fields.now.indexes.now }
+    ensures rule_4 { OnOk result (survey.new.rule_4 ≡ least survey.old.rule_4 (least (end_fault fields.now.geometry k entry.now walk.now.met.items walk.now.end) (rows_fault fields.now.geometry fields.now.indexes.now (need_data entry.now) walk.now.met.items))) }
+    ensures rule_5 { OnOk result (survey.new.rule_5 ≡ least survey.old.rule_5 (offsets_fault fields.now.geometry fields.now.indexes.now 0 walk.now.met.items)) }
     ensures index_numbers { OnOk result (survey.new.index_numbers.items ≡ survey.old.index_numbers.items ++ (walk.now.met.items ++ walk.now.end ∷ [])) }
-    ensures data_numbers { OnOk result (survey.new.data_numbers.items ≡ survey.old.data_numbers.items ++ flat_map (data_row indexes.now) walk.now.met.items) }
+    ensures data_numbers { OnOk result (survey.new.data_numbers.items ≡ survey.old.data_numbers.items ++ flat_map (data_row fields.now.indexes.now) walk.now.met.items) }
 {
-    let end = end_fault(geometry, k, entry, &walk.met, walk.end);
-    let rows = rows_fault(geometry, indexes, data_needed(entry), &walk.met);
+    let end = end_fault(fields.geometry, k, entry, &walk.met, walk.end);
+    let rows = rows_fault(
+        fields.geometry,
+        fields.indexes,
+        data_needed(entry),
+        &walk.met,
+    );
     survey.rule_4 = least(survey.rule_4, least(end, rows));
-    survey.rule_5 = least(survey.rule_5, offsets_fault(geometry, indexes, &walk.met));
+    survey.rule_5 = least(
+        survey.rule_5,
+        offsets_fault(fields.geometry, fields.indexes, &walk.met),
+    );
     add_walk(&mut survey.index_numbers, walk)?;
-    add_rows(&mut survey.data_numbers, indexes, &walk.met)?;
+    add_rows(&mut survey.data_numbers, fields.indexes, &walk.met)?;
     Ok(())
 }
 
@@ -157,24 +148,19 @@ fn survey_walk(
 fn survey_file(
     survey: &mut Survey,
     alloc: Global,
-    geometry: Geometry,
-    indexes: &[Index],
-    nexts: &[u32],
+    fields: &Fields<'_>,
     k: usize,
     entry: &Entry,
 ) -> Result<(), AllocError>
-    requires geometry { IsGeometry geometry }
     requires few { k < 78 }
-    requires count { length indexes.now ≡ index_count geometry }
-    requires nexts { nexts.now ≡ nexts_of indexes.now }
-    ensures rule_4 { OnOk result (survey.new.rule_4 ≡ least survey.old.rule_4 (file_fault_4 geometry indexes.now k entry.now)) }
-    ensures rule_5 { OnOk result (survey.new.rule_5 ≡ least survey.old.rule_5 (file_fault_5 geometry indexes.now k entry.now)) }
-    ensures index_numbers { OnOk result (survey.new.index_numbers.items ≡ survey.old.index_numbers.items ++ file_index_numbers geometry indexes.now entry.now) }
-    ensures data_numbers { OnOk result (survey.new.data_numbers.items ≡ survey.old.data_numbers.items ++ file_data_numbers geometry indexes.now entry.now) }
+    ensures rule_4 { OnOk result (survey.new.rule_4 ≡ least survey.old.rule_4 (file_fault_4 fields.now.geometry fields.now.indexes.now k entry.now)) }
+    ensures rule_5 { OnOk result (survey.new.rule_5 ≡ least survey.old.rule_5 (file_fault_5 fields.now.geometry fields.now.indexes.now k entry.now)) }
+    ensures index_numbers { OnOk result (survey.new.index_numbers.items ≡ survey.old.index_numbers.items ++ file_index_numbers fields.now.geometry fields.now.indexes.now entry.now) }
+    ensures data_numbers { OnOk result (survey.new.data_numbers.items ≡ survey.old.data_numbers.items ++ file_data_numbers fields.now.geometry fields.now.indexes.now entry.now) }
 {
     if entry_is_used(entry) {
-        let walk = walk_file(alloc, geometry, indexes, nexts, entry)?;
-        survey_walk(survey, geometry, indexes, k, entry, &walk)?;
+        let walk = walk_file(alloc, fields, entry)?;
+        survey_walk(survey, fields, k, entry, &walk)?;
     }
     Ok(())
 }
@@ -183,22 +169,17 @@ fn survey_file(
 pub(crate) fn survey_files(
     survey: &mut Survey,
     alloc: Global,
-    geometry: Geometry,
-    indexes: &[Index],
-    nexts: &[u32],
+    fields: &Fields<'_>,
     entries: &[Entry],
 ) -> Result<(), AllocError>
-    requires geometry { IsGeometry geometry }
     requires few { length entries.now ≤ 78 }
-    requires count { length indexes.now ≡ index_count geometry }
-    requires nexts { nexts.now ≡ nexts_of indexes.now }
-    ensures rule_4 { OnOk result (survey.new.rule_4 ≡ least survey.old.rule_4 (lowest_of (file_fault_4 geometry indexes.now) 0 entries.now)) }
-    ensures rule_5 { OnOk result (survey.new.rule_5 ≡ least survey.old.rule_5 (lowest_of (file_fault_5 geometry indexes.now) 0 entries.now)) }
-    ensures index_numbers { OnOk result (survey.new.index_numbers.items ≡ survey.old.index_numbers.items ++ flat_map (file_index_numbers geometry indexes.now) entries.now) }
-    ensures data_numbers { OnOk result (survey.new.data_numbers.items ≡ survey.old.data_numbers.items ++ flat_map (file_data_numbers geometry indexes.now) entries.now) }
+    ensures rule_4 { OnOk result (survey.new.rule_4 ≡ least survey.old.rule_4 (lowest_of (file_fault_4 fields.now.geometry fields.now.indexes.now) 0 entries.now)) }
+    ensures rule_5 { OnOk result (survey.new.rule_5 ≡ least survey.old.rule_5 (lowest_of (file_fault_5 fields.now.geometry fields.now.indexes.now) 0 entries.now)) }
+    ensures index_numbers { OnOk result (survey.new.index_numbers.items ≡ survey.old.index_numbers.items ++ flat_map (file_index_numbers fields.now.geometry fields.now.indexes.now) entries.now) }
+    ensures data_numbers { OnOk result (survey.new.data_numbers.items ≡ survey.old.data_numbers.items ++ flat_map (file_data_numbers fields.now.geometry fields.now.indexes.now) entries.now) }
 {
     for k in 0..entries.len() {
-        survey_file(survey, alloc, geometry, indexes, nexts, k, &entries[k])?;
+        survey_file(survey, alloc, fields, k, &entries[k])?;
     }
     Ok(())
 }

@@ -1,5 +1,5 @@
 -- The files of a clean image have room on it, and on the image of version 2 that is six blocks larger.
-use Rattle.std.proofs.Common.{◌≡◌, ℕ, zero, suc, ◌+◌, ◌-◌, ◌*◌, ◌/◌, ◌<◌, ◌≤◌, Bool, true, false, cond, not, ◌&&◌, nat_eq, nat_lt, List, [], ◌∷◌, length, get_or, slice_index, take, drop, map, replicate, refl, sym, ap, ◌∙◌, subst, arith, length-append, length-take, length-drop, None, ⊎_elim, Option, Some}
+use Rattle.std.proofs.Common.{◌≡◌, ℕ, zero, suc, ◌+◌, ◌-◌, ◌*◌, ◌/◌, ◌<◌, ◌≤◌, Bool, true, false, cond, not, ◌&&◌, nat_eq, nat_lt, List, [], ◌∷◌, length, get_or, slice_index, take, drop, map, replicate, refl, sym, ap, ◌∙◌, subst, arith, length-append, length-take, length-drop, None, ⊎_elim}
 use Rattle.lfs_check.proofs.KeepsAll.{none-failing}
 use Rattle.std.proofs.Math.Bool.{and-true}
 use Rattle.std.specs.List.{flat_map}
@@ -13,7 +13,7 @@ use Rattle.lfs_format.specs.Directory.{entry_of, entry_1_of, dir_of, dir_1_of, v
 use Rattle.lfs_check.specs.declared.geometry.Geometry.{Geometry}
 use Rattle.lfs_check.specs.Geometries.{index_count, first_data, longest_name}
 use Rattle.lfs_check.specs.Meets.{times_met}
-use Rattle.lfs_check.specs.Rules.{has_name, block_in, first_failing, has_bad_name, in_entry_block}
+use Rattle.lfs_check.specs.Rules.{has_name, block_in, first_failing, has_bad_name}
 use Rattle.lfs_check.specs.Laid.{Shape, numbers_at, times_in}
 use Rattle.lfs_check.specs.Clean.{chain_in, data_in, places_of}
 use Rattle.lfs_check.specs.Fields.{is_version_2, geometry_of, fields_of, directory_entries, entries_1, entries_2, joined, widened}

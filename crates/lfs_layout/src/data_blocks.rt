@@ -11,7 +11,11 @@ use byteorder::{ByteOrder, LittleEndian};
 use std::alloc::AllocError;
 
 /// Appends the data blocks of files, and free ones, each of which names the next.
-pub(crate) fn add_data(image: &mut Vec<u8>, blocks: u32, files: &[NamedFile]) -> Result<(), AllocError>
+pub(crate) fn add_data(
+    image: &mut Vec<u8>,
+    blocks: u32,
+    files: &[NamedFile],
+) -> Result<(), AllocError>
     requires { Room blocks (all_files files.now) }
     ensures { OnOk result (image.new.items ≡ image.old.items ++ all_data (geometry_2 blocks) (all_files files.now)) }
 {

@@ -11,7 +11,7 @@ use crate::builder::build;
 use crate::clean_image::CleanImage;
 use crate::reading::read_entries;
 use lfs_check::{
-    CheckFault, DiskFault, Geometry, dirs_of, kept_entries, read_directory, read_indexes,
+    CheckFault, DiskFault, Fields, Geometry, dirs_of, kept_entries, read_directory, read_indexes,
     read_nexts, size_fault, used_count,
 };
 use std::alloc::{AllocError, Global};
@@ -61,8 +61,13 @@ fn rebuild(alloc: Global, geometry: Geometry, bytes: &[u8]) -> Result<Repaired, 
     let directory = read_directory(alloc, geometry, bytes)?;
     let indexes = read_indexes(alloc, geometry, bytes)?;
     let nexts = read_nexts(alloc, &indexes)?;
-    let entries = kept_entries(alloc, geometry, &indexes, &nexts, &directory.entries)?;
-    let files = read_entries(alloc, geometry, &indexes, &nexts, bytes, &entries)?;
+    let fields = Fields {
+        geometry,
+        indexes: indexes.as_slice(),
+        nexts: nexts.as_slice(),
+    };
+    let entries = kept_entries(alloc, &fields, &directory.entries)?;
+    let files = read_entries(alloc, &fields, bytes, &entries)?;
     let image = build(alloc, repaired_blocks(geometry), &files)?;
     let kept = entries.len();
     let used = used_count(&directory.entries);

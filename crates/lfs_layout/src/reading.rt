@@ -2,16 +2,17 @@
 
 ghost use Rattle.std.specs.Prelude.{◌≡◌, ◌*◌, ◌≤◌, ◌++◌, length, IfOk, OnOk, MatchOption, None, Some};
 ghost use Rattle.std.specs.List.{flat_map};
-ghost use Rattle.lfs_check.specs.Geometries.{index_count, IsGeometry};
-ghost use Rattle.lfs_check.specs.Checks.{nexts_of};
+ghost use Rattle.lfs_check.specs.Geometries.{IsGeometry};
 ghost use Rattle.lfs_check.specs.Rules.{block_in};
 ghost use Rattle.lfs_check.specs.Fields.{fields_of, directory_entries};
 ghost use Rattle.lfs_layout.specs.Files.{content_of, files_in, without_name, other_entries, content_named, entry_named};
 ghost use Rattle.lfs_layout.specs.Made.{all_files};
 
 use crate::files::NamedFile;
-use lfs_check::{Geometry, entry_is_used, file_blocks, read_directory, read_indexes, read_nexts};
-use lfs_format::{Entry, Index};
+use lfs_check::{
+    Fields, Geometry, entry_is_used, file_blocks, read_directory, read_indexes, read_nexts,
+};
+use lfs_format::Entry;
 use std::alloc::{AllocError, Global};
 
 /// The files of an image, in the order of its entries.
@@ -27,7 +28,12 @@ pub(crate) fn read_files(
     let directory = read_directory(alloc, geometry, image)?;
     let indexes = read_indexes(alloc, geometry, image)?;
     let nexts = read_nexts(alloc, &indexes)?;
-    read_entries(alloc, geometry, &indexes, &nexts, image, &directory.entries)
+    let fields = Fields {
+        geometry,
+        indexes: indexes.as_slice(),
+        nexts: nexts.as_slice(),
+    };
+    read_entries(alloc, &fields, image, &directory.entries)
 }
 
 /// The files of an image but that of a name, in the order of its entries.
@@ -46,7 +52,12 @@ pub(crate) fn read_others(
     let indexes = read_indexes(alloc, geometry, image)?;
     let nexts = read_nexts(alloc, &indexes)?;
     let entries = entries_without(alloc, &directory.entries, name)?;
-    let files = read_entries(alloc, geometry, &indexes, &nexts, image, &entries)?;
+    let fields = Fields {
+        geometry,
+        indexes: indexes.as_slice(),
+        nexts: nexts.as_slice(),
+    };
+    let files = read_entries(alloc, &fields, image, &entries)?;
     Ok(files)
 }
 
@@ -86,7 +97,12 @@ pub(crate) fn read_named(
         Some(entry) => {
             let indexes = read_indexes(alloc, geometry, image)?;
             let nexts = read_nexts(alloc, &indexes)?;
-            let bytes = read_bytes(alloc, geometry, &indexes, &nexts, image, &entry)?;
+            let fields = Fields {
+                geometry,
+                indexes: indexes.as_slice(),
+                nexts: nexts.as_slice(),
+            };
+            let bytes = read_bytes(alloc, &fields, image, &entry)?;
             Ok(Some(bytes))
         }
     }
@@ -107,21 +123,16 @@ fn entry_named(entries: &[Entry], name: &[u8; 28]) -> Option<Entry>
 /// The files of the used ones among entries, in their order.
 pub(crate) fn read_entries(
     alloc: Global,
-    geometry: Geometry,
-    indexes: &[Index],
-    nexts: &[u32],
+    fields: &Fields<'_>,
     image: &[u8],
     entries: &[Entry],
 ) -> Result<Vec<NamedFile>, AllocError>
-    requires geometry { IsGeometry geometry }
-    requires count { length indexes.now ≡ index_count geometry }
-    requires nexts { nexts.now ≡ nexts_of indexes.now }
-    ensures { IfOk result (λ v. all_files v.items ≡ files_in geometry indexes.now image.now entries.now) }
+    ensures { IfOk result (λ v. all_files v.items ≡ files_in fields.now.geometry fields.now.indexes.now image.now entries.now) }
 {
     let mut files = Vec::new(alloc);
     for entry in entries {
         if entry_is_used(entry) {
-            let bytes = read_bytes(alloc, geometry, indexes, nexts, image, entry)?;
+            let bytes = read_bytes(alloc, fields, image, entry)?;
             files.push(NamedFile {
                 name: entry.name,
                 bytes,
@@ -134,18 +145,13 @@ pub(crate) fn read_entries(
 // The bytes of the file of an entry.
 fn read_bytes(
     alloc: Global,
-    geometry: Geometry,
-    indexes: &[Index],
-    nexts: &[u32],
+    fields: &Fields<'_>,
     image: &[u8],
     entry: &Entry,
 ) -> Result<Vec<u8>, AllocError>
-    requires geometry { IsGeometry geometry }
-    requires count { length indexes.now ≡ index_count geometry }
-    requires nexts { nexts.now ≡ nexts_of indexes.now }
-    ensures { IfOk result (λ v. v.items ≡ content_of geometry indexes.now image.now entry.now) }
+    ensures { IfOk result (λ v. v.items ≡ content_of fields.now.geometry fields.now.indexes.now image.now entry.now) }
 {
-    let numbers = file_blocks(alloc, geometry, indexes, nexts, entry)?;
+    let numbers = file_blocks(alloc, fields, entry)?;
     let mut bytes = Vec::new(alloc);
     add_blocks(&mut bytes, image, &numbers)?;
     bytes.truncate(entry.size as usize);

@@ -4,4 +4,4 @@ use Rattle.lfs_check.specs.Clean.{chain_in}
 use Rattle.lfs_check.proofs.repair.count_chains.Given as goal
 
 abbrev pub invariant-loop-entry : goal.invariant-loop-entry
-invariant-loop-entry l = l.numbers.items ++ flat_map (chain_in l.geometry l.indexes) (drop l.entry-index l.entries) ≡ flat_map (chain_in l.geometry l.indexes) l.entries
+invariant-loop-entry l = l.numbers.items ++ flat_map (chain_in l.fields.geometry l.fields.indexes.now) (drop l.entry-index l.entries) ≡ flat_map (chain_in l.fields.geometry l.fields.indexes.now) l.entries

@@ -7,7 +7,7 @@ use Rattle.lfs_check.proofs.repair.is_whole.Goals as goal
 
 pub returns : goal.returns
 returns c =
-    let g = c.args.geometry in let ix = c.args.indexes.now in let e = c.args.entry.now in
+    let g = c.args.fields.now.geometry in let ix = c.args.fields.now.indexes.now in let e = c.args.entry.now in
     let xs = data_in g ix e in let cs = c.in_ok-counts.counts.items in
     let fields : has_sound_fields g e ≡ true = cc in
     let walk : has_sound_walk g ix e ≡ true = cc in

@@ -8,7 +8,7 @@ use Rattle.lfs_check.proofs.repair.kept_entries.Goals as goal
 
 pub returns : goal.returns
 returns c =
-    let g = c.args.geometry in let ix = c.args.indexes.now in let es = c.args.entries.now in
+    let g = c.args.fields.now.geometry in let ix = c.args.fields.now.indexes.now in let es = c.args.entries.now in
     let W = whole_entries g ix es in
     let chains = c.in_ok-chains.chains.items in let blocks = c.in_ok-blocks.blocks.items in
     c.in_ok-kept.ensures ∙ ap (λ ws. kept_counted g ix c.deref-4.result.now c.deref-5.result.now [] ws) (c.deref-3.ensures.value ∙ c.in_ok-wholes.ensures)

@@ -7,7 +7,7 @@ use Rattle.lfs_check.proofs.survey.survey_files.Goals as goal
 
 pub loop-k-preserved : goal.loop-k-preserved
 loop-k-preserved c =
-    let g = c.args.geometry in let ix = c.args.indexes.now in let es = c.args.entries.now in let k = c.loop-k.k in let s = c.loop-k.survey in
+    let g = c.args.fields.now.geometry in let ix = c.args.fields.now.indexes.now in let es = c.args.entries.now in let k = c.loop-k.k in let s = c.loop-k.survey in
     record {
       rule_4 = ap (λ f. least f (lowest_of (file_fault_4 g ix) (k + 1) (drop (k + 1) es))) c.in_ok-survey_file.ensures.rule_4 ∙ sym (lowest_of-more (file_fault_4 g ix) es k void_entry s.rule_4 (omega arith)) ∙ c.loop-k.invariant.rule_4;
       rule_5 = ap (λ f. least f (lowest_of (file_fault_5 g ix) (k + 1) (drop (k + 1) es))) c.in_ok-survey_file.ensures.rule_5 ∙ sym (lowest_of-more (file_fault_5 g ix) es k void_entry s.rule_5 (omega arith)) ∙ c.loop-k.invariant.rule_5;
@@ -16,7 +16,7 @@ loop-k-preserved c =
     }
 
 pub returns-clause-rule_4 : goal.returns-clause-rule_4
-returns-clause-rule_4 c = sym (lowest_of-all (file_fault_4 c.args.geometry c.args.indexes.now) c.args.entries.now c.loop-k.k c.loop-k.survey.rule_4 (omega arith)) ∙ c.loop-k.invariant.rule_4
+returns-clause-rule_4 c = sym (lowest_of-all (file_fault_4 c.args.fields.now.geometry c.args.fields.now.indexes.now) c.args.entries.now c.loop-k.k c.loop-k.survey.rule_4 (omega arith)) ∙ c.loop-k.invariant.rule_4
 
 pub returns-clause-rule_5 : goal.returns-clause-rule_5
-returns-clause-rule_5 c = sym (lowest_of-all (file_fault_5 c.args.geometry c.args.indexes.now) c.args.entries.now c.loop-k.k c.loop-k.survey.rule_5 (omega arith)) ∙ c.loop-k.invariant.rule_5
+returns-clause-rule_5 c = sym (lowest_of-all (file_fault_5 c.args.fields.now.geometry c.args.fields.now.indexes.now) c.args.entries.now c.loop-k.k c.loop-k.survey.rule_5 (omega arith)) ∙ c.loop-k.invariant.rule_5
