@@ -1,5 +1,5 @@
 -- Calls on files, one after another.
-use Rattle.std.specs.Prelude.{ℕ, true, false, List, [], ◌∷◌, ◌++◌, replicate, pos}
+use Rattle.std.specs.Prelude.{ℕ, true, false, List, [], ◌∷◌, ◌++◌, replicate, pos, negsuc}
 use Rattle.xinu_base.specs.declared.files.OpenMode.{OpenMode}
 use Rattle.xinu_examples.specs.FileTasks.{FileTask}
 use Rattle.xinu_model.specs.Files.Calls.{FileCall, Open, Delete, Close, Read, Write, Getc, Putc, Seek, Truncate, Size}
@@ -64,3 +64,9 @@ seven_opens =
     task (Open (97 ∷ []) mode_rw) ∷ task (Open (98 ∷ []) mode_rw) ∷ task (Open (99 ∷ []) mode_rw) ∷ task (Open (100 ∷ []) mode_rw) ∷
     task (Open (101 ∷ []) mode_rw) ∷ task (Open (102 ∷ []) mode_rw) ∷ task (Open (103 ∷ []) mode_rw) ∷ task (Close 2) ∷
     task (Open (103 ∷ []) mode_rw) ∷ []
+
+-- a file of three bytes is read at its last byte, at its end and at its start; there is no position after its end, nor a negative one
+abbrev pub seeks : List FileTask
+seeks =
+    task (Open (97 ∷ []) mode_rw) ∷ write_task 0 3 (65 ∷ 66 ∷ 67 ∷ []) ∷ task (Seek 0 (pos 2)) ∷ task (Getc 0) ∷ task (Seek 0 (pos 3)) ∷
+    task (Getc 0) ∷ task (Seek 0 (pos 4)) ∷ task (Seek 0 (negsuc 0)) ∷ task (Seek 0 (pos 0)) ∷ task (Getc 0) ∷ task (Seek 1 (pos 0)) ∷ []

@@ -7,7 +7,7 @@ ghost use Rattle.xinu_model.specs.Console.Typing.{typing};
 ghost use Rattle.xinu_examples.specs.Typing.{raw_console, full_console, almost_full_console, silent_console};
 ghost use Rattle.xinu_model.specs.Console.State.{first_console};
 ghost use Rattle.xinu_base.specs.Constants.{OK, SYSERR, EOF};
-ghost use Rattle.xinu_examples.specs.FileSystems.{blank_files, mode_rw, one_file, full_disk, big_file, modes, seven_opens};
+ghost use Rattle.xinu_examples.specs.FileSystems.{blank_files, mode_rw, one_file, full_disk, big_file, modes, seeks, seven_opens};
 ghost use Rattle.xinu_examples.specs.FileTasks.{replies_to, after_tasks};
 ghost use Rattle.xinu_model.specs.Files.Calls.{Open, Write, Close};
 ghost use Rattle.xinu_model.specs.Files.Issue.{open_call};
@@ -60,6 +60,13 @@ pub fn file_calls_answer()
     ensures modes { replies_to modes (blank_files 256) ≡ SYSERR ∷ pos 4 ∷ SYSERR ∷ OK ∷ OK ∷ SYSERR ∷ pos 4 ∷ SYSERR ∷ pos 65 ∷ OK ∷
         pos 4 ∷ SYSERR ∷ OK ∷ [] }
     ensures seventh { replies_to seven_opens (blank_files 256) ≡ pos 4 ∷ pos 5 ∷ pos 6 ∷ pos 7 ∷ pos 8 ∷ pos 9 ∷ SYSERR ∷ OK ∷ pos 6 ∷ [] }
+{}
+
+/// What `seek` answers: 0, whatever the position, up to the end of the file. A position after the end and a negative one are refused, and so is
+/// a device that has nothing open.
+pub fn seek_answers()
+    ensures seeks { replies_to seeks (blank_files 256) ≡
+        pos 4 ∷ pos 3 ∷ OK ∷ pos 67 ∷ OK ∷ EOF ∷ SYSERR ∷ SYSERR ∷ OK ∷ pos 65 ∷ SYSERR ∷ [] }
 {}
 
 /// Which texts name and open a file: a name of 27 bytes but not of 28, and not the empty one; a mode without letters, but not one with

@@ -1,5 +1,5 @@
 -- A run is determined if nothing is chosen in it, and from a sound state by its text.
-use Rattle.std.proofs.Common.{◌≡◌, ℕ, ◌<◌, Bool, false, length, drop, List, [], ◌∷◌, ◌++◌, Option, Some, None, refl, sym, ap, ◌∙◌, subst, append_assoc, append-nil}
+use Rattle.std.proofs.Common.{◌≡◌, ◌<◌, false, length, drop, List, [], ◌∷◌, ◌++◌, Option, Some, None, refl, sym, ap, ◌∙◌, subst, append_assoc}
 use Rattle.std.proofs.lemmas.List.{append_cancel_left}
 use Rattle.xinu_base.specs.declared.events.End.{End}
 use Rattle.xinu_base.specs.declared.events.Event.{Event}
@@ -12,7 +12,7 @@ use Rattle.xinu_laws.specs.Outcomes.{ChoosesNothing}
 use Rattle.xinu_model.proofs.Outcomes.{agree}
 use Rattle.xinu_model.specs.Agree.{begins_next}
 use Rattle.xinu_model.specs.Boot.{Loaded}
-use Rattle.xinu_model.specs.Events.{panics_in, Happens}
+use Rattle.xinu_model.specs.Events.{panics_in}
 use Rattle.xinu_model.specs.Machine.{Xinu}
 use Rattle.xinu_model.specs.Runs.{is_over, end_with, Follows, RunsTo, IsTranscript}
 use Rattle.xinu_model.specs.Sound.State.{IsSound}

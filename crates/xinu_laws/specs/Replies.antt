@@ -1,10 +1,11 @@
 -- Which answers tell that a call was refused, and what else a call that waited answers.
-use Rattle.std.specs.Prelude.{◌≡◌, ◌≢◌, ℕ, List, [], ◌∷◌, Option, None, Some, option_map, slice_set, ℤ}
+use Rattle.std.specs.Prelude.{◌≡◌, ◌≢◌, ℕ, ◌≤◌, false, List, [], ◌∷◌, Option, None, Some, option_map, slice_set, ℤ}
 use Rattle.xinu_base.specs.Constants.{SYSERR}
 use Rattle.xinu_base.specs.declared.lines.FileMoment.TheVariants.{Finished}
 use Rattle.xinu_base.specs.declared.lines.TranscriptLine.{TranscriptLine}
 use Rattle.xinu_base.specs.declared.lines.TranscriptLine.TheVariants as line
-use Rattle.xinu_base.specs.declared.processes.Rest.TheVariants.{Nothing}
+use Rattle.xinu_base.specs.declared.processes.Rest.{Rest}
+use Rattle.xinu_base.specs.declared.processes.Rest.TheVariants.{Nothing, Receive, Timed, SelfSuspend, PtSend, PtRecv, Disk}
 use Rattle.xinu_base.specs.declared.registers.Outcome.TheVariants.{Call}
 use Rattle.xinu_laws.specs.Ownership.GivingAway.{next}
 use Rattle.xinu_model.specs.Calls.{calls, called}
@@ -12,7 +13,7 @@ use Rattle.xinu_model.specs.Events.{call_of, with_executed}
 use Rattle.xinu_model.specs.Isa.Effects.{following}
 use Rattle.xinu_model.specs.Machine.{Xinu, Answer, Returns, current_hart, refused}
 use Rattle.xinu_model.specs.Messages.{held}
-use Rattle.xinu_model.specs.Ports.Queues.{PortQueue, port_at, queued}
+use Rattle.xinu_model.specs.Ports.Queues.{PortQueue, is_stale, most_nodes, nodes, port_at, queued}
 use Rattle.xinu_model.specs.Rows.{ReplyKind, Status, Address, Priority, Count, Message, PortMessage, CallRow, found_in}
 use Rattle.xinu_model.specs.Semaphores.Counts.{count_of}
 use Rattle.xinu_model.specs.Tables.{process_at, semaphore_at}
@@ -74,3 +75,24 @@ pub record LeavesRefusedEffect (old : Xinu) (printed : List TranscriptLine) (new
   pub memory : new.memory ≡ old.memory
   pub harts : new.harts ≡ slice_set old.harts old.tables.current (record { regs = slice_set (current_hart old).regs 10 (word SYSERR); pc = following (current_hart old) })
   pub lines : printed ≡ line.Call old.tables.current (call_of (current_hart old)) ∷ line.File old.tables.current Finished ∷ line.Return old.tables.current SYSERR ∷ []
+
+-- What is left of the call is a send whose ticket isn't stale, while all ports together hold as many messages as they can.
+abbrev pub IsFullSend : Rest → Xinu → Type 0
+IsFullSend (PtSend ticket message) s = (is_stale ticket s.parts.ports ≡ false) × (most_nodes ≤ nodes s.parts.ports)
+IsFullSend _ s = ⊥
+
+-- The current process calls `ptsend`, while all ports together hold as many messages as they can.
+pub record IsFullCall (old : Xinu) : Type 0 where
+  pub calling : IsCalling old
+  pub number : (call_of (current_hart (with_executed (next old) old))).number ≡ 34
+  pub full : most_nodes ≤ nodes old.parts.ports
+
+-- What a call that waited answers as it goes on, if it isn't refused: the message that came, the priority of a process that suspended itself, the
+-- first message of a port, or the reply that a completion kept for it. The others answer what they counted, read or took.
+abbrev pub value_kept : Rest → Xinu → Option ℤ
+value_kept Receive s = option_map signed (held s)
+value_kept Timed s = option_map signed (held s)
+value_kept SelfSuspend s = Some (process_at s.tables s.tables.current).priority
+value_kept (PtRecv ticket) s = option_map signed (first_of (queued (port_at s.parts.ports ticket.port).queue))
+value_kept (Disk reply) s = reply
+value_kept _ s = None

@@ -1,30 +1,36 @@
 //! What a refusal leaves, and which answers tell of one.
 
-ghost use Rattle.std.specs.Prelude.{◌≡◌, ◌⊎◌, ◌<◌, ℕ, suc, ℤ, Bool, true, false, if◌then◌else◌, nat_le, List, [], ◌∷◌, None, Some, slice_index, ◌++◌, map, take, pos};
-ghost use Rattle.xinu_base.specs.Constants.{OK, SYSERR, EOF};
+ghost use Rattle.std.specs.Prelude.{◌≡◌, ◌≢◌, ◌⊎◌, ◌<◌, ◌≤◌, ℕ, suc, ℤ, Bool, true, false, if◌then◌else◌, nat_le, List, [], ◌∷◌, None, Some, slice_index, ◌++◌, map, take, pos};
+ghost use Rattle.std.specs.List.{AllByRecursion};
+ghost use Rattle.xinu_base.specs.Constants.{OK, SYSERR, EOF, TIMEOUT};
+ghost use Rattle.xinu_base.specs.declared.events.Event.{Event};
 ghost use Rattle.xinu_base.specs.declared.events.Event.TheVariants.{Step};
 ghost use Rattle.xinu_base.specs.declared.lines.FileMoment.{FileMoment};
 ghost use Rattle.xinu_base.specs.declared.lines.TranscriptLine.{TranscriptLine};
 ghost use Rattle.xinu_base.specs.declared.processes.PortTicket.{PortTicket};
-ghost use Rattle.xinu_base.specs.declared.processes.Rest.TheVariants.{PtSend, PtRecv, TtyGet, TtyRead, Disk};
+ghost use Rattle.xinu_base.specs.declared.processes.Rest.{Rest};
+ghost use Rattle.xinu_base.specs.declared.processes.Rest.TheVariants.{Timed, PtSend, PtRecv, TtyGet, TtyRead, Disk};
 ghost use Rattle.xinu_base.specs.declared.processes.Span.{Span};
 ghost use Rattle.xinu_base.specs.declared.processes.State.TheVariants.{Ready};
 ghost use Rattle.xinu_laws.specs.Consoles.{IsAtEnd};
 ghost use Rattle.xinu_model.specs.Process.Scheduling.{ready_all};
 ghost use Rattle.xinu_laws.specs.Ownership.GivingAway.{next};
-ghost use Rattle.xinu_laws.specs.Replies.{AnswersFirst, IsCalling, IsRefused, LeavesRefused, LeavesRefusedEffect, value_told};
+ghost use Rattle.xinu_laws.specs.Replies.{AnswersFirst, IsCalling, IsFullCall, IsFullSend, IsRefused, LeavesRefused, LeavesRefusedEffect, value_kept, value_told};
 ghost use Rattle.xinu_model.specs.Calls.{call_of_number, continued};
+ghost use Rattle.xinu_model.specs.Clock.{wakeup};
 ghost use Rattle.xinu_model.specs.Console.Taking.{TY_ISEM, console_of, console_getc, console_read};
-ghost use Rattle.xinu_model.specs.Events.{Happens, next_file_call, step_at_once, with_executed};
+ghost use Rattle.xinu_model.specs.Events.{Happens, next_file_call, panics_in, step_at_once, with_executed};
 ghost use Rattle.xinu_model.specs.Files.Calls.{FileCall, file_effect};
 ghost use Rattle.xinu_model.specs.Files.Syscalls.{files_of, request_for, asks_files, file_step, after_step, at_once};
+ghost use Rattle.xinu_model.specs.Files.Systems.{FileSystem};
 ghost use Rattle.xinu_model.specs.Files.Work.{FileRequest, FileNote, bytes_written, calls_completed};
 ghost use Rattle.xinu_model.specs.Machine.{Xinu, CallState, Panics, Returns, Waits, goes_on, refused};
 ghost use Rattle.xinu_model.specs.Memory.{in_ram};
 ghost use Rattle.xinu_model.specs.Messages.{held};
 ghost use Rattle.xinu_model.specs.Ports.Queues.{MessagePort, is_stale, most_nodes, nodes, port_at};
 ghost use Rattle.xinu_model.specs.RawDisk.Calls.{disk_of, may_request, disk_read, disk_write, after_served};
-ghost use Rattle.xinu_model.specs.RawDisk.Completions.{Served, raw_completed};
+ghost use Rattle.xinu_model.specs.RawDisk.Completions.{Served, raw_completed, served};
+ghost use Rattle.xinu_model.specs.RawDisk.Requests.{RawDisk, Request};
 ghost use Rattle.xinu_model.specs.Semaphores.Calls.{semdelete, semreset};
 ghost use Rattle.xinu_model.specs.Semaphores.Counts.{is_good, with_semaphore};
 ghost use Rattle.xinu_model.specs.Semaphores.Waiting.{signalled, signalled_times};
@@ -109,4 +115,26 @@ pub fn file_callers_are_answered()
 pub fn refused_effects_are_told()
     ensures { (a : FileRequest) (old : Xinu) → IsSound old → IsCalling old → next_file_call old ≡ Some a →
         (at_once a (with_executed (next old) old)).answer ≡ Returns SYSERR → LeavesRefusedEffect old (step_at_once a old).lines (step_at_once a old).state }
+{}
+
+/// The kernel panics only in a step that sends a message to a port while all ports together hold as many as they can: in the event of the
+/// call, or as it goes on, if the port wasn't renewed meanwhile.
+pub fn full_ports_panic()
+    ensures calls { (number : ℕ) (args : List ℕ) (s : Xinu) → (call_of_number number args s).answer ≡ Panics →
+        (number ≡ 34) × (most_nodes ≤ nodes s.parts.ports) }
+    ensures continued { (left : Rest) (s : Xinu) → (continued left s).answer ≡ Panics → IsFullSend left s }
+    ensures events { (old : Xinu) (e : Event) → panics_in old e ≡ true →
+        (e ≡ Step) × (IsFullCall old ⊎ IsFullSend (process_at old.tables old.tables.current).rest old) }
+{}
+
+/// Who answers -3 as it goes on with its call called `recvtime`, and its time ran out before a message came; or -3 is the value that its call
+/// answers: the message, or the priority of a process that suspended itself. No completion of a disk replies so, and a tick answers 0.
+pub fn only_recvtime_times_out()
+    ensures continued { (s : Xinu) → IsSound s → (continued (process_at s.tables s.tables.current).rest s).answer ≡ Returns TIMEOUT →
+        (value_kept (process_at s.tables s.tables.current).rest s ≡ Some TIMEOUT) ⊎
+        (((process_at s.tables s.tables.current).rest ≡ Timed) × (held s ≡ None)) }
+    ensures timed { (s : Xinu) → held s ≡ None → (continued Timed s).answer ≡ Returns TIMEOUT }
+    ensures disk { (good : Bool) (r : Request) (d : RawDisk) → (served good r d).reply ≢ TIMEOUT }
+    ensures files { (call : FileCall) (bytes : List ℕ) (s : FileSystem) → (file_effect call bytes s).reply ≢ TIMEOUT }
+    ensures tick { (s : Xinu) → AllByRecursion (λ (r : ℕ × ℤ). r.1 ≡ OK) (wakeup s).released }
 {}

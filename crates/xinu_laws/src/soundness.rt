@@ -35,7 +35,7 @@ pub fn events_keep_sound()
     ensures { (old : Xinu) (e : Event) (lines : List TranscriptLine) (new : Xinu) → IsSound old → Happens old e lines new → IsSound new }
 {}
 
-/// So does each event that is defined, whether the machine has it yet or not.
+/// So does each event that is defined, whether the machine has it yet or not. A call that isn't served is refused in it too.
 pub fn all_events_keep_sound()
     ensures { (s : Xinu) (e : Event) (choice : ℕ) → IsSound s → IsSound (event_effect s e choice).state }
 {}

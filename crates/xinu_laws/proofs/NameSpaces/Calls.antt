@@ -31,7 +31,7 @@ device_number (suc (suc (suc (suc (suc (suc (suc (suc (suc zero))))))))) e = ome
 device_number (suc (suc (suc (suc (suc (suc (suc (suc (suc (suc dev)))))))))) e = absurd (cc)
 
 -- What holds of a refusal, and of a row that is mounted or not, holds of a mount.
-mount_holds : (P : CallResult → Type 0) (prefix replacement dev : ℕ) (s : Xinu) → P (refused s)
+pub mount_holds : (P : CallResult → Type 0) (prefix replacement dev : ℕ) (s : Xinu) → P (refused s)
     → ((row : NameRow) (found : Option (List NameRow)) → row.device < 10 → mounted row (names_of s) ≡ found → P (mount_rows found s))
     → P (mount prefix replacement dev s)
 mount_holds P prefix replacement dev s none row =
