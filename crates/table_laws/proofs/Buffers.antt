@@ -24,7 +24,9 @@ counted_is_in a (b ∷ l) h = ⊎_elim
 
 -- a number that isn't in a list isn't counted there
 pub is_out_uncounted : (a : ℕ) (l : List ℕ) → is_in a l ≡ false → count_in a l ≡ 0
-is_out_uncounted a l h = ⊎_elim (λ (e : count_in a l ≡ 0). e) (λ (n : count_in a l ≢ 0). absurd (both_ways (is_in a l) h (counted_is_in a l (omega arith)))) (cases_eq (count_in a l) 0)
+is_out_uncounted a l h =
+    ⊎_elim (λ (e : count_in a l ≡ 0). e) (λ (n : count_in a l ≢ 0). absurd (both_ways (is_in a l) h (counted_is_in a l (omega arith))))
+    (cases_eq (count_in a l) 0)
 
 -- and one that isn't counted isn't in it
 pub uncounted_is_out : (a : ℕ) (l : List ℕ) → count_in a l ≡ 0 → is_in a l ≡ false
@@ -40,7 +42,8 @@ addresses_above x a step (suc n) h =
 -- No address comes twice.
 pub addresses_distinct : (x a step n : ℕ) → 0 < step → count_in x (addresses a step n) ≤ 1
 addresses_distinct x a step zero h = omega arith
-addresses_distinct x a step (suc n) h = cond_both (a == x) (suc (count_in x (addresses (a + step) step n))) (count_in x (addresses (a + step) step n)) (λ k. k ≤ 1)
+addresses_distinct x a step (suc n) h =
+    cond_both (a == x) (suc (count_in x (addresses (a + step) step n))) (count_in x (addresses (a + step) step n)) (λ k. k ≤ 1)
     (λ b. let e = eqb-true a x b in let f = addresses_above x (a + step) step n (omega arith) in omega arith)
     (λ _. addresses_distinct x (a + step) step n h)
 
@@ -50,7 +53,8 @@ length-addresses a step zero = refl
 length-addresses a step (suc n) = ap suc (length-addresses (a + step) step n)
 
 -- one element more, if it passes, on both sides
-both_longer : (b : Bool) (x : ℕ) (xs ys : List ℕ) (k : ℕ) → length xs ≡ length ys + k → length (cond b (x ∷ xs) xs) ≡ length (cond b (x ∷ ys) ys) + k
+both_longer : (b : Bool) (x : ℕ) (xs ys : List ℕ) (k : ℕ) → length xs ≡ length ys + k
+    → length (cond b (x ∷ xs) xs) ≡ length (cond b (x ∷ ys) ys) + k
 both_longer true x xs ys k e = omega arith
 both_longer false x xs ys k e = e
 
@@ -88,8 +92,8 @@ first_is_out a l h =
     uncounted_is_out a l (omega arith)
 
 -- A free buffer is taken: one more is held.
-pub held_taken : (a : ℕ) (pool : BufferPool) (free : List ℕ) → pool.free ≡ a ∷ free → is_in a (buffers pool) ≡ true → count_in a pool.free ≤ 1
-    → held_in (record pool { free = free }) ≡ held_in pool + 1
+pub held_taken : (a : ℕ) (pool : BufferPool) (free : List ℕ) → pool.free ≡ a ∷ free → is_in a (buffers pool) ≡ true
+    → count_in a pool.free ≤ 1 → held_in (record pool { free = free }) ≡ held_in pool + 1
 held_taken a pool free e here once =
     held_step a pool free here (first_is_out a free (subst (λ l. count_in a l ≤ 1) e once)) ∙ ap (λ l. held_in (record pool { free = l }) + 1) (sym e)
 
@@ -109,11 +113,13 @@ all_in : (l : List ℕ) → AllByRecursion (λ a. is_in a l ≡ true) l
 all_in l = all_weaker (λ a. 0 < count_in a l) (λ a. is_in a l ≡ true) (λ a h. counted_is_in a l h) l (all_counted l)
 
 -- What holds of the buffers of a new pool: all are free.
-pub new_pool_buffers : (base size number semaphore : ℕ) → AllByRecursion (λ a. is_in a (buffers (new_pool base size number semaphore)) ≡ true) (new_pool base size number semaphore).free
+pub new_pool_buffers : (base size number semaphore : ℕ)
+    → AllByRecursion (λ a. is_in a (buffers (new_pool base size number semaphore)) ≡ true) (new_pool base size number semaphore).free
 new_pool_buffers base size number semaphore = all_in (addresses (base + 4) (size + 4) number)
 
 -- So many are free and none is held.
-pub new_pool_number : (base size number semaphore : ℕ) → length (new_pool base size number semaphore).free + held_in (new_pool base size number semaphore) ≡ number
+pub new_pool_number : (base size number semaphore : ℕ)
+    → length (new_pool base size number semaphore).free + held_in (new_pool base size number semaphore) ≡ number
 new_pool_number base size number semaphore =
     let l = addresses (base + 4) (size + 4) number in
     let e = none_pass (λ a. not (is_in a l)) l (all_weaker (λ a. is_in a l ≡ true) (λ a. not (is_in a l) ≡ false) (λ a h. ap not h) l (all_in l)) in

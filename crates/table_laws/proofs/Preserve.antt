@@ -79,7 +79,8 @@ pub goes_on_may_call : (message : Option ℕ) (s : Xinu) → MayCall s → MayCa
 goes_on_may_call message s c = record { tables = sound_goes_on message s c.tables; harts = c.harts; not_null = c.not_null }
 
 -- the same with other tables, in which the same process is current
-pub tables_may_call : (s : Xinu) (t : Tables) → MayCall s → IsSoundTables t → t.current ≡ s.tables.current → MayCall (record s { tables = t })
+pub tables_may_call : (s : Xinu) (t : Tables) → MayCall s → IsSoundTables t → t.current ≡ s.tables.current
+    → MayCall (record s { tables = t })
 tables_may_call s t c k e = record { tables = k; harts = c.harts; not_null = λ f. c.not_null (sym e ∙ f) }
 
 -- the call of one who may wait on a semaphore is no receive
@@ -102,8 +103,8 @@ waits_hold sem (Some owner.Device) left message f = of_device sem left f
     of_device r _ g = tt
 
 -- one who waits if these are the tokens
-take_token_preserves : (tokens sem : ℕ) (left : Rest) (then_ : Xinu → CallResult) (s : Xinu) → tokens ≡ (semaphore_at s.tables sem).tokens → MayCall s → sem < 128
-    → FitsOwner sem (semaphore_at s.tables sem).owner left
+take_token_preserves : (tokens sem : ℕ) (left : Rest) (then_ : Xinu → CallResult) (s : Xinu) → tokens ≡ (semaphore_at s.tables sem).tokens
+    → MayCall s → sem < 128 → FitsOwner sem (semaphore_at s.tables sem).owner left
     → ((n : ℕ) → (semaphore_at s.tables sem).tokens ≡ suc n → MayCall (record s { tables = with_tokens sem n s.tables }) → IsPreserved (then_ (record s { tables = with_tokens sem n s.tables })))
     → IsPreserved (take_token tokens sem left then_ s)
 take_token_preserves zero sem left then_ s e c w fits go =
@@ -113,7 +114,8 @@ take_token_preserves (suc n) sem left then_ s e c w fits go =
     go n (sym e) (tables_may_call s (with_tokens sem n s.tables) c (sound_token_taken s.tables sem n c.tables w (sym e)) refl)
 
 -- The caller takes a token and goes on, or waits for one, with what the semaphore's owner calls for left of its call.
-pub await_preserves : (sem : ℕ) (left : Rest) (then_ : Xinu → CallResult) (s : Xinu) → MayCall s → sem < 128 → FitsOwner sem (semaphore_at s.tables sem).owner left
+pub await_preserves : (sem : ℕ) (left : Rest) (then_ : Xinu → CallResult) (s : Xinu) → MayCall s → sem < 128
+    → FitsOwner sem (semaphore_at s.tables sem).owner left
     → ((n : ℕ) → (semaphore_at s.tables sem).tokens ≡ suc n → MayCall (record s { tables = with_tokens sem n s.tables }) → IsPreserved (then_ (record s { tables = with_tokens sem n s.tables })))
     → IsPreserved (await sem left then_ s)
 await_preserves sem left then_ s c w fits go = take_token_preserves (semaphore_at s.tables sem).tokens sem left then_ s refl c w fits go

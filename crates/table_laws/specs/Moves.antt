@@ -25,7 +25,8 @@ place_sleeping _ = 0
 
 -- a process of this state is at such a place
 abbrev pub IsPlaceOf : State → Place → Type 0
-IsPlaceOf state place = (ready_places state ≡ place_ready place) × (waiting_places state ≡ place_waiting place) × (sleeping_places state ≡ place_sleeping place)
+IsPlaceOf state place =
+    (ready_places state ≡ place_ready place) × (waiting_places state ≡ place_waiting place) × (sleeping_places state ≡ place_sleeping place)
 
 -- the place fits the process that goes there: a semaphore without tokens whose owner calls for what is left of its call, or a later tick
 abbrev pub FitsPlace : Tables → Process → Place → Type 0

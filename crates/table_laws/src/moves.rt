@@ -19,27 +19,37 @@ ghost use Rattle.table_laws.specs.Frame.{Frame, waits_at};
 
 /// A process moves if it may: to another state, message and place.
 pub fn moves_keep_inside()
-    ensures moved { (t : Tables) (p : ℕ) (x : Process) (message : Option ℕ) (place : Place) → IsInside t → CanMove t p x message place → IsInside (move_to p x message place t) }
+    ensures moved { (t : Tables) (p : ℕ) (x : Process) (message : Option ℕ) (place : Place) → IsInside t → CanMove t p x message place →
+        IsInside (move_to p x message place t) }
     ensures ready { (t : Tables) (p : ℕ) → IsInside t → CanBeReady t p → IsInside (ready p t) }
 {}
 
 /// Those who are unblocked become ready, one after another, whatever they answer, and nothing else of the state changes.
 pub fn the_unblocked_become_ready()
-    ensures { (value : ℤ) (ps : List ℕ) (d : CallState) → (unblock_all_with value ps d).state ≡ record d.state { tables = ready_all ps d.state.tables } }
+    ensures { (value : ℤ) (ps : List ℕ) (d : CallState) →
+        (unblock_all_with value ps d).state ≡ record d.state { tables = ready_all ps d.state.tables } }
 {}
 
 /// A signal on a semaphore in use: the first waiter becomes ready, or there is one token more.
 pub fn signals_keep_inside()
-    ensures signalled { (sem : ℕ) (d : CallState) → IsInside d.state.tables → sem < NSEM → (semaphore_at d.state.tables sem).owner ≢ None → IsInside (signalled sem d).state.tables }
+    ensures signalled { (sem : ℕ) (d : CallState) → IsInside d.state.tables → sem < NSEM → (semaphore_at d.state.tables sem).owner ≢ None →
+        IsInside (signalled sem d).state.tables }
     ensures waiter { (t : Tables) (sem p : ℕ) (ps : List ℕ) → IsInside t → (semaphore_at t sem).waiters ≡ p ∷ ps → IsInside (ready p t) }
-    ensures token { (t : Tables) (sem : ℕ) → IsInside t → sem < NSEM → (semaphore_at t sem).owner ≢ None → (semaphore_at t sem).waiters ≡ [] → IsInside (with_tokens sem ((semaphore_at t sem).tokens + 1) t) }
+    ensures token { (t : Tables) (sem : ℕ) → IsInside t → sem < NSEM → (semaphore_at t sem).owner ≢ None →
+        (semaphore_at t sem).waiters ≡ [] → IsInside (with_tokens sem ((semaphore_at t sem).tokens + 1) t) }
 {}
 
 /// A caller waits for a token, or takes one and goes on.
 pub fn waits_keep_inside()
-    ensures waits { (t : Tables) (sem : ℕ) (left : Rest) → IsSoundTables t → t.current ≢ 0 → sem < NSEM → (semaphore_at t sem).tokens ≡ 0 → FitsOwner sem (semaphore_at t sem).owner left → IsInside (move_to t.current (record (process_at t t.current) { state = Waiting; rest = left }) (message_at t t.current) (InSemaphore sem) t) }
-    ensures takes { (t : Tables) (sem n : ℕ) → IsSoundTables t → sem < NSEM → (semaphore_at t sem).tokens ≡ suc n → IsSoundTables (with_tokens sem n t) }
-    ensures either { (sem : ℕ) (left : Rest) (then_ : Xinu → CallResult) (s : Xinu) → MayCall s → sem < NSEM → FitsOwner sem (semaphore_at s.tables sem).owner left → ((n : ℕ) → (semaphore_at s.tables sem).tokens ≡ suc n → MayCall (record s { tables = with_tokens sem n s.tables }) → IsPreserved (then_ (record s { tables = with_tokens sem n s.tables }))) → IsPreserved (await sem left then_ s) }
+    ensures waits { (t : Tables) (sem : ℕ) (left : Rest) → IsSoundTables t → t.current ≢ 0 → sem < NSEM → (semaphore_at t sem).tokens ≡ 0 →
+        FitsOwner sem (semaphore_at t sem).owner left →
+        IsInside (move_to t.current (record (process_at t t.current) { state = Waiting; rest = left }) (message_at t t.current) (InSemaphore sem) t) }
+    ensures takes { (t : Tables) (sem n : ℕ) → IsSoundTables t → sem < NSEM → (semaphore_at t sem).tokens ≡ suc n →
+        IsSoundTables (with_tokens sem n t) }
+    ensures either { (sem : ℕ) (left : Rest) (then_ : Xinu → CallResult) (s : Xinu) → MayCall s → sem < NSEM →
+        FitsOwner sem (semaphore_at s.tables sem).owner left →
+        ((n : ℕ) → (semaphore_at s.tables sem).tokens ≡ suc n → MayCall (record s { tables = with_tokens sem n s.tables }) → IsPreserved (then_ (record s { tables = with_tokens sem n s.tables }))) →
+        IsPreserved (await sem left then_ s) }
 {}
 
 /// n signals at once are n signals, one after another.

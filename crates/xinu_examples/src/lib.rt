@@ -5,7 +5,7 @@
 //! | Module | Its examples |
 //! |---|---|
 //! | [`systems`] | what small systems of processes print, line by line |
-//! | [`devices`] | what typed characters leave on the console; what calls on files, and files under way, answer; what mounted prefixes map; what becomes of some blocks of the raw disk |
+//! | [`devices`] | what typed characters leave on the console; what calls on files answer, and what becomes of some under way; what mounted prefixes map; what becomes of some blocks of the raw disk |
 #![tactic(auto)]
 
 pub mod devices;

@@ -43,7 +43,8 @@ moved_follows old e events first second others mid next other ending same_lines 
 
 -- A run in which nothing is chosen is determined.
 pub runs_are_forced : (events : List Event) (old : Xinu) (lines others : List TranscriptLine) (new other : Xinu) (end ending : End)
-    → ChoosesNothing old events → RunsTo old events lines new end → RunsTo old events others other ending → SameRun lines new end others other ending
+    → ChoosesNothing old events → RunsTo old events lines new end → RunsTo old events others other ending
+    → SameRun lines new end others other ending
 runs_are_forced [] old lines others new other end ending none r s = (r.0 ∙ sym s.0, r.1 ∙ sym s.1, r.2 ∙ sym s.2)
 runs_are_forced (e ∷ events) old lines others new other end ending none r s =
     let one = (agree old e).forced none.0 r.1 s.1 r.0 s.0 r.2 s.2 in
@@ -53,7 +54,8 @@ runs_are_forced (e ∷ events) old lines others new other end ending none r s =
     (moved_follows old e events r.1 s.1 others r.0 s.0 other ending one.0 one.1 s.3)
 
 -- lines that don't begin with a call that took effect as the next one, one after another
-begins_append : (first rest : List TranscriptLine) → begins_next first ≡ false → begins_next rest ≡ false → begins_next (first ++ rest) ≡ false
+begins_append : (first rest : List TranscriptLine) → begins_next first ≡ false → begins_next rest ≡ false
+    → begins_next (first ++ rest) ≡ false
 begins_append [] rest e f = f
 begins_append (line.File p Next ∷ lines) rest e f = cc
 begins_append (l ∷ lines) rest e f = e
@@ -64,8 +66,9 @@ record Parted (first lines more : List TranscriptLine) : Type 0 where
   calm : begins_next tail ≡ false
   whole : lines ++ more ≡ first ++ tail
 
-parted : (how : Option End) (Rest : List TranscriptLine → Type 0) (first lines more : List TranscriptLine) (mid new : Xinu) (end : End) → begins_next more ≡ false
-    → ((rest : List TranscriptLine) → Rest rest → begins_next (rest ++ more) ≡ false) → Follows how Rest first lines mid new end → Parted first lines more
+parted : (how : Option End) (Rest : List TranscriptLine → Type 0) (first lines more : List TranscriptLine) (mid new : Xinu) (end : End)
+    → begins_next more ≡ false → ((rest : List TranscriptLine) → Rest rest → begins_next (rest ++ more) ≡ false)
+    → Follows how Rest first lines mid new end → Parted first lines more
 parted (Some how) Rest first lines more mid new end m calm f = record { tail = more; calm = m; whole = ap (λ l. l ++ more) f.0 }
 parted None Rest first lines more mid new end m calm f =
     record { tail = f.0 ++ more; calm = calm f.0 f.1; whole = ap (λ l. l ++ more) f.2 ∙ append_assoc first f.0 more }
@@ -81,8 +84,8 @@ run_begins (e ∷ events) old lines more new end m r =
 
 -- From a sound state a text has one run.
 pub texts_have_one_run : (events : List Event) (old : Xinu) (lines others : List TranscriptLine) (new other : Xinu) (end ending : End) (more rest : List TranscriptLine)
-    → IsSound old → begins_next more ≡ false → begins_next rest ≡ false → RunsTo old events lines new end → RunsTo old events others other ending
-    → lines ++ more ≡ others ++ rest → SameRun lines new end others other ending
+    → IsSound old → begins_next more ≡ false → begins_next rest ≡ false → RunsTo old events lines new end
+    → RunsTo old events others other ending → lines ++ more ≡ others ++ rest → SameRun lines new end others other ending
 texts_have_one_run [] old lines others new other end ending more rest sound m n r s same = (r.0 ∙ sym s.0, r.1 ∙ sym s.1, r.2 ∙ sym s.2)
 texts_have_one_run (e ∷ events) old lines others new other end ending more rest sound m n r s same =
     let p = parted (end_with (panics_in old e) (is_over r.0)) (λ l. RunsTo r.0 events l new end) r.1 lines more r.0 new end m
@@ -98,8 +101,8 @@ texts_have_one_run (e ∷ events) old lines others new other end ending more res
     (moved_follows old e events r.1 s.1 others r.0 s.0 other ending one.0 one.1 s.3)
 
 -- So a whole transcript has one run.
-pub transcripts_have_one_run : (images : List Loaded) (events : List Event) (last other : Xinu) (all : List TranscriptLine) → length images < 64
-    → IsTranscript images events last all → IsTranscript images events other all → last ≡ other
+pub transcripts_have_one_run : (images : List Loaded) (events : List Event) (last other : Xinu) (all : List TranscriptLine)
+    → length images < 64 → IsTranscript images events last all → IsTranscript images events other all → last ≡ other
 transcripts_have_one_run images events last other all few t u =
     let booted = sym t.boots ∙ u.boots in
     let starts : t.start ≡ u.start = cc in

@@ -94,12 +94,13 @@ module _ {f : Footprint} where
   parts_pools may p pools e = record { extent = record { low = refl; many = refl }; heap = λ _. refl; pools = named may; ranges = λ _. e; ports = λ _. (refl, refl); devices = devices_same p.devices }
 
   -- Another heap of the same extent, and one more pool.
-  pub parts_new_pool : f.heap ≡ true → f.pools ≡ true → f.ranges ≡ true → (p : Parts) (h : Heap) (pools : List BufferPool) → HasSameExtent p.heap h
-      → KeepsParts f p (record p { heap = h; pools = pools })
+  pub parts_new_pool : f.heap ≡ true → f.pools ≡ true → f.ranges ≡ true → (p : Parts) (h : Heap) (pools : List BufferPool)
+      → HasSameExtent p.heap h → KeepsParts f p (record p { heap = h; pools = pools })
   parts_new_pool heap pools ranges p h l e = record { extent = e; heap = named heap; pools = named pools; ranges = named ranges; ports = λ _. (refl, refl); devices = devices_same p.devices }
 
   -- Another console.
-  pub parts_console : f.console ≡ true → (p : Parts) (c : Console) → KeepsParts f p (record p { devices = record p.devices { console = c } })
+  pub parts_console : f.console ≡ true → (p : Parts) (c : Console)
+      → KeepsParts f p (record p { devices = record p.devices { console = c } })
   parts_console may p c = record {
     extent = record { low = refl; many = refl };
     heap = λ _. refl;
@@ -144,7 +145,8 @@ module _ {f : Footprint} where
   }
 
   -- Other mounted prefixes.
-  pub parts_names : f.names ≡ true → (p : Parts) (rows : List NameRow) → KeepsParts f p (record p { devices = record p.devices { names = rows } })
+  pub parts_names : f.names ≡ true → (p : Parts) (rows : List NameRow)
+      → KeepsParts f p (record p { devices = record p.devices { names = rows } })
   parts_names may p rows = record {
     extent = record { low = refl; many = refl };
     heap = λ _. refl;

@@ -21,7 +21,8 @@ pub fn rows_are_syscalls()
 
 /// Each call touches no more than its footprint.
 pub fn calls_stay_within()
-    ensures { (number : ℕ) (args : List ℕ) (s : Xinu) (r : CallRow) → IsSound s → found_in calls number ≡ Some r → Touches (reach r.touches) s (call_of_number number args s).call.state }
+    ensures { (number : ℕ) (args : List ℕ) (s : Xinu) (r : CallRow) → IsSound s → found_in calls number ≡ Some r →
+        Touches (reach r.touches) s (call_of_number number args s).call.state }
 {}
 
 /// So does what is left of a call that waited.
@@ -36,5 +37,6 @@ pub fn ends_stay_within()
     ensures end { (f : Reach) (was : ℕ) (first : List TranscriptLine) (result : CallResult) → IsInside result.call.state.tables → Frame f.mine f.asks result.call.state.tables (end_of_event was first result).state.tables
         × (f.parts.stacks ≡ false → stacks_of (end_of_event was first result).state.tables ≡ stacks_of result.call.state.tables)
         × KeepsParts f.parts result.call.state.parts (end_of_event was first result).state.parts }
-    ensures replies { (f : Reach) (was : ℕ) (first : List TranscriptLine) (result : CallResult) → IsInside result.call.state.tables → AreAlive result.call.state.tables (replies_of result) → Touches f result.call.state (end_of_event was first result).state }
+    ensures replies { (f : Reach) (was : ℕ) (first : List TranscriptLine) (result : CallResult) → IsInside result.call.state.tables →
+        AreAlive result.call.state.tables (replies_of result) → Touches f result.call.state (end_of_event was first result).state }
 {}

@@ -21,17 +21,22 @@ pub fn places_are_extreme()
 
 /// The heap hands out only what was free just before, and isn't afterwards: bytes, stacks, and what calls 10 and 12 answer.
 pub fn grants_were_free()
-    ensures memory { (n : ℕ) (h : Heap) (grant : Grant) → take_memory n h ≡ Some grant → (a : ℕ) → grant.address ≤ a → a < grant.address + n → (is_in_free a h ≡ true) × (is_in_free a grant.heap ≡ false) }
-    ensures stacks { (n : ℕ) (h : Heap) (stack : Stack) → take_stack n h ≡ Some stack → (a : ℕ) → a < stack.top + 4 → stack.top + 4 ≤ a + n → (is_in_free a h ≡ true) × (is_in_free a stack.heap ≡ false) }
-    ensures getmem { (n address : ℕ) (s : Xinu) → (getmem n s).answer ≡ Returns (pos address) → (a : ℕ) → address ≤ a → a < address + n → (is_in_free a s.parts.heap ≡ true) × (is_in_free a (getmem n s).call.state.parts.heap ≡ false) }
-    ensures getstk { (n top : ℕ) (s : Xinu) → (getstk n s).answer ≡ Returns (pos top) → (a : ℕ) → a < top + 4 → top + 4 ≤ a + n → (is_in_free a s.parts.heap ≡ true) × (is_in_free a (getstk n s).call.state.parts.heap ≡ false) }
+    ensures memory { (n : ℕ) (h : Heap) (grant : Grant) → take_memory n h ≡ Some grant → (a : ℕ) → grant.address ≤ a →
+        a < grant.address + n → (is_in_free a h ≡ true) × (is_in_free a grant.heap ≡ false) }
+    ensures stacks { (n : ℕ) (h : Heap) (stack : Stack) → take_stack n h ≡ Some stack → (a : ℕ) → a < stack.top + 4 →
+        stack.top + 4 ≤ a + n → (is_in_free a h ≡ true) × (is_in_free a stack.heap ≡ false) }
+    ensures getmem { (n address : ℕ) (s : Xinu) → (getmem n s).answer ≡ Returns (pos address) → (a : ℕ) → address ≤ a → a < address + n →
+        (is_in_free a s.parts.heap ≡ true) × (is_in_free a (getmem n s).call.state.parts.heap ≡ false) }
+    ensures getstk { (n top : ℕ) (s : Xinu) → (getstk n s).answer ≡ Returns (pos top) → (a : ℕ) → a < top + 4 → top + 4 ≤ a + n →
+        (is_in_free a s.parts.heap ≡ true) × (is_in_free a (getstk n s).call.state.parts.heap ≡ false) }
 {}
 
 /// An address that more pools and stacks have after a call or an event than before it was free before it, whatever processes gave back
 /// earlier.
 pub fn holders_get_only_free_memory()
     ensures calls { (number : ℕ) (args : List ℕ) (s : Xinu) → IsSound s → GivesOnlyFree s (call_of_number number args s).call.state }
-    ensures events { (old : Xinu) (e : Event) (lines : List TranscriptLine) (new : Xinu) → IsSound old → Happens old e lines new → GivesOnlyFree old new }
+    ensures events { (old : Xinu) (e : Event) (lines : List TranscriptLine) (new : Xinu) → IsSound old → Happens old e lines new →
+        GivesOnlyFree old new }
 {}
 
 /// Memory and stacks are refused only if nowhere enough free cells are in a row.
@@ -42,5 +47,6 @@ pub fn heap_refuses_rightly()
 
 /// No event moves the heap or changes its size.
 pub fn heap_keeps_its_extent()
-    ensures { (old : Xinu) (e : Event) (lines : List TranscriptLine) (new : Xinu) → IsSound old → Happens old e lines new → (new.parts.heap.low ≡ old.parts.heap.low) × (length new.parts.heap.cells ≡ length old.parts.heap.cells) }
+    ensures { (old : Xinu) (e : Event) (lines : List TranscriptLine) (new : Xinu) → IsSound old → Happens old e lines new →
+        (new.parts.heap.low ≡ old.parts.heap.low) × (length new.parts.heap.cells ≡ length old.parts.heap.cells) }
 {}

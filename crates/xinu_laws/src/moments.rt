@@ -22,8 +22,10 @@ ghost use Rattle.xinu_model.specs.Tables.{process_at};
 
 /// The call of a number does what the row of this number says. A call that is served is carried out so, and any other is refused.
 pub fn calls_are_rows()
-    ensures row { (number : ℕ) (args : List ℕ) (s : Xinu) (r : CallRow) → found_in calls number ≡ Some r → call_of_number number args s ≡ r.effect (slice_index args) s }
-    ensures served { (number : ℕ) (args : List ℕ) (s : Xinu) → is_served number args ≡ true → called number args s ≡ call_of_number number args s }
+    ensures row { (number : ℕ) (args : List ℕ) (s : Xinu) (r : CallRow) → found_in calls number ≡ Some r →
+        call_of_number number args s ≡ r.effect (slice_index args) s }
+    ensures served { (number : ℕ) (args : List ℕ) (s : Xinu) → is_served number args ≡ true →
+        called number args s ≡ call_of_number number args s }
     ensures other { (number : ℕ) (args : List ℕ) (s : Xinu) → is_served number args ≡ false → called number args s ≡ refused s }
 {}
 
@@ -38,7 +40,8 @@ pub fn processes_may_call()
 
 /// Each call keeps what holds of tables, pools and ports: each row, whatever its arguments, and so the call of any number.
 pub fn calls_keep_all()
-    ensures rows { (number : ℕ) (r : CallRow) → found_in calls number ≡ Some r → (args : ℕ → ℕ) (s : Xinu) → MayCallAny s → KeepsAll (r.effect args s) }
+    ensures rows { (number : ℕ) (r : CallRow) → found_in calls number ≡ Some r → (args : ℕ → ℕ) (s : Xinu) → MayCallAny s →
+        KeepsAll (r.effect args s) }
     ensures numbers { (number : ℕ) (args : List ℕ) (s : Xinu) → MayCallAny s → KeepsAll (call_of_number number args s) }
     ensures called { (number : ℕ) (args : List ℕ) (s : Xinu) → MayCallAny s → KeepsAll (called number args s) }
 {}
@@ -77,11 +80,13 @@ pub fn interrupts_keep_all()
 pub fn ports_are_renewed_once()
     ensures step { (s : Xinu) → IsSound s → (q : ℕ) → (port_at (stepped s).state.parts.ports q).seq ≤ (port_at s.parts.ports q).seq + 1 }
     ensures tick { (s : Xinu) → IsSound s → (q : ℕ) → (port_at (ticked s).state.parts.ports q).seq ≤ (port_at s.parts.ports q).seq + 1 }
-    ensures key { (b : ℕ) (s : Xinu) → IsSound s → (q : ℕ) → (port_at (keyed b s).state.parts.ports q).seq ≤ (port_at s.parts.ports q).seq + 1 }
+    ensures key { (b : ℕ) (s : Xinu) → IsSound s → (q : ℕ) →
+        (port_at (keyed b s).state.parts.ports q).seq ≤ (port_at s.parts.ports q).seq + 1 }
     ensures sent { (s : Xinu) → IsSound s → (q : ℕ) → (port_at (transmits s).state.parts.ports q).seq ≤ (port_at s.parts.ports q).seq + 1 }
 {}
 
 /// The end of an event leaves a sound state.
 pub fn ends_are_sound()
-    ensures { (was : ℕ) (first : List TranscriptLine) (result : CallResult) → KeepsAll result → IsSound (end_of_event was first result).state }
+    ensures { (was : ℕ) (first : List TranscriptLine) (result : CallResult) → KeepsAll result →
+        IsSound (end_of_event was first result).state }
 {}

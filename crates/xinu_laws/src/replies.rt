@@ -42,32 +42,46 @@ ghost use Rattle.xinu_model.specs.Tables.{no_semaphore, process_at, semaphore_at
 
 /// A call that is refused in its own event changes nothing but its caller's a0 and pc, and the event prints the call and its reply.
 pub fn refusals_change_nothing()
-    ensures { (old : Xinu) (lines : List TranscriptLine) (new : Xinu) → IsSound old → IsCalling old → IsRefused old → Happens old Step lines new → LeavesRefused old lines new }
+    ensures { (old : Xinu) (lines : List TranscriptLine) (new : Xinu) → IsSound old → IsCalling old → IsRefused old →
+        Happens old Step lines new → LeavesRefused old lines new }
 {}
 
 /// A call that answers -1 was refused, unless that is the priority, the count or the message that it answers.
 pub fn refusals_are_told()
-    ensures { (number : ℕ) (args : List ℕ) (s : Xinu) → ArePools s.tables s.parts.pools → ArePorts s.tables s.parts.ports → (call_of_number number args s).answer ≡ Returns SYSERR → (call_of_number number args s ≡ refused s) ⊎ (value_told number (slice_index args) s ≡ Some SYSERR) }
+    ensures { (number : ℕ) (args : List ℕ) (s : Xinu) → ArePools s.tables s.parts.pools → ArePorts s.tables s.parts.ports →
+        (call_of_number number args s).answer ≡ Returns SYSERR →
+        (call_of_number number args s ≡ refused s) ⊎ (value_told number (slice_index args) s ≡ Some SYSERR) }
 {}
 
 /// Who waits on a semaphore that a process made answers -1 if it is deleted, which changes nothing but who waits and the semaphore itself.
 /// However else a waiter is released, it answers 0. Those who are released answer in the order in which they came.
 pub fn waiters_are_answered()
-    ensures deleted { (sem : ℕ) (s : Xinu) → IsInside s.tables → is_good sem s.tables ≡ true → (semdelete sem s).call.released ≡ map (λ p. (p, SYSERR)) (semaphore_at s.tables sem).waiters }
-    ensures left { (sem : ℕ) (s : Xinu) → is_good sem s.tables ≡ true → (semdelete sem s).call.state ≡ record s { tables = with_semaphore sem no_semaphore (ready_all (semaphore_at s.tables sem).waiters s.tables) } }
-    ensures reset { (sem n : ℕ) (s : Xinu) → IsInside s.tables → is_good sem s.tables ≡ true → (semreset sem (pos n) s).call.released ≡ map (λ p. (p, OK)) (semaphore_at s.tables sem).waiters }
-    ensures signal { (sem : ℕ) (d : CallState) → IsInside d.state.tables → is_good sem d.state.tables ≡ true → (signalled sem d).released ≡ d.released ++ map (λ p. (p, OK)) (take 1 (semaphore_at d.state.tables sem).waiters) }
-    ensures signals { (sem n : ℕ) (d : CallState) → IsInside d.state.tables → is_good sem d.state.tables ≡ true → (signalled_times sem n d).released ≡ d.released ++ map (λ p. (p, OK)) (take n (semaphore_at d.state.tables sem).waiters) }
+    ensures deleted { (sem : ℕ) (s : Xinu) → IsInside s.tables → is_good sem s.tables ≡ true →
+        (semdelete sem s).call.released ≡ map (λ p. (p, SYSERR)) (semaphore_at s.tables sem).waiters }
+    ensures left { (sem : ℕ) (s : Xinu) → is_good sem s.tables ≡ true →
+        (semdelete sem s).call.state ≡ record s { tables = with_semaphore sem no_semaphore (ready_all (semaphore_at s.tables sem).waiters s.tables) } }
+    ensures reset { (sem n : ℕ) (s : Xinu) → IsInside s.tables → is_good sem s.tables ≡ true →
+        (semreset sem (pos n) s).call.released ≡ map (λ p. (p, OK)) (semaphore_at s.tables sem).waiters }
+    ensures signal { (sem : ℕ) (d : CallState) → IsInside d.state.tables → is_good sem d.state.tables ≡ true →
+        (signalled sem d).released ≡ d.released ++ map (λ p. (p, OK)) (take 1 (semaphore_at d.state.tables sem).waiters) }
+    ensures signals { (sem n : ℕ) (d : CallState) → IsInside d.state.tables → is_good sem d.state.tables ≡ true →
+        (signalled_times sem n d).released ≡ d.released ++ map (λ p. (p, OK)) (take n (semaphore_at d.state.tables sem).waiters) }
 {}
 
 /// Who waited on a port is refused if and only if the port was renewed since the call began: then no late message comes into it, and none
 /// is taken from it. Else a sender's message comes into it, unless all ports together are full, and a receiver gets the first message.
 pub fn stale_tickets_are_refused()
-    ensures renewed { (ticket : PortTicket) (ports : List MessagePort) → ticket.seq < (port_at ports ticket.port).seq → is_stale ticket ports ≡ true }
-    ensures send { (ticket : PortTicket) (message : ℕ) (s : Xinu) → is_stale ticket s.parts.ports ≡ true → continued (PtSend ticket message) s ≡ refused (goes_on (held s) s) }
-    ensures receive { (ticket : PortTicket) (s : Xinu) → is_stale ticket s.parts.ports ≡ true → continued (PtRecv ticket) s ≡ refused (goes_on (held s) s) }
-    ensures fresh_send { (ticket : PortTicket) (message : ℕ) (s : Xinu) → is_stale ticket s.parts.ports ≡ false → (continued (PtSend ticket message) s).answer ≡ (if nat_le most_nodes (nodes s.parts.ports) then Panics else Returns OK) }
-    ensures fresh_receive { (ticket : PortTicket) (s : Xinu) → IsSound s → (process_at s.tables s.tables.current).rest ≡ PtRecv ticket → is_stale ticket s.parts.ports ≡ false → AnswersFirst (port_at s.parts.ports ticket.port).queue (continued (PtRecv ticket) s).answer }
+    ensures renewed { (ticket : PortTicket) (ports : List MessagePort) → ticket.seq < (port_at ports ticket.port).seq →
+        is_stale ticket ports ≡ true }
+    ensures send { (ticket : PortTicket) (message : ℕ) (s : Xinu) → is_stale ticket s.parts.ports ≡ true →
+        continued (PtSend ticket message) s ≡ refused (goes_on (held s) s) }
+    ensures receive { (ticket : PortTicket) (s : Xinu) → is_stale ticket s.parts.ports ≡ true →
+        continued (PtRecv ticket) s ≡ refused (goes_on (held s) s) }
+    ensures fresh_send { (ticket : PortTicket) (message : ℕ) (s : Xinu) → is_stale ticket s.parts.ports ≡ false →
+        (continued (PtSend ticket message) s).answer ≡ (if nat_le most_nodes (nodes s.parts.ports) then Panics else Returns OK) }
+    ensures fresh_receive { (ticket : PortTicket) (s : Xinu) → IsSound s → (process_at s.tables s.tables.current).rest ≡ PtRecv ticket →
+        is_stale ticket s.parts.ports ≡ false →
+        AnswersFirst (port_at s.parts.ports ticket.port).queue (continued (PtRecv ticket) s).answer }
 {}
 
 /// The end of the input is told by -2, which is answered if and only if the caller, once it has its token, finds the end mark first in
@@ -76,19 +90,24 @@ pub fn end_of_input_is_told()
     ensures getc { (s : Xinu) → (console_getc s).answer ≡ Returns EOF → IsAtEnd (console_of s) }
     ensures getc_waited { (s : Xinu) → (continued TtyGet s).answer ≡ Returns EOF → IsAtEnd (console_of s) }
     ensures read { (at : ℕ) (n : ℤ) (s : Xinu) → (console_read at n s).answer ≡ Returns EOF → IsAtEnd (console_of s) }
-    ensures read_waited { (part : Span) (s : Xinu) → (continued (TtyRead part) s).answer ≡ Returns EOF → (part.done ≡ 0) × IsAtEnd (console_of s) }
-    ensures getc_at_end { (s : Xinu) → 0 < (semaphore_at s.tables TY_ISEM).tokens → IsAtEnd (console_of s) → (console_getc s).answer ≡ Returns EOF }
+    ensures read_waited { (part : Span) (s : Xinu) → (continued (TtyRead part) s).answer ≡ Returns EOF →
+        (part.done ≡ 0) × IsAtEnd (console_of s) }
+    ensures getc_at_end { (s : Xinu) → 0 < (semaphore_at s.tables TY_ISEM).tokens → IsAtEnd (console_of s) →
+        (console_getc s).answer ≡ Returns EOF }
     ensures getc_waited_at_end { (s : Xinu) → IsAtEnd (console_of s) → (continued TtyGet s).answer ≡ Returns EOF }
     ensures read_at_end { (at n : ℕ) (s : Xinu) → 0 < (semaphore_at s.tables TY_ISEM).tokens → in_ram at (suc n) ≡ true → IsAtEnd (console_of s) →
         (console_read at (pos (suc n)) s).answer ≡ Returns EOF }
-    ensures read_waited_at_end { (part : Span) (s : Xinu) → part.done ≡ 0 → IsAtEnd (console_of s) → (continued (TtyRead part) s).answer ≡ Returns EOF }
+    ensures read_waited_at_end { (part : Span) (s : Xinu) → part.done ≡ 0 → IsAtEnd (console_of s) →
+        (continued (TtyRead part) s).answer ≡ Returns EOF }
 {}
 
 /// A read or a write of the raw disk is refused if there is no such block or its bytes would leave RAM; else its caller waits. The completion
 /// that serves its request makes it ready, and the reply of that completion is what it answers.
 pub fn disk_callers_are_answered()
-    ensures refused { (at block : ℕ) (s : Xinu) → may_request at block s ≡ false → (disk_read at block s ≡ refused s) × (disk_write at block s ≡ refused s) }
-    ensures waits { (at block : ℕ) (s : Xinu) → may_request at block s ≡ true → ((disk_read at block s).answer ≡ Waits) × ((disk_write at block s).answer ≡ Waits) }
+    ensures refused { (at block : ℕ) (s : Xinu) → may_request at block s ≡ false →
+        (disk_read at block s ≡ refused s) × (disk_write at block s ≡ refused s) }
+    ensures waits { (at block : ℕ) (s : Xinu) → may_request at block s ≡ true →
+        ((disk_read at block s).answer ≡ Waits) × ((disk_write at block s).answer ≡ Waits) }
     ensures served { (good : Bool) (x : Served) (p : ℕ) (s : Xinu) → IsSound s → raw_completed good (disk_of s) ≡ Some x → x.request.caller ≡ Some p →
         (state_at (after_served x s).state.tables p ≡ Ready) × ((process_at (after_served x s).state.tables p).rest ≡ Disk (Some x.reply)) }
     ensures answered { (reply : ℤ) (s : Xinu) → (continued (Disk (Some reply)) s).answer ≡ Returns reply }

@@ -26,7 +26,8 @@ pub fn boot_is_sound()
 /// So is that on disks that are given, if their blocks are whole and their files sound. On those that the machine has if it is given none it
 /// starts as it does without.
 pub fn boot_on_disks_is_sound()
-    ensures given { (disks : Disks) (images : List Loaded) (start : Xinu) → length images < NPROC → AreSoundDisks disks → boot_on disks images ≡ Boots start → IsSound start }
+    ensures given { (disks : Disks) (images : List Loaded) (start : Xinu) → length images < NPROC → AreSoundDisks disks →
+        boot_on disks images ≡ Boots start → IsSound start }
     ensures first { (images : List Loaded) (start : Xinu) → boot images ≡ Boots start → boot_on first_disks images ≡ Boots start }
 {}
 
@@ -42,19 +43,24 @@ pub fn all_events_keep_sound()
 
 /// Each run keeps a state sound.
 pub fn runs_keep_sound()
-    ensures { (events : List Event) (old : Xinu) (lines : List TranscriptLine) (new : Xinu) (end : End) → IsSound old → RunsTo old events lines new end → IsSound new }
+    ensures { (events : List Event) (old : Xinu) (lines : List TranscriptLine) (new : Xinu) (end : End) → IsSound old →
+        RunsTo old events lines new end → IsSound new }
 {}
 
 /// What is free holds what it held at the start: a process number its fixed entry, no message and its registers, a semaphore no token and no waiter.
 pub fn free_places_are_fixed()
-    ensures processes { (s : Xinu) (p : ℕ) → IsSound s → state_at s.tables p ≡ Free → (process_at s.tables p ≡ no_process) × (message_at s.tables p ≡ None) }
+    ensures processes { (s : Xinu) (p : ℕ) → IsSound s → state_at s.tables p ≡ Free →
+        (process_at s.tables p ≡ no_process) × (message_at s.tables p ≡ None) }
     ensures registers { (s : Xinu) (p : ℕ) → IsSound s → state_at s.tables p ≡ Free → slice_index_or s.harts p no_hart ≡ no_hart }
-    ensures semaphores { (s : Xinu) (sem : ℕ) → IsSound s → (semaphore_at s.tables sem).owner ≡ None → semaphore_at s.tables sem ≡ no_semaphore }
+    ensures semaphores { (s : Xinu) (sem : ℕ) → IsSound s → (semaphore_at s.tables sem).owner ≡ None →
+        semaphore_at s.tables sem ≡ no_semaphore }
 {}
 
 /// Who goes on with a call on a device finds what it waited for: an item of the console, room for a byte, or the reply of its request.
 pub fn what_was_waited_for_is_there()
-    ensures item { (s : Xinu) → IsSound s → asks_input (process_at s.tables s.tables.current).rest ≡ true → 0 < length (console_of s).committed }
-    ensures room { (s : Xinu) → IsSound s → asks_output (process_at s.tables s.tables.current).rest ≡ true → length (console_of s).output < TY_OBUFLEN }
+    ensures item { (s : Xinu) → IsSound s → asks_input (process_at s.tables s.tables.current).rest ≡ true →
+        0 < length (console_of s).committed }
+    ensures room { (s : Xinu) → IsSound s → asks_output (process_at s.tables s.tables.current).rest ≡ true →
+        length (console_of s).output < TY_OBUFLEN }
     ensures reply { (reply : Option ℤ) (s : Xinu) → IsSound s → (process_at s.tables s.tables.current).rest ≡ Disk reply → IsSome reply }
 {}

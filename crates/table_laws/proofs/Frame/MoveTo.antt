@@ -61,7 +61,8 @@ IsFrameChange asks old x = asks x.rest ≡ true → (x.rest ≡ old.rest) × (is
 -- what all semaphores have in common with those that a process joins is as it was
 kept_in : {B : Type 0} (f : Semaphore → B) (place : Place) (q sem : ℕ) (l : List Semaphore) → ((x : Semaphore) → f (with_waiter q x) ≡ f x)
     → f (get_or (semaphores_in place q l) sem no_semaphore) ≡ f (get_or l sem no_semaphore)
-kept_in f (InSemaphore r) q sem l e = same_written f l r sem (with_waiter q (get_or l r no_semaphore)) no_semaphore (e (get_or l r no_semaphore))
+kept_in f (InSemaphore r) q sem l e =
+    same_written f l r sem (with_waiter q (get_or l r no_semaphore)) no_semaphore (e (get_or l r no_semaphore))
 kept_in f Nowhere q sem l e = refl
 kept_in f InReady q sem l e = refl
 kept_in f (InSleepers ready) q sem l e = refl
@@ -92,12 +93,16 @@ counted_without r q l h = let e = times-filter-le (λ y. y == r) (λ y. not (y =
 -- a process that moves leaves each semaphore its owner
 pub owner_move : (t : Tables) (q : ℕ) (x : Process) (m : Option ℕ) (place : Place) (sem : ℕ)
     → (semaphore_at (move_to q x m place t) sem).owner ≡ (semaphore_at t sem).owner
-owner_move t q x m place sem = kept_in (λ y. y.owner) place q sem (waits_without q t.semaphores) (λ y. refl) ∙ ap (λ (y : Semaphore). y.owner) (semaphore_at_without q sem t.semaphores)
+owner_move t q x m place sem =
+    kept_in (λ y. y.owner) place q sem (waits_without q t.semaphores) (λ y. refl)
+    ∙ ap (λ (y : Semaphore). y.owner) (semaphore_at_without q sem t.semaphores)
 
 -- and its tokens
 pub tokens_move : (t : Tables) (q : ℕ) (x : Process) (m : Option ℕ) (place : Place) (sem : ℕ)
     → (semaphore_at (move_to q x m place t) sem).tokens ≡ (semaphore_at t sem).tokens
-tokens_move t q x m place sem = kept_in (λ y. y.tokens) place q sem (waits_without q t.semaphores) (λ y. refl) ∙ ap (λ (y : Semaphore). y.tokens) (semaphore_at_without q sem t.semaphores)
+tokens_move t q x m place sem =
+    kept_in (λ y. y.tokens) place q sem (waits_without q t.semaphores) (λ y. refl)
+    ∙ ap (λ (y : Semaphore). y.tokens) (semaphore_at_without q sem t.semaphores)
 
 -- who moved so doesn't wait in such a call
 idle_written : (asks : Rest → Bool) (l : List Process) (q : ℕ) (x : Process) → waits_in asks x ≡ false

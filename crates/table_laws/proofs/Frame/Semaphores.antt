@@ -15,7 +15,9 @@ module _ {mine : ℕ → Option Owner → Bool} {asks : Rest → Bool} where
   -- a semaphore that isn't left alone still isn't after a move
   pub others_framed : (t u : Tables) (sem : ℕ) → Frame mine asks t u → mine sem (semaphore_at t sem).owner ≡ false
       → mine sem (semaphore_at u sem).owner ≡ false
-  others_framed t u sem c e = false_from_ne_true (mine sem (semaphore_at u sem).owner) (λ h. both_ways (mine sem (semaphore_at t sem).owner) e (ap (mine sem) (sym (c.old sem h)) ∙ h))
+  others_framed t u sem c e =
+      false_from_ne_true (mine sem (semaphore_at u sem).owner)
+      (λ h. both_ways (mine sem (semaphore_at t sem).owner) e (ap (mine sem) (sym (c.old sem h)) ∙ h))
 
   -- A semaphore changes that isn't left alone, neither before nor after.
   pub frame_semaphore : (t : Tables) (sem : ℕ) (x : Semaphore) → mine sem (semaphore_at t sem).owner ≡ false → mine sem x.owner ≡ false

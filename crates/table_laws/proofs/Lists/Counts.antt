@@ -18,7 +18,8 @@ count_right false m n = refl
 -- two lists joined are counted one after the other
 pub times-append : {A : Type 0} (test : A → Bool) (xs ys : List A) → times test (xs ++ ys) ≡ times test xs + times test ys
 times-append test [] ys = omega arith
-times-append test (x ∷ xs) ys = ap (λ n. cond (test x) (suc n) n) (times-append test xs ys) ∙ sym (count_left (test x) (times test xs) (times test ys))
+times-append test (x ∷ xs) ys =
+    ap (λ n. cond (test x) (suc n) n) (times-append test xs ys) ∙ sym (count_left (test x) (times test xs) (times test ys))
 
 -- one element more on one side of a filter
 split_step : {A : Type 0} (test : A → Bool) (x : A) (kept : Bool) (xs ys : List A) (n : ℕ) → times test xs + times test ys ≡ n
@@ -27,37 +28,43 @@ split_step test x true xs ys n e = count_left (test x) (times test xs) (times te
 split_step test x false xs ys n e = count_right (test x) (times test xs) (times test ys) ∙ ap (λ k. cond (test x) (suc k) k) e
 
 -- a filter and its opposite split the count
-pub times-filter_both : {A : Type 0} (test before : A → Bool) (xs : List A) → times test (filter before xs) + times test (filter (λ x. not (before x)) xs) ≡ times test xs
+pub times-filter_both : {A : Type 0} (test before : A → Bool) (xs : List A)
+    → times test (filter before xs) + times test (filter (λ x. not (before x)) xs) ≡ times test xs
 times-filter_both test before [] = refl
 times-filter_both test before (x ∷ xs) =
     split_step test x (before x) (filter before xs) (filter (λ y. not (before y)) xs) (times test xs) (times-filter_both test before xs)
 
 -- an insertion adds one if the element passes
-pub times-insert : {A : Type 0} (test before : A → Bool) (e : A) (xs : List A) → times test (insert before e xs) ≡ cond (test e) (suc (times test xs)) (times test xs)
+pub times-insert : {A : Type 0} (test before : A → Bool) (e : A) (xs : List A)
+    → times test (insert before e xs) ≡ cond (test e) (suc (times test xs)) (times test xs)
 times-insert test before e xs =
     times-append test (filter before xs) (e ∷ filter (λ x. not (before x)) xs)
     ∙ count_right (test e) (times test (filter before xs)) (times test (filter (λ x. not (before x)) xs))
     ∙ ap (λ n. cond (test e) (suc n) n) (times-filter_both test before xs)
 
 -- one element more in a list that keeps what passes
-keep_step : {A : Type 0} (test : A → Bool) (x : A) (xs ys : List A) (kept : Bool) → times test xs ≡ times test ys → (test x ≡ true → kept ≡ true)
-    → times test (cond kept (x ∷ xs) xs) ≡ cond (test x) (suc (times test ys)) (times test ys)
+keep_step : {A : Type 0} (test : A → Bool) (x : A) (xs ys : List A) (kept : Bool) → times test xs ≡ times test ys
+    → (test x ≡ true → kept ≡ true) → times test (cond kept (x ∷ xs) xs) ≡ cond (test x) (suc (times test ys)) (times test ys)
 keep_step test x xs ys true e h = ap (λ n. cond (test x) (suc n) n) e
 keep_step test x xs ys false e h =
     cond_both (test x) (suc (times test ys)) (times test ys) (λ n. times test xs ≡ n) (λ passes. absurd (false≢true (h passes))) (λ _. e)
 
 -- a filter that keeps all that pass keeps the count
-pub times-filter_keeps : {A : Type 0} (test kept : A → Bool) → ((x : A) → test x ≡ true → kept x ≡ true) → (xs : List A) → times test (filter kept xs) ≡ times test xs
+pub times-filter_keeps : {A : Type 0} (test kept : A → Bool) → ((x : A) → test x ≡ true → kept x ≡ true) → (xs : List A)
+    → times test (filter kept xs) ≡ times test xs
 times-filter_keeps test kept h [] = refl
 times-filter_keeps test kept h (x ∷ xs) = keep_step test x (filter kept xs) xs (kept x) (times-filter_keeps test kept h xs) (h x)
 
 -- one element more in a list that drops what passes
-drop_step : {A : Type 0} (test : A → Bool) (x : A) (xs : List A) (kept : Bool) → times test xs ≡ 0 → (test x ≡ true → kept ≡ false) → times test (cond kept (x ∷ xs) xs) ≡ 0
-drop_step test x xs true e h = cond_both (test x) (suc (times test xs)) (times test xs) (λ n. n ≡ 0) (λ passes. absurd (true≢false (h passes))) (λ _. e)
+drop_step : {A : Type 0} (test : A → Bool) (x : A) (xs : List A) (kept : Bool) → times test xs ≡ 0 → (test x ≡ true → kept ≡ false)
+    → times test (cond kept (x ∷ xs) xs) ≡ 0
+drop_step test x xs true e h =
+    cond_both (test x) (suc (times test xs)) (times test xs) (λ n. n ≡ 0) (λ passes. absurd (true≢false (h passes))) (λ _. e)
 drop_step test x xs false e h = e
 
 -- a filter that drops all that pass leaves none
-pub times-filter_drops : {A : Type 0} (test kept : A → Bool) → ((x : A) → test x ≡ true → kept x ≡ false) → (xs : List A) → times test (filter kept xs) ≡ 0
+pub times-filter_drops : {A : Type 0} (test kept : A → Bool) → ((x : A) → test x ≡ true → kept x ≡ false) → (xs : List A)
+    → times test (filter kept xs) ≡ 0
 times-filter_drops test kept h [] = refl
 times-filter_drops test kept h (x ∷ xs) = drop_step test x (filter kept xs) (kept x) (times-filter_drops test kept h xs) (h x)
 
@@ -74,12 +81,14 @@ pub entries_without_other : {K : Type 0} (p q : ℕ) (l : List (ℕ × K)) → p
 entries_without_other p q l h = times-filter_keeps (λ e. e.0 == p) (λ e. not (e.0 == q)) (λ e here. not_other e.0 p q h here) l
 
 -- an entry of q is inserted if there was none
-pub entries_insert_same : {K : Type 0} (before : (ℕ × K) → Bool) (q : ℕ) (key : K) (l : List (ℕ × K)) → entries_of q l ≡ 0 → entries_of q (insert before (q, key) l) ≡ 1
+pub entries_insert_same : {K : Type 0} (before : (ℕ × K) → Bool) (q : ℕ) (key : K) (l : List (ℕ × K)) → entries_of q l ≡ 0
+    → entries_of q (insert before (q, key) l) ≡ 1
 entries_insert_same before q key l none =
     times-insert (λ e. e.0 == q) before (q, key) l ∙ ap (λ b. cond b (suc (entries_of q l)) (entries_of q l)) (eq-eqb q q refl) ∙ ap suc none
 
 -- an entry of q is inserted among those of p
-pub entries_insert_other : {K : Type 0} (before : (ℕ × K) → Bool) (p q : ℕ) (key : K) (l : List (ℕ × K)) → p ≢ q → entries_of p (insert before (q, key) l) ≡ entries_of p l
+pub entries_insert_other : {K : Type 0} (before : (ℕ × K) → Bool) (p q : ℕ) (key : K) (l : List (ℕ × K)) → p ≢ q
+    → entries_of p (insert before (q, key) l) ≡ entries_of p l
 entries_insert_other before p q key l h =
     times-insert (λ e. e.0 == p) before (q, key) l ∙ ap (λ b. cond b (suc (entries_of p l)) (entries_of p l)) (ne_eqb q p (λ e. h (sym e)))
 
@@ -159,7 +168,8 @@ total-zero f h [] = refl
 total-zero f h (x ∷ xs) = let a = h x in let b = total-zero f h xs in omega arith
 
 -- a write changes a sum by what stood there and what stands there now
-pub total-set : {A : Type 0} (f : A → ℕ) (l : List A) (i : ℕ) (y d : A) → i < length l → total f (set l i y) + f (get_or l i d) ≡ total f l + f y
+pub total-set : {A : Type 0} (f : A → ℕ) (l : List A) (i : ℕ) (y d : A) → i < length l
+    → total f (set l i y) + f (get_or l i d) ≡ total f l + f y
 total-set f [] i y d h = absurd (omega arith)
 total-set f (x ∷ xs) zero y d h = omega arith
 total-set f (x ∷ xs) (suc i) y d h = let e = total-set f xs i y d (omega arith) in omega arith
@@ -171,7 +181,8 @@ get_or-le-total f (x ∷ xs) zero d z = omega arith
 get_or-le-total f (x ∷ xs) (suc i) d z = let e = get_or-le-total f xs i d z in omega arith
 
 -- and two elements at different places are together at most that
-pub two-le-total : {A : Type 0} (f : A → ℕ) (l : List A) (i j : ℕ) (d : A) → f d ≡ 0 → i ≢ j → f (get_or l i d) + f (get_or l j d) ≤ total f l
+pub two-le-total : {A : Type 0} (f : A → ℕ) (l : List A) (i j : ℕ) (d : A) → f d ≡ 0 → i ≢ j
+    → f (get_or l i d) + f (get_or l j d) ≤ total f l
 two-le-total f [] i j d e n = omega (arith, e)
 two-le-total f (x ∷ xs) zero zero d e n = absurd (n refl)
 two-le-total f (x ∷ xs) zero (suc j) d e n = let h = get_or-le-total f xs j d e in omega (arith, h)
@@ -179,7 +190,8 @@ two-le-total f (x ∷ xs) (suc i) zero d e n = let h = get_or-le-total f xs i d 
 two-le-total f (x ∷ xs) (suc i) (suc j) d e n = let h = two-le-total f xs i j d e (λ g. n (ap suc g)) in omega (arith, h)
 
 -- one element more before a list without what passes
-absent_step : {A : Type 0} (passes : Bool) (x : A) (xs ys : List A) (n : ℕ) → cond passes (suc n) n ≡ 0 → (n ≡ 0 → ys ≡ xs) → cond (not passes) (x ∷ ys) ys ≡ x ∷ xs
+absent_step : {A : Type 0} (passes : Bool) (x : A) (xs ys : List A) (n : ℕ) → cond passes (suc n) n ≡ 0 → (n ≡ 0 → ys ≡ xs)
+    → cond (not passes) (x ∷ ys) ys ≡ x ∷ xs
 absent_step true x xs ys n z h = absurd (omega arith)
 absent_step false x xs ys n z h = ap (λ l. x ∷ l) (h z)
 

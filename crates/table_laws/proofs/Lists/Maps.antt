@@ -38,7 +38,8 @@ get_or_seen f (x ∷ l) zero d = refl
 get_or_seen f (x ∷ l) (suc i) d = get_or_seen f l i d
 
 -- A write counts what is written in place of what was there, at most.
-pub times_set : {A : Type 0} (test : A → Bool) (l : List A) (i : ℕ) (x d : A) → test d ≡ false → times test (set l i x) + one (test (get_or l i d)) ≤ times test l + one (test x)
+pub times_set : {A : Type 0} (test : A → Bool) (l : List A) (i : ℕ) (x d : A) → test d ≡ false
+    → times test (set l i x) + one (test (get_or l i d)) ≤ times test l + one (test x)
 times_set test [] i x d e = let none = ap one e in omega arith
 times_set test (y ∷ l) zero x d e =
     let was = times_first test y l in

@@ -39,7 +39,8 @@ order_filter R kept (x ∷ xs) h =
     cond_both (kept x) (x ∷ filter kept xs) (filter kept xs) (IsInOrder R) (λ _. (all_filter (R x) kept xs h.0, order_filter R kept xs h.1)) (λ _. order_filter R kept xs h.1)
 
 -- two lists in order are in order one after another, where each of the first is in the relation to each of the second
-pub order_append : {A : Type 0} (R : A → A → Type 0) (xs ys : List A) → IsInOrder R xs → IsInOrder R ys → AllByRecursion (λ x. AllByRecursion (R x) ys) xs → IsInOrder R (xs ++ ys)
+pub order_append : {A : Type 0} (R : A → A → Type 0) (xs ys : List A) → IsInOrder R xs → IsInOrder R ys
+    → AllByRecursion (λ x. AllByRecursion (R x) ys) xs → IsInOrder R (xs ++ ys)
 order_append R [] ys h k across = k
 order_append R (x ∷ xs) ys h k across = (all_append (R x) xs ys h.0 across.0, order_append R xs ys h.1 k across.1)
 
@@ -58,7 +59,8 @@ order_insert R before e l to from across h =
     (filter before l) (all_passes before l))
 
 -- what holds of all and of a new element holds of all after its insertion
-pub all_insert : {A : Type 0} (P : A → Type 0) (before : A → Bool) (e : A) (l : List A) → P e → AllByRecursion P l → AllByRecursion P (insert before e l)
+pub all_insert : {A : Type 0} (P : A → Type 0) (before : A → Bool) (e : A) (l : List A) → P e → AllByRecursion P l
+    → AllByRecursion P (insert before e l)
 all_insert P before e l new h =
     all_append P (filter before l) (e ∷ filter (λ x. not (before x)) l) (all_filter P before l h) (new, all_filter P (λ x. not (before x)) l h)
 
@@ -83,7 +85,8 @@ falling_in (InSemaphore s) p key l h = h
 falling_in (InSleepers wake) p key l h = h
 
 -- what holds of all of the ready list and of a process's new entry holds of all after it went to its place
-pub all_ready_in : (P : ℕ × ℤ → Type 0) (place : Place) (p : ℕ) (key : ℤ) (l : List (ℕ × ℤ)) → P (p, key) → AllByRecursion P l → AllByRecursion P (ready_in place p key l)
+pub all_ready_in : (P : ℕ × ℤ → Type 0) (place : Place) (p : ℕ) (key : ℤ) (l : List (ℕ × ℤ)) → P (p, key) → AllByRecursion P l
+    → AllByRecursion P (ready_in place p key l)
 all_ready_in P InReady p key l new h = all_insert P (λ x. not (int_lt x.1 key)) (p, key) l new h
 all_ready_in P Nowhere p key l new h = h
 all_ready_in P (InSemaphore s) p key l new h = h

@@ -45,7 +45,8 @@ live_after t q p e =
     (λ h. both_ways (is_free (state_at t p)) e (was_free t.processes q (in_state Ready (process_at t q)) (λ g. absurd (cc)) p h))
 
 -- what is answered at once goes to the process that is released
-reply_is_alive : (t : Tables) (value : ℤ) (p : ℕ) (left : Rest) → is_free (state_at t p) ≡ false → AreAlive t (reply_at_unblock value p left)
+reply_is_alive : (t : Tables) (value : ℤ) (p : ℕ) (left : Rest) → is_free (state_at t p) ≡ false
+    → AreAlive t (reply_at_unblock value p left)
 reply_is_alive t value p Nothing e = (e, tt)
 reply_is_alive t value p _ e = tt
 
@@ -102,15 +103,16 @@ alive_emptied value sem d o a = alive_unblock_all value (semaphore_at d.state.ta
 -- The caller is alive if it gets a reply.
 pub alive_callers : (answer : Answer) (t : Tables) (replies : List (ℕ × ℤ)) → FitsAnswer answer t → AreAlive t replies
     → AreAlive t (and_callers answer t.current replies)
-alive_callers (Returns value) t replies k a = all_append (λ r. is_free (state_at t r.0) ≡ false) replies ((t.current, value) ∷ []) a (ap is_free k.runs, tt)
+alive_callers (Returns value) t replies k a =
+    all_append (λ r. is_free (state_at t r.0) ≡ false) replies ((t.current, value) ∷ []) a (ap is_free k.runs, tt)
 alive_callers Waits t replies k a = a
 alive_callers Gone t replies k a = a
 alive_callers Panics t replies k a = a
 alive_callers Silent t replies k a = a
 
 -- Replies leave the registers of a free number as they are.
-pub replies_spare_free : (t : Tables) (p : ℕ) → is_free (state_at t p) ≡ true → (replies : List (ℕ × ℤ)) (harts : List Hart) → AreAlive t replies
-    → slice_index_or (with_replies replies harts) p no_hart ≡ slice_index_or harts p no_hart
+pub replies_spare_free : (t : Tables) (p : ℕ) → is_free (state_at t p) ≡ true → (replies : List (ℕ × ℤ)) (harts : List Hart)
+    → AreAlive t replies → slice_index_or (with_replies replies harts) p no_hart ≡ slice_index_or harts p no_hart
 replies_spare_free t p free [] harts a = refl
 replies_spare_free t p free (r ∷ replies) harts a =
     replies_spare_free t p free replies (with_reply harts r) a.1

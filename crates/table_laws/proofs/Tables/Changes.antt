@@ -38,8 +38,8 @@ keys_written t q x o idle =
     t.ready (all_both (λ e. 0 < entries_of e.0 t.ready) key_at t.ready (all_have_entries t.ready) o.keys)
 
 -- A process that isn't ready is written in its old state with the same left of its call.
-pub inside_process : (t : Tables) (q : ℕ) (x : Process) → IsInside t → q < 64 → state_at t q ≢ Free → state_at t q ≢ Ready → x.state ≡ state_at t q → x.rest ≡ (process_at t q).rest
-    → IsInside (record t { processes = set t.processes q x })
+pub inside_process : (t : Tables) (q : ℕ) (x : Process) → IsInside t → q < 64 → state_at t q ≢ Free → state_at t q ≢ Ready
+    → x.state ≡ state_at t q → x.rest ≡ (process_at t q).rest → IsInside (record t { processes = set t.processes q x })
 inside_process t q x o w alive idle es er =
     let st = state_written t q x o.processes w es in
     let re = rest_written t q x o.processes w er in
@@ -70,16 +70,16 @@ inside_process t q x o w alive idle es er =
     }
 
 -- The current process goes on after that.
-pub sound_process : (t : Tables) (q : ℕ) (x : Process) → IsSoundTables t → q < 64 → state_at t q ≢ Free → state_at t q ≢ Ready → x.state ≡ state_at t q → x.rest ≡ (process_at t q).rest
-    → IsSoundTables (record t { processes = set t.processes q x })
+pub sound_process : (t : Tables) (q : ℕ) (x : Process) → IsSoundTables t → q < 64 → state_at t q ≢ Free → state_at t q ≢ Ready
+    → x.state ≡ state_at t q → x.rest ≡ (process_at t q).rest → IsSoundTables (record t { processes = set t.processes q x })
 sound_process t q x k w alive idle es er = record {
   inside = inside_process t q x k.inside w alive idle es er;
   runs = state_written t q x k.inside.processes w es t.current ∙ k.runs;
 }
 
 -- A process holds another message, which fits its state and what is left of its call.
-pub inside_message : (t : Tables) (q : ℕ) (m : Option ℕ) → IsInside t → q < 64 → state_at t q ≢ Free → FitsMessage (state_at t q) (process_at t q).rest m
-    → IsInside (record t { messages = set t.messages q m })
+pub inside_message : (t : Tables) (q : ℕ) (m : Option ℕ) → IsInside t → q < 64 → state_at t q ≢ Free
+    → FitsMessage (state_at t q) (process_at t q).rest m → IsInside (record t { messages = set t.messages q m })
 inside_message t q m o w alive f = record {
   processes = o.processes;
   messages = length-set t.messages q m ∙ o.messages;
@@ -120,9 +120,9 @@ semaphore_written t sem y P e w new old r = by_number r sem (λ k. P k (get_or (
     (λ n. subst (P r) (sym (get_or-set_other t.semaphores sem r y no_semaphore n)) (old r))
 
 -- A semaphore is written with its old waiters, if it hasn't tokens beside them, and its owner fits them and its number.
-pub inside_semaphore : (t : Tables) (sem : ℕ) (y : Semaphore) → IsInside t → sem < 128 → y.waiters ≡ (semaphore_at t sem).waiters → HasOneKind y
-    → ((p : ℕ) → 0 < count_in p y.waiters → FitsOwner sem y.owner (process_at t p).rest) → FitsNumber sem y.owner → IsUnused y
-    → IsInside (with_semaphore sem y t)
+pub inside_semaphore : (t : Tables) (sem : ℕ) (y : Semaphore) → IsInside t → sem < 128 → y.waiters ≡ (semaphore_at t sem).waiters
+    → HasOneKind y → ((p : ℕ) → 0 < count_in p y.waiters → FitsOwner sem y.owner (process_at t p).rest) → FitsNumber sem y.owner
+    → IsUnused y → IsInside (with_semaphore sem y t)
 inside_semaphore t sem y o w same kind fits number fixed = record {
   processes = o.processes;
   messages = o.messages;
@@ -151,29 +151,34 @@ inside_semaphore t sem y o w same kind fits number fixed = record {
 }
 
 -- A semaphore in use gets another number of tokens, if it has none or no waiters.
-pub inside_tokens : (t : Tables) (sem n : ℕ) → IsInside t → sem < 128 → (semaphore_at t sem).owner ≢ None → HasOneKind (record (semaphore_at t sem) { tokens = n }) → IsInside (with_tokens sem n t)
+pub inside_tokens : (t : Tables) (sem n : ℕ) → IsInside t → sem < 128 → (semaphore_at t sem).owner ≢ None
+    → HasOneKind (record (semaphore_at t sem) { tokens = n }) → IsInside (with_tokens sem n t)
 inside_tokens t sem n o w used kind =
     inside_semaphore t sem (record (semaphore_at t sem) { tokens = n }) o w refl kind (o.rests sem) (record { devices = o.devices sem; no_devices = o.no_devices sem }) (λ e. absurd (used e))
 
 -- The current process goes on after that.
-pub sound_tokens : (t : Tables) (sem n : ℕ) → IsSoundTables t → sem < 128 → (semaphore_at t sem).owner ≢ None → HasOneKind (record (semaphore_at t sem) { tokens = n }) → IsSoundTables (with_tokens sem n t)
+pub sound_tokens : (t : Tables) (sem n : ℕ) → IsSoundTables t → sem < 128 → (semaphore_at t sem).owner ≢ None
+    → HasOneKind (record (semaphore_at t sem) { tokens = n }) → IsSoundTables (with_tokens sem n t)
 sound_tokens t sem n k w used kind = record { inside = inside_tokens t sem n k.inside w used kind; runs = k.runs }
 
 -- a semaphore with tokens has no waiters
 pub no_waiters : (t : Tables) (sem n : ℕ) → IsInside t → (semaphore_at t sem).tokens ≡ suc n → (semaphore_at t sem).waiters ≡ []
-no_waiters t sem n o e = ⊎_elim (λ (z : (semaphore_at t sem).tokens ≡ 0). absurd (omega arith)) (λ (z : (semaphore_at t sem).waiters ≡ []). z) (o.one_kind sem)
+no_waiters t sem n o e =
+    ⊎_elim (λ (z : (semaphore_at t sem).tokens ≡ 0). absurd (omega arith)) (λ (z : (semaphore_at t sem).waiters ≡ []). z) (o.one_kind sem)
 
 -- and is in use
 pub tokens_used : (t : Tables) (sem n : ℕ) → IsInside t → (semaphore_at t sem).tokens ≡ suc n → (semaphore_at t sem).owner ≢ None
 tokens_used t sem n o e none = let z = ap (λ (x : Semaphore). x.tokens) (o.unused sem none) in absurd (omega arith)
 
 -- A token is taken.
-pub sound_token_taken : (t : Tables) (sem n : ℕ) → IsSoundTables t → sem < 128 → (semaphore_at t sem).tokens ≡ suc n → IsSoundTables (with_tokens sem n t)
+pub sound_token_taken : (t : Tables) (sem n : ℕ) → IsSoundTables t → sem < 128 → (semaphore_at t sem).tokens ≡ suc n
+    → IsSoundTables (with_tokens sem n t)
 sound_token_taken t sem n k w e = sound_tokens t sem n k w (tokens_used t sem n k.inside e) (inr (no_waiters t sem n k.inside e))
 
 -- nobody waits on a semaphore that isn't in use
 pub free_has_no_waiters : (t : Tables) (sem : ℕ) → IsInside t → (semaphore_at t sem).owner ≡ None → (semaphore_at t sem).waiters ≡ []
-free_has_no_waiters t sem o e = none_counted (semaphore_at t sem).waiters (λ p h. subst (λ k. FitsOwner sem k (process_at t p).rest) e (o.rests sem p h))
+free_has_no_waiters t sem o e =
+    none_counted (semaphore_at t sem).waiters (λ p h. subst (λ k. FitsOwner sem k (process_at t p).rest) e (o.rests sem p h))
 
 -- a semaphore that isn't in use isn't one of the kernel's
 pub free_is_no_device : (t : Tables) (sem : ℕ) → IsInside t → (semaphore_at t sem).owner ≡ None → 4 ≤ sem
@@ -184,16 +189,19 @@ pub owned_is_no_device : (t : Tables) (sem : ℕ) → IsInside t → (semaphore_
 owned_is_no_device t sem o n = ⊎_elim (λ (h : sem < 4). absurd (n (o.devices sem h))) (λ (h : 4 ≤ sem). h) (cases_lt sem 4)
 
 -- A semaphore on which nobody waits is given up, which isn't the kernel's.
-pub inside_given_up : (t : Tables) (sem : ℕ) → IsInside t → sem < 128 → 4 ≤ sem → (semaphore_at t sem).waiters ≡ [] → IsInside (with_semaphore sem no_semaphore t)
+pub inside_given_up : (t : Tables) (sem : ℕ) → IsInside t → sem < 128 → 4 ≤ sem → (semaphore_at t sem).waiters ≡ []
+    → IsInside (with_semaphore sem no_semaphore t)
 inside_given_up t sem o w four e =
     inside_semaphore t sem no_semaphore o w (sym e) (inl refl) (λ p h. absurd (omega arith)) (record { devices = λ h. absurd (omega arith); no_devices = λ h. cc }) (λ e. refl)
 
 -- The current process goes on after that.
-pub sound_given_up : (t : Tables) (sem : ℕ) → IsSoundTables t → sem < 128 → 4 ≤ sem → (semaphore_at t sem).waiters ≡ [] → IsSoundTables (with_semaphore sem no_semaphore t)
+pub sound_given_up : (t : Tables) (sem : ℕ) → IsSoundTables t → sem < 128 → 4 ≤ sem → (semaphore_at t sem).waiters ≡ []
+    → IsSoundTables (with_semaphore sem no_semaphore t)
 sound_given_up t sem k w four e = record { inside = inside_given_up t sem k.inside w four e; runs = k.runs }
 
 -- A semaphore that isn't in use is made, for an owner that isn't the kernel.
-pub inside_made_semaphore : (t : Tables) (sem tokens : ℕ) (by : Owner) → IsInside t → sem < 128 → (semaphore_at t sem).owner ≡ None → by ≢ Device → IsInside (make_semaphore sem by tokens t)
+pub inside_made_semaphore : (t : Tables) (sem tokens : ℕ) (by : Owner) → IsInside t → sem < 128 → (semaphore_at t sem).owner ≡ None
+    → by ≢ Device → IsInside (make_semaphore sem by tokens t)
 inside_made_semaphore t sem tokens by o w free n =
     let y : Semaphore = record { owner = Some by; tokens = tokens; waiters = [] } in
     let four = free_is_no_device t sem o free in
@@ -202,5 +210,6 @@ inside_made_semaphore t sem tokens by o w free n =
     (record { devices = λ h. absurd (omega arith); no_devices = λ e. absurd (n cc) }) (λ e. absurd (cc)))
 
 -- The current process goes on after that.
-pub sound_made_semaphore : (t : Tables) (sem tokens : ℕ) (by : Owner) → IsSoundTables t → sem < 128 → (semaphore_at t sem).owner ≡ None → by ≢ Device → IsSoundTables (make_semaphore sem by tokens t)
+pub sound_made_semaphore : (t : Tables) (sem tokens : ℕ) (by : Owner) → IsSoundTables t → sem < 128 → (semaphore_at t sem).owner ≡ None
+    → by ≢ Device → IsSoundTables (make_semaphore sem by tokens t)
 sound_made_semaphore t sem tokens by k w free n = record { inside = inside_made_semaphore t sem tokens by k.inside w free n; runs = k.runs }

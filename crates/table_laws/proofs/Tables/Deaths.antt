@@ -41,7 +41,9 @@ not_free s h e = let f = ap is_free e in cc
 
 -- who can get a message isn't free
 pub can_get_alive : (t : Tables) (p : ℕ) → can_get p t ≡ true → state_at t p ≢ Free
-can_get_alive t p h = not_free (state_at t p) (not-true (is_free (state_at t p)) (and_parts (not (is_free (state_at t p))) (not (is_some (message_at t p))) h).0)
+can_get_alive t p h =
+    not_free (state_at t p)
+    (not-true (is_free (state_at t p)) (and_parts (not (is_free (state_at t p))) (not (is_some (message_at t p))) h).0)
 
 -- a message is held if a call is to answer one
 pub holds_some : (left : Rest) (m : ℕ) → HoldsFor left (Some m)
@@ -49,7 +51,8 @@ holds_some rest.Receive m = search rules
 holds_some _ m = tt
 
 -- any message fits if none is waited for
-pub fits_some : (s : State) (left : Rest) (m : ℕ) (old : Option ℕ) → listens s ≡ false → FitsMessage s left old → FitsMessage s left (Some m)
+pub fits_some : (s : State) (left : Rest) (m : ℕ) (old : Option ℕ) → listens s ≡ false → FitsMessage s left old
+    → FitsMessage s left (Some m)
 fits_some Receiving left m old h f = cc
 fits_some Timed left m old h f = cc
 fits_some Sleeping left m old h f = f
@@ -71,7 +74,8 @@ by_delivery p message d P wakeup kept =
     (with_tables (record t { messages = slice_set t.messages p (Some message) }) d) P wakeup kept
 
 -- A message is delivered to a process that isn't free.
-pub inside_delivered : (p message : ℕ) (d : CallState) → IsInside d.state.tables → state_at d.state.tables p ≢ Free → IsInside (delivered p message d).state.tables
+pub inside_delivered : (p message : ℕ) (d : CallState) → IsInside d.state.tables → state_at d.state.tables p ≢ Free
+    → IsInside (delivered p message d).state.tables
 inside_delivered p message d o alive =
     let t = d.state.tables in
     by_delivery p message d (λ e. IsInside e.state.tables)
@@ -79,7 +83,8 @@ inside_delivered p message d o alive =
     (λ b. inside_message t p (Some message) o (within_table t p o.processes alive) alive (fits_some (state_at t p) (process_at t p).rest message (message_at t p) b (o.slots p)))
 
 -- The current process goes on after that.
-pub sound_delivered : (p message : ℕ) (d : CallState) → IsSoundTables d.state.tables → state_at d.state.tables p ≢ Free → IsSoundTables (delivered p message d).state.tables
+pub sound_delivered : (p message : ℕ) (d : CallState) → IsSoundTables d.state.tables → state_at d.state.tables p ≢ Free
+    → IsSoundTables (delivered p message d).state.tables
 sound_delivered p message d k alive =
     let t = d.state.tables in
     by_delivery p message d (λ e. IsSoundTables e.state.tables)
@@ -108,7 +113,9 @@ pub record ChangesTables (d e : CallState) : Type 0 where
 
 -- A message changes the tables alone.
 pub delivered_changes : (p message : ℕ) (d : CallState) → ChangesTables d (delivered p message d)
-delivered_changes p message d = by_delivery p message d (ChangesTables d) (λ _. record { state = refl; current = refl; released = refl }) (λ _. record { state = refl; current = refl; released = refl })
+delivered_changes p message d =
+    by_delivery p message d (ChangesTables d) (λ _. record { state = refl; current = refl; released = refl })
+    (λ _. record { state = refl; current = refl; released = refl })
 
 -- and so does one that is sent or refused
 pub sent_changes : (p message : ℕ) (d : CallState) → ChangesTables d (sent p message d)
@@ -126,7 +133,8 @@ inside_killed p d o w n =
     inside_move told.state.tables p no_process None Nowhere (inside_sent (process_at d.state.tables p).parent p d o) (can_move_free told.state.tables p w n)
 
 -- If it isn't the current one, this one goes on.
-pub sound_killed : (p : ℕ) (d : CallState) → IsSoundTables d.state.tables → p < 64 → p ≢ 0 → p ≢ d.state.tables.current → IsSoundTables (killed p d).state.tables
+pub sound_killed : (p : ℕ) (d : CallState) → IsSoundTables d.state.tables → p < 64 → p ≢ 0 → p ≢ d.state.tables.current
+    → IsSoundTables (killed p d).state.tables
 sound_killed p d k w n other =
     let parent = (process_at d.state.tables p).parent in
     let told = sent parent p d in
@@ -140,4 +148,5 @@ harts_killed p d a =
 
 -- A death answers nobody.
 pub nobody_answered : (p : ℕ) (s : Xinu) → AreAlive (killed p (start s)).state.tables (killed p (start s)).released
-nobody_answered p s = subst (AreAlive (killed p (start s)).state.tables) (sym (sent_changes (process_at s.tables p).parent p (start s)).released) tt
+nobody_answered p s =
+    subst (AreAlive (killed p (start s)).state.tables) (sym (sent_changes (process_at s.tables p).parent p (start s)).released) tt

@@ -16,12 +16,14 @@ use Rattle.table_laws.proofs.Tables.Harts.{harts_set, harts_same, harts_with_rep
 use Rattle.xinu_model.specs.Sound.State.{AreHarts}
 
 -- if the caller runs no longer there is a resched
-off_closed : (answer : Answer) (owes : Bool) (t : Tables) → is_off answer ≡ true → IsSoundTables (resched t) → IsSoundTables (cond (owes || is_off answer) (resched t) t)
+off_closed : (answer : Answer) (owes : Bool) (t : Tables) → is_off answer ≡ true → IsSoundTables (resched t)
+    → IsSoundTables (cond (owes || is_off answer) (resched t) t)
 off_closed answer owes t e k =
     cond_both (owes || is_off answer) (resched t) t IsSoundTables (λ _. k) (λ b. absurd (both_ways (owes || is_off answer) b (or_right owes (is_off answer) e)))
 
 -- The one resched at the end makes the tables sound if they aren't yet.
-pub closed_fits : (answer : Answer) (owes : Bool) (t : Tables) → FitsAnswer answer t → IsSoundTables (cond (owes || is_off answer) (resched t) t)
+pub closed_fits : (answer : Answer) (owes : Bool) (t : Tables) → FitsAnswer answer t
+    → IsSoundTables (cond (owes || is_off answer) (resched t) t)
 closed_fits (Returns value) owes t k = cond_both (owes || false) (resched t) t IsSoundTables (λ _. sound_resched t k.inside) (λ _. k)
 closed_fits Panics owes t k = cond_both (owes || false) (resched t) t IsSoundTables (λ _. sound_resched t k.inside) (λ _. k)
 closed_fits Silent owes t k = cond_both (owes || false) (resched t) t IsSoundTables (λ _. sound_resched t k.inside) (λ _. k)
@@ -33,11 +35,13 @@ pub sound_closed : (result : CallResult) → IsPreserved result → IsSoundTable
 sound_closed result k = closed_fits result.answer result.call.owes_resched result.call.state.tables k.tables
 
 -- The end of an event leaves sound tables.
-pub sound_end_of_event : (was : ℕ) (first : List TranscriptLine) (result : CallResult) → IsPreserved result → IsSoundTables (end_of_event was first result).state.tables
+pub sound_end_of_event : (was : ℕ) (first : List TranscriptLine) (result : CallResult) → IsPreserved result
+    → IsSoundTables (end_of_event was first result).state.tables
 sound_end_of_event was first result k = sound_closed result k
 
 -- Each number keeps its registers there.
-pub harts_end_of_event : (was : ℕ) (first : List TranscriptLine) (result : CallResult) → IsPreserved result → AreHarts (end_of_event was first result).state.harts
+pub harts_end_of_event : (was : ℕ) (first : List TranscriptLine) (result : CallResult) → IsPreserved result
+    → AreHarts (end_of_event was first result).state.harts
 harts_end_of_event was first result k = harts_with_replies (replies_of result) result.call.state.harts k.harts
 
 -- And so it does at a tick.

@@ -18,7 +18,8 @@ free_process_within t p e = search_within (λ r. is_free (state_at t r)) 64 (t.l
 
 -- a search for a free number finds one that isn't in use
 pub free_semaphore_free : (t : Tables) (sem : ℕ) → free_semaphore t ≡ Some sem → (semaphore_at t sem).owner ≡ None
-free_semaphore_free t sem e = unused (semaphore_at t sem).owner (search_passes (λ r. not (is_some (semaphore_at t r).owner)) 128 (t.last_semaphore + 1) sem e)
+free_semaphore_free t sem e =
+    unused (semaphore_at t sem).owner (search_passes (λ r. not (is_some (semaphore_at t r).owner)) 128 (t.last_semaphore + 1) sem e)
   where
     unused : (by : Option Owner) → not (is_some by) ≡ true → by ≡ None
     unused None h = refl

@@ -7,7 +7,8 @@ use Rattle.xinu_model.specs.Machine.{no_hart, with_reply, with_replies}
 use Rattle.xinu_model.specs.Sound.State.{AreHarts}
 
 -- the registers of a number after a write to those of number p: the new ones, or what they were
-written : (harts : List Hart) (p q : ℕ) (h : Hart) → slice_index h.regs 0 ≡ 0 → ((r : ℕ) → slice_index (slice_index_or harts r no_hart).regs 0 ≡ 0)
+written : (harts : List Hart) (p q : ℕ) (h : Hart) → slice_index h.regs 0 ≡ 0
+    → ((r : ℕ) → slice_index (slice_index_or harts r no_hart).regs 0 ≡ 0)
     → slice_index (slice_index_or (slice_set harts p h) q no_hart).regs 0 ≡ 0
 written [] p q h first all = refl
 written (x ∷ harts) zero zero h first all = first

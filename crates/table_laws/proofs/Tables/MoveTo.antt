@@ -29,27 +29,33 @@ semaphore_within t sem e n =
     ⊎_elim (λ (h : sem < 128). h) (λ (h : 128 ≤ sem). absurd (n (ap (λ (y : Semaphore). y.owner) (get_or_past t.semaphores sem no_semaphore (omega arith))))) (cases_lt sem 128)
 
 -- a process that moved is what it became
-pub process_move_same : (t : Tables) (q : ℕ) (x : Process) (m : Option ℕ) (place : Place) → length t.processes ≡ 64 → q < 64 → process_at (move_to q x m place t) q ≡ x
+pub process_move_same : (t : Tables) (q : ℕ) (x : Process) (m : Option ℕ) (place : Place) → length t.processes ≡ 64 → q < 64
+    → process_at (move_to q x m place t) q ≡ x
 process_move_same t q x m place e h = get_or-set_same t.processes q x no_process (omega arith)
 
 -- the others are what they were
-pub process_move_other : (t : Tables) (p q : ℕ) (x : Process) (m : Option ℕ) (place : Place) → p ≢ q → process_at (move_to q x m place t) p ≡ process_at t p
+pub process_move_other : (t : Tables) (p q : ℕ) (x : Process) (m : Option ℕ) (place : Place) → p ≢ q
+    → process_at (move_to q x m place t) p ≡ process_at t p
 process_move_other t p q x m place n = get_or-set_other t.processes q p x no_process n
 
 -- a process that moved is in its new state
-pub state_move_same : (t : Tables) (q : ℕ) (x : Process) (m : Option ℕ) (place : Place) → length t.processes ≡ 64 → q < 64 → state_at (move_to q x m place t) q ≡ x.state
+pub state_move_same : (t : Tables) (q : ℕ) (x : Process) (m : Option ℕ) (place : Place) → length t.processes ≡ 64 → q < 64
+    → state_at (move_to q x m place t) q ≡ x.state
 state_move_same t q x m place e h = ap (λ (y : Process). y.state) (process_move_same t q x m place e h)
 
 -- the others are in their old ones
-pub state_move_other : (t : Tables) (p q : ℕ) (x : Process) (m : Option ℕ) (place : Place) → p ≢ q → state_at (move_to q x m place t) p ≡ state_at t p
+pub state_move_other : (t : Tables) (p q : ℕ) (x : Process) (m : Option ℕ) (place : Place) → p ≢ q
+    → state_at (move_to q x m place t) p ≡ state_at t p
 state_move_other t p q x m place n = ap (λ (y : Process). y.state) (process_move_other t p q x m place n)
 
 -- a process that moved holds its new message
-pub message_move_same : (t : Tables) (q : ℕ) (x : Process) (m : Option ℕ) (place : Place) → length t.messages ≡ 64 → q < 64 → message_at (move_to q x m place t) q ≡ m
+pub message_move_same : (t : Tables) (q : ℕ) (x : Process) (m : Option ℕ) (place : Place) → length t.messages ≡ 64 → q < 64
+    → message_at (move_to q x m place t) q ≡ m
 message_move_same t q x m place e h = get_or-set_same t.messages q m None (omega arith)
 
 -- the others hold their old ones
-pub message_move_other : (t : Tables) (p q : ℕ) (x : Process) (m : Option ℕ) (place : Place) → p ≢ q → message_at (move_to q x m place t) p ≡ message_at t p
+pub message_move_other : (t : Tables) (p q : ℕ) (x : Process) (m : Option ℕ) (place : Place) → p ≢ q
+    → message_at (move_to q x m place t) p ≡ message_at t p
 message_move_other t p q x m place n = get_or-set_other t.messages q p m None n
 
 -- a semaphore after q went to its place: it has q as its last waiter if that is q's place, and else it is as it was
@@ -67,8 +73,8 @@ semaphore_in_cases InReady q r l P i old new = old
 semaphore_in_cases (InSleepers wake) q r l P i old new = old
 
 -- A semaphore after q moved: q doesn't wait on it any longer, or it waits there after the others.
-pub semaphore_move_cases : (t : Tables) (q r : ℕ) (x : Process) (m : Option ℕ) (place : Place) (P : Semaphore → Type 0) → IsInTable place (waits_without q t.semaphores)
-    → P (semaphore_without q (semaphore_at t r))
+pub semaphore_move_cases : (t : Tables) (q r : ℕ) (x : Process) (m : Option ℕ) (place : Place) (P : Semaphore → Type 0)
+    → IsInTable place (waits_without q t.semaphores) → P (semaphore_without q (semaphore_at t r))
     → ((sem : ℕ) → place ≡ InSemaphore sem → r ≡ sem → P (with_waiter q (semaphore_without q (semaphore_at t r))))
     → P (semaphore_at (move_to q x m place t) r)
 semaphore_move_cases t q r x m place P i old new =
@@ -76,7 +82,8 @@ semaphore_move_cases t q r x m place P i old new =
     semaphore_in_cases place q r (waits_without q t.semaphores) P i (subst P (sym e) old) (λ sem f g. subst (λ y. P (with_waiter q y)) (sym e) (new sem f g))
 
 -- a place that fits is in the table
-in_table : (t : Tables) (x : Process) (place : Place) (q : ℕ) → length t.semaphores ≡ 128 → FitsPlace t x place → IsInTable place (waits_without q t.semaphores)
+in_table : (t : Tables) (x : Process) (place : Place) (q : ℕ) → length t.semaphores ≡ 128 → FitsPlace t x place
+    → IsInTable place (waits_without q t.semaphores)
 in_table t x (InSemaphore s) q e f = let g = length-waits_without q t.semaphores in let h = f.0 in omega arith
 in_table t x Nowhere q e f = tt
 in_table t x InReady q e f = tt
@@ -146,7 +153,8 @@ null_move t q x m place o c =
     (λ n _. subst R (sym (process_move_other t 0 q x m place n)) (o.null, o.null_rest)) refl
 
 -- who waits on a semaphore fits its owner, if it isn't the one that left
-rests_left : (t : Tables) (q : ℕ) (x : Process) (m : Option ℕ) (place : Place) (r p : ℕ) → IsInside t → 0 < count_in p (numbers_without q (semaphore_at t r).waiters)
+rests_left : (t : Tables) (q : ℕ) (x : Process) (m : Option ℕ) (place : Place) (r p : ℕ) → IsInside t
+    → 0 < count_in p (numbers_without q (semaphore_at t r).waiters)
     → FitsOwner r (semaphore_at t r).owner (process_at (move_to q x m place t) p).rest
 rests_left t q x m place r p o = by_number p q
     (λ k. 0 < count_in k (numbers_without q (semaphore_at t r).waiters) → FitsOwner r (semaphore_at t r).owner (process_at (move_to q x m place t) k).rest)
@@ -155,8 +163,9 @@ rests_left t q x m place r p o = by_number p q
     (o.rests r p (subst (λ k. 0 < k) (numbers_without_other p q (semaphore_at t r).waiters n) h)))
 
 -- and if it came
-rests_come : (t : Tables) (q : ℕ) (x : Process) (m : Option ℕ) (place : Place) (r p : ℕ) → IsInside t → q < 64 → FitsOwner r (semaphore_at t r).owner x.rest
-    → 0 < count_in p (numbers_without q (semaphore_at t r).waiters ++ q ∷ []) → FitsOwner r (semaphore_at t r).owner (process_at (move_to q x m place t) p).rest
+rests_come : (t : Tables) (q : ℕ) (x : Process) (m : Option ℕ) (place : Place) (r p : ℕ) → IsInside t → q < 64
+    → FitsOwner r (semaphore_at t r).owner x.rest → 0 < count_in p (numbers_without q (semaphore_at t r).waiters ++ q ∷ [])
+    → FitsOwner r (semaphore_at t r).owner (process_at (move_to q x m place t) p).rest
 rests_come t q x m place r p o w f = by_number p q
     (λ k. 0 < count_in k (numbers_without q (semaphore_at t r).waiters ++ q ∷ []) → FitsOwner r (semaphore_at t r).owner (process_at (move_to q x m place t) k).rest)
     (λ _. subst (λ (y : Process). FitsOwner r (semaphore_at t r).owner y.rest) (sym (process_move_same t q x m place o.processes w)) f)
@@ -167,8 +176,8 @@ one_kind_left : (q : ℕ) (x : Semaphore) → HasOneKind x → HasOneKind (semap
 one_kind_left q x h = ⊎_elim (λ (e : x.tokens ≡ 0). inl e) (λ (e : x.waiters ≡ []). inr (ap (numbers_without q) e)) h
 
 -- each slot fits, after a process moved
-slots_move : (t : Tables) (q : ℕ) (x : Process) (m : Option ℕ) (place : Place) → IsInside t → CanMove t q x m place
-    → (p : ℕ) → FitsMessage (state_at (move_to q x m place t) p) (process_at (move_to q x m place t) p).rest (message_at (move_to q x m place t) p)
+slots_move : (t : Tables) (q : ℕ) (x : Process) (m : Option ℕ) (place : Place) → IsInside t → CanMove t q x m place → (p : ℕ)
+    → FitsMessage (state_at (move_to q x m place t) p) (process_at (move_to q x m place t) p).rest (message_at (move_to q x m place t) p)
 slots_move t q x m place o c p =
     let u = move_to q x m place t in
     by_number p q (λ r. FitsMessage (process_at u r).state (process_at u r).rest (message_at u r))
@@ -193,7 +202,8 @@ unused_left : (q : ℕ) (x : Semaphore) → IsUnused x → IsUnused (semaphore_w
 unused_left q x h e = ap (semaphore_without q) (h e)
 
 -- A process that may move keeps what holds of the tables.
-pub inside_move : (t : Tables) (q : ℕ) (x : Process) (m : Option ℕ) (place : Place) → IsInside t → CanMove t q x m place → IsInside (move_to q x m place t)
+pub inside_move : (t : Tables) (q : ℕ) (x : Process) (m : Option ℕ) (place : Place) → IsInside t → CanMove t q x m place
+    → IsInside (move_to q x m place t)
 inside_move t q x m place o c =
     let i = in_table t x place q o.semaphores c.fits in
     record {

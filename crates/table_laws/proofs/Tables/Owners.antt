@@ -10,7 +10,8 @@ use Rattle.table_laws.proofs.Frame.MoveTo.{owner_move, same_written}
 
 -- another number of tokens leaves each semaphore its owner
 pub owner_tokens : (t : Tables) (sem n r : ℕ) → (semaphore_at (with_tokens sem n t) r).owner ≡ (semaphore_at t r).owner
-owner_tokens t sem n r = same_written (λ (x : Semaphore). x.owner) t.semaphores sem r (record (semaphore_at t sem) { tokens = n }) no_semaphore refl
+owner_tokens t sem n r =
+    same_written (λ (x : Semaphore). x.owner) t.semaphores sem r (record (semaphore_at t sem) { tokens = n }) no_semaphore refl
 
 -- a signal leaves each semaphore its owner, by who waits
 owner_signal_first : (sem : ℕ) (l : List ℕ) (d : CallState) (r : ℕ)

@@ -30,13 +30,15 @@ length-waits_without q [] = refl
 length-waits_without q (x ∷ xs) = ap suc (length-waits_without q xs)
 
 -- each is the one that was, without q
-pub semaphore_at_without : (q sem : ℕ) (l : List Semaphore) → get_or (waits_without q l) sem no_semaphore ≡ semaphore_without q (get_or l sem no_semaphore)
+pub semaphore_at_without : (q sem : ℕ) (l : List Semaphore)
+    → get_or (waits_without q l) sem no_semaphore ≡ semaphore_without q (get_or l sem no_semaphore)
 semaphore_at_without q sem [] = refl
 semaphore_at_without q zero (x ∷ xs) = refl
 semaphore_at_without q (suc sem) (x ∷ xs) = semaphore_at_without q sem xs
 
 -- how often q is in the ready list after it went to its place
-pub ready_in_same : (place : Place) (q : ℕ) (key : ℤ) (l : List (ℕ × ℤ)) → entries_of q l ≡ 0 → entries_of q (ready_in place q key l) ≡ place_ready place
+pub ready_in_same : (place : Place) (q : ℕ) (key : ℤ) (l : List (ℕ × ℤ)) → entries_of q l ≡ 0
+    → entries_of q (ready_in place q key l) ≡ place_ready place
 ready_in_same InReady q key l none = entries_insert_same (λ x. not (int_lt x.1 key)) q key l none
 ready_in_same Nowhere q key l none = none
 ready_in_same (InSemaphore s) q key l none = none
@@ -50,7 +52,8 @@ ready_in_other (InSemaphore s) p q key l h = refl
 ready_in_other (InSleepers wake) p q key l h = refl
 
 -- the same of the sleepers
-pub sleepers_in_same : (place : Place) (q : ℕ) (l : List (ℕ × ℕ)) → entries_of q l ≡ 0 → entries_of q (sleepers_in place q l) ≡ place_sleeping place
+pub sleepers_in_same : (place : Place) (q : ℕ) (l : List (ℕ × ℕ)) → entries_of q l ≡ 0
+    → entries_of q (sleepers_in place q l) ≡ place_sleeping place
 sleepers_in_same (InSleepers wake) q l none = entries_insert_same (λ x. nat_le x.1 wake) q wake l none
 sleepers_in_same Nowhere q l none = none
 sleepers_in_same (InSemaphore s) q l none = none
@@ -64,7 +67,8 @@ sleepers_in_other (InSemaphore s) p q l h = refl
 sleepers_in_other InReady p q l h = refl
 
 -- the same of the waiters
-pub semaphores_in_same : (place : Place) (q : ℕ) (l : List Semaphore) → IsInTable place l → waits_of q l ≡ 0 → waits_of q (semaphores_in place q l) ≡ place_waiting place
+pub semaphores_in_same : (place : Place) (q : ℕ) (l : List Semaphore) → IsInTable place l → waits_of q l ≡ 0
+    → waits_of q (semaphores_in place q l) ≡ place_waiting place
 semaphores_in_same (InSemaphore s) q l i none =
     let e = total-set (λ x. count_in q x.waiters) l s (with_waiter q (get_or l s no_semaphore)) no_semaphore i in
     let f = count_last_same q (get_or l s no_semaphore).waiters in
@@ -74,7 +78,8 @@ semaphores_in_same InReady q l i none = none
 semaphores_in_same (InSleepers wake) q l i none = none
 
 -- and how often another process is among them
-pub semaphores_in_other : (place : Place) (p q : ℕ) (l : List Semaphore) → IsInTable place l → p ≢ q → waits_of p (semaphores_in place q l) ≡ waits_of p l
+pub semaphores_in_other : (place : Place) (p q : ℕ) (l : List Semaphore) → IsInTable place l → p ≢ q
+    → waits_of p (semaphores_in place q l) ≡ waits_of p l
 semaphores_in_other (InSemaphore s) p q l i h =
     let e = total-set (λ x. count_in p x.waiters) l s (with_waiter q (get_or l s no_semaphore)) no_semaphore i in
     let f = count_last_other p q (get_or l s no_semaphore).waiters h in

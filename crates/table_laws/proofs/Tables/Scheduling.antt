@@ -79,7 +79,8 @@ pub null_rest_at : (t : Tables) (q : ℕ) → IsInside t → q ≡ 0 → (proces
 null_rest_at t q o e = subst (λ k. (process_at t k).rest ≡ Nothing) (sym e) o.null_rest
 
 -- a process that isn't free may become ready, with a message that its call may find
-pub can_move_ready : (t : Tables) (q : ℕ) (m : Option ℕ) → IsInside t → state_at t q ≢ Free → HoldsFor (process_at t q).rest m → CanMove t q (in_state Ready (process_at t q)) m InReady
+pub can_move_ready : (t : Tables) (q : ℕ) (m : Option ℕ) → IsInside t → state_at t q ≢ Free → HoldsFor (process_at t q).rest m
+    → CanMove t q (in_state Ready (process_at t q)) m InReady
 can_move_ready t q m o alive holds = record {
   within = within_table t q o.processes alive;
   place_of = (refl, refl, refl);
@@ -92,14 +93,17 @@ can_move_ready t q m o alive holds = record {
 
 -- A process that can become ready becomes ready.
 pub inside_ready : (t : Tables) (q : ℕ) → IsInside t → CanBeReady t q → IsInside (ready q t)
-inside_ready t q o c = inside_move t q (in_state Ready (process_at t q)) (message_at t q) InReady o (can_move_ready t q (message_at t q) o c.alive c.holds)
+inside_ready t q o c =
+    inside_move t q (in_state Ready (process_at t q)) (message_at t q) InReady o (can_move_ready t q (message_at t q) o c.alive c.holds)
 
 -- no process but the one that moves changes its state
-pub runs_move : (t : Tables) (p c : ℕ) (x : Process) (m : Option ℕ) (place : Place) → p ≢ c → state_at t c ≡ Current → state_at (move_to p x m place t) c ≡ Current
+pub runs_move : (t : Tables) (p c : ℕ) (x : Process) (m : Option ℕ) (place : Place) → p ≢ c → state_at t c ≡ Current
+    → state_at (move_to p x m place t) c ≡ Current
 runs_move t p c x m place n e = state_move_other t c p x m place (λ f. n (sym f)) ∙ e
 
 -- A process that isn't the current one moves, and the current one goes on.
-pub sound_move : (t : Tables) (q : ℕ) (x : Process) (m : Option ℕ) (place : Place) → IsSoundTables t → q ≢ t.current → CanMove t q x m place → IsSoundTables (move_to q x m place t)
+pub sound_move : (t : Tables) (q : ℕ) (x : Process) (m : Option ℕ) (place : Place) → IsSoundTables t → q ≢ t.current → CanMove t q x m place
+    → IsSoundTables (move_to q x m place t)
 sound_move t q x m place k n c = record { inside = inside_move t q x m place k.inside c; runs = runs_move t q t.current x m place n k.runs }
 
 -- a process that doesn't run isn't one that runs
@@ -196,7 +200,8 @@ empty_runs t o e = ⊎_elim
 -- Who stays is in state current.
 pub keeper_runs : (l : List (ℕ × ℤ)) (t : Tables) → IsInside t → l ≡ t.ready → keeps_cpu l t ≡ true → state_at t t.current ≡ Current
 keeper_runs [] t o e h = empty_runs t o e
-keeper_runs (x ∷ xs) t o e h = current_of (state_at t t.current) (and_parts (is_current (state_at t t.current)) (int_lt x.1 (process_at t t.current).priority) h).0
+keeper_runs (x ∷ xs) t o e h =
+    current_of (state_at t t.current) (and_parts (is_current (state_at t t.current)) (int_lt x.1 (process_at t t.current).priority) h).0
 
 -- If none runs, a ready process is run.
 pub sound_dispatch : (t : Tables) (q : ℕ) → IsInside t → NoneRuns t → state_at t q ≡ Ready → IsSoundTables (dispatch q t)

@@ -30,11 +30,13 @@ signals_of s n waiters tokens d =
     let after = unblock_all (take n waiters) d in with_tables (with_tokens s (tokens + (n - length waiters)) after.state.tables) after
 
 -- many signals are those of the semaphore as it is
-signals_at : (sem n : ℕ) (d : CallState) (x : Semaphore) → semaphore_at d.state.tables sem ≡ x → signalled_times sem n d ≡ signals_of sem n x.waiters x.tokens d
+signals_at : (sem n : ℕ) (d : CallState) (x : Semaphore) → semaphore_at d.state.tables sem ≡ x
+    → signalled_times sem n d ≡ signals_of sem n x.waiters x.tokens d
 signals_at sem n d x e = ap (λ (y : Semaphore). signals_of sem n y.waiters y.tokens d) e
 
 -- if nobody waits they are as many tokens
-signals_to_none : (sem n tokens : ℕ) (d : CallState) → signals_of sem n [] tokens d ≡ with_tables (with_tokens sem (tokens + (n - 0)) d.state.tables) d
+signals_to_none : (sem n tokens : ℕ) (d : CallState)
+    → signals_of sem n [] tokens d ≡ with_tables (with_tokens sem (tokens + (n - 0)) d.state.tables) d
 signals_to_none sem n tokens d =
     ap (λ ps. let after = unblock_all ps d in with_tables (with_tokens sem (tokens + (n - 0)) after.state.tables) after) (take_all {A = ℕ} n [] (omega arith))
 
@@ -54,7 +56,8 @@ first_waits_once t sem p ps o e =
 
 -- the others wait once the first is released
 others_wait : (p : ℕ) (ps : List ℕ) → count_in p ps ≡ 0 → numbers_without p (p ∷ ps) ≡ ps
-others_wait p ps z = ap (λ b. cond (not b) (p ∷ numbers_without p ps) (numbers_without p ps)) (eq-eqb p p refl) ∙ filter_absent (λ x. x == p) ps z
+others_wait p ps z =
+    ap (λ b. cond (not b) (p ∷ numbers_without p ps) (numbers_without p ps)) (eq-eqb p p refl) ∙ filter_absent (λ x. x == p) ps z
 
 -- no signal changes nothing
 no_signal : (sem : ℕ) (d : CallState) → signalled_times sem 0 d ≡ d
@@ -65,8 +68,8 @@ no_signal sem d =
     ap (λ n. with_tables (with_tokens sem n t) d) e ∙ ap (λ l. with_tables (record t { semaphores = l }) d) (set-get_or t.semaphores sem no_semaphore)
 
 -- one signal and then n are n + 1, if one waits
-signals_released : (sem n p : ℕ) (ps : List ℕ) (d : CallState) → IsInside d.state.tables → (semaphore_at d.state.tables sem).waiters ≡ p ∷ ps
-    → signalled_times sem (suc n) d ≡ signalled_times sem n (unblock p d)
+signals_released : (sem n p : ℕ) (ps : List ℕ) (d : CallState) → IsInside d.state.tables
+    → (semaphore_at d.state.tables sem).waiters ≡ p ∷ ps → signalled_times sem (suc n) d ≡ signalled_times sem n (unblock p d)
 signals_released sem n p ps d o e =
     let t = d.state.tables in
     let x = semaphore_at t sem in
@@ -78,7 +81,8 @@ signals_released sem n p ps d o e =
     ∙ sym (signals_at sem n (unblock p d) (semaphore_without p x) (semaphore_at_without p sem t.semaphores))
 
 -- and if nobody waits
-signals_counted : (sem n : ℕ) (d : CallState) → length d.state.tables.semaphores ≡ 128 → sem < 128 → (semaphore_at d.state.tables sem).waiters ≡ []
+signals_counted : (sem n : ℕ) (d : CallState) → length d.state.tables.semaphores ≡ 128 → sem < 128
+    → (semaphore_at d.state.tables sem).waiters ≡ []
     → signalled_times sem (suc n) d ≡ signalled_times sem n (with_tables (with_tokens sem ((semaphore_at d.state.tables sem).tokens + 1) d.state.tables) d)
 signals_counted sem n d many w e =
     let t = d.state.tables in
@@ -98,20 +102,22 @@ signals_counted sem n d many w e =
     ∙ sym (signals_at sem n (with_tables u d) y here)
 
 -- One signal and then n are n + 1.
-one_more_signal : (sem n : ℕ) (d : CallState) (waiters : List ℕ) → waiters ≡ (semaphore_at d.state.tables sem).waiters → IsInside d.state.tables → sem < 128
-    → signalled_times sem (suc n) d ≡ signalled_times sem n (signal_first sem waiters d)
+one_more_signal : (sem n : ℕ) (d : CallState) (waiters : List ℕ) → waiters ≡ (semaphore_at d.state.tables sem).waiters
+    → IsInside d.state.tables → sem < 128 → signalled_times sem (suc n) d ≡ signalled_times sem n (signal_first sem waiters d)
 one_more_signal sem n d [] e o w = signals_counted sem n d o.semaphores w (sym e)
 one_more_signal sem n d (p ∷ ps) e o w = signals_released sem n p ps d o (sym e)
 
 -- the same of a semaphore of the table
-signals_within : (n sem : ℕ) (d : CallState) → IsInside d.state.tables → sem < 128 → (semaphore_at d.state.tables sem).owner ≢ None → signalled_times sem n d ≡ repeated n (signalled sem) d
+signals_within : (n sem : ℕ) (d : CallState) → IsInside d.state.tables → sem < 128 → (semaphore_at d.state.tables sem).owner ≢ None
+    → signalled_times sem n d ≡ repeated n (signalled sem) d
 signals_within zero sem d o w used = no_signal sem d
 signals_within (suc n) sem d o w used =
     one_more_signal sem n d (semaphore_at d.state.tables sem).waiters refl o w
     ∙ signals_within n sem (signalled sem d) (inside_signalled sem d o w used) w (λ e. used (sym (owner_signalled sem d sem) ∙ e))
 
 -- and of one that isn't in use: nobody waits on it
-signals_unused : (n sem : ℕ) (d : CallState) → length d.state.tables.semaphores ≡ 128 → sem < 128 → (semaphore_at d.state.tables sem).waiters ≡ [] → signalled_times sem n d ≡ repeated n (signalled sem) d
+signals_unused : (n sem : ℕ) (d : CallState) → length d.state.tables.semaphores ≡ 128 → sem < 128
+    → (semaphore_at d.state.tables sem).waiters ≡ [] → signalled_times sem n d ≡ repeated n (signalled sem) d
 signals_unused zero sem d many w e = no_signal sem d
 signals_unused (suc n) sem d many w e =
     let t = d.state.tables in
@@ -143,8 +149,11 @@ many_past n sem d many h =
 
 -- So many signals at once are that many signals, one after another, if what holds of the tables at each moment holds.
 pub signals_are_repeated : (sem n : ℕ) (d : CallState) → IsInside d.state.tables → signalled_times sem n d ≡ repeated n (signalled sem) d
-signals_are_repeated sem n d o = ⊎_elim (λ (h : sem < 128). in_use (semaphore_at d.state.tables sem).owner refl h) (λ (h : 128 ≤ sem). many_past n sem d o.semaphores h ∙ signals_past n sem d o.semaphores h) (cases_lt sem 128)
+signals_are_repeated sem n d o =
+    ⊎_elim (λ (h : sem < 128). in_use (semaphore_at d.state.tables sem).owner refl h)
+    (λ (h : 128 ≤ sem). many_past n sem d o.semaphores h ∙ signals_past n sem d o.semaphores h) (cases_lt sem 128)
   where
-    in_use : (by : Option Owner) → (semaphore_at d.state.tables sem).owner ≡ by → sem < 128 → signalled_times sem n d ≡ repeated n (signalled sem) d
+    in_use : (by : Option Owner) → (semaphore_at d.state.tables sem).owner ≡ by → sem < 128
+        → signalled_times sem n d ≡ repeated n (signalled sem) d
     in_use None e h = signals_unused n sem d o.semaphores h (free_has_no_waiters d.state.tables sem o e)
     in_use (Some owner) e h = signals_within n sem d o h (λ f. cc)

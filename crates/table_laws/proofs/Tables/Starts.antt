@@ -74,17 +74,20 @@ unfolding first_semaphores
 first_waits p = refl
 
 -- what holds of the kernel's four semaphores and of all free ones holds of all at first
-by_first : (P : ℕ → Semaphore → Type 0) → P 0 (device_semaphore 0) → P 1 (device_semaphore 64) → P 2 (device_semaphore 0) → P 3 (device_semaphore 0)
-    → ((sem : ℕ) → P (suc (suc (suc (suc sem)))) no_semaphore) → (sem : ℕ) → P sem (get_or first_semaphores sem no_semaphore)
+by_first : (P : ℕ → Semaphore → Type 0) → P 0 (device_semaphore 0) → P 1 (device_semaphore 64) → P 2 (device_semaphore 0)
+    → P 3 (device_semaphore 0) → ((sem : ℕ) → P (suc (suc (suc (suc sem)))) no_semaphore) → (sem : ℕ)
+    → P sem (get_or first_semaphores sem no_semaphore)
 unfolding first_semaphores
 by_first P a b c d free zero = a
 by_first P a b c d free (suc zero) = b
 by_first P a b c d free (suc (suc zero)) = c
 by_first P a b c d free (suc (suc (suc zero))) = d
-by_first P a b c d free (suc (suc (suc (suc sem)))) = subst (P (suc (suc (suc (suc sem))))) (sym (same_everywhere 124 sem no_semaphore)) (free sem)
+by_first P a b c d free (suc (suc (suc (suc sem)))) =
+    subst (P (suc (suc (suc (suc sem))))) (sym (same_everywhere 124 sem no_semaphore)) (free sem)
 
 -- who waits at first: nobody
-first_rests : (sem p : ℕ) → 0 < count_in p (semaphore_at null_tables sem).waiters → FitsOwner sem (semaphore_at null_tables sem).owner (process_at null_tables p).rest
+first_rests : (sem p : ℕ) → 0 < count_in p (semaphore_at null_tables sem).waiters
+    → FitsOwner sem (semaphore_at null_tables sem).owner (process_at null_tables p).rest
 first_rests sem p =
     let P : ℕ → Semaphore → Type 0 = λ r x. 0 < count_in p x.waiters → FitsOwner r x.owner (process_at null_tables p).rest in
     by_first P (λ h. absurd (omega arith)) (λ h. absurd (omega arith)) (λ h. absurd (omega arith)) (λ h. absurd (omega arith)) (λ r h. absurd (omega arith)) sem
@@ -127,7 +130,8 @@ pub none_made : (images : List Loaded) → AreMade 1 (loaded_machine images)
 none_made images = record { tables = record { inside = inside_null; runs = refl }; current = refl; harts = record { many = refl; zero = λ p. harts_of_none p 64 }; unused = λ p h. same_everywhere 64 p no_hart; suspended = λ j z h. absurd (omega arith) }
 
 -- the process of the next image is made
-next_made : (i : ℕ) (image : Loaded) (stack : Stack) (s : Xinu) → AreMade i s → 0 < i → i < 64 → AreMade (i + 1) (with_image i image stack s)
+next_made : (i : ℕ) (image : Loaded) (stack : Stack) (s : Xinu) → AreMade i s → 0 < i → i < 64
+    → AreMade (i + 1) (with_image i image stack s)
 next_made i image stack s m z w =
     let t = s.tables in
     let x = image_process i image stack.top in
@@ -145,18 +149,21 @@ next_made i image stack s m z w =
     }
 
 -- if a start so far goes on to boot, it is in a state from which it does
-pub boots_from : (so_far : Start) (next : Xinu → Start) (x : Xinu) → and_then so_far next ≡ Boots x → (s : Xinu) × (so_far ≡ Boots s) × (next s ≡ Boots x)
+pub boots_from : (so_far : Start) (next : Xinu → Start) (x : Xinu) → and_then so_far next ≡ Boots x
+    → (s : Xinu) × (so_far ≡ Boots s) × (next s ≡ Boots x)
 boots_from (Boots s) next x e = (s, refl, e)
 boots_from (Overlaps i) next x e = cc
 boots_from (NoRoom i) next x e = cc
 
 -- if the next is made a stack was found
-made_on_stack : (found : Option Stack) (i : ℕ) (image : Loaded) (s y : Xinu) → where_stack found i image s ≡ Boots y → (stack : Stack) × (with_image i image stack s ≡ y)
+made_on_stack : (found : Option Stack) (i : ℕ) (image : Loaded) (s y : Xinu) → where_stack found i image s ≡ Boots y
+    → (stack : Stack) × (with_image i image stack s ≡ y)
 made_on_stack None i image s y e = cc
 made_on_stack (Some stack) i image s y e = (stack, cc)
 
 -- all are made, one after another
-pub all_are_made : (images : List Loaded) (i : ℕ) (s x : Xinu) → AreMade i s → 0 < i → i + length images ≤ 64 → all_made i images s ≡ Boots x → AreMade (i + length images) x
+pub all_are_made : (images : List Loaded) (i : ℕ) (s x : Xinu) → AreMade i s → 0 < i → i + length images ≤ 64
+    → all_made i images s ≡ Boots x → AreMade (i + length images) x
 all_are_made [] i s x m z w e = let f : s ≡ x = cc in let g : i ≡ i + 0 = omega arith in subst (λ k. AreMade k x) g (subst (AreMade i) f m)
 all_are_made (image ∷ images) i s x m z w e =
     let b = boots_from (where_stack (take_stack (stack_size image.stack) s.parts.heap) i image s) (λ y. all_made (i + 1) images y) x e in
@@ -190,7 +197,8 @@ sound_wakeup images s few m = record {
 }
 
 -- If the machine starts it starts so.
-sound_unless_overlap : (overlap : Option ℕ) (images : List Loaded) (start : Xinu) → length images < 64 → unless_overlap overlap images ≡ Boots start → StartsSound start
+sound_unless_overlap : (overlap : Option ℕ) (images : List Loaded) (start : Xinu) → length images < 64
+    → unless_overlap overlap images ≡ Boots start → StartsSound start
 sound_unless_overlap (Some i) images start few e = cc
 sound_unless_overlap None images start few e =
     let b = boots_from (all_made 1 images (loaded_machine images)) (λ s. Boots (all_started images s)) start e in

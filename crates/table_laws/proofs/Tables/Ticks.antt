@@ -36,7 +36,8 @@ can_be_ready_due t tick o =
     (all_filter (λ e. 0 < entries_of e.0 t.sleepers) (λ e. e.1 == tick) t.sleepers (all_have_entries t.sleepers)))
 
 -- who is due among some is due among one more
-due_behind : (tick : ℕ) (e x : ℕ × ℕ) (xs : List (ℕ × ℕ)) → IsOneOf e.0 (due tick xs) ⊎ (e.1 ≢ tick) → IsOneOf e.0 (due tick (x ∷ xs)) ⊎ (e.1 ≢ tick)
+due_behind : (tick : ℕ) (e x : ℕ × ℕ) (xs : List (ℕ × ℕ)) → IsOneOf e.0 (due tick xs) ⊎ (e.1 ≢ tick)
+    → IsOneOf e.0 (due tick (x ∷ xs)) ⊎ (e.1 ≢ tick)
 due_behind tick e x xs h = ⊎_elim
     (λ (i : IsOneOf e.0 (due tick xs)). inl (cond_both (x.1 == tick) (x ∷ filter (λ y. y.1 == tick) xs) (filter (λ y. y.1 == tick) xs) (λ (l : List (ℕ × ℕ)). IsOneOf e.0 (map (λ y. y.0) l)) (λ _. inr i) (λ _. i)))
     (λ (d : e.1 ≢ tick). inr d) h
@@ -54,7 +55,8 @@ all_due tick (x ∷ xs) =
     (due_first tick x xs, all_weaker (λ e. IsOneOf e.0 (due tick xs) ⊎ (e.1 ≢ tick)) (λ e. IsOneOf e.0 (due tick (x ∷ xs)) ⊎ (e.1 ≢ tick)) (λ e h. due_behind tick e x xs h) xs (all_due tick xs))
 
 -- the sleepers that are left once p is gone
-left_without : (P : ℕ × ℕ → Type 0) (p : ℕ) (ps : List ℕ) (l : List (ℕ × ℕ)) → AllByRecursion (λ e. IsOneOf e.0 (p ∷ ps) ⊎ P e) l → AllByRecursion (λ e. IsOneOf e.0 ps ⊎ P e) (entries_without p l)
+left_without : (P : ℕ × ℕ → Type 0) (p : ℕ) (ps : List ℕ) (l : List (ℕ × ℕ)) → AllByRecursion (λ e. IsOneOf e.0 (p ∷ ps) ⊎ P e) l
+    → AllByRecursion (λ e. IsOneOf e.0 ps ⊎ P e) (entries_without p l)
 left_without P p ps [] h = tt
 left_without P p ps (x ∷ xs) h =
     cond_both (not (x.0 == p)) (x ∷ entries_without p xs) (entries_without p xs) (AllByRecursion (λ e. IsOneOf e.0 ps ⊎ P e))
@@ -62,7 +64,8 @@ left_without P p ps (x ∷ xs) h =
     (λ _. left_without P p ps xs h.1)
 
 -- the sleepers that are left once these become ready
-left_after : (P : ℕ × ℕ → Type 0) (ps : List ℕ) (t : Tables) → AllByRecursion (λ e. IsOneOf e.0 ps ⊎ P e) t.sleepers → AllByRecursion P (ready_all ps t).sleepers
+left_after : (P : ℕ × ℕ → Type 0) (ps : List ℕ) (t : Tables) → AllByRecursion (λ e. IsOneOf e.0 ps ⊎ P e) t.sleepers
+    → AllByRecursion P (ready_all ps t).sleepers
 left_after P [] t h = all_weaker (λ e. ⊥ ⊎ P e) P (λ e k. ⊎_elim (λ (b : ⊥). absurd b) (λ (v : P e). v) k) t.sleepers h
 left_after P (p ∷ ps) t h = left_after P ps (ready p t) (left_without P p ps t.sleepers h)
 
@@ -81,7 +84,8 @@ later_left t o =
     (all_both (λ e. IsOneOf e.0 ps ⊎ (e.1 ≢ n)) (λ e. t.ticks < e.1) t.sleepers (all_due n t.sleepers) o.later))
 
 -- Those who are due become ready, and it is a tick later.
-pub sound_later : (owes : Bool) (t : Tables) → IsSoundTables t → IsSoundTables (a_tick_later owes (ready_all (due (t.ticks + 1) t.sleepers) t))
+pub sound_later : (owes : Bool) (t : Tables) → IsSoundTables t
+    → IsSoundTables (a_tick_later owes (ready_all (due (t.ticks + 1) t.sleepers) t))
 sound_later owes t k =
     let ps = due (t.ticks + 1) t.sleepers in
     let u = ready_all ps t in

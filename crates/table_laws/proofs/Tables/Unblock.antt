@@ -21,7 +21,8 @@ use Rattle.table_laws.proofs.Tables.Places.{semaphore_at_without}
 use Rattle.table_laws.proofs.Tables.MoveTo.{by_number, within_table, process_move_same, process_move_other, message_move_same, message_move_other}
 
 -- Who is released becomes ready, and nothing else of the state changes.
-pub unblock_all_with_ready : (value : ℤ) (ps : List ℕ) (d : CallState) → (unblock_all_with value ps d).state ≡ record d.state { tables = ready_all ps d.state.tables }
+pub unblock_all_with_ready : (value : ℤ) (ps : List ℕ) (d : CallState)
+    → (unblock_all_with value ps d).state ≡ record d.state { tables = ready_all ps d.state.tables }
 unblock_all_with_ready value [] d = refl
 unblock_all_with_ready value (p ∷ ps) d = unblock_all_with_ready value ps (unblock_with value p d)
 
@@ -53,7 +54,8 @@ can_be_ready_after t p q o cp cq =
     }
 
 -- the same of many
-can_be_ready_all : (t : Tables) (p : ℕ) (ps : List ℕ) → IsInside t → CanBeReady t p → AllByRecursion (CanBeReady t) ps → AllByRecursion (CanBeReady (ready p t)) ps
+can_be_ready_all : (t : Tables) (p : ℕ) (ps : List ℕ) → IsInside t → CanBeReady t p → AllByRecursion (CanBeReady t) ps
+    → AllByRecursion (CanBeReady (ready p t)) ps
 can_be_ready_all t p ps o c all = all_weaker (CanBeReady t) (CanBeReady (ready p t)) (λ q k. can_be_ready_after t p q o c k) ps all
 
 -- The current process goes on after that.
@@ -62,8 +64,10 @@ sound_ready_all [] t k all = k
 sound_ready_all (p ∷ ps) t k all = sound_ready_all ps (ready p t) (sound_ready t p k all.0) (can_be_ready_all t p ps k.inside all.0 all.1)
 
 -- The current process goes on after that.
-pub sound_unblock_all : (ps : List ℕ) (d : CallState) → IsSoundTables d.state.tables → AllByRecursion (CanBeReady d.state.tables) ps → IsSoundTables (unblock_all ps d).state.tables
-sound_unblock_all ps d k all = subst (λ (s : Xinu). IsSoundTables s.tables) (sym (unblock_all_ready ps d)) (sound_ready_all ps d.state.tables k all)
+pub sound_unblock_all : (ps : List ℕ) (d : CallState) → IsSoundTables d.state.tables → AllByRecursion (CanBeReady d.state.tables) ps
+    → IsSoundTables (unblock_all ps d).state.tables
+sound_unblock_all ps d k all =
+    subst (λ (s : Xinu). IsSoundTables s.tables) (sym (unblock_all_ready ps d)) (sound_ready_all ps d.state.tables k all)
 
 -- who waits for a token can become ready
 pub can_be_ready_waiting : (t : Tables) (p : ℕ) → IsInside t → state_at t p ≡ Waiting → CanBeReady t p
@@ -79,7 +83,8 @@ waiter_waits t sem p o h =
 -- a list's elements are counted in it
 pub all_counted : (l : List ℕ) → AllByRecursion (λ p. 0 < count_in p l) l
 all_counted [] = tt
-all_counted (x ∷ xs) = (first_is_counted x xs, all_weaker (λ p. 0 < count_in p xs) (λ p. 0 < count_in p (x ∷ xs)) (λ p h. count_behind p x xs h) xs (all_counted xs))
+all_counted (x ∷ xs) =
+    (first_is_counted x xs, all_weaker (λ p. 0 < count_in p xs) (λ p. 0 < count_in p (x ∷ xs)) (λ p h. count_behind p x xs h) xs (all_counted xs))
 
 -- the waiters of a semaphore can become ready
 pub can_be_ready_waiters : (t : Tables) (sem : ℕ) → IsInside t → AllByRecursion (CanBeReady t) (semaphore_at t sem).waiters
@@ -117,7 +122,8 @@ none_of [] h = refl
 none_of (x ∷ xs) h = absurd h.0
 
 -- if all who wait on a semaphore become ready nobody waits there any longer
-waiters_after : (ps : List ℕ) (t : Tables) (sem : ℕ) → AllByRecursion (λ x. IsOneOf x ps) (semaphore_at t sem).waiters → (semaphore_at (ready_all ps t) sem).waiters ≡ []
+waiters_after : (ps : List ℕ) (t : Tables) (sem : ℕ) → AllByRecursion (λ x. IsOneOf x ps) (semaphore_at t sem).waiters
+    → (semaphore_at (ready_all ps t) sem).waiters ≡ []
 waiters_after [] t sem h = none_of (semaphore_at t sem).waiters h
 waiters_after (p ∷ ps) t sem h =
     waiters_after ps (ready p t) sem (subst (λ (x : Semaphore). AllByRecursion (λ y. IsOneOf y ps) x.waiters) (sym (semaphore_at_without p sem t.semaphores)) (of_others p ps (semaphore_at t sem).waiters h))
@@ -141,29 +147,36 @@ emptied_has_no_waiters sem d =
     subst (λ (s : Xinu). (semaphore_at s.tables sem).waiters ≡ []) (sym (unblock_all_ready (semaphore_at d.state.tables sem).waiters d)) (waiters_gone d.state.tables sem)
 
 -- and each semaphore keeps its owner
-pub owner_emptied : (sem r : ℕ) (d : CallState) → (semaphore_at (emptied sem d).state.tables r).owner ≡ (semaphore_at d.state.tables r).owner
+pub owner_emptied : (sem r : ℕ) (d : CallState)
+    → (semaphore_at (emptied sem d).state.tables r).owner ≡ (semaphore_at d.state.tables r).owner
 owner_emptied sem r d =
     subst (λ (s : Xinu). (semaphore_at s.tables r).owner ≡ (semaphore_at d.state.tables r).owner) (sym (unblock_all_ready (semaphore_at d.state.tables sem).waiters d))
     (owner_ready (semaphore_at d.state.tables sem).waiters d.state.tables r)
 
 -- one signal, if these wait
-sound_signal_first : (sem : ℕ) (l : List ℕ) (d : CallState) → l ≡ (semaphore_at d.state.tables sem).waiters → IsSoundTables d.state.tables → sem < 128 → (semaphore_at d.state.tables sem).owner ≢ None → IsSoundTables (signal_first sem l d).state.tables
-sound_signal_first sem [] d e k w used = sound_tokens d.state.tables sem ((semaphore_at d.state.tables sem).tokens + 1) k w used (inr (sym e))
+sound_signal_first : (sem : ℕ) (l : List ℕ) (d : CallState) → l ≡ (semaphore_at d.state.tables sem).waiters → IsSoundTables d.state.tables
+    → sem < 128 → (semaphore_at d.state.tables sem).owner ≢ None → IsSoundTables (signal_first sem l d).state.tables
+sound_signal_first sem [] d e k w used =
+    sound_tokens d.state.tables sem ((semaphore_at d.state.tables sem).tokens + 1) k w used (inr (sym e))
 sound_signal_first sem (p ∷ ps) d e k w used =
     sound_ready d.state.tables p k (can_be_ready_waiting d.state.tables p k.inside (waiter_waits d.state.tables sem p k.inside (subst (λ l. 0 < count_in p l) e (first_is_counted p ps))))
 
 -- the same inside an event
-inside_signal_first : (sem : ℕ) (l : List ℕ) (d : CallState) → l ≡ (semaphore_at d.state.tables sem).waiters → IsInside d.state.tables → sem < 128 → (semaphore_at d.state.tables sem).owner ≢ None → IsInside (signal_first sem l d).state.tables
-inside_signal_first sem [] d e o w used = inside_tokens d.state.tables sem ((semaphore_at d.state.tables sem).tokens + 1) o w used (inr (sym e))
+inside_signal_first : (sem : ℕ) (l : List ℕ) (d : CallState) → l ≡ (semaphore_at d.state.tables sem).waiters → IsInside d.state.tables
+    → sem < 128 → (semaphore_at d.state.tables sem).owner ≢ None → IsInside (signal_first sem l d).state.tables
+inside_signal_first sem [] d e o w used =
+    inside_tokens d.state.tables sem ((semaphore_at d.state.tables sem).tokens + 1) o w used (inr (sym e))
 inside_signal_first sem (p ∷ ps) d e o w used =
     inside_ready d.state.tables p o (can_be_ready_waiting d.state.tables p o (waiter_waits d.state.tables sem p o (subst (λ l. 0 < count_in p l) e (first_is_counted p ps))))
 
 -- A semaphore is signalled.
-pub inside_signalled : (sem : ℕ) (d : CallState) → IsInside d.state.tables → sem < 128 → (semaphore_at d.state.tables sem).owner ≢ None → IsInside (signalled sem d).state.tables
+pub inside_signalled : (sem : ℕ) (d : CallState) → IsInside d.state.tables → sem < 128 → (semaphore_at d.state.tables sem).owner ≢ None
+    → IsInside (signalled sem d).state.tables
 inside_signalled sem d o w used = inside_signal_first sem (semaphore_at d.state.tables sem).waiters d refl o w used
 
 -- The current process goes on after that.
-pub sound_signalled : (sem : ℕ) (d : CallState) → IsSoundTables d.state.tables → sem < 128 → (semaphore_at d.state.tables sem).owner ≢ None → IsSoundTables (signalled sem d).state.tables
+pub sound_signalled : (sem : ℕ) (d : CallState) → IsSoundTables d.state.tables → sem < 128 → (semaphore_at d.state.tables sem).owner ≢ None
+    → IsSoundTables (signalled sem d).state.tables
 sound_signalled sem d k w used = sound_signal_first sem (semaphore_at d.state.tables sem).waiters d refl k w used
 
 -- after n signals a semaphore hasn't both tokens and waiters
@@ -179,7 +192,8 @@ one_kind_signalled t sem n o =
     (o.one_kind sem)
 
 -- The current process goes on after that.
-pub sound_signalled_times : (sem n : ℕ) (d : CallState) → IsSoundTables d.state.tables → sem < 128 → (semaphore_at d.state.tables sem).owner ≢ None → IsSoundTables (signalled_times sem n d).state.tables
+pub sound_signalled_times : (sem n : ℕ) (d : CallState) → IsSoundTables d.state.tables → sem < 128
+    → (semaphore_at d.state.tables sem).owner ≢ None → IsSoundTables (signalled_times sem n d).state.tables
 sound_signalled_times sem n d k w used =
     let t = d.state.tables in
     let x = semaphore_at t sem in

@@ -24,7 +24,8 @@ abbrev IsTold : CallResult → Type 0
 IsTold result = result.answer ≡ Returns EOF
 
 -- the character that an item stands for is the end of the input
-char_ends : (c : Console) (mode : TtyMode) (x : Item) (items : List Item) → c.mode ≡ mode → c.committed ≡ x ∷ items → Returns (char_of mode x) ≡ Returns EOF → IsAtEnd c
+char_ends : (c : Console) (mode : TtyMode) (x : Item) (items : List Item) → c.mode ≡ mode → c.committed ≡ x ∷ items
+    → Returns (char_of mode x) ≡ Returns EOF → IsAtEnd c
 char_ends c Cooked End items m e told = record { mode = m; items = items; first = e }
 char_ends c Cooked (Char b) items m e told = absurd (cc)
 char_ends c Raw x items m e told = absurd (cc)
@@ -41,7 +42,8 @@ token_ends zero sem left then_ s go told = absurd (cc)
 token_ends (suc n) sem left then_ s go told = go n told
 
 pub getc_ends : (s : Xinu) → IsTold (console_getc s) → IsAtEnd (console_of s)
-getc_ends s told = token_ends (semaphore_at s.tables TY_ISEM).tokens TY_ISEM TtyGet take_next s (λ n. take_ends (console_of s).committed _ refl) told
+getc_ends s told =
+    token_ends (semaphore_at s.tables TY_ISEM).tokens TY_ISEM TtyGet take_next s (λ n. take_ends (console_of s).committed _ refl) told
 
 pub getc_goes_on_ends : (s : Xinu) → IsTold (go_on_getc s) → IsAtEnd (console_of s)
 getc_goes_on_ends s told = take_ends (console_of s).committed (goes_on (held s) s) refl told

@@ -48,8 +48,8 @@ output_asks (TtyWrite part returned) h = refl
 output_asks _ h = h
 
 -- who was released in such a call stays so if it is as it was
-still_released : (asks : Rest → Bool) (x y : Process)
-    → (asks y.rest ≡ true → (y.rest ≡ x.rest) × (is_waiting y.state ≡ is_waiting x.state)) → is_released asks y ≡ true → is_released asks x ≡ true
+still_released : (asks : Rest → Bool) (x y : Process) → (asks y.rest ≡ true → (y.rest ≡ x.rest) × (is_waiting y.state ≡ is_waiting x.state))
+    → is_released asks y ≡ true → is_released asks x ≡ true
 still_released asks x y f h =
     let e = f (and_parts (not (is_waiting y.state)) (asks y.rest) h).1 in
     sym (ap (λ w. not w && asks y.rest) e.1 ∙ ap (λ r. not (is_waiting x.state) && asks r) e.0) ∙ h

@@ -44,8 +44,8 @@ pub record KeepsConsole (Premise : Type 0) (s : Xinu) (h : CallResult) : Type 0 
   pub console : Premise → HasConsole h.call.state
 
 -- what is kept from a state that was come to without touching more
-pub keeps_after : {P Q : Type 0} (s u : Xinu) (h : CallResult) → (P → Q) → u.tables.current ≡ s.tables.current → Touches (reach on_console) s u
-    → KeepsConsole Q u h → KeepsConsole P s h
+pub keeps_after : {P Q : Type 0} (s u : Xinu) (h : CallResult) → (P → Q) → u.tables.current ≡ s.tables.current
+    → Touches (reach on_console) s u → KeepsConsole Q u h → KeepsConsole P s h
 keeps_after s u h premise same t k = record {
   preserved = λ n. k.preserved (λ e. n (subst (λ c. c ≡ 0) same e));
   touches = touches_trans t k.touches;
@@ -114,10 +114,12 @@ blocked_keeps sem left s c w empty fits asked =
     }
 
 -- A token of the console's is taken.
-pub token_holds : (sem n : ℕ) (s : Xinu) → Holds s → sem < 2 → (semaphore_at s.tables sem).tokens ≡ suc n → Holds (record s { tables = with_tokens sem n s.tables })
+pub token_holds : (sem n : ℕ) (s : Xinu) → Holds s → sem < 2 → (semaphore_at s.tables sem).tokens ≡ suc n
+    → Holds (record s { tables = with_tokens sem n s.tables })
 token_holds sem n s c w e = record { tables = sound_token_taken s.tables sem n c.tables (omega arith) e; harts = c.harts }
 
-pub token_touches : (sem n : ℕ) (s : Xinu) → Holds s → sem < 2 → Touches (reach on_console) s (record s { tables = with_tokens sem n s.tables })
+pub token_touches : (sem n : ℕ) (s : Xinu) → Holds s → sem < 2
+    → Touches (reach on_console) s (record s { tables = with_tokens sem n s.tables })
 token_touches sem n s c w = touches_tokens s sem n (touched_console s.tables sem c.tables.inside w)
 
 pub token_console : (sem n : ℕ) (s : Xinu) → Holds s → sem < 2 → (semaphore_at s.tables sem).tokens ≡ suc n → HasConsole s
@@ -130,7 +132,8 @@ token_console sem n s c w e k =
     let room = k.room in
     record { itself = k.itself; items = omega arith; room = omega arith; spans = k.spans }
   where
-    at : (asks : Rest → Bool) (r : ℕ) → sem < length s.tables.semaphores → promised asks r (with_tokens sem n s.tables) ≤ promised asks r s.tables
+    at : (asks : Rest → Bool) (r : ℕ) → sem < length s.tables.semaphores
+        → promised asks r (with_tokens sem n s.tables) ≤ promised asks r s.tables
     at asks r h = by_number r sem (λ j. promised asks j (with_tokens sem n s.tables) ≤ promised asks j s.tables)
         (let f = promised_token asks s.tables sem n h e in omega arith) (λ d. promised_token_other asks s.tables sem n r d)
 

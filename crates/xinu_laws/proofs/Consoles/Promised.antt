@@ -31,10 +31,12 @@ counts_one b e = ap (λ c. cond c 1 0) e
 
 -- these are the tokens of a semaphore that was written, and the others keep theirs
 tokens_here : (t : Tables) (sem n : ℕ) → sem < length t.semaphores → (semaphore_at (with_tokens sem n t) sem).tokens ≡ n
-tokens_here t sem n h = ap (λ (x : Semaphore). x.tokens) (get_or-set_same t.semaphores sem (record (semaphore_at t sem) { tokens = n }) no_semaphore h)
+tokens_here t sem n h =
+    ap (λ (x : Semaphore). x.tokens) (get_or-set_same t.semaphores sem (record (semaphore_at t sem) { tokens = n }) no_semaphore h)
 
 tokens_other : (t : Tables) (sem n r : ℕ) → r ≢ sem → (semaphore_at (with_tokens sem n t) r).tokens ≡ (semaphore_at t r).tokens
-tokens_other t sem n r d = ap (λ (x : Semaphore). x.tokens) (get_or-set_other t.semaphores sem r (record (semaphore_at t sem) { tokens = n }) no_semaphore d)
+tokens_other t sem n r d =
+    ap (λ (x : Semaphore). x.tokens) (get_or-set_other t.semaphores sem r (record (semaphore_at t sem) { tokens = n }) no_semaphore d)
 
 -- A token that is taken takes what it promised,
 pub promised_token : (asks : Rest → Bool) (t : Tables) (sem n : ℕ) → sem < length t.semaphores → (semaphore_at t sem).tokens ≡ suc n
@@ -42,7 +44,8 @@ pub promised_token : (asks : Rest → Bool) (t : Tables) (sem n : ℕ) → sem <
 promised_token asks t sem n h e = let f = tokens_here t sem n h in omega arith
 
 -- and nothing of another semaphore.
-pub promised_token_other : (asks : Rest → Bool) (t : Tables) (sem n r : ℕ) → r ≢ sem → promised asks r (with_tokens sem n t) ≤ promised asks r t
+pub promised_token_other : (asks : Rest → Bool) (t : Tables) (sem n r : ℕ) → r ≢ sem
+    → promised asks r (with_tokens sem n t) ≤ promised asks r t
 promised_token_other asks t sem n r d = let f = tokens_other t sem n r d in omega arith
 
 -- a process that isn't released afterwards is promised no more
@@ -61,9 +64,9 @@ promised_blocked asks t sem q x m place h w =
     promised_move asks t sem q x m place h (and_left (not (is_waiting x.state)) (asks x.rest) (ap (λ y. not (is_waiting y)) w))
 
 -- A process that goes on takes what it was promised,
-pub promised_goes_on : (asks : Rest → Bool) (r : ℕ) (message : Option ℕ) (s : Xinu) → asks Nothing ≡ false → s.tables.current < length s.tables.processes
-    → state_at s.tables s.tables.current ≡ Current → asks (process_at s.tables s.tables.current).rest ≡ true
-    → suc (promised asks r (goes_on message s).tables) ≤ promised asks r s.tables
+pub promised_goes_on : (asks : Rest → Bool) (r : ℕ) (message : Option ℕ) (s : Xinu) → asks Nothing ≡ false
+    → s.tables.current < length s.tables.processes → state_at s.tables s.tables.current ≡ Current
+    → asks (process_at s.tables s.tables.current).rest ≡ true → suc (promised asks r (goes_on message s).tables) ≤ promised asks r s.tables
 promised_goes_on asks r message s none h c left =
     let t = s.tables in
     let old = process_at t t.current in
@@ -95,7 +98,8 @@ abbrev released_in : (Rest → Bool) → Tables → ℕ
 released_in asks t = times (is_released asks) t.processes
 
 -- one who becomes ready adds one at most,
-released_ready : (asks : Rest → Bool) (t : Tables) (p : ℕ) → p < length t.processes → released_in asks (ready p t) ≤ suc (released_in asks t)
+released_ready : (asks : Rest → Bool) (t : Tables) (p : ℕ) → p < length t.processes
+    → released_in asks (ready p t) ≤ suc (released_in asks t)
 released_ready asks t p h =
     let x = in_state Ready (process_at t p) in
     let e = times-set (is_released asks) t.processes p x no_process h in
@@ -141,7 +145,8 @@ released_all_other asks (p ∷ ps) d w =
     omega arith
 
 -- no token comes or goes when some become ready
-tokens_unblock_all : (ps : List ℕ) (d : CallState) (r : ℕ) → (semaphore_at (unblock_all ps d).state.tables r).tokens ≡ (semaphore_at d.state.tables r).tokens
+tokens_unblock_all : (ps : List ℕ) (d : CallState) (r : ℕ)
+    → (semaphore_at (unblock_all ps d).state.tables r).tokens ≡ (semaphore_at d.state.tables r).tokens
 tokens_unblock_all [] d r = refl
 tokens_unblock_all (p ∷ ps) d r =
     let t = d.state.tables in
@@ -175,8 +180,8 @@ promised_signals_other asks sem n r d o differ u =
     omega arith
 
 -- Each has a range to work through if a process changes that has one itself,
-pub spans_move : (t : Tables) (q : ℕ) (x : Process) (m : Option ℕ) (place : Place) → HasSpan x.rest → ((p : ℕ) → HasSpan (process_at t p).rest)
-    → (p : ℕ) → HasSpan (process_at (move_to q x m place t) p).rest
+pub spans_move : (t : Tables) (q : ℕ) (x : Process) (m : Option ℕ) (place : Place) → HasSpan x.rest
+    → ((p : ℕ) → HasSpan (process_at t p).rest) → (p : ℕ) → HasSpan (process_at (move_to q x m place t) p).rest
 spans_move t q x m place h all p = by_number p q (λ r. HasSpan (get_or (set t.processes q x) r no_process).rest)
     (⊎_elim (λ (e : get_or (set t.processes q x) q no_process ≡ x). subst (λ (y : Process). HasSpan y.rest) (sym e) h)
     (λ (e : get_or (set t.processes q x) q no_process ≡ process_at t q). subst (λ (y : Process). HasSpan y.rest) (sym e) (all q))

@@ -33,11 +33,13 @@ pub record HasPlace (s : Xinu) : Type 0 where
   pub place : suc (length (console_of s).output + promised asks_output TY_OSEM s.tables) ≤ TY_OBUFLEN
 
 -- A caller takes a token of the output and goes on, or waits for one. What follows may rest on a fact.
-await_place : (Fact : Type 0) (left : Rest) (then_ : Xinu → CallResult) (s : Xinu) → Holds s → asks_output left ≡ true → (Fact → HasSpan left)
-    → ((u : Xinu) → Holds u → KeepsConsole (Fact × HasPlace u) u (then_ u)) → KeepsConsole (Fact × HasConsole s) s (await TY_OSEM left then_ s)
+await_place : (Fact : Type 0) (left : Rest) (then_ : Xinu → CallResult) (s : Xinu) → Holds s → asks_output left ≡ true
+    → (Fact → HasSpan left) → ((u : Xinu) → Holds u → KeepsConsole (Fact × HasPlace u) u (then_ u))
+    → KeepsConsole (Fact × HasConsole s) s (await TY_OSEM left then_ s)
 await_place Fact left then_ s c asked range go = by_tokens (semaphore_at s.tables 1).tokens refl
   where
-    by_tokens : (tokens : ℕ) → tokens ≡ (semaphore_at s.tables 1).tokens → KeepsConsole (Fact × HasConsole s) s (take_token tokens 1 left then_ s)
+    by_tokens : (tokens : ℕ) → tokens ≡ (semaphore_at s.tables 1).tokens
+        → KeepsConsole (Fact × HasConsole s) s (take_token tokens 1 left then_ s)
     by_tokens zero e =
         let b = blocked_keeps 1 left s c (omega arith) (sym e) asked (output_asks left asked) in
         record { preserved = b.preserved; touches = b.touches; console = λ p. b.console (range p.0, p.1) }
@@ -49,7 +51,8 @@ await_place Fact left then_ s c asked range go = by_tokens (semaphore_at s.table
         refl (token_touches 1 n s c (omega arith)) (go u (token_holds 1 n s c (omega arith) (sym e)))
 
 -- A caller that was released has its token.
-goes_on_place : (s : Xinu) → Holds s → asks_output (process_at s.tables s.tables.current).rest ≡ true → HasConsole s → HasPlace (goes_on (held s) s)
+goes_on_place : (s : Xinu) → Holds s → asks_output (process_at s.tables s.tables.current).rest ≡ true → HasConsole s
+    → HasPlace (goes_on (held s) s)
 goes_on_place s c asked k = record {
   console = goes_on_console s c k;
   place = (let f = promised_goes_on asks_output 1 (held s) s refl (caller_within s c) c.tables.runs asked in let room = k.room in omega arith);
@@ -70,8 +73,9 @@ put_touches : (b : ℕ) (s : Xinu) → Touches (reach on_console) s (put b s)
 put_touches b s = console_touches s (put b s) (with_output b (console_of s)) refl refl refl
 
 -- A byte is put by a caller that has its token, and what follows is done.
-put_byte_keeps : (Fact : Type 0) (b : ℕ) (left : Rest) (then_ : Xinu → CallResult) (s : Xinu) → Holds s → asks_output left ≡ true → (Fact → HasSpan left)
-    → ((u : Xinu) → Holds u → KeepsConsole (Fact × HasConsole u) u (then_ u)) → KeepsConsole (Fact × HasPlace s) s (put_byte b left then_ s)
+put_byte_keeps : (Fact : Type 0) (b : ℕ) (left : Rest) (then_ : Xinu → CallResult) (s : Xinu) → Holds s → asks_output left ≡ true
+    → (Fact → HasSpan left) → ((u : Xinu) → Holds u → KeepsConsole (Fact × HasConsole u) u (then_ u))
+    → KeepsConsole (Fact × HasPlace s) s (put_byte b left then_ s)
 put_byte_keeps Fact b left then_ s c asked range go =
     let first = put TY_RETURN s in
     let whole = put b s in
@@ -84,7 +88,8 @@ put_byte_keeps Fact b left then_ s c asked range go =
     (λ _. keeps_after s whole (then_ whole) (λ p. (p.0, put_console b s p.1)) refl (put_touches b s) (go whole (put_holds b s c)))
 
 -- a call that has nothing more to put
-put_last_keeps : (b : ℕ) (left : Rest) (s : Xinu) → Holds s → asks_output left ≡ true → HasSpan left → KeepsConsole (HasPlace s) s (put_byte b left (answers OK) s)
+put_last_keeps : (b : ℕ) (left : Rest) (s : Xinu) → Holds s → asks_output left ≡ true → HasSpan left
+    → KeepsConsole (HasPlace s) s (put_byte b left (answers OK) s)
 put_last_keeps b left s c asked range =
     let k = put_byte_keeps (Unit {0}) b left (answers OK) s c asked (λ _. range)
     (λ v d. let m = answers_keeps OK v d in record { preserved = m.preserved; touches = m.touches; console = λ p. m.console p.1 }) in
@@ -111,7 +116,8 @@ go_on_putc_keeps b false s c =
     (put_last_keeps b (TtyPut b true) u (goes_on_holds s c) refl tt)
 
 -- this many bytes more are written
-writes_keeps : (left at done : ℕ) (s : Xinu) → Holds s → KeepsConsole ((at + (done + left) ≤ ram_size) × HasConsole s) s (writes left at done s)
+writes_keeps : (left at done : ℕ) (s : Xinu) → Holds s
+    → KeepsConsole ((at + (done + left) ≤ ram_size) × HasConsole s) s (writes left at done s)
 writes_keeps zero at done s c = let k = answers_keeps (pos done) s c in record { preserved = k.preserved; touches = k.touches; console = λ p. k.console p.1 }
 writes_keeps (suc left) at done s c =
     let Fact = at + (done + suc left) ≤ ram_size in
@@ -122,7 +128,8 @@ writes_keeps (suc left) at done s c =
     (λ v m. let k = writes_keeps left at (suc done) v m in record { preserved = k.preserved; touches = k.touches; console = λ p. k.console (let w = p.0 in omega arith, p.1) }))
 
 -- the rest of a write, of which a byte was put
-writes_on_keeps : (part : Span) (s : Xinu) → Holds s → KeepsConsole (IsSpan part × HasConsole s) s (writes (part.want - suc part.done) part.at (suc part.done) s)
+writes_on_keeps : (part : Span) (s : Xinu) → Holds s
+    → KeepsConsole (IsSpan part × HasConsole s) s (writes (part.want - suc part.done) part.at (suc part.done) s)
 writes_on_keeps part s c =
     let k = writes_keeps (part.want - suc part.done) part.at (suc part.done) s c in
     record { preserved = k.preserved; touches = k.touches; console = λ p. k.console (let left = p.0.left in let within = p.0.within in omega arith, p.1) }

@@ -60,7 +60,8 @@ output_no_input (TtyRead part) h = cc
 output_no_input _ h = cc
 
 -- what is left of the call of a waiter fits the device
-fits_device : (t : Tables) (sem : ℕ) (left : Rest) → IsInside t → sem < 4 → FitsOwner sem (semaphore_at t sem).owner left → FitsDevice sem left
+fits_device : (t : Tables) (sem : ℕ) (left : Rest) → IsInside t → sem < 4 → FitsOwner sem (semaphore_at t sem).owner left
+    → FitsDevice sem left
 fits_device t sem left o h f = subst (λ v. FitsOwner sem v left) (o.devices sem h) f
 
 -- the console's semaphores may be touched, with those who wait there
@@ -87,8 +88,8 @@ signals_keep sem n c s k w console =
     }
 
 -- Items are committed.
-committed_signals : (m : Committed) (s : Xinu) → Holds s → Appends (console_of s) m → (IsSoundConsole (console_of s) → IsSoundConsole m.console)
-    → Signals s (committed m (start s))
+committed_signals : (m : Committed) (s : Xinu) → Holds s → Appends (console_of s) m
+    → (IsSoundConsole (console_of s) → IsSoundConsole m.console) → Signals s (committed m (start s))
 committed_signals m s k a itself =
     let d : CallState = record (start s) { state = with_console m.console s } in
     let n = m.count in
@@ -110,8 +111,9 @@ pub receiving_signals : (b : ℕ) (s : Xinu) → Holds s → Signals s (receivin
 receiving_signals b s k = let g = received_goes b (console_of s) in committed_signals (received b (console_of s)) s k g.appends g.sound
 
 -- a byte of the output is sent
-output_signals : (c : Console) (s : Xinu) → Holds s → (IsSoundConsole (console_of s) → IsSoundConsole c) → length c.committed ≡ length (console_of s).committed
-    → suc (length c.output) ≡ length (console_of s).output → Signals s (signalled_times 1 1 (start (with_console c s)))
+output_signals : (c : Console) (s : Xinu) → Holds s → (IsSoundConsole (console_of s) → IsSoundConsole c)
+    → length c.committed ≡ length (console_of s).committed → suc (length c.output) ≡ length (console_of s).output
+    → Signals s (signalled_times 1 1 (start (with_console c s)))
 output_signals c s k itself same shorter =
     let d : CallState = start (with_console c s) in
     let t = s.tables in
@@ -124,8 +126,9 @@ output_signals c s k itself same shorter =
     record { itself = itself b.itself; items = omega arith; room = omega arith; spans = spans_unblock_all (take 1 (semaphore_at t 1).waiters) d b.spans })
 
 -- a byte of the echo is sent
-echo_signals : (c : Console) (s : Xinu) → Holds s → (IsSoundConsole (console_of s) → IsSoundConsole c) → length c.committed ≡ length (console_of s).committed
-    → length c.output ≡ length (console_of s).output → Signals s (start (with_console c s))
+echo_signals : (c : Console) (s : Xinu) → Holds s → (IsSoundConsole (console_of s) → IsSoundConsole c)
+    → length c.committed ≡ length (console_of s).committed → length c.output ≡ length (console_of s).output
+    → Signals s (start (with_console c s))
 echo_signals c s k itself same output = record {
   tables = k.tables;
   harts = k.harts;

@@ -38,7 +38,8 @@ start_reached : HasStart beside_console
 start_reached = record { nothing = refl; heap = refl; stacks = refl; disk = refl }
 
 -- When the machine starts.
-pub devices_start : (images : List Loaded) (start : Xinu) → boot images ≡ Boots start → IsInside start.tables → AreDevices start.tables start.parts.devices
+pub devices_start : (images : List Loaded) (start : Xinu) → boot images ≡ Boots start → IsInside start.tables
+    → AreDevices start.tables start.parts.devices
 devices_start images start e inside =
     let t = touches_start start_reached images start e in
     record {

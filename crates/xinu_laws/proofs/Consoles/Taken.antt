@@ -31,10 +31,12 @@ pub record HasItem (s : Xinu) : Type 0 where
 
 -- A caller takes a token of the input and goes on, or waits for one. What follows may rest on a fact.
 await_item : (Fact : Type 0) (left : Rest) (then_ : Xinu → CallResult) (s : Xinu) → Holds s → asks_input left ≡ true → (Fact → HasSpan left)
-    → ((u : Xinu) → Holds u → KeepsConsole (Fact × HasItem u) u (then_ u)) → KeepsConsole (Fact × HasConsole s) s (await TY_ISEM left then_ s)
+    → ((u : Xinu) → Holds u → KeepsConsole (Fact × HasItem u) u (then_ u))
+    → KeepsConsole (Fact × HasConsole s) s (await TY_ISEM left then_ s)
 await_item Fact left then_ s c asked range go = by_tokens (semaphore_at s.tables 0).tokens refl
   where
-    by_tokens : (tokens : ℕ) → tokens ≡ (semaphore_at s.tables 0).tokens → KeepsConsole (Fact × HasConsole s) s (take_token tokens 0 left then_ s)
+    by_tokens : (tokens : ℕ) → tokens ≡ (semaphore_at s.tables 0).tokens
+        → KeepsConsole (Fact × HasConsole s) s (take_token tokens 0 left then_ s)
     by_tokens zero e =
         let b = blocked_keeps 0 left s c (omega arith) (sym e) asked (input_asks left asked) in
         record { preserved = b.preserved; touches = b.touches; console = λ p. b.console (range p.0, p.1) }
@@ -46,7 +48,8 @@ await_item Fact left then_ s c asked range go = by_tokens (semaphore_at s.tables
         refl (token_touches 0 n s c (omega arith)) (go u (token_holds 0 n s c (omega arith) (sym e)))
 
 -- A caller that was released has its token.
-goes_on_item : (s : Xinu) → Holds s → asks_input (process_at s.tables s.tables.current).rest ≡ true → HasConsole s → HasItem (goes_on (held s) s)
+goes_on_item : (s : Xinu) → Holds s → asks_input (process_at s.tables s.tables.current).rest ≡ true → HasConsole s
+    → HasItem (goes_on (held s) s)
 goes_on_item s c asked k = record {
   console = goes_on_console s c k;
   item = (let f = promised_goes_on asks_input 0 (held s) s refl (caller_within s c) c.tables.runs asked in let items = k.items in omega arith);
@@ -57,8 +60,10 @@ no_item : {P : Type 0} (s : Xinu) → (console_of s).committed ≡ [] → HasIte
 no_item s e h = let n : length (console_of s).committed ≡ 0 = ap length e in let i = h.item in absurd (omega arith)
 
 -- the first item is taken, and any memory written: that touches nothing else,
-taken_touches : (items : List Item) (s : Xinu) (memory : List ℕ) → Touches (reach on_console) s (record (with_committed items s) { memory = memory })
-taken_touches items s memory = console_touches s (record (with_committed items s) { memory = memory }) (record (console_of s) { committed = items }) refl refl refl
+taken_touches : (items : List Item) (s : Xinu) (memory : List ℕ)
+    → Touches (reach on_console) s (record (with_committed items s) { memory = memory })
+taken_touches items s memory =
+    console_touches s (record (with_committed items s) { memory = memory }) (record (console_of s) { committed = items }) refl refl refl
 
 -- and keeps what holds of the console
 taken_console : (x : Item) (items : List Item) (s : Xinu) (memory : List ℕ) → (console_of s).committed ≡ x ∷ items → HasItem s
@@ -75,7 +80,8 @@ taken_console x items s memory e h =
     }
 
 -- a character is taken
-take_char_keeps : (items : List Item) (s : Xinu) → (console_of s).committed ≡ items → Holds s → KeepsConsole (HasItem s) s (take_char items s)
+take_char_keeps : (items : List Item) (s : Xinu) → (console_of s).committed ≡ items → Holds s
+    → KeepsConsole (HasItem s) s (take_char items s)
 take_char_keeps [] s e c = let k = silent_keeps s c in record { preserved = k.preserved; touches = k.touches; console = λ h. no_item s e h }
 take_char_keeps (x ∷ items) s e c =
     let u = with_committed items s in
@@ -90,15 +96,17 @@ getc_keeps s c =
     record { preserved = k.preserved; touches = k.touches; console = λ p. k.console (tt, p) }
 
 -- which goes on.
-pub go_on_getc_keeps : (s : Xinu) → Holds s → KeepsConsole (((process_at s.tables s.tables.current).rest ≡ TtyGet) × HasConsole s) s (go_on_getc s)
+pub go_on_getc_keeps : (s : Xinu) → Holds s
+    → KeepsConsole (((process_at s.tables s.tables.current).rest ≡ TtyGet) × HasConsole s) s (go_on_getc s)
 go_on_getc_keeps s c =
     let u = goes_on (held s) s in
     keeps_after s u (take_next u) (λ p. goes_on_item s c (ap asks_input p.0) p.1) refl (goes_on_touches s c)
     (take_char_keeps (console_of u).committed u refl (goes_on_holds s c))
 
 -- an item is taken and stored, and the rest of the read is done
-read_item_keeps : (Fact : Type 0) (items : List Item) (at done : ℕ) (then_ : Xinu → CallResult) (s : Xinu) → (console_of s).committed ≡ items → Holds s
-    → ((u : Xinu) → Holds u → KeepsConsole (Fact × HasConsole u) u (then_ u)) → KeepsConsole (Fact × HasItem s) s (read_item items at done then_ s)
+read_item_keeps : (Fact : Type 0) (items : List Item) (at done : ℕ) (then_ : Xinu → CallResult) (s : Xinu)
+    → (console_of s).committed ≡ items → Holds s → ((u : Xinu) → Holds u → KeepsConsole (Fact × HasConsole u) u (then_ u))
+    → KeepsConsole (Fact × HasItem s) s (read_item items at done then_ s)
 read_item_keeps Fact [] at done then_ s e c go =
     let k = silent_keeps s c in record { preserved = k.preserved; touches = k.touches; console = λ p. no_item s e p.1 }
 read_item_keeps Fact (x ∷ items) at done then_ s e c go =
@@ -118,7 +126,8 @@ read_item_keeps Fact (x ∷ items) at done then_ s e c go =
     (λ _. keeps_after s v (then_ v) (λ p. (p.0, kv p)) refl tv (go v cv)))
 
 -- this many bytes more are read
-reads_keeps : (left at done : ℕ) (s : Xinu) → Holds s → KeepsConsole ((at + (done + left) ≤ ram_size) × HasConsole s) s (reads left at done s)
+reads_keeps : (left at done : ℕ) (s : Xinu) → Holds s
+    → KeepsConsole ((at + (done + left) ≤ ram_size) × HasConsole s) s (reads left at done s)
 reads_keeps zero at done s c = let k = answers_keeps (pos done) s c in record { preserved = k.preserved; touches = k.touches; console = λ p. k.console p.1 }
 reads_keeps (suc left) at done s c =
     await_item (at + (done + suc left) ≤ ram_size) (TtyRead (span at done (done + suc left))) (read_next at done (reads left at (suc done))) s c refl (λ w. record { left = omega arith; within = w })

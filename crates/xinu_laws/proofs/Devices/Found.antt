@@ -16,7 +16,8 @@ use Rattle.xinu_laws.proofs.Consoles.Kept.{sound_holds, caller_within}
 use Rattle.xinu_laws.proofs.Consoles.Promised.{promised_goes_on}
 
 -- an item
-pub item_found : (s : Xinu) → IsSound s → asks_input (process_at s.tables s.tables.current).rest ≡ true → 0 < length (console_of s).committed
+pub item_found : (s : Xinu) → IsSound s → asks_input (process_at s.tables s.tables.current).rest ≡ true
+    → 0 < length (console_of s).committed
 item_found s k asked =
     let c = sound_holds s k in
     let f = promised_goes_on asks_input 0 (held s) s refl (caller_within s c) c.tables.runs asked in
@@ -24,7 +25,8 @@ item_found s k asked =
     omega arith
 
 -- room for a byte
-pub room_found : (s : Xinu) → IsSound s → asks_output (process_at s.tables s.tables.current).rest ≡ true → length (console_of s).output < TY_OBUFLEN
+pub room_found : (s : Xinu) → IsSound s → asks_output (process_at s.tables s.tables.current).rest ≡ true
+    → length (console_of s).output < TY_OBUFLEN
 room_found s k asked =
     let c = sound_holds s k in
     let f = promised_goes_on asks_output 1 (held s) s refl (caller_within s c) c.tables.runs asked in

@@ -53,8 +53,8 @@ abbrev pub OfFiles : (CallResult → Type 0) → Xinu → Type 0
 OfFiles P s = (found : Option FileCall) (at : ℕ) → IsAsked found at → P (asks_files found at s)
 
 -- What holds of a refusal and of the calls on each kind of device holds of `open`, whatever the name is mapped to,
-pub device_open_holds : (P : CallResult → Type 0) (dev name mode : ℕ) (s : Xinu) → P (refused s) → P (answers OK s) → P (answers (pos DISK0) s)
-    → OfFiles P s → P (device_open dev name mode s)
+pub device_open_holds : (P : CallResult → Type 0) (dev name mode : ℕ) (s : Xinu) → P (refused s) → P (answers OK s)
+    → P (answers (pos DISK0) s) → OfFiles P s → P (device_open dev name mode s)
 device_open_holds P dev name mode s none opened disk files =
     on_device_holds P op.Open dev (open_texts name mode) s none (λ k. with_texts k (text_at name s.memory) (text_at mode s.memory))
   where
@@ -83,7 +83,8 @@ plain : {call : FileCall} → IsFileCall call → InRam call 0 → IsAsked (Some
 plain call range = record { call_of = call; range = range }
 
 -- and of `close`,
-pub device_close_holds : (P : CallResult → Type 0) (dev : ℕ) (s : Xinu) → P (refused s) → P (answers OK s) → OfFiles P s → P (device_close dev s)
+pub device_close_holds : (P : CallResult → Type 0) (dev : ℕ) (s : Xinu) → P (refused s) → P (answers OK s) → OfFiles P s
+    → P (device_close dev s)
 device_close_holds P dev s none closed files = on_device_holds P op.Close dev (close_as dev) s none each
   where
     each : (k : Kind) → P (close_as dev k s)
@@ -105,8 +106,8 @@ device_seek_holds P dev n s none files = on_device_holds P op.Seek dev (seek_as 
     each kind.File = files (Some (Seek (file_number dev) n)) 0 (plain tt tt)
 
 -- and of the others.
-pub device_read_holds : (P : CallResult → Type 0) (dev at n : ℕ) (s : Xinu) → P (refused s) → P (console_read at (signed n) s) → P (disk_read at n s)
-    → OfFiles P s → P (device_read dev at n s)
+pub device_read_holds : (P : CallResult → Type 0) (dev at n : ℕ) (s : Xinu) → P (refused s) → P (console_read at (signed n) s)
+    → P (disk_read at n s) → OfFiles P s → P (device_read dev at n s)
 device_read_holds P dev at n s none console disk files = on_device_holds P op.Read dev (read_as dev at n) s none each
   where
     each : (k : Kind) → P (read_as dev at n k s)
@@ -116,8 +117,8 @@ device_read_holds P dev at n s none console disk files = on_device_holds P op.Re
     each kind.FileSystem = none
     each kind.File = files (read_call (file_number dev) at (signed n)) at (read_asked (file_number dev) at (signed n))
 
-pub device_write_holds : (P : CallResult → Type 0) (dev at n : ℕ) (s : Xinu) → P (refused s) → P (console_write at (signed n) s) → P (disk_write at n s)
-    → OfFiles P s → P (device_write dev at n s)
+pub device_write_holds : (P : CallResult → Type 0) (dev at n : ℕ) (s : Xinu) → P (refused s) → P (console_write at (signed n) s)
+    → P (disk_write at n s) → OfFiles P s → P (device_write dev at n s)
 device_write_holds P dev at n s none console disk files = on_device_holds P op.Write dev (write_as dev at n) s none each
   where
     each : (k : Kind) → P (write_as dev at n k s)
@@ -127,7 +128,8 @@ device_write_holds P dev at n s none console disk files = on_device_holds P op.W
     each kind.FileSystem = none
     each kind.File = files (write_call (file_number dev) at (signed n)) at (write_asked (file_number dev) at (signed n))
 
-pub device_getc_holds : (P : CallResult → Type 0) (dev : ℕ) (s : Xinu) → P (refused s) → P (console_getc s) → OfFiles P s → P (device_getc dev s)
+pub device_getc_holds : (P : CallResult → Type 0) (dev : ℕ) (s : Xinu) → P (refused s) → P (console_getc s) → OfFiles P s
+    → P (device_getc dev s)
 device_getc_holds P dev s none console files = on_device_holds P op.Getc dev (getc_as dev) s none each
   where
     each : (k : Kind) → P (getc_as dev k s)
@@ -137,7 +139,8 @@ device_getc_holds P dev s none console files = on_device_holds P op.Getc dev (ge
     each kind.FileSystem = none
     each kind.File = files (Some (Getc (file_number dev))) 0 (plain tt tt)
 
-pub device_putc_holds : (P : CallResult → Type 0) (dev b : ℕ) (s : Xinu) → P (refused s) → P (console_putc b s) → OfFiles P s → P (device_putc dev b s)
+pub device_putc_holds : (P : CallResult → Type 0) (dev b : ℕ) (s : Xinu) → P (refused s) → P (console_putc b s) → OfFiles P s
+    → P (device_putc dev b s)
 device_putc_holds P dev b s none console files = on_device_holds P op.Putc dev (putc_as dev b) s none each
   where
     each : (k : Kind) → P (putc_as dev b k s)
@@ -147,8 +150,8 @@ device_putc_holds P dev b s none console files = on_device_holds P op.Putc dev (
     each kind.FileSystem = none
     each kind.File = files (Some (Putc (file_number dev) b)) 0 (plain tt tt)
 
-pub device_control_holds : (P : CallResult → Type 0) (dev f x : ℕ) (s : Xinu) → P (refused s) → P (console_control f s) → P (disk_control f s)
-    → OfFiles P s → P (device_control dev f x s)
+pub device_control_holds : (P : CallResult → Type 0) (dev f x : ℕ) (s : Xinu) → P (refused s) → P (console_control f s)
+    → P (disk_control f s) → OfFiles P s → P (device_control dev f x s)
 device_control_holds P dev f x s none console disk files = on_device_holds P op.Control dev (control_as dev f x) s none each
   where
     each : (k : Kind) → P (control_as dev f x k s)
@@ -202,7 +205,8 @@ device_open_keeps dev name mode s c =
     device_open_holds (KeepsDevice s) dev name mode s (of_console s _ (refused_keeps s c)) (of_console s _ (answers_keeps OK s c)) (of_console s _ (answers_keeps (pos DISK0) s c)) (of_files s c)
 
 pub device_close_keeps : (dev : ℕ) → Keeps (device_close dev)
-device_close_keeps dev s c = device_close_holds (KeepsDevice s) dev s (of_console s _ (refused_keeps s c)) (of_console s _ (answers_keeps OK s c)) (of_files s c)
+device_close_keeps dev s c =
+    device_close_holds (KeepsDevice s) dev s (of_console s _ (refused_keeps s c)) (of_console s _ (answers_keeps OK s c)) (of_files s c)
 
 pub device_read_keeps : (dev at n : ℕ) → Keeps (device_read dev at n)
 device_read_keeps dev at n s c =
@@ -213,10 +217,12 @@ device_write_keeps dev at n s c =
     device_write_holds (KeepsDevice s) dev at n s (of_console s _ (refused_keeps s c)) (of_console s _ (write_keeps at (signed n) s c)) (of_disk s _ (disk_write_keeps at n s c)) (of_files s c)
 
 pub device_getc_keeps : (dev : ℕ) → Keeps (device_getc dev)
-device_getc_keeps dev s c = device_getc_holds (KeepsDevice s) dev s (of_console s _ (refused_keeps s c)) (of_console s _ (getc_keeps s c)) (of_files s c)
+device_getc_keeps dev s c =
+    device_getc_holds (KeepsDevice s) dev s (of_console s _ (refused_keeps s c)) (of_console s _ (getc_keeps s c)) (of_files s c)
 
 pub device_putc_keeps : (dev b : ℕ) → Keeps (device_putc dev b)
-device_putc_keeps dev b s c = device_putc_holds (KeepsDevice s) dev b s (of_console s _ (refused_keeps s c)) (of_console s _ (putc_keeps b s c)) (of_files s c)
+device_putc_keeps dev b s c =
+    device_putc_holds (KeepsDevice s) dev b s (of_console s _ (refused_keeps s c)) (of_console s _ (putc_keeps b s c)) (of_files s c)
 
 pub device_seek_keeps : (dev : ℕ) (n : ℤ) → Keeps (device_seek dev n)
 device_seek_keeps dev n s c = device_seek_holds (KeepsDevice s) dev n s (of_console s _ (refused_keeps s c)) (of_files s c)
@@ -239,14 +245,17 @@ device_open_touches dev name mode s k =
     device_open_holds (Within on_files s) dev name mode s (touches_refl s) (touches_refl s) (touches_refl s) (files_within on_files s refl k)
 
 pub device_close_touches : (dev : ℕ) → StaysIn on_files (device_close dev)
-device_close_touches dev s k = device_close_holds (Within on_files s) dev s (touches_refl s) (touches_refl s) (files_within on_files s refl k)
+device_close_touches dev s k =
+    device_close_holds (Within on_files s) dev s (touches_refl s) (touches_refl s) (files_within on_files s refl k)
 
 pub device_seek_touches : (dev : ℕ) (n : ℤ) → StaysIn on_files (device_seek dev n)
 device_seek_touches dev n s k = device_seek_holds (Within on_files s) dev n s (touches_refl s) (files_within on_files s refl k)
 
 -- what touches the console alone touches the console and files at most
 wider : {s u : Xinu} → Touches (reach on_console) s u → Touches (reach on_console_or_files) s u
-wider t = touches_below (record { heap = λ e. e; stacks = λ e. e; ranges = λ e. e; pools = λ e. e; ports = λ e. e; console = λ e. e; names = λ e. e; disk = λ e. e; files = λ e. refl }) t
+wider t =
+    touches_below
+    (record { heap = λ e. e; stacks = λ e. e; ranges = λ e. e; pools = λ e. e; ports = λ e. e; console = λ e. e; names = λ e. e; disk = λ e. e; files = λ e. refl }) t
 
 pub device_getc_touches : (dev : ℕ) → StaysIn on_console_or_files (device_getc dev)
 device_getc_touches dev s k =

@@ -31,7 +31,8 @@ abbrev NeverRefuses : CallResult → Type 0
 NeverRefuses result = result.answer ≡ Returns SYSERR → ⊥
 
 -- one that waits for a token, or goes on with it
-await_never : (sem : ℕ) (left : Rest) (then_ : Xinu → CallResult) (s : Xinu) → ((u : Xinu) → NeverRefuses (then_ u)) → NeverRefuses (await sem left then_ s)
+await_never : (sem : ℕ) (left : Rest) (then_ : Xinu → CallResult) (s : Xinu) → ((u : Xinu) → NeverRefuses (then_ u))
+    → NeverRefuses (await sem left then_ s)
 await_never sem left then_ s go = by_tokens (semaphore_at s.tables sem).tokens
   where
     by_tokens : (tokens : ℕ) → NeverRefuses (take_token tokens sem left then_ s)
@@ -90,7 +91,8 @@ read_tells at (pos zero) s =
 read_tells at (pos (suc n)) s = read_range_tells at (suc n) s
 
 -- the calls that put bytes
-put_byte_never : (b : ℕ) (left : Rest) (then_ : Xinu → CallResult) (s : Xinu) → ((u : Xinu) → NeverRefuses (then_ u)) → NeverRefuses (put_byte b left then_ s)
+put_byte_never : (b : ℕ) (left : Rest) (then_ : Xinu → CallResult) (s : Xinu) → ((u : Xinu) → NeverRefuses (then_ u))
+    → NeverRefuses (put_byte b left then_ s)
 put_byte_never b left then_ s go =
     cond_both (needs_return b (console_of s).mode) (await TY_OSEM left (λ x. then_ (put TY_NEWLINE x)) (put TY_RETURN s)) (then_ (put b s)) NeverRefuses
     (λ _. await_never TY_OSEM left (λ x. then_ (put TY_NEWLINE x)) (put TY_RETURN s) (λ u. go (put TY_NEWLINE u))) (λ _. go (put b s))
@@ -141,25 +143,31 @@ files_tell s (Some call) at asked = λ e. absurd (cc)
 
 -- Calls 36 to 43.
 pub device_open_tells : (dev name mode : ℕ) (s : Xinu) → TellsRefusal s (device_open dev name mode s)
-device_open_tells dev name mode s = device_open_holds (TellsRefusal s) dev name mode s (refusal_tells s) (λ e. absurd (cc)) (λ e. absurd (cc)) (files_tell s)
+device_open_tells dev name mode s =
+    device_open_holds (TellsRefusal s) dev name mode s (refusal_tells s) (λ e. absurd (cc)) (λ e. absurd (cc)) (files_tell s)
 
 pub device_close_tells : (dev : ℕ) (s : Xinu) → TellsRefusal s (device_close dev s)
 device_close_tells dev s = device_close_holds (TellsRefusal s) dev s (refusal_tells s) (λ e. absurd (cc)) (files_tell s)
 
 pub device_read_tells : (dev at n : ℕ) (s : Xinu) → TellsRefusal s (device_read dev at n s)
-device_read_tells dev at n s = device_read_holds (TellsRefusal s) dev at n s (refusal_tells s) (read_tells at (signed n) s) (disk_read_tells at n s) (files_tell s)
+device_read_tells dev at n s =
+    device_read_holds (TellsRefusal s) dev at n s (refusal_tells s) (read_tells at (signed n) s) (disk_read_tells at n s) (files_tell s)
 
 pub device_write_tells : (dev at n : ℕ) (s : Xinu) → TellsRefusal s (device_write dev at n s)
-device_write_tells dev at n s = device_write_holds (TellsRefusal s) dev at n s (refusal_tells s) (write_tells at (signed n) s) (disk_write_tells at n s) (files_tell s)
+device_write_tells dev at n s =
+    device_write_holds (TellsRefusal s) dev at n s (refusal_tells s) (write_tells at (signed n) s) (disk_write_tells at n s) (files_tell s)
 
 pub device_getc_tells : (dev : ℕ) (s : Xinu) → TellsRefusal s (device_getc dev s)
-device_getc_tells dev s = device_getc_holds (TellsRefusal s) dev s (refusal_tells s) (never_tells s (console_getc s) (getc_never s)) (files_tell s)
+device_getc_tells dev s =
+    device_getc_holds (TellsRefusal s) dev s (refusal_tells s) (never_tells s (console_getc s) (getc_never s)) (files_tell s)
 
 pub device_putc_tells : (dev b : ℕ) (s : Xinu) → TellsRefusal s (device_putc dev b s)
-device_putc_tells dev b s = device_putc_holds (TellsRefusal s) dev b s (refusal_tells s) (never_tells s (console_putc b s) (putc_never b s)) (files_tell s)
+device_putc_tells dev b s =
+    device_putc_holds (TellsRefusal s) dev b s (refusal_tells s) (never_tells s (console_putc b s) (putc_never b s)) (files_tell s)
 
 pub device_seek_tells : (dev : ℕ) (n : ℤ) (s : Xinu) → TellsRefusal s (device_seek dev n s)
 device_seek_tells dev n s = device_seek_holds (TellsRefusal s) dev n s (refusal_tells s) (files_tell s)
 
 pub device_control_tells : (dev f x : ℕ) (s : Xinu) → TellsRefusal s (device_control dev f x s)
-device_control_tells dev f x s = device_control_holds (TellsRefusal s) dev f x s (refusal_tells s) (console_control_tells f s) (disk_control_tells f s) (files_tell s)
+device_control_tells dev f x s =
+    device_control_holds (TellsRefusal s) dev f x s (refusal_tells s) (console_control_tells f s) (disk_control_tells f s) (files_tell s)

@@ -36,7 +36,8 @@ others_told p [] d none = refl
 others_told p (n ∷ notes) d none = by_note (λ x f. others_told p notes x f) n.reply n.caller none
   where
     by_note : ((x : CallState) → count_in p (told_living notes) ≡ 0 → process_at (all_told notes x).state.tables p ≡ process_at x.state.tables p)
-        → (reply : Option ℤ) (caller : Option ℕ) → count_in p (callers (λ (o : Option ℕ). o) (caller_first reply caller (callers_told notes))) ≡ 0
+        → (reply : Option ℤ) (caller : Option ℕ)
+        → count_in p (callers (λ (o : Option ℕ). o) (caller_first reply caller (callers_told notes))) ≡ 0
         → process_at (all_told notes (told reply caller d)).state.tables p ≡ process_at d.state.tables p
     by_note go None caller none = go d none
     by_note go (Some reply) None none = go d none
@@ -55,9 +56,12 @@ all_told_append : (notes more : List FileNote) (d : CallState) → all_told (not
 all_told_append [] more d = refl
 all_told_append (n ∷ notes) more d = all_told_append notes more (told n.reply n.caller d)
 
-living_append : (xs ys : List (Option ℕ)) → callers (λ (o : Option ℕ). o) (xs ++ ys) ≡ callers (λ (o : Option ℕ). o) xs ++ callers (λ (o : Option ℕ). o) ys
+living_append : (xs ys : List (Option ℕ))
+    → callers (λ (o : Option ℕ). o) (xs ++ ys) ≡ callers (λ (o : Option ℕ). o) xs ++ callers (λ (o : Option ℕ). o) ys
 living_append [] ys = refl
-living_append (x ∷ xs) ys = ap (λ l. living x ++ l) (living_append xs ys) ∙ sym (append_assoc (living x) (callers (λ (o : Option ℕ). o) xs) (callers (λ (o : Option ℕ). o) ys))
+living_append (x ∷ xs) ys =
+    ap (λ l. living x ++ l) (living_append xs ys)
+    ∙ sym (append_assoc (living x) (callers (λ (o : Option ℕ). o) xs) (callers (λ (o : Option ℕ). o) ys))
 
 -- the first of those who are told
 first_is_told : (p : ℕ) (reply : ℤ) (notes : List FileNote) (l : List ℕ) (d : CallState) → IsSoundTables d.state.tables
@@ -90,7 +94,8 @@ callers_are_told k p moment reply before after s sound e =
     (first_is_told p reply after l (all_told before d) one.tables one.waiters)
 
 -- the files are the same after a call was queued
-queued_system : (calls : List FileRequest) (a : FileRequest) (memory : List ℕ) (w : FileWork) → (queued_after calls a memory w).system ≡ w.system
+queued_system : (calls : List FileRequest) (a : FileRequest) (memory : List ℕ) (w : FileWork)
+    → (queued_after calls a memory w).system ≡ w.system
 queued_system [] a memory w = refl
 queued_system (b ∷ calls) a memory w = refl
 
@@ -101,7 +106,8 @@ answered_at_once a s none =
     ap (λ l. Returns (file_effect a.call (queued_after l a s.memory (files_of s)).bytes (queued_after l a s.memory (files_of s)).system).reply) none
 
 -- A call that waits goes after the others.
-pub call_queued : (calls : List FileRequest) (a : FileRequest) (memory : List ℕ) (w : FileWork) → w.calls ≡ calls → (queued_after calls a memory w).calls ≡ w.calls ++ a ∷ []
+pub call_queued : (calls : List FileRequest) (a : FileRequest) (memory : List ℕ) (w : FileWork) → w.calls ≡ calls
+    → (queued_after calls a memory w).calls ≡ w.calls ++ a ∷ []
 call_queued [] a memory w e = ap (λ l. l ++ a ∷ []) (sym e)
 call_queued (b ∷ calls) a memory w e = ap (λ l. l ++ a ∷ []) (sym e)
 
@@ -113,7 +119,8 @@ nothing_brought (Some p) at memory =
     ap (λ l. l ++ drop (at + 0) memory) (append-nil (take at memory)) ∙ ap (λ n. take at memory ++ drop n memory) same ∙ take-append-drop at memory
 
 -- no call is under way
-no_calls : (w : FileWork) → w.calls ≡ [] → w.turns ≡ 0 → w.bytes ≡ [] → ◌≡◌ {A = FileWork} (record { system = w.system; calls = []; turns = 0; bytes = [] }) w
+no_calls : (w : FileWork) → w.calls ≡ [] → w.turns ≡ 0 → w.bytes ≡ []
+    → ◌≡◌ {A = FileWork} (record { system = w.system; calls = []; turns = 0; bytes = [] }) w
 no_calls w calls turns bytes =
     ap (λ l. record { system = w.system; calls = l; turns = 0; bytes = [] }) (sym calls)
     ∙ ap (λ n. record { system = w.system; calls = w.calls; turns = n; bytes = [] }) (sym turns)
@@ -126,8 +133,8 @@ pub record LeavesAll (s x : Xinu) : Type 0 where
   pub parts : x.parts ≡ s.parts
   pub memory : x.memory ≡ s.memory
 
-pub refused_leaves_all : (a : FileRequest) (s : Xinu) → IsSoundWork (files_of s) → (files_of s).calls ≡ [] → (at_once a s).answer ≡ Returns SYSERR
-    → LeavesAll s (at_once a s).call.state
+pub refused_leaves_all : (a : FileRequest) (s : Xinu) → IsSoundWork (files_of s) → (files_of s).calls ≡ []
+    → (at_once a s).answer ≡ Returns SYSERR → LeavesAll s (at_once a s).call.state
 refused_leaves_all a s sound none refused =
     let w = files_of s in
     let queued = enqueued a s.memory w in

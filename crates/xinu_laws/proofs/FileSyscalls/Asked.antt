@@ -75,10 +75,12 @@ write_asked d at (pos n) =
 -- other files, and any memory
 pub files_touches : {f : Footprint} → f.files ≡ true → (s u : Xinu) (w : FileWork) → u.tables ≡ s.tables → u.harts ≡ s.harts
     → u.parts ≡ record s.parts { devices = record s.parts.devices { files = w } } → Touches (reach f) s u
-files_touches {f} may s u w tables harts parts = touches_parts s u tables harts (subst (λ p. KeepsParts f s.parts p) (sym parts) (parts_files may s.parts w))
+files_touches {f} may s u w tables harts parts =
+    touches_parts s u tables harts (subst (λ p. KeepsParts f s.parts p) (sym parts) (parts_files may s.parts w))
 
 -- a caller waits, whatever the files are
-awaits_touches : {f : Footprint} → f.files ≡ true → (call : FileCall) (at : ℕ) (s : Xinu) → Holds s → Touches (reach f) s (awaits_files call at s).call.state
+awaits_touches : {f : Footprint} → f.files ≡ true → (call : FileCall) (at : ℕ) (s : Xinu) → Holds s
+    → Touches (reach f) s (awaits_files call at s).call.state
 awaits_touches {f} may call at s c =
     let t = s.tables in
     let w = enqueued (request_for call at s) s.memory (files_of s) in
@@ -100,7 +102,8 @@ waiting_more (b ∷ calls) a memory w p e some =
     callers_last (λ (x : FileRequest). x.caller) (b ∷ calls) a p some ∙ sym (ap (λ l. callers_waiting l ++ p ∷ []) e)
 
 -- A caller makes a call and waits.
-awaits_keeps : (call : FileCall) (at : ℕ) (s : Xinu) → Holds s → IsFileRequest (request_for call at s) → KeepsDisks on_files s (awaits_files call at s)
+awaits_keeps : (call : FileCall) (at : ℕ) (s : Xinu) → Holds s → IsFileRequest (request_for call at s)
+    → KeepsDisks on_files s (awaits_files call at s)
 awaits_keeps call at s c is =
     let t = s.tables in
     let o = c.tables.inside in

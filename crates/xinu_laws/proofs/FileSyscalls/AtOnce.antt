@@ -25,7 +25,8 @@ caller_is : (p : ℕ) (o : Option ℕ) → is_caller p o ≡ true → o ≡ Some
 caller_is p None e = cc
 caller_is p (Some q) e = ap Some (eqb-true q p e)
 
-pub made_first_is : (p : ℕ) (before after : List FileRequest) (a : FileRequest) → made_first p before after ≡ Some a → MadeFirst p before after a
+pub made_first_is : (p : ℕ) (before after : List FileRequest) (a : FileRequest) → made_first p before after ≡ Some a
+    → MadeFirst p before after a
 made_first_is p [] [] a e = cc
 made_first_is p (b ∷ before) after a e = cc
 made_first_is p [] (b ∷ more) a e =
@@ -58,7 +59,8 @@ not_null_makes s a made null =
     made
 
 -- It keeps all, if no call is before it and it can be carried out.
-pub at_once_keeps : (a : FileRequest) (s : Xinu) → MayCallAny s → (files_of s).calls ≡ [] → IsSome a.caller → IsFileRequest a → KeepsAll (at_once a s)
+pub at_once_keeps : (a : FileRequest) (s : Xinu) → MayCallAny s → (files_of s).calls ≡ [] → IsSome a.caller → IsFileRequest a
+    → KeepsAll (at_once a s)
 at_once_keeps a s c none caller is =
     let files = c.devices.files in
     let first : 1 ≤ most_at_issue (files_of s).calls = subst (λ l. 1 ≤ most_at_issue l) (sym none) (omega arith) in
@@ -84,14 +86,15 @@ pub next_can : (s : Xinu) (a : FileRequest) → next_file_call s ≡ Some a → 
 next_can s a made sound = (subst (AllByRecursion IsFileRequest) (next_is s a made).is sound.calls).0
 
 -- What holds of a step in which no call on files takes effect, and of each in which one does, holds of a step whatever is chosen in it.
-pub step_holds : (P : EventResult → Type 0) (choice : ℕ) (found : Option FileRequest) (s : Xinu) → P (stepped s) → ((a : FileRequest) → P (step_at_once a s))
-    → P (step_with choice found s)
+pub step_holds : (P : EventResult → Type 0) (choice : ℕ) (found : Option FileRequest) (s : Xinu) → P (stepped s)
+    → ((a : FileRequest) → P (step_at_once a s)) → P (step_with choice found s)
 step_holds P zero found s waits at_once = waits
 step_holds P (suc choice) None s waits at_once = waits
 step_holds P (suc choice) (Some a) s waits at_once = at_once a
 
 -- A step that leaves files as they are is the only one, whatever is chosen.
-alone : (choice : ℕ) (found : Option FileRequest) (s : Xinu) → ((a : FileRequest) → found ≡ Some a → ⊥) → step_with choice found s ≡ stepped s
+alone : (choice : ℕ) (found : Option FileRequest) (s : Xinu) → ((a : FileRequest) → found ≡ Some a → ⊥)
+    → step_with choice found s ≡ stepped s
 alone zero found s none = refl
 alone (suc choice) None s none = refl
 alone (suc choice) (Some a) s none = absurd (none a refl)

@@ -119,8 +119,8 @@ touched_files rest.SelfSuspend = refl
 touched_files (rest.Disk reply) = refl
 
 -- The kernel doesn't panic in an event in which a call on files is made.
-calm : (s : Xinu) (was : ℕ) (first : List TranscriptLine) (result : CallResult) → KeepsAll result → NoneMade s result.call.state → (files_of s).calls ≡ []
-    → (files_of (end_of_event was first result).state).calls ≢ [] → (end_of_event was first result).panics ≡ false
+calm : (s : Xinu) (was : ℕ) (first : List TranscriptLine) (result : CallResult) → KeepsAll result → NoneMade s result.call.state
+    → (files_of s).calls ≡ [] → (files_of (end_of_event was first result).state).calls ≢ [] → (end_of_event was first result).panics ≡ false
 calm s was first result k none before some = by_answer result.answer k.preserved.tables
   where
     by_answer : (answer : Answer) → FitsAnswer answer result.call.state.tables → is_panic answer ≡ false
@@ -160,7 +160,8 @@ calm_stepped s k before =
     (none_if_same s (continued left s).call.state ((continued_touches left s k).parts.devices.files (touched_files left))) before))
 
 -- so it panics as little whatever is chosen
-step_panics : (choice : ℕ) (found : Option FileRequest) (s : Xinu) → IsSound s → next_file_call s ≡ found → (step_with choice found s).panics ≡ (stepped s).panics
+step_panics : (choice : ℕ) (found : Option FileRequest) (s : Xinu) → IsSound s → next_file_call s ≡ found
+    → (step_with choice found s).panics ≡ (stepped s).panics
 step_panics zero found s k e = refl
 step_panics (suc choice) None s k e = refl
 step_panics (suc choice) (Some a) s k e =
@@ -168,7 +169,8 @@ step_panics (suc choice) (Some a) s k e =
     let some : (files_of (stepped s).state).calls ≢ [] = λ none. (let f : a ∷ m.more ≡ [] = sym m.is ∙ none in absurd (cc)) in
     sym (calm_stepped s k m.none some)
 
-completed_panics : (calls_ : List FileRequest) (choice : ℕ) (s : Xinu) → (completed_in calls_ choice s).panics ≡ (completed_in calls_ 0 s).panics
+completed_panics : (calls_ : List FileRequest) (choice : ℕ) (s : Xinu)
+    → (completed_in calls_ choice s).panics ≡ (completed_in calls_ 0 s).panics
 completed_panics [] choice s = refl
 completed_panics (a ∷ calls_) choice s = refl
 
@@ -186,7 +188,8 @@ event_panics s Fail1 choice k = refl
 effect_panics : (s : Xinu) (e : Event) (choice : ℕ) → IsSound s → (effect_of s e choice).panics ≡ (effect_of s e 0).panics
 effect_panics s e choice k = by_built (is_built_event e)
   where
-    by_built : (b : Bool) → (if b then event_effect s e choice else nothing_happens s).panics ≡ (if b then event_effect s e 0 else nothing_happens s).panics
+    by_built : (b : Bool)
+        → (if b then event_effect s e choice else nothing_happens s).panics ≡ (if b then event_effect s e 0 else nothing_happens s).panics
     by_built true = event_panics s e choice k
     by_built false = refl
 

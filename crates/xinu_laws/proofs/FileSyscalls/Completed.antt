@@ -38,8 +38,9 @@ pub record Tells (l : List ℕ) (d e : CallState) : Type 0 where
   pub touches : Touches (reach on_files) d.state e.state
 
 -- p is the first of them, and then others are
-first_told : (p : ℕ) (reply : ℤ) (rest l : List ℕ) (d : CallState) → IsSoundTables d.state.tables → (semaphore_at d.state.tables 3).waiters ≡ p ∷ rest
-    → (e : CallState) → (IsSoundTables (keep_reply p reply d).state.tables → (semaphore_at (keep_reply p reply d).state.tables 3).waiters ≡ rest → Tells l (keep_reply p reply d) e)
+first_told : (p : ℕ) (reply : ℤ) (rest l : List ℕ) (d : CallState) → IsSoundTables d.state.tables
+    → (semaphore_at d.state.tables 3).waiters ≡ p ∷ rest → (e : CallState)
+    → (IsSoundTables (keep_reply p reply d).state.tables → (semaphore_at (keep_reply p reply d).state.tables 3).waiters ≡ rest → Tells l (keep_reply p reply d) e)
     → Tells l d e
 first_told p reply rest l d sound first e go =
     let one = first_replied 1 p reply rest d.state.tables (omega arith) sound first in

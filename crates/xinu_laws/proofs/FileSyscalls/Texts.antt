@@ -56,8 +56,8 @@ next_adds : (k : ℕ) (x : FileStep) → k ≤ length x.work.calls → Adds k x.
 next_adds zero x h = record { notes = []; are = sym (append-nil x.notes); lead = λ more. (let z : nexts_led more ≡ 0 + nexts_led more = omega arith in z) }
 next_adds (suc k) x h = by_calls (λ y g. next_adds k y g) x.work.calls h
   where
-    by_calls : ((y : FileStep) → k ≤ length y.work.calls → Adds k y.notes (next_effects k y).notes) → (calls : List FileRequest) → suc k ≤ length calls
-        → Adds (suc k) x.notes (next_effects k (first_effect calls Next x)).notes
+    by_calls : ((y : FileStep) → k ≤ length y.work.calls → Adds k y.notes (next_effects k y).notes) → (calls : List FileRequest)
+        → suc k ≤ length calls → Adds (suc k) x.notes (next_effects k (first_effect calls Next x)).notes
     by_calls go [] few = absurd (omega (arith, few))
     by_calls go (a ∷ calls) few =
         let one = (effect_one (a ∷ calls) Next x refl (omega (arith, few))).0 in
@@ -72,7 +72,8 @@ next_adds (suc k) x h = by_calls (λ y g. next_adds k y g) x.work.calls h
 -- what follows the notes of a completion doesn't begin with one
 end_leads : (replies : List (ℕ × ℤ)) (was is : ℕ) (more : List TranscriptLine) → begins_next more ≡ false
     → nexts_led ((map return_line replies ++ switched was is) ++ more) ≡ 0
-end_leads [] was is more e = cond_both (was == is) [] (line.Switch is ∷ []) (λ l. nexts_led (l ++ more) ≡ 0) (λ _. led_none more e) (λ _. refl)
+end_leads [] was is more e =
+    cond_both (was == is) [] (line.Switch is ∷ []) (λ l. nexts_led (l ++ more) ≡ 0) (λ _. led_none more e) (λ _. refl)
 end_leads (r ∷ replies) was is more e = refl
 
 after_notes : (notes replies end more : List TranscriptLine) → ((notes ++ replies) ++ end) ++ more ≡ notes ++ ((replies ++ end) ++ more)
@@ -80,8 +81,8 @@ after_notes notes replies end more =
     append_assoc (notes ++ replies) end more ∙ append_assoc notes replies (end ++ more) ∙ ap (λ x. notes ++ x) (sym (append_assoc replies end more))
 
 -- The text of a completion tells how many calls took effect.
-completed_leads : (k : ℕ) (a : FileRequest) (calls : List FileRequest) (s : Xinu) (more : List TranscriptLine) → (files_of s).calls ≡ a ∷ calls
-    → k ≤ length (files_of s).calls → begins_next more ≡ false
+completed_leads : (k : ℕ) (a : FileRequest) (calls : List FileRequest) (s : Xinu) (more : List TranscriptLine)
+    → (files_of s).calls ≡ a ∷ calls → k ≤ length (files_of s).calls → begins_next more ≡ false
     → (let x = calls_completed k (file_step s) in choice_led ((end_of_event s.tables.current (note_lines x.notes) (completing x s)).lines ++ more)) ≡ k
 completed_leads zero a calls s more e few none =
     let x = calls_completed zero (file_step s) in
@@ -105,7 +106,8 @@ completed_leads (suc k) a calls s more e few none =
 
 completed_choice : (calls : List FileRequest) (c d : ℕ) (s : Xinu) (more rest : List TranscriptLine) → (files_of s).calls ≡ calls
     → begins_next more ≡ false → begins_next rest ≡ false → c ≤ length calls - least_effects calls (files_of s)
-    → d ≤ length calls - least_effects calls (files_of s) → (completed_in calls c s).lines ++ more ≡ (completed_in calls d s).lines ++ rest → c ≡ d
+    → d ≤ length calls - least_effects calls (files_of s) → (completed_in calls c s).lines ++ more ≡ (completed_in calls d s).lines ++ rest
+    → c ≡ d
 completed_choice [] c d s more rest e m r p q same = omega (arith, p, q)
 completed_choice (a ∷ calls) c d s more rest e m r p q same =
     let low = least_effects (a ∷ calls) (files_of s) in
@@ -186,8 +188,9 @@ step_choice (suc c) zero (Some a) s more rest k e p q same =
 step_choice (suc c) (suc d) (Some a) s more rest k e p q same = omega (arith, p, q)
 
 -- The text of an event tells what was chosen in it.
-event_choice : (s : Xinu) (e : Event) (c d : ℕ) (more rest : List TranscriptLine) → IsSound s → begins_next more ≡ false → begins_next rest ≡ false
-    → MayChoose s e c → MayChoose s e d → (event_effect s e c).lines ++ more ≡ (event_effect s e d).lines ++ rest → c ≡ d
+event_choice : (s : Xinu) (e : Event) (c d : ℕ) (more rest : List TranscriptLine) → IsSound s → begins_next more ≡ false
+    → begins_next rest ≡ false → MayChoose s e c → MayChoose s e d → (event_effect s e c).lines ++ more ≡ (event_effect s e d).lines ++ rest
+    → c ≡ d
 event_choice s Step c d more rest k m r p q same = step_choice c d (next_file_call s) s more rest k refl p q same
 event_choice s Disk1 c d more rest k m r p q same = completed_choice (files_of s).calls c d s more rest refl m r p q same
 event_choice s Tick c d more rest k m r p q same = omega (arith, p, q)
@@ -200,8 +203,8 @@ event_choice s Fail1 c d more rest k m r p q same = omega (arith, p, q)
 
 -- One text has one outcome.
 pub texts_agree : (old : Xinu) (e : Event) (lines others : List TranscriptLine) (new other : Xinu) (more rest : List TranscriptLine)
-    → IsSound old → begins_next more ≡ false → begins_next rest ≡ false → Happens old e lines new → Happens old e others other → lines ++ more ≡ others ++ rest
-    → (lines ≡ others) × (new ≡ other)
+    → IsSound old → begins_next more ≡ false → begins_next rest ≡ false → Happens old e lines new → Happens old e others other
+    → lines ++ more ≡ others ++ rest → (lines ≡ others) × (new ≡ other)
 texts_agree old e lines others new other more rest sound m r h k same =
     same_outcome old e lines others new other h k
     (by_built (is_built_event e)

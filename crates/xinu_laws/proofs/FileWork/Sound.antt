@@ -111,7 +111,8 @@ works_turn x may sound = by_calls x.work.calls refl may
           first = subst (λ l. IsFirst l (record x.work { turns = x.work.turns + 1 })) (sym e) (left, first.1);
         }
 
-pub works_completed : (k : ℕ) (x : FileStep) → least_effects x.work.calls x.work ≤ k → IsSoundWork x.work → IsSoundWork (calls_completed k x).work
+pub works_completed : (k : ℕ) (x : FileStep) → least_effects x.work.calls x.work ≤ k → IsSoundWork x.work
+    → IsSoundWork (calls_completed k x).work
 works_completed zero x may sound = works_turn x may sound
 works_completed (suc k) x may sound = works_next k (first_effect x.work.calls Finished x) (works_effect x.work.calls Finished x refl sound)
 
@@ -142,8 +143,8 @@ works_issued (suc choice) a memory w may caller right sound = by_calls w.calls r
     by_calls (b ∷ calls) e may = absurd (omega (arith, may))
 
 -- RAM keeps its size meanwhile.
-sized_effect : (calls : List FileRequest) (moment : FileMoment) (x : FileStep) → AllByRecursion IsFileRequest calls → length x.memory ≡ ram_size
-    → length (first_effect calls moment x).memory ≡ ram_size
+sized_effect : (calls : List FileRequest) (moment : FileMoment) (x : FileStep) → AllByRecursion IsFileRequest calls
+    → length x.memory ≡ ram_size → length (first_effect calls moment x).memory ≡ ram_size
 sized_effect [] moment x right size = size
 sized_effect (a ∷ calls) moment x right size = memory_size a x.work.bytes x.memory x.work.system right.0 size
 

@@ -16,7 +16,8 @@ nowhere_more k c cells here more zero w = here
 nowhere_more k c cells here more (suc i) w = more i (omega arith)
 
 -- the least start one place further
-least_more : (k : ℕ) (c : Bool) (cells : List Bool) (start : ℕ) → NoneAt k (c ∷ cells) 0 → IsLeast k cells start → IsLeast k (c ∷ cells) (suc start)
+least_more : (k : ℕ) (c : Bool) (cells : List Bool) (start : ℕ) → NoneAt k (c ∷ cells) 0 → IsLeast k cells start
+    → IsLeast k (c ∷ cells) (suc start)
 least_more k c cells start here l = record {
   place = let w = l.place in omega arith;
   begins = l.begins;
@@ -27,7 +28,9 @@ least_more k c cells start here l = record {
   before (suc i) w = l.least i (omega arith)
 
 -- what the search for the lowest says, one cell further
-lowest_step : (k : ℕ) (c : Bool) (cells : List Bool) (found : Option ℕ) → NoneAt k (c ∷ cells) 0 → OfFound (IsLeast k cells) (BeginNowhere k cells) found → OfFound (IsLeast k (c ∷ cells)) (BeginNowhere k (c ∷ cells)) (option_map suc found)
+lowest_step : (k : ℕ) (c : Bool) (cells : List Bool) (found : Option ℕ) → NoneAt k (c ∷ cells) 0
+    → OfFound (IsLeast k cells) (BeginNowhere k cells) found
+    → OfFound (IsLeast k (c ∷ cells)) (BeginNowhere k (c ∷ cells)) (option_map suc found)
 lowest_step k c cells None here more = nowhere_more k c cells here more
 lowest_step k c cells (Some start) here more = least_more k c cells start here more
 
@@ -62,7 +65,8 @@ greatest_here k c cells here none = record {
   after (suc i) low high = none i (omega arith)
 
 -- what the search for the highest says, one cell further
-highest_step : (k : ℕ) (c : Bool) (cells : List Bool) (found : Option ℕ) → OfFound (IsGreatest k cells) (BeginNowhere k cells) found → OfFound (IsGreatest k (c ∷ cells)) (BeginNowhere k (c ∷ cells)) (or_here k (c ∷ cells) found)
+highest_step : (k : ℕ) (c : Bool) (cells : List Bool) (found : Option ℕ) → OfFound (IsGreatest k cells) (BeginNowhere k cells) found
+    → OfFound (IsGreatest k (c ∷ cells)) (BeginNowhere k (c ∷ cells)) (or_here k (c ∷ cells) found)
 highest_step k c cells (Some start) more = greatest_more k c cells start more
 highest_step k c cells None more =
     cond_both (begins_with true k (c ∷ cells)) (Some 0) None (OfFound (IsGreatest k (c ∷ cells)) (BeginNowhere k (c ∷ cells)))

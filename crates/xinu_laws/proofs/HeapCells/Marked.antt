@@ -31,7 +31,8 @@ cell_of : (low a : ℕ) → low ≤ a → (low + 8 * ((a - low) / 8) ≤ a) × (
 cell_of low a w = (omega arith, omega arith)
 
 -- The addresses of the marked cells were of the other kind, and are of this one.
-pub free_inside : {kind : Bool} {start k : ℕ} {h u : Heap} → AreMarked kind start k h u → (a : ℕ) → h.low + 8 * start ≤ a → a < h.low + 8 * (start + k) → (is_in_free a h ≡ not kind) × (is_in_free a u ≡ kind)
+pub free_inside : {kind : Bool} {start k : ℕ} {h u : Heap} → AreMarked kind start k h u → (a : ℕ) → h.low + 8 * start ≤ a
+    → a < h.low + 8 * (start + k) → (is_in_free a h ≡ not kind) × (is_in_free a u ≡ kind)
 free_inside {kind} {start} {k} {h} {u} m a low high =
     let i = (a - h.low) / 8 in
     let c = cell_of h.low a (omega arith) in
@@ -41,18 +42,21 @@ free_inside {kind} {start} {k} {h} {u} m a low high =
     )
 
 -- a cell that isn't marked is as it was
-cell_outside : {kind : Bool} {start k : ℕ} {h u : Heap} → AreMarked kind start k h u → (i : ℕ) → (i < start) ⊎ (start + k ≤ i) → get_or u.cells i false ≡ get_or h.cells i false
+cell_outside : {kind : Bool} {start k : ℕ} {h u : Heap} → AreMarked kind start k h u → (i : ℕ) → (i < start) ⊎ (start + k ≤ i)
+    → get_or u.cells i false ≡ get_or h.cells i false
 cell_outside {kind} {start} {k} {h} m i w =
     ap (λ cells. get_or cells i false) m.cells
     ∙ ⊎_elim (λ (l : i < start). marked_below kind start k h.cells i m.before.within l) (λ (l : start + k ≤ i). marked_behind kind start k h.cells i m.before.within l) w
 
 -- where an address outside of some cells lies, by cells
-place_outside : (low start k a : ℕ) → low ≤ a → (a < low + 8 * start) ⊎ (low + 8 * (start + k) ≤ a) → ((a - low) / 8 < start) ⊎ (start + k ≤ (a - low) / 8)
+place_outside : (low start k a : ℕ) → low ≤ a → (a < low + 8 * start) ⊎ (low + 8 * (start + k) ≤ a)
+    → ((a - low) / 8 < start) ⊎ (start + k ≤ (a - low) / 8)
 place_outside low start k a w o =
     ⊎_elim (λ (l : a < low + 8 * start). inl (omega arith)) (λ (l : low + 8 * (start + k) ≤ a). inr (omega arith)) o
 
 -- The other addresses are as they were.
-pub free_outside : {kind : Bool} {start k : ℕ} {h u : Heap} → AreMarked kind start k h u → (a : ℕ) → (a < h.low + 8 * start) ⊎ (h.low + 8 * (start + k) ≤ a) → is_in_free a u ≡ is_in_free a h
+pub free_outside : {kind : Bool} {start k : ℕ} {h u : Heap} → AreMarked kind start k h u → (a : ℕ)
+    → (a < h.low + 8 * start) ⊎ (h.low + 8 * (start + k) ≤ a) → is_in_free a u ≡ is_in_free a h
 free_outside {kind} {start} {k} {h} {u} m a o =
     let e = m.low in
     ⊎_elim

@@ -31,11 +31,14 @@ pub record IsStack (n : ℕ) (h : Heap) (stack : Stack) : Type 0 where
   pub taken : AreMarked false start (cells_for n) h stack.heap
 
 -- free cells that begin at a place are taken
-cells_taken : (h : Heap) (start k : ℕ) → start < length h.cells → begins_with true k (drop start h.cells) ≡ true → AreMarked false start k h (record h { cells = marked false start k h.cells })
+cells_taken : (h : Heap) (start k : ℕ) → start < length h.cells → begins_with true k (drop start h.cells) ≡ true
+    → AreMarked false start k h (record h { cells = marked false start k h.cells })
 cells_taken h start k w b = record { before = cells_there true start k h.cells (omega arith) b; low = refl; cells = refl }
 
 -- what is granted if a start is found
-grant_found : (n : ℕ) (h : Heap) (grant : Grant) (found : Option ℕ) → 0 < n → OfFound (IsLeast (cells_for n) h.cells) (BeginNowhere (cells_for n) h.cells) found → grant_at h (cells_for n) found ≡ Some grant → IsGranted n h grant
+grant_found : (n : ℕ) (h : Heap) (grant : Grant) (found : Option ℕ) → 0 < n
+    → OfFound (IsLeast (cells_for n) h.cells) (BeginNowhere (cells_for n) h.cells) found → grant_at h (cells_for n) found ≡ Some grant
+    → IsGranted n h grant
 grant_found n h grant None z says e = absurd (cc)
 grant_found n h grant (Some start) z says e =
     let k = cells_for n in
@@ -50,7 +53,9 @@ getmem_grants n h grant =
     (λ b e. let some = eqb-false n 0 b in grant_found n h grant (lowest_free (cells_for n) h.cells) (omega arith) (lowest_says (cells_for n) h.cells) e)
 
 -- what stack is found if a start is
-stack_found : (n : ℕ) (h : Heap) (stack : Stack) (found : Option ℕ) → 0 < n → OfFound (IsGreatest (cells_for n) h.cells) (BeginNowhere (cells_for n) h.cells) found → stack_at h (cells_for n) found ≡ Some stack → IsStack n h stack
+stack_found : (n : ℕ) (h : Heap) (stack : Stack) (found : Option ℕ) → 0 < n
+    → OfFound (IsGreatest (cells_for n) h.cells) (BeginNowhere (cells_for n) h.cells) found → stack_at h (cells_for n) found ≡ Some stack
+    → IsStack n h stack
 stack_found n h stack None z says e = absurd (cc)
 stack_found n h stack (Some start) z says e =
     let k = cells_for n in
@@ -123,7 +128,8 @@ freestk_frees top n h u whole =
     record { some = f.some; start = f.start; place = omega arith; freed = f.freed })
 
 -- The kernel hands out only memory that was free just before, and that nobody else can be granted as long as it is taken.
-pub grants_were_free : (n : ℕ) (h : Heap) (grant : Grant) → take_memory n h ≡ Some grant → (a : ℕ) → grant.address ≤ a → a < grant.address + n → (is_in_free a h ≡ true) × (is_in_free a grant.heap ≡ false)
+pub grants_were_free : (n : ℕ) (h : Heap) (grant : Grant) → take_memory n h ≡ Some grant → (a : ℕ) → grant.address ≤ a
+    → a < grant.address + n → (is_in_free a h ≡ true) × (is_in_free a grant.heap ≡ false)
 grants_were_free n h grant e a low high =
     let g = getmem_grants n h grant e in
     let at = g.address in
@@ -131,7 +137,8 @@ grants_were_free n h grant e a low high =
     free_inside g.taken a (omega arith) (omega arith)
 
 -- The kernel hands out only stacks that were free just before.
-pub stacks_were_free : (n : ℕ) (h : Heap) (stack : Stack) → take_stack n h ≡ Some stack → (a : ℕ) → a < stack.top + 4 → stack.top + 4 ≤ a + n → (is_in_free a h ≡ true) × (is_in_free a stack.heap ≡ false)
+pub stacks_were_free : (n : ℕ) (h : Heap) (stack : Stack) → take_stack n h ≡ Some stack → (a : ℕ) → a < stack.top + 4
+    → stack.top + 4 ≤ a + n → (is_in_free a h ≡ true) × (is_in_free a stack.heap ≡ false)
 stacks_were_free n h stack e a low high =
     let s = getstk_finds n h stack e in
     let at = s.top in

@@ -51,14 +51,16 @@ abbrev StartsApart : Start → Type 0
 StartsApart start = (s : Xinu) → start ≡ Boots s → IsApart s
 
 -- the first process of an image is made if a stack is found
-apart_where_stack : (found : Option Stack) (i : ℕ) (image : Loaded) (s : Xinu) → take_stack (stack_size image.stack) s.parts.heap ≡ found → IsApart s → StartsApart (where_stack found i image s)
+apart_where_stack : (found : Option Stack) (i : ℕ) (image : Loaded) (s : Xinu) → take_stack (stack_size image.stack) s.parts.heap ≡ found
+    → IsApart s → StartsApart (where_stack found i image s)
 apart_where_stack None i image s e apart u b = absurd (cc)
 apart_where_stack (Some stack) i image s e apart u b =
     let is : with_image i image stack s ≡ u = cc in
     subst IsApart is (apart_made i (image_process i image stack.top) (new_hart image.entry stack.top 0 0) stack image.stack s e refl apart)
 
 -- what follows a start
-apart_then : (start : Start) (next : Xinu → Start) → StartsApart start → ((s : Xinu) → IsApart s → StartsApart (next s)) → StartsApart (and_then start next)
+apart_then : (start : Start) (next : Xinu → Start) → StartsApart start → ((s : Xinu) → IsApart s → StartsApart (next s))
+    → StartsApart (and_then start next)
 apart_then (Boots s) next first more = more s (first s refl)
 apart_then (Overlaps i) next first more = λ u b. absurd (cc)
 apart_then (NoRoom i) next first more = λ u b. absurd (cc)

@@ -31,14 +31,16 @@ pub stack_at : (t : Tables) (p : ℕ) → stack_of (process_at t p) ≡ get_or (
 stack_at t p = get_or_seen stack_of t.processes p no_process
 
 -- how many pools and stacks have an address, by the ranges and the stacks
-pub holders_by_places : (s : Xinu) (a : ℕ) → times (in_range a) (map range_of s.parts.pools) + times (in_stack a) (stacks_of s.tables) ≡ holders s a
+pub holders_by_places : (s : Xinu) (a : ℕ)
+    → times (in_range a) (map range_of s.parts.pools) + times (in_stack a) (stacks_of s.tables) ≡ holders s a
 holders_by_places s a =
     let pools = times-map range_of (in_range a) s.parts.pools in
     let stacks = times-map stack_of (in_stack a) s.tables.processes in
     ap (λ n. n + times (in_stack a) (stacks_of s.tables)) pools ∙ ap (λ n. times (is_in_pool a) s.parts.pools + n) stacks
 
 -- If the places stay as they are, so do the claims.
-pub holders_kept : (s u : Xinu) → map range_of u.parts.pools ≡ map range_of s.parts.pools → stacks_of u.tables ≡ stacks_of s.tables → (a : ℕ) → holders u a ≡ holders s a
+pub holders_kept : (s u : Xinu) → map range_of u.parts.pools ≡ map range_of s.parts.pools → stacks_of u.tables ≡ stacks_of s.tables
+    → (a : ℕ) → holders u a ≡ holders s a
 holders_kept s u ranges stacks a =
     sym (holders_by_places u a)
     ∙ ap (λ l. times (in_range a) l + times (in_stack a) (stacks_of u.tables)) ranges
@@ -92,7 +94,8 @@ empty_stack a x e =
     (cases_Bool (is_in_stack a x))
 
 -- who is in a pool is between its ends
-pub pool_parts : (a : ℕ) (pool : BufferPool) → is_in_pool a pool ≡ true → (pool.base ≤ a) × (a < pool.base + pool_bytes pool.size pool.number)
+pub pool_parts : (a : ℕ) (pool : BufferPool) → is_in_pool a pool ≡ true
+    → (pool.base ≤ a) × (a < pool.base + pool_bytes pool.size pool.number)
 pool_parts a pool h =
     let parts = and_parts (nat_le pool.base a) (nat_lt a (pool.base + pool_bytes pool.size pool.number)) h in
     (leb-true pool.base a parts.0, ltb-true a (pool.base + pool_bytes pool.size pool.number) parts.1)
@@ -115,7 +118,8 @@ one_at_most true = omega arith
 one_at_most false = omega arith
 
 -- If cells are taken, an address of them may be claimed by another in their place.
-pub claim_taken : {start k : ℕ} {h u : Heap} → AreMarked false start k h u → (a : ℕ) (b : Bool) → (b ≡ true → InCells h.low start k a) → one (is_in_free a u) + one b ≤ one (is_in_free a h)
+pub claim_taken : {start k : ℕ} {h u : Heap} → AreMarked false start k h u → (a : ℕ) (b : Bool) → (b ≡ true → InCells h.low start k a)
+    → one (is_in_free a u) + one b ≤ one (is_in_free a h)
 claim_taken {start} {k} {h} {u} m a b within =
     ⊎_elim
     (λ (i : InCells h.low start k a).
@@ -133,7 +137,8 @@ claim_taken {start} {k} {h} {u} m a b within =
     (cases_cells h.low start k a)
 
 -- If cells are freed, an address of them that somebody claimed is free in their place.
-pub claim_freed : {start k : ℕ} {h u : Heap} → AreMarked true start k h u → (a : ℕ) (b : Bool) → (InCells h.low start k a → b ≡ true) → one (is_in_free a u) ≤ one (is_in_free a h) + one b
+pub claim_freed : {start k : ℕ} {h u : Heap} → AreMarked true start k h u → (a : ℕ) (b : Bool) → (InCells h.low start k a → b ≡ true)
+    → one (is_in_free a u) ≤ one (is_in_free a h) + one b
 claim_freed {start} {k} {h} {u} m a b within =
     ⊎_elim
     (λ (i : InCells h.low start k a). let is = ap one (within i) in let few = one_at_most (is_in_free a u) in omega arith)

@@ -39,7 +39,8 @@ use Rattle.xinu_laws.proofs.Touches.Kept.{keeps_places}
 use Rattle.table_laws.proofs.Preserve.{current_within}
 
 -- The end of an event leaves the places as they are.
-pub kept_end_of_event : (was : ℕ) (first : List TranscriptLine) (result : CallResult) → KeepsAll result → KeepsPlaces result.call.state (end_of_event was first result).state
+pub kept_end_of_event : (was : ℕ) (first : List TranscriptLine) (result : CallResult) → KeepsAll result
+    → KeepsPlaces result.call.state (end_of_event was first result).state
 kept_end_of_event was first result k =
     let touches : Touches (reach on_tables) result.call.state (end_of_event was first result).state = touches_end_of_event was first result (inside_preserved result k.preserved) (replies_alive result k.preserved) in
     keeps_places touches refl refl refl
@@ -75,7 +76,8 @@ places_spared (rest.PtRecv ticket) = refl
 places_spared _ = refl
 
 pub kept_continued : (left : Rest) (s : Xinu) → IsSound s → KeepsPlaces s (continued left s).call.state
-kept_continued left s sound = places_stay (touched_by left) s (continued left s).call.state (places_spared left) (continued_touches left s sound)
+kept_continued left s sound =
+    places_stay (touched_by left) s (continued left s).call.state (places_spared left) (continued_touches left s sound)
 
 -- after an instruction the current process has the registers that it left
 pub hart_after : (s : Xinu) → IsSound s → current_hart (with_executed (next s) s) ≡ (next s).hart
@@ -85,7 +87,8 @@ hart_after s sound =
     get_or-set_same s.harts s.tables.current (next s).hart no_hart (omega arith)
 
 -- if an event gives nothing away, a call that gives memory back frees nothing that is held
-none_held : (old : Xinu) (last : List TranscriptLine) → IsSound old → old.tables.current ≢ 0 → (process_at old.tables old.tables.current).rest ≡ rest.Nothing → (next old).outcome ≡ outcome.Call
+none_held : (old : Xinu) (last : List TranscriptLine) → IsSound old → old.tables.current ≢ 0
+    → (process_at old.tables old.tables.current).rest ≡ rest.Nothing → (next old).outcome ≡ outcome.Call
     → let s = with_executed (next old) old in let call = call_of (current_hart s) in
     (GivesAway old Step (end_of_event old.tables.current last (called call.number call.args s)).state → ⊥)
     → gives_back call.number ≡ true → FreesNothingHeld s (called call.number call.args s).call.state
@@ -114,7 +117,8 @@ pub may_call_next : (old : Xinu) → IsSound old → old.tables.current ≢ 0 �
 may_call_next old sound runs = may_call_after old (may_call old sound runs)
 
 -- What comes of an instruction.
-pub apart_reacted : (o : Outcome) (old : Xinu) → (next old).outcome ≡ o → IsSound old → IsApart old → old.tables.current ≢ 0 → (process_at old.tables old.tables.current).rest ≡ rest.Nothing
+pub apart_reacted : (o : Outcome) (old : Xinu) → (next old).outcome ≡ o → IsSound old → IsApart old → old.tables.current ≢ 0
+    → (process_at old.tables old.tables.current).rest ≡ rest.Nothing
     → (GivesAway old Step (reacted o (with_executed (next old) old)).state → ⊥) → IsApart (reacted o (with_executed (next old) old)).state
 apart_reacted outcome.Went old call sound apart runs idle nothing = apart_kept (kept_executed old) apart
 apart_reacted outcome.Call old call sound apart runs idle nothing =
@@ -158,7 +162,8 @@ apart_stepped s sound apart =
     (λ _ _. apart_kept (kept_end_of_event s.tables.current [] (continued left s) (continued_keeps s (may_call s sound (eqb-false s.tables.current 0 b)))) (apart_kept (kept_continued left s sound) apart)))
 
 -- What an event leaves, whatever is chosen in it.
-pub apart_effect : (s : Xinu) (e : Event) (choice : ℕ) → IsSound s → IsApart s → (GivesAway s e (effect_of s e choice).state → ⊥) → IsApart (effect_of s e choice).state
+pub apart_effect : (s : Xinu) (e : Event) (choice : ℕ) → IsSound s → IsApart s → (GivesAway s e (effect_of s e choice).state → ⊥)
+    → IsApart (effect_of s e choice).state
 apart_effect s Step choice sound apart =
     step_holds (λ (x : EventResult). (GivesAway s Step x.state → ⊥) → IsApart x.state) choice (next_file_call s) s (apart_stepped s sound apart)
     (λ a _. apart_kept (record { heap = refl; ranges = refl; stacks = refl }) apart)
@@ -168,6 +173,7 @@ apart_effect s Tx choice sound apart = λ _. apart_kept (kept_transmits s sound)
 apart_effect s _ choice sound apart = λ _. apart
 
 -- Each event keeps each address claimed at most once, unless it gives away what is held.
-pub apart_happens : (old : Xinu) (e : Event) (lines : List TranscriptLine) (new : Xinu) → IsSound old → IsApart old → Happens old e lines new → (GivesAway old e new → ⊥) → IsApart new
+pub apart_happens : (old : Xinu) (e : Event) (lines : List TranscriptLine) (new : Xinu) → IsSound old → IsApart old
+    → Happens old e lines new → (GivesAway old e new → ⊥) → IsApart new
 apart_happens old e lines new sound apart h =
     subst (λ u. (GivesAway old e u → ⊥) → IsApart u) (ap (λ (x : EventResult). x.state) h.effect) (apart_effect old e h.choice sound apart)

@@ -63,7 +63,9 @@ extent_sent (Some sent) s e k = (sending_signals sent s e (sound_holds s k)).tou
 
 -- what an event leaves, whatever is chosen in it
 extent_effect_of : (s : Xinu) (e : Event) (choice : ℕ) → IsSound s → HaveSameExtent s (effect_of s e choice).state
-extent_effect_of s Step choice k = step_holds (λ (x : EventResult). HaveSameExtent s x.state) choice (next_file_call s) s (extent_stepped s k) (λ a. same_extent s.parts.heap)
+extent_effect_of s Step choice k =
+    step_holds (λ (x : EventResult). HaveSameExtent s x.state) choice (next_file_call s) s (extent_stepped s k)
+    (λ a. same_extent s.parts.heap)
 extent_effect_of s Tick choice k = let touches : Touches at_a_tick s (ticked s).state = touches_ticked {f = at_a_tick} refl s k.tables in touches.parts.extent
 extent_effect_of s (Key b) choice k = (receiving_signals b s (sound_holds s k)).touches.parts.extent
 extent_effect_of s Tx choice k = extent_sent (transmitted (console_of s)) s refl k
@@ -72,4 +74,5 @@ extent_effect_of s _ choice k = same_extent s.parts.heap
 -- Each event leaves the heap where it begins, with as many cells as it has.
 pub extent_happens : (old : Xinu) (e : Event) (lines : List TranscriptLine) (new : Xinu) → IsSound old → Happens old e lines new
     → HasSameExtent old.parts.heap new.parts.heap
-extent_happens old e lines new k h = subst (HaveSameExtent old) (ap (λ (x : EventResult). x.state) h.effect) (extent_effect_of old e h.choice k)
+extent_happens old e lines new k h =
+    subst (HaveSameExtent old) (ap (λ (x : EventResult). x.state) h.effect) (extent_effect_of old e h.choice k)

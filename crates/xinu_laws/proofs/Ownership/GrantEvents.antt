@@ -103,4 +103,5 @@ effect_gives s _ choice sound = gives_same s
 -- Each event.
 pub event_gives : (old : Xinu) (e : Event) (lines : List TranscriptLine) (new : Xinu) → IsSound old → Happens old e lines new
     → GivesOnlyFree old new
-event_gives old e lines new sound h = subst (GivesOnlyFree old) (ap (λ (x : EventResult). x.state) h.effect) (effect_gives old e h.choice sound)
+event_gives old e lines new sound h =
+    subst (GivesOnlyFree old) (ap (λ (x : EventResult). x.state) h.effect) (effect_gives old e h.choice sound)

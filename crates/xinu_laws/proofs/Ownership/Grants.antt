@@ -35,7 +35,8 @@ pub gives_kept : {s u : Xinu} → KeepsPlaces s u → GivesOnlyFree s u
 gives_kept {s} {u} k = gives_nothing s u (λ a. let e = holders_kept s u k.ranges k.stacks a in omega arith)
 
 -- nor if the pools' ranges and the stacks do
-pub gives_within : (s u : Xinu) → map range_of u.parts.pools ≡ map range_of s.parts.pools → stacks_of u.tables ≡ stacks_of s.tables → GivesOnlyFree s u
+pub gives_within : (s u : Xinu) → map range_of u.parts.pools ≡ map range_of s.parts.pools → stacks_of u.tables ≡ stacks_of s.tables
+    → GivesOnlyFree s u
 gives_within s u ranges stacks = gives_nothing s u (λ a. let e = holders_kept s u ranges stacks a in omega arith)
 
 -- what is given before the places stay, or after it
@@ -47,8 +48,8 @@ gives_after s u v k g a more =
     let e = holders_kept s u k.ranges k.stacks a in subst (λ h. is_in_free a h ≡ true) k.heap (g a (omega arith))
 
 -- A process is made on a stack that was free.
-gives_made : (p : ℕ) (x : Process) (hart : Hart) (stack : Stack) (wanted : ℕ) (s : Xinu) → take_stack wanted s.parts.heap ≡ Some stack → x.stack ≡ stack.top → x.stack_size ≡ wanted
-    → GivesOnlyFree s (make_process p x hart stack s)
+gives_made : (p : ℕ) (x : Process) (hart : Hart) (stack : Stack) (wanted : ℕ) (s : Xinu) → take_stack wanted s.parts.heap ≡ Some stack
+    → x.stack ≡ stack.top → x.stack_size ≡ wanted → GivesOnlyFree s (make_process p x hart stack s)
 gives_made p x hart stack wanted s e top size a more =
     let set = times_set (is_in_stack a) s.tables.processes p x no_process (empty_stack a no_process refl) in
     ⊎_elim
@@ -56,15 +57,16 @@ gives_made p x hart stack wanted s e top size a more =
     (λ (outside : is_in_stack a x ≡ false). let no = ap one outside in absurd (omega arith))
     (cases_Bool (is_in_stack a x))
 
-gives_created : (number : Option ℕ) (found : Option Stack) (entry size : ℕ) (priority : ℤ) (name : List ℕ) (x y : ℕ) (s : Xinu) → take_stack size s.parts.heap ≡ found
-    → GivesOnlyFree s (created number found entry size priority name x y s).call.state
+gives_created : (number : Option ℕ) (found : Option Stack) (entry size : ℕ) (priority : ℤ) (name : List ℕ) (x y : ℕ) (s : Xinu)
+    → take_stack size s.parts.heap ≡ found → GivesOnlyFree s (created number found entry size priority name x y s).call.state
 gives_created (Some p) (Some stack) entry size priority name x y s e =
     gives_made p (new_process name priority s.tables.current stack.top size) (new_hart entry stack.top x y) stack size s e refl refl
 gives_created (Some p) None entry size priority name x y s e = gives_nothing s s (λ a. omega arith)
 gives_created None found entry size priority name x y s e = gives_nothing s s (λ a. omega arith)
 
 -- call 2
-pub gives_create : (entry size : ℕ) (priority : ℤ) (name x y : ℕ) (s : Xinu) → GivesOnlyFree s (create entry size priority name x y s).call.state
+pub gives_create : (entry size : ℕ) (priority : ℤ) (name x y : ℕ) (s : Xinu)
+    → GivesOnlyFree s (create entry size priority name x y s).call.state
 gives_create entry size priority name x y s =
     let bytes = process_name (take 16 (drop name s.memory)) in
     let found = take_stack (stack_size size) s.parts.heap in
@@ -98,7 +100,8 @@ gives_kill p s =
     (λ _. cond_both (p == s.tables.current) (exit s) other (λ (h : CallResult). GivesOnlyFree s h.call.state) (λ _. gives_exit s) (λ _. gives_killed p (start s)))
 
 -- A pool is made of memory that was free.
-gives_with_pool : (grant : Grant) (sem size n : ℕ) (s : Xinu) → take_memory (pool_bytes size n) s.parts.heap ≡ Some grant → GivesOnlyFree s (with_pool grant sem size n s).call.state
+gives_with_pool : (grant : Grant) (sem size n : ℕ) (s : Xinu) → take_memory (pool_bytes size n) s.parts.heap ≡ Some grant
+    → GivesOnlyFree s (with_pool grant sem size n s).call.state
 gives_with_pool grant sem size n s e a more =
     let pool = new_pool grant.address size n sem in
     let both = times-append (is_in_pool a) s.parts.pools (pool ∷ []) in
@@ -108,7 +111,8 @@ gives_with_pool grant sem size n s e a more =
     (λ (outside : is_in_pool a pool ≡ false). let no = ap one outside in absurd (omega arith))
     (cases_Bool (is_in_pool a pool))
 
-gives_made_pool : (found : Option Grant) (sem : Option ℕ) (size n : ℕ) (s : Xinu) → take_memory (pool_bytes size n) s.parts.heap ≡ found → GivesOnlyFree s (made_pool found sem size n s).call.state
+gives_made_pool : (found : Option Grant) (sem : Option ℕ) (size n : ℕ) (s : Xinu) → take_memory (pool_bytes size n) s.parts.heap ≡ found
+    → GivesOnlyFree s (made_pool found sem size n s).call.state
 gives_made_pool (Some grant) (Some sem) size n s e =
     cond_both (meets_pool grant.address (pool_bytes size n) s.parts.pools) (refused s) (with_pool grant sem size n s) (λ (h : CallResult). GivesOnlyFree s h.call.state)
     (λ _. gives_nothing s s (λ a. omega arith)) (λ _. gives_with_pool grant sem size n s e)
@@ -125,23 +129,25 @@ gives_mkbufpool size n s =
     (λ _. gives_nothing s s (λ a. omega arith))
 
 -- what call 10 answers was free before and isn't after
-getmem_answer : (n : ℕ) (found : Option Grant) (address : ℕ) (s : Xinu) → take_memory n s.parts.heap ≡ found → (granted found s).answer ≡ Returns (pos address)
-    → (a : ℕ) → address ≤ a → a < address + n → (is_in_free a s.parts.heap ≡ true) × (is_in_free a (granted found s).call.state.parts.heap ≡ false)
+getmem_answer : (n : ℕ) (found : Option Grant) (address : ℕ) (s : Xinu) → take_memory n s.parts.heap ≡ found
+    → (granted found s).answer ≡ Returns (pos address) → (a : ℕ) → address ≤ a → a < address + n
+    → (is_in_free a s.parts.heap ≡ true) × (is_in_free a (granted found s).call.state.parts.heap ≡ false)
 getmem_answer n None address s e answer a low high = absurd (cc)
 getmem_answer n (Some grant) address s e answer a low high =
     let at : grant.address ≡ address = cc in grants_were_free n s.parts.heap grant e a (omega arith) (omega arith)
 
-pub getmem_was_free : (n address : ℕ) (s : Xinu) → (getmem n s).answer ≡ Returns (pos address)
-    → (a : ℕ) → address ≤ a → a < address + n → (is_in_free a s.parts.heap ≡ true) × (is_in_free a (getmem n s).call.state.parts.heap ≡ false)
+pub getmem_was_free : (n address : ℕ) (s : Xinu) → (getmem n s).answer ≡ Returns (pos address) → (a : ℕ) → address ≤ a → a < address + n
+    → (is_in_free a s.parts.heap ≡ true) × (is_in_free a (getmem n s).call.state.parts.heap ≡ false)
 getmem_was_free n address s = getmem_answer n (take_memory n s.parts.heap) address s refl
 
 -- what call 12 answers, the address of the highest word
-getstk_answer : (n : ℕ) (found : Option Stack) (top : ℕ) (s : Xinu) → take_stack n s.parts.heap ≡ found → (stacked found s).answer ≡ Returns (pos top)
-    → (a : ℕ) → a < top + 4 → top + 4 ≤ a + n → (is_in_free a s.parts.heap ≡ true) × (is_in_free a (stacked found s).call.state.parts.heap ≡ false)
+getstk_answer : (n : ℕ) (found : Option Stack) (top : ℕ) (s : Xinu) → take_stack n s.parts.heap ≡ found
+    → (stacked found s).answer ≡ Returns (pos top) → (a : ℕ) → a < top + 4 → top + 4 ≤ a + n
+    → (is_in_free a s.parts.heap ≡ true) × (is_in_free a (stacked found s).call.state.parts.heap ≡ false)
 getstk_answer n None top s e answer a low high = absurd (cc)
 getstk_answer n (Some stack) top s e answer a low high =
     let at : stack.top ≡ top = cc in stacks_were_free n s.parts.heap stack e a (omega arith) (omega arith)
 
-pub getstk_was_free : (n top : ℕ) (s : Xinu) → (getstk n s).answer ≡ Returns (pos top)
-    → (a : ℕ) → a < top + 4 → top + 4 ≤ a + n → (is_in_free a s.parts.heap ≡ true) × (is_in_free a (getstk n s).call.state.parts.heap ≡ false)
+pub getstk_was_free : (n top : ℕ) (s : Xinu) → (getstk n s).answer ≡ Returns (pos top) → (a : ℕ) → a < top + 4 → top + 4 ≤ a + n
+    → (is_in_free a s.parts.heap ≡ true) × (is_in_free a (getstk n s).call.state.parts.heap ≡ false)
 getstk_was_free n top s = getstk_answer n (take_stack n s.parts.heap) top s refl

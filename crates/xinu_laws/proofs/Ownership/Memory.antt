@@ -23,7 +23,8 @@ abbrev pub FreesNothingHeld : Xinu → Xinu → Type 0
 FreesNothingHeld s u = (a : ℕ) → is_in_free a u.parts.heap ≡ true → is_in_free a s.parts.heap ≡ false → holders s a ≡ 0
 
 -- Cells are taken.
-pub apart_taken : (s : Xinu) (u : Heap) (start k : ℕ) → AreMarked false start k s.parts.heap u → IsApart s → IsApart (record s { parts = record s.parts { heap = u } })
+pub apart_taken : (s : Xinu) (u : Heap) (start k : ℕ) → AreMarked false start k s.parts.heap u → IsApart s
+    → IsApart (record s { parts = record s.parts { heap = u } })
 apart_taken s u start k m apart = record {
   low = low_stays s.parts.heap u m.low apart.low;
   stacks = λ p. stack_stays s.parts.heap u (process_at s.tables p) m.low (as_many_cells m) (apart.stacks p);
@@ -34,7 +35,8 @@ apart_taken s u start k m apart = record {
 }
 
 -- Cells are freed that nobody holds.
-pub apart_given : (s : Xinu) (u : Heap) (start k : ℕ) → AreMarked true start k s.parts.heap u → IsApart s → FreesNothingHeld s (record s { parts = record s.parts { heap = u } }) → IsApart (record s { parts = record s.parts { heap = u } })
+pub apart_given : (s : Xinu) (u : Heap) (start k : ℕ) → AreMarked true start k s.parts.heap u → IsApart s
+    → FreesNothingHeld s (record s { parts = record s.parts { heap = u } }) → IsApart (record s { parts = record s.parts { heap = u } })
 apart_given s u start k m apart none = record {
   low = low_stays s.parts.heap u m.low apart.low;
   stacks = λ p. stack_stays s.parts.heap u (process_at s.tables p) m.low (as_many_cells m) (apart.stacks p);
@@ -52,7 +54,8 @@ apart_given s u start k m apart none = record {
 }
 
 -- call 10
-apart_granted : (n : ℕ) (found : Option Grant) (s : Xinu) → heap.take_memory n s.parts.heap ≡ found → IsApart s → IsApart (granted found s).call.state
+apart_granted : (n : ℕ) (found : Option Grant) (s : Xinu) → heap.take_memory n s.parts.heap ≡ found → IsApart s
+    → IsApart (granted found s).call.state
 apart_granted n None s e apart = apart
 apart_granted n (Some grant) s e apart =
     let g = getmem_grants n s.parts.heap grant e in apart_taken s grant.heap g.start (cells_for n) g.taken apart
@@ -61,7 +64,8 @@ pub apart_getmem : (n : ℕ) (s : Xinu) → IsApart s → IsApart (getmem n s).c
 apart_getmem n s apart = apart_granted n (heap.take_memory n s.parts.heap) s refl apart
 
 -- call 12
-apart_stacked : (n : ℕ) (found : Option Stack) (s : Xinu) → heap.take_stack n s.parts.heap ≡ found → IsApart s → IsApart (stacked found s).call.state
+apart_stacked : (n : ℕ) (found : Option Stack) (s : Xinu) → heap.take_stack n s.parts.heap ≡ found → IsApart s
+    → IsApart (stacked found s).call.state
 apart_stacked n None s e apart = apart
 apart_stacked n (Some stack) s e apart =
     let g = getstk_finds n s.parts.heap stack e in apart_taken s stack.heap g.start (cells_for n) g.taken apart
@@ -70,7 +74,8 @@ pub apart_getstk : (n : ℕ) (s : Xinu) → IsApart s → IsApart (getstk n s).c
 apart_getstk n s apart = apart_stacked n (heap.take_stack n s.parts.heap) s refl apart
 
 -- call 11
-apart_freed_memory : (a n : ℕ) (found : Option Heap) (s : Xinu) → heap.free_memory a n s.parts.heap ≡ found → IsApart s → FreesNothingHeld s (given_back found s).call.state → IsApart (given_back found s).call.state
+apart_freed_memory : (a n : ℕ) (found : Option Heap) (s : Xinu) → heap.free_memory a n s.parts.heap ≡ found → IsApart s
+    → FreesNothingHeld s (given_back found s).call.state → IsApart (given_back found s).call.state
 apart_freed_memory a n None s e apart none = apart
 apart_freed_memory a n (Some u) s e apart none =
     let f = freemem_frees a n s.parts.heap u apart.low e in apart_given s u f.start (cells_for n) f.freed apart none
@@ -79,7 +84,8 @@ pub apart_freemem : (a n : ℕ) (s : Xinu) → IsApart s → FreesNothingHeld s 
 apart_freemem a n s apart none = apart_freed_memory a n (heap.free_memory a n s.parts.heap) s refl apart none
 
 -- call 13
-apart_freed_stack : (a n : ℕ) (found : Option Heap) (s : Xinu) → heap.free_stack a n s.parts.heap ≡ found → IsApart s → FreesNothingHeld s (given_back found s).call.state → IsApart (given_back found s).call.state
+apart_freed_stack : (a n : ℕ) (found : Option Heap) (s : Xinu) → heap.free_stack a n s.parts.heap ≡ found → IsApart s
+    → FreesNothingHeld s (given_back found s).call.state → IsApart (given_back found s).call.state
 apart_freed_stack a n None s e apart none = apart
 apart_freed_stack a n (Some u) s e apart none =
     let f = freestk_frees a n s.parts.heap u apart.low e in apart_given s u f.start (cells_for n) f.freed apart none
@@ -88,7 +94,8 @@ pub apart_freestk : (a n : ℕ) (s : Xinu) → IsApart s → FreesNothingHeld s 
 apart_freestk a n s apart none = apart_freed_stack a n (heap.free_stack a n s.parts.heap) s refl apart none
 
 -- A pool is made of memory that is granted for it.
-apart_with_pool : (grant : Grant) (sem size n : ℕ) (s : Xinu) → heap.take_memory (pool_bytes size n) s.parts.heap ≡ Some grant → IsApart s → IsApart (with_pool grant sem size n s).call.state
+apart_with_pool : (grant : Grant) (sem size n : ℕ) (s : Xinu) → heap.take_memory (pool_bytes size n) s.parts.heap ≡ Some grant → IsApart s
+    → IsApart (with_pool grant sem size n s).call.state
 apart_with_pool grant sem size n s e apart =
     let g = getmem_grants (pool_bytes size n) s.parts.heap grant e in
     let pool = new_pool grant.address size n sem in
@@ -106,7 +113,8 @@ apart_with_pool grant sem size n s e apart =
     }
 
 -- a pool is made if memory and a semaphore are found
-apart_made_pool : (found : Option Grant) (sem : Option ℕ) (size n : ℕ) (s : Xinu) → heap.take_memory (pool_bytes size n) s.parts.heap ≡ found → IsApart s → IsApart (made_pool found sem size n s).call.state
+apart_made_pool : (found : Option Grant) (sem : Option ℕ) (size n : ℕ) (s : Xinu)
+    → heap.take_memory (pool_bytes size n) s.parts.heap ≡ found → IsApart s → IsApart (made_pool found sem size n s).call.state
 apart_made_pool (Some grant) (Some sem) size n s e apart =
     cond_both (meets_pool grant.address (pool_bytes size n) s.parts.pools) (refused s) (with_pool grant sem size n s) (λ (h : CallResult). IsApart h.call.state)
     (λ _. apart) (λ _. apart_with_pool grant sem size n s e apart)

@@ -19,7 +19,8 @@ times_at test (x ∷ l) (suc i) d e =
     omega arith
 
 -- and so are two
-pub times_two : {A : Type 0} (test : A → Bool) (l : List A) (i j : ℕ) (d : A) → test d ≡ false → i ≢ j → one (test (get_or l i d)) + one (test (get_or l j d)) ≤ times test l
+pub times_two : {A : Type 0} (test : A → Bool) (l : List A) (i j : ℕ) (d : A) → test d ≡ false → i ≢ j
+    → one (test (get_or l i d)) + one (test (get_or l j d)) ≤ times test l
 times_two test [] i j d e n = let none = ap one e in omega arith
 times_two test (x ∷ l) zero zero d e n = absurd (n refl)
 times_two test (x ∷ l) zero (suc j) d e n =
@@ -44,21 +45,24 @@ other_fails : (b c : Bool) → one b + one c ≤ 1 → b ≡ true → c ≡ fals
 other_fails b c few e = false_from_ne_true c (λ f. let x = ap one e in let y = ap one f in omega arith)
 
 -- The stacks of two processes share no address.
-pub stacks_share_nothing : (s : Xinu) → IsApart s → (p q a : ℕ) → p ≢ q → is_in_stack a (process_at s.tables p) ≡ true → is_in_stack a (process_at s.tables q) ≡ false
+pub stacks_share_nothing : (s : Xinu) → IsApart s → (p q a : ℕ) → p ≢ q → is_in_stack a (process_at s.tables p) ≡ true
+    → is_in_stack a (process_at s.tables q) ≡ false
 stacks_share_nothing s apart p q a n e =
     let both = times_two (is_in_stack a) s.tables.processes p q no_process (empty_stack a no_process refl) n in
     let few = apart.claims a in
     other_fails (is_in_stack a (process_at s.tables p)) (is_in_stack a (process_at s.tables q)) (omega arith) e
 
 -- Two pools share no address.
-pub pools_share_nothing : (s : Xinu) → IsApart s → (i j a : ℕ) → i ≢ j → is_in_pool a (pool_at s.parts.pools i) ≡ true → is_in_pool a (pool_at s.parts.pools j) ≡ false
+pub pools_share_nothing : (s : Xinu) → IsApart s → (i j a : ℕ) → i ≢ j → is_in_pool a (pool_at s.parts.pools i) ≡ true
+    → is_in_pool a (pool_at s.parts.pools j) ≡ false
 pools_share_nothing s apart i j a n e =
     let both = times_two (is_in_pool a) s.parts.pools i j no_pool (no_pool_has a) n in
     let few = apart.claims a in
     other_fails (is_in_pool a (pool_at s.parts.pools i)) (is_in_pool a (pool_at s.parts.pools j)) (omega arith) e
 
 -- A stack and a pool share no address.
-pub stack_and_pool_share_nothing : (s : Xinu) → IsApart s → (p i a : ℕ) → is_in_stack a (process_at s.tables p) ≡ true → is_in_pool a (pool_at s.parts.pools i) ≡ false
+pub stack_and_pool_share_nothing : (s : Xinu) → IsApart s → (p i a : ℕ) → is_in_stack a (process_at s.tables p) ≡ true
+    → is_in_pool a (pool_at s.parts.pools i) ≡ false
 stack_and_pool_share_nothing s apart p i a e =
     let stack = times_at (is_in_stack a) s.tables.processes p no_process (empty_stack a no_process refl) in
     let pool = times_at (is_in_pool a) s.parts.pools i no_pool (no_pool_has a) in

@@ -24,7 +24,8 @@ use Rattle.xinu_laws.proofs.HeapCells.Marked.{as_many_cells}
 use Rattle.xinu_laws.proofs.HeapCells.Taken.{getstk_finds, freestk_frees}
 
 -- what holds of what is written, and of each element, holds of each element after the write
-each_set : {A : Type 0} (P : A → Type 0) (l : List A) (i : ℕ) (x d : A) → P x → ((j : ℕ) → P (get_or l j d)) → (j : ℕ) → P (get_or (set l i x) j d)
+each_set : {A : Type 0} (P : A → Type 0) (l : List A) (i : ℕ) (x d : A) → P x → ((j : ℕ) → P (get_or l j d)) → (j : ℕ)
+    → P (get_or (set l i x) j d)
 each_set P [] i x d new old j = old j
 each_set P (y ∷ l) zero x d new old zero = new
 each_set P (y ∷ l) zero x d new old (suc j) = old (suc j)
@@ -36,7 +37,8 @@ whole_stack : (wanted : ℕ) → stack_size wanted ≡ 8 * cells_for (stack_size
 whole_stack wanted = omega arith
 
 -- the stack of a new process is whole cells of the heap
-new_stack : (h : Heap) (stack : Stack) (wanted : ℕ) (x : Process) → take_stack (stack_size wanted) h ≡ Some stack → stack_of x ≡ (stack.top, stack_size wanted) → HasStackIn stack.heap x
+new_stack : (h : Heap) (stack : Stack) (wanted : ℕ) (x : Process) → take_stack (stack_size wanted) h ≡ Some stack
+    → stack_of x ≡ (stack.top, stack_size wanted) → HasStackIn stack.heap x
 new_stack h stack wanted x e same =
     let g = getstk_finds (stack_size wanted) h stack e in
     let k = cells_for (stack_size wanted) in
@@ -50,7 +52,9 @@ new_stack h stack wanted x e same =
     inr (g.start, k, omega arith, omega arith, omega arith)
 
 -- A process is made on a stack of the heap.
-pub apart_made : (p : ℕ) (x : Process) (hart : Hart) (stack : Stack) (wanted : ℕ) (s : Xinu) → take_stack (stack_size wanted) s.parts.heap ≡ Some stack → stack_of x ≡ (stack.top, stack_size wanted) → IsApart s → IsApart (make_process p x hart stack s)
+pub apart_made : (p : ℕ) (x : Process) (hart : Hart) (stack : Stack) (wanted : ℕ) (s : Xinu)
+    → take_stack (stack_size wanted) s.parts.heap ≡ Some stack → stack_of x ≡ (stack.top, stack_size wanted) → IsApart s
+    → IsApart (make_process p x hart stack s)
 apart_made p x hart stack wanted s e same apart =
     let g = getstk_finds (stack_size wanted) s.parts.heap stack e in
     let l = s.tables.processes in
@@ -74,13 +78,16 @@ apart_made p x hart stack wanted s e same apart =
     }
 
 -- call 2
-apart_created : (number : Option ℕ) (found : Option Stack) (entry wanted : ℕ) (priority : ℤ) (name : List ℕ) (x y : ℕ) (s : Xinu) → take_stack (stack_size wanted) s.parts.heap ≡ found → IsApart s → IsApart (created number found entry (stack_size wanted) priority name x y s).call.state
+apart_created : (number : Option ℕ) (found : Option Stack) (entry wanted : ℕ) (priority : ℤ) (name : List ℕ) (x y : ℕ) (s : Xinu)
+    → take_stack (stack_size wanted) s.parts.heap ≡ found → IsApart s
+    → IsApart (created number found entry (stack_size wanted) priority name x y s).call.state
 apart_created (Some p) (Some stack) entry wanted priority name x y s e apart =
     apart_made p (new_process name priority s.tables.current stack.top (stack_size wanted)) (new_hart entry stack.top x y) stack wanted s e refl apart
 apart_created (Some p) None entry wanted priority name x y s e apart = apart
 apart_created None found entry wanted priority name x y s e apart = apart
 
-pub apart_create : (entry size : ℕ) (priority : ℤ) (name x y : ℕ) (s : Xinu) → IsApart s → IsApart (create entry size priority name x y s).call.state
+pub apart_create : (entry size : ℕ) (priority : ℤ) (name x y : ℕ) (s : Xinu) → IsApart s
+    → IsApart (create entry size priority name x y s).call.state
 apart_create entry size priority name x y s apart =
     let bytes = process_name (take 16 (drop name s.memory)) in
     cond_both (int_lt priority (pos 1) || not (in_ram name 16)) (refused s)
@@ -91,7 +98,8 @@ apart_create entry size priority name x y s apart =
 
 -- the machine without process p and what it asked of disks, with a heap
 abbrev without : ℕ → Heap → Xinu → Xinu
-without p u s = record s { tables = move_to p no_process None Nowhere s.tables; harts = set s.harts p no_hart; parts = record s.parts { heap = u; devices = given_up p s.parts.devices } }
+without p u s =
+    record s { tables = move_to p no_process None Nowhere s.tables; harts = set s.harts p no_hart; parts = record s.parts { heap = u; devices = given_up p s.parts.devices } }
 
 -- a dead process leaves its stack as it is, if the heap refuses it
 apart_left : (p : ℕ) (s : Xinu) → IsApart s → IsApart (without p s.parts.heap s)
@@ -116,7 +124,9 @@ stack_fills h x has =
     has
 
 -- and leaves it free, if the heap takes it
-apart_without : (p : ℕ) (u : Heap) (s : Xinu) → free_stack (process_at s.tables p).stack (process_at s.tables p).stack_size s.parts.heap ≡ Some u → IsApart s → IsApart (without p u s)
+apart_without : (p : ℕ) (u : Heap) (s : Xinu)
+    → free_stack (process_at s.tables p).stack (process_at s.tables p).stack_size s.parts.heap ≡ Some u → IsApart s
+    → IsApart (without p u s)
 apart_without p u s e apart =
     let l = s.tables.processes in
     let x = process_at s.tables p in
@@ -137,12 +147,15 @@ apart_without p u s e apart =
     }
 
 -- a dead process, whether the heap takes its stack or not
-apart_either : (p : ℕ) (found : Option Heap) (s : Xinu) → free_stack (process_at s.tables p).stack (process_at s.tables p).stack_size s.parts.heap ≡ found → IsApart s → IsApart (without p (unwrap_or found s.parts.heap) s)
+apart_either : (p : ℕ) (found : Option Heap) (s : Xinu)
+    → free_stack (process_at s.tables p).stack (process_at s.tables p).stack_size s.parts.heap ≡ found → IsApart s
+    → IsApart (without p (unwrap_or found s.parts.heap) s)
 apart_either p None s e apart = apart_left p s apart
 apart_either p (Some u) s e apart = apart_without p u s e apart
 
 -- A process is reaped.
-pub apart_reap : (p : ℕ) (x : Process) (d : CallState) → stack_of x ≡ stack_of (process_at d.state.tables p) → IsApart d.state → IsApart (reap p x d).state
+pub apart_reap : (p : ℕ) (x : Process) (d : CallState) → stack_of x ≡ stack_of (process_at d.state.tables p) → IsApart d.state
+    → IsApart (reap p x d).state
 apart_reap p x d same apart =
     let h = d.state.parts.heap in
     let e : free_stack (process_at d.state.tables p).stack (process_at d.state.tables p).stack_size h ≡ free_stack x.stack x.stack_size h = sym (ap (λ (y : ℕ × ℕ). free_stack y.0 y.1 h) same) in

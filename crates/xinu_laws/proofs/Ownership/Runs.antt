@@ -17,12 +17,14 @@ EventsKeepSound = (old : Xinu) (e : Event) (lines : List TranscriptLine) (new : 
 
 -- what follows an event, if the run ends with it and if it goes on
 apart_follows : (ends : Option End) (Rest : List TranscriptLine → Type 0) (first lines : List TranscriptLine) (mid new : Xinu) (end : End)
-    → IsApart mid → ((rest : List TranscriptLine) → ends ≡ None → Rest rest → IsApart new) → Follows ends Rest first lines mid new end → IsApart new
+    → IsApart mid → ((rest : List TranscriptLine) → ends ≡ None → Rest rest → IsApart new) → Follows ends Rest first lines mid new end
+    → IsApart new
 apart_follows (Some with_event) Rest first lines mid new end apart more f = subst IsApart (sym f.1) apart
 apart_follows None Rest first lines mid new end apart more f = more f.0 refl f.1
 
 -- A run keeps each address claimed at most once, if nothing that is held is given away.
-pub apart_run : EventsKeepSound → (events : List Event) (old : Xinu) (lines : List TranscriptLine) (new : Xinu) (end : End) → IsSound old → IsApart old → GivesNothingAway old events → RunsTo old events lines new end → IsApart new
+pub apart_run : EventsKeepSound → (events : List Event) (old : Xinu) (lines : List TranscriptLine) (new : Xinu) (end : End) → IsSound old
+    → IsApart old → GivesNothingAway old events → RunsTo old events lines new end → IsApart new
 apart_run keeps [] old lines new end sound apart nothing r = subst IsApart (sym r.1) apart
 apart_run keeps (e ∷ events) old lines new end sound apart nothing r =
     let mid = r.0 in

@@ -28,9 +28,11 @@ abbrev pub HavePools : Xinu → Type 0
 HavePools s = ArePools s.tables s.parts.pools
 
 -- Since the tables t, if what holds of the pools held, one promised buffer of pool i was taken; one of these free ones is given out.
-pools_taken : (t : Tables) (s : Xinu) (i : ℕ) (free : List ℕ) → ArePools t s.parts.pools → i < length s.parts.pools → (pool_at s.parts.pools i).free ≡ free
-    → ((j : ℕ) → j ≢ i → Frame (is_pool j) (asks_pool j) t s.tables) → ((r : ℕ) → (semaphore_at s.tables r).owner ≡ (semaphore_at t r).owner)
-    → suc (promised i (pool_at s.parts.pools i).semaphore s.tables) ≤ promised i (pool_at s.parts.pools i).semaphore t → HavePools (take_first free i s).call.state
+pools_taken : (t : Tables) (s : Xinu) (i : ℕ) (free : List ℕ) → ArePools t s.parts.pools → i < length s.parts.pools
+    → (pool_at s.parts.pools i).free ≡ free → ((j : ℕ) → j ≢ i → Frame (is_pool j) (asks_pool j) t s.tables)
+    → ((r : ℕ) → (semaphore_at s.tables r).owner ≡ (semaphore_at t r).owner)
+    → suc (promised i (pool_at s.parts.pools i).semaphore s.tables) ≤ promised i (pool_at s.parts.pools i).semaphore t
+    → HavePools (take_first free i s).call.state
 pools_taken t s i [] k here e others owners h = let f = (k.each i here).enough in let g : length (pool_at s.parts.pools i).free ≡ 0 = ap length e in absurd (omega arith)
 pools_taken t s i (a ∷ free) k here e others owners h =
     let pool = pool_at s.parts.pools i in
@@ -38,7 +40,8 @@ pools_taken t s i (a ∷ free) k here e others owners h =
     (pool_taken t s.tables i pool a free (k.each i here) e (owners pool.semaphore) h) others owners k
 
 -- a buffer of pool i is awaited, by these tokens
-pools_awaited : (tokens i : ℕ) (s : Xinu) → tokens ≡ (semaphore_at s.tables (pool_at s.parts.pools i).semaphore).tokens → IsSoundTables s.tables → HavePools s → i < length s.parts.pools
+pools_awaited : (tokens i : ℕ) (s : Xinu) → tokens ≡ (semaphore_at s.tables (pool_at s.parts.pools i).semaphore).tokens
+    → IsSoundTables s.tables → HavePools s → i < length s.parts.pools
     → HavePools (take_token tokens (pool_at s.parts.pools i).semaphore (GetBuf i) (take_buffer i) s).call.state
 pools_awaited zero i s e o k here =
     let t = s.tables in
@@ -67,7 +70,8 @@ pools_getbuf i s o k =
     (λ b. pools_awaited (semaphore_at s.tables semaphore).tokens i s refl o k (ltb-true i (length s.parts.pools) b)) (λ _. k)
 
 -- The call goes on.
-pub pools_go_on_getbuf : (i : ℕ) (s : Xinu) → IsSoundTables s.tables → HavePools s → (process_at s.tables s.tables.current).rest ≡ GetBuf i → HavePools (go_on_getbuf i s).call.state
+pub pools_go_on_getbuf : (i : ℕ) (s : Xinu) → IsSoundTables s.tables → HavePools s → (process_at s.tables s.tables.current).rest ≡ GetBuf i
+    → HavePools (go_on_getbuf i s).call.state
 pools_go_on_getbuf i s o k e =
     let t = s.tables in
     let x = record (process_at t t.current) { rest = Nothing } in
@@ -77,7 +81,8 @@ pools_go_on_getbuf i s o k e =
     (promised_goes_on i pool.semaphore (held s) s (let c = current_within t o in let n = o.inside.processes in omega arith) o.runs e)
 
 -- A held buffer is put back.
-pub pools_put_back : (a i : ℕ) (d : CallState) → IsInside d.state.tables → HavePools d.state → IsHolder a i d.state.parts.pools → HavePools (put_back a i d).state
+pub pools_put_back : (a i : ℕ) (d : CallState) → IsInside d.state.tables → HavePools d.state → IsHolder a i d.state.parts.pools
+    → HavePools (put_back a i d).state
 pools_put_back a i d o k h =
     let t = d.state.tables in
     let pools = d.state.parts.pools in
@@ -95,7 +100,8 @@ pub pools_freed_buffer : (a : ℕ) (d : CallState) → IsInside d.state.tables �
 pools_freed_buffer a d o k = by_holder (λ e. HavePools e.state) a d k (λ i h. pools_put_back a i d o k h)
 
 -- a process gives it back to the pool that has it
-pools_freed_by : (found : Option ℕ) (a : ℕ) (s : Xinu) → holder a s.parts.pools ≡ found → IsInside s.tables → HavePools s → HavePools (freed_by found a s).call.state
+pools_freed_by : (found : Option ℕ) (a : ℕ) (s : Xinu) → holder a s.parts.pools ≡ found → IsInside s.tables → HavePools s
+    → HavePools (freed_by found a s).call.state
 pools_freed_by None a s e o k = k
 pools_freed_by (Some i) a s e o k = pools_put_back a i (start s) o k (holder_finds a i s.parts.pools e)
 

@@ -21,7 +21,8 @@ abbrev pub promised : ℕ → ℕ → Tables → ℕ
 promised i s t = (semaphore_at t s).tokens + times (is_released_to_pool i) t.processes
 
 -- If not more buffers are promised nothing changes for a pool.
-pub pool_kept : (t u : Tables) (i : ℕ) (pool : BufferPool) → IsSoundPool t i pool → (semaphore_at u pool.semaphore).owner ≡ (semaphore_at t pool.semaphore).owner
+pub pool_kept : (t u : Tables) (i : ℕ) (pool : BufferPool) → IsSoundPool t i pool
+    → (semaphore_at u pool.semaphore).owner ≡ (semaphore_at t pool.semaphore).owner
     → promised i pool.semaphore u ≤ promised i pool.semaphore t → IsSoundPool u i pool
 pool_kept t u i pool k e h = record { owner = e ∙ k.owner; buffers = k.buffers; distinct = k.distinct; number = k.number; enough = (let f = k.enough in omega arith) }
 
@@ -30,7 +31,8 @@ count_in_front : (x a : ℕ) (l : List ℕ) → count_in x l ≤ count_in x (a �
 count_in_front x a l = cond_both (a == x) (suc (count_in x l)) (count_in x l) (λ n. count_in x l ≤ n) (λ _. omega arith) (λ _. omega arith)
 
 -- A buffer is taken, and one less is promised.
-pub pool_taken : (t u : Tables) (i : ℕ) (pool : BufferPool) (a : ℕ) (free : List ℕ) → IsSoundPool t i pool → pool.free ≡ a ∷ free → (semaphore_at u pool.semaphore).owner ≡ (semaphore_at t pool.semaphore).owner
+pub pool_taken : (t u : Tables) (i : ℕ) (pool : BufferPool) (a : ℕ) (free : List ℕ) → IsSoundPool t i pool → pool.free ≡ a ∷ free
+    → (semaphore_at u pool.semaphore).owner ≡ (semaphore_at t pool.semaphore).owner
     → suc (promised i pool.semaphore u) ≤ promised i pool.semaphore t → IsSoundPool u i (record pool { free = free })
 pool_taken t u i pool a free k e o h =
     let all : AllByRecursion (λ x. is_in x (buffers pool) ≡ true) (a ∷ free) = subst (AllByRecursion (λ x. is_in x (buffers pool) ≡ true)) e k.buffers in
@@ -49,7 +51,8 @@ distinct_with x a l none h = cond_both (a == x) (suc (count_in x l)) (count_in x
     (λ b. let e : count_in x l ≡ 0 = subst (λ k. count_in k l ≡ 0) (eqb-true a x b) none in omega arith) (λ _. h)
 
 -- A held buffer is put back, and one more is promised at most.
-pub pool_put_back : (t u : Tables) (i : ℕ) (pool : BufferPool) (a : ℕ) → IsSoundPool t i pool → is_held a pool ≡ true → (semaphore_at u pool.semaphore).owner ≡ (semaphore_at t pool.semaphore).owner
+pub pool_put_back : (t u : Tables) (i : ℕ) (pool : BufferPool) (a : ℕ) → IsSoundPool t i pool → is_held a pool ≡ true
+    → (semaphore_at u pool.semaphore).owner ≡ (semaphore_at t pool.semaphore).owner
     → promised i pool.semaphore u ≤ suc (promised i pool.semaphore t) → IsSoundPool u i (with_free a pool)
 pool_put_back t u i pool a k held o h =
     let parts = and_parts (is_in a (buffers pool)) (not (is_in a pool.free)) held in
@@ -79,8 +82,8 @@ apart_set pools i pool p j k =
     cc (base j, base k, size j, size k, number j, number k)
 
 -- Pool i becomes another that keeps its place: what holds of it is to be shown, and the other pools are left alone.
-pub are_pools_set : (t u : Tables) (pools : List BufferPool) (i : ℕ) (pool : BufferPool) → i < length pools → KeepsPlace (pool_at pools i) pool → IsSoundPool u i pool
-    → ((j : ℕ) → j ≢ i → Frame (is_pool j) (asks_pool j) t u)
+pub are_pools_set : (t u : Tables) (pools : List BufferPool) (i : ℕ) (pool : BufferPool) → i < length pools
+    → KeepsPlace (pool_at pools i) pool → IsSoundPool u i pool → ((j : ℕ) → j ≢ i → Frame (is_pool j) (asks_pool j) t u)
     → ((s : ℕ) → (semaphore_at u s).owner ≡ (semaphore_at t s).owner) → ArePools t pools → ArePools u (set pools i pool)
 are_pools_set t u pools i pool here p sound others owners k =
     let len = length-set pools i pool in
@@ -98,8 +101,9 @@ are_pools_set t u pools i pool here p sound others owners k =
     }
 
 -- The same if pool i stays as it is.
-pub are_pools_kept : (t u : Tables) (pools : List BufferPool) (i : ℕ) → i < length pools → IsSoundPool u i (pool_at pools i) → ((j : ℕ) → j ≢ i → Frame (is_pool j) (asks_pool j) t u)
-    → ((sem : ℕ) → (semaphore_at u sem).owner ≡ (semaphore_at t sem).owner) → ArePools t pools → ArePools u pools
+pub are_pools_kept : (t u : Tables) (pools : List BufferPool) (i : ℕ) → i < length pools → IsSoundPool u i (pool_at pools i)
+    → ((j : ℕ) → j ≢ i → Frame (is_pool j) (asks_pool j) t u) → ((sem : ℕ) → (semaphore_at u sem).owner ≡ (semaphore_at t sem).owner)
+    → ArePools t pools → ArePools u pools
 are_pools_kept t u pools i here sound others owners k =
     subst (ArePools u) (set-get_or pools i no_pool)
     (are_pools_set t u pools i (pool_at pools i) here (record { base = refl; size = refl; number = refl; semaphore = refl }) sound others owners k)

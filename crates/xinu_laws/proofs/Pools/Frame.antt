@@ -54,9 +54,9 @@ released_framed mine asks t u i c here = times-le (is_released_to_pool i) u.proc
     and_from (not (is_waiting (state_at t p))) (asks_pool i (process_at t p).rest) (ap not (sym same.1) ∙ parts.0) (ap (asks_pool i) (sym same.0) ∙ parts.1))
 
 -- What leaves pool i alone keeps what holds of it.
-pub sound_pool_framed : (mine : ℕ → Option Owner → Bool) (asks : Rest → Bool) (t u : Tables) (i : ℕ) (pool : BufferPool) → Frame mine asks t u
-    → ((sem : ℕ) → mine sem (Some (owner.Pool i)) ≡ true) → asks (GetBuf i) ≡ true
-    → IsSoundPool t i pool → IsSoundPool u i pool
+pub sound_pool_framed : (mine : ℕ → Option Owner → Bool) (asks : Rest → Bool) (t u : Tables) (i : ℕ) (pool : BufferPool)
+    → Frame mine asks t u → ((sem : ℕ) → mine sem (Some (owner.Pool i)) ≡ true) → asks (GetBuf i) ≡ true → IsSoundPool t i pool
+    → IsSoundPool u i pool
 sound_pool_framed mine asks t u i pool c m a k =
     let kept = c.kept pool.semaphore (ap (mine pool.semaphore) k.owner ∙ m pool.semaphore) in
     record {

@@ -13,7 +13,9 @@ pub record IsHolder (a i : ℕ) (pools : List BufferPool) : Type 0 where
 -- what a search among pools that are numbered from i on finds
 holder_from_finds : (a i k : ℕ) (pools : List BufferPool) → holder_from a i pools ≡ Some k → (m : ℕ) × (k ≡ i + m) × IsHolder a m pools
 holder_from_finds a i k [] e = cc
-holder_from_finds a i k (pool ∷ pools) e = cond_both (is_held a pool) (Some i) (holder_from a (i + 1) pools) (λ o. o ≡ Some k → (m : ℕ) × (k ≡ i + m) × IsHolder a m (pool ∷ pools))
+holder_from_finds a i k (pool ∷ pools) e =
+    cond_both (is_held a pool) (Some i) (holder_from a (i + 1) pools)
+    (λ o. o ≡ Some k → (m : ℕ) × (k ≡ i + m) × IsHolder a m (pool ∷ pools))
     (λ b f. let g : i ≡ k = cc in (0, omega arith, record { within = omega arith; held = b }))
     (λ _ f. let r = holder_from_finds a (i + 1) k pools f in (suc r.0, (let g = r.1 in omega arith), record { within = (let g = r.2.within in omega arith); held = r.2.held })) e
 

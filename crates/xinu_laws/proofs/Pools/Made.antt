@@ -30,7 +30,8 @@ times-none test [] d h = refl
 times-none test (x ∷ l) d h = rw (h 0) (times-none test l d (λ p. h (suc p)))
 
 -- nobody is released to a pool that isn't made
-none_released : (t : Tables) (pools : List BufferPool) (i : ℕ) → ArePools t pools → length pools ≤ i → times (is_released_to_pool i) t.processes ≡ 0
+none_released : (t : Tables) (pools : List BufferPool) (i : ℕ) → ArePools t pools → length pools ≤ i
+    → times (is_released_to_pool i) t.processes ≡ 0
 none_released t pools i k h = times-none (is_released_to_pool i) t.processes no_process
     (λ p. false_from_ne_true (is_released_to_pool i (process_at t p))
     (λ b. let x = process_at t p in
@@ -85,8 +86,9 @@ new_pool_sound t pools sem base size n k h =
     }
 
 -- A pool is made, whose semaphore was free and whose memory meets no other pool.
-pub are_pools_made : (t : Tables) (pools : List BufferPool) (sem base size n : ℕ) → ArePools t pools → length pools < most_pools → sem < length t.semaphores → (semaphore_at t sem).owner ≡ None
-    → meets_pool base (pool_bytes size n) pools ≡ false → ArePools (make_semaphore sem (owner.Pool (length pools)) n t) (pools ++ new_pool base size n sem ∷ [])
+pub are_pools_made : (t : Tables) (pools : List BufferPool) (sem base size n : ℕ) → ArePools t pools → length pools < most_pools
+    → sem < length t.semaphores → (semaphore_at t sem).owner ≡ None → meets_pool base (pool_bytes size n) pools ≡ false
+    → ArePools (make_semaphore sem (owner.Pool (length pools)) n t) (pools ++ new_pool base size n sem ∷ [])
 are_pools_made t pools sem base size n k few h free apart =
     let i = length pools in
     let pool = new_pool base size n sem in
@@ -113,8 +115,8 @@ are_pools_made t pools sem base size n k few h free apart =
     }
 
 -- a pool is made, if memory and a semaphore are found
-pools_made_pool : (found : Option Grant) (sem : Option ℕ) (size n : ℕ) (s : Xinu) → free_semaphore s.tables ≡ sem → IsInside s.tables → HavePools s → length s.parts.pools < most_pools
-    → HavePools (made_pool found sem size n s).call.state
+pools_made_pool : (found : Option Grant) (sem : Option ℕ) (size n : ℕ) (s : Xinu) → free_semaphore s.tables ≡ sem → IsInside s.tables
+    → HavePools s → length s.parts.pools < most_pools → HavePools (made_pool found sem size n s).call.state
 pools_made_pool (Some grant) (Some sem) size n s e o k few =
     cond_both (meets_pool grant.address (pool_bytes size n) s.parts.pools) (refused s) (with_pool grant sem size n s) (λ (h : CallResult). HavePools h.call.state) (λ _. k)
     (λ b. are_pools_made s.tables s.parts.pools sem grant.address size n k few (let h = search_within (λ r. not (is_some (semaphore_at s.tables r).owner)) 128 (s.tables.last_semaphore + 1) sem e in let f = o.semaphores in omega arith) (free_semaphore_free s.tables sem e) b)

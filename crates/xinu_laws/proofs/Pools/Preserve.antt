@@ -23,8 +23,11 @@ use Rattle.table_laws.proofs.Tables.Unblock.{sound_signalled}
 use Rattle.table_laws.proofs.Tables.Harts.{harts_same}
 
 -- a pool is made, if memory and a semaphore are found
-made_pool_preserves : (found : Option Grant) (sem : Option ℕ) (size n : ℕ) (s : Xinu) → free_semaphore s.tables ≡ sem → MayCall s → IsPreserved (made_pool found sem size n s)
-made_pool_preserves (Some grant) (Some sem) size n s e c = either_preserves (meets_pool grant.address (pool_bytes size n) s.parts.pools) (refused s) (with_pool grant sem size n s) (λ _. refused_preserves s c)
+made_pool_preserves : (found : Option Grant) (sem : Option ℕ) (size n : ℕ) (s : Xinu) → free_semaphore s.tables ≡ sem → MayCall s
+    → IsPreserved (made_pool found sem size n s)
+made_pool_preserves (Some grant) (Some sem) size n s e c =
+    either_preserves (meets_pool grant.address (pool_bytes size n) s.parts.pools) (refused s) (with_pool grant sem size n s)
+    (λ _. refused_preserves s c)
     (λ _. record { tables = sound_found_semaphore s.tables sem n (owner.Pool (length s.parts.pools)) c.tables e (λ f. cc); harts = c.harts; released = tt })
 made_pool_preserves (Some grant) None size n s e c = refused_preserves s c
 made_pool_preserves None sem size n s e c = refused_preserves s c
@@ -54,25 +57,31 @@ pub go_on_getbuf_preserves : (i : ℕ) → Preserves (go_on_getbuf i)
 go_on_getbuf_preserves i s c = take_first_preserves (pool_at s.parts.pools i).free i (goes_on (held s) s) (goes_on_may_call (held s) s c)
 
 -- the semaphore of a pool that has a held buffer is in the table
-holder_within : (a i : ℕ) (d : CallState) → IsInside d.state.tables → HavePools d.state → IsHolder a i d.state.parts.pools → (pool_at d.state.parts.pools i).semaphore < 128
+holder_within : (a i : ℕ) (d : CallState) → IsInside d.state.tables → HavePools d.state → IsHolder a i d.state.parts.pools
+    → (pool_at d.state.parts.pools i).semaphore < 128
 holder_within a i d o k h =
     let e = (k.each i h.within).owner in
     semaphore_within d.state.tables (pool_at d.state.parts.pools i).semaphore o.semaphores (λ f. cc)
 
 -- the buffer among the free ones of its pool, which is to be signalled
 abbrev with_buffer : ℕ → ℕ → CallState → CallState
-with_buffer a i d = record d { state = record d.state { parts = record d.state.parts { pools = set d.state.parts.pools i (with_free a (pool_at d.state.parts.pools i)) } } }
+with_buffer a i d =
+    record d { state = record d.state { parts = record d.state.parts { pools = set d.state.parts.pools i (with_free a (pool_at d.state.parts.pools i)) } } }
 
 -- The current process goes on after that.
-pub sound_put_back : (a i : ℕ) (d : CallState) → IsSoundTables d.state.tables → HavePools d.state → IsHolder a i d.state.parts.pools → IsSoundTables (put_back a i d).state.tables
-sound_put_back a i d o k h = sound_signalled (pool_at d.state.parts.pools i).semaphore (with_buffer a i d) o (holder_within a i d o.inside k h) (λ f. let e = (k.each i h.within).owner in cc)
+pub sound_put_back : (a i : ℕ) (d : CallState) → IsSoundTables d.state.tables → HavePools d.state → IsHolder a i d.state.parts.pools
+    → IsSoundTables (put_back a i d).state.tables
+sound_put_back a i d o k h =
+    sound_signalled (pool_at d.state.parts.pools i).semaphore (with_buffer a i d) o (holder_within a i d o.inside k h)
+    (λ f. let e = (k.each i h.within).owner in cc)
 
 -- No registers change.
 pub harts_put_back : (a i : ℕ) (d : CallState) → (put_back a i d).state.harts ≡ d.state.harts
 harts_put_back a i d = harts_signalled (pool_at d.state.parts.pools i).semaphore (with_buffer a i d)
 
 -- The current process goes on after that.
-pub sound_freed_buffer : (a : ℕ) (d : CallState) → IsSoundTables d.state.tables → HavePools d.state → IsSoundTables (freed_buffer a d).state.tables
+pub sound_freed_buffer : (a : ℕ) (d : CallState) → IsSoundTables d.state.tables → HavePools d.state
+    → IsSoundTables (freed_buffer a d).state.tables
 sound_freed_buffer a d o k = by_holder (λ e. IsSoundTables e.state.tables) a d o (λ i h. sound_put_back a i d o k h)
 
 -- No registers change.
@@ -89,7 +98,8 @@ pub alive_freed_buffer : (a : ℕ) (d : CallState) → IsInside d.state.tables �
 alive_freed_buffer a d o h = by_holder (λ e. AreAlive e.state.tables e.released) a d h (λ i g. alive_put_back a i d o h)
 
 -- the process gives it back to the pool that has it
-freed_by_preserves : (found : Option ℕ) (a : ℕ) (s : Xinu) → holder a s.parts.pools ≡ found → MayCall s → HavePools s → IsPreserved (freed_by found a s)
+freed_by_preserves : (found : Option ℕ) (a : ℕ) (s : Xinu) → holder a s.parts.pools ≡ found → MayCall s → HavePools s
+    → IsPreserved (freed_by found a s)
 freed_by_preserves None a s e c k = refused_preserves s c
 freed_by_preserves (Some i) a s e c k =
     record { tables = sound_put_back a i (start s) c.tables k (holder_finds a i s.parts.pools e); harts = harts_same s.harts _ (harts_put_back a i (start s)) c.harts; released = alive_put_back a i (start s) c.tables.inside tt }

@@ -22,10 +22,12 @@ use Rattle.xinu_laws.proofs.Ports.Moves.{left_for_ready}
 -- who becomes ready is in the call in which it was
 rests_ready : (ps : List ℕ) (t : Tables) (p : ℕ) → (process_at (ready_all ps t) p).rest ≡ (process_at t p).rest
 rests_ready [] t p = refl
-rests_ready (r ∷ ps) t p = rests_ready ps (ready r t) p ∙ same_written (λ (x : Process). x.rest) t.processes r p (in_state Ready (process_at t r)) no_process refl
+rests_ready (r ∷ ps) t p =
+    rests_ready ps (ready r t) p ∙ same_written (λ (x : Process). x.rest) t.processes r p (in_state Ready (process_at t r)) no_process refl
 
 -- if nobody waits nobody waits after some become ready
-waiters_stay_gone : (ps : List ℕ) (t : Tables) (sem : ℕ) → (semaphore_at t sem).waiters ≡ [] → (semaphore_at (ready_all ps t) sem).waiters ≡ []
+waiters_stay_gone : (ps : List ℕ) (t : Tables) (sem : ℕ) → (semaphore_at t sem).waiters ≡ []
+    → (semaphore_at (ready_all ps t) sem).waiters ≡ []
 waiters_stay_gone [] t sem e = e
 waiters_stay_gone (p ∷ ps) t sem e =
     waiters_stay_gone ps (ready p t) sem (ap (λ (x : Semaphore). x.waiters) (left_for_ready t p (in_state Ready (process_at t p)) (message_at t p) sem) ∙ ap (numbers_without p) e)
@@ -36,7 +38,8 @@ rests_emptied sem d =
     let l = (semaphore_at d.state.tables sem).waiters in
     record { rests = λ p h. subst (λ (s : Xinu). (process_at s.tables p).rest ≡ (process_at d.state.tables p).rest) (sym (unblock_all_ready l d)) (rests_ready l d.state.tables p) }
 
-still_no_waiters : (sem r : ℕ) (d : CallState) → (semaphore_at d.state.tables r).waiters ≡ [] → (semaphore_at (emptied sem d).state.tables r).waiters ≡ []
+still_no_waiters : (sem r : ℕ) (d : CallState) → (semaphore_at d.state.tables r).waiters ≡ []
+    → (semaphore_at (emptied sem d).state.tables r).waiters ≡ []
 still_no_waiters sem r d e =
     let l = (semaphore_at d.state.tables sem).waiters in
     subst (λ (s : Xinu). (semaphore_at s.tables r).waiters ≡ []) (sym (unblock_all_ready l d)) (waiters_stay_gone l d.state.tables r e)
@@ -54,7 +57,8 @@ pub record IsCleared (q : ℕ) (queue : PortQueue) (d e : CallState) : Type 0 wh
 
 -- Both semaphores are emptied.
 pub port_cleared : (q : ℕ) (queue : PortQueue) (d : CallState) → IsSoundTables d.state.tables
-    → (semaphore_at d.state.tables queue.send).owner ≡ Some (owner.Port q) → (semaphore_at d.state.tables queue.receive).owner ≡ Some (owner.Port q)
+    → (semaphore_at d.state.tables queue.send).owner ≡ Some (owner.Port q)
+    → (semaphore_at d.state.tables queue.receive).owner ≡ Some (owner.Port q)
     → IsCleared q queue d (emptied queue.receive (emptied queue.send d))
 port_cleared q queue d k send receive =
     let one = emptied queue.send d in

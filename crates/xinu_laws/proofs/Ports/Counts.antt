@@ -13,7 +13,8 @@ times_none test d (x ∷ xs) h = go (test x) (times test xs) (h 0) (times_none t
     go false n k e = e
 
 -- a port that is written exchanges its messages
-pub nodes-set : (ports : List MessagePort) (q : ℕ) (x : MessagePort) → q < length ports → nodes (set ports q x) + length (queued (port_at ports q).queue) ≡ nodes ports + length (queued x.queue)
+pub nodes-set : (ports : List MessagePort) (q : ℕ) (x : MessagePort) → q < length ports
+    → nodes (set ports q x) + length (queued (port_at ports q).queue) ≡ nodes ports + length (queued x.queue)
 nodes-set [] q x h = absurd (omega arith)
 nodes-set (p ∷ ports) zero x h = omega arith
 nodes-set (p ∷ ports) (suc q) x h = let e = nodes-set ports q x (omega arith) in omega arith

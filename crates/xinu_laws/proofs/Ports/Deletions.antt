@@ -69,7 +69,9 @@ freed_buffers_keep (a ∷ messages) d k =
 
 -- The messages of a port are dropped, or given back as buffers.
 pub disposed_keeps : (how : ℕ) (messages : List ℕ) (d : CallState) → IsSoundInside d → KeepsInside d (disposed how messages d)
-disposed_keeps how messages d k = cond_both (how == 1) (freed_buffers messages d) d (KeepsInside d) (λ _. freed_buffers_keep messages d k) (λ _. record { sound = k; ports = refl })
+disposed_keeps how messages d k =
+    cond_both (how == 1) (freed_buffers messages d) d (KeepsInside d) (λ _. freed_buffers_keep messages d k)
+    (λ _. record { sound = k; ports = refl })
 
 -- a refusal keeps all
 refused_keeps : (s : Xinu) → MayCall s → ArePools s.tables s.parts.pools → ArePorts s.tables s.parts.ports → PreservesAll (refused s)
@@ -88,7 +90,8 @@ start_inside : (s : Xinu) → MayCall s → ArePools s.tables s.parts.pools → 
 start_inside s c p a = record { tables = c.tables; harts = c.harts; released = tt; pools = p; ports = a }
 
 -- a port in use is deleted
-deleted_keeps : (found : Option PortQueue) (q how : ℕ) (s : Xinu) → MayCall s → ArePools s.tables s.parts.pools → ArePorts s.tables s.parts.ports → (port_at s.parts.ports q).queue ≡ found → PreservesAll (deleted_where found q how s)
+deleted_keeps : (found : Option PortQueue) (q how : ℕ) (s : Xinu) → MayCall s → ArePools s.tables s.parts.pools
+    → ArePorts s.tables s.parts.ports → (port_at s.parts.ports q).queue ≡ found → PreservesAll (deleted_where found q how s)
 deleted_keeps None q how s c p a here = refused_keeps s c p a
 deleted_keeps (Some queue) q how s c p a here =
     let d = disposed how queue.messages (start s) in
@@ -98,11 +101,13 @@ deleted_keeps (Some queue) q how s c p a here =
     (λ _. refused_keeps s c p a)
 
 -- Call 32.
-pub ptdelete_keeps : (q how : ℕ) (s : Xinu) → MayCall s → ArePools s.tables s.parts.pools → ArePorts s.tables s.parts.ports → PreservesAll (ptdelete q how s)
+pub ptdelete_keeps : (q how : ℕ) (s : Xinu) → MayCall s → ArePools s.tables s.parts.pools → ArePorts s.tables s.parts.ports
+    → PreservesAll (ptdelete q how s)
 ptdelete_keeps q how s c p a = deleted_keeps (port_at s.parts.ports q).queue q how s c p a refl
 
 -- a port in use is reset
-reset_keeps : (found : Option PortQueue) (q how : ℕ) (s : Xinu) → MayCall s → ArePools s.tables s.parts.pools → ArePorts s.tables s.parts.ports → (port_at s.parts.ports q).queue ≡ found → PreservesAll (reset_where found q how s)
+reset_keeps : (found : Option PortQueue) (q how : ℕ) (s : Xinu) → MayCall s → ArePools s.tables s.parts.pools
+    → ArePorts s.tables s.parts.ports → (port_at s.parts.ports q).queue ≡ found → PreservesAll (reset_where found q how s)
 reset_keeps None q how s c p a here = refused_keeps s c p a
 reset_keeps (Some queue) q how s c p a here =
     let d = disposed how queue.messages (start s) in
@@ -112,5 +117,6 @@ reset_keeps (Some queue) q how s c p a here =
     (λ _. refused_keeps s c p a)
 
 -- Call 33.
-pub ptreset_keeps : (q how : ℕ) (s : Xinu) → MayCall s → ArePools s.tables s.parts.pools → ArePorts s.tables s.parts.ports → PreservesAll (ptreset q how s)
+pub ptreset_keeps : (q how : ℕ) (s : Xinu) → MayCall s → ArePools s.tables s.parts.pools → ArePorts s.tables s.parts.ports
+    → PreservesAll (ptreset q how s)
 ptreset_keeps q how s c p a = reset_keeps (port_at s.parts.ports q).queue q how s c p a refl

@@ -65,7 +65,8 @@ counts_kept q seq queue t u k i =
     record { messages = omega arith; room = omega arith }
 
 -- What holds of a port in use holds on if the port is kept and the counts fit.
-pub sound_port_kept : (q seq : ℕ) (queue : PortQueue) (t u : Tables) → KeepsPort q t u → HasCounts u q seq queue → IsSoundPort t q seq queue → IsSoundPort u q seq queue
+pub sound_port_kept : (q seq : ℕ) (queue : PortQueue) (t u : Tables) → KeepsPort q t u → HasCounts u q seq queue → IsSoundPort t q seq queue
+    → IsSoundPort u q seq queue
 sound_port_kept q seq queue t u k c i = record {
   send_owner = k.kept queue.send i.send_owner;
   receive_owner = k.kept queue.receive i.receive_owner;
@@ -108,7 +109,8 @@ asks_receive q seq (PtRecv ticket) h = refl
 asks_receive q seq _ h = h
 
 -- a test of what is left of a call, and of not waiting, passes on if both are as they were
-passes_on : (test : Rest → Bool) (x y : Process) → y.rest ≡ x.rest → is_waiting y.state ≡ is_waiting x.state → not (is_waiting y.state) && test y.rest ≡ true → not (is_waiting x.state) && test x.rest ≡ true
+passes_on : (test : Rest → Bool) (x y : Process) → y.rest ≡ x.rest → is_waiting y.state ≡ is_waiting x.state
+    → not (is_waiting y.state) && test y.rest ≡ true → not (is_waiting x.state) && test x.rest ≡ true
 passes_on test x y e f h = sym (ap (λ w. not w && test y.rest) f ∙ ap (λ r. not (is_waiting x.state) && test r) e) ∙ h
 
 -- What leaves the semaphores of port q and the calls on it alone.
@@ -148,7 +150,8 @@ module _ {mine : ℕ → Option Owner → Bool} {asks : Rest → Bool} where
   }
 
 -- What leaves the ports alone keeps what holds of them.
-pub ports_framed : (t u : Tables) (ports : List MessagePort) → IsInside u → Frame is_ports asks_port t u → ArePorts t ports → ArePorts u ports
+pub ports_framed : (t u : Tables) (ports : List MessagePort) → IsInside u → Frame is_ports asks_port t u → ArePorts t ports
+    → ArePorts u ports
 ports_framed t u ports o c a =
     ports_kept t u ports (λ q. keeps_port_framed q t u (covers_ports q) o c) (record { rests = λ p h. (c.rests p h).0 })
     (λ q queue e i. counts_kept q (port_at ports q).seq queue t u (keeps_counts_framed q t u (covers_ports q) c) i) a

@@ -32,17 +32,21 @@ pub refused_on_ports : (s : Xinu) → MayCall s → ArePorts s.tables s.parts.po
 refused_on_ports s c a = record { preserved = refused_preserves s c; ports = a }
 
 -- a semaphore that is made is its owner's
-made_here : (t : Tables) (sem tokens : ℕ) (by : Owner) → IsSoundTables t → sem < 128 → semaphore_at (make_semaphore sem by tokens t) sem ≡ record { owner = Some by; tokens = tokens; waiters = [] }
-made_here t sem tokens by k w = get_or-set_same t.semaphores sem (record { owner = Some by; tokens = tokens; waiters = [] }) no_semaphore (let e = k.inside.semaphores in omega arith)
+made_here : (t : Tables) (sem tokens : ℕ) (by : Owner) → IsSoundTables t → sem < 128
+    → semaphore_at (make_semaphore sem by tokens t) sem ≡ record { owner = Some by; tokens = tokens; waiters = [] }
+made_here t sem tokens by k w =
+    get_or-set_same t.semaphores sem (record { owner = Some by; tokens = tokens; waiters = [] }) no_semaphore
+    (let e = k.inside.semaphores in omega arith)
 
 -- and the others are what they were
 made_other : (t : Tables) (sem r tokens : ℕ) (by : Owner) → r ≢ sem → semaphore_at (make_semaphore sem by tokens t) r ≡ semaphore_at t r
-made_other t sem r tokens by n = get_or-set_other t.semaphores sem r (record { owner = Some by; tokens = tokens; waiters = [] }) no_semaphore n
+made_other t sem r tokens by n =
+    get_or-set_other t.semaphores sem r (record { owner = Some by; tokens = tokens; waiters = [] }) no_semaphore n
 
 -- Port q is made with two semaphores that aren't in use.
-pub port_made : (q n send receive : ℕ) (s : Xinu) → MayCall s → ArePorts s.tables s.parts.ports → q < most_ports → (port_at s.parts.ports q).queue ≡ None
-    → send < 128 → (semaphore_at s.tables send).owner ≡ None → receive < 128 → (semaphore_at (make_semaphore send (owner.Port q) n s.tables) receive).owner ≡ None
-    → PreservesPorts (with_port q n send receive s)
+pub port_made : (q n send receive : ℕ) (s : Xinu) → MayCall s → ArePorts s.tables s.parts.ports → q < most_ports
+    → (port_at s.parts.ports q).queue ≡ None → send < 128 → (semaphore_at s.tables send).owner ≡ None → receive < 128
+    → (semaphore_at (make_semaphore send (owner.Port q) n s.tables) receive).owner ≡ None → PreservesPorts (with_port q n send receive s)
 port_made q n send receive s c a w unused ws fs wr fr =
     let t = s.tables in
     let by = owner.Port q in
@@ -85,8 +89,9 @@ unused_queue None h = refl
 unused_queue (Some queue) h = cc
 
 -- the second semaphore is found or not
-made_on_ports : (found : Option ℕ) (q n send : ℕ) (s : Xinu) → MayCall s → ArePorts s.tables s.parts.ports → q < most_ports → (port_at s.parts.ports q).queue ≡ None
-    → send < 128 → (semaphore_at s.tables send).owner ≡ None → free_semaphore (make_semaphore send (owner.Port q) n s.tables) ≡ found → PreservesPorts (made_port found q n send s)
+made_on_ports : (found : Option ℕ) (q n send : ℕ) (s : Xinu) → MayCall s → ArePorts s.tables s.parts.ports → q < most_ports
+    → (port_at s.parts.ports q).queue ≡ None → send < 128 → (semaphore_at s.tables send).owner ≡ None
+    → free_semaphore (make_semaphore send (owner.Port q) n s.tables) ≡ found → PreservesPorts (made_port found q n send s)
 made_on_ports None q n send s c a w unused ws fs e = refused_on_ports s c a
 made_on_ports (Some receive) q n send s c a w unused ws fs e =
     let u = make_semaphore send (owner.Port q) n s.tables in
@@ -94,7 +99,8 @@ made_on_ports (Some receive) q n send s c a w unused ws fs e =
     (search_within (λ r. not (is_some (semaphore_at u r).owner)) 128 (u.last_semaphore + 1) receive e) (free_semaphore_free u receive e)
 
 -- the number and the first semaphore are found or not
-start_on_ports : (found first : Option ℕ) (n : ℕ) (s : Xinu) → MayCall s → ArePorts s.tables s.parts.ports → free_port s ≡ found → free_semaphore s.tables ≡ first → PreservesPorts (started_port found first n s)
+start_on_ports : (found first : Option ℕ) (n : ℕ) (s : Xinu) → MayCall s → ArePorts s.tables s.parts.ports → free_port s ≡ found
+    → free_semaphore s.tables ≡ first → PreservesPorts (started_port found first n s)
 start_on_ports None first n s c a e f = refused_on_ports s c a
 start_on_ports (Some q) None n s c a e f = refused_on_ports s c a
 start_on_ports (Some q) (Some send) n s c a e f =

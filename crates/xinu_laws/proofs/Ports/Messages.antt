@@ -20,8 +20,9 @@ use Rattle.xinu_laws.proofs.Ports.Moves.{keeps_port_left, keeps_rests_set, left_
 use Rattle.xinu_laws.proofs.Ports.Signals.{HasMessage, HasRoom, port_semaphore_within, ports_tokens}
 
 -- A sender takes a token: there is room for its message.
-pub ports_take_room : (q : ℕ) (queue : PortQueue) (n : ℕ) (t : Tables) (ports : List MessagePort) → IsInside t → (port_at ports q).queue ≡ Some queue → (semaphore_at t queue.send).tokens ≡ suc n
-    → ArePorts t ports → ArePorts (with_tokens queue.send n t) ports × HasRoom (with_tokens queue.send n t) q (port_at ports q).seq queue
+pub ports_take_room : (q : ℕ) (queue : PortQueue) (n : ℕ) (t : Tables) (ports : List MessagePort) → IsInside t
+    → (port_at ports q).queue ≡ Some queue → (semaphore_at t queue.send).tokens ≡ suc n → ArePorts t ports
+    → ArePorts (with_tokens queue.send n t) ports × HasRoom (with_tokens queue.send n t) q (port_at ports q).seq queue
 ports_take_room q queue n t ports o here e a =
     let i = a.each q queue here in
     let y : Semaphore = record (semaphore_at t queue.send) { tokens = n } in
@@ -32,8 +33,9 @@ ports_take_room q queue n t ports o here e a =
     (ports_tokens q queue queue.send n t ports o i.send_owner here (record { messages = omega arith; room = omega arith }) a, record { room = omega arith })
 
 -- A receiver takes a token: there is a message for it.
-pub ports_take_turn : (q : ℕ) (queue : PortQueue) (n : ℕ) (t : Tables) (ports : List MessagePort) → IsInside t → (port_at ports q).queue ≡ Some queue → (semaphore_at t queue.receive).tokens ≡ suc n
-    → ArePorts t ports → ArePorts (with_tokens queue.receive n t) ports × HasMessage (with_tokens queue.receive n t) q (port_at ports q).seq queue
+pub ports_take_turn : (q : ℕ) (queue : PortQueue) (n : ℕ) (t : Tables) (ports : List MessagePort) → IsInside t
+    → (port_at ports q).queue ≡ Some queue → (semaphore_at t queue.receive).tokens ≡ suc n → ArePorts t ports
+    → ArePorts (with_tokens queue.receive n t) ports × HasMessage (with_tokens queue.receive n t) q (port_at ports q).seq queue
 ports_take_turn q queue n t ports o here e a =
     let i = a.each q queue here in
     let y : Semaphore = record (semaphore_at t queue.receive) { tokens = n } in
@@ -73,7 +75,8 @@ tokens_go_on : (sem p : ℕ) (m : Option ℕ) (t : Tables) → (semaphore_at (go
 tokens_go_on sem p m t = ap (λ (x : Semaphore). x.tokens) (left_for_nowhere t p (record (process_at t p) { rest = Nothing }) m sem)
 
 -- A process goes on of whose call nothing is left.
-pub ports_go_on : (p : ℕ) (m : Option ℕ) (t : Tables) (ports : List MessagePort) → p < length t.processes → ArePorts t ports → ArePorts (gone_on p m t) ports
+pub ports_go_on : (p : ℕ) (m : Option ℕ) (t : Tables) (ports : List MessagePort) → p < length t.processes → ArePorts t ports
+    → ArePorts (gone_on p m t) ports
 ports_go_on p m t ports i a =
     let x : Process = record (process_at t p) { rest = Nothing } in
     let u = gone_on p m t in
@@ -86,8 +89,8 @@ ports_go_on p m t ports i a =
     (keeps_rests_set t u p x i refl (λ e. cc)) (λ q queue e k. counts_kept q (port_at ports q).seq queue t u (counts q) k) a
 
 -- A released sender goes on: there is room for its message.
-pub room_go_on : (q seq p : ℕ) (queue : PortQueue) (m : Option ℕ) (t : Tables) → p < length t.processes → is_released_sender q seq (process_at t p) ≡ true
-    → IsSoundPort t q seq queue → HasRoom (gone_on p m t) q seq queue
+pub room_go_on : (q seq p : ℕ) (queue : PortQueue) (m : Option ℕ) (t : Tables) → p < length t.processes
+    → is_released_sender q seq (process_at t p) ≡ true → IsSoundPort t q seq queue → HasRoom (gone_on p m t) q seq queue
 room_go_on q seq p queue m t i r k =
     let e = senders_go_on q seq p m t i in
     let f = cond-true {A = ℕ} (is_released_sender q seq (process_at t p)) 1 0 r in
@@ -96,8 +99,8 @@ room_go_on q seq p queue m t i r k =
     record { room = omega arith }
 
 -- A released receiver goes on: there is a message for it.
-pub message_go_on : (q seq p : ℕ) (queue : PortQueue) (m : Option ℕ) (t : Tables) → p < length t.processes → is_released_receiver q seq (process_at t p) ≡ true
-    → IsSoundPort t q seq queue → HasMessage (gone_on p m t) q seq queue
+pub message_go_on : (q seq p : ℕ) (queue : PortQueue) (m : Option ℕ) (t : Tables) → p < length t.processes
+    → is_released_receiver q seq (process_at t p) ≡ true → IsSoundPort t q seq queue → HasMessage (gone_on p m t) q seq queue
 message_go_on q seq p queue m t i r k =
     let e = receivers_go_on q seq p m t i in
     let f = cond-true {A = ℕ} (is_released_receiver q seq (process_at t p)) 1 0 r in
@@ -115,9 +118,10 @@ abbrev pub with_port_messages : ℕ → PortQueue → List ℕ → List MessageP
 with_port_messages q queue messages ports = set ports q (record (port_at ports q) { queue = Some (record queue { messages = messages }) })
 
 -- What holds of the ports holds on with other messages of port q for which the counts fit.
-pub ports_with_messages : (q : ℕ) (queue : PortQueue) (messages : List ℕ) (t : Tables) (ports : List MessagePort) → (port_at ports q).queue ≡ Some queue
-    → nodes ports + length messages ≤ most_nodes + length queue.messages → HasCounts t q (port_at ports q).seq (record queue { messages = messages })
-    → ArePorts t ports → ArePorts t (with_port_messages q queue messages ports)
+pub ports_with_messages : (q : ℕ) (queue : PortQueue) (messages : List ℕ) (t : Tables) (ports : List MessagePort)
+    → (port_at ports q).queue ≡ Some queue → nodes ports + length messages ≤ most_nodes + length queue.messages
+    → HasCounts t q (port_at ports q).seq (record queue { messages = messages }) → ArePorts t ports
+    → ArePorts t (with_port_messages q queue messages ports)
 ports_with_messages q queue messages t ports here few c a =
     let next : PortQueue = record queue { messages = messages } in
     let x : MessagePort = record (port_at ports q) { queue = Some next } in

@@ -17,7 +17,8 @@ use Rattle.table_laws.proofs.Tables.MoveTo.{by_number}
 use Rattle.xinu_laws.proofs.Ports.Kept.{asks_port, KeepsPort, KeepsCounts, KeepsRests}
 
 -- and its counts.
-pub keeps_counts_semaphore : (q : ℕ) (t : Tables) (sem : ℕ) (y : Semaphore) → (semaphore_at t sem).owner ≢ Some (owner.Port q) → KeepsCounts q t (with_semaphore sem y t)
+pub keeps_counts_semaphore : (q : ℕ) (t : Tables) (sem : ℕ) (y : Semaphore) → (semaphore_at t sem).owner ≢ Some (owner.Port q)
+    → KeepsCounts q t (with_semaphore sem y t)
 keeps_counts_semaphore q t sem y n = record {
   tokens = λ r. by_number r sem (λ k. (semaphore_at t k).owner ≡ Some (owner.Port q) → (semaphore_at (with_semaphore sem y t) k).tokens ≡ (semaphore_at t k).tokens)
       (λ e. absurd (n e)) (λ k e. ap (λ (x : Semaphore). x.tokens) (get_or-set_other t.semaphores sem r y no_semaphore k));
@@ -47,7 +48,8 @@ pub keeps_rests_semaphore : (t : Tables) (sem : ℕ) (y : Semaphore) → KeepsRe
 keeps_rests_semaphore t sem y = record { rests = λ p h. refl }
 
 -- A process that leaves each semaphore keeps each port.
-pub keeps_port_left : (q p : ℕ) (t u : Tables) → ((sem : ℕ) → semaphore_at u sem ≡ semaphore_without p (semaphore_at t sem)) → ((r : ℕ) → r ≢ p → process_at u r ≡ process_at t r) → KeepsPort q t u
+pub keeps_port_left : (q p : ℕ) (t u : Tables) → ((sem : ℕ) → semaphore_at u sem ≡ semaphore_without p (semaphore_at t sem))
+    → ((r : ℕ) → r ≢ p → process_at u r ≡ process_at t r) → KeepsPort q t u
 keeps_port_left q p t u semaphores others =
     let owners : (sem : ℕ) → (semaphore_at u sem).owner ≡ (semaphore_at t sem).owner = λ sem. ap (λ (x : Semaphore). x.owner) (semaphores sem) in
     record {
@@ -60,7 +62,8 @@ keeps_port_left q p t u semaphores others =
     }
 
 -- If one process changes and is in a call on a port only where it was, each is.
-pub keeps_rests_set : (t u : Tables) (p : ℕ) (x : Process) → p < length t.processes → u.processes ≡ set t.processes p x → (asks_port x.rest ≡ true → x.rest ≡ (process_at t p).rest) → KeepsRests t u
+pub keeps_rests_set : (t u : Tables) (p : ℕ) (x : Process) → p < length t.processes → u.processes ≡ set t.processes p x
+    → (asks_port x.rest ≡ true → x.rest ≡ (process_at t p).rest) → KeepsRests t u
 keeps_rests_set t u p x i e h = record {
   rests = λ r. subst (λ l. asks_port (get_or l r no_process).rest ≡ true → (get_or l r no_process).rest ≡ (process_at t r).rest) (sym e)
       (by_number r p (λ k. asks_port (get_or (set t.processes p x) k no_process).rest ≡ true → (get_or (set t.processes p x) k no_process).rest ≡ (process_at t k).rest)
@@ -69,10 +72,12 @@ keeps_rests_set t u p x i e h = record {
 }
 
 -- the same semaphores, if a process goes to no semaphore
-pub left_for_ready : (t : Tables) (p : ℕ) (x : Process) (m : Option ℕ) (sem : ℕ) → semaphore_at (move_to p x m InReady t) sem ≡ semaphore_without p (semaphore_at t sem)
+pub left_for_ready : (t : Tables) (p : ℕ) (x : Process) (m : Option ℕ) (sem : ℕ)
+    → semaphore_at (move_to p x m InReady t) sem ≡ semaphore_without p (semaphore_at t sem)
 left_for_ready t p x m sem = semaphore_at_without p sem t.semaphores
 
-pub left_for_nowhere : (t : Tables) (p : ℕ) (x : Process) (m : Option ℕ) (sem : ℕ) → semaphore_at (move_to p x m Nowhere t) sem ≡ semaphore_without p (semaphore_at t sem)
+pub left_for_nowhere : (t : Tables) (p : ℕ) (x : Process) (m : Option ℕ) (sem : ℕ)
+    → semaphore_at (move_to p x m Nowhere t) sem ≡ semaphore_without p (semaphore_at t sem)
 left_for_nowhere t p x m sem = semaphore_at_without p sem t.semaphores
 
 -- A process that wakes keeps each port,
@@ -86,27 +91,32 @@ pub keeps_rests_ready : (p : ℕ) (t : Tables) → p < length t.processes → Ke
 keeps_rests_ready p t i = keeps_rests_set t (ready p t) p (in_state Ready (process_at t p)) i refl (λ _. refl)
 
 -- A process that wakes is one more to put a message into a port at most,
-pub senders_ready : (q seq p : ℕ) (t : Tables) → p < length t.processes → times (is_released_sender q seq) (ready p t).processes ≤ times (is_released_sender q seq) t.processes + cond (sends_to q seq (process_at t p).rest) 1 0
+pub senders_ready : (q seq p : ℕ) (t : Tables) → p < length t.processes
+    → times (is_released_sender q seq) (ready p t).processes ≤ times (is_released_sender q seq) t.processes + cond (sends_to q seq (process_at t p).rest) 1 0
 senders_ready q seq p t i = let e = times-set (is_released_sender q seq) t.processes p (in_state Ready (process_at t p)) no_process i in omega arith
 
 -- or to take one.
-pub receivers_ready : (q seq p : ℕ) (t : Tables) → p < length t.processes → times (is_released_receiver q seq) (ready p t).processes ≤ times (is_released_receiver q seq) t.processes + cond (receives_from q seq (process_at t p).rest) 1 0
+pub receivers_ready : (q seq p : ℕ) (t : Tables) → p < length t.processes
+    → times (is_released_receiver q seq) (ready p t).processes ≤ times (is_released_receiver q seq) t.processes + cond (receives_from q seq (process_at t p).rest) 1 0
 receivers_ready q seq p t i = let e = times-set (is_released_receiver q seq) t.processes p (in_state Ready (process_at t p)) no_process i in omega arith
 
 -- who is in a call on port q isn't to put a message into another,
 pub sends_to_other : (q r sem seq : ℕ) (left : Rest) → q ≢ r → IsForPort q sem left → sends_to r seq left ≡ false
-sends_to_other q r sem seq (PtSend ticket message) n h = and_left (ticket.port == r) (ticket.seq == seq) (ne_eqb ticket.port r (λ e. n (sym h.0 ∙ e)))
+sends_to_other q r sem seq (PtSend ticket message) n h =
+    and_left (ticket.port == r) (ticket.seq == seq) (ne_eqb ticket.port r (λ e. n (sym h.0 ∙ e)))
 sends_to_other q r sem seq (PtRecv ticket) n h = refl
 sends_to_other q r sem seq _ n h = absurd h
 
 -- or to take one from it
 pub receives_from_other : (q r sem seq : ℕ) (left : Rest) → q ≢ r → IsForPort q sem left → receives_from r seq left ≡ false
-receives_from_other q r sem seq (PtRecv ticket) n h = and_left (ticket.port == r) (ticket.seq == seq) (ne_eqb ticket.port r (λ e. n (sym h.0 ∙ e)))
+receives_from_other q r sem seq (PtRecv ticket) n h =
+    and_left (ticket.port == r) (ticket.seq == seq) (ne_eqb ticket.port r (λ e. n (sym h.0 ∙ e)))
 receives_from_other q r sem seq (PtSend ticket message) n h = refl
 receives_from_other q r sem seq _ n h = absurd h
 
 -- One who is in a call on port q and wakes keeps the counts of the others.
-pub keeps_counts_ready : (q r sem p : ℕ) (t : Tables) → p < length t.processes → q ≢ r → IsForPort q sem (process_at t p).rest → KeepsCounts r t (ready p t)
+pub keeps_counts_ready : (q r sem p : ℕ) (t : Tables) → p < length t.processes → q ≢ r → IsForPort q sem (process_at t p).rest
+    → KeepsCounts r t (ready p t)
 keeps_counts_ready q r sem p t i n h = record {
   tokens = λ v e. ap (λ (x : Semaphore). x.tokens) (left_for_ready t p (in_state Ready (process_at t p)) (message_at t p) v);
   senders = λ seq. (let e = senders_ready r seq p t i in let f = cond-false {A = ℕ} (sends_to r seq (process_at t p).rest) 1 0 (sends_to_other q r sem seq (process_at t p).rest n h) in omega arith);

@@ -53,8 +53,8 @@ written_here : (t : Tables) (sem : ℕ) (x : Semaphore) → IsSoundTables t → 
 written_here t sem x k w = get_or-set_same t.semaphores sem x no_semaphore (let e = k.inside.semaphores in omega arith)
 
 -- A port is deleted.
-pub port_deleted : (q : ℕ) (queue : PortQueue) (d : CallState) → IsSoundTables d.state.tables → HasPorts d → (port_at d.state.parts.ports q).queue ≡ Some queue
-    → IsRenewed q d (deleted q queue (emptied queue.receive (emptied queue.send d)))
+pub port_deleted : (q : ℕ) (queue : PortQueue) (d : CallState) → IsSoundTables d.state.tables → HasPorts d
+    → (port_at d.state.parts.ports q).queue ≡ Some queue → IsRenewed q d (deleted q queue (emptied queue.receive (emptied queue.send d)))
 port_deleted q queue d k a here =
     let i = a.each q queue here in
     let e = emptied queue.receive (emptied queue.send d) in
@@ -93,10 +93,12 @@ port_deleted q queue d k a here =
 
 -- other tokens leave a semaphore its waiters
 waiters_tokens : (t : Tables) (sem n r : ℕ) → (semaphore_at (with_tokens sem n t) r).waiters ≡ (semaphore_at t r).waiters
-waiters_tokens t sem n r = same_written (λ (x : Semaphore). x.waiters) t.semaphores sem r (record (semaphore_at t sem) { tokens = n }) no_semaphore refl
+waiters_tokens t sem n r =
+    same_written (λ (x : Semaphore). x.waiters) t.semaphores sem r (record (semaphore_at t sem) { tokens = n }) no_semaphore refl
 
 -- A port is reset.
-pub port_reset : (q : ℕ) (queue : PortQueue) (d : CallState) → IsSoundTables d.state.tables → HasPorts d → (port_at d.state.parts.ports q).queue ≡ Some queue
+pub port_reset : (q : ℕ) (queue : PortQueue) (d : CallState) → IsSoundTables d.state.tables → HasPorts d
+    → (port_at d.state.parts.ports q).queue ≡ Some queue
     → IsRenewed q d (emptied_port q queue (emptied queue.receive (emptied queue.send d)))
 port_reset q queue d k a here =
     let i = a.each q queue here in

@@ -46,13 +46,15 @@ waits_on_other q r sem _ n h = absurd h
 
 -- and so is who is to put a message into r,
 sends_to_one : (q r seq : ℕ) (left : Rest) → r ≢ q → sends_to r seq left ≡ true → asks_other_port q left ≡ true
-sends_to_one q r seq (PtSend ticket message) n h = other ticket.port q (λ e. n (sym (eqb-true ticket.port r (and_parts (ticket.port == r) (ticket.seq == seq) h).0) ∙ e))
+sends_to_one q r seq (PtSend ticket message) n h =
+    other ticket.port q (λ e. n (sym (eqb-true ticket.port r (and_parts (ticket.port == r) (ticket.seq == seq) h).0) ∙ e))
 sends_to_one q r seq (PtRecv ticket) n h = cc
 sends_to_one q r seq _ n h = h
 
 -- or to take one from it
 receives_from_one : (q r seq : ℕ) (left : Rest) → r ≢ q → receives_from r seq left ≡ true → asks_other_port q left ≡ true
-receives_from_one q r seq (PtRecv ticket) n h = other ticket.port q (λ e. n (sym (eqb-true ticket.port r (and_parts (ticket.port == r) (ticket.seq == seq) h).0) ∙ e))
+receives_from_one q r seq (PtRecv ticket) n h =
+    other ticket.port q (λ e. n (sym (eqb-true ticket.port r (and_parts (ticket.port == r) (ticket.seq == seq) h).0) ∙ e))
 receives_from_one q r seq (PtSend ticket message) n h = cc
 receives_from_one q r seq _ n h = h
 
@@ -72,7 +74,8 @@ unasked_here q sem (PtRecv ticket) h = not_other ticket.port q h.0
 unasked_here q sem _ h = absurd h
 
 -- a call that began before the next number isn't one by it
-old_sender : (q seq : ℕ) (ports : List MessagePort) (left : Rest) → (port_at ports q).seq ≡ seq → ((ticket : PortTicket) (message : ℕ) → left ≡ PtSend ticket message → ticket.seq ≤ (port_at ports ticket.port).seq)
+old_sender : (q seq : ℕ) (ports : List MessagePort) (left : Rest) → (port_at ports q).seq ≡ seq
+    → ((ticket : PortTicket) (message : ℕ) → left ≡ PtSend ticket message → ticket.seq ≤ (port_at ports ticket.port).seq)
     → sends_to q (seq + 1) left ≡ true → ⊥
 old_sender q seq ports (PtSend ticket message) e bound h =
     let p = and_parts (ticket.port == q) (ticket.seq == seq + 1) h in
@@ -83,8 +86,9 @@ old_sender q seq ports (PtSend ticket message) e bound h =
 old_sender q seq ports (PtRecv ticket) e bound h = true≢false (sym h)
 old_sender q seq ports _ e bound h = true≢false (sym h)
 
-old_receiver : (q seq : ℕ) (ports : List MessagePort) (left : Rest) → (port_at ports q).seq ≡ seq → ((ticket : PortTicket) → left ≡ PtRecv ticket → ticket.seq ≤ (port_at ports ticket.port).seq)
-    → receives_from q (seq + 1) left ≡ true → ⊥
+old_receiver : (q seq : ℕ) (ports : List MessagePort) (left : Rest) → (port_at ports q).seq ≡ seq
+    → ((ticket : PortTicket) → left ≡ PtRecv ticket → ticket.seq ≤ (port_at ports ticket.port).seq) → receives_from q (seq + 1) left ≡ true
+    → ⊥
 old_receiver q seq ports (PtRecv ticket) e bound h =
     let p = and_parts (ticket.port == q) (ticket.seq == seq + 1) h in
     let f = bound ticket refl in
@@ -95,14 +99,16 @@ old_receiver q seq ports (PtSend ticket message) e bound h = true≢false (sym h
 old_receiver q seq ports _ e bound h = true≢false (sym h)
 
 -- no released sender has the next number,
-pub no_new_senders : (q : ℕ) (t u : Tables) (ports : List MessagePort) → KeepsRests t u → ArePorts t ports → times (is_released_sender q ((port_at ports q).seq + 1)) u.processes ≡ 0
+pub no_new_senders : (q : ℕ) (t u : Tables) (ports : List MessagePort) → KeepsRests t u → ArePorts t ports
+    → times (is_released_sender q ((port_at ports q).seq + 1)) u.processes ≡ 0
 no_new_senders q t u ports k a = times_none (is_released_sender q ((port_at ports q).seq + 1)) no_process u.processes
     (λ p h. old_sender q (port_at ports q).seq ports (process_at u p).rest refl
     (λ ticket message e. a.sent p ticket message (sym (k.rests p (ap asks_port e)) ∙ e))
     (and_parts (not (is_waiting (process_at u p).state)) (sends_to q ((port_at ports q).seq + 1) (process_at u p).rest) h).1)
 
 -- and no released receiver
-pub no_new_receivers : (q : ℕ) (t u : Tables) (ports : List MessagePort) → KeepsRests t u → ArePorts t ports → times (is_released_receiver q ((port_at ports q).seq + 1)) u.processes ≡ 0
+pub no_new_receivers : (q : ℕ) (t u : Tables) (ports : List MessagePort) → KeepsRests t u → ArePorts t ports
+    → times (is_released_receiver q ((port_at ports q).seq + 1)) u.processes ≡ 0
 no_new_receivers q t u ports k a = times_none (is_released_receiver q ((port_at ports q).seq + 1)) no_process u.processes
     (λ p h. old_receiver q (port_at ports q).seq ports (process_at u p).rest refl
     (λ ticket e. a.received p ticket (sym (k.rests p (ap asks_port e)) ∙ e))
@@ -124,7 +130,8 @@ nobody : {P : Type 0} (p : ℕ) (l : List ℕ) → l ≡ [] → 0 < count_in p l
 nobody p l e h = let f = ap (count_in p) e in absurd (omega arith)
 
 -- what holds of it
-pub sound_new_port : (q : ℕ) (queue : PortQueue) (t u : Tables) (ports : List MessagePort) → KeepsRests t u → ArePorts t ports → IsNewPort u q queue → IsSoundPort u q ((port_at ports q).seq + 1) queue
+pub sound_new_port : (q : ℕ) (queue : PortQueue) (t u : Tables) (ports : List MessagePort) → KeepsRests t u → ArePorts t ports
+    → IsNewPort u q queue → IsSoundPort u q ((port_at ports q).seq + 1) queue
 sound_new_port q queue t u ports k a n =
     let senders = no_new_senders q t u ports k a in
     let receivers = no_new_receivers q t u ports k a in
@@ -142,8 +149,8 @@ sound_new_port q queue t u ports k a n =
     }
 
 -- Port q is renewed: what holds of it as it is now, and what held of the others, holds of all.
-pub ports_renewed : (q : ℕ) (x : Option PortQueue) (t u : Tables) (ports : List MessagePort) → q < most_ports → IsInside u → Frame (is_other_port q) (asks_other_port q) t u → KeepsRests t u
-    → ((queue : PortQueue) → x ≡ Some queue → IsNewPort u q queue)
+pub ports_renewed : (q : ℕ) (x : Option PortQueue) (t u : Tables) (ports : List MessagePort) → q < most_ports → IsInside u
+    → Frame (is_other_port q) (asks_other_port q) t u → KeepsRests t u → ((queue : PortQueue) → x ≡ Some queue → IsNewPort u q queue)
     → ((sem : ℕ) → (semaphore_at u sem).owner ≡ Some (owner.Port q) → (queue : PortQueue) × (x ≡ Some queue) × ((sem ≡ queue.send) ⊎ (sem ≡ queue.receive)))
     → length (queued x) ≡ 0 → ArePorts t ports → ArePorts u (renewed q x ports)
 ports_renewed q x t u ports w o c rests new owned none a =

@@ -38,23 +38,27 @@ owned_within : (q sem : ℕ) (t : Tables) → IsSoundTables t → (semaphore_at 
 owned_within q sem t k e = semaphore_within t sem k.inside.semaphores (λ f. cc)
 
 -- A signal on a semaphore of a port, which keeps what holds of the ports.
-signal_on_ports : (q sem : ℕ) (value : ℤ) (d : CallState) → IsSoundTables d.state.tables → AreHarts d.state.harts → AreAlive d.state.tables d.released → (semaphore_at d.state.tables sem).owner ≡ Some (owner.Port q)
-    → HasPorts (signalled sem d) → PreservesPorts (returns (signalled sem d) value)
+signal_on_ports : (q sem : ℕ) (value : ℤ) (d : CallState) → IsSoundTables d.state.tables → AreHarts d.state.harts
+    → AreAlive d.state.tables d.released → (semaphore_at d.state.tables sem).owner ≡ Some (owner.Port q) → HasPorts (signalled sem d)
+    → PreservesPorts (returns (signalled sem d) value)
 signal_on_ports q sem value d k harts alive e a = record {
   preserved = record { tables = sound_signalled sem d k (owned_within q sem d.state.tables k e) (λ f. cc); harts = harts_same d.state.harts _ (harts_signalled sem d) harts; released = alive_signalled sem d k.inside alive };
   ports = a;
 }
 
 -- a sender puts its message, if the port is in use and has a node
-put_on_ports : (found : Option PortQueue) (q message : ℕ) (s : Xinu) → MayCall s → ArePorts s.tables s.parts.ports → (port_at s.parts.ports q).queue ≡ found
-    → ((queue : PortQueue) → found ≡ Some queue → HasRoom s.tables q (port_at s.parts.ports q).seq queue) → PreservesPorts (put_message found q message s)
+put_on_ports : (found : Option PortQueue) (q message : ℕ) (s : Xinu) → MayCall s → ArePorts s.tables s.parts.ports
+    → (port_at s.parts.ports q).queue ≡ found
+    → ((queue : PortQueue) → found ≡ Some queue → HasRoom s.tables q (port_at s.parts.ports q).seq queue)
+    → PreservesPorts (put_message found q message s)
 put_on_ports None q message s c a here r = refused_on_ports s c a
 put_on_ports (Some queue) q message s c a here r =
     let ports = put_kept (Some queue) q message s here c.tables.inside r a in
     let d = with_messages q queue (queue.messages ++ message ∷ []) (start s) in
     go (nat_le most_nodes (nodes s.parts.ports)) ports
   where
-    go : (full : Bool) → HasPorts (cond full (record { call = start s; answer = Panics }) (returns (signalled queue.receive (with_messages q queue (queue.messages ++ message ∷ []) (start s))) (pos 0))).call
+    go : (full : Bool)
+        → HasPorts (cond full (record { call = start s; answer = Panics }) (returns (signalled queue.receive (with_messages q queue (queue.messages ++ message ∷ []) (start s))) (pos 0))).call
         → PreservesPorts (cond full (record { call = start s; answer = Panics }) (returns (signalled queue.receive (with_messages q queue (queue.messages ++ message ∷ []) (start s))) (pos 0)))
     go true p = record { preserved = record { tables = c.tables; harts = c.harts; released = tt }; ports = a }
     go false p =
@@ -62,8 +66,8 @@ put_on_ports (Some queue) q message s c a here r =
         record { preserved = w.preserved; ports = w.ports }
 
 -- A sender that has its token goes on.
-pub finish_send_on_ports : (ticket : PortTicket) (message : ℕ) (s : Xinu) → MayCall s → ArePorts s.tables s.parts.ports → WhereFresh ticket s.parts.ports (HasRoom s.tables ticket.port ticket.seq)
-    → PreservesPorts (finish_send ticket message s)
+pub finish_send_on_ports : (ticket : PortTicket) (message : ℕ) (s : Xinu) → MayCall s → ArePorts s.tables s.parts.ports
+    → WhereFresh ticket s.parts.ports (HasRoom s.tables ticket.port ticket.seq) → PreservesPorts (finish_send ticket message s)
 finish_send_on_ports ticket message s c a r =
     let found = (port_at s.parts.ports ticket.port).queue in
     cond_both (is_stale ticket s.parts.ports) (refused s) (put_message found ticket.port message s) PreservesPorts
@@ -72,8 +76,9 @@ finish_send_on_ports ticket message s c a r =
     put_on_ports found ticket.port message s c a refl (λ queue f. subst (λ n. HasRoom s.tables ticket.port n queue) (sym e) (r queue f e)))
 
 -- a receiver takes the first of these messages
-take_first_on_ports : (messages : List ℕ) (queue : PortQueue) (q : ℕ) (s : Xinu) → MayCall s → ArePorts s.tables s.parts.ports → (port_at s.parts.ports q).queue ≡ Some queue → queue.messages ≡ messages
-    → HasMessage s.tables q (port_at s.parts.ports q).seq queue → PreservesPorts (take_message messages queue q s)
+take_first_on_ports : (messages : List ℕ) (queue : PortQueue) (q : ℕ) (s : Xinu) → MayCall s → ArePorts s.tables s.parts.ports
+    → (port_at s.parts.ports q).queue ≡ Some queue → queue.messages ≡ messages → HasMessage s.tables q (port_at s.parts.ports q).seq queue
+    → PreservesPorts (take_message messages queue q s)
 take_first_on_ports [] queue q s c a here e r = refused_on_ports s c a
 take_first_on_ports (message ∷ messages) queue q s c a here e r =
     let w = signal_on_ports q queue.send (signed message) (with_messages q queue messages (start s)) c.tables c.harts tt (a.each q queue here).send_owner
@@ -81,14 +86,16 @@ take_first_on_ports (message ∷ messages) queue q s c a here e r =
     record { preserved = w.preserved; ports = w.ports }
 
 -- if the port is in use
-take_on_ports : (found : Option PortQueue) (q : ℕ) (s : Xinu) → MayCall s → ArePorts s.tables s.parts.ports → (port_at s.parts.ports q).queue ≡ found
-    → ((queue : PortQueue) → found ≡ Some queue → HasMessage s.tables q (port_at s.parts.ports q).seq queue) → PreservesPorts (take_from found q s)
+take_on_ports : (found : Option PortQueue) (q : ℕ) (s : Xinu) → MayCall s → ArePorts s.tables s.parts.ports
+    → (port_at s.parts.ports q).queue ≡ found
+    → ((queue : PortQueue) → found ≡ Some queue → HasMessage s.tables q (port_at s.parts.ports q).seq queue)
+    → PreservesPorts (take_from found q s)
 take_on_ports None q s c a here r = refused_on_ports s c a
 take_on_ports (Some queue) q s c a here r = take_first_on_ports queue.messages queue q s c a here refl (r queue refl)
 
 -- A receiver that has its token goes on.
-pub finish_receive_on_ports : (ticket : PortTicket) (s : Xinu) → MayCall s → ArePorts s.tables s.parts.ports → WhereFresh ticket s.parts.ports (HasMessage s.tables ticket.port ticket.seq)
-    → PreservesPorts (finish_receive ticket s)
+pub finish_receive_on_ports : (ticket : PortTicket) (s : Xinu) → MayCall s → ArePorts s.tables s.parts.ports
+    → WhereFresh ticket s.parts.ports (HasMessage s.tables ticket.port ticket.seq) → PreservesPorts (finish_receive ticket s)
 finish_receive_on_ports ticket s c a r =
     let found = (port_at s.parts.ports ticket.port).queue in
     cond_both (is_stale ticket s.parts.ports) (refused s) (take_from found ticket.port s) PreservesPorts
@@ -97,8 +104,9 @@ finish_receive_on_ports ticket s c a r =
     take_on_ports found ticket.port s c a refl (λ queue f. subst (λ n. HasMessage s.tables ticket.port n queue) (sym e) (r queue f e)))
 
 -- a caller takes one of these tokens of its port, or waits with this left of its call
-take_on_port : (tokens q sem : ℕ) (queue : PortQueue) (left : Rest) (then_ : Xinu → CallResult) (s : Xinu) → MayCall s → ArePorts s.tables s.parts.ports → (port_at s.parts.ports q).queue ≡ Some queue
-    → tokens ≡ (semaphore_at s.tables sem).tokens → (semaphore_at s.tables sem).owner ≡ Some (owner.Port q) → IsForPort q sem left → IsCallOn s.parts.ports q queue sem left
+take_on_port : (tokens q sem : ℕ) (queue : PortQueue) (left : Rest) (then_ : Xinu → CallResult) (s : Xinu) → MayCall s
+    → ArePorts s.tables s.parts.ports → (port_at s.parts.ports q).queue ≡ Some queue → tokens ≡ (semaphore_at s.tables sem).tokens
+    → (semaphore_at s.tables sem).owner ≡ Some (owner.Port q) → IsForPort q sem left → IsCallOn s.parts.ports q queue sem left
     → ((n : ℕ) → (semaphore_at s.tables sem).tokens ≡ suc n → MayCall (record s { tables = with_tokens sem n s.tables }) → PreservesPorts (then_ (record s { tables = with_tokens sem n s.tables })))
     → PreservesPorts (take_token tokens sem left then_ s)
 take_on_port zero q sem queue left then_ s c a here e o fits call go =
@@ -112,7 +120,8 @@ take_on_port (suc n) q sem queue left then_ s c a here e o fits call go =
     (go n (sym e) (tables_may_call s (with_tokens sem n s.tables) c (sound_token_taken s.tables sem n c.tables (owned_within q sem s.tables c.tables o) (sym e)) refl))
 
 -- a message for a port that is in use or not
-sent_on_ports : (found : Option PortQueue) (q message : ℕ) (s : Xinu) → MayCall s → ArePorts s.tables s.parts.ports → (port_at s.parts.ports q).queue ≡ found → PreservesPorts (sent_to found q message s)
+sent_on_ports : (found : Option PortQueue) (q message : ℕ) (s : Xinu) → MayCall s → ArePorts s.tables s.parts.ports
+    → (port_at s.parts.ports q).queue ≡ found → PreservesPorts (sent_to found q message s)
 sent_on_ports None q message s c a here = refused_on_ports s c a
 sent_on_ports (Some queue) q message s c a here =
     let i = a.each q queue here in
@@ -129,7 +138,8 @@ pub ptsend_on_ports : (q message : ℕ) (s : Xinu) → MayCall s → ArePorts s.
 ptsend_on_ports q message s c a = sent_on_ports (port_at s.parts.ports q).queue q message s c a refl
 
 -- a message of a port that is in use or not
-received_on_ports : (found : Option PortQueue) (q : ℕ) (s : Xinu) → MayCall s → ArePorts s.tables s.parts.ports → (port_at s.parts.ports q).queue ≡ found → PreservesPorts (received_from found q s)
+received_on_ports : (found : Option PortQueue) (q : ℕ) (s : Xinu) → MayCall s → ArePorts s.tables s.parts.ports
+    → (port_at s.parts.ports q).queue ≡ found → PreservesPorts (received_from found q s)
 received_on_ports None q s c a here = refused_on_ports s c a
 received_on_ports (Some queue) q s c a here =
     let i = a.each q queue here in
@@ -147,11 +157,13 @@ ptrecv_on_ports q s c a = received_on_ports (port_at s.parts.ports q).queue q s 
 
 -- a ticket is one of its port, as it was
 pub own_ticket : (ticket : PortTicket) → is_ticket_of ticket.port ticket.seq ticket ≡ true
-own_ticket ticket = and_from (ticket.port == ticket.port) (ticket.seq == ticket.seq) (eq-eqb ticket.port ticket.port refl) (eq-eqb ticket.seq ticket.seq refl)
+own_ticket ticket =
+    and_from (ticket.port == ticket.port) (ticket.seq == ticket.seq) (eq-eqb ticket.port ticket.port refl)
+    (eq-eqb ticket.seq ticket.seq refl)
 
 -- A sender goes on that waited.
-pub go_on_ptsend_on_ports : (ticket : PortTicket) (message : ℕ) (s : Xinu) → MayCall s → ArePorts s.tables s.parts.ports → (process_at s.tables s.tables.current).rest ≡ PtSend ticket message
-    → PreservesPorts (go_on_ptsend ticket message s)
+pub go_on_ptsend_on_ports : (ticket : PortTicket) (message : ℕ) (s : Xinu) → MayCall s → ArePorts s.tables s.parts.ports
+    → (process_at s.tables s.tables.current).rest ≡ PtSend ticket message → PreservesPorts (go_on_ptsend ticket message s)
 go_on_ptsend_on_ports ticket message s c a e =
     let t = s.tables in
     let u = goes_on (held s) s in
@@ -163,8 +175,8 @@ go_on_ptsend_on_ports ticket message s c a e =
     (λ queue f g. room_go_on ticket.port ticket.seq t.current queue (held s) t w released (subst (λ n. IsSoundPort t ticket.port n queue) g (a.each ticket.port queue f))))
 
 -- A receiver goes on that waited.
-pub go_on_ptrecv_on_ports : (ticket : PortTicket) (s : Xinu) → MayCall s → ArePorts s.tables s.parts.ports → (process_at s.tables s.tables.current).rest ≡ PtRecv ticket
-    → PreservesPorts (go_on_ptrecv ticket s)
+pub go_on_ptrecv_on_ports : (ticket : PortTicket) (s : Xinu) → MayCall s → ArePorts s.tables s.parts.ports
+    → (process_at s.tables s.tables.current).rest ≡ PtRecv ticket → PreservesPorts (go_on_ptrecv ticket s)
 go_on_ptrecv_on_ports ticket s c a e =
     let t = s.tables in
     let u = goes_on (held s) s in

@@ -25,8 +25,9 @@ abbrev pub HasPorts : CallState → Type 0
 HasPorts d = ArePorts d.state.tables d.state.parts.ports
 
 -- If only port q is touched and its counts fit afterwards, what holds of the ports holds on.
-pub ports_touched : (q : ℕ) (queue : PortQueue) (t u : Tables) (ports : List MessagePort) → ((r : ℕ) → KeepsPort r t u) → KeepsRests t u → ((r : ℕ) → q ≢ r → KeepsCounts r t u)
-    → (port_at ports q).queue ≡ Some queue → HasCounts u q (port_at ports q).seq queue → ArePorts t ports → ArePorts u ports
+pub ports_touched : (q : ℕ) (queue : PortQueue) (t u : Tables) (ports : List MessagePort) → ((r : ℕ) → KeepsPort r t u) → KeepsRests t u
+    → ((r : ℕ) → q ≢ r → KeepsCounts r t u) → (port_at ports q).queue ≡ Some queue → HasCounts u q (port_at ports q).seq queue
+    → ArePorts t ports → ArePorts u ports
 ports_touched q queue t u ports k rests counts here c a = ports_kept t u ports k rests
     (λ r other e i. ⊎_elim
     (λ (f : q ≡ r). let g : queue ≡ other = (let h : (port_at ports r).queue ≡ Some queue = subst (λ v. (port_at ports v).queue ≡ Some queue) f here in cc) in
@@ -39,7 +40,8 @@ pub other_owner : (q r : ℕ) (o : Option Owner) → q ≢ r → o ≡ Some (own
 other_owner q r o n e f = n (let g : Some (owner.Port q) ≡ Some (owner.Port r) = sym e ∙ f in cc)
 
 -- a semaphore of a port is in the table
-pub port_semaphore_within : (q sem : ℕ) (t : Tables) → IsInside t → (semaphore_at t sem).owner ≡ Some (owner.Port q) → sem < length t.semaphores
+pub port_semaphore_within : (q sem : ℕ) (t : Tables) → IsInside t → (semaphore_at t sem).owner ≡ Some (owner.Port q)
+    → sem < length t.semaphores
 port_semaphore_within q sem t o e =
     let m = o.semaphores in
     let w = semaphore_within t sem m (λ n. cc) in
@@ -56,15 +58,17 @@ waiter_within sem p t o h =
     omega arith
 
 -- A token more, or fewer, at one of the semaphores of port q.
-pub ports_tokens : (q : ℕ) (queue : PortQueue) (sem n : ℕ) (t : Tables) (ports : List MessagePort) → IsInside t → (semaphore_at t sem).owner ≡ Some (owner.Port q)
-    → (port_at ports q).queue ≡ Some queue → HasCounts (with_tokens sem n t) q (port_at ports q).seq queue → ArePorts t ports → ArePorts (with_tokens sem n t) ports
+pub ports_tokens : (q : ℕ) (queue : PortQueue) (sem n : ℕ) (t : Tables) (ports : List MessagePort) → IsInside t
+    → (semaphore_at t sem).owner ≡ Some (owner.Port q) → (port_at ports q).queue ≡ Some queue
+    → HasCounts (with_tokens sem n t) q (port_at ports q).seq queue → ArePorts t ports → ArePorts (with_tokens sem n t) ports
 ports_tokens q queue sem n t ports o e here c a = ports_touched q queue t (with_tokens sem n t) ports
     (λ r. keeps_port_tokens r t sem n (port_semaphore_within q sem t o e)) (keeps_rests_semaphore t sem (record (semaphore_at t sem) { tokens = n }))
     (λ r k. keeps_counts_semaphore r t sem (record (semaphore_at t sem) { tokens = n }) (other_owner q r (semaphore_at t sem).owner k e)) here c a
 
 -- One who waits on a semaphore of port q wakes.
-pub ports_ready : (q : ℕ) (queue : PortQueue) (sem p : ℕ) (t : Tables) (ports : List MessagePort) → IsInside t → (semaphore_at t sem).owner ≡ Some (owner.Port q) → 0 < count_in p (semaphore_at t sem).waiters
-    → (port_at ports q).queue ≡ Some queue → HasCounts (ready p t) q (port_at ports q).seq queue → ArePorts t ports → ArePorts (ready p t) ports
+pub ports_ready : (q : ℕ) (queue : PortQueue) (sem p : ℕ) (t : Tables) (ports : List MessagePort) → IsInside t
+    → (semaphore_at t sem).owner ≡ Some (owner.Port q) → 0 < count_in p (semaphore_at t sem).waiters → (port_at ports q).queue ≡ Some queue
+    → HasCounts (ready p t) q (port_at ports q).seq queue → ArePorts t ports → ArePorts (ready p t) ports
 ports_ready q queue sem p t ports o e h here c a =
     let i = waiter_within sem p t o h in
     let f : FitsOwner sem (Some (owner.Port q)) (process_at t p).rest = subst (λ k. FitsOwner sem k (process_at t p).rest) e (o.rests sem p h) in
@@ -83,8 +87,8 @@ tokens_ready : (sem p : ℕ) (t : Tables) → (semaphore_at (ready p t) sem).tok
 tokens_ready sem p t = ap (λ (x : Semaphore). x.tokens) (left_for_ready t p (in_state Ready (process_at t p)) (message_at t p) sem)
 
 -- The counts fit after a receiver wakes for which there is a message,
-counts_ready_receiver : (q seq p : ℕ) (ticket : PortTicket) (queue : PortQueue) (t : Tables) → p < length t.processes → (process_at t p).rest ≡ PtRecv ticket
-    → HasMessage t q seq queue → IsSoundPort t q seq queue → HasCounts (ready p t) q seq queue
+counts_ready_receiver : (q seq p : ℕ) (ticket : PortTicket) (queue : PortQueue) (t : Tables) → p < length t.processes
+    → (process_at t p).rest ≡ PtRecv ticket → HasMessage t q seq queue → IsSoundPort t q seq queue → HasCounts (ready p t) q seq queue
 counts_ready_receiver q seq p ticket queue t j r m i =
     let g = m.messages in
     let h = i.room in
@@ -97,8 +101,8 @@ counts_ready_receiver q seq p ticket queue t j r m i =
     record { messages = omega arith; room = omega arith }
 
 -- and after a sender wakes for which there is room.
-counts_ready_sender : (q seq p : ℕ) (ticket : PortTicket) (message : ℕ) (queue : PortQueue) (t : Tables) → p < length t.processes → (process_at t p).rest ≡ PtSend ticket message
-    → HasRoom t q seq queue → IsSoundPort t q seq queue → HasCounts (ready p t) q seq queue
+counts_ready_sender : (q seq p : ℕ) (ticket : PortTicket) (message : ℕ) (queue : PortQueue) (t : Tables) → p < length t.processes
+    → (process_at t p).rest ≡ PtSend ticket message → HasRoom t q seq queue → IsSoundPort t q seq queue → HasCounts (ready p t) q seq queue
 counts_ready_sender q seq p ticket message queue t j r m i =
     let g = m.room in
     let h = i.messages in
@@ -111,8 +115,9 @@ counts_ready_sender q seq p ticket message queue t j r m i =
     record { messages = omega arith; room = omega arith }
 
 -- a signal on the semaphore of the messages, if these wait
-signal_receive : (q : ℕ) (queue : PortQueue) (waiters : List ℕ) (d : CallState) → IsInside d.state.tables → waiters ≡ (semaphore_at d.state.tables queue.receive).waiters
-    → (port_at d.state.parts.ports q).queue ≡ Some queue → HasMessage d.state.tables q (port_at d.state.parts.ports q).seq queue → HasPorts d → HasPorts (signal_first queue.receive waiters d)
+signal_receive : (q : ℕ) (queue : PortQueue) (waiters : List ℕ) (d : CallState) → IsInside d.state.tables
+    → waiters ≡ (semaphore_at d.state.tables queue.receive).waiters → (port_at d.state.parts.ports q).queue ≡ Some queue
+    → HasMessage d.state.tables q (port_at d.state.parts.ports q).seq queue → HasPorts d → HasPorts (signal_first queue.receive waiters d)
 signal_receive q queue [] d o w here m a =
     let t = d.state.tables in
     let i = a.each q queue here in
@@ -131,8 +136,9 @@ signal_receive q queue (p ∷ ps) d o w here m a =
     (counts_ready_receiver q (port_at d.state.parts.ports q).seq p _ queue t (waiter_within queue.receive p t o c) (i.receivers p c) m i) a
 
 -- the same on the semaphore of the room
-signal_send : (q : ℕ) (queue : PortQueue) (waiters : List ℕ) (d : CallState) → IsInside d.state.tables → waiters ≡ (semaphore_at d.state.tables queue.send).waiters
-    → (port_at d.state.parts.ports q).queue ≡ Some queue → HasRoom d.state.tables q (port_at d.state.parts.ports q).seq queue → HasPorts d → HasPorts (signal_first queue.send waiters d)
+signal_send : (q : ℕ) (queue : PortQueue) (waiters : List ℕ) (d : CallState) → IsInside d.state.tables
+    → waiters ≡ (semaphore_at d.state.tables queue.send).waiters → (port_at d.state.parts.ports q).queue ≡ Some queue
+    → HasRoom d.state.tables q (port_at d.state.parts.ports q).seq queue → HasPorts d → HasPorts (signal_first queue.send waiters d)
 signal_send q queue [] d o w here m a =
     let t = d.state.tables in
     let i = a.each q queue here in
@@ -152,11 +158,13 @@ signal_send q queue (p ∷ ps) d o w here m a =
     (counts_ready_sender q (port_at d.state.parts.ports q).seq p _ r.0 queue t (waiter_within queue.send p t o c) r.1 m i) a
 
 -- A signal on the semaphore of the messages, if there is one without a token,
-pub ports_signal_receive : (q : ℕ) (queue : PortQueue) (d : CallState) → IsInside d.state.tables → (port_at d.state.parts.ports q).queue ≡ Some queue
-    → HasMessage d.state.tables q (port_at d.state.parts.ports q).seq queue → HasPorts d → HasPorts (signalled queue.receive d)
+pub ports_signal_receive : (q : ℕ) (queue : PortQueue) (d : CallState) → IsInside d.state.tables
+    → (port_at d.state.parts.ports q).queue ≡ Some queue → HasMessage d.state.tables q (port_at d.state.parts.ports q).seq queue
+    → HasPorts d → HasPorts (signalled queue.receive d)
 ports_signal_receive q queue d o here m a = signal_receive q queue (semaphore_at d.state.tables queue.receive).waiters d o refl here m a
 
 -- and on the semaphore of the room, if there is some without a token.
-pub ports_signal_send : (q : ℕ) (queue : PortQueue) (d : CallState) → IsInside d.state.tables → (port_at d.state.parts.ports q).queue ≡ Some queue
-    → HasRoom d.state.tables q (port_at d.state.parts.ports q).seq queue → HasPorts d → HasPorts (signalled queue.send d)
+pub ports_signal_send : (q : ℕ) (queue : PortQueue) (d : CallState) → IsInside d.state.tables
+    → (port_at d.state.parts.ports q).queue ≡ Some queue → HasRoom d.state.tables q (port_at d.state.parts.ports q).seq queue → HasPorts d
+    → HasPorts (signalled queue.send d)
 ports_signal_send q queue d o here m a = signal_send q queue (semaphore_at d.state.tables queue.send).waiters d o refl here m a

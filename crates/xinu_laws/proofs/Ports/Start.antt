@@ -24,7 +24,8 @@ no_nodes zero = refl
 no_nodes (suc n) = let e = no_nodes n in omega arith
 
 -- If no semaphore is a port's and nobody is in a call on one, no port is in use.
-pub no_ports : (t : Tables) → ((sem : ℕ) → is_ports sem (semaphore_at t sem).owner ≡ false) → ((p : ℕ) → asks_port (process_at t p).rest ≡ false) → ArePorts t first_ports
+pub no_ports : (t : Tables) → ((sem : ℕ) → is_ports sem (semaphore_at t sem).owner ≡ false)
+    → ((p : ℕ) → asks_port (process_at t p).rest ≡ false) → ArePorts t first_ports
 unfolding first_ports
 no_ports t semaphores rests = record {
   many = refl;

@@ -21,25 +21,29 @@ use Rattle.xinu_laws.proofs.Ports.Sends.{own_ticket}
 use Rattle.table_laws.proofs.Preserve.{current_within}
 
 -- A ticket is stale if its port has a later number.
-pub later_is_stale : (ticket : PortTicket) (ports : List MessagePort) → ticket.seq < (port_at ports ticket.port).seq → is_stale ticket ports ≡ true
+pub later_is_stale : (ticket : PortTicket) (ports : List MessagePort) → ticket.seq < (port_at ports ticket.port).seq
+    → is_stale ticket ports ≡ true
 later_is_stale ticket ports h =
     let port = port_at ports ticket.port in
     or_right (not (is_used port)) (not (port.seq == ticket.seq)) (ap not (ne_eqb port.seq ticket.seq (λ e. absurd (omega arith))))
 
 -- A sender whose ticket is stale is refused: its message doesn't come into the port.
-pub stale_sender_refused : (ticket : PortTicket) (message : ℕ) (s : Xinu) → is_stale ticket s.parts.ports ≡ true → continued (PtSend ticket message) s ≡ refused (goes_on (held s) s)
+pub stale_sender_refused : (ticket : PortTicket) (message : ℕ) (s : Xinu) → is_stale ticket s.parts.ports ≡ true
+    → continued (PtSend ticket message) s ≡ refused (goes_on (held s) s)
 stale_sender_refused ticket message s h =
     let u = goes_on (held s) s in
     cond-true (is_stale ticket s.parts.ports) (refused u) (put_message (port_at s.parts.ports ticket.port).queue ticket.port message u) h
 
 -- So is a receiver: it takes none.
-pub stale_receiver_refused : (ticket : PortTicket) (s : Xinu) → is_stale ticket s.parts.ports ≡ true → continued (PtRecv ticket) s ≡ refused (goes_on (held s) s)
+pub stale_receiver_refused : (ticket : PortTicket) (s : Xinu) → is_stale ticket s.parts.ports ≡ true
+    → continued (PtRecv ticket) s ≡ refused (goes_on (held s) s)
 stale_receiver_refused ticket s h =
     let u = goes_on (held s) s in
     cond-true (is_stale ticket s.parts.ports) (refused u) (take_from (port_at s.parts.ports ticket.port).queue ticket.port u) h
 
 -- the port of a ticket that isn't stale is in use
-fresh_used : (ticket : PortTicket) (ports : List MessagePort) → is_stale ticket ports ≡ false → is_some (port_at ports ticket.port).queue ≡ true
+fresh_used : (ticket : PortTicket) (ports : List MessagePort) → is_stale ticket ports ≡ false
+    → is_some (port_at ports ticket.port).queue ≡ true
 fresh_used ticket ports h =
     let port = port_at ports ticket.port in
     not-false (is_used port) (or_parts (not (is_used port)) (not (port.seq == ticket.seq)) h).0
@@ -50,9 +54,11 @@ answer_of_either true x y = refl
 answer_of_either false x y = refl
 
 -- a message that is put into a port in use
-put_answers : (found : Option PortQueue) (q message : ℕ) (s : Xinu) → is_some found ≡ true → (put_message found q message s).answer ≡ cond (nat_le most_nodes (nodes s.parts.ports)) Panics (Returns OK)
+put_answers : (found : Option PortQueue) (q message : ℕ) (s : Xinu) → is_some found ≡ true
+    → (put_message found q message s).answer ≡ cond (nat_le most_nodes (nodes s.parts.ports)) Panics (Returns OK)
 put_answers None q message s h = absurd (cc)
-put_answers (Some queue) q message s h = answer_of_either (nat_le most_nodes (nodes s.parts.ports)) (record { call = start s; answer = Panics }) (returns _ OK)
+put_answers (Some queue) q message s h =
+    answer_of_either (nat_le most_nodes (nodes s.parts.ports)) (record { call = start s; answer = Panics }) (returns _ OK)
 
 -- A sender whose ticket isn't stale isn't refused.
 pub fresh_sender_answers : (ticket : PortTicket) (message : ℕ) (s : Xinu) → is_stale ticket s.parts.ports ≡ false
@@ -63,18 +69,20 @@ fresh_sender_answers ticket message s h =
     ap (λ b. (cond b (refused u) put).answer) h ∙ put_answers (port_at s.parts.ports ticket.port).queue ticket.port message u (fresh_used ticket s.parts.ports h)
 
 -- a message that is taken of some
-take_answers : (messages : List ℕ) (queue : PortQueue) (q : ℕ) (s : Xinu) → queue.messages ≡ messages → 0 < length messages → AnswersFirst (Some queue) (take_message messages queue q s).answer
+take_answers : (messages : List ℕ) (queue : PortQueue) (q : ℕ) (s : Xinu) → queue.messages ≡ messages → 0 < length messages
+    → AnswersFirst (Some queue) (take_message messages queue q s).answer
 take_answers [] queue q s e h = absurd (omega arith)
 take_answers (message ∷ messages) queue q s e h = (message, messages, e, refl)
 
 -- a message that is taken from a port in use
-from_answers : (found : Option PortQueue) (q : ℕ) (s : Xinu) → is_some found ≡ true → ((queue : PortQueue) → found ≡ Some queue → 0 < length queue.messages) → AnswersFirst found (take_from found q s).answer
+from_answers : (found : Option PortQueue) (q : ℕ) (s : Xinu) → is_some found ≡ true
+    → ((queue : PortQueue) → found ≡ Some queue → 0 < length queue.messages) → AnswersFirst found (take_from found q s).answer
 from_answers None q s h some = absurd (cc)
 from_answers (Some queue) q s h some = take_answers queue.messages queue q s refl (some queue refl)
 
 -- A receiver whose ticket isn't stale isn't refused: there is a message for it.
-pub fresh_receiver_answers : (ticket : PortTicket) (s : Xinu) → IsSound s → (process_at s.tables s.tables.current).rest ≡ PtRecv ticket → is_stale ticket s.parts.ports ≡ false
-    → AnswersFirst (port_at s.parts.ports ticket.port).queue (continued (PtRecv ticket) s).answer
+pub fresh_receiver_answers : (ticket : PortTicket) (s : Xinu) → IsSound s → (process_at s.tables s.tables.current).rest ≡ PtRecv ticket
+    → is_stale ticket s.parts.ports ≡ false → AnswersFirst (port_at s.parts.ports ticket.port).queue (continued (PtRecv ticket) s).answer
 fresh_receiver_answers ticket s sound e h =
     let t = s.tables in
     let u = goes_on (held s) s in

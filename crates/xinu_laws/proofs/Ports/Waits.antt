@@ -29,7 +29,8 @@ waits_where_left t c sem p r h = ⊎_elim
     (λ (n : p ≢ c). inr (n, subst (λ k. 0 < k) (numbers_without_other p c (semaphore_at t r).waiters n) h)) (cases_eq p c)
 
 -- Who waits on a semaphore once c waits on sem: c on sem, or another that waited there before.
-waits_after : (t : Tables) (c sem : ℕ) (x : Process) (m : Option ℕ) → sem < length t.semaphores → (p r : ℕ) → 0 < count_in p (semaphore_at (move_to c x m (InSemaphore sem) t) r).waiters → IsHereOr t c sem p r
+waits_after : (t : Tables) (c sem : ℕ) (x : Process) (m : Option ℕ) → sem < length t.semaphores → (p r : ℕ)
+    → 0 < count_in p (semaphore_at (move_to c x m (InSemaphore sem) t) r).waiters → IsHereOr t c sem p r
 waits_after t c sem x m i p r =
     let j : IsInTable (InSemaphore sem) (waits_without c t.semaphores) = (let e = length-waits_without c t.semaphores in omega arith) in
     semaphore_move_cases t c r x m (InSemaphore sem) (λ y. 0 < count_in p y.waiters → IsHereOr t c sem p r) j
@@ -39,7 +40,8 @@ waits_after t c sem x m i p r =
 
 -- what is left of the call of one who waits on semaphore s of port q
 pub record IsCallOn (ports : List MessagePort) (q : ℕ) (queue : PortQueue) (sem : ℕ) (left : Rest) : Type 0 where
-  pub sends : sem ≡ queue.send → (message : ℕ) × (left ≡ PtSend (record { port = q; seq = (port_at ports q).seq; sem = queue.send }) message)
+  pub sends : sem ≡ queue.send
+      → (message : ℕ) × (left ≡ PtSend (record { port = q; seq = (port_at ports q).seq; sem = queue.send }) message)
   pub receives : sem ≡ queue.receive → left ≡ PtRecv (record { port = q; seq = (port_at ports q).seq; sem = queue.receive })
   pub sent : (ticket : PortTicket) (message : ℕ) → left ≡ PtSend ticket message → ticket.seq ≤ (port_at ports ticket.port).seq
   pub received : (ticket : PortTicket) → left ≡ PtRecv ticket → ticket.seq ≤ (port_at ports ticket.port).seq
@@ -56,11 +58,15 @@ module _ (q : ℕ) (queue : PortQueue) (sem : ℕ) (left : Rest) (c : ℕ) (m : 
 
   -- a semaphore keeps its owner and its tokens
   same_owner : (r : ℕ) → (semaphore_at (made_wait c sem left m t) r).owner ≡ (semaphore_at t r).owner
-  same_owner r = semaphore_move_cases t c r (record (process_at t c) { state = Waiting; rest = left }) m (InSemaphore sem) (λ y. y.owner ≡ (semaphore_at t r).owner)
+  same_owner r =
+      semaphore_move_cases t c r (record (process_at t c) { state = Waiting; rest = left }) m (InSemaphore sem)
+      (λ y. y.owner ≡ (semaphore_at t r).owner)
       (let e = length-waits_without c t.semaphores in let f = within in omega arith) refl (λ v f g. refl)
 
   same_tokens : (r : ℕ) → (semaphore_at (made_wait c sem left m t) r).tokens ≡ (semaphore_at t r).tokens
-  same_tokens r = semaphore_move_cases t c r (record (process_at t c) { state = Waiting; rest = left }) m (InSemaphore sem) (λ y. y.tokens ≡ (semaphore_at t r).tokens)
+  same_tokens r =
+      semaphore_move_cases t c r (record (process_at t c) { state = Waiting; rest = left }) m (InSemaphore sem)
+      (λ y. y.tokens ≡ (semaphore_at t r).tokens)
       (let e = length-waits_without c t.semaphores in let f = within in omega arith) refl (λ v f g. refl)
 
   -- the caller's call, and those of the others
@@ -68,7 +74,9 @@ module _ (q : ℕ) (queue : PortQueue) (sem : ℕ) (left : Rest) (c : ℕ) (m : 
   caller_waits = ap (λ (x : Process). x.rest) (process_move_same t c (record (process_at t c) { state = Waiting; rest = left }) m (InSemaphore sem) o.processes w)
 
   others_wait : (p : ℕ) → p ≢ c → (process_at (made_wait c sem left m t) p).rest ≡ (process_at t p).rest
-  others_wait p n = ap (λ (x : Process). x.rest) (process_move_other t p c (record (process_at t c) { state = Waiting; rest = left }) m (InSemaphore sem) n)
+  others_wait p n =
+      ap (λ (x : Process). x.rest)
+      (process_move_other t p c (record (process_at t c) { state = Waiting; rest = left }) m (InSemaphore sem) n)
 
   -- the caller is released from no semaphore
   counts_wait : (r : ℕ) → KeepsCounts r t (made_wait c sem left m t)
@@ -79,14 +87,16 @@ module _ (q : ℕ) (queue : PortQueue) (sem : ℕ) (left : Rest) (c : ℕ) (m : 
   }
 
   -- a port whose semaphore the caller's is is the caller's, with its queue
-  same_port : (r v : ℕ) (other : PortQueue) → (port_at ports r).queue ≡ Some other → (semaphore_at t v).owner ≡ Some (owner.Port r) → v ≡ sem → (r ≡ q) × (other ≡ queue)
+  same_port : (r v : ℕ) (other : PortQueue) → (port_at ports r).queue ≡ Some other → (semaphore_at t v).owner ≡ Some (owner.Port r)
+      → v ≡ sem → (r ≡ q) × (other ≡ queue)
   same_port r v other e f g =
       let h : Some (owner.Port r) ≡ Some (owner.Port q) = sym f ∙ subst (λ k. (semaphore_at t k).owner ≡ Some (owner.Port q)) (sym g) owned in
       let k : r ≡ q = cc in
       (k, (let l : Some other ≡ Some queue = sym e ∙ subst (λ n. (port_at ports n).queue ≡ Some queue) (sym k) here in cc))
 
   -- What holds of each port holds on.
-  port_waits : (r : ℕ) (other : PortQueue) → (port_at ports r).queue ≡ Some other → IsSoundPort t r (port_at ports r).seq other → IsSoundPort (made_wait c sem left m t) r (port_at ports r).seq other
+  port_waits : (r : ℕ) (other : PortQueue) → (port_at ports r).queue ≡ Some other → IsSoundPort t r (port_at ports r).seq other
+      → IsSoundPort (made_wait c sem left m t) r (port_at ports r).seq other
   port_waits r other e k =
       let u = made_wait c sem left m t in
       let n = counts_kept r (port_at ports r).seq other t u (counts_wait r) k in

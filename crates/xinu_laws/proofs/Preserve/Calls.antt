@@ -154,10 +154,13 @@ no_console : (f : Footprint) {P : Type 0} → names_no_device f ≡ true → f.c
 no_console f e = unnamed f.console (and_parts (not f.console) (not f.names && names_no_disk f) e).0
 
 no_names : (f : Footprint) {P : Type 0} → names_no_device f ≡ true → f.names ≡ true → P
-no_names f e = unnamed f.names (and_parts (not f.names) (names_no_disk f) (and_parts (not f.console) (not f.names && names_no_disk f) e).1).0
+no_names f e =
+    unnamed f.names (and_parts (not f.names) (names_no_disk f) (and_parts (not f.console) (not f.names && names_no_disk f) e).1).0
 
 no_disk : (f : Footprint) {P : Type 0} → names_no_device f ≡ true → f.disk || f.files ≡ true → P
-no_disk f e = unnamed (f.disk || f.files) (and_parts (not f.names) (names_no_disk f) (and_parts (not f.console) (not f.names && names_no_disk f) e).1).1
+no_disk f e =
+    unnamed (f.disk || f.files)
+    (and_parts (not f.names) (names_no_disk f) (and_parts (not f.console) (not f.names && names_no_disk f) e).1).1
 
 module _ {r : CallRow} where
   -- A call that touches no pool, no port and no device, and may make processes and end them.
@@ -177,7 +180,8 @@ module _ {r : CallRow} where
       }
 
   -- A call that touches no pool, no port, no device and no stack.
-  of_tables : names_no_part r.touches && not r.touches.stacks ≡ true → ((a : ℕ → ℕ) (s : Xinu) → MayCall s → IsPreserved (r.effect a s)) → PreservesRow r
+  of_tables : names_no_part r.touches && not r.touches.stacks ≡ true → ((a : ℕ → ℕ) (s : Xinu) → MayCall s → IsPreserved (r.effect a s))
+      → PreservesRow r
   of_tables e preserved =
       let h = and_parts (names_no_part r.touches) (not r.touches.stacks) e in
       of_processes h.0 preserved (λ a s c g. unnamed r.touches.stacks h.1 g)
@@ -217,7 +221,8 @@ module _ {r : CallRow} where
       }
 
   -- A call that touches both.
-  of_all : not r.touches.stacks && names_no_device r.touches ≡ true → ((a : ℕ → ℕ) (s : Xinu) → MayCallAny s → PreservesAll (r.effect a s)) → PreservesRow r
+  of_all : not r.touches.stacks && names_no_device r.touches ≡ true → ((a : ℕ → ℕ) (s : Xinu) → MayCallAny s → PreservesAll (r.effect a s))
+      → PreservesRow r
   of_all e k =
       let h = and_parts (not r.touches.stacks) (names_no_device r.touches) e in
       record {
@@ -250,8 +255,8 @@ module _ {r : CallRow} where
       }
 
   -- A call on a device, which touches the console, the raw disk and files at most.
-  of_device : not r.touches.pools && (not r.touches.ports && (not r.touches.stacks && not r.touches.names)) ≡ true → ((a : ℕ → ℕ) → Keeps (r.effect a))
-      → PreservesRow r
+  of_device : not r.touches.pools && (not r.touches.ports && (not r.touches.stacks && not r.touches.names)) ≡ true
+      → ((a : ℕ → ℕ) → Keeps (r.effect a)) → PreservesRow r
   of_device e k =
       let h = and_parts (not r.touches.pools) (not r.touches.ports && (not r.touches.stacks && not r.touches.names)) e in
       let l = and_parts (not r.touches.ports) (not r.touches.stacks && not r.touches.names) h.1 in
@@ -357,11 +362,15 @@ call_keeps number args s c = by_row (found_in calls number) refl
     by_row (Some r) e = row_keeps number r e (slice_index args) s c
 
 pub called_keeps : (number : ℕ) (args : List ℕ) (s : Xinu) → MayCallAny s → KeepsAll (called number args s)
-called_keeps number args s c = cond_both (is_served number args) (call_of_number number args s) (refused s) KeepsAll (λ _. call_keeps number args s c) (λ _. refused_keeps_all s c)
+called_keeps number args s c =
+    cond_both (is_served number args) (call_of_number number args s) (refused s) KeepsAll (λ _. call_keeps number args s c)
+    (λ _. refused_keeps_all s c)
 
 -- the death of the caller,
 pub exit_keeps : (s : Xinu) → MayCallAny s → KeepsAll (exit s)
-exit_keeps s c = keeps_within on_deaths s (exit s) c (exit_touches s (sound_where_called s c)) (exit_preserves s c.may) (λ e. absurd (cc)) (λ e. absurd (cc)) (λ _. exit_unused s c) (λ e. absurd (cc)) (λ e. absurd (cc)) (λ _. exit_keeps_disk s c.may (disks_in c.devices))
+exit_keeps s c =
+    keeps_within on_deaths s (exit s) c (exit_touches s (sound_where_called s c)) (exit_preserves s c.may) (λ e. absurd (cc))
+    (λ e. absurd (cc)) (λ _. exit_unused s c) (λ e. absurd (cc)) (λ e. absurd (cc)) (λ _. exit_keeps_disk s c.may (disks_in c.devices))
 
 -- what is left of a call on the console,
 console_continues : (s : Xinu) (h : CallResult) {Left : Type 0} → MayCallAny s → Left → KeepsConsole (Left × HasConsole s) s h → KeepsAll h

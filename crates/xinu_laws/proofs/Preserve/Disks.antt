@@ -39,8 +39,8 @@ sound_on d s good requests calls k = record {
 }
 
 -- The machine starts in a sound state.
-pub sound_boot_on : (disks : Disks) (images : List Loaded) (start : Xinu) → length images < NPROC → AreSoundDisks disks → boot_on disks images ≡ Boots start
-    → IsSound start
+pub sound_boot_on : (disks : Disks) (images : List Loaded) (start : Xinu) → length images < NPROC → AreSoundDisks disks
+    → boot_on disks images ≡ Boots start → IsSound start
 sound_boot_on disks images start few good e =
     let b = boots_from (boot images) (λ s. Boots (on_disks disks s)) start e in
     let is : on_disks disks b.0 ≡ start = cc in

@@ -53,7 +53,8 @@ use Rattle.table_laws.proofs.Tables.Ticks.{sound_ticked}
 use Rattle.table_laws.proofs.Tables.Harts.{harts_same}
 
 -- The end of an event leaves a sound state.
-pub state_end_of_event : (was : ℕ) (first : List TranscriptLine) (result : CallResult) → KeepsAll result → IsSound (end_of_event was first result).state
+pub state_end_of_event : (was : ℕ) (first : List TranscriptLine) (result : CallResult) → KeepsAll result
+    → IsSound (end_of_event was first result).state
 state_end_of_event was first result k =
     let tables = sound_end_of_event was first result k.preserved in
     let touches : Touches (reach on_tables) result.call.state (end_of_event was first result).state = touches_end_of_event was first result (inside_preserved result k.preserved) (replies_alive result k.preserved) in
@@ -82,8 +83,10 @@ state_reacted outcome.Went s c = record { tables = c.may.tables; harts = c.may.h
 state_reacted outcome.Call s c =
     let call = call_of (current_hart s) in
     state_end_of_event s.tables.current (call_line s call ∷ []) (called call.number call.args s) (called_keeps call.number call.args s c)
-state_reacted outcome.Exit s c = state_end_of_event s.tables.current (call_line s (exit_call (current_hart s)) ∷ []) (exit s) (exit_keeps s c)
-state_reacted (outcome.Trap cause) s c = state_end_of_event s.tables.current (line.Trap s.tables.current cause ∷ []) (exit s) (exit_keeps s c)
+state_reacted outcome.Exit s c =
+    state_end_of_event s.tables.current (call_line s (exit_call (current_hart s)) ∷ []) (exit s) (exit_keeps s c)
+state_reacted (outcome.Trap cause) s c =
+    state_end_of_event s.tables.current (line.Trap s.tables.current cause ∷ []) (exit s) (exit_keeps s c)
 
 -- A machine step keeps the state sound.
 pub state_stepped : (s : Xinu) → IsSound s → IsSound (stepped s).state
@@ -163,13 +166,15 @@ served_keeps_all s d k r = record {
 }
 
 -- and so a completion keeps the state sound
-state_served : (good : Bool) (found : Option Served) (s : Xinu) → raw_completed good (disk_of s) ≡ found → IsSound s → IsSound (served_in found s).state
+state_served : (good : Bool) (found : Option Served) (s : Xinu) → raw_completed good (disk_of s) ≡ found → IsSound s
+    → IsSound (served_in found s).state
 state_served good None s e k = k
 state_served good (Some x) s e k =
     state_end_of_event s.tables.current [] (serving x s) (served_keeps_all s (after_served x s) k (served_completes good x s e (sound_holds s k) (disks_in k.devices)))
 
 -- and so does a good completion of the files' disk, whatever is chosen in it
-state_completed : (calls : List FileRequest) (choice : ℕ) (s : Xinu) → (files_of s).calls ≡ calls → IsSound s → IsSound (completed_in calls choice s).state
+state_completed : (calls : List FileRequest) (choice : ℕ) (s : Xinu) → (files_of s).calls ≡ calls → IsSound s
+    → IsSound (completed_in calls choice s).state
 state_completed [] choice s e k = k
 state_completed (a ∷ calls) choice s e k =
     let n = least_effects (a ∷ calls) (files_of s) + choice in
@@ -194,7 +199,8 @@ state_at_once a s made k =
     state_end_of_event u.tables.current (call_line u (call_of (current_hart u)) ∷ map file_line x.notes) (at_once a u)
     (at_once_keeps a u (may_call_after s (may_call s k (not_null_makes s a made))) m.none (ap is_some m.caller) (next_can s a made after.devices.files.itself))
 
-state_step_with : (choice : ℕ) (found : Option FileRequest) (s : Xinu) → next_file_call s ≡ found → IsSound s → IsSound (step_with choice found s).state
+state_step_with : (choice : ℕ) (found : Option FileRequest) (s : Xinu) → next_file_call s ≡ found → IsSound s
+    → IsSound (step_with choice found s).state
 state_step_with zero found s e k = state_stepped s k
 state_step_with (suc choice) None s e k = state_stepped s k
 state_step_with (suc choice) (Some a) s e k = state_at_once a s e k
@@ -219,7 +225,8 @@ pub sound_happens : IsKept IsSound
 sound_happens old e lines new k h = subst IsSound (ap (λ (x : EventResult). x.state) h.effect) (state_effect old e h.choice k)
 
 -- Each run keeps the state sound.
-pub sound_run : (events : List Event) (old : Xinu) (lines : List TranscriptLine) (new : Xinu) (end : End) → IsSound old → RunsTo old events lines new end → IsSound new
+pub sound_run : (events : List Event) (old : Xinu) (lines : List TranscriptLine) (new : Xinu) (end : End) → IsSound old
+    → RunsTo old events lines new end → IsSound new
 sound_run = runs_keep IsSound sound_happens
 
 -- The machine starts in a sound state.

@@ -24,13 +24,16 @@ send_preserves p message s c = either_preserves (can_get p s.tables) _ _
     (λ _. refused_preserves s c)
 
 -- the caller's message is taken, or it goes another way that is fine if it holds none
-received_preserves : (message : Option ℕ) (otherwise : CallResult) (s : Xinu) → message ≡ held s → MayCall s → (held s ≡ None → IsPreserved otherwise) → IsPreserved (received message otherwise s)
+received_preserves : (message : Option ℕ) (otherwise : CallResult) (s : Xinu) → message ≡ held s → MayCall s
+    → (held s ≡ None → IsPreserved otherwise) → IsPreserved (received message otherwise s)
 received_preserves None otherwise s e c f = f (sym e)
 received_preserves (Some message) otherwise s e c f = let k = goes_on_may_call None s c in record { tables = k.tables; harts = k.harts; released = tt }
 
 -- Call 22.
 pub receive_preserves : Preserves receive
-receive_preserves s c = received_preserves (held s) _ s refl c (λ e. blocked_preserves Receiving rest.Receive Nowhere s c (λ f. cc) (refl, refl, refl) tt (refl, e))
+receive_preserves s c =
+    received_preserves (held s) _ s refl c
+    (λ e. blocked_preserves Receiving rest.Receive Nowhere s c (λ f. cc) (refl, refl, refl) tt (refl, e))
 
 -- Call 23.
 pub recvclr_preserves : Preserves recvclr
@@ -48,7 +51,8 @@ recvtime_preserves (pos n) = λ s c. received_preserves (held s) _ s refl c
 
 -- What is left of a call that waited for a message.
 pub go_on_receive_preserves : Preserves go_on_receive
-go_on_receive_preserves s c = received_preserves (held s) _ s refl c (λ _. answers_preserves TIMEOUT (goes_on None s) (goes_on_may_call None s c))
+go_on_receive_preserves s c =
+    received_preserves (held s) _ s refl c (λ _. answers_preserves TIMEOUT (goes_on None s) (goes_on_may_call None s c))
 
 -- Call 6.
 pub yield_preserves : Preserves yield
@@ -58,12 +62,14 @@ yield_preserves s c = record { tables = c.tables; harts = c.harts; released = tt
 pub sleepms_preserves : (ticks : ℤ) → Preserves (sleepms ticks)
 sleepms_preserves (negsuc n) = refused_preserves
 sleepms_preserves (pos zero) = yield_preserves
-sleepms_preserves (pos (suc n)) = λ s c. blocked_preserves Sleeping rest.Nothing (InSleepers (s.tables.ticks + suc n)) s c (λ f. cc) (refl, refl, refl) (omega arith) refl
+sleepms_preserves (pos (suc n)) =
+    λ s c. blocked_preserves Sleeping rest.Nothing (InSleepers (s.tables.ticks + suc n)) s c (λ f. cc) (refl, refl, refl) (omega arith) refl
 
 -- Call 25.
 pub sleep_preserves : (seconds : ℤ) → Preserves (sleep seconds)
 sleep_preserves (negsuc n) = refused_preserves
-sleep_preserves (pos n) = λ s c. either_preserves (nat_lt 2147483 n) _ _ (λ _. refused_preserves s c) (λ _. sleepms_preserves (pos (1000 * n)) s c)
+sleep_preserves (pos n) =
+    λ s c. either_preserves (nat_lt 2147483 n) _ _ (λ _. refused_preserves s c) (λ _. sleepms_preserves (pos (1000 * n)) s c)
 
 -- Call 27.
 pub clktime_preserves : Preserves clktime

@@ -34,8 +34,8 @@ free_is_not_null t p o free e =
     ⊎_elim (λ (f : state_at t p ≡ Current). let g = sym free ∙ f in absurd cc) (λ (f : state_at t p ≡ Ready). let g = sym free ∙ f in absurd cc) can
 
 -- A process is made at a free number.
-pub sound_made_process : (t : Tables) (p : ℕ) (x : Process) → IsSoundTables t → p < 64 → state_at t p ≡ Free → x.state ≡ Suspended → x.rest ≡ Nothing
-    → IsSoundTables (record (move_to p x None Nowhere t) { last_process = p })
+pub sound_made_process : (t : Tables) (p : ℕ) (x : Process) → IsSoundTables t → p < 64 → state_at t p ≡ Free → x.state ≡ Suspended
+    → x.rest ≡ Nothing → IsSoundTables (record (move_to p x None Nowhere t) { last_process = p })
 sound_made_process t p x k within free state rest =
     let c : CanMove t p x None Nowhere = record {
       within = within;
@@ -66,7 +66,8 @@ created_preserves None stack entry size priority name x y s e c = refused_preser
 
 -- Call 2.
 pub create_preserves : (entry size : ℕ) (priority : ℤ) (name x y : ℕ) → Preserves (create entry size priority name x y)
-create_preserves entry size priority name x y s c = either_preserves (int_lt priority (pos 1) || not (in_ram name 16)) _ _ (λ _. refused_preserves s c)
+create_preserves entry size priority name x y s c =
+    either_preserves (int_lt priority (pos 1) || not (in_ram name 16)) _ _ (λ _. refused_preserves s c)
     (λ _. created_preserves (free_process s.tables) (take_stack (stack_size size) s.parts.heap) entry (stack_size size) priority (process_name (take 16 (drop name s.memory))) x y s refl c)
 
 -- Call 3.
@@ -81,7 +82,8 @@ resume_preserves p s c = either_preserves (is_suspended (state_at s.tables p)) _
     (λ _. refused_preserves s c)
 
 -- A ready process is suspended.
-sound_suspended : (t : Tables) (p : ℕ) → IsSoundTables t → p ≢ 0 → state_at t p ≡ Ready → IsSoundTables (move_to p (in_state Suspended (process_at t p)) (message_at t p) Nowhere t)
+sound_suspended : (t : Tables) (p : ℕ) → IsSoundTables t → p ≢ 0 → state_at t p ≡ Ready
+    → IsSoundTables (move_to p (in_state Suspended (process_at t p)) (message_at t p) Nowhere t)
 sound_suspended t p k n e =
     sound_move t p (in_state Suspended (process_at t p)) (message_at t p) Nowhere k (idle_differs t p t.current (λ f. cc) k.runs)
     (record {
@@ -142,7 +144,8 @@ is_not_ready : (s : State) → is_ready s ≡ false → s ≢ Ready
 is_not_ready s h e = let f = ap is_ready e in cc
 
 -- A process gets another priority.
-sound_with_priority : (t : Tables) (p : ℕ) (priority : ℤ) → IsSoundTables t → state_at t p ≢ Free → IsSoundTables (with_priority p priority t)
+sound_with_priority : (t : Tables) (p : ℕ) (priority : ℤ) → IsSoundTables t → state_at t p ≢ Free
+    → IsSoundTables (with_priority p priority t)
 sound_with_priority t p priority k alive =
     let x = record (process_at t p) { priority = priority } in
     cond_both (is_ready (state_at t p)) (move_to p x (message_at t p) InReady t) (record t { processes = slice_set t.processes p x }) IsSoundTables
@@ -156,8 +159,11 @@ chprio_preserves p priority s c = either_preserves (is_free (state_at s.tables p
 
 -- Call 8.
 pub getprio_preserves : (p : ℕ) → Preserves (getprio p)
-getprio_preserves p s c = either_preserves (is_free (state_at s.tables p)) _ _ (λ _. refused_preserves s c) (λ _. answers_preserves (process_at s.tables p).priority s c)
+getprio_preserves p s c =
+    either_preserves (is_free (state_at s.tables p)) _ _ (λ _. refused_preserves s c)
+    (λ _. answers_preserves (process_at s.tables p).priority s c)
 
 -- What is left of a call by which a process suspended itself.
 pub go_on_suspend_preserves : Preserves go_on_suspend
-go_on_suspend_preserves s c = answers_preserves (process_at s.tables s.tables.current).priority (goes_on (held s) s) (goes_on_may_call (held s) s c)
+go_on_suspend_preserves s c =
+    answers_preserves (process_at s.tables s.tables.current).priority (goes_on (held s) s) (goes_on_may_call (held s) s c)

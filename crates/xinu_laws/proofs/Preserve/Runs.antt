@@ -19,7 +19,8 @@ follows_keep P (Some how) events first lines mid new end rest k f = subst P (sym
 follows_keep P None events first lines mid new end rest k f = rest f.0 f.1
 
 -- What each event keeps each run keeps.
-pub runs_keep : (P : Xinu → Type 0) → IsKept P → (events : List Event) (old : Xinu) (lines : List TranscriptLine) (new : Xinu) (end : End) → P old → RunsTo old events lines new end → P new
+pub runs_keep : (P : Xinu → Type 0) → IsKept P → (events : List Event) (old : Xinu) (lines : List TranscriptLine) (new : Xinu) (end : End)
+    → P old → RunsTo old events lines new end → P new
 runs_keep P kept [] old lines new end k r = subst P (sym r.1) k
 runs_keep P kept (e ∷ events) old lines new end k r =
     let mid = kept old e r.1 r.0 k r.2 in

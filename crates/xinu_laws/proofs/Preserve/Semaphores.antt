@@ -43,12 +43,14 @@ good_semaphore t sem o h =
     record { owner = e; within = semaphore_within t sem o.semaphores (λ f. cc); no_device = owned_is_no_device t sem o (λ f. cc) }
 
 -- A semaphore is made if a search found a number.
-pub sound_found_semaphore : (t : Tables) (sem tokens : ℕ) (by : Owner) → IsSoundTables t → free_semaphore t ≡ Some sem → by ≢ Device → IsSoundTables (make_semaphore sem by tokens t)
+pub sound_found_semaphore : (t : Tables) (sem tokens : ℕ) (by : Owner) → IsSoundTables t → free_semaphore t ≡ Some sem → by ≢ Device
+    → IsSoundTables (make_semaphore sem by tokens t)
 sound_found_semaphore t sem tokens by k e n =
     sound_made_semaphore t sem tokens by k (search_within (λ r. not (is_some (semaphore_at t r).owner)) 128 (t.last_semaphore + 1) sem e) (free_semaphore_free t sem e) n
 
 -- a semaphore that is made if one was found
-made_semaphore_preserves : (n : ℕ) (found : Option ℕ) (x : Xinu) → free_semaphore x.tables ≡ found → MayCall x → IsPreserved (made_semaphore n found x)
+made_semaphore_preserves : (n : ℕ) (found : Option ℕ) (x : Xinu) → free_semaphore x.tables ≡ found → MayCall x
+    → IsPreserved (made_semaphore n found x)
 made_semaphore_preserves n None x e c = refused_preserves x c
 made_semaphore_preserves n (Some s) x e c = record { tables = sound_found_semaphore x.tables s n Image c.tables e (λ f. cc); harts = c.harts; released = tt }
 
@@ -90,7 +92,9 @@ semreset_preserves sem (pos n) = λ x c. either_preserves (is_good sem x.tables)
 
 -- Call 17.
 pub semcount_preserves : (sem : ℕ) → Preserves (semcount sem)
-semcount_preserves sem x c = either_preserves (is_good sem x.tables) _ _ (λ _. answers_preserves (count_of (semaphore_at x.tables sem)) x c) (λ _. refused_preserves x c)
+semcount_preserves sem x c =
+    either_preserves (is_good sem x.tables) _ _ (λ _. answers_preserves (count_of (semaphore_at x.tables sem)) x c)
+    (λ _. refused_preserves x c)
 
 -- Call 18.
 pub wait_preserves : (sem : ℕ) → Preserves (wait sem)

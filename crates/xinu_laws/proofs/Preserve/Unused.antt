@@ -27,7 +27,8 @@ abbrev pub AreUnusedAfter : CallResult → Type 0
 AreUnusedAfter h = AreUnused h.call.state.tables h.call.state.harts
 
 -- a process dies
-unused_killed : (p : ℕ) (d : CallState) → AreUnused d.state.tables d.state.harts → AreUnused (killed p d).state.tables (killed p d).state.harts
+unused_killed : (p : ℕ) (d : CallState) → AreUnused d.state.tables d.state.harts
+    → AreUnused (killed p d).state.tables (killed p d).state.harts
 unused_killed p d a =
     let told = sent (process_at d.state.tables p).parent p d in
     let touches : Touches (reach on_tables) d.state told.state = touches_sent (process_at d.state.tables p).parent p d in
@@ -51,7 +52,8 @@ created_unused (Some p) (Some stack) entry size priority name x y s e c =
 created_unused (Some p) None entry size priority name x y s e c = c.unused
 created_unused None stack entry size priority name x y s e c = c.unused
 
-pub create_unused : (entry size : ℕ) (priority : ℤ) (name x y : ℕ) (s : Xinu) → MayCallAny s → AreUnusedAfter (create entry size priority name x y s)
+pub create_unused : (entry size : ℕ) (priority : ℤ) (name x y : ℕ) (s : Xinu) → MayCallAny s
+    → AreUnusedAfter (create entry size priority name x y s)
 create_unused entry size priority name x y s c =
     cond_both (int_lt priority (pos 1) || not (in_ram name 16)) (refused s) _ AreUnusedAfter (λ _. c.unused)
     (λ _. created_unused (free_process s.tables) (take_stack (stack_size size) s.parts.heap) entry (stack_size size) priority (process_name (take 16 (drop name s.memory))) x y s refl c)
@@ -61,8 +63,8 @@ abbrev on_any_tables : Reach
 on_any_tables = record { mine = λ sem by. false; asks = λ left. false; parts = on_tables; clock = false }
 
 -- The start, by the first image that overlaps an earlier one.
-unused_unless_overlap : (overlap : Option ℕ) (images : List Loaded) (start : Xinu) → length images < 64 → unless_overlap overlap images ≡ Boots start
-    → AreUnused start.tables start.harts
+unused_unless_overlap : (overlap : Option ℕ) (images : List Loaded) (start : Xinu) → length images < 64
+    → unless_overlap overlap images ≡ Boots start → AreUnused start.tables start.harts
 unused_unless_overlap (Some i) images start few e = cc
 unused_unless_overlap None images start few e =
     let b = boots_from (all_made 1 images (loaded_machine images)) (λ s. Boots (all_started images s)) start e in
@@ -72,5 +74,6 @@ unused_unless_overlap None images start few e =
     subst (λ (s : Xinu). AreUnused s.tables s.harts) is (keeps_unused (touches.free refl) made.unused)
 
 -- At the start free numbers have their registers.
-pub unused_start : (images : List Loaded) (start : Xinu) → length images < 64 → boot images ≡ Boots start → AreUnused start.tables start.harts
+pub unused_start : (images : List Loaded) (start : Xinu) → length images < 64 → boot images ≡ Boots start
+    → AreUnused start.tables start.harts
 unused_start images start few e = unused_unless_overlap (first_overlap 1 [] images) images start few e

@@ -20,7 +20,8 @@ use Rattle.table_laws.proofs.Tables.MoveTo.{process_move_same, within_table}
 use Rattle.table_laws.proofs.Tables.Unblock.{waiter_waits}
 
 -- who may not ask is refused,
-pub asks_in_vain : (at block : ℕ) (s : Xinu) → may_request at block s ≡ false → (disk_read at block s ≡ refused s) × (disk_write at block s ≡ refused s)
+pub asks_in_vain : (at block : ℕ) (s : Xinu) → may_request at block s ≡ false
+    → (disk_read at block s ≡ refused s) × (disk_write at block s ≡ refused s)
 asks_in_vain at block s e = (
   ap (λ b. cond b (awaits_disk None at block s) (refused s)) e,
   ap (λ b. cond b (awaits_disk (Some (bytes_from s.memory at RD_BLKSIZ)) at block s) (refused s)) e,
@@ -38,7 +39,8 @@ asker_waits at block s e = (
 abbrev HasBeenTold : ℕ → ℤ → CallState → Type 0
 HasBeenTold p reply d = (state_at d.state.tables p ≡ Ready) × ((process_at d.state.tables p).rest ≡ Disk (Some reply))
 
-reply_is_kept : (p : ℕ) (reply : ℤ) (s : Xinu) → length s.tables.processes ≡ 64 → p < 64 → HasBeenTold p reply (keep_reply p reply (start s))
+reply_is_kept : (p : ℕ) (reply : ℤ) (s : Xinu) → length s.tables.processes ≡ 64 → p < 64
+    → HasBeenTold p reply (keep_reply p reply (start s))
 reply_is_kept p reply s many w =
     let t = s.tables in
     let x : Process = record (process_at t p) { state = Ready; rest = Disk (Some reply) } in
@@ -46,8 +48,8 @@ reply_is_kept p reply s many w =
     (ap (λ (y : Process). y.state) e, ap (λ (y : Process). y.rest) e)
 
 -- A completion makes the caller of the request that it serves ready, and its reply is the caller's.
-pub caller_is_told : (good : Bool) (x : Served) (p : ℕ) (s : Xinu) → IsSound s → raw_completed good (disk_of s) ≡ Some x → x.request.caller ≡ Some p
-    → HasBeenTold p x.reply (after_served x s)
+pub caller_is_told : (good : Bool) (x : Served) (p : ℕ) (s : Xinu) → IsSound s → raw_completed good (disk_of s) ≡ Some x
+    → x.request.caller ≡ Some p → HasBeenTold p x.reply (after_served x s)
 caller_is_told good x p s k e some =
     let t = s.tables in
     let o = k.tables.inside in

@@ -46,8 +46,8 @@ nobody_told x s memory c k f none = record {
 }
 
 -- a request of p is served: p becomes ready with its reply
-caller_told : (p : ℕ) (reply : ℤ) (x : Served) (s : Xinu) (memory : List ℕ) → Holds s → HasDisks s → ServesFirst (disk_of s) x → x.request.caller ≡ Some p
-    → Completes s (reply_kept (Some p) reply (start (record (with_disk x.disk s) { memory = memory })))
+caller_told : (p : ℕ) (reply : ℤ) (x : Served) (s : Xinu) (memory : List ℕ) → Holds s → HasDisks s → ServesFirst (disk_of s) x
+    → x.request.caller ≡ Some p → Completes s (reply_kept (Some p) reply (start (record (with_disk x.disk s) { memory = memory })))
 caller_told p reply x s memory c k f some =
     let t = s.tables in
     let l = requesters x.disk.requests in
@@ -71,10 +71,13 @@ caller_told p reply x s memory c k f some =
     }
 
 -- A request is served.
-pub served_completes : (good : Bool) (x : Served) (s : Xinu) → raw_completed good (disk_of s) ≡ Some x → Holds s → HasDisks s → Completes s (after_served x s)
+pub served_completes : (good : Bool) (x : Served) (s : Xinu) → raw_completed good (disk_of s) ≡ Some x → Holds s → HasDisks s
+    → Completes s (after_served x s)
 served_completes good x s e c k = by_caller x.request.caller refl
   where
     by_caller : (caller : Option ℕ) → x.request.caller ≡ caller
         → Completes s (reply_kept caller x.reply (start (record (with_disk x.disk s) { memory = copied x.request.caller x.request.at x.bytes s.memory })))
-    by_caller None none = nobody_told x s (copied x.request.caller x.request.at x.bytes s.memory) c k (serves_first good (disk_of s) x e) none
-    by_caller (Some p) some = caller_told p x.reply x s (copied x.request.caller x.request.at x.bytes s.memory) c k (serves_first good (disk_of s) x e) some
+    by_caller None none =
+        nobody_told x s (copied x.request.caller x.request.at x.bytes s.memory) c k (serves_first good (disk_of s) x e) none
+    by_caller (Some p) some =
+        caller_told p x.reply x s (copied x.request.caller x.request.at x.bytes s.memory) c k (serves_first good (disk_of s) x e) some

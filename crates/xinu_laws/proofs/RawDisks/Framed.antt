@@ -43,8 +43,8 @@ asks_disk (Disk reply) = true
 asks_disk _ = false
 
 -- what has a reply if it waits no longer has it if it is as it was
-reply_as_before : (left other : Rest) (waits waited : Bool) → (asks_disk left ≡ true → (left ≡ other) × (waits ≡ waited)) → HasReply waited other
-    → HasReply waits left
+reply_as_before : (left other : Rest) (waits waited : Bool) → (asks_disk left ≡ true → (left ≡ other) × (waits ≡ waited))
+    → HasReply waited other → HasReply waits left
 reply_as_before (Disk None) other waits waited f h = (f refl).1 ∙ subst (HasReply waited) (sym (f refl).0) h
 reply_as_before (Disk (Some reply)) other waits waited f h = (f refl).1 ∙ subst (HasReply waited) (sym (f refl).0) h
 reply_as_before _ other waits waited f h = tt
@@ -55,7 +55,8 @@ module _ (t u : Tables) (k : ℕ) (few : suc (suc k) < 4) (was : IsInside t) (o 
   is_mine : is_disks (suc (suc k)) (semaphore_at t (suc (suc k))).owner ≡ true
   is_mine = ap (is_disks (suc (suc k))) (was.devices (suc (suc k)) few)
 
-  in_call : (v : Tables) → IsInside v → (left : Rest) → FitsOwner (suc (suc k)) (semaphore_at v (suc (suc k))).owner left → asks_disk left ≡ true
+  in_call : (v : Tables) → IsInside v → (left : Rest) → FitsOwner (suc (suc k)) (semaphore_at v (suc (suc k))).owner left
+      → asks_disk left ≡ true
   in_call v inside left f =
       let e : left ≡ Disk None = subst (λ w. FitsOwner (suc (suc k)) w left) (inside.devices (suc (suc k)) few) f in ap asks_disk e
 
@@ -71,8 +72,8 @@ module _ (t u : Tables) (k : ℕ) (few : suc (suc k) < 4) (was : IsInside t) (o 
   disk_tokens = (framed.kept (suc (suc k)) is_mine).1
 
 -- What leaves the disks alone, and lets all wait who wait for them, keeps what holds of them.
-pub disks_framed : (t u : Tables) (d : Devices) → IsInside t → IsInside u → Frame is_disks asks_disk t u → StillWait asks_disk t u → AreDisks t d
-    → AreDisks u d
+pub disks_framed : (t u : Tables) (d : Devices) → IsInside t → IsInside u → Frame is_disks asks_disk t u → StillWait asks_disk t u
+    → AreDisks t d → AreDisks u d
 disks_framed t u d was o framed still k = record {
   raw = record {
     itself = k.raw.itself;

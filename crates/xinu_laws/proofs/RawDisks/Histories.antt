@@ -5,7 +5,8 @@ use Rattle.xinu_model.specs.RawDisk.Completions.{Served, transferred, served, fi
 use Rattle.xinu_model.specs.RawDisk.Requests.{Request, RawDisk, requested}
 
 -- a request that is served leaves the others
-pub others_stay : (good : Bool) (r : Request) (d : RawDisk) → ((served good r d).request ≡ r) × ((served good r d).disk.requests ≡ d.requests)
+pub others_stay : (good : Bool) (r : Request) (d : RawDisk)
+    → ((served good r d).request ≡ r) × ((served good r d).disk.requests ≡ d.requests)
 others_stay false r d = (refl, refl)
 others_stay true r d = by_kind r.written
   where

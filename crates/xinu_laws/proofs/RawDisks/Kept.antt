@@ -35,7 +35,8 @@ pub record KeepsDisks (f : Footprint) (s : Xinu) (h : CallResult) : Type 0 where
 -- another raw disk, and any memory
 pub disk_touches : (s u : Xinu) (d : RawDisk) → u.tables ≡ s.tables → u.harts ≡ s.harts
     → u.parts ≡ record s.parts { devices = record s.parts.devices { disk = d } } → Touches (reach on_disk) s u
-disk_touches s u d tables harts parts = touches_parts s u tables harts (subst (λ p. KeepsParts on_disk s.parts p) (sym parts) (parts_disk refl s.parts d))
+disk_touches s u d tables harts parts =
+    touches_parts s u tables harts (subst (λ p. KeepsParts on_disk s.parts p) (sym parts) (parts_disk refl s.parts d))
 
 pub answers_keeps : {f : Footprint} (value : ℤ) (s : Xinu) → Holds s → KeepsDisks f s (answers value s)
 answers_keeps value s c =
@@ -46,8 +47,8 @@ refused_keeps s c =
     record { preserved = λ _ _. record { tables = c.tables; harts = c.harts; released = tt }; touches = touches_refl s; disks = λ k. k }
 
 -- A caller makes a request and waits.
-awaits_keeps : (written : Option (List ℕ)) (at block : ℕ) (s : Xinu) → Holds s → IsRequest (length (disk_of s).blocks) (request_of written at block s)
-    → KeepsDisks on_disk s (awaits_disk written at block s)
+awaits_keeps : (written : Option (List ℕ)) (at block : ℕ) (s : Xinu) → Holds s
+    → IsRequest (length (disk_of s).blocks) (request_of written at block s) → KeepsDisks on_disk s (awaits_disk written at block s)
 awaits_keeps written at block s c is =
     let t = s.tables in
     let o = c.tables.inside in
@@ -98,4 +99,5 @@ disk_control_keeps f s c =
 
 -- and `write`.
 pub disk_write_keeps : (at block : ℕ) (s : Xinu) → Holds s → KeepsDisks on_disk s (disk_write at block s)
-disk_write_keeps at block s c = requests_keep (Some (bytes_from s.memory at RD_BLKSIZ)) at block s c (λ _. bytes_from_size s.memory at RD_BLKSIZ)
+disk_write_keeps at block s c =
+    requests_keep (Some (bytes_from s.memory at RD_BLKSIZ)) at block s c (λ _. bytes_from_size s.memory at RD_BLKSIZ)

@@ -67,8 +67,8 @@ waiter_added t q x m sem few o idle =
     ∙ ap (λ ws. ws ++ q ∷ []) (filter_absent (λ w. w == q) (semaphore_at t sem).waiters (not_among t q sem o idle))
 
 -- and every other has the waiters that it had.
-pub waiters_elsewhere : (t : Tables) (q : ℕ) (x : Process) (m : Option ℕ) (sem other : ℕ) → other ≢ sem → IsInside t → is_waiting (state_at t q) ≡ false
-    → (semaphore_at (move_to q x m (InSemaphore sem) t) other).waiters ≡ (semaphore_at t other).waiters
+pub waiters_elsewhere : (t : Tables) (q : ℕ) (x : Process) (m : Option ℕ) (sem other : ℕ) → other ≢ sem → IsInside t
+    → is_waiting (state_at t q) ≡ false → (semaphore_at (move_to q x m (InSemaphore sem) t) other).waiters ≡ (semaphore_at t other).waiters
 waiters_elsewhere t q x m sem other n o idle =
     ap (λ (y : Semaphore). y.waiters) (get_or-set_other (waits_without q t.semaphores) sem other _ no_semaphore n)
     ∙ ap (λ (y : Semaphore). y.waiters) (semaphore_at_without q other t.semaphores)
@@ -88,7 +88,8 @@ replied p reply t = move_to p (record (process_at t p) { state = Ready; rest = D
 
 -- a list without its first element, which it has once
 without_first : (p : ℕ) (l : List ℕ) → count_in p l ≡ 0 → numbers_without p (p ∷ l) ≡ l
-without_first p l e = cond-false (not (p == p)) (p ∷ numbers_without p l) (numbers_without p l) (ap not (eq-eqb p p refl)) ∙ filter_absent (λ x. x == p) l e
+without_first p l e =
+    cond-false (not (p == p)) (p ∷ numbers_without p l) (numbers_without p l) (ap not (eq-eqb p p refl)) ∙ filter_absent (λ x. x == p) l e
 
 -- the null process doesn't wait
 waits_not_null : (t : Tables) (p : ℕ) → IsInside t → state_at t p ≡ Waiting → p ≢ 0
@@ -154,8 +155,9 @@ module _ (k p : ℕ) (reply : ℤ) (l : List ℕ) (t : Tables) (few : suc (suc k
       }
 
 -- That touches no call that is left alone, unless calls on disks are.
-pub replied_touches : {f : Reach} → ((r : Option ℤ) → f.asks (Disk r) ≡ false) → (k p : ℕ) (reply : ℤ) (l : List ℕ) (s : Xinu) → suc (suc k) < 4
-    → IsSoundTables s.tables → (semaphore_at s.tables (suc (suc k))).waiters ≡ p ∷ l → Touches f s (record s { tables = replied p reply s.tables })
+pub replied_touches : {f : Reach} → ((r : Option ℤ) → f.asks (Disk r) ≡ false) → (k p : ℕ) (reply : ℤ) (l : List ℕ) (s : Xinu)
+    → suc (suc k) < 4 → IsSoundTables s.tables → (semaphore_at s.tables (suc (suc k))).waiters ≡ p ∷ l
+    → Touches f s (record s { tables = replied p reply s.tables })
 replied_touches {f} asks k p reply l s few sound first =
     let t = s.tables in
     touches_unasked s p (record (process_at t p) { state = Ready; rest = Disk (Some reply) }) (message_at t p) InReady tt (asks (Some reply)) refl (λ e. absurd (cc))

@@ -22,14 +22,16 @@ callers_left [] h = tt
 callers_left (a ∷ l) h = h.1
 
 -- what is left of a sound disk, whose first request is served
-left_sound : (r : Request) (l : List Request) (d : RawDisk) → d.requests ≡ r ∷ l → IsSoundRawDisk d → IsSoundRawDisk (record d { requests = l })
+left_sound : (r : Request) (l : List Request) (d : RawDisk) → d.requests ≡ r ∷ l → IsSoundRawDisk d
+    → IsSoundRawDisk (record d { requests = l })
 left_sound r l d e k = record {
   blocks = k.blocks;
   requests = (subst (AllByRecursion (IsRequest (length d.blocks))) e k.requests).1;
   callers = callers_left l (subst (HaveCallers (λ (b : Request). b.caller)) e k.callers);
 }
 
-transferred_sound : (written : Option (List ℕ)) (r : Request) (d : RawDisk) → IsWritten written → IsSoundRawDisk d → IsSoundRawDisk (transferred written r d).disk
+transferred_sound : (written : Option (List ℕ)) (r : Request) (d : RawDisk) → IsWritten written → IsSoundRawDisk d
+    → IsSoundRawDisk (transferred written r d).disk
 transferred_sound None r d w k = k
 transferred_sound (Some bytes) r d w k = record {
   blocks = all_set (λ (b : List ℕ). length b ≡ RD_BLKSIZ) d.blocks r.block bytes w k.blocks;

@@ -33,9 +33,11 @@ made_next (Some stack) i image images s x next h = next (with_image i image stac
 
 made_devices : (images : List Loaded) (i : ℕ) (s x : Xinu) → all_made i images s ≡ Boots x → x.parts.devices ≡ s.parts.devices
 made_devices [] i s x e = let h : s ≡ x = cc in ap (λ (y : Xinu). y.parts.devices) (sym h)
-made_devices (image ∷ images) i s x e = made_next (take_stack (stack_size image.stack) s.parts.heap) i image images s x (λ y h. made_devices images (i + 1) y x h) e
+made_devices (image ∷ images) i s x e =
+    made_next (take_stack (stack_size image.stack) s.parts.heap) i image images s x (λ y h. made_devices images (i + 1) y x h) e
 
-booted_devices : (overlap : Option ℕ) (images : List Loaded) (start : Xinu) → unless_overlap overlap images ≡ Boots start → start.parts.devices ≡ first_devices
+booted_devices : (overlap : Option ℕ) (images : List Loaded) (start : Xinu) → unless_overlap overlap images ≡ Boots start
+    → start.parts.devices ≡ first_devices
 booted_devices (Some i) images start e = cc
 booted_devices None images start e =
     let b = boots_from (all_made 1 images (loaded_machine images)) (λ s. Boots (all_started images s)) start e in
@@ -89,8 +91,8 @@ unfolding first_semaphores
 files_owned = refl
 
 -- it stays so while the machine starts
-none_waits : (sem : ℕ) (t u : Tables) → Frame is_disks asks_disk t u → is_disks sem (semaphore_at t sem).owner ≡ true → WaitsForNone (semaphore_at t sem)
-    → WaitsForNone (semaphore_at u sem)
+none_waits : (sem : ℕ) (t u : Tables) → Frame is_disks asks_disk t u → is_disks sem (semaphore_at t sem).owner ≡ true
+    → WaitsForNone (semaphore_at t sem) → WaitsForNone (semaphore_at u sem)
 none_waits sem t u framed owned w = record {
   waiters = none_counted (semaphore_at u sem).waiters
       (λ p h. let g = framed.waiters sem p owned h in let n : count_in p (semaphore_at t sem).waiters ≡ 0 = ap (count_in p) w.waiters in omega arith);

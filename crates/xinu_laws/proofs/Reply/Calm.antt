@@ -55,7 +55,8 @@ pub either_calm : (b : Bool) (x y : CallResult) → Calm x → Calm y → Calm (
 either_calm b x y k l = cond_both b x y Calm (λ _. k) (λ _. l)
 
 -- one who waits for a token, or goes on with it
-pub await_calm : (sem : ℕ) (left : Rest) (then_ : Xinu → CallResult) (s : Xinu) → ((u : Xinu) → Calm (then_ u)) → Calm (await sem left then_ s)
+pub await_calm : (sem : ℕ) (left : Rest) (then_ : Xinu → CallResult) (s : Xinu) → ((u : Xinu) → Calm (then_ u))
+    → Calm (await sem left then_ s)
 await_calm sem left then_ s go = by_tokens (semaphore_at s.tables sem).tokens
   where
     by_tokens : (tokens : ℕ) → Calm (take_token tokens sem left then_ s)
@@ -202,7 +203,8 @@ received_from_calm (Some queue) q s =
     await_calm queue.receive (rest.PtRecv (ticket_of q queue.receive s)) (finish_receive (ticket_of q queue.receive s)) s (finish_receive_calm (ticket_of q queue.receive s))
 
 -- A send panics only if all ports together are full,
-pub put_message_full : (found : Option PortQueue) (q message : ℕ) (s : Xinu) → (put_message found q message s).answer ≡ Panics → most_nodes ≤ nodes s.parts.ports
+pub put_message_full : (found : Option PortQueue) (q message : ℕ) (s : Xinu) → (put_message found q message s).answer ≡ Panics
+    → most_nodes ≤ nodes s.parts.ports
 put_message_full None q message s = λ e. absurd (cc)
 put_message_full (Some queue) q message s =
     cond_both (nat_le most_nodes (nodes s.parts.ports)) (record { call = start s; answer = Panics }) _ (λ (h : CallResult). h.answer ≡ Panics → most_nodes ≤ nodes s.parts.ports)
@@ -216,14 +218,17 @@ finish_send_full ticket message s =
     (λ (h : CallResult). h.answer ≡ Panics → (is_stale ticket s.parts.ports ≡ false) × (most_nodes ≤ nodes s.parts.ports))
     (λ _ e. absurd (cc)) (λ b e. (b, put_message_full (port_at s.parts.ports ticket.port).queue ticket.port message s e))
 
-pub sent_to_full : (found : Option PortQueue) (q message : ℕ) (s : Xinu) → (sent_to found q message s).answer ≡ Panics → most_nodes ≤ nodes s.parts.ports
+pub sent_to_full : (found : Option PortQueue) (q message : ℕ) (s : Xinu) → (sent_to found q message s).answer ≡ Panics
+    → most_nodes ≤ nodes s.parts.ports
 sent_to_full None q message s = λ e. absurd (cc)
 sent_to_full (Some queue) q message s = by_tokens (semaphore_at s.tables queue.send).tokens
   where
     by_tokens : (tokens : ℕ)
-        → (take_token tokens queue.send (rest.PtSend (ticket_of q queue.send s) message) (finish_send (ticket_of q queue.send s) message) s).answer ≡ Panics → most_nodes ≤ nodes s.parts.ports
+        → (take_token tokens queue.send (rest.PtSend (ticket_of q queue.send s) message) (finish_send (ticket_of q queue.send s) message) s).answer ≡ Panics
+        → most_nodes ≤ nodes s.parts.ports
     by_tokens zero = λ e. absurd (cc)
-    by_tokens (suc n) = λ e. (finish_send_full (ticket_of q queue.send s) message (record s { tables = with_tokens queue.send n s.tables }) e).1
+    by_tokens (suc n) =
+        λ e. (finish_send_full (ticket_of q queue.send s) message (record s { tables = with_tokens queue.send n s.tables }) e).1
 
 -- on the console
 pub take_char_calm : (items : List Item) (s : Xinu) → Calm (take_char items s)
@@ -233,7 +238,8 @@ take_char_calm (x ∷ items) s e = absurd (cc)
 pub getc_calm : (s : Xinu) → Calm (console_getc s)
 getc_calm s = await_calm TY_ISEM rest.TtyGet take_next s (λ u. take_char_calm (console_of u).committed u)
 
-pub read_item_calm : (items : List Item) (at done : ℕ) (then_ : Xinu → CallResult) (s : Xinu) → ((u : Xinu) → Calm (then_ u)) → Calm (read_item items at done then_ s)
+pub read_item_calm : (items : List Item) (at done : ℕ) (then_ : Xinu → CallResult) (s : Xinu) → ((u : Xinu) → Calm (then_ u))
+    → Calm (read_item items at done then_ s)
 read_item_calm [] at done then_ s go = λ e. absurd (cc)
 read_item_calm (x ∷ items) at done then_ s go =
     either_calm _ _ _ (returns_calm (start (with_committed items s)) (count_at_end done))
@@ -254,7 +260,8 @@ read_calm at (pos zero) s =
     either_calm (is_cooked (console_of s).mode) (answers OK s) _ (λ e. absurd (cc)) (read_range_calm at (semaphore_at s.tables TY_ISEM).tokens s)
 read_calm at (pos (suc n)) s = read_range_calm at (suc n) s
 
-pub put_byte_calm : (b : ℕ) (left : Rest) (then_ : Xinu → CallResult) (s : Xinu) → ((u : Xinu) → Calm (then_ u)) → Calm (put_byte b left then_ s)
+pub put_byte_calm : (b : ℕ) (left : Rest) (then_ : Xinu → CallResult) (s : Xinu) → ((u : Xinu) → Calm (then_ u))
+    → Calm (put_byte b left then_ s)
 put_byte_calm b left then_ s go =
     either_calm (needs_return b (console_of s).mode) (await TY_OSEM left (λ x. then_ (put TY_NEWLINE x)) (put TY_RETURN s)) (then_ (put b s))
     (await_calm TY_OSEM left (λ x. then_ (put TY_NEWLINE x)) (put TY_RETURN s) (λ u. go (put TY_NEWLINE u))) (go (put b s))

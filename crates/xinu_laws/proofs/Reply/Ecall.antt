@@ -38,7 +38,8 @@ branches_no_call f h memory holds =
     (λ _ e. absurd (cc))
 
 -- nor a load or a store
-loads_no_call : (f : Fields) (h : Hart) (memory : List ℕ) (width : ℕ) (extended : ℕ → ℕ) → LeavesCall h memory (loads f h memory width extended)
+loads_no_call : (f : Fields) (h : Hart) (memory : List ℕ) (width : ℕ) (extended : ℕ → ℕ)
+    → LeavesCall h memory (loads f h memory width extended)
 loads_no_call f h memory width extended =
     let address = wrapped (register h.regs f.rs1 + f.imm) in
     cond_both (may_access address width) (gives f h memory (extended (number_at memory address width))) (stops h memory (Trap Load)) (LeavesCall h memory) (λ _ e. absurd (cc)) (λ _. traps_no_call h memory Load)

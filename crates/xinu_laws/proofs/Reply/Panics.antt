@@ -92,17 +92,20 @@ rows_panic =
     tt
 
 -- So is a call of any number,
-pub call_panics : (number : ℕ) (args : List ℕ) (s : Xinu) → (call_of_number number args s).answer ≡ Panics → (number ≡ 34) × (most_nodes ≤ nodes s.parts.ports)
+pub call_panics : (number : ℕ) (args : List ℕ) (s : Xinu) → (call_of_number number args s).answer ≡ Panics
+    → (number ≡ 34) × (most_nodes ≤ nodes s.parts.ports)
 call_panics number args s = by_row (found_in calls number) refl
   where
-    by_row : (found : Option CallRow) → found_in calls number ≡ found → (done_by found args s).answer ≡ Panics → (number ≡ 34) × (most_nodes ≤ nodes s.parts.ports)
+    by_row : (found : Option CallRow) → found_in calls number ≡ found → (done_by found args s).answer ≡ Panics
+        → (number ≡ 34) × (most_nodes ≤ nodes s.parts.ports)
     by_row None e = λ f. absurd (cc)
     by_row (Some r) e = λ f.
         let k = of_row PanicsFull calls rows_panic number r e (slice_index args) s f in
         (sym (number_of_row calls number r e) ∙ k.0, k.1)
 
 -- and one that is served or refused.
-called_panics : (number : ℕ) (args : List ℕ) (s : Xinu) → (called number args s).answer ≡ Panics → (number ≡ 34) × (most_nodes ≤ nodes s.parts.ports)
+called_panics : (number : ℕ) (args : List ℕ) (s : Xinu) → (called number args s).answer ≡ Panics
+    → (number ≡ 34) × (most_nodes ≤ nodes s.parts.ports)
 called_panics number args s =
     cond_both (is_served number args) (call_of_number number args s) (refused s) (λ (h : CallResult). h.answer ≡ Panics → (number ≡ 34) × (most_nodes ≤ nodes s.parts.ports))
     (λ _. call_panics number args s) (λ _ e. absurd (cc))
@@ -119,7 +122,8 @@ continued_panics rest.TtyGet s e = absurd (take_char_calm (console_of s).committ
 continued_panics (rest.TtyRead part) s e =
     absurd (read_item_calm (console_of s).committed part.at part.done (reads (part.want - suc part.done) part.at (suc part.done)) (goes_on (held s) s) (reads_calm (part.want - suc part.done) part.at (suc part.done)) e)
 continued_panics (rest.TtyPut b true) s e = absurd (cc)
-continued_panics (rest.TtyPut b false) s e = absurd (put_byte_calm b (rest.TtyPut b true) (answers OK) (goes_on (held s) s) (λ v f. absurd (cc)) e)
+continued_panics (rest.TtyPut b false) s e =
+    absurd (put_byte_calm b (rest.TtyPut b true) (answers OK) (goes_on (held s) s) (λ v f. absurd (cc)) e)
 continued_panics (rest.TtyWrite part true) s e =
     absurd (writes_calm (part.want - suc part.done) part.at (suc part.done) (put TY_NEWLINE (goes_on (held s) s)) e)
 continued_panics (rest.TtyWrite part false) s e =
@@ -165,8 +169,8 @@ step_full old =
     (λ d. by_outcome (eqb-false old.tables.current 0 b) (done_is left d) (next old).outcome refl)
     (λ _ e. inr (continued_panics left old (panic_is (continued left old).answer e))))
   where
-    by_outcome : old.tables.current ≢ 0 → (process_at old.tables old.tables.current).rest ≡ rest.Nothing → (o : Outcome) → (next old).outcome ≡ o
-        → (reacted o (with_executed (next old) old)).panics ≡ true → FullStep old
+    by_outcome : old.tables.current ≢ 0 → (process_at old.tables old.tables.current).rest ≡ rest.Nothing → (o : Outcome)
+        → (next old).outcome ≡ o → (reacted o (with_executed (next old) old)).panics ≡ true → FullStep old
     by_outcome runs left outcome.Went is = λ e. absurd (cc)
     by_outcome runs left outcome.Call is = λ e.
         let s = with_executed (next old) old in

@@ -38,7 +38,8 @@ refusal_tells : (s : Xinu) → TellsRefusal s (refused s)
 refusal_tells s e = refl
 
 -- either of two ways to go on
-either_tells : (b : Bool) (s : Xinu) (x y : CallResult) → (b ≡ true → TellsRefusal s x) → (b ≡ false → TellsRefusal s y) → TellsRefusal s (cond b x y)
+either_tells : (b : Bool) (s : Xinu) (x y : CallResult) → (b ≡ true → TellsRefusal s x) → (b ≡ false → TellsRefusal s y)
+    → TellsRefusal s (cond b x y)
 either_tells b s x y f g = cond_both b x y (TellsRefusal s) f g
 
 -- a test before a call that is refused else
@@ -47,12 +48,14 @@ guarded_tells b s x f = cond_both b x (refused s) (TellsRefusal s) f (λ _. refu
 
 -- one who waits for a token, or goes on with it
 take_token_tells : (tokens sem : ℕ) (left : Rest) (then_ : Xinu → CallResult) (s : Xinu)
-    → ((n : ℕ) → tokens ≡ suc n → TellsRefusal s (then_ (record s { tables = with_tokens sem n s.tables }))) → TellsRefusal s (take_token tokens sem left then_ s)
+    → ((n : ℕ) → tokens ≡ suc n → TellsRefusal s (then_ (record s { tables = with_tokens sem n s.tables })))
+    → TellsRefusal s (take_token tokens sem left then_ s)
 take_token_tells zero sem left then_ s go = λ e. cc
 take_token_tells (suc n) sem left then_ s go = go n refl
 
 -- a process that is created, if a number and a stack are found
-created_tells : (number : Option ℕ) (stack : Option Stack) (entry size : ℕ) (priority : ℤ) (name : List ℕ) (x y : ℕ) (s : Xinu) → TellsRefusal s (created number stack entry size priority name x y s)
+created_tells : (number : Option ℕ) (stack : Option Stack) (entry size : ℕ) (priority : ℤ) (name : List ℕ) (x y : ℕ) (s : Xinu)
+    → TellsRefusal s (created number stack entry size priority name x y s)
 created_tells (Some p) (Some stack) entry size priority name x y s e = cc
 created_tells (Some p) None entry size priority name x y s e = refl
 created_tells None stack entry size priority name x y s e = refl
@@ -100,7 +103,9 @@ semreset_tells k (pos n) s = guarded_tells (is_good k s.tables) s _ (λ _ e. cc)
 
 -- call 18
 pub wait_tells : (k : ℕ) (s : Xinu) → TellsRefusal s (wait k s)
-wait_tells k s = guarded_tells (is_good k s.tables) s _ (λ _. take_token_tells (semaphore_at s.tables k).tokens k Nothing (answers (pos 0)) s (λ n e f. cc))
+wait_tells k s =
+    guarded_tells (is_good k s.tables) s _
+    (λ _. take_token_tells (semaphore_at s.tables k).tokens k Nothing (answers (pos 0)) s (λ n e f. cc))
 
 -- call 19
 pub signal_tells : (k : ℕ) (s : Xinu) → TellsRefusal s (signal k s)
@@ -109,7 +114,8 @@ signal_tells k s = guarded_tells (is_good k s.tables && int_lt (count_of (semaph
 -- call 20
 pub signaln_tells : (k : ℕ) (n : ℤ) (s : Xinu) → TellsRefusal s (signaln k n s)
 signaln_tells k (negsuc n) s = refusal_tells s
-signaln_tells k (pos n) s = guarded_tells (is_good k s.tables && not (int_lt most_tokens (count_of (semaphore_at s.tables k) +ℤ pos n))) s _ (λ _ e. cc)
+signaln_tells k (pos n) s =
+    guarded_tells (is_good k s.tables && not (int_lt most_tokens (count_of (semaphore_at s.tables k) +ℤ pos n))) s _ (λ _ e. cc)
 
 -- call 26
 pub sleepms_tells : (ticks : ℤ) (s : Xinu) → TellsRefusal s (sleepms ticks s)
@@ -124,7 +130,8 @@ sleep_tells (pos n) s = either_tells (nat_lt 2147483 n) s _ _ (λ _. refusal_tel
 
 -- a pool, if memory and a semaphore are found
 made_pool_tells : (found : Option Grant) (sem : Option ℕ) (size n : ℕ) (s : Xinu) → TellsRefusal s (made_pool found sem size n s)
-made_pool_tells (Some grant) (Some sem) size n s = either_tells (meets_pool grant.address (pool_bytes size n) s.parts.pools) s _ _ (λ _. refusal_tells s) (λ _ e. cc)
+made_pool_tells (Some grant) (Some sem) size n s =
+    either_tells (meets_pool grant.address (pool_bytes size n) s.parts.pools) s _ _ (λ _. refusal_tells s) (λ _ e. cc)
 made_pool_tells (Some grant) None size n s = refusal_tells s
 made_pool_tells None sem size n s = refusal_tells s
 
@@ -183,19 +190,22 @@ reset_tells None q how s = refusal_tells s
 reset_tells (Some queue) q how s = guarded_tells (nat_le how 1) s _ (λ _ e. cc)
 
 -- a message is put if the port is in use
-put_message_tells : (queue : PortQueue) (found : Option PortQueue) (q message : ℕ) (s x : Xinu) → found ≡ Some queue → TellsRefusal s (put_message found q message x)
+put_message_tells : (queue : PortQueue) (found : Option PortQueue) (q message : ℕ) (s x : Xinu) → found ≡ Some queue
+    → TellsRefusal s (put_message found q message x)
 put_message_tells queue None q message s x e = cc
 put_message_tells queue (Some other) q message s x e =
     cond_both (nat_le most_nodes (nodes x.parts.ports)) (record { call = start x; answer = Panics }) _ (TellsRefusal s) (λ _ f. cc) (λ _ f. cc)
 
 -- a call that just began isn't after its port
-pub fresh_ticket : (q sem : ℕ) (s : Xinu) (queue : PortQueue) → (port_at s.parts.ports q).queue ≡ Some queue → is_stale (ticket_of q sem s) s.parts.ports ≡ false
+pub fresh_ticket : (q sem : ℕ) (s : Xinu) (queue : PortQueue) → (port_at s.parts.ports q).queue ≡ Some queue
+    → is_stale (ticket_of q sem s) s.parts.ports ≡ false
 fresh_ticket q sem s queue e =
     ap (λ o. not (is_some o) || not ((port_at s.parts.ports q).seq == (port_at s.parts.ports q).seq)) e
     ∙ ap (λ b. not b) (eq-eqb (port_at s.parts.ports q).seq (port_at s.parts.ports q).seq refl)
 
 -- call 34
-pub sent_to_tells : (found : Option PortQueue) (q message : ℕ) (s : Xinu) → (port_at s.parts.ports q).queue ≡ found → TellsRefusal s (sent_to found q message s)
+pub sent_to_tells : (found : Option PortQueue) (q message : ℕ) (s : Xinu) → (port_at s.parts.ports q).queue ≡ found
+    → TellsRefusal s (sent_to found q message s)
 sent_to_tells None q message s e = refusal_tells s
 sent_to_tells (Some queue) q message s e =
     let ticket = ticket_of q queue.send s in

@@ -54,7 +54,8 @@ refused_end s hart call e =
     ∙ ap (λ h. record { lines = call ∷ line.Return s.tables.current SYSERR ∷ []; state = refused_state s h; panics = false }) e
 
 -- An event in which a call is refused.
-pub refused_events : (old : Xinu) (lines : List TranscriptLine) (new : Xinu) → IsSound old → IsCalling old → IsRefused old → Happens old Step lines new → LeavesRefused old lines new
+pub refused_events : (old : Xinu) (lines : List TranscriptLine) (new : Xinu) → IsSound old → IsCalling old → IsRefused old
+    → Happens old Step lines new → LeavesRefused old lines new
 refused_events old lines new sound k none h =
     let p = old.tables.current in
     let s = with_executed (next old) old in
@@ -79,7 +80,8 @@ refused_events old lines new sound k none h =
 
 -- A step in which a call on files takes effect as it is made, and is refused then.
 pub refused_effects : (a : FileRequest) (old : Xinu) → IsSound old → IsCalling old → next_file_call old ≡ Some a
-    → (at_once a (with_executed (next old) old)).answer ≡ Returns SYSERR → LeavesRefusedEffect old (step_at_once a old).lines (step_at_once a old).state
+    → (at_once a (with_executed (next old) old)).answer ≡ Returns SYSERR
+    → LeavesRefusedEffect old (step_at_once a old).lines (step_at_once a old).state
 refused_effects a old sound k made refused =
     let p = old.tables.current in
     let s = with_executed (next old) old in

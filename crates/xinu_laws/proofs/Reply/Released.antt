@@ -49,7 +49,8 @@ waiters_are_done t sem o good =
 -- All who wait are released.
 released_emptied : (value : ℤ) (sem : ℕ) (s : Xinu) → IsInside s.tables → is_good sem s.tables ≡ true
     → (emptied_with value sem (start s)).released ≡ map (λ p. (p, value)) (semaphore_at s.tables sem).waiters
-released_emptied value sem s o good = released_all value (semaphore_at s.tables sem).waiters (start s) (waiters_are_done s.tables sem o good)
+released_emptied value sem s o good =
+    released_all value (semaphore_at s.tables sem).waiters (start s) (waiters_are_done s.tables sem o good)
 
 -- A delete refuses them,
 pub released_by_delete : (sem : ℕ) (s : Xinu) → IsInside s.tables → is_good sem s.tables ≡ true
@@ -71,13 +72,15 @@ released_by_reset sem n s o good =
     ap (λ (r : CallResult). r.call.released) (cond-true (is_good sem s.tables) _ _ good) ∙ released_emptied OK sem s o good
 
 -- So does a signal, if these wait,
-released_first : (sem : ℕ) (l : List ℕ) (d : CallState) → AreDone d.state.tables l → (signal_first sem l d).released ≡ d.released ++ map (λ p. (p, OK)) (take 1 l)
+released_first : (sem : ℕ) (l : List ℕ) (d : CallState) → AreDone d.state.tables l
+    → (signal_first sem l d).released ≡ d.released ++ map (λ p. (p, OK)) (take 1 l)
 released_first sem [] d h = sym (append-nil d.released)
 released_first sem (p ∷ ps) d h = ap (λ (left : Rest). d.released ++ reply_at_unblock OK p left) h.0
 
 pub released_by_signal : (sem : ℕ) (d : CallState) → IsInside d.state.tables → is_good sem d.state.tables ≡ true
     → (signalled sem d).released ≡ d.released ++ map (λ p. (p, OK)) (take 1 (semaphore_at d.state.tables sem).waiters)
-released_by_signal sem d o good = released_first sem (semaphore_at d.state.tables sem).waiters d (waiters_are_done d.state.tables sem o good)
+released_by_signal sem d o good =
+    released_first sem (semaphore_at d.state.tables sem).waiters d (waiters_are_done d.state.tables sem o good)
 
 -- and so do n of them.
 pub released_by_signals : (sem n : ℕ) (d : CallState) → IsInside d.state.tables → is_good sem d.state.tables ≡ true

@@ -57,7 +57,8 @@ either_in_time : (b : Bool) (x y : CallResult) → InTime x → InTime y → InT
 either_in_time b x y k l = cond_both b x y InTime (λ _. k) (λ _. l)
 
 -- one who waits for a token, or goes on with it
-await_in_time : (sem : ℕ) (left : Rest) (then_ : Xinu → CallResult) (s : Xinu) → ((u : Xinu) → InTime (then_ u)) → InTime (await sem left then_ s)
+await_in_time : (sem : ℕ) (left : Rest) (then_ : Xinu → CallResult) (s : Xinu) → ((u : Xinu) → InTime (then_ u))
+    → InTime (await sem left then_ s)
 await_in_time sem left then_ s go = by_tokens (semaphore_at s.tables sem).tokens
   where
     by_tokens : (tokens : ℕ) → InTime (take_token tokens sem left then_ s)
@@ -72,7 +73,8 @@ take_first_in_time (a ∷ free) i s e = absurd (cc)
 -- a message that is put into a port
 put_message_in_time : (found : Option PortQueue) (q message : ℕ) (s : Xinu) → InTime (put_message found q message s)
 put_message_in_time None q message s = refused_in_time s
-put_message_in_time (Some queue) q message s = either_in_time (nat_le most_nodes (nodes s.parts.ports)) _ _ (λ e. absurd (cc)) (λ e. absurd (cc))
+put_message_in_time (Some queue) q message s =
+    either_in_time (nat_le most_nodes (nodes s.parts.ports)) _ _ (λ e. absurd (cc)) (λ e. absurd (cc))
 
 finish_send_in_time : (ticket : PortTicket) (message : ℕ) (s : Xinu) → InTime (finish_send ticket message s)
 finish_send_in_time ticket message s =
@@ -92,7 +94,8 @@ count_in_time : (done : ℕ) (s : Xinu) → InTime (answers (count_at_end done) 
 count_in_time zero s e = absurd (cc)
 count_in_time (suc done) s e = absurd (cc)
 
-read_item_in_time : (items : List Item) (at done : ℕ) (then_ : Xinu → CallResult) (s : Xinu) → ((u : Xinu) → InTime (then_ u)) → InTime (read_item items at done then_ s)
+read_item_in_time : (items : List Item) (at done : ℕ) (then_ : Xinu → CallResult) (s : Xinu) → ((u : Xinu) → InTime (then_ u))
+    → InTime (read_item items at done then_ s)
 read_item_in_time [] at done then_ s go = λ e. absurd (cc)
 read_item_in_time (x ∷ items) at done then_ s go =
     either_in_time _ _ _ (count_in_time done (with_committed items s))
@@ -105,7 +108,8 @@ reads_in_time (suc left) at done s =
     (λ u. read_item_in_time (console_of u).committed at done (reads left at (suc done)) u (reads_in_time left at (suc done)))
 
 -- a byte that is put, and a write
-put_byte_in_time : (b : ℕ) (left : Rest) (then_ : Xinu → CallResult) (s : Xinu) → ((u : Xinu) → InTime (then_ u)) → InTime (put_byte b left then_ s)
+put_byte_in_time : (b : ℕ) (left : Rest) (then_ : Xinu → CallResult) (s : Xinu) → ((u : Xinu) → InTime (then_ u))
+    → InTime (put_byte b left then_ s)
 put_byte_in_time b left then_ s go =
     either_in_time (needs_return b (console_of s).mode) (await TY_OSEM left (λ x. then_ (put TY_NEWLINE x)) (put TY_RETURN s)) (then_ (put b s))
     (await_in_time TY_OSEM left (λ x. then_ (put TY_NEWLINE x)) (put TY_RETURN s) (λ u. go (put TY_NEWLINE u))) (go (put b s))
@@ -142,8 +146,8 @@ received_told None s e = inr refl
 received_told (Some message) s e = inl (cc)
 
 -- who waited without end has its message
-message_told : (message : Option ℕ) (s : Xinu) → IsSome message → (received message (returns (start (goes_on None s)) TIMEOUT) s).answer ≡ Returns TIMEOUT
-    → option_map signed message ≡ Some TIMEOUT
+message_told : (message : Option ℕ) (s : Xinu) → IsSome message
+    → (received message (returns (start (goes_on None s)) TIMEOUT) s).answer ≡ Returns TIMEOUT → option_map signed message ≡ Some TIMEOUT
 message_told None s some e = cc
 message_told (Some message) s some e = cc
 
@@ -153,7 +157,8 @@ continued_told : (left : Rest) (s : Xinu) → HoldsFor left (held s) → (contin
 continued_told rest.Receive s holds e = inl (message_told (held s) s holds e)
 continued_told rest.Timed s holds e = by_message (received_told (held s) s e)
   where
-    by_message : (option_map signed (held s) ≡ Some TIMEOUT) ⊎ (held s ≡ None) → (option_map signed (held s) ≡ Some TIMEOUT) ⊎ ((rest.Timed ≡ rest.Timed) × (held s ≡ None))
+    by_message : (option_map signed (held s) ≡ Some TIMEOUT) ⊎ (held s ≡ None)
+        → (option_map signed (held s) ≡ Some TIMEOUT) ⊎ ((rest.Timed ≡ rest.Timed) × (held s ≡ None))
     by_message (inl f) = inl f
     by_message (inr f) = inr (refl, f)
 continued_told rest.SelfSuspend s holds e = inl (cc)
@@ -164,7 +169,8 @@ continued_told rest.TtyGet s holds e = absurd (take_char_in_time (console_of s).
 continued_told (rest.TtyRead part) s holds e =
     absurd (read_item_in_time (console_of s).committed part.at part.done (reads (part.want - suc part.done) part.at (suc part.done)) (goes_on (held s) s) (reads_in_time (part.want - suc part.done) part.at (suc part.done)) e)
 continued_told (rest.TtyPut b true) s holds e = absurd (cc)
-continued_told (rest.TtyPut b false) s holds e = absurd (put_byte_in_time b (rest.TtyPut b true) (answers OK) (goes_on (held s) s) (λ v f. absurd (cc)) e)
+continued_told (rest.TtyPut b false) s holds e =
+    absurd (put_byte_in_time b (rest.TtyPut b true) (answers OK) (goes_on (held s) s) (λ v f. absurd (cc)) e)
 continued_told (rest.TtyWrite part true) s holds e =
     absurd (writes_in_time (part.want - suc part.done) part.at (suc part.done) (put TY_NEWLINE (goes_on (held s) s)) e)
 continued_told (rest.TtyWrite part false) s holds e =
@@ -208,11 +214,13 @@ either_timely : (b : Bool) (x y : FileEffect) → Timely x → Timely y → Time
 either_timely b x y k l = cond_both b x y Timely (λ _. k) (λ _. l)
 
 open_stored_timely : (found : Option StoredFile) (name : List ℕ) (mode : OpenMode) (s : FileSystem) → Timely (open_stored found name mode s)
-open_stored_timely (Some f) name mode s = either_timely mode.only_new (refused_effect s) (opened name mode s) (refused_timely s) (λ e. absurd (cc))
+open_stored_timely (Some f) name mode s =
+    either_timely mode.only_new (refused_effect s) (opened name mode s) (refused_timely s) (λ e. absurd (cc))
 open_stored_timely None name mode s =
     either_timely (mode.only_old || nat_le LF_NUM_DIR_ENT (length s.files)) (refused_effect s) (opened name mode (with_created name s)) (refused_timely s) (λ e. absurd (cc))
 
-on_device_timely : (found : Option OpenFile) (effect : OpenFile → FileEffect) (s : FileSystem) → ((f : OpenFile) → Timely (effect f)) → Timely (on_open found effect s)
+on_device_timely : (found : Option OpenFile) (effect : OpenFile → FileEffect) (s : FileSystem) → ((f : OpenFile) → Timely (effect f))
+    → Timely (on_open found effect s)
 on_device_timely None effect s each = refused_timely s
 on_device_timely (Some f) effect s each = each f
 
@@ -222,7 +230,8 @@ first_byte_timely (b ∷ bytes) d f s e = absurd (cc)
 
 seek_timely : (d : ℕ) (n : ℤ) (f : OpenFile) (s : FileSystem) → Timely (seek_file d n f s)
 seek_timely d (negsuc n) f s = refused_timely s
-seek_timely d (pos n) f s = either_timely (nat_lt (length (open_bytes f s)) n) (refused_effect s) (replies OK (moved d f n s)) (refused_timely s) (λ e. absurd (cc))
+seek_timely d (pos n) f s =
+    either_timely (nat_lt (length (open_bytes f s)) n) (refused_effect s) (replies OK (moved d f n s)) (refused_timely s) (λ e. absurd (cc))
 
 read_timely : (d n : ℕ) (f : OpenFile) (s : FileSystem) → Timely (read_file d n f s)
 read_timely d n f s =

@@ -89,7 +89,8 @@ take_message_tells (message ∷ messages) queue q s x some = value_tells s _ (si
 
 -- one who waits for a token, or goes on with it
 take_token_tells : (tokens sem : ℕ) (left : Rest) (then_ : Xinu → CallResult) (s : Xinu) (value : Option ℤ)
-    → ((n : ℕ) → tokens ≡ suc n → TellsValue s value (then_ (record s { tables = with_tokens sem n s.tables }))) → TellsValue s value (take_token tokens sem left then_ s)
+    → ((n : ℕ) → tokens ≡ suc n → TellsValue s value (then_ (record s { tables = with_tokens sem n s.tables })))
+    → TellsValue s value (take_token tokens sem left then_ s)
 take_token_tells zero sem left then_ s value go = waiting_tells s value _
 take_token_tells (suc n) sem left then_ s value go = go n refl
 

@@ -64,7 +64,9 @@ module _ {f : Reach} (g : HasStart f) where
   first_other owns (suc zero) = owns.kernel 1
   first_other owns (suc (suc zero)) = owns.kernel 2
   first_other owns (suc (suc (suc zero))) = owns.kernel 3
-  first_other owns (suc (suc (suc (suc sem)))) = ap (λ (x : Semaphore). f.mine (suc (suc (suc (suc sem)))) x.owner) (same_everywhere 124 sem no_semaphore) ∙ owns.none (suc (suc (suc (suc sem))))
+  first_other owns (suc (suc (suc (suc sem)))) =
+      ap (λ (x : Semaphore). f.mine (suc (suc (suc (suc sem)))) x.owner) (same_everywhere 124 sem no_semaphore)
+      ∙ owns.none (suc (suc (suc (suc sem))))
 
   -- the process of an image is made
   touches_image : (i : ℕ) (image : Loaded) (stack : Stack) (s : Xinu) → take_stack (stack_size image.stack) s.parts.heap ≡ Some stack
@@ -89,7 +91,8 @@ module _ {f : Reach} (g : HasStart f) where
       → ((y : Xinu) → all_made (i + 1) images y ≡ Boots x → Touches f y x)
       → and_then (where_stack found i image s) (λ y. all_made (i + 1) images y) ≡ Boots x → Touches f s x
   touches_next None i image images s x e next h = cc
-  touches_next (Some stack) i image images s x e next h = touches_trans (touches_image i image stack s e) (next (with_image i image stack s) h)
+  touches_next (Some stack) i image images s x e next h =
+      touches_trans (touches_image i image stack s e) (next (with_image i image stack s) h)
 
   -- those of all are made
   touches_all_made : (images : List Loaded) (i : ℕ) (s x : Xinu) → all_made i images s ≡ Boots x → Touches f s x

@@ -23,7 +23,9 @@ sleepms_touches (pos (suc n)) s i = touches_blocked Sleeping Nothing (InSleepers
 -- Call 25.
 pub sleep_touches : (seconds : ℤ) → StaysIn on_tables (sleep seconds)
 sleep_touches (negsuc n) s i = touches_refl s
-sleep_touches (pos n) s i = touches_either s (nat_lt 2147483 n) (refused s) (sleepms (pos (1000 * n)) s) (λ _. touches_refl s) (λ _. sleepms_touches (pos (1000 * n)) s i)
+sleep_touches (pos n) s i =
+    touches_either s (nat_lt 2147483 n) (refused s) (sleepms (pos (1000 * n)) s) (λ _. touches_refl s)
+    (λ _. sleepms_touches (pos (1000 * n)) s i)
 
 -- Call 27.
 pub clktime_touches : StaysIn on_tables clktime

@@ -78,7 +78,8 @@ module _ {f : Reach} where
   touches_dispatch_first : (l : List (ℕ × ℤ)) (s u : Xinu) → Touches f s u → ((p : ℕ) → 0 < entries_of p l → MayReady f.asks s.tables p)
       → Touches f s (record u { tables = dispatch_first l u.tables })
   touches_dispatch_first [] s u c w = c
-  touches_dispatch_first (e ∷ es) s u c w = touches_trans c (touches_dispatch u e.0 (may_ready_framed s u e.0 c (w e.0 (first_has_entry e es))))
+  touches_dispatch_first (e ∷ es) s u c w =
+      touches_trans c (touches_dispatch u e.0 (may_ready_framed s u e.0 c (w e.0 (first_has_entry e es))))
 
   -- A resched, if who is in the ready list can become ready.
   pub touches_resched_if : (s : Xinu) → ((p : ℕ) → 0 < entries_of p s.tables.ready → MayReady f.asks s.tables p)
@@ -94,7 +95,8 @@ module _ {f : Reach} where
   touches_resched s o = touches_resched_if s (may_ready_ready f.asks s.tables o)
 
   -- The one resched of an event, if there is one.
-  pub touches_closed : (result : CallResult) → IsInside result.call.state.tables → Touches f result.call.state (record result.call.state { tables = closed result })
+  pub touches_closed : (result : CallResult) → IsInside result.call.state.tables
+      → Touches f result.call.state (record result.call.state { tables = closed result })
   touches_closed result o =
       let s = result.call.state in
       cond_both (result.call.owes_resched || is_off result.answer) (resched s.tables) s.tables (λ u. Touches f s (record s { tables = u })) (λ _. touches_resched s o) (λ _. touches_refl s)

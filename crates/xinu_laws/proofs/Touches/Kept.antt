@@ -69,13 +69,14 @@ module _ (f : Footprint) where
 
 module _ {f : Footprint} {s u : Xinu} where
   -- A step that may not change pools keeps what holds of them.
-  pub keeps_pools : {clock : Bool} → f.pools ≡ false → Touches (record (reach f) { clock = clock }) s u → ArePools s.tables s.parts.pools → ArePools u.tables u.parts.pools
+  pub keeps_pools : {clock : Bool} → f.pools ≡ false → Touches (record (reach f) { clock = clock }) s u → ArePools s.tables s.parts.pools
+      → ArePools u.tables u.parts.pools
   keeps_pools e t k = subst (ArePools u.tables) (sym (t.parts.pools e))
       (are_pools_framed s.tables u.tables s.parts.pools (frame_weaker s.tables u.tables (pools_spared f e) (buffers_spared f e) t.frame) k)
 
   -- A step that may not change ports keeps what holds of them, if it keeps what holds of the tables.
-  pub keeps_ports : {clock : Bool} → f.ports ≡ false → Touches (record (reach f) { clock = clock }) s u → IsInside u.tables → ArePorts s.tables s.parts.ports
-      → ArePorts u.tables u.parts.ports
+  pub keeps_ports : {clock : Bool} → f.ports ≡ false → Touches (record (reach f) { clock = clock }) s u → IsInside u.tables
+      → ArePorts s.tables s.parts.ports → ArePorts u.tables u.parts.ports
   keeps_ports e t o k = subst (ArePorts u.tables) (sym (t.parts.ports e).0)
       (ports_framed s.tables u.tables s.parts.ports o (frame_weaker s.tables u.tables (ports_spared f e) (messages_spared f e) t.frame) k)
 
@@ -97,8 +98,8 @@ module _ {f : Footprint} {s u : Xinu} where
       }
 
   -- A step that may not change the mounted prefixes keeps what holds of them.
-  pub keeps_names : {clock : Bool} → f.names ≡ false → Touches (record (reach f) { clock = clock }) s u → AreSoundNames s.parts.devices.names
-      → AreSoundNames u.parts.devices.names
+  pub keeps_names : {clock : Bool} → f.names ≡ false → Touches (record (reach f) { clock = clock }) s u
+      → AreSoundNames s.parts.devices.names → AreSoundNames u.parts.devices.names
   keeps_names e t k = subst AreSoundNames (sym (t.parts.devices.names e)) k
 
 -- If nobody dies free numbers keep their registers.

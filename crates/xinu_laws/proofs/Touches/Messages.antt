@@ -13,8 +13,8 @@ use Rattle.xinu_laws.proofs.Touches.{StaysIn, touches_refl, touches_if}
 use Rattle.xinu_laws.proofs.Touches.Moves.{touches_delivered, touches_goes_on, touches_blocked}
 
 -- a message is taken, or there is another way
-received_touches : (message : Option ℕ) (otherwise : CallResult) (s : Xinu) → state_at s.tables s.tables.current ≡ Current → Touches (reach on_tables) s otherwise.call.state
-    → Touches (reach on_tables) s (received message otherwise s).call.state
+received_touches : (message : Option ℕ) (otherwise : CallResult) (s : Xinu) → state_at s.tables s.tables.current ≡ Current
+    → Touches (reach on_tables) s otherwise.call.state → Touches (reach on_tables) s (received message otherwise s).call.state
 received_touches None otherwise s runs k = k
 received_touches (Some message) otherwise s runs k = touches_goes_on refl None s runs
 
@@ -24,7 +24,9 @@ send_touches p message s i = touches_if s (can_get p s.tables) _ (λ _. touches_
 
 -- Call 22.
 pub receive_touches : StaysIn on_tables receive
-receive_touches s i = received_touches (held s) (blocked Receiving rest.Receive Nowhere s) s i.tables.runs (touches_blocked Receiving rest.Receive Nowhere s i.tables.runs tt refl refl)
+receive_touches s i =
+    received_touches (held s) (blocked Receiving rest.Receive Nowhere s) s i.tables.runs
+    (touches_blocked Receiving rest.Receive Nowhere s i.tables.runs tt refl refl)
 
 -- Call 23.
 pub recvclr_touches : StaysIn on_tables recvclr
@@ -38,4 +40,5 @@ recvtime_touches (pos n) s i =
 
 -- The calls 22 and 24 go on.
 pub go_on_receive_touches : StaysIn on_tables go_on_receive
-go_on_receive_touches s i = received_touches (held s) (returns (start (goes_on None s)) TIMEOUT) s i.tables.runs (touches_goes_on refl None s i.tables.runs)
+go_on_receive_touches s i =
+    received_touches (held s) (returns (start (goes_on None s)) TIMEOUT) s i.tables.runs (touches_goes_on refl None s i.tables.runs)

@@ -77,8 +77,8 @@ may_ready_waiter : {f : Reach} (t : Tables) (sem : ℕ) → IsInside t → MayTo
 may_ready_waiter {f} t sem o may p h = let e = may.rests (process_at t p).rest (o.rests sem p h) in record { idle = λ g. absurd (both_ways (f.asks (process_at t p).rest) e g) }
 
 -- who waits still does after another process moved, which didn't wait
-pub still_move : (asks : Rest → Bool) (t : Tables) (q : ℕ) (x : Process) (m : Option ℕ) (place : Place) → waits_in asks (process_at t q) ≡ false
-    → StillWait asks t (move_to q x m place t)
+pub still_move : (asks : Rest → Bool) (t : Tables) (q : ℕ) (x : Process) (m : Option ℕ) (place : Place)
+    → waits_in asks (process_at t q) ≡ false → StillWait asks t (move_to q x m place t)
 still_move asks t q x m place idle = record {
   stay = λ p. by_number p q (λ r. waits_at asks t r ≡ true → waits_at asks (move_to q x m place t) r ≡ true)
       (λ h. absurd (both_ways (waits_in asks (process_at t q)) idle h))
@@ -126,7 +126,8 @@ module _ {f : Reach} where
       → f.asks x.rest ≡ false
       → stack_of x ≡ stack_of (process_at s.tables q) → (is_free x.state ≡ true → is_free (state_at s.tables q) ≡ true)
       → waits_in f.asks (process_at s.tables q) ≡ false → Touches f s (record s { tables = move_to q x m place s.tables })
-  touches_unasked s q x m place p e = touches_move s q x m place p (λ h. absurd (both_ways (f.asks x.rest) e h)) (unasked (is_waiting x.state) (f.asks x.rest) e)
+  touches_unasked s q x m place p e =
+      touches_move s q x m place p (λ h. absurd (both_ways (f.asks x.rest) e h)) (unasked (is_waiting x.state) (f.asks x.rest) e)
 
   -- A process is unblocked.
   pub touches_unblock : (p : ℕ) (d : CallState) → MayReady f.asks d.state.tables p → Touches f d.state (unblock p d).state
@@ -142,7 +143,8 @@ module _ {f : Reach} where
 
   -- The caller waits, in a call that isn't left alone.
   pub touches_blocked : (state : State) (rest : Rest) (place : Place) (s : Xinu) → state_at s.tables s.tables.current ≡ Current
-      → IsFramePlace f.mine s.tables place → f.asks rest ≡ false → is_free state ≡ false → Touches f s (blocked state rest place s).call.state
+      → IsFramePlace f.mine s.tables place → f.asks rest ≡ false → is_free state ≡ false
+      → Touches f s (blocked state rest place s).call.state
   touches_blocked state rest place s runs p e alive =
       let t = s.tables in
       touches_unasked s t.current (record (process_at t t.current) { state = state; rest = rest }) (message_at t t.current) place p e refl (λ h. absurd (both_ways (is_free state) alive h))
@@ -172,7 +174,9 @@ module _ {f : Reach} where
   -- A semaphore changes.
   pub touches_semaphore : (s : Xinu) (r : ℕ) (x : Semaphore) → f.mine r (semaphore_at s.tables r).owner ≡ false → f.mine r x.owner ≡ false
       → Touches f s (record s { tables = with_semaphore r x s.tables })
-  touches_semaphore s r x old new = touches_tables s (with_semaphore r x s.tables) (frame_semaphore s.tables r x old new) refl (λ p h. h) (λ _. refl) (record { stay = λ p h. h })
+  touches_semaphore s r x old new =
+      touches_tables s (with_semaphore r x s.tables) (frame_semaphore s.tables r x old new) refl (λ p h. h) (λ _. refl)
+      (record { stay = λ p h. h })
 
   -- Its tokens change.
   pub touches_tokens : (s : Xinu) (r n : ℕ) → f.mine r (semaphore_at s.tables r).owner ≡ false
@@ -183,7 +187,9 @@ module _ {f : Reach} where
   pub touches_make_semaphore : (s : Xinu) (r : ℕ) (by : Owner) (n : ℕ) → f.mine r (semaphore_at s.tables r).owner ≡ false
       → f.mine r (Some by) ≡ false
       → Touches f s (record s { tables = make_semaphore r by n s.tables })
-  touches_make_semaphore s r by n old new = touches_tables s (make_semaphore r by n s.tables) (frame_make_semaphore s.tables r by n old new) refl (λ p h. h) (λ _. refl) (record { stay = λ p h. h })
+  touches_make_semaphore s r by n old new =
+      touches_tables s (make_semaphore r by n s.tables) (frame_make_semaphore s.tables r by n old new) refl (λ p h. h) (λ _. refl)
+      (record { stay = λ p h. h })
 
   -- One signal, by who waits.
   touches_signal_first : (sem : ℕ) (l : List ℕ) (d : CallState) → f.mine sem (semaphore_at d.state.tables sem).owner ≡ false
@@ -194,7 +200,8 @@ module _ {f : Reach} where
 
   pub touches_signalled : (sem : ℕ) (d : CallState) → IsInside d.state.tables → MayTouch f d.state.tables sem
       → Touches f d.state (signalled sem d).state
-  touches_signalled sem d o may = touches_signal_first sem (semaphore_at d.state.tables sem).waiters d may.owner (may_ready_waiter d.state.tables sem o may)
+  touches_signalled sem d o may =
+      touches_signal_first sem (semaphore_at d.state.tables sem).waiters d may.owner (may_ready_waiter d.state.tables sem o may)
 
   -- All who wait are unblocked.
   pub touches_emptied : (sem : ℕ) (d : CallState) → IsInside d.state.tables → MayTouch f d.state.tables sem
@@ -217,7 +224,8 @@ module _ {f : Reach} where
   -- A token is taken, or awaited.
   pub touches_take_token : (tokens sem : ℕ) (rest : Rest) (then_ : Xinu → CallResult) (s : Xinu)
       → state_at s.tables s.tables.current ≡ Current → f.mine sem (semaphore_at s.tables sem).owner ≡ false → f.asks rest ≡ false
-      → ((n : ℕ) → tokens ≡ suc n → Touches f s (then_ (record s { tables = with_tokens sem n s.tables })).call.state) → Touches f s (take_token tokens sem rest then_ s).call.state
+      → ((n : ℕ) → tokens ≡ suc n → Touches f s (then_ (record s { tables = with_tokens sem n s.tables })).call.state)
+      → Touches f s (take_token tokens sem rest then_ s).call.state
   touches_take_token zero sem rest then_ s runs e left go = touches_blocked Waiting rest (InSemaphore sem) s runs e left refl
   touches_take_token (suc n) sem rest then_ s runs e left go = go n refl
 

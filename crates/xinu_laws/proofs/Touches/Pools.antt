@@ -80,7 +80,9 @@ module _ {f : Reach} (a : HasPools f) where
   -- the free buffers of a pool change, and perhaps memory
   touches_free : (s : Xinu) (memory : List ℕ) (i : ℕ) (pool : BufferPool) → range_of pool ≡ range_of (pool_at s.parts.pools i)
       → Touches f s (record s { memory = memory; parts = record s.parts { pools = set s.parts.pools i pool } })
-  touches_free s memory i pool e = touches_parts s _ refl refl (parts_pools a.parts s.parts (set s.parts.pools i pool) (map_set_same range_of s.parts.pools i pool no_pool e))
+  touches_free s memory i pool e =
+      touches_parts s _ refl refl
+      (parts_pools a.parts s.parts (set s.parts.pools i pool) (map_set_same range_of s.parts.pools i pool no_pool e))
 
   -- A held buffer is put back.
   put_back_touches : (b i : ℕ) (d : CallState) → IsInside d.state.tables → OwnSemaphores d.state.tables d.state.parts.pools
@@ -94,7 +96,8 @@ module _ {f : Reach} (a : HasPools f) where
   -- What is held at an address is given back.
   pub freed_buffer_touches : (b : ℕ) (d : CallState) → IsInside d.state.tables → OwnSemaphores d.state.tables d.state.parts.pools
       → Touches f d.state (freed_buffer b d).state
-  freed_buffer_touches b d o k = by_holder (λ e. Touches f d.state e.state) b d (touches_refl d.state) (λ i h. put_back_touches b i d o k h.within)
+  freed_buffer_touches b d o k =
+      by_holder (λ e. Touches f d.state e.state) b d (touches_refl d.state) (λ i h. put_back_touches b i d o k h.within)
 
 -- then the tables stay sound, and each pool keeps its semaphore
 pub freed_buffer_owns : (b : ℕ) (d : CallState) → OwnSemaphores d.state.tables d.state.parts.pools
@@ -121,13 +124,16 @@ module _ {f : Reach} (a : HasPools f) where
 pub freed_buffers_sound : (messages : List ℕ) (d : CallState) → IsSoundTables d.state.tables
     → OwnSemaphores d.state.tables d.state.parts.pools → IsSoundTables (freed_buffers messages d).state.tables
 freed_buffers_sound [] d t k = t
-freed_buffers_sound (b ∷ messages) d t k = freed_buffers_sound messages (freed_buffer b d) (freed_buffer_sound b d t k) (freed_buffer_owns b d k)
+freed_buffers_sound (b ∷ messages) d t k =
+    freed_buffers_sound messages (freed_buffer b d) (freed_buffer_sound b d t k) (freed_buffer_owns b d k)
 
 -- Call 30.
 freed_by_touches : (found : Option ℕ) (b : ℕ) (s : Xinu) → holder b s.parts.pools ≡ found → IsSound s
     → Touches (reach on_pools) s (freed_by found b s).call.state
 freed_by_touches None b s e k = touches_refl s
-freed_by_touches (Some i) b s e k = put_back_touches pools_reached b i (start s) k.tables.inside (own_semaphores s.tables s.parts.pools k.pools) (holder_finds b i s.parts.pools e).within
+freed_by_touches (Some i) b s e k =
+    put_back_touches pools_reached b i (start s) k.tables.inside (own_semaphores s.tables s.parts.pools k.pools)
+    (holder_finds b i s.parts.pools e).within
 
 pub freebuf_touches : (b : ℕ) → StaysIn on_pools (freebuf b)
 freebuf_touches b s k = freed_by_touches (holder b s.parts.pools) b s refl k
@@ -149,7 +155,8 @@ getbuf_touches i s k =
 
 -- The call goes on.
 pub go_on_getbuf_touches : (i : ℕ) → StaysIn on_pools (go_on_getbuf i)
-go_on_getbuf_touches i s k = touches_trans (touches_goes_on refl (held s) s k.tables.runs) (take_first_touches (pool_at s.parts.pools i).free i (goes_on (held s) s))
+go_on_getbuf_touches i s k =
+    touches_trans (touches_goes_on refl (held s) s k.tables.runs) (take_first_touches (pool_at s.parts.pools i).free i (goes_on (held s) s))
 
 -- a pool is made, if memory and a semaphore are found
 made_pool_touches : (found : Option Grant) (sem : Option ℕ) (size n : ℕ) (s : Xinu) → free_semaphore s.tables ≡ sem

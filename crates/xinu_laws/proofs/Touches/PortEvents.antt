@@ -249,7 +249,8 @@ keyed_once b s k = stays_once s (keyed b s).state ((receiving_signals b s (sound
 
 sent_once : (found : Option Sent) (s : Xinu) → transmitted (console_of s) ≡ found → IsSound s → RisesOnce s (sent_in found s).state
 sent_once None s e k = stays_once s s refl
-sent_once (Some sent) s e k = stays_once s (sent_in (Some sent) s).state ((sending_signals sent s e (sound_holds s k)).touches.parts.ports refl).0
+sent_once (Some sent) s e k =
+    stays_once s (sent_in (Some sent) s).state ((sending_signals sent s e (sound_holds s k)).touches.parts.ports refl).0
 
 pub transmits_once : (s : Xinu) → IsSound s → RisesOnce s (transmits s).state
 transmits_once s k = sent_once (transmitted (console_of s)) s refl k

@@ -69,8 +69,8 @@ pub own_ports : (s : Xinu) → IsSound s → OwnPorts s.tables s.parts.ports
 own_ports s k = record { send = λ q queue e. (k.ports.each q queue e).send_owner; receive = λ q queue e. (k.ports.each q queue e).receive_owner }
 
 -- and still does if semaphores keep their owners
-own_kept : (t u : Tables) (ports : List MessagePort) → ((sem : ℕ) → (semaphore_at u sem).owner ≡ (semaphore_at t sem).owner) → OwnPorts t ports
-    → OwnPorts u ports
+own_kept : (t u : Tables) (ports : List MessagePort) → ((sem : ℕ) → (semaphore_at u sem).owner ≡ (semaphore_at t sem).owner)
+    → OwnPorts t ports → OwnPorts u ports
 own_kept t u ports same k = record { send = λ q queue e. same queue.send ∙ k.send q queue e; receive = λ q queue e. same queue.receive ∙ k.receive q queue e }
 
 module _ {f : Reach} (q : ℕ) (a : HasPort f q) where
@@ -97,7 +97,8 @@ module _ {f : Reach} (q : ℕ) (a : HasPort f q) where
       → free_semaphore (make_semaphore send (owner.Port q) n s.tables) ≡ found
       → Touches f s (made_port found q n send s).call.state
   made_port_touches None n send s g h = touches_refl s
-  made_port_touches (Some receive) n send s g h = with_port_touches n send receive s g (free_semaphore_free (make_semaphore send (owner.Port q) n s.tables) receive h)
+  made_port_touches (Some receive) n send s g h =
+      with_port_touches n send receive s g (free_semaphore_free (make_semaphore send (owner.Port q) n s.tables) receive h)
 
   -- A message goes into the port.
   pub put_message_touches : (found : Option PortQueue) (message : ℕ) (s : Xinu) → (port_at s.parts.ports q).queue ≡ found
@@ -255,11 +256,14 @@ pools_reached_there = record { owner = λ sem i. refl; waits = λ i. refl; parts
 module _ {f : Reach} (a : HasPools f) where
   disposed_touches : (how : ℕ) (messages : List ℕ) (d : CallState) → IsSoundTables d.state.tables
       → OwnSemaphores d.state.tables d.state.parts.pools → Touches f d.state (disposed how messages d).state
-  disposed_touches how messages d t k = cond_both (how == 1) (freed_buffers messages d) d (λ e. Touches f d.state e.state) (λ _. freed_buffers_touch a messages d t k) (λ _. touches_refl d.state)
+  disposed_touches how messages d t k =
+      cond_both (how == 1) (freed_buffers messages d) d (λ e. Touches f d.state e.state) (λ _. freed_buffers_touch a messages d t k)
+      (λ _. touches_refl d.state)
 
 disposed_sound : (how : ℕ) (messages : List ℕ) (d : CallState) → IsSoundTables d.state.tables
     → OwnSemaphores d.state.tables d.state.parts.pools → IsSoundTables (disposed how messages d).state.tables
-disposed_sound how messages d t k = cond_both (how == 1) (freed_buffers messages d) d (λ e. IsSoundTables e.state.tables) (λ _. freed_buffers_sound messages d t k) (λ _. t)
+disposed_sound how messages d t k =
+    cond_both (how == 1) (freed_buffers messages d) d (λ e. IsSoundTables e.state.tables) (λ _. freed_buffers_sound messages d t k) (λ _. t)
 
 -- the messages are gone, and all who waited go on: the port still has its semaphores
 pub record HasCleared (f : Reach) (q : ℕ) (queue : PortQueue) (d e : CallState) : Type 0 where

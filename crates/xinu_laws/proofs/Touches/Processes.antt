@@ -65,7 +65,8 @@ still_same : (asks : Rest → Bool) (t : Tables) (p : ℕ) (x : Process) → wai
 still_same asks t p x e = record { stay = λ q h. same_written (waits_in asks) t.processes p q x no_process e ∙ h }
 
 -- a process gets another priority
-with_priority_touches : (p : ℕ) (priority : ℤ) (s : Xinu) → Touches (reach on_tables) s (record s { tables = with_priority p priority s.tables })
+with_priority_touches : (p : ℕ) (priority : ℤ) (s : Xinu)
+    → Touches (reach on_tables) s (record s { tables = with_priority p priority s.tables })
 with_priority_touches p priority s =
     let t = s.tables in
     let x = record (process_at t p) { priority = priority } in
@@ -109,7 +110,9 @@ kill_touches p s i = touches_either s ((p == 0) || is_free (state_at s.tables p)
 
 -- a number that is found free waits in no call
 free_idle : (asks : Rest → Bool) (t : Tables) (p : ℕ) → free_process t ≡ Some p → waits_in asks (process_at t p) ≡ false
-free_idle asks t p e = and_left (is_waiting (state_at t p)) (asks (process_at t p).rest) (idle_free (state_at t p) (search_passes (λ q. is_free (state_at t q)) NPROC (t.last_process + 1) p e))
+free_idle asks t p e =
+    and_left (is_waiting (state_at t p)) (asks (process_at t p).rest)
+    (idle_free (state_at t p) (search_passes (λ q. is_free (state_at t q)) NPROC (t.last_process + 1) p e))
   where
     idle_free : (state : State) → is_free state ≡ true → is_waiting state ≡ false
     idle_free Waiting h = cc

@@ -29,7 +29,8 @@ good_may_be_touched t sem o h =
 made_semaphore_touches : (n : ℕ) (found : Option ℕ) (s : Xinu) → free_semaphore s.tables ≡ found
     → Touches (reach on_tables) s (made_semaphore n found s).call.state
 made_semaphore_touches n None s e = touches_refl s
-made_semaphore_touches n (Some sem) s e = touches_make_semaphore s sem Image n (ap ((reach on_tables).mine sem) (free_semaphore_free s.tables sem e)) refl
+made_semaphore_touches n (Some sem) s e =
+    touches_make_semaphore s sem Image n (ap ((reach on_tables).mine sem) (free_semaphore_free s.tables sem e)) refl
 
 -- all are released from a process's semaphore, whatever they answer
 emptied_touches : (value : ℤ) (sem : ℕ) (s : Xinu) → IsInside s.tables → is_good sem s.tables ≡ true
