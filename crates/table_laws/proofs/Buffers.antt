@@ -20,7 +20,8 @@ pub counted_is_in : (a : ℕ) (l : List ℕ) → 0 < count_in a l → is_in a l 
 counted_is_in a [] h = absurd (omega arith)
 counted_is_in a (b ∷ l) h = ⊎_elim
     (λ (e : a ≡ b). or_left (a == b) (is_in a l) (eq-eqb a b e))
-    (λ (n : a ≢ b). or_right (a == b) (is_in a l) (counted_is_in a l (subst (λ c. 0 < cond c (suc (count_in a l)) (count_in a l)) (ne_eqb b a (λ e. n (sym e))) h))) (cases_eq a b)
+    (λ (n : a ≢ b). or_right (a == b) (is_in a l)
+    (counted_is_in a l (subst (λ c. 0 < cond c (suc (count_in a l)) (count_in a l)) (ne_eqb b a (λ e. n (sym e))) h))) (cases_eq a b)
 
 -- a number that isn't in a list isn't counted there
 pub is_out_uncounted : (a : ℕ) (l : List ℕ) → is_in a l ≡ false → count_in a l ≡ 0
@@ -36,7 +37,8 @@ uncounted_is_out a l h = false_from_ne_true (is_in a l) (λ e. let f = is_in_cou
 addresses_above : (x a step n : ℕ) → x < a → count_in x (addresses a step n) ≡ 0
 addresses_above x a step zero h = refl
 addresses_above x a step (suc n) h =
-    ap (λ b. cond b (suc (count_in x (addresses (a + step) step n))) (count_in x (addresses (a + step) step n))) (ne_eqb a x (λ e. absurd (omega arith)))
+    ap (λ b. cond b (suc (count_in x (addresses (a + step) step n))) (count_in x (addresses (a + step) step n)))
+    (ne_eqb a x (λ e. absurd (omega arith)))
     ∙ addresses_above x (a + step) step n (omega arith)
 
 -- No address comes twice.
@@ -66,7 +68,8 @@ more_pass wide narrow a w n same (x ∷ l) =
     let e = more_pass wide narrow a w n same l in
     ⊎_elim
     (λ (h : x ≡ a). rw (ap wide h ∙ w) (rw (ap narrow h ∙ n) (rw (eq-eqb x a h) (omega arith))))
-    (λ (h : x ≢ a). rw (same x h) (rw (ne_eqb x a h) (both_longer (wide x) x (filter wide l) (filter narrow l) (count_in a l) e))) (cases_eq x a)
+    (λ (h : x ≢ a). rw (same x h) (rw (ne_eqb x a h) (both_longer (wide x) x (filter wide l) (filter narrow l) (count_in a l) e)))
+    (cases_eq x a)
 
 -- no address of a pool's buffers comes twice
 pub buffers_distinct : (a : ℕ) (pool : BufferPool) → count_in a (buffers pool) ≤ 1
@@ -80,7 +83,8 @@ buffer_once a pool h = let e = is_in_counted a (buffers pool) h in let f = buffe
 held_step : (a : ℕ) (pool : BufferPool) (free : List ℕ) → is_in a (buffers pool) ≡ true → is_in a free ≡ false
     → held_in (record pool { free = free }) ≡ held_in (record pool { free = a ∷ free }) + 1
 held_step a pool free here out =
-    let e = more_pass (λ x. not (is_in x free)) (λ x. not (is_in x (a ∷ free))) a (ap not out) (ap not (or_left (a == a) (is_in a free) (eq-eqb a a refl)))
+    let e = more_pass (λ x. not (is_in x free)) (λ x. not (is_in x (a ∷ free))) a (ap not out)
+    (ap not (or_left (a == a) (is_in a free) (eq-eqb a a refl)))
     (λ x n. ap (λ b. not (b || is_in x free)) (ne_eqb x a n)) (buffers pool) in
     let f = buffer_once a pool here in
     omega arith
@@ -95,7 +99,8 @@ first_is_out a l h =
 pub held_taken : (a : ℕ) (pool : BufferPool) (free : List ℕ) → pool.free ≡ a ∷ free → is_in a (buffers pool) ≡ true
     → count_in a pool.free ≤ 1 → held_in (record pool { free = free }) ≡ held_in pool + 1
 held_taken a pool free e here once =
-    held_step a pool free here (first_is_out a free (subst (λ l. count_in a l ≤ 1) e once)) ∙ ap (λ l. held_in (record pool { free = l }) + 1) (sym e)
+    held_step a pool free here (first_is_out a free (subst (λ l. count_in a l ≤ 1) e once))
+    ∙ ap (λ l. held_in (record pool { free = l }) + 1) (sym e)
 
 -- A held buffer is put back: one less is held.
 pub held_put_back : (a : ℕ) (pool : BufferPool) → is_held a pool ≡ true → held_in pool ≡ held_in (with_free a pool) + 1
@@ -122,6 +127,7 @@ pub new_pool_number : (base size number semaphore : ℕ)
     → length (new_pool base size number semaphore).free + held_in (new_pool base size number semaphore) ≡ number
 new_pool_number base size number semaphore =
     let l = addresses (base + 4) (size + 4) number in
-    let e = none_pass (λ a. not (is_in a l)) l (all_weaker (λ a. is_in a l ≡ true) (λ a. not (is_in a l) ≡ false) (λ a h. ap not h) l (all_in l)) in
+    let e = none_pass (λ a. not (is_in a l)) l
+    (all_weaker (λ a. is_in a l ≡ true) (λ a. not (is_in a l) ≡ false) (λ a h. ap not h) l (all_in l)) in
     let f = length-addresses (base + 4) (size + 4) number in
     omega arith

@@ -84,6 +84,7 @@ pub still_weaker : {mine : ℕ → Option Owner → Bool} {asks fewer : Rest →
 still_weaker {mine} {asks} {fewer} t u within c still = record {
   stay = λ p h. let parts = and_parts (is_waiting (process_at t p).state) (fewer (process_at t p).rest) h in
       let w = and_parts (is_waiting (process_at u p).state) (asks (process_at u p).rest)
-      (still.stay p (and_from (is_waiting (process_at t p).state) (asks (process_at t p).rest) parts.0 (within (process_at t p).rest parts.1))) in
+      (still.stay p (and_from (is_waiting (process_at t p).state) (asks (process_at t p).rest) parts.0
+      (within (process_at t p).rest parts.1))) in
       and_from (is_waiting (process_at u p).state) (fewer (process_at u p).rest) w.0 (ap fewer (c.rests p w.1).0 ∙ parts.1);
 }

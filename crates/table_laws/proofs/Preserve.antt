@@ -109,7 +109,8 @@ take_token_preserves : (tokens sem : ℕ) (left : Rest) (then_ : Xinu → CallRe
     → IsPreserved (take_token tokens sem left then_ s)
 take_token_preserves zero sem left then_ s e c w fits go =
     let t = s.tables in
-    blocked_preserves Waiting left (InSemaphore sem) s c (λ f. cc) (refl, refl, refl) (w, sym e, fits) (waits_hold sem (semaphore_at t sem).owner left (message_at t t.current) fits)
+    blocked_preserves Waiting left (InSemaphore sem) s c (λ f. cc) (refl, refl, refl) (w, sym e, fits)
+    (waits_hold sem (semaphore_at t sem).owner left (message_at t t.current) fits)
 take_token_preserves (suc n) sem left then_ s e c w fits go =
     go n (sym e) (tables_may_call s (with_tokens sem n s.tables) c (sound_token_taken s.tables sem n c.tables w (sym e)) refl)
 

@@ -38,8 +38,10 @@ moved_follows : (old : Xinu) (e : Event) (events : List Event) (first second oth
     → Follows (end_with (panics_in old e) (is_over next)) (λ rest. RunsTo next events rest other ending) second others next other ending
     → Follows (end_with (panics_in old e) (is_over mid)) (λ rest. RunsTo mid events rest other ending) first others mid other ending
 moved_follows old e events first second others mid next other ending same_lines same_state f =
-    subst (λ l. Follows (end_with (panics_in old e) (is_over mid)) (λ rest. RunsTo mid events rest other ending) l others mid other ending) (sym same_lines)
-    (subst (λ s. Follows (end_with (panics_in old e) (is_over s)) (λ rest. RunsTo s events rest other ending) second others s other ending) (sym same_state) f)
+    subst (λ l. Follows (end_with (panics_in old e) (is_over mid)) (λ rest. RunsTo mid events rest other ending) l others mid other ending)
+    (sym same_lines)
+    (subst (λ s. Follows (end_with (panics_in old e) (is_over s)) (λ rest. RunsTo s events rest other ending) second others s other ending)
+    (sym same_state) f)
 
 -- A run in which nothing is chosen is determined.
 pub runs_are_forced : (events : List Event) (old : Xinu) (lines others : List TranscriptLine) (new other : Xinu) (end ending : End)
@@ -110,5 +112,7 @@ transcripts_have_one_run images events last other all few t u =
     let rest = tables_of other ++ line.End u.end ∷ [] in
     let run = subst (λ s. RunsTo s events u.lines other u.end) (sym starts) u.runs in
     let same = ap (drop 1) (sym t.whole ∙ u.whole) in
-    (texts_have_one_run events t.start t.lines u.lines last other t.end u.end more rest (sound_boot images t.start few t.boots) refl refl t.runs run
-    (sym (append_assoc t.lines (tables_of last) (line.End t.end ∷ [])) ∙ same ∙ append_assoc u.lines (tables_of other) (line.End u.end ∷ []))).1
+    (texts_have_one_run events t.start t.lines u.lines last other t.end u.end more rest
+    (sound_boot images t.start few t.boots) refl refl t.runs run
+    (sym (append_assoc t.lines (tables_of last) (line.End t.end ∷ [])) ∙ same
+    ∙ append_assoc u.lines (tables_of other) (line.End u.end ∷ []))).1

@@ -72,7 +72,8 @@ waiters_in : (mine : ℕ → Option Owner → Bool) (t : Tables) (place : Place)
     → mine sem (semaphore_at t sem).owner ≡ true
     → get_or (semaphores_in place q l) sem no_semaphore ≡ get_or l sem no_semaphore
 waiters_in mine t (InSemaphore r) q sem l c m =
-    get_or-set_other l r sem (with_waiter q (get_or l r no_semaphore)) no_semaphore (λ e. both_ways (mine r (semaphore_at t r).owner) c (subst (λ k. mine k (semaphore_at t k).owner ≡ true) e m))
+    get_or-set_other l r sem (with_waiter q (get_or l r no_semaphore)) no_semaphore
+    (λ e. both_ways (mine r (semaphore_at t r).owner) c (subst (λ k. mine k (semaphore_at t k).owner ≡ true) e m))
 waiters_in mine t Nowhere q sem l c m = refl
 waiters_in mine t InReady q sem l c m = refl
 waiters_in mine t (InSleepers ready) q sem l c m = refl
@@ -82,7 +83,8 @@ pub rests_written : (asks : Rest → Bool) (t : Tables) (q : ℕ) (x : Process) 
     → IsFrameChange asks (process_at t p) (get_or (set t.processes q x) p no_process)
 rests_written asks t q x c p = by_number p q (λ r. IsFrameChange asks (process_at t r) (get_or (set t.processes q x) r no_process))
     (⊎_elim (λ (e : get_or (set t.processes q x) q no_process ≡ x). subst (IsFrameChange asks (process_at t q)) (sym e) c)
-    (λ (e : get_or (set t.processes q x) q no_process ≡ process_at t q). subst (IsFrameChange asks (process_at t q)) (sym e) (λ _. (refl, refl)))
+    (λ (e : get_or (set t.processes q x) q no_process ≡ process_at t q). subst (IsFrameChange asks (process_at t q)) (sym e)
+    (λ _. (refl, refl)))
     (read_written t.processes q x no_process))
     (λ n. subst (IsFrameChange asks (process_at t p)) (sym (get_or-set_other t.processes q p x no_process n)) (λ _. (refl, refl)))
 

@@ -14,7 +14,8 @@ use Rattle.table_laws.specs.Frame.{Frame, waits_at}
 pub filter_all : (test : ℕ → Bool) (l : List ℕ) → ((x : ℕ) → 0 < count_in x l → test x ≡ true) → filter test l ≡ l
 filter_all test [] h = refl
 filter_all test (x ∷ l) h =
-    ap (λ b. cond b (x ∷ filter test l) (filter test l)) (h x (first_is_counted x l)) ∙ ap (λ r. x ∷ r) (filter_all test l (λ y g. h y (count_behind y x l g)))
+    ap (λ b. cond b (x ∷ filter test l) (filter test l)) (h x (first_is_counted x l))
+    ∙ ap (λ r. x ∷ r) (filter_all test l (λ y g. h y (count_behind y x l g)))
 
 waiting_of : (s : State) → 0 < waiting_places s → is_waiting s ≡ true
 waiting_of Waiting h = refl
@@ -34,6 +35,8 @@ pub waiters_kept : {mine : ℕ → Option Owner → Bool} {asks : Rest → Bool}
 waiters_kept {mine} {asks} t u sem c o m fits =
     sym (filter_all (waits_at asks u) (semaphore_at u sem).waiters
     (λ p h.
-    let w : is_waiting (state_at u p) ≡ true = waiting_of (state_at u p) (let a = o.waiting p in let b = get_or-le-total (λ (x : Semaphore). count_in p x.waiters) u.semaphores sem no_semaphore refl in omega arith) in
+    let w : is_waiting (state_at u p) ≡ true = waiting_of (state_at u p)
+    (let a = o.waiting p in let b = get_or-le-total
+    (λ (x : Semaphore). count_in p x.waiters) u.semaphores sem no_semaphore refl in omega arith) in
     ap (λ b. b && asks (process_at u p).rest) w ∙ fits (process_at u p).rest (o.rests sem p h)))
     ∙ c.order sem m

@@ -32,8 +32,10 @@ module _ {mine : ℕ → Option Owner → Bool} {asks : Rest → Bool} where
             (λ n m. (ap (λ (y : Semaphore). y.owner) (same r n), ap (λ (y : Semaphore). y.tokens) (same r n)));
         old = λ r. by_number r sem (λ k. mine k (semaphore_at u k).owner ≡ true → (semaphore_at u k).owner ≡ (semaphore_at t k).owner)
             (λ m. ⊎_elim
-            (λ (e : semaphore_at u sem ≡ x). absurd (both_ways (mine sem x.owner) new (ap (λ (y : Semaphore). mine sem y.owner) (sym e) ∙ m)))
-            (λ (e : semaphore_at u sem ≡ semaphore_at t sem). ap (λ (y : Semaphore). y.owner) e) (read_written t.semaphores sem x no_semaphore))
+            (λ (e : semaphore_at u sem ≡ x). absurd
+            (both_ways (mine sem x.owner) new (ap (λ (y : Semaphore). mine sem y.owner) (sym e) ∙ m)))
+            (λ (e : semaphore_at u sem ≡ semaphore_at t sem). ap (λ (y : Semaphore). y.owner) e)
+            (read_written t.semaphores sem x no_semaphore))
             (λ n m. ap (λ (y : Semaphore). y.owner) (same r n));
         waiters = λ r p. by_number r sem (λ k. mine k (semaphore_at t k).owner ≡ true → 0 < count_in p (semaphore_at u k).waiters → 0 < count_in p (semaphore_at t k).waiters)
             (λ m. absurd (both_ways (mine sem (semaphore_at t sem).owner) old m))

@@ -84,7 +84,8 @@ entries_without_other p q l h = times-filter_keeps (λ e. e.0 == p) (λ e. not (
 pub entries_insert_same : {K : Type 0} (before : (ℕ × K) → Bool) (q : ℕ) (key : K) (l : List (ℕ × K)) → entries_of q l ≡ 0
     → entries_of q (insert before (q, key) l) ≡ 1
 entries_insert_same before q key l none =
-    times-insert (λ e. e.0 == q) before (q, key) l ∙ ap (λ b. cond b (suc (entries_of q l)) (entries_of q l)) (eq-eqb q q refl) ∙ ap suc none
+    times-insert (λ e. e.0 == q) before (q, key) l ∙ ap (λ b. cond b (suc (entries_of q l)) (entries_of q l)) (eq-eqb q q refl)
+    ∙ ap suc none
 
 -- an entry of q is inserted among those of p
 pub entries_insert_other : {K : Type 0} (before : (ℕ × K) → Bool) (p q : ℕ) (key : K) (l : List (ℕ × K)) → p ≢ q

@@ -14,7 +14,8 @@ use Rattle.xinu_model.specs.Tables.{entries_without, Place, Nowhere, InReady, In
 pub all_filter : {A : Type 0} (P : A → Type 0) (kept : A → Bool) (l : List A) → AllByRecursion P l → AllByRecursion P (filter kept l)
 all_filter P kept [] h = tt
 all_filter P kept (x ∷ xs) h =
-    cond_both (kept x) (x ∷ filter kept xs) (filter kept xs) (AllByRecursion P) (λ _. (h.0, all_filter P kept xs h.1)) (λ _. all_filter P kept xs h.1)
+    cond_both (kept x) (x ∷ filter kept xs) (filter kept xs) (AllByRecursion P) (λ _. (h.0, all_filter P kept xs h.1))
+    (λ _. all_filter P kept xs h.1)
 
 -- what holds of all of two lists holds of all of them joined
 pub all_append : {A : Type 0} (P : A → Type 0) (xs ys : List A) → AllByRecursion P xs → AllByRecursion P ys → AllByRecursion P (xs ++ ys)
@@ -30,13 +31,15 @@ all_weaker P Q f (x ∷ xs) h = (f x h.0, all_weaker P Q f xs h.1)
 pub all_passes : {A : Type 0} (kept : A → Bool) (l : List A) → AllByRecursion (λ x. kept x ≡ true) (filter kept l)
 all_passes kept [] = tt
 all_passes kept (x ∷ xs) =
-    cond_both (kept x) (x ∷ filter kept xs) (filter kept xs) (AllByRecursion (λ y. kept y ≡ true)) (λ e. (e, all_passes kept xs)) (λ _. all_passes kept xs)
+    cond_both (kept x) (x ∷ filter kept xs) (filter kept xs) (AllByRecursion (λ y. kept y ≡ true)) (λ e. (e, all_passes kept xs))
+    (λ _. all_passes kept xs)
 
 -- a filter keeps an order
 pub order_filter : {A : Type 0} (R : A → A → Type 0) (kept : A → Bool) (l : List A) → IsInOrder R l → IsInOrder R (filter kept l)
 order_filter R kept [] h = tt
 order_filter R kept (x ∷ xs) h =
-    cond_both (kept x) (x ∷ filter kept xs) (filter kept xs) (IsInOrder R) (λ _. (all_filter (R x) kept xs h.0, order_filter R kept xs h.1)) (λ _. order_filter R kept xs h.1)
+    cond_both (kept x) (x ∷ filter kept xs) (filter kept xs) (IsInOrder R) (λ _. (all_filter (R x) kept xs h.0, order_filter R kept xs h.1))
+    (λ _. order_filter R kept xs h.1)
 
 -- two lists in order are in order one after another, where each of the first is in the relation to each of the second
 pub order_append : {A : Type 0} (R : A → A → Type 0) (xs ys : List A) → IsInOrder R xs → IsInOrder R ys
@@ -52,8 +55,11 @@ pub order_insert : {A : Type 0} (R : A → A → Type 0) (before : A → Bool) (
 order_insert R before e l to from across h =
     let others = filter (λ x. not (before x)) l in
     let behind = all_passes (λ x. not (before x)) l in
-    order_append R (filter before l) (e ∷ others) (order_filter R before l h)
-    (all_weaker (λ x. not (before x) ≡ true) (R e) (λ x n. from x (not-true (before x) n)) others behind, order_filter R (λ x. not (before x)) l h)
+    order_append R (filter before l) (e ∷ others) (order_filter R before l h) (
+      all_weaker (λ x. not (before x) ≡ true) (R e) (λ x n. from x (not-true (before x) n)) others behind,
+      order_filter R
+          (λ x. not (before x)) l h,
+    )
     (all_weaker (λ x. before x ≡ true) (λ x. AllByRecursion (R x) (e ∷ others))
     (λ x b. (to x b, all_weaker (λ y. not (before y) ≡ true) (R x) (λ y n. across x y b (not-true (before y) n)) others behind))
     (filter before l) (all_passes before l))
@@ -62,7 +68,8 @@ order_insert R before e l to from across h =
 pub all_insert : {A : Type 0} (P : A → Type 0) (before : A → Bool) (e : A) (l : List A) → P e → AllByRecursion P l
     → AllByRecursion P (insert before e l)
 all_insert P before e l new h =
-    all_append P (filter before l) (e ∷ filter (λ x. not (before x)) l) (all_filter P before l h) (new, all_filter P (λ x. not (before x)) l h)
+    all_append P (filter before l) (e ∷ filter (λ x. not (before x)) l) (all_filter P before l h)
+    (new, all_filter P (λ x. not (before x)) l h)
 
 -- a key that isn't less
 not_less : (a k : ℤ) → not (int_lt a k) ≡ true → k ≤ℤ a
@@ -79,7 +86,8 @@ less_across a c k h i = let e = not_less a k h in let f = less c k i in grind (a
 -- the ready list falls after a process went to its place
 pub falling_in : (place : Place) (p : ℕ) (key : ℤ) (l : List (ℕ × ℤ)) → IsFalling l → IsFalling (ready_in place p key l)
 falling_in InReady p key l h =
-    order_insert (λ a b. b.1 ≤ℤ a.1) (λ x. not (int_lt x.1 key)) (p, key) l (λ x e. not_less x.1 key e) (λ x e. less x.1 key e) (λ x y e f. less_across x.1 y.1 key e f) h
+    order_insert (λ a b. b.1 ≤ℤ a.1) (λ x. not (int_lt x.1 key)) (p, key) l (λ x e. not_less x.1 key e) (λ x e. less x.1 key e)
+    (λ x y e f. less_across x.1 y.1 key e f) h
 falling_in Nowhere p key l h = h
 falling_in (InSemaphore s) p key l h = h
 falling_in (InSleepers wake) p key l h = h
@@ -143,5 +151,8 @@ all_both P Q (x ∷ xs) h k = ((h.0, k.0), all_both P Q xs h.1 k.1)
 -- each entry of a list is counted in it
 pub all_have_entries : {K : Type 0} (l : List (ℕ × K)) → AllByRecursion (λ e. 0 < entries_of e.0 l) l
 all_have_entries [] = tt
-all_have_entries (x ∷ xs) =
-    (first_has_entry x xs, all_weaker (λ e. 0 < entries_of e.0 xs) (λ e. 0 < entries_of e.0 (x ∷ xs)) (λ e h. entries_behind e.0 x xs h) xs (all_have_entries xs))
+all_have_entries (x ∷ xs) = (
+  first_has_entry x xs,
+  all_weaker (λ e. 0 < entries_of e.0 xs) (λ e. 0 < entries_of e.0 (x ∷ xs)) (λ e h. entries_behind e.0 x xs h) xs
+      (all_have_entries xs),
+)

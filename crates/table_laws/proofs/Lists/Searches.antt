@@ -34,4 +34,5 @@ search_passes test size first n e = first_passes test (going_round size first) n
 pub search_within : (test : ℕ → Bool) (size first n : ℕ) → search test size first ≡ Some n → n < size
 search_within test size first n e =
     first_is_one (λ x. x < size) test (going_round size first) n
-    (all_append (λ x. x < size) (numbers_from first (size - first)) (numbers_from 0 (min first size)) (numbers_below size first (size - first) (omega arith)) (numbers_below size 0 (min first size) (omega arith))) e
+    (all_append (λ x. x < size) (numbers_from first (size - first)) (numbers_from 0 (min first size))
+    (numbers_below size first (size - first) (omega arith)) (numbers_below size 0 (min first size) (omega arith))) e

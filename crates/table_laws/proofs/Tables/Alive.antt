@@ -74,7 +74,8 @@ alive_unblock_all value (p ∷ ps) d all a =
 live_waiters : (t : Tables) (sem : ℕ) → IsInside t → AllLive t (semaphore_at t sem).waiters
 live_waiters t sem o =
     let l = (semaphore_at t sem).waiters in
-    all_weaker (λ p. 0 < count_in p l) (λ p. is_free (state_at t p) ≡ false) (λ p h. ap is_free (waiter_waits t sem p o h)) l (all_counted l)
+    all_weaker (λ p. 0 < count_in p l) (λ p. is_free (state_at t p) ≡ false) (λ p h. ap is_free (waiter_waits t sem p o h)) l
+    (all_counted l)
 
 -- one signal, if these wait
 alive_first : (sem : ℕ) (l : List ℕ) (d : CallState) → AllLive d.state.tables l → AreAlive d.state.tables d.released
@@ -116,4 +117,5 @@ pub replies_spare_free : (t : Tables) (p : ℕ) → is_free (state_at t p) ≡ t
 replies_spare_free t p free [] harts a = refl
 replies_spare_free t p free (r ∷ replies) harts a =
     replies_spare_free t p free replies (with_reply harts r) a.1
-    ∙ get_or-set_other harts r.0 p _ no_hart (λ e. both_ways (is_free (state_at t r.0)) a.0 (subst (λ k. is_free (state_at t k) ≡ true) e free))
+    ∙ get_or-set_other harts r.0 p _ no_hart
+    (λ e. both_ways (is_free (state_at t r.0)) a.0 (subst (λ k. is_free (state_at t k) ≡ true) e free))

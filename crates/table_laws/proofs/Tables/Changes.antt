@@ -33,7 +33,8 @@ keys_written : (t : Tables) (q : ℕ) (x : Process) → IsInside t → state_at 
 keys_written t q x o idle =
     let key_at = λ (e : ℕ × ℤ). e.1 ≡ (process_at t e.0).priority in
     all_weaker (λ e. (0 < entries_of e.0 t.ready) × key_at e) (λ e. e.1 ≡ (get_or (set t.processes q x) e.0 no_process).priority)
-    (λ e h. let n : e.0 ≢ q = λ f. idle (subst (λ r. state_at t r ≡ Ready) f (ready_of (state_at t e.0) (subst (λ k. 0 < k) (o.ready e.0) h.0))) in
+    (λ e h. let n : e.0 ≢ q = λ f. idle
+    (subst (λ r. state_at t r ≡ Ready) f (ready_of (state_at t e.0) (subst (λ k. 0 < k) (o.ready e.0) h.0))) in
     h.1 ∙ sym (ap (λ (y : Process). y.priority) (get_or-set_other t.processes q e.0 x no_process n)))
     t.ready (all_both (λ e. 0 < entries_of e.0 t.ready) key_at t.ready (all_have_entries t.ready) o.keys)
 
@@ -97,7 +98,8 @@ inside_message t q m o w alive f = record {
   one_kind = o.one_kind;
   rests = o.rests;
   slots = λ p. by_number p q (λ r. FitsMessage (state_at t r) (process_at t r).rest (get_or (set t.messages q m) r None))
-      (subst (FitsMessage (state_at t q) (process_at t q).rest) (sym (get_or-set_same t.messages q m None (let e = o.messages in omega arith))) f)
+      (subst (FitsMessage (state_at t q) (process_at t q).rest)
+      (sym (get_or-set_same t.messages q m None (let e = o.messages in omega arith))) f)
       (λ n. subst (FitsMessage (state_at t p) (process_at t p).rest) (sym (get_or-set_other t.messages q p m None n)) (o.slots p));
   devices = o.devices;
   no_devices = o.no_devices;

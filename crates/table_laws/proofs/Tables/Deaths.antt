@@ -79,8 +79,10 @@ pub inside_delivered : (p message : ℕ) (d : CallState) → IsInside d.state.ta
 inside_delivered p message d o alive =
     let t = d.state.tables in
     by_delivery p message d (λ e. IsInside e.state.tables)
-    (λ b. inside_move t p (in_state Ready (process_at t p)) (Some message) InReady o (can_move_ready t p (Some message) o alive (holds_some (process_at t p).rest message)))
-    (λ b. inside_message t p (Some message) o (within_table t p o.processes alive) alive (fits_some (state_at t p) (process_at t p).rest message (message_at t p) b (o.slots p)))
+    (λ b. inside_move t p (in_state Ready (process_at t p)) (Some message) InReady o
+    (can_move_ready t p (Some message) o alive (holds_some (process_at t p).rest message)))
+    (λ b. inside_message t p (Some message) o (within_table t p o.processes alive) alive
+    (fits_some (state_at t p) (process_at t p).rest message (message_at t p) b (o.slots p)))
 
 -- The current process goes on after that.
 pub sound_delivered : (p message : ℕ) (d : CallState) → IsSoundTables d.state.tables → state_at d.state.tables p ≢ Free
@@ -88,7 +90,8 @@ pub sound_delivered : (p message : ℕ) (d : CallState) → IsSoundTables d.stat
 sound_delivered p message d k alive =
     let t = d.state.tables in
     by_delivery p message d (λ e. IsSoundTables e.state.tables)
-    (λ b. sound_move t p (in_state Ready (process_at t p)) (Some message) InReady k (idle_differs t p t.current (listens_idle (state_at t p) b) k.runs)
+    (λ b. sound_move t p (in_state Ready (process_at t p)) (Some message) InReady k
+    (idle_differs t p t.current (listens_idle (state_at t p) b) k.runs)
     (can_move_ready t p (Some message) k.inside alive (holds_some (process_at t p).rest message)))
     (λ b. record {
       inside = inside_message t p (Some message) k.inside (within_table t p k.inside.processes alive) alive (fits_some (state_at t p) (process_at t p).rest message (message_at t p) b (k.inside.slots p));
@@ -98,12 +101,14 @@ sound_delivered p message d k alive =
 -- A message is sent, or refused.
 pub inside_sent : (p message : ℕ) (d : CallState) → IsInside d.state.tables → IsInside (sent p message d).state.tables
 inside_sent p message d o =
-    cond_both (can_get p d.state.tables) (delivered p message d) d (λ e. IsInside e.state.tables) (λ b. inside_delivered p message d o (can_get_alive d.state.tables p b)) (λ _. o)
+    cond_both (can_get p d.state.tables) (delivered p message d) d (λ e. IsInside e.state.tables)
+    (λ b. inside_delivered p message d o (can_get_alive d.state.tables p b)) (λ _. o)
 
 -- The current process goes on after that.
 pub sound_sent : (p message : ℕ) (d : CallState) → IsSoundTables d.state.tables → IsSoundTables (sent p message d).state.tables
 sound_sent p message d k =
-    cond_both (can_get p d.state.tables) (delivered p message d) d (λ e. IsSoundTables e.state.tables) (λ b. sound_delivered p message d k (can_get_alive d.state.tables p b)) (λ _. k)
+    cond_both (can_get p d.state.tables) (delivered p message d) d (λ e. IsSoundTables e.state.tables)
+    (λ b. sound_delivered p message d k (can_get_alive d.state.tables p b)) (λ _. k)
 
 -- a delivery changes the tables alone, not who is current, and answers nobody
 pub record ChangesTables (d e : CallState) : Type 0 where
@@ -130,7 +135,8 @@ can_move_free t p w n = record { within = w; place_of = (refl, refl, refl); if_c
 pub inside_killed : (p : ℕ) (d : CallState) → IsInside d.state.tables → p < 64 → p ≢ 0 → IsInside (killed p d).state.tables
 inside_killed p d o w n =
     let told = sent (process_at d.state.tables p).parent p d in
-    inside_move told.state.tables p no_process None Nowhere (inside_sent (process_at d.state.tables p).parent p d o) (can_move_free told.state.tables p w n)
+    inside_move told.state.tables p no_process None Nowhere (inside_sent (process_at d.state.tables p).parent p d o)
+    (can_move_free told.state.tables p w n)
 
 -- If it isn't the current one, this one goes on.
 pub sound_killed : (p : ℕ) (d : CallState) → IsSoundTables d.state.tables → p < 64 → p ≢ 0 → p ≢ d.state.tables.current
@@ -138,13 +144,15 @@ pub sound_killed : (p : ℕ) (d : CallState) → IsSoundTables d.state.tables �
 sound_killed p d k w n other =
     let parent = (process_at d.state.tables p).parent in
     let told = sent parent p d in
-    sound_move told.state.tables p no_process None Nowhere (sound_sent parent p d k) (λ e. other (e ∙ (sent_changes parent p d).current)) (can_move_free told.state.tables p w n)
+    sound_move told.state.tables p no_process None Nowhere (sound_sent parent p d k) (λ e. other (e ∙ (sent_changes parent p d).current))
+    (can_move_free told.state.tables p w n)
 
 -- Each number keeps its registers if a process dies.
 pub harts_killed : (p : ℕ) (d : CallState) → AreHarts d.state.harts → AreHarts (killed p d).state.harts
 harts_killed p d a =
     let parent = (process_at d.state.tables p).parent in
-    harts_set (sent parent p d).state.harts p no_hart refl (harts_same d.state.harts _ (ap (λ (s : Xinu). s.harts) (sent_changes parent p d).state) a)
+    harts_set (sent parent p d).state.harts p no_hart refl
+    (harts_same d.state.harts _ (ap (λ (s : Xinu). s.harts) (sent_changes parent p d).state) a)
 
 -- A death answers nobody.
 pub nobody_answered : (p : ℕ) (s : Xinu) → AreAlive (killed p (start s)).state.tables (killed p (start s)).released

@@ -19,7 +19,8 @@ use Rattle.xinu_model.specs.Sound.State.{AreHarts}
 off_closed : (answer : Answer) (owes : Bool) (t : Tables) → is_off answer ≡ true → IsSoundTables (resched t)
     → IsSoundTables (cond (owes || is_off answer) (resched t) t)
 off_closed answer owes t e k =
-    cond_both (owes || is_off answer) (resched t) t IsSoundTables (λ _. k) (λ b. absurd (both_ways (owes || is_off answer) b (or_right owes (is_off answer) e)))
+    cond_both (owes || is_off answer) (resched t) t IsSoundTables
+    (λ _. k) (λ b. absurd (both_ways (owes || is_off answer) b (or_right owes (is_off answer) e)))
 
 -- The one resched at the end makes the tables sound if they aren't yet.
 pub closed_fits : (answer : Answer) (owes : Bool) (t : Tables) → FitsAnswer answer t

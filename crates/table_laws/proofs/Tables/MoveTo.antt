@@ -21,12 +21,15 @@ by_number p q P same other = ⊎_elim (λ (e : p ≡ q). subst P (sym e) same) (
 -- a process that isn't free has a number of the table
 pub within_table : (t : Tables) (p : ℕ) → length t.processes ≡ 64 → state_at t p ≢ Free → p < 64
 within_table t p e n =
-    ⊎_elim (λ (h : p < 64). h) (λ (h : 64 ≤ p). absurd (n (ap (λ (y : Process). y.state) (get_or_past t.processes p no_process (omega arith))))) (cases_lt p 64)
+    ⊎_elim (λ (h : p < 64). h)
+    (λ (h : 64 ≤ p). absurd (n (ap (λ (y : Process). y.state) (get_or_past t.processes p no_process (omega arith))))) (cases_lt p 64)
 
 -- a semaphore in use has a number of the table
 pub semaphore_within : (t : Tables) (sem : ℕ) → length t.semaphores ≡ 128 → (semaphore_at t sem).owner ≢ None → sem < 128
 semaphore_within t sem e n =
-    ⊎_elim (λ (h : sem < 128). h) (λ (h : 128 ≤ sem). absurd (n (ap (λ (y : Semaphore). y.owner) (get_or_past t.semaphores sem no_semaphore (omega arith))))) (cases_lt sem 128)
+    ⊎_elim (λ (h : sem < 128). h)
+    (λ (h : 128 ≤ sem). absurd (n (ap (λ (y : Semaphore). y.owner) (get_or_past t.semaphores sem no_semaphore (omega arith)))))
+    (cases_lt sem 128)
 
 -- a process that moved is what it became
 pub process_move_same : (t : Tables) (q : ℕ) (x : Process) (m : Option ℕ) (place : Place) → length t.processes ≡ 64 → q < 64
@@ -66,8 +69,10 @@ semaphore_in_cases : (place : Place) (q r : ℕ) (l : List Semaphore) (P : Semap
 semaphore_in_cases (InSemaphore sem) q r l P i old new =
     ⊎_elim
     (λ (e : r ≡ sem). subst (λ k. P (get_or (set l sem (with_waiter q (get_or l sem no_semaphore))) k no_semaphore)) (sym e)
-    (subst P (sym (get_or-set_same l sem (with_waiter q (get_or l sem no_semaphore)) no_semaphore i)) (subst (λ k. P (with_waiter q (get_or l k no_semaphore))) e (new sem refl e))))
-    (λ (n : r ≢ sem). subst P (sym (get_or-set_other l sem r (with_waiter q (get_or l sem no_semaphore)) no_semaphore n)) old) (cases_eq r sem)
+    (subst P (sym (get_or-set_same l sem (with_waiter q (get_or l sem no_semaphore)) no_semaphore i))
+    (subst (λ k. P (with_waiter q (get_or l k no_semaphore))) e (new sem refl e))))
+    (λ (n : r ≢ sem). subst P (sym (get_or-set_other l sem r (with_waiter q (get_or l sem no_semaphore)) no_semaphore n)) old)
+    (cases_eq r sem)
 semaphore_in_cases Nowhere q r l P i old new = old
 semaphore_in_cases InReady q r l P i old new = old
 semaphore_in_cases (InSleepers wake) q r l P i old new = old
@@ -79,7 +84,8 @@ pub semaphore_move_cases : (t : Tables) (q r : ℕ) (x : Process) (m : Option �
     → P (semaphore_at (move_to q x m place t) r)
 semaphore_move_cases t q r x m place P i old new =
     let e = semaphore_at_without q r t.semaphores in
-    semaphore_in_cases place q r (waits_without q t.semaphores) P i (subst P (sym e) old) (λ sem f g. subst (λ y. P (with_waiter q y)) (sym e) (new sem f g))
+    semaphore_in_cases place q r (waits_without q t.semaphores) P i (subst P (sym e) old)
+    (λ sem f g. subst (λ y. P (with_waiter q y)) (sym e) (new sem f g))
 
 -- a place that fits is in the table
 in_table : (t : Tables) (x : Process) (place : Place) (q : ℕ) → length t.semaphores ≡ 128 → FitsPlace t x place
@@ -109,8 +115,10 @@ ready_move : (t : Tables) (q : ℕ) (x : Process) (m : Option ℕ) (place : Plac
 ready_move t q x m place o c p =
     let l = entries_without q t.ready in
     by_number p q (λ r. entries_of r (ready_in place q x.priority l) ≡ ready_places (state_at (move_to q x m place t) r))
-    (ready_in_same place q x.priority l (entries_without_same q t.ready) ∙ sym c.place_of.0 ∙ sym (ap ready_places (state_move_same t q x m place o.processes c.within)))
-    (λ n. ready_in_other place p q x.priority l n ∙ entries_without_other p q t.ready n ∙ o.ready p ∙ sym (ap ready_places (state_move_other t p q x m place n)))
+    (ready_in_same place q x.priority l (entries_without_same q t.ready) ∙ sym c.place_of.0
+    ∙ sym (ap ready_places (state_move_same t q x m place o.processes c.within)))
+    (λ n. ready_in_other place p q x.priority l n ∙ entries_without_other p q t.ready n ∙ o.ready p
+    ∙ sym (ap ready_places (state_move_other t p q x m place n)))
 
 -- each key is its process's priority, after one of them moved
 keys_move : (t : Tables) (q : ℕ) (x : Process) (m : Option ℕ) (place : Place) → IsInside t → CanMove t q x m place
@@ -119,8 +127,10 @@ keys_move t q x m place o c =
     let key_at : Tables → ℕ × ℤ → Type 0 = λ u e. e.1 ≡ (process_at u e.0).priority in
     let u = move_to q x m place t in
     let l = entries_without q t.ready in
-    let others = all_both (λ e. not (e.0 == q) ≡ true) (key_at t) l (all_passes (λ e. not (e.0 == q)) t.ready) (all_filter (key_at t) (λ e. not (e.0 == q)) t.ready o.keys) in
-    all_ready_in (key_at u) place q x.priority l (sym (ap (λ (y : Process). y.priority) (process_move_same t q x m place o.processes c.within)))
+    let others = all_both (λ e. not (e.0 == q) ≡ true) (key_at t) l (all_passes (λ e. not (e.0 == q)) t.ready)
+    (all_filter (key_at t) (λ e. not (e.0 == q)) t.ready o.keys) in
+    all_ready_in (key_at u) place q x.priority l
+    (sym (ap (λ (y : Process). y.priority) (process_move_same t q x m place o.processes c.within)))
     (all_weaker (λ e. (not (e.0 == q) ≡ true) × key_at t e) (key_at u)
     (λ e h. h.1 ∙ sym (ap (λ (y : Process). y.priority) (process_move_other t e.0 q x m place (eqb-false e.0 q (not-true (e.0 == q) h.0))))) l others)
 
@@ -131,8 +141,10 @@ waiting_move t q x m place o c p =
     let l = waits_without q t.semaphores in
     let i = in_table t x place q o.semaphores c.fits in
     by_number p q (λ r. waits_of r (semaphores_in place q l) ≡ waiting_places (state_at (move_to q x m place t) r))
-    (semaphores_in_same place q l i (waits_without_same q t.semaphores) ∙ sym c.place_of.1 ∙ sym (ap waiting_places (state_move_same t q x m place o.processes c.within)))
-    (λ n. semaphores_in_other place p q l i n ∙ waits_without_other p q t.semaphores n ∙ o.waiting p ∙ sym (ap waiting_places (state_move_other t p q x m place n)))
+    (semaphores_in_same place q l i (waits_without_same q t.semaphores) ∙ sym c.place_of.1
+    ∙ sym (ap waiting_places (state_move_same t q x m place o.processes c.within)))
+    (λ n. semaphores_in_other place p q l i n ∙ waits_without_other p q t.semaphores n ∙ o.waiting p
+    ∙ sym (ap waiting_places (state_move_other t p q x m place n)))
 
 -- the same of the sleepers
 sleeping_move : (t : Tables) (q : ℕ) (x : Process) (m : Option ℕ) (place : Place) → IsInside t → CanMove t q x m place
@@ -140,8 +152,10 @@ sleeping_move : (t : Tables) (q : ℕ) (x : Process) (m : Option ℕ) (place : P
 sleeping_move t q x m place o c p =
     let l = entries_without q t.sleepers in
     by_number p q (λ r. entries_of r (sleepers_in place q l) ≡ sleeping_places (state_at (move_to q x m place t) r))
-    (sleepers_in_same place q l (entries_without_same q t.sleepers) ∙ sym c.place_of.2 ∙ sym (ap sleeping_places (state_move_same t q x m place o.processes c.within)))
-    (λ n. sleepers_in_other place p q l n ∙ entries_without_other p q t.sleepers n ∙ o.sleeping p ∙ sym (ap sleeping_places (state_move_other t p q x m place n)))
+    (sleepers_in_same place q l (entries_without_same q t.sleepers) ∙ sym c.place_of.2
+    ∙ sym (ap sleeping_places (state_move_same t q x m place o.processes c.within)))
+    (λ n. sleepers_in_other place p q l n ∙ entries_without_other p q t.sleepers n ∙ o.sleeping p
+    ∙ sym (ap sleeping_places (state_move_other t p q x m place n)))
 
 -- the null process can run and has nothing left to do, after one of them moved
 null_move : (t : Tables) (q : ℕ) (x : Process) (m : Option ℕ) (place : Place) → IsInside t → CanMove t q x m place
@@ -157,7 +171,8 @@ rests_left : (t : Tables) (q : ℕ) (x : Process) (m : Option ℕ) (place : Plac
     → 0 < count_in p (numbers_without q (semaphore_at t r).waiters)
     → FitsOwner r (semaphore_at t r).owner (process_at (move_to q x m place t) p).rest
 rests_left t q x m place r p o = by_number p q
-    (λ k. 0 < count_in k (numbers_without q (semaphore_at t r).waiters) → FitsOwner r (semaphore_at t r).owner (process_at (move_to q x m place t) k).rest)
+    (λ k. 0 < count_in k (numbers_without q (semaphore_at t r).waiters) → FitsOwner r (semaphore_at t r).owner
+    (process_at (move_to q x m place t) k).rest)
     (λ h. let z = numbers_without_same q (semaphore_at t r).waiters in absurd (omega arith))
     (λ n h. subst (λ (y : Process). FitsOwner r (semaphore_at t r).owner y.rest) (sym (process_move_other t p q x m place n))
     (o.rests r p (subst (λ k. 0 < k) (numbers_without_other p q (semaphore_at t r).waiters n) h)))
@@ -167,7 +182,8 @@ rests_come : (t : Tables) (q : ℕ) (x : Process) (m : Option ℕ) (place : Plac
     → FitsOwner r (semaphore_at t r).owner x.rest → 0 < count_in p (numbers_without q (semaphore_at t r).waiters ++ q ∷ [])
     → FitsOwner r (semaphore_at t r).owner (process_at (move_to q x m place t) p).rest
 rests_come t q x m place r p o w f = by_number p q
-    (λ k. 0 < count_in k (numbers_without q (semaphore_at t r).waiters ++ q ∷ []) → FitsOwner r (semaphore_at t r).owner (process_at (move_to q x m place t) k).rest)
+    (λ k. 0 < count_in k (numbers_without q (semaphore_at t r).waiters ++ q ∷ []) → FitsOwner r (semaphore_at t r).owner
+    (process_at (move_to q x m place t) k).rest)
     (λ _. subst (λ (y : Process). FitsOwner r (semaphore_at t r).owner y.rest) (sym (process_move_same t q x m place o.processes w)) f)
     (λ n h. rests_left t q x m place r p o (subst (λ k. 0 < k) (count_last_other p q (numbers_without q (semaphore_at t r).waiters) n) h))
 

@@ -113,7 +113,8 @@ idle_differs t p c n e f = n (subst (λ k. state_at t k ≡ Current) (sym f) e)
 -- A process that can become ready becomes ready, and the current one goes on.
 pub sound_ready : (t : Tables) (q : ℕ) → IsSoundTables t → CanBeReady t q → IsSoundTables (ready q t)
 sound_ready t q k c =
-    sound_move t q (in_state Ready (process_at t q)) (message_at t q) InReady k (idle_differs t q t.current c.idle k.runs) (can_move_ready t q (message_at t q) k.inside c.alive c.holds)
+    sound_move t q (in_state Ready (process_at t q)) (message_at t q) InReady k (idle_differs t q t.current c.idle k.runs)
+    (can_move_ready t q (message_at t q) k.inside c.alive c.holds)
 
 -- Another number may be the current one, with another quantum, tick and last numbers, if no other process runs and the sleepers wake later.
 pub inside_numbers : (t : Tables) (current quantum ticks last_process last_semaphore : ℕ) → IsInside t
@@ -172,7 +173,8 @@ none_runs_ready t o alive p =
     let c = t.current in
     let x = in_state Ready (process_at t c) in
     by_number p c (λ r. state_at (ready c t) r ≢ Current)
-    (λ f. let g : Ready ≡ Current = sym (state_move_same t c x (message_at t c) InReady o.processes (within_table t c o.processes alive)) ∙ f in cc)
+    (λ f. let g : Ready ≡ Current = sym (state_move_same t c x (message_at t c) InReady o.processes (within_table t c o.processes alive))
+    ∙ f in cc)
     (λ n f. n (o.one_current p (sym (state_move_other t p c x (message_at t c) InReady n) ∙ f)))
 
 -- if it doesn't, none does either
@@ -186,15 +188,19 @@ room_made t o =
     cond_both (is_current (state_at t c)) (ready c t) t (λ u. IsInside u × NoneRuns u)
     (λ b. let e = current_of (state_at t c) b in
     let alive : state_at t c ≢ Free = λ f. cc in
-    let holds = holds_at t c o (λ f. cc) in
-    (inside_move t c (in_state Ready (process_at t c)) (message_at t c) InReady o (can_move_ready t c (message_at t c) o alive holds), none_runs_ready t o alive))
+    let holds = holds_at t c o (λ f. cc) in (
+      inside_move t c (in_state Ready (process_at t c)) (message_at t c) InReady o
+          (can_move_ready t c (message_at t c) o alive holds),
+      none_runs_ready t o alive,
+    ))
     (λ b. (o, none_runs_idle t o b))
 
 -- with an empty ready list the null process is in state current
 empty_runs : (t : Tables) → IsInside t → [] ≡ t.ready → state_at t t.current ≡ Current
 empty_runs t o e = ⊎_elim
     (λ (f : state_at t 0 ≡ Current). subst (λ k. state_at t k ≡ Current) (o.one_current 0 f) f)
-    (λ (f : state_at t 0 ≡ Ready). let g = o.ready 0 ∙ ap ready_places f in let none : 0 ≡ entries_of 0 t.ready = ap (entries_of 0) e in absurd (omega arith))
+    (λ (f : state_at t 0 ≡ Ready). let g = o.ready 0
+    ∙ ap ready_places f in let none : 0 ≡ entries_of 0 t.ready = ap (entries_of 0) e in absurd (omega arith))
     o.null
 
 -- Who stays is in state current.

@@ -38,7 +38,8 @@ signals_at sem n d x e = ap (λ (y : Semaphore). signals_of sem n y.waiters y.to
 signals_to_none : (sem n tokens : ℕ) (d : CallState)
     → signals_of sem n [] tokens d ≡ with_tables (with_tokens sem (tokens + (n - 0)) d.state.tables) d
 signals_to_none sem n tokens d =
-    ap (λ ps. let after = unblock_all ps d in with_tables (with_tokens sem (tokens + (n - 0)) after.state.tables) after) (take_all {A = ℕ} n [] (omega arith))
+    ap (λ ps. let after = unblock_all ps d in with_tables (with_tokens sem (tokens + (n - 0)) after.state.tables) after)
+    (take_all {A = ℕ} n [] (omega arith))
 
 -- a number of places is at most one
 at_most_one : (s : State) → waiting_places s ≤ 1
@@ -51,7 +52,8 @@ first_waits_once t sem p ps o e =
     let l = get_or-le-total (λ x. count_in p x.waiters) t.semaphores sem no_semaphore refl in
     let m = at_most_one (state_at t p) in
     let w = o.waiting p in
-    let f : count_in p (semaphore_at t sem).waiters ≡ suc (count_in p ps) = ap (count_in p) e ∙ ap (λ b. cond b (suc (count_in p ps)) (count_in p ps)) (eq-eqb p p refl) in
+    let f : count_in p (semaphore_at t sem).waiters ≡ suc (count_in p ps) = ap (count_in p) e
+    ∙ ap (λ b. cond b (suc (count_in p ps)) (count_in p ps)) (eq-eqb p p refl) in
     omega arith
 
 -- the others wait once the first is released
@@ -65,7 +67,8 @@ no_signal sem d =
     let t = d.state.tables in
     let x = semaphore_at t sem in
     let e : x.tokens + (0 - length x.waiters) ≡ x.tokens = omega arith in
-    ap (λ n. with_tables (with_tokens sem n t) d) e ∙ ap (λ l. with_tables (record t { semaphores = l }) d) (set-get_or t.semaphores sem no_semaphore)
+    ap (λ n. with_tables (with_tokens sem n t) d) e
+    ∙ ap (λ l. with_tables (record t { semaphores = l }) d) (set-get_or t.semaphores sem no_semaphore)
 
 -- one signal and then n are n + 1, if one waits
 signals_released : (sem n p : ℕ) (ps : List ℕ) (d : CallState) → IsInside d.state.tables
@@ -124,15 +127,18 @@ signals_unused (suc n) sem d many w e =
     let y : Semaphore = record (semaphore_at t sem) { tokens = (semaphore_at t sem).tokens + 1 } in
     let u = with_tables (with_tokens sem ((semaphore_at t sem).tokens + 1) t) d in
     let one : signalled sem d ≡ u = ap (λ l. signal_first sem l d) e in
-    let same : (semaphore_at u.state.tables sem).waiters ≡ [] = ap (λ (x : Semaphore). x.waiters) (get_or-set_same t.semaphores sem y no_semaphore (omega arith)) ∙ e in
-    signals_counted sem n d many w e ∙ signals_unused n sem u (length-set t.semaphores sem y ∙ many) w same ∙ sym (ap (repeated n (signalled sem)) one)
+    let same : (semaphore_at u.state.tables sem).waiters ≡ [] = ap (λ (x : Semaphore). x.waiters)
+    (get_or-set_same t.semaphores sem y no_semaphore (omega arith)) ∙ e in
+    signals_counted sem n d many w e ∙ signals_unused n sem u (length-set t.semaphores sem y ∙ many) w same
+    ∙ sym (ap (repeated n (signalled sem)) one)
 
 -- a signal of a number past the table changes nothing
 signal_past : (sem : ℕ) (d : CallState) → length d.state.tables.semaphores ≡ 128 → 128 ≤ sem → signalled sem d ≡ d
 signal_past sem d many h =
     let t = d.state.tables in
     ap (λ (x : Semaphore). signal_first sem x.waiters d) (get_or_past t.semaphores sem no_semaphore (omega arith))
-    ∙ ap (λ l. with_tables (record t { semaphores = l }) d) (set_past t.semaphores sem (record (semaphore_at t sem) { tokens = (semaphore_at t sem).tokens + 1 }) (omega arith))
+    ∙ ap (λ l. with_tables (record t { semaphores = l }) d)
+    (set_past t.semaphores sem (record (semaphore_at t sem) { tokens = (semaphore_at t sem).tokens + 1 }) (omega arith))
 
 -- and so do many
 signals_past : (n sem : ℕ) (d : CallState) → length d.state.tables.semaphores ≡ 128 → 128 ≤ sem → d ≡ repeated n (signalled sem) d
@@ -145,7 +151,8 @@ many_past n sem d many h =
     let t = d.state.tables in
     signals_at sem n d no_semaphore (get_or_past t.semaphores sem no_semaphore (omega arith))
     ∙ signals_to_none sem n 0 d
-    ∙ ap (λ l. with_tables (record t { semaphores = l }) d) (set_past t.semaphores sem (record (semaphore_at t sem) { tokens = 0 + (n - 0) }) (omega arith))
+    ∙ ap (λ l. with_tables (record t { semaphores = l }) d)
+    (set_past t.semaphores sem (record (semaphore_at t sem) { tokens = 0 + (n - 0) }) (omega arith))
 
 -- So many signals at once are that many signals, one after another, if what holds of the tables at each moment holds.
 pub signals_are_repeated : (sem n : ℕ) (d : CallState) → IsInside d.state.tables → signalled_times sem n d ≡ repeated n (signalled sem) d

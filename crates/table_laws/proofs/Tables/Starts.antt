@@ -90,7 +90,8 @@ first_rests : (sem p : ℕ) → 0 < count_in p (semaphore_at null_tables sem).wa
     → FitsOwner sem (semaphore_at null_tables sem).owner (process_at null_tables p).rest
 first_rests sem p =
     let P : ℕ → Semaphore → Type 0 = λ r x. 0 < count_in p x.waiters → FitsOwner r x.owner (process_at null_tables p).rest in
-    by_first P (λ h. absurd (omega arith)) (λ h. absurd (omega arith)) (λ h. absurd (omega arith)) (λ h. absurd (omega arith)) (λ r h. absurd (omega arith)) sem
+    by_first P (λ h. absurd (omega arith)) (λ h. absurd (omega arith)) (λ h. absurd (omega arith)) (λ h. absurd (omega arith))
+    (λ r h. absurd (omega arith)) sem
 
 -- What holds of the tables at each moment holds of those with the null process alone.
 pub inside_null : IsInside null_tables
@@ -170,7 +171,8 @@ all_are_made (image ∷ images) i s x m z w e =
     let on = made_on_stack (take_stack (stack_size image.stack) s.parts.heap) i image s b.0 b.1 in
     let g : i + 1 + length images ≡ i + suc (length images) = omega arith in
     subst (λ k. AreMade k x) g
-    (all_are_made images (i + 1) b.0 x (subst (AreMade (i + 1)) on.1 (next_made i image on.0 s m z (omega arith))) (omega arith) (omega arith) b.2)
+    (all_are_made images (i + 1) b.0 x (subst (AreMade (i + 1)) on.1 (next_made i image on.0 s m z (omega arith))) (omega arith)
+    (omega arith) b.2)
 
 -- who is suspended can become ready
 can_be_ready_suspended : (t : Tables) (p : ℕ) → IsInside t → state_at t p ≡ Suspended → CanBeReady t p
@@ -182,7 +184,8 @@ pub sound_all_ready : (images : List Loaded) (i : ℕ) (t : Tables) → IsSoundT
 sound_all_ready [] i t k all = k
 sound_all_ready (image ∷ images) i t k all =
     sound_all_ready images (i + 1) (ready i t) (sound_ready t i k (can_be_ready_suspended t i k.inside (all i (omega arith) (omega arith))))
-    (λ j low high. state_move_other t j i (in_state Ready (process_at t i)) (message_at t i) InReady (λ f. absurd (omega arith)) ∙ all j (omega arith) (omega arith))
+    (λ j low high. state_move_other t j i (in_state Ready (process_at t i)) (message_at t i) InReady (λ f. absurd (omega arith))
+    ∙ all j (omega arith) (omega arith))
 
 -- The machine starts with sound tables, and with registers for each number.
 pub record StartsSound (start : Xinu) : Type 0 where
@@ -203,7 +206,8 @@ sound_unless_overlap (Some i) images start few e = cc
 sound_unless_overlap None images start few e =
     let b = boots_from (all_made 1 images (loaded_machine images)) (λ s. Boots (all_started images s)) start e in
     let f : all_started images b.0 ≡ start = cc in
-    subst StartsSound f (sound_wakeup images b.0 few (all_are_made images 1 (loaded_machine images) b.0 (none_made images) (omega arith) (omega arith) b.1))
+    subst StartsSound f (sound_wakeup images b.0 few
+    (all_are_made images 1 (loaded_machine images) b.0 (none_made images) (omega arith) (omega arith) b.1))
 
 -- If the machine starts with fewer than 64 images, it starts with sound tables.
 pub sound_start : (images : List Loaded) (start : Xinu) → length images < 64 → boot images ≡ Boots start → StartsSound start

@@ -32,27 +32,36 @@ can_be_ready_sleeper t p o h =
 pub can_be_ready_due : (t : Tables) (tick : ℕ) → IsInside t → AllByRecursion (CanBeReady t) (due tick t.sleepers)
 can_be_ready_due t tick o =
     all_map (CanBeReady t) (λ e. e.0) (filter (λ e. e.1 == tick) t.sleepers)
-    (all_weaker (λ e. 0 < entries_of e.0 t.sleepers) (λ e. CanBeReady t e.0) (λ e h. can_be_ready_sleeper t e.0 o h) (filter (λ e. e.1 == tick) t.sleepers)
+    (all_weaker (λ e. 0 < entries_of e.0 t.sleepers) (λ e. CanBeReady t e.0) (λ e h. can_be_ready_sleeper t e.0 o h)
+    (filter (λ e. e.1 == tick) t.sleepers)
     (all_filter (λ e. 0 < entries_of e.0 t.sleepers) (λ e. e.1 == tick) t.sleepers (all_have_entries t.sleepers)))
 
 -- who is due among some is due among one more
 due_behind : (tick : ℕ) (e x : ℕ × ℕ) (xs : List (ℕ × ℕ)) → IsOneOf e.0 (due tick xs) ⊎ (e.1 ≢ tick)
     → IsOneOf e.0 (due tick (x ∷ xs)) ⊎ (e.1 ≢ tick)
 due_behind tick e x xs h = ⊎_elim
-    (λ (i : IsOneOf e.0 (due tick xs)). inl (cond_both (x.1 == tick) (x ∷ filter (λ y. y.1 == tick) xs) (filter (λ y. y.1 == tick) xs) (λ (l : List (ℕ × ℕ)). IsOneOf e.0 (map (λ y. y.0) l)) (λ _. inr i) (λ _. i)))
+    (λ (i : IsOneOf e.0 (due tick xs)). inl
+    (cond_both (x.1 == tick) (x ∷ filter (λ y. y.1 == tick) xs) (filter (λ y. y.1 == tick) xs)
+    (λ (l : List (ℕ × ℕ)). IsOneOf e.0 (map (λ y. y.0) l)) (λ _. inr i) (λ _. i)))
     (λ (d : e.1 ≢ tick). inr d) h
 
 -- the first of some is due, or its tick is another
 due_first : (tick : ℕ) (x : ℕ × ℕ) (xs : List (ℕ × ℕ)) → IsOneOf x.0 (due tick (x ∷ xs)) ⊎ (x.1 ≢ tick)
 due_first tick x xs = ⊎_elim
-    (λ (e : x.1 ≡ tick). inl (subst (λ b. IsOneOf x.0 (map (λ (y : ℕ × ℕ). y.0) (cond b (x ∷ filter (λ (y : ℕ × ℕ). y.1 == tick) xs) (filter (λ (y : ℕ × ℕ). y.1 == tick) xs)))) (sym (eq-eqb x.1 tick e)) (inl refl)))
+    (λ (e : x.1 ≡ tick). inl
+    (subst (λ b. IsOneOf x.0
+    (map (λ (y : ℕ × ℕ). y.0) (cond b (x ∷ filter (λ (y : ℕ × ℕ). y.1 == tick) xs) (filter (λ (y : ℕ × ℕ). y.1 == tick) xs))))
+    (sym (eq-eqb x.1 tick e)) (inl refl)))
     (λ (d : x.1 ≢ tick). inr d) (cases_eq x.1 tick)
 
 -- each sleeper is due, or its tick is another
 all_due : (tick : ℕ) (l : List (ℕ × ℕ)) → AllByRecursion (λ e. IsOneOf e.0 (due tick l) ⊎ (e.1 ≢ tick)) l
 all_due tick [] = tt
-all_due tick (x ∷ xs) =
-    (due_first tick x xs, all_weaker (λ e. IsOneOf e.0 (due tick xs) ⊎ (e.1 ≢ tick)) (λ e. IsOneOf e.0 (due tick (x ∷ xs)) ⊎ (e.1 ≢ tick)) (λ e h. due_behind tick e x xs h) xs (all_due tick xs))
+all_due tick (x ∷ xs) = (
+  due_first tick x xs,
+  all_weaker (λ e. IsOneOf e.0 (due tick xs) ⊎ (e.1 ≢ tick)) (λ e. IsOneOf e.0 (due tick (x ∷ xs)) ⊎ (e.1 ≢ tick))
+      (λ e h. due_behind tick e x xs h) xs (all_due tick xs),
+)
 
 -- the sleepers that are left once p is gone
 left_without : (P : ℕ × ℕ → Type 0) (p : ℕ) (ps : List ℕ) (l : List (ℕ × ℕ)) → AllByRecursion (λ e. IsOneOf e.0 (p ∷ ps) ⊎ P e) l
@@ -90,7 +99,8 @@ sound_later owes t k =
     let ps = due (t.ticks + 1) t.sleepers in
     let u = ready_all ps t in
     let w = sound_ready_all ps t k (can_be_ready_due t (t.ticks + 1) k.inside) in
-    let o = inside_ticks u (u.ticks + 1) w.inside (subst (λ n. AllByRecursion (λ e. n + 1 < e.1) u.sleepers) (sym (ticks_ready ps t)) (later_left t k.inside)) in
+    let o = inside_ticks u (u.ticks + 1) w.inside
+    (subst (λ n. AllByRecursion (λ e. n + 1 < e.1) u.sleepers) (sym (ticks_ready ps t)) (later_left t k.inside)) in
     let v = record u { ticks = u.ticks + 1 } in
     cond_both owes (resched v) v IsSoundTables (λ _. sound_resched v o) (λ _. record { inside = o; runs = w.runs })
 

@@ -83,8 +83,11 @@ waiter_waits t sem p o h =
 -- a list's elements are counted in it
 pub all_counted : (l : List ℕ) → AllByRecursion (λ p. 0 < count_in p l) l
 all_counted [] = tt
-all_counted (x ∷ xs) =
-    (first_is_counted x xs, all_weaker (λ p. 0 < count_in p xs) (λ p. 0 < count_in p (x ∷ xs)) (λ p h. count_behind p x xs h) xs (all_counted xs))
+all_counted (x ∷ xs) = (
+  first_is_counted x xs,
+  all_weaker (λ p. 0 < count_in p xs) (λ p. 0 < count_in p (x ∷ xs)) (λ p h. count_behind p x xs h) xs
+      (all_counted xs),
+)
 
 -- the waiters of a semaphore can become ready
 pub can_be_ready_waiters : (t : Tables) (sem : ℕ) → IsInside t → AllByRecursion (CanBeReady t) (semaphore_at t sem).waiters
@@ -126,7 +129,9 @@ waiters_after : (ps : List ℕ) (t : Tables) (sem : ℕ) → AllByRecursion (λ 
     → (semaphore_at (ready_all ps t) sem).waiters ≡ []
 waiters_after [] t sem h = none_of (semaphore_at t sem).waiters h
 waiters_after (p ∷ ps) t sem h =
-    waiters_after ps (ready p t) sem (subst (λ (x : Semaphore). AllByRecursion (λ y. IsOneOf y ps) x.waiters) (sym (semaphore_at_without p sem t.semaphores)) (of_others p ps (semaphore_at t sem).waiters h))
+    waiters_after ps (ready p t) sem
+    (subst (λ (x : Semaphore). AllByRecursion (λ y. IsOneOf y ps) x.waiters) (sym (semaphore_at_without p sem t.semaphores))
+    (of_others p ps (semaphore_at t sem).waiters h))
 
 -- Once all waiters of a semaphore become ready nobody waits there.
 pub waiters_gone : (t : Tables) (sem : ℕ) → (semaphore_at (ready_all (semaphore_at t sem).waiters t) sem).waiters ≡ []
@@ -144,13 +149,15 @@ sound_emptied sem d k = sound_unblock_all (semaphore_at d.state.tables sem).wait
 -- Nobody waits on a semaphore that was emptied.
 pub emptied_has_no_waiters : (sem : ℕ) (d : CallState) → (semaphore_at (emptied sem d).state.tables sem).waiters ≡ []
 emptied_has_no_waiters sem d =
-    subst (λ (s : Xinu). (semaphore_at s.tables sem).waiters ≡ []) (sym (unblock_all_ready (semaphore_at d.state.tables sem).waiters d)) (waiters_gone d.state.tables sem)
+    subst (λ (s : Xinu). (semaphore_at s.tables sem).waiters ≡ []) (sym (unblock_all_ready (semaphore_at d.state.tables sem).waiters d))
+    (waiters_gone d.state.tables sem)
 
 -- and each semaphore keeps its owner
 pub owner_emptied : (sem r : ℕ) (d : CallState)
     → (semaphore_at (emptied sem d).state.tables r).owner ≡ (semaphore_at d.state.tables r).owner
 owner_emptied sem r d =
-    subst (λ (s : Xinu). (semaphore_at s.tables r).owner ≡ (semaphore_at d.state.tables r).owner) (sym (unblock_all_ready (semaphore_at d.state.tables sem).waiters d))
+    subst (λ (s : Xinu). (semaphore_at s.tables r).owner ≡ (semaphore_at d.state.tables r).owner)
+    (sym (unblock_all_ready (semaphore_at d.state.tables sem).waiters d))
     (owner_ready (semaphore_at d.state.tables sem).waiters d.state.tables r)
 
 -- one signal, if these wait
@@ -159,7 +166,9 @@ sound_signal_first : (sem : ℕ) (l : List ℕ) (d : CallState) → l ≡ (semap
 sound_signal_first sem [] d e k w used =
     sound_tokens d.state.tables sem ((semaphore_at d.state.tables sem).tokens + 1) k w used (inr (sym e))
 sound_signal_first sem (p ∷ ps) d e k w used =
-    sound_ready d.state.tables p k (can_be_ready_waiting d.state.tables p k.inside (waiter_waits d.state.tables sem p k.inside (subst (λ l. 0 < count_in p l) e (first_is_counted p ps))))
+    sound_ready d.state.tables p k
+    (can_be_ready_waiting d.state.tables p k.inside
+    (waiter_waits d.state.tables sem p k.inside (subst (λ l. 0 < count_in p l) e (first_is_counted p ps))))
 
 -- the same inside an event
 inside_signal_first : (sem : ℕ) (l : List ℕ) (d : CallState) → l ≡ (semaphore_at d.state.tables sem).waiters → IsInside d.state.tables
@@ -167,7 +176,9 @@ inside_signal_first : (sem : ℕ) (l : List ℕ) (d : CallState) → l ≡ (sema
 inside_signal_first sem [] d e o w used =
     inside_tokens d.state.tables sem ((semaphore_at d.state.tables sem).tokens + 1) o w used (inr (sym e))
 inside_signal_first sem (p ∷ ps) d e o w used =
-    inside_ready d.state.tables p o (can_be_ready_waiting d.state.tables p o (waiter_waits d.state.tables sem p o (subst (λ l. 0 < count_in p l) e (first_is_counted p ps))))
+    inside_ready d.state.tables p o
+    (can_be_ready_waiting d.state.tables p o
+    (waiter_waits d.state.tables sem p o (subst (λ l. 0 < count_in p l) e (first_is_counted p ps))))
 
 -- A semaphore is signalled.
 pub inside_signalled : (sem : ℕ) (d : CallState) → IsInside d.state.tables → sem < 128 → (semaphore_at d.state.tables sem).owner ≢ None
@@ -187,7 +198,8 @@ one_kind_signalled t sem n o =
     let all : length l ≤ n → (semaphore_at (ready_all (take n l) t) sem).waiters ≡ [] =
     λ h. subst (λ ps. (semaphore_at (ready_all ps t) sem).waiters ≡ []) (sym (take_all n l h)) (waiters_gone t sem) in
     ⊎_elim
-    (λ (z : (semaphore_at t sem).tokens ≡ 0). ⊎_elim (λ (h : n < length l). inl (omega arith)) (λ (h : length l ≤ n). inr (all h)) (cases_lt n (length l)))
+    (λ (z : (semaphore_at t sem).tokens ≡ 0). ⊎_elim (λ (h : n < length l). inl (omega arith)) (λ (h : length l ≤ n). inr (all h))
+    (cases_lt n (length l)))
     (λ (z : l ≡ []). inr (all (let e : length l ≡ 0 = ap length z in omega arith)))
     (o.one_kind sem)
 
@@ -200,4 +212,5 @@ sound_signalled_times sem n d k w used =
     let ps = take n x.waiters in
     let tokens = x.tokens + (n - length x.waiters) in
     let u = sound_ready_all ps t k (all_take (CanBeReady t) n x.waiters (can_be_ready_waiters t sem k.inside)) in
-    subst (λ (y : Xinu). IsSoundTables (with_tokens sem tokens y.tables)) (sym (unblock_all_ready ps d)) (sound_tokens (ready_all ps t) sem tokens u w (λ e. used (sym (owner_ready ps t sem) ∙ e)) (one_kind_signalled t sem n k.inside))
+    subst (λ (y : Xinu). IsSoundTables (with_tokens sem tokens y.tables)) (sym (unblock_all_ready ps d))
+    (sound_tokens (ready_all ps t) sem tokens u w (λ e. used (sym (owner_ready ps t sem) ∙ e)) (one_kind_signalled t sem n k.inside))

@@ -15,14 +15,16 @@ use Rattle.table_laws.proofs.Tables.MoveTo.{by_number, state_move_same, state_mo
 pub unused_executed : (t : Tables) (harts : List Hart) (hart : Hart) → IsSoundTables t → AreUnused t harts
     → AreUnused t (slice_set harts t.current hart)
 unused_executed t harts hart k a p h =
-    get_or-set_other harts t.current p hart no_hart (λ e. both_ways (is_free (state_at t p)) (ap is_free (subst (λ r. state_at t r ≡ Current) (sym e) k.runs)) h) ∙ a p h
+    get_or-set_other harts t.current p hart no_hart
+    (λ e. both_ways (is_free (state_at t p)) (ap is_free (subst (λ r. state_at t r ≡ Current) (sym e) k.runs)) h) ∙ a p h
 
 -- A process is made.
 pub unused_made : (t : Tables) (harts : List Hart) (p : ℕ) (x : Process) (hart : Hart) → length t.processes ≡ 64 → p < 64
     → is_free x.state ≡ false → AreUnused t harts → AreUnused (move_to p x None Nowhere t) (slice_set harts p hart)
 unused_made t harts p x hart many within alive a q h =
     let n : q ≢ p = λ e. both_ways (is_free x.state) alive
-    (sym (ap is_free (state_move_same t p x None Nowhere many within)) ∙ subst (λ r. is_free (state_at (move_to p x None Nowhere t) r) ≡ true) e h) in
+    (sym (ap is_free (state_move_same t p x None Nowhere many within))
+    ∙ subst (λ r. is_free (state_at (move_to p x None Nowhere t) r) ≡ true) e h) in
     get_or-set_other harts p q hart no_hart n ∙ a q (sym (ap is_free (state_move_other t q p x None Nowhere n)) ∙ h)
 
 -- what is written at a number as it is at a free one
@@ -36,6 +38,7 @@ pub unused_gone : (t : Tables) (harts : List Hart) (p : ℕ) → AreUnused t har
     → AreUnused (move_to p no_process None Nowhere t) (slice_set harts p no_hart)
 unused_gone t harts p a q =
     by_number q p
-    (λ r. is_free (state_at (move_to p no_process None Nowhere t) r) ≡ true → slice_index_or (slice_set harts p no_hart) r no_hart ≡ no_hart)
+    (λ r. is_free (state_at (move_to p no_process None Nowhere t) r) ≡ true → slice_index_or
+    (slice_set harts p no_hart) r no_hart ≡ no_hart)
     (λ _. reset harts p)
     (λ n h. get_or-set_other harts p q no_hart no_hart n ∙ a q (sym (ap is_free (state_move_other t q p no_process None Nowhere n)) ∙ h))

@@ -64,7 +64,8 @@ cooked_goes b c cooked =
     (λ _. cond_both (b == TY_BACKSP) _ _ (Goes c)
     (λ _. line_goes (erasing (echo_of (last_or 0 c.line))) c (record c { line = without_last c.line }) refl refl (sound_erased c cooked))
     (λ _. cond_both (b == TY_KILLCH) _ _ (Goes c)
-    (λ _. line_goes new_line c (record c { line = [] }) refl refl (sound_shorter [] c cooked (let z : 0 ≤ length c.line = omega arith in z)))
+    (λ _. line_goes new_line c (record c { line = [] }) refl refl
+    (sound_shorter [] c cooked (let z : 0 ≤ length c.line = omega arith in z)))
     (λ _. cond_both ((b == TY_NEWLINE) && is_full c) _ _ (Goes c) (λ _. bell_goes c)
     (λ f. cond_both (b == TY_NEWLINE) _ _ (Goes c)
     (λ g. newline_goes c cooked (room_of c (sym (ap (λ x. x && is_full c) g) ∙ f)))

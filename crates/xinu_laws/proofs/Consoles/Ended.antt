@@ -79,7 +79,8 @@ reads_end (suc left) at done s told =
 
 pub read_goes_on_ends : (part : Span) (s : Xinu) → IsTold (go_on_read part s) → (part.done ≡ 0) × IsAtEnd (console_of s)
 read_goes_on_ends part s told =
-    read_ends (console_of s).committed part.at part.done (reads (part.want - suc part.done) part.at (suc part.done)) (goes_on (held s) s) refl
+    read_ends (console_of s).committed part.at part.done (reads (part.want - suc part.done) part.at (suc part.done))
+    (goes_on (held s) s) refl
     (λ u t. (reads_end (part.want - suc part.done) part.at (suc part.done) u t).0) told
 
 range_ends : (b : Bool) (at n : ℕ) (s : Xinu) → IsTold (cond b (reads n at 0 s) (refused s)) → IsAtEnd (console_of s)

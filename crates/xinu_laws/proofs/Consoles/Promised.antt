@@ -72,7 +72,8 @@ promised_goes_on asks r message s none h c left =
     let old = process_at t t.current in
     let x = record old { rest = Nothing } in
     let e = times-set (is_released asks) t.processes t.current x no_process h in
-    let f = counts_one (is_released asks old) (and_from (not (is_waiting old.state)) (asks old.rest) (ap (λ y. not (is_waiting y)) c) left) in
+    let f = counts_one (is_released asks old)
+    (and_from (not (is_waiting old.state)) (asks old.rest) (ap (λ y. not (is_waiting y)) c) left) in
     let g = counts_none (is_released asks x) (and_right (not (is_waiting x.state)) (asks Nothing) none) in
     let k = tokens_move t t.current x message Nowhere r in
     omega arith

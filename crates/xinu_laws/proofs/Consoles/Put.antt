@@ -84,7 +84,8 @@ put_byte_keeps Fact b left then_ s c asked range go =
     (λ _. keeps_after s first more (λ p. (p.0, put_console TY_RETURN s p.1)) refl (put_touches TY_RETURN s)
     (await_place Fact left (λ x. then_ (put TY_NEWLINE x)) first (put_holds TY_RETURN s c) asked range
     (λ u d. let v = put TY_NEWLINE u in
-    keeps_after u v (then_ v) (λ p. (p.0, put_console TY_NEWLINE u p.1)) refl (put_touches TY_NEWLINE u) (go v (put_holds TY_NEWLINE u d)))))
+    keeps_after u v (then_ v) (λ p. (p.0, put_console TY_NEWLINE u p.1)) refl (put_touches TY_NEWLINE u)
+    (go v (put_holds TY_NEWLINE u d)))))
     (λ _. keeps_after s whole (then_ whole) (λ p. (p.0, put_console b s p.1)) refl (put_touches b s) (go whole (put_holds b s c)))
 
 -- a call that has nothing more to put
@@ -109,7 +110,8 @@ go_on_putc_keeps b true s c =
     let u = goes_on (held s) s in
     let v = put TY_NEWLINE u in
     keeps_after s u (answers OK v) (λ p. goes_on_place s c (ap asks_output p.0) p.1) refl (goes_on_touches s c)
-    (keeps_after u v (answers OK v) (put_console TY_NEWLINE u) refl (put_touches TY_NEWLINE u) (answers_keeps OK v (put_holds TY_NEWLINE u (goes_on_holds s c))))
+    (keeps_after u v (answers OK v) (put_console TY_NEWLINE u) refl (put_touches TY_NEWLINE u)
+    (answers_keeps OK v (put_holds TY_NEWLINE u (goes_on_holds s c))))
 go_on_putc_keeps b false s c =
     let u = goes_on (held s) s in
     keeps_after s u (put_byte b (TtyPut b true) (answers OK) u) (λ p. goes_on_place s c (ap asks_output p.0) p.1) refl (goes_on_touches s c)
@@ -123,7 +125,8 @@ writes_keeps (suc left) at done s c =
     let Fact = at + (done + suc left) ≤ ram_size in
     let part = span at done (done + suc left) in
     let range : Fact → IsSpan part = λ w. record { left = omega arith; within = w } in
-    await_place Fact (TtyWrite part false) (λ x. put_byte (slice_index x.memory (at + done)) (TtyWrite part true) (writes left at (suc done)) x) s c refl range
+    await_place Fact (TtyWrite part false)
+    (λ x. put_byte (slice_index x.memory (at + done)) (TtyWrite part true) (writes left at (suc done)) x) s c refl range
     (λ u d. put_byte_keeps Fact (slice_index u.memory (at + done)) (TtyWrite part true) (writes left at (suc done)) u d refl range
     (λ v m. let k = writes_keeps left at (suc done) v m in record { preserved = k.preserved; touches = k.touches; console = λ p. k.console (let w = p.0 in omega arith, p.1) }))
 
@@ -143,7 +146,8 @@ go_on_write_keeps part true s c =
     let more = writes (part.want - suc part.done) part.at (suc part.done) v in
     keeps_after {Q = IsSpan part × HasPlace u} s u more
     (λ p. (subst HasSpan p.0 (p.1.spans s.tables.current), goes_on_place s c (ap asks_output p.0) p.1)) refl (goes_on_touches s c)
-    (keeps_after u v more (λ p. (p.0, put_console TY_NEWLINE u p.1)) refl (put_touches TY_NEWLINE u) (writes_on_keeps part v (put_holds TY_NEWLINE u (goes_on_holds s c))))
+    (keeps_after u v more (λ p. (p.0, put_console TY_NEWLINE u p.1)) refl (put_touches TY_NEWLINE u)
+    (writes_on_keeps part v (put_holds TY_NEWLINE u (goes_on_holds s c))))
 go_on_write_keeps part false s c =
     let u = goes_on (held s) s in
     let then_ = writes (part.want - suc part.done) part.at (suc part.done) in

@@ -142,7 +142,8 @@ pub sending_signals : (sent : Sent) (s : Xinu) → transmitted (console_of s) �
 sending_signals sent s e k =
     let c = sent.console in
     let first : SendsFirst (console_of s) sent = sent_is_first (console_of s) sent e in
-    let itself : IsSoundConsole (console_of s) → IsSoundConsole c = λ b. subst (λ o. IsSoundConsole (after_transmission o (console_of s))) e (sound_transmitted (console_of s) b) in
+    let itself : IsSoundConsole (console_of s) → IsSoundConsole c = λ b. subst (λ o. IsSoundConsole (after_transmission o (console_of s))) e
+    (sound_transmitted (console_of s) b) in
     let d : CallState = start (with_console c s) in
     cond_both sent.is_output (signalled TY_OSEM d) d (Signals s)
     (λ h. let same = first.output h in

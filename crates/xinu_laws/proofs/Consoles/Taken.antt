@@ -158,6 +158,7 @@ read_range_keeps at n s c =
 pub read_keeps : (at : ℕ) (n : ℤ) (s : Xinu) → Holds s → KeepsConsole (HasConsole s) s (console_read at n s)
 read_keeps at (negsuc n) s c = refused_keeps s c
 read_keeps at (pos zero) s c =
-    cond_both (is_cooked (console_of s).mode) (answers OK s) (read_range at (semaphore_at s.tables TY_ISEM).tokens s) (KeepsConsole (HasConsole s) s)
+    cond_both (is_cooked (console_of s).mode) (answers OK s) (read_range at (semaphore_at s.tables TY_ISEM).tokens s)
+    (KeepsConsole (HasConsole s) s)
     (λ _. answers_keeps OK s c) (λ _. read_range_keeps at (semaphore_at s.tables TY_ISEM).tokens s c)
 read_keeps at (pos (suc n)) s c = read_range_keeps at (suc n) s c

@@ -202,7 +202,8 @@ Keeps effect = (s : Xinu) → Holds s → KeepsDevice s (effect s)
 -- Calls 36 to 43.
 pub device_open_keeps : (dev name mode : ℕ) → Keeps (device_open dev name mode)
 device_open_keeps dev name mode s c =
-    device_open_holds (KeepsDevice s) dev name mode s (of_console s _ (refused_keeps s c)) (of_console s _ (answers_keeps OK s c)) (of_console s _ (answers_keeps (pos DISK0) s c)) (of_files s c)
+    device_open_holds (KeepsDevice s) dev name mode s (of_console s _ (refused_keeps s c)) (of_console s _ (answers_keeps OK s c))
+    (of_console s _ (answers_keeps (pos DISK0) s c)) (of_files s c)
 
 pub device_close_keeps : (dev : ℕ) → Keeps (device_close dev)
 device_close_keeps dev s c =
@@ -210,11 +211,13 @@ device_close_keeps dev s c =
 
 pub device_read_keeps : (dev at n : ℕ) → Keeps (device_read dev at n)
 device_read_keeps dev at n s c =
-    device_read_holds (KeepsDevice s) dev at n s (of_console s _ (refused_keeps s c)) (of_console s _ (read_keeps at (signed n) s c)) (of_disk s _ (disk_read_keeps at n s c)) (of_files s c)
+    device_read_holds (KeepsDevice s) dev at n s (of_console s _ (refused_keeps s c)) (of_console s _ (read_keeps at (signed n) s c))
+    (of_disk s _ (disk_read_keeps at n s c)) (of_files s c)
 
 pub device_write_keeps : (dev at n : ℕ) → Keeps (device_write dev at n)
 device_write_keeps dev at n s c =
-    device_write_holds (KeepsDevice s) dev at n s (of_console s _ (refused_keeps s c)) (of_console s _ (write_keeps at (signed n) s c)) (of_disk s _ (disk_write_keeps at n s c)) (of_files s c)
+    device_write_holds (KeepsDevice s) dev at n s (of_console s _ (refused_keeps s c)) (of_console s _ (write_keeps at (signed n) s c))
+    (of_disk s _ (disk_write_keeps at n s c)) (of_files s c)
 
 pub device_getc_keeps : (dev : ℕ) → Keeps (device_getc dev)
 device_getc_keeps dev s c =
@@ -229,7 +232,8 @@ device_seek_keeps dev n s c = device_seek_holds (KeepsDevice s) dev n s (of_cons
 
 pub device_control_keeps : (dev f x : ℕ) → Keeps (device_control dev f x)
 device_control_keeps dev f x s c =
-    device_control_holds (KeepsDevice s) dev f x s (of_console s _ (refused_keeps s c)) (of_console s _ (console_control_keeps f s c)) (of_disk s _ (disk_control_keeps f s c)) (of_files s c)
+    device_control_holds (KeepsDevice s) dev f x s (of_console s _ (refused_keeps s c)) (of_console s _ (console_control_keeps f s c))
+    (of_disk s _ (disk_control_keeps f s c)) (of_files s c)
 
 -- What each of them touches: those that don't ask for the raw disk leave it alone.
 module _ (f : Footprint) (s : Xinu) where
@@ -242,7 +246,8 @@ module _ (f : Footprint) (s : Xinu) where
 
 pub device_open_touches : (dev name mode : ℕ) → StaysIn on_files (device_open dev name mode)
 device_open_touches dev name mode s k =
-    device_open_holds (Within on_files s) dev name mode s (touches_refl s) (touches_refl s) (touches_refl s) (files_within on_files s refl k)
+    device_open_holds (Within on_files s) dev name mode s (touches_refl s) (touches_refl s) (touches_refl s)
+    (files_within on_files s refl k)
 
 pub device_close_touches : (dev : ℕ) → StaysIn on_files (device_close dev)
 device_close_touches dev s k =
@@ -259,15 +264,18 @@ wider t =
 
 pub device_getc_touches : (dev : ℕ) → StaysIn on_console_or_files (device_getc dev)
 device_getc_touches dev s k =
-    device_getc_holds (Within on_console_or_files s) dev s (touches_refl s) (wider (getc_keeps s (sound_holds s k)).touches) (files_within on_console_or_files s refl k)
+    device_getc_holds (Within on_console_or_files s) dev s (touches_refl s) (wider (getc_keeps s (sound_holds s k)).touches)
+    (files_within on_console_or_files s refl k)
 
 pub device_putc_touches : (dev b : ℕ) → StaysIn on_console_or_files (device_putc dev b)
 device_putc_touches dev b s k =
-    device_putc_holds (Within on_console_or_files s) dev b s (touches_refl s) (wider (putc_keeps b s (sound_holds s k)).touches) (files_within on_console_or_files s refl k)
+    device_putc_holds (Within on_console_or_files s) dev b s (touches_refl s) (wider (putc_keeps b s (sound_holds s k)).touches)
+    (files_within on_console_or_files s refl k)
 
 pub device_control_touches : (dev f x : ℕ) → StaysIn on_console_or_files (device_control dev f x)
 device_control_touches dev f x s k =
-    device_control_holds (Within on_console_or_files s) dev f x s (touches_refl s) (wider (console_control_keeps f s (sound_holds s k)).touches)
+    device_control_holds (Within on_console_or_files s) dev f x s (touches_refl s)
+    (wider (console_control_keeps f s (sound_holds s k)).touches)
     (by_function (f == RD_CTL_SIZE)) (files_within on_console_or_files s refl k)
   where
     by_function : (b : Bool) → Within on_console_or_files s (cond b (answers (pos (length (disk_of s).blocks)) s) (refused s))

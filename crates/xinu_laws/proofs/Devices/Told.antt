@@ -81,7 +81,8 @@ refusal_tells s e = refl
 
 read_range_tells : (at n : ℕ) (s : Xinu) → TellsRefusal s (read_range at n s)
 read_range_tells at n s =
-    cond_both (in_ram at n) (reads n at 0 s) (refused s) (TellsRefusal s) (λ _. never_tells s (reads n at 0 s) (reads_never n at 0 s)) (λ _. refusal_tells s)
+    cond_both (in_ram at n) (reads n at 0 s) (refused s) (TellsRefusal s) (λ _. never_tells s (reads n at 0 s) (reads_never n at 0 s))
+    (λ _. refusal_tells s)
 
 read_tells : (at : ℕ) (n : ℤ) (s : Xinu) → TellsRefusal s (console_read at n s)
 read_tells at (negsuc n) s = refusal_tells s
@@ -94,24 +95,29 @@ read_tells at (pos (suc n)) s = read_range_tells at (suc n) s
 put_byte_never : (b : ℕ) (left : Rest) (then_ : Xinu → CallResult) (s : Xinu) → ((u : Xinu) → NeverRefuses (then_ u))
     → NeverRefuses (put_byte b left then_ s)
 put_byte_never b left then_ s go =
-    cond_both (needs_return b (console_of s).mode) (await TY_OSEM left (λ x. then_ (put TY_NEWLINE x)) (put TY_RETURN s)) (then_ (put b s)) NeverRefuses
+    cond_both (needs_return b (console_of s).mode) (await TY_OSEM left (λ x. then_ (put TY_NEWLINE x)) (put TY_RETURN s))
+    (then_ (put b s)) NeverRefuses
     (λ _. await_never TY_OSEM left (λ x. then_ (put TY_NEWLINE x)) (put TY_RETURN s) (λ u. go (put TY_NEWLINE u))) (λ _. go (put b s))
 
 putc_never : (b : ℕ) (s : Xinu) → NeverRefuses (console_putc b s)
 putc_never b s =
-    await_never TY_OSEM (TtyPut b false) (put_byte b (TtyPut b true) (answers OK)) s (λ u. put_byte_never b (TtyPut b true) (answers OK) u (λ v e. absurd (cc)))
+    await_never TY_OSEM (TtyPut b false) (put_byte b (TtyPut b true) (answers OK)) s
+    (λ u. put_byte_never b (TtyPut b true) (answers OK) u (λ v e. absurd (cc)))
 
 writes_never : (left at done : ℕ) (s : Xinu) → NeverRefuses (writes left at done s)
 writes_never zero at done s = λ e. absurd (cc)
 writes_never (suc left) at done s =
     let part = span at done (done + suc left) in
-    await_never TY_OSEM (TtyWrite part false) (λ x. put_byte (slice_index x.memory (at + done)) (TtyWrite part true) (writes left at (suc done)) x) s
-    (λ u. put_byte_never (slice_index u.memory (at + done)) (TtyWrite part true) (writes left at (suc done)) u (writes_never left at (suc done)))
+    await_never TY_OSEM (TtyWrite part false)
+    (λ x. put_byte (slice_index x.memory (at + done)) (TtyWrite part true) (writes left at (suc done)) x) s
+    (λ u. put_byte_never (slice_index u.memory (at + done)) (TtyWrite part true) (writes left at (suc done)) u
+    (writes_never left at (suc done)))
 
 write_tells : (at : ℕ) (n : ℤ) (s : Xinu) → TellsRefusal s (console_write at n s)
 write_tells at (negsuc n) s = refusal_tells s
 write_tells at (pos n) s =
-    cond_both (in_ram at n) (writes n at 0 s) (refused s) (TellsRefusal s) (λ _. never_tells s (writes n at 0 s) (writes_never n at 0 s)) (λ _. refusal_tells s)
+    cond_both (in_ram at n) (writes n at 0 s) (refused s) (TellsRefusal s) (λ _. never_tells s (writes n at 0 s) (writes_never n at 0 s))
+    (λ _. refusal_tells s)
 
 control_tells : (found : Option Committed) (s : Xinu) → TellsRefusal s (control_with found s)
 control_tells None s = refusal_tells s
@@ -119,13 +125,15 @@ control_tells (Some m) s = λ e. absurd (cc)
 
 console_control_tells : (f : ℕ) (s : Xinu) → TellsRefusal s (console_control f s)
 console_control_tells f s =
-    cond_both (f == TC_ICHARS) (answers (pos (semaphore_at s.tables TY_ISEM).tokens) s) (control_with (controlled f (console_of s)) s) (TellsRefusal s)
+    cond_both (f == TC_ICHARS) (answers (pos (semaphore_at s.tables TY_ISEM).tokens) s) (control_with (controlled f (console_of s)) s)
+    (TellsRefusal s)
     (λ _ e. absurd (cc)) (λ _. control_tells (controlled f (console_of s)) s)
 
 -- the calls on the raw disk
 disk_read_tells : (at block : ℕ) (s : Xinu) → TellsRefusal s (disk_read at block s)
 disk_read_tells at block s =
-    cond_both (may_request at block s) (awaits_disk None at block s) (refused s) (TellsRefusal s) (λ _ e. absurd (cc)) (λ _. refusal_tells s)
+    cond_both (may_request at block s) (awaits_disk None at block s) (refused s) (TellsRefusal s)
+    (λ _ e. absurd (cc)) (λ _. refusal_tells s)
 
 disk_write_tells : (at block : ℕ) (s : Xinu) → TellsRefusal s (disk_write at block s)
 disk_write_tells at block s =
@@ -134,7 +142,8 @@ disk_write_tells at block s =
 
 disk_control_tells : (f : ℕ) (s : Xinu) → TellsRefusal s (disk_control f s)
 disk_control_tells f s =
-    cond_both (f == RD_CTL_SIZE) (answers (pos (length (disk_of s).blocks)) s) (refused s) (TellsRefusal s) (λ _ e. absurd (cc)) (λ _. refusal_tells s)
+    cond_both (f == RD_CTL_SIZE) (answers (pos (length (disk_of s).blocks)) s) (refused s) (TellsRefusal s)
+    (λ _ e. absurd (cc)) (λ _. refusal_tells s)
 
 -- a call on files
 files_tell : (s : Xinu) → OfFiles (TellsRefusal s) s

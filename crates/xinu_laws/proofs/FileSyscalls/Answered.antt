@@ -44,10 +44,15 @@ others_told p (n ∷ notes) d none = by_note (λ x f. others_told p notes x f) n
     by_note go (Some reply) (Some q) none =
         let t = d.state.tables in
         let y : Process = record (process_at t q) { state = Ready; rest = Disk (Some reply) } in
-        by_number p q (λ r. count_in r (q ∷ told_living notes) ≡ 0 → (count_in r (told_living notes) ≡ 0 → process_at (all_told notes (keep_reply q reply d)).state.tables r ≡ process_at (keep_reply q reply d).state.tables r)
+        by_number p q (λ r. count_in r
+        (q ∷ told_living notes) ≡ 0 → (count_in r (told_living notes) ≡ 0 → process_at
+        (all_told notes (keep_reply q reply d)).state.tables r ≡ process_at (keep_reply q reply d).state.tables r)
         → process_at (all_told notes (keep_reply q reply d)).state.tables r ≡ process_at t r)
-        (λ f _. absurd (let g : count_in q (q ∷ told_living notes) ≡ suc (count_in q (told_living notes)) = ap (λ b. cond b (suc (count_in q (told_living notes))) (count_in q (told_living notes))) (eq-eqb q q refl) in omega (arith, f, g)))
-        (λ n f rest. rest (cond_both (q == p) (suc (count_in p (told_living notes))) (count_in p (told_living notes)) (λ m. m ≡ 0 → count_in p (told_living notes) ≡ 0) (λ _ h. absurd (omega (arith, h))) (λ _ h. h) f)
+        (λ f _. absurd (let g : count_in q (q ∷ told_living notes) ≡ suc
+        (count_in q (told_living notes)) = ap (λ b. cond b (suc (count_in q (told_living notes))) (count_in q (told_living notes)))
+        (eq-eqb q q refl) in omega (arith, f, g)))
+        (λ n f rest. rest (cond_both (q == p) (suc (count_in p (told_living notes))) (count_in p (told_living notes))
+        (λ m. m ≡ 0 → count_in p (told_living notes) ≡ 0) (λ _ h. absurd (omega (arith, h))) (λ _ h. h) f)
         ∙ process_move_other t p q y (message_at t q) InReady n)
         none (go (keep_reply q reply d))
 
@@ -72,7 +77,8 @@ first_is_told p reply notes l d sound first =
     let once = first_once 1 p reply (told_living notes ++ l) t (omega arith) sound first in
     let parts = times-append (λ x. x == p) (told_living notes) l in
     let e = others_told p notes (keep_reply p reply d) (omega (arith, once, parts))
-    ∙ process_move_same t p y (message_at t p) InReady sound.inside.processes (first_within 1 p reply (told_living notes ++ l) t (omega arith) sound first) in
+    ∙ process_move_same t p y (message_at t p) InReady sound.inside.processes
+    (first_within 1 p reply (told_living notes ++ l) t (omega arith) sound first) in
     (ap (λ (x : Process). x.state) e, ap (λ (x : Process). x.rest) e)
 
 -- Each caller of whom a completion tells is ready, and what its call replied is its reply.
@@ -85,7 +91,8 @@ callers_are_told k p moment reply before after s sound e =
     let l = callers_waiting x.work.calls in
     let d = start (with_step x s) in
     let living_in : told_living (before ++ note ∷ after) ≡ told_living before ++ p ∷ told_living after =
-    ap (callers (λ (o : Option ℕ). o)) (told_append before (note ∷ after)) ∙ living_append (callers_told before) (callers_told (note ∷ after)) in
+    ap (callers (λ (o : Option ℕ). o)) (told_append before (note ∷ after))
+    ∙ living_append (callers_told before) (callers_told (note ∷ after)) in
     let waiters : (semaphore_at s.tables 3).waiters ≡ told_living before ++ (p ∷ (told_living after ++ l)) =
     sound.devices.files.waiters ∙ told_and_left k (file_step s) refl ∙ ap (λ n. told_living n ++ l) e ∙ ap (λ m. m ++ l) living_in
     ∙ append_assoc (told_living before) (p ∷ told_living after) l in
@@ -103,7 +110,8 @@ queued_system (b ∷ calls) a memory w = refl
 pub answered_at_once : (a : FileRequest) (s : Xinu) → (files_of s).calls ≡ []
     → (at_once a s).answer ≡ Returns (file_effect a.call (bytes_written a.call a.at s.memory) (files_of s).system).reply
 answered_at_once a s none =
-    ap (λ l. Returns (file_effect a.call (queued_after l a s.memory (files_of s)).bytes (queued_after l a s.memory (files_of s)).system).reply) none
+    ap (λ l. Returns (file_effect a.call (queued_after l a s.memory (files_of s)).bytes
+    (queued_after l a s.memory (files_of s)).system).reply) none
 
 -- A call that waits goes after the others.
 pub call_queued : (calls : List FileRequest) (a : FileRequest) (memory : List ℕ) (w : FileWork) → w.calls ≡ calls
@@ -116,7 +124,8 @@ nothing_brought : (caller : Option ℕ) (at : ℕ) (memory : List ℕ) → copie
 nothing_brought None at memory = refl
 nothing_brought (Some p) at memory =
     let same : at + 0 ≡ at = omega arith in
-    ap (λ l. l ++ drop (at + 0) memory) (append-nil (take at memory)) ∙ ap (λ n. take at memory ++ drop n memory) same ∙ take-append-drop at memory
+    ap (λ l. l ++ drop (at + 0) memory) (append-nil (take at memory)) ∙ ap (λ n. take at memory ++ drop n memory) same
+    ∙ take-append-drop at memory
 
 -- no call is under way
 no_calls : (w : FileWork) → w.calls ≡ [] → w.turns ≡ 0 → w.bytes ≡ []
@@ -139,7 +148,8 @@ refused_leaves_all a s sound none refused =
     let w = files_of s in
     let queued = enqueued a s.memory w in
     let e = file_effect a.call queued.bytes queued.system in
-    let is : e ≡ replies SYSERR queued.system = (effect_spares a.call queued.bytes queued.system).unchanged (let r : e.reply ≡ SYSERR = cc in r) in
+    let is : e ≡ replies SYSERR queued.system = (effect_spares a.call queued.bytes queued.system).unchanged
+    (let r : e.reply ≡ SYSERR = cc in r) in
     let first : (w.turns ≡ 0) × (w.bytes ≡ []) = subst (λ l. IsFirst l w) none sound.first in
     let system : e.system ≡ w.system = ap (λ (x : FileEffect). x.system) is ∙ queued_system w.calls a s.memory w in
     let work : (issued 1 a s.memory w).work ≡ w =

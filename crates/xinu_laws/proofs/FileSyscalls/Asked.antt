@@ -86,7 +86,8 @@ awaits_touches {f} may call at s c =
     let w = enqueued (request_for call at s) s.memory (files_of s) in
     let u = with_files w s in
     touches_trans (files_touches may s u w refl refl refl)
-    (touches_blocked Waiting (Disk None) (InSemaphore 3) u c.tables.runs (ap ((reach f).mine 3) (c.tables.inside.devices 3 (omega arith)) ∙ ap not may)
+    (touches_blocked Waiting (Disk None) (InSemaphore 3) u c.tables.runs
+    (ap ((reach f).mine 3) (c.tables.inside.devices 3 (omega arith)) ∙ ap not may)
     (and_right (not f.disk) (not f.files) (ap not may)) refl)
 
 pub asks_touches : {f : Footprint} → f.files ≡ true → (found : Option FileCall) (at : ℕ) (s : Xinu) → Holds s
@@ -113,7 +114,8 @@ awaits_keeps call at s c is =
     let x = record (process_at t t.current) { state = Waiting; rest = Disk None } in
     let m = message_at t t.current in
     let idle : is_waiting (state_at t t.current) ≡ false = ap is_waiting c.tables.runs in
-    let fits : FitsOwner 3 (semaphore_at t 3).owner (Disk None) = subst (λ v. FitsOwner 3 v (Disk None)) (sym (o.devices 3 (omega arith))) refl in
+    let fits : FitsOwner 3 (semaphore_at t 3).owner (Disk None) = subst (λ v. FitsOwner 3 v (Disk None))
+    (sym (o.devices 3 (omega arith))) refl in
     record {
       preserved = λ k n. blocked_preserves Waiting (Disk None) (InSemaphore 3) u (record { tables = c.tables; harts = c.harts; not_null = n }) (λ h. cc) (refl, refl, refl) (omega arith, k.files.tokens, fits) tt;
       touches = awaits_touches refl call at s c;

@@ -54,7 +54,8 @@ not_null_makes s a made null =
     let rest = (process_at s.tables s.tables.current).rest in
     none_made s a
     (ap (λ (x : EventResult). files_of x.state)
-    (cond-true (s.tables.current == 0) (nothing_happens s) (if is_done rest then instruction_step s else end_of_event s.tables.current [] (continued rest s))
+    (cond-true (s.tables.current == 0) (nothing_happens s)
+    (if is_done rest then instruction_step s else end_of_event s.tables.current [] (continued rest s))
     (eq-eqb s.tables.current 0 null)))
     made
 

@@ -72,7 +72,9 @@ kill_none p s =
 asks_none : (s : Xinu) → IsSound s → OfFiles (λ (h : CallResult). NoneMade s h.call.state) s
 asks_none s k None at asked = none_if_same s s refl
 asks_none s k (Some call) at asked = λ _. (let t = s.tables in
-    inr (ap (λ y. y.state) (process_move_same t t.current (record (process_at t t.current) { state = Waiting; rest = rest.Disk None }) (message_at t t.current) (InSemaphore 3)
+    inr (ap (λ y. y.state)
+    (process_move_same t t.current (record (process_at t t.current) { state = Waiting; rest = rest.Disk None }) (message_at t t.current)
+    (InSemaphore 3)
     k.tables.inside.processes (current_within t k.tables))))
 
 -- No call makes one otherwise.
@@ -84,8 +86,10 @@ none_law = record {
   few =
       (λ a s k. kill_none (a 0) s) ⨾
       (λ a s k. killed_none s.tables.current (start s)) ⨾
-      (λ a s k. device_open_holds (λ (h : CallResult). NoneMade s h.call.state) (a 0) (a 1) (a 2) s (none_if_same s s refl) (none_if_same s s refl) (none_if_same s s refl) (asks_none s k)) ⨾
-      (λ a s k. device_close_holds (λ (h : CallResult). NoneMade s h.call.state) (a 0) s (none_if_same s s refl) (none_if_same s s refl) (asks_none s k)) ⨾
+      (λ a s k. device_open_holds (λ (h : CallResult). NoneMade s h.call.state) (a 0) (a 1) (a 2) s (none_if_same s s refl)
+      (none_if_same s s refl) (none_if_same s s refl) (asks_none s k)) ⨾
+      (λ a s k. device_close_holds (λ (h : CallResult). NoneMade s h.call.state) (a 0) s (none_if_same s s refl) (none_if_same s s refl)
+      (asks_none s k)) ⨾
       (λ a s k. device_read_holds (λ (h : CallResult). NoneMade s h.call.state) (a 0) (a 1) (a 2) s (none_if_same s s refl)
       (none_touched on_console refl (read_keeps (a 1) (signed (a 2)) s (sound_holds s k)).touches)
       (none_touched on_disk refl (disk_read_keeps (a 1) (a 2) s (sound_holds s k)).touches) (asks_none s k)) ⨾
@@ -96,7 +100,8 @@ none_law = record {
       (none_touched on_console refl (getc_keeps s (sound_holds s k)).touches) (asks_none s k)) ⨾
       (λ a s k. device_putc_holds (λ (h : CallResult). NoneMade s h.call.state) (a 0) (a 1 % 256) s (none_if_same s s refl)
       (none_touched on_console refl (putc_keeps (a 1 % 256) s (sound_holds s k)).touches) (asks_none s k)) ⨾
-      (λ a s k. device_seek_holds (λ (h : CallResult). NoneMade s h.call.state) (a 0) (signed (a 1)) s (none_if_same s s refl) (asks_none s k)) ⨾
+      (λ a s k. device_seek_holds (λ (h : CallResult). NoneMade s h.call.state) (a 0) (signed (a 1)) s (none_if_same s s refl)
+      (asks_none s k)) ⨾
       (λ a s k. device_control_holds (λ (h : CallResult). NoneMade s h.call.state) (a 0) (a 1) (a 2) s (none_if_same s s refl)
       (none_touched on_console refl (console_control_keeps (a 1) s (sound_holds s k)).touches)
       (none_touched on_disk refl (disk_control_keeps (a 1) s (sound_holds s k)).touches) (asks_none s k)) ⨾
@@ -142,9 +147,11 @@ calm_reacted outcome.Call s c before some =
     calm s s.tables.current (call_line s call ∷ []) (called call.number call.args s) (called_keeps call.number call.args s c)
     (built_law_of_few none_law call.number call.args s (sound_where_called s c)) before some
 calm_reacted outcome.Exit s c before some =
-    calm s s.tables.current (call_line s (exit_call (current_hart s)) ∷ []) (exit s) (exit_keeps s c) (killed_none s.tables.current (start s)) before some
+    calm s s.tables.current (call_line s (exit_call (current_hart s)) ∷ []) (exit s) (exit_keeps s c)
+    (killed_none s.tables.current (start s)) before some
 calm_reacted (outcome.Trap cause) s c before some =
-    calm s s.tables.current (line.Trap s.tables.current cause ∷ []) (exit s) (exit_keeps s c) (killed_none s.tables.current (start s)) before some
+    calm s s.tables.current (line.Trap s.tables.current cause ∷ []) (exit s) (exit_keeps s c)
+    (killed_none s.tables.current (start s)) before some
 
 calm_stepped : (s : Xinu) → IsSound s → (files_of s).calls ≡ [] → IsCalm (stepped s)
 calm_stepped s k before =

@@ -88,7 +88,8 @@ split_callers : (k : ℕ) (l : List FileRequest)
 split_callers zero l = refl
 split_callers (suc k) [] = refl
 split_callers (suc k) (a ∷ l) =
-    append_assoc (living a.caller) (callers (λ (o : Option ℕ). o) (map (λ (b : FileRequest). b.caller) (take k l))) (callers_waiting (drop k l))
+    append_assoc (living a.caller) (callers (λ (o : Option ℕ). o) (map (λ (b : FileRequest). b.caller) (take k l)))
+    (callers_waiting (drop k l))
     ∙ ap (λ m. living a.caller ++ m) (split_callers k l)
 
 pub told_and_left : (k : ℕ) (x : FileStep) → x.notes ≡ []
@@ -97,7 +98,8 @@ told_and_left k x none =
     let a : callers_told (calls_completed k x).notes ≡ map (λ (a : FileRequest). a.caller) (take k x.work.calls) =
     calls_told k x ∙ ap (λ n. callers_told n ++ map (λ (a : FileRequest). a.caller) (take k x.work.calls)) none in
     sym (ap (λ m. callers (λ (o : Option ℕ). o) m ++ callers_waiting (calls_completed k x).work.calls) a
-    ∙ ap (λ m. callers (λ (o : Option ℕ). o) (map (λ (a : FileRequest). a.caller) (take k x.work.calls)) ++ callers_waiting m) (calls_left k x)
+    ∙ ap (λ m. callers (λ (o : Option ℕ). o) (map (λ (a : FileRequest). a.caller) (take k x.work.calls)) ++ callers_waiting m)
+    (calls_left k x)
     ∙ split_callers k x.work.calls)
 
 -- What holds inside an event after a completion: it touches files alone, and keeps what holds of both disks.

@@ -78,7 +78,8 @@ end_leads (r ∷ replies) was is more e = refl
 
 after_notes : (notes replies end more : List TranscriptLine) → ((notes ++ replies) ++ end) ++ more ≡ notes ++ ((replies ++ end) ++ more)
 after_notes notes replies end more =
-    append_assoc (notes ++ replies) end more ∙ append_assoc notes replies (end ++ more) ∙ ap (λ x. notes ++ x) (sym (append_assoc replies end more))
+    append_assoc (notes ++ replies) end more ∙ append_assoc notes replies (end ++ more)
+    ∙ ap (λ x. notes ++ x) (sym (append_assoc replies end more))
 
 -- The text of a completion tells how many calls took effect.
 completed_leads : (k : ℕ) (a : FileRequest) (calls : List FileRequest) (s : Xinu) (more : List TranscriptLine)
@@ -101,7 +102,8 @@ completed_leads (suc k) a calls s more e few none =
     let end = switched s.tables.current (closed (completing x s)).current in
     let led = i.lead ((replies ++ end) ++ more) in
     let last = end_leads (replies_of (completing x s)) s.tables.current (closed (completing x s)).current more none in
-    ap choice_led (after_notes (note_lines x.notes) replies end more) ∙ ap (λ n. choice_led (note_lines n ++ ((replies ++ end) ++ more))) are
+    ap choice_led (after_notes (note_lines x.notes) replies end more)
+    ∙ ap (λ n. choice_led (note_lines n ++ ((replies ++ end) ++ more))) are
     ∙ (let z : suc (nexts_led (note_lines i.notes ++ ((replies ++ end) ++ more))) ≡ suc k = omega (arith, led, last) in z)
 
 completed_choice : (calls : List FileRequest) (c d : ℕ) (s : Xinu) (more rest : List TranscriptLine) → (files_of s).calls ≡ calls
@@ -127,13 +129,15 @@ begins_done _ = false
 waits_not_done : (p : ℕ) (call : Call) (replies : List (ℕ × ℤ)) (was is : ℕ) (more : List TranscriptLine) → is ≢ was
     → begins_done (((line.Call p call ∷ map return_line replies) ++ switched was is) ++ more) ≡ false
 waits_not_done p call [] was is more n =
-    cond_both (was == is) [] (line.Switch is ∷ []) (λ l. begins_done ((line.Call p call ∷ l) ++ more) ≡ false) (λ e. absurd (n (sym (eqb-true was is e)))) (λ _. refl)
+    cond_both (was == is) [] (line.Switch is ∷ []) (λ l. begins_done ((line.Call p call ∷ l) ++ more) ≡ false)
+    (λ e. absurd (n (sym (eqb-true was is e)))) (λ _. refl)
 waits_not_done p call (r ∷ replies) was is more n = refl
 
 goes_on_not_done : (replies : List (ℕ × ℤ)) (was is : ℕ) (more : List TranscriptLine) → is ≢ was
     → begins_done ((map return_line replies ++ switched was is) ++ more) ≡ false
 goes_on_not_done [] was is more n =
-    cond_both (was == is) [] (line.Switch is ∷ []) (λ l. begins_done (l ++ more) ≡ false) (λ e. absurd (n (sym (eqb-true was is e)))) (λ _. refl)
+    cond_both (was == is) [] (line.Switch is ∷ []) (λ l. begins_done (l ++ more) ≡ false) (λ e. absurd (n (sym (eqb-true was is e))))
+    (λ _. refl)
 goes_on_not_done (r ∷ replies) was is more n = refl
 
 -- so a step after which another process is current has no such text
@@ -156,9 +160,11 @@ step_not_done s more =
     by_outcome outcome.Call x e n =
         let call = call_of (current_hart x) in
         let result = called call.number call.args x in
-        waits_not_done x.tables.current call (replies_of result) x.tables.current (closed result).current more (λ f. n (f ∙ ap (λ t. t.current) e))
+        waits_not_done x.tables.current call (replies_of result) x.tables.current (closed result).current more
+        (λ f. n (f ∙ ap (λ t. t.current) e))
     by_outcome outcome.Exit x e n =
-        waits_not_done x.tables.current (exit_call (current_hart x)) (replies_of (exit x)) x.tables.current (closed (exit x)).current more (λ f. n (f ∙ ap (λ t. t.current) e))
+        waits_not_done x.tables.current (exit_call (current_hart x)) (replies_of (exit x)) x.tables.current (closed (exit x)).current more
+        (λ f. n (f ∙ ap (λ t. t.current) e))
     by_outcome (outcome.Trap cause) x e n = refl
 
 -- Who makes a call and waits runs no longer.

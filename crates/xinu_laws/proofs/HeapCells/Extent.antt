@@ -20,7 +20,8 @@ extent_marked m = record { low = m.low; many = as_many_cells m }
 -- memory is given back
 pub extent_freemem : (a n : ℕ) (h u : Heap) → heap.free_memory a n h ≡ Some u → HasSameExtent h u
 extent_freemem a n h u =
-    cond_both ((n == 0) || (not (a % 8 == 0) || nat_lt a h.low)) None (freed h ((a - h.low) / 8) (cells_for n)) (λ x. x ≡ Some u → HasSameExtent h u)
+    cond_both ((n == 0) || (not (a % 8 == 0) || nat_lt a h.low)) None (freed h ((a - h.low) / 8) (cells_for n))
+    (λ x. x ≡ Some u → HasSameExtent h u)
     (λ _ e. absurd (cc))
     (λ b e.
     let some = eqb-false n 0 (or_parts (n == 0) (not (a % 8 == 0) || nat_lt a h.low) b).0 in

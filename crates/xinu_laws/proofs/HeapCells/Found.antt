@@ -38,7 +38,8 @@ lowest_step k c cells (Some start) here more = least_more k c cells start here m
 pub lowest_says : (k : ℕ) (cells : List Bool) → OfFound (IsLeast k cells) (BeginNowhere k cells) (lowest_free k cells)
 lowest_says k [] = λ i w. absurd (omega arith)
 lowest_says k (c ∷ cells) =
-    cond_both (begins_with true k (c ∷ cells)) (Some 0) (option_map suc (lowest_free k cells)) (OfFound (IsLeast k (c ∷ cells)) (BeginNowhere k (c ∷ cells)))
+    cond_both (begins_with true k (c ∷ cells)) (Some 0) (option_map suc (lowest_free k cells))
+    (OfFound (IsLeast k (c ∷ cells)) (BeginNowhere k (c ∷ cells)))
     (λ b. record { place = omega arith; begins = b; least = λ i w. absurd (omega arith) })
     (λ b. lowest_step k c cells (lowest_free k cells) b (lowest_says k cells))
 

@@ -38,7 +38,8 @@ free_inside {kind} {start} {k} {h} {u} m a low high =
     let c = cell_of h.low a (omega arith) in
     let e = m.low in (
       free_as_cell h i a c.0 c.1 ∙ m.before.each i (omega arith) (omega arith),
-      free_as_cell u i a (omega arith) (omega arith) ∙ ap (λ cells. get_or cells i false) m.cells ∙ marked_inside kind start k h.cells i m.before.within (omega arith) (omega arith),
+      free_as_cell u i a (omega arith) (omega arith) ∙ ap (λ cells. get_or cells i false) m.cells
+          ∙ marked_inside kind start k h.cells i m.before.within (omega arith) (omega arith),
     )
 
 -- a cell that isn't marked is as it was
@@ -46,7 +47,8 @@ cell_outside : {kind : Bool} {start k : ℕ} {h u : Heap} → AreMarked kind sta
     → get_or u.cells i false ≡ get_or h.cells i false
 cell_outside {kind} {start} {k} {h} m i w =
     ap (λ cells. get_or cells i false) m.cells
-    ∙ ⊎_elim (λ (l : i < start). marked_below kind start k h.cells i m.before.within l) (λ (l : start + k ≤ i). marked_behind kind start k h.cells i m.before.within l) w
+    ∙ ⊎_elim (λ (l : i < start). marked_below kind start k h.cells i m.before.within l)
+    (λ (l : start + k ≤ i). marked_behind kind start k h.cells i m.before.within l) w
 
 -- where an address outside of some cells lies, by cells
 place_outside : (low start k a : ℕ) → low ≤ a → (a < low + 8 * start) ⊎ (low + 8 * (start + k) ≤ a)
@@ -64,5 +66,6 @@ free_outside {kind} {start} {k} {h} {u} m a o =
     (λ (l : h.low ≤ a).
     let i = (a - h.low) / 8 in
     let c = cell_of h.low a l in
-    free_as_cell u i a (omega arith) (omega arith) ∙ cell_outside m i (place_outside h.low start k a l o) ∙ sym (free_as_cell h i a c.0 c.1))
+    free_as_cell u i a (omega arith) (omega arith) ∙ cell_outside m i (place_outside h.low start k a l o)
+    ∙ sym (free_as_cell h i a c.0 c.1))
     (cases_lt a h.low)

@@ -50,7 +50,8 @@ pub getmem_grants : (n : ℕ) (h : Heap) (grant : Grant) → take_memory n h ≡
 getmem_grants n h grant =
     cond_both (n == 0) None (grant_at h (cells_for n) (lowest_free (cells_for n) h.cells)) (λ x. x ≡ Some grant → IsGranted n h grant)
     (λ _ e. absurd (cc))
-    (λ b e. let some = eqb-false n 0 b in grant_found n h grant (lowest_free (cells_for n) h.cells) (omega arith) (lowest_says (cells_for n) h.cells) e)
+    (λ b e. let some = eqb-false n 0 b in grant_found n h grant (lowest_free (cells_for n) h.cells) (omega arith)
+    (lowest_says (cells_for n) h.cells) e)
 
 -- what stack is found if a start is
 stack_found : (n : ℕ) (h : Heap) (stack : Stack) (found : Option ℕ) → 0 < n
@@ -68,7 +69,8 @@ pub getstk_finds : (n : ℕ) (h : Heap) (stack : Stack) → take_stack n h ≡ S
 getstk_finds n h stack =
     cond_both (n == 0) None (stack_at h (cells_for n) (highest_free (cells_for n) h.cells)) (λ x. x ≡ Some stack → IsStack n h stack)
     (λ _ e. absurd (cc))
-    (λ b e. let some = eqb-false n 0 b in stack_found n h stack (highest_free (cells_for n) h.cells) (omega arith) (highest_says (cells_for n) h.cells) e)
+    (λ b e. let some = eqb-false n 0 b in stack_found n h stack (highest_free (cells_for n) h.cells) (omega arith)
+    (highest_says (cells_for n) h.cells) e)
 
 -- What `freemem` frees of n bytes at an address: whole cells that were taken.
 pub record IsFreed (address n : ℕ) (h u : Heap) : Type 0 where
@@ -80,7 +82,8 @@ pub record IsFreed (address n : ℕ) (h u : Heap) : Type 0 where
 -- taken cells that begin at a place are freed
 pub cells_freed : (h u : Heap) (start k : ℕ) → 0 < k → freed h start k ≡ Some u → AreMarked true start k h u
 cells_freed h u start k z =
-    cond_both (begins_with false k (drop start h.cells)) (Some (record h { cells = marked true start k h.cells })) None (λ x. x ≡ Some u → AreMarked true start k h u)
+    cond_both (begins_with false k (drop start h.cells)) (Some (record h { cells = marked true start k h.cells })) None
+    (λ x. x ≡ Some u → AreMarked true start k h u)
     (λ b e.
     let is : record h { cells = marked true start k h.cells } ≡ u = cc in
     let there : start ≤ length h.cells = ⊎_elim
@@ -93,7 +96,8 @@ cells_freed h u start k z =
 -- The heap frees cells that were taken.
 pub freemem_frees : (address n : ℕ) (h u : Heap) → h.low % 8 ≡ 0 → free_memory address n h ≡ Some u → IsFreed address n h u
 freemem_frees address n h u whole =
-    cond_both ((n == 0) || (not (address % 8 == 0) || nat_lt address h.low)) None (freed h ((address - h.low) / 8) (cells_for n)) (λ x. x ≡ Some u → IsFreed address n h u)
+    cond_both ((n == 0) || (not (address % 8 == 0) || nat_lt address h.low)) None (freed h ((address - h.low) / 8) (cells_for n))
+    (λ x. x ≡ Some u → IsFreed address n h u)
     (λ _ e. absurd (cc))
     (λ b e.
     let fits = or_parts (n == 0) (not (address % 8 == 0) || nat_lt address h.low) b in
@@ -119,7 +123,8 @@ pub record IsStackFreed (top n : ℕ) (h u : Heap) : Type 0 where
 -- The heap frees the cells of a stack, which were taken.
 pub freestk_frees : (top n : ℕ) (h u : Heap) → h.low % 8 ≡ 0 → free_stack top n h ≡ Some u → IsStackFreed top n h u
 freestk_frees top n h u whole =
-    cond_both (nat_lt (top + 4) (8 * cells_for n)) None (free_memory (top + 4 - 8 * cells_for n) n h) (λ x. x ≡ Some u → IsStackFreed top n h u)
+    cond_both (nat_lt (top + 4) (8 * cells_for n)) None (free_memory (top + 4 - 8 * cells_for n) n h)
+    (λ x. x ≡ Some u → IsStackFreed top n h u)
     (λ _ e. absurd (cc))
     (λ b e.
     let above = ltb-false (top + 4) (8 * cells_for n) b in

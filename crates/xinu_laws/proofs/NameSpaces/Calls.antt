@@ -47,7 +47,8 @@ mount_holds P prefix replacement dev s none row =
 -- Call 44.
 pub mount_touches : (prefix replacement dev : ℕ) → StaysIn on_names (mount prefix replacement dev)
 mount_touches prefix replacement dev s k =
-    mount_holds (λ (h : CallResult). Touches (reach on_names) s h.call.state) prefix replacement dev s (touches_refl s) (λ row found w e. by_found found)
+    mount_holds (λ (h : CallResult). Touches (reach on_names) s h.call.state) prefix replacement dev s (touches_refl s)
+    (λ row found w e. by_found found)
   where
     by_found : (found : Option (List NameRow)) → Touches (reach on_names) s (mount_rows found s).call.state
     by_found None = touches_refl s

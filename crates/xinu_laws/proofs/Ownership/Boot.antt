@@ -70,7 +70,8 @@ apart_all_made : (images : List Loaded) (i : ℕ) (s : Xinu) → IsApart s → S
 apart_all_made [] i s apart = λ u b. let is : s ≡ u = cc in subst IsApart is apart
 apart_all_made (image ∷ images) i s apart =
     let found = take_stack (stack_size image.stack) s.parts.heap in
-    apart_then (where_stack found i image s) (λ x. all_made (i + 1) images x) (apart_where_stack found i image s refl apart) (λ x made. apart_all_made images (i + 1) x made)
+    apart_then (where_stack found i image s) (λ x. all_made (i + 1) images x) (apart_where_stack found i image s refl apart)
+    (λ x made. apart_all_made images (i + 1) x made)
 
 -- anything but the places may change
 abbrev beside_places : Reach
@@ -85,7 +86,8 @@ kept_all_started images s =
 apart_unless_overlap : (overlaps : Option ℕ) (images : List Loaded) → StartsApart (unless_overlap overlaps images)
 apart_unless_overlap (Some i) images = λ u b. absurd (cc)
 apart_unless_overlap None images =
-    apart_then (all_made 1 images (loaded_machine images)) (λ s. Boots (all_started images s)) (apart_all_made images 1 (loaded_machine images) (apart_loaded images))
+    apart_then (all_made 1 images (loaded_machine images)) (λ s. Boots (all_started images s))
+    (apart_all_made images 1 (loaded_machine images) (apart_loaded images))
     (λ s apart u b. let is : all_started images s ≡ u = cc in subst IsApart is (apart_kept (kept_all_started images s) apart))
 
 -- When the machine starts, each address is claimed at most once.

@@ -83,7 +83,8 @@ stack_parts a x h =
 -- and the other way round
 pub stack_from : (a : ℕ) (x : Process) → a < x.stack + 4 → x.stack + 4 ≤ a + x.stack_size → is_in_stack a x ≡ true
 stack_from a x low high =
-    and_from (nat_lt a (x.stack + 4)) (nat_le (x.stack + 4) (a + x.stack_size)) (lt-ltb a (x.stack + 4) low) (le-leb (x.stack + 4) (a + x.stack_size) high)
+    and_from (nat_lt a (x.stack + 4)) (nat_le (x.stack + 4) (a + x.stack_size)) (lt-ltb a (x.stack + 4) low)
+    (le-leb (x.stack + 4) (a + x.stack_size) high)
 
 -- nobody is in an empty stack
 pub empty_stack : (a : ℕ) (x : Process) → x.stack_size ≡ 0 → is_in_stack a x ≡ false
@@ -109,7 +110,8 @@ pub cases_cells : (low start k a : ℕ) → InCells low start k a ⊎ ((a < low 
 cases_cells low start k a =
     ⊎_elim (λ (l : a < low + 8 * start). inr (inl l))
     (λ (l : low + 8 * start ≤ a).
-    ⊎_elim (λ (m : a < low + 8 * (start + k)). inl (l, m)) (λ (m : low + 8 * (start + k) ≤ a). inr (inr m)) (cases_lt a (low + 8 * (start + k))))
+    ⊎_elim (λ (m : a < low + 8 * (start + k)). inl (l, m)) (λ (m : low + 8 * (start + k) ≤ a). inr (inr m))
+    (cases_lt a (low + 8 * (start + k))))
     (cases_lt a (low + 8 * start))
 
 -- at most one
@@ -131,7 +133,9 @@ claim_taken {start} {k} {h} {u} m a b within =
     (λ (o : (a < h.low + 8 * start) ⊎ (h.low + 8 * (start + k) ≤ a)).
     let same = ap one (free_outside m a o) in
     ⊎_elim
-    (λ (e : b ≡ true). absurd (⊎_elim (λ (l : a < h.low + 8 * start). let i = within e in omega arith) (λ (l : h.low + 8 * (start + k) ≤ a). let i = within e in omega arith) o))
+    (λ (e : b ≡ true). absurd
+    (⊎_elim (λ (l : a < h.low + 8 * start). let i = within e in omega arith)
+    (λ (l : h.low + 8 * (start + k) ≤ a). let i = within e in omega arith) o))
     (λ (e : b ≡ false). let none = ap one e in omega arith)
     (cases_Bool b))
     (cases_cells h.low start k a)

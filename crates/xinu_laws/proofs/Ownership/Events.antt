@@ -42,7 +42,8 @@ use Rattle.table_laws.proofs.Preserve.{current_within}
 pub kept_end_of_event : (was : ℕ) (first : List TranscriptLine) (result : CallResult) → KeepsAll result
     → KeepsPlaces result.call.state (end_of_event was first result).state
 kept_end_of_event was first result k =
-    let touches : Touches (reach on_tables) result.call.state (end_of_event was first result).state = touches_end_of_event was first result (inside_preserved result k.preserved) (replies_alive result k.preserved) in
+    let touches : Touches (reach on_tables) result.call.state (end_of_event was first result).state = touches_end_of_event was first result
+    (inside_preserved result k.preserved) (replies_alive result k.preserved) in
     keeps_places touches refl refl refl
 
 -- So does a tick,
@@ -127,13 +128,16 @@ apart_reacted outcome.Call old call sound apart runs idle nothing =
     let result = called made.number made.args s in
     let may = may_call_next old sound runs in
     apart_kept (kept_end_of_event old.tables.current (call_line s made ∷ []) result (called_keeps made.number made.args s may))
-    (called_apart made.number made.args s (sound_where_called s may) (apart_kept (kept_executed old) apart) (none_held old (call_line s made ∷ []) sound runs idle call nothing))
+    (called_apart made.number made.args s (sound_where_called s may) (apart_kept (kept_executed old) apart)
+    (none_held old (call_line s made ∷ []) sound runs idle call nothing))
 apart_reacted outcome.Exit old call sound apart runs idle nothing =
     let s = with_executed (next old) old in
-    apart_kept (kept_end_of_event old.tables.current (call_line s (exit_call (current_hart s)) ∷ []) (exit s) (exit_keeps s (may_call_next old sound runs))) (apart_exit s (apart_kept (kept_executed old) apart))
+    apart_kept (kept_end_of_event old.tables.current (call_line s (exit_call (current_hart s)) ∷ []) (exit s)
+    (exit_keeps s (may_call_next old sound runs))) (apart_exit s (apart_kept (kept_executed old) apart))
 apart_reacted (outcome.Trap cause) old call sound apart runs idle nothing =
     let s = with_executed (next old) old in
-    apart_kept (kept_end_of_event old.tables.current (line.Trap old.tables.current cause ∷ []) (exit s) (exit_keeps s (may_call_next old sound runs))) (apart_exit s (apart_kept (kept_executed old) apart))
+    apart_kept (kept_end_of_event old.tables.current (line.Trap old.tables.current cause ∷ []) (exit s)
+    (exit_keeps s (may_call_next old sound runs))) (apart_exit s (apart_kept (kept_executed old) apart))
 
 -- nothing is left of a call that is done
 done_rest : (left : Rest) → is_done left ≡ true → left ≡ rest.Nothing
@@ -155,17 +159,20 @@ pub apart_stepped : (s : Xinu) → IsSound s → IsApart s → (GivesAway s Step
 apart_stepped s sound apart =
     let left = (process_at s.tables s.tables.current).rest in
     let goes_on = end_of_event s.tables.current [] (continued left s) in
-    cond_both (s.tables.current == 0) (nothing_happens s) (cond (is_done left) (instruction_step s) goes_on) (λ (e : EventResult). (GivesAway s Step e.state → ⊥) → IsApart e.state)
+    cond_both (s.tables.current == 0) (nothing_happens s) (cond (is_done left) (instruction_step s) goes_on)
+    (λ (e : EventResult). (GivesAway s Step e.state → ⊥) → IsApart e.state)
     (λ _ _. apart)
     (λ b. cond_both (is_done left) (instruction_step s) goes_on (λ (e : EventResult). (GivesAway s Step e.state → ⊥) → IsApart e.state)
     (λ idle. apart_reacted (next s).outcome s refl sound apart (eqb-false s.tables.current 0 b) (done_rest left idle))
-    (λ _ _. apart_kept (kept_end_of_event s.tables.current [] (continued left s) (continued_keeps s (may_call s sound (eqb-false s.tables.current 0 b)))) (apart_kept (kept_continued left s sound) apart)))
+    (λ _ _. apart_kept (kept_end_of_event s.tables.current [] (continued left s)
+    (continued_keeps s (may_call s sound (eqb-false s.tables.current 0 b)))) (apart_kept (kept_continued left s sound) apart)))
 
 -- What an event leaves, whatever is chosen in it.
 pub apart_effect : (s : Xinu) (e : Event) (choice : ℕ) → IsSound s → IsApart s → (GivesAway s e (effect_of s e choice).state → ⊥)
     → IsApart (effect_of s e choice).state
 apart_effect s Step choice sound apart =
-    step_holds (λ (x : EventResult). (GivesAway s Step x.state → ⊥) → IsApart x.state) choice (next_file_call s) s (apart_stepped s sound apart)
+    step_holds (λ (x : EventResult). (GivesAway s Step x.state → ⊥) → IsApart x.state) choice (next_file_call s) s
+    (apart_stepped s sound apart)
     (λ a _. apart_kept (record { heap = refl; ranges = refl; stacks = refl }) apart)
 apart_effect s Tick choice sound apart = λ _. apart_kept (kept_ticked s sound) apart
 apart_effect s (Key b) choice sound apart = λ _. apart_kept (kept_keyed b s sound) apart

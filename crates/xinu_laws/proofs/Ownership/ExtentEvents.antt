@@ -49,7 +49,8 @@ extent_stepped : (s : Xinu) → IsSound s → HaveSameExtent s (stepped s).state
 extent_stepped s k =
     let left = (process_at s.tables s.tables.current).rest in
     let goes_on = end_of_event s.tables.current [] (continued left s) in
-    cond_both (s.tables.current == 0) (nothing_happens s) (cond (is_done left) (instruction_step s) goes_on) (λ (e : EventResult). HaveSameExtent s e.state)
+    cond_both (s.tables.current == 0) (nothing_happens s) (cond (is_done left) (instruction_step s) goes_on)
+    (λ (e : EventResult). HaveSameExtent s e.state)
     (λ _. same_extent s.parts.heap)
     (λ b. let c = may_call s k (eqb-false s.tables.current 0 b) in
     cond_both (is_done left) (instruction_step s) goes_on (λ (e : EventResult). HaveSameExtent s e.state)

@@ -57,13 +57,15 @@ holders_call number args s k g = by_row (found_in calls number) refl
         let h = spared (gives_back r.syscall.number) f.stacks f.ranges (ap gives_back (number_of_row calls number r e) ∙ g)
         (of_row (λ x. not (gives_back x.syscall.number && names_holders x.touches) ≡ true) calls
         (all_rows (λ x. not (gives_back x.syscall.number && names_holders x.touches)) calls giving_calls_spare) number r e) in
-        let t : Touches (reach f) s (done_by (Some r) args s).call.state = subst (λ x. Touches (reach f) s (done_by x args s).call.state) e (call_touches number args s r k e) in
+        let t : Touches (reach f) s (done_by (Some r) args s).call.state = subst (λ x. Touches (reach f) s (done_by x args s).call.state) e
+        (call_touches number args s r k e) in
         holders_kept s (done_by (Some r) args s).call.state (t.parts.ranges h.1) (t.stacks h.0)
 
 holders_called : (number : ℕ) (args : List ℕ) (s : Xinu) → IsSound s → gives_back number ≡ true
     → KeepsHolders s (called number args s).call.state
 holders_called number args s k g =
-    cond_both (is_served number args) (call_of_number number args s) (refused s) (λ (h : CallResult). KeepsHolders s h.call.state) (λ _. holders_call number args s k g) (λ _ a. refl)
+    cond_both (is_served number args) (call_of_number number args s) (refused s) (λ (h : CallResult). KeepsHolders s h.call.state)
+    (λ _. holders_call number args s k g) (λ _ a. refl)
 
 -- the step that gives away is the call
 stepped_calls : (old : Xinu) (e : Event) (new : Xinu) → GivesAway old e new
@@ -71,7 +73,8 @@ stepped_calls : (old : Xinu) (e : Event) (new : Xinu) → GivesAway old e new
 stepped_calls old e new g =
     let left = (process_at old.tables old.tables.current).rest in
     let other = end_of_event old.tables.current [] (continued left old) in
-    cond-false (old.tables.current == 0) (nothing_happens old) (cond (is_done left) (instruction_step old) other) (ne_eqb old.tables.current 0 g.runs)
+    cond-false (old.tables.current == 0) (nothing_happens old) (cond (is_done left) (instruction_step old) other)
+    (ne_eqb old.tables.current 0 g.runs)
     ∙ cond-true (is_done left) (instruction_step old) other (ap is_done g.rest)
     ∙ ap (λ o. reacted o (with_executed (next old) old)) g.call
 
@@ -83,11 +86,15 @@ holders_given_away old e lines new sound h g =
     let call = call_of (current_hart s) in
     let result = called call.number call.args s in
     let gives : gives_back call.number ≡ true = ap (λ r. gives_back (call_of r).number) (hart_after old sound) ∙ g.number in
-    let happened : (effect_of old Step h.choice).state ≡ new = sym (ap (λ f. (effect_of old f h.choice).state) g.step) ∙ ap (λ (x : EventResult). x.state) h.effect in
+    let happened : (effect_of old Step h.choice).state ≡ new = sym (ap (λ f. (effect_of old f h.choice).state) g.step)
+    ∙ ap (λ (x : EventResult). x.state) h.effect in
     let may = may_call_after old (may_call old sound g.runs) in
     let ended = kept_end_of_event old.tables.current (call_line s call ∷ []) result (called_keeps call.number call.args s may) in
     step_holds (λ (x : EventResult). x.state ≡ new → KeepsHolders old new) h.choice (next_file_call old) old
-    (λ is. subst (KeepsHolders old) (sym (ap (λ (x : EventResult). x.state) (stepped_calls old e new g)) ∙ is) (λ a. holders_kept result.call.state (end_of_event old.tables.current (call_line s call ∷ []) result).state ended.ranges ended.stacks a ∙ holders_called call.number call.args s (sound_where_called s may) gives a))
+    (λ is. subst (KeepsHolders old)
+    (sym (ap (λ (x : EventResult). x.state) (stepped_calls old e new g)) ∙ is)
+    (λ a. holders_kept result.call.state (end_of_event old.tables.current (call_line s call ∷ []) result).state ended.ranges ended.stacks a
+    ∙ holders_called call.number call.args s (sound_where_called s may) gives a))
     (λ b is. subst (KeepsHolders old) is (λ a. refl))
     happened
 

@@ -72,7 +72,8 @@ reacted_gives outcome.Exit old sound runs =
     let s = with_executed (next old) old in
     gives_before old (exit s).call.state (end_of_event old.tables.current (call_line s (exit_call (current_hart s)) ∷ []) (exit s)).state
     (gives_after old s (exit s).call.state (kept_executed old) (gives_exit s))
-    (kept_end_of_event old.tables.current (call_line s (exit_call (current_hart s)) ∷ []) (exit s) (exit_keeps s (may_call_next old sound runs)))
+    (kept_end_of_event old.tables.current (call_line s (exit_call (current_hart s)) ∷ []) (exit s)
+    (exit_keeps s (may_call_next old sound runs)))
 reacted_gives (outcome.Trap cause) old sound runs =
     let s = with_executed (next old) old in
     gives_before old (exit s).call.state (end_of_event old.tables.current (line.Trap old.tables.current cause ∷ []) (exit s)).state
@@ -84,7 +85,8 @@ stepped_gives : (s : Xinu) → IsSound s → GivesOnlyFree s (stepped s).state
 stepped_gives s sound =
     let left = (process_at s.tables s.tables.current).rest in
     let goes_on = end_of_event s.tables.current [] (continued left s) in
-    cond_both (s.tables.current == 0) (nothing_happens s) (cond (is_done left) (instruction_step s) goes_on) (λ (e : EventResult). GivesOnlyFree s e.state)
+    cond_both (s.tables.current == 0) (nothing_happens s) (cond (is_done left) (instruction_step s) goes_on)
+    (λ (e : EventResult). GivesOnlyFree s e.state)
     (λ _. gives_same s)
     (λ b. cond_both (is_done left) (instruction_step s) goes_on (λ (e : EventResult). GivesOnlyFree s e.state)
     (λ _. reacted_gives (next s).outcome s sound (eqb-false s.tables.current 0 b))

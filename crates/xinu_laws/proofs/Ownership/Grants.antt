@@ -53,7 +53,8 @@ gives_made : (p : ℕ) (x : Process) (hart : Hart) (stack : Stack) (wanted : ℕ
 gives_made p x hart stack wanted s e top size a more =
     let set = times_set (is_in_stack a) s.tables.processes p x no_process (empty_stack a no_process refl) in
     ⊎_elim
-    (λ (inside : is_in_stack a x ≡ true). let parts = stack_parts a x inside in (stacks_were_free wanted s.parts.heap stack e a (omega arith) (omega arith)).0)
+    (λ (inside : is_in_stack a x ≡ true). let parts = stack_parts a x inside in (stacks_were_free wanted s.parts.heap stack e a
+    (omega arith) (omega arith)).0)
     (λ (outside : is_in_stack a x ≡ false). let no = ap one outside in absurd (omega arith))
     (cases_Bool (is_in_stack a x))
 
@@ -70,7 +71,8 @@ pub gives_create : (entry size : ℕ) (priority : ℤ) (name x y : ℕ) (s : Xin
 gives_create entry size priority name x y s =
     let bytes = process_name (take 16 (drop name s.memory)) in
     let found = take_stack (stack_size size) s.parts.heap in
-    cond_both (int_lt priority (pos 1) || not (in_ram name 16)) (refused s) (created (free_process s.tables) found entry (stack_size size) priority bytes x y s)
+    cond_both (int_lt priority (pos 1) || not (in_ram name 16)) (refused s)
+    (created (free_process s.tables) found entry (stack_size size) priority bytes x y s)
     (λ (h : CallResult). GivesOnlyFree s h.call.state)
     (λ _. gives_nothing s s (λ a. omega arith))
     (λ _. gives_created (free_process s.tables) found entry (stack_size size) priority bytes x y s refl)
@@ -95,9 +97,11 @@ gives_exit s = gives_killed s.tables.current (start s)
 pub gives_kill : (p : ℕ) (s : Xinu) → GivesOnlyFree s (kill p s).call.state
 gives_kill p s =
     let other = returns (killed p (start s)) (pos 0) in
-    cond_both ((p == 0) || is_free (state_at s.tables p)) (refused s) (cond (p == s.tables.current) (exit s) other) (λ (h : CallResult). GivesOnlyFree s h.call.state)
+    cond_both ((p == 0) || is_free (state_at s.tables p)) (refused s) (cond (p == s.tables.current) (exit s) other)
+    (λ (h : CallResult). GivesOnlyFree s h.call.state)
     (λ _. gives_nothing s s (λ a. omega arith))
-    (λ _. cond_both (p == s.tables.current) (exit s) other (λ (h : CallResult). GivesOnlyFree s h.call.state) (λ _. gives_exit s) (λ _. gives_killed p (start s)))
+    (λ _. cond_both (p == s.tables.current) (exit s) other (λ (h : CallResult). GivesOnlyFree s h.call.state) (λ _. gives_exit s)
+    (λ _. gives_killed p (start s)))
 
 -- A pool is made of memory that was free.
 gives_with_pool : (grant : Grant) (sem size n : ℕ) (s : Xinu) → take_memory (pool_bytes size n) s.parts.heap ≡ Some grant
@@ -114,7 +118,8 @@ gives_with_pool grant sem size n s e a more =
 gives_made_pool : (found : Option Grant) (sem : Option ℕ) (size n : ℕ) (s : Xinu) → take_memory (pool_bytes size n) s.parts.heap ≡ found
     → GivesOnlyFree s (made_pool found sem size n s).call.state
 gives_made_pool (Some grant) (Some sem) size n s e =
-    cond_both (meets_pool grant.address (pool_bytes size n) s.parts.pools) (refused s) (with_pool grant sem size n s) (λ (h : CallResult). GivesOnlyFree s h.call.state)
+    cond_both (meets_pool grant.address (pool_bytes size n) s.parts.pools) (refused s) (with_pool grant sem size n s)
+    (λ (h : CallResult). GivesOnlyFree s h.call.state)
     (λ _. gives_nothing s s (λ a. omega arith)) (λ _. gives_with_pool grant sem size n s e)
 gives_made_pool (Some grant) None size n s e = gives_nothing s s (λ a. omega arith)
 gives_made_pool None sem size n s e = gives_nothing s s (λ a. omega arith)
@@ -124,7 +129,8 @@ pub gives_mkbufpool : (size n : ℕ) (s : Xinu) → GivesOnlyFree s (mkbufpool s
 gives_mkbufpool size n s =
     let bytes = pool_bytes (whole_words size) n in
     cond_both (is_pool_size size n && nat_lt (length s.parts.pools) most_pools)
-    (made_pool (take_memory bytes s.parts.heap) (free_semaphore s.tables) (whole_words size) n s) (refused s) (λ (h : CallResult). GivesOnlyFree s h.call.state)
+    (made_pool (take_memory bytes s.parts.heap) (free_semaphore s.tables) (whole_words size) n s) (refused s)
+    (λ (h : CallResult). GivesOnlyFree s h.call.state)
     (λ _. gives_made_pool (take_memory bytes s.parts.heap) (free_semaphore s.tables) (whole_words size) n s refl)
     (λ _. gives_nothing s s (λ a. omega arith))
 

@@ -104,7 +104,8 @@ apart_with_pool grant sem size n s e apart =
       low = low_stays s.parts.heap grant.heap g.taken.low apart.low;
       stacks = λ p. stack_stays s.parts.heap grant.heap (process_at s.tables p) g.taken.low (as_many_cells g.taken) (apart.stacks p);
       claims = λ a.
-          let within : is_in_pool a pool ≡ true → InCells s.parts.heap.low g.start (cells_for (pool_bytes size n)) a = λ h. let parts = pool_parts a pool h in let at = g.address in (omega arith, omega arith) in
+          let within : is_in_pool a pool ≡ true → InCells s.parts.heap.low g.start
+          (cells_for (pool_bytes size n)) a = λ h. let parts = pool_parts a pool h in let at = g.address in (omega arith, omega arith) in
           let less = claim_taken g.taken a (is_in_pool a pool) within in
           let both = times-append (is_in_pool a) s.parts.pools (pool ∷ []) in
           let new = times_first (is_in_pool a) pool [] in
@@ -116,7 +117,8 @@ apart_with_pool grant sem size n s e apart =
 apart_made_pool : (found : Option Grant) (sem : Option ℕ) (size n : ℕ) (s : Xinu)
     → heap.take_memory (pool_bytes size n) s.parts.heap ≡ found → IsApart s → IsApart (made_pool found sem size n s).call.state
 apart_made_pool (Some grant) (Some sem) size n s e apart =
-    cond_both (meets_pool grant.address (pool_bytes size n) s.parts.pools) (refused s) (with_pool grant sem size n s) (λ (h : CallResult). IsApart h.call.state)
+    cond_both (meets_pool grant.address (pool_bytes size n) s.parts.pools) (refused s) (with_pool grant sem size n s)
+    (λ (h : CallResult). IsApart h.call.state)
     (λ _. apart) (λ _. apart_with_pool grant sem size n s e apart)
 apart_made_pool (Some grant) None size n s e apart = apart
 apart_made_pool None sem size n s e apart = apart
@@ -126,6 +128,7 @@ pub apart_mkbufpool : (size n : ℕ) (s : Xinu) → IsApart s → IsApart (mkbuf
 apart_mkbufpool size n s apart =
     let bytes = pool_bytes (whole_words size) n in
     cond_both (is_pool_size size n && nat_lt (length s.parts.pools) most_pools)
-    (made_pool (heap.take_memory bytes s.parts.heap) (free_semaphore s.tables) (whole_words size) n s) (refused s) (λ (h : CallResult). IsApart h.call.state)
+    (made_pool (heap.take_memory bytes s.parts.heap) (free_semaphore s.tables) (whole_words size) n s) (refused s)
+    (λ (h : CallResult). IsApart h.call.state)
     (λ _. apart_made_pool (heap.take_memory bytes s.parts.heap) (free_semaphore s.tables) (whole_words size) n s refl apart)
     (λ _. apart)

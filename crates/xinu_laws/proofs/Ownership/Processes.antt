@@ -82,7 +82,8 @@ apart_created : (number : Option ℕ) (found : Option Stack) (entry wanted : ℕ
     → take_stack (stack_size wanted) s.parts.heap ≡ found → IsApart s
     → IsApart (created number found entry (stack_size wanted) priority name x y s).call.state
 apart_created (Some p) (Some stack) entry wanted priority name x y s e apart =
-    apart_made p (new_process name priority s.tables.current stack.top (stack_size wanted)) (new_hart entry stack.top x y) stack wanted s e refl apart
+    apart_made p (new_process name priority s.tables.current stack.top (stack_size wanted))
+    (new_hart entry stack.top x y) stack wanted s e refl apart
 apart_created (Some p) None entry wanted priority name x y s e apart = apart
 apart_created None found entry wanted priority name x y s e apart = apart
 
@@ -158,7 +159,8 @@ pub apart_reap : (p : ℕ) (x : Process) (d : CallState) → stack_of x ≡ stac
     → IsApart (reap p x d).state
 apart_reap p x d same apart =
     let h = d.state.parts.heap in
-    let e : free_stack (process_at d.state.tables p).stack (process_at d.state.tables p).stack_size h ≡ free_stack x.stack x.stack_size h = sym (ap (λ (y : ℕ × ℕ). free_stack y.0 y.1 h) same) in
+    let e : free_stack (process_at d.state.tables p).stack
+    (process_at d.state.tables p).stack_size h ≡ free_stack x.stack x.stack_size h = sym (ap (λ (y : ℕ × ℕ). free_stack y.0 y.1 h) same) in
     apart_either p (free_stack x.stack x.stack_size h) d.state e apart
 
 -- A process dies.
@@ -179,6 +181,8 @@ apart_exit s apart = apart_killed s.tables.current (start s) apart
 pub apart_kill : (p : ℕ) (s : Xinu) → IsApart s → IsApart (kill p s).call.state
 apart_kill p s apart =
     let other = returns (killed p (start s)) (pos 0) in
-    cond_both ((p == 0) || is_free (state_at s.tables p)) (refused s) (cond (p == s.tables.current) (exit s) other) (λ (h : CallResult). IsApart h.call.state)
+    cond_both ((p == 0) || is_free (state_at s.tables p)) (refused s) (cond (p == s.tables.current) (exit s) other)
+    (λ (h : CallResult). IsApart h.call.state)
     (λ _. apart)
-    (λ _. cond_both (p == s.tables.current) (exit s) other (λ (h : CallResult). IsApart h.call.state) (λ _. apart_exit s apart) (λ _. apart_killed p (start s) apart))
+    (λ _. cond_both (p == s.tables.current) (exit s) other (λ (h : CallResult). IsApart h.call.state) (λ _. apart_exit s apart)
+    (λ _. apart_killed p (start s) apart))

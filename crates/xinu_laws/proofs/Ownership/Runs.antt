@@ -33,5 +33,6 @@ apart_run keeps (e ∷ events) old lines new end sound apart nothing r =
     let gives = nothing first mid h in
     apart_follows (end_with (panics_in old e) (is_over mid)) (λ rest. RunsTo mid events rest new end) first lines mid new end
     (apart_happens old e first mid sound apart h gives.0)
-    (λ rest on go. apart_run keeps events mid rest new end (keeps old e first mid sound h) (apart_happens old e first mid sound apart h gives.0) (gives.1 on) go)
+    (λ rest on go. apart_run keeps events mid rest new end (keeps old e first mid sound h)
+    (apart_happens old e first mid sound apart h gives.0) (gives.1 on) go)
     r.3

@@ -52,7 +52,8 @@ pools_awaited zero i s e o k here =
     let sound = k.each i here in
     are_pools_kept t _ s.parts.pools i here
     (pool_kept t _ i pool sound (owner_move t t.current x m place pool.semaphore)
-    (promised_blocked t i pool.semaphore t.current x m place (let c = current_within t o in let n = o.inside.processes in omega arith) refl))
+    (promised_blocked t i pool.semaphore t.current x m place
+    (let c = current_within t o in let n = o.inside.processes in omega arith) refl))
     (λ j n. frame_pool_blocked i j n pool.semaphore s sound.owner) (λ r. owner_move t t.current x m place r) k
 pools_awaited (suc n) i s e o k here =
     let t = s.tables in
@@ -66,7 +67,8 @@ pools_awaited (suc n) i s e o k here =
 pub pools_getbuf : (i : ℕ) (s : Xinu) → IsSoundTables s.tables → HavePools s → HavePools (getbuf i s).call.state
 pools_getbuf i s o k =
     let semaphore = (pool_at s.parts.pools i).semaphore in
-    cond_both (nat_lt i (length s.parts.pools)) (await semaphore (GetBuf i) (take_buffer i) s) (refused s) (λ (h : CallResult). HavePools h.call.state)
+    cond_both (nat_lt i (length s.parts.pools)) (await semaphore (GetBuf i) (take_buffer i) s) (refused s)
+    (λ (h : CallResult). HavePools h.call.state)
     (λ b. pools_awaited (semaphore_at s.tables semaphore).tokens i s refl o k (ltb-true i (length s.parts.pools) b)) (λ _. k)
 
 -- The call goes on.
@@ -92,7 +94,8 @@ pools_put_back a i d o k h =
     let sound = k.each i h.within in
     subst (ArePools u) (sym (ap (λ (p : Parts). p.pools) (parts_signalled pool.semaphore e)))
     (are_pools_set t u pools i (with_free a pool) h.within (record { base = refl; size = refl; number = refl; semaphore = refl })
-    (pool_put_back t u i pool a sound h.held (owner_signalled pool.semaphore e pool.semaphore) (promised_signalled i pool.semaphore e o (pool_semaphore_within t pool.semaphore i o sound.owner)))
+    (pool_put_back t u i pool a sound h.held (owner_signalled pool.semaphore e pool.semaphore)
+    (promised_signalled i pool.semaphore e o (pool_semaphore_within t pool.semaphore i o sound.owner)))
     (λ j other. frame_pool_signalled i j other pool.semaphore e o sound.owner) (λ r. owner_signalled pool.semaphore e r) k)
 
 -- What is held at an address is given back.

@@ -35,7 +35,8 @@ pub pool_taken : (t u : Tables) (i : ℕ) (pool : BufferPool) (a : ℕ) (free : 
     → (semaphore_at u pool.semaphore).owner ≡ (semaphore_at t pool.semaphore).owner
     → suc (promised i pool.semaphore u) ≤ promised i pool.semaphore t → IsSoundPool u i (record pool { free = free })
 pool_taken t u i pool a free k e o h =
-    let all : AllByRecursion (λ x. is_in x (buffers pool) ≡ true) (a ∷ free) = subst (AllByRecursion (λ x. is_in x (buffers pool) ≡ true)) e k.buffers in
+    let all : AllByRecursion (λ x. is_in x (buffers pool) ≡ true)
+    (a ∷ free) = subst (AllByRecursion (λ x. is_in x (buffers pool) ≡ true)) e k.buffers in
     let len : length pool.free ≡ suc (length free) = ap length e in
     record {
       owner = o ∙ k.owner;
@@ -74,7 +75,8 @@ pub record KeepsPlace (old new : BufferPool) : Type 0 where
 -- the pools with another pool i meet no more than before
 apart_set : (pools : List BufferPool) (i : ℕ) (pool : BufferPool) → KeepsPlace (pool_at pools i) pool → (j k : ℕ)
     → ranges_meet (pool_at (set pools i pool) j).base (pool_bytes (pool_at (set pools i pool) j).size (pool_at (set pools i pool) j).number) (pool_at (set pools i pool) k).base (pool_bytes (pool_at (set pools i pool) k).size (pool_at (set pools i pool) k).number)
-    ≡ ranges_meet (pool_at pools j).base (pool_bytes (pool_at pools j).size (pool_at pools j).number) (pool_at pools k).base (pool_bytes (pool_at pools k).size (pool_at pools k).number)
+    ≡ ranges_meet (pool_at pools j).base (pool_bytes (pool_at pools j).size (pool_at pools j).number) (pool_at pools k).base
+    (pool_bytes (pool_at pools k).size (pool_at pools k).number)
 apart_set pools i pool p j k =
     let base = λ (n : ℕ). same_written (λ (x : BufferPool). x.base) pools i n pool no_pool p.base in
     let size = λ (n : ℕ). same_written (λ (x : BufferPool). x.size) pools i n pool no_pool p.size in

@@ -51,7 +51,8 @@ released_framed mine asks t u i c here = times-le (is_released_to_pool i) u.proc
     (λ p h. let x = process_at u p in
     let parts = and_parts (not (is_waiting x.state)) (asks_pool i x.rest) h in
     let same = c.rests p (ap asks (asks_pool_of i x.rest parts.1) ∙ here) in
-    and_from (not (is_waiting (state_at t p))) (asks_pool i (process_at t p).rest) (ap not (sym same.1) ∙ parts.0) (ap (asks_pool i) (sym same.0) ∙ parts.1))
+    and_from (not (is_waiting (state_at t p))) (asks_pool i (process_at t p).rest)
+    (ap not (sym same.1) ∙ parts.0) (ap (asks_pool i) (sym same.0) ∙ parts.1))
 
 -- What leaves pool i alone keeps what holds of it.
 pub sound_pool_framed : (mine : ℕ → Option Owner → Bool) (asks : Rest → Bool) (t u : Tables) (i : ℕ) (pool : BufferPool)

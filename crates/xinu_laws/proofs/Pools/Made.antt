@@ -42,7 +42,8 @@ none_released t pools i k h = times-none (is_released_to_pool i) t.processes no_
 -- two ranges meet in either order
 meet_swap : (a n b m : ℕ) → ranges_meet a n b m ≡ ranges_meet b m a n
 meet_swap a n b m =
-    ap (λ k. k && (nat_lt a (b + m) && nat_lt b (a + n))) (and_comm (nat_lt 0 n) (nat_lt 0 m)) ∙ ap (λ k. (nat_lt 0 m && nat_lt 0 n) && k) (and_comm (nat_lt a (b + m)) (nat_lt b (a + n)))
+    ap (λ k. k && (nat_lt a (b + m) && nat_lt b (a + n))) (and_comm (nat_lt 0 n) (nat_lt 0 m))
+    ∙ ap (λ k. (nat_lt 0 m && nat_lt 0 n) && k) (and_comm (nat_lt a (b + m)) (nat_lt b (a + n)))
 
 -- a range that meets no pool doesn't meet this one
 meets_none : (base bytes : ℕ) (pools : List BufferPool) (i : ℕ) → meets_pool base bytes pools ≡ false → i < length pools
@@ -68,7 +69,8 @@ module _ (t : Tables) (pools : List BufferPool) (pool : BufferPool) where
       → (j : ℕ) → j < length (pools ++ pool ∷ []) → P j (pool_at (pools ++ pool ∷ []) j)
   by_age P old new j h = ⊎_elim
       (λ (l : j < length pools). subst (P j) (sym (old_at j l)) (old j l))
-      (λ (l : length pools ≤ j). subst (λ n. P n (pool_at (pools ++ pool ∷ []) n)) (let e = length-append pools (pool ∷ []) in omega arith) (subst (P (length pools)) (sym new_at) new))
+      (λ (l : length pools ≤ j). subst (λ n. P n (pool_at (pools ++ pool ∷ []) n)) (let e = length-append pools (pool ∷ []) in omega arith)
+      (subst (P (length pools)) (sym new_at) new))
       (cases_lt j (length pools))
 
 -- what holds of the new pool
@@ -100,16 +102,20 @@ are_pools_made t pools sem base size n k few h free apart =
       few = omega arith;
       each = by_age t pools pool (IsSoundPool u)
           (λ j l. sound_pool_framed (is_pool j) (asks_pool j) t u j (pool_at pools j)
-          (frame_make_semaphore t sem (owner.Pool i) n (ap (is_pool j sem) free) (ne_eqb i j (λ e. absurd (omega arith)))) (λ sem. eq-eqb j j refl) (eq-eqb j j refl) (k.each j l))
+          (frame_make_semaphore t sem (owner.Pool i) n (ap (is_pool j sem) free) (ne_eqb i j (λ e. absurd (omega arith))))
+          (λ sem. eq-eqb j j refl) (eq-eqb j j refl) (k.each j l))
           (new_pool_sound t pools sem base size n k h);
       owned = λ r j. by_number r sem (λ s. (semaphore_at u s).owner ≡ Some (owner.Pool j) → (j < length all) × ((pool_at all j).semaphore ≡ s))
-          (λ e. let f : i ≡ j = (let g : (semaphore_at u sem).owner ≡ Some (owner.Pool i) = ap (λ (y : Semaphore). y.owner) (get_or-set_same t.semaphores sem x no_semaphore h) in cc) in
-          subst (λ m. (m < length all) × ((pool_at all m).semaphore ≡ sem)) f (omega arith, ap (λ (y : BufferPool). y.semaphore) (new_at t pools pool)))
+          (λ e. let f : i ≡ j = (let g : (semaphore_at u sem).owner ≡ Some
+          (owner.Pool i) = ap (λ (y : Semaphore). y.owner) (get_or-set_same t.semaphores sem x no_semaphore h) in cc) in
+          subst (λ m. (m < length all) × ((pool_at all m).semaphore ≡ sem)) f
+          (omega arith, ap (λ (y : BufferPool). y.semaphore) (new_at t pools pool)))
           (λ n e. let f = k.owned r j (sym (ap (λ (y : Semaphore). y.owner) (get_or-set_other t.semaphores sem r x no_semaphore n)) ∙ e) in
           ((let l = f.0 in omega arith), ap (λ (y : BufferPool). y.semaphore) (old_at t pools pool j f.0) ∙ f.1));
       made = λ q j e. (let f = k.made q j e in omega arith);
       apart = λ a b l within. by_age t pools pool (λ m y. a < m → ranges_meet (pool_at all a).base (pool_bytes (pool_at all a).size (pool_at all a).number) y.base (pool_bytes y.size y.number) ≡ false)
-          (λ m mh ah. subst (λ (y : BufferPool). ranges_meet y.base (pool_bytes y.size y.number) (pool_at pools m).base (pool_bytes (pool_at pools m).size (pool_at pools m).number) ≡ false)
+          (λ m mh ah. subst (λ (y : BufferPool). ranges_meet y.base (pool_bytes y.size y.number) (pool_at pools m).base
+          (pool_bytes (pool_at pools m).size (pool_at pools m).number) ≡ false)
           (sym (old_at t pools pool a (omega arith))) (k.apart a m ah mh))
           (λ ah. subst (λ (y : BufferPool). ranges_meet y.base (pool_bytes y.size y.number) base (pool_bytes size n) ≡ false) (sym (old_at t pools pool a ah)) (meets_none base (pool_bytes size n) pools a apart ah)) b within l;
     }
@@ -118,8 +124,11 @@ are_pools_made t pools sem base size n k few h free apart =
 pools_made_pool : (found : Option Grant) (sem : Option ℕ) (size n : ℕ) (s : Xinu) → free_semaphore s.tables ≡ sem → IsInside s.tables
     → HavePools s → length s.parts.pools < most_pools → HavePools (made_pool found sem size n s).call.state
 pools_made_pool (Some grant) (Some sem) size n s e o k few =
-    cond_both (meets_pool grant.address (pool_bytes size n) s.parts.pools) (refused s) (with_pool grant sem size n s) (λ (h : CallResult). HavePools h.call.state) (λ _. k)
-    (λ b. are_pools_made s.tables s.parts.pools sem grant.address size n k few (let h = search_within (λ r. not (is_some (semaphore_at s.tables r).owner)) 128 (s.tables.last_semaphore + 1) sem e in let f = o.semaphores in omega arith) (free_semaphore_free s.tables sem e) b)
+    cond_both (meets_pool grant.address (pool_bytes size n) s.parts.pools) (refused s) (with_pool grant sem size n s)
+    (λ (h : CallResult). HavePools h.call.state) (λ _. k)
+    (λ b. are_pools_made s.tables s.parts.pools sem grant.address size n k few
+    (let h = search_within (λ r. not (is_some (semaphore_at s.tables r).owner)) 128
+    (s.tables.last_semaphore + 1) sem e in let f = o.semaphores in omega arith) (free_semaphore_free s.tables sem e) b)
 pools_made_pool (Some grant) None size n s e o k few = k
 pools_made_pool None sem size n s e o k few = k
 
@@ -128,6 +137,9 @@ pub pools_mkbufpool : (size n : ℕ) (s : Xinu) → IsInside s.tables → HavePo
 pools_mkbufpool size n s o k =
     let fits = is_pool_size size n in
     let few = nat_lt (length s.parts.pools) most_pools in
-    cond_both (fits && few) (made_pool (take_memory (pool_bytes (whole_words size) n) s.parts.heap) (free_semaphore s.tables) (whole_words size) n s) (refused s) (λ (h : CallResult). HavePools h.call.state)
-    (λ b. pools_made_pool (take_memory (pool_bytes (whole_words size) n) s.parts.heap) (free_semaphore s.tables) (whole_words size) n s refl o k (ltb-true (length s.parts.pools) most_pools (and_parts fits few b).1))
+    cond_both (fits && few)
+    (made_pool (take_memory (pool_bytes (whole_words size) n) s.parts.heap) (free_semaphore s.tables) (whole_words size) n s) (refused s)
+    (λ (h : CallResult). HavePools h.call.state)
+    (λ b. pools_made_pool (take_memory (pool_bytes (whole_words size) n) s.parts.heap) (free_semaphore s.tables)
+    (whole_words size) n s refl o k (ltb-true (length s.parts.pools) most_pools (and_parts fits few b).1))
     (λ _. k)

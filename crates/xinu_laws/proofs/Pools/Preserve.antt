@@ -35,7 +35,8 @@ made_pool_preserves None sem size n s e c = refused_preserves s c
 -- Call 28.
 pub mkbufpool_preserves : (size n : ℕ) → Preserves (mkbufpool size n)
 mkbufpool_preserves size n s c = either_preserves (is_pool_size size n && nat_lt (length s.parts.pools) most_pools) _ _
-    (λ _. made_pool_preserves (take_memory (pool_bytes (whole_words size) n) s.parts.heap) (free_semaphore s.tables) (whole_words size) n s refl c) (λ _. refused_preserves s c)
+    (λ _. made_pool_preserves (take_memory (pool_bytes (whole_words size) n) s.parts.heap) (free_semaphore s.tables)
+    (whole_words size) n s refl c) (λ _. refused_preserves s c)
 
 -- the first of some free buffers is taken
 take_first_preserves : (free : List ℕ) (i : ℕ) → Preserves (take_first free i)
@@ -47,7 +48,8 @@ pub getbuf_preserves : (i : ℕ) (s : Xinu) → MayCall s → HavePools s → Is
 getbuf_preserves i s c k = either_preserves (nat_lt i (length s.parts.pools)) _ _
     (λ b. let pool = pool_at s.parts.pools i in
     let e = (k.each i (ltb-true i (length s.parts.pools) b)).owner in
-    await_preserves pool.semaphore (GetBuf i) (take_buffer i) s c (semaphore_within s.tables pool.semaphore c.tables.inside.semaphores (λ f. cc))
+    await_preserves pool.semaphore (GetBuf i) (take_buffer i) s c
+    (semaphore_within s.tables pool.semaphore c.tables.inside.semaphores (λ f. cc))
     (subst (λ (by : Option Owner). FitsOwner pool.semaphore by (GetBuf i)) (sym e) refl)
     (λ n f d. take_first_preserves pool.free i (record s { tables = with_tokens pool.semaphore n s.tables }) d))
     (λ _. refused_preserves s c)

@@ -30,7 +30,9 @@ waiters_stay_gone : (ps : List ℕ) (t : Tables) (sem : ℕ) → (semaphore_at t
     → (semaphore_at (ready_all ps t) sem).waiters ≡ []
 waiters_stay_gone [] t sem e = e
 waiters_stay_gone (p ∷ ps) t sem e =
-    waiters_stay_gone ps (ready p t) sem (ap (λ (x : Semaphore). x.waiters) (left_for_ready t p (in_state Ready (process_at t p)) (message_at t p) sem) ∙ ap (numbers_without p) e)
+    waiters_stay_gone ps (ready p t) sem
+    (ap (λ (x : Semaphore). x.waiters) (left_for_ready t p (in_state Ready (process_at t p)) (message_at t p) sem)
+    ∙ ap (numbers_without p) e)
 
 -- the same if a semaphore is emptied
 rests_emptied : (sem : ℕ) (d : CallState) → KeepsRests d.state.tables (emptied sem d).state.tables

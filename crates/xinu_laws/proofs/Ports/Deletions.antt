@@ -46,7 +46,8 @@ freed_buffer_keeps : (a : ℕ) (d : CallState) → IsSoundInside d → KeepsInsi
 freed_buffer_keeps a d k =
     let e = freed_buffer a d in
     let o = k.tables.inside in
-    let touches : Touches (reach on_pools) d.state e.state = freed_buffer_touches pools_reached a d o (own_semaphores d.state.tables d.state.parts.pools k.pools) in
+    let touches : Touches (reach on_pools) d.state e.state = freed_buffer_touches pools_reached a d o
+    (own_semaphores d.state.tables d.state.parts.pools k.pools) in
     let sound = sound_freed_buffer a d k.tables k.pools in
     record {
       sound = record {
@@ -97,7 +98,8 @@ deleted_keeps (Some queue) q how s c p a here =
     let d = disposed how queue.messages (start s) in
     let k = disposed_keeps how queue.messages (start s) (start_inside s c p a) in
     cond_both (nat_le how 1) (returns (deleted q queue (cleared how queue (start s))) (pos 0)) (refused s) PreservesAll
-    (λ _. renewed_keeps q d (deleted q queue (cleared how queue (start s))) k.sound (port_deleted q queue d k.sound.tables k.sound.ports (ap (λ l. (port_at l q).queue) k.ports ∙ here)))
+    (λ _. renewed_keeps q d (deleted q queue (cleared how queue (start s))) k.sound
+    (port_deleted q queue d k.sound.tables k.sound.ports (ap (λ l. (port_at l q).queue) k.ports ∙ here)))
     (λ _. refused_keeps s c p a)
 
 -- Call 32.
@@ -113,7 +115,8 @@ reset_keeps (Some queue) q how s c p a here =
     let d = disposed how queue.messages (start s) in
     let k = disposed_keeps how queue.messages (start s) (start_inside s c p a) in
     cond_both (nat_le how 1) (returns (emptied_port q queue (cleared how queue (start s))) (pos 0)) (refused s) PreservesAll
-    (λ _. renewed_keeps q d (emptied_port q queue (cleared how queue (start s))) k.sound (port_reset q queue d k.sound.tables k.sound.ports (ap (λ l. (port_at l q).queue) k.ports ∙ here)))
+    (λ _. renewed_keeps q d (emptied_port q queue (cleared how queue (start s))) k.sound
+    (port_reset q queue d k.sound.tables k.sound.ports (ap (λ l. (port_at l q).queue) k.ports ∙ here)))
     (λ _. refused_keeps s c p a)
 
 -- Call 33.

@@ -58,7 +58,8 @@ pub put_kept : (found : Option PortQueue) (q message : ℕ) (s : Xinu) → (port
 put_kept None q message s here o r a = a
 put_kept (Some queue) q message s here o r a =
     cond_both (nat_le most_nodes (nodes s.parts.ports)) (record { call = start s; answer = Panics })
-    (returns (signalled queue.receive (with_messages q queue (queue.messages ++ message ∷ []) (start s))) (pos 0)) (λ (h : CallResult). HasPorts h.call)
+    (returns (signalled queue.receive (with_messages q queue (queue.messages ++ message ∷ []) (start s))) (pos 0))
+    (λ (h : CallResult). HasPorts h.call)
     (λ _. a) (λ b. message_move queue q message s here (leb-false most_nodes (nodes s.parts.ports) b) o (r queue refl) a)
 
 -- the number of a port that isn't stale

@@ -132,7 +132,8 @@ module _ {mine : ℕ → Option Owner → Bool} {asks : Rest → Bool} where
     old = λ s e. sym (c.old s (ap (mine s) e ∙ v.owner s)) ∙ e;
     waiters = λ s p e h. (
       c.waiters s p (ap (mine s) e ∙ v.owner s) h,
-      (let f : FitsOwner s (Some (owner.Port q)) (process_at u p).rest = subst (λ k. FitsOwner s k (process_at u p).rest) ((c.kept s (ap (mine s) e ∙ v.owner s)).0 ∙ e) (o.rests s p h) in
+      (let f : FitsOwner s (Some (owner.Port q)) (process_at u p).rest = subst (λ k. FitsOwner s k (process_at u p).rest)
+          ((c.kept s (ap (mine s) e ∙ v.owner s)).0 ∙ e) (o.rests s p h) in
           (c.rests p (v.waits s (process_at u p).rest f)).0),
     );
   }
@@ -142,10 +143,12 @@ module _ {mine : ℕ → Option Owner → Bool} {asks : Rest → Bool} where
   keeps_counts_framed q t u v c = record {
     tokens = λ s e. (c.kept s (ap (mine s) e ∙ v.owner s)).1;
     senders = λ seq. times-le (is_released_sender q seq) u.processes t.processes no_process c.many
-        (λ p h. (let a = v.sends seq (process_at u p).rest (and_parts (not (is_waiting (process_at u p).state)) (sends_to q seq (process_at u p).rest) h).1 in
+        (λ p h. (let a = v.sends seq (process_at u p).rest
+        (and_parts (not (is_waiting (process_at u p).state)) (sends_to q seq (process_at u p).rest) h).1 in
         passes_on (sends_to q seq) (process_at t p) (process_at u p) (c.rests p a).0 (c.rests p a).1 h));
     receivers = λ seq. times-le (is_released_receiver q seq) u.processes t.processes no_process c.many
-        (λ p h. (let a = v.receives seq (process_at u p).rest (and_parts (not (is_waiting (process_at u p).state)) (receives_from q seq (process_at u p).rest) h).1 in
+        (λ p h. (let a = v.receives seq (process_at u p).rest
+        (and_parts (not (is_waiting (process_at u p).state)) (receives_from q seq (process_at u p).rest) h).1 in
         passes_on (receives_from q seq) (process_at t p) (process_at u p) (c.rests p a).0 (c.rests p a).1 h));
   }
 

@@ -59,7 +59,8 @@ port_made q n send receive s c a w unused ws fs wr fr =
     let at_send : semaphore_at v send ≡ record { owner = Some by; tokens = n; waiters = [] } = made_other u receive send 0 by (λ e. differ (sym e)) ∙ made_here t send n by c.tables ws in
     let at_receive = made_here u receive 0 by ku wr in
     let queue : PortQueue = record { first_count = n; send = send; receive = receive; messages = [] } in
-    let touches : Touches (beside_ports q) s (with_port q n send receive s).call.state = with_port_touches q (port_reached_alone q) n send receive s fs fr in
+    let touches : Touches (beside_ports q) s (with_port q n send receive s).call.state = with_port_touches q
+    (port_reached_alone q) n send receive s fs fr in
     let new : IsNewPort v q queue = record {
       send_owner = ap (λ (x : Semaphore). x.owner) at_send;
       receive_owner = ap (λ (x : Semaphore). x.owner) at_receive;
@@ -70,7 +71,8 @@ port_made q n send receive s c a w unused ws fs wr fr =
       no_tokens = ap (λ (x : Semaphore). x.tokens) at_receive;
       empty = refl;
     } in
-    let owned : (r : ℕ) → (semaphore_at v r).owner ≡ Some by → (r ≡ send) ⊎ (r ≡ receive) = λ r. by_number r receive (λ k. (semaphore_at v k).owner ≡ Some by → (k ≡ send) ⊎ (k ≡ receive))
+    let owned : (r : ℕ) → (semaphore_at v r).owner ≡ Some by → (r ≡ send) ⊎ (r ≡ receive) = λ r. by_number r receive
+    (λ k. (semaphore_at v k).owner ≡ Some by → (k ≡ send) ⊎ (k ≡ receive))
     (λ e. inr refl)
     (λ m e. by_number r send (λ k. (semaphore_at u k).owner ≡ Some by → (k ≡ send) ⊎ (k ≡ receive))
     (λ f. inl refl)
@@ -106,8 +108,10 @@ start_on_ports (Some q) None n s c a e f = refused_on_ports s c a
 start_on_ports (Some q) (Some send) n s c a e f =
     let unused = λ (r : ℕ). not (is_used (port_at s.parts.ports r)) in
     made_on_ports (free_semaphore (make_semaphore send (owner.Port q) n s.tables)) q n send s c a
-    (search_within unused most_ports s.parts.next_port q e) (unused_queue (port_at s.parts.ports q).queue (search_passes unused most_ports s.parts.next_port q e))
-    (search_within (λ r. not (is_some (semaphore_at s.tables r).owner)) 128 (s.tables.last_semaphore + 1) send f) (free_semaphore_free s.tables send f) refl
+    (search_within unused most_ports s.parts.next_port q e)
+    (unused_queue (port_at s.parts.ports q).queue (search_passes unused most_ports s.parts.next_port q e))
+    (search_within (λ r. not (is_some (semaphore_at s.tables r).owner)) 128 (s.tables.last_semaphore + 1) send f)
+    (free_semaphore_free s.tables send f) refl
 
 -- Call 31.
 pub ptcreate_on_ports : (count : ℤ) (s : Xinu) → MayCall s → ArePorts s.tables s.parts.ports → PreservesPorts (ptcreate count s)

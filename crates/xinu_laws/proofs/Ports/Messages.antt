@@ -26,8 +26,10 @@ pub ports_take_room : (q : ℕ) (queue : PortQueue) (n : ℕ) (t : Tables) (port
 ports_take_room q queue n t ports o here e a =
     let i = a.each q queue here in
     let y : Semaphore = record (semaphore_at t queue.send) { tokens = n } in
-    let f = ap (λ (x : Semaphore). x.tokens) (get_or-set_same t.semaphores queue.send y no_semaphore (port_semaphore_within q queue.send t o i.send_owner)) in
-    let g = ap (λ (x : Semaphore). x.tokens) (get_or-set_other t.semaphores queue.send queue.receive y no_semaphore (λ k. i.differ (sym k))) in
+    let f = ap (λ (x : Semaphore). x.tokens)
+    (get_or-set_same t.semaphores queue.send y no_semaphore (port_semaphore_within q queue.send t o i.send_owner)) in
+    let g = ap (λ (x : Semaphore). x.tokens)
+    (get_or-set_other t.semaphores queue.send queue.receive y no_semaphore (λ k. i.differ (sym k))) in
     let h = i.messages in
     let r = i.room in
     (ports_tokens q queue queue.send n t ports o i.send_owner here (record { messages = omega arith; room = omega arith }) a, record { room = omega arith })
@@ -39,7 +41,8 @@ pub ports_take_turn : (q : ℕ) (queue : PortQueue) (n : ℕ) (t : Tables) (port
 ports_take_turn q queue n t ports o here e a =
     let i = a.each q queue here in
     let y : Semaphore = record (semaphore_at t queue.receive) { tokens = n } in
-    let f = ap (λ (x : Semaphore). x.tokens) (get_or-set_same t.semaphores queue.receive y no_semaphore (port_semaphore_within q queue.receive t o i.receive_owner)) in
+    let f = ap (λ (x : Semaphore). x.tokens)
+    (get_or-set_same t.semaphores queue.receive y no_semaphore (port_semaphore_within q queue.receive t o i.receive_owner)) in
     let g = ap (λ (x : Semaphore). x.tokens) (get_or-set_other t.semaphores queue.receive queue.send y no_semaphore i.differ) in
     let h = i.messages in
     let r = i.room in
@@ -111,7 +114,9 @@ message_go_on q seq p queue m t i r k =
 -- a port in use has a number of the table
 pub port_within : (q : ℕ) (queue : PortQueue) (ports : List MessagePort) → (port_at ports q).queue ≡ Some queue → q < length ports
 port_within q queue ports e =
-    ⊎_elim (λ (h : q < length ports). h) (λ (h : length ports ≤ q). (let f = ap (λ (x : MessagePort). x.queue) (get_or_past ports q no_port h) in absurd (cc))) (cases_lt q (length ports))
+    ⊎_elim (λ (h : q < length ports). h)
+    (λ (h : length ports ≤ q). (let f = ap (λ (x : MessagePort). x.queue) (get_or_past ports q no_port h) in absurd (cc)))
+    (cases_lt q (length ports))
 
 -- port q with other messages
 abbrev pub with_port_messages : ℕ → PortQueue → List ℕ → List MessagePort → List MessagePort

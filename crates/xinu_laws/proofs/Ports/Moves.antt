@@ -33,9 +33,11 @@ keeps_port_tokens q t sem n i =
     let u = with_semaphore sem y t in
     let same = get_or-set_same t.semaphores sem y no_semaphore i in
     let other = λ (r : ℕ) (k : r ≢ sem). get_or-set_other t.semaphores sem r y no_semaphore k in
-    let owners : (r : ℕ) → (semaphore_at u r).owner ≡ (semaphore_at t r).owner = λ r. by_number r sem (λ k. (semaphore_at u k).owner ≡ (semaphore_at t k).owner)
+    let owners : (r : ℕ) → (semaphore_at u r).owner ≡ (semaphore_at t r).owner = λ r. by_number r sem
+    (λ k. (semaphore_at u k).owner ≡ (semaphore_at t k).owner)
     (ap (λ (x : Semaphore). x.owner) same) (λ k. ap (λ (x : Semaphore). x.owner) (other r k)) in
-    let waiters : (r : ℕ) → (semaphore_at u r).waiters ≡ (semaphore_at t r).waiters = λ r. by_number r sem (λ k. (semaphore_at u k).waiters ≡ (semaphore_at t k).waiters)
+    let waiters : (r : ℕ) → (semaphore_at u r).waiters ≡ (semaphore_at t r).waiters = λ r. by_number r sem
+    (λ k. (semaphore_at u k).waiters ≡ (semaphore_at t k).waiters)
     (ap (λ (x : Semaphore). x.waiters) same) (λ k. ap (λ (x : Semaphore). x.waiters) (other r k)) in
     record {
       kept = λ r e. owners r ∙ e;
@@ -51,12 +53,15 @@ keeps_rests_semaphore t sem y = record { rests = λ p h. refl }
 pub keeps_port_left : (q p : ℕ) (t u : Tables) → ((sem : ℕ) → semaphore_at u sem ≡ semaphore_without p (semaphore_at t sem))
     → ((r : ℕ) → r ≢ p → process_at u r ≡ process_at t r) → KeepsPort q t u
 keeps_port_left q p t u semaphores others =
-    let owners : (sem : ℕ) → (semaphore_at u sem).owner ≡ (semaphore_at t sem).owner = λ sem. ap (λ (x : Semaphore). x.owner) (semaphores sem) in
+    let owners : (sem : ℕ) → (semaphore_at u sem).owner ≡ (semaphore_at t sem).owner = λ sem. ap (λ (x : Semaphore). x.owner)
+    (semaphores sem) in
     record {
       kept = λ sem e. owners sem ∙ e;
       old = λ sem e. sym (owners sem) ∙ e;
       waiters = λ sem r e h. (let k : 0 < count_in r (numbers_without p (semaphore_at t sem).waiters) = subst (λ (x : Semaphore). 0 < count_in r x.waiters) (semaphores sem) h in
-          by_number r p (λ v. 0 < count_in v (numbers_without p (semaphore_at t sem).waiters) → (0 < count_in v (semaphore_at t sem).waiters) × ((process_at u v).rest ≡ (process_at t v).rest))
+          by_number r p (λ v. 0 < count_in v
+          (numbers_without p (semaphore_at t sem).waiters) → (0 < count_in v
+          (semaphore_at t sem).waiters) × ((process_at u v).rest ≡ (process_at t v).rest))
           (λ z. absurd (let n = numbers_without_same p (semaphore_at t sem).waiters in omega arith))
           (λ n z. (subst (λ c. 0 < c) (numbers_without_other r p (semaphore_at t sem).waiters n) z, ap (λ (x : Process). x.rest) (others r n))) k);
     }
@@ -67,7 +72,8 @@ pub keeps_rests_set : (t u : Tables) (p : ℕ) (x : Process) → p < length t.pr
 keeps_rests_set t u p x i e h = record {
   rests = λ r. subst (λ l. asks_port (get_or l r no_process).rest ≡ true → (get_or l r no_process).rest ≡ (process_at t r).rest) (sym e)
       (by_number r p (λ k. asks_port (get_or (set t.processes p x) k no_process).rest ≡ true → (get_or (set t.processes p x) k no_process).rest ≡ (process_at t k).rest)
-      (λ a. (let f = get_or-set_same t.processes p x no_process i in ap (λ (y : Process). y.rest) f ∙ h (sym (ap (λ (y : Process). asks_port y.rest) f) ∙ a)))
+      (λ a. (let f = get_or-set_same t.processes p x no_process i in ap (λ (y : Process). y.rest) f
+      ∙ h (sym (ap (λ (y : Process). asks_port y.rest) f) ∙ a)))
       (λ n a. ap (λ (y : Process). y.rest) (get_or-set_other t.processes p r x no_process n)));
 }
 

@@ -64,29 +64,36 @@ port_deleted q queue d k a here =
     let v = with_semaphore queue.receive no_semaphore u in
     let send : (semaphore_at t queue.send).owner ≡ Some (owner.Port q) = c.owners queue.send ∙ i.send_owner in
     let other = written_other t queue.send queue.receive no_semaphore (λ f. i.differ (sym f)) in
-    let receive : (semaphore_at u queue.receive).owner ≡ Some (owner.Port q) = ap (λ (x : Semaphore). x.owner) other ∙ c.owners queue.receive ∙ i.receive_owner in
+    let receive : (semaphore_at u queue.receive).owner ≡ Some (owner.Port q) = ap (λ (x : Semaphore). x.owner) other
+    ∙ c.owners queue.receive ∙ i.receive_owner in
     let ws = port_semaphore q queue.send t c.tables send in
     let ku = sound_given_up t queue.send c.tables ws.0 ws.1 c.no_senders in
     let wr = port_semaphore q queue.receive u ku receive in
     let kv = sound_given_up u queue.receive ku wr.0 wr.1 (ap (λ (x : Semaphore). x.waiters) other ∙ c.no_receivers) in
     let touches : (f : Reach) → HasPort f q → Touches f d.state (deleted q queue e).state = λ f g.
-    touches_trans (port_cleared_touches q g queue d k i.send_owner i.receive_owner) (deleted_touches q g queue e send (c.owners queue.receive ∙ i.receive_owner)) in
-    let gone : (sem : ℕ) → (semaphore_at v sem).owner ≢ Some (owner.Port q) = λ sem. by_number sem queue.receive (λ r. (semaphore_at v r).owner ≢ Some (owner.Port q))
+    touches_trans (port_cleared_touches q g queue d k i.send_owner i.receive_owner)
+    (deleted_touches q g queue e send (c.owners queue.receive ∙ i.receive_owner)) in
+    let gone : (sem : ℕ) → (semaphore_at v sem).owner ≢ Some (owner.Port q) = λ sem. by_number sem queue.receive
+    (λ r. (semaphore_at v r).owner ≢ Some (owner.Port q))
     (λ f. (let g = ap (λ (x : Semaphore). x.owner) (written_here u queue.receive no_semaphore ku wr.0) in cc))
     (λ n f. by_number sem queue.send (λ r. (semaphore_at u r).owner ≢ Some (owner.Port q))
     (λ g. (let h = ap (λ (x : Semaphore). x.owner) (written_here t queue.send no_semaphore c.tables ws.0) in cc))
-    (λ m g. (let h = a.owned sem q (sym (c.owners sem) ∙ sym (ap (λ (x : Semaphore). x.owner) (written_other t queue.send sem no_semaphore m)) ∙ g) in
+    (λ m g. (let h = a.owned sem q
+    (sym (c.owners sem) ∙ sym (ap (λ (x : Semaphore). x.owner) (written_other t queue.send sem no_semaphore m)) ∙ g) in
     let same : h.0 ≡ queue = (let h1 = h.1 in cc) in
-    ⊎_elim (λ (x : sem ≡ h.0.send). m (x ∙ ap (λ (y : PortQueue). y.send) same)) (λ (x : sem ≡ h.0.receive). n (x ∙ ap (λ (y : PortQueue). y.receive) same)) h.2))
+    ⊎_elim (λ (x : sem ≡ h.0.send). m (x ∙ ap (λ (y : PortQueue). y.send) same))
+    (λ (x : sem ≡ h.0.receive). n (x ∙ ap (λ (y : PortQueue). y.receive) same)) h.2))
     (sym (ap (λ (x : Semaphore). x.owner) (written_other u queue.receive sem no_semaphore n)) ∙ f)) in
     record {
       tables = kv;
       harts = c.harts;
       released = c.released;
       ports = subst (λ l. ArePorts v (renewed q None l)) (sym (ap (λ (p : Parts). p.ports) c.parts))
-          (ports_renewed q None d.state.tables v d.state.parts.ports (let w = port_within q queue d.state.parts.ports here in let m = a.many in omega arith) kv.inside
+          (ports_renewed q None d.state.tables v d.state.parts.ports
+          (let w = port_within q queue d.state.parts.ports here in let m = a.many in omega arith) kv.inside
           (touches (beside_ports q) (port_reached_alone q)).frame
-          (keeps_rests_trans d.state.tables t v c.rests (keeps_rests_trans t u v (keeps_rests_semaphore t queue.send no_semaphore) (keeps_rests_semaphore u queue.receive no_semaphore)))
+          (keeps_rests_trans d.state.tables t v c.rests
+          (keeps_rests_trans t u v (keeps_rests_semaphore t queue.send no_semaphore) (keeps_rests_semaphore u queue.receive no_semaphore)))
           (λ x f. cc) (λ sem f. absurd (gone sem f)) refl a);
       touches = touches (reach on_ports) (port_reached q);
     }
@@ -109,16 +116,20 @@ port_reset q queue d k a here =
     let next : PortQueue = record queue { messages = [] } in
     let u = with_tokens queue.send n t in
     let v = with_tokens queue.receive 0 u in
-    let owners : (r : ℕ) → (semaphore_at v r).owner ≡ (semaphore_at d.state.tables r).owner = λ r. owner_tokens u queue.receive 0 r ∙ owner_tokens t queue.send n r ∙ c.owners r in
-    let waiters : (r : ℕ) → (semaphore_at v r).waiters ≡ (semaphore_at t r).waiters = λ r. waiters_tokens u queue.receive 0 r ∙ waiters_tokens t queue.send n r in
+    let owners : (r : ℕ) → (semaphore_at v r).owner ≡ (semaphore_at d.state.tables r).owner = λ r. owner_tokens u queue.receive 0 r
+    ∙ owner_tokens t queue.send n r ∙ c.owners r in
+    let waiters : (r : ℕ) → (semaphore_at v r).waiters ≡ (semaphore_at t r).waiters = λ r. waiters_tokens u queue.receive 0 r
+    ∙ waiters_tokens t queue.send n r in
     let send : (semaphore_at t queue.send).owner ≡ Some (owner.Port q) = c.owners queue.send ∙ i.send_owner in
-    let receive : (semaphore_at u queue.receive).owner ≡ Some (owner.Port q) = owner_tokens t queue.send n queue.receive ∙ c.owners queue.receive ∙ i.receive_owner in
+    let receive : (semaphore_at u queue.receive).owner ≡ Some (owner.Port q) = owner_tokens t queue.send n queue.receive
+    ∙ c.owners queue.receive ∙ i.receive_owner in
     let ws = port_semaphore q queue.send t c.tables send in
     let ku = sound_tokens t queue.send n c.tables ws.0 (λ f. cc) (inr c.no_senders) in
     let wr = port_semaphore q queue.receive u ku receive in
     let kv = sound_tokens u queue.receive 0 ku wr.0 (λ f. cc) (inl refl) in
     let touches : (f : Reach) → HasPort f q → Touches f d.state (emptied_port q queue e).state = λ f g.
-    touches_trans (port_cleared_touches q g queue d k i.send_owner i.receive_owner) (emptied_port_touches q g queue e send (c.owners queue.receive ∙ i.receive_owner)) in
+    touches_trans (port_cleared_touches q g queue d k i.send_owner i.receive_owner)
+    (emptied_port_touches q g queue e send (c.owners queue.receive ∙ i.receive_owner)) in
     let y : Semaphore = record (semaphore_at t queue.send) { tokens = n } in
     let z : Semaphore = record (semaphore_at u queue.receive) { tokens = 0 } in
     let new : IsNewPort v q next = record {
@@ -136,9 +147,11 @@ port_reset q queue d k a here =
       harts = c.harts;
       released = c.released;
       ports = subst (λ l. ArePorts v (renewed q (Some next) l)) (sym (ap (λ (p : Parts). p.ports) c.parts))
-          (ports_renewed q (Some next) d.state.tables v d.state.parts.ports (let w = port_within q queue d.state.parts.ports here in let m = a.many in omega arith) kv.inside
+          (ports_renewed q (Some next) d.state.tables v d.state.parts.ports
+          (let w = port_within q queue d.state.parts.ports here in let m = a.many in omega arith) kv.inside
           (touches (beside_ports q) (port_reached_alone q)).frame
-          (keeps_rests_trans d.state.tables t v c.rests (keeps_rests_trans t u v (keeps_rests_semaphore t queue.send y) (keeps_rests_semaphore u queue.receive z)))
+          (keeps_rests_trans d.state.tables t v c.rests
+          (keeps_rests_trans t u v (keeps_rests_semaphore t queue.send y) (keeps_rests_semaphore u queue.receive z)))
           (λ x f. subst (λ (w : PortQueue). IsNewPort v q w) (let g : next ≡ x = cc in g) new)
           (λ s f. (let h = a.owned s q (sym (owners s) ∙ f) in
           let same : h.0 ≡ queue = (let h1 = h.1 in cc) in

@@ -162,13 +162,16 @@ ports_renewed q x t u ports w o c rests new owned none a =
     let others = λ (r : ℕ) (n : r ≢ q). get_or-set_other ports q r y no_port n in
     let m = nodes-set ports q y i in
     let few = a.few in
-    let later : (r : ℕ) → (port_at ports r).seq ≤ (port_at now r).seq = λ r. by_number r q (λ v. (port_at ports v).seq ≤ (port_at now v).seq)
-    (let e = ap (λ (z : MessagePort). z.seq) same in omega arith) (λ n. (let e = ap (λ (z : MessagePort). z.seq) (others r n) in omega arith)) in
+    let later : (r : ℕ) → (port_at ports r).seq ≤ (port_at now r).seq = λ r. by_number r q
+    (λ v. (port_at ports v).seq ≤ (port_at now v).seq)
+    (let e = ap (λ (z : MessagePort). z.seq) same in omega arith)
+    (λ n. (let e = ap (λ (z : MessagePort). z.seq) (others r n) in omega arith)) in
     record {
       many = length-set ports q y ∙ a.many;
       few = omega arith;
       each = λ r. by_number r q (λ v. (queue : PortQueue) → (port_at now v).queue ≡ Some queue → IsSoundPort u v (port_at now v).seq queue)
-          (λ queue e. subst (λ (z : MessagePort). IsSoundPort u q z.seq queue) (sym same) (sound_new_port q queue t u ports rests a (new queue (sym (ap (λ (z : MessagePort). z.queue) same) ∙ e))))
+          (λ queue e. subst (λ (z : MessagePort). IsSoundPort u q z.seq queue) (sym same)
+          (sound_new_port q queue t u ports rests a (new queue (sym (ap (λ (z : MessagePort). z.queue) same) ∙ e))))
           (λ n queue e. (let k = a.each r queue (sym (ap (λ (z : MessagePort). z.queue) (others r n)) ∙ e) in
           let v = covers_other q r n in
           subst (λ (z : MessagePort). IsSoundPort u r z.seq queue) (sym (others r n))

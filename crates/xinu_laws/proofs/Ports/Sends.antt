@@ -62,7 +62,8 @@ put_on_ports (Some queue) q message s c a here r =
         → PreservesPorts (cond full (record { call = start s; answer = Panics }) (returns (signalled queue.receive (with_messages q queue (queue.messages ++ message ∷ []) (start s))) (pos 0)))
     go true p = record { preserved = record { tables = c.tables; harts = c.harts; released = tt }; ports = a }
     go false p =
-        let w = signal_on_ports q queue.receive (pos 0) (with_messages q queue (queue.messages ++ message ∷ []) (start s)) c.tables c.harts tt (a.each q queue here).receive_owner p in
+        let w = signal_on_ports q queue.receive (pos 0)
+        (with_messages q queue (queue.messages ++ message ∷ []) (start s)) c.tables c.harts tt (a.each q queue here).receive_owner p in
         record { preserved = w.preserved; ports = w.ports }
 
 -- A sender that has its token goes on.
@@ -81,7 +82,8 @@ take_first_on_ports : (messages : List ℕ) (queue : PortQueue) (q : ℕ) (s : X
     → PreservesPorts (take_message messages queue q s)
 take_first_on_ports [] queue q s c a here e r = refused_on_ports s c a
 take_first_on_ports (message ∷ messages) queue q s c a here e r =
-    let w = signal_on_ports q queue.send (signed message) (with_messages q queue messages (start s)) c.tables c.harts tt (a.each q queue here).send_owner
+    let w = signal_on_ports q queue.send (signed message) (with_messages q queue messages (start s)) c.tables c.harts tt
+    (a.each q queue here).send_owner
     (take_first_kept (message ∷ messages) queue q s here e c.tables.inside r a) in
     record { preserved = w.preserved; ports = w.ports }
 
@@ -117,7 +119,8 @@ take_on_port zero q sem queue left then_ s c a here e o fits call go =
       ports = ports_wait q queue sem left t.current (message_at t t.current) t s.parts.ports c.tables.inside (current_within t c.tables) here o call a;
     }
 take_on_port (suc n) q sem queue left then_ s c a here e o fits call go =
-    (go n (sym e) (tables_may_call s (with_tokens sem n s.tables) c (sound_token_taken s.tables sem n c.tables (owned_within q sem s.tables c.tables o) (sym e)) refl))
+    (go n (sym e) (tables_may_call s (with_tokens sem n s.tables) c
+    (sound_token_taken s.tables sem n c.tables (owned_within q sem s.tables c.tables o) (sym e)) refl))
 
 -- a message for a port that is in use or not
 sent_on_ports : (found : Option PortQueue) (q message : ℕ) (s : Xinu) → MayCall s → ArePorts s.tables s.parts.ports
@@ -126,12 +129,14 @@ sent_on_ports None q message s c a here = refused_on_ports s c a
 sent_on_ports (Some queue) q message s c a here =
     let i = a.each q queue here in
     let ticket = ticket_of q queue.send s in
-    take_on_port (semaphore_at s.tables queue.send).tokens q queue.send queue (PtSend ticket message) (finish_send ticket message) s c a here refl i.send_owner (refl, refl)
+    take_on_port (semaphore_at s.tables queue.send).tokens q queue.send queue (PtSend ticket message)
+    (finish_send ticket message) s c a here refl i.send_owner (refl, refl)
     (sender_call q queue message s.parts.ports i.differ)
     (λ n e k. let u = record s { tables = with_tokens queue.send n s.tables } in
     let r = ports_take_room q queue n s.tables s.parts.ports c.tables.inside here e a in
     finish_send_on_ports ticket message u k r.0
-    (λ other f g. subst (HasRoom u.tables q (port_at s.parts.ports q).seq) (let h : Some queue ≡ Some other = sym here ∙ f in let v : queue ≡ other = cc in v) r.1))
+    (λ other f g. subst (HasRoom u.tables q (port_at s.parts.ports q).seq)
+    (let h : Some queue ≡ Some other = sym here ∙ f in let v : queue ≡ other = cc in v) r.1))
 
 -- Call 34.
 pub ptsend_on_ports : (q message : ℕ) (s : Xinu) → MayCall s → ArePorts s.tables s.parts.ports → PreservesPorts (ptsend q message s)
@@ -144,12 +149,14 @@ received_on_ports None q s c a here = refused_on_ports s c a
 received_on_ports (Some queue) q s c a here =
     let i = a.each q queue here in
     let ticket = ticket_of q queue.receive s in
-    take_on_port (semaphore_at s.tables queue.receive).tokens q queue.receive queue (PtRecv ticket) (finish_receive ticket) s c a here refl i.receive_owner (refl, refl)
+    take_on_port (semaphore_at s.tables queue.receive).tokens q queue.receive queue (PtRecv ticket)
+    (finish_receive ticket) s c a here refl i.receive_owner (refl, refl)
     (receiver_call q queue s.parts.ports i.differ)
     (λ n e k. let u = record s { tables = with_tokens queue.receive n s.tables } in
     let r = ports_take_turn q queue n s.tables s.parts.ports c.tables.inside here e a in
     finish_receive_on_ports ticket u k r.0
-    (λ other f g. subst (HasMessage u.tables q (port_at s.parts.ports q).seq) (let h : Some queue ≡ Some other = sym here ∙ f in let v : queue ≡ other = cc in v) r.1))
+    (λ other f g. subst (HasMessage u.tables q (port_at s.parts.ports q).seq)
+    (let h : Some queue ≡ Some other = sym here ∙ f in let v : queue ≡ other = cc in v) r.1))
 
 -- Call 35.
 pub ptrecv_on_ports : (q : ℕ) (s : Xinu) → MayCall s → ArePorts s.tables s.parts.ports → PreservesPorts (ptrecv q s)
@@ -169,10 +176,12 @@ go_on_ptsend_on_ports ticket message s c a e =
     let u = goes_on (held s) s in
     let x = process_at t t.current in
     let w : t.current < length t.processes = (let f = current_within t c.tables in let g = c.tables.inside.processes in omega arith) in
-    let released : is_released_sender ticket.port ticket.seq x ≡ true = and_from (not (is_waiting x.state)) (sends_to ticket.port ticket.seq x.rest)
+    let released : is_released_sender ticket.port ticket.seq x ≡ true = and_from (not (is_waiting x.state))
+    (sends_to ticket.port ticket.seq x.rest)
     (ap (λ v. not (is_waiting v)) c.tables.runs) (ap (sends_to ticket.port ticket.seq) e ∙ own_ticket ticket) in
     (finish_send_on_ports ticket message u (goes_on_may_call (held s) s c) (ports_go_on t.current (held s) t s.parts.ports w a)
-    (λ queue f g. room_go_on ticket.port ticket.seq t.current queue (held s) t w released (subst (λ n. IsSoundPort t ticket.port n queue) g (a.each ticket.port queue f))))
+    (λ queue f g. room_go_on ticket.port ticket.seq t.current queue (held s) t w released
+    (subst (λ n. IsSoundPort t ticket.port n queue) g (a.each ticket.port queue f))))
 
 -- A receiver goes on that waited.
 pub go_on_ptrecv_on_ports : (ticket : PortTicket) (s : Xinu) → MayCall s → ArePorts s.tables s.parts.ports
@@ -182,7 +191,9 @@ go_on_ptrecv_on_ports ticket s c a e =
     let u = goes_on (held s) s in
     let x = process_at t t.current in
     let w : t.current < length t.processes = (let f = current_within t c.tables in let g = c.tables.inside.processes in omega arith) in
-    let released : is_released_receiver ticket.port ticket.seq x ≡ true = and_from (not (is_waiting x.state)) (receives_from ticket.port ticket.seq x.rest)
+    let released : is_released_receiver ticket.port ticket.seq x ≡ true = and_from (not (is_waiting x.state))
+    (receives_from ticket.port ticket.seq x.rest)
     (ap (λ v. not (is_waiting v)) c.tables.runs) (ap (receives_from ticket.port ticket.seq) e ∙ own_ticket ticket) in
     (finish_receive_on_ports ticket u (goes_on_may_call (held s) s c) (ports_go_on t.current (held s) t s.parts.ports w a)
-    (λ queue f g. message_go_on ticket.port ticket.seq t.current queue (held s) t w released (subst (λ n. IsSoundPort t ticket.port n queue) g (a.each ticket.port queue f))))
+    (λ queue f g. message_go_on ticket.port ticket.seq t.current queue (held s) t w released
+    (subst (λ n. IsSoundPort t ticket.port n queue) g (a.each ticket.port queue f))))

@@ -62,8 +62,10 @@ pub ports_tokens : (q : ℕ) (queue : PortQueue) (sem n : ℕ) (t : Tables) (por
     → (semaphore_at t sem).owner ≡ Some (owner.Port q) → (port_at ports q).queue ≡ Some queue
     → HasCounts (with_tokens sem n t) q (port_at ports q).seq queue → ArePorts t ports → ArePorts (with_tokens sem n t) ports
 ports_tokens q queue sem n t ports o e here c a = ports_touched q queue t (with_tokens sem n t) ports
-    (λ r. keeps_port_tokens r t sem n (port_semaphore_within q sem t o e)) (keeps_rests_semaphore t sem (record (semaphore_at t sem) { tokens = n }))
-    (λ r k. keeps_counts_semaphore r t sem (record (semaphore_at t sem) { tokens = n }) (other_owner q r (semaphore_at t sem).owner k e)) here c a
+    (λ r. keeps_port_tokens r t sem n (port_semaphore_within q sem t o e))
+    (keeps_rests_semaphore t sem (record (semaphore_at t sem) { tokens = n }))
+    (λ r k. keeps_counts_semaphore r t sem (record (semaphore_at t sem) { tokens = n })
+    (other_owner q r (semaphore_at t sem).owner k e)) here c a
 
 -- One who waits on a semaphore of port q wakes.
 pub ports_ready : (q : ℕ) (queue : PortQueue) (sem p : ℕ) (t : Tables) (ports : List MessagePort) → IsInside t
@@ -71,8 +73,10 @@ pub ports_ready : (q : ℕ) (queue : PortQueue) (sem p : ℕ) (t : Tables) (port
     → HasCounts (ready p t) q (port_at ports q).seq queue → ArePorts t ports → ArePorts (ready p t) ports
 ports_ready q queue sem p t ports o e h here c a =
     let i = waiter_within sem p t o h in
-    let f : FitsOwner sem (Some (owner.Port q)) (process_at t p).rest = subst (λ k. FitsOwner sem k (process_at t p).rest) e (o.rests sem p h) in
-    ports_touched q queue t (ready p t) ports (λ r. keeps_port_ready r p t) (keeps_rests_ready p t i) (λ r k. keeps_counts_ready q r sem p t i k f) here c a
+    let f : FitsOwner sem (Some (owner.Port q)) (process_at t p).rest = subst (λ k. FitsOwner sem k (process_at t p).rest) e
+    (o.rests sem p h) in
+    ports_touched q queue t (ready p t) ports (λ r. keeps_port_ready r p t) (keeps_rests_ready p t i)
+    (λ r k. keeps_counts_ready q r sem p t i k f) here c a
 
 -- a message of port q has no token and no released receiver
 pub record HasMessage (t : Tables) (q seq : ℕ) (queue : PortQueue) : Type 0 where
@@ -123,7 +127,8 @@ signal_receive q queue [] d o w here m a =
     let i = a.each q queue here in
     let n = (semaphore_at t queue.receive).tokens + 1 in
     let y : Semaphore = record (semaphore_at t queue.receive) { tokens = n } in
-    let e = ap (λ (x : Semaphore). x.tokens) (get_or-set_same t.semaphores queue.receive y no_semaphore (port_semaphore_within q queue.receive t o i.receive_owner)) in
+    let e = ap (λ (x : Semaphore). x.tokens)
+    (get_or-set_same t.semaphores queue.receive y no_semaphore (port_semaphore_within q queue.receive t o i.receive_owner)) in
     let f = ap (λ (x : Semaphore). x.tokens) (get_or-set_other t.semaphores queue.receive queue.send y no_semaphore i.differ) in
     let g = m.messages in
     let h = i.room in
@@ -144,8 +149,10 @@ signal_send q queue [] d o w here m a =
     let i = a.each q queue here in
     let n = (semaphore_at t queue.send).tokens + 1 in
     let y : Semaphore = record (semaphore_at t queue.send) { tokens = n } in
-    let e = ap (λ (x : Semaphore). x.tokens) (get_or-set_same t.semaphores queue.send y no_semaphore (port_semaphore_within q queue.send t o i.send_owner)) in
-    let f = ap (λ (x : Semaphore). x.tokens) (get_or-set_other t.semaphores queue.send queue.receive y no_semaphore (λ k. i.differ (sym k))) in
+    let e = ap (λ (x : Semaphore). x.tokens)
+    (get_or-set_same t.semaphores queue.send y no_semaphore (port_semaphore_within q queue.send t o i.send_owner)) in
+    let f = ap (λ (x : Semaphore). x.tokens)
+    (get_or-set_other t.semaphores queue.send queue.receive y no_semaphore (λ k. i.differ (sym k))) in
     let g = m.room in
     let h = i.messages in
     ports_tokens q queue queue.send n t d.state.parts.ports o i.send_owner here (record { messages = omega arith; room = omega arith }) a

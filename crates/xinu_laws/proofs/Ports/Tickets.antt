@@ -66,7 +66,8 @@ pub fresh_sender_answers : (ticket : PortTicket) (message : ℕ) (s : Xinu) → 
 fresh_sender_answers ticket message s h =
     let u = goes_on (held s) s in
     let put = put_message (port_at s.parts.ports ticket.port).queue ticket.port message u in
-    ap (λ b. (cond b (refused u) put).answer) h ∙ put_answers (port_at s.parts.ports ticket.port).queue ticket.port message u (fresh_used ticket s.parts.ports h)
+    ap (λ b. (cond b (refused u) put).answer) h
+    ∙ put_answers (port_at s.parts.ports ticket.port).queue ticket.port message u (fresh_used ticket s.parts.ports h)
 
 -- a message that is taken of some
 take_answers : (messages : List ℕ) (queue : PortQueue) (q : ℕ) (s : Xinu) → queue.messages ≡ messages → 0 < length messages
@@ -89,12 +90,14 @@ fresh_receiver_answers ticket s sound e h =
     let x = process_at t t.current in
     let found = (port_at s.parts.ports ticket.port).queue in
     let w = current_within t sound.tables in
-    let released : is_released_receiver ticket.port ticket.seq x ≡ true = and_from (not (is_waiting x.state)) (receives_from ticket.port ticket.seq x.rest)
+    let released : is_released_receiver ticket.port ticket.seq x ≡ true = and_from (not (is_waiting x.state))
+    (receives_from ticket.port ticket.seq x.rest)
     (ap (λ v. not (is_waiting v)) sound.tables.runs) (ap (receives_from ticket.port ticket.seq) e ∙ own_ticket ticket) in
     let some : (queue : PortQueue) → found ≡ Some queue → 0 < length queue.messages = λ queue f.
     (let many = sound.tables.inside.processes in
     let i = sound.ports.each ticket.port queue f in
-    let k = (message_go_on ticket.port (port_at s.parts.ports ticket.port).seq t.current queue (held s) t (omega arith) (subst (λ n. is_released_receiver ticket.port n x ≡ true) (sym (fresh_seq ticket s.parts.ports h)) released) i).messages in
+    let k = (message_go_on ticket.port (port_at s.parts.ports ticket.port).seq t.current queue (held s) t (omega arith)
+    (subst (λ n. is_released_receiver ticket.port n x ≡ true) (sym (fresh_seq ticket s.parts.ports h)) released) i).messages in
     omega arith) in
     subst (λ b. AnswersFirst found (cond b (refused u) (take_from found ticket.port u)).answer) (sym h)
     (from_answers found ticket.port u (fresh_used ticket s.parts.ports h) some)

@@ -24,7 +24,8 @@ IsHereOr t c s p r = ((p ≡ c) × (r ≡ s)) ⊎ ((p ≢ c) × (0 < count_in p 
 -- who waits if c left waited there before
 waits_where_left : (t : Tables) (c sem p r : ℕ) → 0 < count_in p (numbers_without c (semaphore_at t r).waiters) → IsHereOr t c sem p r
 waits_where_left t c sem p r h = ⊎_elim
-    (λ (e : p ≡ c). (let f : 0 < count_in c (numbers_without c (semaphore_at t r).waiters) = subst (λ k. 0 < count_in k (numbers_without c (semaphore_at t r).waiters)) e h in
+    (λ (e : p ≡ c). (let f : 0 < count_in c
+    (numbers_without c (semaphore_at t r).waiters) = subst (λ k. 0 < count_in k (numbers_without c (semaphore_at t r).waiters)) e h in
     let g = numbers_without_same c (semaphore_at t r).waiters in absurd (omega arith)))
     (λ (n : p ≢ c). inr (n, subst (λ k. 0 < k) (numbers_without_other p c (semaphore_at t r).waiters n) h)) (cases_eq p c)
 
@@ -36,7 +37,8 @@ waits_after t c sem x m i p r =
     semaphore_move_cases t c r x m (InSemaphore sem) (λ y. 0 < count_in p y.waiters → IsHereOr t c sem p r) j
     (λ h. waits_where_left t c sem p r h)
     (λ v f g h. (let k : r ≡ sem = cc in ⊎_elim (λ (e : p ≡ c). inl (e, k))
-    (λ (n : p ≢ c). waits_where_left t c sem p r (subst (λ z. 0 < z) (count_last_other p c (numbers_without c (semaphore_at t r).waiters) n) h)) (cases_eq p c)))
+    (λ (n : p ≢ c). waits_where_left t c sem p r
+    (subst (λ z. 0 < z) (count_last_other p c (numbers_without c (semaphore_at t r).waiters) n) h)) (cases_eq p c)))
 
 -- what is left of the call of one who waits on semaphore s of port q
 pub record IsCallOn (ports : List MessagePort) (q : ℕ) (queue : PortQueue) (sem : ℕ) (left : Rest) : Type 0 where
@@ -51,7 +53,8 @@ abbrev pub made_wait : ℕ → ℕ → Rest → Option ℕ → Tables → Tables
 made_wait c s left m t = move_to c (record (process_at t c) { state = Waiting; rest = left }) m (InSemaphore s) t
 
 module _ (q : ℕ) (queue : PortQueue) (sem : ℕ) (left : Rest) (c : ℕ) (m : Option ℕ) (t : Tables) (ports : List MessagePort)
-    (o : IsInside t) (w : c < 64) (here : (port_at ports q).queue ≡ Some queue) (owned : (semaphore_at t sem).owner ≡ Some (owner.Port q)) (call : IsCallOn ports q queue sem left) where
+    (o : IsInside t) (w : c < 64) (here : (port_at ports q).queue ≡ Some queue) (owned : (semaphore_at t sem).owner ≡ Some (owner.Port q))
+    (call : IsCallOn ports q queue sem left) where
   -- the semaphore is in the table
   within : sem < length t.semaphores
   within = port_semaphore_within q sem t o owned
@@ -90,7 +93,8 @@ module _ (q : ℕ) (queue : PortQueue) (sem : ℕ) (left : Rest) (c : ℕ) (m : 
   same_port : (r v : ℕ) (other : PortQueue) → (port_at ports r).queue ≡ Some other → (semaphore_at t v).owner ≡ Some (owner.Port r)
       → v ≡ sem → (r ≡ q) × (other ≡ queue)
   same_port r v other e f g =
-      let h : Some (owner.Port r) ≡ Some (owner.Port q) = sym f ∙ subst (λ k. (semaphore_at t k).owner ≡ Some (owner.Port q)) (sym g) owned in
+      let h : Some (owner.Port r) ≡ Some (owner.Port q) = sym f
+      ∙ subst (λ k. (semaphore_at t k).owner ≡ Some (owner.Port q)) (sym g) owned in
       let k : r ≡ q = cc in
       (k, (let l : Some other ≡ Some queue = sym e ∙ subst (λ n. (port_at ports n).queue ≡ Some queue) (sym k) here in cc))
 

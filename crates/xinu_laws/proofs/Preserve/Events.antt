@@ -57,7 +57,8 @@ pub state_end_of_event : (was : ℕ) (first : List TranscriptLine) (result : Cal
     → IsSound (end_of_event was first result).state
 state_end_of_event was first result k =
     let tables = sound_end_of_event was first result k.preserved in
-    let touches : Touches (reach on_tables) result.call.state (end_of_event was first result).state = touches_end_of_event was first result (inside_preserved result k.preserved) (replies_alive result k.preserved) in
+    let touches : Touches (reach on_tables) result.call.state (end_of_event was first result).state = touches_end_of_event was first result
+    (inside_preserved result k.preserved) (replies_alive result k.preserved) in
     record {
       tables = tables;
       harts = harts_end_of_event was first result k.preserved;
@@ -94,7 +95,8 @@ state_stepped s k =
     let left = (process_at s.tables s.tables.current).rest in
     let did = exec (current_hart s) s.memory in
     let goes_on = end_of_event s.tables.current [] (continued left s) in
-    cond_both (s.tables.current == 0) (nothing_happens s) (cond (is_done left) (instruction_step s) goes_on) (λ (e : EventResult). IsSound e.state)
+    cond_both (s.tables.current == 0) (nothing_happens s) (cond (is_done left) (instruction_step s) goes_on)
+    (λ (e : EventResult). IsSound e.state)
     (λ _. k)
     (λ b. let c = may_call s k (eqb-false s.tables.current 0 b) in
     cond_both (is_done left) (instruction_step s) goes_on (λ (e : EventResult). IsSound e.state)
@@ -170,7 +172,8 @@ state_served : (good : Bool) (found : Option Served) (s : Xinu) → raw_complete
     → IsSound (served_in found s).state
 state_served good None s e k = k
 state_served good (Some x) s e k =
-    state_end_of_event s.tables.current [] (serving x s) (served_keeps_all s (after_served x s) k (served_completes good x s e (sound_holds s k) (disks_in k.devices)))
+    state_end_of_event s.tables.current [] (serving x s)
+    (served_keeps_all s (after_served x s) k (served_completes good x s e (sound_holds s k) (disks_in k.devices)))
 
 -- and so does a good completion of the files' disk, whatever is chosen in it
 state_completed : (calls : List FileRequest) (choice : ℕ) (s : Xinu) → (files_of s).calls ≡ calls → IsSound s
@@ -197,7 +200,8 @@ state_at_once a s made k =
     let m = next_is s a made in
     let after = state_stepped s k in
     state_end_of_event u.tables.current (call_line u (call_of (current_hart u)) ∷ map file_line x.notes) (at_once a u)
-    (at_once_keeps a u (may_call_after s (may_call s k (not_null_makes s a made))) m.none (ap is_some m.caller) (next_can s a made after.devices.files.itself))
+    (at_once_keeps a u (may_call_after s (may_call s k (not_null_makes s a made))) m.none (ap is_some m.caller)
+    (next_can s a made after.devices.files.itself))
 
 state_step_with : (choice : ℕ) (found : Option FileRequest) (s : Xinu) → next_file_call s ≡ found → IsSound s
     → IsSound (step_with choice found s).state
@@ -218,7 +222,8 @@ state_event s _ choice k = k
 
 state_effect : (s : Xinu) (e : Event) (choice : ℕ) → IsSound s → IsSound (effect_of s e choice).state
 state_effect s e choice k =
-    cond_both (is_built_event e) (event_effect s e choice) (nothing_happens s) (λ (x : EventResult). IsSound x.state) (λ _. state_event s e choice k) (λ _. k)
+    cond_both (is_built_event e) (event_effect s e choice) (nothing_happens s) (λ (x : EventResult). IsSound x.state)
+    (λ _. state_event s e choice k) (λ _. k)
 
 -- Each event keeps the state sound.
 pub sound_happens : IsKept IsSound

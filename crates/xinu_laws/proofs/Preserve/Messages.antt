@@ -47,7 +47,8 @@ later_tick ticks n = omega arith
 pub recvtime_preserves : (ticks : ℤ) → Preserves (recvtime ticks)
 recvtime_preserves (negsuc n) = refused_preserves
 recvtime_preserves (pos n) = λ s c. received_preserves (held s) _ s refl c
-    (λ e. blocked_preserves Timed rest.Timed (InSleepers (s.tables.ticks + max 1 n)) s c (λ f. cc) (refl, refl, refl) (later_tick s.tables.ticks n) (refl, e))
+    (λ e. blocked_preserves Timed rest.Timed (InSleepers (s.tables.ticks + max 1 n)) s c (λ f. cc) (refl, refl, refl)
+    (later_tick s.tables.ticks n) (refl, e))
 
 -- What is left of a call that waited for a message.
 pub go_on_receive_preserves : Preserves go_on_receive

@@ -31,7 +31,8 @@ use Rattle.table_laws.proofs.Tables.Harts.{harts_set}
 free_is_not_null : (t : Tables) (p : ℕ) → IsInside t → state_at t p ≡ Free → p ≢ 0
 free_is_not_null t p o free e =
     let can = subst (λ k. CanRun (state_at t k)) (sym e) o.null in
-    ⊎_elim (λ (f : state_at t p ≡ Current). let g = sym free ∙ f in absurd cc) (λ (f : state_at t p ≡ Ready). let g = sym free ∙ f in absurd cc) can
+    ⊎_elim (λ (f : state_at t p ≡ Current). let g = sym free ∙ f in absurd cc)
+    (λ (f : state_at t p ≡ Ready). let g = sym free ∙ f in absurd cc) can
 
 -- A process is made at a free number.
 pub sound_made_process : (t : Tables) (p : ℕ) (x : Process) → IsSoundTables t → p < 64 → state_at t p ≡ Free → x.state ≡ Suspended
@@ -68,7 +69,8 @@ created_preserves None stack entry size priority name x y s e c = refused_preser
 pub create_preserves : (entry size : ℕ) (priority : ℤ) (name x y : ℕ) → Preserves (create entry size priority name x y)
 create_preserves entry size priority name x y s c =
     either_preserves (int_lt priority (pos 1) || not (in_ram name 16)) _ _ (λ _. refused_preserves s c)
-    (λ _. created_preserves (free_process s.tables) (take_stack (stack_size size) s.parts.heap) entry (stack_size size) priority (process_name (take 16 (drop name s.memory))) x y s refl c)
+    (λ _. created_preserves (free_process s.tables) (take_stack (stack_size size) s.parts.heap) entry (stack_size size) priority
+    (process_name (take 16 (drop name s.memory))) x y s refl c)
 
 -- Call 3.
 pub resume_preserves : (p : ℕ) → Preserves (resume p)
@@ -128,7 +130,8 @@ kill_preserves p s c = either_preserves ((p == 0) || is_free (state_at s.tables 
 sound_entered : (t : Tables) (p : ℕ) (priority : ℤ) → IsSoundTables t → state_at t p ≡ Ready
     → IsSoundTables (move_to p (record (process_at t p) { priority = priority }) (message_at t p) InReady t)
 sound_entered t p priority k e =
-    sound_move t p (record (process_at t p) { priority = priority }) (message_at t p) InReady k (idle_differs t p t.current (λ f. cc) k.runs)
+    sound_move t p (record (process_at t p) { priority = priority }) (message_at t p) InReady k
+    (idle_differs t p t.current (λ f. cc) k.runs)
     (record {
       within = within_table t p k.inside.processes (λ f. cc);
       place_of = subst (λ y. IsPlaceOf y InReady) (sym e) (refl, refl, refl);
@@ -148,7 +151,8 @@ sound_with_priority : (t : Tables) (p : ℕ) (priority : ℤ) → IsSoundTables 
     → IsSoundTables (with_priority p priority t)
 sound_with_priority t p priority k alive =
     let x = record (process_at t p) { priority = priority } in
-    cond_both (is_ready (state_at t p)) (move_to p x (message_at t p) InReady t) (record t { processes = slice_set t.processes p x }) IsSoundTables
+    cond_both (is_ready (state_at t p)) (move_to p x (message_at t p) InReady t)
+    (record t { processes = slice_set t.processes p x }) IsSoundTables
     (λ b. sound_entered t p priority k (is_ready_of (state_at t p) b))
     (λ b. sound_process t p x k (within_table t p k.inside.processes alive) alive (is_not_ready (state_at t p) b) refl refl)
 

@@ -24,4 +24,5 @@ pub runs_keep : (P : Xinu → Type 0) → IsKept P → (events : List Event) (ol
 runs_keep P kept [] old lines new end k r = subst P (sym r.1) k
 runs_keep P kept (e ∷ events) old lines new end k r =
     let mid = kept old e r.1 r.0 k r.2 in
-    follows_keep P (end_with (panics_in old e) (is_over r.0)) events r.1 lines r.0 new end (λ rest run. runs_keep P kept events r.0 rest new end mid run) mid r.3
+    follows_keep P (end_with (panics_in old e) (is_over r.0)) events r.1 lines r.0 new end
+    (λ rest run. runs_keep P kept events r.0 rest new end mid run) mid r.3

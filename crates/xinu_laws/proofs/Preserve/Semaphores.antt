@@ -46,7 +46,8 @@ good_semaphore t sem o h =
 pub sound_found_semaphore : (t : Tables) (sem tokens : ℕ) (by : Owner) → IsSoundTables t → free_semaphore t ≡ Some sem → by ≢ Device
     → IsSoundTables (make_semaphore sem by tokens t)
 sound_found_semaphore t sem tokens by k e n =
-    sound_made_semaphore t sem tokens by k (search_within (λ r. not (is_some (semaphore_at t r).owner)) 128 (t.last_semaphore + 1) sem e) (free_semaphore_free t sem e) n
+    sound_made_semaphore t sem tokens by k (search_within (λ r. not (is_some (semaphore_at t r).owner)) 128 (t.last_semaphore + 1) sem e)
+    (free_semaphore_free t sem e) n
 
 -- a semaphore that is made if one was found
 made_semaphore_preserves : (n : ℕ) (found : Option ℕ) (x : Xinu) → free_semaphore x.tables ≡ found → MayCall x
@@ -100,7 +101,8 @@ semcount_preserves sem x c =
 pub wait_preserves : (sem : ℕ) → Preserves (wait sem)
 wait_preserves sem x c = either_preserves (is_good sem x.tables) _ _
     (λ b. let g = good_semaphore x.tables sem c.tables.inside b in
-    await_preserves sem Nothing (answers (pos 0)) x c g.within (subst (λ k. FitsOwner sem k Nothing) (sym g.owner) refl) (λ n e k. answers_preserves (pos 0) (record x { tables = with_tokens sem n x.tables }) k))
+    await_preserves sem Nothing (answers (pos 0)) x c g.within (subst (λ k. FitsOwner sem k Nothing) (sym g.owner) refl)
+    (λ n e k. answers_preserves (pos 0) (record x { tables = with_tokens sem n x.tables }) k))
     (λ _. refused_preserves x c)
 
 -- a signal changes no registers

@@ -48,7 +48,8 @@ kill_unused p s c =
 created_unused : (number : Option ℕ) (stack : Option Stack) (entry size : ℕ) (priority : ℤ) (name : List ℕ) (x y : ℕ) (s : Xinu)
     → free_process s.tables ≡ number → MayCallAny s → AreUnusedAfter (created number stack entry size priority name x y s)
 created_unused (Some p) (Some stack) entry size priority name x y s e c =
-    unused_made s.tables s.harts p (new_process name priority s.tables.current stack.top size) (new_hart entry stack.top x y) c.may.tables.inside.processes (free_process_within s.tables p e) refl c.unused
+    unused_made s.tables s.harts p (new_process name priority s.tables.current stack.top size)
+    (new_hart entry stack.top x y) c.may.tables.inside.processes (free_process_within s.tables p e) refl c.unused
 created_unused (Some p) None entry size priority name x y s e c = c.unused
 created_unused None stack entry size priority name x y s e c = c.unused
 
@@ -56,7 +57,8 @@ pub create_unused : (entry size : ℕ) (priority : ℤ) (name x y : ℕ) (s : Xi
     → AreUnusedAfter (create entry size priority name x y s)
 create_unused entry size priority name x y s c =
     cond_both (int_lt priority (pos 1) || not (in_ram name 16)) (refused s) _ AreUnusedAfter (λ _. c.unused)
-    (λ _. created_unused (free_process s.tables) (take_stack (stack_size size) s.parts.heap) entry (stack_size size) priority (process_name (take 16 (drop name s.memory))) x y s refl c)
+    (λ _. created_unused (free_process s.tables) (take_stack (stack_size size) s.parts.heap) entry (stack_size size) priority
+    (process_name (take 16 (drop name s.memory))) x y s refl c)
 
 -- anything but the parts may change
 abbrev on_any_tables : Reach

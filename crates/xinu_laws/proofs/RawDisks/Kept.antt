@@ -58,7 +58,8 @@ awaits_keeps written at block s c is =
     let x = record (process_at t t.current) { state = Waiting; rest = Disk None } in
     let m = message_at t t.current in
     let idle : is_waiting (state_at t t.current) ≡ false = ap is_waiting c.tables.runs in
-    let fits : FitsOwner 2 (semaphore_at t 2).owner (Disk None) = subst (λ v. FitsOwner 2 v (Disk None)) (sym (o.devices 2 (omega arith))) refl in
+    let fits : FitsOwner 2 (semaphore_at t 2).owner (Disk None) = subst (λ v. FitsOwner 2 v (Disk None))
+    (sym (o.devices 2 (omega arith))) refl in
     record {
       preserved = λ k n. blocked_preserves Waiting (Disk None) (InSemaphore 2) u (record { tables = c.tables; harts = c.harts; not_null = n }) (λ h. cc) (refl, refl, refl) (omega arith, k.raw.tokens, fits) tt;
       touches = touches_trans (disk_touches s u d refl refl refl)

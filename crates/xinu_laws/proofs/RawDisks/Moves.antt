@@ -108,7 +108,8 @@ module _ (k p : ℕ) (reply : ℤ) (l : List ℕ) (t : Tables) (few : suc (suc k
 
   pub first_asks : (process_at t p).rest ≡ Disk None
   first_asks =
-      subst (λ w. FitsOwner (suc (suc k)) w (process_at t p).rest) (sound.inside.devices (suc (suc k)) few) (sound.inside.rests (suc (suc k)) p is_counted)
+      subst (λ w. FitsOwner (suc (suc k)) w (process_at t p).rest) (sound.inside.devices (suc (suc k)) few)
+      (sound.inside.rests (suc (suc k)) p is_counted)
 
   -- it is none of the others,
   pub first_once : count_in p l ≡ 0
@@ -160,5 +161,7 @@ pub replied_touches : {f : Reach} → ((r : Option ℤ) → f.asks (Disk r) ≡ 
     → Touches f s (record s { tables = replied p reply s.tables })
 replied_touches {f} asks k p reply l s few sound first =
     let t = s.tables in
-    touches_unasked s p (record (process_at t p) { state = Ready; rest = Disk (Some reply) }) (message_at t p) InReady tt (asks (Some reply)) refl (λ e. absurd (cc))
-    (and_right (is_waiting (state_at t p)) (f.asks (process_at t p).rest) (ap f.asks (first_asks k p reply l t few sound first) ∙ asks None))
+    touches_unasked s p (record (process_at t p) { state = Ready; rest = Disk (Some reply) }) (message_at t p) InReady tt
+    (asks (Some reply)) refl (λ e. absurd (cc))
+    (and_right (is_waiting (state_at t p)) (f.asks (process_at t p).rest)
+    (ap f.asks (first_asks k p reply l t few sound first) ∙ asks None))

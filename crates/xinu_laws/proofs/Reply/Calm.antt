@@ -141,14 +141,16 @@ sleep_calm (pos n) s = either_calm (nat_lt 2147483 n) (refused s) _ (refused_cal
 -- on pools
 pub made_pool_calm : (found : Option Grant) (sem : Option ℕ) (size n : ℕ) (s : Xinu) → Calm (made_pool found sem size n s)
 made_pool_calm (Some grant) (Some sem) size n s =
-    either_calm (meets_pool grant.address (pool_bytes size n) s.parts.pools) (refused s) (with_pool grant sem size n s) (refused_calm s) (λ e. absurd (cc))
+    either_calm (meets_pool grant.address (pool_bytes size n) s.parts.pools) (refused s) (with_pool grant sem size n s) (refused_calm s)
+    (λ e. absurd (cc))
 made_pool_calm (Some grant) None size n s = refused_calm s
 made_pool_calm None sem size n s = refused_calm s
 
 pub mkbufpool_calm : (size n : ℕ) (s : Xinu) → Calm (mkbufpool size n s)
 mkbufpool_calm size n s =
     either_calm (is_pool_size size n && nat_lt (length s.parts.pools) most_pools) _ (refused s)
-    (made_pool_calm (heap.take_memory (pool_bytes (whole_words size) n) s.parts.heap) (free_semaphore s.tables) (whole_words size) n s) (refused_calm s)
+    (made_pool_calm (heap.take_memory (pool_bytes (whole_words size) n) s.parts.heap) (free_semaphore s.tables) (whole_words size) n s)
+    (refused_calm s)
 
 pub take_first_calm : (free : List ℕ) (i : ℕ) (s : Xinu) → Calm (take_first free i s)
 take_first_calm [] i s e = absurd (cc)
@@ -157,7 +159,8 @@ take_first_calm (a ∷ free) i s e = absurd (cc)
 pub getbuf_calm : (i : ℕ) (s : Xinu) → Calm (getbuf i s)
 getbuf_calm i s =
     either_calm (nat_lt i (length s.parts.pools)) _ (refused s)
-    (await_calm (pool_at s.parts.pools i).semaphore (rest.GetBuf i) (take_buffer i) s (λ u. take_first_calm (pool_at u.parts.pools i).free i u)) (refused_calm s)
+    (await_calm (pool_at s.parts.pools i).semaphore (rest.GetBuf i) (take_buffer i) s
+    (λ u. take_first_calm (pool_at u.parts.pools i).free i u)) (refused_calm s)
 
 pub freed_by_calm : (found : Option ℕ) (a : ℕ) (s : Xinu) → Calm (freed_by found a s)
 freed_by_calm None a s e = absurd (cc)
@@ -195,12 +198,14 @@ take_from_calm (Some queue) q s = take_message_calm queue.messages queue q s
 
 pub finish_receive_calm : (ticket : PortTicket) (s : Xinu) → Calm (finish_receive ticket s)
 finish_receive_calm ticket s =
-    either_calm (is_stale ticket s.parts.ports) (refused s) _ (refused_calm s) (take_from_calm (port_at s.parts.ports ticket.port).queue ticket.port s)
+    either_calm (is_stale ticket s.parts.ports) (refused s) _ (refused_calm s)
+    (take_from_calm (port_at s.parts.ports ticket.port).queue ticket.port s)
 
 pub received_from_calm : (found : Option PortQueue) (q : ℕ) (s : Xinu) → Calm (received_from found q s)
 received_from_calm None q s = refused_calm s
 received_from_calm (Some queue) q s =
-    await_calm queue.receive (rest.PtRecv (ticket_of q queue.receive s)) (finish_receive (ticket_of q queue.receive s)) s (finish_receive_calm (ticket_of q queue.receive s))
+    await_calm queue.receive (rest.PtRecv (ticket_of q queue.receive s)) (finish_receive (ticket_of q queue.receive s)) s
+    (finish_receive_calm (ticket_of q queue.receive s))
 
 -- A send panics only if all ports together are full,
 pub put_message_full : (found : Option PortQueue) (q message : ℕ) (s : Xinu) → (put_message found q message s).answer ≡ Panics
@@ -243,7 +248,8 @@ pub read_item_calm : (items : List Item) (at done : ℕ) (then_ : Xinu → CallR
 read_item_calm [] at done then_ s go = λ e. absurd (cc)
 read_item_calm (x ∷ items) at done then_ s go =
     either_calm _ _ _ (returns_calm (start (with_committed items s)) (count_at_end done))
-    (either_calm (ends_line (console_of s).mode x) _ _ (returns_calm (start (stored x at done (with_committed items s))) (pos (suc done))) (go (stored x at done (with_committed items s))))
+    (either_calm (ends_line (console_of s).mode x) _ _ (returns_calm (start (stored x at done (with_committed items s))) (pos (suc done)))
+    (go (stored x at done (with_committed items s))))
 
 pub reads_calm : (left at done : ℕ) (s : Xinu) → Calm (reads left at done s)
 reads_calm zero at done s = λ e. absurd (cc)
@@ -257,13 +263,15 @@ read_range_calm at n s = either_calm (in_ram at n) (reads n at 0 s) (refused s) 
 pub read_calm : (at : ℕ) (n : ℤ) (s : Xinu) → Calm (console_read at n s)
 read_calm at (negsuc n) s = refused_calm s
 read_calm at (pos zero) s =
-    either_calm (is_cooked (console_of s).mode) (answers OK s) _ (λ e. absurd (cc)) (read_range_calm at (semaphore_at s.tables TY_ISEM).tokens s)
+    either_calm (is_cooked (console_of s).mode) (answers OK s) _
+    (λ e. absurd (cc)) (read_range_calm at (semaphore_at s.tables TY_ISEM).tokens s)
 read_calm at (pos (suc n)) s = read_range_calm at (suc n) s
 
 pub put_byte_calm : (b : ℕ) (left : Rest) (then_ : Xinu → CallResult) (s : Xinu) → ((u : Xinu) → Calm (then_ u))
     → Calm (put_byte b left then_ s)
 put_byte_calm b left then_ s go =
-    either_calm (needs_return b (console_of s).mode) (await TY_OSEM left (λ x. then_ (put TY_NEWLINE x)) (put TY_RETURN s)) (then_ (put b s))
+    either_calm (needs_return b (console_of s).mode) (await TY_OSEM left (λ x. then_ (put TY_NEWLINE x)) (put TY_RETURN s))
+    (then_ (put b s))
     (await_calm TY_OSEM left (λ x. then_ (put TY_NEWLINE x)) (put TY_RETURN s) (λ u. go (put TY_NEWLINE u))) (go (put b s))
 
 pub putc_calm : (b : ℕ) (s : Xinu) → Calm (console_putc b s)
@@ -275,8 +283,10 @@ pub writes_calm : (left at done : ℕ) (s : Xinu) → Calm (writes left at done 
 writes_calm zero at done s = λ e. absurd (cc)
 writes_calm (suc left) at done s =
     let part = span at done (done + suc left) in
-    await_calm TY_OSEM (rest.TtyWrite part false) (λ x. put_byte (slice_index x.memory (at + done)) (rest.TtyWrite part true) (writes left at (suc done)) x) s
-    (λ u. put_byte_calm (slice_index u.memory (at + done)) (rest.TtyWrite part true) (writes left at (suc done)) u (writes_calm left at (suc done)))
+    await_calm TY_OSEM (rest.TtyWrite part false)
+    (λ x. put_byte (slice_index x.memory (at + done)) (rest.TtyWrite part true) (writes left at (suc done)) x) s
+    (λ u. put_byte_calm (slice_index u.memory (at + done)) (rest.TtyWrite part true) (writes left at (suc done)) u
+    (writes_calm left at (suc done)))
 
 pub write_calm : (at : ℕ) (n : ℤ) (s : Xinu) → Calm (console_write at n s)
 write_calm at (negsuc n) s = refused_calm s

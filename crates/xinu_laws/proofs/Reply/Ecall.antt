@@ -26,7 +26,8 @@ gives_no_call f h memory value e = absurd (cc)
 -- nor a transfer
 jumps_no_call : (f : Fields) (h : Hart) (memory : List ℕ) (target : ℕ) → LeavesCall h memory (jumps f h memory target)
 jumps_no_call f h memory target =
-    cond_both (target % 4 == 0) (goes h memory f.rd (following h) target) (stops h memory (Trap Target)) (LeavesCall h memory) (λ _ e. absurd (cc)) (λ _. traps_no_call h memory Target)
+    cond_both (target % 4 == 0) (goes h memory f.rd (following h) target) (stops h memory (Trap Target)) (LeavesCall h memory)
+    (λ _ e. absurd (cc)) (λ _. traps_no_call h memory Target)
 
 branches_no_call : (f : Fields) (h : Hart) (memory : List ℕ) (holds : Bool) → LeavesCall h memory (branches f h memory holds)
 branches_no_call f h memory holds =
@@ -34,7 +35,8 @@ branches_no_call f h memory holds =
     let taken : Executed = record { outcome = Went; hart = record h { pc = target }; memory = memory } in
     let passed : Executed = record { outcome = Went; hart = record h { pc = following h }; memory = memory } in
     cond_both holds (cond (target % 4 == 0) taken (stops h memory (Trap Target))) passed (LeavesCall h memory)
-    (λ _. cond_both (target % 4 == 0) taken (stops h memory (Trap Target)) (LeavesCall h memory) (λ _ e. absurd (cc)) (λ _. traps_no_call h memory Target))
+    (λ _. cond_both (target % 4 == 0) taken (stops h memory (Trap Target)) (LeavesCall h memory)
+    (λ _ e. absurd (cc)) (λ _. traps_no_call h memory Target))
     (λ _ e. absurd (cc))
 
 -- nor a load or a store
@@ -42,13 +44,15 @@ loads_no_call : (f : Fields) (h : Hart) (memory : List ℕ) (width : ℕ) (exten
     → LeavesCall h memory (loads f h memory width extended)
 loads_no_call f h memory width extended =
     let address = wrapped (register h.regs f.rs1 + f.imm) in
-    cond_both (may_access address width) (gives f h memory (extended (number_at memory address width))) (stops h memory (Trap Load)) (LeavesCall h memory) (λ _ e. absurd (cc)) (λ _. traps_no_call h memory Load)
+    cond_both (may_access address width) (gives f h memory (extended (number_at memory address width))) (stops h memory (Trap Load))
+    (LeavesCall h memory) (λ _ e. absurd (cc)) (λ _. traps_no_call h memory Load)
 
 stores_no_call : (f : Fields) (h : Hart) (memory : List ℕ) (width : ℕ) → LeavesCall h memory (stores f h memory width)
 stores_no_call f h memory width =
     let address = wrapped (register h.regs f.rs1 + f.imm) in
     let stored : Executed = record { outcome = Went; hart = record h { pc = following h }; memory = with_number memory address width (register h.regs f.rs2) } in
-    cond_both (may_access address width) stored (stops h memory (Trap Store)) (LeavesCall h memory) (λ _ e. absurd (cc)) (λ _. traps_no_call h memory Store)
+    cond_both (may_access address width) stored (stops h memory (Trap Store)) (LeavesCall h memory)
+    (λ _ e. absurd (cc)) (λ _. traps_no_call h memory Store)
 
 -- the instructions by name
 name_leaves_call : (name : Name) (f : Fields) (h : Hart) (memory : List ℕ) (a b : ℕ) → LeavesCall h memory (effect_on name f h memory a b)
@@ -104,6 +108,8 @@ pub exec_leaves_call : (h : Hart) (memory : List ℕ) → LeavesCall h memory (e
 unfolding exec
 exec_leaves_call h memory =
     let word = number_at memory h.pc 4 in
-    cond_both (h.pc == INITRET) (stops h memory Exit) (cond (may_access h.pc 4) (perform word h memory) (stops h memory (Trap Fetch))) (LeavesCall h memory)
+    cond_both (h.pc == INITRET) (stops h memory Exit) (cond (may_access h.pc 4) (perform word h memory) (stops h memory (Trap Fetch)))
+    (LeavesCall h memory)
     (λ _ e. absurd (cc))
-    (λ _. cond_both (may_access h.pc 4) (perform word h memory) (stops h memory (Trap Fetch)) (LeavesCall h memory) (λ _. row_leaves_call (row_of word) word h memory) (λ _. traps_no_call h memory Fetch))
+    (λ _. cond_both (may_access h.pc 4) (perform word h memory) (stops h memory (Trap Fetch)) (LeavesCall h memory)
+    (λ _. row_leaves_call (row_of word) word h memory) (λ _. traps_no_call h memory Fetch))

@@ -82,12 +82,15 @@ rows_panic =
     (λ a s e. absurd (received_from_calm (port_at s.parts.ports (a 0)).queue (a 0) s e)) ⨾
     (λ a s e. absurd (device_open_holds Calm (a 0) (a 1) (a 2) s (refused_calm s) (λ f. absurd (cc)) (λ f. absurd (cc)) (files_calm s) e)) ⨾
     (λ a s e. absurd (device_close_holds Calm (a 0) s (refused_calm s) (λ f. absurd (cc)) (files_calm s) e)) ⨾
-    (λ a s e. absurd (device_read_holds Calm (a 0) (a 1) (a 2) s (refused_calm s) (read_calm (a 1) (signed (a 2)) s) (disk_read_calm (a 1) (a 2) s) (files_calm s) e)) ⨾
-    (λ a s e. absurd (device_write_holds Calm (a 0) (a 1) (a 2) s (refused_calm s) (write_calm (a 1) (signed (a 2)) s) (disk_write_calm (a 1) (a 2) s) (files_calm s) e)) ⨾
+    (λ a s e. absurd (device_read_holds Calm (a 0) (a 1) (a 2) s (refused_calm s) (read_calm (a 1) (signed (a 2)) s)
+    (disk_read_calm (a 1) (a 2) s) (files_calm s) e)) ⨾
+    (λ a s e. absurd (device_write_holds Calm (a 0) (a 1) (a 2) s (refused_calm s) (write_calm (a 1) (signed (a 2)) s)
+    (disk_write_calm (a 1) (a 2) s) (files_calm s) e)) ⨾
     (λ a s e. absurd (device_getc_holds Calm (a 0) s (refused_calm s) (getc_calm s) (files_calm s) e)) ⨾
     (λ a s e. absurd (device_putc_holds Calm (a 0) (a 1 % 256) s (refused_calm s) (putc_calm (a 1 % 256) s) (files_calm s) e)) ⨾
     (λ a s e. absurd (device_seek_holds Calm (a 0) (signed (a 1)) s (refused_calm s) (files_calm s) e)) ⨾
-    (λ a s e. absurd (device_control_holds Calm (a 0) (a 1) (a 2) s (refused_calm s) (console_control_calm (a 1) s) (disk_control_calm (a 1) s) (files_calm s) e)) ⨾
+    (λ a s e. absurd (device_control_holds Calm (a 0) (a 1) (a 2) s (refused_calm s) (console_control_calm (a 1) s)
+    (disk_control_calm (a 1) s) (files_calm s) e)) ⨾
     (λ a s e. absurd (mount_calm (a 0) (a 1) (a 2) s e)) ⨾
     tt
 
@@ -107,7 +110,8 @@ call_panics number args s = by_row (found_in calls number) refl
 called_panics : (number : ℕ) (args : List ℕ) (s : Xinu) → (called number args s).answer ≡ Panics
     → (number ≡ 34) × (most_nodes ≤ nodes s.parts.ports)
 called_panics number args s =
-    cond_both (is_served number args) (call_of_number number args s) (refused s) (λ (h : CallResult). h.answer ≡ Panics → (number ≡ 34) × (most_nodes ≤ nodes s.parts.ports))
+    cond_both (is_served number args) (call_of_number number args s) (refused s)
+    (λ (h : CallResult). h.answer ≡ Panics → (number ≡ 34) × (most_nodes ≤ nodes s.parts.ports))
     (λ _. call_panics number args s) (λ _ e. absurd (cc))
 
 -- What is left of a call panics if it is such a send.
@@ -120,14 +124,17 @@ continued_panics (rest.PtSend ticket message) s e = finish_send_full ticket mess
 continued_panics (rest.PtRecv ticket) s e = absurd (finish_receive_calm ticket (goes_on (held s) s) e)
 continued_panics rest.TtyGet s e = absurd (take_char_calm (console_of s).committed (goes_on (held s) s) e)
 continued_panics (rest.TtyRead part) s e =
-    absurd (read_item_calm (console_of s).committed part.at part.done (reads (part.want - suc part.done) part.at (suc part.done)) (goes_on (held s) s) (reads_calm (part.want - suc part.done) part.at (suc part.done)) e)
+    absurd (read_item_calm (console_of s).committed part.at part.done (reads (part.want - suc part.done) part.at (suc part.done))
+    (goes_on (held s) s) (reads_calm (part.want - suc part.done) part.at (suc part.done)) e)
 continued_panics (rest.TtyPut b true) s e = absurd (cc)
 continued_panics (rest.TtyPut b false) s e =
     absurd (put_byte_calm b (rest.TtyPut b true) (answers OK) (goes_on (held s) s) (λ v f. absurd (cc)) e)
 continued_panics (rest.TtyWrite part true) s e =
     absurd (writes_calm (part.want - suc part.done) part.at (suc part.done) (put TY_NEWLINE (goes_on (held s) s)) e)
 continued_panics (rest.TtyWrite part false) s e =
-    absurd (put_byte_calm (slice_index s.memory (part.at + part.done)) (rest.TtyWrite part true) (writes (part.want - suc part.done) part.at (suc part.done)) (goes_on (held s) s) (writes_calm (part.want - suc part.done) part.at (suc part.done)) e)
+    absurd (put_byte_calm (slice_index s.memory (part.at + part.done)) (rest.TtyWrite part true)
+    (writes (part.want - suc part.done) part.at (suc part.done)) (goes_on (held s) s)
+    (writes_calm (part.want - suc part.done) part.at (suc part.done)) e)
 continued_panics (rest.Disk None) s e = absurd (cc)
 continued_panics (rest.Disk (Some reply)) s e = absurd (cc)
 continued_panics rest.Nothing s e = absurd (cc)
@@ -163,7 +170,8 @@ step_full : (old : Xinu) → (stepped old).panics ≡ true → FullStep old
 step_full old =
     let left = (process_at old.tables old.tables.current).rest in
     let goes_on = end_of_event old.tables.current [] (continued left old) in
-    cond_both (old.tables.current == 0) (nothing_happens old) (cond (is_done left) (instruction_step old) goes_on) (λ (x : EventResult). x.panics ≡ true → FullStep old)
+    cond_both (old.tables.current == 0) (nothing_happens old) (cond (is_done left) (instruction_step old) goes_on)
+    (λ (x : EventResult). x.panics ≡ true → FullStep old)
     (λ _ e. absurd (cc))
     (λ b. cond_both (is_done left) (instruction_step old) goes_on (λ (x : EventResult). x.panics ≡ true → FullStep old)
     (λ d. by_outcome (eqb-false old.tables.current 0 b) (done_is left d) (next old).outcome refl)

@@ -64,7 +64,8 @@ created_tells None stack entry size priority name x y s e = refl
 pub create_tells : (entry size : ℕ) (priority : ℤ) (name x y : ℕ) (s : Xinu) → TellsRefusal s (create entry size priority name x y s)
 create_tells entry size priority name x y s =
     either_tells (int_lt priority (pos 1) || not (in_ram name 16)) s _ _ (λ _. refusal_tells s)
-    (λ _. created_tells (free_process s.tables) (take_stack (stack_size size) s.parts.heap) entry (stack_size size) priority (process_name (take 16 (drop name s.memory))) x y s)
+    (λ _. created_tells (free_process s.tables) (take_stack (stack_size size) s.parts.heap) entry (stack_size size) priority
+    (process_name (take 16 (drop name s.memory))) x y s)
 
 -- call 5
 pub kill_tells : (p : ℕ) (s : Xinu) → TellsRefusal s (kill p s)
@@ -139,7 +140,8 @@ made_pool_tells None sem size n s = refusal_tells s
 pub mkbufpool_tells : (size n : ℕ) (s : Xinu) → TellsRefusal s (mkbufpool size n s)
 mkbufpool_tells size n s =
     guarded_tells (is_pool_size size n && nat_lt (length s.parts.pools) most_pools) s _
-    (λ _. made_pool_tells (heap.take_memory (pool_bytes (whole_words size) n) s.parts.heap) (free_semaphore s.tables) (whole_words size) n s)
+    (λ _. made_pool_tells (heap.take_memory (pool_bytes (whole_words size) n) s.parts.heap) (free_semaphore s.tables)
+    (whole_words size) n s)
 
 -- a buffer is taken if there is one
 take_first_tells : (free : List ℕ) (i : ℕ) (s x : Xinu) → 0 < length free → TellsRefusal s (take_first free i x)
@@ -156,7 +158,8 @@ getbuf_tells i s pools =
     let pool = pool_at s.parts.pools i in
     guarded_tells (nat_lt i (length s.parts.pools)) s _
     (λ b. take_token_tells (semaphore_at s.tables pool.semaphore).tokens pool.semaphore (GetBuf i) (take_buffer i) s
-    (λ n e. take_first_tells pool.free i s (record s { tables = with_tokens pool.semaphore n s.tables }) (let k = (pools.each i (made_number i (length s.parts.pools) b)).enough in omega arith)))
+    (λ n e. take_first_tells pool.free i s (record s { tables = with_tokens pool.semaphore n s.tables })
+    (let k = (pools.each i (made_number i (length s.parts.pools) b)).enough in omega arith)))
 
 -- call 30
 pub freed_by_tells : (found : Option ℕ) (a : ℕ) (s : Xinu) → TellsRefusal s (freed_by found a s)
@@ -211,5 +214,6 @@ sent_to_tells (Some queue) q message s e =
     let ticket = ticket_of q queue.send s in
     take_token_tells (semaphore_at s.tables queue.send).tokens queue.send (PtSend ticket message) (finish_send ticket message) s
     (λ n f. let x = record s { tables = with_tokens queue.send n s.tables } in
-    subst (λ b. TellsRefusal s (cond b (refused x) (put_message (port_at s.parts.ports q).queue q message x))) (sym (fresh_ticket q queue.send s queue e))
+    subst (λ b. TellsRefusal s (cond b (refused x) (put_message (port_at s.parts.ports q).queue q message x)))
+    (sym (fresh_ticket q queue.send s queue e))
     (put_message_tells queue (port_at s.parts.ports q).queue q message s x e))

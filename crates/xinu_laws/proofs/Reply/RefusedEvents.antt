@@ -37,10 +37,12 @@ calling_steps old sound k =
     let s = with_executed (next old) old in
     let left = (process_at old.tables old.tables.current).rest in
     let goes_on = end_of_event old.tables.current [] (continued left old) in
-    cond-false (old.tables.current == 0) (nothing_happens old) (cond (is_done left) (instruction_step old) goes_on) (ne_eqb old.tables.current 0 k.runs)
+    cond-false (old.tables.current == 0) (nothing_happens old) (cond (is_done left) (instruction_step old) goes_on)
+    (ne_eqb old.tables.current 0 k.runs)
     ∙ cond-true (is_done left) (instruction_step old) goes_on (ap is_done k.rest)
     ∙ ap (λ (o : Outcome). reacted o s) k.call
-    ∙ ap (λ (h : Hart). end_of_event old.tables.current (call_line s (call_of h) ∷ []) (called (call_of h).number (call_of h).args s)) (hart_after old sound)
+    ∙ ap (λ (h : Hart). end_of_event old.tables.current (call_line s (call_of h) ∷ []) (called (call_of h).number (call_of h).args s))
+    (hart_after old sound)
 
 -- what a refusal leaves of a state in which these are the caller's registers
 abbrev pub refused_state : Xinu → Hart → Xinu
@@ -99,7 +101,9 @@ refused_effects a old sound k made refused =
           ∙ set_twice old.harts p (next old).hart (record (next old).hart { regs = slice_set (next old).hart.regs 10 (word SYSERR) })
           ∙ ap (λ (x : Hart). slice_set old.harts p (record x { regs = slice_set x.regs 10 (word SYSERR) })) did.0;
       lines = ap (λ c. (line.Call p c ∷ line.File (unwrap_or a.caller 0) Finished ∷ []) ++ map return_line (and_callers (at_once a s).answer p []) ++ switched p p) call
-          ∙ ap (λ o. (line.Call p (call_of (current_hart old)) ∷ line.File (unwrap_or o 0) Finished ∷ []) ++ map return_line (and_callers (at_once a s).answer p []) ++ switched p p) m.caller
-          ∙ ap (λ answer. (line.Call p (call_of (current_hart old)) ∷ line.File p Finished ∷ []) ++ map return_line (and_callers answer p []) ++ switched p p) refused
+          ∙ ap (λ o. (line.Call p (call_of (current_hart old)) ∷ line.File (unwrap_or o 0) Finished ∷ []) ++ map return_line
+          (and_callers (at_once a s).answer p []) ++ switched p p) m.caller
+          ∙ ap (λ answer. (line.Call p (call_of (current_hart old)) ∷ line.File p Finished ∷ []) ++ map return_line
+          (and_callers answer p []) ++ switched p p) refused
           ∙ ap (λ l. line.Call p (call_of (current_hart old)) ∷ line.File p Finished ∷ line.Return p SYSERR ∷ l) (no_switch p);
     }

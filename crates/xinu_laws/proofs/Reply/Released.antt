@@ -63,7 +63,8 @@ pub left_by_delete : (sem : ℕ) (s : Xinu) → is_good sem s.tables ≡ true
     → (semdelete sem s).call.state ≡ record s { tables = with_semaphore sem no_semaphore (ready_all (semaphore_at s.tables sem).waiters s.tables) }
 left_by_delete sem s good =
     ap (λ (r : CallResult). r.call.state) (cond-true (is_good sem s.tables) _ _ good)
-    ∙ ap (λ (u : Xinu). record u { tables = with_semaphore sem no_semaphore u.tables }) (unblock_all_with_ready SYSERR (semaphore_at s.tables sem).waiters (start s))
+    ∙ ap (λ (u : Xinu). record u { tables = with_semaphore sem no_semaphore u.tables })
+    (unblock_all_with_ready SYSERR (semaphore_at s.tables sem).waiters (start s))
 
 -- A reset answers that their calls succeeded.
 pub released_by_reset : (sem n : ℕ) (s : Xinu) → IsInside s.tables → is_good sem s.tables ≡ true
@@ -87,4 +88,5 @@ pub released_by_signals : (sem n : ℕ) (d : CallState) → IsInside d.state.tab
     → (signalled_times sem n d).released ≡ d.released ++ map (λ p. (p, OK)) (take n (semaphore_at d.state.tables sem).waiters)
 released_by_signals sem n d o good =
     let l = (semaphore_at d.state.tables sem).waiters in
-    released_all OK (take n l) d (all_take (λ p. (process_at d.state.tables p).rest ≡ Nothing) n l (waiters_are_done d.state.tables sem o good))
+    released_all OK (take n l) d
+    (all_take (λ p. (process_at d.state.tables p).rest ≡ Nothing) n l (waiters_are_done d.state.tables sem o good))

@@ -78,7 +78,8 @@ put_message_in_time (Some queue) q message s =
 
 finish_send_in_time : (ticket : PortTicket) (message : ℕ) (s : Xinu) → InTime (finish_send ticket message s)
 finish_send_in_time ticket message s =
-    either_in_time (is_stale ticket s.parts.ports) (refused s) _ (refused_in_time s) (put_message_in_time (port_at s.parts.ports ticket.port).queue ticket.port message s)
+    either_in_time (is_stale ticket s.parts.ports) (refused s) _ (refused_in_time s)
+    (put_message_in_time (port_at s.parts.ports ticket.port).queue ticket.port message s)
 
 -- a character, or the end mark
 char_in_time : (b : Bool) (n : ℕ) (s : Xinu) → InTime (answers (cond b EOF (pos n)) s)
@@ -99,7 +100,8 @@ read_item_in_time : (items : List Item) (at done : ℕ) (then_ : Xinu → CallRe
 read_item_in_time [] at done then_ s go = λ e. absurd (cc)
 read_item_in_time (x ∷ items) at done then_ s go =
     either_in_time _ _ _ (count_in_time done (with_committed items s))
-    (either_in_time (ends_line (console_of s).mode x) _ _ (answers_in_time (start (stored x at done (with_committed items s))) (suc done)) (go (stored x at done (with_committed items s))))
+    (either_in_time (ends_line (console_of s).mode x) _ _ (answers_in_time (start (stored x at done (with_committed items s))) (suc done))
+    (go (stored x at done (with_committed items s))))
 
 reads_in_time : (left at done : ℕ) (s : Xinu) → InTime (reads left at done s)
 reads_in_time zero at done s = λ e. absurd (cc)
@@ -111,15 +113,18 @@ reads_in_time (suc left) at done s =
 put_byte_in_time : (b : ℕ) (left : Rest) (then_ : Xinu → CallResult) (s : Xinu) → ((u : Xinu) → InTime (then_ u))
     → InTime (put_byte b left then_ s)
 put_byte_in_time b left then_ s go =
-    either_in_time (needs_return b (console_of s).mode) (await TY_OSEM left (λ x. then_ (put TY_NEWLINE x)) (put TY_RETURN s)) (then_ (put b s))
+    either_in_time (needs_return b (console_of s).mode) (await TY_OSEM left (λ x. then_ (put TY_NEWLINE x)) (put TY_RETURN s))
+    (then_ (put b s))
     (await_in_time TY_OSEM left (λ x. then_ (put TY_NEWLINE x)) (put TY_RETURN s) (λ u. go (put TY_NEWLINE u))) (go (put b s))
 
 writes_in_time : (left at done : ℕ) (s : Xinu) → InTime (writes left at done s)
 writes_in_time zero at done s = λ e. absurd (cc)
 writes_in_time (suc left) at done s =
     let part = span at done (done + suc left) in
-    await_in_time TY_OSEM (rest.TtyWrite part false) (λ x. put_byte (slice_index x.memory (at + done)) (rest.TtyWrite part true) (writes left at (suc done)) x) s
-    (λ u. put_byte_in_time (slice_index u.memory (at + done)) (rest.TtyWrite part true) (writes left at (suc done)) u (writes_in_time left at (suc done)))
+    await_in_time TY_OSEM (rest.TtyWrite part false)
+    (λ x. put_byte (slice_index x.memory (at + done)) (rest.TtyWrite part true) (writes left at (suc done)) x) s
+    (λ u. put_byte_in_time (slice_index u.memory (at + done)) (rest.TtyWrite part true) (writes left at (suc done)) u
+    (writes_in_time left at (suc done)))
 
 -- a message that is taken from a port answers it
 take_message_told : (messages : List ℕ) (queue : PortQueue) (q : ℕ) (s : Xinu) → (take_message messages queue q s).answer ≡ Returns TIMEOUT
@@ -136,7 +141,8 @@ finish_receive_told : (ticket : PortTicket) (s : Xinu) → (finish_receive ticke
     → option_map signed (first_of (queued (port_at s.parts.ports ticket.port).queue)) ≡ Some TIMEOUT
 finish_receive_told ticket s =
     cond_both (is_stale ticket s.parts.ports) (refused s) _
-    (λ (h : CallResult). h.answer ≡ Returns TIMEOUT → option_map signed (first_of (queued (port_at s.parts.ports ticket.port).queue)) ≡ Some TIMEOUT)
+    (λ (h : CallResult). h.answer ≡ Returns TIMEOUT → option_map signed
+    (first_of (queued (port_at s.parts.ports ticket.port).queue)) ≡ Some TIMEOUT)
     (λ _ e. absurd (cc)) (λ _. take_from_told (port_at s.parts.ports ticket.port).queue ticket.port s)
 
 -- a message that came answers it; if none came the time ran out
@@ -167,14 +173,17 @@ continued_told (rest.PtSend ticket message) s holds e = absurd (finish_send_in_t
 continued_told (rest.PtRecv ticket) s holds e = inl (finish_receive_told ticket (goes_on (held s) s) e)
 continued_told rest.TtyGet s holds e = absurd (take_char_in_time (console_of s).committed (goes_on (held s) s) e)
 continued_told (rest.TtyRead part) s holds e =
-    absurd (read_item_in_time (console_of s).committed part.at part.done (reads (part.want - suc part.done) part.at (suc part.done)) (goes_on (held s) s) (reads_in_time (part.want - suc part.done) part.at (suc part.done)) e)
+    absurd (read_item_in_time (console_of s).committed part.at part.done (reads (part.want - suc part.done) part.at (suc part.done))
+    (goes_on (held s) s) (reads_in_time (part.want - suc part.done) part.at (suc part.done)) e)
 continued_told (rest.TtyPut b true) s holds e = absurd (cc)
 continued_told (rest.TtyPut b false) s holds e =
     absurd (put_byte_in_time b (rest.TtyPut b true) (answers OK) (goes_on (held s) s) (λ v f. absurd (cc)) e)
 continued_told (rest.TtyWrite part true) s holds e =
     absurd (writes_in_time (part.want - suc part.done) part.at (suc part.done) (put TY_NEWLINE (goes_on (held s) s)) e)
 continued_told (rest.TtyWrite part false) s holds e =
-    absurd (put_byte_in_time (slice_index s.memory (part.at + part.done)) (rest.TtyWrite part true) (writes (part.want - suc part.done) part.at (suc part.done)) (goes_on (held s) s) (writes_in_time (part.want - suc part.done) part.at (suc part.done)) e)
+    absurd (put_byte_in_time (slice_index s.memory (part.at + part.done)) (rest.TtyWrite part true)
+    (writes (part.want - suc part.done) part.at (suc part.done)) (goes_on (held s) s)
+    (writes_in_time (part.want - suc part.done) part.at (suc part.done)) e)
 continued_told (rest.Disk None) s holds e = absurd (cc)
 continued_told (rest.Disk (Some reply)) s holds e = inl (cc)
 continued_told rest.Nothing s holds e = absurd (cc)
@@ -185,7 +194,8 @@ pub timeouts_told : (s : Xinu) → IsSound s → (continued (process_at s.tables
 timeouts_told s k =
     let t = s.tables in
     let runs : state_at t t.current ≡ Current = k.tables.runs in
-    continued_told (process_at t t.current).rest s (holds_at t t.current k.tables.inside (λ (f : state_at t t.current ≡ Receiving). let g = sym runs ∙ f in absurd (cc)))
+    continued_told (process_at t t.current).rest s
+    (holds_at t t.current k.tables.inside (λ (f : state_at t t.current ≡ Receiving). let g = sym runs ∙ f in absurd (cc)))
 
 -- the time ran out
 pub time_ran_out : (s : Xinu) → held s ≡ None → (continued rest.Timed s).answer ≡ Returns TIMEOUT
@@ -217,7 +227,8 @@ open_stored_timely : (found : Option StoredFile) (name : List ℕ) (mode : OpenM
 open_stored_timely (Some f) name mode s =
     either_timely mode.only_new (refused_effect s) (opened name mode s) (refused_timely s) (λ e. absurd (cc))
 open_stored_timely None name mode s =
-    either_timely (mode.only_old || nat_le LF_NUM_DIR_ENT (length s.files)) (refused_effect s) (opened name mode (with_created name s)) (refused_timely s) (λ e. absurd (cc))
+    either_timely (mode.only_old || nat_le LF_NUM_DIR_ENT (length s.files)) (refused_effect s) (opened name mode (with_created name s))
+    (refused_timely s) (λ e. absurd (cc))
 
 on_device_timely : (found : Option OpenFile) (effect : OpenFile → FileEffect) (s : FileSystem) → ((f : OpenFile) → Timely (effect f))
     → Timely (on_open found effect s)
@@ -237,13 +248,16 @@ read_timely : (d n : ℕ) (f : OpenFile) (s : FileSystem) → Timely (read_file 
 read_timely d n f s =
     either_timely (not f.may_read) (refused_effect s) _ (refused_timely s)
     (either_timely (n == 0) (replies OK s) _ (replies_timely 0 s)
-    (either_timely (nat_le (length (open_bytes f s)) f.position) (replies EOF s) (taken (bytes_ahead n f s) d f s) (λ e. absurd (cc)) (λ e. absurd (cc))))
+    (either_timely (nat_le (length (open_bytes f s)) f.position) (replies EOF s) (taken (bytes_ahead n f s) d f s)
+    (λ e. absurd (cc)) (λ e. absurd (cc))))
 
 pub effects_timely : (call : FileCall) (bytes : List ℕ) (s : FileSystem) → Timely (file_effect call bytes s)
 effects_timely (Open name mode) bytes s =
-    either_timely (is_open name s || nat_le Nlfl (free_device s.devices)) (refused_effect s) _ (refused_timely s) (open_stored_timely (file_named name s.files) name mode s)
+    either_timely (is_open name s || nat_le Nlfl (free_device s.devices)) (refused_effect s) _ (refused_timely s)
+    (open_stored_timely (file_named name s.files) name mode s)
 effects_timely (Delete name) bytes s =
-    either_timely (is_open name s || not (is_some (file_named name s.files))) (refused_effect s) _ (refused_timely s) (replies_timely 0 (record s { files = without_file name s.files }))
+    either_timely (is_open name s || not (is_some (file_named name s.files))) (refused_effect s) _ (refused_timely s)
+    (replies_timely 0 (record s { files = without_file name s.files }))
 effects_timely (Close d) bytes s = on_device_timely (open_at s d) (λ f. close_file d f s) s (λ f e. absurd (cc))
 effects_timely (Read d n) bytes s = on_device_timely (open_at s d) (λ f. read_file d n f s) s (λ f. read_timely d n f s)
 effects_timely (Write d n) bytes s =
@@ -255,11 +269,13 @@ effects_timely (Getc d) bytes s =
     (λ f. either_timely (not f.may_read) (refused_effect s) _ (refused_timely s) (first_byte_timely (bytes_ahead 1 f s) d f s))
 effects_timely (Putc d b) bytes s =
     on_device_timely (open_at s d) (λ f. putc_file d b f s) s
-    (λ f. either_timely (not f.may_write || not (have_room f (b ∷ []) s)) (refused_effect s) (replies OK (put_bytes (b ∷ []) d f s)) (refused_timely s) (λ e. absurd (cc)))
+    (λ f. either_timely (not f.may_write || not (have_room f (b ∷ []) s)) (refused_effect s) (replies OK (put_bytes (b ∷ []) d f s))
+    (refused_timely s) (λ e. absurd (cc)))
 effects_timely (Seek d n) bytes s = on_device_timely (open_at s d) (λ f. seek_file d n f s) s (λ f. seek_timely d n f s)
 effects_timely (Truncate d) bytes s =
     on_device_timely (open_at s d) (λ f. truncate_file d f s) s
-    (λ f. either_timely (not f.may_write) (refused_effect s) (replies OK (record (moved d f 0 s) { files = with_contents f.name [] s.files })) (refused_timely s) (λ e. absurd (cc)))
+    (λ f. either_timely (not f.may_write) (refused_effect s)
+    (replies OK (record (moved d f 0 s) { files = with_contents f.name [] s.files })) (refused_timely s) (λ e. absurd (cc)))
 effects_timely (Size d) bytes s = on_device_timely (open_at s d) (λ f. size_of_file f s) s (λ f e. absurd (cc))
 
 -- Who is released by a tick and answered at once is answered 0.
@@ -274,7 +290,8 @@ all_answered : (value : ℤ) (ps : List ℕ) (d : CallState) → Answered value 
 all_answered value [] d k = k
 all_answered value (p ∷ ps) d k =
     all_answered value ps (unblock_with value p d)
-    (all_append (λ (r : ℕ × ℤ). r.1 ≡ value) d.released (reply_at_unblock value p (process_at d.state.tables p).rest) k (answered_at_unblock value p (process_at d.state.tables p).rest))
+    (all_append (λ (r : ℕ × ℤ). r.1 ≡ value) d.released (reply_at_unblock value p (process_at d.state.tables p).rest) k
+    (answered_at_unblock value p (process_at d.state.tables p).rest))
 
 pub ticks_answer : (s : Xinu) → Answered OK (wakeup s).released
 ticks_answer s = all_answered OK (due (s.tables.ticks + 1) s.tables.sleepers) (start s) tt

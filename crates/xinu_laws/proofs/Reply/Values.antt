@@ -100,7 +100,8 @@ from_tells : (queue : PortQueue) (found : Option PortQueue) (q : ℕ) (s x : Xin
 from_tells queue None q s x e some = absurd (cc)
 from_tells queue (Some other) q s x e some =
     let same : other ≡ queue = cc in
-    subst (λ (o : PortQueue). TellsValue s (option_map signed (first_of queue.messages)) (take_message o.messages o q x)) (sym same) (take_message_tells queue.messages queue q s x some)
+    subst (λ (o : PortQueue). TellsValue s (option_map signed (first_of queue.messages)) (take_message o.messages o q x)) (sym same)
+    (take_message_tells queue.messages queue q s x some)
 
 -- call 35
 received_from_tells : (found : Option PortQueue) (q : ℕ) (s : Xinu) → ArePorts s.tables s.parts.ports
@@ -109,11 +110,13 @@ received_from_tells : (found : Option PortQueue) (q : ℕ) (s : Xinu) → ArePor
 received_from_tells None q s ports e = refused_tells s None
 received_from_tells (Some queue) q s ports e =
     let ticket = ticket_of q queue.receive s in
-    take_token_tells (semaphore_at s.tables queue.receive).tokens queue.receive (PtRecv ticket) (finish_receive ticket) s (option_map signed (first_of queue.messages))
+    take_token_tells (semaphore_at s.tables queue.receive).tokens queue.receive (PtRecv ticket) (finish_receive ticket) s
+    (option_map signed (first_of queue.messages))
     (λ n f.
     let x = record s { tables = with_tokens queue.receive n s.tables } in
     let k = (ports.each q queue e).messages in
-    subst (λ b. TellsValue s (option_map signed (first_of queue.messages)) (cond b (refused x) (take_from (port_at s.parts.ports q).queue q x))) (sym (fresh_ticket q queue.receive s queue e))
+    subst (λ b. TellsValue s (option_map signed (first_of queue.messages))
+    (cond b (refused x) (take_from (port_at s.parts.ports q).queue q x))) (sym (fresh_ticket q queue.receive s queue e))
     (from_tells queue (port_at s.parts.ports q).queue q s x e (omega arith)))
 
 -- a call whose refusals are told by -1
@@ -179,4 +182,5 @@ refused_or_told number args s pools ports = by_row (found_in calls number) refl
         → TellsValue s (row_value found (slice_index args) s) (done_by found args s)
     by_row None e = refused_tells s None
     by_row (Some r) e =
-        of_row (λ (x : CallRow). (a : ℕ → ℕ) (u : Xinu) → ArePools u.tables u.parts.pools → ArePorts u.tables u.parts.ports → TellsValue u (value_of x.reply a u) (x.effect a u)) calls calls_tell number r e (slice_index args) s pools ports
+        of_row (λ (x : CallRow). (a : ℕ → ℕ) (u : Xinu) → ArePools u.tables u.parts.pools → ArePorts u.tables u.parts.ports → TellsValue u
+        (value_of x.reply a u) (x.effect a u)) calls calls_tell number r e (slice_index args) s pools ports

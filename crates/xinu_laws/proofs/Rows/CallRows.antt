@@ -23,7 +23,8 @@ pub number_of_row : (rows : List CallRow) (number : ℕ) (r : CallRow) → found
 number_of_row [] number r = λ e. absurd (cc)
 number_of_row (row ∷ rows) number r =
     cond_both (number == row.syscall.number) (Some row) (found_in rows number) (λ x. x ≡ Some r → r.syscall.number ≡ number)
-    (λ b e. sym (eqb-true number row.syscall.number b ∙ ap (λ (x : CallRow). x.syscall.number) (same_row row r e))) (λ _ e. number_of_row rows number r e)
+    (λ b e. sym (eqb-true number row.syscall.number b ∙ ap (λ (x : CallRow). x.syscall.number) (same_row row r e)))
+    (λ _ e. number_of_row rows number r e)
 
 -- A test that the whole table passes each row passes.
 pub all_rows : (test : CallRow → Bool) (rows : List CallRow) → list_all test rows ≡ true → AllByRecursion (λ r. test r ≡ true) rows

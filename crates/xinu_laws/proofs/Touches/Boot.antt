@@ -98,7 +98,8 @@ module _ {f : Reach} (g : HasStart f) where
   touches_all_made : (images : List Loaded) (i : ℕ) (s x : Xinu) → all_made i images s ≡ Boots x → Touches f s x
   touches_all_made [] i s x e = let h : s ≡ x = cc in subst (Touches f s) h (touches_refl s)
   touches_all_made (image ∷ images) i s x e =
-      touches_next (take_stack (stack_size image.stack) s.parts.heap) i image images s x refl (λ y h. touches_all_made images (i + 1) y x h) e
+      touches_next (take_stack (stack_size image.stack) s.parts.heap) i image images s x refl
+      (λ y h. touches_all_made images (i + 1) y x h) e
 
   -- the start, by the first image that overlaps an earlier one
   touches_unless_overlap : (overlap : Option ℕ) (images : List Loaded) (start : Xinu) → unless_overlap overlap images ≡ Boots start
@@ -109,7 +110,8 @@ module _ {f : Reach} (g : HasStart f) where
       let h : all_started images b.0 ≡ start = cc in
       let first = touches_all_made images 1 (loaded_machine images) b.0 b.1 in
       let may : (p : ℕ) → MayReady f.asks (loaded_machine images).tables p = λ p. record { idle = λ k. absurd (both_ways (f.asks (process_at null_tables p).rest) (first_unasked p) k) } in
-      subst (Touches f (loaded_machine images)) h (touches_trans first (touches_all_started images b.0 (λ p. may_ready_framed (loaded_machine images) b.0 p first (may p))))
+      subst (Touches f (loaded_machine images)) h
+      (touches_trans first (touches_all_started images b.0 (λ p. may_ready_framed (loaded_machine images) b.0 p first (may p))))
 
   -- The start touches nothing else.
   pub touches_start : (images : List Loaded) (start : Xinu) → boot images ≡ Boots start → Touches f (loaded_machine images) start
@@ -120,11 +122,13 @@ module _ {f : Reach} (g : HasStart f) where
       → f.mine sem (semaphore_at start.tables sem).owner ≡ false
   start_other owns images start e sem =
       false_from_ne_true (f.mine sem (semaphore_at start.tables sem).owner)
-      (λ h. both_ways (f.mine sem (semaphore_at null_tables sem).owner) (first_other owns sem) (ap (f.mine sem) (sym ((touches_start images start e).frame.old sem h)) ∙ h))
+      (λ h. both_ways (f.mine sem (semaphore_at null_tables sem).owner) (first_other owns sem)
+      (ap (f.mine sem) (sym ((touches_start images start e).frame.old sem h)) ∙ h))
 
   -- and nobody is in such a call.
   pub start_unasked : (images : List Loaded) (start : Xinu) → boot images ≡ Boots start → (p : ℕ)
       → f.asks (process_at start.tables p).rest ≡ false
   start_unasked images start e p =
       false_from_ne_true (f.asks (process_at start.tables p).rest)
-      (λ h. both_ways (f.asks (process_at null_tables p).rest) (first_unasked p) (ap f.asks (sym ((touches_start images start e).frame.rests p h).0) ∙ h))
+      (λ h. both_ways (f.asks (process_at null_tables p).rest) (first_unasked p)
+      (ap f.asks (sym ((touches_start images start e).frame.rests p h).0) ∙ h))

@@ -32,7 +32,8 @@ KeepsTicks s u = u.tables.ticks ≡ s.tables.ticks
 pub resched_ticks : (t : Tables) → (resched t).ticks ≡ t.ticks
 resched_ticks t =
     let room = preempt t in
-    cond_both (keeps_cpu t.ready t) t (dispatch_first room.ready room) (λ u. u.ticks ≡ t.ticks) (λ _. refl) (λ _. dispatched room.ready room ∙ preempted)
+    cond_both (keeps_cpu t.ready t) t (dispatch_first room.ready room) (λ u. u.ticks ≡ t.ticks)
+    (λ _. refl) (λ _. dispatched room.ready room ∙ preempted)
   where
     dispatched : (l : List (ℕ × ℤ)) (u : Tables) → (dispatch_first l u).ticks ≡ u.ticks
     dispatched [] u = refl
@@ -56,7 +57,8 @@ ticks_law = record { same = λ number s. refl; others = λ number f s u e t. t.c
 ticks_reacted : (o : Outcome) (s : Xinu) → IsSound s → KeepsTicks s (reacted o s).state
 ticks_reacted outcome.Went s k = refl
 ticks_reacted outcome.Call s k =
-    let call = call_of (current_hart s) in closed_ticks (called call.number call.args s) ∙ built_law_of_few ticks_law call.number call.args s k
+    let call = call_of (current_hart s) in closed_ticks (called call.number call.args s)
+    ∙ built_law_of_few ticks_law call.number call.args s k
 ticks_reacted outcome.Exit s k = closed_ticks (exit s) ∙ (exit_touches s k).clock refl
 ticks_reacted (outcome.Trap cause) s k = closed_ticks (exit s) ∙ (exit_touches s k).clock refl
 
@@ -65,7 +67,8 @@ pub ticks_stepped : (s : Xinu) → IsSound s → KeepsTicks s (stepped s).state
 ticks_stepped s k =
     let left = (process_at s.tables s.tables.current).rest in
     let goes_on = end_of_event s.tables.current [] (continued left s) in
-    cond_both (s.tables.current == 0) (nothing_happens s) (cond (is_done left) (instruction_step s) goes_on) (λ (e : EventResult). KeepsTicks s e.state)
+    cond_both (s.tables.current == 0) (nothing_happens s) (cond (is_done left) (instruction_step s) goes_on)
+    (λ (e : EventResult). KeepsTicks s e.state)
     (λ _. refl)
     (λ b. let c = may_call s k (eqb-false s.tables.current 0 b) in
     cond_both (is_done left) (instruction_step s) goes_on (λ (e : EventResult). KeepsTicks s e.state)
@@ -92,7 +95,8 @@ released_ticks (p ∷ ps) d = released_ticks ps _
 quantum_ticks : (t : Tables) → (quantum_falls t).ticks ≡ t.ticks
 quantum_ticks t =
     let fresh = record t { quantum = 2 } in
-    cond_both (nat_lt 1 t.quantum) (record t { quantum = t.quantum - 1 }) (resched fresh) (λ u. u.ticks ≡ t.ticks) (λ _. refl) (λ _. resched_ticks fresh)
+    cond_both (nat_lt 1 t.quantum) (record t { quantum = t.quantum - 1 }) (resched fresh) (λ u. u.ticks ≡ t.ticks)
+    (λ _. refl) (λ _. resched_ticks fresh)
 
 -- A tick moves the clock by one.
 pub ticks_ticked : (s : Xinu) → (ticked s).state.tables.ticks ≡ s.tables.ticks + 1

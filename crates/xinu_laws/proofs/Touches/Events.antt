@@ -43,7 +43,8 @@ may_ready_preempted asks t may p =
     cond_both (is_current (state_at t c)) (ready c t) t (λ u. 0 < entries_of p u.ready → MayReady asks t p)
     (λ b. by_number p c (λ r. 0 < entries_of r (ready c t).ready → MayReady asks t r)
     (λ _. may_ready_idle asks t c (ap is_waiting (current_of (state_at t c) b)))
-    (λ n h. may p (subst (λ k. 0 < k) (ready_in_other InReady p c (process_at t c).priority (entries_without c t.ready) n ∙ entries_without_other p c t.ready n) h)))
+    (λ n h. may p (subst (λ k. 0 < k)
+    (ready_in_other InReady p c (process_at t c).priority (entries_without c t.ready) n ∙ entries_without_other p c t.ready n) h)))
     (λ _. may p)
 
 -- who sleeps waits on no semaphore
@@ -72,7 +73,8 @@ module _ {f : Reach} where
       let t = s.tables in
       let c = t.current in
       cond_both (is_current (state_at t c)) (ready c t) t (λ u. Touches f s (record s { tables = u }))
-      (λ b. touches_moved s c Ready (message_at t c) InReady tt refl refl (may_ready_idle f.asks t c (ap is_waiting (current_of (state_at t c) b)))) (λ _. touches_refl s)
+      (λ b. touches_moved s c Ready (message_at t c) InReady tt refl refl
+      (may_ready_idle f.asks t c (ap is_waiting (current_of (state_at t c) b)))) (λ _. touches_refl s)
 
   -- The first of a list runs.
   touches_dispatch_first : (l : List (ℕ × ℤ)) (s u : Xinu) → Touches f s u → ((p : ℕ) → 0 < entries_of p l → MayReady f.asks s.tables p)
@@ -88,7 +90,8 @@ module _ {f : Reach} where
       let t = s.tables in
       let room = preempt t in
       cond_both (keeps_cpu t.ready t) t (dispatch_first room.ready room) (λ u. Touches f s (record s { tables = u }))
-      (λ _. touches_refl s) (λ _. touches_dispatch_first room.ready s (record s { tables = room }) (touches_preempt s) (may_ready_preempted f.asks t may))
+      (λ _. touches_refl s)
+      (λ _. touches_dispatch_first room.ready s (record s { tables = room }) (touches_preempt s) (may_ready_preempted f.asks t may))
 
   -- A resched inside an event.
   pub touches_resched : (s : Xinu) → IsInside s.tables → Touches f s (record s { tables = resched s.tables })
@@ -99,7 +102,8 @@ module _ {f : Reach} where
       → Touches f result.call.state (record result.call.state { tables = closed result })
   touches_closed result o =
       let s = result.call.state in
-      cond_both (result.call.owes_resched || is_off result.answer) (resched s.tables) s.tables (λ u. Touches f s (record s { tables = u })) (λ _. touches_resched s o) (λ _. touches_refl s)
+      cond_both (result.call.owes_resched || is_off result.answer) (resched s.tables) s.tables (λ u. Touches f s (record s { tables = u }))
+      (λ _. touches_resched s o) (λ _. touches_refl s)
 
   -- Replies to processes that are alive touch only their registers.
   touches_replied : (s u : Xinu) (replies : List (ℕ × ℤ)) → Touches f s u → AreAlive u.tables replies
@@ -119,7 +123,8 @@ module _ {f : Reach} where
       let t = s.tables in
       let n = t.ticks + 1 in
       touches_unblock_all (due n t.sleepers) (start s)
-      (λ p h. may_ready_idle f.asks t p (sleeping_idle (state_at t p) (let e = o.sleeping p in let g = due_sleeps n p t.sleepers in omega arith)))
+      (λ p h. may_ready_idle f.asks t p
+      (sleeping_idle (state_at t p) (let e = o.sleeping p in let g = due_sleeps n p t.sleepers in omega arith)))
 
   -- the quantum falls
   touches_quantum : (s : Xinu) → IsInside s.tables → Touches f s (record s { tables = quantum_falls s.tables })
@@ -139,7 +144,8 @@ module _ {f : Reach} where
       let u = record s { tables = later } in
       let first : Touches f s u = touches_tables s later (frame_same t later refl refl) refl (λ p h. h) (named goes) (record { stay = λ p h. h }) in
       cond_both owes (resched later) later (λ v. Touches f s (record s { tables = quantum_falls v }))
-      (λ _. touches_trans (touches_trans first (touches_resched u o)) (touches_quantum (record s { tables = resched later }) (sound_resched later o).inside))
+      (λ _. touches_trans (touches_trans first (touches_resched u o))
+      (touches_quantum (record s { tables = resched later }) (sound_resched later o).inside))
       (λ _. touches_trans first (touches_quantum u o))
 
 -- The end of an event, if its replies go to processes that are alive.
@@ -148,7 +154,8 @@ pub touches_end_of_event : {f : Reach} (was : ℕ) (first : List TranscriptLine)
 touches_end_of_event was first result o alive =
     let s = result.call.state in
     let k : Touches (reach on_tables) s (record s { tables = closed result }) = touches_closed result o in
-    touches_replied s (record s { tables = closed result }) (replies_of result) (touches_closed result o) (alive_kept s.tables (closed result) (k.free refl).was (replies_of result) alive)
+    touches_replied s (record s { tables = closed result }) (replies_of result) (touches_closed result o)
+    (alive_kept s.tables (closed result) (k.free refl).was (replies_of result) alive)
 
 -- who sleeps is alive
 sleeping_lives : (s : State) → 0 < sleeping_places s → is_free s ≡ false
@@ -168,7 +175,8 @@ released_by_wakeup s o =
 -- a tick later, with the tables sound
 later_inside : (s : Xinu) → IsSoundTables s.tables → IsInside (record (wakeup s).state.tables { ticks = (wakeup s).state.tables.ticks + 1 })
 later_inside s k =
-    subst (λ (x : Xinu). IsInside (record x.tables { ticks = x.tables.ticks + 1 })) (sym (unblock_all_ready (due (s.tables.ticks + 1) s.tables.sleepers) (start s)))
+    subst (λ (x : Xinu). IsInside (record x.tables { ticks = x.tables.ticks + 1 }))
+    (sym (unblock_all_ready (due (s.tables.ticks + 1) s.tables.sleepers) (start s)))
     (sound_later false s.tables k).inside
 
 -- The replies of a tick go to processes that are alive.

@@ -47,4 +47,5 @@ module _ {names : Footprint → Bool} {Law : CallLaw} (k : IsLawOfFew names Law)
   -- whether it is served or refused.
   pub built_law_of_few : Law number s (called number args s).call.state
   built_law_of_few =
-      cond_both (is_served number args) (call_of_number number args s) (refused s) (λ (h : CallResult). Law number s h.call.state) (λ _. law_of_few) (λ _. k.same number s)
+      cond_both (is_served number args) (call_of_number number args s) (refused s) (λ (h : CallResult). Law number s h.call.state)
+      (λ _. law_of_few) (λ _. k.same number s)

@@ -84,13 +84,15 @@ module _ {f : Footprint} {s u : Xinu} where
   pub keeps_console : {clock : Bool} → f.console ≡ false → Touches (record (reach f) { clock = clock }) s u → IsInside u.tables
       → IsConsole s.tables s.parts.devices.console → IsConsole u.tables u.parts.devices.console
   keeps_console e t o k = subst (IsConsole u.tables) (sym (t.parts.devices.console e))
-      (console_framed s.tables u.tables s.parts.devices.console o (frame_weaker s.tables u.tables (console_spared f e) (console_calls_spared f e) t.frame) k)
+      (console_framed s.tables u.tables s.parts.devices.console o
+      (frame_weaker s.tables u.tables (console_spared f e) (console_calls_spared f e) t.frame) k)
 
   -- A step that may not change the disks keeps what holds of them, if it keeps what holds of the tables.
   pub keeps_disks : {clock : Bool} → f.disk ≡ false → f.files ≡ false → Touches (record (reach f) { clock = clock }) s u → IsInside s.tables
       → IsInside u.tables → AreDisks s.tables s.parts.devices → AreDisks u.tables u.parts.devices
   keeps_disks e files t was o k =
-      let same = disks_framed s.tables u.tables s.parts.devices was o (frame_weaker s.tables u.tables (disks_spared f e files) (disk_calls_spared f e files) t.frame)
+      let same = disks_framed s.tables u.tables s.parts.devices was o
+      (frame_weaker s.tables u.tables (disks_spared f e files) (disk_calls_spared f e files) t.frame)
       (still_weaker s.tables u.tables (disk_calls_spared f e files) t.frame (t.stay e)) k in
       record {
         raw = subst (IsRawDisk u.tables) (sym (t.parts.devices.disk e)) same.raw;

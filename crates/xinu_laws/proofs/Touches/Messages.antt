@@ -36,7 +36,8 @@ recvclr_touches s i = received_touches (held s) (returns (start s) (pos 0)) s i.
 pub recvtime_touches : (ticks : ℤ) → StaysIn on_tables (recvtime ticks)
 recvtime_touches (negsuc n) s i = touches_refl s
 recvtime_touches (pos n) s i =
-    let place = InSleepers (s.tables.ticks + max 1 n) in received_touches (held s) (blocked Timed rest.Timed place s) s i.tables.runs (touches_blocked Timed rest.Timed place s i.tables.runs tt refl refl)
+    let place = InSleepers (s.tables.ticks + max 1 n) in received_touches (held s) (blocked Timed rest.Timed place s) s i.tables.runs
+    (touches_blocked Timed rest.Timed place s i.tables.runs tt refl refl)
 
 -- The calls 22 and 24 go on.
 pub go_on_receive_touches : StaysIn on_tables go_on_receive

@@ -95,12 +95,14 @@ module _ {mine : ℕ → Option Owner → Bool} {asks : Rest → Bool} where
       → Frame mine asks s.tables (blocked state rest place s).call.state.tables
   frame_blocked state rest place s p e =
       let t = s.tables in
-      frame_move t t.current (record (process_at t t.current) { state = state; rest = rest }) (message_at t t.current) place p (λ h. absurd (both_ways (asks rest) e h)) (unasked (is_waiting state) (asks rest) e)
+      frame_move t t.current (record (process_at t t.current) { state = state; rest = rest }) (message_at t t.current) place p
+      (λ h. absurd (both_ways (asks rest) e h)) (unasked (is_waiting state) (asks rest) e)
 
   pub frame_goes_on : asks Nothing ≡ false → (message : Option ℕ) (s : Xinu) → Frame mine asks s.tables (goes_on message s).tables
   frame_goes_on e message s =
       let t = s.tables in
-      frame_move t t.current (record (process_at t t.current) { rest = Nothing }) message Nowhere tt (λ h. absurd (both_ways (asks Nothing) e h)) (unasked (is_waiting (state_at t t.current)) (asks Nothing) e)
+      frame_move t t.current (record (process_at t t.current) { rest = Nothing }) message Nowhere tt
+      (λ h. absurd (both_ways (asks Nothing) e h)) (unasked (is_waiting (state_at t t.current)) (asks Nothing) e)
 
 module _ {f : Reach} where
   -- A process moves with its stack.
@@ -111,7 +113,8 @@ module _ {f : Reach} where
       → Touches f s (record s { tables = move_to q x m place s.tables })
   touches_move s q x m place p c idle stack old was_idle =
       let t = s.tables in
-      touches_tables s (move_to q x m place t) (frame_move t q x m place p c idle) (map_set_same stack_of t.processes q x no_process stack) (was_free t.processes q x old) (λ _. refl)
+      touches_tables s (move_to q x m place t) (frame_move t q x m place p c idle) (map_set_same stack_of t.processes q x no_process stack)
+      (was_free t.processes q x old) (λ _. refl)
       (still_move f.asks t q x m place was_idle)
 
   -- A process goes to another state, in which it doesn't wait.
@@ -119,7 +122,8 @@ module _ {f : Reach} where
       → is_waiting state ≡ false → is_free state ≡ false → MayReady f.asks s.tables q
       → Touches f s (record s { tables = move_to q (in_state state (process_at s.tables q)) m place s.tables })
   touches_moved s q state m place p e alive w =
-      let x = process_at s.tables q in touches_move s q (in_state state x) m place p (λ h. (refl, e ∙ sym (w.idle h))) (ap (λ b. b && f.asks x.rest) e) refl (λ h. absurd (both_ways (is_free state) alive h)) (may_ready_waits f.asks s.tables q w)
+      let x = process_at s.tables q in touches_move s q (in_state state x) m place p (λ h. (refl, e ∙ sym (w.idle h)))
+      (ap (λ b. b && f.asks x.rest) e) refl (λ h. absurd (both_ways (is_free state) alive h)) (may_ready_waits f.asks s.tables q w)
 
   -- A process goes anywhere, in a call that isn't left alone.
   pub touches_unasked : (s : Xinu) (q : ℕ) (x : Process) (m : Option ℕ) (place : Place) → IsFramePlace f.mine s.tables place
@@ -139,7 +143,8 @@ module _ {f : Reach} where
   touches_unblock_all [] d w = touches_refl d.state
   touches_unblock_all (p ∷ ps) d w =
       let first = touches_unblock p d (w p (first_is_counted p ps)) in
-      touches_trans first (touches_unblock_all ps (unblock p d) (λ q h. may_ready_framed d.state (unblock p d).state q first (w q (count_behind q p ps h))))
+      touches_trans first (touches_unblock_all ps (unblock p d)
+      (λ q h. may_ready_framed d.state (unblock p d).state q first (w q (count_behind q p ps h))))
 
   -- The caller waits, in a call that isn't left alone.
   pub touches_blocked : (state : State) (rest : Rest) (place : Place) (s : Xinu) → state_at s.tables s.tables.current ≡ Current
@@ -147,21 +152,25 @@ module _ {f : Reach} where
       → Touches f s (blocked state rest place s).call.state
   touches_blocked state rest place s runs p e alive =
       let t = s.tables in
-      touches_unasked s t.current (record (process_at t t.current) { state = state; rest = rest }) (message_at t t.current) place p e refl (λ h. absurd (both_ways (is_free state) alive h))
+      touches_unasked s t.current (record (process_at t t.current) { state = state; rest = rest }) (message_at t t.current) place p e refl
+      (λ h. absurd (both_ways (is_free state) alive h))
       (runs_idle f.asks t runs)
 
   -- The caller goes on.
   pub touches_goes_on : f.asks Nothing ≡ false → (message : Option ℕ) (s : Xinu) → state_at s.tables s.tables.current ≡ Current
       → Touches f s (goes_on message s)
   touches_goes_on e message s runs =
-      let t = s.tables in touches_unasked s t.current (record (process_at t t.current) { rest = Nothing }) message Nowhere tt e refl (λ h. h) (runs_idle f.asks t runs)
+      let t = s.tables in touches_unasked s t.current (record (process_at t t.current) { rest = Nothing }) message Nowhere tt e refl
+      (λ h. h) (runs_idle f.asks t runs)
 
   -- A message is delivered.
   pub touches_delivered : (p message : ℕ) (d : CallState) → Touches f d.state (delivered p message d).state
   touches_delivered p message d =
       let t = d.state.tables in
       let u = record t { messages = set t.messages p (Some message) } in
-      cond_both (listens (state_at t p)) (record (with_tables (move_to p (in_state Ready (process_at t p)) (Some message) InReady t) d) { owes_resched = true }) (with_tables u d)
+      cond_both (listens (state_at t p))
+      (record (with_tables (move_to p (in_state Ready (process_at t p)) (Some message) InReady t) d) { owes_resched = true })
+      (with_tables u d)
       (λ e. Touches f d.state e.state)
       (λ b. touches_moved d.state p Ready (Some message) InReady tt refl refl (may_ready_idle f.asks t p (listens_idle (state_at t p) b)))
       (λ _. touches_tables d.state u (frame_same t u refl refl) refl (λ q h. h) (λ _. refl) (record { stay = λ q h. h }))
@@ -169,7 +178,8 @@ module _ {f : Reach} where
   -- A message is sent, or refused.
   pub touches_sent : (p message : ℕ) (d : CallState) → Touches f d.state (sent p message d).state
   touches_sent p message d =
-      cond_both (can_get p d.state.tables) (delivered p message d) d (λ e. Touches f d.state e.state) (λ _. touches_delivered p message d) (λ _. touches_refl d.state)
+      cond_both (can_get p d.state.tables) (delivered p message d) d (λ e. Touches f d.state e.state) (λ _. touches_delivered p message d)
+      (λ _. touches_refl d.state)
 
   -- A semaphore changes.
   pub touches_semaphore : (s : Xinu) (r : ℕ) (x : Semaphore) → f.mine r (semaphore_at s.tables r).owner ≡ false → f.mine r x.owner ≡ false
@@ -218,7 +228,8 @@ module _ {f : Reach} where
   touches_signalled_times sem n d o may =
       let x = semaphore_at d.state.tables sem in
       let after = unblock_all (take n x.waiters) d in
-      let first : Touches f d.state after.state = touches_unblock_all (take n x.waiters) d (λ p h. may_ready_waiter d.state.tables sem o may p (counted_take p n x.waiters h)) in
+      let first : Touches f d.state after.state = touches_unblock_all (take n x.waiters) d
+      (λ p h. may_ready_waiter d.state.tables sem o may p (counted_take p n x.waiters h)) in
       touches_trans first (touches_tokens after.state sem (x.tokens + (n - length x.waiters)) (still_touched sem first may))
 
   -- A token is taken, or awaited.

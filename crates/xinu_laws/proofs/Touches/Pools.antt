@@ -110,7 +110,8 @@ freed_buffer_sound b d t k = by_holder (λ e. IsSoundTables e.state.tables) b d 
     (λ i h. let pools = d.state.parts.pools in
     let pool = pool_at pools i in
     let owned = k.owner i h.within in
-    sound_signalled pool.semaphore (record d { state = record d.state { parts = record d.state.parts { pools = set pools i (with_free b pool) } } }) t
+    sound_signalled pool.semaphore
+    (record d { state = record d.state { parts = record d.state.parts { pools = set pools i (with_free b pool) } } }) t
     (semaphore_within d.state.tables pool.semaphore t.inside.semaphores (λ e. cc)) (λ e. cc))
 
 -- Some are given back, one after another.
@@ -119,7 +120,8 @@ module _ {f : Reach} (a : HasPools f) where
       → OwnSemaphores d.state.tables d.state.parts.pools → Touches f d.state (freed_buffers messages d).state
   freed_buffers_touch [] d t k = touches_refl d.state
   freed_buffers_touch (b ∷ messages) d t k =
-      touches_trans (freed_buffer_touches a b d t.inside k) (freed_buffers_touch messages (freed_buffer b d) (freed_buffer_sound b d t k) (freed_buffer_owns b d k))
+      touches_trans (freed_buffer_touches a b d t.inside k)
+      (freed_buffers_touch messages (freed_buffer b d) (freed_buffer_sound b d t k) (freed_buffer_owns b d k))
 
 pub freed_buffers_sound : (messages : List ℕ) (d : CallState) → IsSoundTables d.state.tables
     → OwnSemaphores d.state.tables d.state.parts.pools → IsSoundTables (freed_buffers messages d).state.tables
@@ -163,7 +165,8 @@ made_pool_touches : (found : Option Grant) (sem : Option ℕ) (size n : ℕ) (s 
     → take_memory (pool_bytes size n) s.parts.heap ≡ found
     → Touches (reach on_new_pool) s (made_pool found sem size n s).call.state
 made_pool_touches (Some grant) (Some sem) size n s e g =
-    touches_either s (meets_pool grant.address (pool_bytes size n) s.parts.pools) (refused s) (with_pool grant sem size n s) (λ _. touches_refl s)
+    touches_either s (meets_pool grant.address (pool_bytes size n) s.parts.pools) (refused s) (with_pool grant sem size n s)
+    (λ _. touches_refl s)
     (λ _. let i = length s.parts.pools in
     let t : Touches (reach on_new_pool) s (record s { tables = make_semaphore sem (owner.Pool i) n s.tables }) =
     touches_make_semaphore s sem (owner.Pool i) n (ap ((reach on_new_pool).mine sem) (free_semaphore_free s.tables sem e)) refl in
@@ -176,4 +179,5 @@ made_pool_touches None sem size n s e g = touches_refl s
 pub mkbufpool_touches : (size n : ℕ) → StaysIn on_new_pool (mkbufpool size n)
 mkbufpool_touches size n s k =
     touches_if s (is_pool_size size n && nat_lt (length s.parts.pools) most_pools) _
-    (λ _. made_pool_touches (take_memory (pool_bytes (whole_words size) n) s.parts.heap) (free_semaphore s.tables) (whole_words size) n s refl refl)
+    (λ _. made_pool_touches (take_memory (pool_bytes (whole_words size) n) s.parts.heap) (free_semaphore s.tables)
+    (whole_words size) n s refl refl)

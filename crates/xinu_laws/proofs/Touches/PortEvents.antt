@@ -119,7 +119,8 @@ delete_once None q how s = stays_once s s refl
 delete_once (Some queue) q how s =
     let d = cleared how queue (start s) in
     cond_both (nat_le how 1) (returns (deleted q queue d) OK) (refused s) (λ (r : CallResult). RisesOnce s r.call.state)
-    (λ _. next_once s (deleted q queue d).state d.state.parts.ports q None (cleared_leaves how queue (start s)) refl) (λ _. stays_once s s refl)
+    (λ _. next_once s (deleted q queue d).state d.state.parts.ports q None (cleared_leaves how queue (start s)) refl)
+    (λ _. stays_once s s refl)
 
 -- call 33
 reset_once : (found : Option PortQueue) (q how : ℕ) (s : Xinu) → RisesOnce s (reset_where found q how s).call.state
@@ -127,7 +128,8 @@ reset_once None q how s = stays_once s s refl
 reset_once (Some queue) q how s =
     let d = cleared how queue (start s) in
     cond_both (nat_le how 1) (returns (emptied_port q queue d) OK) (refused s) (λ (r : CallResult). RisesOnce s r.call.state)
-    (λ _. next_once s (emptied_port q queue d).state d.state.parts.ports q (Some (record queue { messages = [] })) (cleared_leaves how queue (start s)) refl)
+    (λ _. next_once s (emptied_port q queue d).state d.state.parts.ports q (Some (record queue { messages = [] }))
+    (cleared_leaves how queue (start s)) refl)
     (λ _. stays_once s s refl)
 
 -- other messages leave the number of a port
@@ -145,7 +147,8 @@ put_once None q message s = stays_once s s refl
 put_once (Some queue) q message s =
     let d = signalled queue.receive (with_messages q queue (queue.messages ++ message ∷ []) (start s)) in
     cond_both (nat_le most_nodes (nodes s.parts.ports)) (record { call = start s; answer = Panics }) (returns d OK)
-    (λ (r : CallResult). RisesOnce s r.call.state) (λ _. stays_once s s refl) (λ _. messages_once q queue (queue.messages ++ message ∷ []) queue.receive s)
+    (λ (r : CallResult). RisesOnce s r.call.state) (λ _. stays_once s s refl)
+    (λ _. messages_once q queue (queue.messages ++ message ∷ []) queue.receive s)
 
 finish_send_once : (ticket : PortTicket) (message : ℕ) (s : Xinu) → RisesOnce s (finish_send ticket message s).call.state
 finish_send_once ticket message s =
@@ -185,7 +188,8 @@ receive_once : (found : Option PortQueue) (q : ℕ) (s : Xinu) → RisesOnce s (
 receive_once None q s = stays_once s s refl
 receive_once (Some queue) q s =
     let ticket = ticket_of q queue.receive s in
-    token_once (semaphore_at s.tables queue.receive).tokens queue.receive (rest.PtRecv ticket) (finish_receive ticket) s (finish_receive_once ticket)
+    token_once (semaphore_at s.tables queue.receive).tokens queue.receive (rest.PtRecv ticket) (finish_receive ticket) s
+    (finish_receive_once ticket)
 
 -- each call obeys the law: those on ports, and those that leave them alone
 ports_law : IsLawOfFew (λ f. f.ports) (λ number s u. RisesOnce s u)
@@ -232,7 +236,8 @@ pub stepped_once : (s : Xinu) → IsSound s → RisesOnce s (stepped s).state
 stepped_once s k =
     let left = (process_at s.tables s.tables.current).rest in
     let goes_on = end_of_event s.tables.current [] (continued left s) in
-    cond_both (s.tables.current == 0) (nothing_happens s) (cond (is_done left) (instruction_step s) goes_on) (λ (e : EventResult). RisesOnce s e.state)
+    cond_both (s.tables.current == 0) (nothing_happens s) (cond (is_done left) (instruction_step s) goes_on)
+    (λ (e : EventResult). RisesOnce s e.state)
     (λ _. stays_once s s refl)
     (λ b. let c = may_call s k (eqb-false s.tables.current 0 b) in
     cond_both (is_done left) (instruction_step s) goes_on (λ (e : EventResult). RisesOnce s e.state)

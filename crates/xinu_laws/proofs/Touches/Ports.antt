@@ -89,7 +89,8 @@ module _ {f : Reach} (q : ℕ) (a : HasPort f q) where
       let u = record s { tables = make_semaphore send (owner.Port q) n s.tables } in
       let v = record u { tables = make_semaphore receive (owner.Port q) 0 u.tables } in
       let first : Touches f s u = touches_make_semaphore s send (owner.Port q) n (ap (f.mine send) g ∙ a.none send) (a.owner send) in
-      let then_ : Touches f u v = touches_make_semaphore u receive (owner.Port q) 0 (ap (f.mine receive) (h) ∙ a.none receive) (a.owner receive) in
+      let then_ : Touches f u v = touches_make_semaphore u receive (owner.Port q) 0 (ap (f.mine receive) (h) ∙ a.none receive)
+      (a.owner receive) in
       touches_trans (touches_trans first then_) (touches_parts v _ refl refl (parts_ports a.parts s.parts _ _))
 
   -- a port is made, if the second semaphore is found
@@ -129,7 +130,8 @@ module _ {f : Reach} (q : ℕ) (a : HasPort f q) where
   port_cleared_touches queue d k send receive =
       let one = emptied queue.send d in
       touches_trans (touches_emptied queue.send d k.inside (port_may_be_touched d.state.tables queue.send send))
-      (touches_emptied queue.receive one (sound_emptied queue.send d k).inside (port_may_be_touched one.state.tables queue.receive (owner_emptied queue.send queue.receive d ∙ receive)))
+      (touches_emptied queue.receive one (sound_emptied queue.send d k).inside
+      (port_may_be_touched one.state.tables queue.receive (owner_emptied queue.send queue.receive d ∙ receive)))
 
   -- the messages are gone and the port is deleted
   pub deleted_touches : (queue : PortQueue) (d : CallState) → (semaphore_at d.state.tables queue.send).owner ≡ Some (owner.Port q)
@@ -139,8 +141,10 @@ module _ {f : Reach} (q : ℕ) (a : HasPort f q) where
       let t = d.state.tables in
       let u = record d.state { tables = with_semaphore queue.send no_semaphore t } in
       let v = record u { tables = with_semaphore queue.receive no_semaphore u.tables } in
-      let first : Touches f d.state u = touches_semaphore d.state queue.send no_semaphore (port_may_be_touched t queue.send send).owner (a.none queue.send) in
-      let then_ : Touches f u v = touches_semaphore u queue.receive no_semaphore (still_touched queue.receive first (port_may_be_touched t queue.receive receive)) (a.none queue.receive) in
+      let first : Touches f d.state u = touches_semaphore d.state queue.send no_semaphore (port_may_be_touched t queue.send send).owner
+      (a.none queue.send) in
+      let then_ : Touches f u v = touches_semaphore u queue.receive no_semaphore
+      (still_touched queue.receive first (port_may_be_touched t queue.receive receive)) (a.none queue.receive) in
       touches_trans (touches_trans first then_) (touches_parts v _ refl refl (parts_ports a.parts d.state.parts _ _))
 
   -- or is as it was when it was made
@@ -152,14 +156,16 @@ module _ {f : Reach} (q : ℕ) (a : HasPort f q) where
       let u = record d.state { tables = with_tokens queue.send queue.first_count t } in
       let v = record u { tables = with_tokens queue.receive 0 u.tables } in
       let first : Touches f d.state u = touches_tokens d.state queue.send queue.first_count (port_may_be_touched t queue.send send).owner in
-      let then_ : Touches f u v = touches_tokens u queue.receive 0 (still_touched queue.receive first (port_may_be_touched t queue.receive receive)) in
+      let then_ : Touches f u v = touches_tokens u queue.receive 0
+      (still_touched queue.receive first (port_may_be_touched t queue.receive receive)) in
       touches_trans (touches_trans first then_) (touches_parts v _ refl refl (parts_ports a.parts d.state.parts _ _))
 
 -- a call on a port ends, unless its ticket is stale
 finish_send_touches : (ticket : PortTicket) (message : ℕ) (s : Xinu) → IsInside s.tables → OwnPorts s.tables s.parts.ports
     → Touches (reach on_ports) s (finish_send ticket message s).call.state
 finish_send_touches ticket message s o k =
-    touches_either s (is_stale ticket s.parts.ports) (refused s) (put_message (port_at s.parts.ports ticket.port).queue ticket.port message s) (λ _. touches_refl s)
+    touches_either s (is_stale ticket s.parts.ports) (refused s)
+    (put_message (port_at s.parts.ports ticket.port).queue ticket.port message s) (λ _. touches_refl s)
     (λ _. put_message_touches ticket.port (port_reached ticket.port) (port_at s.parts.ports ticket.port).queue message s refl o k)
 
 take_from_touches : (found : Option PortQueue) (q : ℕ) (s : Xinu) → (port_at s.parts.ports q).queue ≡ found → IsInside s.tables
@@ -170,7 +176,8 @@ take_from_touches (Some queue) q s e o k = take_message_touches q (port_reached 
 finish_receive_touches : (ticket : PortTicket) (s : Xinu) → IsInside s.tables → OwnPorts s.tables s.parts.ports
     → Touches (reach on_ports) s (finish_receive ticket s).call.state
 finish_receive_touches ticket s o k =
-    touches_either s (is_stale ticket s.parts.ports) (refused s) (take_from (port_at s.parts.ports ticket.port).queue ticket.port s) (λ _. touches_refl s)
+    touches_either s (is_stale ticket s.parts.ports) (refused s) (take_from (port_at s.parts.ports ticket.port).queue ticket.port s)
+    (λ _. touches_refl s)
     (λ _. take_from_touches (port_at s.parts.ports ticket.port).queue ticket.port s refl o k)
 
 -- what holds of the tables for a caller that took a token of a port's semaphore
@@ -221,17 +228,20 @@ after_waiting : (s : Xinu) → IsSound s → IsInside (goes_on (held s) s).table
 after_waiting s k =
     let t = s.tables in (
       (sound_goes_on (held s) s k.tables).inside,
-      own_kept t (goes_on (held s) s).tables s.parts.ports (λ r. owner_move t t.current (record (process_at t t.current) { rest = Nothing }) (held s) Nowhere r) (own_ports s k),
+      own_kept t (goes_on (held s) s).tables s.parts.ports
+          (λ r. owner_move t t.current (record (process_at t t.current) { rest = Nothing }) (held s) Nowhere r) (own_ports s k),
     )
 
 -- The calls go on.
 pub go_on_ptsend_touches : (ticket : PortTicket) (message : ℕ) → StaysIn on_ports (go_on_ptsend ticket message)
 go_on_ptsend_touches ticket message s k =
-    let after = after_waiting s k in touches_trans (touches_goes_on refl (held s) s k.tables.runs) (finish_send_touches ticket message (goes_on (held s) s) after.0 after.1)
+    let after = after_waiting s k in touches_trans (touches_goes_on refl (held s) s k.tables.runs)
+    (finish_send_touches ticket message (goes_on (held s) s) after.0 after.1)
 
 pub go_on_ptrecv_touches : (ticket : PortTicket) → StaysIn on_ports (go_on_ptrecv ticket)
 go_on_ptrecv_touches ticket s k =
-    let after = after_waiting s k in touches_trans (touches_goes_on refl (held s) s k.tables.runs) (finish_receive_touches ticket (goes_on (held s) s) after.0 after.1)
+    let after = after_waiting s k in touches_trans (touches_goes_on refl (held s) s k.tables.runs)
+    (finish_receive_touches ticket (goes_on (held s) s) after.0 after.1)
 
 -- Call 31.
 started_port_touches : (found first : Option ℕ) (n : ℕ) (s : Xinu) → free_semaphore s.tables ≡ first
@@ -239,7 +249,8 @@ started_port_touches : (found first : Option ℕ) (n : ℕ) (s : Xinu) → free_
 started_port_touches None first n s e = touches_refl s
 started_port_touches (Some q) None n s e = touches_refl s
 started_port_touches (Some q) (Some send) n s e =
-    made_port_touches q (port_reached q) (free_semaphore (make_semaphore send (owner.Port q) n s.tables)) n send s (free_semaphore_free s.tables send e) refl
+    made_port_touches q (port_reached q) (free_semaphore (make_semaphore send (owner.Port q) n s.tables)) n send s
+    (free_semaphore_free s.tables send e) refl
 
 pub ptcreate_touches : (count : ℤ) → StaysIn on_ports (ptcreate count)
 ptcreate_touches (negsuc n) s k = touches_refl s
@@ -280,7 +291,8 @@ cleared_touches q how queue s k here =
     let own = own_semaphores s.tables s.parts.pools k.pools in
     let ports = own_ports s k in
     let left = disposed_touches pools_reached_there how queue.messages d k.tables own in
-    let keeps : (sem : ℕ) → (semaphore_at s.tables sem).owner ≡ Some (owner.Port q) → (semaphore_at one.state.tables sem).owner ≡ Some (owner.Port q) =
+    let keeps : (sem : ℕ) → (semaphore_at s.tables sem).owner ≡ Some (owner.Port q) → (semaphore_at one.state.tables sem).owner ≡ Some
+    (owner.Port q) =
     λ sem e. (left.frame.kept sem (ap (is_ports sem) e)).0 ∙ e in
     let send = keeps queue.send (ports.send q queue here) in
     let receive = keeps queue.receive (ports.receive q queue here) in
@@ -296,7 +308,8 @@ deleted_where_touches : (found : Option PortQueue) (q how : ℕ) (s : Xinu) → 
     → Touches (reach on_ports_and_pools) s (deleted_where found q how s).call.state
 deleted_where_touches None q how s e k = touches_refl s
 deleted_where_touches (Some queue) q how s e k = touches_if s (nat_le how 1) _
-    (λ _. let c = cleared_touches q how queue s k e in touches_trans c.touches (deleted_touches q (deleted_reached q) queue (cleared how queue (start s)) c.send c.receive))
+    (λ _. let c = cleared_touches q how queue s k e in touches_trans c.touches
+    (deleted_touches q (deleted_reached q) queue (cleared how queue (start s)) c.send c.receive))
 
 pub ptdelete_touches : (q how : ℕ) → StaysIn on_ports_and_pools (ptdelete q how)
 ptdelete_touches q how s k = deleted_where_touches (port_at s.parts.ports q).queue q how s refl k
@@ -306,7 +319,8 @@ reset_where_touches : (found : Option PortQueue) (q how : ℕ) (s : Xinu) → (p
     → Touches (reach on_ports_and_pools) s (reset_where found q how s).call.state
 reset_where_touches None q how s e k = touches_refl s
 reset_where_touches (Some queue) q how s e k = touches_if s (nat_le how 1) _
-    (λ _. let c = cleared_touches q how queue s k e in touches_trans c.touches (emptied_port_touches q (deleted_reached q) queue (cleared how queue (start s)) c.send c.receive))
+    (λ _. let c = cleared_touches q how queue s k e in touches_trans c.touches
+    (emptied_port_touches q (deleted_reached q) queue (cleared how queue (start s)) c.send c.receive))
 
 pub ptreset_touches : (q how : ℕ) → StaysIn on_ports_and_pools (ptreset q how)
 ptreset_touches q how s k = reset_where_touches (port_at s.parts.ports q).queue q how s refl k

@@ -56,7 +56,8 @@ suspend_touches p s i =
     let t = s.tables in
     touches_either s (p == 0) (refused s) _ (λ _. touches_refl s)
     (λ _. touches_either s (is_ready (state_at t p)) _ _
-    (λ b. touches_moved s p Suspended (message_at t p) Nowhere tt refl refl (may_ready_idle (reach on_tables).asks t p (idle_ready (state_at t p) b)))
+    (λ b. touches_moved s p Suspended (message_at t p) Nowhere tt refl refl
+    (may_ready_idle (reach on_tables).asks t p (idle_ready (state_at t p) b)))
     (λ _. touches_if s (p == t.current) _ (λ _. touches_blocked Suspended SelfSuspend Nowhere s i.tables.runs tt refl refl)))
 
 -- who waits still does if a process changes that waits as it did
@@ -71,9 +72,13 @@ with_priority_touches p priority s =
     let t = s.tables in
     let x = record (process_at t p) { priority = priority } in
     let u = record t { processes = set t.processes p x } in
-    cond_both (is_ready (state_at t p)) (move_to p x (message_at t p) InReady t) u (λ v. Touches (reach on_tables) s (record s { tables = v }))
-    (λ b. touches_move s p x (message_at t p) InReady tt (λ h. (refl, refl)) (ap (λ k. k && (reach on_tables).asks x.rest) (idle_ready (state_at t p) b)) refl (λ h. h) (ap (λ k. k && (reach on_tables).asks x.rest) (idle_ready (state_at t p) b)))
-    (λ _. touches_tables s u (frame_process t p x (λ h. (refl, refl))) (map_set_same stack_of t.processes p x no_process refl) (was_free t.processes p x (λ h. h)) (λ _. refl) (still_same (reach on_tables).asks t p x refl))
+    cond_both (is_ready (state_at t p)) (move_to p x (message_at t p) InReady t) u
+    (λ v. Touches (reach on_tables) s (record s { tables = v }))
+    (λ b. touches_move s p x (message_at t p) InReady tt (λ h. (refl, refl))
+    (ap (λ k. k && (reach on_tables).asks x.rest) (idle_ready (state_at t p) b)) refl
+    (λ h. h) (ap (λ k. k && (reach on_tables).asks x.rest) (idle_ready (state_at t p) b)))
+    (λ _. touches_tables s u (frame_process t p x (λ h. (refl, refl))) (map_set_same stack_of t.processes p x no_process refl)
+    (was_free t.processes p x (λ h. h)) (λ _. refl) (still_same (reach on_tables).asks t p x refl))
 
 -- Call 7.
 pub chprio_touches : (p : ℕ) (priority : ℤ) → StaysIn on_tables (chprio p priority)
@@ -141,7 +146,8 @@ created_touches None stack entry size priority name x y s number e = touches_ref
 pub create_touches : (entry size : ℕ) (priority : ℤ) (name x y : ℕ) → StaysIn on_processes (create entry size priority name x y)
 create_touches entry size priority name x y s i =
     touches_either s (int_lt priority (pos 1) || not (in_ram name 16)) (refused s) _ (λ _. touches_refl s)
-    (λ _. created_touches (free_process s.tables) (heap.take_stack (stack_size size) s.parts.heap) entry (stack_size size) priority (process_name (take 16 (drop name s.memory))) x y s refl refl)
+    (λ _. created_touches (free_process s.tables) (heap.take_stack (stack_size size) s.parts.heap) entry (stack_size size) priority
+    (process_name (take 16 (drop name s.memory))) x y s refl refl)
 
 -- Call 4 goes on.
 pub go_on_suspend_touches : StaysIn on_tables go_on_suspend

@@ -36,7 +36,8 @@ made_semaphore_touches n (Some sem) s e =
 emptied_touches : (value : ℤ) (sem : ℕ) (s : Xinu) → IsInside s.tables → is_good sem s.tables ≡ true
     → Touches (reach on_tables) s (emptied_with value sem (start s)).state
 emptied_touches value sem s o b =
-    subst (Touches (reach on_tables) s) (sym (emptied_alike value sem (start s))) (touches_emptied sem (start s) o (good_may_be_touched s.tables sem o b))
+    subst (Touches (reach on_tables) s) (sym (emptied_alike value sem (start s)))
+    (touches_emptied sem (start s) o (good_may_be_touched s.tables sem o b))
 
 -- Call 14.
 pub semcreate_touches : (count : ℤ) → StaysIn on_tables (semcreate count)
@@ -47,14 +48,16 @@ semcreate_touches (pos n) s i = made_semaphore_touches n (free_semaphore s.table
 pub semdelete_touches : (sem : ℕ) → StaysIn on_tables (semdelete sem)
 semdelete_touches sem s i = touches_if s (is_good sem s.tables) _
     (λ b. let first = emptied_touches SYSERR sem s i.tables.inside b in
-    touches_trans first (touches_semaphore (emptied_with SYSERR sem (start s)).state sem no_semaphore (still_touched sem first (good_may_be_touched s.tables sem i.tables.inside b)) refl))
+    touches_trans first (touches_semaphore (emptied_with SYSERR sem (start s)).state sem no_semaphore
+    (still_touched sem first (good_may_be_touched s.tables sem i.tables.inside b)) refl))
 
 -- Call 16.
 pub semreset_touches : (sem : ℕ) (count : ℤ) → StaysIn on_tables (semreset sem count)
 semreset_touches sem (negsuc n) s i = touches_refl s
 semreset_touches sem (pos n) s i = touches_if s (is_good sem s.tables) _
     (λ b. let first = emptied_touches OK sem s i.tables.inside b in
-    touches_trans first (touches_tokens (emptied sem (start s)).state sem n (still_touched sem first (good_may_be_touched s.tables sem i.tables.inside b))))
+    touches_trans first (touches_tokens (emptied sem (start s)).state sem n
+    (still_touched sem first (good_may_be_touched s.tables sem i.tables.inside b))))
 
 -- Call 17.
 pub semcount_touches : (sem : ℕ) → StaysIn on_tables (semcount sem)
@@ -64,14 +67,16 @@ semcount_touches sem s i = touches_if s (is_good sem s.tables) _ (λ _. touches_
 pub wait_touches : (sem : ℕ) → StaysIn on_tables (wait sem)
 wait_touches sem s i = touches_if s (is_good sem s.tables) _
     (λ b. let e = (good_may_be_touched s.tables sem i.tables.inside b).owner in
-    touches_take_token (semaphore_at s.tables sem).tokens sem Nothing (answers (pos 0)) s i.tables.runs e refl (λ n _. touches_tokens s sem n e))
+    touches_take_token (semaphore_at s.tables sem).tokens sem Nothing (answers (pos 0)) s i.tables.runs e refl
+    (λ n _. touches_tokens s sem n e))
 
 -- Call 19.
 pub signal_touches : (sem : ℕ) → StaysIn on_tables (signal sem)
 signal_touches sem s i =
     let least = int_lt (count_of (semaphore_at s.tables sem)) most_tokens in
     touches_if s (is_good sem s.tables && least) _
-    (λ b. touches_signalled sem (start s) i.tables.inside (good_may_be_touched s.tables sem i.tables.inside (and_parts (is_good sem s.tables) least b).0))
+    (λ b. touches_signalled sem (start s) i.tables.inside
+    (good_may_be_touched s.tables sem i.tables.inside (and_parts (is_good sem s.tables) least b).0))
 
 -- Call 20.
 pub signaln_touches : (sem : ℕ) (count : ℤ) → StaysIn on_tables (signaln sem count)
@@ -79,4 +84,5 @@ signaln_touches sem (negsuc n) s i = touches_refl s
 signaln_touches sem (pos n) s i =
     let fits = not (int_lt most_tokens (count_of (semaphore_at s.tables sem) +ℤ pos n)) in
     touches_if s (is_good sem s.tables && fits) _
-    (λ b. touches_signalled_times sem n (start s) i.tables.inside (good_may_be_touched s.tables sem i.tables.inside (and_parts (is_good sem s.tables) fits b).0))
+    (λ b. touches_signalled_times sem n (start s) i.tables.inside
+    (good_may_be_touched s.tables sem i.tables.inside (and_parts (is_good sem s.tables) fits b).0))
