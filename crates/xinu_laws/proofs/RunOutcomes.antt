@@ -68,6 +68,7 @@ record Parted (first lines more : List TranscriptLine) : Type 0 where
   calm : begins_next tail ≡ false
   whole : lines ++ more ≡ first ++ tail
 
+-- it is what follows the run, or the rest of the run and what follows it
 parted : (how : Option End) (Rest : List TranscriptLine → Type 0) (first lines more : List TranscriptLine) (mid new : Xinu) (end : End)
     → begins_next more ≡ false → ((rest : List TranscriptLine) → Rest rest → begins_next (rest ++ more) ≡ false)
     → Follows how Rest first lines mid new end → Parted first lines more

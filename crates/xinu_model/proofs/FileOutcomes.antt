@@ -55,7 +55,7 @@ notes_append [] ys = refl
 notes_append (x ∷ xs) ys = ap (λ l. file_line x ∷ l) (notes_append xs ys)
 
 -- the calls after the first
-first_calls : (calls : List FileRequest) (memory : List ℕ) (s : FileSystem) → (with_first calls memory s).calls ≡ calls
+pub first_calls : (calls : List FileRequest) (memory : List ℕ) (s : FileSystem) → (with_first calls memory s).calls ≡ calls
 first_calls [] memory s = refl
 first_calls (a ∷ calls) memory s = refl
 

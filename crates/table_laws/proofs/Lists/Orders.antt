@@ -2,8 +2,7 @@
 use Rattle.std.proofs.Common.{◌≡◌, ℕ, ◌<◌, ◌≤◌, Bool, true, false, not, List, [], ◌∷◌, ◌++◌, ◌==◌, filter, map, arith, ℤ, ◌≤ℤ◌}
 use Rattle.std.specs.Prelude.{int_lt, nat_le}
 use Rattle.std.specs.List.{AllByRecursion}
-use Rattle.std.proofs.lemmas.Bool.{cond_both, not-true, not-false}
-use Rattle.std.proofs.lemmas.Bool.Decides.{nat_tests}
+use Rattle.std.proofs.lemmas.Bool.{cond_both, not-true, not-false, leb-true, leb-false}
 use Rattle.std.proofs.lemmas.Int.{ints}
 use Rattle.xinu_base.specs.Insert.{insert}
 use Rattle.xinu_model.specs.Sound.Tables.{IsInOrder, IsFalling, IsRising, entries_of}
@@ -104,19 +103,12 @@ all_ready_in P (InSleepers wake) p key l new h = h
 pub falling_without : (p : ℕ) (l : List (ℕ × ℤ)) → IsFalling l → IsFalling (entries_without p l)
 falling_without p l h = order_filter (λ a b. b.1 ≤ℤ a.1) (λ e. not (e.0 == p)) l h
 
--- a tick that isn't greater
-at_most : (a k : ℕ) → nat_le a k ≡ true → a ≤ k
-at_most a k h = grind (arith, nat_tests)
-
--- a tick that is greater
-greater : (a k : ℕ) → nat_le a k ≡ false → k ≤ a
-greater a k h = grind (arith, nat_tests)
-
 -- the sleepers rise after a process went to its place
 pub rising_in : (place : Place) (p : ℕ) (l : List (ℕ × ℕ)) → IsRising l → IsRising (sleepers_in place p l)
 rising_in (InSleepers wake) p l h =
-    order_insert (λ a b. a.1 ≤ b.1) (λ x. nat_le x.1 wake) (p, wake) l (λ x e. at_most x.1 wake e) (λ x e. greater x.1 wake e)
-    (λ x y e f. let m = at_most x.1 wake e in let n = greater y.1 wake f in omega arith) h
+    order_insert (λ a b. a.1 ≤ b.1) (λ x. nat_le x.1 wake) (p, wake) l (λ x e. leb-true x.1 wake e)
+    (λ x e. let n = leb-false x.1 wake e in omega arith)
+    (λ x y e f. let m = leb-true x.1 wake e in let n = leb-false y.1 wake f in omega arith) h
 rising_in Nowhere p l h = h
 rising_in InReady p l h = h
 rising_in (InSemaphore s) p l h = h

@@ -9,6 +9,7 @@ use Rattle.xinu_base.specs.declared.semaphores.Owner.{Owner}
 use Rattle.xinu_model.specs.Machine.{CallState, with_tables, unblock, unblock_all}
 use Rattle.xinu_model.specs.Semaphores.Counts.{with_tokens}
 use Rattle.xinu_model.specs.Semaphores.Waiting.{signal_first, signalled, signalled_times}
+use Rattle.table_laws.proofs.Lists.Maps.{set_twice}
 use Rattle.table_laws.specs.Repeated.{repeated}
 use Rattle.xinu_model.specs.Sound.Tables.{count_in, waiting_places, IsInside}
 use Rattle.xinu_model.specs.Tables.{Semaphore, no_semaphore, Tables, state_at, semaphore_at, numbers_without, semaphore_without}
@@ -17,12 +18,6 @@ use Rattle.table_laws.proofs.Tables.Places.{semaphore_at_without}
 use Rattle.table_laws.proofs.Tables.Changes.{free_has_no_waiters}
 use Rattle.table_laws.proofs.Tables.Owners.{owner_signalled}
 use Rattle.table_laws.proofs.Tables.Unblock.{inside_signalled}
-
--- the last of two writes at one place counts
-set_twice : {A : Type 0} (l : List A) (i : ℕ) (x y : A) → set (set l i x) i y ≡ set l i y
-set_twice [] i x y = refl
-set_twice (z ∷ zs) zero x y = refl
-set_twice (z ∷ zs) (suc i) x y = ap (λ l. z ∷ l) (set_twice zs i x y)
 
 -- n signals of semaphore s, which is of these waiters and tokens
 abbrev pub signals_of : ℕ → ℕ → List ℕ → ℕ → CallState → CallState
@@ -57,7 +52,7 @@ first_waits_once t sem p ps o e =
     omega arith
 
 -- the others wait once the first is released
-others_wait : (p : ℕ) (ps : List ℕ) → count_in p ps ≡ 0 → numbers_without p (p ∷ ps) ≡ ps
+pub others_wait : (p : ℕ) (ps : List ℕ) → count_in p ps ≡ 0 → numbers_without p (p ∷ ps) ≡ ps
 others_wait p ps z =
     ap (λ b. cond (not b) (p ∷ numbers_without p ps) (numbers_without p ps)) (eq-eqb p p refl) ∙ filter_absent (λ x. x == p) ps z
 

@@ -1,5 +1,5 @@
 -- What each move on a semaphore of the kernel's does to what its tokens promise.
-use Rattle.std.proofs.Common.{◌≡◌, ◌≢◌, ℕ, suc, ◌+◌, ◌-◌, ◌<◌, ◌≤◌, Bool, true, false, not, cond, List, [], ◌∷◌, length, take, Option, refl, sym, ap, subst, ◌∙◌, arith, get_or-set_same, get_or-set_other, ⊎_elim, get_or, set}
+use Rattle.std.proofs.Common.{◌≡◌, ◌≢◌, ℕ, suc, ◌+◌, ◌-◌, ◌<◌, ◌≤◌, Bool, true, false, not, List, [], ◌∷◌, length, take, Option, refl, sym, ap, subst, ◌∙◌, arith, get_or-set_other, ⊎_elim, get_or, set}
 use Rattle.std.proofs.Math.ListN.{length-set}
 use Rattle.std.proofs.lemmas.Bool.{and_from, and_left, and_right}
 use Rattle.std.proofs.lemmas.List.{length-take}
@@ -17,23 +17,12 @@ use Rattle.xinu_model.specs.Sound.Tables.{times, count_in, IsInside, IsSoundTabl
 use Rattle.xinu_model.specs.Tables.{no_process, Semaphore, no_semaphore, Tables, process_at, state_at, message_at, semaphore_at, Place, Nowhere, InReady, move_to}
 use Rattle.table_laws.proofs.Frame.MoveTo.{same_written, read_written, tokens_move}
 use Rattle.table_laws.proofs.Lists.Counts.{times-set, first_is_counted, count_behind}
-use Rattle.xinu_laws.proofs.Pools.Steps.{at_most_one}
-use Rattle.table_laws.proofs.Tables.MoveTo.{by_number, within_table}
-use Rattle.table_laws.proofs.Tables.Unblock.{waiter_waits, sound_unblock_all, can_be_ready_waiters, all_take}
+use Rattle.xinu_laws.proofs.Pools.Steps.{at_most_one, counts_none, counts_one, tokens_tokens, waiter_within}
+use Rattle.table_laws.proofs.Tables.MoveTo.{by_number}
+use Rattle.table_laws.proofs.Tables.Unblock.{sound_unblock_all, can_be_ready_waiters, all_take}
 use Rattle.xinu_laws.proofs.Touches.Moves.{counted_take}
 
--- what doesn't pass adds nothing to a count, and what passes adds one
-counts_none : (b : Bool) → b ≡ false → cond {A = ℕ} b 1 0 ≡ 0
-counts_none b e = ap (λ c. cond c 1 0) e
-
-counts_one : (b : Bool) → b ≡ true → cond {A = ℕ} b 1 0 ≡ 1
-counts_one b e = ap (λ c. cond c 1 0) e
-
--- these are the tokens of a semaphore that was written, and the others keep theirs
-tokens_here : (t : Tables) (sem n : ℕ) → sem < length t.semaphores → (semaphore_at (with_tokens sem n t) sem).tokens ≡ n
-tokens_here t sem n h =
-    ap (λ (x : Semaphore). x.tokens) (get_or-set_same t.semaphores sem (record (semaphore_at t sem) { tokens = n }) no_semaphore h)
-
+-- the other semaphores keep their tokens
 tokens_other : (t : Tables) (sem n r : ℕ) → r ≢ sem → (semaphore_at (with_tokens sem n t) r).tokens ≡ (semaphore_at t r).tokens
 tokens_other t sem n r d =
     ap (λ (x : Semaphore). x.tokens) (get_or-set_other t.semaphores sem r (record (semaphore_at t sem) { tokens = n }) no_semaphore d)
@@ -41,7 +30,7 @@ tokens_other t sem n r d =
 -- A token that is taken takes what it promised,
 pub promised_token : (asks : Rest → Bool) (t : Tables) (sem n : ℕ) → sem < length t.semaphores → (semaphore_at t sem).tokens ≡ suc n
     → suc (promised asks sem (with_tokens sem n t)) ≤ promised asks sem t
-promised_token asks t sem n h e = let f = tokens_here t sem n h in omega arith
+promised_token asks t sem n h e = let f = tokens_tokens t sem n h in omega arith
 
 -- and nothing of another semaphore.
 pub promised_token_other : (asks : Rest → Bool) (t : Tables) (sem n r : ℕ) → r ≢ sem
@@ -85,14 +74,6 @@ promised_goes_on_other asks r message s none h =
     let t = s.tables in
     let x = record (process_at t t.current) { rest = Nothing } in
     promised_move asks t r t.current x message Nowhere h (and_right (not (is_waiting x.state)) (asks Nothing) none)
-
--- who waits on a semaphore is in the table
-waiter_within : (t : Tables) (sem : ℕ) → IsInside t → (p : ℕ) → 0 < count_in p (semaphore_at t sem).waiters → p < length t.processes
-waiter_within t sem o p h =
-    let e = waiter_waits t sem p o h in
-    let f = within_table t p o.processes (λ g. cc) in
-    let k = o.processes in
-    omega arith
 
 -- how many were released and haven't gone on
 abbrev released_in : (Rest → Bool) → Tables → ℕ
@@ -163,7 +144,7 @@ promised_signals asks sem n d k w =
     let o = sound_unblock_all (take n l) d k (all_take _ n l (can_be_ready_waiters t sem k.inside)) in
     let z = o.inside.semaphores in
     let e = released_all_here asks (take n l) d (λ p h. waiter_within t sem k.inside p (counted_take p n l h)) in
-    let f = tokens_here after.state.tables sem ((semaphore_at t sem).tokens + (n - length l)) (omega arith) in
+    let f = tokens_tokens after.state.tables sem ((semaphore_at t sem).tokens + (n - length l)) (omega arith) in
     let g = length-take n l in
     omega arith
 

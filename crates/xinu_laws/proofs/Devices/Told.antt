@@ -1,5 +1,5 @@
 -- An answer of -1 of a call on a device tells that it was refused.
-use Rattle.std.proofs.Common.{◌≡◌, ℕ, zero, suc, ◌+◌, ◌==◌, cond, Bool, true, false, ◌&&◌, List, [], ◌∷◌, length, Option, Some, None, refl, ℤ, pos, negsuc}
+use Rattle.std.proofs.Common.{◌≡◌, ℕ, zero, suc, ◌+◌, ◌==◌, cond, Bool, true, false, ◌&&◌, List, [], ◌∷◌, length, Option, Some, None, ℤ, pos, negsuc}
 use Rattle.std.specs.Prelude.{slice_index}
 use Rattle.std.proofs.lemmas.Bool.{cond_both}
 use Rattle.xinu_base.specs.Constants.{OK, SYSERR, EOF}
@@ -24,7 +24,7 @@ use Rattle.xinu_model.specs.RawDisk.Calls.{disk_of, awaits_disk, may_request, di
 use Rattle.xinu_model.specs.RawDisk.Constants.{RD_BLKSIZ, RD_CTL_SIZE}
 use Rattle.xinu_model.specs.Words.{signed}
 use Rattle.xinu_laws.proofs.Devices.Kept.{OfFiles, device_open_holds, device_close_holds, device_read_holds, device_write_holds, device_getc_holds, device_putc_holds, device_seek_holds, device_control_holds}
-use Rattle.xinu_laws.proofs.Reply.Refusals.{TellsRefusal}
+use Rattle.xinu_laws.proofs.Reply.Refusals.{TellsRefusal, refusal_tells}
 
 -- a call that never answers -1
 abbrev NeverRefuses : CallResult → Type 0
@@ -75,9 +75,6 @@ reads_never (suc left) at done s =
 -- what never answers -1 tells of its refusals
 never_tells : (s : Xinu) (result : CallResult) → NeverRefuses result → TellsRefusal s result
 never_tells s result never e = absurd (never e)
-
-refusal_tells : (s : Xinu) → TellsRefusal s (refused s)
-refusal_tells s e = refl
 
 read_range_tells : (at n : ℕ) (s : Xinu) → TellsRefusal s (read_range at n s)
 read_range_tells at n s =

@@ -1,17 +1,13 @@
 -- Calls take effect in their order.
 use Rattle.std.proofs.Common.{◌≡◌, ℕ, zero, suc, List, [], ◌∷◌, ◌++◌, map, take, drop, Option, Some, None, ℤ, refl, sym, ap, ◌∙◌, append-nil, append_assoc, ◌+◌, ◌≤◌, length, arith}
 use Rattle.std.proofs.lemmas.List.{length-append, length-map, length-take}
+use Rattle.xinu_model.proofs.FileOutcomes.{first_calls}
 use Rattle.xinu_base.specs.declared.lines.FileMoment.{FileMoment}
 use Rattle.xinu_base.specs.declared.lines.FileMoment.TheVariants.{Turn, Finished, Next}
 use Rattle.xinu_laws.specs.FileWork.{caller_first, callers_told, first_moment}
 use Rattle.xinu_model.specs.Files.Calls.{file_effect}
 use Rattle.xinu_model.specs.Files.Systems.{FileSystem}
 use Rattle.xinu_model.specs.Files.Work.{FileRequest, FileNote, FileStep, had_turn, took_effect, with_first, first_effect, next_effects, turned, calls_completed}
-
--- the calls after the first
-pub calls_of : (calls : List FileRequest) (memory : List ℕ) (s : FileSystem) → (with_first calls memory s).calls ≡ calls
-calls_of [] memory s = refl
-calls_of (a ∷ calls) memory s = refl
 
 pub system_of : (calls : List FileRequest) (memory : List ℕ) (s : FileSystem) → (with_first calls memory s).system ≡ s
 system_of [] memory s = refl
@@ -21,7 +17,7 @@ system_of (a ∷ calls) memory s = refl
 one_out : (calls : List FileRequest) (moment : FileMoment) (x : FileStep) → x.work.calls ≡ calls
     → (first_effect calls moment x).work.calls ≡ drop 1 calls
 one_out [] moment x e = e
-one_out (a ∷ calls) moment x e = calls_of calls _ _
+one_out (a ∷ calls) moment x e = first_calls calls _ _
 
 -- one and then k are one more than k
 drop_more : (k : ℕ) (calls : List FileRequest) → drop k (drop 1 calls) ≡ drop (suc k) calls

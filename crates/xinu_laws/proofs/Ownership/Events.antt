@@ -140,7 +140,7 @@ apart_reacted (outcome.Trap cause) old call sound apart runs idle nothing =
     (exit_keeps s (may_call_next old sound runs))) (apart_exit s (apart_kept (kept_executed old) apart))
 
 -- nothing is left of a call that is done
-done_rest : (left : Rest) → is_done left ≡ true → left ≡ rest.Nothing
+pub done_rest : (left : Rest) → is_done left ≡ true → left ≡ rest.Nothing
 done_rest rest.Nothing h = refl
 done_rest rest.Receive h = cc
 done_rest rest.Timed h = cc

@@ -25,11 +25,11 @@ use Rattle.xinu_laws.proofs.Touches.Moves.{MayTouch, frame_blocked, touches_sign
 use Rattle.table_laws.proofs.Frame.Semaphores.{frame_semaphore}
 
 -- what doesn't pass adds nothing to a count
-counts_none : (b : Bool) → b ≡ false → cond {A = ℕ} b 1 0 ≡ 0
+pub counts_none : (b : Bool) → b ≡ false → cond {A = ℕ} b 1 0 ≡ 0
 counts_none b e = ap (λ c. cond c 1 0) e
 
 -- and what passes adds one
-counts_one : (b : Bool) → b ≡ true → cond {A = ℕ} b 1 0 ≡ 1
+pub counts_one : (b : Bool) → b ≡ true → cond {A = ℕ} b 1 0 ≡ 1
 counts_one b e = ap (λ c. cond c 1 0) e
 
 -- the number of a pool isn't that of another
@@ -42,7 +42,7 @@ pub pool_semaphore_within : (t : Tables) (sem i : ℕ) → IsInside t → (semap
 pool_semaphore_within t sem i o e = let h = semaphore_within t sem o.semaphores (λ f. cc) in let k = o.semaphores in omega arith
 
 -- these are its tokens then
-tokens_tokens : (t : Tables) (sem n : ℕ) → sem < length t.semaphores → (semaphore_at (with_tokens sem n t) sem).tokens ≡ n
+pub tokens_tokens : (t : Tables) (sem n : ℕ) → sem < length t.semaphores → (semaphore_at (with_tokens sem n t) sem).tokens ≡ n
 tokens_tokens t sem n h =
     ap (λ (x : Semaphore). x.tokens) (get_or-set_same t.semaphores sem (record (semaphore_at t sem) { tokens = n }) no_semaphore h)
 
@@ -101,7 +101,7 @@ promised_signal_first i sem (p ∷ ps) d o h w =
     omega arith
 
 -- who waits on a semaphore is in the table
-waiter_within : (t : Tables) (sem : ℕ) → IsInside t → (p : ℕ) → 0 < count_in p (semaphore_at t sem).waiters → p < length t.processes
+pub waiter_within : (t : Tables) (sem : ℕ) → IsInside t → (p : ℕ) → 0 < count_in p (semaphore_at t sem).waiters → p < length t.processes
 waiter_within t sem o p h =
     let e = waiter_waits t sem p o h in
     let f = within_table t p o.processes (λ g. cc) in

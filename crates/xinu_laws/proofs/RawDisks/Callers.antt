@@ -1,7 +1,7 @@
 -- The callers of requests after a process was killed.
 use Rattle.std.proofs.Common.{◌≡◌, ℕ, Bool, true, false, not, ◌==◌, List, [], ◌∷◌, ◌++◌, filter, Option, Some, None, refl, sym, ap, ◌∙◌, append_assoc}
 use Rattle.std.specs.Prelude.{IsSome}
-use Rattle.std.proofs.lemmas.Bool.{cond_both, cond-true, cond-false, not-true}
+use Rattle.std.proofs.lemmas.Bool.{cond_both, cond-true, cond-false, not-true, not-false}
 use Rattle.table_laws.proofs.Lists.Orders.{all_filter}
 use Rattle.xinu_model.specs.RawDisk.Callers.{is_caller, living, callers, HaveCallers, others, given_up}
 
@@ -31,11 +31,7 @@ module _ {A : Type 0} (caller : A → Option ℕ) where
       (λ e. kept_caller p (caller a) (callers caller (others caller p rest)) (callers caller rest)
       (not-true (is_caller p (caller a)) e) same)
       (λ e. dropped_caller p (caller a) (callers caller (others caller p rest)) (callers caller rest)
-      (by_not (is_caller p (caller a)) e) same)
-    where
-      by_not : (b : Bool) → not b ≡ false → b ≡ true
-      by_not true e = refl
-      by_not false e = cc
+      (not-false (is_caller p (caller a)) e) same)
 
   -- The living callers once p was killed are those without p.
   pub callers_given_up : (orphaned : A → A) → ((a : A) → caller (orphaned a) ≡ None) → (p : ℕ) (l : List A)

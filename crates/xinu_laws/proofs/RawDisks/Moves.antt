@@ -1,10 +1,11 @@
 -- Who waits for the disks and who has a reply, after a process moved.
-use Rattle.std.proofs.Common.{◌≡◌, ◌≢◌, ℕ, suc, ◌<◌, ◌==◌, false, not, cond, List, [], ◌∷◌, ◌++◌, length, Option, Some, None, refl, sym, ap, subst, ◌∙◌, arith, ⊎_elim, get_or-set_same, get_or-set_other, ℤ}
-use Rattle.std.proofs.lemmas.Bool.{and_right, cond-false, eq-eqb}
+use Rattle.std.proofs.Common.{◌≡◌, ◌≢◌, ℕ, suc, ◌<◌, ◌==◌, false, cond, List, [], ◌∷◌, ◌++◌, length, Option, Some, None, refl, sym, ap, subst, ◌∙◌, arith, ⊎_elim, get_or-set_same, get_or-set_other, ℤ}
+use Rattle.std.proofs.lemmas.Bool.{and_right, eq-eqb}
 use Rattle.xinu_base.specs.declared.processes.Process.{Process}
 use Rattle.xinu_base.specs.declared.processes.Rest.TheVariants.{Disk}
 use Rattle.xinu_base.specs.declared.processes.State.{State}
 use Rattle.xinu_base.specs.declared.processes.State.TheVariants.{Free, Current, Ready, Receiving, Sleeping, Suspended, Waiting, Timed}
+use Rattle.table_laws.proofs.Tables.Signals.{others_wait}
 use Rattle.table_laws.specs.Moves.{CanMove}
 use Rattle.xinu_laws.specs.Touches.{Reach, Touches}
 use Rattle.xinu_model.specs.Machine.{Xinu}
@@ -86,11 +87,6 @@ pub record Releases (sem : ℕ) (l : List ℕ) (t u : Tables) : Type 0 where
 abbrev pub replied : ℕ → ℤ → Tables → Tables
 replied p reply t = move_to p (record (process_at t p) { state = Ready; rest = Disk (Some reply) }) (message_at t p) InReady t
 
--- a list without its first element, which it has once
-without_first : (p : ℕ) (l : List ℕ) → count_in p l ≡ 0 → numbers_without p (p ∷ l) ≡ l
-without_first p l e =
-    cond-false (not (p == p)) (p ∷ numbers_without p l) (numbers_without p l) (ap not (eq-eqb p p refl)) ∙ filter_absent (λ x. x == p) l e
-
 -- the null process doesn't wait
 waits_not_null : (t : Tables) (p : ℕ) → IsInside t → state_at t p ≡ Waiting → p ≢ 0
 waits_not_null t p o w e =
@@ -149,7 +145,7 @@ module _ (k p : ℕ) (reply : ℤ) (l : List ℕ) (t : Tables) (few : suc (suc k
       } in
       record {
         tables = sound_move t p y m InReady sound (idle_differs t p t.current (λ e. let g = sym first_waits ∙ e in cc) sound.runs) can;
-        waiters = ap (λ (z : Semaphore). z.waiters) (semaphore_at_without p (suc (suc k)) t.semaphores) ∙ ap (numbers_without p) first ∙ without_first p l first_once;
+        waiters = ap (λ (z : Semaphore). z.waiters) (semaphore_at_without p (suc (suc k)) t.semaphores) ∙ ap (numbers_without p) first ∙ others_wait p l first_once;
         others = λ other n. ap (λ (z : Semaphore). z.waiters) (semaphore_at_without p other t.semaphores) ∙ filter_absent (λ x. x == p) (semaphore_at t other).waiters (first_only other n);
         tokens = λ other. tokens_move t p y m InReady other;
         replies = replies_move t p y m InReady sound.inside.processes first_within refl;

@@ -43,10 +43,11 @@ use Rattle.xinu_model.specs.Tables.{process_at, state_at, semaphore_at, is_free}
 abbrev pub Calm : CallResult → Type 0
 Calm result = result.answer ≡ Panics → ⊥
 
--- what is refused, and what waits, is calm
+-- a refused call is calm
 pub refused_calm : (s : Xinu) → Calm (refused s)
 refused_calm s e = absurd (cc)
 
+-- so is a call that answers
 pub returns_calm : (d : CallState) (value : ℤ) → Calm (returns d value)
 returns_calm d value e = absurd (cc)
 
@@ -63,43 +64,48 @@ await_calm sem left then_ s go = by_tokens (semaphore_at s.tables sem).tokens
     by_tokens zero = λ e. absurd (cc)
     by_tokens (suc n) = go _
 
--- calls on processes
+-- a process is made, if a number and a stack were found
 pub created_calm : (number : Option ℕ) (found : Option Stack) (entry size : ℕ) (priority : ℤ) (name : List ℕ) (x y : ℕ) (s : Xinu)
     → Calm (created number found entry size priority name x y s)
 created_calm (Some p) (Some stack) entry size priority name x y s e = absurd (cc)
 created_calm (Some p) None entry size priority name x y s e = absurd (cc)
 created_calm None stack entry size priority name x y s e = absurd (cc)
 
+-- call 2
 pub create_calm : (entry size : ℕ) (priority : ℤ) (name x y : ℕ) (s : Xinu) → Calm (create entry size priority name x y s)
 create_calm entry size priority name x y s =
     either_calm (int_lt priority (pos 1) || not (in_ram name 16)) (refused s) _ (refused_calm s)
     (created_calm (free_process s.tables) (take_stack (stack_size size) s.parts.heap) entry (stack_size size) priority _ x y s)
 
+-- call 4
 pub suspend_calm : (p : ℕ) (s : Xinu) → Calm (suspend p s)
 suspend_calm p s =
     either_calm (p == 0) (refused s) _ (refused_calm s)
     (either_calm (is_ready (process_at s.tables p).state) _ _ (λ e. absurd (cc))
     (either_calm (p == s.tables.current) _ (refused s) (λ e. absurd (cc)) (refused_calm s)))
 
+-- call 5
 pub kill_calm : (p : ℕ) (s : Xinu) → Calm (kill p s)
 kill_calm p s =
     either_calm ((p == 0) || is_free (state_at s.tables p)) (refused s) _ (refused_calm s)
     (either_calm (p == s.tables.current) (exit s) _ (λ e. absurd (cc)) (λ e. absurd (cc)))
 
--- on memory
+-- memory is granted
 pub granted_calm : (found : Option Grant) (s : Xinu) → Calm (granted found s)
 granted_calm None s e = absurd (cc)
 granted_calm (Some grant) s e = absurd (cc)
 
+-- a stack that is granted
 pub stacked_calm : (found : Option Stack) (s : Xinu) → Calm (stacked found s)
 stacked_calm None s e = absurd (cc)
 stacked_calm (Some stack) s e = absurd (cc)
 
+-- memory that is given back
 pub given_back_calm : (found : Option Heap) (s : Xinu) → Calm (given_back found s)
 given_back_calm None s e = absurd (cc)
 given_back_calm (Some free) s e = absurd (cc)
 
--- on semaphores
+-- call 14
 pub semcreate_calm : (count : ℤ) (s : Xinu) → Calm (semcreate count s)
 semcreate_calm (negsuc n) s = refused_calm s
 semcreate_calm (pos n) s = made (free_semaphore s.tables)
@@ -108,37 +114,43 @@ semcreate_calm (pos n) s = made (free_semaphore s.tables)
     made None e = absurd (cc)
     made (Some k) e = absurd (cc)
 
+-- call 16
 pub semreset_calm : (k : ℕ) (count : ℤ) (s : Xinu) → Calm (semreset k count s)
 semreset_calm k (negsuc n) s = refused_calm s
 semreset_calm k (pos n) s = either_calm (is_good k s.tables) _ (refused s) (λ e. absurd (cc)) (refused_calm s)
 
+-- call 18
 pub wait_calm : (k : ℕ) (s : Xinu) → Calm (wait k s)
 wait_calm k s =
     either_calm (is_good k s.tables) _ (refused s) (await_calm k rest.Nothing (answers OK) s (λ u e. absurd (cc))) (refused_calm s)
 
+-- call 20
 pub signaln_calm : (k : ℕ) (n : ℤ) (s : Xinu) → Calm (signaln k n s)
 signaln_calm k (negsuc n) s = refused_calm s
 signaln_calm k (pos n) s = either_calm _ _ (refused s) (returns_calm (signalled_times k n (start s)) OK) (refused_calm s)
 
--- on messages and the clock
+-- a message is taken, or another way gone
 pub received_calm : (message : Option ℕ) (otherwise : CallResult) (s : Xinu) → Calm otherwise → Calm (received message otherwise s)
 received_calm None otherwise s k = k
 received_calm (Some message) otherwise s k = λ e. absurd (cc)
 
+-- call 24
 pub recvtime_calm : (ticks : ℤ) (s : Xinu) → Calm (recvtime ticks s)
 recvtime_calm (negsuc n) s = refused_calm s
 recvtime_calm (pos n) s = received_calm (held s) _ s (λ e. absurd (cc))
 
+-- call 26
 pub sleepms_calm : (ticks : ℤ) (s : Xinu) → Calm (sleepms ticks s)
 sleepms_calm (negsuc n) s e = absurd (cc)
 sleepms_calm (pos zero) s e = absurd (cc)
 sleepms_calm (pos (suc n)) s e = absurd (cc)
 
+-- call 25
 pub sleep_calm : (seconds : ℤ) (s : Xinu) → Calm (sleep seconds s)
 sleep_calm (negsuc n) s = refused_calm s
 sleep_calm (pos n) s = either_calm (nat_lt 2147483 n) (refused s) _ (refused_calm s) (sleepms_calm (pos (1000 * n)) s)
 
--- on pools
+-- a pool is made, if memory and a semaphore were found
 pub made_pool_calm : (found : Option Grant) (sem : Option ℕ) (size n : ℕ) (s : Xinu) → Calm (made_pool found sem size n s)
 made_pool_calm (Some grant) (Some sem) size n s =
     either_calm (meets_pool grant.address (pool_bytes size n) s.parts.pools) (refused s) (with_pool grant sem size n s) (refused_calm s)
@@ -146,61 +158,73 @@ made_pool_calm (Some grant) (Some sem) size n s =
 made_pool_calm (Some grant) None size n s = refused_calm s
 made_pool_calm None sem size n s = refused_calm s
 
+-- call 28
 pub mkbufpool_calm : (size n : ℕ) (s : Xinu) → Calm (mkbufpool size n s)
 mkbufpool_calm size n s =
     either_calm (is_pool_size size n && nat_lt (length s.parts.pools) most_pools) _ (refused s)
     (made_pool_calm (heap.take_memory (pool_bytes (whole_words size) n) s.parts.heap) (free_semaphore s.tables) (whole_words size) n s)
     (refused_calm s)
 
+-- the first free buffer is taken
 pub take_first_calm : (free : List ℕ) (i : ℕ) (s : Xinu) → Calm (take_first free i s)
 take_first_calm [] i s e = absurd (cc)
 take_first_calm (a ∷ free) i s e = absurd (cc)
 
+-- call 29
 pub getbuf_calm : (i : ℕ) (s : Xinu) → Calm (getbuf i s)
 getbuf_calm i s =
     either_calm (nat_lt i (length s.parts.pools)) _ (refused s)
     (await_calm (pool_at s.parts.pools i).semaphore (rest.GetBuf i) (take_buffer i) s
     (λ u. take_first_calm (pool_at u.parts.pools i).free i u)) (refused_calm s)
 
+-- call 30
 pub freed_by_calm : (found : Option ℕ) (a : ℕ) (s : Xinu) → Calm (freed_by found a s)
 freed_by_calm None a s e = absurd (cc)
 freed_by_calm (Some i) a s e = absurd (cc)
 
--- on ports, but for a send
+-- a port is made, if its second semaphore is found
 pub made_port_calm : (found : Option ℕ) (q n send : ℕ) (s : Xinu) → Calm (made_port found q n send s)
 made_port_calm None q n send s e = absurd (cc)
 made_port_calm (Some receive) q n send s e = absurd (cc)
 
+-- and if its first semaphore is found
 pub started_port_calm : (q send : Option ℕ) (n : ℕ) (s : Xinu) → Calm (started_port q send n s)
 started_port_calm (Some q) (Some send) n s = made_port_calm (free_semaphore (make_semaphore send (owner.Port q) n s.tables)) q n send s
 started_port_calm (Some q) None n s = refused_calm s
 started_port_calm None send n s = refused_calm s
 
+-- call 31
 pub ptcreate_calm : (n : ℤ) (s : Xinu) → Calm (ptcreate n s)
 ptcreate_calm (negsuc n) s = refused_calm s
 ptcreate_calm (pos n) s = started_port_calm (free_port s) (free_semaphore s.tables) n s
 
+-- call 32
 pub deleted_calm : (found : Option PortQueue) (q how : ℕ) (s : Xinu) → Calm (deleted_where found q how s)
 deleted_calm None q how s = refused_calm s
 deleted_calm (Some queue) q how s = either_calm (nat_le how 1) _ (refused s) (λ e. absurd (cc)) (refused_calm s)
 
+-- call 33
 pub reset_calm : (found : Option PortQueue) (q how : ℕ) (s : Xinu) → Calm (reset_where found q how s)
 reset_calm None q how s = refused_calm s
 reset_calm (Some queue) q how s = either_calm (nat_le how 1) _ (refused s) (λ e. absurd (cc)) (refused_calm s)
 
+-- one of these messages is taken
 pub take_message_calm : (messages : List ℕ) (queue : PortQueue) (q : ℕ) (s : Xinu) → Calm (take_message messages queue q s)
 take_message_calm [] queue q s e = absurd (cc)
 take_message_calm (message ∷ messages) queue q s e = absurd (cc)
 
+-- one of the messages of a queue
 pub take_from_calm : (found : Option PortQueue) (q : ℕ) (s : Xinu) → Calm (take_from found q s)
 take_from_calm None q s = refused_calm s
 take_from_calm (Some queue) q s = take_message_calm queue.messages queue q s
 
+-- a receiver goes on
 pub finish_receive_calm : (ticket : PortTicket) (s : Xinu) → Calm (finish_receive ticket s)
 finish_receive_calm ticket s =
     either_calm (is_stale ticket s.parts.ports) (refused s) _ (refused_calm s)
     (take_from_calm (port_at s.parts.ports ticket.port).queue ticket.port s)
 
+-- call 35
 pub received_from_calm : (found : Option PortQueue) (q : ℕ) (s : Xinu) → Calm (received_from found q s)
 received_from_calm None q s = refused_calm s
 received_from_calm (Some queue) q s =
@@ -223,6 +247,7 @@ finish_send_full ticket message s =
     (λ (h : CallResult). h.answer ≡ Panics → (is_stale ticket s.parts.ports ≡ false) × (most_nodes ≤ nodes s.parts.ports))
     (λ _ e. absurd (cc)) (λ b e. (b, put_message_full (port_at s.parts.ports ticket.port).queue ticket.port message s e))
 
+-- call 34
 pub sent_to_full : (found : Option PortQueue) (q message : ℕ) (s : Xinu) → (sent_to found q message s).answer ≡ Panics
     → most_nodes ≤ nodes s.parts.ports
 sent_to_full None q message s = λ e. absurd (cc)
@@ -235,14 +260,16 @@ sent_to_full (Some queue) q message s = by_tokens (semaphore_at s.tables queue.s
     by_tokens (suc n) =
         λ e. (finish_send_full (ticket_of q queue.send s) message (record s { tables = with_tokens queue.send n s.tables }) e).1
 
--- on the console
+-- a character is taken
 pub take_char_calm : (items : List Item) (s : Xinu) → Calm (take_char items s)
 take_char_calm [] s e = absurd (cc)
 take_char_calm (x ∷ items) s e = absurd (cc)
 
+-- `getc` of the console
 pub getc_calm : (s : Xinu) → Calm (console_getc s)
 getc_calm s = await_calm TY_ISEM rest.TtyGet take_next s (λ u. take_char_calm (console_of u).committed u)
 
+-- an item is read, and then the rest
 pub read_item_calm : (items : List Item) (at done : ℕ) (then_ : Xinu → CallResult) (s : Xinu) → ((u : Xinu) → Calm (then_ u))
     → Calm (read_item items at done then_ s)
 read_item_calm [] at done then_ s go = λ e. absurd (cc)
@@ -251,15 +278,18 @@ read_item_calm (x ∷ items) at done then_ s go =
     (either_calm (ends_line (console_of s).mode x) _ _ (returns_calm (start (stored x at done (with_committed items s))) (pos (suc done)))
     (go (stored x at done (with_committed items s))))
 
+-- a read goes on to its end
 pub reads_calm : (left at done : ℕ) (s : Xinu) → Calm (reads left at done s)
 reads_calm zero at done s = λ e. absurd (cc)
 reads_calm (suc left) at done s =
     await_calm TY_ISEM (rest.TtyRead (span at done (done + suc left))) (read_next at done (reads left at (suc done))) s
     (λ u. read_item_calm (console_of u).committed at done (reads left at (suc done)) u (reads_calm left at (suc done)))
 
+-- a read to bytes of RAM
 pub read_range_calm : (at n : ℕ) (s : Xinu) → Calm (read_range at n s)
 read_range_calm at n s = either_calm (in_ram at n) (reads n at 0 s) (refused s) (reads_calm n at 0 s) (refused_calm s)
 
+-- `read` of the console
 pub read_calm : (at : ℕ) (n : ℤ) (s : Xinu) → Calm (console_read at n s)
 read_calm at (negsuc n) s = refused_calm s
 read_calm at (pos zero) s =
@@ -267,6 +297,7 @@ read_calm at (pos zero) s =
     (λ e. absurd (cc)) (read_range_calm at (semaphore_at s.tables TY_ISEM).tokens s)
 read_calm at (pos (suc n)) s = read_range_calm at (suc n) s
 
+-- a byte is put, and then the rest
 pub put_byte_calm : (b : ℕ) (left : Rest) (then_ : Xinu → CallResult) (s : Xinu) → ((u : Xinu) → Calm (then_ u))
     → Calm (put_byte b left then_ s)
 put_byte_calm b left then_ s go =
@@ -274,11 +305,13 @@ put_byte_calm b left then_ s go =
     (then_ (put b s))
     (await_calm TY_OSEM left (λ x. then_ (put TY_NEWLINE x)) (put TY_RETURN s) (λ u. go (put TY_NEWLINE u))) (go (put b s))
 
+-- `putc` of the console
 pub putc_calm : (b : ℕ) (s : Xinu) → Calm (console_putc b s)
 putc_calm b s =
     await_calm TY_OSEM (rest.TtyPut b false) (put_byte b (rest.TtyPut b true) (answers OK)) s
     (λ u. put_byte_calm b (rest.TtyPut b true) (answers OK) u (λ v e. absurd (cc)))
 
+-- a write goes on to its end
 pub writes_calm : (left at done : ℕ) (s : Xinu) → Calm (writes left at done s)
 writes_calm zero at done s = λ e. absurd (cc)
 writes_calm (suc left) at done s =
@@ -288,31 +321,38 @@ writes_calm (suc left) at done s =
     (λ u. put_byte_calm (slice_index u.memory (at + done)) (rest.TtyWrite part true) (writes left at (suc done)) u
     (writes_calm left at (suc done)))
 
+-- `write` of the console
 pub write_calm : (at : ℕ) (n : ℤ) (s : Xinu) → Calm (console_write at n s)
 write_calm at (negsuc n) s = refused_calm s
 write_calm at (pos n) s = either_calm (in_ram at n) (writes n at 0 s) (refused s) (writes_calm n at 0 s) (refused_calm s)
 
+-- a control function of the console
 pub control_calm : (found : Option Committed) (s : Xinu) → Calm (control_with found s)
 control_calm None s = refused_calm s
 control_calm (Some m) s = λ e. absurd (cc)
 
+-- `control` of the console
 pub console_control_calm : (f : ℕ) (s : Xinu) → Calm (console_control f s)
 console_control_calm f s = either_calm (f == TC_ICHARS) _ _ (λ e. absurd (cc)) (control_calm (controlled f (console_of s)) s)
 
--- on the raw disk and on files
+-- `read` of the raw disk
 pub disk_read_calm : (at block : ℕ) (s : Xinu) → Calm (disk_read at block s)
 disk_read_calm at block s = either_calm (may_request at block s) _ (refused s) (λ e. absurd (cc)) (refused_calm s)
 
+-- `write` of the raw disk
 pub disk_write_calm : (at block : ℕ) (s : Xinu) → Calm (disk_write at block s)
 disk_write_calm at block s = either_calm (may_request at block s) _ (refused s) (λ e. absurd (cc)) (refused_calm s)
 
+-- `control` of the raw disk
 pub disk_control_calm : (f : ℕ) (s : Xinu) → Calm (disk_control f s)
 disk_control_calm f s = either_calm (f == RD_CTL_SIZE) _ (refused s) (λ e. absurd (cc)) (refused_calm s)
 
+-- a call on files
 pub files_calm : (s : Xinu) → OfFiles Calm s
 files_calm s None at asked = refused_calm s
 files_calm s (Some call) at asked = λ e. absurd (cc)
 
+-- call 44
 pub mount_calm : (prefix replacement dev : ℕ) (s : Xinu) → Calm (mount prefix replacement dev s)
 mount_calm prefix replacement dev s = mount_holds Calm prefix replacement dev s (refused_calm s) (λ row found w e. by_found found)
   where

@@ -3,6 +3,7 @@ use Rattle.std.proofs.Common.{◌≡◌, ◌≢◌, ◌⊎◌, inl, inr, ℕ, su
 use Rattle.std.specs.Prelude.{slice_index}
 use Rattle.std.specs.List.{AllByRecursion}
 use Rattle.std.proofs.lemmas.Bool.{cond_both, eqb-false}
+use Rattle.xinu_laws.proofs.Ownership.Events.{done_rest}
 use Rattle.xinu_base.specs.Constants.{OK}
 use Rattle.xinu_base.specs.Syscalls.{is_served}
 use Rattle.xinu_base.specs.declared.events.Event.{Event}
@@ -42,6 +43,7 @@ use Rattle.xinu_laws.proofs.Reply.Calm.{Calm, refused_calm, returns_calm, either
 abbrev PanicsFull : CallRow → Type 0
 PanicsFull r = (a : ℕ → ℕ) (s : Xinu) → (r.effect a s).answer ≡ Panics → (r.syscall.number ≡ 34) × (most_nodes ≤ nodes s.parts.ports)
 
+-- Row by row.
 rows_panic : AllByRecursion PanicsFull calls
 unfolding calls
 rows_panic =
@@ -147,25 +149,11 @@ panic_is Waits e = cc
 panic_is Gone e = cc
 panic_is Silent e = cc
 
--- nothing is left of a call that is done
-done_is : (left : Rest) → is_done left ≡ true → left ≡ rest.Nothing
-done_is rest.Nothing e = refl
-done_is rest.Receive e = cc
-done_is rest.Timed e = cc
-done_is rest.SelfSuspend e = cc
-done_is (rest.GetBuf i) e = cc
-done_is (rest.PtSend ticket message) e = cc
-done_is (rest.PtRecv ticket) e = cc
-done_is rest.TtyGet e = cc
-done_is (rest.TtyRead part) e = cc
-done_is (rest.TtyPut b returned) e = cc
-done_is (rest.TtyWrite part returned) e = cc
-done_is (rest.Disk reply) e = cc
-
 -- So a machine step in which the kernel panics is such a send, or goes on with one.
 abbrev FullStep : Xinu → Type 0
 FullStep old = IsFullCall old ⊎ IsFullSend (process_at old.tables old.tables.current).rest old
 
+-- It is shown by what the step does.
 step_full : (old : Xinu) → (stepped old).panics ≡ true → FullStep old
 step_full old =
     let left = (process_at old.tables old.tables.current).rest in
@@ -174,7 +162,7 @@ step_full old =
     (λ (x : EventResult). x.panics ≡ true → FullStep old)
     (λ _ e. absurd (cc))
     (λ b. cond_both (is_done left) (instruction_step old) goes_on (λ (x : EventResult). x.panics ≡ true → FullStep old)
-    (λ d. by_outcome (eqb-false old.tables.current 0 b) (done_is left d) (next old).outcome refl)
+    (λ d. by_outcome (eqb-false old.tables.current 0 b) (done_rest left d) (next old).outcome refl)
     (λ _ e. inr (continued_panics left old (panic_is (continued left old).answer e))))
   where
     by_outcome : old.tables.current ≢ 0 → (process_at old.tables old.tables.current).rest ≡ rest.Nothing → (o : Outcome)

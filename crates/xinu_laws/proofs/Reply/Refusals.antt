@@ -1,8 +1,7 @@
 -- Most calls answer -1 only if they are refused.
 use Rattle.std.proofs.Common.{◌≡◌, ℕ, zero, suc, ◌*◌, ◌<◌, ◌==◌, Bool, true, false, not, cond, ◌&&◌, ◌||◌, List, [], ◌∷◌, length, take, drop, refl, sym, ap, subst, ◌∙◌, arith, Option, Some, None, ℤ, pos, negsuc}
 use Rattle.std.specs.Prelude.{int_lt, ◌+ℤ◌, nat_lt, nat_le, is_some}
-use Rattle.std.proofs.lemmas.Bool.{cond_both, eq-eqb}
-use Rattle.std.proofs.lemmas.Bool.Decides.{nat_tests}
+use Rattle.std.proofs.lemmas.Bool.{cond_both, eq-eqb, ltb-true}
 use Rattle.xinu_base.specs.declared.processes.Rest.{Rest}
 use Rattle.xinu_base.specs.declared.processes.Rest.TheVariants.{Nothing, GetBuf, PtSend}
 use Rattle.xinu_base.specs.declared.semaphores.Owner.TheVariants as owner
@@ -34,7 +33,7 @@ pub answer_tells : (s : Xinu) (d : CallState) (n : ℕ) → TellsRefusal s (retu
 answer_tells s d n e = cc
 
 -- a refused call
-refusal_tells : (s : Xinu) → TellsRefusal s (refused s)
+pub refusal_tells : (s : Xinu) → TellsRefusal s (refused s)
 refusal_tells s e = refl
 
 -- either of two ways to go on
@@ -148,10 +147,6 @@ take_first_tells : (free : List ℕ) (i : ℕ) (s x : Xinu) → 0 < length free 
 take_first_tells [] i s x h = absurd (omega arith)
 take_first_tells (a ∷ free) i s x h = λ e. cc
 
--- what the test says of a pool's number
-made_number : (i n : ℕ) → nat_lt i n ≡ true → i < n
-made_number i n h = grind (arith, nat_tests)
-
 -- call 29: the pool has a free buffer for each token
 pub getbuf_tells : (i : ℕ) (s : Xinu) → ArePools s.tables s.parts.pools → TellsRefusal s (getbuf i s)
 getbuf_tells i s pools =
@@ -159,7 +154,7 @@ getbuf_tells i s pools =
     guarded_tells (nat_lt i (length s.parts.pools)) s _
     (λ b. take_token_tells (semaphore_at s.tables pool.semaphore).tokens pool.semaphore (GetBuf i) (take_buffer i) s
     (λ n e. take_first_tells pool.free i s (record s { tables = with_tokens pool.semaphore n s.tables })
-    (let k = (pools.each i (made_number i (length s.parts.pools) b)).enough in omega arith)))
+    (let k = (pools.each i (ltb-true i (length s.parts.pools) b)).enough in omega arith)))
 
 -- call 30
 pub freed_by_tells : (found : Option ℕ) (a : ℕ) (s : Xinu) → TellsRefusal s (freed_by found a s)

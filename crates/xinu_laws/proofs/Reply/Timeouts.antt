@@ -45,10 +45,11 @@ use Rattle.xinu_model.specs.Words.{signed}
 abbrev InTime : CallResult → Type 0
 InTime result = result.answer ≡ Returns TIMEOUT → ⊥
 
--- a refusal, and an answer that isn't negative
+-- a refusal
 refused_in_time : (s : Xinu) → InTime (refused s)
 refused_in_time s e = absurd (cc)
 
+-- an answer that isn't negative
 answers_in_time : (d : CallState) (n : ℕ) → InTime (returns d (pos n))
 answers_in_time d n e = absurd (cc)
 
@@ -76,6 +77,7 @@ put_message_in_time None q message s = refused_in_time s
 put_message_in_time (Some queue) q message s =
     either_in_time (nat_le most_nodes (nodes s.parts.ports)) _ _ (λ e. absurd (cc)) (λ e. absurd (cc))
 
+-- a sender goes on
 finish_send_in_time : (ticket : PortTicket) (message : ℕ) (s : Xinu) → InTime (finish_send ticket message s)
 finish_send_in_time ticket message s =
     either_in_time (is_stale ticket s.parts.ports) (refused s) _ (refused_in_time s)
@@ -86,15 +88,17 @@ char_in_time : (b : Bool) (n : ℕ) (s : Xinu) → InTime (answers (cond b EOF (
 char_in_time true n s e = absurd (cc)
 char_in_time false n s e = absurd (cc)
 
+-- the character is taken
 take_char_in_time : (items : List Item) (s : Xinu) → InTime (take_char items s)
 take_char_in_time [] s = λ e. absurd (cc)
 take_char_in_time (x ∷ items) s = char_in_time (is_cooked (console_of s).mode && is_end x) (byte_of x) (with_committed items s)
 
--- a read
+-- what a read answers at the end mark
 count_in_time : (done : ℕ) (s : Xinu) → InTime (answers (count_at_end done) s)
 count_in_time zero s e = absurd (cc)
 count_in_time (suc done) s e = absurd (cc)
 
+-- an item is read, and then the rest
 read_item_in_time : (items : List Item) (at done : ℕ) (then_ : Xinu → CallResult) (s : Xinu) → ((u : Xinu) → InTime (then_ u))
     → InTime (read_item items at done then_ s)
 read_item_in_time [] at done then_ s go = λ e. absurd (cc)
@@ -103,13 +107,14 @@ read_item_in_time (x ∷ items) at done then_ s go =
     (either_in_time (ends_line (console_of s).mode x) _ _ (answers_in_time (start (stored x at done (with_committed items s))) (suc done))
     (go (stored x at done (with_committed items s))))
 
+-- a read goes on to its end
 reads_in_time : (left at done : ℕ) (s : Xinu) → InTime (reads left at done s)
 reads_in_time zero at done s = λ e. absurd (cc)
 reads_in_time (suc left) at done s =
     await_in_time TY_ISEM (rest.TtyRead (span at done (done + suc left))) (read_next at done (reads left at (suc done))) s
     (λ u. read_item_in_time (console_of u).committed at done (reads left at (suc done)) u (reads_in_time left at (suc done)))
 
--- a byte that is put, and a write
+-- a byte is put, and then the rest
 put_byte_in_time : (b : ℕ) (left : Rest) (then_ : Xinu → CallResult) (s : Xinu) → ((u : Xinu) → InTime (then_ u))
     → InTime (put_byte b left then_ s)
 put_byte_in_time b left then_ s go =
@@ -117,6 +122,7 @@ put_byte_in_time b left then_ s go =
     (then_ (put b s))
     (await_in_time TY_OSEM left (λ x. then_ (put TY_NEWLINE x)) (put TY_RETURN s) (λ u. go (put TY_NEWLINE u))) (go (put b s))
 
+-- a write goes on to its end
 writes_in_time : (left at done : ℕ) (s : Xinu) → InTime (writes left at done s)
 writes_in_time zero at done s = λ e. absurd (cc)
 writes_in_time (suc left) at done s =
@@ -132,11 +138,13 @@ take_message_told : (messages : List ℕ) (queue : PortQueue) (q : ℕ) (s : Xin
 take_message_told [] queue q s e = absurd (cc)
 take_message_told (message ∷ messages) queue q s e = cc
 
+-- one of the messages of a queue
 take_from_told : (found : Option PortQueue) (q : ℕ) (s : Xinu) → (take_from found q s).answer ≡ Returns TIMEOUT
     → option_map signed (first_of (queued found)) ≡ Some TIMEOUT
 take_from_told None q s e = absurd (cc)
 take_from_told (Some queue) q s e = take_message_told queue.messages queue q s e
 
+-- a receiver goes on
 finish_receive_told : (ticket : PortTicket) (s : Xinu) → (finish_receive ticket s).answer ≡ Returns TIMEOUT
     → option_map signed (first_of (queued (port_at s.parts.ports ticket.port).queue)) ≡ Some TIMEOUT
 finish_receive_told ticket s =
@@ -214,15 +222,19 @@ served_in_time true r d = by_bytes r.written
 abbrev Timely : FileEffect → Type 0
 Timely e = e.reply ≢ TIMEOUT
 
+-- a refusal replies -1
 refused_timely : (s : FileSystem) → Timely (refused_effect s)
 refused_timely s e = absurd (cc)
 
+-- other replies aren't negative
 replies_timely : (n : ℕ) (s : FileSystem) → Timely (replies (pos n) s)
 replies_timely n s e = absurd (cc)
 
+-- either of two effects
 either_timely : (b : Bool) (x y : FileEffect) → Timely x → Timely y → Timely (cond b x y)
 either_timely b x y k l = cond_both b x y Timely (λ _. k) (λ _. l)
 
+-- an open, by whether there is the file
 open_stored_timely : (found : Option StoredFile) (name : List ℕ) (mode : OpenMode) (s : FileSystem) → Timely (open_stored found name mode s)
 open_stored_timely (Some f) name mode s =
     either_timely mode.only_new (refused_effect s) (opened name mode s) (refused_timely s) (λ e. absurd (cc))
@@ -230,20 +242,24 @@ open_stored_timely None name mode s =
     either_timely (mode.only_old || nat_le LF_NUM_DIR_ENT (length s.files)) (refused_effect s) (opened name mode (with_created name s))
     (refused_timely s) (λ e. absurd (cc))
 
+-- a call on a device
 on_device_timely : (found : Option OpenFile) (effect : OpenFile → FileEffect) (s : FileSystem) → ((f : OpenFile) → Timely (effect f))
     → Timely (on_open found effect s)
 on_device_timely None effect s each = refused_timely s
 on_device_timely (Some f) effect s each = each f
 
+-- a byte is read, or there is none
 first_byte_timely : (bytes : List ℕ) (d : ℕ) (f : OpenFile) (s : FileSystem) → Timely (first_byte bytes d f s)
 first_byte_timely [] d f s e = absurd (cc)
 first_byte_timely (b ∷ bytes) d f s e = absurd (cc)
 
+-- a seek
 seek_timely : (d : ℕ) (n : ℤ) (f : OpenFile) (s : FileSystem) → Timely (seek_file d n f s)
 seek_timely d (negsuc n) f s = refused_timely s
 seek_timely d (pos n) f s =
     either_timely (nat_lt (length (open_bytes f s)) n) (refused_effect s) (replies OK (moved d f n s)) (refused_timely s) (λ e. absurd (cc))
 
+-- a read
 read_timely : (d n : ℕ) (f : OpenFile) (s : FileSystem) → Timely (read_file d n f s)
 read_timely d n f s =
     either_timely (not f.may_read) (refused_effect s) _ (refused_timely s)
@@ -251,6 +267,7 @@ read_timely d n f s =
     (either_timely (nat_le (length (open_bytes f s)) f.position) (replies EOF s) (taken (bytes_ahead n f s) d f s)
     (λ e. absurd (cc)) (λ e. absurd (cc))))
 
+-- Each call on files.
 pub effects_timely : (call : FileCall) (bytes : List ℕ) (s : FileSystem) → Timely (file_effect call bytes s)
 effects_timely (Open name mode) bytes s =
     either_timely (is_open name s || nat_le Nlfl (free_device s.devices)) (refused_effect s) _ (refused_timely s)
@@ -282,10 +299,12 @@ effects_timely (Size d) bytes s = on_device_timely (open_at s d) (λ f. size_of_
 abbrev Answered : ℤ → List (ℕ × ℤ) → Type 0
 Answered value replies = AllByRecursion (λ (r : ℕ × ℤ). r.1 ≡ value) replies
 
+-- what a released process is answered at once
 answered_at_unblock : (value : ℤ) (p : ℕ) (left : Rest) → Answered value (reply_at_unblock value p left)
 answered_at_unblock value p rest.Nothing = (refl, tt)
 answered_at_unblock value p _ = tt
 
+-- what several are answered
 all_answered : (value : ℤ) (ps : List ℕ) (d : CallState) → Answered value d.released → Answered value (unblock_all_with value ps d).released
 all_answered value [] d k = k
 all_answered value (p ∷ ps) d k =
@@ -293,5 +312,6 @@ all_answered value (p ∷ ps) d k =
     (all_append (λ (r : ℕ × ℤ). r.1 ≡ value) d.released (reply_at_unblock value p (process_at d.state.tables p).rest) k
     (answered_at_unblock value p (process_at d.state.tables p).rest))
 
+-- At a tick.
 pub ticks_answer : (s : Xinu) → Answered OK (wakeup s).released
 ticks_answer s = all_answered OK (due (s.tables.ticks + 1) s.tables.sleepers) (start s) tt
