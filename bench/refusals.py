@@ -29,7 +29,10 @@ FILES = {
     "whole": image(1_048_576),
     "elf": b"\x7fELF" + bytes(48),
     "source": b"nop\nli a7, x\n",
+    "large": bytes(8 * 512),
 }
+# A disk of this many blocks, without files, is made beside them. Seven blocks of it are left for data.
+BLOCKS = "14"
 
 # the arguments, the exit status, and standard error
 ROWS = [
@@ -46,6 +49,11 @@ ROWS = [
     (["asm", "no file", "--out", "out"], 3, "xinu: host fault\n"),
     (["asm", "source", "--out", "out"], 9, "xinu: asm line 2 fault 2\n"),
     (["asm", "source", "--out", "out", "--elf"], 9, "xinu: asm line 2 fault 2\n"),
+    (["disk", "check", "short"], 6, "xinu: disk 1 block 0 rule 0\n"),
+    (["disk", "put", "short", "name", "no file", "--out", "out"], 6, "xinu: disk 1 block 0 rule 0\n"),
+    (["disk", "put", "disk", "name", "no file", "--out", "out"], 3, "xinu: host fault\n"),
+    (["disk", "get", "disk", "name", "--out", "out"], 12, "xinu: no such file\n"),
+    (["disk", "put", "disk", "name", "large", "--out", "out"], 13, "xinu: does not fit\n"),
 ]
 
 
@@ -65,6 +73,7 @@ def main():
         for name, content in FILES.items():
             with open(os.path.join(folder, name), "wb") as file:
                 file.write(content)
+        subprocess.run([program, "disk", "mkfs", BLOCKS, "--out", "disk"], cwd=folder, check=True)
         right = [is_right(program, folder, *row) for row in ROWS]
         with open("/dev/full", "wb") as full:
             right.append(is_right(program, folder, ["run", "--schedule", "four", "image"], 3, "xinu: host fault\n", full))
