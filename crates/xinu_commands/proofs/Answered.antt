@@ -13,7 +13,7 @@ use Rattle.host_port.specs.Outside.{Outside, HostCall, appended, with_calls, cou
 use Rattle.machine.specs.Printed.{Booted}
 use Rattle.xinu_model.specs.Machine.{Xinu}
 use Rattle.xinu_commands.specs.Conversions.{args_refusal, host_refusal}
-use Rattle.xinu_commands.specs.Calls.{calls_of}
+use Rattle.xinu_commands.specs.Calls.{calls_due}
 use Rattle.xinu_commands.specs.Refusals.{TellsRefusal, text_of}
 use Rattle.xinu_commands.specs.Stages.{Performs, left_of, refusal_of}
 use Rattle.xinu_commands.specs.RunVerdict.{run_verdict}
@@ -22,7 +22,7 @@ use Rattle.xinu_commands.specs.Verdict.{file_bytes, verdict}
 use Rattle.xinu_commands.specs.Work.{Verdict, Refuses, Does, Runs, Outputs}
 use Rattle.xinu_commands.specs.declared.refusals.Refusal.{Refusal}
 use Rattle.xinu_commands.specs.declared.refusals.Refusal.TheVariants as refusal
-use Rattle.xinu_commands.proofs.Carried.{carries_nothing, carries_within, unsent_refl}
+use Rattle.xinu_commands.proofs.Carried.{carries_nothing, carries_within, unsent_both, unsent_refl}
 use Rattle.xinu_commands.proofs.Called.{keeps_refl, nothing_called}
 
 -- arguments that are refused
@@ -31,7 +31,7 @@ args_refuse_of args.NoCommand command h cause =
     let P : Option Command → Type 0 = λ c. Performs c (Some refusal.Usage) None h h in
     subst P (sym (cause refl)) (record {
       obeys = record { unseen = λ input. []; carries = carries_nothing (Refuses refusal.Usage) refusal.Usage h h refl (unsent_refl h) };
-      calls = nothing_called [] refusal.Usage h;
+      calls = nothing_called (calls_due None (Refuses refusal.Usage)) refusal.Usage h (λ decided. refl);
       keeps = keeps_refl h;
     })
 args_refuse_of args.NoMemory command h cause = record {
@@ -39,7 +39,7 @@ args_refuse_of args.NoMemory command h cause = record {
     unseen = λ input. [];
     carries = carries_nothing (verdict command h.file (λ input. [])) refusal.NoMemory h h tt (unsent_refl h);
   };
-  calls = nothing_called (calls_of command) refusal.NoMemory h;
+  calls = nothing_called (calls_due command (verdict command h.file (λ input. []))) refusal.NoMemory h (λ decided. absurd decided);
   keeps = keeps_refl h;
 }
 
@@ -88,11 +88,13 @@ text_unsent j k text is = record {
 pub refused_answers : (command : Option Command) (r : Refusal) (exit : ℕ) (h j k : Outside) → Performs command (Some r) None h j → TellsRefusal r exit j k
     → Answers exit command h k None
 refused_answers command r exit h j k p refused =
-    let sent = refused.part.1 in let obeys = p.obeys in let keeps = p.keeps in record {
+    let sent = refused.part.1 in let obeys = p.obeys in let keeps = p.keeps in
+    let unsent = text_unsent j k (take refused.part.0 (text_of r)) sent in
+    let calls = p.calls in record {
       ended = Some r;
       obeys = record {
         unseen = obeys.unseen;
-        carries = carries_within (verdict command h.file obeys.unseen) (Some r) None h h j k (unsent_refl h) (omega arith) (text_unsent j k (take refused.part.0 (text_of r)) sent) refused.later obeys.carries;
+        carries = carries_within (verdict command h.file obeys.unseen) (Some r) None h h j k (unsent_refl h) (omega arith) unsent refused.later obeys.carries;
       };
       status = refused.answer;
       message = record {
@@ -102,8 +104,10 @@ refused_answers command r exit h j k p refused =
             ap (λ (x : Outside). x.fault) (refused.whole other calm) ∙ ap (λ (o : Option (List ℕ)). grown o (text_of r)) keeps.fault;
       };
       calls = record {
-        some = (p.calls.some.0, ap (λ (x : Outside). x.calls) sent ∙ p.calls.some.1);
-        all = λ none. absurd (cc);
+        count = calls.count;
+        first = ap (λ (x : Outside). x.calls) sent ∙ calls.first;
+        all = λ decided. ap (λ (x : Outside). x.calls) sent ∙ calls.all decided;
+        unsent = λ few. unsent_both h j k (calls.unsent few) unsent;
       };
       files = ap (λ (x : Outside). x.file) sent ∙ keeps.file;
       faults = omega (arith, keeps.later, refused.later);

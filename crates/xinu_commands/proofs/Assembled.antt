@@ -17,7 +17,7 @@ use Rattle.rv_asm.specs.declared.faults.AsmFault.{AsmFault}
 use Rattle.rv_asm.specs.declared.faults.AsmFault.TheVariants as asm
 use Rattle.xinu_model.specs.Boot.{Loaded}
 use Rattle.xinu_commands.specs.AsmVerdict.{as_elf, asm_refusal, asm_verdict, assembly_verdict, longest_source, written_file}
-use Rattle.xinu_commands.specs.Stages.{Fetches, IsFetched, Performs, SendsOutput, Stage, output_on}
+use Rattle.xinu_commands.specs.Stages.{Fetches, IsFetched, Performs, SendsOutput, Stage, no_fetches, output_on, outputs_due}
 use Rattle.xinu_commands.specs.Verdict.{file_bytes}
 use Rattle.xinu_commands.specs.Work.{Output, Refuses}
 use Rattle.xinu_commands.specs.declared.refusals.Refusal.{Refusal}
@@ -25,7 +25,7 @@ use Rattle.xinu_commands.specs.declared.refusals.Refusal.TheVariants as refusal
 use Rattle.xinu_commands.proofs.Called.{keeps_refl, nothing_called}
 use Rattle.xinu_commands.proofs.Carried.{nothing_sent, unsent_refl}
 use Rattle.xinu_commands.proofs.InputFaults.{cases_fetched}
-use Rattle.xinu_commands.proofs.Staged.{action_files, fetched_stage, memory_stage, refused_stage, sent_stage, stage_as, unfetched_stage}
+use Rattle.xinu_commands.proofs.Staged.{action_files, fetched_stage, memory_stage, refused_last, sent_stage, stage_as, unfetched_stage}
 
 -- ---- the verdict
 
@@ -68,27 +68,27 @@ asm_keeps elf source is = keeps_by (nat_le (length source) longest_source) elf (
 
 -- a text that is too long, or has a fault
 pub long_stage : (elf : Bool) (source : List ℕ) (calls : List HostCall) (h : Outside) → 1048576 < length source
-    → Stage (asm_verdict elf source) calls (Some (refusal.Asm 0 3)) None h h
-long_stage elf source calls h long = refused_stage (asm_verdict elf source) calls (refusal.Asm 0 3) h (asm_long elf source long)
+    → Stage (asm_verdict elf source) no_fetches calls (Some (refusal.Asm 0 3)) None h h
+long_stage elf source calls h long = refused_last (asm_verdict elf source) calls (refusal.Asm 0 3) h (asm_long elf source long)
 
 fault_stage : (elf : Bool) (source : List ℕ) (calls : List HostCall) (f : AsmFault) (h : Outside) → length source ≤ 1048576
     → IsFaultOf f source
-    → Stage (asm_verdict elf source) calls (Some (asm_refusal f)) None h h
+    → Stage (asm_verdict elf source) no_fetches calls (Some (asm_refusal f)) None h h
 fault_stage elf source calls (asm.BadLine l) h short is =
-    refused_stage (asm_verdict elf source) calls (refusal.Asm l 1) h (asm_short elf source (Fails (asm.BadLine l)) short is)
+    refused_last (asm_verdict elf source) calls (refusal.Asm l 1) h (asm_short elf source (Fails (asm.BadLine l)) short is)
 fault_stage elf source calls (asm.UnknownName l) h short is =
-    refused_stage (asm_verdict elf source) calls (refusal.Asm l 2) h (asm_short elf source (Fails (asm.UnknownName l)) short is)
+    refused_last (asm_verdict elf source) calls (refusal.Asm l 2) h (asm_short elf source (Fails (asm.UnknownName l)) short is)
 fault_stage elf source calls (asm.OutOfRange l) h short is =
-    refused_stage (asm_verdict elf source) calls (refusal.Asm l 3) h (asm_short elf source (Fails (asm.OutOfRange l)) short is)
+    refused_last (asm_verdict elf source) calls (refusal.Asm l 3) h (asm_short elf source (Fails (asm.OutOfRange l)) short is)
 fault_stage elf source calls (asm.DoubleLabel l) h short is =
-    refused_stage (asm_verdict elf source) calls (refusal.Asm l 4) h (asm_short elf source (Fails (asm.DoubleLabel l)) short is)
-fault_stage elf source calls asm.NoMemory h short is = memory_stage (asm_verdict elf source) calls h
+    refused_last (asm_verdict elf source) calls (refusal.Asm l 4) h (asm_short elf source (Fails (asm.DoubleLabel l)) short is)
+fault_stage elf source calls asm.NoMemory h short is = memory_stage (asm_verdict elf source) no_fetches calls h
 
 pub faulty_stage : (elf : Bool) (source : List ℕ) (calls : List HostCall) (f : AsmFault) (r : Refusal) (h : Outside) → r ≡ asm_refusal f
     → length source ≤ 1048576 → IsFaultOf f source
-    → Stage (asm_verdict elf source) calls (Some r) None h h
+    → Stage (asm_verdict elf source) no_fetches calls (Some r) None h h
 faulty_stage elf source calls f r h is_r short is =
-    let P : Refusal → Type 0 = λ x. Stage (asm_verdict elf source) calls (Some x) None h h in
+    let P : Refusal → Type 0 = λ x. Stage (asm_verdict elf source) no_fetches calls (Some x) None h h in
     subst P (sym is_r) (fault_stage elf source calls f h short is)
 
 -- memory ran out before the file was named
@@ -97,14 +97,14 @@ unwritten output calls h = record {
   part = nothing_sent output h h (unsent_refl h);
   whole = λ none. absurd (cc);
   cause = tt;
-  calls = nothing_called calls refusal.NoMemory h;
+  calls = nothing_called (outputs_due calls) refusal.NoMemory h (λ decided. absurd decided);
   keeps = keeps_refl h;
 }
 
 -- a text that was assembled, and its file was written
 pub made_stage : (elf : Bool) (source file : List ℕ) (calls : List HostCall) (ended : Option Refusal) (h k : Outside)
     → length source ≤ 1048576 → assembly source ≡ Makes file
-    → SendsOutput (output_on Image (written_file elf file)) calls ended h k → Stage (asm_verdict elf source) calls ended None h k
+    → SendsOutput (output_on Image (written_file elf file)) calls ended h k → Stage (asm_verdict elf source) no_fetches calls ended None h k
 made_stage elf source file calls ended h k short is sends =
     sent_stage (asm_verdict elf source) [] None (Some (written_file elf file)) calls ended h k
     (asm_short elf source (Makes file) short is) sends
@@ -147,8 +147,8 @@ none_loads (Some x) some none = cc
 -- ---- a whole command
 
 performs_by : (a : AsmFiles) (source : List ℕ) (ended : Option Refusal) (h k : Outside)
-    → Stage (asm_verdict a.elf (file_bytes (h.file a.source) source))
-    (fetching a.source ∷ naming Image a.out ∷ []) ended None h k → Performs (Some (Asm a)) ended None h k
+    → Stage (asm_verdict a.elf (file_bytes (h.file a.source) source)) (λ v. a.source ∷ no_fetches v) (naming Image a.out ∷ []) ended None h k
+    → Performs (Some (Asm a)) ended None h k
 performs_by a source ended h k s = record {
   obeys = record { unseen = action_files [] source; carries = s.carries };
   calls = s.calls;
@@ -159,15 +159,15 @@ performs_by a source ended h k s = record {
 pub source_unfetched : (a : AsmFiles) (r : Refusal) (h k : Outside) → Fetches a.source (Some r) h k
     → Performs (Some (Asm a)) (Some r) None h k
 source_unfetched a r h k f =
-    performs_by a [] (Some r) h k (unfetched_stage (asm_verdict a.elf (file_bytes (h.file a.source) [])) a.source
+    performs_by a [] (Some r) h k (unfetched_stage (asm_verdict a.elf (file_bytes (h.file a.source) [])) a.source no_fetches
     (naming Image a.out ∷ []) r h k (asm_keeps a.elf (file_bytes (h.file a.source) [])) f)
 
 -- the source was fetched and assembled
 pub source_fetched : (a : AsmFiles) (items : List ℕ) (ended : Option Refusal) (h j k : Outside) → IsFetched 1048576 (h.file a.source) items
     → Fetches a.source None h j
-    → Stage (asm_verdict a.elf items) (naming Image a.out ∷ []) ended None j k → Performs (Some (Asm a)) ended None h k
+    → Stage (asm_verdict a.elf items) no_fetches (naming Image a.out ∷ []) ended None j k → Performs (Some (Asm a)) ended None h k
 source_fetched a items ended h j k fetched f s =
     performs_by a items ended h k (stage_as (asm_verdict a.elf (file_bytes (h.file a.source) items)) (asm_verdict a.elf items)
-    (fetching a.source ∷ naming Image a.out ∷ []) ended None h k
-    (asm_fetched a.elf (file_bytes (h.file a.source) items) items fetched.front) (fetched_stage (asm_verdict a.elf items) a.source
+    (λ v. a.source ∷ no_fetches v) (naming Image a.out ∷ []) ended None h k
+    (asm_fetched a.elf (file_bytes (h.file a.source) items) items fetched.front) (fetched_stage (asm_verdict a.elf items) a.source no_fetches
     (naming Image a.out ∷ []) ended None h j k f s))

@@ -9,6 +9,7 @@ use Rattle.xinu_commands.specs.Conversions.{host_refusal}
 use Rattle.xinu_commands.specs.Stages.{Fetches, IsFetched, KeepsFiles}
 use Rattle.xinu_commands.specs.declared.refusals.Refusal.{Refusal}
 use Rattle.xinu_commands.proofs.Answered.{fetched_unsent}
+use Rattle.xinu_commands.proofs.Called.{undecided}
 use Rattle.xinu_commands.proofs.Files.{held_fetched}
 use Rattle.xinu_commands.proofs.Sent.{host_cause}
 
@@ -23,7 +24,12 @@ pub fetched : (name : List ℕ) (h k : Outside) → k ≡ counted (with_calls h 
 fetched name h k is later = record {
   unsent = fetched_unsent h k (fetching name ∷ []) k.faults is;
   cause = tt;
-  calls = record { some = (1, ap (λ (x : Outside). x.calls) is); all = λ none. ap (λ (x : Outside). x.calls) is };
+  calls = record {
+    count = 1;
+    first = ap (λ (x : Outside). x.calls) is;
+    all = λ decided. ap (λ (x : Outside). x.calls) is;
+    unsent = λ few. fetched_unsent h k (fetching name ∷ []) k.faults is;
+  };
   keeps = keeps h k (fetching name ∷ []) is later;
 }
 
@@ -32,9 +38,16 @@ pub unfetched : (name : List ℕ) (f : HostFault) (r : Refusal) (n : ℕ) (h k :
     → (f ≡ host.Failed → Rose h.faults k.faults) → h.faults ≤ k.faults → Fetches name (Some r) h k
 unfetched name f r n h k is_r is rose later =
     let P : Refusal → Type 0 = λ x. Fetches name (Some x) h k in
+    let unsent = fetched_unsent h k (take n (fetching name ∷ [])) k.faults is in
+    let cause = host_cause (Some f) h k (λ same. rose (cc)) in
     subst P (sym is_r) (record {
-      unsent = fetched_unsent h k (take n (fetching name ∷ [])) k.faults is;
-      cause = host_cause (Some f) h k (λ same. rose (cc));
-      calls = record { some = (n, ap (λ (x : Outside). x.calls) is); all = λ none. absurd (cc) };
+      unsent = unsent;
+      cause = cause;
+      calls = record {
+        count = n;
+        first = ap (λ (x : Outside). x.calls) is;
+        all = λ decided. absurd (undecided (host_refusal f) h k cause decided);
+        unsent = λ few. unsent;
+      };
       keeps = keeps h k (take n (fetching name ∷ [])) is later;
     })

@@ -1,73 +1,32 @@
 -- The files of a run's images, fetched and read one after another, and the schedule's file before them.
-use Rattle.std.proofs.Common.{◌≡◌, ◌≤◌, ◌<◌, ◌+◌, ◌-◌, ◌==◌, ◌∙◌, ◌++◌, ◌||◌, ℕ, nat_le, Bool, true, false, if◌then◌else◌, List, [], ◌∷◌, length, map, take, drop, get_or, suc, Option, Some, None, refl, sym, ap, subst, arith, append_assoc, append-nil, drop-cons, add-one}
-use Rattle.std.proofs.lemmas.List.{length-append, take_all}
+use Rattle.std.proofs.Common.{◌≡◌, ◌≤◌, ◌<◌, ◌+◌, ◌-◌, ◌==◌, ◌∙◌, ◌++◌, ◌||◌, ℕ, Bool, true, false, if◌then◌else◌, List, [], ◌∷◌, length, map, take, drop, get_or, suc, Option, Some, None, refl, sym, ap, ap₂, subst, arith, append_assoc, append-nil}
+use Rattle.std.proofs.lemmas.List.{drop_more, length-append, take_all}
 use Rattle.std.specs.Prelude.{Result, Ok, Err, IsErr, IsErrAnd, is_some, option_and_then, option_map}
 use Rattle.command_line.specs.Commands.{Run}
 use Rattle.command_line.specs.Reading.{Text}
-use Rattle.elf_loader.specs.ElfFaults.{load_fault_number}
-use Rattle.elf_loader.specs.ElfFiles.{elf_fault, elf_loaded, loaded_unless_fault}
-use Rattle.elf_loader.specs.LoadedFiles.{is_elf, load_fault, loads}
-use Rattle.elf_loader.specs.declared.faults.ElfFault.{ElfFault}
-use Rattle.elf_loader.specs.declared.faults.LoadFault.TheVariants as load
+use Rattle.command_line.specs.RunArgs.{RunFiles}
+use Rattle.elf_loader.specs.LoadedFiles.{loads}
 use Rattle.host_port.proofs.Prints.{grown-nil}
 use Rattle.host_port.specs.Outside.{Outside, HostCall, fetching, grown}
-use Rattle.image_loader.specs.ImageFiles.{first_fault, header_of, image_of, loaded_unless}
-use Rattle.image_loader.specs.declared.faults.ImageFault.{ImageFault}
 use Rattle.machine.specs.Printed.{Booted}
 use Rattle.xinu_base.specs.declared.events.Event.{Event}
 use Rattle.xinu_model.specs.Boot.{Loaded}
 use Rattle.xinu_model.specs.Machine.{Xinu}
-use Rattle.xinu_commands.specs.InputFaults.{have_fault, image_fault, images_loaded, longest_image}
+use Rattle.xinu_commands.specs.Calls.{calls_due, calls_in, due_by, run_fetches, unless_refused}
+use Rattle.xinu_commands.specs.InputFaults.{have_fault, image_fault, images_loaded}
 use Rattle.xinu_commands.specs.RunVerdict.{boot_verdict, images_verdict, run_verdict}
-use Rattle.xinu_commands.specs.Stages.{Fetches, HoldsFault, HoldsSchedule, IsFetched, IsScheduleCause, KeepsFiles, Performs, RunsImages, left_of, refusal_of}
-use Rattle.xinu_commands.specs.Theorem.{Carries, Deserved, HasCalled, IsUnsent}
+use Rattle.xinu_commands.specs.Stages.{Fetches, HoldsFault, HoldsSchedule, IsFetched, IsScheduleCause, KeepsFiles, Performs, RunsImages, Stage, fetch_due, images_left, left_of, refusal_of}
+use Rattle.xinu_commands.specs.Theorem.{Carries, Deserved, HasCalled, IsDecided, IsUnsent}
 use Rattle.xinu_commands.specs.Verdict.{Input, ScheduleInput, ImageInput, DiskInput, SourceInput, file_bytes, image_bytes}
 use Rattle.xinu_commands.specs.Work.{Verdict, Refuses, unless_fault}
 use Rattle.xinu_commands.specs.declared.refusals.Refusal.{Refusal}
 use Rattle.xinu_commands.specs.declared.refusals.Refusal.TheVariants as refusal
-use Rattle.xinu_commands.proofs.Called.{called_both, called_first, keeps_both}
+use Rattle.xinu_commands.proofs.Called.{called_first, fetched_then, keeps_both}
 use Rattle.xinu_commands.proofs.Carried.{carries_as, carries_nothing, carries_within, unsent_refl}
+use Rattle.xinu_commands.proofs.Fetches.{left_next, left_refused, none_left, nothing_named, run_after, run_first, run_then}
 use Rattle.xinu_commands.proofs.Files.{boot_keeps, image_fetched, image_read, image_refused, images_keep, run_keeps, schedule_read, schedule_refused}
-use Rattle.xinu_commands.proofs.Staged.{fetched_stage, refused_stage, stage_as, unfetched_stage}
-
--- ---- image files without a fault
-
-fault_parts : (b c : Bool) → (b || c) ≡ false → (b ≡ false) × (c ≡ false)
-fault_parts true c is = cc
-fault_parts false c is = (refl, is)
-
-no_fault : (f : Option ℕ) → is_some f ≡ false → f ≡ None
-no_fault None is = refl
-no_fault (Some x) is = cc
-
--- the first of some files has no fault, and none after it has one
-pub good_parts : (bytes : List ℕ) (files : List (List ℕ)) → have_fault (bytes ∷ files) ≡ false → (image_fault bytes ≡ None) × (have_fault files ≡ false)
-unfolding have_fault
-good_parts bytes files good =
-    let parts = fault_parts (is_some (image_fault bytes)) (have_fault files) good in (no_fault (image_fault bytes) parts.0, parts.1)
-
--- one more file without a fault
-pub good_more : (files : List (List ℕ)) (bytes : List ℕ) → have_fault files ≡ false → image_fault bytes ≡ None → have_fault (files ++ bytes ∷ []) ≡ false
-unfolding have_fault
-good_more [] bytes good fine = rw fine refl
-good_more (file ∷ files) bytes good fine =
-    let parts = good_parts file files good in rw parts.0 (good_more files bytes parts.1 fine)
-
-loads_by : (fits elf : Bool) (e : Option ElfFault) (f : Option ImageFault) (x y : Loaded)
-    → (if fits then option_map load_fault_number (if elf then option_map load.Elf e else option_map load.Image f) else Some 0) ≡ None
-    → (image : Loaded) × ((if elf then loaded_unless_fault e x else loaded_unless f y) ≡ Some image)
-loads_by false elf e f x y good = absurd (cc)
-loads_by true true None f x y good = (x, refl)
-loads_by true true (Some e) f x y good = absurd (cc)
-loads_by true false e None x y good = (y, refl)
-loads_by true false e (Some f) x y good = absurd (cc)
-
--- A file without a fault loads.
-pub good_loads : (bytes : List ℕ) → image_fault bytes ≡ None → (image : Loaded) × (loads bytes ≡ Some image)
-unfolding image_fault load_fault loads
-good_loads bytes good =
-    loads_by (nat_le (length bytes) longest_image) (is_elf bytes) (elf_fault bytes) (first_fault bytes) (elf_loaded bytes)
-    (image_of (header_of bytes) (drop 28 bytes)) good
+use Rattle.xinu_commands.proofs.GoodImages.{good_loads, good_parts}
+use Rattle.xinu_commands.proofs.Staged.{fetched_stage, refused_stage, stage_as, stage_due, unfetched_stage}
 
 -- ---- the verdict on image files
 
@@ -152,8 +111,7 @@ files_carry plain files events images ended left h k good loaded carries =
 -- ---- files one after another
 
 next_file : {A : Type 0} (xs : List A) (k : ℕ) (x : A) → k < length xs → x ≡ get_or xs k x → drop k xs ≡ x ∷ drop (k + 1) xs
-next_file xs k x within is =
-    drop-cons xs k x within ∙ ap (λ y. y ∷ drop (suc k) xs) (sym is) ∙ ap (λ n. x ∷ drop n xs) (sym (add-one k))
+next_file xs k x within is = drop_more xs k x within ∙ ap (λ y. y ∷ drop (k + 1) xs) (sym is)
 
 -- the file at k has no fault, and none after it has one
 pub file_good : {A : Type 0} (f : A → List ℕ) (xs : List A) (k : ℕ) (x : A) → k < length xs → x ≡ get_or xs k x → have_fault (map f (drop k xs)) ≡ false
@@ -237,35 +195,50 @@ first_and_rest (x ∷ xs) d some =
     let few : length xs ≤ length (x ∷ xs) - 1 = omega arith in
     ap (λ ys. x ∷ ys) (sym (take_all (length (x ∷ xs) - 1) xs few))
 
+-- After images without a fault the next one is fetched, and then what is left is carried out.
+next_stage : (plain : Bool) (before files : List (List ℕ)) (name : Text) (names : List Text) (events : List Event) (ended : Option Refusal) (left : Option Xinu) (h k : Outside)
+    → have_fault before ≡ false
+    → Stage (images_verdict 1 (before ++ files) (boot_verdict plain events)) (λ v. name ∷ images_left (length before + 1) names v) [] ended left h k
+    → Stage (images_verdict 1 (before ++ files) (boot_verdict plain events)) (images_left (length before) (name ∷ names)) [] ended left h k
+next_stage plain before files name names events ended left h k good s =
+    let v = images_verdict 1 (before ++ files) (boot_verdict plain events) in
+    stage_due v (λ x. name ∷ images_left (length before + 1) names x) (images_left (length before) (name ∷ names)) [] ended left h k
+    (left_next (length before) name names v (run_after plain events before files good)) s
+
 -- the host didn't fetch it
-pub image_unfetched : (plain : Bool) (before : List (List ℕ)) (name : Text) (names : List Text) (events : List Event) (r : Refusal) (h k : Outside) → Fetches name (Some r) h k
-    → RunsImages plain before (name ∷ names) events (Some r) None h k
-image_unfetched plain before name names events r h k f =
-    let files = before ++ image_bytes (length before + 1) (name ∷ names) h.file (λ j. []) in record {
+pub image_unfetched : (plain : Bool) (before : List (List ℕ)) (name : Text) (names : List Text) (events : List Event) (r : Refusal) (h k : Outside) → have_fault before ≡ false
+    → Fetches name (Some r) h k → RunsImages plain before (name ∷ names) events (Some r) None h k
+image_unfetched plain before name names events r h k good f =
+    let files = image_bytes (length before + 1) (name ∷ names) h.file (λ j. []) in
+    let v = images_verdict 1 (before ++ files) (boot_verdict plain events) in record {
       unseen = λ j. [];
-      stage = unfetched_stage (images_verdict 1 files (boot_verdict plain events)) name (map fetching names) r h k (images_keep 1 files (boot_verdict plain events) (λ images. boot_keeps plain events images)) f;
+      stage = next_stage plain before files name names events (Some r) None h k good
+          (unfetched_stage v name (images_left (length before + 1) names) [] r h k (images_keep 1 (before ++ files) (boot_verdict plain events) (λ images. boot_keeps plain events images)) f);
     }
 
 -- it was fetched, and ended the run
-image_ended : (plain : Bool) (before : List (List ℕ)) (name : Text) (names : List Text) (events : List Event) (items : List ℕ) (r : Refusal) (h k : Outside) → IsFetched 1048576 (h.file name) items
-    → Fetches name None h k → ((files : List (List ℕ)) → Deserved (images_verdict 1 (before ++ items ∷ files) (boot_verdict plain events)) (Some r) k k)
+image_ended : (plain : Bool) (before : List (List ℕ)) (name : Text) (names : List Text) (events : List Event) (items : List ℕ) (r : Refusal) (h k : Outside) → have_fault before ≡ false
+    → IsFetched 1048576 (h.file name) items → Fetches name None h k
+    → ((files : List (List ℕ)) → Deserved (images_verdict 1 (before ++ items ∷ files) (boot_verdict plain events)) (Some r) k k)
+    → ((files : List (List ℕ)) → IsDecided (Some r) → images_left (length before + 1) names (images_verdict 1 (before ++ items ∷ files) (boot_verdict plain events)) ≡ [])
     → RunsImages plain before (name ∷ names) events (Some r) None h k
-image_ended plain before name names events items r h k fetched f deserved =
+image_ended plain before name names events items r h k good fetched f deserved none =
     let files = image_bytes (length before + 1 + 1) names h.file (λ j. items) in
     let bytes = file_bytes (h.file name) items in
+    let rest = images_left (length before + 1) names in
     let v = images_verdict 1 (before ++ items ∷ files) (boot_verdict plain events) in record {
       unseen = λ j. items;
-      stage = stage_as (images_verdict 1 (before ++ bytes ∷ files) (boot_verdict plain events)) v (fetching name ∷ map fetching names) (Some r) None h k
+      stage = stage_as (images_verdict 1 (before ++ bytes ∷ files) (boot_verdict plain events)) v (images_left (length before) (name ∷ names)) [] (Some r) None h k
           (fetched_among 1 before bytes items files (boot_verdict plain events) fetched.front)
-          (fetched_stage v name (map fetching names) (Some r) None h k k f (refused_stage v (map fetching names) r k (deserved files)));
+          (next_stage plain before (items ∷ files) name names events (Some r) None h k good
+          (fetched_stage v name rest [] (Some r) None h k k f (refused_stage v rest [] r k (deserved files) (none files))));
     }
 
-deserved_by : (i : ℕ) (fault : Option ℕ) (r : Refusal) (v : Verdict) (k : Outside) → Some r ≡ option_map (refusal.Image i) fault
-    → ((f : ℕ) → fault ≡ Some f → v ≡ Refuses (refusal.Image i f)) → Deserved v (Some r) k k
-deserved_by i None r v k is refuses = absurd (cc)
-deserved_by i (Some f) r v k is refuses =
-    let same : refusal.Image i f ≡ r = cc in
-    let P : Refusal → Type 0 = λ x. Deserved v (Some x) k k in subst P same (refuses f refl)
+-- a refusal of an image names its fault
+judged_by : {A : Type 0} (i : ℕ) (fault : Option ℕ) (r : Refusal) → Some r ≡ option_map (refusal.Image i) fault
+    → ((f : ℕ) → fault ≡ Some f → r ≡ refusal.Image i f → A) → A
+judged_by i None r is holds = absurd (cc)
+judged_by i (Some f) r is holds = holds f refl (cc)
 
 -- it has a fault
 pub image_bad : (plain : Bool) (before : List (List ℕ)) (name : Text) (names : List Text) (events : List Event) (bytes items : List ℕ) (n : ℕ) (r : Refusal) (h k : Outside) → have_fault before ≡ false
@@ -274,28 +247,35 @@ pub image_bad : (plain : Bool) (before : List (List ℕ)) (name : Text) (names :
 image_bad plain before name names events bytes items n r h k good fetched f judged same number =
     let count : 1 + length before ≡ n = omega arith in
     let is : Some r ≡ option_map (refusal.Image n) (image_fault items) = judged ∙ ap (λ (b : List ℕ). option_map (refusal.Image n) (image_fault b)) same in
-    image_ended plain before name names events items r h k fetched f
-    (λ files. deserved_by n (image_fault items) r (images_verdict 1 (before ++ items ∷ files) (boot_verdict plain events)) k is
-    (λ fault bad. refused_among 1 before items fault files (boot_verdict plain events) good bad ∙ ap (λ m. Refuses (refusal.Image m fault)) count))
+    let refuses : (files : List (List ℕ)) (fault : ℕ) → image_fault items ≡ Some fault
+    → images_verdict 1 (before ++ items ∷ files) (boot_verdict plain events) ≡ Refuses (refusal.Image n fault) =
+    λ files fault bad. refused_among 1 before items fault files (boot_verdict plain events) good bad ∙ ap (λ m. Refuses (refusal.Image m fault)) count in
+    image_ended plain before name names events items r h k good fetched f
+    (λ files. judged_by n (image_fault items) r is (λ fault bad same_r.
+    (let P : Refusal → Type 0 = λ x. Deserved (images_verdict 1 (before ++ items ∷ files) (boot_verdict plain events)) (Some x) k k in
+    subst P (sym same_r) (refuses files fault bad))))
+    (λ files decided. judged_by n (image_fault items) r is (λ fault bad same_r.
+    left_refused (length before + 1) n names (images_verdict 1 (before ++ items ∷ files) (boot_verdict plain events)) fault (refuses files fault bad) number))
 
 -- memory ran out after it
-pub image_unkept : (plain : Bool) (before : List (List ℕ)) (name : Text) (names : List Text) (events : List Event) (items : List ℕ) (h k : Outside) → IsFetched 1048576 (h.file name) items
-    → Fetches name None h k → RunsImages plain before (name ∷ names) events (Some refusal.NoMemory) None h k
-image_unkept plain before name names events items h k fetched f =
-    image_ended plain before name names events items refusal.NoMemory h k fetched f (λ files. tt)
+pub image_unkept : (plain : Bool) (before : List (List ℕ)) (name : Text) (names : List Text) (events : List Event) (items : List ℕ) (h k : Outside) → have_fault before ≡ false
+    → IsFetched 1048576 (h.file name) items → Fetches name None h k → RunsImages plain before (name ∷ names) events (Some refusal.NoMemory) None h k
+image_unkept plain before name names events items h k good fetched f =
+    image_ended plain before name names events items refusal.NoMemory h k good fetched f (λ files. tt) (λ files decided. absurd decided)
 
 -- it was read, and then the images after it
 pub image_then : (plain : Bool) (before after : List (List ℕ)) (name : Text) (names : List Text) (events : List Event) (items : List ℕ) (ended : Option Refusal) (left : Option Xinu) (h j k : Outside)
-    → after ≡ before ++ items ∷ [] → IsFetched 1048576 (h.file name) items → Fetches name None h j → RunsImages plain after names events ended left j k
+    → have_fault before ≡ false → after ≡ before ++ items ∷ [] → IsFetched 1048576 (h.file name) items → Fetches name None h j → RunsImages plain after names events ended left j k
     → RunsImages plain before (name ∷ names) events ended left h k
-image_then plain before after name names events items ended left h j k added fetched f rest =
+image_then plain before after name names events items ended left h j k good added fetched f rest =
     let i = length before + 1 in
     let unseen = with_bytes_of i items rest.unseen in
     let next = boot_verdict plain events in
     let bytes = file_bytes (h.file name) items in
     let later = image_bytes (i + 1) names h.file unseen in
     let own : file_bytes (h.file name) (unseen i) ≡ bytes = ap (file_bytes (h.file name)) (with_own i items rest.unseen) in
-    let count : i + 1 ≡ length after + 1 = (let size = ap length added ∙ length-append before (items ∷ []) in omega arith) in
+    let size : length after ≡ i = ap length added ∙ length-append before (items ∷ []) in
+    let count : i + 1 ≡ length after + 1 = omega (arith, size) in
     let same_later : later ≡ image_bytes (length after + 1) names j.file rest.unseen =
     later_bytes i (i + 1) items rest.unseen names h.file (omega arith)
     ∙ ap (λ (file : Text → Option (List ℕ)). image_bytes (i + 1) names file rest.unseen) (sym f.keeps.file)
@@ -305,21 +285,31 @@ image_then plain before after name names events items ended left h j k added fet
     let joined : before ++ items ∷ later ≡ after ++ later = sym (append_assoc before (items ∷ []) later) ∙ ap (λ bs. bs ++ later) (sym added) in
     let same : v ≡ w =
     ap (λ b. images_verdict 1 (before ++ b ∷ later) next) own ∙ fetched_among 1 before bytes items later next fetched.front
-    ∙ ap (λ bs. images_verdict 1 bs next) joined ∙ ap (λ bs. images_verdict 1 (after ++ bs) next) same_later in record {
+    ∙ ap (λ bs. images_verdict 1 bs next) joined ∙ ap (λ bs. images_verdict 1 (after ++ bs) next) same_later in
+    let P : ℕ → Type 0 = λ m. Stage w (images_left m names) [] ended left j k in record {
       unseen = unseen;
-      stage = stage_as v w (fetching name ∷ map fetching names) ended left h k same (fetched_stage w name (map fetching names) ended left h j k f rest.stage);
+      stage = next_stage plain before (image_bytes i (name ∷ names) h.file unseen) name names events ended left h k good
+          (stage_as v w (λ x. name ∷ images_left i names x) [] ended left h k same
+          (fetched_stage w name (images_left i names) [] ended left h j k f (subst P size rest.stage)));
     }
 
 -- no image is left
 pub images_run : (plain : Bool) (before : List (List ℕ)) (events : List Event) (ended : Option Refusal) (left : Option Xinu) (h k : Outside) → Carries (images_verdict 1 before (boot_verdict plain events)) ended left h k
     → k.calls ≡ h.calls → KeepsFiles h k → RunsImages plain before [] events ended left h k
 images_run plain before events ended left h k carries calls keeps =
-    let same : k.calls ≡ grown h.calls [] = calls ∙ sym (grown-nil h.calls) in
-    let v = images_verdict 1 (before ++ []) (boot_verdict plain events) in record {
+    let v = images_verdict 1 (before ++ []) (boot_verdict plain events) in
+    let fetches = images_left (length before) [] in
+    let none : calls_in (due_by fetches [] v) ≡ [] = ap₂ (λ (xs : List Text) (ys : List HostCall). map fetching xs ++ ys) (none_left (length before) v) (nothing_named v) in
+    let same : k.calls ≡ grown h.calls [] = calls ∙ sym (grown-nil h.calls) in record {
       unseen = λ j. [];
       stage = record {
         carries = carries_as v (images_verdict 1 before (boot_verdict plain events)) ended left h k (ap (λ bs. images_verdict 1 bs (boot_verdict plain events)) (append-nil before)) carries;
-        calls = record { some = (0, same); all = λ none. same };
+        calls = record {
+          count = 0;
+          first = same;
+          all = λ decided. same ∙ ap (grown h.calls) (sym none);
+          unsent = λ few. absurd (let size = ap length (none_left (length before) v) in omega (arith, few, size));
+        };
         keeps = keeps;
       };
     }
@@ -333,46 +323,82 @@ unseen_by schedule images (ImageInput i) = images i
 unseen_by schedule images DiskInput = []
 unseen_by schedule images SourceInput = []
 
+-- the calls of a run of which the schedule's file was asked for
+schedule_called : (files : RunFiles) (v : Verdict) (r : Refusal) (h k : Outside) → IsUnsent h k → (IsDecided (Some r) → ⊥) → HasCalled (fetch_due files.schedule) (Some r) h k
+    → HasCalled (calls_due (Some (Run files)) v) (Some r) h k
+schedule_called files v r h k unsent never calls =
+    let first = run_first files v in
+    let P : List Text → Type 0 = λ names. HasCalled (record { fetches = names; outputs = unless_refused v [] }) (Some r) h k in
+    subst P (sym first.1) (called_first files.schedule first.0 (unless_refused v []) r h k unsent never calls)
+
+-- A run of these files was carried out for these bytes of the schedule.
+record RunsFor (files : RunFiles) (r : Refusal) (schedule : List ℕ) (h k : Outside) : Type 0 where
+  pub carries : Carries (run_verdict files.plain (file_bytes (h.file files.schedule) schedule) (image_bytes 1 files.images h.file (λ i. []))) (Some r) None h k
+  pub calls : HasCalled (calls_due (Some (Run files)) (run_verdict files.plain (file_bytes (h.file files.schedule) schedule) (image_bytes 1 files.images h.file (λ i. [])))) (Some r) h k
+
 -- why a schedule isn't run, before an image was fetched
-schedule_carries : (plain : Bool) (r : Refusal) (s : Text) (names : List Text) (h k : Outside) → IsScheduleCause r (h.file s) h k → IsUnsent h k
-    → (bytes : List ℕ) × Carries (run_verdict plain (file_bytes (h.file s) bytes) (image_bytes 1 names h.file (λ i. []))) (Some r) None h k
-schedule_carries plain refusal.HostFault s names h k cause unsent =
-    let images = image_bytes 1 names h.file (λ i. []) in
-    ([], carries_nothing (run_verdict plain (file_bytes (h.file s) []) images) refusal.HostFault h k (run_keeps plain (file_bytes (h.file s) []) images, cause) unsent)
-schedule_carries plain (refusal.Schedule l) s names h k cause unsent =
-    let holds : HoldsFault (h.file s) l = cause in
-    let bytes = file_bytes (h.file s) holds.unseen in
-    let images = image_bytes 1 names h.file (λ i. []) in
-    (holds.unseen, carries_nothing (run_verdict plain bytes images) (refusal.Schedule l) h k (schedule_refused plain bytes l images holds.fault) unsent)
-schedule_carries plain refusal.NoMemory s names h k cause unsent =
-    ([], carries_nothing (run_verdict plain (file_bytes (h.file s) []) (image_bytes 1 names h.file (λ i. []))) refusal.NoMemory h k tt unsent)
-schedule_carries plain other s names h k cause unsent = absurd cause
+schedule_carries : (files : RunFiles) (r : Refusal) (h k : Outside) → IsScheduleCause r (h.file files.schedule) h k → IsUnsent h k → HasCalled (fetch_due files.schedule) (Some r) h k
+    → (bytes : List ℕ) × RunsFor files r bytes h k
+schedule_carries files refusal.HostFault h k cause unsent calls =
+    let images = image_bytes 1 files.images h.file (λ i. []) in
+    let v = run_verdict files.plain (file_bytes (h.file files.schedule) []) images in (
+      [],
+      record {
+        carries = carries_nothing v refusal.HostFault h k (run_keeps files.plain (file_bytes (h.file files.schedule) []) images, cause) unsent;
+        calls = schedule_called files v refusal.HostFault h k unsent (λ decided. decided) calls;
+      },
+    )
+schedule_carries files (refusal.Schedule l) h k cause unsent calls =
+    let holds : HoldsFault (h.file files.schedule) l = cause in
+    let bytes = file_bytes (h.file files.schedule) holds.unseen in
+    let images = image_bytes 1 files.images h.file (λ i. []) in
+    let refuses = schedule_refused files.plain bytes l images holds.fault in
+    let P : Verdict → Type 0 = λ v. HasCalled (calls_due (Some (Run files)) v) (Some (refusal.Schedule l)) h k in (
+      holds.unseen,
+      record {
+        carries = carries_nothing (run_verdict files.plain bytes images) (refusal.Schedule l) h k refuses unsent;
+        calls = subst P (sym refuses) calls;
+      },
+    )
+schedule_carries files refusal.NoMemory h k cause unsent calls =
+    let v = run_verdict files.plain (file_bytes (h.file files.schedule) []) (image_bytes 1 files.images h.file (λ i. [])) in (
+      [],
+      record {
+        carries = carries_nothing v refusal.NoMemory h k tt unsent;
+        calls = schedule_called files v refusal.NoMemory h k unsent (λ decided. decided) calls;
+      },
+    )
+schedule_carries files other h k cause unsent calls = absurd cause
 
 pub schedule_refuses : (plain : Bool) (r : Refusal) (s : Text) (names : List Text) (h k : Outside) → IsScheduleCause r (h.file s) h k → IsUnsent h k
-    → HasCalled (fetching s ∷ []) (Some r) h k → KeepsFiles h k → Performs (Some (Run (record { schedule = s; images = names; plain = plain }))) (Some r) None h k
+    → HasCalled (fetch_due s) (Some r) h k → KeepsFiles h k → Performs (Some (Run (record { schedule = s; images = names; plain = plain }))) (Some r) None h k
 schedule_refuses plain r s names h k cause unsent calls keeps =
-    let held = schedule_carries plain r s names h k cause unsent in record {
-      obeys = record { unseen = unseen_by held.0 (λ i. []); carries = held.1 };
-      calls = called_first (fetching s) (map fetching names) r h k calls;
+    let held = schedule_carries (record { schedule = s; images = names; plain = plain }) r h k cause unsent calls in record {
+      obeys = record { unseen = unseen_by held.0 (λ i. []); carries = held.1.carries };
+      calls = held.1.calls;
       keeps = keeps;
     }
 
 -- the schedule was read, and then the images
 pub run_performs : (plain : Bool) (s : Text) (names : List Text) (events : List Event) (ended : Option Refusal) (left : Option Xinu) (h j k : Outside) → HoldsSchedule (h.file s) events
-    → IsUnsent h j → HasCalled (fetching s ∷ []) None h j → KeepsFiles h j → RunsImages plain [] names events ended left j k
+    → IsUnsent h j → HasCalled (fetch_due s) None h j → KeepsFiles h j → RunsImages plain [] names events ended left j k
     → Performs (Some (Run (record { schedule = s; images = names; plain = plain }))) ended left h k
 run_performs plain s names events ended left h j k holds unsent calls keeps runs =
+    let files : RunFiles = record { schedule = s; images = names; plain = plain } in
     let images = image_bytes 1 names h.file runs.unseen in
     let bytes = file_bytes (h.file s) holds.unseen in
     let v = images_verdict 1 (image_bytes 1 names j.file runs.unseen) (boot_verdict plain events) in
     let same : run_verdict plain bytes images ≡ v =
     schedule_read plain bytes events images holds.reads
-    ∙ ap (λ (file : Text → Option (List ℕ)). images_verdict 1 (image_bytes 1 names file runs.unseen) (boot_verdict plain events)) (sym keeps.file) in record {
+    ∙ ap (λ (file : Text → Option (List ℕ)). images_verdict 1 (image_bytes 1 names file runs.unseen) (boot_verdict plain events)) (sym keeps.file) in
+    let P : List Text → Type 0 = λ fetches. HasCalled (record { fetches = fetches; outputs = unless_refused v [] }) ended h k in
+    let Q : Verdict → Type 0 = λ x. HasCalled (calls_due (Some (Run files)) x) ended h k in
+    let made = fetched_then s (images_left 0 names v) (unless_refused v []) ended h j k unsent (calls.all tt) runs.stage.calls in record {
       obeys = record {
         unseen = unseen_by holds.unseen runs.unseen;
         carries = carries_as (run_verdict plain bytes images) v ended left h k same
             (carries_within v ended left h j k k unsent keeps.later (unsent_refl k) (omega arith) runs.stage.carries);
       };
-      calls = called_both (fetching s ∷ []) (map fetching names) ended h j k (calls.all refl) runs.stage.calls;
+      calls = subst Q (sym same) (subst P (run_then files v (run_after plain events [] (image_bytes 1 names j.file runs.unseen) no_files)) made);
       keeps = keeps_both h j k keeps runs.stage.keeps;
     }

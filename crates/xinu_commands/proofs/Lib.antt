@@ -7,8 +7,10 @@ pub mod DiskFetched
 pub mod DiskStatuses
 pub mod DiskVerdicts
 pub mod Fetched
+pub mod Fetches
 pub mod FileLines
 pub mod Files
+pub mod GoodImages
 pub mod ImageFiles
 pub mod InputFaults
 pub mod Possible

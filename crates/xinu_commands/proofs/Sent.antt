@@ -11,12 +11,12 @@ use Rattle.host_port.specs.Outside.{Outside, HostCall, appended, counted, emptie
 use Rattle.host_port.specs.Printing.{Printing, Prints}
 use Rattle.host_port.proofs.Prints.{grown-nil}
 use Rattle.xinu_commands.specs.Conversions.{host_refusal}
-use Rattle.xinu_commands.specs.Stages.{IsHostCause, SendsOutput, output_on}
-use Rattle.xinu_commands.specs.Theorem.{IsPartSent, IsSent}
+use Rattle.xinu_commands.specs.Stages.{IsHostCause, SendsOutput, output_on, outputs_due}
+use Rattle.xinu_commands.specs.Theorem.{HasCalled, IsDecided, IsPartSent, IsSent}
 use Rattle.xinu_commands.specs.Work.{output_of}
 use Rattle.xinu_commands.specs.declared.refusals.Refusal.{Refusal}
 use Rattle.xinu_commands.specs.declared.refusals.Refusal.TheVariants as refusal
-use Rattle.xinu_commands.proofs.Called.{keeps_both}
+use Rattle.xinu_commands.proofs.Called.{keeps_both, undecided}
 use Rattle.xinu_commands.proofs.Carried.{fresh, nothing_sent, part_within, whole_within}
 
 -- why a host ended an action
@@ -30,6 +30,21 @@ cause_within None h i k later cause = tt
 cause_within (Some refusal.HostFault) h i k later cause = (let rose : Rose i.faults k.faults = cause in omega arith)
 cause_within (Some refusal.NoMemory) h i k later cause = tt
 cause_within (Some other) h i k later cause = absurd cause
+
+-- an end that the host caused is decided only if it isn't a refusal
+host_decided : (ended : Option Refusal) (h k : Outside) → IsHostCause ended h k → IsDecided ended → ended ≡ None
+host_decided None h k cause decided = refl
+host_decided (Some r) h k cause decided = absurd (undecided r h k cause decided)
+
+-- some of the calls for outputs were made, and all if it wasn't refused
+outputs_called : (n : ℕ) (outputs : List HostCall) (ended : Option Refusal) (h k : Outside) → IsHostCause ended h k → k.calls ≡ grown h.calls (take n outputs)
+    → (ended ≡ None → k.calls ≡ grown h.calls outputs) → HasCalled (outputs_due outputs) ended h k
+outputs_called n outputs ended h k cause some all = record {
+  count = n;
+  first = some;
+  all = λ decided. all (host_decided ended h k cause decided);
+  unsent = λ few. absurd (omega (arith, few));
+}
 
 -- ---- text
 
@@ -56,16 +71,19 @@ text_sent text a e ended h k is_fresh p is =
         disk1 = ap (λ (x : Outside). x.disk1) p.part.1;
         image = ap (λ (x : Outside). x.image) p.part.1;
       };
-      cause = host_cause e.failure h k (λ failed. elim (p.cause failed) [
-        | inl had ↦ (let none : a.failure ≡ None = ap (λ (x : Printing). x.failure) is_fresh in absurd (cc))
-        | inr rose ↦ rose
-      ]);
-      calls = record { some = (0, same_calls); all = λ none. same_calls };
+      cause = cause;
+      calls = outputs_called 0 [] (option_map host_refusal e.failure) h k cause same_calls (λ none. same_calls);
       keeps = record { file = ap (λ (x : Outside). x.file) p.part.1; fault = ap (λ (x : Outside). x.fault) p.part.1; later = p.later };
     })
   where
     same_calls : k.calls ≡ grown h.calls []
     same_calls = ap (λ (x : Outside). x.calls) p.part.1 ∙ sym (grown-nil h.calls)
+
+    cause : IsHostCause (option_map host_refusal e.failure) h k
+    cause = host_cause e.failure h k (λ failed. elim (p.cause failed) [
+      | inl had ↦ (let none : a.failure ≡ None = ap (λ (x : Printing). x.failure) is_fresh in absurd (cc))
+      | inr rose ↦ rose
+    ])
 
 -- a printer that isn't plain prints the whole line
 pub line_printed : (a e : Printing) (h k : Outside) (text : List ℕ) → a ≡ fresh → Prints a e h k (if a.plain then [] else text) → Prints a e h k text
@@ -175,10 +193,8 @@ module _ (c : Channel) (f : HasFile c) (call : HostCall) (bytes : List ℕ) wher
     part = part_of (call ∷ []) bytes h k k.faults c f n part;
     whole = λ none. whole_of (call ∷ []) bytes h k k.faults c f (whole none);
     cause = cause;
-    calls = record {
-      some = (1, calls_of (call ∷ []) (take n bytes) h k k.faults c f part);
-      all = λ none. calls_of (call ∷ []) bytes h k k.faults c f (whole none);
-    };
+    calls = outputs_called 1 (call ∷ []) ended h k cause (calls_of (call ∷ []) (take n bytes) h k k.faults c f part)
+        (λ none. calls_of (call ∷ []) bytes h k k.faults c f (whole none));
     keeps = record {
       file = file_of (call ∷ []) (take n bytes) h k k.faults c f part;
       fault = fault_of (call ∷ []) (take n bytes) h k k.faults c f part;
@@ -195,7 +211,7 @@ module _ (c : Channel) (f : HasFile c) (call : HostCall) (bytes : List ℕ) wher
         part = part_of (take n (call ∷ [])) bytes h k k.faults c f 0 whole;
         whole = λ none. absurd (cc);
         cause = cause;
-        calls = record { some = (n, calls_of (take n (call ∷ [])) [] h k k.faults c f whole); all = λ none. absurd (cc) };
+        calls = outputs_called n (call ∷ []) (Some r) h k cause (calls_of (take n (call ∷ [])) [] h k k.faults c f whole) (λ none. absurd (cc));
         keeps = record {
           file = file_of (take n (call ∷ [])) [] h k k.faults c f whole;
           fault = fault_of (take n (call ∷ [])) [] h k k.faults c f whole;
@@ -211,7 +227,7 @@ module _ (c : Channel) (f : HasFile c) (call : HostCall) (bytes : List ℕ) wher
     });
     whole = λ none. absurd (cc);
     cause = cause;
-    calls = record { some = (n, ap (λ (x : Outside). x.calls) is); all = λ none. absurd (cc) };
+    calls = outputs_called n (call ∷ []) (Some r) h k cause (ap (λ (x : Outside). x.calls) is) (λ none. absurd (cc));
     keeps = record { file = ap (λ (x : Outside). x.file) is; fault = ap (λ (x : Outside). x.fault) is; later = later };
   }
 
@@ -253,7 +269,8 @@ pub both_sent : (text disk : List ℕ) (calls : List HostCall) (ended : Option R
     → SendsOutput (output_of [] (Some disk) None) calls ended i k → SendsOutput (output_of text (Some disk) None) calls ended h k
 both_sent text disk calls ended h i k first second =
     let before = first.whole refl in
-    let same_calls : i.calls ≡ h.calls = first.calls.all refl ∙ grown-nil h.calls in
+    let same_calls : i.calls ≡ h.calls = first.calls.all tt ∙ grown-nil h.calls in
+    let cause = cause_within ended h i k first.keeps.later second.cause in
     let all : take (length text) text ≡ text = take_all (length text) text (omega arith) in record {
       part = record {
         out = (length text, second.part.out.1 ∙ nothing_more second.part.out.0 i.out ∙ before.out ∙ ap (grown h.out) (sym all));
@@ -267,13 +284,16 @@ both_sent text disk calls ended h i k first second =
         disk1 = whole_within (Some disk) h.disk1 i.disk1 k.disk1 k.disk1 before.disk1 refl after.disk1;
         image = after.image ∙ before.image;
       };
-      cause = cause_within ended h i k first.keeps.later second.cause;
-      calls = record {
-        some = (second.calls.some.0, second.calls.some.1 ∙ ap (λ (o : Option (List HostCall)). grown o (take second.calls.some.0 calls)) same_calls);
-        all = λ none. second.calls.all none ∙ ap (λ (o : Option (List HostCall)). grown o calls) same_calls;
-      };
+      cause = cause;
+      calls = outputs_called second.calls.count calls ended h k cause
+          (second.calls.first ∙ ap (λ (o : Option (List HostCall)). grown o (take second.calls.count calls)) same_calls)
+          (λ none. all_called none ∙ ap (λ (o : Option (List HostCall)). grown o calls) same_calls);
       keeps = keeps_both h i k first.keeps second.keeps;
     }
+  where
+    all_called : ended ≡ None → k.calls ≡ grown i.calls calls
+    all_called none =
+        let P : Option Refusal → Type 0 = λ x. IsDecided x in second.calls.all (subst P (sym none) tt)
 
 -- the text wasn't printed
 pub text_unsent : (text disk : List ℕ) (calls : List HostCall) (r : Refusal) (h i : Outside) → SendsOutput (output_of text None None) [] (Some r) h i
@@ -282,6 +302,6 @@ text_unsent text disk calls r h i first = record {
   part = record { out = first.part.out; disk0 = first.part.disk0; disk1 = inl first.part.disk1; image = first.part.image };
   whole = λ none. absurd (cc);
   cause = first.cause;
-  calls = record { some = (0, first.calls.some.1 ∙ nothing_more first.calls.some.0 h.calls ∙ sym (grown-nil h.calls)); all = λ none. absurd (cc) };
+  calls = outputs_called 0 calls (Some r) h i first.cause (first.calls.first ∙ nothing_more first.calls.count h.calls ∙ sym (grown-nil h.calls)) (λ none. absurd (cc));
   keeps = first.keeps;
 }

@@ -11,16 +11,17 @@ use Rattle.lfs_check.specs.declared.faults.CheckFault.{CheckFault}
 use Rattle.lfs_check.specs.declared.faults.CheckFault.TheVariants as check
 use Rattle.lfs_check.specs.declared.faults.DiskFault.{DiskFault}
 use Rattle.xinu_model.specs.Machine.{Xinu}
-use Rattle.xinu_commands.specs.Calls.{action_calls}
+use Rattle.xinu_commands.specs.Calls.{action_fetches, action_outputs, due_by, source_fetches, unless_refused}
 use Rattle.xinu_commands.specs.Conversions.{check_refusal}
 use Rattle.xinu_commands.specs.DiskVerdict.{check_verdict, disk_fault, disk_with, file_lines, file_on, get_verdict, ls_verdict, mkfs_verdict, put_verdict, repair_line, repair_verdict, report_line, rule_broken, set_verdict, size_fault, with_disk}
-use Rattle.xinu_commands.specs.Stages.{Fetches, IsFetched, IsHostCause, Performs, SendsOutput, SetsFile, Stage, refusal_of}
-use Rattle.xinu_commands.specs.Theorem.{Deserved}
+use Rattle.xinu_commands.specs.Stages.{Fetches, IsFetched, IsHostCause, Performs, SendsOutput, SetsFile, Stage, no_fetches, refusal_of}
+use Rattle.xinu_commands.specs.Theorem.{Deserved, HasCalled, IsDecided}
 use Rattle.xinu_commands.specs.Verdict.{Input, ScheduleInput, ImageInput, DiskInput, SourceInput, action_verdict, file_bytes}
 use Rattle.xinu_commands.specs.Work.{Work, Verdict, Refuses, Does, Outputs, if_some, output_of}
 use Rattle.xinu_commands.specs.declared.refusals.Refusal.{Refusal}
 use Rattle.xinu_commands.specs.declared.refusals.Refusal.TheVariants as refusal
-use Rattle.xinu_commands.proofs.Called.{called_both, called_first, keeps_both, keeps_refl, nothing_called}
+use Rattle.xinu_commands.proofs.Called.{called_first, fetched_then, keeps_both, keeps_refl, nothing_called, undecided}
+use Rattle.xinu_commands.proofs.Fetches.{nothing_due, put_fetches}
 use Rattle.xinu_commands.proofs.Carried.{carries_as, carries_nothing, carries_within, unsent_refl}
 use Rattle.lfs_layout.specs.Images.{opened, repaired}
 use Rattle.xinu_commands.proofs.DiskFetched.{put_fetched, source_fetched}
@@ -43,34 +44,52 @@ sent_deserved out disk1 image (Some refusal.NoMemory) h k cause = tt
 sent_deserved out disk1 image (Some other) h k cause = absurd cause
 
 -- an output that was sent carries out the work that it is
-pub sent_stage : (v : Verdict) (out : List ℕ) (disk1 image : Option (List ℕ)) (calls : List HostCall) (ended : Option Refusal) (h k : Outside) → v ≡ Does (Outputs out disk1 image)
-    → SendsOutput (output_of out disk1 image) calls ended h k → Stage v calls ended None h k
-sent_stage v out disk1 image calls ended h k is sends = record {
-  carries = carries_as v (Does (Outputs out disk1 image)) ended None h k is (record {
-    output = output_of out disk1 image;
-    deserved = sent_deserved out disk1 image ended h k sends.cause;
-    sends = record { last = None; writes = record { written = refl; last = refl }; part = sends.part; whole = sends.whole; leaves = λ none. refl };
-    refused = λ some. refl;
-  });
-  calls = sends.calls;
-  keeps = sends.keeps;
-}
+pub sent_stage : (v : Verdict) (out : List ℕ) (disk1 image : Option (List ℕ)) (outputs : List HostCall) (ended : Option Refusal) (h k : Outside) → v ≡ Does (Outputs out disk1 image)
+    → SendsOutput (output_of out disk1 image) outputs ended h k → Stage v no_fetches outputs ended None h k
+sent_stage v out disk1 image outputs ended h k is sends =
+    let P : Verdict → Type 0 = λ x. HasCalled (due_by no_fetches outputs x) ended h k in record {
+      carries = carries_as v (Does (Outputs out disk1 image)) ended None h k is (record {
+        output = output_of out disk1 image;
+        deserved = sent_deserved out disk1 image ended h k sends.cause;
+        sends = record { last = None; writes = record { written = refl; last = refl }; part = sends.part; whole = sends.whole; leaves = λ none. refl };
+        refused = λ some. refl;
+      });
+      calls = subst P (sym is) sends.calls;
+      keeps = sends.keeps;
+    }
 
 -- ---- a refusal
 
--- an action that is refused before anything was asked
-pub refused_stage : (v : Verdict) (calls : List HostCall) (r : Refusal) (h : Outside) → Deserved v (Some r) h h → Stage v calls (Some r) None h h
-refused_stage v calls r h deserved = record { carries = carries_nothing v r h h deserved (unsent_refl h); calls = nothing_called calls r h; keeps = keeps_refl h }
+-- a decided refusal is the verdict
+decided_refuses : (v : Verdict) (r : Refusal) (h k : Outside) → Deserved v (Some r) h k → IsDecided (Some r) → v ≡ Refuses r
+decided_refuses v refusal.HostFault h k deserved decided = absurd decided
+decided_refuses v refusal.NoMemory h k deserved decided = absurd decided
+decided_refuses v other h k deserved decided = deserved
+
+-- A stage is refused before it asked for anything. If that is the verdict, no file is due.
+pub refused_stage : (v : Verdict) (fetches : Verdict → List Text) (outputs : List HostCall) (r : Refusal) (h : Outside) → Deserved v (Some r) h h
+    → (IsDecided (Some r) → fetches v ≡ []) → Stage v fetches outputs (Some r) None h h
+refused_stage v fetches outputs r h deserved none = record {
+  carries = carries_nothing v r h h deserved (unsent_refl h);
+  calls = nothing_called (due_by fetches outputs v) r h (λ decided. nothing_due fetches outputs v r (decided_refuses v r h h deserved decided) (none decided));
+  keeps = keeps_refl h;
+}
+
+-- the last stage is refused
+pub refused_last : (v : Verdict) (outputs : List HostCall) (r : Refusal) (h : Outside) → Deserved v (Some r) h h → Stage v no_fetches outputs (Some r) None h h
+refused_last v outputs r h deserved = refused_stage v no_fetches outputs r h deserved (λ decided. refl)
 
 -- memory ran out
-pub memory_stage : (v : Verdict) (calls : List HostCall) (h : Outside) → Stage v calls (Some refusal.NoMemory) None h h
-memory_stage v calls h = refused_stage v calls refusal.NoMemory h tt
+pub memory_stage : (v : Verdict) (fetches : Verdict → List Text) (outputs : List HostCall) (h : Outside) → Stage v fetches outputs (Some refusal.NoMemory) None h h
+memory_stage v fetches outputs h = refused_stage v fetches outputs refusal.NoMemory h tt (λ decided. absurd decided)
 
 -- a disk that isn't accepted
-pub broken_stage : (v : Verdict) (calls : List HostCall) (e : CheckFault) (f : Option DiskFault) (h : Outside) → RefusesBy f e
-    → ((x : DiskFault) → f ≡ Some x → v ≡ Refuses (rule_broken x)) → Stage v calls (Some (check_refusal e)) None h h
-broken_stage v calls (check.Broken x) f h is refuses = refused_stage v calls (rule_broken x) h (refuses x is)
-broken_stage v calls check.NoMemory f h is refuses = memory_stage v calls h
+pub broken_stage : (v : Verdict) (fetches : Verdict → List Text) (outputs : List HostCall) (e : CheckFault) (f : Option DiskFault) (h : Outside) → RefusesBy f e
+    → ((x : DiskFault) → f ≡ Some x → v ≡ Refuses (rule_broken x)) → ((x : DiskFault) → fetches (Refuses (rule_broken x)) ≡ [])
+    → Stage v fetches outputs (Some (check_refusal e)) None h h
+broken_stage v fetches outputs (check.Broken x) f h is refuses none =
+    refused_stage v fetches outputs (rule_broken x) h (refuses x is) (λ decided. ap fetches (refuses x is) ∙ none x)
+broken_stage v fetches outputs check.NoMemory f h is refuses none = memory_stage v fetches outputs h
 
 -- ---- a file that was fetched
 
@@ -80,28 +99,35 @@ fetch_deserved v refusal.NoMemory h k usage cause = tt
 fetch_deserved v other h k usage cause = absurd cause
 
 -- the host refused to fetch it
-pub unfetched_stage : (v : Verdict) (name : List ℕ) (calls : List HostCall) (r : Refusal) (h k : Outside) → v ≢ Refuses refusal.Usage → Fetches name (Some r) h k
-    → Stage v (fetching name ∷ calls) (Some r) None h k
-unfetched_stage v name calls r h k usage f = record {
+pub unfetched_stage : (v : Verdict) (name : Text) (fetches : Verdict → List Text) (outputs : List HostCall) (r : Refusal) (h k : Outside) → v ≢ Refuses refusal.Usage
+    → Fetches name (Some r) h k → Stage v (λ x. name ∷ fetches x) outputs (Some r) None h k
+unfetched_stage v name fetches outputs r h k usage f = record {
   carries = carries_nothing v r h k (fetch_deserved v r h k usage f.cause) f.unsent;
-  calls = called_first (fetching name) calls r h k f.calls;
+  calls = called_first name (fetches v) (unless_refused v outputs) r h k f.unsent (undecided r h k f.cause) f.calls;
   keeps = f.keeps;
 }
 
 -- it was fetched, and then what is left was carried out
-pub fetched_stage : (v : Verdict) (name : List ℕ) (calls : List HostCall) (ended : Option Refusal) (left : Option Xinu) (h j k : Outside)
-    → Fetches name None h j → Stage v calls ended left j k → Stage v (fetching name ∷ calls) ended left h k
-fetched_stage v name calls ended left h j k f s = record {
+pub fetched_stage : (v : Verdict) (name : Text) (fetches : Verdict → List Text) (outputs : List HostCall) (ended : Option Refusal) (left : Option Xinu) (h j k : Outside)
+    → Fetches name None h j → Stage v fetches outputs ended left j k → Stage v (λ x. name ∷ fetches x) outputs ended left h k
+fetched_stage v name fetches outputs ended left h j k f s = record {
   carries = carries_within v ended left h j k k f.unsent f.keeps.later (unsent_refl k) (omega arith) s.carries;
-  calls = called_both (fetching name ∷ []) calls ended h j k (f.calls.all refl) s.calls;
+  calls = fetched_then name (fetches v) (unless_refused v outputs) ended h j k f.unsent (f.calls.all tt) s.calls;
   keeps = keeps_both h j k f.keeps s.keeps;
 }
 
 -- the same verdict in another form
-pub stage_as : (v w : Verdict) (calls : List HostCall) (ended : Option Refusal) (left : Option Xinu) (h k : Outside) → v ≡ w
-    → Stage w calls ended left h k → Stage v calls ended left h k
-stage_as v w calls ended left h k is s =
-    record { carries = carries_as v w ended left h k is s.carries; calls = s.calls; keeps = s.keeps }
+pub stage_as : (v w : Verdict) (fetches : Verdict → List Text) (outputs : List HostCall) (ended : Option Refusal) (left : Option Xinu) (h k : Outside) → v ≡ w
+    → Stage w fetches outputs ended left h k → Stage v fetches outputs ended left h k
+stage_as v w fetches outputs ended left h k is s =
+    let P : Verdict → Type 0 = λ x. Stage x fetches outputs ended left h k in subst P (sym is) s
+
+-- the same files in another form
+pub stage_due : (v : Verdict) (fetches others : Verdict → List Text) (outputs : List HostCall) (ended : Option Refusal) (left : Option Xinu) (h k : Outside) → others v ≡ fetches v
+    → Stage v fetches outputs ended left h k → Stage v others outputs ended left h k
+stage_due v fetches others outputs ended left h k same s =
+    let P : List Text → Type 0 = λ files. HasCalled (record { fetches = files; outputs = unless_refused v outputs }) ended h k in
+    record { carries = s.carries; calls = subst P (sym same) s.calls; keeps = s.keeps }
 
 -- ---- a whole action
 
@@ -116,7 +142,8 @@ action_files disk source SourceInput = source
 abbrev pub verdict_on : DiskAction → List ℕ → List ℕ → Outside → Verdict
 verdict_on action disk source h = action_verdict action (λ input name. file_bytes (h.file name) (action_files disk source input))
 
-pub performs_by : (action : DiskAction) (disk source : List ℕ) (ended : Option Refusal) (h k : Outside) → Stage (verdict_on action disk source h) (action_calls action) ended None h k
+-- an action that was carried out, by the bytes of its disk and of its source
+pub performs_by : (action : DiskAction) (disk source : List ℕ) (ended : Option Refusal) (h k : Outside) → Stage (verdict_on action disk source h) (action_fetches action) (action_outputs action) ended None h k
     → Performs (Some (Disk action)) ended None h k
 performs_by action disk source ended h k s = record {
   obeys = record { unseen = action_files disk source; carries = s.carries };
@@ -163,30 +190,37 @@ action_keeps (Repair image out) held is =
 
 -- ---- an action whose disk was fetched, or not
 
-pub unfetched_performs : (action : DiskAction) (name : Text) (calls : List HostCall) (r : Refusal) (h k : Outside) → action_calls action ≡ fetching name ∷ calls → Fetches name (Some r) h k
-    → Performs (Some (Disk action)) (Some r) None h k
-unfetched_performs action name calls r h k is f =
-    let P : List HostCall → Type 0 = λ x. Stage (verdict_on action [] [] h) x (Some r) None h k in
-    performs_by action [] [] (Some r) h k (subst P (sym is) (unfetched_stage (verdict_on action [] [] h) name calls r h k (action_keeps action _) f))
+-- the host refused to fetch the disk
+pub unfetched_performs : (action : DiskAction) (name : Text) (fetches : Verdict → List Text) (r : Refusal) (h k : Outside) → ((v : Verdict) → action_fetches action v ≡ name ∷ fetches v)
+    → Fetches name (Some r) h k → Performs (Some (Disk action)) (Some r) None h k
+unfetched_performs action name fetches r h k is f =
+    let v = verdict_on action [] [] h in
+    performs_by action [] [] (Some r) h k (stage_due v (λ x. name ∷ fetches x) (action_fetches action) (action_outputs action) (Some r) None h k (is v)
+    (unfetched_stage v name fetches (action_outputs action) r h k (action_keeps action _) f))
 
-pub fetched_performs : (action : DiskAction) (name : Text) (calls : List HostCall) (v : List ℕ → Verdict) (source items : List ℕ) (ended : Option Refusal) (h j k : Outside)
-    → ((bytes front : List ℕ) → front ≡ take 33557505 bytes → v bytes ≡ v front) → action_calls action ≡ fetching name ∷ calls
+-- the disk was fetched, and then what is left was carried out
+pub fetched_performs : (action : DiskAction) (name : Text) (fetches : Verdict → List Text) (v : List ℕ → Verdict) (source items : List ℕ) (ended : Option Refusal) (h j k : Outside)
+    → ((bytes front : List ℕ) → front ≡ take 33557505 bytes → v bytes ≡ v front) → ((v : Verdict) → action_fetches action v ≡ name ∷ fetches v)
     → verdict_on action items source h ≡ v (file_bytes (h.file name) items)
-    → IsFetched 33557504 (h.file name) items → Fetches name None h j → Stage (v items) calls ended None j k → Performs (Some (Disk action)) ended None h k
-fetched_performs action name calls v source items ended h j k front is same fetched f s =
-    let P : List HostCall → Type 0 = λ x. Stage (verdict_on action items source h) x ended None h k in
-    performs_by action items source ended h k (subst P (sym is) (stage_as (verdict_on action items source h) (v items) (fetching name ∷ calls) ended None h k
-    (same ∙ front (file_bytes (h.file name) items) items fetched.front) (fetched_stage (v items) name calls ended None h j k f s)))
+    → IsFetched 33557504 (h.file name) items → Fetches name None h j → Stage (v items) fetches (action_outputs action) ended None j k → Performs (Some (Disk action)) ended None h k
+fetched_performs action name fetches v source items ended h j k front is same fetched f s =
+    let outputs = action_outputs action in
+    let due = verdict_on action items source h in
+    performs_by action items source ended h k (stage_due due (λ x. name ∷ fetches x) (action_fetches action) outputs ended None h k (is due)
+    (stage_as due (v items) (λ x. name ∷ fetches x) outputs ended None h k (same ∙ front (file_bytes (h.file name) items) items fetched.front)
+    (fetched_stage (v items) name fetches outputs ended None h j k f s)))
 
 -- ---- a file that is set
 
 -- the source wasn't fetched
-pub source_unfetched : (disk name source out : List ℕ) (r : Refusal) (h k : Outside) → Fetches source (Some r) h k → SetsFile disk name source out (Some r) h k
-source_unfetched disk name source out r h k f = record {
-  unseen = [];
-  stage = unfetched_stage (put_verdict name (file_bytes (h.file source) []) disk) source (naming Disk1 out ∷ []) r h k
-      (action_keeps (Put [] name [] out) (λ input text. by_input input (file_bytes (h.file source) []) disk)) f;
-}
+pub source_unfetched : (disk name source out : List ℕ) (r : Refusal) (h k : Outside) → disk_fault disk ≡ None → Fetches source (Some r) h k → SetsFile disk name source out (Some r) h k
+source_unfetched disk name source out r h k clean f =
+    let bytes = file_bytes (h.file source) [] in
+    let v = put_verdict name bytes disk in record {
+      unseen = [];
+      stage = stage_due v (λ x. source ∷ no_fetches x) (source_fetches source) (naming Disk1 out ∷ []) (Some r) None h k (put_fetches source name bytes disk clean)
+          (unfetched_stage v source no_fetches (naming Disk1 out ∷ []) r h k (action_keeps (Put [] name [] out) (λ input text. by_input input bytes disk)) f);
+    }
   where
     by_input : Input → List ℕ → List ℕ → List ℕ
     by_input ScheduleInput s d = []
@@ -196,21 +230,24 @@ source_unfetched disk name source out r h k f = record {
 
 -- the source was fetched, and the file set
 pub source_set : (disk name source out items : List ℕ) (ended : Option Refusal) (h j k : Outside) → disk_fault disk ≡ None → IsFetched 33557504 (h.file source) items → Fetches source None h j
-    → Stage (set_verdict name items (opened disk)) (naming Disk1 out ∷ []) ended None j k → SetsFile disk name source out ended h k
-source_set disk name source out items ended h j k clean fetched f s = record {
-  unseen = items;
-  stage = stage_as (put_verdict name (file_bytes (h.file source) items) disk) (put_verdict name items disk) (fetching source ∷ naming Disk1 out ∷ []) ended None h k
-      (source_fetched name (file_bytes (h.file source) items) items disk fetched.front)
-      (fetched_stage (put_verdict name items disk) source (naming Disk1 out ∷ []) ended None h j k f
-      (stage_as (put_verdict name items disk) (set_verdict name items (opened disk)) (naming Disk1 out ∷ []) ended None j k (put_sets name items disk clean) s));
-}
+    → Stage (set_verdict name items (opened disk)) no_fetches (naming Disk1 out ∷ []) ended None j k → SetsFile disk name source out ended h k
+source_set disk name source out items ended h j k clean fetched f s =
+    let outputs = naming Disk1 out ∷ [] in
+    let v = put_verdict name items disk in record {
+      unseen = items;
+      stage = stage_as (put_verdict name (file_bytes (h.file source) items) disk) v (source_fetches source) outputs ended None h k
+          (source_fetched name (file_bytes (h.file source) items) items disk fetched.front)
+          (stage_due v (λ x. source ∷ no_fetches x) (source_fetches source) outputs ended None h k (put_fetches source name items disk clean)
+          (fetched_stage v source no_fetches outputs ended None h j k f
+          (stage_as v (set_verdict name items (opened disk)) no_fetches outputs ended None j k (put_sets name items disk clean) s)));
+    }
 
 -- the disk was fetched, and the file set
 pub put_performs : (image name source out items : List ℕ) (ended : Option Refusal) (h j k : Outside) → IsFetched 33557504 (h.file image) items → Fetches image None h j
     → SetsFile items name source out ended j k → Performs (Some (Disk (Put image name source out))) ended None h k
 put_performs image name source out items ended h j k fetched f s =
     let same : file_bytes (j.file source) s.unseen ≡ file_bytes (h.file source) s.unseen = ap (λ (file : List ℕ → Option (List ℕ)). file_bytes (file source) s.unseen) f.keeps.file in
-    let P : List ℕ → Type 0 = λ b. Stage (put_verdict name b items) (fetching source ∷ naming Disk1 out ∷ []) ended None j k in
+    let P : List ℕ → Type 0 = λ b. Stage (put_verdict name b items) (source_fetches source) (naming Disk1 out ∷ []) ended None j k in
     let bytes = file_bytes (h.file source) s.unseen in
-    fetched_performs (Put image name source out) image (fetching source ∷ naming Disk1 out ∷ []) (put_verdict name bytes) s.unseen items ended h j k (put_fetched name bytes) refl refl fetched f
+    fetched_performs (Put image name source out) image (source_fetches source) (put_verdict name bytes) s.unseen items ended h j k (put_fetched name bytes) (λ v. refl) refl fetched f
     (subst P same s.stage)

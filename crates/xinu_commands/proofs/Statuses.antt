@@ -7,18 +7,19 @@ use Rattle.command_line.specs.Commands.{Command, Run, Asm, Disk}
 use Rattle.command_line.specs.Reading.{Text}
 use Rattle.command_line.specs.RunArgs.{RunFiles}
 use Rattle.host_port.specs.HostCalls.{Rose}
-use Rattle.host_port.specs.Outside.{Outside}
+use Rattle.host_port.specs.Outside.{Outside, grown}
 use Rattle.schedule_file.specs.ScheduleFiles.{Reading, Reads, Bad, Many, events_in, events_read, reading}
 use Rattle.xinu_base.specs.declared.events.Event.{Event}
 use Rattle.xinu_model.specs.Boot.{Loaded, Start, Boots, Overlaps, NoRoom, boot}
 use Rattle.xinu_model.specs.Machine.{Xinu}
+use Rattle.xinu_commands.specs.Calls.{calls_due, calls_in}
 use Rattle.xinu_commands.specs.InputFaults.{fault_line, have_fault, images_loaded, longest_schedule, schedule_fault}
 use Rattle.xinu_commands.specs.Statuses.{SaysOfFiles, start_with, status_due, statuses}
-use Rattle.xinu_commands.specs.Theorem.{Answers, Carries, IsStatus}
+use Rattle.xinu_commands.specs.Theorem.{Answers, Carries, IsDecided, IsStatus}
 use Rattle.xinu_commands.specs.Refusals.{status_of}
 use Rattle.xinu_commands.specs.RunVerdict.{run_verdict, boot_verdict, start_verdict, images_verdict}
 use Rattle.xinu_commands.specs.Verdict.{Input, ScheduleInput, ImageInput, SourceInput, file_bytes, image_bytes, verdict}
-use Rattle.xinu_commands.specs.Work.{Verdict, Refuses, Does}
+use Rattle.xinu_commands.specs.Work.{Output, Verdict, Refuses, Does}
 use Rattle.xinu_commands.specs.declared.refusals.Refusal.{Refusal}
 use Rattle.xinu_commands.specs.declared.refusals.Refusal.TheVariants as refusal
 use Rattle.xinu_commands.proofs.Answered.{done_status}
@@ -76,6 +77,18 @@ carried_due v (Some other) left exit h k c status memory fault = status memory �
 pub due : (exit : ℕ) (command : Option Command) (old new : Outside) (left : Option Xinu) (a : Answers exit command old new left)
     → exit ≢ 7 → exit ≢ 3 → exit ≡ status_due (verdict command old.file a.obeys.unseen)
 due exit command old new left a = carried_due (verdict command old.file a.obeys.unseen) a.ended left exit old new a.obeys.carries a.status
+
+-- an end with another status than 3 and 7 was decided by the verdict
+decided_by : (ended : Option Refusal) (output : Output) (exit : ℕ) → IsStatus ended output exit → exit ≢ 7 → exit ≢ 3 → IsDecided ended
+decided_by None output exit status memory fault = tt
+decided_by (Some refusal.HostFault) output exit status memory fault = absurd (fault (status memory))
+decided_by (Some refusal.NoMemory) output exit status memory fault = absurd (memory (status memory))
+decided_by (Some other) output exit status memory fault = tt
+
+-- with such a status all calls that are due were made
+pub called_due : (exit : ℕ) (command : Option Command) (old new : Outside) (left : Option Xinu) (a : Answers exit command old new left)
+    → exit ≢ 7 → exit ≢ 3 → new.calls ≡ grown old.calls (calls_in (calls_due command (verdict command old.file a.obeys.unseen)))
+called_due exit command old new left a memory fault = a.calls.all (decided_by a.ended a.obeys.carries.output exit a.status memory fault)
 
 -- ---- no command
 

@@ -1,23 +1,81 @@
--- The files that a command names.
-use Rattle.std.specs.Prelude.{List, [], ◌∷◌, map, Option, Some, None}
+-- The calls of the host that are due: the files that a command fetches, and then those that it writes.
+use Rattle.std.specs.Prelude.{List, [], ◌∷◌, ◌++◌, map, take, Option, Some, None}
 use Rattle.command_line.specs.Commands.{Command, Run, Asm, Disk}
 use Rattle.command_line.specs.DiskArgs.{DiskAction, Mkfs, Ls, Get, Put, Check, Repair}
+use Rattle.command_line.specs.Reading.{Text}
+use Rattle.command_line.specs.RunArgs.{RunFiles}
 use Rattle.host_port.specs.Outside.{HostCall, fetching, naming}
 use Rattle.host_port.specs.declared.host.Channel.TheVariants.{Disk1, Image}
+use Rattle.xinu_commands.specs.Work.{Verdict, Refuses, Does}
+use Rattle.xinu_commands.specs.declared.refusals.Refusal.TheVariants as refusal
 
--- The calls of the host by which an action on a disk fetches its files, and then names the file that it writes: a disk on Disk1,
--- another file on Image.
-abbrev pub action_calls : DiskAction → List HostCall
-action_calls (Mkfs blocks out) = naming Disk1 out ∷ []
-action_calls (Ls image) = fetching image ∷ []
-action_calls (Get image name out) = fetching image ∷ naming Image out ∷ []
-action_calls (Put image name source out) = fetching image ∷ fetching source ∷ naming Disk1 out ∷ []
-action_calls (Check image) = fetching image ∷ []
-action_calls (Repair image out) = fetching image ∷ naming Disk1 out ∷ []
+-- files to be fetched, and then calls that name files for their channels, each in order
+pub record Due : Type 0 where
+  pub fetches : List Text
+  pub outputs : List HostCall
 
--- the calls of the host by which a command names its files, in order
-abbrev pub calls_of : Option Command → List HostCall
-calls_of None = []
-calls_of (Some (Run r)) = fetching r.schedule ∷ map fetching r.images
-calls_of (Some (Asm a)) = fetching a.source ∷ naming Image a.out ∷ []
-calls_of (Some (Disk action)) = action_calls action
+-- all the calls in order
+abbrev pub calls_in : Due → List HostCall
+calls_in due = map fetching due.fetches ++ due.outputs
+
+-- ---- the files that are fetched
+
+-- A run fetches the schedule, and then the images, which are counted from 1, up to the file that is refused.
+abbrev pub run_fetches : RunFiles → Verdict → List Text
+run_fetches r (Refuses (refusal.Schedule l)) = r.schedule ∷ []
+run_fetches r (Refuses (refusal.Image i f)) = r.schedule ∷ take i r.images
+run_fetches r _ = r.schedule ∷ r.images
+
+-- The source of a file that is set is fetched only if the disk is accepted.
+abbrev pub source_fetches : Text → Verdict → List Text
+source_fetches source (Refuses (refusal.Disk d b r)) = []
+source_fetches source _ = source ∷ []
+
+-- the files that an action on a disk fetches
+abbrev pub action_fetches : DiskAction → Verdict → List Text
+action_fetches (Mkfs blocks out) v = []
+action_fetches (Ls image) v = image ∷ []
+action_fetches (Get image name out) v = image ∷ []
+action_fetches (Put image name source out) v = image ∷ source_fetches source v
+action_fetches (Check image) v = image ∷ []
+action_fetches (Repair image out) v = image ∷ []
+
+-- the files that a command with this verdict fetches
+abbrev pub fetches_of : Option Command → Verdict → List Text
+fetches_of None v = []
+fetches_of (Some (Run r)) v = run_fetches r v
+fetches_of (Some (Asm a)) v = a.source ∷ []
+fetches_of (Some (Disk action)) v = action_fetches action v
+
+-- ---- the files that are written
+
+-- the file that an action on a disk writes: a disk on Disk1, another file on Image
+abbrev pub action_outputs : DiskAction → List HostCall
+action_outputs (Mkfs blocks out) = naming Disk1 out ∷ []
+action_outputs (Ls image) = []
+action_outputs (Get image name out) = naming Image out ∷ []
+action_outputs (Put image name source out) = naming Disk1 out ∷ []
+action_outputs (Check image) = []
+action_outputs (Repair image out) = naming Disk1 out ∷ []
+
+-- the file that a command writes
+abbrev pub outputs_of : Option Command → List HostCall
+outputs_of None = []
+outputs_of (Some (Run r)) = []
+outputs_of (Some (Asm a)) = naming Image a.out ∷ []
+outputs_of (Some (Disk action)) = action_outputs action
+
+-- A file is written only if there is work to do.
+abbrev pub unless_refused : Verdict → List HostCall → List HostCall
+unless_refused (Refuses cause) outputs = []
+unless_refused (Does work) outputs = outputs
+
+-- ---- what is due
+
+-- the calls that are due with a verdict, by the files that it lets be fetched and those that are written
+abbrev pub due_by : (Verdict → List Text) → List HostCall → Verdict → Due
+due_by fetches outputs v = record { fetches = fetches v; outputs = unless_refused v outputs }
+
+-- the calls that a command with this verdict has to make
+abbrev pub calls_due : Option Command → Verdict → Due
+calls_due command v = due_by (fetches_of command) (outputs_of command) v

@@ -1,5 +1,5 @@
 -- What the stages of a command promise one another: its arguments, its files, its output.
-use Rattle.std.specs.Prelude.{◌≡◌, ◌≤◌, ◌+◌, ℕ, Bool, List, [], ◌∷◌, ◌++◌, length, map, take, true, Option, Some, None, Result, Ok, Err, option_map}
+use Rattle.std.specs.Prelude.{◌≡◌, ◌≤◌, ◌+◌, ◌-◌, ℕ, Bool, List, [], ◌∷◌, ◌++◌, length, map, take, true, Option, Some, None, Result, Ok, Err, option_map}
 use Rattle.std.specs.List.{slice_get}
 use Rattle.std.specs.Option.{option_map_or}
 use Rattle.machine.specs.Printed.{Booted}
@@ -13,13 +13,13 @@ use Rattle.host_port.specs.declared.host.Channel.TheVariants.{Out, Fault, Disk0,
 use Rattle.lfs_layout.specs.Files.{files_of, is_text, listing}
 use Rattle.xinu_base.specs.declared.events.Event.{Event}
 use Rattle.xinu_model.specs.Machine.{Xinu}
-use Rattle.xinu_commands.specs.Calls.{calls_of}
+use Rattle.xinu_commands.specs.Calls.{Due, calls_due, due_by, source_fetches}
 use Rattle.xinu_commands.specs.DiskVerdict.{file_line, put_verdict}
 use Rattle.xinu_commands.specs.InputFaults.{ReadsAs, schedule_fault}
 use Rattle.xinu_commands.specs.RunVerdict.{boot_verdict, images_verdict}
 use Rattle.xinu_commands.specs.Theorem.{Carries, HasCalled, IsPartSent, IsSent, IsUnsent, Obeys}
-use Rattle.xinu_commands.specs.Verdict.{file_bytes, image_bytes}
-use Rattle.xinu_commands.specs.Work.{Output, Verdict, output_of}
+use Rattle.xinu_commands.specs.Verdict.{file_bytes, image_bytes, verdict}
+use Rattle.xinu_commands.specs.Work.{Output, Verdict, Refuses, output_of}
 use Rattle.xinu_commands.specs.declared.refusals.Refusal.{Refusal}
 use Rattle.xinu_commands.specs.declared.refusals.Refusal.TheVariants as refusal
 
@@ -85,11 +85,15 @@ IsHostCause (Some _) old new = ⊥
 pub record IsFetched (most : ℕ) (file : Option (List ℕ)) (bytes : List ℕ) : Type 0 where
   pub front : bytes ≡ take (most + 1) (file_bytes file bytes)
 
+-- one file to be fetched
+abbrev pub fetch_due : Text → Due
+fetch_due name = record { fetches = name ∷ []; outputs = [] }
+
 -- A file was fetched, or the host refused it. Nothing was sent.
 pub record Fetches (name : List ℕ) (ended : Option Refusal) (old new : Outside) : Type 0 where
   pub unsent : IsUnsent old new
   pub cause : IsHostCause ended old new
-  pub calls : HasCalled (fetching name ∷ []) ended old new
+  pub calls : HasCalled (fetch_due name) ended old new
   pub keeps : KeepsFiles old new
 
 -- the line of the file at a place in the order of names, if a disk has one
@@ -104,33 +108,47 @@ output_on Disk0 bytes = record (output_of [] None None) { disk0 = Some bytes }
 output_on Disk1 bytes = output_of [] (Some bytes) None
 output_on Image bytes = output_of [] None (Some bytes)
 
+-- files to be written, when none is to be fetched
+abbrev pub outputs_due : List HostCall → Due
+outputs_due outputs = record { fetches = []; outputs = outputs }
+
 -- An output was sent, after these calls: all of it, or a part of it up to a refusal of the host.
-pub record SendsOutput (output : Output) (asked : List HostCall) (ended : Option Refusal) (old new : Outside) : Type 0 where
+pub record SendsOutput (output : Output) (outputs : List HostCall) (ended : Option Refusal) (old new : Outside) : Type 0 where
   pub part : IsPartSent output old new
   pub whole : ended ≡ None → IsSent output old new
   pub cause : IsHostCause ended old new
-  pub calls : HasCalled asked ended old new
+  pub calls : HasCalled (outputs_due outputs) ended old new
   pub keeps : KeepsFiles old new
 
--- What is left of a command, with this verdict and these calls, was carried out.
-pub record Stage (v : Verdict) (asked : List HostCall) (ended : Option Refusal) (left : Option Xinu) (old new : Outside) : Type 0 where
+-- What is left of a command with this verdict was carried out: these files were fetched, as far as the verdict lets them be, and these
+-- written.
+pub record Stage (v : Verdict) (fetches : Verdict → List Text) (outputs : List HostCall) (ended : Option Refusal) (left : Option Xinu) (old new : Outside) : Type 0 where
   pub carries : Carries v ended left old new
-  pub calls : HasCalled asked ended old new
+  pub calls : HasCalled (due_by fetches outputs v) ended old new
   pub keeps : KeepsFiles old new
+
+-- no file is left to be fetched
+abbrev pub no_fetches : Verdict → List Text
+no_fetches v = []
+
+-- The images that are fetched after the first n, by the names of those that are left: up to the one that is refused.
+abbrev pub images_left : ℕ → List Text → Verdict → List Text
+images_left n names (Refuses (refusal.Image i f)) = take (i - n) names
+images_left n names _ = names
 
 -- After these image files, those of these names were fetched and read in order, and then all images ran through the events, for some bytes
 -- of the files that can't be observed.
 pub record RunsImages (plain : Bool) (before : List (List ℕ)) (names : List Text) (events : List Event) (ended : Option Refusal) (left : Option Xinu) (old new : Outside) : Type 0 where
   pub unseen : ℕ → List ℕ
-  pub stage : Stage (images_verdict 1 (before ++ image_bytes (length before + 1) names old.file unseen) (boot_verdict plain events)) (map fetching names) ended left old new
+  pub stage : Stage (images_verdict 1 (before ++ image_bytes (length before + 1) names old.file unseen) (boot_verdict plain events)) (images_left (length before) names) [] ended left old new
 
 -- A file was fetched and then set on a disk, for some bytes of it if it can't be observed.
 pub record SetsFile (disk name source out : List ℕ) (ended : Option Refusal) (old new : Outside) : Type 0 where
   pub unseen : List ℕ
-  pub stage : Stage (put_verdict name (file_bytes (old.file source) unseen) disk) (fetching source ∷ naming Disk1 out ∷ []) ended None old new
+  pub stage : Stage (put_verdict name (file_bytes (old.file source) unseen) disk) (source_fetches source) (naming Disk1 out ∷ []) ended None old new
 
 -- A command was carried out.
 pub record Performs (command : Option Command) (ended : Option Refusal) (left : Option Xinu) (old new : Outside) : Type 0 where
   pub obeys : Obeys command ended left old new
-  pub calls : HasCalled (calls_of command) ended old new
+  pub calls : HasCalled (calls_due command (verdict command old.file obeys.unseen)) ended old new
   pub keeps : KeepsFiles old new

@@ -1,10 +1,10 @@
 -- The main theorem's statement: what the top call does. Read `Answers`, at the end, first; `verdict` is in Verdict.antt, `Writes` in Work.antt.
-use Rattle.std.specs.Prelude.{◌≡◌, ◌≢◌, ◌≤◌, ◌⊎◌, ℕ, List, take, Option, Some, None, IsSome}
+use Rattle.std.specs.Prelude.{◌≡◌, ◌≢◌, ◌≤◌, ◌<◌, ◌⊎◌, ℕ, List, length, take, Option, Some, None, IsSome}
 use Rattle.command_line.specs.Commands.{Command}
 use Rattle.host_port.specs.HostCalls.{Rose}
-use Rattle.host_port.specs.Outside.{Outside, HostCall, emptied_channel, grown}
+use Rattle.host_port.specs.Outside.{Outside, emptied_channel, grown}
 use Rattle.xinu_model.specs.Machine.{Xinu}
-use Rattle.xinu_commands.specs.Calls.{calls_of}
+use Rattle.xinu_commands.specs.Calls.{Due, calls_due, calls_in}
 use Rattle.xinu_commands.specs.Refusals.{status_of, text_of}
 use Rattle.xinu_commands.specs.Verdict.{Input, verdict}
 use Rattle.xinu_commands.specs.Work.{Output, Verdict, Refuses, Does, Work, Writes}
@@ -90,19 +90,28 @@ abbrev pub IsMessage : Option Refusal → ℕ → Outside → Outside → Type 0
 IsMessage None exit old new = new.fault ≡ old.fault
 IsMessage (Some cause) exit old new = SendsText cause exit old new
 
--- The files that the command names were fetched, and named for their channels, in order; all of them if it was done.
-pub record HasCalled (calls : List HostCall) (ended : Option Refusal) (old new : Outside) : Type 0 where
-  pub some : (n : ℕ) × (new.calls ≡ grown old.calls (take n calls))
-  pub all : ended ≡ None → new.calls ≡ grown old.calls calls
+-- A command was done or refused by its verdict: neither did the host fail nor memory run out.
+abbrev pub IsDecided : Option Refusal → Type 0
+IsDecided (Some refusal.HostFault) = ⊥
+IsDecided (Some refusal.NoMemory) = ⊥
+IsDecided _ = Unit {0}
+
+-- The calls that are due were made in order: all of them, or if the host failed or memory ran out the first ones. No channel but perhaps
+-- Fault changed if it ended before the last file was fetched.
+pub record HasCalled (due : Due) (ended : Option Refusal) (old new : Outside) : Type 0 where
+  pub count : ℕ
+  pub first : new.calls ≡ grown old.calls (take count (calls_in due))
+  pub all : IsDecided ended → new.calls ≡ grown old.calls (calls_in due)
+  pub unsent : count < length due.fetches → IsUnsent old new
 
 -- The theorem. The command was done, or refused for a cause, as it deserves by the bytes of its files (`obeys`). Its status and its
--- message say which. It asked the host for the files that it names, in order; no file that can be observed changed, and the count of
--- faults never falls.
+-- message say which. It asked the host for the files that are due by its verdict, in order; no file that can be observed changed, and the
+-- count of faults never falls.
 pub record Answers (exit : ℕ) (command : Option Command) (old new : Outside) (left : Option Xinu) : Type 0 where
   pub ended : Option Refusal
   pub obeys : Obeys command ended left old new
   pub status : IsStatus ended obeys.carries.output exit
   pub message : IsMessage ended exit old new
-  pub calls : HasCalled (calls_of command) ended old new
+  pub calls : HasCalled (calls_due command (verdict command old.file obeys.unseen)) ended old new
   pub files : new.file ≡ old.file
   pub faults : old.faults ≤ new.faults

@@ -7,7 +7,7 @@ ghost use Rattle.host_port.specs.Outside.{naming};
 ghost use Rattle.host_port.specs.declared.host.Channel.TheVariants as channel;
 ghost use Rattle.image_loader.specs.ImageFiles.{image_in};
 ghost use Rattle.xinu_commands.specs.AsmVerdict.{as_elf, asm_verdict, written_file};
-ghost use Rattle.xinu_commands.specs.Stages.{Performs, SendsOutput, Stage, output_on, refusal_of};
+ghost use Rattle.xinu_commands.specs.Stages.{Performs, SendsOutput, Stage, no_fetches, output_on, refusal_of};
 
 use crate::fetching::fetch_file;
 use crate::refusals::Refusal;
@@ -46,7 +46,7 @@ fn assemble_text<H: Host>(
     out: &str,
     host: &mut H,
 ) -> Result<(), Refusal>
-    ensures stage { Stage (asm_verdict elf source.now) (naming channel.Image out.now ∷ []) (refusal_of result) None (H.view host.old) (H.view host.new) }
+    ensures stage { Stage (asm_verdict elf source.now) no_fetches (naming channel.Image out.now ∷ []) (refusal_of result) None (H.view host.old) (H.view host.new) }
 {
     if source.len() > LONGEST_SOURCE {
         return Err(Refusal::Asm { line: 0, fault: 3 });

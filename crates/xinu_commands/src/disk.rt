@@ -9,7 +9,7 @@ ghost use Rattle.host_port.specs.declared.host.Channel.TheVariants as channel;
 ghost use Rattle.lfs_layout.specs.Files.{is_text};
 ghost use Rattle.xinu_commands.specs.Conversions.{check_refusal};
 ghost use Rattle.xinu_commands.specs.DiskVerdict as verdict;
-ghost use Rattle.xinu_commands.specs.Stages.{Fetches, IsFetched, IsPossible, Performs, SetsFile, Stage, refusal_of};
+ghost use Rattle.xinu_commands.specs.Stages.{Fetches, IsFetched, IsPossible, Performs, SetsFile, Stage, no_fetches, refusal_of};
 
 use crate::disk_lines::{repair_line, report_line};
 use crate::fetching::fetch_file;
@@ -69,7 +69,7 @@ fn list<H: Host>(alloc: Global, name: &str, host: &mut H) -> Result<(), Refusal>
 }
 
 fn list_files<H: Host>(alloc: Global, bytes: Vec<u8>, host: &mut H) -> Result<(), Refusal>
-    ensures stage { Stage (verdict.ls_verdict bytes.items) [] (refusal_of result) None (H.view host.old) (H.view host.new) }
+    ensures stage { Stage (verdict.ls_verdict bytes.items) no_fetches [] (refusal_of result) None (H.view host.old) (H.view host.new) }
 {
     let image = CleanImage::new(alloc, bytes)?;
     print_files(host, &image)
@@ -96,7 +96,7 @@ fn get_file<H: Host>(
     out: &str,
     host: &mut H,
 ) -> Result<(), Refusal>
-    ensures stage { Stage (verdict.get_verdict name.now bytes.items) (naming channel.Image out.now ∷ []) (refusal_of result) None (H.view host.old) (H.view host.new) }
+    ensures stage { Stage (verdict.get_verdict name.now bytes.items) no_fetches (naming channel.Image out.now ∷ []) (refusal_of result) None (H.view host.old) (H.view host.new) }
 {
     let image = CleanImage::new(alloc, bytes)?;
     match image.read_file(alloc, name.as_bytes())? {
@@ -146,7 +146,7 @@ fn set_file<H: Host>(
     host: &mut H,
 ) -> Result<(), Refusal>
     requires name { is_text name.now ≡ true }
-    ensures stage { Stage (verdict.set_verdict name.now source.now disk) (naming channel.Disk1 out.now ∷ []) (refusal_of result) None (H.view host.old) (H.view host.new) }
+    ensures stage { Stage (verdict.set_verdict name.now source.now disk) no_fetches (naming channel.Disk1 out.now ∷ []) (refusal_of result) None (H.view host.old) (H.view host.new) }
 {
     let mut disk = disk;
     if disk.put_file(alloc, name.as_bytes(), source)? {
@@ -165,7 +165,7 @@ fn check_file<H: Host>(alloc: Global, name: &str, host: &mut H) -> Result<(), Re
 }
 
 fn check_bytes<H: Host>(alloc: Global, bytes: &[u8], host: &mut H) -> Result<(), Refusal>
-    ensures stage { Stage (verdict.check_verdict bytes.now) [] (refusal_of result) None (H.view host.old) (H.view host.new) }
+    ensures stage { Stage (verdict.check_verdict bytes.now) no_fetches [] (refusal_of result) None (H.view host.old) (H.view host.new) }
 {
     let report = check(alloc, bytes)?;
     print_line(host, &report_line(report))
@@ -185,7 +185,7 @@ fn repair_bytes<H: Host>(
     out: &str,
     host: &mut H,
 ) -> Result<(), Refusal>
-    ensures stage { Stage (verdict.repair_verdict bytes.now) (naming channel.Disk1 out.now ∷ []) (refusal_of result) None (H.view host.old) (H.view host.new) }
+    ensures stage { Stage (verdict.repair_verdict bytes.now) no_fetches (naming channel.Disk1 out.now ∷ []) (refusal_of result) None (H.view host.old) (H.view host.new) }
 {
     let repaired = repair(alloc, bytes)?;
     print_line(host, &repair_line(repaired.kept, repaired.dropped))?;

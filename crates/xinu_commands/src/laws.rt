@@ -1,5 +1,5 @@
-//! What the exit statuses mean: laws about every answer of the top call, and one about the files that `asm` writes. Each is the contract of a
-//! function that does nothing.
+//! What the exit statuses mean, and which files are asked for: laws about every answer of the top call. One more is about the files that
+//! `asm` writes. Each is the contract of a function that does nothing.
 
 ghost use Rattle.std.specs.Prelude.{◌≡◌, ◌≢◌, ◌↔◌, ◌==◌, ◌∷◌, [], ℕ, Bool, IsTrue, List, Option, Some, None, IsSome};
 ghost use Rattle.std.specs.List.{list_any};
@@ -10,12 +10,13 @@ ghost use Rattle.command_line.specs.Reading.{Text};
 ghost use Rattle.command_line.specs.RunArgs.{RunFiles};
 ghost use Rattle.elf_loader.specs.LoadedFiles.{loads};
 ghost use Rattle.host_port.specs.HostCalls.{Rose};
-ghost use Rattle.host_port.specs.Outside.{Outside};
+ghost use Rattle.host_port.specs.Outside.{Outside, grown};
 ghost use Rattle.image_loader.specs.ImageFiles.{image_in};
 ghost use Rattle.rv_asm.specs.Assembly.{Makes, assembly};
 ghost use Rattle.xinu_model.specs.Boot.{Loaded};
 ghost use Rattle.xinu_model.specs.Machine.{Xinu};
 ghost use Rattle.xinu_commands.specs.AsmVerdict.{written_file};
+ghost use Rattle.xinu_commands.specs.Calls.{calls_due, calls_in};
 ghost use Rattle.xinu_commands.specs.Statuses.{SaysOfDisk, SaysOfFiles, SaysOfSource, status_due, statuses};
 ghost use Rattle.xinu_commands.specs.Theorem.{Answers};
 ghost use Rattle.xinu_commands.specs.Verdict.{ScheduleInput, ImageInput, SourceInput, file_bytes, image_bytes, verdict};
@@ -40,6 +41,11 @@ pub fn host_faults_are_counted()
     ensures { (exit : ℕ) (command : Option Command) (old new : Outside) (left : Option Xinu) → Answers exit command old new left → exit ≡ 3 → IsSome command × Rose old.faults new.faults }
 {}
 
+/// Exactly the files that are due by the verdict are fetched and named for their channels, in order, unless the host failed or memory ran out.
+pub fn calls_are_due()
+    ensures { (exit : ℕ) (command : Option Command) (old new : Outside) (left : Option Xinu) (a : Answers exit command old new left) → exit ≢ 7 → exit ≢ 3 → new.calls ≡ grown old.calls (calls_in (calls_due command (verdict command old.file a.obeys.unseen))) }
+{}
+
 /// The exit status of a run is 5 if and only if the schedule file has a fault; if it has none, 4 if and only if an image file has one; if none
 /// has one, 8 if and only if an image overlaps an earlier one or the heap has no room for the stack of one, and else 0: unless the host failed
 /// or memory ran out.
@@ -57,8 +63,9 @@ pub fn written_files_load()
     ensures { (elf : Bool) (source file : List ℕ) → assembly source ≡ Makes file → (image : Loaded) × ((image_in file ≡ Some image) × (loads (written_file elf file) ≡ Some image)) }
 {}
 
-/// The exit status of an action on a disk is 6 if and only if the disk breaks a rule; if it breaks none, 12 if and only if it lacks the file
-/// that is asked for, 13 if and only if it has no room for the file that is set, and else 0: unless the host failed or memory ran out.
+/// The exit status of an action on a disk is 6 if and only if the disk breaks a rule, which of a disk that is repaired is rule 0; if it
+/// breaks none, 12 if and only if it lacks the file that is asked for, 13 if and only if it has no room for the file that is set, and else 0:
+/// unless the host failed or memory ran out.
 pub fn statuses_say_of_disks()
     ensures { (exit : ℕ) (action : DiskAction) (old new : Outside) (left : Option Xinu) (a : Answers exit (Some (Disk action)) old new left) → exit ≢ 7 → exit ≢ 3 → SaysOfDisk exit action (λ input name. file_bytes (old.file name) (a.obeys.unseen input)) }
 {}

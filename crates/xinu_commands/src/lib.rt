@@ -7,7 +7,7 @@
 //! | Call | Promise |
 //! |---|---|
 //! | [`xinu`], the top call | `answers`: the status, what was sent and the machine that is left are what the bytes of the host's files deserve (`specs/Theorem.antt`) |
-//! | [`laws`] | what each exit status means |
+//! | [`laws`] | what each exit status means, which files are asked for, and that what `asm` writes loads |
 #![tactic(auto)]
 
 mod asm_command;

@@ -1,13 +1,12 @@
 //! The command `run`: its files are fetched and read, and the images run.
 
-ghost use Rattle.std.specs.Prelude.{◌≡◌, ◌≤◌, ◌+◌, ◌∷◌, [], false, Some, IfOk, IfErr, length, map, option_map};
+ghost use Rattle.std.specs.Prelude.{◌≡◌, ◌≤◌, ◌+◌, false, Some, IfOk, IfErr, length, map, option_map};
 ghost use Rattle.command_line.specs.Commands.{Run};
 ghost use Rattle.command_line.specs.Names.{run_names};
-ghost use Rattle.host_port.specs.Outside.{fetching};
 ghost use Rattle.image_loader.specs.Images.{loaded_of};
 ghost use Rattle.xinu_commands.specs.InputFaults.{have_fault, image_fault, images_loaded};
 ghost use Rattle.xinu_commands.specs.RunVerdict.{boot_verdict, images_verdict};
-ghost use Rattle.xinu_commands.specs.Stages.{HoldsSchedule, IsScheduleCause, KeepsFiles, Performs, RunsImages, left_of, refusal_of};
+ghost use Rattle.xinu_commands.specs.Stages.{HoldsSchedule, IsScheduleCause, KeepsFiles, Performs, RunsImages, fetch_due, left_of, refusal_of};
 ghost use Rattle.xinu_commands.specs.Theorem.{Carries, HasCalled, IsUnsent};
 ghost use Rattle.xinu_commands.specs.declared.refusals.Refusal.TheVariants as refusal;
 
@@ -57,7 +56,7 @@ fn fetch_schedule<H: Host>(alloc: Global, host: &mut H, name: &str) -> Result<Sc
     ensures few { IfOk result (λ events. length events ≤ 1000000000) }
     ensures refused { IfErr result (λ r. IsScheduleCause r ((H.view host.old).file name.now) (H.view host.old) (H.view host.new)) }
     ensures unsent { IsUnsent (H.view host.old) (H.view host.new) }
-    ensures calls { HasCalled (fetching name.now ∷ []) (refusal_of result) (H.view host.old) (H.view host.new) }
+    ensures calls { HasCalled (fetch_due name.now) (refusal_of result) (H.view host.old) (H.view host.new) }
     ensures keeps { KeepsFiles (H.view host.old) (H.view host.new) }
 {
     let text = host.fetch(alloc, name, LONGEST_SCHEDULE)?;

@@ -5,7 +5,7 @@ use Rattle.host_port.specs.Outside.{naming}
 use Rattle.host_port.specs.declared.host.Channel.TheVariants.{Image}
 use Rattle.std.specs.Prelude.{Some}
 use Rattle.xinu_commands.specs.AsmVerdict.{asm_verdict}
-use Rattle.xinu_commands.specs.Stages.{Performs, Stage, refusal_of}
+use Rattle.xinu_commands.specs.Stages.{Performs, Stage, no_fetches, refusal_of}
 use Rattle.xinu_commands.proofs.Assembled.{source_fetched, source_unfetched}
 use Rattle.xinu_commands.proofs.Staged.{of_refused}
 use Rattle.xinu_commands.proofs.asm_command.assemble_file.Goals as goal
@@ -28,7 +28,7 @@ returns g c =
     let k = g.H.Host.view c.assemble_text.new.host in
     let files = asm_names c.args.files.now in
     let ended = refusal_of c.assemble_text.result in
-    let P : List ℕ → Type 0 = λ b. Stage (asm_verdict files.elf b) (naming Image files.out ∷ []) ended None j k in
+    let P : List ℕ → Type 0 = λ b. Stage (asm_verdict files.elf b) no_fetches (naming Image files.out ∷ []) ended None j k in
     record {
       performs = source_fetched files c.in_ok-source.source.items ended
           (g.H.Host.view c.args.host.now) j k c.in_ok-source.ensures.bytes c.in_ok-source.ensures.fetches

@@ -1,8 +1,8 @@
-use Rattle.std.proofs.Common.{◌∙◌, [], ℕ, List, None, ap, subst}
+use Rattle.std.proofs.Common.{◌∙◌, [], ℕ, List, None, refl, ap, subst}
 use Rattle.lfs_check.specs.Faults.{fault, report}
 use Rattle.xinu_commands.specs.Conversions.{check_refusal}
 use Rattle.xinu_commands.specs.DiskVerdict.{check_verdict, report_line}
-use Rattle.xinu_commands.specs.Stages.{SendsOutput, Stage, refusal_of}
+use Rattle.xinu_commands.specs.Stages.{SendsOutput, Stage, no_fetches, refusal_of}
 use Rattle.xinu_commands.specs.Work.{output_of}
 use Rattle.xinu_commands.proofs.DiskVerdicts.{check_broken, check_does, faultless, faulty}
 use Rattle.xinu_commands.proofs.Staged.{broken_stage, of_refused, sent_stage}
@@ -14,8 +14,8 @@ returns-in_err-report g c =
     let bytes = c.args.bytes.now in
     let e = c.in_err-report.field-0.0 in
     record {
-      stage = of_refused c.from_residual.result (check_refusal e) (λ ended. Stage (check_verdict bytes) [] ended None h h) c.from_residual.ensures.0 c.from_residual.ensures.1
-          (broken_stage (check_verdict bytes) [] e (fault bytes) h c.in_err-report.ensures (λ x is. check_broken bytes x (faulty bytes x is)));
+      stage = of_refused c.from_residual.result (check_refusal e) (λ ended. Stage (check_verdict bytes) no_fetches [] ended None h h) c.from_residual.ensures.0 c.from_residual.ensures.1
+          (broken_stage (check_verdict bytes) no_fetches [] e (fault bytes) h c.in_err-report.ensures (λ x is. check_broken bytes x (faulty bytes x is)) (λ x. refl));
     }
 
 pub returns : goal.returns

@@ -1,11 +1,9 @@
-use Rattle.std.proofs.Common.{[], ◌∷◌, Some, None, refl}
+use Rattle.std.proofs.Common.{[], Some, None, refl}
 use Rattle.xinu_commands.specs.DiskVerdict.{get_verdict}
 use Rattle.xinu_commands.proofs.DiskFetched.{get_fetched}
 use Rattle.command_line.specs.Commands.{Disk}
 use Rattle.command_line.specs.DiskArgs.{Get}
-use Rattle.host_port.specs.Outside.{naming}
-use Rattle.host_port.specs.declared.host.Channel.TheVariants.{Image}
-use Rattle.xinu_commands.specs.Stages.{Performs, refusal_of}
+use Rattle.xinu_commands.specs.Stages.{Performs, no_fetches, refusal_of}
 use Rattle.xinu_commands.proofs.Staged.{fetched_performs, of_refused, unfetched_performs}
 use Rattle.xinu_commands.proofs.disk.get.Goals as goal
 
@@ -16,11 +14,11 @@ returns-in_err-bytes g c =
     let r = c.in_err-bytes.field-0.0 in
     record {
       performs = of_refused c.from_residual.result r (λ ended. Performs (Some (Disk (Get c.args.image.now c.args.name.now c.args.out.now))) ended None h k) c.from_residual.ensures.0 c.from_residual.ensures.1
-          (unfetched_performs (Get c.args.image.now c.args.name.now c.args.out.now) c.args.image.now (naming Image c.args.out.now ∷ []) r h k refl c.in_err-bytes.ensures.fetches);
+          (unfetched_performs (Get c.args.image.now c.args.name.now c.args.out.now) c.args.image.now no_fetches r h k (λ v. refl) c.in_err-bytes.ensures.fetches);
     }
 
 pub returns : goal.returns
 returns g c = record {
-  performs = fetched_performs (Get c.args.image.now c.args.name.now c.args.out.now) c.args.image.now (naming Image c.args.out.now ∷ []) (get_verdict c.args.name.now) [] c.in_ok-bytes.bytes.items (refusal_of c.get_file.result) (g.H.Host.view c.args.host.now) (g.H.Host.view c.fetch.new.host)
-      (g.H.Host.view c.get_file.new.host) (get_fetched c.args.name.now) refl refl c.in_ok-bytes.ensures.bytes c.in_ok-bytes.ensures.fetches c.get_file.ensures.stage;
+  performs = fetched_performs (Get c.args.image.now c.args.name.now c.args.out.now) c.args.image.now no_fetches (get_verdict c.args.name.now) [] c.in_ok-bytes.bytes.items (refusal_of c.get_file.result) (g.H.Host.view c.args.host.now) (g.H.Host.view c.fetch.new.host)
+      (g.H.Host.view c.get_file.new.host) (get_fetched c.args.name.now) (λ v. refl) refl c.in_ok-bytes.ensures.bytes c.in_ok-bytes.ensures.fetches c.get_file.ensures.stage;
 }

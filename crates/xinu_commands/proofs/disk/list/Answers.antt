@@ -3,7 +3,7 @@ use Rattle.xinu_commands.specs.DiskVerdict.{ls_verdict}
 use Rattle.xinu_commands.proofs.DiskFetched.{ls_fetched}
 use Rattle.command_line.specs.Commands.{Disk}
 use Rattle.command_line.specs.DiskArgs.{Ls}
-use Rattle.xinu_commands.specs.Stages.{Performs, refusal_of}
+use Rattle.xinu_commands.specs.Stages.{Performs, no_fetches, refusal_of}
 use Rattle.xinu_commands.proofs.Staged.{fetched_performs, of_refused, unfetched_performs}
 use Rattle.xinu_commands.proofs.disk.list.Goals as goal
 
@@ -14,11 +14,11 @@ returns-in_err-bytes g c =
     let r = c.in_err-bytes.field-0.0 in
     record {
       performs = of_refused c.from_residual.result r (λ ended. Performs (Some (Disk (Ls c.args.name.now))) ended None h k) c.from_residual.ensures.0 c.from_residual.ensures.1
-          (unfetched_performs (Ls c.args.name.now) c.args.name.now [] r h k refl c.in_err-bytes.ensures.fetches);
+          (unfetched_performs (Ls c.args.name.now) c.args.name.now no_fetches r h k (λ v. refl) c.in_err-bytes.ensures.fetches);
     }
 
 pub returns : goal.returns
 returns g c = record {
-  performs = fetched_performs (Ls c.args.name.now) c.args.name.now [] ls_verdict [] c.in_ok-bytes.bytes.items (refusal_of c.list_files.result) (g.H.Host.view c.args.host.now) (g.H.Host.view c.fetch.new.host)
-      (g.H.Host.view c.list_files.new.host) ls_fetched refl refl c.in_ok-bytes.ensures.bytes c.in_ok-bytes.ensures.fetches c.list_files.ensures.stage;
+  performs = fetched_performs (Ls c.args.name.now) c.args.name.now no_fetches ls_verdict [] c.in_ok-bytes.bytes.items (refusal_of c.list_files.result) (g.H.Host.view c.args.host.now) (g.H.Host.view c.fetch.new.host)
+      (g.H.Host.view c.list_files.new.host) ls_fetched (λ v. refl) refl c.in_ok-bytes.ensures.bytes c.in_ok-bytes.ensures.fetches c.list_files.ensures.stage;
 }

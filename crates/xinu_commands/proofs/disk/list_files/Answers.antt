@@ -1,10 +1,10 @@
-use Rattle.std.proofs.Common.{[], ℕ, List, None, sym, subst}
+use Rattle.std.proofs.Common.{[], ℕ, List, None, refl, sym, subst}
 use Rattle.lfs_check.specs.Faults.{fault}
 use Rattle.lfs_layout.specs.Images.{IsCleanImage, opened}
 use Rattle.lfs_layout.proofs.MadeClean.{opened_clean}
 use Rattle.xinu_commands.specs.Conversions.{check_refusal}
 use Rattle.xinu_commands.specs.DiskVerdict.{file_lines, ls_verdict}
-use Rattle.xinu_commands.specs.Stages.{SendsOutput, Stage, refusal_of}
+use Rattle.xinu_commands.specs.Stages.{SendsOutput, Stage, no_fetches, refusal_of}
 use Rattle.xinu_commands.specs.Work.{output_of}
 use Rattle.xinu_commands.proofs.DiskVerdicts.{faultless, faulty, ls_broken, ls_does}
 use Rattle.xinu_commands.proofs.Staged.{broken_stage, of_refused, sent_stage}
@@ -16,8 +16,8 @@ returns-in_err-image g c =
     let items = c.args.bytes.items in
     let e = c.in_err-image.field-0.0 in
     record {
-      stage = of_refused c.from_residual.result (check_refusal e) (λ ended. Stage (ls_verdict items) [] ended None h h) c.from_residual.ensures.0 c.from_residual.ensures.1
-          (broken_stage (ls_verdict items) [] e (fault items) h c.in_err-image.ensures.image (λ x is. ls_broken items x (faulty items x is)));
+      stage = of_refused c.from_residual.result (check_refusal e) (λ ended. Stage (ls_verdict items) no_fetches [] ended None h h) c.from_residual.ensures.0 c.from_residual.ensures.1
+          (broken_stage (ls_verdict items) no_fetches [] e (fault items) h c.in_err-image.ensures.image (λ x is. ls_broken items x (faulty items x is)) (λ x. refl));
     }
 
 pub print_files-requires : goal.print_files-requires

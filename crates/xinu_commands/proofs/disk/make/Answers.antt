@@ -5,7 +5,7 @@ use Rattle.host_port.specs.Outside.{naming}
 use Rattle.host_port.specs.declared.host.Channel.TheVariants.{Disk1}
 use Rattle.lfs_layout.specs.Made.{image_with}
 use Rattle.xinu_commands.specs.DiskVerdict.{mkfs_verdict}
-use Rattle.xinu_commands.specs.Stages.{Performs, SendsOutput, refusal_of}
+use Rattle.xinu_commands.specs.Stages.{Performs, SendsOutput, no_fetches, refusal_of}
 use Rattle.xinu_commands.specs.Work.{output_of}
 use Rattle.xinu_commands.specs.declared.refusals.Refusal.TheVariants as refusal
 use Rattle.xinu_commands.proofs.DiskVerdicts.{mkfs_does}
@@ -18,7 +18,7 @@ returns-in_err-image g c =
     let action = Mkfs c.args.blocks c.args.out.now in
     record {
       performs = of_refused c.from_residual.result refusal.NoMemory (λ ended. Performs (Some (Disk action)) ended None h h) c.from_residual.ensures.0 c.from_residual.ensures.1
-          (performs_by action [] [] (Some refusal.NoMemory) h h (memory_stage (mkfs_verdict c.args.blocks) (naming Disk1 c.args.out.now ∷ []) h));
+          (performs_by action [] [] (Some refusal.NoMemory) h h (memory_stage (mkfs_verdict c.args.blocks) no_fetches (naming Disk1 c.args.out.now ∷ []) h));
     }
 
 pub returns : goal.returns

@@ -1,8 +1,7 @@
-use Rattle.std.proofs.Common.{[], ◌∷◌, Some, None, refl}
+use Rattle.std.proofs.Common.{Some, None, refl}
 use Rattle.command_line.specs.Commands.{Disk}
 use Rattle.command_line.specs.DiskArgs.{Put}
-use Rattle.host_port.specs.Outside.{fetching, naming}
-use Rattle.host_port.specs.declared.host.Channel.TheVariants.{Disk1}
+use Rattle.xinu_commands.specs.Calls.{source_fetches}
 use Rattle.xinu_commands.specs.Stages.{Performs, refusal_of}
 use Rattle.xinu_commands.proofs.Staged.{of_refused, put_performs, unfetched_performs}
 use Rattle.xinu_commands.proofs.disk.put.Goals as goal
@@ -15,7 +14,7 @@ returns-in_err-bytes g c =
     let action = Put c.args.image.now c.args.name.now c.args.source.now c.args.out.now in
     record {
       performs = of_refused c.from_residual.result r (λ ended. Performs (Some (Disk action)) ended None h k) c.from_residual.ensures.0 c.from_residual.ensures.1
-          (unfetched_performs action c.args.image.now (fetching c.args.source.now ∷ naming Disk1 c.args.out.now ∷ []) r h k refl c.in_err-bytes.ensures.fetches);
+          (unfetched_performs action c.args.image.now (source_fetches c.args.source.now) r h k (λ v. refl) c.in_err-bytes.ensures.fetches);
     }
 
 pub returns : goal.returns

@@ -1,4 +1,4 @@
-use Rattle.std.proofs.Common.{◌∙◌, [], ◌∷◌, ℕ, List, Some, None, subst}
+use Rattle.std.proofs.Common.{◌∙◌, [], ◌∷◌, ℕ, List, Some, None, refl, subst}
 use Rattle.host_port.specs.Outside.{naming}
 use Rattle.host_port.specs.declared.host.Channel.TheVariants.{Disk1}
 use Rattle.lfs_check.specs.Faults.{named}
@@ -7,7 +7,7 @@ use Rattle.lfs_check.specs.Rules.{rule_0}
 use Rattle.lfs_layout.specs.Images.{repaired}
 use Rattle.xinu_commands.specs.Conversions.{check_refusal}
 use Rattle.xinu_commands.specs.DiskVerdict.{repair_line, repair_verdict}
-use Rattle.xinu_commands.specs.Stages.{SendsOutput, Stage, refusal_of}
+use Rattle.xinu_commands.specs.Stages.{SendsOutput, Stage, no_fetches, refusal_of}
 use Rattle.xinu_commands.specs.Work.{output_of}
 use Rattle.xinu_commands.proofs.DiskVerdicts.{repair_broken, repair_counts, repair_does, sized, unsized}
 use Rattle.xinu_commands.proofs.Sent.{both_sent, text_unsent}
@@ -21,8 +21,8 @@ returns-in_err-repaired g c =
     let calls = naming Disk1 c.args.out.now ∷ [] in
     let e = c.in_err-repaired.field-0.0 in
     record {
-      stage = of_refused c.from_residual.result (check_refusal e) (λ ended. Stage (repair_verdict bytes) calls ended None h h) c.from_residual.ensures.0 c.from_residual.ensures.1
-          (broken_stage (repair_verdict bytes) calls e (named 0 (rule_0 (geometry_of bytes) bytes)) h c.in_err-repaired.ensures.image (λ x is. repair_broken bytes x (unsized bytes x is)));
+      stage = of_refused c.from_residual.result (check_refusal e) (λ ended. Stage (repair_verdict bytes) no_fetches calls ended None h h) c.from_residual.ensures.0 c.from_residual.ensures.1
+          (broken_stage (repair_verdict bytes) no_fetches calls e (named 0 (rule_0 (geometry_of bytes) bytes)) h c.in_err-repaired.ensures.image (λ x is. repair_broken bytes x (unsized bytes x is)) (λ x. refl));
     }
 
 pub returns-in_err-print_line : goal.returns-in_err-print_line
@@ -35,7 +35,7 @@ returns-in_err-print_line g c =
     let text = c.repair_line.ensures ∙ repair_counts bytes c.in_ok-repaired.repaired.kept c.in_ok-repaired.repaired.dropped c.in_ok-repaired.ensures.kept c.in_ok-repaired.ensures.dropped in
     let P : List ℕ → Type 0 = λ t. SendsOutput (output_of t None None) [] (Some r) h k in
     record {
-      stage = of_refused c.from_residual-in_err-print_line.result r (λ ended. Stage (repair_verdict bytes) calls ended None h k) c.from_residual-in_err-print_line.ensures.0 c.from_residual-in_err-print_line.ensures.1
+      stage = of_refused c.from_residual-in_err-print_line.result r (λ ended. Stage (repair_verdict bytes) no_fetches calls ended None h k) c.from_residual-in_err-print_line.ensures.0 c.from_residual-in_err-print_line.ensures.1
           (sent_stage (repair_verdict bytes) (repair_line bytes) (Some (repaired bytes)) None calls (Some r) h k (repair_does bytes (sized bytes c.in_ok-repaired.ensures.image.0))
           (text_unsent (repair_line bytes) (repaired bytes) calls r h k (subst P text c.in_err-print_line.ensures.sends)));
     }

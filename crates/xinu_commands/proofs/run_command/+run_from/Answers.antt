@@ -5,7 +5,8 @@ use Rattle.xinu_commands.specs.RunVerdict.{boot_verdict, images_verdict}
 use Rattle.xinu_commands.specs.Theorem.{Carries}
 use Rattle.xinu_commands.specs.declared.refusals.Refusal.TheVariants as refusal
 use Rattle.xinu_commands.specs.Stages.{RunsImages, left_of, refusal_of}
-use Rattle.xinu_commands.proofs.ImageFiles.{empty_slice, first_and_rest, good_more, image_bad, image_then, image_unfetched, image_unkept, images_run, judged_good, of_err, rest_length}
+use Rattle.xinu_commands.proofs.ImageFiles.{empty_slice, first_and_rest, image_bad, image_then, image_unfetched, image_unkept, images_run, judged_good, of_err, rest_length}
+use Rattle.xinu_commands.proofs.GoodImages.{good_more}
 use Rattle.xinu_commands.proofs.run_command.+run_from.Goals as goal
 
 pub returns-in_err-file-in-len1-up : goal.returns-in_err-file-in-len1-up
@@ -17,7 +18,7 @@ returns-in_err-file-in-len1-up g t c =
     record {
       runs = of_err c.from_residual.result r (λ ended left. RunsImages c.args.plain files (map (λ s. s.now) c.args.names.now) c.args.schedule ended left h k) c.from_residual.ensures.0 c.from_residual.ensures.1
           (subst (λ (names : List (Bor (List ℕ))). RunsImages c.args.plain files (map (λ s. s.now) names) c.args.schedule (Some r) None h k) (sym (first_and_rest c.args.names.now _ c.in-len1-up.len_at_least))
-          (image_unfetched c.args.plain files _ _ c.args.schedule r h k c.in_err-file-in-len1-up.ensures.fetches));
+          (image_unfetched c.args.plain files _ _ c.args.schedule r h k c.requires.good c.in_err-file-in-len1-up.ensures.fetches));
     }
 
 pub returns-in_err-judge-in-len1-up : goal.returns-in_err-judge-in-len1-up
@@ -77,7 +78,7 @@ returns-in-Ok g t c =
     let added = ap (map (λ v. v.items)) c.in-Ok.ensures.items ∙ map-append (λ v. v.items) c.args.files.items (file ∷ []) in
     record {
       runs = subst (λ (names : List (Bor (List ℕ))). RunsImages c.args.plain files (map (λ s. s.now) names) c.args.schedule ended left h k) (sym (first_and_rest c.args.names.now _ c.in-len1-up.len_at_least))
-          (image_then c.args.plain files (map (λ v. v.items) c.push.new.self.items) _ _ c.args.schedule file.items ended left h j k added c.in_ok-file-in-len1-up.ensures.bytes
+          (image_then c.args.plain files (map (λ v. v.items) c.push.new.self.items) _ _ c.args.schedule file.items ended left h j k c.requires.good added c.in_ok-file-in-len1-up.ensures.bytes
           c.in_ok-file-in-len1-up.ensures.fetches c.run_from.ensures.runs);
     }
 
@@ -89,5 +90,5 @@ returns-in-Err g t c =
     record {
       runs = subst (λ (names : List (Bor (List ℕ))). RunsImages c.args.plain files (map (λ s. s.now) names) c.args.schedule (Some refusal.NoMemory) None h k)
           (sym (first_and_rest c.args.names.now _ c.in-len1-up.len_at_least))
-          (image_unkept c.args.plain files _ _ c.args.schedule c.in_ok-file-in-len1-up.file.items h k c.in_ok-file-in-len1-up.ensures.bytes c.in_ok-file-in-len1-up.ensures.fetches);
+          (image_unkept c.args.plain files _ _ c.args.schedule c.in_ok-file-in-len1-up.file.items h k c.requires.good c.in_ok-file-in-len1-up.ensures.bytes c.in_ok-file-in-len1-up.ensures.fetches);
     }

@@ -1,0 +1,144 @@
+-- Which files a verdict lets be fetched: the stage that refuses a file comes after those before it.
+use Rattle.std.proofs.Common.{◌≡◌, ◌∙◌, ◌+◌, ◌-◌, ◌<◌, ℕ, Bool, false, suc, List, [], ◌∷◌, ◌++◌, length, map, take, Option, Some, None, refl, sym, ap, ap₂, subst, arith}
+use Rattle.std.specs.Prelude.{option_map}
+use Rattle.std.proofs.lemmas.List.{take_all}
+use Rattle.command_line.specs.Reading.{Text}
+use Rattle.command_line.specs.RunArgs.{RunFiles}
+use Rattle.elf_loader.specs.LoadedFiles.{loads}
+use Rattle.host_port.specs.Outside.{HostCall, fetching}
+use Rattle.lfs_check.specs.declared.faults.DiskFault.{DiskFault}
+use Rattle.lfs_layout.specs.Images.{opened}
+use Rattle.xinu_base.specs.declared.events.Event.{Event}
+use Rattle.xinu_model.specs.Boot.{Loaded, Start, Boots, Overlaps, NoRoom, boot}
+use Rattle.xinu_commands.specs.Calls.{calls_in, due_by, run_fetches, source_fetches, unless_refused}
+use Rattle.xinu_commands.specs.DiskVerdict.{disk_fault, disk_with, put_verdict, set_verdict}
+use Rattle.xinu_commands.specs.InputFaults.{have_fault, image_fault}
+use Rattle.xinu_commands.specs.RunVerdict.{boot_verdict, images_verdict, start_verdict}
+use Rattle.xinu_commands.specs.Stages.{images_left}
+use Rattle.xinu_commands.specs.Work.{Verdict, Refuses, Does, Outputs, if_some, unless_fault}
+use Rattle.xinu_commands.specs.declared.refusals.Refusal.{Refusal}
+use Rattle.xinu_commands.specs.declared.refusals.Refusal.TheVariants as refusal
+use Rattle.xinu_commands.proofs.DiskVerdicts.{put_sets}
+use Rattle.xinu_commands.proofs.Files.{image_read}
+use Rattle.xinu_commands.proofs.GoodImages.{good_loads, good_parts}
+
+-- ---- nothing is due
+
+-- a command that is refused names no file
+pub nothing_due : (fetches : Verdict → List Text) (outputs : List HostCall) (v : Verdict) (r : Refusal) → v ≡ Refuses r → fetches v ≡ []
+    → calls_in (due_by fetches outputs v) ≡ []
+nothing_due fetches outputs v r is none =
+    ap₂ (λ (xs : List Text) (ys : List HostCall). map fetching xs ++ ys) none (ap (λ x. unless_refused x outputs) is)
+
+-- without files to be written none is named
+pub nothing_named : (v : Verdict) → unless_refused v [] ≡ []
+nothing_named (Refuses r) = refl
+nothing_named (Does work) = refl
+
+-- ---- a run
+
+-- The verdict comes after the schedule and the first n images.
+abbrev pub IsAfter : ℕ → Verdict → Type 0
+IsAfter n (Refuses (refusal.Schedule l)) = ⊥
+IsAfter n (Refuses (refusal.Image i f)) = n < i
+IsAfter n _ = Unit {0}
+
+-- a stage whose faults come after, and then the next
+unless_fault_after : {T : Type 0} (n : ℕ) (fault : Option Refusal) (read : Option T) (next : T → Verdict) → ((r : Refusal) → fault ≡ Some r → IsAfter n (Refuses r))
+    → ((x : T) → IsAfter n (next x)) → IsAfter n (unless_fault fault read next)
+unless_fault_after n (Some r) read next at rest = at r refl
+unless_fault_after n None None next at rest = tt
+unless_fault_after n None (Some x) next at rest = rest x
+
+-- a fault of a later image
+image_after : (n i : ℕ) (fault : Option ℕ) → n < i → (r : Refusal) → option_map (refusal.Image i) fault ≡ Some r → IsAfter n (Refuses r)
+image_after n i None later r is = absurd (cc)
+image_after n i (Some f) later r is =
+    let same : refusal.Image i f ≡ r = cc in
+    let P : Refusal → Type 0 = λ x. IsAfter n (Refuses x) in subst P same later
+
+-- the images from a later one on
+images_after : (n i : ℕ) (files : List (List ℕ)) (next : List Loaded → Verdict) → n < i → ((images : List Loaded) → IsAfter n (next images))
+    → IsAfter n (images_verdict i files next)
+images_after n i [] next later rest = rest []
+images_after n i (bytes ∷ files) next later rest =
+    unless_fault_after n (option_map (refusal.Image i) (image_fault bytes)) (loads bytes) (λ x. images_verdict (i + 1) files (λ images. next (x ∷ images)))
+    (image_after n i (image_fault bytes) later) (λ x. images_after n (i + 1) files (λ images. next (x ∷ images)) (omega arith) (λ images. rest (x ∷ images)))
+
+-- how the machine starts is no fault of a file
+start_after : (n : ℕ) (plain : Bool) (events : List Event) (s : Start) → IsAfter n (start_verdict plain events s)
+start_after n plain events (Boots x) = tt
+start_after n plain events (Overlaps i) = tt
+start_after n plain events (NoRoom i) = tt
+
+-- nor is whether it starts
+boot_after : (n : ℕ) (plain : Bool) (events : List Event) (images : List Loaded) → IsAfter n (boot_verdict plain events images)
+unfolding boot_verdict
+boot_after n plain events images = start_after n plain events (boot images)
+
+-- the images after some that have no fault
+good_after : (n i : ℕ) (before files : List (List ℕ)) (next : List Loaded → Verdict) → n < i + length before → have_fault before ≡ false
+    → ((images : List Loaded) → IsAfter n (next images)) → IsAfter n (images_verdict i (before ++ files) next)
+good_after n i [] files next later good rest = images_after n i files next (omega (arith, later)) rest
+good_after n i (b ∷ before) files next later good rest =
+    let parts = good_parts b before good in
+    let loaded = good_loads b parts.0 in
+    let same = image_read i b loaded.0 (before ++ files) next (ap (option_map (refusal.Image i)) parts.0) loaded.1 in
+    subst (IsAfter n) (sym same) (good_after n (i + 1) before files (λ images. next (loaded.0 ∷ images)) (omega (arith, later)) parts.1 (λ images. rest (loaded.0 ∷ images)))
+
+-- After images without a fault the verdict comes after them.
+pub run_after : (plain : Bool) (events : List Event) (before files : List (List ℕ)) → have_fault before ≡ false
+    → IsAfter (length before) (images_verdict 1 (before ++ files) (boot_verdict plain events))
+run_after plain events before files good =
+    good_after (length before) 1 before files (boot_verdict plain events) (omega arith) good (λ images. boot_after (length before) plain events images)
+
+-- The next image is fetched, and then those that are left.
+pub left_next : (n : ℕ) (name : Text) (names : List Text) (v : Verdict) → IsAfter n v → images_left n (name ∷ names) v ≡ name ∷ images_left (n + 1) names v
+left_next n name names (Refuses (refusal.Image i f)) after =
+    let more : i - n ≡ suc (i - (n + 1)) = omega (arith, after) in ap (λ m. take m (name ∷ names)) more
+left_next n name names (Refuses (refusal.Schedule l)) after = absurd after
+left_next n name names (Refuses other) after = refl
+left_next n name names (Does work) after = refl
+
+-- no image is left
+pub none_left : (n : ℕ) (v : Verdict) → images_left n [] v ≡ []
+none_left n (Refuses (refusal.Image i f)) = take_all (i - n) [] (omega arith)
+none_left n (Refuses other) = refl
+none_left n (Does work) = refl
+
+-- an image that is refused is the last that was fetched
+pub left_refused : (n m : ℕ) (names : List Text) (v : Verdict) (f : ℕ) → v ≡ Refuses (refusal.Image m f) → m ≡ n → images_left n names v ≡ []
+left_refused n m names v f is same =
+    let zero : m - n ≡ 0 = omega (arith, same) in
+    ap (images_left n names) is ∙ ap (λ k. take k names) zero
+
+-- a run fetches its schedule first
+pub run_first : (r : RunFiles) (v : Verdict) → (rest : List Text) × (run_fetches r v ≡ r.schedule ∷ rest)
+run_first r (Refuses (refusal.Schedule l)) = ([], refl)
+run_first r (Refuses (refusal.Image i f)) = (take i r.images, refl)
+run_first r (Refuses other) = (r.images, refl)
+run_first r (Does work) = (r.images, refl)
+
+-- and then the images
+pub run_then : (r : RunFiles) (v : Verdict) → IsAfter 0 v → r.schedule ∷ images_left 0 r.images v ≡ run_fetches r v
+run_then r (Refuses (refusal.Schedule l)) after = absurd after
+run_then r (Refuses (refusal.Image i f)) after =
+    let all : i - 0 ≡ i = omega arith in ap (λ n. r.schedule ∷ take n r.images) all
+run_then r (Refuses other) after = refl
+run_then r (Does work) after = refl
+
+-- ---- a file that is set
+
+-- whether there is room or not, the source was fetched
+set_by : (source : Text) (made : Option (List ℕ)) → source_fetches source (if_some refusal.DoesNotFit made (λ d. Does (Outputs [] (Some d) None))) ≡ source ∷ []
+set_by source None = refl
+set_by source (Some d) = refl
+
+-- a file that is set on an accepted disk
+set_fetches : (source : Text) (name bytes d : List ℕ) → source_fetches source (set_verdict name bytes d) ≡ source ∷ []
+unfolding set_verdict
+set_fetches source name bytes d = set_by source (disk_with name bytes d)
+
+-- the source is fetched for a disk that is accepted
+pub put_fetches : (source : Text) (name bytes disk : List ℕ) → disk_fault disk ≡ None → source_fetches source (put_verdict name bytes disk) ≡ source ∷ []
+put_fetches source name bytes disk clean = ap (source_fetches source) (put_sets name bytes disk clean) ∙ set_fetches source name bytes (opened disk)
