@@ -1,2 +1,5 @@
 pub mod Words
 pub mod Entries
+pub mod Joins
+pub mod DirBlocks
+pub mod IndexPuts

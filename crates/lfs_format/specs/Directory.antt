@@ -42,6 +42,13 @@ dir_ending = replicate 12 0 ++ (2 ∷ replicate 19 0)
 unfoldable pub dir_bytes : Dir → List ℕ
 dir_bytes dir = word_bytes (dir_words dir) ++ flat_map entry_bytes dir.entries ++ dir_ending
 
+-- a block that holds a directory block: it is read as one, begins with its words, and ends as each does
+pub record IsDirBlock (dir : Dir) (block : List ℕ) : Type 0 where
+  pub long : length block ≡ 512
+  pub is : dir_of block ≡ dir
+  pub begins : take 12 block ≡ word_bytes (dir_words dir)
+  pub ends : drop 480 block ≡ dir_ending
+
 -- an entry of zeros and no name
 abbrev pub void_entry : Entry
 void_entry = record { size = 0; first = 0; name = [] }

@@ -1,5 +1,5 @@
 -- An index block: its fields, its bytes and its place among the seven of a disk block.
-use Rattle.std.specs.Prelude.{ℕ, ◌*◌, List, ◌∷◌, drop, slice_index}
+use Rattle.std.specs.Prelude.{ℕ, ◌≡◌, ◌≢◌, ◌*◌, ◌<◌, List, ◌∷◌, drop, length, slice_index}
 use Rattle.lfs_format.specs.Words.{words_of, word_bytes}
 use Rattle.lfs_format.specs.declared.Index.{Index}
 
@@ -22,3 +22,9 @@ index_bytes index = word_bytes (index_words index)
 -- the index block k of a disk block
 abbrev pub index_at : ℕ → List ℕ → Index
 index_at k block = index_of (drop (72 * k) block)
+
+-- a disk block after index block k of it is written: the other six are as they were
+pub record IsIndexPut (old : List ℕ) (k : ℕ) (index : Index) (block : List ℕ) : Type 0 where
+  pub long : length block ≡ 512
+  pub here : index_at k block ≡ index
+  pub there : (m : ℕ) → m < 7 → m ≢ k → index_at m block ≡ index_at m old

@@ -1,7 +1,7 @@
 //! Directory blocks of version 2.
 
 ghost use Rattle.std.specs.Prelude.{◌≡◌, ℕ, ◌+◌, ◌*◌, ◌<◌, length, [], slice_index, ◌^◌, ◌∷◌};
-ghost use Rattle.lfs_format.specs.Directory.{entry_of, entry_bytes, dir_of, dir_bytes, dir_words, dir_ending};
+ghost use Rattle.lfs_format.specs.Directory.{entry_of, entry_bytes, dir_of, dir_bytes, dir_words, dir_ending, IsDirBlock};
 ghost use Rattle.lfs_format.specs.Words.{word_bytes};
 
 use crate::{Dir, Entry};
@@ -34,6 +34,7 @@ pub fn read_dir(block: &[u8; 512]) -> Dir
 pub fn write_dir(dir: &Dir, block: &mut [u8; 512])
     ensures bytes { block.new ≡ dir_bytes dir.now }
     ensures back { dir_of block.new ≡ dir.now }
+    ensures block { IsDirBlock dir.now block.new }
 {
     put_words(dir, &mut block[..12]);
     for e in 0..13 {

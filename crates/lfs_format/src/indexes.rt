@@ -1,7 +1,7 @@
 //! Index blocks, seven in a disk block.
 
 ghost use Rattle.std.specs.Prelude.{◌≡◌, ◌+◌, ◌*◌, ◌<◌, ◌++◌, drop, take, length, ℕ, ◌^◌, slice_index};
-ghost use Rattle.lfs_format.specs.Indexes.{index_at, index_of, index_bytes, index_words};
+ghost use Rattle.lfs_format.specs.Indexes.{index_at, index_of, index_bytes, index_words, IsIndexPut};
 
 use crate::Index;
 use byteorder::{ByteOrder, LittleEndian};
@@ -35,6 +35,7 @@ pub fn write_index(index: &Index, block: &mut [u8; 512], k: usize)
     requires { k < 7 }
     ensures bytes { block.new ≡ take (72 * k) block.old ++ index_bytes index.now ++ drop (72 * k + 72) block.old }
     ensures back { index_at k block.new ≡ index.now }
+    ensures put { IsIndexPut block.old k index.now block.new }
 {
     put_index(index, &mut block[72 * k..72 * k + 72]);
 }

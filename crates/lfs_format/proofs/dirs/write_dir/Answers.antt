@@ -1,9 +1,10 @@
-use Rattle.std.proofs.Common.{◌≡◌, ◌∙◌, ◌+◌, ◌*◌, ap, sym, take, drop, arith, ◌-◌, ◌<◌, length, get_or, below_more}
+use Rattle.std.proofs.Common.{ℕ, ◌≡◌, ◌∙◌, ◌+◌, ◌*◌, ap, sym, take, drop, arith, ◌-◌, ◌<◌, length, get_or, below_more}
 use Rattle.std.proofs.lemmas.List.{take_at, append-nil}
 use Rattle.lfs_format.specs.Words.{word_bytes}
 use Rattle.lfs_format.proofs.Words.{length-word_bytes}
 use Rattle.lfs_format.specs.Directory.{dir_words, dir_bytes, dir_of, dir_ending, EntryFits, void_entry}
 use Rattle.lfs_format.proofs.Entries.{length-entry_bytes, dir_of-bytes, written_more, written_all, length-put}
+use Rattle.lfs_format.proofs.DirBlocks.{length_dir_bytes, dir_bytes_begin, dir_bytes_end}
 use borrow.Rule.Slice.PartMut.{put_mid}
 use Rattle.lfs_format.proofs.dirs.write_dir.Goals as goal
 
@@ -41,7 +42,21 @@ written c =
 pub returns-clause-bytes : goal.returns-clause-bytes
 returns-clause-bytes c = written c
 
-pub returns-clause-back : goal.returns-clause-back
-returns-clause-back c =
+fits : (c : goal.After-put_ending) → (k : ℕ) → k < 13 → EntryFits (get_or c.args.dir.now.entries k void_entry)
+fits c k h = c.loop-e.invariant.fits k (omega (arith, h))
+
+back : (c : goal.After-put_ending) → dir_of (put_mid 480 32 c.loop-e.block c.put_ending.new.part) ≡ c.args.dir.now
+back c =
     let f = c.put_words.ensures.fits in
-    ap dir_of (written c) ∙ dir_of-bytes c.args.dir.now (f 0) (f 1) (f 2) c.put_words.ensures.len (λ k h. c.loop-e.invariant.fits k (omega arith))
+    ap dir_of (written c) ∙ dir_of-bytes c.args.dir.now (f 0) (f 1) (f 2) c.put_words.ensures.len (fits c)
+
+pub returns-clause-back : goal.returns-clause-back
+returns-clause-back c = back c
+
+pub returns-clause-block : goal.returns-clause-block
+returns-clause-block c = record {
+  long = ap length (written c) ∙ length_dir_bytes c.args.dir.now c.put_words.ensures.len (fits c);
+  is = back c;
+  begins = ap (take 12) (written c) ∙ dir_bytes_begin c.args.dir.now;
+  ends = ap (drop 480) (written c) ∙ dir_bytes_end c.args.dir.now c.put_words.ensures.len (fits c);
+}
