@@ -21,3 +21,9 @@ pub mod Keeping
 pub mod Images
 pub mod KeptRead
 pub mod KeepsAll
+pub mod IndexSteps
+pub mod Moved
+pub mod BlockPuts
+pub mod Directories
+pub mod Writes
+pub mod Right

@@ -10,3 +10,5 @@ pub mod Clean
 pub mod Empty
 pub mod Built
 pub mod Kept
+pub mod Disks
+pub mod IndexSteps
