@@ -52,6 +52,14 @@ version_read x ends =
     let block : take 512 x ≡ block_in x 0 = ap (λ k. take 512 (drop k x)) (let e : 0 ≡ 512 * 0 = omega arith in e) in
     ap (λ ws. slice_index ws 0) (sym (words_of-take 1 20 (drop 492 x) (omega arith))) ∙ ap word_of (cut ∙ ap (drop 492) block ∙ sym (drop-drop 12 480 (block_in x 0)) ∙ ap (drop 12) ends)
 
+-- a disk has version 2 if its first block ends so
+pub version_is : (disk : List ℕ) (n : ℕ) → length disk ≡ 512 * n → 14 ≤ n → drop 480 (block_in disk 0) ≡ dir_ending → is_version_2 disk ≡ true
+version_is disk n long least ends =
+    let a : nat_eq (length disk % 512) 0 ≡ true = (let e : length disk % 512 ≡ 0 = omega (arith, long) in grind (arith, nat_tests)) in
+    let b : nat_le 4096 (length disk) ≡ true = (let e : 4096 ≤ length disk = omega (arith, long, least) in grind (arith, nat_tests)) in
+    ap (λ v. v && nat_le 4096 (length disk) && nat_eq (word_of (drop 492 disk)) 2) a ∙ ap (λ v. v && nat_eq (word_of (drop 492 disk)) 2) b
+    ∙ ap (λ w. nat_eq w 2) (version_read disk ends)
+
 -- two tests that find nothing
 first-none : (a b : Option DiskFault) → a ≡ None → b ≡ None → either_fault a b ≡ None
 first-none a b p q = ap (λ x. either_fault x b) p ∙ q
@@ -65,12 +73,7 @@ right_clean made n p r = (faultless, version)
     size = let l = r.long in let a = r.low in let b = r.high in (omega (arith, l, a), omega (arith, l, b), omega (arith, l))
 
     version : is_version_2 made ≡ true
-    version =
-        let s = size in let low = s.0 in let whole = s.2 in
-        let a : nat_eq (length made % 512) 0 ≡ true = grind (arith, nat_tests) in
-        let b : nat_le 4096 (length made) ≡ true = (let e : 4096 ≤ length made = omega (arith, low) in grind (arith, nat_tests)) in
-        ap (λ v. v && nat_le 4096 (length made) && nat_eq (word_of (drop 492 made)) 2) a ∙ ap (λ v. v && nat_eq (word_of (drop 492 made)) 2) b
-        ∙ ap (λ w. nat_eq w 2) (version_read made (r.directory.ends 0 (omega arith)))
+    version = version_is made n r.long r.low (r.directory.ends 0 (omega arith))
 
     g : Geometry
     g = disk_geometry n

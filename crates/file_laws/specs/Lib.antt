@@ -1,0 +1,5 @@
+pub mod StoredFiles
+pub mod Rewriting
+pub mod Middle
+pub mod Holds
+pub mod Fitting
