@@ -25,10 +25,12 @@ use Rattle.file_laws.proofs.Named.{length_entries, block_none}
 -- There are as many files as used entries.
 pub files_counted : (base : List ℕ) → IsCleanImage base → length (stored_files base) ≡ count_by entry_is_used (entries base)
 unfolding stored_files
-files_counted base c = length-map (files_of base) stored ∙ sym (used_files base c.faultless) ∙ ap (count_by entry_is_used) (entries_are base c.version)
+files_counted base c = length-map (files_of base) stored ∙ sym (used_files base c.faultless)
+    ∙ ap (count_by entry_is_used) (entries_are base c.version)
 
 -- all entries pass a test
-pub count_all : (test : Entry → Bool) (es : List Entry) → ((k : ℕ) → k < length es → test (slice_index_or es k void_entry) ≡ true) → count_by test es ≡ length es
+pub count_all : (test : Entry → Bool) (es : List Entry) → ((k : ℕ) → k < length es → test (slice_index_or es k void_entry) ≡ true)
+    → count_by test es ≡ length es
 count_all test [] all = refl
 count_all test (e ∷ es) all =
     let i = count_all test es (λ k h. all (suc k) (omega (arith, h))) in
@@ -43,7 +45,8 @@ count_most test (e ∷ es) =
     omega (arith, i, c, b)
 
 -- fewer pass a test if one does not
-pub count_less : (test : Entry → Bool) (es : List Entry) (k : ℕ) → k < length es → test (slice_index_or es k void_entry) ≡ false → count_by test es < length es
+pub count_less : (test : Entry → Bool) (es : List Entry) (k : ℕ) → k < length es → test (slice_index_or es k void_entry) ≡ false
+    → count_by test es < length es
 count_less test [] k h f = absurd (omega (arith, h))
 count_less test (e ∷ es) zero h f =
     let i = count_most test es in let c = sum_by-cons (λ x. cond (test x) 1 0) e es in
@@ -63,19 +66,25 @@ pub base_counted : (base : List ℕ) → IsCleanImage base → count_by entry_is
 unfolding entries header_on
 base_counted base c =
     let g = geometry_of base in
-    let P : Geometry → Type 0 = λ x. (let h = (fields_of x base).header in let es = directory_entries x base in is_dir_block x h es base 0 ≡ true) in
-    let all : P g = not-false _ (first_from-each (λ d. not (is_dir_block g (fields_of g base).header (directory_entries g base) base d)) 0 g.dirs (image_counts base c.faultless) 0 (omega arith) (let six : g.dirs ≡ 6 = ap (λ (x : Geometry). x.dirs) (geometry_is base c.version) in omega (arith, six))) in
+    let P : Geometry → Type 0 = λ x. (let h = (fields_of x base).header in let es = directory_entries x base in
+    is_dir_block x h es base 0 ≡ true) in
+    let all : P g = not-false _ (first_from-each
+    (λ d. not (is_dir_block g (fields_of g base).header (directory_entries g base) base d)) 0 g.dirs (image_counts base c.faultless) 0
+    (omega arith) (let six : g.dirs ≡ 6 = ap (λ (x : Geometry). x.dirs) (geometry_is base c.version) in omega (arith, six))) in
     let six : P (disk_geometry (length base / 512)) = subst P (geometry_is base c.version) all in
     let h = header_2 (dir_of (block_in base 0)) in
-    let two = and-true (begins_right h (entries_2 base) (block_in base 0) 0) (ends_right (disk_geometry (length base / 512)) (block_in base 0)) six in
+    let two = and-true (begins_right h (entries_2 base) (block_in base 0) 0)
+    (ends_right (disk_geometry (length base / 512)) (block_in base 0)) six in
     let t = two.0 in grind (arith, nat_tests)
 
 -- an entry that passes a test comes in the place of one that does not
-pub count_put : (test : Entry → Bool) (es : List Entry) (k : ℕ) (new : Entry) → k < length es → test (slice_index_or es k void_entry) ≡ false → test new ≡ true → count_by test (slice_set es k new) ≡ count_by test es + 1
+pub count_put : (test : Entry → Bool) (es : List Entry) (k : ℕ) (new : Entry) → k < length es
+    → test (slice_index_or es k void_entry) ≡ false → test new ≡ true → count_by test (slice_set es k new) ≡ count_by test es + 1
 count_put test [] k new h a b = absurd (omega (arith, h))
 count_put test (e ∷ es) zero new h a b =
     let p = sum_by-cons (λ x. cond (test x) 1 0) new es in let q = sum_by-cons (λ x. cond (test x) 1 0) e es in
-    let u : ◌≡◌ {A = ℕ} (cond (test new) 1 0) 1 = ap (λ v. cond v 1 0) b in let z : ◌≡◌ {A = ℕ} (cond (test e) 1 0) 0 = ap (λ v. cond v 1 0) a in
+    let u : ◌≡◌ {A = ℕ} (cond (test new) 1 0) 1 = ap (λ v. cond v 1 0) b in
+    let z : ◌≡◌ {A = ℕ} (cond (test e) 1 0) 0 = ap (λ v. cond v 1 0) a in
     omega (arith, p, q, u, z)
 count_put test (e ∷ es) (suc k) new h a b =
     let i = count_put test es k new (omega (arith, h)) a b in
@@ -83,7 +92,8 @@ count_put test (e ∷ es) (suc k) new h a b =
     omega (arith, p, q, i)
 
 -- an entry that passes the test of sizes is not too large
-sizes_at : (most : ℕ) (before es : List Entry) → first_failing (λ before e. is_larger most e) before es ≡ None → (k : ℕ) → k < length es → entry_is_used (slice_index_or es k void_entry) ≡ true → (slice_index_or es k void_entry).size ≤ most
+sizes_at : (most : ℕ) (before es : List Entry) → first_failing (λ before e. is_larger most e) before es ≡ None → (k : ℕ) → k < length es
+    → entry_is_used (slice_index_or es k void_entry) ≡ true → (slice_index_or es k void_entry).size ≤ most
 unfolding first_failing
 sizes_at most before [] e k h u = absurd (omega (arith, h))
 sizes_at most before (x ∷ es) e zero h u =
@@ -94,17 +104,20 @@ sizes_at most before (x ∷ es) e (suc k) h u =
     sizes_at most (before ++ x ∷ []) es parts.1 k (omega (arith, h)) u
 
 -- the file of an entry has room on the disk
-pub entry_fits : (base : List ℕ) → IsCleanImage base → (k : ℕ) → k < 78 → entry_is_used (entry_at base k) ≡ true → (entry_at base k).size ≤ room (disk_geometry (length base / 512))
+pub entry_fits : (base : List ℕ) → IsCleanImage base → (k : ℕ) → k < 78 → entry_is_used (entry_at base k) ≡ true
+    → (entry_at base k).size ≤ room (disk_geometry (length base / 512))
 entry_fits base c k h u =
     let g = geometry_of base in
     let len = (length_entries base c).0 in
     let none : first_failing (λ before e. is_larger (room (disk_geometry (length base / 512))) e) [] (entries base) ≡ None =
     ap (first_failing (λ before e. is_larger (room (disk_geometry (length base / 512))) e) []) (sym (entries_are base c.version))
-    ∙ ap (λ x. first_failing (λ before e. is_larger (room x) e) [] (directory_entries g base)) (sym (geometry_is base c.version)) ∙ block_none g (first_failing (λ before e. is_larger (room g) e) [] (directory_entries g base)) (image_sizes base c.faultless) in
+    ∙ ap (λ x. first_failing (λ before e. is_larger (room x) e) [] (directory_entries g base)) (sym (geometry_is base c.version))
+    ∙ block_none g (first_failing (λ before e. is_larger (room g) e) [] (directory_entries g base)) (image_sizes base c.faultless) in
     sizes_at (room (disk_geometry (length base / 512))) [] (entries base) none k (omega (arith, h, len)) u
 
 -- it is below 2^25 bytes
-pub entry_small : (base : List ℕ) → IsCleanImage base → (k : ℕ) → k < 78 → entry_is_used (entry_at base k) ≡ true → (entry_at base k).size ≤ 33557504
+pub entry_small : (base : List ℕ) → IsCleanImage base → (k : ℕ) → k < 78 → entry_is_used (entry_at base k) ≡ true
+    → (entry_at base k).size ≤ 33557504
 entry_small base c k h u =
     let size = image_blocks base c.faultless in
     let n = length base / 512 in

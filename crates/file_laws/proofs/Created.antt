@@ -33,16 +33,19 @@ use Rattle.file_laws.proofs.Sorting.{files_put, stored_with}
 use Rattle.lfs_check.specs.Laid as laid
 
 -- blocks that are the same one by one are the same one after another
-pub flat_same : (f g : ℕ → List ℕ) (xs : List ℕ) → ((j : ℕ) → j < length xs → f (slice_index xs j) ≡ g (slice_index xs j)) → flat_map f xs ≡ flat_map g xs
+pub flat_same : (f g : ℕ → List ℕ) (xs : List ℕ) → ((j : ℕ) → j < length xs → f (slice_index xs j) ≡ g (slice_index xs j))
+    → flat_map f xs ≡ flat_map g xs
 flat_same f g [] all = refl
-flat_same f g (x ∷ xs) all = ap (λ r. r ++ flat_map f xs) (all 0 (omega arith)) ∙ ap (λ r. g x ++ r) (flat_same f g xs (λ j h. all (suc j) (omega (arith, h))))
+flat_same f g (x ∷ xs) all = ap (λ r. r ++ flat_map f xs) (all 0 (omega arith))
+    ∙ ap (λ r. g x ++ r) (flat_same f g xs (λ j h. all (suc j) (omega (arith, h))))
 
 -- the files of a disk, in the order of its entries
 abbrev pub placed : Geometry → List ℕ → List File
 placed g image = files_in g (fields_of g image).indexes image (directory_entries g image)
 
 -- An unused entry gets a name that no file has: the disk is clean, with an empty file more.
-pub created : (base : List ℕ) (slot : ℕ) (name eb hb : List ℕ) → IsCleanImage base → slot < 78 → entry_is_used (entry_at base slot) ≡ false → is_name 27 name ≡ true → length name ≡ 28
+pub created : (base : List ℕ) (slot : ℕ) (name eb hb : List ℕ) → IsCleanImage base → slot < 78 → entry_is_used (entry_at base slot) ≡ false
+    → is_name 27 name ≡ true → length name ≡ 28
     → ((k : ℕ) → k < 78 → is_this name (entry_at base k) ≡ false)
     → IsDirBlock (dir_with_entry (dir_of (block_in base (slot / 13))) (slot % 13) (empty_entry name)) eb
     → IsDirBlock (dir_with_header (dir_of (block_in (block_put base (slot / 13) eb) 0)) (one_more (header_on base))) hb
@@ -52,7 +55,8 @@ created base slot name eb hb c low_slot free is long none ee hh = record {
   clean = right_clean made n p right;
   size = longs.1 ∙ sym whole;
   files = files;
-  entry = rewritten_entry base n slot entry header eb hb r slot low_slot ∙ get_or-set_same (entries base) slot entry void_entry (let l = count_78 in omega (arith, l, low_slot));
+  entry = rewritten_entry base n slot entry header eb hb r slot low_slot
+      ∙ get_or-set_same (entries base) slot entry void_entry (let l = count_78 in omega (arith, l, low_slot));
   others = λ k ne. ap (λ es. slice_index_or es k void_entry) es_is ∙ get_or-set_other (entries base) slot k entry void_entry ne;
 }
   where
@@ -76,8 +80,11 @@ created base slot name eb hb c low_slot free is long none ee hh = record {
 
     sizes : (14 ≤ n) × (n ≤ 65542)
     sizes =
-        let size = image_blocks base c.faultless in
-        (let P : Bool → Type 0 = λ b. cond b 14 8 ≤ n in subst P c.version size.0, let P : Bool → Type 0 = λ b. n ≤ cond b 65542 65536 in subst P c.version size.1)
+        let size = image_blocks base c.faultless in (
+          let P : Bool → Type 0 = λ b. cond b 14 8 ≤ n in subst P c.version size.0,
+          let P : Bool → Type 0 = λ b. n ≤ cond b 65542 65536 in
+              subst P c.version size.1,
+        )
 
     r : IsRewriting base n slot entry header eb hb
     r = record { long = whole; room = (let s = sizes.0 in omega (arith, s)); slot_is = low_slot; entry_block = ee; header_block = hh }
@@ -101,13 +108,15 @@ created base slot name eb hb c low_slot free is long none ee hh = record {
     p = places_of g d
 
     laid_base : LaidIn g d p
-    laid_base = let P : Geometry → Type 0 = λ x. LaidIn x (fields_of x base) (places_of x (fields_of x base)) in subst P (geometry_is base c.version) (image_lies base c.faultless)
+    laid_base = let P : Geometry → Type 0 = λ x. LaidIn x (fields_of x base) (places_of x (fields_of x base)) in
+        subst P (geometry_is base c.version) (image_lies base c.faultless)
 
     d1 : Shape
     d1 = with_header (laid.entry_put d slot entry) (record d.header { files = header.files })
 
     laid_1 : LaidIn g d1 p
-    laid_1 = Laid-created (index_count g) (first_data g) n d p slot header.files entry laid_base (let l = count_78 in omega (arith, l, low_slot)) free refl refl
+    laid_1 = Laid-created (index_count g) (first_data g) n d p slot header.files entry laid_base (let l = count_78 in
+        omega (arith, l, low_slot)) free refl refl
 
     moved : IsMoved (first_data g) n d1 (fields_of g made)
     moved = record {
@@ -115,14 +124,16 @@ created base slot name eb hb c low_slot free is long none ee hh = record {
       indexes = rewritten_indexes base n slot entry header eb hb r;
       free_index = ap (λ (x : Header). x.free_index) (rewritten_header base n slot entry header eb hb r);
       free_data = ap (λ (x : Header). x.free_data) (rewritten_header base n slot entry header eb hb r);
-      links = λ b low high. numbered-at (link_in_bytes made) n b 0 high ∙ rewritten_link base n slot entry header eb hb r b (omega (arith, low)) ∙ sym (numbered-at (link_in_bytes base) n b 0 high);
+      links = λ b low high. numbered-at (link_in_bytes made) n b 0 high
+          ∙ rewritten_link base n slot entry header eb hb r b (omega (arith, low)) ∙ sym (numbered-at (link_in_bytes base) n b 0 high);
     }
 
     laid_made : LaidIn g (fields_of g made) p
     laid_made = Laid-moved (index_count g) (first_data g) n d1 (fields_of g made) p moved laid_1
 
     at_slot : entry_at made slot ≡ entry
-    at_slot = rewritten_entry base n slot entry header eb hb r slot low_slot ∙ get_or-set_same (entries base) slot entry void_entry (let l = count_78 in omega (arith, l, low_slot))
+    at_slot = rewritten_entry base n slot entry header eb hb r slot low_slot
+        ∙ get_or-set_same (entries base) slot entry void_entry (let l = count_78 in omega (arith, l, low_slot))
 
     at_other : (k : ℕ) → k ≢ slot → entry_at made k ≡ entry_at base k
     at_other k ne = ap (λ es. slice_index_or es k void_entry) es_is ∙ get_or-set_other (entries base) slot k entry void_entry ne
@@ -131,11 +142,13 @@ created base slot name eb hb c low_slot free is long none ee hh = record {
     differs : (k : ℕ) → k < 78 → entry_is_used (entry_at base k) ≡ true → bytes_eq (entry_at base k).name name ≡ false
     differs k h u = sym (ap (λ v. v && bytes_eq (entry_at base k).name name) u) ∙ none k h
 
-    names : (k : ℕ) → k < 78 → entry_is_used (entry_at made k) ≡ true → (is_name 27 (entry_at made k).name ≡ true) × ((j : ℕ) → j < k → is_this (entry_at made k).name (entry_at made j) ≡ false)
+    names : (k : ℕ) → k < 78 → entry_is_used (entry_at made k) ≡ true
+        → (is_name 27 (entry_at made k).name ≡ true) × ((j : ℕ) → j < k → is_this (entry_at made k).name (entry_at made j) ≡ false)
     names k h u = ⊎_elim
         (λ same. (let here : entry_at made k ≡ entry = ap (entry_at made) same ∙ at_slot in (
           ap (λ (x : Entry). is_name 27 x.name) here ∙ is,
-          λ j l. ap (λ (x : Entry). is_this x.name (entry_at made j)) here ∙ ap (is_this name) (at_other j (λ e. omega (arith, e, same, l))) ∙ none j (omega (arith, l, h)),
+          λ j l. ap (λ (x : Entry). is_this x.name (entry_at made j)) here ∙ ap (is_this name) (at_other j (λ e. omega (arith, e, same, l)))
+              ∙ none j (omega (arith, l, h)),
         )))
         (λ other. (let here = at_other k other in
         let u' : entry_is_used (entry_at base k) ≡ true = ap entry_is_used (sym here) ∙ u in
@@ -143,7 +156,8 @@ created base slot name eb hb c low_slot free is long none ee hh = record {
           ap (λ (x : Entry). is_name 27 x.name) here ∙ q.name,
           λ j l. ap (λ (x : Entry). is_this x.name (entry_at made j)) here ∙
               ⊎_elim
-              (λ s. ap (λ m. is_this (entry_at base k).name (entry_at made m)) s ∙ ap (is_this (entry_at base k).name) at_slot ∙ ap (λ v. v && bytes_eq name (entry_at base k).name) used ∙ bytes-swap name (entry_at base k).name ∙ differs k h u')
+              (λ s. ap (λ m. is_this (entry_at base k).name (entry_at made m)) s ∙ ap (is_this (entry_at base k).name) at_slot
+              ∙ ap (λ v. v && bytes_eq name (entry_at base k).name) used ∙ bytes-swap name (entry_at base k).name ∙ differs k h u')
               (λ s. ap (is_this (entry_at base k).name) (at_other j s) ∙ q.first j l)
               (cases_eq j slot),
         )))
@@ -154,7 +168,8 @@ created base slot name eb hb c low_slot free is long none ee hh = record {
         let b = base_counted base c in let l = count_78 in
         let plus = count_put entry_is_used (entries base) slot entry (omega (arith, l, low_slot)) free used in
         let few : (header_on base).files ≤ 78 = (let m = count_most_78 in omega (arith, b, m)) in
-        ap (count_by entry_is_used) es_is ∙ (let f = (header_on base).files in let e : count_by entry_is_used (slice_set (entries base) slot entry) ≡ (f + 1) % 4294967296 = omega (arith, plus, b, few) in e)
+        ap (count_by entry_is_used) es_is ∙ (let f = (header_on base).files in
+        let e : count_by entry_is_used (slice_set (entries base) slot entry) ≡ (f + 1) % 4294967296 = omega (arith, plus, b, few) in e)
         ∙ sym (ap (λ (x : Header). x.files) (rewritten_header base n slot entry header eb hb r))
       where
         count_most_78 : count_by entry_is_used (entries base) ≤ 78
@@ -172,24 +187,30 @@ created base slot name eb hb c low_slot free is long none ee hh = record {
       names = names;
       counted = counted;
       sizes = λ k h u. ⊎_elim
-          (λ same. (let e : (entry_at made k).size ≡ 0 = ap (λ m. (entry_at made m).size) same ∙ ap (λ (x : Entry). x.size) at_slot in omega (arith, e)))
-          (λ other. (let here = at_other k other in let e = ap (λ (x : Entry). x.size) here in let f = entry_fits base c k h (ap entry_is_used (sym here) ∙ u) in omega (arith, e, f)))
+          (λ same. (let e : (entry_at made k).size ≡ 0 = ap (λ m. (entry_at made m).size) same ∙ ap (λ (x : Entry). x.size) at_slot in
+          omega (arith, e)))
+          (λ other. (let here = at_other k other in let e = ap (λ (x : Entry). x.size) here in
+          let f = entry_fits base c k h (ap entry_is_used (sym here) ∙ u) in omega (arith, e, f)))
           (cases_eq k slot);
     }
 
     ix : List Index
     ix = d.indexes
 
-    contents : (j : ℕ) → j < length (entries base) → entry_is_used (entry_at base j) ≡ true → content_of g ix made (entry_at base j) ≡ content_of g ix base (entry_at base j)
+    contents : (j : ℕ) → j < length (entries base) → entry_is_used (entry_at base j) ≡ true
+        → content_of g ix made (entry_at base j) ≡ content_of g ix base (entry_at base j)
     contents j h u =
         let e = entry_at base j in
         let datas : numbers_at p.datas j ≡ data_in g ix e = get_or-map (data_in g ix) (entries base) j void_entry [] h in
         let P : List ℕ → Type 0 = λ xs. (i : ℕ) → i < length xs → (first_data g ≤ slice_index xs i) × (slice_index xs i < n) in
         let range : P (data_in g ix e) = subst P datas (λ i l. data_range (index_count g) (first_data g) n d p j i laid_base l) in
-        ap (take e.size) (flat_same (block_in made) (block_in base) (data_in g ix e) (λ i l. (let low = (range i l).0 in rewritten_other base n slot entry header eb hb r (slice_index (data_in g ix e) i) (omega (arith, low)))))
+        ap (take e.size) (flat_same (block_in made) (block_in base) (data_in g ix e) (λ i l.
+        (let low = (range i l).0 in rewritten_other base n slot entry header eb hb r (slice_index (data_in g ix e) i)
+        (omega (arith, low)))))
 
     geo_made : geometry_of made ≡ g
-    geo_made = geometry_is made (right_clean made n p right).version ∙ ap disk_geometry (let l = longs.1 in let e : length made / 512 ≡ n = omega (arith, l) in e)
+    geo_made = geometry_is made (right_clean made n p right).version
+        ∙ ap disk_geometry (let l = longs.1 in let e : length made / 512 ≡ n = omega (arith, l) in e)
 
     new_file : file_in g ix made entry ≡ (let f : File = record { name = name; bytes = [] } in f)
     new_file = refl
@@ -197,11 +218,13 @@ created base slot name eb hb c low_slot free is long none ee hh = record {
     files : stored_files made ≡ with_stored (empty_file (bare_name name)) (stored_files base)
     files =
         let f : File = record { name = name; bytes = [] } in
-        let base_is : files_of base ≡ sorted (files_in g ix base (entries base)) = ap (λ x. sorted (placed x base)) (geometry_is base c.version) in
+        let base_is : files_of base ≡ sorted (files_in g ix base (entries base)) =
+        ap (λ x. sorted (placed x base)) (geometry_is base c.version) in
         ap (map stored) (ap (λ x. sorted (placed x made)) geo_made
         ∙ ap (λ i. sorted (files_in g i made (entries made))) (rewritten_indexes base n slot entry header eb hb r)
         ∙ ap (λ es. sorted (files_in g ix made es)) es_is
-        ∙ files_put g ix ix base made (entries base) slot entry (let l = count_78 in omega (arith, l, low_slot)) free used (λ j h u. (differs j (let l = count_78 in omega (arith, l, h)) u, contents j h u))
+        ∙ files_put g ix ix base made (entries base) slot entry (let l = count_78 in
+        omega (arith, l, low_slot)) free used (λ j h u. (differs j (let l = count_78 in omega (arith, l, h)) u, contents j h u))
         ∙ ap (with_file f) (sym base_is))
         ∙ stored_with f (files_of base) (record { padded = name_padded 27 name is; long = long }) (clean_names base c)
         ∙ ap (λ b. with_stored (let x : StoredFile = record { name = b; bytes = [] } in x) (map stored (files_of base))) refl

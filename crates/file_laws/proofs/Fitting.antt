@@ -20,29 +20,37 @@ use Rattle.file_laws.proofs.Needs.{middle_full, middle_index_full, middle_fits}
 greatest_is : (test : ℕ → Bool) (n k : ℕ) → k ≤ n → test k ≡ true → ((j : ℕ) → k < j → j ≤ n → test j ≡ false) → greatest test n ≡ k
 greatest_is test zero k h passes fails = omega (arith, h)
 greatest_is test (suc n) k h passes fails = ⊎_elim
-    (λ (lt : k < suc n). ap (λ v. if v then suc n else greatest test n) (fails (suc n) lt (omega arith)) ∙ greatest_is test n k (omega (arith, lt)) passes (λ j l m. fails j l (omega (arith, m))))
-    (λ (ge : suc n ≤ k). (let same : k ≡ suc n = omega (arith, ge, h) in ap (λ v. if v then suc n else greatest test n) (ap test (sym same) ∙ passes) ∙ sym same))
+    (λ (lt : k < suc n). ap (λ v. if v then suc n else greatest test n) (fails (suc n) lt (omega arith))
+    ∙ greatest_is test n k (omega (arith, lt)) passes (λ j l m. fails j l (omega (arith, m))))
+    (λ (ge : suc n ≤ k). (let same : k ≡ suc n = omega (arith, ge, h) in
+    ap (λ v. if v then suc n else greatest test n) (ap test (sym same) ∙ passes) ∙ sym same))
     (cases_lt k (suc n))
 
 -- the length of bytes with others in their place
-length_overwritten : (q : ℕ) (new old : List ℕ) → q ≤ length old → length (overwritten q new old) ≡ q + length new + (length old - (q + length new))
+length_overwritten : (q : ℕ) (new old : List ℕ) → q ≤ length old
+    → length (overwritten q new old) ≡ q + length new + (length old - (q + length new))
 length_overwritten q new old h =
     let a = length-append (take q old) (new ++ drop (q + length new) old) in let b = length-append new (drop (q + length new) old) in
     omega (arith, a, b, length-take q old, length-drop (q + length new) old, h)
 
 -- The bytes of an open file are those of its entry.
-pub open_is : (base : List ℕ) (slot : ℕ) (f : OpenFile) (s : FileSystem) (n : ℕ) (disk : List ℕ) (header : Header) (entry : Entry) (p : Places) (bytes : List ℕ) → IsMiddle n base disk header slot entry p bytes
+pub open_is : (base : List ℕ) (slot : ℕ) (f : OpenFile) (s : FileSystem) (n : ℕ) (disk : List ℕ) (header : Header) (entry : Entry)
+    (p : Places) (bytes : List ℕ) → IsMiddle n base disk header slot entry p bytes
     → s.files ≡ stored_files base → f.name ≡ bare_name (entry_at base slot).name → length (open_bytes f s) ≡ (entry_at base slot).size
 open_is base slot f s n disk header entry p bytes m files name =
     ap (λ fs. length (bytes_in (file_named f.name fs))) files ∙ ap (λ x. length (bytes_in (file_named x (stored_files base)))) name
     ∙ ap (λ o. length (bytes_in o)) (named_at base m.clean slot m.slot_is m.was_used) ∙ bytes_sized base m.clean slot m.slot_is m.was_used
 
 -- The first k of the bytes are put at the position of an open file: all of them, or no more can be put.
-pub fitting_is : (n : ℕ) (base disk : List ℕ) (header : Header) (slot : ℕ) (entry : Entry) (p : Places) (bytes : List ℕ) (f : OpenFile) (s : FileSystem) (new : List ℕ) (k : ℕ)
-    → IsMiddle n base disk header slot entry p bytes → s.blocks ≡ n → s.files ≡ stored_files base → f.name ≡ bare_name (entry_at base slot).name → f.position ≤ (entry_at base slot).size → k ≤ length new
-    → entry.size ≡ length (overwritten f.position (take k new) (open_bytes f s)) → (k ≡ length new) ⊎ ((entry.size ≡ f.position + k) × IsFull p entry.size) → fitting f new s ≡ k
+pub fitting_is : (n : ℕ) (base disk : List ℕ) (header : Header) (slot : ℕ) (entry : Entry) (p : Places) (bytes : List ℕ) (f : OpenFile)
+    (s : FileSystem) (new : List ℕ) (k : ℕ)
+    → IsMiddle n base disk header slot entry p bytes → s.blocks ≡ n → s.files ≡ stored_files base
+    → f.name ≡ bare_name (entry_at base slot).name → f.position ≤ (entry_at base slot).size → k ≤ length new
+    → entry.size ≡ length (overwritten f.position (take k new) (open_bytes f s))
+    → (k ≡ length new) ⊎ ((entry.size ≡ f.position + k) × IsFull p entry.size) → fitting f new s ≡ k
 fitting_is n base disk header slot entry p bytes f s new k m blocks files name position few size end =
-    greatest_is (λ j. have_room f (take j new) s) (length new) k few (room_for k ∙ middle_fits n base disk header slot entry p bytes (put k) m (sym size)) fails
+    greatest_is (λ j. have_room f (take j new) s) (length new) k few (room_for k
+    ∙ middle_fits n base disk header slot entry p bytes (put k) m (sym size)) fails
   where
     old : List ℕ
     old = open_bytes f s
@@ -53,8 +61,10 @@ fitting_is n base disk header slot entry p bytes f s new k m blocks files name p
     put : ℕ → List ℕ
     put j = overwritten f.position (take j new) old
 
-    room_for : (j : ℕ) → have_room f (take j new) s ≡ they_fit n (with_contents (bare_name (entry_at base slot).name) (put j) (stored_files base))
-    room_for j = ap (λ b. they_fit b (with_contents f.name (put j) s.files)) blocks ∙ ap (λ x. they_fit n (with_contents x (put j) s.files)) name
+    room_for : (j : ℕ) → have_room f (take j new) s ≡ they_fit n
+        (with_contents (bare_name (entry_at base slot).name) (put j) (stored_files base))
+    room_for j = ap (λ b. they_fit b (with_contents f.name (put j) s.files)) blocks
+        ∙ ap (λ x. they_fit n (with_contents x (put j) s.files)) name
         ∙ ap (λ fs. they_fit n (with_contents (bare_name (entry_at base slot).name) (put j) fs)) files
 
     length_put : (j : ℕ) → j ≤ length new → length (put j) ≡ f.position + j + (length old - (f.position + j))

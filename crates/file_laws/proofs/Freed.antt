@@ -32,17 +32,31 @@ take-nil zero = refl
 take-nil (suc n) = refl
 
 -- The file is cut to nothing, in memory: the call holds its blocks.
-pub middle_dropped : (n : ℕ) (base disk : List ℕ) (header : Header) (slot : ℕ) (entry entry' : Entry) (p : Places) (bytes : List ℕ) → IsMiddle n base disk header slot entry p bytes
+pub middle_dropped : (n : ℕ) (base disk : List ℕ) (header : Header) (slot : ℕ) (entry entry' : Entry) (p : Places) (bytes : List ℕ)
+    → IsMiddle n base disk header slot entry p bytes
     → entry'.name ≡ entry.name → entry'.size ≡ 0 → entry'.first ≡ null
-    → IsMiddle n base disk header slot entry' (record p { chains = slice_set p.chains slot []; datas = slice_set p.datas slot []; held_index = numbers_at p.chains slot ++ p.held_index; held_data = numbers_at p.datas slot ++ p.held_data }) []
+    → IsMiddle n base disk header slot entry' (record p {
+      chains = slice_set p.chains slot [];
+      datas = slice_set p.datas slot [];
+      held_index = numbers_at p.chains slot ++ p.held_index;
+      held_data = numbers_at p.datas slot ++ p.held_data;
+    }) []
 middle_dropped n base disk header slot entry entry' p bytes m name size first =
     let g = disk_geometry n in let d = shape_with n disk header slot entry in
     let low = m.low in
     let count : length (entries disk) ≡ 78 = entry_count disk n m.long (omega (arith, low)) in
-    let inside : slot < length d.entries = (let t = length-set (entries disk) slot entry in let s = m.slot_is in omega (arith, count, s, t)) in
-    let p' : Places = record p { chains = slice_set p.chains slot []; datas = slice_set p.datas slot []; held_index = numbers_at p.chains slot ++ p.held_index; held_data = numbers_at p.datas slot ++ p.held_data } in
-    let lies = Laid-changed (index_count g) (first_data g) n d _ p slot entry' [] [] _ _ (dropped d p slot entry' inside size first) m.laid in
-    let R : List Entry → Type 0 = λ es. LaidIn g (let s : Shape = record { header = header; entries = es; indexes = d.indexes; links = d.links } in s) p' in
+    let inside : slot < length d.entries = (let t = length-set (entries disk) slot entry in let s = m.slot_is in
+    omega (arith, count, s, t)) in
+    let p' : Places = record p {
+      chains = slice_set p.chains slot [];
+      datas = slice_set p.datas slot [];
+      held_index = numbers_at p.chains slot ++ p.held_index;
+      held_data = numbers_at p.datas slot ++ p.held_data;
+    } in
+    let lies = Laid-changed (index_count g) (first_data g) n d _ p slot entry' [] [] _ _
+    (dropped d p slot entry' inside size first) m.laid in
+    let R : List Entry → Type 0 = λ es. LaidIn g (let s : Shape =
+    record { header = header; entries = es; indexes = d.indexes; links = d.links } in s) p' in
     let datas_long = m.laid.datas in
     record {
       clean = m.clean;
@@ -55,12 +69,15 @@ middle_dropped n base disk header slot entry entry' p bytes m name size first =
       laid = subst R (set-set (entries disk) slot entry entry') lies;
       was_used = m.was_used;
       named = name ∙ m.named;
-      others = λ k l ne u. ap (λ bs. take (entry_at base k).size (flat_map (block_in disk) bs)) (get_or-set_other p.datas slot k [] [] ne) ∙ m.others k l ne u;
-      mine = ap (λ bs. take entry'.size (flat_map (block_in disk) bs)) (get_or-set_same p.datas slot [] [] (omega (arith, inside, datas_long))) ∙ take-nil entry'.size;
+      others = λ k l ne u. ap (λ bs. take (entry_at base k).size (flat_map (block_in disk) bs)) (get_or-set_other p.datas slot k [] [] ne)
+          ∙ m.others k l ne u;
+      mine = ap (λ bs. take entry'.size (flat_map (block_in disk) bs))
+          (get_or-set_same p.datas slot [] [] (omega (arith, inside, datas_long))) ∙ take-nil entry'.size;
     }
 
 -- The data block that is held first goes before the free ones, once its first word names them.
-pub middle_data_freed : (n : ℕ) (base disk : List ℕ) (header : Header) (slot : ℕ) (entry : Entry) (p : Places) (bytes : List ℕ) (b : ℕ) (rest : List ℕ) → IsMiddle n base disk header slot entry p bytes
+pub middle_data_freed : (n : ℕ) (base disk : List ℕ) (header : Header) (slot : ℕ) (entry : Entry) (p : Places) (bytes : List ℕ) (b : ℕ)
+    (rest : List ℕ) → IsMiddle n base disk header slot entry p bytes
     → p.held_data ≡ b ∷ rest → slice_index (numbered_values (link_in_bytes disk) n) b ≡ header.free_data
     → IsMiddle n base disk (record header { free_data = b }) slot entry (record p { free_data = b ∷ p.free_data; held_data = rest }) bytes
 middle_data_freed n base disk header slot entry p bytes b rest m e named = record {
@@ -71,7 +88,8 @@ middle_data_freed n base disk header slot entry p bytes b rest m e named = recor
   high = m.high;
   slot_is = m.slot_is;
   directory = m.directory;
-  laid = Laid-data_freed (index_count (disk_geometry n)) (first_data (disk_geometry n)) n (shape_with n disk header slot entry) p b rest e named m.laid;
+  laid = Laid-data_freed (index_count (disk_geometry n)) (first_data (disk_geometry n)) n
+      (shape_with n disk header slot entry) p b rest e named m.laid;
   was_used = m.was_used;
   named = m.named;
   others = m.others;
@@ -79,9 +97,13 @@ middle_data_freed n base disk header slot entry p bytes b rest m e named = recor
 }
 
 -- The index block that is held first goes before the free ones, once it names them.
-pub middle_index_freed : (n : ℕ) (base disk : List ℕ) (header : Header) (slot : ℕ) (entry : Entry) (p : Places) (bytes : List ℕ) (i : ℕ) (rest : List ℕ) → IsMiddle n base disk header slot entry p bytes
+pub middle_index_freed : (n : ℕ) (base disk : List ℕ) (header : Header) (slot : ℕ) (entry : Entry) (p : Places) (bytes : List ℕ) (i : ℕ)
+    (rest : List ℕ) → IsMiddle n base disk header slot entry p bytes
     → p.held_index ≡ i ∷ rest → (index_in (shape_with n disk header slot entry) i).next ≡ header.free_index
-    → IsMiddle n base disk (record header { free_index = i }) slot entry (record p { free_index = i ∷ p.free_index; held_index = rest }) bytes
+    → IsMiddle n base disk (record header { free_index = i }) slot entry (record p {
+      free_index = i ∷ p.free_index;
+      held_index = rest;
+    }) bytes
 middle_index_freed n base disk header slot entry p bytes i rest m e named = record {
   clean = m.clean;
   base_long = m.base_long;
@@ -90,7 +112,8 @@ middle_index_freed n base disk header slot entry p bytes i rest m e named = reco
   high = m.high;
   slot_is = m.slot_is;
   directory = m.directory;
-  laid = Laid-index_freed (index_count (disk_geometry n)) (first_data (disk_geometry n)) n (shape_with n disk header slot entry) p i rest e named m.laid;
+  laid = Laid-index_freed (index_count (disk_geometry n)) (first_data (disk_geometry n)) n
+      (shape_with n disk header slot entry) p i rest e named m.laid;
   was_used = m.was_used;
   named = m.named;
   others = m.others;
@@ -98,9 +121,16 @@ middle_index_freed n base disk header slot entry p bytes i rest m e named = reco
 }
 
 -- The first free index block is taken, in memory.
-pub middle_index_taken : (n : ℕ) (base disk : List ℕ) (header : Header) (slot : ℕ) (entry : Entry) (p : Places) (bytes : List ℕ) (i : ℕ) (rest : List ℕ) → IsMiddle n base disk header slot entry p bytes
+pub middle_index_taken : (n : ℕ) (base disk : List ℕ) (header : Header) (slot : ℕ) (entry : Entry) (p : Places) (bytes : List ℕ) (i : ℕ)
+    (rest : List ℕ) → IsMiddle n base disk header slot entry p bytes
     → p.free_index ≡ i ∷ rest
-    → IsMiddle n base disk (record header { free_index = (index_in (shape_with n disk header slot entry) header.free_index).next }) slot entry (record p { free_index = rest; held_index = i ∷ p.held_index }) bytes
+    → IsMiddle n base disk (record header {
+      free_index =
+          (index_in (shape_with n disk header slot entry) header.free_index).next;
+    }) slot entry (record p {
+      free_index = rest;
+      held_index = i ∷ p.held_index;
+    }) bytes
 middle_index_taken n base disk header slot entry p bytes i rest m e = record {
   clean = m.clean;
   base_long = m.base_long;
@@ -109,7 +139,8 @@ middle_index_taken n base disk header slot entry p bytes i rest m e = record {
   high = m.high;
   slot_is = m.slot_is;
   directory = m.directory;
-  laid = Laid-index_taken (index_count (disk_geometry n)) (first_data (disk_geometry n)) n (shape_with n disk header slot entry) p i rest e m.laid;
+  laid = Laid-index_taken (index_count (disk_geometry n)) (first_data (disk_geometry n)) n
+      (shape_with n disk header slot entry) p i rest e m.laid;
   was_used = m.was_used;
   named = m.named;
   others = m.others;
@@ -117,7 +148,8 @@ middle_index_taken n base disk header slot entry p bytes i rest m e = record {
 }
 
 -- An index block that the call holds is written. The file's bytes stay.
-pub middle_index_held : (n : ℕ) (base disk : List ℕ) (header : Header) (slot : ℕ) (entry : Entry) (p : Places) (bytes : List ℕ) (i : ℕ) (index : Index) (block : List ℕ) → IsMiddle n base disk header slot entry p bytes
+pub middle_index_held : (n : ℕ) (base disk : List ℕ) (header : Header) (slot : ℕ) (entry : Entry) (p : Places) (bytes : List ℕ) (i : ℕ)
+    (index : Index) (block : List ℕ) → IsMiddle n base disk header slot entry p bytes
     → 1 ≤ times_met i p.held_index → IsIndexPut (block_in disk (6 + i / 7)) (i % 7) index block
     → IsMiddle n base (block_put disk (6 + i / 7) block) header slot entry p bytes
 middle_index_held n base disk header slot entry p bytes i index block m held q =
@@ -130,11 +162,15 @@ middle_index_held n base disk header slot entry p bytes i index block m held q =
     let P : Shape → Type 0 = λ x. LaidIn g x p in
     let Q : List ℕ → Type 0 = λ x. IsMiddle n base (block_put disk at block) header slot entry p x in
     let part = times_in-part at p.datas slot in let z = none.0 in
-    subst Q (ap (take entry.size) (flat_same (block_in (block_put disk at block)) (block_in disk) (numbers_at p.datas slot) (λ j l. put_other disk at n block (slice_index (numbers_at p.datas slot) j) m.long in_n q.long (differs (numbers_at p.datas slot) j at (omega (arith, part, z)) l))) ∙ m.mine)
+    subst Q (ap (take entry.size) (flat_same (block_in (block_put disk at block)) (block_in disk) (numbers_at p.datas slot) (λ j l.
+    put_other disk at n block (slice_index (numbers_at p.datas slot) j) m.long in_n q.long
+    (differs (numbers_at p.datas slot) j at (omega (arith, part, z)) l))) ∙ m.mine)
     (middle_put n base disk header header slot entry entry p p bytes at block m (omega arith) in_n q.long
     (λ k ne. (let part = times_in-part at p.datas k in omega (arith, part, z))) (λ k ne. refl) refl
     (subst P (sym (shape_index n disk header slot entry i index block m.long in_n below q))
-    (Laid-link (index_count g) (first_data g) n (index_put d i index) p at (word_of block) none.1 (Laid-index_put (index_count g) (first_data g) n d p i index held m.laid))))
+    (Laid-link (index_count g) (first_data g) n (index_put d i index) p at (word_of block) none.1
+    (Laid-index_put (index_count g) (first_data g) n d p i index held m.laid))))
   where
     in_index : (many i : ℕ) → 1 ≤ cond (nat_lt i many) 1 0 → i < many
-    in_index many i h = ⊎_elim (λ lt. lt) (λ ge. (let e : nat_lt i many ≡ false = grind (arith, nat_tests) in let z : ◌≡◌ {A = ℕ} (cond (nat_lt i many) 1 0) 0 = ap (λ c. cond c 1 0) e in absurd (omega (arith, h, z)))) (cases_lt i many)
+    in_index many i h = ⊎_elim (λ lt. lt) (λ ge. (let e : nat_lt i many ≡ false = grind (arith, nat_tests) in
+        let z : ◌≡◌ {A = ℕ} (cond (nat_lt i many) 1 0) 0 = ap (λ c. cond c 1 0) e in absurd (omega (arith, h, z)))) (cases_lt i many)

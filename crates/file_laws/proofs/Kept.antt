@@ -39,17 +39,21 @@ pub record IsKept (n : ℕ) (base disk : List ℕ) (slot : ℕ) (p : Places) : T
   pub entry : (k : ℕ) → k < 78 → k ≢ slot → entry_at disk k ≡ entry_at base k
   pub chain : (k : ℕ) → k < 78 → k ≢ slot → entry_chain disk (entry_at disk k) ≡ numbers_at p.chains k
   pub data_is : (k : ℕ) → k < 78 → k ≢ slot → entry_data disk (entry_at disk k) ≡ numbers_at p.datas k
-  pub bytes : (k : ℕ) → k < 78 → k ≢ slot → entry_is_used (entry_at base k) ≡ true → entry_bytes disk (entry_at disk k) ≡ entry_bytes base (entry_at base k)
+  pub bytes : (k : ℕ) → k < 78 → k ≢ slot → entry_is_used (entry_at base k) ≡ true
+      → entry_bytes disk (entry_at disk k) ≡ entry_bytes base (entry_at base k)
   pub after : (k j : ℕ) → k < 78 → k ≢ slot → j < length (numbers_at p.datas k) → 6 ≤ slice_index (numbers_at p.datas k) j
   pub one_index : (i : ℕ) → times_in i p.chains ≤ 1
   pub one_data : (b : ℕ) → times_in b p.datas ≤ 1
 
 -- the geometry of a disk that ends its first block as one of version 2
-ended_geometry : (n : ℕ) (disk : List ℕ) → length disk ≡ 512 * n → 14 ≤ n → drop 480 (block_in disk 0) ≡ dir_ending → geometry_of disk ≡ disk_geometry n
-ended_geometry n disk long least ends = geometry_is disk (version_is disk n long least ends) ∙ ap disk_geometry (let e : length disk / 512 ≡ n = omega (arith, long) in e)
+ended_geometry : (n : ℕ) (disk : List ℕ) → length disk ≡ 512 * n → 14 ≤ n → drop 480 (block_in disk 0) ≡ dir_ending
+    → geometry_of disk ≡ disk_geometry n
+ended_geometry n disk long least ends = geometry_is disk (version_is disk n long least ends)
+    ∙ ap disk_geometry (let e : length disk / 512 ≡ n = omega (arith, long) in e)
 
 -- in the middle of a call all files but that in hand are kept
-pub middle_kept : (n : ℕ) (base disk : List ℕ) (header : Header) (slot : ℕ) (entry : Entry) (p : Places) (bytes : List ℕ) → IsMiddle n base disk header slot entry p bytes → IsKept n base disk slot p
+pub middle_kept : (n : ℕ) (base disk : List ℕ) (header : Header) (slot : ℕ) (entry : Entry) (p : Places) (bytes : List ℕ)
+    → IsMiddle n base disk header slot entry p bytes → IsKept n base disk slot p
 unfolding entries
 middle_kept n base disk header slot entry p bytes m = record {
   long = m.long;
@@ -58,10 +62,12 @@ middle_kept n base disk header slot entry p bytes m = record {
   entry = λ k h ne. same k;
   chain = chain;
   data_is = data_is;
-  bytes = λ k h ne u. ap (λ bs. take (entry_at disk k).size (flat_map (block_in disk) bs)) (data_is k h ne) ∙ ap (λ (x : Entry). content_at disk p k x.size) (same k) ∙ m.others k h ne u;
+  bytes = λ k h ne u. ap (λ bs. take (entry_at disk k).size (flat_map (block_in disk) bs)) (data_is k h ne)
+      ∙ ap (λ (x : Entry). content_at disk p k x.size) (same k) ∙ m.others k h ne u;
   after = λ k j h ne l. (let low = (data_range (index_count g) (first_data g) n d p k j m.laid l).0 in omega (arith, low));
   one_index = λ i. (let one = m.laid.one_index i in let most = at_most_one (nat_lt i (index_count g)) in omega (arith, one, most));
-  one_data = λ b. (let one = m.laid.one_data b in let most = at_most_one (nat_lt b n && not (nat_lt b (first_data g))) in omega (arith, one, most));
+  one_data = λ b. (let one = m.laid.one_data b in let most = at_most_one (nat_lt b n && not (nat_lt b (first_data g))) in
+      omega (arith, one, most));
 }
   where
     g : Geometry
@@ -83,32 +89,39 @@ middle_kept n base disk header slot entry p bytes m = record {
     same k = ap (λ es. slice_index_or es k void_entry) (same_entries n base disk header slot entry p bytes m)
 
     inside : (k : ℕ) → k < 78 → k < length d.entries
-    inside k h = let low = m.low in let count = entry_count disk n m.long (omega (arith, low)) in let t = length-set (entries disk) slot entry in omega (arith, count, h, t)
+    inside k h = let low = m.low in let count = entry_count disk n m.long (omega (arith, low)) in
+        let t = length-set (entries disk) slot entry in omega (arith, count, h, t)
 
     here : (k : ℕ) → k ≢ slot → entry_in d k ≡ entry_at disk k
     here k ne = get_or-set_other (entries disk) slot k entry void_entry ne
 
     chain : (k : ℕ) → k < 78 → k ≢ slot → entry_chain disk (entry_at disk k) ≡ numbers_at p.chains k
-    chain k h ne = ap (λ x. chain_in x (fields_of x disk).indexes (entry_at disk k)) is ∙ ap (chain_in g d.indexes) (sym (here k ne)) ∙ chains-read g d p geo m.laid k (inside k h)
+    chain k h ne = ap (λ x. chain_in x (fields_of x disk).indexes (entry_at disk k)) is ∙ ap (chain_in g d.indexes) (sym (here k ne))
+        ∙ chains-read g d p geo m.laid k (inside k h)
 
     data_is : (k : ℕ) → k < 78 → k ≢ slot → entry_data disk (entry_at disk k) ≡ numbers_at p.datas k
-    data_is k h ne = ap (λ x. data_in x (fields_of x disk).indexes (entry_at disk k)) is ∙ ap (data_in g d.indexes) (sym (here k ne)) ∙ datas-read g d p geo m.laid k (inside k h)
+    data_is k h ne = ap (λ x. data_in x (fields_of x disk).indexes (entry_at disk k)) is ∙ ap (data_in g d.indexes) (sym (here k ne))
+        ∙ datas-read g d p geo m.laid k (inside k h)
 
 -- on a clean disk all files are kept
 pub clean_kept : (base : List ℕ) (slot : ℕ) → IsCleanImage base
-    → IsKept (length base / 512) base base slot (places_of (disk_geometry (length base / 512)) (fields_of (disk_geometry (length base / 512)) base))
+    → IsKept (length base / 512) base base slot
+    (places_of (disk_geometry (length base / 512)) (fields_of (disk_geometry (length base / 512)) base))
 unfolding entries
 clean_kept base slot c = record {
   long = whole_blocks base c.faultless;
   low = (let P : Bool → Type 0 = λ b. cond b 14 8 ≤ n in subst P c.version size.0);
   ends = (base_directory base c).ends 0 (omega arith);
   entry = λ k h ne. refl;
-  chain = λ k h ne. ap (λ x. chain_in x (fields_of x base).indexes (entry_at base k)) is ∙ sym (get_or-map (chain_in g d.indexes) (entries base) k void_entry [] (inside k h));
-  data_is = λ k h ne. ap (λ x. data_in x (fields_of x base).indexes (entry_at base k)) is ∙ sym (get_or-map (data_in g d.indexes) (entries base) k void_entry [] (inside k h));
+  chain = λ k h ne. ap (λ x. chain_in x (fields_of x base).indexes (entry_at base k)) is
+      ∙ sym (get_or-map (chain_in g d.indexes) (entries base) k void_entry [] (inside k h));
+  data_is = λ k h ne. ap (λ x. data_in x (fields_of x base).indexes (entry_at base k)) is
+      ∙ sym (get_or-map (data_in g d.indexes) (entries base) k void_entry [] (inside k h));
   bytes = λ k h ne u. refl;
   after = λ k j h ne l. (let low = (data_range (index_count g) (first_data g) n d p k j lies l).0 in omega (arith, low));
   one_index = λ i. (let one = lies.one_index i in let most = at_most_one (nat_lt i (index_count g)) in omega (arith, one, most));
-  one_data = λ b. (let one = lies.one_data b in let most = at_most_one (nat_lt b n && not (nat_lt b (first_data g))) in omega (arith, one, most));
+  one_data = λ b. (let one = lies.one_data b in let most = at_most_one (nat_lt b n && not (nat_lt b (first_data g))) in
+      omega (arith, one, most));
 }
   where
     n : ℕ
@@ -130,14 +143,17 @@ clean_kept base slot c = record {
     size = image_blocks base c.faultless
 
     lies : LaidIn g d p
-    lies = let P : Geometry → Type 0 = λ x. LaidIn x (fields_of x base) (places_of x (fields_of x base)) in subst P is (image_lies base c.faultless)
+    lies = let P : Geometry → Type 0 = λ x. LaidIn x (fields_of x base) (places_of x (fields_of x base)) in
+        subst P is (image_lies base c.faultless)
 
     inside : (k : ℕ) → k < 78 → k < length (entries base)
     inside k h = let l = (length_entries base c).0 in omega (arith, h, l)
 
 -- The directory block of the slot is written: the other files are still kept.
-pub kept_written : (n : ℕ) (base disk : List ℕ) (slot : ℕ) (entry : Entry) (p : Places) (block : List ℕ) → IsKept n base disk slot p → slot < 78
-    → IsDirBlock (dir_with_entry (dir_of (block_in disk (slot / 13))) (slot % 13) entry) block → IsKept n base (block_put disk (slot / 13) block) slot p
+pub kept_written : (n : ℕ) (base disk : List ℕ) (slot : ℕ) (entry : Entry) (p : Places) (block : List ℕ) → IsKept n base disk slot p
+    → slot < 78
+    → IsDirBlock (dir_with_entry (dir_of (block_in disk (slot / 13))) (slot % 13) entry) block
+    → IsKept n base (block_put disk (slot / 13) block) slot p
 kept_written n base disk slot entry p block kept in_dir put = record {
   long = long;
   low = kept.low;
@@ -146,8 +162,10 @@ kept_written n base disk slot entry p block kept in_dir put = record {
   chain = λ k h ne. fields_chain (entry_at made k) ∙ ap (entry_chain disk) (same k h ne) ∙ kept.chain k h ne;
   data_is = data_is;
   bytes = λ k h ne u. ap (λ bs. take (entry_at made k).size (flat_map (block_in made) bs)) (data_is k h ne)
-      ∙ ap (take (entry_at made k).size) (flat_same (block_in made) (block_in disk) (numbers_at p.datas k) (λ j l. (let low = kept.after k j h ne l in other (slice_index (numbers_at p.datas k) j) (λ e. omega (arith, e, low, in_dir)))))
-      ∙ ap (λ bs. take (entry_at made k).size (flat_map (block_in disk) bs)) (sym (kept.data_is k h ne)) ∙ ap (λ (x : Entry). take x.size (flat_map (block_in disk) (entry_data disk (entry_at disk k)))) (same k h ne) ∙ kept.bytes k h ne u;
+      ∙ ap (take (entry_at made k).size) (flat_same (block_in made) (block_in disk) (numbers_at p.datas k) (λ j l.
+      (let low = kept.after k j h ne l in other (slice_index (numbers_at p.datas k) j) (λ e. omega (arith, e, low, in_dir)))))
+      ∙ ap (λ bs. take (entry_at made k).size (flat_map (block_in disk) bs)) (sym (kept.data_is k h ne))
+      ∙ ap (λ (x : Entry). take x.size (flat_map (block_in disk) (entry_data disk (entry_at disk k)))) (same k h ne) ∙ kept.bytes k h ne u;
   after = kept.after;
   one_index = kept.one_index;
   one_data = kept.one_data;
@@ -175,7 +193,8 @@ kept_written n base disk slot entry p block kept in_dir put = record {
     here = put_same disk b n block kept.long in_n put.long
 
     ends : drop 480 (block_in made 0) ≡ dir_ending
-    ends = ⊎_elim (λ e. ap (λ m. drop 480 (block_in made m)) e ∙ ap (drop 480) here ∙ put.ends) (λ ne. ap (drop 480) (other 0 ne) ∙ kept.ends) (cases_eq 0 b)
+    ends = ⊎_elim (λ e. ap (λ m. drop 480 (block_in made m)) e ∙ ap (drop 480) here ∙ put.ends) (λ ne. ap (drop 480) (other 0 ne)
+        ∙ kept.ends) (cases_eq 0 b)
 
     indexes : numbered_values (index_in_bytes g made) (index_count g) ≡ numbered_values (index_in_bytes g disk) (index_count g)
     indexes = numbered_same (index_in_bytes g made) (index_in_bytes g disk) (index_count g)
@@ -189,20 +208,25 @@ kept_written n base disk slot entry p block kept in_dir put = record {
     is_disk = ended_geometry n disk kept.long kept.low kept.ends
 
     fields_chain : (e : Entry) → entry_chain made e ≡ entry_chain disk e
-    fields_chain e = ap (λ x. chain_in x (fields_of x made).indexes e) is_made ∙ ap (λ xs. chain_in g xs e) indexes ∙ sym (ap (λ x. chain_in x (fields_of x disk).indexes e) is_disk)
+    fields_chain e = ap (λ x. chain_in x (fields_of x made).indexes e) is_made ∙ ap (λ xs. chain_in g xs e) indexes
+        ∙ sym (ap (λ x. chain_in x (fields_of x disk).indexes e) is_disk)
 
     fields_data : (e : Entry) → entry_data made e ≡ entry_data disk e
-    fields_data e = ap (λ x. data_in x (fields_of x made).indexes e) is_made ∙ ap (λ xs. data_in g xs e) indexes ∙ sym (ap (λ x. data_in x (fields_of x disk).indexes e) is_disk)
+    fields_data e = ap (λ x. data_in x (fields_of x made).indexes e) is_made ∙ ap (λ xs. data_in g xs e) indexes
+        ∙ sym (ap (λ x. data_in x (fields_of x disk).indexes e) is_disk)
 
     same : (k : ℕ) → k < 78 → k ≢ slot → entry_at made k ≡ entry_at disk k
     same k h ne =
         let low = kept.low in let r = k / 13 in let j = k % 13 in
         let k_is : 13 * r + j ≡ k = omega arith in let in_six : r < 6 = omega (arith, h) in let small : j < 13 = omega arith in
-        let at : (x : List ℕ) → length x ≡ 512 * n → slice_index_or (dir_of (block_in x r)).entries j void_entry ≡ entry_at x k = λ x l. entry_of_block x n r j l (omega (arith, low)) in_six small ∙ ap (entry_at x) k_is in
+        let at : (x : List ℕ) → length x ≡ 512 * n → slice_index_or (dir_of (block_in x r)).entries j void_entry ≡ entry_at x k = λ x l.
+        entry_of_block x n r j l (omega (arith, low)) in_six small ∙ ap (entry_at x) k_is in
         sym (at made long) ∙ ⊎_elim
         (λ e. (let dir = dir_of (block_in disk b) in
-        ap (λ m. slice_index_or (dir_of (block_in made m)).entries j void_entry) e ∙ ap (λ x. slice_index_or (dir_of x).entries j void_entry) here ∙ ap (λ (x : Dir). slice_index_or x.entries j void_entry) put.is
-        ∙ get_or-set_other dir.entries (slot % 13) j entry void_entry (λ q. ne (omega (arith, e, q))) ∙ ap (λ m. slice_index_or (dir_of (block_in disk m)).entries j void_entry) (sym e)))
+        ap (λ m. slice_index_or (dir_of (block_in made m)).entries j void_entry) e
+        ∙ ap (λ x. slice_index_or (dir_of x).entries j void_entry) here ∙ ap (λ (x : Dir). slice_index_or x.entries j void_entry) put.is
+        ∙ get_or-set_other dir.entries (slot % 13) j entry void_entry (λ q. ne (omega (arith, e, q)))
+        ∙ ap (λ m. slice_index_or (dir_of (block_in disk m)).entries j void_entry) (sym e)))
         (λ ne. ap (λ x. slice_index_or (dir_of x).entries j void_entry) (other r ne))
         (cases_eq r b) ∙ at disk kept.long
 

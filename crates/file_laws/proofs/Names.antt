@@ -24,7 +24,8 @@ IsPadded name = are_zeros (drop (text_length name) name) ≡ true
 -- what can be a name has zeros after its text
 pub name_padded : (longest : ℕ) (name : List ℕ) → is_name longest name ≡ true → IsPadded name
 unfolding is_name
-name_padded longest name e = (and-true (nat_lt 0 (text_length name) && nat_le (text_length name) longest) (are_zeros (drop (text_length name) name)) e).1
+name_padded longest name e = (and-true (nat_lt 0 (text_length name) && nat_le (text_length name) longest)
+    (are_zeros (drop (text_length name) name)) e).1
 
 -- a zero byte ends the text
 text-zero : (xs : List ℕ) → text_length (0 ∷ xs) ≡ 0
@@ -34,7 +35,8 @@ text-zero xs = refl
 -- another byte is of the text
 text-more : (x : ℕ) (xs : List ℕ) → not (nat_eq x 0) ≡ true → text_length (x ∷ xs) ≡ suc (text_length xs)
 unfolding text_length
-text-more x xs e = ap (λ b. cond b (1 + prefix_len (λ c. not (nat_eq c 0)) xs) 0) e ∙ (let s : 1 + prefix_len (λ c. not (nat_eq c 0)) xs ≡ suc (prefix_len (λ c. not (nat_eq c 0)) xs) = omega arith in s)
+text-more x xs e = ap (λ b. cond b (1 + prefix_len (λ c. not (nat_eq c 0)) xs) 0) e
+    ∙ (let s : 1 + prefix_len (λ c. not (nat_eq c 0)) xs ≡ suc (prefix_len (λ c. not (nat_eq c 0)) xs) = omega arith in s)
 
 -- by the first byte: zeros alone, or a byte of the text
 pub record Begins (x : ℕ) (xs : List ℕ) : Type 0 where
@@ -104,32 +106,40 @@ less-zero : (x : ℕ) → nat_lt (suc x) 0 ≡ false
 less-zero x = grind (arith, nat_tests)
 
 -- names of one length are equal if their texts are
-pub bare_same : (xs ys : List ℕ) → length xs ≡ length ys → IsPadded xs → IsPadded ys → bytes_eq (bare_name xs) (bare_name ys) ≡ bytes_eq xs ys
+pub bare_same : (xs ys : List ℕ) → length xs ≡ length ys → IsPadded xs → IsPadded ys
+    → bytes_eq (bare_name xs) (bare_name ys) ≡ bytes_eq xs ys
 bare_same [] [] l a b = ap (λ t. bytes_eq t t) bare-nil
 bare_same [] (y ∷ ys) l a b = absurd (omega (arith, l))
 bare_same (x ∷ xs) [] l a b = absurd (omega (arith, l))
 bare_same (zero ∷ xs) (zero ∷ ys) l a b =
-    ap (λ t. bytes_eq t (bare_name (0 ∷ ys))) (bare-zero xs) ∙ ap (bytes_eq []) (bare-zero ys) ∙ sym (zeros-same (0 ∷ xs) (0 ∷ ys) l (zeros-zero xs a) (zeros-zero ys b))
+    ap (λ t. bytes_eq t (bare_name (0 ∷ ys))) (bare-zero xs) ∙ ap (bytes_eq []) (bare-zero ys)
+    ∙ sym (zeros-same (0 ∷ xs) (0 ∷ ys) l (zeros-zero xs a) (zeros-zero ys b))
 bare_same (zero ∷ xs) (suc y ∷ ys) l a b =
-    ap (λ t. bytes_eq t (bare_name (suc y ∷ ys))) (bare-zero xs) ∙ ap (bytes_eq []) ((begins (suc y) ys (nonzero y)).bare) ∙ sym (ap (λ v. v && bytes_eq xs ys) (zero-suc y))
+    ap (λ t. bytes_eq t (bare_name (suc y ∷ ys))) (bare-zero xs) ∙ ap (bytes_eq []) ((begins (suc y) ys (nonzero y)).bare)
+    ∙ sym (ap (λ v. v && bytes_eq xs ys) (zero-suc y))
 bare_same (suc x ∷ xs) (zero ∷ ys) l a b =
-    ap (bytes_eq (bare_name (suc x ∷ xs))) (bare-zero ys) ∙ ap (λ t. bytes_eq t []) ((begins (suc x) xs (nonzero x)).bare) ∙ sym (ap (λ v. v && bytes_eq xs ys) (suc-zero x))
+    ap (bytes_eq (bare_name (suc x ∷ xs))) (bare-zero ys) ∙ ap (λ t. bytes_eq t []) ((begins (suc x) xs (nonzero x)).bare)
+    ∙ sym (ap (λ v. v && bytes_eq xs ys) (suc-zero x))
 bare_same (suc x ∷ xs) (suc y ∷ ys) l a b =
     let p = begins (suc x) xs (nonzero x) in let q = begins (suc y) ys (nonzero y) in
     ap (λ t. bytes_eq t (bare_name (suc y ∷ ys))) p.bare ∙ ap (bytes_eq (suc x ∷ bare_name xs)) q.bare
     ∙ ap (λ v. nat_eq (suc x) (suc y) && v) (bare_same xs ys (omega (arith, l)) (p.rest a) (q.rest b))
 
 -- and in the same order
-pub bare_order : (xs ys : List ℕ) → length xs ≡ length ys → IsPadded xs → IsPadded ys → precedes (bare_name xs) (bare_name ys) ≡ is_before xs ys
+pub bare_order : (xs ys : List ℕ) → length xs ≡ length ys → IsPadded xs → IsPadded ys
+    → precedes (bare_name xs) (bare_name ys) ≡ is_before xs ys
 bare_order [] [] l a b = ap (λ t. precedes t t) bare-nil
 bare_order [] (y ∷ ys) l a b = absurd (omega (arith, l))
 bare_order (x ∷ xs) [] l a b = absurd (omega (arith, l))
 bare_order (zero ∷ xs) (zero ∷ ys) l a b =
-    ap (λ t. precedes t (bare_name (0 ∷ ys))) (bare-zero xs) ∙ ap (precedes []) (bare-zero ys) ∙ sym (zeros-not-before (0 ∷ xs) (0 ∷ ys) l (zeros-zero xs a) (zeros-zero ys b))
+    ap (λ t. precedes t (bare_name (0 ∷ ys))) (bare-zero xs) ∙ ap (precedes []) (bare-zero ys)
+    ∙ sym (zeros-not-before (0 ∷ xs) (0 ∷ ys) l (zeros-zero xs a) (zeros-zero ys b))
 bare_order (zero ∷ xs) (suc y ∷ ys) l a b =
-    ap (λ t. precedes t (bare_name (suc y ∷ ys))) (bare-zero xs) ∙ ap (precedes []) ((begins (suc y) ys (nonzero y)).bare) ∙ sym (ap (λ v. cond v (is_before xs ys) (nat_lt 0 (suc y))) (zero-suc y) ∙ zero-less y)
+    ap (λ t. precedes t (bare_name (suc y ∷ ys))) (bare-zero xs) ∙ ap (precedes []) ((begins (suc y) ys (nonzero y)).bare)
+    ∙ sym (ap (λ v. cond v (is_before xs ys) (nat_lt 0 (suc y))) (zero-suc y) ∙ zero-less y)
 bare_order (suc x ∷ xs) (zero ∷ ys) l a b =
-    ap (precedes (bare_name (suc x ∷ xs))) (bare-zero ys) ∙ ap (λ t. precedes t []) ((begins (suc x) xs (nonzero x)).bare) ∙ sym (ap (λ v. cond v (is_before xs ys) (nat_lt (suc x) 0)) (suc-zero x) ∙ less-zero x)
+    ap (precedes (bare_name (suc x ∷ xs))) (bare-zero ys) ∙ ap (λ t. precedes t []) ((begins (suc x) xs (nonzero x)).bare)
+    ∙ sym (ap (λ v. cond v (is_before xs ys) (nat_lt (suc x) 0)) (suc-zero x) ∙ less-zero x)
 bare_order (suc x ∷ xs) (suc y ∷ ys) l a b =
     let p = begins (suc x) xs (nonzero x) in let q = begins (suc y) ys (nonzero y) in
     ap (λ t. precedes t (bare_name (suc y ∷ ys))) p.bare ∙ ap (precedes (suc x ∷ bare_name xs)) q.bare
@@ -140,7 +150,9 @@ pub name_used : (longest : ℕ) (name : List ℕ) → is_name longest name ≡ t
 unfolding is_name text_length
 name_used longest [] e = absurd (false≢true e)
 name_used longest (x ∷ name) e =
-    let P : Bool → Type 0 = λ b. nat_lt 0 (cond b (1 + prefix_len (λ c. not (nat_eq c 0)) name) 0) && nat_le (cond b (1 + prefix_len (λ c. not (nat_eq c 0)) name) 0) longest && are_zeros (drop (cond b (1 + prefix_len (λ c. not (nat_eq c 0)) name) 0) (x ∷ name)) ≡ true → b ≡ true in
+    let P : Bool → Type 0 = λ b. nat_lt 0 (cond b (1 + prefix_len (λ c. not (nat_eq c 0)) name) 0) && nat_le (cond b (1 + prefix_len (λ c.
+    not (nat_eq c 0)) name) 0) longest && are_zeros (drop (cond b (1 + prefix_len (λ c. not (nat_eq c 0)) name) 0) (x ∷ name)) ≡ true
+    → b ≡ true in
     let all : (b : Bool) → P b = λ b. elim b as (λ b. P b) [ true ↦ (λ t. refl) | false ↦ (λ t. absurd (false≢true t)) ] in
     all (not (nat_eq x 0)) e
 
@@ -150,4 +162,5 @@ bytes-swap [] [] = refl
 bytes-swap [] (y ∷ ys) = refl
 bytes-swap (x ∷ xs) [] = refl
 bytes-swap (x ∷ xs) (y ∷ ys) =
-    let e : nat_eq x y ≡ nat_eq y x = grind (arith, nat_tests) in ap (λ v. v && bytes_eq xs ys) e ∙ ap (λ v. nat_eq y x && v) (bytes-swap xs ys)
+    let e : nat_eq x y ≡ nat_eq y x = grind (arith, nat_tests) in ap (λ v. v && bytes_eq xs ys) e
+    ∙ ap (λ v. nat_eq y x && v) (bytes-swap xs ys)

@@ -14,15 +14,20 @@ use Rattle.lfs_check.specs.Disks.{disk_geometry}
 use Rattle.lfs_check.proofs.Writes.{index_read}
 
 -- the index block j of a file, in its disk block
-pub read_index_block : (n : ℕ) (disk : List ℕ) (p : Places) (slot j : ℕ) → LaidIn (disk_geometry n) (fields_of (disk_geometry n) disk) p → slot < length (fields_of (disk_geometry n) disk).entries
-    → entry_is_used (entry_in (fields_of (disk_geometry n) disk) slot) ≡ true → j < length (numbers_at p.chains slot) → slice_index (numbers_at p.chains slot) j < index_count (disk_geometry n)
-    → index_at (slice_index (numbers_at p.chains slot) j % 7) (block_in disk (6 + slice_index (numbers_at p.chains slot) j / 7)) ≡ index_for j (numbers_at p.chains slot) (numbers_at p.datas slot)
+pub read_index_block : (n : ℕ) (disk : List ℕ) (p : Places) (slot j : ℕ) → LaidIn (disk_geometry n) (fields_of (disk_geometry n) disk) p
+    → slot < length (fields_of (disk_geometry n) disk).entries
+    → entry_is_used (entry_in (fields_of (disk_geometry n) disk) slot) ≡ true → j < length (numbers_at p.chains slot)
+    → slice_index (numbers_at p.chains slot) j < index_count (disk_geometry n)
+    → index_at (slice_index (numbers_at p.chains slot) j % 7) (block_in disk (6 + slice_index (numbers_at p.chains slot) j / 7))
+    ≡ index_for j (numbers_at p.chains slot) (numbers_at p.datas slot)
 read_index_block n disk p slot j l h u k below =
     let i = slice_index (numbers_at p.chains slot) j in
-    sym (index_read n disk i) ∙ sym (numbered-at (index_in_bytes (disk_geometry n) disk) (index_count (disk_geometry n)) i no_index below) ∙ (l.file slot h u).each j k
+    sym (index_read n disk i) ∙ sym (numbered-at (index_in_bytes (disk_geometry n) disk) (index_count (disk_geometry n)) i no_index below)
+    ∙ (l.file slot h u).each j k
 
 -- the blocks of a list from block m on
-flat_from : (f : ℕ → List ℕ) (xs : List ℕ) (m : ℕ) → ((j : ℕ) → j < length xs → length (f (slice_index xs j)) ≡ 512) → m < length xs → drop (512 * m) (flat_map f xs) ≡ f (slice_index xs m) ++ flat_map f (drop (suc m) xs)
+flat_from : (f : ℕ → List ℕ) (xs : List ℕ) (m : ℕ) → ((j : ℕ) → j < length xs → length (f (slice_index xs j)) ≡ 512) → m < length xs
+    → drop (512 * m) (flat_map f xs) ≡ f (slice_index xs m) ++ flat_map f (drop (suc m) xs)
 flat_from f [] m all h = absurd (omega (arith, h))
 flat_from f (x ∷ xs) zero all h = ap (λ k. drop k (f x ++ flat_map f xs)) (let e : 512 * 0 ≡ 0 = omega arith in e)
 flat_from f (x ∷ xs) (suc m) all h =
@@ -30,7 +35,8 @@ flat_from f (x ∷ xs) (suc m) all h =
     ∙ flat_from f xs m (λ j l. all (suc j) (omega (arith, l))) (omega (arith, h))
 
 -- The bytes of a file from a place on, within one block.
-pub bytes_in_block : (f : ℕ → List ℕ) (xs : List ℕ) (size q k : ℕ) → ((j : ℕ) → j < length xs → length (f (slice_index xs j)) ≡ 512) → q / 512 < length xs → q % 512 + k ≤ 512 → q + k ≤ size
+pub bytes_in_block : (f : ℕ → List ℕ) (xs : List ℕ) (size q k : ℕ) → ((j : ℕ) → j < length xs → length (f (slice_index xs j)) ≡ 512)
+    → q / 512 < length xs → q % 512 + k ≤ 512 → q + k ≤ size
     → take k (drop q (take size (flat_map f xs))) ≡ take k (drop (q % 512) (f (slice_index xs (q / 512))))
 bytes_in_block f xs size q k all h fits within =
     let m = q / 512 in let r = q % 512 in
@@ -38,7 +44,8 @@ bytes_in_block f xs size q k all h fits within =
     let rest = flat_map f (drop (suc m) xs) in
     let long = all m h in
     let split : drop q (flat_map f xs) ≡ drop r block ++ rest =
-    ap (λ j. drop j (flat_map f xs)) (let e : q ≡ 512 * m + r = omega arith in e) ∙ sym (drop-drop r (512 * m) (flat_map f xs)) ∙ ap (drop r) (flat_from f xs m all h) ∙ drop-append-le r block rest (omega (arith, long)) in
+    ap (λ j. drop j (flat_map f xs)) (let e : q ≡ 512 * m + r = omega arith in e) ∙ sym (drop-drop r (512 * m) (flat_map f xs))
+    ∙ ap (drop r) (flat_from f xs m all h) ∙ drop-append-le r block rest (omega (arith, long)) in
     ap (λ j. take k (drop q (take j (flat_map f xs)))) (let e : size ≡ q + (size - q) = omega (arith, within) in e)
     ∙ ap (take k) (drop-take q (size - q) (flat_map f xs)) ∙ take-take k (size - q) (drop q (flat_map f xs)) (omega (arith, within))
     ∙ ap (take k) split ∙ take-append-le k (drop r block) rest (omega (arith, length-drop r block, long, fits))

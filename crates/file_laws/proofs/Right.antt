@@ -36,8 +36,10 @@ base_directory base c =
     let P : Geometry → Type 0 = λ x. rule_2 x h es base ≡ None in
     let none = subst P six (image_counts base c.faultless) in
     let each : (d : ℕ) → d < 6 → is_dir_block (disk_geometry (length base / 512)) h es base d ≡ true = λ d l.
-    not-false (is_dir_block (disk_geometry (length base / 512)) h es base d) (first_from-each (λ d. not (is_dir_block (disk_geometry (length base / 512)) h es base d)) 0 6 none d (omega arith) (omega (arith, l))) in
-    let two : (d : ℕ) → d < 6 → (begins_right h es (block_in base d) d ≡ true) × (ends_right (disk_geometry (length base / 512)) (block_in base d) ≡ true) = λ d l.
+    not-false (is_dir_block (disk_geometry (length base / 512)) h es base d) (first_from-each (λ d.
+    not (is_dir_block (disk_geometry (length base / 512)) h es base d)) 0 6 none d (omega arith) (omega (arith, l))) in
+    let two : (d : ℕ) → d < 6 → (begins_right h es (block_in base d) d ≡ true)
+    × (ends_right (disk_geometry (length base / 512)) (block_in base d) ≡ true) = λ d l.
     and-true (begins_right h es (block_in base d) d) (ends_right (disk_geometry (length base / 512)) (block_in base d)) (each d l) in
     record {
       begins = λ d p l. (let t : nat_eq d 0 ≡ false = grind (arith, nat_tests) in
@@ -68,28 +70,35 @@ dir_zero : (block : List ℕ) → length block ≡ 512 → are_zeros (take 12 bl
 unfolding dir_of
 dir_zero block l z =
     let short : length (take 12 block) ≡ 12 = (let t = length-take 12 block in omega (arith, t, l)) in
-    let ws : words_of 3 block ≡ 0 ∷ 0 ∷ 0 ∷ [] = sym (words_of-take 3 12 block (omega arith)) ∙ ap (words_of 3) (zeros_are (take 12 block) z ∙ ap (λ k. replicate k 0) short) ∙ zero_words in
+    let ws : words_of 3 block ≡ 0 ∷ 0 ∷ 0 ∷ [] = sym (words_of-take 3 12 block (omega arith))
+    ∙ ap (words_of 3) (zeros_are (take 12 block) z ∙ ap (λ k. replicate k 0) short) ∙ zero_words in
     ap (λ w. slice_index w 0 ∷ slice_index w 1 ∷ slice_index w 2 ∷ []) ws
 
 -- the directory is written as it must be outside its entries
-pub rewritten_directory : (disk : List ℕ) (n slot : ℕ) (entry : Entry) (header : Header) (eb hb : List ℕ) → IsDirectory disk → IsRewriting disk n slot entry header eb hb → IsDirectory (rewritten disk slot eb hb)
+pub rewritten_directory : (disk : List ℕ) (n slot : ℕ) (entry : Entry) (header : Header) (eb hb : List ℕ) → IsDirectory disk
+    → IsRewriting disk n slot entry header eb hb → IsDirectory (rewritten disk slot eb hb)
 rewritten_directory disk n slot entry header eb hb i r =
     let b = slot / 13 in let mid = block_put disk b eb in
     let long = (rewritten_long disk n slot entry header eb hb r).0 in let room = r.room in let s = r.slot_is in
-    let block_long : length (block_in disk b) ≡ 512 = (let l = r.long in let t = length-take 512 (drop (512 * b) disk) in let d = length-drop (512 * b) disk in omega (arith, l, t, d, room, s)) in
-    let at : (d : ℕ) → d ≢ 0 → block_in (rewritten disk slot eb hb) d ≡ block_in mid d = λ d ne. put_other mid 0 n hb d long (omega (arith, room)) r.header_block.long ne in
+    let block_long : length (block_in disk b) ≡ 512 = (let l = r.long in let t = length-take 512 (drop (512 * b) disk) in
+    let d = length-drop (512 * b) disk in omega (arith, l, t, d, room, s)) in
+    let at : (d : ℕ) → d ≢ 0 → block_in (rewritten disk slot eb hb) d ≡ block_in mid d = λ d ne.
+    put_other mid 0 n hb d long (omega (arith, room)) r.header_block.long ne in
     let same : block_in mid b ≡ eb = put_same disk b n eb r.long (omega (arith, room, s)) r.entry_block.long in
-    let other : (d : ℕ) → d ≢ b → block_in mid d ≡ block_in disk d = λ d ne. put_other disk b n eb d r.long (omega (arith, room, s)) r.entry_block.long ne in
+    let other : (d : ℕ) → d ≢ b → block_in mid d ≡ block_in disk d = λ d ne.
+    put_other disk b n eb d r.long (omega (arith, room, s)) r.entry_block.long ne in
     record {
       begins = λ d p l. (let Z : List ℕ → Bool = λ x. are_zeros (take 12 x) in
           ap Z (at d (λ e. omega (arith, e, p))) ∙
           ⊎_elim
           (λ q. (let mine : are_zeros (take 12 (block_in disk b)) ≡ true = i.begins b (omega (arith, q, p)) (omega (arith, s)) in
-          ap (λ m. Z (block_in mid m)) q ∙ ap Z same ∙ ap are_zeros r.entry_block.begins ∙ ap (λ w. are_zeros (word_bytes w)) (dir_zero (block_in disk b) block_long mine) ∙ zero_bytes))
+          ap (λ m. Z (block_in mid m)) q ∙ ap Z same ∙ ap are_zeros r.entry_block.begins
+          ∙ ap (λ w. are_zeros (word_bytes w)) (dir_zero (block_in disk b) block_long mine) ∙ zero_bytes))
           (λ q. ap Z (other d q) ∙ i.begins d p l)
           (cases_eq d b));
       ends = λ d l. ⊎_elim
-          (λ q. ap (λ m. drop 480 (block_in (rewritten disk slot eb hb) m)) q ∙ ap (drop 480) (put_same mid 0 n hb long (omega (arith, room)) r.header_block.long) ∙ r.header_block.ends)
+          (λ q. ap (λ m. drop 480 (block_in (rewritten disk slot eb hb) m)) q
+          ∙ ap (drop 480) (put_same mid 0 n hb long (omega (arith, room)) r.header_block.long) ∙ r.header_block.ends)
           (λ q. ap (drop 480) (at d q) ∙ ⊎_elim
           (λ p. ap (λ m. drop 480 (block_in mid m)) p ∙ ap (drop 480) same ∙ r.entry_block.ends)
           (λ p. ap (drop 480) (other d p) ∙ i.ends d l)

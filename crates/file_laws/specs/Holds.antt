@@ -22,9 +22,13 @@ HasStored disk name None = (k : ℕ) → k < 78 → is_this name (entry_at disk 
 
 -- The disk holds the files whose names are at rest: each is read off it, and no block is in two of them, nor twice in one.
 pub record Holds (disk : List ℕ) (files : List StoredFile) (rests : List ℕ → Bool) : Type 0 where
-  pub each : (name : List ℕ) → is_name 27 name ≡ true → length name ≡ 28 → rests (bare_name name) ≡ true → HasStored disk name (file_named (bare_name name) files)
-  pub chains : (i j k : ℕ) → j < 78 → k < 78 → j ≢ k → rests (bare_name (entry_at disk j).name) ≡ true → rests (bare_name (entry_at disk k).name) ≡ true
+  pub each : (name : List ℕ) → is_name 27 name ≡ true → length name ≡ 28 → rests (bare_name name) ≡ true
+      → HasStored disk name (file_named (bare_name name) files)
+  pub chains : (i j k : ℕ) → j < 78 → k < 78 → j ≢ k → rests (bare_name (entry_at disk j).name) ≡ true
+      → rests (bare_name (entry_at disk k).name) ≡ true
       → times_met i (entry_chain disk (entry_at disk j)) + times_met i (entry_chain disk (entry_at disk k)) ≤ 1
-  pub datas : (b j k : ℕ) → j < 78 → k < 78 → j ≢ k → rests (bare_name (entry_at disk j).name) ≡ true → rests (bare_name (entry_at disk k).name) ≡ true
+  pub datas : (b j k : ℕ) → j < 78 → k < 78 → j ≢ k → rests (bare_name (entry_at disk j).name) ≡ true
+      → rests (bare_name (entry_at disk k).name) ≡ true
       → times_met b (entry_data disk (entry_at disk j)) + times_met b (entry_data disk (entry_at disk k)) ≤ 1
-  pub once : (b k : ℕ) → k < 78 → rests (bare_name (entry_at disk k).name) ≡ true → (times_met b (entry_chain disk (entry_at disk k)) ≤ 1) × (times_met b (entry_data disk (entry_at disk k)) ≤ 1)
+  pub once : (b k : ℕ) → k < 78 → rests (bare_name (entry_at disk k).name) ≡ true
+      → (times_met b (entry_chain disk (entry_at disk k)) ≤ 1) × (times_met b (entry_data disk (entry_at disk k)) ≤ 1)

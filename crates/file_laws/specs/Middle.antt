@@ -38,5 +38,6 @@ pub record IsMiddle (n : ℕ) (base disk : List ℕ) (header : Header) (slot : �
   pub laid : LaidIn (disk_geometry n) (shape_with n disk header slot entry) p
   pub was_used : entry_is_used (entry_at base slot) ≡ true
   pub named : entry.name ≡ (entry_at base slot).name
-  pub others : (k : ℕ) → k < 78 → k ≢ slot → entry_is_used (entry_at base k) ≡ true → content_at disk p k (entry_at base k).size ≡ entry_bytes base (entry_at base k)
+  pub others : (k : ℕ) → k < 78 → k ≢ slot → entry_is_used (entry_at base k) ≡ true
+      → content_at disk p k (entry_at base k).size ≡ entry_bytes base (entry_at base k)
   pub mine : content_at disk p slot entry.size ≡ bytes

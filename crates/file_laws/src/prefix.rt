@@ -18,18 +18,26 @@ ghost use Rattle.file_laws.specs.Fitting.{IsFull};
 /// What lies on the disk in the middle of a call fits on it. If no block of a kind is free and none is held, no bytes fit for which the file
 /// in hand needs more blocks of that kind than it has.
 pub fn a_full_disk_has_no_room()
-    ensures fits { (n : ℕ) (base disk : List ℕ) (header : Header) (slot : ℕ) (entry : Entry) (p : Places) (bytes more : List ℕ) → IsMiddle n base disk header slot entry p bytes
+    ensures fits { (n : ℕ) (base disk : List ℕ) (header : Header) (slot : ℕ) (entry : Entry) (p : Places) (bytes more : List ℕ)
+        → IsMiddle n base disk header slot entry p bytes
         → length more ≡ entry.size → they_fit n (with_contents (bare_name (entry_at base slot).name) more (stored_files base)) ≡ true }
-    ensures data { (n : ℕ) (base disk : List ℕ) (header : Header) (slot : ℕ) (entry : Entry) (p : Places) (bytes more : List ℕ) → IsMiddle n base disk header slot entry p bytes
-        → p.free_data ≡ [] → p.held_data ≡ [] → need_data entry < data_blocks (length more) → they_fit n (with_contents (bare_name (entry_at base slot).name) more (stored_files base)) ≡ false }
-    ensures index { (n : ℕ) (base disk : List ℕ) (header : Header) (slot : ℕ) (entry : Entry) (p : Places) (bytes more : List ℕ) → IsMiddle n base disk header slot entry p bytes
-        → p.free_index ≡ [] → p.held_index ≡ [] → need_index entry < index_blocks (length more) → they_fit n (with_contents (bare_name (entry_at base slot).name) more (stored_files base)) ≡ false }
+    ensures data { (n : ℕ) (base disk : List ℕ) (header : Header) (slot : ℕ) (entry : Entry) (p : Places) (bytes more : List ℕ)
+        → IsMiddle n base disk header slot entry p bytes
+        → p.free_data ≡ [] → p.held_data ≡ [] → need_data entry < data_blocks (length more)
+        → they_fit n (with_contents (bare_name (entry_at base slot).name) more (stored_files base)) ≡ false }
+    ensures index { (n : ℕ) (base disk : List ℕ) (header : Header) (slot : ℕ) (entry : Entry) (p : Places) (bytes more : List ℕ)
+        → IsMiddle n base disk header slot entry p bytes
+        → p.free_index ≡ [] → p.held_index ≡ [] → need_index entry < index_blocks (length more)
+        → they_fit n (with_contents (bare_name (entry_at base slot).name) more (stored_files base)) ≡ false }
 {}
 
 /// A call that has put the first k bytes at the position of an open file has put as many as the abstract machine says there is room for, if
 /// these are all or it then is at the end of a file that can't grow.
 pub fn the_longest_prefix_is_put()
-    ensures { (n : ℕ) (base disk : List ℕ) (header : Header) (slot : ℕ) (entry : Entry) (p : Places) (bytes : List ℕ) (f : OpenFile) (s : FileSystem) (new : List ℕ) (k : ℕ)
-        → IsMiddle n base disk header slot entry p bytes → s.blocks ≡ n → s.files ≡ stored_files base → f.name ≡ bare_name (entry_at base slot).name → f.position ≤ (entry_at base slot).size → k ≤ length new
-        → entry.size ≡ length (overwritten f.position (take k new) (open_bytes f s)) → (k ≡ length new) ⊎ ((entry.size ≡ f.position + k) × IsFull p entry.size) → fitting f new s ≡ k }
+    ensures { (n : ℕ) (base disk : List ℕ) (header : Header) (slot : ℕ) (entry : Entry) (p : Places) (bytes : List ℕ) (f : OpenFile)
+        (s : FileSystem) (new : List ℕ) (k : ℕ)
+        → IsMiddle n base disk header slot entry p bytes → s.blocks ≡ n → s.files ≡ stored_files base
+        → f.name ≡ bare_name (entry_at base slot).name → f.position ≤ (entry_at base slot).size → k ≤ length new
+        → entry.size ≡ length (overwritten f.position (take k new) (open_bytes f s))
+        → (k ≡ length new) ⊎ ((entry.size ≡ f.position + k) × IsFull p entry.size) → fitting f new s ≡ k }
 {}

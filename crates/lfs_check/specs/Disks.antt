@@ -57,6 +57,7 @@ pub record IsRight (disk : List ℕ) (n : ℕ) (p : Places) : Type 0 where
   pub no_index : p.held_index ≡ []
   pub no_data : p.held_data ≡ []
   pub directory : IsDirectory disk
-  pub names : (k : ℕ) → k < 78 → entry_is_used (entry_at disk k) ≡ true → (is_name 27 (entry_at disk k).name ≡ true) × ((j : ℕ) → j < k → is_this (entry_at disk k).name (entry_at disk j) ≡ false)
+  pub names : (k : ℕ) → k < 78 → entry_is_used (entry_at disk k) ≡ true
+      → (is_name 27 (entry_at disk k).name ≡ true) × ((j : ℕ) → j < k → is_this (entry_at disk k).name (entry_at disk j) ≡ false)
   pub counted : count_by entry_is_used (entries disk) ≡ (header_on disk).files
   pub sizes : (k : ℕ) → k < 78 → entry_is_used (entry_at disk k) ≡ true → (entry_at disk k).size ≤ room (disk_geometry n)

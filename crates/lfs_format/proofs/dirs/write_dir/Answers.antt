@@ -24,12 +24,17 @@ loop-e-preserved c =
     let e = c.loop-e.e in
     let lt : e < length c.args.dir.now.entries = omega (arith, c.put_words.ensures.len) in
     let part = c.put_entry.new.part in
-    let fits : EntryFits (get_or c.args.dir.now.entries e void_entry) = record { size = c.put_entry.ensures.words 0; first = c.put_entry.ensures.words 1; name = c.put_entry.ensures.name } in
-    let len : length part ≡ 36 = ap length c.put_entry.ensures.bytes ∙ length-entry_bytes (get_or c.args.dir.now.entries e void_entry) fits in
+    let fits : EntryFits (get_or c.args.dir.now.entries e void_entry) =
+    record { size = c.put_entry.ensures.words 0; first = c.put_entry.ensures.words 1; name = c.put_entry.ensures.name } in
+    let len : length part ≡ 36 = ap length c.put_entry.ensures.bytes
+    ∙ length-entry_bytes (get_or c.args.dir.now.entries e void_entry) fits in
     let k : (48 + 36 * e) - (12 + 36 * e) ≡ 36 = omega arith in
     record {
-      len = ap (λ n. length (put_mid (12 + 36 * e) n c.loop-e.block part)) k ∙ length-put (12 + 36 * e) 36 c.loop-e.block part len (omega (arith, i.len)) ∙ i.len;
-      front = ap (λ n. take (12 + 36 * (e + 1)) (put_mid (12 + 36 * e) n c.loop-e.block part)) k ∙ written_more (word_bytes (dir_words c.args.dir.now)) c.loop-e.block part c.args.dir.now.entries e lt (omega (arith, i.len)) c.put_entry.ensures.bytes len i.front;
+      len = ap (λ n. length (put_mid (12 + 36 * e) n c.loop-e.block part)) k
+          ∙ length-put (12 + 36 * e) 36 c.loop-e.block part len (omega (arith, i.len)) ∙ i.len;
+      front = ap (λ n. take (12 + 36 * (e + 1)) (put_mid (12 + 36 * e) n c.loop-e.block part)) k
+          ∙ written_more (word_bytes (dir_words c.args.dir.now)) c.loop-e.block part c.args.dir.now.entries e lt
+          (omega (arith, i.len)) c.put_entry.ensures.bytes len i.front;
       fits = below_more _ _ i.fits fits;
     }
 
