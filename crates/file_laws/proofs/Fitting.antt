@@ -27,7 +27,7 @@ greatest_is test (suc n) k h passes fails = ⊎_elim
     (cases_lt k (suc n))
 
 -- the length of bytes with others in their place
-length_overwritten : (q : ℕ) (new old : List ℕ) → q ≤ length old
+pub length_overwritten : (q : ℕ) (new old : List ℕ) → q ≤ length old
     → length (overwritten q new old) ≡ q + length new + (length old - (q + length new))
 length_overwritten q new old h =
     let a = length-append (take q old) (new ++ drop (q + length new) old) in let b = length-append new (drop (q + length new) old) in

@@ -17,3 +17,6 @@ pub mod Fitting
 pub mod Kept
 pub mod Holding
 pub mod Resting
+pub mod Reached
+pub mod Patched
+pub mod Cutting

@@ -3,3 +3,4 @@ pub mod Rewriting
 pub mod Middle
 pub mod Holds
 pub mod Fitting
+pub mod Changing

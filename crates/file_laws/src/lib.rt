@@ -12,6 +12,7 @@ mod changes;
 mod directory;
 mod naming;
 mod prefix;
+mod puts;
 mod rest;
 
 pub use bytes::{bytes_are_put, bytes_are_read};
@@ -25,4 +26,8 @@ pub use directory::{
 };
 pub use naming::{a_name_has_its_file, names_are_texts};
 pub use prefix::{a_full_disk_has_no_room, the_longest_prefix_is_put};
+pub use puts::{
+    a_cut_file_is_freed, a_file_is_read, bytes_are_appended, bytes_are_patched,
+    free_blocks_are_read,
+};
 pub use rest::{files_are_held_between_calls, files_at_rest_are_held};
