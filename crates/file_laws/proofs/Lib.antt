@@ -20,3 +20,4 @@ pub mod Resting
 pub mod Reached
 pub mod Patched
 pub mod Cutting
+pub mod Effects

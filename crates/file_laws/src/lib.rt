@@ -8,6 +8,7 @@
 #![tactic(auto)]
 
 mod bytes;
+mod calls;
 mod changes;
 mod directory;
 mod naming;
@@ -16,6 +17,9 @@ mod puts;
 mod rest;
 
 pub use bytes::{bytes_are_put, bytes_are_read};
+pub use calls::{
+    files_are_emptied_and_deleted, putc_puts_its_byte, reads_give_bytes, writes_put_bytes,
+};
 pub use changes::{
     a_change_begins, a_data_block_is_added, a_file_is_cut, an_index_block_is_added,
     blocks_are_freed, blocks_are_put, blocks_are_taken,
