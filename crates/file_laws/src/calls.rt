@@ -19,8 +19,11 @@ pub fn reads_give_bytes()
         → f.name ≡ bare_name (entry_at base slot).name → 0 < n → f.position < (entry_at base slot).size
         → many ≡ length (take n (drop f.position (entry_bytes base (entry_at base slot))))
         → ◌≡◌ {A = FileEffect} (file_effect (model.Read d n) bytes s)
-        (record { system = record s { devices = slice_set s.devices d (Some (record f { position = f.position + many })) }; reply = pos many;
-        bytes = take n (drop f.position (entry_bytes base (entry_at base slot))) }) }
+        (record {
+          system = record s { devices = slice_set s.devices d (Some (record f { position = f.position + many })) };
+          reply = pos many;
+          bytes = take n (drop f.position (entry_bytes base (entry_at base slot)));
+        }) }
     ensures byte { (base bytes : List ℕ) (d slot b : ℕ) (f : OpenFile) (s : FileSystem) → IsCleanImage base → slot < 78
         → entry_is_used (entry_at base slot) ≡ true → open_at s d ≡ Some f → f.may_read ≡ true → s.files ≡ stored_files base
         → f.name ≡ bare_name (entry_at base slot).name → take 1 (drop f.position (entry_bytes base (entry_at base slot))) ≡ b ∷ []
@@ -36,8 +39,11 @@ pub fn writes_put_bytes()
         → stored_files made ≡ with_contents (bare_name (entry_at base slot).name)
         (overwritten f.position (take k new) (entry_bytes base (entry_at base slot))) (stored_files base)
         → ◌≡◌ {A = FileEffect} (file_effect (model.Write d (length new)) new s)
-        (record { system = record s { files = stored_files made; devices = slice_set s.devices d (Some (record f { position = f.position + k })) };
-        reply = pos k; bytes = [] }) }
+        (record {
+          system = record s { files = stored_files made; devices = slice_set s.devices d (Some (record f { position = f.position + k })) };
+          reply = pos k;
+          bytes = [];
+        }) }
     ensures refused { (new : List ℕ) (d : ℕ) (f : OpenFile) (s : FileSystem) → open_at s d ≡ Some f → fitting f new s ≡ 0 → 0 < length new
         → file_effect (model.Write d (length new)) new s ≡ refused_effect s }
     ensures none { (base : List ℕ) (d slot : ℕ) (f : OpenFile) (s : FileSystem) → IsCleanImage base → slot < 78
@@ -53,8 +59,11 @@ pub fn putc_puts_its_byte()
         → stored_files made ≡ with_contents (bare_name (entry_at base slot).name)
         (overwritten f.position (b ∷ []) (entry_bytes base (entry_at base slot))) (stored_files base)
         → ◌≡◌ {A = FileEffect} (file_effect (model.Putc d b) bytes s)
-        (record { system = record s { files = stored_files made; devices = slice_set s.devices d (Some (record f { position = f.position + 1 })) };
-        reply = pos 0; bytes = [] }) }
+        (record {
+          system = record s { files = stored_files made; devices = slice_set s.devices d (Some (record f { position = f.position + 1 })) };
+          reply = pos 0;
+          bytes = [];
+        }) }
     ensures refused { (bytes : List ℕ) (d b : ℕ) (f : OpenFile) (s : FileSystem) → open_at s d ≡ Some f → fitting f (b ∷ []) s ≡ 0
         → file_effect (model.Putc d b) bytes s ≡ refused_effect s }
 {}
@@ -65,8 +74,11 @@ pub fn files_are_emptied_and_deleted()
         → s.files ≡ stored_files base → f.name ≡ bare_name (entry_at base slot).name
         → stored_files made ≡ with_contents (bare_name (entry_at base slot).name) [] (stored_files base)
         → ◌≡◌ {A = FileEffect} (file_effect (model.Truncate d) bytes s)
-        (record { system = record s { files = stored_files made; devices = slice_set s.devices d (Some (record f { position = 0 })) };
-        reply = pos 0; bytes = [] }) }
+        (record {
+          system = record s { files = stored_files made; devices = slice_set s.devices d (Some (record f { position = 0 })) };
+          reply = pos 0;
+          bytes = [];
+        }) }
     ensures deleted { (base made bytes : List ℕ) (slot : ℕ) (s : FileSystem) → IsCleanImage base → slot < 78
         → entry_is_used (entry_at base slot) ≡ true → is_open (bare_name (entry_at base slot).name) s ≡ false → s.files ≡ stored_files base
         → stored_files made ≡ without_file (bare_name (entry_at base slot).name) (stored_files base)
