@@ -1,6 +1,5 @@
 -- A port is made, deleted or reset: what is done is what calls 31 to 33 do.
-use Rattle.std.proofs.Common.{◌≡◌, ◌≢◌, ◌∙◌, ℕ, ◌<◌, ◌≤◌, true, cond, nat_le, ℤ, pos, negsuc, ◌≤ℤ◌, List, [], Option, None, Some, option_map, refl, sym, ap, subst, arith}
-use Rattle.std.proofs.lemmas.Bool.Decides.{nat_tests}
+use Rattle.std.proofs.Common.{◌≡◌, ◌≢◌, ◌∙◌, ℕ, ◌<◌, Bool, true, false, cond, nat_le, ℤ, pos, negsuc, ◌≤ℤ◌, List, [], Option, None, Some, option_map, refl, sym, ap, subst, arith}
 use Rattle.std.proofs.lemmas.Int.{ints}
 use Rattle.std.specs.Prelude.{IsSome}
 use Rattle.ports.specs.Calls.{free_place, with_deleted, with_made, with_reset}
@@ -28,6 +27,7 @@ use Rattle.xinu_model.specs.Tables.{no_semaphore, Semaphore, semaphore_at, state
 use Rattle.kernel_tables.specs.Waking.{are_any}
 use Rattle.kernel_tables.proofs.Waiters.{sound_all_ready}
 use Rattle.kernel_state.specs.Released.{IsOfPart}
+use Rattle.core_calls.specs.ClearedPorts.{CanClear, cleared_queue}
 use Rattle.core_calls.proofs.Disposals.{disposed_keeps}
 use Rattle.kernel_state.proofs.GoingOn.{emptied_is, gone_on}
 use Rattle.core_calls.proofs.InTurn.{changed, changed_other, in_turn, IsBlind, released_to}
@@ -215,29 +215,40 @@ port_reset q head queue d u v senders receivers p r used c e =
     (record { ports = renewed q (Some (record queue { messages = [] })) ports; next_port = d.state.parts.next_port }) d) en
     ∙ sym (ap (emptied_port q queue) (both_emptied q queue d k a used))
 
--- What is known once the messages of port q were disposed of: it can be renewed.
+-- The port that a word names is in use with this head, and may be cleared so.
+pub record Clears (how q : ℕ) (head : PortHead) (s : Xinu) : Type 0 where
+  pub queue : PortQueue
+  pub used : (port_at s.parts.ports q).queue ≡ Some queue
+  pub is : head ≡ head_of queue
+  pub allowed : nat_le how 1 ≡ true
+
+pub clears : (word how q : ℕ) (head : PortHead) (s : Xinu) → q ≡ word → Some head ≡ option_map head_of (cleared_queue word how s)
+    → Clears how q head s
+clears word how q head s named f = by_test (nat_le how 1) refl (port_at s.parts.ports word).queue refl f
+  where
+    by_test : (b : Bool) → nat_le how 1 ≡ b → (o : Option PortQueue) → (port_at s.parts.ports word).queue ≡ o
+        → Some head ≡ option_map head_of (cond b o None) → Clears how q head s
+    by_test true h (Some queue) e f = record { queue = queue; used = ap (λ n. (port_at s.parts.ports n).queue) named ∙ e; is = cc; allowed = h }
+    by_test true h None e f = absurd (cc)
+    by_test false h o e f = absurd (cc)
+
+-- What is known once the messages of port q were disposed of: it can be cleared, and the ports are the same.
 pub record IsDisposed (q : ℕ) (head : PortHead) (d e : CallState) : Type 0 where
-  pub tables : IsSoundTables e.state.tables
-  pub ports : ArePorts e.state.tables e.state.parts.ports
-  pub used : Some head ≡ option_map head_of (port_at e.state.parts.ports q).queue
-  pub number : (port_at e.state.parts.ports q).seq < 4294967295
+  pub clears : CanClear q head e
   pub same : e.state.parts.ports ≡ d.state.parts.ports
 
-pub is_disposed : (q how : ℕ) (head : PortHead) (d e was : CallState) → d ≡ was → IsSoundTables was.state.tables
-    → ArePools was.state.tables was.state.parts.pools → ArePorts was.state.tables was.state.parts.ports
-    → ((r : ℕ) → (port_at was.state.parts.ports r).seq < 4294967295) → Some head ≡ option_map head_of (port_at d.state.parts.ports q).queue
+pub is_disposed : (q how : ℕ) (head : PortHead) (d e : CallState) → IsSoundTables d.state.tables → ArePools d.state.tables d.state.parts.pools
+    → ArePorts d.state.tables d.state.parts.ports → ((r : ℕ) → (port_at d.state.parts.ports r).seq < 4294967295) → Clears how q head d.state
     → e ≡ disposed how (queued (port_at d.state.parts.ports q).queue) d → IsDisposed q head d e
-is_disposed q how head d e was view k p a n h is =
-    let S : CallState → Type 0 = λ d. IsSoundTables d.state.tables in
-    let P : CallState → Type 0 = λ d. ArePools d.state.tables d.state.parts.pools in
-    let A : CallState → Type 0 = λ d. ArePorts d.state.tables d.state.parts.ports in
-    let N : CallState → Type 0 = λ d. (port_at d.state.parts.ports q).seq < 4294967295 in
-    let kept = disposed_keeps how (queued (port_at d.state.parts.ports q).queue) d (subst S (sym view) k) (subst P (sym view) p) in
+is_disposed q how head d e k p a n c is =
+    let kept = disposed_keeps how (queued (port_at d.state.parts.ports q).queue) d k p in
     subst (IsDisposed q head d) (sym is) (record {
-      tables = kept.tables;
-      ports = kept.ports (subst A (sym view) a);
-      used = h ∙ ap (λ l. option_map head_of (port_at l q).queue) (sym kept.same);
-      number = subst (λ l. (port_at l q).seq < 4294967295) (sym kept.same) (subst N (sym view) (n q));
+      clears = record {
+        tables = kept.tables;
+        ports = kept.ports a;
+        used = ap Some c.is ∙ sym (ap (option_map head_of) c.used) ∙ ap (λ l. option_map head_of (port_at l q).queue) (sym kept.same);
+        number = subst (λ l. (port_at l q).seq < 4294967295) (sym kept.same) (n q);
+      };
       same = kept.same;
     })
 
@@ -246,10 +257,6 @@ pub disposed_at_start : (q how : ℕ) (queue : PortQueue) (d e : CallState) → 
     → e ≡ disposed how (queued (port_at d.state.parts.ports q).queue) d → e ≡ disposed how queue.messages (start d.state)
 disposed_at_start q how queue d e begins used is =
     is ∙ ap (λ o. disposed how (queued o) d) used ∙ ap (disposed how queue.messages) begins
-
--- a word that isn't above 1
-pub at_most_one : (how : ℕ) → how ≤ 1 → nat_le how 1 ≡ true
-at_most_one how h = grind (arith, nat_tests)
 
 -- call 32
 pub ptdelete_is : (s : Xinu) (q word how : ℕ) (queue : PortQueue) → q ≡ word → (port_at s.parts.ports q).queue ≡ Some queue

@@ -1,1 +1,2 @@
+pub mod ClearedPorts
 pub mod PortRoom

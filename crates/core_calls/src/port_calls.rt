@@ -4,7 +4,8 @@
 //! A port has two semaphores: one has a token for each message for which there is room, the other one for each message. A call that waited
 //! looks first whether its port is as it was when it began.
 
-ghost use Rattle.std.specs.Prelude.{ℕ, ◌≡◌, ◌≢◌, ◌<◌, option_map, Some};
+ghost use Rattle.std.specs.Prelude.{ℕ, ◌≡◌, ◌≢◌, ◌<◌, IfSome, option_map, Some};
+ghost use Rattle.core_calls.specs.ClearedPorts.{CanClear, cleared_queue};
 ghost use Rattle.core_calls.specs.PortRoom.{HaveRoom};
 ghost use Rattle.kernel_state.specs.Results.{came_to, IsStart};
 ghost use Rattle.ports.specs.Table.{head_of};
@@ -47,17 +48,11 @@ pub(crate) fn ptdelete(k: &mut KernelState, word: u32, how: u32) -> Next
     requires numbers { (q : ℕ) → (port_at k.old.state.parts.ports q).seq < 4294967295 }
     ensures ptdelete { came_to k.new result ≡ model.ptdelete word how k.old.state }
 {
-    let Some(q) = Port::from_word(word) else {
+    let Some(port) = used_port(k, word, how) else {
         return Next::Returns(SYSERR);
     };
-    let Some(head) = k.ports.head_of(q) else {
-        return Next::Returns(SYSERR);
-    };
-    if how > 1 {
-        return Next::Returns(SYSERR);
-    }
-    dispose(k, q, how);
-    delete_port(k, q, &head);
+    dispose(k, port.0, how);
+    delete_port(k, port.0, &port.1);
     Next::Returns(0)
 }
 
@@ -71,17 +66,11 @@ pub(crate) fn ptreset(k: &mut KernelState, word: u32, how: u32) -> Next
     requires numbers { (q : ℕ) → (port_at k.old.state.parts.ports q).seq < 4294967295 }
     ensures ptreset { came_to k.new result ≡ model.ptreset word how k.old.state }
 {
-    let Some(q) = Port::from_word(word) else {
+    let Some(port) = used_port(k, word, how) else {
         return Next::Returns(SYSERR);
     };
-    let Some(head) = k.ports.head_of(q) else {
-        return Next::Returns(SYSERR);
-    };
-    if how > 1 {
-        return Next::Returns(SYSERR);
-    }
-    dispose(k, q, how);
-    reset_port(k, q, &head);
+    dispose(k, port.0, how);
+    reset_port(k, port.0, &port.1);
     Next::Returns(0)
 }
 
@@ -150,6 +139,21 @@ pub(crate) fn go_on_ptrecv(k: &mut KernelState, ticket: PortTicket) -> Next
     finish_receive(k, ticket)
 }
 
+// The port that a word names, with its head. `None` if it isn't in use, or `how` says neither that its messages are dropped (0) nor that they
+// are given back as buffers (1).
+fn used_port(k: &KernelState, word: u32, how: u32) -> Option<(Port, PortHead)>
+    requires ports { ArePorts k.now.state.tables k.now.state.parts.ports }
+    ensures head { option_map (λ x. x.1) result ≡ option_map head_of (cleared_queue word how k.now.state) }
+    ensures named { IfSome result (λ x. x.0 ≡ word) }
+{
+    let q = Port::from_word(word)?;
+    if how > 1 {
+        return None;
+    }
+    let head = k.ports.head_of(q)?;
+    Some((q, head))
+}
+
 // The messages of port `q` are dropped, or given back as buffers if `how` is 1.
 fn dispose(k: &mut KernelState, q: Port, how: u32)
     requires sound { IsSoundTables k.old.state.tables }
@@ -164,10 +168,7 @@ fn dispose(k: &mut KernelState, q: Port, how: u32)
 
 // All who wait on port `q`, which has this head, go on, the senders first, and its semaphores and its number are free.
 fn delete_port(k: &mut KernelState, q: Port, head: &PortHead)
-    requires sound { IsSoundTables k.old.state.tables }
-    requires ports { ArePorts k.old.state.tables k.old.state.parts.ports }
-    requires used { Some head.now ≡ option_map head_of (port_at k.old.state.parts.ports q).queue }
-    requires number { (port_at k.old.state.parts.ports q).seq < 4294967295 }
+    requires clears { CanClear q head.now k.old }
     ensures deleted { (queue : PortQueue) → (port_at k.old.state.parts.ports q).queue ≡ Some queue →
         k.new ≡ model.deleted q queue (emptied queue.receive (emptied queue.send k.old)) }
 {
@@ -180,10 +181,7 @@ fn delete_port(k: &mut KernelState, q: Port, head: &PortHead)
 
 // All who wait on port `q`, which has this head, go on, the senders first, and it is as it was made.
 fn reset_port(k: &mut KernelState, q: Port, head: &PortHead)
-    requires sound { IsSoundTables k.old.state.tables }
-    requires ports { ArePorts k.old.state.tables k.old.state.parts.ports }
-    requires used { Some head.now ≡ option_map head_of (port_at k.old.state.parts.ports q).queue }
-    requires number { (port_at k.old.state.parts.ports q).seq < 4294967295 }
+    requires clears { CanClear q head.now k.old }
     ensures reset { (queue : PortQueue) → (port_at k.old.state.parts.ports q).queue ≡ Some queue →
         k.new ≡ model.emptied_port q queue (emptied queue.receive (emptied queue.send k.old)) }
 {

@@ -12,25 +12,25 @@ use Rattle.core_calls.proofs.port_calls.delete_port.Goals as goal
 pub delete_semaphore-senders-requires-clause-runs : goal.delete_semaphore-senders-requires-clause-runs
 delete_semaphore-senders-requires-clause-runs c =
     let d = kernel_state c.k.inside in
-    let r = is_renewable c.args.q c.args.head.now d c.args.k.now c.k.view_is c.requires.sound c.requires.ports c.requires.used in
+    let r = is_renewable c.args.q c.args.head.now d c.args.k.now c.k.view_is c.requires.clears.tables c.requires.clears.ports c.requires.clears.used in
     r.tables.runs
 
 pub delete_semaphore-senders-requires-clause-used : goal.delete_semaphore-senders-requires-clause-used
 delete_semaphore-senders-requires-clause-used c =
     let d = kernel_state c.k.inside in
-    let r = is_renewable c.args.q c.args.head.now d c.args.k.now c.k.view_is c.requires.sound c.requires.ports c.requires.used in
+    let r = is_renewable c.args.q c.args.head.now d c.args.k.now c.k.view_is c.requires.clears.tables c.requires.clears.ports c.requires.clears.used in
     port_used c.args.q (semaphore_at d.state.tables c.args.head.now.send).owner (send_owner c.args.q c.args.head.now d r)
 
 pub delete_semaphore-senders-requires-clause-no_device : goal.delete_semaphore-senders-requires-clause-no_device
 delete_semaphore-senders-requires-clause-no_device c =
     let d = kernel_state c.k.inside in
-    let r = is_renewable c.args.q c.args.head.now d c.args.k.now c.k.view_is c.requires.sound c.requires.ports c.requires.used in
+    let r = is_renewable c.args.q c.args.head.now d c.args.k.now c.k.view_is c.requires.clears.tables c.requires.clears.ports c.requires.clears.used in
     port_no_device c.args.q (semaphore_at d.state.tables c.args.head.now.send).owner (send_owner c.args.q c.args.head.now d r)
 
 pub delete_semaphore-receivers-requires-clause-runs : goal.delete_semaphore-receivers-requires-clause-runs
 delete_semaphore-receivers-requires-clause-runs c =
     let d = kernel_state c.k.inside in
-    let r = is_renewable c.args.q c.args.head.now d c.args.k.now c.k.view_is c.requires.sound c.requires.ports c.requires.used in
+    let r = is_renewable c.args.q c.args.head.now d c.args.k.now c.k.view_is c.requires.clears.tables c.requires.clears.ports c.requires.clears.used in
     let u = c.delete_semaphore-senders.new.self in
     let f = can_follow c.args.q c.args.head.now d u given_up r c.delete_semaphore-senders.ensures.deleted in
     f.runs
@@ -38,7 +38,7 @@ delete_semaphore-receivers-requires-clause-runs c =
 pub delete_semaphore-receivers-requires-clause-used : goal.delete_semaphore-receivers-requires-clause-used
 delete_semaphore-receivers-requires-clause-used c =
     let d = kernel_state c.k.inside in
-    let r = is_renewable c.args.q c.args.head.now d c.args.k.now c.k.view_is c.requires.sound c.requires.ports c.requires.used in
+    let r = is_renewable c.args.q c.args.head.now d c.args.k.now c.k.view_is c.requires.clears.tables c.requires.clears.ports c.requires.clears.used in
     let u = c.delete_semaphore-senders.new.self in
     let f = can_follow c.args.q c.args.head.now d u given_up r c.delete_semaphore-senders.ensures.deleted in
     port_used c.args.q (semaphore_at u c.args.head.now.receive).owner f.owned
@@ -46,7 +46,7 @@ delete_semaphore-receivers-requires-clause-used c =
 pub delete_semaphore-receivers-requires-clause-no_device : goal.delete_semaphore-receivers-requires-clause-no_device
 delete_semaphore-receivers-requires-clause-no_device c =
     let d = kernel_state c.k.inside in
-    let r = is_renewable c.args.q c.args.head.now d c.args.k.now c.k.view_is c.requires.sound c.requires.ports c.requires.used in
+    let r = is_renewable c.args.q c.args.head.now d c.args.k.now c.k.view_is c.requires.clears.tables c.requires.clears.ports c.requires.clears.used in
     let u = c.delete_semaphore-senders.new.self in
     let f = can_follow c.args.q c.args.head.now d u given_up r c.delete_semaphore-senders.ensures.deleted in
     port_no_device c.args.q (semaphore_at u c.args.head.now.receive).owner f.owned
@@ -54,7 +54,7 @@ delete_semaphore-receivers-requires-clause-no_device c =
 pub returns : goal.returns
 returns c =
     let d = kernel_state c.k.inside in
-    let r = is_renewable c.args.q c.args.head.now d c.args.k.now c.k.view_is c.requires.sound c.requires.ports c.requires.used in
+    let r = is_renewable c.args.q c.args.head.now d c.args.k.now c.k.view_is c.requires.clears.tables c.requires.clears.ports c.requires.clears.used in
     let q = c.args.q in
     let head = c.args.head.now in
     let senders = c.delete_semaphore-senders.result.items in

@@ -16,26 +16,26 @@ use Rattle.core_calls.proofs.port_calls.reset_port.Goals as goal
 pub reset_semaphore-senders-requires-clause-runs : goal.reset_semaphore-senders-requires-clause-runs
 reset_semaphore-senders-requires-clause-runs c =
     let d = kernel_state c.k.inside in
-    let r = is_renewable c.args.q c.args.head.now d c.args.k.now c.k.view_is c.requires.sound c.requires.ports c.requires.used in
+    let r = is_renewable c.args.q c.args.head.now d c.args.k.now c.k.view_is c.requires.clears.tables c.requires.clears.ports c.requires.clears.used in
     r.tables.runs
 
 pub reset_semaphore-senders-requires-clause-used : goal.reset_semaphore-senders-requires-clause-used
 reset_semaphore-senders-requires-clause-used c =
     let d = kernel_state c.k.inside in
-    let r = is_renewable c.args.q c.args.head.now d c.args.k.now c.k.view_is c.requires.sound c.requires.ports c.requires.used in
+    let r = is_renewable c.args.q c.args.head.now d c.args.k.now c.k.view_is c.requires.clears.tables c.requires.clears.ports c.requires.clears.used in
     port_used c.args.q (semaphore_at d.state.tables c.args.head.now.send).owner (send_owner c.args.q c.args.head.now d r)
 
 pub reset_semaphore-senders-requires-clause-tokens : goal.reset_semaphore-senders-requires-clause-tokens
 reset_semaphore-senders-requires-clause-tokens c =
     let d = kernel_state c.k.inside in
-    let r = is_renewable c.args.q c.args.head.now d c.args.k.now c.k.view_is c.requires.sound c.requires.ports c.requires.used in
+    let r = is_renewable c.args.q c.args.head.now d c.args.k.now c.k.view_is c.requires.clears.tables c.requires.clears.ports c.requires.clears.used in
     let fits : SFits w32 c.args.head.now.first_count = search rules in
     subst (λ z. pos 0 ≤ℤ z) (sym (to_z-of_z w32 c.args.head.now.first_count fits)) (head_counted c.args.head.now r.has.queue r.has.is)
 
 pub reset_semaphore-receivers-requires-clause-runs : goal.reset_semaphore-receivers-requires-clause-runs
 reset_semaphore-receivers-requires-clause-runs c =
     let d = kernel_state c.k.inside in
-    let r = is_renewable c.args.q c.args.head.now d c.args.k.now c.k.view_is c.requires.sound c.requires.ports c.requires.used in
+    let r = is_renewable c.args.q c.args.head.now d c.args.k.now c.k.view_is c.requires.clears.tables c.requires.clears.ports c.requires.clears.used in
     let u = c.reset_semaphore-senders.new.self in
     let fits : SFits w32 c.args.head.now.first_count = search rules in
     let between = c.reset_semaphore-senders.ensures.reset
@@ -46,7 +46,7 @@ reset_semaphore-receivers-requires-clause-runs c =
 pub reset_semaphore-receivers-requires-clause-used : goal.reset_semaphore-receivers-requires-clause-used
 reset_semaphore-receivers-requires-clause-used c =
     let d = kernel_state c.k.inside in
-    let r = is_renewable c.args.q c.args.head.now d c.args.k.now c.k.view_is c.requires.sound c.requires.ports c.requires.used in
+    let r = is_renewable c.args.q c.args.head.now d c.args.k.now c.k.view_is c.requires.clears.tables c.requires.clears.ports c.requires.clears.used in
     let u = c.reset_semaphore-senders.new.self in
     let fits : SFits w32 c.args.head.now.first_count = search rules in
     let between = c.reset_semaphore-senders.ensures.reset
@@ -57,7 +57,7 @@ reset_semaphore-receivers-requires-clause-used c =
 pub returns : goal.returns
 returns c =
     let d = kernel_state c.k.inside in
-    let r = is_renewable c.args.q c.args.head.now d c.args.k.now c.k.view_is c.requires.sound c.requires.ports c.requires.used in
+    let r = is_renewable c.args.q c.args.head.now d c.args.k.now c.k.view_is c.requires.clears.tables c.requires.clears.ports c.requires.clears.used in
     let q = c.args.q in
     let head = c.args.head.now in
     let senders = c.reset_semaphore-senders.result.items in
