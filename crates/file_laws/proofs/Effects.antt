@@ -1,5 +1,5 @@
 -- The effects of calls on the files of a clean disk.
-use Rattle.std.proofs.Common.{◌≡◌, ℕ, zero, suc, ◌+◌, ◌<◌, ◌≤◌, ◌==◌, Bool, true, false, cond, not, ◌&&◌, ◌||◌, nat_eq, nat_lt, nat_le, if◌then◌else◌, List, [], ◌∷◌, ◌++◌, length, map, take, drop, refl, sym, ap, ◌∙◌, arith, slice_index_or, slice_set, bytes_eq, length-take, Option, Some, None, is_some, ℤ, pos, negsuc}
+use Rattle.std.proofs.Common.{◌≡◌, ℕ, ◌+◌, ◌<◌, ◌≤◌, ◌==◌, Bool, true, false, cond, not, ◌&&◌, ◌||◌, nat_lt, nat_le, if◌then◌else◌, List, [], ◌∷◌, ◌++◌, length, map, take, drop, refl, sym, ap, ◌∙◌, arith, slice_set, bytes_eq, length-take, Option, Some, None, is_some, pos, negsuc}
 use Rattle.std.proofs.lemmas.List.{set-get_or, take-append-drop}
 use Rattle.std.specs.Option.{option_map}
 use Rattle.std.proofs.lemmas.Bool.Decides.{nat_tests}
@@ -8,18 +8,16 @@ use Rattle.lfs_check.specs.Rules.{entry_is_used}
 use Rattle.lfs_check.specs.Fields.{geometry_of, fields_of, directory_entries}
 use Rattle.lfs_check.specs.Disks.{entries, entry_at, is_this}
 use Rattle.lfs_check.proofs.Directories.{entries_are}
-use Rattle.lfs_layout.specs.Files.{File, bare_name, files_of, placed_files, sorted, with_file, names_of}
+use Rattle.lfs_layout.specs.Files.{File, bare_name, files_of, placed_files, sorted}
 use Rattle.lfs_layout.specs.Images.{IsCleanImage}
 use Rattle.lfs_layout.proofs.CleanOpens.{placed_names}
 use Rattle.xinu_model.specs.Files.Calls as model
 use Rattle.xinu_model.specs.Files.Calls.{file_effect}
 use Rattle.xinu_model.specs.Files.Stored.{StoredFile, file_named, bytes_in, with_contents, without_file}
 use Rattle.xinu_model.specs.Files.Systems.{OpenFile, FileSystem, FileEffect, open_at, open_bytes, on_open, is_open, replies, refused_effect}
-use Rattle.xinu_model.specs.Files.Writing.{overwritten, files_with, fitting, write_file, truncate_file, have_room, putc_file, greatest}
+use Rattle.xinu_model.specs.Files.Writing.{overwritten, files_with, fitting, write_file, truncate_file, have_room, putc_file}
 use Rattle.xinu_model.specs.Files.Reading.{read_file, getc_file, first_byte, taken}
-use Rattle.xinu_model.specs.Files.Opening.{delete_file}
 use Rattle.file_laws.specs.StoredFiles.{stored, stored_files, entry_bytes}
-use Rattle.file_laws.proofs.Names.{either-way}
 use Rattle.file_laws.proofs.Named.{AreApartFiles, file_by, entry_by, file_in, find_at, by_entries, named_at, bytes_sized, names_apart, clean_names, entry_name, entry_right, length_entries}
 use Rattle.file_laws.proofs.Finished.{with_bytes, stored_rewritten, sorted_rewritten}
 

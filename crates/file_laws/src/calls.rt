@@ -12,7 +12,7 @@ ghost use Rattle.xinu_model.specs.Files.Systems.{OpenFile, FileSystem, FileEffec
 ghost use Rattle.xinu_model.specs.Files.Writing.{overwritten, fitting};
 ghost use Rattle.file_laws.specs.StoredFiles.{stored_files, entry_bytes};
 
-/// `read` and `getc` before the end give the bytes that are there, and move the position behind them.
+/// `read` and `getc` before the end give the bytes that are there, and move the position past them.
 pub fn reads_give_bytes()
     ensures read { (base bytes : List ℕ) (d n slot many : ℕ) (f : OpenFile) (s : FileSystem) → IsCleanImage base → slot < 78
         → entry_is_used (entry_at base slot) ≡ true → open_at s d ≡ Some f → f.may_read ≡ true → s.files ≡ stored_files base
