@@ -2,7 +2,7 @@
 
 use rv_asm::assemble;
 use std::alloc::{AllocError, Global};
-use std::io::{self, ErrorKind};
+use std::io;
 
 /// How many bytes the header of an image file has.
 const HEADER: usize = 28;
@@ -34,23 +34,28 @@ fn add_call(alloc: Global, text: &mut String, call: &str) -> Result<(), AllocErr
     Ok(())
 }
 
-/// The image file of a text of assembler at a place, of this priority.
+/// The image file of a text of assembler at a place, of this priority; none if the text has a fault or is too long.
 ///
 /// # Errors
-/// `InvalidData` if the text has a fault or is too long; out of memory.
-pub(crate) fn image(alloc: Global, place: u32, priority: &str, text: &str) -> io::Result<Vec<u8>> {
+/// Out of memory.
+pub(crate) fn image(
+    alloc: Global,
+    place: u32,
+    priority: &str,
+    text: &str,
+) -> io::Result<Option<Vec<u8>>> {
     let source = format!(in alloc; ".place {place}\n.priority {priority}\n{text}")?;
     if source.len() > 65_536 {
-        return Err(ErrorKind::InvalidData)?;
+        return Ok(None);
     }
     let Ok(mut file) = assemble(alloc, source.as_bytes()) else {
-        return Err(ErrorKind::InvalidData)?;
+        return Ok(None);
     };
     if file.len() > HEADER + CONTENT as usize {
-        return Err(ErrorKind::InvalidData)?;
+        return Ok(None);
     }
     file.resize(HEADER + CONTENT as usize, 0)?;
     // The length of the content is at byte 12.
     file.as_mut_slice()[12..16].copy_from_slice(&CONTENT.to_le_bytes());
-    Ok(file)
+    Ok(Some(file))
 }

@@ -1,6 +1,6 @@
-//! Plays the sessions of the files that its arguments name, and prints what comes out otherwise than it is written there.
+//! Plays the sessions of the texts that its arguments name. It prints how many commands printed what is written, and where another did not.
 //!
-//! A file is Markdown. Below each heading its lines that are indented by four spaces are a session at a terminal. A line of it that begins
+//! A text is Markdown. Below each heading its lines that are indented by four spaces are a session at a terminal. A line of it that begins
 //! with `$` is a command, and the lines below are its own:
 //!
 //! | Command | Its lines |
@@ -11,25 +11,29 @@
 //! | `$ xinu ARGUMENTS` | what the top call prints with these arguments: what it sends on Out and on Fault, and its status if it isn't 0 |
 //!
 //! The first process of a session is the image file `1`, the next is `2`, and so on. Image k begins at 4096 * (k - 1) and has 4096 bytes of
-//! content, with zeros after those of its text. What a command writes into a file is there for the next one. A session ends at the next
-//! heading, and its files are forgotten.
+//! content, with zeros after those of its text. What a command writes into the file after `--out` is there for the next one. A session ends
+//! at the next heading, and its files are forgotten.
 //!
 //! A byte that isn't a printable character is shown as `\x` and two digits. Output whose last line doesn't end has a `\` there.
+//!
+//! A difference is told by the line of the text that isn't what was printed, with its heading, as `ports.md:57 (A full port)`, and below it
+//! what was wanted and what came. A command that isn't known, or whose process can't be assembled, is told by its own line.
 #![tactic(auto)]
 
 mod images;
 mod output;
+mod player;
 mod session;
+mod trouble;
 
-use session::Session;
+use player::Player;
 use std::{env, fs, io};
 
 fn main(rt: HostRuntime) -> io::Result<()> {
+    let mut player = Player::new(rt.alloc());
     for name in env::args(&rt)?.skip(1) {
         let text = fs::read_to_string(&rt, name.as_str())?;
-        let mut session = Session::new(rt.alloc());
-        session.play(text.as_str())?;
-        session.report(&rt, name.as_str())?;
+        player.play(name.as_str(), text.as_str())?;
     }
-    Ok(())
+    player.report(&rt)
 }
