@@ -1,0 +1,168 @@
+//! The raw disk: its blocks, and the requests that wait for it (book, chapter 18, `rdsread.c`, `rdswrite.c`, `rdsprocess.c`).
+
+ghost use Rattle.std.specs.Prelude.{◌≡◌, ◌<◌, ◌≤◌, [], ◌∷◌, IfNone, IfSome, length, option_map, pos, slice_set, true};
+ghost use Rattle.std.specs.List.{concat};
+ghost use Rattle.disk_driver.specs.Blocks.{blocks_of};
+ghost use Rattle.disk_driver.specs.Served.{bytes_read, request_of, served_of};
+ghost use Rattle.xinu_model.specs.RawDisk.Completions.{after_completion, raw_completed, transferred};
+ghost use Rattle.xinu_model.specs.RawDisk.Requests.{block_at, has_block, requested, requests_given_up};
+
+use crate::requests::{Done, Request, Requests, keep};
+use crate::store::Blocks;
+use lfs_layout::RawImage;
+use std::marker::Model;
+use xinu_base::{Pid, SYSERR};
+
+// The reply to a request that was served well.
+const OK: i32 = 0;
+
+/// The raw disk.
+#[derive(Drop)]
+pub struct Disk {
+    blocks: Blocks,
+    // The requests, each for a block that there is.
+    requests: Requests,
+}
+
+impl Model for Disk {
+    ghost use Rattle.std.specs.Prelude.{length, map};
+    ghost use Rattle.xinu_model.specs.RawDisk.Requests.{RawDisk};
+    ghost use Rattle.disk_driver.specs.Served.{AreWithin, request_of};
+
+    ghost Value = { RawDisk };
+
+    ghost view = { λ d. record { blocks = d.blocks; requests = map request_of d.requests.items } };
+
+    ghost invariant = { λ d. AreWithin (length d.blocks) (map request_of d.requests.items) };
+}
+
+impl Disk {
+    /// The disk of an image, and no request.
+    pub fn new(image: RawImage) -> Self
+        ensures starts { result ≡ record { blocks = blocks_of image; requests = [] } }
+    {
+        Disk {
+            blocks: Blocks::new(image),
+            requests: Requests::new(),
+        }
+    }
+
+    /// How many blocks there are.
+    pub fn blocks(&self) -> u32
+        ensures blocks { result ≡ length self.now.blocks }
+        ensures least { 8 ≤ result }
+        ensures most { result ≤ 65536 }
+    {
+        self.blocks.count()
+    }
+
+    /// The bytes of a block.
+    pub fn block(&self, n: u32) -> &[u8]
+        requires within { has_block n self.now ≡ true }
+        ensures block { result.now ≡ block_at self.now n }
+        ensures size { length result.now ≡ 512 }
+    {
+        self.blocks.get(n)
+    }
+
+    /// A block gets other bytes.
+    pub fn set_block(&mut self, n: u32, block: &[u8; 512])
+        requires within { has_block n self.old ≡ true }
+        ensures set { self.new ≡ record self.old { blocks = slice_set self.old.blocks n block.now } }
+    {
+        self.blocks.set(n, block);
+    }
+
+    /// The bytes of all blocks.
+    pub fn bytes(&self) -> &[u8]
+        ensures bytes { result.now ≡ concat self.now.blocks }
+    {
+        self.blocks.bytes()
+    }
+
+    /// How many requests wait.
+    pub fn pending(&self) -> usize
+        ensures pending { result ≡ length self.now.requests }
+        ensures most { result ≤ 64 }
+    {
+        self.requests.len()
+    }
+
+    /// A request goes after the others.
+    pub fn submit(&mut self, r: Request)
+        requires room { length self.old.requests < 64 }
+        requires within { has_block r.block self.old ≡ true }
+        ensures submits { self.new ≡ requested (request_of r) self.old }
+    {
+        let caller = r.caller;
+        self.requests.push(Request { caller, ..r });
+    }
+
+    /// Serves the first request, well or badly: then no block changes and nothing is read. `None`, and nothing changes, if and only
+    /// if no request waits.
+    pub fn complete(&mut self, good: bool) -> Option<Done>
+        ensures served { option_map (λ done. served_of done self.new) result ≡ raw_completed good self.old }
+        ensures disk { self.new ≡ after_completion (raw_completed good self.old) self.old }
+    {
+        let request = self.take_first()?;
+        if !good {
+            return Some(Done {
+                request,
+                reply: SYSERR,
+                read: None,
+            });
+        }
+        let read = self.transfer(&request);
+        Some(Done {
+            request,
+            reply: OK,
+            read,
+        })
+    }
+
+    /// Gives up what `p` asked for, once it was killed: the first request goes on without its caller, and the others are taken out.
+    pub fn forget(&mut self, p: Pid)
+        ensures forgets { self.new ≡ requests_given_up p self.old }
+    {
+        let mut kept = Requests::new();
+        for r in self.requests.as_slice() {
+            keep(&mut kept, *r, p);
+        }
+        self.requests = kept;
+    }
+
+    // Takes the first request; `None` if and only if none waits.
+    fn take_first(&mut self) -> Option<Request>
+        ensures first { IfSome result (λ r. self.old ≡ record self.new { requests = request_of r ∷ self.new.requests }) }
+        ensures empty { IfNone result (self.old.requests ≡ []) }
+        ensures same { IfNone result (self.new ≡ self.old) }
+        ensures within { IfSome result (λ r. r.block < length self.new.blocks) }
+    {
+        self.requests.pop_at(0)
+    }
+
+    // Writes the block of a request, or reads it.
+    fn transfer(&mut self, r: &Request) -> Option<[u8; 512]>
+        requires within { r.now.block < length self.old.blocks }
+        ensures moved { record { request = request_of r.now; reply = pos 0; bytes = bytes_read result; disk = self.new } ≡
+            transferred r.now.written (request_of r.now) self.old }
+    {
+        match r.written {
+            Some(bytes) => {
+                self.blocks.set(r.block, &bytes);
+                None
+            }
+            None => Some(array_of(self.blocks.get(r.block))),
+        }
+    }
+}
+
+// The bytes of one block by themselves.
+fn array_of(bytes: &[u8]) -> [u8; 512]
+    requires size { length bytes.now ≡ 512 }
+    ensures same { result ≡ bytes.now }
+{
+    let mut block = [0; 512];
+    block.copy_from_slice(bytes);
+    block
+}
