@@ -11,7 +11,7 @@
 //! | [`CleanImage::new`] | `image`: the image itself, or the one that is made of its files on six blocks more; a fault if and only if it has one; `files`: its files stay |
 //! | [`CleanImage::empty`] | `image`: the one that is made of no files; `files`: it has none |
 //! | [`CleanImage::put_file`] | `Puts`: the image that is made of the files with this one set if they have room, else the image as it was |
-//! | [`CleanImage::file_at`] | `file`: name and size of the k-th file in the order of names; `within`: `None` if and only if there are no more than k |
+//! | [`CleanImage::file_at`] | `file`: a file by its place among the names, with its size; `within`: `None` if and only if the image has no file at that place |
 //! | [`CleanImage::read_file`] | the bytes of the file of a name; `None` if and only if there is none |
 //! | [`CleanImage::bytes`], [`CleanImage::into_bytes`], [`CleanImage::blocks`] | `bytes`: those of the image; `clean`: it has version 2 and no fault |
 //! | [`is_file_name`] | whether a text has 1 to 27 non-zero bytes |

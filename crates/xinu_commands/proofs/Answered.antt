@@ -1,24 +1,18 @@
 -- What is left of a command: refused arguments, a host that failed, and the text of a refusal.
-use Rattle.std.proofs.Common.{◌≡◌, ◌≤◌, ℕ, List, [], ◌∷◌, take, Option, Some, None, refl, sym, ap, subst, ◌∙◌, arith}
-use Rattle.std.specs.Prelude.{Result, Ok, Err, IsErr, IsErrAnd}
-use Rattle.command_line.specs.Commands.{Command, Run}
-use Rattle.command_line.specs.Reading.{Text}
+use Rattle.std.proofs.Common.{◌≡◌, ℕ, List, [], take, Option, Some, None, refl, sym, ap, subst, ◌∙◌, arith}
+use Rattle.command_line.specs.Commands.{Command}
 use Rattle.command_line.specs.declared.refusal.ArgsFault.{ArgsFault}
 use Rattle.command_line.specs.declared.refusal.ArgsFault.TheVariants as args
 use Rattle.host_port.specs.declared.host.Channel.TheVariants.{Fault}
-use Rattle.host_port.specs.declared.host.HostFault.{HostFault}
-use Rattle.host_port.specs.declared.host.HostFault.TheVariants as host
 use Rattle.host_port.specs.HostCalls.{Rose}
 use Rattle.host_port.specs.Outside.{Outside, HostCall, appended, with_calls, counted, grown}
-use Rattle.machine.specs.Printed.{Booted}
 use Rattle.xinu_model.specs.Machine.{Xinu}
-use Rattle.xinu_commands.specs.Conversions.{args_refusal, host_refusal}
+use Rattle.xinu_commands.specs.Conversions.{args_refusal}
 use Rattle.xinu_commands.specs.Calls.{calls_due}
 use Rattle.xinu_commands.specs.Refusals.{TellsRefusal, text_of}
-use Rattle.xinu_commands.specs.Stages.{Performs, left_of, refusal_of}
-use Rattle.xinu_commands.specs.RunVerdict.{run_verdict}
-use Rattle.xinu_commands.specs.Theorem.{Answers, Carries, IsUnsent, Obeys}
-use Rattle.xinu_commands.specs.Verdict.{file_bytes, verdict}
+use Rattle.xinu_commands.specs.Stages.{Performs}
+use Rattle.xinu_commands.specs.Theorem.{Answers, Carries, IsUnsent}
+use Rattle.xinu_commands.specs.Verdict.{verdict}
 use Rattle.xinu_commands.specs.Work.{Verdict, Refuses, Does, Runs, Outputs}
 use Rattle.xinu_commands.specs.declared.refusals.Refusal.{Refusal}
 use Rattle.xinu_commands.specs.declared.refusals.Refusal.TheVariants as refusal

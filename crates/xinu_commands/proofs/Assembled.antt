@@ -7,7 +7,7 @@ use Rattle.std.specs.Option.{option_map_or}
 use Rattle.command_line.specs.AsmArgs.{AsmFiles}
 use Rattle.command_line.specs.Commands.{Asm}
 use Rattle.elf_loader.specs.WrittenElf.{IsWholeImage, elf_file}
-use Rattle.host_port.specs.Outside.{Outside, HostCall, fetching, naming}
+use Rattle.host_port.specs.Outside.{Outside, HostCall, naming}
 use Rattle.host_port.specs.declared.host.Channel.TheVariants.{Image}
 use Rattle.image_loader.specs.ImageFiles.{first_fault, has_length, has_magic, has_version, header_of, image_in, image_of, loaded_unless}
 use Rattle.image_loader.specs.declared.faults.ImageFault.{ImageFault}

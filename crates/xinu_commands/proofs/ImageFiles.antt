@@ -1,5 +1,5 @@
 -- The files of a run's images, fetched and read one after another, and the schedule's file before them.
-use Rattle.std.proofs.Common.{◌≡◌, ◌≤◌, ◌<◌, ◌+◌, ◌-◌, ◌==◌, ◌∙◌, ◌++◌, ◌||◌, ℕ, Bool, true, false, if◌then◌else◌, List, [], ◌∷◌, length, map, take, drop, get_or, suc, Option, Some, None, refl, sym, ap, ap₂, subst, arith, append_assoc, append-nil}
+use Rattle.std.proofs.Common.{◌≡◌, ◌≤◌, ◌<◌, ◌+◌, ◌-◌, ◌==◌, ◌∙◌, ◌++◌, ◌||◌, ℕ, Bool, true, false, if◌then◌else◌, List, [], ◌∷◌, length, map, take, drop, get_or, Option, Some, None, refl, sym, ap, ap₂, subst, arith, append_assoc, append-nil}
 use Rattle.std.proofs.lemmas.List.{drop_more, length-append, take_all}
 use Rattle.std.specs.Prelude.{Result, Ok, Err, IsErr, IsErrAnd, is_some, option_and_then, option_map}
 use Rattle.command_line.specs.Commands.{Run}
@@ -12,7 +12,7 @@ use Rattle.machine.specs.Printed.{Booted}
 use Rattle.xinu_base.specs.declared.events.Event.{Event}
 use Rattle.xinu_model.specs.Boot.{Loaded}
 use Rattle.xinu_model.specs.Machine.{Xinu}
-use Rattle.xinu_commands.specs.Calls.{calls_due, calls_in, due_by, run_fetches, unless_refused}
+use Rattle.xinu_commands.specs.Calls.{calls_due, calls_in, due_by, unless_refused}
 use Rattle.xinu_commands.specs.InputFaults.{have_fault, image_fault, images_loaded}
 use Rattle.xinu_commands.specs.RunVerdict.{boot_verdict, images_verdict, run_verdict}
 use Rattle.xinu_commands.specs.Stages.{Fetches, HoldsFault, HoldsSchedule, IsFetched, IsScheduleCause, KeepsFiles, Performs, RunsImages, Stage, fetch_due, images_left, left_of, refusal_of}

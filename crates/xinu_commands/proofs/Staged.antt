@@ -4,7 +4,7 @@ use Rattle.std.specs.Prelude.{Result, Ok, Err, IsErr, IsErrAnd, option_map}
 use Rattle.command_line.specs.Commands.{Disk}
 use Rattle.command_line.specs.DiskArgs.{DiskAction, Mkfs, Ls, Get, Put, Check, Repair}
 use Rattle.command_line.specs.Reading.{Text}
-use Rattle.host_port.specs.Outside.{Outside, HostCall, fetching, naming}
+use Rattle.host_port.specs.Outside.{Outside, HostCall, naming}
 use Rattle.host_port.specs.declared.host.Channel.TheVariants.{Disk1}
 use Rattle.lfs_check.specs.Faults.{Refuses as RefusesBy, report}
 use Rattle.lfs_check.specs.declared.faults.CheckFault.{CheckFault}

@@ -1,7 +1,7 @@
 -- Why the exit statuses mean what they do.
 use Rattle.std.proofs.lemmas.Bool.{cases_eq}
 use Rattle.std.specs.List.{list_any}
-use Rattle.std.proofs.Common.{◌⊎◌, inl, inr, ◌==◌, IsTrue, ◌≡◌, ◌≢◌, ◌↔◌, ℕ, Bool, true, false, nat_le, if◌then◌else◌, List, [], ◌∷◌, length, Option, Some, None, IsSome, refl, sym, ap, subst, ◌∙◌}
+use Rattle.std.proofs.Common.{◌⊎◌, inl, inr, ◌==◌, IsTrue, ◌≡◌, ◌≢◌, ◌↔◌, ℕ, Bool, true, false, nat_le, if◌then◌else◌, List, length, Option, Some, None, IsSome, refl, sym, ap, subst, ◌∙◌}
 use Rattle.std.specs.Prelude.{option_map}
 use Rattle.command_line.specs.Commands.{Command, Run, Asm, Disk}
 use Rattle.command_line.specs.Reading.{Text}

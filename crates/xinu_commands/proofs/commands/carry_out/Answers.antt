@@ -1,4 +1,4 @@
-use Rattle.std.proofs.Common.{◌∙◌, ◌≡◌, Some, ap, arith, length, map, sym}
+use Rattle.std.proofs.Common.{◌∙◌, ◌≡◌, Some, ap, arith, length, map}
 use Rattle.std.specs.Prelude.{Err}
 use Rattle.std.specs.String.{string_bytes}
 use Rattle.std.proofs.lemmas.List.{length-map}

@@ -1,7 +1,6 @@
-use Rattle.std.proofs.Common.{◌∙◌, ap, map, subst, sym, Some, List}
+use Rattle.std.proofs.Common.{◌∙◌, ap, map, sym, Some, List}
 use Rattle.image_loader.specs.Images.{loaded_of}
 use Rattle.image_loader.specs.declared.images.Image.{Image}
-use Rattle.xinu_commands.specs.RunVerdict.{boot_verdict}
 use Rattle.xinu_commands.proofs.Carried.{carries_nothing, unsent_refl}
 use Rattle.xinu_commands.proofs.ImageFiles.{files_carry}
 use Rattle.xinu_commands.proofs.run_command.run_files.Goals as goal
