@@ -8,18 +8,19 @@ use Rattle.std.specs.Str.{bytes_eq}
 -- two texts are the same in either order
 pub bytes_eq_turned : (a b : List ℕ) → bytes_eq a b ≡ bytes_eq b a
 bytes_eq_turned a b =
-    let d = bytes_eq-Decides b a in same_from_decides (bytes_eq a b) (bytes_eq b a) (bytes_eq-Decides a b) ((λ e. sym (d.0 e)), (λ e. d.1 (sym e)))
+    let d = bytes_eq-Decides b a in
+    same_from_decides (bytes_eq a b) (bytes_eq b a) (bytes_eq-Decides a b) ((λ e. sym (d.0 e)), (λ e. d.1 (sym e)))
 
 -- a row that doesn't fit is passed over
-pub find_later : {A B : Type 0} (f : A → B) (test : B → Bool) (xs : List A) (i : ℕ) (d : A) → i < length xs → test (f (get_or xs i d)) ≡ false →
-    find test (map f (drop (i + 1) xs)) ≡ find test (map f (drop i xs))
+pub find_later : {A B : Type 0} (f : A → B) (test : B → Bool) (xs : List A) (i : ℕ) (d : A) → i < length xs →
+    test (f (get_or xs i d)) ≡ false → find test (map f (drop (i + 1) xs)) ≡ find test (map f (drop i xs))
 find_later f test xs i d h misses =
     let e : drop i xs ≡ get_or xs i d ∷ drop (suc i) xs = drop-cons xs i d h in
     rw (e, add-one) (ap (λ b. cond b (Some (f (get_or xs i d))) (find test (map f (drop (suc i) xs)))) (sym misses))
 
 -- a row that fits is the first
-pub find_here : {A B : Type 0} (f : A → B) (test : B → Bool) (xs : List A) (i : ℕ) (d : A) → i < length xs → test (f (get_or xs i d)) ≡ true →
-    find test (map f (drop i xs)) ≡ Some (f (get_or xs i d))
+pub find_here : {A B : Type 0} (f : A → B) (test : B → Bool) (xs : List A) (i : ℕ) (d : A) → i < length xs →
+    test (f (get_or xs i d)) ≡ true → find test (map f (drop i xs)) ≡ Some (f (get_or xs i d))
 find_here f test xs i d h fits =
     let e : drop i xs ≡ get_or xs i d ∷ drop (suc i) xs = drop-cons xs i d h in
     rw e (ap (λ b. cond b (Some (f (get_or xs i d))) (find test (map f (drop (suc i) xs)))) fits)

@@ -12,6 +12,15 @@ use arrayvec::ArrayVec;
 use std::marker::Model;
 use xinu_base::Dev;
 
+// The most bytes of a prefix.
+const NM_PRELEN: usize = 31;
+
+// The most bytes of what takes its place.
+const NM_REPLLEN: usize = 31;
+
+// The most times that a name's prefix is replaced.
+const NM_MAXMAPS: u32 = 40;
+
 // The number of the device that maps names.
 const NAMESPACE: usize = 1;
 
@@ -50,10 +59,10 @@ impl Names {
         if self.rows.is_full() {
             return false;
         }
-        if prefix.len() > 31 {
+        if prefix.len() > NM_PRELEN {
             return false;
         }
-        if replacement.len() > 31 {
+        if replacement.len() > NM_REPLLEN {
             return false;
         }
         self.rows.push(Row {
@@ -76,7 +85,7 @@ impl Names {
         ensures unmapped { IfErr result (λ _. map_name self.now name.now ≡ None) }
     {
         let mut text = joined(&[], name)?;
-        let mut left = 40u32;
+        let mut left = NM_MAXMAPS;
         while left > 0 {
             let MappedName { device, name } = self.replace_once(text.as_slice())?;
             if device.index() != NAMESPACE {
