@@ -1,0 +1,16 @@
+pub mod Devices
+pub mod Beginning
+pub mod Closings
+pub mod Ends
+pub mod Freeing
+pub mod CutSteps
+pub mod Searching
+pub mod Taking
+pub mod Putting
+pub mod PutSteps
+pub mod Pieces
+pub mod Grows
+pub mod Links
+pub mod Counting
+pub mod Starts
+pub mod Serving

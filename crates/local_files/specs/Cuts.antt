@@ -1,0 +1,69 @@
+-- The steps of `truncate`, and those that a deletion has besides.
+use Rattle.std.specs.Prelude.{ℕ, zero, suc, ◌≡◌, ◌≢◌, ◌+◌, ◌-◌, ◌*◌, ◌/◌, ◌%◌, ◌<◌, ◌≤◌, ◌==◌, Bool, true, false, not, cond, nat_eq, nat_le, nat_lt, ◌&&◌, ◌||◌, if◌then◌else◌, min, max, List, [], ◌∷◌, ◌++◌, length, map, take, drop, replicate, Option, Some, None, slice_index, slice_index_or, slice_set, bytes_eq, ℤ, pos, negsuc}
+use Rattle.byteorder.specs.Endian.{little_bytes}
+use Rattle.lfs_format.specs.declared.Entry.{Entry}
+use Rattle.lfs_format.specs.declared.Index.{Index}
+use Rattle.lfs_check.specs.Meets.{null}
+use Rattle.local_files.specs.Steps.{answered, moved_to, device_at, is_delete}
+use Rattle.xinu_base.specs.declared.files.OpenMode.{OpenMode}
+use Rattle.local_files.specs.declared.OpenFile.{OpenFile}
+use Rattle.local_files.specs.declared.FileCall.{FileCall}
+use Rattle.local_files.specs.declared.FileCall.TheVariants.{Open, Delete, Close, Read, Write, Getc, Putc, Seek, Truncate, Size}
+use Rattle.local_files.specs.declared.Phase.{Phase}
+use Rattle.local_files.specs.declared.Phase.TheVariants.{Idle, Done, Search, Walk, Fetch, Counts, Reach, PatchRead, PatchWrite, TakeRead, TakeWrite, AddRead, AddWrite, NewRead, NewWrite, LinkRead, LinkWrite, CutRead, CutWrite, FreeWrite, EntryRead, EntryWrite, HeaderRead, HeaderWrite}
+use Rattle.local_files.specs.declared.Files.{Files}
+
+-- a call takes the file of a device in hand, and reads the counts
+abbrev pub held_file : OpenFile → FileCall → Files → Files
+held_file f call e = record e { call = call; slot = f.slot; entry = f.entry; phase = Counts }
+
+abbrev pub truncating : OpenFile → ℕ → FileCall → Files → Files
+truncating f d call e =
+    if not f.write then answered (negsuc 0) e
+    else (if f.entry.size == 0 then answered (pos 0) (moved_to (device_at e d) d 0 e) else held_file f call e)
+
+abbrev pub truncating_at : Option OpenFile → ℕ → FileCall → Files → Files
+truncating_at None d call e = answered (negsuc 0) e
+truncating_at (Some f) d call e = truncating f d call e
+
+-- all blocks are free
+abbrev pub end_cut : Files → Files
+end_cut e =
+    if is_delete e.call then record e { entry = record e.entry { name = replicate 28 0 }; header = record e.header { files = (e.header.files + 4294967295) % 4294967296 }; phase = EntryRead }
+    else record e { phase = EntryRead }
+
+-- goes on to an index block, if there is such a block
+abbrev pub cut_at : Files → Files
+cut_at e = if nat_lt (6 + e.at / 7) e.blocks then record e { phase = CutRead } else answered (negsuc 0) e
+
+-- the file in hand is cut to nothing
+abbrev pub cutting : Entry → Files → Files
+cutting entry e =
+    let c : Files = record e { at = entry.first; reached = 0; row = 0; entry = record entry { size = 0; first = null } } in
+    if entry.size == 0 then end_cut c else cut_at c
+
+-- an index block that names the first free one
+abbrev pub freed_index : Index → Files → Index
+freed_index index e = record index { next = e.header.free_index }
+
+abbrev pub cut_read : Index → List ℕ → Files → Files
+cut_read index block e = record e { index = index; block = block; phase = CutWrite }
+
+abbrev pub cut_written : Files → Files
+cut_written e = record e { header = record e.header { free_index = e.at }; reached = (e.reached + 1) % 4294967296; row = 0 }
+
+-- a block that begins with a word
+abbrev pub word_block : ℕ → List ℕ
+word_block word = little_bytes 4 word ++ replicate 508 0
+
+abbrev pub freeing : ℕ → Files → Files
+freeing b e = if nat_lt b e.blocks then record e { block = word_block e.header.free_data; phase = FreeWrite b } else answered (negsuc 0) e
+
+-- goes on to the next data block, or the next index block, or the end
+abbrev pub free_next : Files → Files
+free_next e =
+    if nat_lt e.row 16 && not (slice_index e.index.blocks (e.row % 16) == null) then freeing (slice_index e.index.blocks (e.row % 16)) e
+    else (if not (e.index.next == null) then cut_at (record e { at = e.index.next }) else end_cut e)
+
+abbrev pub free_written : ℕ → Files → Files
+free_written b e = record e { header = record e.header { free_data = b }; row = (e.row + 1) % 4294967296 }

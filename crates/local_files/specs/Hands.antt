@@ -1,0 +1,409 @@
+-- What is so while a call waits for a block.
+use Rattle.std.specs.Prelude.{ℕ, zero, suc, ◌≡◌, ◌≢◌, ◌+◌, ◌-◌, ◌*◌, ◌/◌, ◌%◌, ◌<◌, ◌≤◌, ◌==◌, Bool, true, false, not, cond, nat_eq, nat_le, nat_lt, ◌&&◌, ◌||◌, if◌then◌else◌, min, max, List, [], ◌∷◌, ◌++◌, length, map, take, drop, replicate, Option, Some, None, slice_index, slice_index_or, slice_set, bytes_eq, ℤ, pos, negsuc, ◌⊎◌}
+use Rattle.lfs_format.specs.declared.Index.{Index}
+use Rattle.lfs_format.specs.Words.{word_of}
+use Rattle.lfs_format.specs.Indexes.{index_at, IsIndexPut}
+use Rattle.lfs_format.specs.Directory.{dir_of, IsDirBlock}
+use Rattle.lfs_check.specs.Meets.{null}
+use Rattle.lfs_check.specs.Rules.{block_in, entry_is_used, is_name}
+use Rattle.lfs_check.specs.Laid.{Places, numbers_at, index_for}
+use Rattle.lfs_check.specs.Disks.{block_put, entry_at, header_on, is_this, dir_with_entry, dir_with_header}
+use Rattle.lfs_layout.specs.Files.{bare_name}
+use Rattle.lfs_layout.specs.Images.{IsCleanImage}
+use Rattle.xinu_model.specs.Files.Stored.{StoredFile, empty_file, with_stored, without_file, with_contents}
+use Rattle.xinu_model.specs.Files.Systems as systems
+use Rattle.xinu_model.specs.Files.Systems.{FileSystem, is_open, free_device}
+use Rattle.xinu_model.specs.Files.Writing.{overwritten, fitting}
+use Rattle.file_laws.specs.StoredFiles.{stored_files, entry_bytes, entry_chain, entry_data}
+use Rattle.file_laws.specs.Middle.{IsMiddle}
+use Rattle.file_laws.specs.Changing.{IsCut}
+use Rattle.local_files.specs.Buffers.{patched}
+use Rattle.local_files.specs.Steps.{shown, device_at, device_of, at_byte, piece, is_truncate}
+use Rattle.local_files.specs.Puts.{at_end, target, fresh_index, linked_index, added_index}
+use Rattle.local_files.specs.Cuts.{word_block, freed_index}
+use Rattle.xinu_base.specs.declared.files.OpenMode.{OpenMode}
+use Rattle.local_files.specs.declared.OpenFile.{OpenFile}
+use Rattle.local_files.specs.declared.FileCall.{FileCall}
+use Rattle.local_files.specs.declared.FileCall.TheVariants.{Open, Delete, Close, Read, Write, Getc, Putc, Seek, Truncate, Size}
+use Rattle.local_files.specs.declared.Phase.{Phase}
+use Rattle.local_files.specs.declared.Phase.TheVariants.{Idle, Done, Search, Walk, Fetch, Counts, Reach, PatchRead, PatchWrite, TakeRead, TakeWrite, AddRead, AddWrite, NewRead, NewWrite, LinkRead, LinkWrite, CutRead, CutWrite, FreeWrite, EntryRead, EntryWrite, HeaderRead, HeaderWrite}
+use Rattle.local_files.specs.declared.Files.{Files}
+
+-- what the abstract machine sees of the engine, over the disk as it was when the call in hand began
+abbrev pub system : Files → List ℕ → FileSystem
+system e base = record { blocks = e.blocks; files = stored_files base; devices = map shown e.devices }
+
+-- a call that can be: a name has a text and zeros up to 28 bytes, and no read is longer than the buffer
+abbrev pub IsCall : FileCall → Type 0
+IsCall (Open name mode) = (is_name 27 name ≡ true) × (length name ≡ 28)
+IsCall (Delete name) = (is_name 27 name ≡ true) × (length name ≡ 28)
+IsCall (Read d n) = n ≤ 1048576
+IsCall _ = Unit {0}
+
+-- the name that a call looks for
+abbrev pub name_of : FileCall → List ℕ
+name_of (Open name mode) = name
+name_of (Delete name) = name
+name_of _ = []
+
+-- the bytes that the call in hand puts
+abbrev pub put_bytes : Files → List ℕ
+put_bytes e = take e.total e.buffer
+
+-- what the abstract machine has for an open file
+abbrev pub seen : OpenFile → systems.OpenFile
+seen f = record { name = bare_name f.entry.name; position = f.position; may_read = f.read; may_write = f.write }
+
+-- An open device has an entry of the disk, as it is there.
+pub record IsOpenOn (base : List ℕ) (f : OpenFile) : Type 0 where
+  pub slot : f.slot < 78
+  pub entry : entry_at base f.slot ≡ f.entry
+  pub used : entry_is_used f.entry ≡ true
+  pub position : f.position ≤ f.entry.size
+
+-- the same of a device, if it has something open
+abbrev pub IsDevice : List ℕ → Option OpenFile → Type 0
+IsDevice base None = Unit {0}
+IsDevice base (Some f) = IsOpenOn base f
+
+-- two devices have different files open
+abbrev pub AreApart : Option OpenFile → Option OpenFile → Type 0
+AreApart (Some f) (Some g) = f.slot ≢ g.slot
+AreApart _ _ = Unit {0}
+
+-- Searching.
+
+-- what is known of a call that looks for its name: it may be carried out
+abbrev pub MayLook : FileCall → FileSystem → Type 0
+MayLook (Open name mode) s = (is_open (bare_name name) s ≡ false) × (nat_le 6 (free_device s.devices) ≡ false)
+MayLook (Delete name) s = is_open (bare_name name) s ≡ false
+MayLook _ s = ⊥
+
+-- a slot is a free one among the first n entries, or 78 if all of those are used
+pub record IsFreeSlot (base : List ℕ) (n slot : ℕ) : Type 0 where
+  pub found : slot < 78 → (slot < n) × (entry_is_used (entry_at base slot) ≡ false)
+  pub full : 78 ≤ slot → (k : ℕ) → k < n → entry_is_used (entry_at base k) ≡ true
+
+-- the search has passed the first d blocks
+pub record IsSearch (e : Files) (d : ℕ) (base disk : List ℕ) : Type 0 where
+  pub same : disk ≡ base
+  pub block : d < 6
+  pub call : IsCall e.call
+  pub look : MayLook e.call (system e base)
+  pub none : (k : ℕ) → k < 13 * d → is_this (name_of e.call) (entry_at base k) ≡ false
+  pub free : IsFreeSlot base (13 * d) e.slot
+  pub header : 0 < d → e.header ≡ header_on base
+
+-- Reading.
+
+-- how many bytes a call wants to read
+abbrev pub read_count : FileCall → ℕ
+read_count (Read d n) = n
+read_count (Getc d) = 1
+read_count _ = 0
+
+-- a read of an open file, which has more bytes at its position
+pub record IsReading (e : Files) (base disk : List ℕ) : Type 0 where
+  pub same : disk ≡ base
+  pub some : 0 < read_count e.call
+  pub few : read_count e.call ≤ 1048576
+  pub file : OpenFile
+  pub open_is : device_at e (device_of e.call) ≡ Some file
+  pub reads : file.read ≡ true
+  pub position : e.position ≡ file.position
+  pub within : file.position < file.entry.size
+  pub total : e.total ≡ min (read_count e.call) (file.entry.size - file.position)
+  pub left : e.done < e.total
+  pub taken : take e.done e.buffer ≡ take e.done (drop file.position (entry_bytes base file.entry))
+
+-- it waits for an index block of the file, after which so many come to that of the position
+pub record IsWalking (e : Files) (rest at : ℕ) (base disk : List ℕ) : Type 0 where
+  pub reading : IsReading e base disk
+  pub few : rest ≤ (reading.file.position + e.done) / 8192
+  pub here : at ≡ slice_index (entry_chain base reading.file.entry) ((reading.file.position + e.done) / 8192 - rest)
+
+-- it waits for the data block of the position
+pub record IsFetching (e : Files) (b : ℕ) (base disk : List ℕ) : Type 0 where
+  pub reading : IsReading e base disk
+  pub index : e.index ≡ index_for ((reading.file.position + e.done) / 8192) (entry_chain base reading.file.entry) (entry_data base reading.file.entry)
+  pub here : b ≡ slice_index (entry_data base reading.file.entry) ((reading.file.position + e.done) / 512)
+
+-- The end of a call that writes the directory.
+
+-- an empty file is made
+pub record IsCreating (e : Files) (base : List ℕ) : Type 0 where
+  pub slot : e.slot < 78
+  pub call : IsCall e.call
+  pub look : MayLook e.call (system e base)
+  pub none : (k : ℕ) → k < 78 → is_this (name_of e.call) (entry_at base k) ≡ false
+  pub named : e.entry.name ≡ name_of e.call
+  pub empty : e.entry.size ≡ 0
+  pub free : entry_is_used (entry_at base e.slot) ≡ false
+  pub may : (name : List ℕ) (mode : OpenMode) → e.call ≡ Open name mode → mode.only_old ≡ false
+
+-- a file is deleted
+pub record IsDeleting (e : Files) (base : List ℕ) : Type 0 where
+  pub slot : e.slot < 78
+  pub call : IsCall e.call
+  pub closed : is_open (bare_name (name_of e.call)) (system e base) ≡ false
+  pub used : entry_is_used (entry_at base e.slot) ≡ true
+  pub named : (entry_at base e.slot).name ≡ name_of e.call
+
+-- a file that a device has open is written: the first bytes of those that fit are put
+pub record IsWritten (e : Files) (base : List ℕ) : Type 0 where
+  pub file : OpenFile
+  pub open_is : device_at e (device_of e.call) ≡ Some file
+  pub writes : file.write ≡ true
+  pub slot : e.slot ≡ file.slot
+  pub position : e.position ≡ file.position
+  pub some : 0 < e.done
+  pub few : e.done ≤ e.total
+  pub most : e.total ≤ 1048576
+  pub fits : fitting (seen file) (put_bytes e) (system e base) ≡ e.done
+  pub size : file.position + e.done ≤ e.entry.size
+  pub named : e.entry.name ≡ file.entry.name
+
+-- a file that a device has open is emptied
+pub record IsEmptied (e : Files) (base : List ℕ) : Type 0 where
+  pub file : OpenFile
+  pub open_is : device_at e (device_of e.call) ≡ Some file
+  pub writes : file.write ≡ true
+  pub slot : e.slot ≡ file.slot
+  pub named : e.entry.name ≡ file.entry.name
+
+-- what the call has done
+abbrev pub IsEnding : FileCall → Files → List ℕ → Type 0
+IsEnding (Open name mode) e base = IsCreating e base
+IsEnding (Delete name) e base = IsDeleting e base
+IsEnding (Write d) e base = IsWritten e base
+IsEnding (Putc d b) e base = IsWritten e base × (put_bytes e ≡ b ∷ [])
+IsEnding (Truncate d) e base = IsEmptied e base
+IsEnding _ e base = ⊥
+
+-- the file of the slot with the bytes that were put
+abbrev pub put_files : Files → List ℕ → List StoredFile
+put_files e base =
+    with_contents (bare_name (entry_at base e.slot).name) (overwritten e.position (take e.done (put_bytes e)) (entry_bytes base (entry_at base e.slot))) (stored_files base)
+
+-- the files after it
+abbrev pub files_after : FileCall → Files → List ℕ → List StoredFile
+files_after (Open name mode) e base = with_stored (empty_file (bare_name name)) (stored_files base)
+files_after (Delete name) e base = without_file (bare_name name) (stored_files base)
+files_after (Write d) e base = put_files e base
+files_after (Putc d b) e base = put_files e base
+files_after (Truncate d) e base = with_contents (bare_name (entry_at base e.slot).name) [] (stored_files base)
+files_after _ e base = stored_files base
+
+-- a disk is what the call makes of the base
+pub record IsMade (e : Files) (base made : List ℕ) : Type 0 where
+  pub clean : IsCleanImage made
+  pub size : length made ≡ length base
+  pub files : stored_files made ≡ files_after e.call e base
+  pub entry : entry_at made e.slot ≡ e.entry
+  pub others : (k : ℕ) → k ≢ e.slot → entry_at made k ≡ entry_at base k
+
+-- the blocks that the engine makes of what it reads
+abbrev pub IsEntryBlock : Files → List ℕ → List ℕ → Type 0
+IsEntryBlock e disk eb = IsDirBlock (dir_with_entry (dir_of (block_in disk (e.slot / 13))) (e.slot % 13) e.entry) eb
+
+abbrev pub IsHeaderBlock : Files → List ℕ → List ℕ → Type 0
+IsHeaderBlock e disk hb = IsDirBlock (dir_with_header (dir_of (block_in disk 0)) e.header) hb
+
+-- the entry's block is to be written: whatever blocks come of the two writes, the disk is made
+pub record IsClosing (e : Files) (base disk : List ℕ) : Type 0 where
+  pub ending : IsEnding e.call e base
+  pub slot : e.slot < 78
+  pub made : (eb hb : List ℕ) → IsEntryBlock e disk eb → IsHeaderBlock e (block_put disk (e.slot / 13) eb) hb → IsMade e base (block_put (block_put disk (e.slot / 13) eb) 0 hb)
+
+-- Cutting.
+
+-- what a call that cuts its file is for
+abbrev pub IsCutFor : FileCall → Files → List ℕ → Type 0
+IsCutFor (Delete name) e base = IsDeleting e base
+IsCutFor (Truncate d) e base = IsEmptied e base
+IsCutFor _ e base = ⊥
+
+-- the file in hand is cut to nothing: of its blocks, which it had for so many bytes, those of the first index blocks are free
+pub record IsCutting (e : Files) (freed : ℕ) (base disk : List ℕ) : Type 0 where
+  pub for : IsCutFor e.call e base
+  pub places : Places
+  pub chain : List ℕ
+  pub blocks : List ℕ
+  pub old_size : ℕ
+  pub chain_long : length chain ≡ (old_size + 8191) / 8192
+  pub blocks_long : length blocks ≡ (old_size + 511) / 512
+  pub numbers : (j : ℕ) → j < length blocks → slice_index blocks j < e.blocks
+  pub short : length chain ≤ 1048576
+  pub cut : IsCut e.blocks base disk e.header e.slot e.entry places chain blocks e.reached freed
+  pub size : e.entry.size ≡ 0
+  pub first : e.entry.first ≡ null
+  pub files : e.header.files ≡ (header_on base).files
+
+-- it waits for an index block
+pub record IsCutRead (e : Files) (base disk : List ℕ) : Type 0 where
+  pub cutting : IsCutting e (16 * e.reached) base disk
+  pub below : e.reached < length cutting.chain
+  pub at : e.at ≡ slice_index cutting.chain e.reached
+
+-- the index block is to be written, freed
+pub record IsCutWrite (e : Files) (base disk : List ℕ) : Type 0 where
+  pub read : IsCutRead e base disk
+  pub index : e.index ≡ index_for e.reached read.cutting.chain read.cutting.blocks
+  pub put : IsIndexPut (block_in disk (6 + e.at / 7)) (e.at % 7) (freed_index e.index e) e.block
+
+-- a data block of the index block before is to be written, freed
+pub record IsFreeWrite (e : Files) (b : ℕ) (base disk : List ℕ) : Type 0 where
+  pub some : 0 < e.reached
+  pub cutting : IsCutting e (16 * (e.reached - 1) + e.row) base disk
+  pub row : e.row < 16
+  pub most : e.reached ≤ length cutting.chain
+  pub index : e.index ≡ index_for (e.reached - 1) cutting.chain cutting.blocks
+  pub below : 16 * (e.reached - 1) + e.row < length cutting.blocks
+  pub here : b ≡ slice_index cutting.blocks (16 * (e.reached - 1) + e.row)
+  pub block : e.block ≡ word_block e.header.free_data
+
+-- Writing.
+
+-- the bytes that a call puts are its own
+abbrev pub IsPut : FileCall → List ℕ → Type 0
+IsPut (Write d) bytes = Unit {0}
+IsPut (Putc d b) bytes = bytes ≡ b ∷ []
+IsPut _ bytes = ⊥
+
+-- a call has put some of its bytes into a file that a device has open
+pub record IsPutting (e : Files) (base disk : List ℕ) (p : Places) : Type 0 where
+  pub call : IsPut e.call (put_bytes e)
+  pub file : OpenFile
+  pub open_is : device_at e (device_of e.call) ≡ Some file
+  pub writes : file.write ≡ true
+  pub slot : e.slot ≡ file.slot
+  pub position : e.position ≡ file.position
+  pub most : e.total ≤ 1048576
+  pub few : e.done ≤ e.total
+  pub some : 0 < e.total
+  pub files : e.header.files ≡ (header_on base).files
+  pub middle : IsMiddle e.blocks base disk e.header e.slot e.entry p (overwritten e.position (take e.done (put_bytes e)) (entry_bytes base (entry_at base e.slot)))
+
+-- it has come to an index block of the file
+pub record IsAt (e : Files) (p : Places) : Type 0 where
+  pub below : e.reached ≤ length (numbers_at p.chains e.slot)
+  pub at : 0 < e.reached → e.at ≡ slice_index (numbers_at p.chains e.slot) (e.reached - 1)
+  pub index : 0 < e.reached → e.index ≡ index_for (e.reached - 1) (numbers_at p.chains e.slot) (numbers_at p.datas e.slot)
+
+-- it goes on with the bytes that are left
+pub record IsReady (e : Files) (base disk : List ℕ) : Type 0 where
+  pub places : Places
+  pub putting : IsPutting e base disk places
+  pub no_index : places.held_index ≡ []
+  pub no_data : places.held_data ≡ []
+  pub fresh : e.done ≡ 0 → disk ≡ base
+  pub cursor : IsAt e places
+  pub near : 0 < e.reached → (e.reached ≤ target e + 1) × (target e ≤ e.reached)
+
+-- it waits for an index block, after which so many come to that of the next bytes
+pub record IsReach (e : Files) (rest at : ℕ) (base disk : List ℕ) : Type 0 where
+  pub ready : IsReady e base disk
+  pub left : e.done < e.total
+  pub few : rest ≤ target e
+  pub below : target e < length (numbers_at ready.places.chains e.slot)
+  pub start : 0 < rest → e.reached ≡ 0
+  pub here : at ≡ slice_index (numbers_at ready.places.chains e.slot) (target e - rest)
+
+-- it waits for the data block of the next bytes
+pub record IsPatch (e : Files) (b : ℕ) (base disk : List ℕ) : Type 0 where
+  pub ready : IsReady e base disk
+  pub left : e.done < e.total
+  pub reached : e.reached ≡ target e + 1
+  pub inside : at_end e ≡ false
+  pub here : b ≡ slice_index (numbers_at ready.places.datas e.slot) (at_byte e / 512)
+
+-- the data block is to be written with the bytes
+pub record IsPatched (e : Files) (b : ℕ) (base disk : List ℕ) : Type 0 where
+  pub patch : IsPatch e b base disk
+  pub block : e.block ≡ patched e.done (piece e) (at_byte e % 512) e.buffer (block_in disk b)
+
+-- the next bytes need a new data block, and an index block if they are the first of one
+pub record IsTake (e : Files) (b : ℕ) (base disk : List ℕ) : Type 0 where
+  pub ready : IsReady e base disk
+  pub left : e.done < e.total
+  pub ends : at_end e ≡ true
+  pub reached : 0 < at_byte e → e.reached ≡ target e + 1
+  pub head : e.header.free_data ≡ b
+  pub some : b ≢ null
+  pub index : at_byte e % 8192 ≡ 0 → e.header.free_index ≢ null
+
+-- the data block is taken
+pub record IsTaken (e : Files) (b : ℕ) (base disk : List ℕ) : Type 0 where
+  pub places : Places
+  pub putting : IsPutting e base disk places
+  pub left : e.done < e.total
+  pub no_index : places.held_index ≡ []
+  pub held : places.held_data ≡ b ∷ []
+  pub ends : at_end e ≡ true
+  pub cursor : IsAt e places
+  pub reached : 0 < at_byte e → e.reached ≡ target e + 1
+  pub index : at_byte e % 8192 ≡ 0 → e.header.free_index ≢ null
+
+-- it is to be written with the bytes
+pub record IsTakeWrite (e : Files) (b : ℕ) (base disk : List ℕ) : Type 0 where
+  pub taken : IsTaken e b base disk
+  pub block : e.block ≡ patched e.done (piece e) 0 e.buffer (replicate 512 0)
+
+-- it has the bytes
+pub record IsFilled (e : Files) (b : ℕ) (base disk : List ℕ) : Type 0 where
+  pub taken : IsTaken e b base disk
+  pub filled : take (piece e) (block_in disk b) ≡ take (piece e) (drop e.done e.buffer)
+
+-- the last index block is to be written with its number
+pub record IsAddWrite (e : Files) (b : ℕ) (base disk : List ℕ) : Type 0 where
+  pub filled : IsFilled e b base disk
+  pub room : at_byte e % 8192 ≢ 0
+  pub put : IsIndexPut (block_in disk (6 + e.at / 7)) (e.at % 7) (added_index b e) e.block
+
+-- an index block is taken besides
+pub record IsNew (e : Files) (b i : ℕ) (base disk : List ℕ) : Type 0 where
+  pub places : Places
+  pub putting : IsPutting e base disk places
+  pub left : e.done < e.total
+  pub held_index : places.held_index ≡ i ∷ []
+  pub held_data : places.held_data ≡ b ∷ []
+  pub ends : at_end e ≡ true
+  pub cursor : IsAt e places
+  pub reached : 0 < at_byte e → e.reached ≡ target e + 1
+  pub whole : at_byte e % 8192 ≡ 0
+  pub filled : take (piece e) (block_in disk b) ≡ take (piece e) (drop e.done e.buffer)
+
+-- it is to be written with the number
+pub record IsNewWrite (e : Files) (b i : ℕ) (base disk : List ℕ) : Type 0 where
+  pub new : IsNew e b i base disk
+  pub put : IsIndexPut (block_in disk (6 + i / 7)) (i % 7) (fresh_index b e) e.block
+
+-- it has the number, and the last index block is to name it
+pub record IsLink (e : Files) (b i : ℕ) (base disk : List ℕ) : Type 0 where
+  pub new : IsNew e b i base disk
+  pub some : 0 < at_byte e
+  pub written : index_at (i % 7) (block_in disk (6 + i / 7)) ≡ fresh_index b e
+
+-- the last index block is to be written so
+pub record IsLinkWrite (e : Files) (b i : ℕ) (base disk : List ℕ) : Type 0 where
+  pub link : IsLink e b i base disk
+  pub put : IsIndexPut (block_in disk (6 + e.at / 7)) (e.at % 7) (linked_index i (index_at (e.at % 7) (block_in disk (6 + e.at / 7)))) e.block
+
+-- a call that puts bytes begins
+pub record IsBegun (e : Files) (file : OpenFile) : Type 0 where
+  pub call : IsPut e.call (put_bytes e)
+  pub position : e.position ≡ file.position
+  pub most : e.total ≤ 1048576
+  pub some : 0 < e.total
+  pub none : e.done ≡ 0
+  pub not_reached : e.reached ≡ 0
+
+-- the counts are to be read
+pub record IsCounting (e : Files) (base disk : List ℕ) : Type 0 where
+  pub same : disk ≡ base
+  pub file : OpenFile
+  pub open_is : device_at e (device_of e.call) ≡ Some file
+  pub writes : file.write ≡ true
+  pub slot : e.slot ≡ file.slot
+  pub entry : e.entry ≡ file.entry
+  pub begun : (is_truncate e.call ≡ true) ⊎ IsBegun e file

@@ -1,0 +1,131 @@
+-- The steps of `write` and `putc`.
+use Rattle.std.specs.Prelude.{ℕ, zero, suc, ◌≡◌, ◌≢◌, ◌+◌, ◌-◌, ◌*◌, ◌/◌, ◌%◌, ◌<◌, ◌≤◌, ◌==◌, Bool, true, false, not, cond, nat_eq, nat_le, nat_lt, ◌&&◌, ◌||◌, if◌then◌else◌, min, max, List, [], ◌∷◌, ◌++◌, length, map, take, drop, replicate, Option, Some, None, slice_index, slice_index_or, slice_set, bytes_eq, ℤ, pos, negsuc}
+use Rattle.lfs_format.specs.declared.Index.{Index}
+use Rattle.lfs_format.specs.declared.Dir.{Dir}
+use Rattle.lfs_check.specs.Fields.{header_2}
+use Rattle.lfs_check.specs.Meets.{null}
+use Rattle.local_files.specs.Buffers.{put_at, patched}
+use Rattle.local_files.specs.Steps.{answered, at_byte, piece, is_truncate}
+use Rattle.local_files.specs.Cuts.{cutting, held_file}
+use Rattle.xinu_base.specs.declared.files.OpenMode.{OpenMode}
+use Rattle.local_files.specs.declared.OpenFile.{OpenFile}
+use Rattle.local_files.specs.declared.FileCall.{FileCall}
+use Rattle.local_files.specs.declared.FileCall.TheVariants.{Open, Delete, Close, Read, Write, Getc, Putc, Seek, Truncate, Size}
+use Rattle.local_files.specs.declared.Phase.{Phase}
+use Rattle.local_files.specs.declared.Phase.TheVariants.{Idle, Done, Search, Walk, Fetch, Counts, Reach, PatchRead, PatchWrite, TakeRead, TakeWrite, AddRead, AddWrite, NewRead, NewWrite, LinkRead, LinkWrite, CutRead, CutWrite, FreeWrite, EntryRead, EntryWrite, HeaderRead, HeaderWrite}
+use Rattle.local_files.specs.declared.Files.{Files}
+
+-- a write of these bytes begins
+abbrev pub writing : OpenFile → List ℕ → FileCall → Files → Files
+writing f bytes call e =
+    if not f.write || nat_lt 1048576 (length bytes) then answered (negsuc 0) e
+    else (if length bytes == 0 then answered (pos 0) e
+    else record (held_file f call e) { buffer = put_at 0 bytes e.buffer; position = f.position; total = length bytes; done = 0; reached = 0 })
+
+abbrev pub writing_at : Option OpenFile → List ℕ → FileCall → Files → Files
+writing_at None bytes call e = answered (negsuc 0) e
+writing_at (Some f) bytes call e = writing f bytes call e
+
+-- no more bytes are put: refused if there are none
+abbrev pub end_put : Files → Files
+end_put e = if e.done == 0 then answered (negsuc 0) e else record e { phase = EntryRead }
+
+-- whether the next bytes need a new data block
+abbrev pub at_end : Files → Bool
+at_end e = nat_eq (at_byte e) e.entry.size && (at_byte e % 512 == 0)
+
+-- which index block of the file they need
+abbrev pub target : Files → ℕ
+target e = if at_end e && nat_lt 0 (at_byte e) then (at_byte e - 1) / 8192 else at_byte e / 8192
+
+-- goes on to an index block, if there is such a block
+abbrev pub reaching : ℕ → ℕ → Files → Files
+reaching rest at e = if nat_lt (6 + at / 7) e.blocks then record e { phase = Reach rest at } else answered (negsuc 0) e
+
+abbrev pub reach_to : Files → Files
+reach_to e = if e.reached == 0 then reaching (target e) e.entry.first e else reaching 0 e.index.next e
+
+-- goes on to the first free data block, if there is such a block
+abbrev pub taking : Files → Files
+taking e = if nat_lt e.header.free_data e.blocks then record e { phase = TakeRead e.header.free_data } else answered (negsuc 0) e
+
+-- the next bytes need a new data block
+abbrev pub appending : Files → Files
+appending e =
+    if (e.header.free_data == null) || ((at_byte e % 8192 == 0) && (e.header.free_index == null)) then end_put e
+    else (if (at_byte e == 0) || (e.reached == target e + 1) then taking e else reach_to e)
+
+-- goes on to a data block of the file, if there is such a block
+abbrev pub patching : ℕ → Files → Files
+patching b e = if nat_lt b e.blocks then record e { phase = PatchRead b } else answered (negsuc 0) e
+
+-- the next bytes go into a data block of the file
+abbrev pub in_place : Files → Files
+in_place e = if e.reached == target e + 1 then patching (slice_index e.index.blocks (at_byte e / 512 % 16)) e else reach_to e
+
+-- goes on with the bytes that are left
+abbrev pub next_put : Files → Files
+next_put e = if nat_le e.total e.done then end_put e else (if at_end e then appending e else in_place e)
+
+-- the counts were read
+abbrev pub counts_read : Dir → Files → Files
+counts_read dir e =
+    let c : Files = record e { header = header_2 dir } in if is_truncate e.call then cutting e.entry c else next_put c
+
+-- an index block was read
+abbrev pub reached : ℕ → ℕ → Index → Files → Files
+reached zero at index e = next_put (record e { index = index; at = at; reached = target e + 1 })
+reached (suc rest) at index e = reaching rest index.next (record e { index = index; at = at })
+
+-- a data block of the file was read
+abbrev pub patch_read : ℕ → List ℕ → Files → Files
+patch_read b block e = record e { block = patched e.done (piece e) (at_byte e % 512) e.buffer block; phase = PatchWrite b }
+
+-- the bytes are on the disk
+abbrev pub put_done : Files → Files
+put_done e = let d : Files = record e { done = (e.done + piece e) % 4294967296 } in record d { entry = record e.entry { size = max e.entry.size (at_byte d) } }
+
+-- a free data block was read
+abbrev pub take_read : ℕ → ℕ → Files → Files
+take_read b next e = record e { header = record e.header { free_data = next }; block = patched e.done (piece e) 0 e.buffer (replicate 512 0); phase = TakeWrite b }
+
+-- goes on to a free index block, if there is such a block
+abbrev pub newing : ℕ → ℕ → Files → Files
+newing b i e = if nat_lt (6 + i / 7) e.blocks then record e { phase = NewRead b i } else answered (negsuc 0) e
+
+-- the data block is written
+abbrev pub take_written : ℕ → Files → Files
+take_written b e = if at_byte e % 8192 == 0 then newing b e.header.free_index e else record e { phase = AddRead b }
+
+-- the last index block with one data block more
+abbrev pub added_index : ℕ → Files → Index
+added_index b e = record e.index { blocks = slice_set e.index.blocks (at_byte e / 512 % 16) b }
+
+abbrev pub add_read : ℕ → List ℕ → Files → Files
+add_read b block e = record e { block = block; phase = AddWrite b }
+
+-- the engine has another index block
+abbrev pub with_index : Index → Files → Files
+with_index index e = record e { index = index }
+
+-- an index block of one data block
+abbrev pub fresh_index : ℕ → Files → Index
+fresh_index b e = record { next = null; offset = at_byte e; blocks = slice_set (replicate 16 null) 0 b }
+
+abbrev pub new_read : ℕ → ℕ → Index → List ℕ → Files → Files
+new_read b i old block e = record e { header = record e.header { free_index = old.next }; block = block; phase = NewWrite b i }
+
+-- the new index block is the last
+abbrev pub followed : ℕ → ℕ → Files → Files
+followed b i e = record e { index = fresh_index b e; at = i; reached = (e.reached + 1) % 4294967296 }
+
+abbrev pub new_written : ℕ → ℕ → Files → Files
+new_written b i e =
+    if at_byte e == 0 then next_put (put_done (followed b i (record e { entry = record e.entry { first = i } }))) else record e { phase = LinkRead b i }
+
+-- the index block that is named by the one before it
+abbrev pub linked_index : ℕ → Index → Index
+linked_index i index = record index { next = i }
+
+abbrev pub link_read : ℕ → ℕ → List ℕ → Files → Files
+link_read b i block e = record e { block = block; phase = LinkWrite b i }

@@ -1,0 +1,133 @@
+//! The file engine: what a call on files does to a disk of version 2, block by block.
+//!
+//! It knows no disk and no process. `begin` takes a call; `wants` then says which block is to be read, or written with `outgoing`, and `completed`
+//! takes each completion, until `answer` has the reply. Between calls it keeps of each open device the entry of its file, the entry's place, the
+//! position and what is allowed, and nothing else of the disk. `specs/Standing` says what the engine stands for together with a disk.
+#![tactic(auto)]
+
+mod buffer;
+mod cutting;
+mod ending;
+mod engine;
+mod growing;
+mod looking;
+mod opening;
+mod reading;
+mod search;
+mod table;
+mod writing;
+
+pub use buffer::Buffer;
+
+use lfs_check::Header;
+use lfs_format::{Entry, Index};
+use xinu_base::{Below, OpenMode};
+
+/// The number of a file device, from 0 to 5.
+pub type FileDev = Below<6>;
+
+/// A file that a device has open: the place of its entry in the directory, the entry, the position, and whether it is read and written.
+#[derive(Clone, Copy)]
+pub struct OpenFile {
+    pub slot: u32,
+    pub entry: Entry,
+    pub position: u32,
+    pub read: bool,
+    pub write: bool,
+}
+
+/// A call on files; a name has zeros after it.
+#[derive(Clone, Copy)]
+pub enum FileCall {
+    Open([u8; 28], OpenMode),
+    Delete([u8; 28]),
+    Close(FileDev),
+    Read(FileDev, u32),
+    Write(FileDev),
+    Getc(FileDev),
+    Putc(FileDev, u8),
+    Seek(FileDev, i32),
+    Truncate(FileDev),
+    Size(FileDev),
+}
+
+/// Work on a block of the disk.
+#[derive(Clone, Copy)]
+pub enum BlockWork {
+    Read(u32),
+    Write(u32),
+}
+
+/// What the engine waits for.
+#[derive(Clone, Copy)]
+pub enum Phase {
+    /// A call.
+    Idle,
+    /// That its answer is taken.
+    Done(i32),
+    /// A directory block, in which a name is looked for.
+    Search(u32),
+    /// An index block of the file that is read, after which so many more come to that of the position.
+    Walk(u32, u32),
+    /// A data block of the file that is read.
+    Fetch(u32),
+    /// The first directory block, which has the counts.
+    Counts,
+    /// An index block of the file that is written, after which so many more come to that of the position.
+    Reach(u32, u32),
+    /// A data block of the file, which is then written with bytes put into it.
+    PatchRead(u32),
+    PatchWrite(u32),
+    /// A free data block, which is then written.
+    TakeRead(u32),
+    TakeWrite(u32),
+    /// The last index block, which then gets the number of a data block.
+    AddRead(u32),
+    AddWrite(u32),
+    /// A free index block, which then gets the number of a data block.
+    NewRead(u32, u32),
+    NewWrite(u32, u32),
+    /// The last index block, which is then followed by a new one.
+    LinkRead(u32, u32),
+    LinkWrite(u32, u32),
+    /// An index block of a file that is cut, which is then freed.
+    CutRead,
+    CutWrite,
+    /// That a data block of the file is freed.
+    FreeWrite(u32),
+    /// The directory block of the entry, which then gets it.
+    EntryRead,
+    EntryWrite,
+    /// The first directory block, which then gets the counts.
+    HeaderRead,
+    HeaderWrite,
+}
+
+/// The engine.
+#[derive(Drop)]
+pub struct Files {
+    pub blocks: u32,
+    pub devices: [Option<OpenFile>; 6],
+    pub phase: Phase,
+    pub call: FileCall,
+    /// The file in hand: the place of its entry and the entry; and the counts.
+    pub slot: u32,
+    pub entry: Entry,
+    pub header: Header,
+    /// The block that is to be written.
+    pub block: [u8; 512],
+    /// The index block that was read last, its number, and how many of the file's index blocks come up to it.
+    pub index: Index,
+    pub at: u32,
+    pub reached: u32,
+    /// How many of its data blocks are freed.
+    pub row: u32,
+    /// Where the call begins in the file, how many bytes it takes or puts, and how many of them it has.
+    pub position: u32,
+    pub total: u32,
+    pub done: u32,
+    /// How many bytes a read that is done has given.
+    pub given: u32,
+    /// The bytes that a call puts or takes.
+    pub buffer: Buffer,
+}
