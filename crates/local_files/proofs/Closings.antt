@@ -1,15 +1,12 @@
 -- The end of a call that writes the directory.
-use Rattle.std.proofs.Common.{◌≡◌, ◌≢◌, ℕ, zero, suc, ◌+◌, ◌*◌, ◌/◌, ◌<◌, ◌≤◌, Bool, true, false, cond, ◌||◌, nat_le, List, [], ◌∷◌, length, map, refl, sym, ap, ◌∙◌, subst, arith, slice_index_or, slice_set, Option, Some, None, ℤ, pos, negsuc, if◌then◌else◌, bytes_eq, not, nat_eq, slice_index, ◌&&◌, ◌%◌}
+use Rattle.std.proofs.Common.{◌≡◌, ◌≢◌, ℕ, ◌+◌, ◌*◌, ◌/◌, ◌<◌, ◌≤◌, Bool, true, false, cond, ◌||◌, nat_le, List, [], length, map, refl, sym, ap, ◌∙◌, subst, arith, slice_set, Option, Some, None, pos, if◌then◌else◌, not, nat_eq, slice_index, ◌%◌}
 use Rattle.std.proofs.lemmas.Bool.{false≢true}
 use Rattle.std.proofs.lemmas.Bool.Decides.{nat_tests}
-use Rattle.std.proofs.lemmas.Slice.Eq.{bytes_eq-Decides}
-use Rattle.lfs_format.specs.declared.Entry.{Entry}
-use Rattle.lfs_check.specs.Rules.{entry_is_used, is_name, block_in}
+use Rattle.lfs_check.specs.Rules.{entry_is_used, block_in}
 use Rattle.lfs_check.proofs.Images.{image_blocks}
 use Rattle.lfs_check.specs.Disks.{is_this, block_put, entry_at, entries, dir_with_entry, dir_with_header}
 use Rattle.lfs_check.proofs.BlockPuts.{length_put}
 use Rattle.lfs_layout.specs.Files.{bare_name}
-use Rattle.lfs_layout.specs.Images.{IsCleanImage}
 use Rattle.xinu_base.specs.declared.files.OpenMode.{OpenMode}
 use Rattle.xinu_model.specs.Files.Modes.{reads, writes}
 use Rattle.xinu_model.specs.Files.Stored.{StoredFile, file_named}
@@ -25,11 +22,11 @@ use Rattle.local_files.specs.declared.FileCall.{FileCall}
 use Rattle.local_files.specs.declared.FileCall.TheVariants.{Open, Delete, Close, Read, Write, Getc, Putc, Seek, Truncate, Size}
 use Rattle.local_files.specs.declared.Phase.{Phase}
 use Rattle.local_files.specs.declared.Phase.TheVariants.{EntryWrite, HeaderRead, HeaderWrite, EntryRead}
-use Rattle.local_files.specs.Hands.{system, IsEnding, IsMade, IsDevice, IsOpenOn, AreApart, IsCall, IsWritten, IsEmptied, IsDeleting, IsCreating, IsClosing, IsEntryBlock, IsHeaderBlock, files_after, MayLook, name_of}
-use Rattle.local_files.specs.Steps.{device_at, answered, with_device, lowest_free, shown}
+use Rattle.local_files.specs.Hands.{system, IsEnding, IsMade, IsDevice, IsOpenOn, AreApart, IsCall, IsWritten, IsCreating, IsClosing, IsEntryBlock, IsHeaderBlock, files_after, MayLook, name_of}
+use Rattle.local_files.specs.Steps.{device_at, answered, lowest_free, shown}
 use Rattle.local_files.specs.Standing.{Stands, InHand, served, GoesTo, call_bytes}
-use Rattle.local_files.specs.Opens.{opened, ended}
-use Rattle.local_files.proofs.Devices.{device_some, set_stands, shown_set, answered_stands, is_open_same, not_open}
+use Rattle.local_files.specs.Opens.{opened}
+use Rattle.local_files.proofs.Devices.{set_stands, shown_set}
 use Rattle.xinu_model.specs.Files.Systems as systems
 use Rattle.xinu_model.specs.Files.Opening as model_opening
 use Rattle.local_files.specs.Standing as engine
@@ -43,10 +40,13 @@ blocks_many e base disk s =
     let low : 14 ≤ n = (let P : Bool → Type 0 = λ b. cond b 14 8 ≤ n in subst P s.clean.version size.0) in
     let b = s.blocks in let w = s.whole in (omega (arith, low, b), w ∙ b)
 
-written_kept : (e : Files) (phase : Phase) (block base : List ℕ) → IsWritten e base → IsWritten (record e { phase = phase; block = block }) base
-written_kept e phase block base h = record { file = h.file; open_is = h.open_is; writes = h.writes; slot = h.slot; position = h.position; some = h.some; few = h.few; most = h.most; fits = h.fits; size = h.size; named = h.named }
+written_kept : (e : Files) (phase : Phase) (block base : List ℕ) → IsWritten e base
+    → IsWritten (record e { phase = phase; block = block }) base
+written_kept e phase block base h = record { file = h.file; open_is = h.open_is; writes = h.writes; slot = h.slot; position = h.position;
+    some = h.some; few = h.few; most = h.most; fits = h.fits; size = h.size; named = h.named }
 
-after_same : (call : FileCall) (e : Files) (phase : Phase) (block base : List ℕ) → files_after call e base ≡ files_after call (record e { phase = phase; block = block }) base
+after_same : (call : FileCall) (e : Files) (phase : Phase) (block base : List ℕ)
+    → files_after call e base ≡ files_after call (record e { phase = phase; block = block }) base
 after_same (Open name mode) e phase block base = refl
 after_same (Delete name) e phase block base = refl
 after_same (Write d) e phase block base = refl
@@ -59,28 +59,35 @@ after_same (Seek d n) e phase block base = refl
 after_same (Size d) e phase block base = refl
 
 -- what the call has done does not depend on what it waits for
-ending_kept : (call : FileCall) (e : Files) (phase : Phase) (block base : List ℕ) → IsEnding call e base → IsEnding call (record e { phase = phase; block = block }) base
-ending_kept (Open name mode) e phase block base h = record { slot = h.slot; call = h.call; look = h.look; none = h.none; named = h.named; empty = h.empty; free = h.free; may = h.may }
+ending_kept : (call : FileCall) (e : Files) (phase : Phase) (block base : List ℕ) → IsEnding call e base
+    → IsEnding call (record e { phase = phase; block = block }) base
+ending_kept (Open name mode) e phase block base h = record { slot = h.slot; call = h.call; look = h.look; none = h.none; named = h.named;
+    empty = h.empty; free = h.free; may = h.may }
 ending_kept (Delete name) e phase block base h = record { slot = h.slot; call = h.call; closed = h.closed; used = h.used; named = h.named }
 ending_kept (Write d) e phase block base h = written_kept e phase block base h
 ending_kept (Putc d b) e phase block base h = (written_kept e phase block base h.0, h.1)
-ending_kept (Truncate d) e phase block base h = record { file = h.file; open_is = h.open_is; writes = h.writes; slot = h.slot; named = h.named }
+ending_kept (Truncate d) e phase block base h = record { file = h.file; open_is = h.open_is; writes = h.writes; slot = h.slot;
+    named = h.named }
 ending_kept (Close d) e phase block base h = h
 ending_kept (Read d n) e phase block base h = h
 ending_kept (Getc d) e phase block base h = h
 ending_kept (Seek d n) e phase block base h = h
 ending_kept (Size d) e phase block base h = h
 
-made_same : (e : Files) (phase : Phase) (block base made : List ℕ) → IsMade e base made → IsMade (record e { phase = phase; block = block }) base made
-made_same e phase block base made m = record { clean = m.clean; size = m.size; files = m.files ∙ after_same e.call e phase block base; entry = m.entry; others = m.others }
+made_same : (e : Files) (phase : Phase) (block base made : List ℕ) → IsMade e base made
+    → IsMade (record e { phase = phase; block = block }) base made
+made_same e phase block base made m = record { clean = m.clean; size = m.size; files = m.files
+    ∙ after_same e.call e phase block base; entry = m.entry; others = m.others }
 
 -- the blocks of a disk that the engine stands for
-pub put_whole : (e : Files) (base disk : List ℕ) (n : ℕ) → Stands e base disk → n < e.blocks → length (block_put disk n e.block) ≡ length base
+pub put_whole : (e : Files) (base disk : List ℕ) (n : ℕ) → Stands e base disk → n < e.blocks
+    → length (block_put disk n e.block) ≡ length base
 put_whole e base disk n s h = length_put disk n e.blocks e.block (blocks_many e base disk s).1 h s.outgoing ∙ s.whole
 
 -- the directory block of the entry was read
 pub put_entry_goes : (e e' : Files) (base disk read : List ℕ) → e.phase ≡ EntryRead → e' ≡ record e { phase = EntryWrite; block = e'.block }
-    → IsDirBlock (dir_with_entry (dir_of read) (e.slot % 13) e.entry) e'.block → Stands e base disk → read ≡ block_in disk (e.slot / 13) → GoesTo e'.phase e.call (call_bytes e) e e' base disk
+    → IsDirBlock (dir_with_entry (dir_of read) (e.slot % 13) e.entry) e'.block → Stands e base disk → read ≡ block_in disk (e.slot / 13)
+    → GoesTo e'.phase e.call (call_bytes e) e e' base disk
 put_entry_goes e e' base disk read phase new put s honest =
     let H : Phase → Type 0 = λ p. InHand p e base disk in
     let hand : IsClosing e base disk = subst H phase s.hand in
@@ -89,12 +96,15 @@ put_entry_goes e e' base disk read phase new put s honest =
     let block : IsEntryBlock e disk e'.block = subst R honest put in
     let P : Files → Type 0 = λ x. GoesTo x.phase e.call (call_bytes e) e x base disk in
     subst P (sym new) (record {
-        clean = s.clean; blocks = s.blocks; whole = s.whole; six = s.six; buffer = s.buffer; outgoing = block.long; device = s.device; apart = s.apart;
-        hand = (ending_kept e.call e EntryWrite e'.block base hand.ending, (hand.slot, λ hb q. made_same e EntryWrite e'.block base (block_put (block_put disk (e.slot / 13) e'.block) 0 hb) (hand.made e'.block hb block q)));
+        clean = s.clean; blocks = s.blocks; whole = s.whole; six = s.six; buffer = s.buffer; outgoing = block.long; device = s.device;
+        apart = s.apart;
+        hand = (ending_kept e.call e EntryWrite e'.block base hand.ending, (hand.slot, λ hb q.
+        made_same e EntryWrite e'.block base (block_put (block_put disk (e.slot / 13) e'.block) 0 hb) (hand.made e'.block hb block q)));
       }, refl, refl, refl)
 
 -- it is written
-pub entry_written_goes : (e e' : Files) (base disk : List ℕ) → e.phase ≡ EntryWrite → e' ≡ record e { phase = HeaderRead } → Stands e base disk → GoesTo e'.phase e.call (call_bytes e) e e' base (block_put disk (e.slot / 13) e.block)
+pub entry_written_goes : (e e' : Files) (base disk : List ℕ) → e.phase ≡ EntryWrite → e' ≡ record e { phase = HeaderRead }
+    → Stands e base disk → GoesTo e'.phase e.call (call_bytes e) e e' base (block_put disk (e.slot / 13) e.block)
 entry_written_goes e e' base disk phase new s =
     let n : Files = record e { phase = HeaderRead } in
     let H : Phase → Type 0 = λ p. InHand p e base disk in
@@ -104,13 +114,17 @@ entry_written_goes e e' base disk phase new s =
     let after = block_put disk (e.slot / 13) e.block in
     let P : Files → Type 0 = λ x. GoesTo x.phase e.call (call_bytes e) e x base after in
     subst P (sym new) (record {
-        clean = s.clean; blocks = s.blocks; whole = put_whole e base disk (e.slot / 13) s at; six = s.six; buffer = s.buffer; outgoing = s.outgoing; device = s.device; apart = s.apart;
-        hand = (ending_kept e.call e HeaderRead e.block base hand.0, (hand.1.0, λ hb q. made_same e HeaderRead e.block base (block_put after 0 hb) (hand.1.1 hb q)));
+        clean = s.clean; blocks = s.blocks; whole = put_whole e base disk (e.slot / 13) s at; six = s.six; buffer = s.buffer;
+        outgoing = s.outgoing; device = s.device; apart = s.apart;
+        hand = (ending_kept e.call e HeaderRead e.block base hand.0, (hand.1.0, λ hb q.
+        made_same e HeaderRead e.block base (block_put after 0 hb) (hand.1.1 hb q)));
       }, refl, refl, refl)
 
 -- the first directory block was read
-pub put_header_goes : (e e' : Files) (base disk read : List ℕ) → e.phase ≡ HeaderRead → e' ≡ record e { phase = HeaderWrite; block = e'.block }
-    → IsDirBlock (dir_with_header (dir_of read) e.header) e'.block → Stands e base disk → read ≡ block_in disk 0 → GoesTo e'.phase e.call (call_bytes e) e e' base disk
+pub put_header_goes : (e e' : Files) (base disk read : List ℕ) → e.phase ≡ HeaderRead
+    → e' ≡ record e { phase = HeaderWrite; block = e'.block }
+    → IsDirBlock (dir_with_header (dir_of read) e.header) e'.block → Stands e base disk → read ≡ block_in disk 0
+    → GoesTo e'.phase e.call (call_bytes e) e e' base disk
 put_header_goes e e' base disk read phase new put s honest =
     let H : Phase → Type 0 = λ p. InHand p e base disk in
     let hand = subst H phase s.hand in
@@ -118,26 +132,33 @@ put_header_goes e e' base disk read phase new put s honest =
     let block : IsHeaderBlock e disk e'.block = subst R honest put in
     let P : Files → Type 0 = λ x. GoesTo x.phase e.call (call_bytes e) e x base disk in
     subst P (sym new) (record {
-        clean = s.clean; blocks = s.blocks; whole = s.whole; six = s.six; buffer = s.buffer; outgoing = block.long; device = s.device; apart = s.apart;
-        hand = (ending_kept e.call e HeaderWrite e'.block base hand.0, (hand.1.0, made_same e HeaderWrite e'.block base (block_put disk 0 e'.block) (hand.1.1 e'.block block)));
+        clean = s.clean; blocks = s.blocks; whole = s.whole; six = s.six; buffer = s.buffer; outgoing = block.long; device = s.device;
+        apart = s.apart;
+        hand = (ending_kept e.call e HeaderWrite e'.block base hand.0,
+        (hand.1.0, made_same e HeaderWrite e'.block base (block_put disk 0 e'.block) (hand.1.1 e'.block block)));
       }, refl, refl, refl)
 
 -- of the made disk an open device's entry is as it was
-others_open : (e : Files) (base made : List ℕ) (f : OpenFile) → IsMade e base made → entry_is_used (entry_at base e.slot) ≡ false → IsOpenOn base f → IsOpenOn made f × (f.slot ≢ e.slot)
+others_open : (e : Files) (base made : List ℕ) (f : OpenFile) → IsMade e base made → entry_is_used (entry_at base e.slot) ≡ false
+    → IsOpenOn base f → IsOpenOn made f × (f.slot ≢ e.slot)
 others_open e base made f m free o =
-    let ne : f.slot ≢ e.slot = λ q. false≢true (sym free ∙ ap (λ k. entry_is_used (entry_at base k)) (sym q) ∙ ap entry_is_used o.entry ∙ o.used) in
+    let ne : f.slot ≢ e.slot = λ q. false≢true (sym free ∙ ap (λ k. entry_is_used (entry_at base k)) (sym q) ∙ ap entry_is_used o.entry
+    ∙ o.used) in
     (record { slot = o.slot; entry = m.others f.slot ne ∙ o.entry; used = o.used; position = o.position }, ne)
 
-all_open : (e : Files) (base made : List ℕ) (o : Option OpenFile) → IsMade e base made → entry_is_used (entry_at base e.slot) ≡ false → IsDevice base o → IsDevice made o
+all_open : (e : Files) (base made : List ℕ) (o : Option OpenFile) → IsMade e base made → entry_is_used (entry_at base e.slot) ≡ false
+    → IsDevice base o → IsDevice made o
 all_open e base made None m free h = tt
 all_open e base made (Some f) m free h = (others_open e base made f m free h).0
 
-away_from : (e : Files) (base made : List ℕ) (o : Option OpenFile) (f : OpenFile) → f.slot ≡ e.slot → IsMade e base made → entry_is_used (entry_at base e.slot) ≡ false → IsDevice base o → AreApart o (Some f) × AreApart (Some f) o
+away_from : (e : Files) (base made : List ℕ) (o : Option OpenFile) (f : OpenFile) → f.slot ≡ e.slot → IsMade e base made
+    → entry_is_used (entry_at base e.slot) ≡ false → IsDevice base o → AreApart o (Some f) × AreApart (Some f) o
 away_from e base made None f q m free h = (tt, tt)
 away_from e base made (Some g) f q m free h = let ne = (others_open e base made g m free h).1 in (λ z. ne (z ∙ q), λ z. ne (sym z ∙ q))
 
 -- the counts are written: the file is made, and open
-pub made_open : (e : Files) (name : List ℕ) (mode : OpenMode) (base disk made : List ℕ) → e.call ≡ Open name mode → Stands e base disk → IsCreating e base → IsMade e base made
+pub made_open : (e : Files) (name : List ℕ) (mode : OpenMode) (base disk made : List ℕ) → e.call ≡ Open name mode → Stands e base disk
+    → IsCreating e base → IsMade e base made
     → GoesTo (opened e.slot e.entry mode e).phase (Open name mode) [] e (opened e.slot e.entry mode e) base made
 made_open e name mode base disk made is s h m =
     let sys : FileSystem = system e base in
@@ -145,22 +166,29 @@ made_open e name mode base disk made is s h m =
     let look : MayLook (Open name mode) sys = (let P : FileCall → Type 0 = λ k. MayLook k sys in subst P is h.look) in
     let n : IsName name = record { padded = name_padded 27 name right.0; long = right.1 } in
     let free : lowest_free e < 6 = (let t = look.1 in grind (arith, nat_tests)) in
-    let none : (k : ℕ) → k < 78 → is_this name (entry_at base k) ≡ false = (let P : FileCall → Type 0 = λ c. (k : ℕ) → k < 78 → is_this (name_of c) (entry_at base k) ≡ false in subst P is h.none) in
+    let none : (k : ℕ) → k < 78 → is_this name (entry_at base k) ≡ false =
+    (let P : FileCall → Type 0 = λ c. (k : ℕ) → k < 78 → is_this (name_of c) (entry_at base k) ≡ false in subst P is h.none) in
     let absent : file_named (bare_name name) (stored_files base) ≡ None = named_none base name s.clean n none in
     let f : OpenFile = opening_file e.slot e.entry mode in
     let named : e.entry.name ≡ name = h.named ∙ ap name_of is in
     let files : stored_files made ≡ files_after (Open name mode) e base = m.files ∙ ap (λ k. files_after k e base) is in
     let len = (length_entries base s.clean).0 in
-    let few : nat_le 78 (length (stored_files base)) ≡ false = (let c = files_counted base s.clean in let hs = h.slot in let l = count_less entry_is_used (entries base) e.slot (omega (arith, hs, len)) h.free in
+    let few : nat_le 78 (length (stored_files base)) ≡ false =
+    (let c = files_counted base s.clean in let hs = h.slot in
+    let l = count_less entry_is_used (entries base) e.slot (omega (arith, hs, len)) h.free in
     let q : length (stored_files base) < 78 = omega (arith, c, l, len) in grind (arith, nat_tests)) in
     let d = lowest_free e in
-    let to : Bool → Bool → FileEffect = λ u v. if u || v then refused_effect sys else open_stored (file_named (bare_name name) sys.files) (bare_name name) mode sys in
-    let from : Bool → Bool → FileEffect = λ u v. if u || v then refused_effect sys else model_opening.opened (bare_name name) mode (with_created (bare_name name) sys) in
-    let result : List StoredFile → List (Option systems.OpenFile) → FileEffect = λ fs ds. record { system = record { blocks = e.blocks; files = fs; devices = ds }; reply = pos (4 + d); bytes = [] } in
+    let to : Bool → Bool → FileEffect = λ u v.
+    if u || v then refused_effect sys else open_stored (file_named (bare_name name) sys.files) (bare_name name) mode sys in
+    let from : Bool → Bool → FileEffect = λ u v.
+    if u || v then refused_effect sys else model_opening.opened (bare_name name) mode (with_created (bare_name name) sys) in
+    let result : List StoredFile → List (Option systems.OpenFile)
+    → FileEffect = λ fs ds. record { system = record { blocks = e.blocks; files = fs; devices = ds }; reply = pos (4 + d); bytes = [] } in
     let at : List ℕ → systems.OpenFile = λ b. record { name = b; position = 0; may_read = reads mode; may_write = writes mode } in
     let effect : engine.HasEffect (Open name mode) [] sys (pos (4 + d)) [] (system (opened e.slot e.entry mode e) made) =
     ap (λ u. to u (nat_le 6 (free_device sys.devices))) look.0 ∙ ap (to false) look.1
-    ∙ ap (λ o. open_stored o (bare_name name) mode sys) absent ∙ ap (λ u. from u (nat_le 78 (length sys.files))) (h.may name mode is) ∙ ap (from false) few
+    ∙ ap (λ o. open_stored o (bare_name name) mode sys) absent ∙ ap (λ u. from u (nat_le 78 (length sys.files))) (h.may name mode is)
+    ∙ ap (from false) few
     ∙ ap (λ b. result (files_after (Open name mode) e base) (slice_set sys.devices d (Some (at b)))) (ap bare_name (sym named))
     ∙ ap (result (files_after (Open name mode) e base)) (sym (shown_set e.devices d (Some f)))
     ∙ ap (λ fs. result fs (map shown (slice_set e.devices d (Some f)))) (sym files) in
@@ -169,6 +197,7 @@ made_open e name mode base disk made is s h m =
       device = λ c. all_open e base made (device_at e c) m h.free (s.device c);
       apart = s.apart; hand = refl } in
     let used : entry_is_used e.entry ≡ true = ap (λ x. not (nat_eq (slice_index x 0) 0)) named ∙ name_used 27 name right.0 in
-    (effect, set_stands (pos (4 + d)) (answered (pos 0) e) made d (Some f) before free (record { slot = h.slot; entry = m.entry; used = used; position = omega arith })
+    (effect, set_stands (pos (4 + d)) (answered (pos 0) e) made d (Some f) before free (record { slot = h.slot; entry = m.entry;
+    used = used; position = omega arith })
       (λ c ne. away_from e base made (device_at e c) f refl m h.free (s.device c)))
 

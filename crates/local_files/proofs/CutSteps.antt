@@ -1,45 +1,24 @@
 -- The steps of a call that frees the blocks of its file.
-use Rattle.std.proofs.Common.{◌≡◌, ◌≢◌, ℕ, zero, suc, ◌+◌, ◌*◌, ◌/◌, ◌<◌, ◌≤◌, Bool, true, false, cond, ◌||◌, nat_le, List, [], ◌∷◌, length, map, refl, sym, ap, ◌∙◌, subst, arith, slice_index_or, slice_set, Option, Some, None, ℤ, pos, negsuc, if◌then◌else◌, bytes_eq, not, nat_eq, slice_index, ◌&&◌, ◌%◌, get_or-set_same, get_or-set_other, length-set, ⊎_elim, take, nat_lt, length-take, ◌++◌, count_by, ◌==◌, ◌^◌}
+use Rattle.std.proofs.Common.{◌≡◌, ◌≢◌, ℕ, suc, ◌+◌, ◌*◌, ◌/◌, ◌<◌, ◌≤◌, Bool, true, false, List, [], ◌∷◌, length, map, refl, sym, ap, ◌∙◌, subst, arith, slice_index_or, slice_set, None, negsuc, if◌then◌else◌, not, slice_index, ◌&&◌, ◌%◌, ⊎_elim, nat_lt, ◌++◌, ◌==◌, ◌^◌}
 use Rattle.std.proofs.lemmas.Bool.{false≢true, cases_eq, cases_lt}
 use Rattle.std.proofs.lemmas.Bool.Decides.{nat_tests}
-use Rattle.std.proofs.lemmas.Slice.Eq.{bytes_eq-Decides}
 use Rattle.lfs_format.specs.declared.Entry.{Entry}
-use Rattle.lfs_check.specs.Rules.{entry_is_used, is_name, block_in}
-use Rattle.lfs_check.proofs.Images.{image_blocks}
-use Rattle.lfs_check.specs.Disks.{is_this, block_put, entry_at, entries, dir_with_entry, dir_with_header}
-use Rattle.lfs_check.proofs.BlockPuts.{length_put}
+use Rattle.lfs_check.specs.Rules.{entry_is_used, block_in}
+use Rattle.lfs_check.specs.Disks.{block_put, entry_at}
 use Rattle.lfs_layout.specs.Files.{bare_name}
-use Rattle.lfs_layout.specs.Images.{IsCleanImage}
-use Rattle.xinu_base.specs.declared.files.OpenMode.{OpenMode}
-use Rattle.xinu_model.specs.Files.Modes.{reads, writes}
-use Rattle.xinu_model.specs.Files.Stored.{StoredFile, file_named, with_contents, without_file}
-use Rattle.xinu_model.specs.Files.Systems.{FileSystem, FileEffect, is_open, free_device, refused_effect}
-use Rattle.xinu_model.specs.Files.Opening.{open_stored, with_created, opening}
+use Rattle.xinu_model.specs.Files.Systems.{FileSystem, is_open}
 use Rattle.file_laws.specs.StoredFiles.{stored_files, entry_bytes}
-use Rattle.file_laws.proofs.Names.{name_padded, name_used, either-way}
-use Rattle.file_laws.proofs.Named.{IsName, named_none, length_entries}
-use Rattle.file_laws.proofs.Counted.{files_counted, count_less, entry_small, count_most}
-use Rattle.local_files.specs.declared.OpenFile.{OpenFile}
+use Rattle.file_laws.proofs.Names.{either-way}
+use Rattle.file_laws.proofs.Counted.{entry_small}
 use Rattle.local_files.specs.declared.Files.{Files}
 use Rattle.local_files.specs.declared.FileCall.{FileCall}
 use Rattle.local_files.specs.declared.FileCall.TheVariants.{Open, Delete, Close, Read, Write, Getc, Putc, Seek, Truncate, Size}
 use Rattle.local_files.specs.declared.Phase.{Phase}
-use Rattle.local_files.specs.declared.Phase.TheVariants.{EntryWrite, HeaderRead, HeaderWrite, EntryRead}
-use Rattle.local_files.specs.Hands.{system, IsEnding, IsMade, IsDevice, IsOpenOn, AreApart, IsCall, IsWritten, IsEmptied, IsDeleting, IsCreating, IsClosing, IsEntryBlock, IsHeaderBlock, files_after, MayLook, name_of, seen, put_bytes}
-use Rattle.local_files.specs.Steps.{device_at, answered, with_device, lowest_free, shown, kept_at, counted, at_byte, device_of, is_write, is_truncate, has_this_open, is_this_open}
-use Rattle.local_files.specs.Standing.{Stands, InHand, served, GoesTo, call_bytes, given_bytes}
-use Rattle.local_files.specs.Opens.{opened, ended}
-use Rattle.local_files.proofs.Devices.{device_some, set_stands, shown_set, answered_stands, is_open_same, not_open, shown_at, some_below, apart_set, or-false}
-use Rattle.xinu_model.specs.Files.Systems as systems
-use Rattle.xinu_model.specs.Files.Opening as model_opening
-use Rattle.local_files.specs.Standing as engine
-use Rattle.xinu_model.specs.Files.Calls as model
-use Rattle.local_files.specs.Opens.{opening as opening_file}
-use Rattle.lfs_format.specs.Directory.{dir_of, IsDirBlock, void_entry}
-use Rattle.local_files.proofs.Closings.{blocks_many, made_open, put_whole}
-use Rattle.file_laws.proofs.Effects.{write_effect, putc_effect, truncate_effect, delete_effect}
-use Rattle.xinu_model.specs.Files.Writing.{overwritten, fitting}
-use Rattle.std.proofs.Common.{◌-◌, ◌*◌, drop, replicate, length-drop, length-append, min}
+use Rattle.local_files.specs.Hands.{system, IsCall, name_of}
+use Rattle.local_files.specs.Steps.{answered, shown, device_of}
+use Rattle.local_files.specs.Standing.{Stands, InHand, GoesTo, call_bytes}
+use Rattle.local_files.proofs.Closings.{put_whole}
+use Rattle.std.proofs.Common.{◌-◌, ◌*◌, drop, replicate, length-append, min}
 use Rattle.byteorder.specs.Endian.{little_bytes}
 use Rattle.lfs_format.specs.declared.Index.{Index}
 use Rattle.lfs_format.specs.Words.{word_of}
@@ -47,38 +26,34 @@ use Rattle.lfs_format.specs.Indexes.{index_at, IsIndexPut}
 use Rattle.lfs_format.proofs.Words.{word_of-bytes, length-little}
 use Rattle.lfs_check.specs.Meets.{null}
 use Rattle.lfs_check.specs.declared.fields.Header.{Header}
-use Rattle.lfs_check.specs.declared.geometry.Geometry.{Geometry}
-use Rattle.lfs_check.specs.Geometries.{index_count, first_data, room}
+use Rattle.lfs_check.specs.Geometries.{index_count}
 use Rattle.lfs_check.specs.Laid.{Places, numbers_at, index_for}
 use Rattle.lfs_check.specs.Clean.{places_of}
 use Rattle.lfs_check.specs.Fields.{fields_of}
 use Rattle.lfs_check.specs.Disks.{disk_geometry, header_on}
 use Rattle.file_laws.specs.Middle.{IsMiddle}
-use Rattle.file_laws.specs.Changing.{IsCut, IsReadBy, IsIndexRead}
-use Rattle.file_laws.specs.Rewriting.{IsRewriting, IsCleared, IsFinished, IsRemoved, rewritten}
+use Rattle.file_laws.specs.Changing.{IsCut, IsReadBy}
 use Rattle.file_laws.proofs.Middles.{middle_begins}
 use Rattle.file_laws.proofs.Reached.{middle_read, free_data_first, free_data_some}
-use Rattle.file_laws.proofs.Cutting.{cut_begins, cut_data, cut_index, cut_ends}
-use Rattle.file_laws.proofs.Finished.{middle_ends}
-use Rattle.file_laws.proofs.Removed.{middle_removed}
-use Rattle.file_laws.proofs.Counted.{base_counted}
+use Rattle.file_laws.proofs.Cutting.{cut_begins, cut_data, cut_index}
 use Rattle.local_files.specs.Hands.{IsCutFor, IsCutting, IsCutRead, IsCutWrite, IsFreeWrite}
 use Rattle.local_files.specs.Cuts.{cutting, cut_at, end_cut, cut_read, cut_written, freed_index, free_next, freeing, free_written, word_block}
-use Rattle.local_files.specs.Steps.{is_delete}
 use Rattle.local_files.specs.declared.Phase.TheVariants.{CutRead, CutWrite, FreeWrite}
-use Rattle.local_files.proofs.Closings.{blocks_many, put_whole}
-use Rattle.std.proofs.lemmas.List.Sums.{sum_by-cons}
-use Rattle.file_laws.proofs.Rewritten.{rewritten_entry, entry_count}
-use Rattle.local_files.proofs.Freeing.{IsStanding, standing, end_cut_goes, number_at, null_at, some_at, none_at, goes_from}
+use Rattle.local_files.proofs.Closings.{put_whole}
+use Rattle.local_files.proofs.Freeing.{IsStanding, end_cut_goes, number_at, null_at, some_at, none_at, goes_from}
 use Rattle.std.proofs.lemmas.List.{length-replicate}
 
 -- what the call is for does not depend on its steps
-pub for_kept : (call : FileCall) (e e2 : Files) (base : List ℕ) → e2.call ≡ e.call → e2.slot ≡ e.slot → e2.devices ≡ e.devices → e2.blocks ≡ e.blocks → e2.entry.name ≡ e.entry.name → IsCutFor call e base → IsCutFor call e2 base
+pub for_kept : (call : FileCall) (e e2 : Files) (base : List ℕ) → e2.call ≡ e.call → e2.slot ≡ e.slot → e2.devices ≡ e.devices
+    → e2.blocks ≡ e.blocks → e2.entry.name ≡ e.entry.name → IsCutFor call e base → IsCutFor call e2 base
 for_kept (Delete name) e e2 base c l d b n h = record {
   slot = (let x = h.slot in omega (arith, x, l)); call = subst IsCall (sym c) h.call;
-  closed = ap (λ k. is_open (bare_name (name_of k)) (system e2 base)) c ∙ ap (λ ds. is_open (bare_name (name_of e.call)) (let r : FileSystem = record { blocks = e2.blocks; files = stored_files base; devices = map shown ds } in r)) d ∙ h.closed;
+  closed = ap (λ k. is_open (bare_name (name_of k)) (system e2 base)) c
+  ∙ ap (λ ds. is_open (bare_name (name_of e.call)) (let r : FileSystem =
+  record { blocks = e2.blocks; files = stored_files base; devices = map shown ds } in r)) d ∙ h.closed;
   used = ap (λ k. entry_is_used (entry_at base k)) l ∙ h.used; named = ap (λ k. (entry_at base k).name) l ∙ h.named ∙ ap name_of (sym c) }
-for_kept (Truncate d') e e2 base c l d b n h = record { file = h.file; open_is = ap (λ k. slice_index_or e2.devices (device_of k) None) c ∙ ap (λ ds. slice_index_or ds (device_of e.call) None) d ∙ h.open_is; writes = h.writes; slot = l ∙ h.slot; named = n ∙ h.named }
+for_kept (Truncate d') e e2 base c l d b n h = record { file = h.file; open_is = ap (λ k. slice_index_or e2.devices (device_of k) None) c
+    ∙ ap (λ ds. slice_index_or ds (device_of e.call) None) d ∙ h.open_is; writes = h.writes; slot = l ∙ h.slot; named = n ∙ h.named }
 for_kept (Open name mode) e e2 base c l d b n h = absurd h
 for_kept (Close d') e e2 base c l d b n h = absurd h
 for_kept (Read d' k) e e2 base c l d b n h = absurd h
@@ -93,24 +68,32 @@ pub index_on_disk : (n i : ℕ) → 14 ≤ n → i < index_count (disk_geometry 
 index_on_disk n i low h = let q : 6 + i / 7 < n = omega (arith, low, h) in grind (arith, nat_tests)
 
 -- Goes on to an index block.
-pub cut_at_goes : (e : Files) (base disk : List ℕ) → IsStanding e base disk → IsCutRead e base disk → GoesTo (cut_at e).phase e.call (call_bytes e) e (cut_at e) base disk
+pub cut_at_goes : (e : Files) (base disk : List ℕ) → IsStanding e base disk → IsCutRead e base disk
+    → GoesTo (cut_at e).phase e.call (call_bytes e) e (cut_at e) base disk
 cut_at_goes e base disk s r =
     let c = r.cutting in let m = c.cut.middle in
     let i = slice_index c.chain e.reached in
     let below = (c.cut.index e.reached (omega arith) r.below).below in
     let t : nat_lt (6 + e.at / 7) e.blocks ≡ true = ap (λ k. nat_lt (6 + k / 7) e.blocks) r.at ∙ index_on_disk e.blocks i m.low below in
     let e2 : Files = record e { phase = CutRead } in
-    let P : Bool → Type 0 = λ v. GoesTo (if v then e2 else answered (negsuc 0) e).phase e.call (call_bytes e) e (if v then e2 else answered (negsuc 0) e) base disk in
-    subst P (sym t) (record { clean = s.clean; blocks = s.blocks; whole = s.whole; six = s.six; buffer = s.buffer; outgoing = s.outgoing; device = s.device; apart = s.apart;
-      hand = record { below = r.below; at = r.at; cutting = record { for = for_kept e.call e e2 base refl refl refl refl refl c.for; places = c.places; chain = c.chain; blocks = c.blocks; old_size = c.old_size;
-        chain_long = c.chain_long; blocks_long = c.blocks_long; numbers = c.numbers; short = c.short; cut = c.cut; size = c.size; first = c.first; files = c.files } } }, refl, refl, refl)
+    let P : Bool → Type 0 = λ v. GoesTo (if v then e2 else answered (negsuc 0) e).phase e.call (call_bytes e) e
+    (if v then e2 else answered (negsuc 0) e) base disk in
+    subst P (sym t) (record { clean = s.clean; blocks = s.blocks; whole = s.whole; six = s.six; buffer = s.buffer; outgoing = s.outgoing;
+        device = s.device; apart = s.apart;
+      hand = record { below = r.below; at = r.at; cutting = record { for = for_kept e.call e e2 base refl refl refl refl refl c.for;
+      places = c.places; chain = c.chain; blocks = c.blocks; old_size = c.old_size;
+        chain_long = c.chain_long; blocks_long = c.blocks_long; numbers = c.numbers; short = c.short; cut = c.cut; size = c.size;
+        first = c.first; files = c.files } } }, refl, refl, refl)
 
 -- Goes on to the next data block, or the next index block, or the end.
-pub free_next_goes : (e : Files) (freed : ℕ) (base disk : List ℕ) → IsStanding e base disk → (c : IsCutting e freed base disk) → 0 < e.reached → e.reached ≤ length c.chain → e.index ≡ index_for (e.reached - 1) c.chain c.blocks
-    → e.row ≤ 16 → freed ≡ min (16 * (e.reached - 1) + e.row) (length c.blocks) → GoesTo (free_next e).phase e.call (call_bytes e) e (free_next e) base disk
+pub free_next_goes : (e : Files) (freed : ℕ) (base disk : List ℕ) → IsStanding e base disk → (c : IsCutting e freed base disk)
+    → 0 < e.reached → e.reached ≤ length c.chain → e.index ≡ index_for (e.reached - 1) c.chain c.blocks
+    → e.row ≤ 16 → freed ≡ min (16 * (e.reached - 1) + e.row) (length c.blocks)
+    → GoesTo (free_next e).phase e.call (call_bytes e) e (free_next e) base disk
 free_next_goes e freed base disk s c some most index row is =
     ⊎_elim
-    (λ (more : 16 * j + e.row < length c.blocks). ⊎_elim (λ (lt : e.row < 16). goes_data more lt) (λ (ge : 16 ≤ e.row). goes_on (λ lt. absurd (omega (arith, ge, lt))) (omega (arith, ge, row, is, more))) (cases_lt e.row 16))
+    (λ (more : 16 * j + e.row < length c.blocks). ⊎_elim (λ (lt : e.row < 16). goes_data more lt) (λ (ge : 16 ≤ e.row).
+    goes_on (λ lt. absurd (omega (arith, ge, lt))) (omega (arith, ge, row, is, more))) (cases_lt e.row 16))
     (λ (less : length c.blocks ≤ 16 * j + e.row). goes_on (λ lt. null_at j e.row c.chain c.blocks lt less) (omega (arith, is, less, row)))
     (cases_lt (16 * j + e.row) (length c.blocks))
   where
@@ -126,50 +109,71 @@ free_next_goes e freed base disk s c some most index row is =
     goes_data : 16 * j + e.row < length c.blocks → e.row < 16 → G (free_next e)
     goes_data more lt =
         let b = slice_index c.blocks (16 * j + e.row) in
-        let v : slice_index e.index.blocks (e.row % 16) ≡ b = ap (λ (x : Index). slice_index x.blocks (e.row % 16)) index ∙ ap (λ k. slice_index (index_for j c.chain c.blocks).blocks k) (let q : e.row % 16 ≡ e.row = omega (arith, lt) in q)
+        let v : slice_index e.index.blocks (e.row % 16) ≡ b = ap (λ (x : Index). slice_index x.blocks (e.row % 16)) index
+        ∙ ap (λ k. slice_index (index_for j c.chain c.blocks).blocks k) (let q : e.row % 16 ≡ e.row = omega (arith, lt) in q)
         ∙ number_at j e.row c.chain c.blocks lt more in
         let low = c.numbers (16 * j + e.row) more in let high = c.cut.middle.high in
         let a : nat_lt e.row 16 ≡ true = grind (arith, nat_tests) in
         let nn : (b == null) ≡ false = (let q : b ≢ null = λ z. omega (arith, z, low, high) in grind (arith, nat_tests)) in
-        let x_is : last ≡ true = ap (λ w. w && not (slice_index e.index.blocks (e.row % 16) == null)) a ∙ ap (λ w. not (w == null)) v ∙ ap not nn in
+        let x_is : last ≡ true = ap (λ w. w && not (slice_index e.index.blocks (e.row % 16) == null)) a ∙ ap (λ w. not (w == null)) v
+        ∙ ap not nn in
         let on : nat_lt b e.blocks ≡ true = grind (arith, nat_tests) in
         let e2 : Files = record e { block = word_block e.header.free_data; phase = FreeWrite b } in
         let rest = if not (e.index.next == null) then cut_at (record e { at = e.index.next }) else end_cut e in
         let P : Bool → Type 0 = λ w. G (if w then freeing (slice_index e.index.blocks (e.row % 16)) e else rest) in
         let Q : ℕ → Type 0 = λ k. G (freeing k e) in
         let R : Bool → Type 0 = λ w. G (if w then e2 else answered (negsuc 0) e) in
-        subst P (sym x_is) (subst Q (sym v) (subst R (sym on) (record { clean = s.clean; blocks = s.blocks; whole = s.whole; six = s.six; buffer = s.buffer; outgoing = word_long e.header.free_data; device = s.device; apart = s.apart;
+        subst P (sym x_is) (subst Q (sym v) (subst R (sym on) (record { clean = s.clean; blocks = s.blocks; whole = s.whole; six = s.six;
+        buffer = s.buffer; outgoing = word_long e.header.free_data; device = s.device; apart = s.apart;
           hand = record { some = some; row = lt; most = most; index = index; below = more; here = refl; block = refl;
-            cutting = record { for = for_kept e.call e e2 base refl refl refl refl refl c.for; places = c.places; chain = c.chain; blocks = c.blocks; old_size = c.old_size;
-              chain_long = c.chain_long; blocks_long = c.blocks_long; numbers = c.numbers; short = c.short; size = c.size; first = c.first; files = c.files;
-              cut = (let K : ℕ → Type 0 = λ k. IsCut e.blocks base disk e.header e.slot e.entry c.places c.chain c.blocks e.reached k in subst K (let q : freed ≡ 16 * j + e.row = omega (arith, is, more) in q) c.cut) } } }, refl, refl, refl)))
+            cutting = record { for = for_kept e.call e e2 base refl refl refl refl refl c.for; places = c.places; chain = c.chain;
+            blocks = c.blocks; old_size = c.old_size;
+              chain_long = c.chain_long; blocks_long = c.blocks_long; numbers = c.numbers; short = c.short; size = c.size; first = c.first;
+              files = c.files;
+              cut = (let K : ℕ → Type 0 = λ k. IsCut e.blocks base disk e.header e.slot e.entry c.places c.chain c.blocks e.reached k in
+              subst K (let q : freed ≡ 16 * j + e.row = omega (arith, is, more) in q) c.cut) } } }, refl, refl, refl)))
       where
         word_long : (w : ℕ) → length (word_block w) ≡ 512
-        word_long w = let l = length-little w in let a = length-append (little_bytes 4 w) (replicate 508 0) in let r = length-replicate {A = ℕ} 508 0 in omega (arith, l, a, r)
+        word_long w = let l = length-little w in let a = length-append (little_bytes 4 w) (replicate 508 0) in
+            let r = length-replicate {A = ℕ} 508 0 in omega (arith, l, a, r)
 
-    goes_on : (e.row < 16 → slice_index (index_for j c.chain c.blocks).blocks e.row ≡ null) → (freed ≡ min (16 * j + 16) (length c.blocks)) → G (free_next e)
+    goes_on : (e.row < 16 → slice_index (index_for j c.chain c.blocks).blocks e.row ≡ null) → (freed ≡ min (16 * j + 16) (length c.blocks))
+        → G (free_next e)
     goes_on nulls all =
         let x_is : last ≡ false = ⊎_elim
-            (λ (lt : e.row < 16). (let v : slice_index e.index.blocks (e.row % 16) ≡ null = ap (λ (x : Index). slice_index x.blocks (e.row % 16)) index ∙ ap (λ k. slice_index (index_for j c.chain c.blocks).blocks k) (let q : e.row % 16 ≡ e.row = omega (arith, lt) in q) ∙ nulls lt in
-              let a : nat_lt e.row 16 ≡ true = grind (arith, nat_tests) in ap (λ w. w && not (slice_index e.index.blocks (e.row % 16) == null)) a ∙ ap (λ w. not (w == null)) v))
-            (λ (ge : 16 ≤ e.row). (let a : nat_lt e.row 16 ≡ false = grind (arith, nat_tests) in ap (λ w. w && not (slice_index e.index.blocks (e.row % 16) == null)) a))
+            (λ (lt : e.row < 16). (let v : slice_index e.index.blocks (e.row % 16) ≡ null =
+            ap (λ (x : Index). slice_index x.blocks (e.row % 16)) index
+            ∙ ap (λ k. slice_index (index_for j c.chain c.blocks).blocks k) (let q : e.row % 16 ≡ e.row = omega (arith, lt) in q)
+            ∙ nulls lt in
+              let a : nat_lt e.row 16 ≡ true = grind (arith, nat_tests) in
+              ap (λ w. w && not (slice_index e.index.blocks (e.row % 16) == null)) a ∙ ap (λ w. not (w == null)) v))
+            (λ (ge : 16 ≤ e.row). (let a : nat_lt e.row 16 ≡ false = grind (arith, nat_tests) in
+            ap (λ w. w && not (slice_index e.index.blocks (e.row % 16) == null)) a))
             (cases_lt e.row 16) in
         let rest : Bool → Files = λ w. if not w then cut_at (record e { at = e.index.next }) else end_cut e in
         let P : Bool → Type 0 = λ w. G (if w then freeing (slice_index e.index.blocks (e.row % 16)) e else rest (e.index.next == null)) in
         let chain_long = c.chain_long in let blocks_long = c.blocks_long in
         subst P (sym x_is) (⊎_elim
-        (λ (more : e.reached < length c.chain). (let next : e.index.next ≡ slice_index c.chain e.reached = ap (λ (x : Index). x.next) index ∙ ap (λ k. slice_index_or c.chain k null) (let q : suc j ≡ e.reached = omega (arith, some) in q) ∙ some_at c.chain e.reached null more in
+        (λ (more : e.reached < length c.chain). (let next : e.index.next ≡ slice_index c.chain e.reached = ap (λ (x : Index). x.next) index
+        ∙ ap (λ k. slice_index_or c.chain k null) (let q : suc j ≡ e.reached = omega (arith, some) in q)
+        ∙ some_at c.chain e.reached null more in
           let below = (c.cut.index e.reached (omega arith) more).below in let high = c.cut.middle.high in
-          let nn : (e.index.next == null) ≡ false = ap (λ k. k == null) next ∙ (let z : slice_index c.chain e.reached ≢ null = λ w. omega (arith, w, below, high) in not_null (slice_index c.chain e.reached) z) in
+          let nn : (e.index.next == null) ≡ false = ap (λ k. k == null) next
+          ∙ (let z : slice_index c.chain e.reached ≢ null = λ w. omega (arith, w, below, high) in
+          not_null (slice_index c.chain e.reached) z) in
           let e2 : Files = record e { at = e.index.next } in
           let R : Bool → Type 0 = λ w. G (rest w) in
           let K : ℕ → Type 0 = λ k. IsCut e.blocks base disk e.header e.slot e.entry c.places c.chain c.blocks e.reached k in
-          let goes = cut_at_goes e2 base disk (record { clean = s.clean; blocks = s.blocks; whole = s.whole; six = s.six; outgoing = s.outgoing; buffer = s.buffer; device = s.device; apart = s.apart })
-            (record { below = more; at = next; cutting = record { for = for_kept e.call e e2 base refl refl refl refl refl c.for; places = c.places; chain = c.chain; blocks = c.blocks; old_size = c.old_size;
-                chain_long = c.chain_long; blocks_long = c.blocks_long; numbers = c.numbers; short = c.short; size = c.size; first = c.first; files = c.files;
+          let goes = cut_at_goes e2 base disk (record { clean = s.clean; blocks = s.blocks; whole = s.whole; six = s.six;
+          outgoing = s.outgoing; buffer = s.buffer; device = s.device; apart = s.apart })
+            (record { below = more; at = next; cutting = record { for = for_kept e.call e e2 base refl refl refl refl refl c.for;
+            places = c.places; chain = c.chain; blocks = c.blocks; old_size = c.old_size;
+                chain_long = c.chain_long; blocks_long = c.blocks_long; numbers = c.numbers; short = c.short; size = c.size;
+                first = c.first; files = c.files;
                 cut = subst K (let q : freed ≡ 16 * e.reached = omega (arith, all, some, more, chain_long, blocks_long) in q) c.cut } }) in
           subst R (sym nn) (goes_before (cut_at e2).phase (cut_at e2) goes)))
-        (λ (end : length c.chain ≤ e.reached). (let next : e.index.next ≡ null = ap (λ (x : Index). x.next) index ∙ none_at c.chain (suc j) null (omega (arith, end, some)) in
+        (λ (end : length c.chain ≤ e.reached). (let next : e.index.next ≡ null = ap (λ (x : Index). x.next) index
+        ∙ none_at c.chain (suc j) null (omega (arith, end, some)) in
           let yes : (e.index.next == null) ≡ true = ap (λ k. k == null) next in
           let R : Bool → Type 0 = λ w. G (rest w) in
           subst R (sym yes) (end_cut_goes e freed base disk s c end (omega (arith, all, end, most, some, chain_long, blocks_long)))))
@@ -178,28 +182,36 @@ free_next_goes e freed base disk s c some most index row is =
         not_null : (k : ℕ) → k ≢ null → (k == null) ≡ false
         not_null k z = grind (arith, nat_tests)
 
-        goes_before : (p : Phase) (x : Files) → GoesTo p e.call (call_bytes e) (let y : Files = record e { at = e.index.next } in y) x base disk → GoesTo p e.call (call_bytes e) e x base disk
+        goes_before : (p : Phase) (x : Files) → GoesTo p e.call (call_bytes e) (let y : Files = record e { at = e.index.next } in
+            y) x base disk → GoesTo p e.call (call_bytes e) e x base disk
         goes_before p x g = goes_from p e.call (call_bytes e) (let y : Files = record e { at = e.index.next } in y) e x base disk refl g
 
 -- The index block was read.
 pub cut_read_goes : (e e' : Files) (base disk read : List ℕ) → e.phase ≡ CutRead → e' ≡ cut_read (index_at (e.at % 7) read) e'.block e
-    → IsIndexPut read (e.at % 7) (freed_index (index_at (e.at % 7) read) e) e'.block → Stands e base disk → read ≡ block_in disk (6 + e.at / 7) → GoesTo e'.phase e.call (call_bytes e) e e' base disk
+    → IsIndexPut read (e.at % 7) (freed_index (index_at (e.at % 7) read) e) e'.block → Stands e base disk
+    → read ≡ block_in disk (6 + e.at / 7) → GoesTo e'.phase e.call (call_bytes e) e e' base disk
 cut_read_goes e e' base disk read phase new put s honest =
     let H : Phase → Type 0 = λ p. InHand p e base disk in
     let r : IsCutRead e base disk = subst H phase s.hand in
     let c = r.cutting in
     let i = slice_index c.chain e.reached in
     let index : index_at (e.at % 7) read ≡ index_for e.reached c.chain c.blocks =
-    ap (index_at (e.at % 7)) honest ∙ ap (λ k. index_at (k % 7) (block_in disk (6 + k / 7))) r.at ∙ (c.cut.index e.reached (omega arith) r.below).read in
+    ap (index_at (e.at % 7)) honest ∙ ap (λ k. index_at (k % 7) (block_in disk (6 + k / 7))) r.at
+    ∙ (c.cut.index e.reached (omega arith) r.below).read in
     let e2 : Files = record e { index = index_at (e.at % 7) read; block = e'.block; phase = CutWrite } in
     let R : List ℕ → Type 0 = λ b. IsIndexPut b (e.at % 7) (freed_index (index_at (e.at % 7) read) e) e'.block in
     let P : Files → Type 0 = λ x. GoesTo x.phase e.call (call_bytes e) e x base disk in
-    subst P (sym new) (record { clean = s.clean; blocks = s.blocks; whole = s.whole; six = s.six; buffer = s.buffer; outgoing = put.long; device = s.device; apart = s.apart;
-      hand = record { index = index; put = subst R honest put; read = record { below = r.below; at = r.at; cutting = record { for = for_kept e.call e e2 base refl refl refl refl refl c.for; places = c.places; chain = c.chain;
-        blocks = c.blocks; old_size = c.old_size; chain_long = c.chain_long; blocks_long = c.blocks_long; numbers = c.numbers; short = c.short; cut = c.cut; size = c.size; first = c.first; files = c.files } } } }, refl, refl, refl)
+    subst P (sym new) (record { clean = s.clean; blocks = s.blocks; whole = s.whole; six = s.six; buffer = s.buffer; outgoing = put.long;
+        device = s.device; apart = s.apart;
+      hand = record { index = index; put = subst R honest put;
+      read = record { below = r.below; at = r.at; cutting = record { for = for_kept e.call e e2 base refl refl refl refl refl c.for;
+      places = c.places; chain = c.chain;
+        blocks = c.blocks; old_size = c.old_size; chain_long = c.chain_long; blocks_long = c.blocks_long; numbers = c.numbers;
+        short = c.short; cut = c.cut; size = c.size; first = c.first; files = c.files } } } }, refl, refl, refl)
 
 -- The index block is written.
-pub cut_written_goes : (e e' : Files) (base disk : List ℕ) → e.phase ≡ CutWrite → e' ≡ free_next (cut_written e) → Stands e base disk → GoesTo e'.phase e.call (call_bytes e) e e' base (block_put disk (6 + e.at / 7) e.block)
+pub cut_written_goes : (e e' : Files) (base disk : List ℕ) → e.phase ≡ CutWrite → e' ≡ free_next (cut_written e) → Stands e base disk
+    → GoesTo e'.phase e.call (call_bytes e) e e' base (block_put disk (6 + e.at / 7) e.block)
 cut_written_goes e e' base disk phase new s =
     let H : Phase → Type 0 = λ p. InHand p e base disk in
     let w : IsCutWrite e base disk = subst H phase s.hand in
@@ -210,25 +222,34 @@ cut_written_goes e e' base disk phase new s =
     let at_is = r.at in
     let on : 6 + e.at / 7 < e.blocks = omega (arith, at_is, below, low) in
     let R : ℕ → Type 0 = λ k. IsIndexPut (block_in disk (6 + k / 7)) (k % 7) (freed_index e.index e) e.block in
-    let cut = cut_index e.blocks base disk e.header e.slot e.entry c.places c.chain c.blocks e.reached (16 * e.reached) (freed_index e.index e) e.block c.cut r.below refl (subst R r.at w.put) in
+    let cut = cut_index e.blocks base disk e.header e.slot e.entry c.places c.chain c.blocks e.reached (16 * e.reached)
+    (freed_index e.index e) e.block c.cut r.below refl (subst R r.at w.put) in
     let e2 : Files = cut_written e in
     let p2 : Places = record c.places { free_index = i ∷ c.places.free_index; held_index = drop (suc e.reached) c.chain } in
     let short = c.short in let lt = r.below in
     let up : (e.reached + 1) % 4294967296 ≡ suc e.reached = omega (arith, short, lt) in
-    let T : ℕ → ℕ → Type 0 = λ k j. IsCut e.blocks base (block_put disk (6 + k / 7) e.block) (let x : Header = record e.header { free_index = k } in x) e.slot e.entry p2 c.chain c.blocks j (16 * e.reached) in
+    let T : ℕ → ℕ → Type 0 = λ k j. IsCut e.blocks base (block_put disk (6 + k / 7) e.block) (let x : Header =
+    record e.header { free_index = k } in x) e.slot e.entry p2 c.chain c.blocks j (16 * e.reached) in
     let A : ℕ → Type 0 = λ k. T k (suc e.reached) in
     let B : ℕ → Type 0 = λ j. T e.at j in
     let cut2 = subst B (sym up) (subst A (sym r.at) cut) in
-    let c2 : IsCutting e2 (16 * e.reached) base made = record { for = for_kept e.call e e2 base refl refl refl refl refl c.for; places = p2; chain = c.chain; blocks = c.blocks; old_size = c.old_size;
-      chain_long = c.chain_long; blocks_long = c.blocks_long; numbers = c.numbers; short = c.short; cut = cut2; size = c.size; first = c.first; files = c.files } in
+    let c2 : IsCutting e2 (16 * e.reached) base made = record { for = for_kept e.call e e2 base refl refl refl refl refl c.for; places = p2;
+    chain = c.chain; blocks = c.blocks; old_size = c.old_size;
+      chain_long = c.chain_long; blocks_long = c.blocks_long; numbers = c.numbers; short = c.short; cut = cut2; size = c.size;
+      first = c.first; files = c.files } in
     let cl = c.chain_long in let bl = c.blocks_long in
-    let goes = free_next_goes e2 (16 * e.reached) base made (record { clean = s.clean; blocks = s.blocks; whole = put_whole e base disk (6 + e.at / 7) s on; six = s.six; outgoing = s.outgoing; buffer = s.buffer; device = s.device; apart = s.apart })
-      c2 (omega (arith, up)) (omega (arith, up, lt)) (w.index ∙ ap (λ k. index_for k c.chain c.blocks) (let q : e.reached ≡ (e.reached + 1) % 4294967296 - 1 = omega (arith, up) in q)) (omega arith) (omega (arith, up, lt, cl, bl)) in
+    let goes = free_next_goes e2 (16 * e.reached) base made (record { clean = s.clean; blocks = s.blocks;
+    whole = put_whole e base disk (6 + e.at / 7) s on; six = s.six; outgoing = s.outgoing; buffer = s.buffer; device = s.device;
+    apart = s.apart })
+      c2 (omega (arith, up)) (omega (arith, up, lt)) (w.index
+      ∙ ap (λ k. index_for k c.chain c.blocks) (let q : e.reached ≡ (e.reached + 1) % 4294967296 - 1 = omega (arith, up) in
+      q)) (omega arith) (omega (arith, up, lt, cl, bl)) in
     let P : Files → Type 0 = λ x. GoesTo x.phase e.call (call_bytes e) e x base made in
     subst P (sym new) (goes_from (free_next e2).phase e.call (call_bytes e) e2 e (free_next e2) base made refl goes)
 
 -- A data block is written.
-pub free_written_goes : (e e' : Files) (b : ℕ) (base disk : List ℕ) → e.phase ≡ FreeWrite b → e' ≡ free_next (free_written b e) → Stands e base disk → GoesTo e'.phase e.call (call_bytes e) e e' base (block_put disk b e.block)
+pub free_written_goes : (e e' : Files) (b : ℕ) (base disk : List ℕ) → e.phase ≡ FreeWrite b → e' ≡ free_next (free_written b e)
+    → Stands e base disk → GoesTo e'.phase e.call (call_bytes e) e e' base (block_put disk b e.block)
 free_written_goes e e' b base disk phase new s =
     let H : Phase → Type 0 = λ p. InHand p e base disk in
     let w : IsFreeWrite e b base disk = subst H phase s.hand in
@@ -244,33 +265,43 @@ free_written_goes e e' b base disk phase new s =
     let p2 : Places = record c.places { free_data = x ∷ c.places.free_data; held_data = drop (suc k) c.blocks } in
     let row = w.row in
     let up : (e.row + 1) % 4294967296 ≡ suc e.row = omega (arith, row) in
-    let A : ℕ → Type 0 = λ y. IsCut e.blocks base (block_put disk y e.block) (let h : Header = record e.header { free_data = y } in h) e.slot e.entry p2 c.chain c.blocks e.reached (suc k) in
+    let A : ℕ → Type 0 = λ y. IsCut e.blocks base (block_put disk y e.block) (let h : Header = record e.header { free_data = y } in
+    h) e.slot e.entry p2 c.chain c.blocks e.reached (suc k) in
     let cut2 = subst A (sym w.here) cut in
-    let c2 : IsCutting e2 (suc k) base made = record { for = for_kept e.call e e2 base refl refl refl refl refl c.for; places = p2; chain = c.chain; blocks = c.blocks; old_size = c.old_size;
-      chain_long = c.chain_long; blocks_long = c.blocks_long; numbers = c.numbers; short = c.short; cut = cut2; size = c.size; first = c.first; files = c.files } in
+    let c2 : IsCutting e2 (suc k) base made = record { for = for_kept e.call e e2 base refl refl refl refl refl c.for; places = p2;
+    chain = c.chain; blocks = c.blocks; old_size = c.old_size;
+      chain_long = c.chain_long; blocks_long = c.blocks_long; numbers = c.numbers; short = c.short; cut = cut2; size = c.size;
+      first = c.first; files = c.files } in
     let more = w.below in
-    let goes = free_next_goes e2 (suc k) base made (record { clean = s.clean; blocks = s.blocks; whole = put_whole e base disk b s on; six = s.six; outgoing = s.outgoing; buffer = s.buffer; device = s.device; apart = s.apart })
+    let goes = free_next_goes e2 (suc k) base made (record { clean = s.clean; blocks = s.blocks; whole = put_whole e base disk b s on;
+    six = s.six; outgoing = s.outgoing; buffer = s.buffer; device = s.device; apart = s.apart })
       c2 w.some w.most w.index (omega (arith, up, row)) (omega (arith, up, more)) in
     let P : Files → Type 0 = λ x. GoesTo x.phase e.call (call_bytes e) e x base made in
     subst P (sym new) (goes_from (free_next e2).phase e.call (call_bytes e) e2 e (free_next e2) base made refl goes)
   where
-    head_fits : (e : Files) (base disk : List ℕ) (p : Places) → IsMiddle e.blocks base disk e.header e.slot e.entry p [] → e.header.free_data < 2 ^ 32
+    head_fits : (e : Files) (base disk : List ℕ) (p : Places) → IsMiddle e.blocks base disk e.header e.slot e.entry p []
+        → e.header.free_data < 2 ^ 32
     head_fits e base disk p m = ⊎_elim
         (λ (z : e.header.free_data ≡ null). omega (arith, z))
-        (λ (z : e.header.free_data ≢ null). (let f = free_data_first e.blocks base disk e.header e.slot e.entry p [] e.header.free_data (drop 1 p.free_data) m (free_data_some e.blocks base disk e.header e.slot e.entry p [] m z) in
+        (λ (z : e.header.free_data ≢ null).
+        (let f = free_data_first e.blocks base disk e.header e.slot e.entry p [] e.header.free_data (drop 1 p.free_data) m
+        (free_data_some e.blocks base disk e.header e.slot e.entry p [] m z) in
           let high = f.high in let most = m.high in omega (arith, high, most)))
         (cases_eq e.header.free_data null)
 
 -- The file in hand is cut: its blocks are to be freed.
-pub cutting_goes : (e : Files) (base : List ℕ) → IsStanding e base base → e.slot < 78 → entry_at base e.slot ≡ e.entry → entry_is_used e.entry ≡ true → e.header ≡ header_on base → IsCutFor e.call e base
+pub cutting_goes : (e : Files) (base : List ℕ) → IsStanding e base base → e.slot < 78 → entry_at base e.slot ≡ e.entry
+    → entry_is_used e.entry ≡ true → e.header ≡ header_on base → IsCutFor e.call e base
     → GoesTo (cutting e.entry e).phase e.call (call_bytes e) e (cutting e.entry e) base base
 cutting_goes e base s slot entry used header for =
     either-way (e.entry.size == 0) (λ v. (e.entry.size == 0) ≡ v → G (if v then end_cut e2 else cut_at e2))
     (λ _ t. (let z : e.entry.size ≡ 0 = grind (arith, nat_tests) in
-      goes_from (end_cut e2).phase e.call (call_bytes e) e2 e (end_cut e2) base base refl (end_cut_goes e2 0 base base s2 c2 (omega (arith, chain_long, z)) (omega (arith, blocks_long, z)))))
+      goes_from (end_cut e2).phase e.call (call_bytes e) e2 e (end_cut e2) base base refl
+      (end_cut_goes e2 0 base base s2 c2 (omega (arith, chain_long, z)) (omega (arith, blocks_long, z)))))
     (λ _ t. (let z : e.entry.size ≢ 0 = (λ q. not_zero e.entry.size q t) in
       let more : 0 < length chain = omega (arith, chain_long, z) in
-      goes_from (cut_at e2).phase e.call (call_bytes e) e2 e (cut_at e2) base base refl (cut_at_goes e2 base base s2 (record { cutting = c2; below = more; at = first ∙ some_at chain 0 null more }))))
+      goes_from (cut_at e2).phase e.call (call_bytes e) e2 e (cut_at e2) base base refl (cut_at_goes e2 base base s2 (record { cutting = c2;
+      below = more; at = first ∙ some_at chain 0 null more }))))
     refl
   where
     G : Files → Type 0
@@ -310,21 +341,27 @@ cutting_goes e base s slot entry used header for =
     e2 = record e { at = e.entry.first; reached = 0; row = 0; entry = record e.entry { size = 0; first = null } }
 
     s2 : IsStanding e2 base base
-    s2 = record { clean = s.clean; blocks = s.blocks; whole = s.whole; six = s.six; outgoing = s.outgoing; buffer = s.buffer; device = s.device; apart = s.apart }
+    s2 = record { clean = s.clean; blocks = s.blocks; whole = s.whole; six = s.six; outgoing = s.outgoing; buffer = s.buffer;
+        device = s.device; apart = s.apart }
 
     p2 : Places
-    p2 = record p { chains = slice_set p.chains e.slot []; datas = slice_set p.datas e.slot []; held_index = numbers_at p.chains e.slot ++ p.held_index; held_data = numbers_at p.datas e.slot ++ p.held_data }
+    p2 = record p { chains = slice_set p.chains e.slot []; datas = slice_set p.datas e.slot [];
+        held_index = numbers_at p.chains e.slot ++ p.held_index; held_data = numbers_at p.datas e.slot ++ p.held_data }
 
     begun : IsCut n base base (header_on base) e.slot e2.entry p2 chain blocks 0 0
-    begun = cut_begins n base base (header_on base) e.slot (entry_at base e.slot) e2.entry p (entry_bytes base (entry_at base e.slot)) m refl refl (ap (λ (x : Entry). x.name) (sym entry)) refl refl
+    begun = cut_begins n base base (header_on base) e.slot (entry_at base e.slot) e2.entry p
+        (entry_bytes base (entry_at base e.slot)) m refl refl (ap (λ (x : Entry). x.name) (sym entry)) refl refl
 
     small : e.entry.size ≤ 33557504
-    small = let P : Entry → Type 0 = λ x. x.size ≤ 33557504 in subst P entry (entry_small base s.clean e.slot slot (ap entry_is_used entry ∙ used))
+    small = let P : Entry → Type 0 = λ x. x.size ≤ 33557504 in
+        subst P entry (entry_small base s.clean e.slot slot (ap entry_is_used entry ∙ used))
 
     c2 : IsCutting e2 0 base base
-    c2 = record { for = for_kept e.call e e2 base refl refl refl refl refl for; places = p2; chain = chain; blocks = blocks; old_size = e.entry.size; chain_long = chain_long; blocks_long = blocks_long;
+    c2 = record { for = for_kept e.call e e2 base refl refl refl refl refl for; places = p2; chain = chain; blocks = blocks;
+        old_size = e.entry.size; chain_long = chain_long; blocks_long = blocks_long;
       numbers = λ j h. (let r = (read.block j h).1 in omega (arith, r, same)); short = (let l = small in omega (arith, chain_long, l));
-      cut = (let C : ℕ → Header → Type 0 = λ k h. IsCut k base base h e.slot e2.entry p2 chain blocks 0 0 in let A : ℕ → Type 0 = λ k. C k e.header in let B : Header → Type 0 = λ h. C n h in subst A same (subst B (sym header) begun));
+      cut = (let C : ℕ → Header → Type 0 = λ k h. IsCut k base base h e.slot e2.entry p2 chain blocks 0 0 in let A : ℕ
+      → Type 0 = λ k. C k e.header in let B : Header → Type 0 = λ h. C n h in subst A same (subst B (sym header) begun));
       size = refl; first = refl; files = ap (λ (x : Header). x.files) header }
 
     not_zero : (k : ℕ) → k ≡ 0 → (k == 0) ≡ false → ⊥

@@ -1,32 +1,29 @@
 -- The devices, as the abstract machine sees them.
-use Rattle.std.proofs.Common.{◌≡◌, ◌≢◌, ℕ, zero, suc, ◌+◌, ◌<◌, ◌≤◌, Bool, true, false, cond, ◌&&◌, ◌||◌, nat_eq, nat_lt, nat_le, List, [], ◌∷◌, length, map, refl, sym, ap, ◌∙◌, subst, arith, slice_index_or, slice_set, bytes_eq, Option, Some, None, get_or-set_same, get_or-set_other, length-set, ⊎_elim, ℤ}
+use Rattle.std.proofs.Common.{◌≡◌, ◌≢◌, ℕ, zero, suc, ◌<◌, Bool, true, false, ◌||◌, List, [], ◌∷◌, length, map, refl, sym, ap, ◌∙◌, subst, arith, slice_index_or, slice_set, bytes_eq, Option, Some, None, get_or-set_same, get_or-set_other, length-set, ⊎_elim, ℤ}
 use Rattle.std.specs.List.{list_any}
 use Rattle.std.proofs.lemmas.Bool.{false≢true, cases_eq}
-use Rattle.std.proofs.lemmas.Bool.Decides.{nat_tests}
-use Rattle.std.proofs.lemmas.Slice.Eq.{bytes_eq-Decides}
 use Rattle.lfs_format.specs.declared.Entry.{Entry}
 use Rattle.lfs_check.specs.Rules.{entry_is_used}
-use Rattle.lfs_check.specs.Disks.{entry_at}
 use Rattle.lfs_layout.specs.Files.{bare_name}
 use Rattle.lfs_layout.specs.Images.{IsCleanImage}
 use Rattle.xinu_model.specs.Files.Stored.{file_named, bytes_in}
-use Rattle.xinu_model.specs.Files.Systems.{is_open, open_at, free_device, has_open}
+use Rattle.xinu_model.specs.Files.Systems.{has_open}
 use Rattle.file_laws.specs.StoredFiles.{stored_files, entry_bytes}
 use Rattle.file_laws.proofs.Names.{bare_same}
 use Rattle.file_laws.proofs.Named.{IsName, entry_name, named_at, bytes_sized}
 use Rattle.local_files.specs.declared.OpenFile.{OpenFile}
 use Rattle.local_files.specs.declared.Files.{Files}
 use Rattle.local_files.specs.Steps.{shown, device_at, answered, with_device, has_this_open, is_this_open}
-use Rattle.local_files.specs.Hands.{system, IsOpenOn, IsDevice, AreApart}
-use Rattle.local_files.specs.Standing.{Stands, InHand}
-use Rattle.xinu_model.specs.Files.Systems as systems
+use Rattle.local_files.specs.Hands.{IsOpenOn, IsDevice, AreApart}
+use Rattle.local_files.specs.Standing.{Stands}
 
 pub shown_at : (xs : List (Option OpenFile)) (d : ℕ) → slice_index_or (map shown xs) d None ≡ shown (slice_index_or xs d None)
 shown_at [] d = refl
 shown_at (x ∷ xs) zero = refl
 shown_at (x ∷ xs) (suc d) = shown_at xs d
 
-pub shown_set : (xs : List (Option OpenFile)) (d : ℕ) (x : Option OpenFile) → map shown (slice_set xs d x) ≡ slice_set (map shown xs) d (shown x)
+pub shown_set : (xs : List (Option OpenFile)) (d : ℕ) (x : Option OpenFile)
+    → map shown (slice_set xs d x) ≡ slice_set (map shown xs) d (shown x)
 shown_set [] d x = refl
 shown_set (y ∷ xs) zero x = refl
 shown_set (y ∷ xs) (suc d) x = ap (λ l. shown y ∷ l) (shown_set xs d x)
@@ -41,36 +38,44 @@ pub device_some : (e : Files) (base disk : List ℕ) (d : ℕ) (f : OpenFile) �
 device_some e base disk d f s at = let P : Option OpenFile → Type 0 = λ o. IsDevice base o in subst P at (s.device d)
 
 -- the file that a device has open is on the disk, and as large as its entry says
-pub open_is : (base : List ℕ) (f : OpenFile) → IsCleanImage base → IsOpenOn base f → file_named (bare_name f.entry.name) (stored_files base) ≡ Some (record { name = bare_name f.entry.name; bytes = entry_bytes base f.entry })
+pub open_is : (base : List ℕ) (f : OpenFile) → IsCleanImage base → IsOpenOn base f
+    → file_named (bare_name f.entry.name) (stored_files base) ≡ Some (record { name = bare_name f.entry.name;
+    bytes = entry_bytes base f.entry })
 open_is base f c o =
-    let P : Entry → Type 0 = λ x. file_named (bare_name x.name) (stored_files base) ≡ Some (record { name = bare_name x.name; bytes = entry_bytes base x }) in
+    let P : Entry → Type 0 = λ x. file_named (bare_name x.name) (stored_files base) ≡ Some (record { name = bare_name x.name;
+    bytes = entry_bytes base x }) in
     subst P o.entry (named_at base c f.slot o.slot (ap entry_is_used o.entry ∙ o.used))
 
-pub open_size : (base : List ℕ) (f : OpenFile) → IsCleanImage base → IsOpenOn base f → length (bytes_in (file_named (bare_name f.entry.name) (stored_files base))) ≡ f.entry.size
+pub open_size : (base : List ℕ) (f : OpenFile) → IsCleanImage base → IsOpenOn base f
+    → length (bytes_in (file_named (bare_name f.entry.name) (stored_files base))) ≡ f.entry.size
 open_size base f c o =
     let P : Entry → Type 0 = λ x. length (entry_bytes base x) ≡ x.size in
-    ap (λ x. length (bytes_in x)) (open_is base f c o) ∙ subst P o.entry (bytes_sized base c f.slot o.slot (ap entry_is_used o.entry ∙ o.used))
+    ap (λ x. length (bytes_in x)) (open_is base f c o) ∙ subst P o.entry (bytes_sized base c f.slot o.slot (ap entry_is_used o.entry
+    ∙ o.used))
 
 pub open_name : (base : List ℕ) (f : OpenFile) → IsCleanImage base → IsOpenOn base f → IsName f.entry.name
 open_name base f c o =
     let P : Entry → Type 0 = λ x. IsName x.name in subst P o.entry (entry_name base c f.slot o.slot (ap entry_is_used o.entry ∙ o.used))
 
 -- whether a name is open is told by the whole names
-pub is_open_same : (base n : List ℕ) (xs : List (Option OpenFile)) → IsCleanImage base → IsName n → ((d : ℕ) → IsDevice base (slice_index_or xs d None))
+pub is_open_same : (base n : List ℕ) (xs : List (Option OpenFile)) → IsCleanImage base → IsName n
+    → ((d : ℕ) → IsDevice base (slice_index_or xs d None))
     → list_any (has_open (bare_name n)) (map shown xs) ≡ is_this_open n xs
 is_open_same base n [] c h all = refl
 is_open_same base n (None ∷ xs) c h all = is_open_same base n xs c h (λ d. all (suc d))
 is_open_same base n (Some f ∷ xs) c h all =
     let i = is_open_same base n xs c h (λ d. all (suc d)) in
     let m = open_name base f c (all 0) in
-    ap (λ v. v || list_any (has_open (bare_name n)) (map shown xs)) (bare_same f.entry.name n (m.long ∙ sym h.long) m.padded h.padded) ∙ ap (λ v. bytes_eq f.entry.name n || v) i
+    ap (λ v. v || list_any (has_open (bare_name n)) (map shown xs)) (bare_same f.entry.name n (m.long ∙ sym h.long) m.padded h.padded)
+    ∙ ap (λ v. bytes_eq f.entry.name n || v) i
 
 -- if no device has a name open, none has its entry
 pub or-false : (a b : Bool) → a || b ≡ false → (a ≡ false) × (b ≡ false)
 or-false true b e = absurd (false≢true (sym e))
 or-false false b e = (refl, e)
 
-pub not_open : (n : List ℕ) (xs : List (Option OpenFile)) (d : ℕ) (f : OpenFile) → is_this_open n xs ≡ false → slice_index_or xs d None ≡ Some f → bytes_eq f.entry.name n ≡ false
+pub not_open : (n : List ℕ) (xs : List (Option OpenFile)) (d : ℕ) (f : OpenFile) → is_this_open n xs ≡ false
+    → slice_index_or xs d None ≡ Some f → bytes_eq f.entry.name n ≡ false
 not_open n [] d f z e = absurd (cc (e))
 not_open n (x ∷ xs) (suc d) f z e = not_open n xs d f (or-false (has_this_open n x) (is_this_open n xs) z).1 e
 not_open n (x ∷ xs) zero f z e = ap (has_this_open n) (sym e) ∙ (or-false (has_this_open n x) (is_this_open n xs) z).0
@@ -78,10 +83,12 @@ not_open n (x ∷ xs) zero f z e = ap (has_this_open n) (sym e) ∙ (or-false (h
 -- The engine answers.
 
 pub answered_stands : (reply : ℤ) (e : Files) (base : List ℕ) → Stands e base base → Stands (answered reply e) base base
-answered_stands reply e base s = record { clean = s.clean; blocks = s.blocks; whole = refl; six = s.six; buffer = s.buffer; outgoing = s.outgoing; device = s.device; apart = s.apart; hand = refl }
+answered_stands reply e base s = record { clean = s.clean; blocks = s.blocks; whole = refl; six = s.six; buffer = s.buffer;
+    outgoing = s.outgoing; device = s.device; apart = s.apart; hand = refl }
 
 -- a device has something else open
-pub device_set : (e : Files) (base disk : List ℕ) (d : ℕ) (x : Option OpenFile) → Stands e base disk → d < 6 → IsDevice base x → (c : ℕ) → IsDevice base (device_at (with_device d x e) c)
+pub device_set : (e : Files) (base disk : List ℕ) (d : ℕ) (x : Option OpenFile) → Stands e base disk → d < 6 → IsDevice base x → (c : ℕ)
+    → IsDevice base (device_at (with_device d x e) c)
 device_set e base disk d x s h mine c =
     let P : Option OpenFile → Type 0 = λ o. IsDevice base o in
     let six = s.six in
@@ -91,7 +98,8 @@ device_set e base disk d x s h mine c =
     (cases_eq c d)
 
 pub apart_set : (e : Files) (base disk : List ℕ) (d : ℕ) (x : Option OpenFile) → Stands e base disk → d < 6
-    → ((c : ℕ) → c ≢ d → AreApart (device_at e c) x × AreApart x (device_at e c)) → (b c : ℕ) → b ≢ c → AreApart (device_at (with_device d x e) b) (device_at (with_device d x e) c)
+    → ((c : ℕ) → c ≢ d → AreApart (device_at e c) x × AreApart x (device_at e c)) → (b c : ℕ) → b ≢ c
+    → AreApart (device_at (with_device d x e) b) (device_at (with_device d x e) c)
 apart_set e base disk d x s h mine b c ne =
     let at : ℕ → Option OpenFile = λ k. slice_index_or (slice_set e.devices d x) k None in
     let six = s.six in
@@ -102,9 +110,11 @@ apart_set e base disk d x s h mine b c ne =
     let P : Option OpenFile → Type 0 = λ l. AreApart l (at c) in let Q : Option OpenFile → Type 0 = λ l. AreApart x l in
     subst P (sym (ap at b_is ∙ here)) (subst Q (sym (there c o)) (mine c o).1)))
     (λ b_not. ⊎_elim
-    (λ c_is. (let P : Option OpenFile → Type 0 = λ l. AreApart l (at c) in let Q : Option OpenFile → Type 0 = λ l. AreApart (device_at e b) l in
+    (λ c_is. (let P : Option OpenFile → Type 0 = λ l. AreApart l (at c) in let Q : Option OpenFile
+    → Type 0 = λ l. AreApart (device_at e b) l in
     subst P (sym (there b b_not)) (subst Q (sym (ap at c_is ∙ here)) (mine b b_not).0)))
-    (λ c_not. (let P : Option OpenFile → Type 0 = λ l. AreApart l (at c) in let Q : Option OpenFile → Type 0 = λ l. AreApart (device_at e b) l in
+    (λ c_not. (let P : Option OpenFile → Type 0 = λ l. AreApart l (at c) in let Q : Option OpenFile
+    → Type 0 = λ l. AreApart (device_at e b) l in
     subst P (sym (there b b_not)) (subst Q (sym (there c c_not)) (s.apart b c ne))))
     (cases_eq c d))
     (cases_eq b d)

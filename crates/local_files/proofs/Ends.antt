@@ -1,64 +1,60 @@
 -- The counts are written: the call has its effect.
-use Rattle.std.proofs.Common.{◌≡◌, ◌≢◌, ℕ, zero, suc, ◌+◌, ◌*◌, ◌/◌, ◌<◌, ◌≤◌, Bool, true, false, cond, ◌||◌, nat_le, List, [], ◌∷◌, length, map, refl, sym, ap, ◌∙◌, subst, arith, slice_index_or, slice_set, Option, Some, None, ℤ, pos, negsuc, if◌then◌else◌, bytes_eq, not, nat_eq, slice_index, ◌&&◌, ◌%◌, get_or-set_same, get_or-set_other, length-set, ⊎_elim, take, nat_lt, length-take, ◌++◌}
+use Rattle.std.proofs.Common.{◌≡◌, ◌≢◌, ℕ, zero, suc, ◌+◌, ◌<◌, ◌≤◌, Bool, true, false, List, [], ◌∷◌, length, map, refl, sym, ap, ◌∙◌, subst, arith, slice_index_or, slice_set, Option, Some, None, ℤ, pos, negsuc, if◌then◌else◌, not, nat_eq, slice_index, get_or-set_same, get_or-set_other, length-set, ⊎_elim, take, nat_lt, length-take}
 use Rattle.std.proofs.lemmas.Bool.{false≢true, cases_eq}
 use Rattle.std.proofs.lemmas.Bool.Decides.{nat_tests}
 use Rattle.std.proofs.lemmas.Slice.Eq.{bytes_eq-Decides}
 use Rattle.lfs_format.specs.declared.Entry.{Entry}
-use Rattle.lfs_check.specs.Rules.{entry_is_used, is_name, block_in}
-use Rattle.lfs_check.proofs.Images.{image_blocks}
-use Rattle.lfs_check.specs.Disks.{is_this, block_put, entry_at, entries, dir_with_entry, dir_with_header}
-use Rattle.lfs_check.proofs.BlockPuts.{length_put}
+use Rattle.lfs_check.specs.Rules.{entry_is_used}
+use Rattle.lfs_check.specs.Disks.{block_put, entry_at}
 use Rattle.lfs_layout.specs.Files.{bare_name}
-use Rattle.lfs_layout.specs.Images.{IsCleanImage}
-use Rattle.xinu_base.specs.declared.files.OpenMode.{OpenMode}
-use Rattle.xinu_model.specs.Files.Modes.{reads, writes}
-use Rattle.xinu_model.specs.Files.Stored.{StoredFile, file_named, with_contents, without_file}
+use Rattle.xinu_model.specs.Files.Stored.{with_contents, without_file}
 use Rattle.xinu_model.specs.Files.Systems.{FileSystem, FileEffect, is_open, free_device, refused_effect}
-use Rattle.xinu_model.specs.Files.Opening.{open_stored, with_created, opening}
 use Rattle.file_laws.specs.StoredFiles.{stored_files, entry_bytes}
-use Rattle.file_laws.proofs.Names.{name_padded, name_used}
-use Rattle.file_laws.proofs.Named.{IsName, named_none, length_entries}
-use Rattle.file_laws.proofs.Counted.{files_counted, count_less, entry_small}
+use Rattle.file_laws.proofs.Names.{name_padded}
+use Rattle.file_laws.proofs.Named.{IsName}
+use Rattle.file_laws.proofs.Counted.{entry_small}
 use Rattle.local_files.specs.declared.OpenFile.{OpenFile}
 use Rattle.local_files.specs.declared.Files.{Files}
 use Rattle.local_files.specs.declared.FileCall.{FileCall}
 use Rattle.local_files.specs.declared.FileCall.TheVariants.{Open, Delete, Close, Read, Write, Getc, Putc, Seek, Truncate, Size}
 use Rattle.local_files.specs.declared.Phase.{Phase}
-use Rattle.local_files.specs.declared.Phase.TheVariants.{EntryWrite, HeaderRead, HeaderWrite, EntryRead}
-use Rattle.local_files.specs.Hands.{system, IsEnding, IsMade, IsDevice, IsOpenOn, AreApart, IsCall, IsWritten, IsEmptied, IsDeleting, IsCreating, IsClosing, IsEntryBlock, IsHeaderBlock, files_after, MayLook, name_of, seen, put_bytes}
+use Rattle.local_files.specs.declared.Phase.TheVariants.{HeaderWrite}
+use Rattle.local_files.specs.Hands.{system, IsEnding, IsMade, IsDevice, IsOpenOn, AreApart, IsCall, IsWritten, IsEmptied, IsDeleting, files_after, MayLook, name_of, seen, put_bytes}
 use Rattle.local_files.specs.Steps.{device_at, answered, with_device, lowest_free, shown, kept_at, counted, at_byte, device_of, is_write, is_truncate, has_this_open, is_this_open}
-use Rattle.local_files.specs.Standing.{Stands, InHand, served, GoesTo, call_bytes, given_bytes}
+use Rattle.local_files.specs.Standing.{Stands, InHand, GoesTo, call_bytes, given_bytes}
 use Rattle.local_files.specs.Opens.{opened, ended}
-use Rattle.local_files.proofs.Devices.{device_some, set_stands, shown_set, answered_stands, is_open_same, not_open, shown_at, some_below, apart_set, or-false}
+use Rattle.local_files.proofs.Devices.{device_some, shown_set, is_open_same, shown_at, some_below, apart_set, or-false}
 use Rattle.xinu_model.specs.Files.Systems as systems
-use Rattle.xinu_model.specs.Files.Opening as model_opening
-use Rattle.local_files.specs.Standing as engine
 use Rattle.xinu_model.specs.Files.Calls as model
-use Rattle.local_files.specs.Opens.{opening as opening_file}
-use Rattle.lfs_format.specs.Directory.{dir_of, IsDirBlock}
-use Rattle.local_files.proofs.Closings.{blocks_many, made_open, put_whole}
+use Rattle.local_files.proofs.Closings.{made_open}
 use Rattle.file_laws.proofs.Effects.{write_effect, putc_effect, truncate_effect, delete_effect}
 use Rattle.xinu_model.specs.Files.Writing.{overwritten, fitting}
 
 -- a device has something else open
-set_each : (P : Option OpenFile → Type 0) (e : Files) (d : ℕ) (x : Option OpenFile) → d < length e.devices → P x → ((c : ℕ) → c ≢ d → P (device_at e c)) → (c : ℕ) → P (device_at (with_device d x e) c)
+set_each : (P : Option OpenFile → Type 0) (e : Files) (d : ℕ) (x : Option OpenFile) → d < length e.devices → P x
+    → ((c : ℕ) → c ≢ d → P (device_at e c)) → (c : ℕ) → P (device_at (with_device d x e) c)
 set_each P e d x h mine others c =
-    ⊎_elim (λ same. (let Q : ℕ → Type 0 = λ k. P (slice_index_or (slice_set e.devices d x) k None) in subst Q (sym same) (subst P (sym (get_or-set_same e.devices d x None h)) mine)))
+    ⊎_elim (λ same. (let Q : ℕ → Type 0 = λ k. P (slice_index_or (slice_set e.devices d x) k None) in
+    subst Q (sym same) (subst P (sym (get_or-set_same e.devices d x None h)) mine)))
     (λ other. subst P (sym (get_or-set_other e.devices d c x None other)) (others c other))
     (cases_eq c d)
 
 -- two devices stay apart if one has another position or entry of the same slot
-pub apart_moved : (x : Option OpenFile) (f g : OpenFile) → g.slot ≡ f.slot → AreApart x (Some f) → AreApart (Some f) x → AreApart x (Some g) × AreApart (Some g) x
+pub apart_moved : (x : Option OpenFile) (f g : OpenFile) → g.slot ≡ f.slot → AreApart x (Some f) → AreApart (Some f) x
+    → AreApart x (Some g) × AreApart (Some g) x
 apart_moved None f g q a b = (tt, tt)
 apart_moved (Some y) f g q a b = (λ z. a (z ∙ q), λ z. b (sym q ∙ z))
 
 -- of the made disk, a device whose file has another slot has it as it was
-open_there : (e : Files) (base made : List ℕ) (o : Option OpenFile) → IsMade e base made → (slot : ℕ) → slot ≡ e.slot → (f : OpenFile) → f.slot ≡ slot → AreApart o (Some f) → IsDevice base o → IsDevice made o
+open_there : (e : Files) (base made : List ℕ) (o : Option OpenFile) → IsMade e base made → (slot : ℕ) → slot ≡ e.slot → (f : OpenFile)
+    → f.slot ≡ slot → AreApart o (Some f) → IsDevice base o → IsDevice made o
 open_there e base made None m slot q f r a h = tt
-open_there e base made (Some g) m slot q f r a h = record { slot = h.slot; entry = m.others g.slot (λ z. a (z ∙ sym q ∙ sym r)) ∙ h.entry; used = h.used; position = h.position }
+open_there e base made (Some g) m slot q f r a h = record { slot = h.slot; entry = m.others g.slot (λ z. a (z ∙ sym q ∙ sym r))
+    ∙ h.entry; used = h.used; position = h.position }
 
 -- the device has the new entry
-kept_stands : (e : Files) (base disk made : List ℕ) (d position : ℕ) (f : OpenFile) (reply : ℤ) → Stands e base disk → IsMade e base made → device_at e d ≡ Some f → e.slot ≡ f.slot
+kept_stands : (e : Files) (base disk made : List ℕ) (d position : ℕ) (f : OpenFile) (reply : ℤ) → Stands e base disk → IsMade e base made
+    → device_at e d ≡ Some f → e.slot ≡ f.slot
     → e.entry.name ≡ f.entry.name → position ≤ e.entry.size
     → Stands (answered reply (with_device d (Some (let g : OpenFile = record f { entry = e.entry; position = position } in g)) e)) made made
 kept_stands e base disk made d position f reply s m at slot named within =
@@ -68,24 +64,32 @@ kept_stands e base disk made d position f reply s m at slot named within =
     let below : d < 6 = (let l = some_below e.devices d f at in omega (arith, l, six)) in
     let P : Option OpenFile → Type 0 = λ x. IsDevice made x in
     let used : entry_is_used e.entry ≡ true = ap (λ x. not (nat_eq (slice_index x 0) 0)) named ∙ o.used in
-    let mine : IsOpenOn made g = record { slot = o.slot; entry = ap (entry_at made) (sym slot) ∙ m.entry; used = used; position = within } in
-    let away : (c : ℕ) → c ≢ d → AreApart (device_at e c) (Some f) = λ c ne. (let Q : Option OpenFile → Type 0 = λ x. AreApart (device_at e c) x in subst Q at (s.apart c d ne)) in
-    let back : (c : ℕ) → c ≢ d → AreApart (Some f) (device_at e c) = λ c ne. (let Q : Option OpenFile → Type 0 = λ x. AreApart x (device_at e c) in subst Q at (s.apart d c (λ z. ne (sym z)))) in
+    let mine : IsOpenOn made g = record { slot = o.slot; entry = ap (entry_at made) (sym slot)
+    ∙ m.entry; used = used; position = within } in
+    let away : (c : ℕ) → c ≢ d → AreApart (device_at e c) (Some f) = λ c ne.
+    (let Q : Option OpenFile → Type 0 = λ x. AreApart (device_at e c) x in subst Q at (s.apart c d ne)) in
+    let back : (c : ℕ) → c ≢ d → AreApart (Some f) (device_at e c) = λ c ne.
+    (let Q : Option OpenFile → Type 0 = λ x. AreApart x (device_at e c) in subst Q at (s.apart d c (λ z. ne (sym z)))) in
     record {
-      clean = m.clean; blocks = m.size ∙ s.blocks; whole = refl; six = length-set e.devices d (Some g) ∙ six; buffer = s.buffer; outgoing = s.outgoing;
-      device = set_each P e d (Some g) (omega (arith, below, six)) mine (λ c ne. open_there e base made (device_at e c) m f.slot (sym slot) f refl (away c ne) (s.device c));
+      clean = m.clean; blocks = m.size ∙ s.blocks; whole = refl; six = length-set e.devices d (Some g)
+      ∙ six; buffer = s.buffer; outgoing = s.outgoing;
+      device = set_each P e d (Some g) (omega (arith, below, six)) mine (λ c ne.
+      open_there e base made (device_at e c) m f.slot (sym slot) f refl (away c ne) (s.device c));
       apart = apart_set e base disk d (Some g) s below (λ c ne. apart_moved (device_at e c) f g refl (away c ne) (back c ne));
       hand = refl;
     }
 
 -- what the abstract machine sees of the device
-seen_set : (e : Files) (base made : List ℕ) (d position : ℕ) (f : OpenFile) (reply : ℤ) (before : List (Option systems.OpenFile)) → before ≡ map shown e.devices → e.entry.name ≡ f.entry.name
-    → (let r : FileSystem = record { blocks = e.blocks; files = stored_files made; devices = slice_set before d (Some (let x : systems.OpenFile = record (seen f) { position = position } in x)) } in r)
+seen_set : (e : Files) (base made : List ℕ) (d position : ℕ) (f : OpenFile) (reply : ℤ) (before : List (Option systems.OpenFile))
+    → before ≡ map shown e.devices → e.entry.name ≡ f.entry.name
+    → (let r : FileSystem = record { blocks = e.blocks; files = stored_files made;
+    devices = slice_set before d (Some (let x : systems.OpenFile = record (seen f) { position = position } in x)) } in r)
     ≡ system (answered reply (with_device d (Some (let g : OpenFile = record f { entry = e.entry; position = position } in g)) e)) made
 seen_set e base made d position f reply before is named =
     let r : List (Option systems.OpenFile) → FileSystem = λ ds. record { blocks = e.blocks; files = stored_files made; devices = ds } in
     let x : List ℕ → systems.OpenFile = λ n. record { name = n; position = position; may_read = f.read; may_write = f.write } in
-    ap (λ b. r (slice_set b d (Some (x (bare_name f.entry.name))))) is ∙ ap (λ n. r (slice_set (map shown e.devices) d (Some (x (bare_name n))))) (sym named)
+    ap (λ b. r (slice_set b d (Some (x (bare_name f.entry.name))))) is
+    ∙ ap (λ n. r (slice_set (map shown e.devices) d (Some (x (bare_name n))))) (sym named)
     ∙ ap r (sym (shown_set e.devices d (Some (let g : OpenFile = record f { entry = e.entry; position = position } in g))))
 
 -- the file that is written
@@ -95,20 +99,25 @@ record IsHeld (e : Files) (base : List ℕ) (d : ℕ) (f : OpenFile) : Type 0 wh
   used : entry_is_used (entry_at base e.slot) ≡ true
   named : (seen f).name ≡ bare_name (entry_at base e.slot).name
 
-held_file_is : (e : Files) (base disk : List ℕ) (d : ℕ) (f : OpenFile) → Stands e base disk → device_at e d ≡ Some f → e.slot ≡ f.slot → IsHeld e base d f
+held_file_is : (e : Files) (base disk : List ℕ) (d : ℕ) (f : OpenFile) → Stands e base disk → device_at e d ≡ Some f → e.slot ≡ f.slot
+    → IsHeld e base d f
 held_file_is e base disk d f s at slot =
     let o = device_some e base disk d f s at in
     let entry : entry_at base e.slot ≡ f.entry = ap (entry_at base) slot ∙ o.entry in
     let below = o.slot in
-    record { at = shown_at e.devices d ∙ ap shown at; slot = omega (arith, slot, below); used = ap entry_is_used entry ∙ o.used; named = ap (λ (x : Entry). bare_name x.name) (sym entry) }
+    record { at = shown_at e.devices d ∙ ap shown at; slot = omega (arith, slot, below); used = ap entry_is_used entry
+        ∙ o.used; named = ap (λ (x : Entry). bare_name x.name) (sym entry) }
 
 -- the device of a call on a device
-kept_is : (e : Files) (d position : ℕ) (f : OpenFile) → device_at e d ≡ Some f → kept_at (device_at e d) d position e ≡ with_device d (Some (let g : OpenFile = record f { entry = e.entry; position = position } in g)) e
+kept_is : (e : Files) (d position : ℕ) (f : OpenFile) → device_at e d ≡ Some f
+    → kept_at (device_at e d) d position e ≡ with_device d (Some (let g : OpenFile = record f { entry = e.entry; position = position } in
+    g)) e
 kept_is e d position f at = ap (λ o. kept_at o d position e) at
 
 -- small numbers
 pub counted_small : (n : ℕ) → n ≤ 1048576 → counted n ≡ pos n
-counted_small n h = let t : nat_lt 2147483647 n ≡ false = (let q : n ≤ 2147483647 = omega (arith, h) in grind (arith, nat_tests)) in ap (λ v. if v then negsuc 0 else pos n) t
+counted_small n h = let t : nat_lt 2147483647 n ≡ false = (let q : n ≤ 2147483647 = omega (arith, h) in grind (arith, nat_tests)) in
+    ap (λ v. if v then negsuc 0 else pos n) t
 
 -- `write`
 written_goes : (e : Files) (d : ℕ) (base disk made : List ℕ) → e.call ≡ Write d → Stands e base disk → IsWritten e base → IsMade e base made
@@ -118,32 +127,43 @@ written_goes e d base disk made is s w m =
     let at : device_at e d ≡ Some f = ap (λ k. device_at e (device_of k)) (sym is) ∙ w.open_is in
     let h = held_file_is e base disk d f s at w.slot in
     let o = device_some e base disk d f s at in
-    let small : f.entry.size ≤ 33557504 = (let P : Entry → Type 0 = λ x. x.size ≤ 33557504 in subst P o.entry (entry_small base s.clean f.slot o.slot (ap entry_is_used o.entry ∙ o.used))) in
+    let small : f.entry.size ≤ 33557504 = (let P : Entry → Type 0 = λ x. x.size ≤ 33557504 in
+    subst P o.entry (entry_small base s.clean f.slot o.slot (ap entry_is_used o.entry ∙ o.used))) in
     let few = w.few in let most = w.most in let within = o.position in let where_is = w.position in let long = s.buffer in
     let q : at_byte e ≡ f.position + e.done = omega (arith, small, few, most, within, where_is) in
     let puts : length (put_bytes e) ≡ e.total = (let t = length-take e.total e.buffer in omega (arith, t, most, long)) in
-    let files : stored_files made ≡ with_contents (bare_name (entry_at base e.slot).name) (overwritten f.position (take e.done (put_bytes e)) (entry_bytes base (entry_at base e.slot))) (stored_files base) =
-    m.files ∙ ap (λ k. files_after k e base) is ∙ ap (λ p. with_contents (bare_name (entry_at base e.slot).name) (overwritten p (take e.done (put_bytes e)) (entry_bytes base (entry_at base e.slot))) (stored_files base)) w.position in
-    let effect = write_effect base made (put_bytes e) d e.slot e.done (seen f) (system e base) s.clean h.slot h.used h.at w.writes refl h.named w.fits w.some (omega (arith, few, puts)) files in
+    let files : stored_files made ≡ with_contents (bare_name (entry_at base e.slot).name)
+    (overwritten f.position (take e.done (put_bytes e)) (entry_bytes base (entry_at base e.slot))) (stored_files base) =
+    m.files ∙ ap (λ k. files_after k e base) is
+    ∙ ap (λ p. with_contents (bare_name (entry_at base e.slot).name)
+    (overwritten p (take e.done (put_bytes e)) (entry_bytes base (entry_at base e.slot))) (stored_files base)) w.position in
+    let effect = write_effect base made (put_bytes e) d e.slot e.done (seen f)
+    (system e base) s.clean h.slot h.used h.at w.writes refl h.named w.fits w.some (omega (arith, few, puts)) files in
     let g : Files = with_device d (Some (let g : OpenFile = record f { entry = e.entry; position = f.position + e.done } in g)) e in
     let new_is : ended (Write d) e ≡ answered (pos e.done) g =
-    ap (λ r. answered r (kept_at (device_at e d) d (if is_truncate e.call then 0 else at_byte e) e)) (ap (λ k. if is_write k then counted e.done else pos 0) is ∙ counted_small e.done (omega (arith, few, most)))
-    ∙ ap (answered (pos e.done)) (ap (λ k. kept_at (device_at e d) d (if is_truncate k then 0 else at_byte e) e) is ∙ ap (λ p. kept_at (device_at e d) d p e) q ∙ kept_is e d (f.position + e.done) f at) in
+    ap (λ r. answered r (kept_at (device_at e d) d (if is_truncate e.call then 0 else at_byte e) e)) (ap (λ k.
+    if is_write k then counted e.done else pos 0) is ∙ counted_small e.done (omega (arith, few, most)))
+    ∙ ap (answered (pos e.done)) (ap (λ k. kept_at (device_at e d) d (if is_truncate k then 0 else at_byte e) e) is
+    ∙ ap (λ p. kept_at (device_at e d) d p e) q ∙ kept_is e d (f.position + e.done) f at) in
     let P : Files → Type 0 = λ x. GoesTo x.phase (Write d) (put_bytes e) e x base made in
     let result : FileSystem → FileEffect = λ y. record { system = y; reply = pos e.done; bytes = [] } in
-    subst P (sym new_is) (effect ∙ ap result (seen_set e base made d (f.position + e.done) f (pos e.done) (map shown e.devices) refl w.named),
+    subst P (sym new_is) (effect ∙ ap result
+    (seen_set e base made d (f.position + e.done) f (pos e.done) (map shown e.devices) refl w.named),
       kept_stands e base disk made d (f.position + e.done) f (pos e.done) s m at w.slot w.named w.size)
 
 -- `putc`
-putc_goes : (e : Files) (d b : ℕ) (base disk made : List ℕ) → e.call ≡ Putc d b → Stands e base disk → IsWritten e base → put_bytes e ≡ b ∷ [] → IsMade e base made
+putc_goes : (e : Files) (d b : ℕ) (base disk made : List ℕ) → e.call ≡ Putc d b → Stands e base disk → IsWritten e base
+    → put_bytes e ≡ b ∷ [] → IsMade e base made
     → GoesTo (ended (Putc d b) e).phase (Putc d b) [] e (ended (Putc d b) e) base made
 putc_goes e d b base disk made is s w one m =
     let f = w.file in
     let at : device_at e d ≡ Some f = ap (λ k. device_at e (device_of k)) (sym is) ∙ w.open_is in
     let h = held_file_is e base disk d f s at w.slot in
     let o = device_some e base disk d f s at in
-    let small : f.entry.size ≤ 33557504 = (let P : Entry → Type 0 = λ x. x.size ≤ 33557504 in subst P o.entry (entry_small base s.clean f.slot o.slot (ap entry_is_used o.entry ∙ o.used))) in
-    let few = w.few in let most = w.most in let within = o.position in let where_is = w.position in let long = s.buffer in let some = w.some in
+    let small : f.entry.size ≤ 33557504 = (let P : Entry → Type 0 = λ x. x.size ≤ 33557504 in
+    subst P o.entry (entry_small base s.clean f.slot o.slot (ap entry_is_used o.entry ∙ o.used))) in
+    let few = w.few in let most = w.most in let within = o.position in let where_is = w.position in let long = s.buffer in
+    let some = w.some in
     let puts : length (put_bytes e) ≡ e.total = (let t = length-take e.total e.buffer in omega (arith, t, most, long)) in
     let single : e.total ≡ 1 = sym puts ∙ ap length one in
     let done_is : e.done ≡ 1 = omega (arith, single, few, some) in
@@ -151,13 +171,15 @@ putc_goes e d b base disk made is s w one m =
     let put : take e.done (put_bytes e) ≡ b ∷ [] = ap (λ k. take k (put_bytes e)) done_is ∙ ap (take 1) one in
     let old = entry_bytes base (entry_at base e.slot) in let name = bare_name (entry_at base e.slot).name in
     let files : stored_files made ≡ with_contents name (overwritten f.position (b ∷ []) old) (stored_files base) =
-    m.files ∙ ap (λ k. files_after k e base) is ∙ ap (λ p. with_contents name (overwritten p (take e.done (put_bytes e)) old) (stored_files base)) w.position
+    m.files ∙ ap (λ k. files_after k e base) is
+    ∙ ap (λ p. with_contents name (overwritten p (take e.done (put_bytes e)) old) (stored_files base)) w.position
     ∙ ap (λ x. with_contents name (overwritten f.position x old) (stored_files base)) put in
     let fits : fitting (seen f) (b ∷ []) (system e base) ≡ 1 = ap (λ x. fitting (seen f) x (system e base)) (sym one) ∙ w.fits ∙ done_is in
     let effect = putc_effect base made [] d e.slot b (seen f) (system e base) s.clean h.slot h.used h.at w.writes refl h.named fits files in
     let g : Files = with_device d (Some (let g : OpenFile = record f { entry = e.entry; position = f.position + 1 } in g)) e in
     let new_is : ended (Putc d b) e ≡ answered (pos 0) g =
-    ap (λ k. answered (if is_write k then counted e.done else pos 0) (kept_at (device_at e d) d (if is_truncate k then 0 else at_byte e) e)) is
+    ap (λ k. answered (if is_write k then counted e.done else pos 0)
+    (kept_at (device_at e d) d (if is_truncate k then 0 else at_byte e) e)) is
     ∙ ap (answered (pos 0)) (ap (λ p. kept_at (device_at e d) d p e) q ∙ kept_is e d (f.position + 1) f at) in
     let P : Files → Type 0 = λ x. GoesTo x.phase (Putc d b) [] e x base made in
     let result : FileSystem → FileEffect = λ y. record { system = y; reply = pos 0; bytes = [] } in
@@ -166,17 +188,20 @@ putc_goes e d b base disk made is s w one m =
       kept_stands e base disk made d (f.position + 1) f (pos 0) s m at w.slot w.named (omega (arith, size, done_is)))
 
 -- `truncate`
-emptied_goes : (e : Files) (d : ℕ) (base disk made : List ℕ) → e.call ≡ Truncate d → Stands e base disk → IsEmptied e base → IsMade e base made
+emptied_goes : (e : Files) (d : ℕ) (base disk made : List ℕ) → e.call ≡ Truncate d → Stands e base disk → IsEmptied e base
+    → IsMade e base made
     → GoesTo (ended (Truncate d) e).phase (Truncate d) [] e (ended (Truncate d) e) base made
 emptied_goes e d base disk made is s w m =
     let f = w.file in
     let at : device_at e d ≡ Some f = ap (λ k. device_at e (device_of k)) (sym is) ∙ w.open_is in
     let h = held_file_is e base disk d f s at w.slot in
-    let files : stored_files made ≡ with_contents (bare_name (entry_at base e.slot).name) [] (stored_files base) = m.files ∙ ap (λ k. files_after k e base) is in
+    let files : stored_files made ≡ with_contents (bare_name (entry_at base e.slot).name) [] (stored_files base) = m.files
+    ∙ ap (λ k. files_after k e base) is in
     let effect = truncate_effect base made [] d e.slot (seen f) (system e base) h.at w.writes refl h.named files in
     let g : Files = with_device d (Some (let g : OpenFile = record f { entry = e.entry; position = 0 } in g)) e in
     let new_is : ended (Truncate d) e ≡ answered (pos 0) g =
-    ap (λ k. answered (if is_write k then counted e.done else pos 0) (kept_at (device_at e d) d (if is_truncate k then 0 else at_byte e) e)) is
+    ap (λ k. answered (if is_write k then counted e.done else pos 0)
+    (kept_at (device_at e d) d (if is_truncate k then 0 else at_byte e) e)) is
     ∙ ap (answered (pos 0)) (kept_is e d 0 f at) in
     let P : Files → Type 0 = λ x. GoesTo x.phase (Truncate d) [] e x base made in
     let result : FileSystem → FileEffect = λ y. record { system = y; reply = pos 0; bytes = [] } in
@@ -184,34 +209,43 @@ emptied_goes e d base disk made is s w m =
       kept_stands e base disk made d 0 f (pos 0) s m at w.slot w.named (omega arith))
 
 -- of the made disk, a device has its file as it was, if that is another than the deleted one
-deleted_there : (e : Files) (base made name : List ℕ) (o : Option OpenFile) → IsMade e base made → (entry_at base e.slot).name ≡ name → has_this_open name o ≡ false → IsDevice base o → IsDevice made o
+deleted_there : (e : Files) (base made name : List ℕ) (o : Option OpenFile) → IsMade e base made → (entry_at base e.slot).name ≡ name
+    → has_this_open name o ≡ false → IsDevice base o → IsDevice made o
 deleted_there e base made name None m is closed h = tt
 deleted_there e base made name (Some g) m is closed h =
     record { slot = h.slot; used = h.used; position = h.position;
-      entry = m.others g.slot (λ q. false≢true (sym closed ∙ (bytes_eq-Decides g.entry.name name).1 (ap (λ (x : Entry). x.name) (sym h.entry) ∙ ap (λ k. (entry_at base k).name) q ∙ is))) ∙ h.entry }
+      entry = m.others g.slot (λ q. false≢true (sym closed ∙ (bytes_eq-Decides g.entry.name name).1 (ap (λ (x : Entry).
+      x.name) (sym h.entry) ∙ ap (λ k. (entry_at base k).name) q ∙ is))) ∙ h.entry }
 
 -- `delete`
-deleted_goes : (e : Files) (name base disk made : List ℕ) → e.call ≡ Delete name → Stands e base disk → IsDeleting e base → IsMade e base made
+deleted_goes : (e : Files) (name base disk made : List ℕ) → e.call ≡ Delete name → Stands e base disk → IsDeleting e base
+    → IsMade e base made
     → GoesTo (ended (Delete name) e).phase (Delete name) [] e (ended (Delete name) e) base made
 deleted_goes e name base disk made is s w m =
     let right : IsCall (Delete name) = subst IsCall is w.call in
     let n : IsName name = record { padded = name_padded 27 name right.0; long = right.1 } in
     let named : (entry_at base e.slot).name ≡ name = w.named ∙ ap name_of is in
-    let closed : is_open (bare_name name) (system e base) ≡ false = ap (λ k. is_open (bare_name (name_of k)) (system e base)) (sym is) ∙ w.closed in
+    let closed : is_open (bare_name name) (system e base) ≡ false = ap (λ k. is_open (bare_name (name_of k)) (system e base)) (sym is)
+    ∙ w.closed in
     let none : is_this_open name e.devices ≡ false = sym (is_open_same base name e.devices s.clean n s.device) ∙ closed in
-    let files : stored_files made ≡ without_file (bare_name (entry_at base e.slot).name) (stored_files base) = m.files ∙ ap (λ k. files_after k e base) is ∙ ap (λ x. without_file (bare_name x) (stored_files base)) (sym named) in
-    let effect = delete_effect base made [] e.slot (system e base) s.clean w.slot w.used (ap (λ x. is_open (bare_name x) (system e base)) named ∙ closed) refl files in
+    let files : stored_files made ≡ without_file (bare_name (entry_at base e.slot).name) (stored_files base) = m.files
+    ∙ ap (λ k. files_after k e base) is ∙ ap (λ x. without_file (bare_name x) (stored_files base)) (sym named) in
+    let effect = delete_effect base made [] e.slot (system e base) s.clean w.slot w.used (ap (λ x.
+    is_open (bare_name x) (system e base)) named ∙ closed) refl files in
     (ap (λ x. model.file_effect (model.Delete (bare_name x)) [] (system e base)) (sym named) ∙ effect,
       record { clean = m.clean; blocks = m.size ∙ s.blocks; whole = refl; six = s.six; buffer = s.buffer; outgoing = s.outgoing;
-        device = λ c. deleted_there e base made name (device_at e c) m named (closed_at name e.devices c none) (s.device c); apart = s.apart; hand = refl })
+        device = λ c. deleted_there e base made name (device_at e c) m named (closed_at name e.devices c none) (s.device c);
+        apart = s.apart; hand = refl })
   where
-    closed_at : (name : List ℕ) (xs : List (Option OpenFile)) (c : ℕ) → is_this_open name xs ≡ false → has_this_open name (slice_index_or xs c None) ≡ false
+    closed_at : (name : List ℕ) (xs : List (Option OpenFile)) (c : ℕ) → is_this_open name xs ≡ false
+        → has_this_open name (slice_index_or xs c None) ≡ false
     closed_at name [] c z = refl
     closed_at name (x ∷ xs) zero z = (or-false (has_this_open name x) (is_this_open name xs) z).0
     closed_at name (x ∷ xs) (suc c) z = closed_at name xs c (or-false (has_this_open name x) (is_this_open name xs) z).1
 
 -- what the code leaves
-pub header_written_goes : (e e' : Files) (base disk : List ℕ) → e.phase ≡ HeaderWrite → e' ≡ ended e.call e → Stands e base disk → GoesTo e'.phase e.call (call_bytes e) e e' base (block_put disk 0 e.block)
+pub header_written_goes : (e e' : Files) (base disk : List ℕ) → e.phase ≡ HeaderWrite → e' ≡ ended e.call e → Stands e base disk
+    → GoesTo e'.phase e.call (call_bytes e) e e' base (block_put disk 0 e.block)
 header_written_goes e e' base disk phase new s =
     let H : Phase → Type 0 = λ p. InHand p e base disk in
     let hand = subst H phase s.hand in
@@ -225,11 +259,14 @@ header_written_goes e e' base disk phase new s =
     is_made : IsMade e base made
     is_made = let H : Phase → Type 0 = λ p. InHand p e base disk in let hand = subst H phase s.hand in hand.1.1
 
-    by_call : (k : FileCall) → e.call ≡ k → IsEnding k e base → GoesTo (ended k e).phase k (given_bytes k (put_bytes e)) e (ended k e) base made
+    by_call : (k : FileCall) → e.call ≡ k → IsEnding k e base
+        → GoesTo (ended k e).phase k (given_bytes k (put_bytes e)) e (ended k e) base made
     by_call (Open name mode) is h =
-        let look : MayLook (Open name mode) (system e base) = (let L : FileCall → Type 0 = λ k. MayLook k (system e base) in subst L is h.look) in
+        let look : MayLook (Open name mode) (system e base) =
+        (let L : FileCall → Type 0 = λ k. MayLook k (system e base) in subst L is h.look) in
         let free : nat_lt (lowest_free e) 6 ≡ true = (let t = look.1 in grind (arith, nat_tests)) in
-        let P : Bool → Type 0 = λ v. GoesTo (if v then opened e.slot e.entry mode e else answered (negsuc 0) e).phase (Open name mode) [] e (if v then opened e.slot e.entry mode e else answered (negsuc 0) e) base made in
+        let P : Bool → Type 0 = λ v. GoesTo (if v then opened e.slot e.entry mode e else answered (negsuc 0) e).phase (Open name mode) [] e
+        (if v then opened e.slot e.entry mode e else answered (negsuc 0) e) base made in
         subst P (sym free) (made_open e name mode base disk made is s h is_made)
     by_call (Delete name) is h = deleted_goes e name base disk made is s h is_made
     by_call (Write d) is h = written_goes e d base disk made is s h is_made

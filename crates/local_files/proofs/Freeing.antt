@@ -1,79 +1,49 @@
 -- The blocks of a file that is cut are freed.
-use Rattle.std.proofs.Common.{◌≡◌, ◌≢◌, ℕ, zero, suc, ◌+◌, ◌*◌, ◌/◌, ◌<◌, ◌≤◌, Bool, true, false, cond, ◌||◌, nat_le, List, [], ◌∷◌, length, map, refl, sym, ap, ◌∙◌, subst, arith, slice_index_or, slice_set, Option, Some, None, ℤ, pos, negsuc, if◌then◌else◌, bytes_eq, not, nat_eq, slice_index, ◌&&◌, ◌%◌, get_or-set_same, get_or-set_other, length-set, ⊎_elim, take, nat_lt, length-take, ◌++◌, count_by}
-use Rattle.std.proofs.lemmas.Bool.{false≢true, cases_eq}
-use Rattle.std.proofs.lemmas.Bool.Decides.{nat_tests}
-use Rattle.std.proofs.lemmas.Slice.Eq.{bytes_eq-Decides}
+use Rattle.std.proofs.Common.{◌≡◌, ◌≢◌, ℕ, zero, suc, ◌+◌, ◌*◌, ◌/◌, ◌<◌, ◌≤◌, Bool, true, cond, List, [], ◌∷◌, length, refl, sym, ap, ◌∙◌, subst, arith, slice_index_or, slice_index, ◌%◌, get_or-set_same, take, ◌++◌, count_by}
 use Rattle.lfs_format.specs.declared.Entry.{Entry}
-use Rattle.lfs_check.specs.Rules.{entry_is_used, is_name, block_in}
-use Rattle.lfs_check.proofs.Images.{image_blocks}
-use Rattle.lfs_check.specs.Disks.{is_this, block_put, entry_at, entries, dir_with_entry, dir_with_header}
-use Rattle.lfs_check.proofs.BlockPuts.{length_put}
+use Rattle.lfs_check.specs.Rules.{entry_is_used}
+use Rattle.lfs_check.specs.Disks.{block_put, entry_at, entries}
 use Rattle.lfs_layout.specs.Files.{bare_name}
 use Rattle.lfs_layout.specs.Images.{IsCleanImage}
-use Rattle.xinu_base.specs.declared.files.OpenMode.{OpenMode}
-use Rattle.xinu_model.specs.Files.Modes.{reads, writes}
-use Rattle.xinu_model.specs.Files.Stored.{StoredFile, file_named, with_contents, without_file}
-use Rattle.xinu_model.specs.Files.Systems.{FileSystem, FileEffect, is_open, free_device, refused_effect}
-use Rattle.xinu_model.specs.Files.Opening.{open_stored, with_created, opening}
-use Rattle.file_laws.specs.StoredFiles.{stored_files, entry_bytes}
-use Rattle.file_laws.proofs.Names.{name_padded, name_used}
-use Rattle.file_laws.proofs.Named.{IsName, named_none, length_entries}
-use Rattle.file_laws.proofs.Counted.{files_counted, count_less, entry_small, count_most}
-use Rattle.local_files.specs.declared.OpenFile.{OpenFile}
+use Rattle.xinu_model.specs.Files.Stored.{without_file}
+use Rattle.xinu_model.specs.Files.Systems.{is_open}
+use Rattle.file_laws.specs.StoredFiles.{stored_files}
+use Rattle.file_laws.proofs.Named.{length_entries}
+use Rattle.file_laws.proofs.Counted.{count_most}
 use Rattle.local_files.specs.declared.Files.{Files}
 use Rattle.local_files.specs.declared.FileCall.{FileCall}
 use Rattle.local_files.specs.declared.FileCall.TheVariants.{Open, Delete, Close, Read, Write, Getc, Putc, Seek, Truncate, Size}
 use Rattle.local_files.specs.declared.Phase.{Phase}
 use Rattle.local_files.specs.declared.Phase.TheVariants.{EntryWrite, HeaderRead, HeaderWrite, EntryRead, Idle, Done, Search, Walk, Fetch, Counts, Reach, PatchRead, PatchWrite, TakeRead, TakeWrite, AddRead, AddWrite, NewRead, NewWrite, LinkRead, LinkWrite, CutRead, CutWrite, FreeWrite}
-use Rattle.local_files.specs.Hands.{system, IsEnding, IsMade, IsDevice, IsOpenOn, AreApart, IsCall, IsWritten, IsEmptied, IsDeleting, IsCreating, IsClosing, IsEntryBlock, IsHeaderBlock, files_after, MayLook, name_of, seen, put_bytes}
-use Rattle.local_files.specs.Steps.{device_at, answered, with_device, lowest_free, shown, kept_at, counted, at_byte, device_of, is_write, is_truncate, has_this_open, is_this_open}
+use Rattle.local_files.specs.Hands.{system, IsMade, IsDevice, AreApart, IsCall, IsEntryBlock, IsHeaderBlock, name_of, put_bytes}
+use Rattle.local_files.specs.Steps.{device_at, device_of}
 use Rattle.local_files.specs.Standing.{Stands, InHand, served, GoesTo, call_bytes, given_bytes}
-use Rattle.local_files.specs.Opens.{opened, ended}
-use Rattle.local_files.proofs.Devices.{device_some, set_stands, shown_set, answered_stands, is_open_same, not_open, shown_at, some_below, apart_set, or-false}
-use Rattle.xinu_model.specs.Files.Systems as systems
-use Rattle.xinu_model.specs.Files.Opening as model_opening
 use Rattle.local_files.specs.Standing as engine
 use Rattle.xinu_model.specs.Files.Calls as model
-use Rattle.local_files.specs.Opens.{opening as opening_file}
-use Rattle.lfs_format.specs.Directory.{dir_of, IsDirBlock, void_entry}
-use Rattle.local_files.proofs.Closings.{blocks_many, made_open, put_whole}
-use Rattle.file_laws.proofs.Effects.{write_effect, putc_effect, truncate_effect, delete_effect}
-use Rattle.xinu_model.specs.Files.Writing.{overwritten, fitting}
-use Rattle.std.proofs.Common.{◌-◌, ◌*◌, drop, replicate, length-drop, length-append, min}
-use Rattle.byteorder.specs.Endian.{little_bytes}
-use Rattle.lfs_format.specs.declared.Index.{Index}
-use Rattle.lfs_format.specs.Words.{word_of}
-use Rattle.lfs_format.specs.Indexes.{index_at, IsIndexPut}
-use Rattle.lfs_format.proofs.Words.{word_of-bytes}
+use Rattle.lfs_format.specs.Directory.{void_entry}
+use Rattle.std.proofs.Common.{◌*◌, drop, replicate, length-drop}
 use Rattle.lfs_check.specs.Meets.{null}
 use Rattle.lfs_check.specs.declared.fields.Header.{Header}
-use Rattle.lfs_check.specs.declared.geometry.Geometry.{Geometry}
-use Rattle.lfs_check.specs.Geometries.{index_count, first_data, room}
-use Rattle.lfs_check.specs.Laid.{Places, numbers_at, index_for}
-use Rattle.lfs_check.specs.Clean.{places_of}
-use Rattle.lfs_check.specs.Fields.{fields_of}
-use Rattle.lfs_check.specs.Disks.{disk_geometry, header_on}
+use Rattle.lfs_check.specs.Laid.{index_for}
+use Rattle.lfs_check.specs.Disks.{header_on}
 use Rattle.file_laws.specs.Middle.{IsMiddle}
-use Rattle.file_laws.specs.Changing.{IsCut, IsReadBy, IsIndexRead}
-use Rattle.file_laws.specs.Rewriting.{IsRewriting, IsCleared, IsFinished, IsRemoved, rewritten}
-use Rattle.file_laws.proofs.Middles.{middle_begins}
-use Rattle.file_laws.proofs.Reached.{middle_read}
-use Rattle.file_laws.proofs.Cutting.{cut_begins, cut_data, cut_index, cut_ends}
+use Rattle.file_laws.specs.Rewriting.{IsRewriting, rewritten}
+use Rattle.file_laws.proofs.Cutting.{cut_ends}
 use Rattle.file_laws.proofs.Finished.{middle_ends}
 use Rattle.file_laws.proofs.Removed.{middle_removed}
 use Rattle.file_laws.proofs.Counted.{base_counted}
-use Rattle.local_files.specs.Hands.{IsCutFor, IsCutting, IsCutRead, IsCutWrite, IsFreeWrite}
-use Rattle.local_files.specs.Cuts.{cutting, cut_at, end_cut, cut_read, cut_written, freed_index, free_next, freeing, free_written, word_block}
-use Rattle.local_files.specs.Steps.{is_delete}
+use Rattle.local_files.specs.Hands.{IsCutFor, IsCutting}
+use Rattle.local_files.specs.Cuts.{end_cut}
 use Rattle.local_files.specs.declared.Phase.TheVariants.{CutRead, CutWrite, FreeWrite}
-use Rattle.local_files.proofs.Closings.{blocks_many, put_whole}
 use Rattle.std.proofs.lemmas.List.Sums.{sum_by-cons}
 use Rattle.file_laws.proofs.Rewritten.{rewritten_entry, entry_count}
 
 -- an element of an index block's numbers
-pub number_at : (j i : ℕ) (chain blocks : List ℕ) → i < 16 → 16 * j + i < length blocks → slice_index (index_for j chain blocks).blocks i ≡ slice_index blocks (16 * j + i)
+pub number_at : (j i : ℕ) (chain blocks : List ℕ) → i < 16 → 16 * j + i < length blocks
+    → slice_index (index_for j chain blocks).blocks i ≡ slice_index blocks (16 * j + i)
 number_at j i chain blocks h b =
-    get_front16 (drop (16 * j) blocks ++ replicate 16 null) 16 i h ∙ get_front (drop (16 * j) blocks) (replicate 16 null) i (omega (arith, length-drop (16 * j) blocks, b)) ∙ get_after blocks (16 * j) i
+    get_front16 (drop (16 * j) blocks ++ replicate 16 null) 16 i h
+    ∙ get_front (drop (16 * j) blocks) (replicate 16 null) i (omega (arith, length-drop (16 * j) blocks, b)) ∙ get_after blocks (16 * j) i
   where
     get_front16 : (xs : List ℕ) (n k : ℕ) → k < n → slice_index (take n xs) k ≡ slice_index xs k
     get_front16 xs zero k h = absurd (omega (arith, h))
@@ -92,7 +62,8 @@ number_at j i chain blocks h b =
     get_after (x ∷ xs) (suc a) k = get_after xs a k ∙ ap (slice_index (x ∷ xs)) (let e : suc (a + k) ≡ suc a + k = omega arith in e)
 
 -- the numbers after the last are null
-pub null_at : (j i : ℕ) (chain blocks : List ℕ) → i < 16 → length blocks ≤ 16 * j + i → slice_index (index_for j chain blocks).blocks i ≡ null
+pub null_at : (j i : ℕ) (chain blocks : List ℕ) → i < 16 → length blocks ≤ 16 * j + i
+    → slice_index (index_for j chain blocks).blocks i ≡ null
 null_at j i chain blocks h b = at_null (drop (16 * j) blocks) 16 16 i h (omega (arith, h)) (omega (arith, length-drop (16 * j) blocks, b))
   where
     nulls : (m n k : ℕ) → k < n → k < m → slice_index (take n (replicate m null)) k ≡ null
@@ -131,22 +102,28 @@ pub record IsStanding (e : Files) (base disk : List ℕ) : Type 0 where
   pub apart : (c d : ℕ) → c ≢ d → AreApart (device_at e c) (device_at e d)
 
 pub standing : (e : Files) (base disk : List ℕ) → Stands e base disk → IsStanding e base disk
-standing e base disk s = record { clean = s.clean; blocks = s.blocks; whole = s.whole; six = s.six; outgoing = s.outgoing; buffer = s.buffer; device = s.device; apart = s.apart }
+standing e base disk s = record { clean = s.clean; blocks = s.blocks; whole = s.whole; six = s.six; outgoing = s.outgoing;
+    buffer = s.buffer; device = s.device; apart = s.apart }
 
 -- there are used entries
-count_some : (test : Entry → Bool) (es : List Entry) (k : ℕ) → k < length es → test (slice_index_or es k void_entry) ≡ true → 1 ≤ count_by test es
+count_some : (test : Entry → Bool) (es : List Entry) (k : ℕ) → k < length es → test (slice_index_or es k void_entry) ≡ true
+    → 1 ≤ count_by test es
 count_some test [] k h t = absurd (omega (arith, h))
-count_some test (e ∷ es) zero h t = let c = sum_by-cons (λ x. cond (test x) 1 0) e es in let o : ◌≡◌ {A = ℕ} (cond (test e) 1 0) 1 = ap (λ v. cond v 1 0) t in omega (arith, c, o)
-count_some test (e ∷ es) (suc k) h t = let i = count_some test es k (omega (arith, h)) t in let c = sum_by-cons (λ x. cond (test x) 1 0) e es in omega (arith, c, i)
+count_some test (e ∷ es) zero h t = let c = sum_by-cons (λ x. cond (test x) 1 0) e es in
+    let o : ◌≡◌ {A = ℕ} (cond (test e) 1 0) 1 = ap (λ v. cond v 1 0) t in omega (arith, c, o)
+count_some test (e ∷ es) (suc k) h t = let i = count_some test es k (omega (arith, h)) t in
+    let c = sum_by-cons (λ x. cond (test x) 1 0) e es in omega (arith, c, i)
 
 -- the entry that the directory has then
-entry_then : (disk : List ℕ) (n slot : ℕ) (entry : Entry) (header : Header) (eb hb : List ℕ) → IsRewriting disk n slot entry header eb hb → entry_at (rewritten disk slot eb hb) slot ≡ entry
+entry_then : (disk : List ℕ) (n slot : ℕ) (entry : Entry) (header : Header) (eb hb : List ℕ) → IsRewriting disk n slot entry header eb hb
+    → entry_at (rewritten disk slot eb hb) slot ≡ entry
 entry_then disk n slot entry header eb hb r =
     let s = r.slot_is in let l = entry_count disk n r.long r.room in
     rewritten_entry disk n slot entry header eb hb r slot s ∙ get_or-set_same (entries disk) slot entry void_entry (omega (arith, s, l))
 
 -- All blocks are free: the directory is to be written.
-pub end_cut_goes : (e : Files) (freed : ℕ) (base disk : List ℕ) → IsStanding e base disk → (c : IsCutting e freed base disk) → length c.chain ≤ e.reached → length c.blocks ≤ freed
+pub end_cut_goes : (e : Files) (freed : ℕ) (base disk : List ℕ) → IsStanding e base disk → (c : IsCutting e freed base disk)
+    → length c.chain ≤ e.reached → length c.blocks ≤ freed
     → GoesTo (end_cut e).phase e.call (call_bytes e) e (end_cut e) base disk
 end_cut_goes e freed base disk s c all_index all_data = by_call e.call refl c.for
   where
@@ -156,38 +133,55 @@ end_cut_goes e freed base disk s c all_index all_data = by_call e.call refl c.fo
     none : (c.places.held_index ≡ []) × (c.places.held_data ≡ [])
     none = cut_ends n base disk e.header e.slot e.entry c.places c.chain c.blocks e.reached freed c.cut all_index all_data
 
-    by_call : (k : FileCall) → e.call ≡ k → IsCutFor k e base → GoesTo (end_cut (record e { call = k })).phase k (given_bytes k (put_bytes e)) e (end_cut (record e { call = k })) base disk
+    by_call : (k : FileCall) → e.call ≡ k → IsCutFor k e base
+        → GoesTo (end_cut (record e { call = k })).phase k (given_bytes k (put_bytes e)) e (end_cut (record e { call = k })) base disk
     by_call (Truncate d) is h =
         let e2 : Files = record e { phase = EntryRead; call = Truncate d } in
         let m = c.cut.middle in
         let low = m.low in let size = c.size in
-        let made : (eb hb : List ℕ) → IsEntryBlock e2 disk eb → IsHeaderBlock e2 (block_put disk (e.slot / 13) eb) hb → IsMade e2 base (block_put (block_put disk (e.slot / 13) eb) 0 hb) = λ eb hb ee hh. (
-        let r : IsRewriting disk n e.slot e.entry e.header eb hb = record { long = m.long; room = omega (arith, low); slot_is = m.slot_is; entry_block = ee; header_block = hh } in
+        let made : (eb hb : List ℕ) → IsEntryBlock e2 disk eb → IsHeaderBlock e2 (block_put disk (e.slot / 13) eb) hb
+        → IsMade e2 base (block_put (block_put disk (e.slot / 13) eb) 0 hb) = λ eb hb ee hh. (
+        let r : IsRewriting disk n e.slot e.entry e.header eb hb =
+        record { long = m.long; room = omega (arith, low); slot_is = m.slot_is; entry_block = ee; header_block = hh } in
         let f = middle_ends n base disk e.header e.slot e.entry c.places [] eb hb m none.0 none.1 c.files (omega (arith, size)) r in
         record { clean = f.clean; size = f.size; files = f.files; entry = f.entry_is; others = f.others }) in
-        (record { clean = s.clean; blocks = s.blocks; whole = s.whole; six = s.six; buffer = s.buffer; outgoing = s.outgoing; device = s.device; apart = s.apart;
-          hand = record { ending = record { file = h.file; open_is = ap (λ k. device_at e (device_of k)) (sym is) ∙ h.open_is; writes = h.writes; slot = h.slot; named = h.named }; slot = m.slot_is; made = made } }, refl, refl, refl)
+        (record { clean = s.clean; blocks = s.blocks; whole = s.whole; six = s.six; buffer = s.buffer; outgoing = s.outgoing;
+        device = s.device; apart = s.apart;
+          hand = record { ending = record { file = h.file; open_is = ap (λ k. device_at e (device_of k)) (sym is)
+          ∙ h.open_is; writes = h.writes; slot = h.slot; named = h.named }; slot = m.slot_is; made = made } }, refl, refl, refl)
     by_call (Delete name) is h =
         let e2 : Files = end_cut (record e { call = Delete name }) in
         let m = c.cut.middle in
         let low = m.low in
-        let count = (length_entries base s.clean).0 in let counted_is = base_counted base s.clean in let most = count_most entry_is_used (entries base) in
+        let count = (length_entries base s.clean).0 in let counted_is = base_counted base s.clean in
+        let most = count_most entry_is_used (entries base) in
         let below = h.slot in
         let some = count_some entry_is_used (entries base) e.slot (omega (arith, below, count)) h.used in
         let files = c.files in
         let less : e2.header.files + 1 ≡ (header_on base).files = omega (arith, counted_is, most, some, files, count) in
         let named : (entry_at base e.slot).name ≡ name = h.named ∙ ap name_of is in
-        let made : (eb hb : List ℕ) → IsEntryBlock e2 disk eb → IsHeaderBlock e2 (block_put disk (e.slot / 13) eb) hb → IsMade e2 base (block_put (block_put disk (e.slot / 13) eb) 0 hb) = λ eb hb ee hh. (
-        let r : IsRewriting disk n e.slot e2.entry e2.header eb hb = record { long = m.long; room = omega (arith, low); slot_is = m.slot_is; entry_block = ee; header_block = hh } in
-        let f = middle_removed n base disk e2.header e.slot e.entry e2.entry c.places [] eb hb (with_files m) (record { size = c.size; first = c.first; unused = refl }) c.cut.no_chain c.cut.no_blocks none.0 none.1 less r in
+        let made : (eb hb : List ℕ) → IsEntryBlock e2 disk eb → IsHeaderBlock e2 (block_put disk (e.slot / 13) eb) hb
+        → IsMade e2 base (block_put (block_put disk (e.slot / 13) eb) 0 hb) = λ eb hb ee hh. (
+        let r : IsRewriting disk n e.slot e2.entry e2.header eb hb =
+        record { long = m.long; room = omega (arith, low); slot_is = m.slot_is; entry_block = ee; header_block = hh } in
+        let f = middle_removed n base disk e2.header e.slot e.entry e2.entry c.places [] eb hb (with_files m) (record { size = c.size;
+        first = c.first; unused = refl }) c.cut.no_chain c.cut.no_blocks none.0 none.1 less r in
         record { clean = f.clean; size = f.size; files = f.files ∙ ap (λ x. without_file (bare_name x) (stored_files base)) named;
           entry = entry_then disk n e.slot e2.entry e2.header eb hb r; others = f.others }) in
-        (record { clean = s.clean; blocks = s.blocks; whole = s.whole; six = s.six; buffer = s.buffer; outgoing = s.outgoing; device = s.device; apart = s.apart;
-          hand = record { ending = record { slot = h.slot; call = subst IsCall is h.call; closed = ap (λ k. is_open (bare_name (name_of k)) (system e base)) (sym is) ∙ h.closed; used = h.used; named = named }; slot = m.slot_is; made = made } }, refl, refl, refl)
+        (record { clean = s.clean; blocks = s.blocks; whole = s.whole; six = s.six; buffer = s.buffer; outgoing = s.outgoing;
+        device = s.device; apart = s.apart;
+          hand = record { ending = record { slot = h.slot; call = subst IsCall is h.call;
+          closed = ap (λ k. is_open (bare_name (name_of k)) (system e base)) (sym is) ∙ h.closed; used = h.used; named = named };
+          slot = m.slot_is; made = made } }, refl, refl, refl)
       where
-        with_files : IsMiddle n base disk e.header e.slot e.entry c.places [] → IsMiddle n base disk (let x : Header = record e.header { files = (e.header.files + 4294967295) % 4294967296 } in x) e.slot e.entry c.places []
-        with_files m = record { clean = m.clean; base_long = m.base_long; long = m.long; low = m.low; high = m.high; slot_is = m.slot_is; directory = m.directory;
-          laid = record { chains = m.laid.chains; datas = m.laid.datas; file = λ k q u. (let l = m.laid.file k q u in record { indexes = l.indexes; datas = l.datas; first = l.first; each = l.each }); no_file = m.laid.no_file;
+        with_files : IsMiddle n base disk e.header e.slot e.entry c.places []
+            → IsMiddle n base disk (let x : Header = record e.header { files = (e.header.files + 4294967295) % 4294967296 } in
+            x) e.slot e.entry c.places []
+        with_files m = record { clean = m.clean; base_long = m.base_long; long = m.long; low = m.low; high = m.high; slot_is = m.slot_is;
+          directory = m.directory;
+          laid = record { chains = m.laid.chains; datas = m.laid.datas;
+          file = λ k q u. (let l = m.laid.file k q u in record { indexes = l.indexes; datas = l.datas; first = l.first; each = l.each });
+          no_file = m.laid.no_file;
             free_index = m.laid.free_index; free_data = m.laid.free_data; one_index = m.laid.one_index; one_data = m.laid.one_data };
           was_used = m.was_used; named = m.named; others = m.others; mine = m.mine }
     by_call (Open name mode) is h = absurd h
@@ -200,9 +194,11 @@ end_cut_goes e freed base disk s c all_index all_data = by_call e.call refl c.fo
     by_call (Size d) is h = absurd h
 
 -- of the engine before, what goes on sees only the file system
-pub goes_from : (p : Phase) (call : FileCall) (bytes : List ℕ) (old old' new : Files) (base disk : List ℕ) → system old base ≡ system old' base → GoesTo p call bytes old new base disk → GoesTo p call bytes old' new base disk
+pub goes_from : (p : Phase) (call : FileCall) (bytes : List ℕ) (old old' new : Files) (base disk : List ℕ)
+    → system old base ≡ system old' base → GoesTo p call bytes old new base disk → GoesTo p call bytes old' new base disk
 goes_from Idle call bytes old old' new base disk same g = g
-goes_from (Done r) call bytes old old' new base disk same g = (ap (λ x. model.file_effect (engine.call_of call bytes) bytes x) (sym same) ∙ g.0, g.1)
+goes_from (Done r) call bytes old old' new base disk same g =
+    (ap (λ x. model.file_effect (engine.call_of call bytes) bytes x) (sym same) ∙ g.0, g.1)
 goes_from (Search x0) call bytes old old' new base disk same g = (g.0, g.1, g.2, g.3 ∙ same)
 goes_from (Walk x0 x1) call bytes old old' new base disk same g = (g.0, g.1, g.2, g.3 ∙ same)
 goes_from (Fetch x0) call bytes old old' new base disk same g = (g.0, g.1, g.2, g.3 ∙ same)

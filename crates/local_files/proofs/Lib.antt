@@ -6,6 +6,8 @@ pub mod Freeing
 pub mod CutSteps
 pub mod Searching
 pub mod Taking
+pub mod Fetched
+pub mod ReadCalls
 pub mod Putting
 pub mod PutSteps
 pub mod Pieces

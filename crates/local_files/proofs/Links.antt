@@ -1,109 +1,55 @@
 -- A file gets a new index block.
-use Rattle.std.proofs.Common.{◌≡◌, ◌≢◌, ℕ, zero, suc, ◌+◌, ◌*◌, ◌/◌, ◌<◌, ◌≤◌, Bool, true, false, cond, ◌||◌, nat_le, List, [], ◌∷◌, length, map, refl, sym, ap, ◌∙◌, subst, arith, slice_index_or, slice_set, Option, Some, None, ℤ, pos, negsuc, if◌then◌else◌, bytes_eq, not, nat_eq, slice_index, ◌&&◌, ◌%◌, get_or-set_same, get_or-set_other, length-set, ⊎_elim, take, nat_lt, length-take, ◌++◌, count_by, ◌==◌, ◌^◌, inl, inr, ◌⊎◌, max, length-append, replicate}
-use Rattle.std.proofs.lemmas.Bool.{false≢true, cases_eq, cases_lt}
+use Rattle.std.proofs.Common.{◌≡◌, ℕ, suc, ◌+◌, ◌*◌, ◌/◌, ◌<◌, ◌≤◌, List, [], ◌∷◌, length, refl, sym, ap, ◌∙◌, subst, arith, slice_index_or, slice_set, if◌then◌else◌, slice_index, ◌%◌, get_or-set_same, ⊎_elim, take, ◌++◌, ◌==◌, length-append, replicate}
 use Rattle.std.proofs.lemmas.Bool.Decides.{nat_tests}
-use Rattle.std.proofs.lemmas.Slice.Eq.{bytes_eq-Decides}
 use Rattle.lfs_format.specs.declared.Entry.{Entry}
-use Rattle.lfs_check.specs.Rules.{entry_is_used, is_name, block_in}
-use Rattle.lfs_check.proofs.Images.{image_blocks}
-use Rattle.lfs_check.specs.Disks.{is_this, block_put, entry_at, entries, dir_with_entry, dir_with_header}
-use Rattle.lfs_check.proofs.BlockPuts.{length_put, put_same, put_other}
-use Rattle.lfs_layout.specs.Files.{bare_name}
-use Rattle.lfs_layout.specs.Images.{IsCleanImage}
-use Rattle.xinu_base.specs.declared.files.OpenMode.{OpenMode}
-use Rattle.xinu_model.specs.Files.Modes.{reads, writes}
-use Rattle.xinu_model.specs.Files.Stored.{StoredFile, file_named, with_contents, without_file}
-use Rattle.xinu_model.specs.Files.Systems.{FileSystem, FileEffect, is_open, free_device, refused_effect, replies}
-use Rattle.xinu_model.specs.Files.Opening.{open_stored, with_created, opening}
-use Rattle.file_laws.specs.StoredFiles.{stored_files, entry_bytes, entry_chain, entry_data}
-use Rattle.file_laws.proofs.Names.{name_padded, name_used, either-way, and-true}
-use Rattle.file_laws.proofs.Named.{IsName, named_none, length_entries, bytes_sized}
-use Rattle.file_laws.proofs.Counted.{files_counted, count_less, entry_small, count_most}
-use Rattle.local_files.specs.declared.OpenFile.{OpenFile}
+use Rattle.lfs_check.specs.Rules.{block_in}
+use Rattle.lfs_check.specs.Disks.{block_put, entry_at}
+use Rattle.lfs_check.proofs.BlockPuts.{put_same, put_other}
+use Rattle.file_laws.specs.StoredFiles.{entry_bytes}
+use Rattle.file_laws.proofs.Names.{either-way}
 use Rattle.local_files.specs.declared.Files.{Files}
-use Rattle.local_files.specs.declared.FileCall.{FileCall}
-use Rattle.local_files.specs.declared.FileCall.TheVariants.{Open, Delete, Close, Read, Write, Getc, Putc, Seek, Truncate, Size}
 use Rattle.local_files.specs.declared.Phase.{Phase}
-use Rattle.local_files.specs.declared.Phase.TheVariants.{EntryWrite, HeaderRead, HeaderWrite, EntryRead, Walk, Fetch, Done, Reach, PatchRead, TakeRead, PatchWrite, TakeWrite, AddRead, AddWrite, NewRead}
-use Rattle.local_files.specs.Hands.{system, IsEnding, IsMade, IsDevice, IsOpenOn, AreApart, IsCall, IsWritten, IsEmptied, IsDeleting, IsCreating, IsClosing, IsEntryBlock, IsHeaderBlock, files_after, MayLook, name_of, seen, put_bytes, IsReading, IsWalking, IsFetching, read_count, IsPutting, IsPut, put_files, IsReady, IsAt, IsReach, IsPatch, IsTake, IsPatched, IsTaken, IsTakeWrite, IsFilled, IsAddWrite}
-use Rattle.local_files.specs.Steps.{device_at, answered, with_device, lowest_free, shown, kept_at, counted, at_byte, device_of, is_write, is_truncate, has_this_open, is_this_open, piece, or_none, named_device, moved_to}
-use Rattle.local_files.specs.Standing.{Stands, InHand, served, GoesTo, call_bytes, given_bytes}
-use Rattle.local_files.specs.Opens.{opened, ended}
-use Rattle.local_files.proofs.Devices.{device_some, set_stands, shown_set, answered_stands, is_open_same, not_open, shown_at, some_below, apart_set, or-false, open_size}
-use Rattle.xinu_model.specs.Files.Systems as systems
-use Rattle.xinu_model.specs.Files.Opening as model_opening
-use Rattle.local_files.specs.Standing as engine
-use Rattle.xinu_model.specs.Files.Calls as model
-use Rattle.local_files.specs.Opens.{opening as opening_file}
-use Rattle.lfs_format.specs.Directory.{dir_of, IsDirBlock, void_entry}
-use Rattle.local_files.proofs.Closings.{blocks_many, made_open, put_whole}
-use Rattle.file_laws.proofs.Effects.{write_effect, putc_effect, truncate_effect, delete_effect, read_effect, getc_effect, open_bytes_is, write_refused, putc_refused}
-use Rattle.xinu_model.specs.Files.Writing.{overwritten, fitting}
-use Rattle.std.proofs.Common.{◌-◌, ◌*◌, drop, replicate, length-drop, length-append, min}
-use Rattle.byteorder.specs.Endian.{little_bytes}
+use Rattle.local_files.specs.declared.Phase.TheVariants.{NewRead}
+use Rattle.local_files.specs.Hands.{put_bytes}
+use Rattle.local_files.specs.Putting.{IsPutting, IsReady, IsAt}
+use Rattle.local_files.specs.Steps.{at_byte, piece}
+use Rattle.local_files.specs.Standing.{Stands, InHand, GoesTo, call_bytes}
+use Rattle.local_files.proofs.Closings.{put_whole}
+use Rattle.xinu_model.specs.Files.Writing.{overwritten}
+use Rattle.std.proofs.Common.{◌-◌, ◌*◌, drop, replicate, length-append}
 use Rattle.lfs_format.specs.declared.Index.{Index}
-use Rattle.lfs_format.specs.Words.{word_of}
 use Rattle.lfs_format.specs.Indexes.{index_at, IsIndexPut}
-use Rattle.lfs_format.proofs.Words.{word_of-bytes, length-little}
 use Rattle.lfs_check.specs.Meets.{null}
 use Rattle.lfs_check.specs.declared.fields.Header.{Header}
-use Rattle.lfs_check.specs.declared.geometry.Geometry.{Geometry}
-use Rattle.lfs_check.specs.Geometries.{index_count, first_data, room}
+use Rattle.lfs_check.specs.Geometries.{index_count, first_data}
 use Rattle.lfs_check.specs.Laid.{Places, numbers_at, index_for}
-use Rattle.lfs_check.specs.Clean.{places_of, chain_in, data_in}
-use Rattle.lfs_check.specs.Fields.{fields_of}
-use Rattle.lfs_check.specs.Disks.{disk_geometry, header_on}
+use Rattle.lfs_check.specs.Disks.{disk_geometry}
 use Rattle.file_laws.specs.Middle.{IsMiddle}
-use Rattle.file_laws.specs.Changing.{IsCut, IsReadBy, IsIndexRead}
-use Rattle.file_laws.specs.Rewriting.{IsRewriting, IsCleared, IsFinished, IsRemoved, rewritten}
-use Rattle.file_laws.proofs.Middles.{middle_begins, middle_held}
-use Rattle.file_laws.proofs.Reached.{middle_read, free_data_first, free_data_some, free_data_none, free_index_none, middle_data_taken, free_index_some, free_index_first}
-use Rattle.file_laws.proofs.Cutting.{cut_begins, cut_data, cut_index, cut_ends}
-use Rattle.file_laws.proofs.Finished.{middle_ends}
-use Rattle.file_laws.proofs.Removed.{middle_removed}
-use Rattle.file_laws.proofs.Counted.{base_counted}
-use Rattle.local_files.specs.Hands.{IsCutFor, IsCutting, IsCutRead, IsCutWrite, IsFreeWrite}
-use Rattle.local_files.specs.Cuts.{cutting, cut_at, end_cut, cut_read, cut_written, freed_index, free_next, freeing, free_written, word_block}
-use Rattle.local_files.specs.Steps.{is_delete}
-use Rattle.local_files.specs.declared.Phase.TheVariants.{CutRead, CutWrite, FreeWrite}
-use Rattle.local_files.proofs.Closings.{blocks_many, put_whole}
-use Rattle.std.proofs.lemmas.List.Sums.{sum_by-cons}
-use Rattle.file_laws.proofs.Rewritten.{rewritten_entry, entry_count}
-use Rattle.local_files.proofs.Freeing.{IsStanding, standing, end_cut_goes, number_at, null_at, some_at, none_at, goes_from}
-use Rattle.std.proofs.lemmas.List.{length-replicate, get_or-map, take_all, take_at, drop_at, drop-drop, drop_all, take-take, append-nil}
-use Rattle.local_files.proofs.CutSteps.{index_on_disk}
-use Rattle.lfs_check.proofs.Directories.{geometry_is}
-use Rattle.local_files.specs.Takes.{walking, fetching, walked, with_taken, read_on, fetched, next_fetch, finished_read, finished_at, given_all, reading, reading_at}
-use Rattle.file_laws.proofs.ReadBlocks.{bytes_in_block}
-use Rattle.file_laws.proofs.Patched.{block_long, middle_sized, middle_patched, held_range, times_first, middle_appended}
-use Rattle.file_laws.proofs.Fitting.{length_overwritten, fitting_is}
-use Rattle.local_files.proofs.Ends.{apart_moved, counted_small}
-use Rattle.xinu_model.specs.Files.Reading.{read_file, getc_file, first_byte, taken, bytes_ahead}
-use Rattle.local_files.proofs.Taking.{open_of, block_of, take_add}
-use Rattle.local_files.specs.Puts.{end_put, at_end, target, reaching, reach_to, in_place, patching, appending, taking, next_put, put_done, patch_read, reached, take_read, take_written, newing, added_index, with_index, add_read}
-use Rattle.file_laws.specs.Fitting.{IsFull, IsDataFull, IsIndexFull}
-use Rattle.lfs_check.proofs.Counting.{length-most}
-use Rattle.lfs_check.proofs.Steps.{times_in-part}
-use Rattle.local_files.proofs.Putting.{put_open, put_entry_is, put_small, where_put, puts_long, put_size, end_put_goes}
-use Rattle.local_files.proofs.PutSteps.{put_kept, at_kept, ready_kept, ends_is, inside_is, target_in, target_end, next_put_goes}
-use Rattle.local_files.specs.Buffers.{patched}
-use Rattle.file_laws.proofs.Overwrites.{overwritten_more}
-use Rattle.local_files.proofs.Pieces.{IsPiece, piece_is, piece_bytes, after_goes, patched_is, piece_more, done_long, low_old}
+use Rattle.file_laws.proofs.Reached.{free_index_some}
+use Rattle.local_files.proofs.Closings.{put_whole}
+use Rattle.local_files.proofs.Freeing.{IsStanding, standing, some_at, none_at, goes_from}
+use Rattle.std.proofs.lemmas.List.{drop_at}
+use Rattle.file_laws.proofs.Patched.{held_range, times_first}
+use Rattle.local_files.specs.Puts.{target, next_put, put_done, reached}
+use Rattle.local_files.proofs.Putting.{put_open, put_small}
+use Rattle.local_files.proofs.PutSteps.{put_kept, target_end, next_put_goes}
+use Rattle.local_files.proofs.Pieces.{piece_is, piece_bytes}
 use Rattle.local_files.specs.declared.Phase.TheVariants.{NewWrite, LinkRead, LinkWrite}
-use Rattle.local_files.specs.Hands.{IsNew, IsNewWrite, IsLink, IsLinkWrite}
+use Rattle.local_files.specs.Putting.{IsNew, IsNewWrite, IsLink, IsLinkWrite}
 use Rattle.local_files.specs.Puts.{fresh_index, new_read, new_written, followed, link_read, linked_index}
-use Rattle.local_files.proofs.Pieces.{done_long, low_old, target_either}
+use Rattle.local_files.proofs.Pieces.{target_either}
 use Rattle.local_files.proofs.Putting.{put_small, put_open}
-use Rattle.lfs_check.specs.Meets.{times_met}
 use Rattle.file_laws.proofs.Reached.{index_below}
-use Rattle.local_files.proofs.Grows.{IsGrowing, growing, slot_lists, append_at, append_last}
+use Rattle.local_files.proofs.Grows.{growing, slot_lists, append_last}
 use Rattle.file_laws.proofs.Reached.{middle_index_got}
 use Rattle.file_laws.proofs.Freed.{middle_index_held}
 use Rattle.file_laws.proofs.Patched.{middle_started, middle_continued}
 use Rattle.lfs_check.proofs.Steps.{index_for-more}
 
 -- The free index block was read: it is to be written with the number.
-pub new_read_goes : (e e' : Files) (b i : ℕ) (base disk read : List ℕ) → e.phase ≡ NewRead b i → e' ≡ new_read b i (index_at (i % 7) read) e'.block e → IsIndexPut read (i % 7) (fresh_index b e) e'.block → Stands e base disk → read ≡ block_in disk (6 + i / 7)
+pub new_read_goes : (e e' : Files) (b i : ℕ) (base disk read : List ℕ) → e.phase ≡ NewRead b i
+    → e' ≡ new_read b i (index_at (i % 7) read) e'.block e → IsIndexPut read (i % 7) (fresh_index b e) e'.block → Stands e base disk
+    → read ≡ block_in disk (6 + i / 7)
     → GoesTo e'.phase e.call (call_bytes e) e e' base disk
 new_read_goes e e' b i base disk read phase new put s honest =
     let H : Phase → Type 0 = λ p. InHand p e base disk in
@@ -113,37 +59,53 @@ new_read_goes e e' b i base disk read phase new put s honest =
     let bytes = overwritten e.position (take e.done (put_bytes e)) (entry_bytes base (entry_at base e.slot)) in
     let rest = drop 1 p.free_index in
     let some = k.index z in
-    let free : p.free_index ≡ i ∷ rest = free_index_some e.blocks base disk e.header e.slot e.entry p bytes u.middle some ∙ ap (λ x. x ∷ rest) head in
+    let free : p.free_index ≡ i ∷ rest = free_index_some e.blocks base disk e.header e.slot e.entry p bytes u.middle some
+    ∙ ap (λ x. x ∷ rest) head in
     let p2 : Places = record p { free_index = rest; held_index = i ∷ p.held_index } in
-    let M : List ℕ → Type 0 = λ w. IsMiddle e.blocks base disk (let x : Header = record e.header { free_index = (index_at (i % 7) w).next } in x) e.slot e.entry p2 bytes in
+    let M : List ℕ → Type 0 = λ w. IsMiddle e.blocks base disk (let x : Header =
+    record e.header { free_index = (index_at (i % 7) w).next } in x) e.slot e.entry p2 bytes in
     let middle = subst M (sym honest) (middle_index_got e.blocks base disk e.header e.slot e.entry p bytes i rest u.middle free) in
     let R : List ℕ → Type 0 = λ x. IsIndexPut x (i % 7) (fresh_index b e) e'.block in
     let P : Files → Type 0 = λ x. GoesTo x.phase e.call (call_bytes e) e x base disk in
-    subst P (sym new) (record { clean = s.clean; blocks = s.blocks; whole = s.whole; six = s.six; buffer = s.buffer; outgoing = put.long; device = s.device; apart = s.apart;
-      hand = record { put = subst R honest put; new = record { places = p2; left = k.left; held_index = ap (λ x. i ∷ x) k.no_index; held_data = k.held; ends = k.ends; reached = k.reached; whole = z; filled = h.0.filled;
+    subst P (sym new) (record { clean = s.clean; blocks = s.blocks; whole = s.whole; six = s.six; buffer = s.buffer; outgoing = put.long;
+        device = s.device; apart = s.apart;
+      hand = record { put = subst R honest put; new = record { places = p2; left = k.left; held_index = ap (λ x. i ∷ x) k.no_index;
+      held_data = k.held; ends = k.ends; reached = k.reached; whole = z; filled = h.0.filled;
         cursor = record { below = k.cursor.below; at = k.cursor.at; index = k.cursor.index };
-        putting = record { call = u.call; file = u.file; open_is = u.open_is; writes = u.writes; slot = u.slot; position = u.position; most = u.most; few = u.few; some = u.some; files = u.files; middle = middle } } } }, refl, refl, refl)
+        putting = record { call = u.call; file = u.file; open_is = u.open_is; writes = u.writes; slot = u.slot; position = u.position;
+        most = u.most; few = u.few; some = u.some; files = u.files; middle = middle } } } }, refl, refl, refl)
 
 -- A piece that the file ends with is on the disk, and so are its numbers: the call goes on.
-pub grown_goes : (e : Files) (entry : Entry) (ix : Index) (a r : ℕ) (base disk made : List ℕ) (p p' : Places) → IsStanding e base disk → length made ≡ length base → (u : IsPutting e base disk p) → e.done < e.total
+pub grown_goes : (e : Files) (entry : Entry) (ix : Index) (a r : ℕ) (base disk made : List ℕ) (p p' : Places) → IsStanding e base disk
+    → length made ≡ length base → (u : IsPutting e base disk p) → e.done < e.total
     → entry.size ≡ e.entry.size
-    → IsMiddle e.blocks base made e.header e.slot (put_done (record e { entry = entry; index = ix; at = a; reached = r })).entry p' (overwritten e.position (take (e.done + piece e) (put_bytes e)) (entry_bytes base (entry_at base e.slot)))
-    → p'.held_index ≡ [] → p'.held_data ≡ [] → IsAt (put_done (record e { entry = entry; index = ix; at = a; reached = r })) p' → r ≡ at_byte e / 8192 + 1
-    → GoesTo (next_put (put_done (record e { entry = entry; index = ix; at = a; reached = r }))).phase e.call (call_bytes e) e (next_put (put_done (record e { entry = entry; index = ix; at = a; reached = r }))) base made
+    → IsMiddle e.blocks base made e.header e.slot (put_done (record e { entry = entry; index = ix; at = a;
+    reached = r })).entry p' (overwritten e.position (take (e.done + piece e) (put_bytes e)) (entry_bytes base (entry_at base e.slot)))
+    → p'.held_index ≡ [] → p'.held_data ≡ [] → IsAt (put_done (record e { entry = entry; index = ix; at = a; reached = r })) p'
+    → r ≡ at_byte e / 8192 + 1
+    → GoesTo (next_put (put_done (record e { entry = entry; index = ix; at = a;
+    reached = r }))).phase e.call (call_bytes e) e (next_put (put_done (record e { entry = entry; index = ix; at = a;
+    reached = r }))) base made
 grown_goes e entry ix a r base disk made p p' s whole u left size middle no_index no_data cursor reached =
     let x : Files = put_done (record e { entry = entry; index = ix; at = a; reached = r }) in
     let f = piece_is e base disk p s u left in
     let done = f.done in let some = f.some in let few = f.few in
-    let M : ℕ → Type 0 = λ k. IsMiddle e.blocks base made e.header e.slot x.entry p' (overwritten e.position (take k (put_bytes e)) (entry_bytes base (entry_at base e.slot))) in
-    let u2 : IsPutting x base made p' = record { call = u.call; file = u.file; open_is = u.open_is; writes = u.writes; slot = u.slot; position = u.position; most = u.most; few = omega (arith, done, few); some = u.some; files = u.files;
+    let M : ℕ → Type 0 = λ k. IsMiddle e.blocks base made e.header e.slot x.entry p'
+    (overwritten e.position (take k (put_bytes e)) (entry_bytes base (entry_at base e.slot))) in
+    let u2 : IsPutting x base made p' = record { call = u.call; file = u.file; open_is = u.open_is; writes = u.writes; slot = u.slot;
+    position = u.position; most = u.most; few = omega (arith, done, few); some = u.some; files = u.files;
       middle = subst M (sym f.done) middle } in
     let at = f.at in let next_at = f.next_at in let fits = f.fits in
-    let ready : IsReady x base made = record { places = p'; putting = u2; no_index = no_index; no_data = no_data; fresh = λ z. absurd (omega (arith, z, done, some)); cursor = cursor;
+    let ready : IsReady x base made = record { places = p'; putting = u2; no_index = no_index; no_data = no_data;
+    fresh = λ z. absurd (omega (arith, z, done, some)); cursor = cursor;
       near = λ _. ⊎_elim
-          (λ (t : target x ≡ at_byte x / 8192). (omega (arith, t, next_at, reached, at, fits, some), omega (arith, t, next_at, reached, at, fits, some)))
-          (λ (t : (0 < at_byte x) × (target x ≡ (at_byte x - 1) / 8192)). (let v = t.1 in (omega (arith, v, next_at, reached, at, fits, some), omega (arith, v, next_at, reached, at, fits, some))))
+          (λ (t : target x ≡ at_byte x / 8192).
+          (omega (arith, t, next_at, reached, at, fits, some), omega (arith, t, next_at, reached, at, fits, some)))
+          (λ (t : (0 < at_byte x) × (target x ≡ (at_byte x - 1) / 8192)).
+          (let v = t.1 in (omega (arith, v, next_at, reached, at, fits, some), omega (arith, v, next_at, reached, at, fits, some))))
           (target_either x) } in
-    let sx : IsStanding x base made = record { clean = s.clean; blocks = s.blocks; whole = whole; six = s.six; outgoing = s.outgoing; buffer = s.buffer; device = s.device; apart = s.apart } in
+    let sx : IsStanding x base made = record { clean = s.clean; blocks = s.blocks; whole = whole; six = s.six; outgoing = s.outgoing;
+    buffer = s.buffer; device = s.device; apart = s.apart } in
     goes_from (next_put x).phase e.call (call_bytes e) x e (next_put x) base made refl (next_put_goes x base made sx ready)
 
 -- the number of a taken index block
@@ -154,36 +116,49 @@ new_below e b i base disk n =
 
 -- the range of a taken data block
 new_range : (e : Files) (b i : ℕ) (base disk : List ℕ) → IsNew e b i base disk → (first_data (disk_geometry e.blocks) ≤ b) × (b < e.blocks)
-new_range e b i base disk n = held_range e.blocks base disk e.header e.slot e.entry n.places (overwritten e.position (take e.done (put_bytes e)) (entry_bytes base (entry_at base e.slot))) b n.putting.middle (times_first b n.places.held_data [] n.held_data)
+new_range e b i base disk n = held_range e.blocks base disk e.header e.slot e.entry n.places
+    (overwritten e.position (take e.done (put_bytes e)) (entry_bytes base (entry_at base e.slot))) b n.putting.middle
+    (times_first b n.places.held_data [] n.held_data)
 
 -- the first index block of a file
 first_index : (b : ℕ) (e : Files) (i : ℕ) → at_byte e ≡ 0 → fresh_index b e ≡ index_for 0 (i ∷ []) (b ∷ [])
 first_index b e i z = ap (λ o. let x : Index = record { next = null; offset = o; blocks = slice_set (replicate 16 null) 0 b } in x) z
 
 -- a file of whole index blocks gets another one
-next_index : (j b i : ℕ) (e : Files) (chain blocks : List ℕ) → at_byte e ≡ 8192 * j → j ≡ length chain → 16 * j ≡ length blocks → fresh_index b e ≡ index_for j (chain ++ i ∷ []) (blocks ++ b ∷ [])
+next_index : (j b i : ℕ) (e : Files) (chain blocks : List ℕ) → at_byte e ≡ 8192 * j → j ≡ length chain → 16 * j ≡ length blocks
+    → fresh_index b e ≡ index_for j (chain ++ i ∷ []) (blocks ++ b ∷ [])
 next_index j b i e chain blocks at long size =
     let l = length-append chain (i ∷ []) in
     ap (λ o. let x : Index = record { next = null; offset = o; blocks = slice_set (replicate 16 null) 0 b } in x) at
-    ∙ ap (λ k. let x : Index = record { next = k; offset = 8192 * j; blocks = slice_set (replicate 16 null) 0 b } in x) (sym (none_at (chain ++ i ∷ []) (suc j) null (omega (arith, l, long))))
-    ∙ ap (λ ns. let x : Index = record { next = slice_index_or (chain ++ i ∷ []) (suc j) null; offset = 8192 * j; blocks = take 16 (ns ++ replicate 16 null) } in x) (sym (drop_at blocks (b ∷ []) (16 * j) (sym size)))
+    ∙ ap (λ k. let x : Index = record { next = k; offset = 8192 * j; blocks = slice_set (replicate 16 null) 0 b } in
+    x) (sym (none_at (chain ++ i ∷ []) (suc j) null (omega (arith, l, long))))
+    ∙ ap (λ ns. let x : Index = record { next = slice_index_or (chain ++ i ∷ []) (suc j) null; offset = 8192 * j;
+    blocks = take 16 (ns ++ replicate 16 null) } in x) (sym (drop_at blocks (b ∷ []) (16 * j) (sym size)))
 
 -- the index block before it names it
-named_index : (j b i : ℕ) (chain blocks : List ℕ) → suc j ≡ length chain → 16 * suc j ≡ length blocks → linked_index i (index_for j chain blocks) ≡ index_for j (chain ++ i ∷ []) (blocks ++ b ∷ [])
+named_index : (j b i : ℕ) (chain blocks : List ℕ) → suc j ≡ length chain → 16 * suc j ≡ length blocks
+    → linked_index i (index_for j chain blocks) ≡ index_for j (chain ++ i ∷ []) (blocks ++ b ∷ [])
 named_index j b i chain blocks long size =
     let l = length-append chain (i ∷ []) in
-    let named : slice_index_or (chain ++ i ∷ []) (suc j) null ≡ i = some_at (chain ++ i ∷ []) (suc j) null (omega (arith, l, long)) ∙ append_last chain i (suc j) long in
-    ap (λ k. let x : Index = record { next = k; offset = 8192 * j; blocks = take 16 (drop (16 * j) blocks ++ replicate 16 null) } in x) (sym named) ∙ sym (index_for-more j (chain ++ i ∷ []) blocks (b ∷ []) (omega (arith, size)))
+    let named : slice_index_or (chain ++ i ∷ []) (suc j) null ≡ i = some_at (chain ++ i ∷ []) (suc j) null (omega (arith, l, long))
+    ∙ append_last chain i (suc j) long in
+    ap (λ k. let x : Index = record { next = k; offset = 8192 * j; blocks = take 16 (drop (16 * j) blocks ++ replicate 16 null) } in
+    x) (sym named) ∙ sym (index_for-more j (chain ++ i ∷ []) blocks (b ∷ []) (omega (arith, size)))
 
 -- The index block is written: it is the file's first, or the last one is to name it.
-pub new_written_goes : (e e' : Files) (b i : ℕ) (base disk : List ℕ) → e.phase ≡ NewWrite b i → e' ≡ new_written b i e → Stands e base disk → GoesTo e'.phase e.call (call_bytes e) e e' base (block_put disk (6 + i / 7) e.block)
+pub new_written_goes : (e e' : Files) (b i : ℕ) (base disk : List ℕ) → e.phase ≡ NewWrite b i → e' ≡ new_written b i e → Stands e base disk
+    → GoesTo e'.phase e.call (call_bytes e) e e' base (block_put disk (6 + i / 7) e.block)
 new_written_goes e e' b i base disk phase new s = subst P (sym new) (either-way (at_byte e == 0)
     (λ v. (at_byte e == 0) ≡ v → P (if v then next_put (put_done x) else e2))
     (λ _ t. (let zero_at : at_byte e ≡ 0 = grind (arith, nat_tests) in first zero_at))
-    (λ _ t. (let some : 0 < at_byte e = grind (arith, nat_tests) in (record { clean = s.clean; blocks = s.blocks; whole = whole; six = s.six; buffer = s.buffer; outgoing = s.outgoing; device = s.device; apart = s.apart;
-      hand = record { some = some; written = written; new = record { places = n.places; left = n.left; held_index = n.held_index; held_data = n.held_data; ends = n.ends; reached = n.reached; whole = n.whole; filled = filled;
+    (λ _ t. (let some : 0 < at_byte e = grind (arith, nat_tests) in
+    (record { clean = s.clean; blocks = s.blocks; whole = whole; six = s.six; buffer = s.buffer; outgoing = s.outgoing; device = s.device;
+    apart = s.apart;
+      hand = record { some = some; written = written; new = record { places = n.places; left = n.left; held_index = n.held_index;
+      held_data = n.held_data; ends = n.ends; reached = n.reached; whole = n.whole; filled = filled;
         cursor = record { below = n.cursor.below; at = n.cursor.at; index = n.cursor.index };
-        putting = record { call = u.call; file = u.file; open_is = u.open_is; writes = u.writes; slot = u.slot; position = u.position; most = u.most; few = u.few; some = u.some; files = u.files; middle = middle } } } }, refl, refl, refl)))
+        putting = record { call = u.call; file = u.file; open_is = u.open_is; writes = u.writes; slot = u.slot; position = u.position;
+        most = u.most; few = u.few; some = u.some; files = u.files; middle = middle } } } }, refl, refl, refl)))
     refl)
   where
     made : List ℕ
@@ -220,24 +195,30 @@ new_written_goes e e' b i base disk phase new s = subst P (sym new) (either-way 
     whole = put_whole e base disk (6 + i / 7) s on
 
     middle : IsMiddle e.blocks base (block_put disk (6 + i / 7) e.block) e.header e.slot e.entry n.places bytes
-    middle = middle_index_held e.blocks base disk e.header e.slot e.entry n.places bytes i (fresh_index b e) e.block u.middle (times_first i n.places.held_index [] n.held_index) h.put
+    middle = middle_index_held e.blocks base disk e.header e.slot e.entry n.places bytes i (fresh_index b e) e.block u.middle
+        (times_first i n.places.held_index [] n.held_index) h.put
 
     written : index_at (i % 7) (block_in (block_put disk (6 + i / 7) e.block) (6 + i / 7)) ≡ fresh_index b e
     written = ap (index_at (i % 7)) (put_same disk (6 + i / 7) e.blocks e.block u.middle.long on s.outgoing) ∙ h.put.here
 
     filled : take (piece e) (block_in (block_put disk (6 + i / 7) e.block) b) ≡ piece_bytes e
     filled = let r = (new_range e b i base disk n).0 in let lt = below in
-        ap (take (piece e)) (put_other disk (6 + i / 7) e.blocks e.block b u.middle.long on s.outgoing (λ z. absurd (omega (arith, z, r, lt)))) ∙ n.filled
+        ap (take (piece e)) (put_other disk (6 + i / 7) e.blocks e.block b u.middle.long on s.outgoing (λ z.
+        absurd (omega (arith, z, r, lt)))) ∙ n.filled
 
     first : at_byte e ≡ 0 → P (next_put (put_done x))
     first z =
         let st = standing e base disk s in
         let g = growing e base disk n.places st u n.left n.ends in
         let f = piece_is e base disk n.places st u n.left in
-        let long = f.long in let fits = f.fits in let psome = f.some in let grown = g.grown in let at = g.at in let cl = g.read.chain_long in
-        let p2 : Places = record n.places { chains = slice_set n.places.chains e.slot (i ∷ []); datas = slice_set n.places.datas e.slot (b ∷ []); held_index = []; held_data = [] } in
+        let long = f.long in let fits = f.fits in let psome = f.some in let grown = g.grown in let at = g.at in
+        let cl = g.read.chain_long in
+        let p2 : Places = record n.places { chains = slice_set n.places.chains e.slot (i ∷ []);
+        datas = slice_set n.places.datas e.slot (b ∷ []); held_index = []; held_data = [] } in
         let none : e.entry.size ≡ 0 = omega (arith, at, z) in
-        let m2 = middle_started e.blocks base made e.header e.slot e.entry (put_done x).entry n.places bytes (piece_bytes e) i b [] [] middle n.held_index n.held_data none (ap (λ k. take k (block_in made b)) long ∙ filled) (omega (arith, long, psome)) (omega (arith, long, fits))
+        let m2 = middle_started e.blocks base made e.header e.slot e.entry (put_done x).entry n.places bytes
+        (piece_bytes e) i b [] [] middle n.held_index n.held_data none (ap (λ k. take k (block_in made b)) long
+        ∙ filled) (omega (arith, long, psome)) (omega (arith, long, fits))
             (written ∙ first_index b e i z) refl refl (omega (arith, grown, long, none)) in
         let C : List ℕ → Type 0 = λ y. IsMiddle e.blocks base made e.header e.slot (put_done x).entry p2 y in
         let lists = slot_lists e.blocks base disk e.header e.slot e.entry n.places bytes u.middle in
@@ -246,12 +227,18 @@ new_written_goes e e' b i base disk phase new s = subst P (sym new) (either-way 
         let few = n.cursor.below in
         let reached : x.reached ≡ 1 = omega (arith, few, cl, none) in
         let c2 = ap length chain2 in
-        let cursor : IsAt (put_done x) p2 = record { below = omega (arith, reached, c2); at = λ _. ap (λ k. slice_index (i ∷ []) (k - 1)) (sym reached) ∙ ap (λ c. slice_index c (x.reached - 1)) (sym chain2);
-          index = λ _. first_index b e i z ∙ ap (λ k. index_for (k - 1) (i ∷ []) (b ∷ [])) (sym reached) ∙ ap (λ c. index_for (x.reached - 1) c (b ∷ [])) (sym chain2) ∙ ap (index_for (x.reached - 1) (numbers_at p2.chains e.slot)) (sym datas2) } in
-        grown_goes e (record e.entry { first = i }) (fresh_index b e) i x.reached base disk made n.places p2 st whole u n.left refl (subst C g.more m2) refl refl cursor (omega (arith, reached, z))
+        let cursor : IsAt (put_done x) p2 = record { below = omega (arith, reached, c2);
+        at = λ _. ap (λ k. slice_index (i ∷ []) (k - 1)) (sym reached) ∙ ap (λ c. slice_index c (x.reached - 1)) (sym chain2);
+          index = λ _. first_index b e i z ∙ ap (λ k. index_for (k - 1) (i ∷ []) (b ∷ [])) (sym reached)
+          ∙ ap (λ c. index_for (x.reached - 1) c (b ∷ [])) (sym chain2)
+          ∙ ap (index_for (x.reached - 1) (numbers_at p2.chains e.slot)) (sym datas2) } in
+        grown_goes e (record e.entry { first = i }) (fresh_index b e) i x.reached base disk made n.places p2 st whole u n.left refl
+        (subst C g.more m2) refl refl cursor (omega (arith, reached, z))
 
 -- The last index block was read: it is to name the new one.
-pub link_read_goes : (e e' : Files) (b i : ℕ) (base disk read : List ℕ) → e.phase ≡ LinkRead b i → e' ≡ link_read b i e'.block e → IsIndexPut read (e.at % 7) (linked_index i (index_at (e.at % 7) read)) e'.block → Stands e base disk → read ≡ block_in disk (6 + e.at / 7)
+pub link_read_goes : (e e' : Files) (b i : ℕ) (base disk read : List ℕ) → e.phase ≡ LinkRead b i → e' ≡ link_read b i e'.block e
+    → IsIndexPut read (e.at % 7) (linked_index i (index_at (e.at % 7) read)) e'.block → Stands e base disk
+    → read ≡ block_in disk (6 + e.at / 7)
     → GoesTo e'.phase e.call (call_bytes e) e e' base disk
 link_read_goes e e' b i base disk read phase new put s honest =
     let H : Phase → Type 0 = λ p. InHand p e base disk in
@@ -259,13 +246,17 @@ link_read_goes e e' b i base disk read phase new put s honest =
     let n = h.new in let u = n.putting in
     let R : List ℕ → Type 0 = λ x. IsIndexPut x (e.at % 7) (linked_index i (index_at (e.at % 7) x)) e'.block in
     let P : Files → Type 0 = λ x. GoesTo x.phase e.call (call_bytes e) e x base disk in
-    subst P (sym new) (record { clean = s.clean; blocks = s.blocks; whole = s.whole; six = s.six; buffer = s.buffer; outgoing = put.long; device = s.device; apart = s.apart;
-      hand = record { put = subst R honest put; link = record { some = h.some; written = h.written; new = record { places = n.places; left = n.left; held_index = n.held_index; held_data = n.held_data; ends = n.ends; reached = n.reached; whole = n.whole; filled = n.filled;
+    subst P (sym new) (record { clean = s.clean; blocks = s.blocks; whole = s.whole; six = s.six; buffer = s.buffer; outgoing = put.long;
+        device = s.device; apart = s.apart;
+      hand = record { put = subst R honest put; link = record { some = h.some; written = h.written;
+      new = record { places = n.places; left = n.left; held_index = n.held_index; held_data = n.held_data; ends = n.ends;
+      reached = n.reached; whole = n.whole; filled = n.filled;
         cursor = record { below = n.cursor.below; at = n.cursor.at; index = n.cursor.index };
         putting = put_kept e (LinkWrite b i) e.index e.at e.reached e'.block base disk n.places u } } } }, refl, refl, refl)
 
 -- It is written.
-pub link_written_goes : (e e' : Files) (b i : ℕ) (base disk : List ℕ) → e.phase ≡ LinkWrite b i → e' ≡ next_put (put_done (followed b i e)) → Stands e base disk → GoesTo e'.phase e.call (call_bytes e) e e' base (block_put disk (6 + e.at / 7) e.block)
+pub link_written_goes : (e e' : Files) (b i : ℕ) (base disk : List ℕ) → e.phase ≡ LinkWrite b i → e' ≡ next_put (put_done (followed b i e))
+    → Stands e base disk → GoesTo e'.phase e.call (call_bytes e) e e' base (block_put disk (6 + e.at / 7) e.block)
 link_written_goes e e' b i base disk phase new s =
     let H : Phase → Type 0 = λ p. InHand p e base disk in
     let h : IsLinkWrite e b i base disk = subst H phase s.hand in
@@ -285,16 +276,22 @@ link_written_goes e e' b i base disk phase new s =
     let datas_full : 16 * suc j ≡ length blocks = omega (arith, bl, at, full) in
     let at_is : e.at ≡ slice_index chain j = n.cursor.at (omega (arith, reached)) in
     let ir = g.read.index j (omega (arith, last)) in
-    let index_is : index_at (e.at % 7) (block_in disk (6 + e.at / 7)) ≡ index_for j chain blocks = ap (λ k. index_at (k % 7) (block_in disk (6 + k / 7))) at_is ∙ ir.read in
+    let index_is : index_at (e.at % 7) (block_in disk (6 + e.at / 7)) ≡ index_for j chain blocks =
+    ap (λ k. index_at (k % 7) (block_in disk (6 + k / 7))) at_is ∙ ir.read in
     let linked = ap (linked_index i) index_is ∙ named_index j b i chain blocks last datas_full in
     let R : ℕ → Index → Type 0 = λ a x. IsIndexPut (block_in disk (6 + a / 7)) (a % 7) x e.block in
-    let A : ℕ → Type 0 = λ a. R a (linked_index i (index_at (e.at % 7) (block_in disk (6 + e.at / 7)))) in let B : Index → Type 0 = λ x. R (slice_index chain j) x in
+    let A : ℕ → Type 0 = λ a. R a (linked_index i (index_at (e.at % 7) (block_in disk (6 + e.at / 7)))) in let B : Index
+    → Type 0 = λ x. R (slice_index chain j) x in
     let long = f.long in let fits = f.fits in let psome = f.some in let grown = g.grown in
-    let p2 : Places = record p { chains = slice_set p.chains e.slot (chain ++ i ∷ []); datas = slice_set p.datas e.slot (blocks ++ b ∷ []); held_index = []; held_data = [] } in
+    let p2 : Places = record p { chains = slice_set p.chains e.slot (chain ++ i ∷ []); datas = slice_set p.datas e.slot (blocks ++ b ∷ []);
+    held_index = []; held_data = [] } in
     let fresh = next_index (suc j) b i e chain blocks full last datas_full in
-    let middle = middle_continued e.blocks base disk e.header e.slot e.entry (put_done e).entry p bytes (piece_bytes e) j i b [] [] e.block u.middle n.held_index n.held_data (omega (arith, at, full, last)) (ap (λ x. take x (block_in disk b)) long ∙ n.filled) (omega (arith, long, psome)) (omega (arith, long, fits))
+    let middle = middle_continued e.blocks base disk e.header e.slot e.entry (put_done e).entry p bytes
+    (piece_bytes e) j i b [] [] e.block u.middle n.held_index n.held_data (omega (arith, at, full, last)) (ap (λ x.
+    take x (block_in disk b)) long ∙ n.filled) (omega (arith, long, psome)) (omega (arith, long, fits))
     last (h.link.written ∙ fresh) refl refl (omega (arith, grown, long)) (subst B linked (subst A at_is h.put)) in
-    let D : ℕ → Type 0 = λ a. IsMiddle e.blocks base (block_put disk (6 + a / 7) e.block) e.header e.slot (put_done e).entry p2 (bytes ++ piece_bytes e) in
+    let D : ℕ → Type 0 = λ a. IsMiddle e.blocks base (block_put disk (6 + a / 7) e.block) e.header e.slot (put_done e).entry p2
+    (bytes ++ piece_bytes e) in
     let C : List ℕ → Type 0 = λ x. IsMiddle e.blocks base made e.header e.slot (put_done e).entry p2 x in
     let middle2 = subst C g.more (subst D (sym at_is) middle) in
     let x : Files = followed b i e in
@@ -308,7 +305,11 @@ link_written_goes e e' b i base disk phase new s =
     let next : x.reached ≡ suc (suc j) = omega (arith, reached, t_is, size, at, small, within, a, m, few, some) in
     let c2 = ap length chain2 in let l2 = length-append chain (i ∷ []) in
     let cursor : IsAt (put_done x) p2 = record { below = omega (arith, next, c2, l2, last);
-      at = λ _. sym (append_last chain i (x.reached - 1) (omega (arith, next, last))) ∙ ap (λ c. slice_index c (x.reached - 1)) (sym chain2);
-      index = λ _. fresh ∙ ap (λ k. index_for k (chain ++ i ∷ []) (blocks ++ b ∷ [])) (let z : suc j ≡ x.reached - 1 = omega (arith, next) in z) ∙ ap (λ c. index_for (x.reached - 1) c (blocks ++ b ∷ [])) (sym chain2) ∙ ap (index_for (x.reached - 1) (numbers_at p2.chains e.slot)) (sym datas2) } in
+      at = λ _. sym (append_last chain i (x.reached - 1) (omega (arith, next, last)))
+      ∙ ap (λ c. slice_index c (x.reached - 1)) (sym chain2);
+      index = λ _. fresh ∙ ap (λ k. index_for k (chain ++ i ∷ []) (blocks ++ b ∷ [])) (let z : suc j ≡ x.reached - 1 =
+      omega (arith, next) in z) ∙ ap (λ c. index_for (x.reached - 1) c (blocks ++ b ∷ [])) (sym chain2)
+      ∙ ap (index_for (x.reached - 1) (numbers_at p2.chains e.slot)) (sym datas2) } in
     let P : Files → Type 0 = λ y. GoesTo y.phase e.call (call_bytes e) e y base made in
-    subst P (sym new) (grown_goes e e.entry (fresh_index b e) i x.reached base disk made p p2 st (put_whole e base disk (6 + e.at / 7) s on) u n.left refl middle2 refl refl cursor (omega (arith, next, full)))
+    subst P (sym new) (grown_goes e e.entry (fresh_index b e) i x.reached base disk made p p2 st
+    (put_whole e base disk (6 + e.at / 7) s on) u n.left refl middle2 refl refl cursor (omega (arith, next, full)))

@@ -1,105 +1,50 @@
 -- The steps of a call that puts bytes: which block it goes on to.
-use Rattle.std.proofs.Common.{◌≡◌, ◌≢◌, ℕ, zero, suc, ◌+◌, ◌*◌, ◌/◌, ◌<◌, ◌≤◌, Bool, true, false, cond, ◌||◌, nat_le, List, [], ◌∷◌, length, map, refl, sym, ap, ◌∙◌, subst, arith, slice_index_or, slice_set, Option, Some, None, ℤ, pos, negsuc, if◌then◌else◌, bytes_eq, not, nat_eq, slice_index, ◌&&◌, ◌%◌, get_or-set_same, get_or-set_other, length-set, ⊎_elim, take, nat_lt, length-take, ◌++◌, count_by, ◌==◌, ◌^◌, inl, inr, ◌⊎◌}
-use Rattle.std.proofs.lemmas.Bool.{false≢true, cases_eq, cases_lt}
+use Rattle.std.proofs.Common.{◌≡◌, ◌≢◌, ℕ, suc, ◌+◌, ◌/◌, ◌<◌, ◌≤◌, Bool, true, false, ◌||◌, nat_le, List, length, refl, sym, ap, ◌∙◌, subst, arith, negsuc, if◌then◌else◌, nat_eq, slice_index, ◌&&◌, ◌%◌, ⊎_elim, take, nat_lt, ◌==◌, inl, inr}
+use Rattle.std.proofs.lemmas.Bool.{false≢true, cases_lt}
 use Rattle.std.proofs.lemmas.Bool.Decides.{nat_tests}
-use Rattle.std.proofs.lemmas.Slice.Eq.{bytes_eq-Decides}
-use Rattle.lfs_format.specs.declared.Entry.{Entry}
-use Rattle.lfs_check.specs.Rules.{entry_is_used, is_name, block_in}
-use Rattle.lfs_check.proofs.Images.{image_blocks}
-use Rattle.lfs_check.specs.Disks.{is_this, block_put, entry_at, entries, dir_with_entry, dir_with_header}
-use Rattle.lfs_check.proofs.BlockPuts.{length_put}
-use Rattle.lfs_layout.specs.Files.{bare_name}
-use Rattle.lfs_layout.specs.Images.{IsCleanImage}
-use Rattle.xinu_base.specs.declared.files.OpenMode.{OpenMode}
-use Rattle.xinu_model.specs.Files.Modes.{reads, writes}
-use Rattle.xinu_model.specs.Files.Stored.{StoredFile, file_named, with_contents, without_file}
-use Rattle.xinu_model.specs.Files.Systems.{FileSystem, FileEffect, is_open, free_device, refused_effect, replies}
-use Rattle.xinu_model.specs.Files.Opening.{open_stored, with_created, opening}
-use Rattle.file_laws.specs.StoredFiles.{stored_files, entry_bytes, entry_chain, entry_data}
-use Rattle.file_laws.proofs.Names.{name_padded, name_used, either-way, and-true}
-use Rattle.file_laws.proofs.Named.{IsName, named_none, length_entries, bytes_sized}
-use Rattle.file_laws.proofs.Counted.{files_counted, count_less, entry_small, count_most}
-use Rattle.local_files.specs.declared.OpenFile.{OpenFile}
+use Rattle.lfs_check.specs.Disks.{entry_at}
+use Rattle.file_laws.specs.StoredFiles.{entry_bytes}
+use Rattle.file_laws.proofs.Names.{either-way, and-true}
 use Rattle.local_files.specs.declared.Files.{Files}
-use Rattle.local_files.specs.declared.FileCall.{FileCall}
-use Rattle.local_files.specs.declared.FileCall.TheVariants.{Open, Delete, Close, Read, Write, Getc, Putc, Seek, Truncate, Size}
 use Rattle.local_files.specs.declared.Phase.{Phase}
-use Rattle.local_files.specs.declared.Phase.TheVariants.{EntryWrite, HeaderRead, HeaderWrite, EntryRead, Walk, Fetch, Done, Reach, PatchRead, TakeRead}
-use Rattle.local_files.specs.Hands.{system, IsEnding, IsMade, IsDevice, IsOpenOn, AreApart, IsCall, IsWritten, IsEmptied, IsDeleting, IsCreating, IsClosing, IsEntryBlock, IsHeaderBlock, files_after, MayLook, name_of, seen, put_bytes, IsReading, IsWalking, IsFetching, read_count, IsPutting, IsPut, put_files, IsReady, IsAt, IsReach, IsPatch, IsTake}
-use Rattle.local_files.specs.Steps.{device_at, answered, with_device, lowest_free, shown, kept_at, counted, at_byte, device_of, is_write, is_truncate, has_this_open, is_this_open, piece, or_none, named_device, moved_to}
-use Rattle.local_files.specs.Standing.{Stands, InHand, served, GoesTo, call_bytes, given_bytes}
-use Rattle.local_files.specs.Opens.{opened, ended}
-use Rattle.local_files.proofs.Devices.{device_some, set_stands, shown_set, answered_stands, is_open_same, not_open, shown_at, some_below, apart_set, or-false, open_size}
-use Rattle.xinu_model.specs.Files.Systems as systems
-use Rattle.xinu_model.specs.Files.Opening as model_opening
-use Rattle.local_files.specs.Standing as engine
-use Rattle.xinu_model.specs.Files.Calls as model
-use Rattle.local_files.specs.Opens.{opening as opening_file}
-use Rattle.lfs_format.specs.Directory.{dir_of, IsDirBlock, void_entry}
-use Rattle.local_files.proofs.Closings.{blocks_many, made_open, put_whole}
-use Rattle.file_laws.proofs.Effects.{write_effect, putc_effect, truncate_effect, delete_effect, read_effect, getc_effect, open_bytes_is, write_refused, putc_refused}
-use Rattle.xinu_model.specs.Files.Writing.{overwritten, fitting}
-use Rattle.std.proofs.Common.{◌-◌, ◌*◌, drop, replicate, length-drop, length-append, min}
-use Rattle.byteorder.specs.Endian.{little_bytes}
+use Rattle.local_files.specs.declared.Phase.TheVariants.{Reach, PatchRead, TakeRead}
+use Rattle.local_files.specs.Hands.{put_bytes}
+use Rattle.local_files.specs.Putting.{IsPutting, IsReady, IsAt}
+use Rattle.local_files.specs.Steps.{answered, at_byte}
+use Rattle.local_files.specs.Standing.{GoesTo, call_bytes}
+use Rattle.xinu_model.specs.Files.Writing.{overwritten}
+use Rattle.std.proofs.Common.{◌-◌, drop}
 use Rattle.lfs_format.specs.declared.Index.{Index}
-use Rattle.lfs_format.specs.Words.{word_of}
-use Rattle.lfs_format.specs.Indexes.{index_at, IsIndexPut}
-use Rattle.lfs_format.proofs.Words.{word_of-bytes, length-little}
 use Rattle.lfs_check.specs.Meets.{null}
-use Rattle.lfs_check.specs.declared.fields.Header.{Header}
-use Rattle.lfs_check.specs.declared.geometry.Geometry.{Geometry}
-use Rattle.lfs_check.specs.Geometries.{index_count, first_data, room}
 use Rattle.lfs_check.specs.Laid.{Places, numbers_at, index_for}
-use Rattle.lfs_check.specs.Clean.{places_of, chain_in, data_in}
-use Rattle.lfs_check.specs.Fields.{fields_of}
-use Rattle.lfs_check.specs.Disks.{disk_geometry, header_on}
-use Rattle.file_laws.specs.Middle.{IsMiddle}
-use Rattle.file_laws.specs.Changing.{IsCut, IsReadBy, IsIndexRead}
-use Rattle.file_laws.specs.Rewriting.{IsRewriting, IsCleared, IsFinished, IsRemoved, rewritten}
-use Rattle.file_laws.proofs.Middles.{middle_begins}
+use Rattle.file_laws.specs.Changing.{IsReadBy}
 use Rattle.file_laws.proofs.Reached.{middle_read, free_data_first, free_data_some, free_data_none, free_index_none}
-use Rattle.file_laws.proofs.Cutting.{cut_begins, cut_data, cut_index, cut_ends}
-use Rattle.file_laws.proofs.Finished.{middle_ends}
-use Rattle.file_laws.proofs.Removed.{middle_removed}
-use Rattle.file_laws.proofs.Counted.{base_counted}
-use Rattle.local_files.specs.Hands.{IsCutFor, IsCutting, IsCutRead, IsCutWrite, IsFreeWrite}
-use Rattle.local_files.specs.Cuts.{cutting, cut_at, end_cut, cut_read, cut_written, freed_index, free_next, freeing, free_written, word_block}
-use Rattle.local_files.specs.Steps.{is_delete}
-use Rattle.local_files.specs.declared.Phase.TheVariants.{CutRead, CutWrite, FreeWrite}
-use Rattle.local_files.proofs.Closings.{blocks_many, put_whole}
-use Rattle.std.proofs.lemmas.List.Sums.{sum_by-cons}
-use Rattle.file_laws.proofs.Rewritten.{rewritten_entry, entry_count}
-use Rattle.local_files.proofs.Freeing.{IsStanding, standing, end_cut_goes, number_at, null_at, some_at, none_at, goes_from}
-use Rattle.std.proofs.lemmas.List.{length-replicate, get_or-map, take_all, take_at, drop_at, drop-drop, drop_all}
+use Rattle.local_files.proofs.Freeing.{IsStanding, some_at}
 use Rattle.local_files.proofs.CutSteps.{index_on_disk}
-use Rattle.lfs_check.proofs.Directories.{geometry_is}
-use Rattle.local_files.specs.Takes.{walking, fetching, walked, with_taken, read_on, fetched, next_fetch, finished_read, finished_at, given_all, reading, reading_at}
-use Rattle.file_laws.proofs.ReadBlocks.{bytes_in_block}
-use Rattle.file_laws.proofs.Patched.{block_long, middle_sized}
-use Rattle.file_laws.proofs.Fitting.{length_overwritten, fitting_is}
-use Rattle.local_files.proofs.Ends.{apart_moved, counted_small}
-use Rattle.xinu_model.specs.Files.Reading.{read_file, getc_file, first_byte, taken, bytes_ahead}
-use Rattle.local_files.proofs.Taking.{open_of, block_of}
+use Rattle.local_files.proofs.Taking.{block_of}
 use Rattle.local_files.specs.Puts.{end_put, at_end, target, reaching, reach_to, in_place, patching, appending, taking, next_put}
-use Rattle.file_laws.specs.Fitting.{IsFull, IsDataFull, IsIndexFull}
-use Rattle.lfs_check.proofs.Counting.{length-most}
-use Rattle.lfs_check.proofs.Steps.{times_in-part}
-use Rattle.local_files.proofs.Putting.{put_open, put_entry_is, put_small, where_put, puts_long, put_size, end_put_goes}
+use Rattle.file_laws.specs.Fitting.{IsFull}
+use Rattle.local_files.proofs.Putting.{where_put, put_size, end_put_goes}
 
 -- what is put does not depend on what the call waits for
-abbrev pub put_kept : (e : Files) (ph : Phase) (ix : Index) (a r : ℕ) (b : List ℕ) (base disk : List ℕ) (p : Places) → IsPutting e base disk p
+abbrev pub put_kept : (e : Files) (ph : Phase) (ix : Index) (a r : ℕ) (b : List ℕ) (base disk : List ℕ) (p : Places)
+    → IsPutting e base disk p
     → IsPutting (record e { phase = ph; index = ix; at = a; reached = r; block = b }) base disk p
-put_kept e ph ix a r b base disk p u = record { call = u.call; file = u.file; open_is = u.open_is; writes = u.writes; slot = u.slot; position = u.position; most = u.most; few = u.few; some = u.some; files = u.files; middle = u.middle }
+put_kept e ph ix a r b base disk p u = record { call = u.call; file = u.file; open_is = u.open_is; writes = u.writes; slot = u.slot;
+    position = u.position; most = u.most; few = u.few; some = u.some; files = u.files; middle = u.middle }
 
 abbrev pub at_kept : (e : Files) (ph : Phase) (b : List ℕ) (p : Places) → IsAt e p → IsAt (record e { phase = ph; block = b }) p
 at_kept e ph b p c = record { below = c.below; at = c.at; index = c.index }
 
-abbrev pub ready_kept : (e : Files) (ph : Phase) (b base disk : List ℕ) → IsReady e base disk → IsReady (record e { phase = ph; block = b }) base disk
-ready_kept e ph b base disk r = record { places = r.places; putting = put_kept e ph e.index e.at e.reached b base disk r.places r.putting; no_index = r.no_index; no_data = r.no_data; fresh = r.fresh; cursor = at_kept e ph b r.places r.cursor; near = r.near }
+abbrev pub ready_kept : (e : Files) (ph : Phase) (b base disk : List ℕ) → IsReady e base disk
+    → IsReady (record e { phase = ph; block = b }) base disk
+ready_kept e ph b base disk r = record { places = r.places; putting = put_kept e ph e.index e.at e.reached b base disk r.places r.putting;
+    no_index = r.no_index; no_data = r.no_data; fresh = r.fresh; cursor = at_kept e ph b r.places r.cursor; near = r.near }
 
 -- the tests of the next bytes
 pub ends_is : (e : Files) → at_end e ≡ true → (at_byte e ≡ e.entry.size) × (at_byte e % 512 ≡ 0)
-ends_is e t = let two = and-true (nat_eq (at_byte e) e.entry.size) (at_byte e % 512 == 0) t in let a = two.0 in let b = two.1 in ((grind (arith, nat_tests)), (grind (arith, nat_tests)))
+ends_is e t = let two = and-true (nat_eq (at_byte e) e.entry.size) (at_byte e % 512 == 0) t in let a = two.0 in let b = two.1 in
+    ((grind (arith, nat_tests)), (grind (arith, nat_tests)))
 
 not_ends : (e : Files) → at_end e ≡ false → at_byte e ≡ e.entry.size → at_byte e % 512 ≢ 0
 not_ends e t same z =
@@ -107,20 +52,25 @@ not_ends e t same z =
     false≢true (sym t ∙ ap (λ v. v && (at_byte e % 512 == 0)) a ∙ ap (λ k. k == 0) z)
 
 -- the data block of bytes that go into the file
-pub inside_is : (e : Files) (base disk : List ℕ) (p : Places) → IsStanding e base disk → (u : IsPutting e base disk p) → at_end e ≡ false → at_byte e / 512 < length (numbers_at p.datas e.slot)
+pub inside_is : (e : Files) (base disk : List ℕ) (p : Places) → IsStanding e base disk → (u : IsPutting e base disk p) → at_end e ≡ false
+    → at_byte e / 512 < length (numbers_at p.datas e.slot)
 inside_is e base disk p s u t =
-    let r = (middle_read e.blocks base disk e.header e.slot e.entry p (overwritten e.position (take e.done (put_bytes e)) (entry_bytes base (entry_at base e.slot))) u.middle).blocks_long in
+    let r = (middle_read e.blocks base disk e.header e.slot e.entry p
+    (overwritten e.position (take e.done (put_bytes e)) (entry_bytes base (entry_at base e.slot))) u.middle).blocks_long in
     let q = where_put e base disk p s u in let z = put_size e base disk p s u in
     ⊎_elim
     (λ (lt : at_byte e < e.entry.size). omega (arith, lt, r))
-    (λ (ge : e.entry.size ≤ at_byte e). (let same : at_byte e ≡ e.entry.size = omega (arith, ge, q, z) in let n = not_ends e t same in omega (arith, same, n, r)))
+    (λ (ge : e.entry.size ≤ at_byte e). (let same : at_byte e ≡ e.entry.size = omega (arith, ge, q, z) in let n = not_ends e t same in
+    omega (arith, same, n, r)))
     (cases_lt (at_byte e) e.entry.size)
 
 pub target_in : (e : Files) → at_end e ≡ false → target e ≡ at_byte e / 8192
 target_in e t = ap (λ v. if v && nat_lt 0 (at_byte e) then (at_byte e - 1) / 8192 else at_byte e / 8192) t
 
 pub target_end : (e : Files) → at_end e ≡ true → 0 < at_byte e → target e ≡ (at_byte e - 1) / 8192
-target_end e t h = let a : nat_lt 0 (at_byte e) ≡ true = grind (arith, nat_tests) in ap (λ v. if v && nat_lt 0 (at_byte e) then (at_byte e - 1) / 8192 else at_byte e / 8192) t ∙ ap (λ v. if v then (at_byte e - 1) / 8192 else at_byte e / 8192) a
+target_end e t h = let a : nat_lt 0 (at_byte e) ≡ true = grind (arith, nat_tests) in
+    ap (λ v. if v && nat_lt 0 (at_byte e) then (at_byte e - 1) / 8192 else at_byte e / 8192) t
+    ∙ ap (λ v. if v then (at_byte e - 1) / 8192 else at_byte e / 8192) a
 
 module _ (e : Files) (base disk : List ℕ) (s : IsStanding e base disk) (r : IsReady e base disk) where
     abbrev pub G : Files → Type 0
@@ -142,22 +92,30 @@ module _ (e : Files) (base disk : List ℕ) (s : IsStanding e base disk) (r : Is
     low = u.middle.low
 
     -- goes on to an index block
-    reaching_goes : (rest at : ℕ) → e.done < e.total → rest ≤ target e → target e < length (numbers_at p.chains e.slot) → at ≡ slice_index (numbers_at p.chains e.slot) (target e - rest) → (0 < rest → e.reached ≡ 0) → G (reaching rest at e)
+    reaching_goes : (rest at : ℕ) → e.done < e.total → rest ≤ target e → target e < length (numbers_at p.chains e.slot)
+        → at ≡ slice_index (numbers_at p.chains e.slot) (target e - rest) → (0 < rest → e.reached ≡ 0) → G (reaching rest at e)
     reaching_goes rest at left few below here start =
         let b = (read.index (target e - rest) (omega (arith, below))).below in
         let on : nat_lt (6 + at / 7) e.blocks ≡ true = ap (λ k. nat_lt (6 + k / 7) e.blocks) here ∙ index_on_disk e.blocks _ low b in
         let e2 : Files = record e { phase = Reach rest at } in
         let P : Bool → Type 0 = λ v. G (if v then e2 else answered (negsuc 0) e) in
-        subst P (sym on) (record { clean = s.clean; blocks = s.blocks; whole = s.whole; six = s.six; buffer = s.buffer; outgoing = s.outgoing; device = s.device; apart = s.apart;
-          hand = record { ready = ready_kept e (Reach rest at) e.block base disk r; left = left; few = few; below = below; start = start; here = here } }, refl, refl, refl)
+        subst P (sym on) (record { clean = s.clean; blocks = s.blocks; whole = s.whole; six = s.six; buffer = s.buffer;
+        outgoing = s.outgoing; device = s.device; apart = s.apart;
+          hand = record { ready = ready_kept e (Reach rest at) e.block base disk r; left = left; few = few; below = below; start = start;
+          here = here } }, refl, refl, refl)
 
     reach_to_goes : e.done < e.total → target e < length (numbers_at p.chains e.slot) → e.reached ≢ target e + 1 → G (reach_to e)
     reach_to_goes left below other =
-        either-way (e.reached == 0) (λ v. (e.reached == 0) ≡ v → G (if v then reaching (target e) e.entry.first e else reaching 0 e.index.next e))
-        (λ _ t. (reaching_goes (target e) e.entry.first left (omega arith) below (read.first ∙ some_at (numbers_at p.chains e.slot) 0 null (omega (arith, below)) ∙ ap (slice_index (numbers_at p.chains e.slot)) (let z : 0 ≡ target e - target e = omega arith in z)) (λ _. zero_is e.reached t)))
+        either-way (e.reached == 0) (λ v. (e.reached == 0) ≡ v
+        → G (if v then reaching (target e) e.entry.first e else reaching 0 e.index.next e))
+        (λ _ t. (reaching_goes (target e) e.entry.first left (omega arith) below (read.first
+        ∙ some_at (numbers_at p.chains e.slot) 0 null (omega (arith, below))
+        ∙ ap (slice_index (numbers_at p.chains e.slot)) (let z : 0 ≡ target e - target e = omega arith in z)) (λ _. zero_is e.reached t)))
         (λ _ t. (let some : 0 < e.reached = above e.reached t in let near = r.near some in let a = near.0 in let b = near.1 in
           let same : suc (e.reached - 1) ≡ target e - 0 = omega (arith, some, a, b, other) in
-          reaching_goes 0 e.index.next left (omega arith) below (ap (λ (x : Index). x.next) (r.cursor.index some) ∙ some_at (numbers_at p.chains e.slot) (suc (e.reached - 1)) null (omega (arith, same, below)) ∙ ap (slice_index (numbers_at p.chains e.slot)) same) (λ h. absurd (omega (arith, h)))))
+          reaching_goes 0 e.index.next left (omega arith) below (ap (λ (x : Index). x.next) (r.cursor.index some)
+          ∙ some_at (numbers_at p.chains e.slot) (suc (e.reached - 1)) null (omega (arith, same, below))
+          ∙ ap (slice_index (numbers_at p.chains e.slot)) same) (λ h. absurd (omega (arith, h)))))
         refl
       where
         zero_is : (k : ℕ) → (k == 0) ≡ true → k ≡ 0
@@ -174,17 +132,23 @@ module _ (e : Files) (base disk : List ℕ) (s : IsStanding e base disk) (r : Is
         let t_is = target_in e inside in
         let bl = read.blocks_long in let cl = read.chain_long in
         let below : target e < length (numbers_at p.chains e.slot) = omega (arith, t_is, lt, bl, cl) in
-        either-way (e.reached == target e + 1) (λ v. (e.reached == target e + 1) ≡ v → G (if v then patching (slice_index e.index.blocks (q / 512 % 16)) e else reach_to e))
+        either-way (e.reached == target e + 1) (λ v. (e.reached == target e + 1) ≡ v
+        → G (if v then patching (slice_index e.index.blocks (q / 512 % 16)) e else reach_to e))
         (λ _ t. (let same : e.reached ≡ target e + 1 = grind (arith, nat_tests) in
-          let index : e.index ≡ index_for (q / 8192) (numbers_at p.chains e.slot) (numbers_at p.datas e.slot) = r.cursor.index (omega (arith, same)) ∙ ap (λ j. index_for j (numbers_at p.chains e.slot) (numbers_at p.datas e.slot)) (omega (arith, same, t_is)) in
-          let here : slice_index e.index.blocks (q / 512 % 16) ≡ slice_index (numbers_at p.datas e.slot) (q / 512) = block_of e base q (numbers_at p.chains e.slot) (numbers_at p.datas e.slot) index lt in
+          let index : e.index ≡ index_for (q / 8192) (numbers_at p.chains e.slot) (numbers_at p.datas e.slot) =
+          r.cursor.index (omega (arith, same))
+          ∙ ap (λ j. index_for j (numbers_at p.chains e.slot) (numbers_at p.datas e.slot)) (omega (arith, same, t_is)) in
+          let here : slice_index e.index.blocks (q / 512 % 16) ≡ slice_index (numbers_at p.datas e.slot) (q / 512) =
+          block_of e base q (numbers_at p.chains e.slot) (numbers_at p.datas e.slot) index lt in
           let high = (read.block (q / 512) lt).1 in
           let b = slice_index e.index.blocks (q / 512 % 16) in
           let on : nat_lt b e.blocks ≡ true = (let z : b < e.blocks = omega (arith, here, high) in grind (arith, nat_tests)) in
           let e2 : Files = record e { phase = PatchRead b } in
           let P : Bool → Type 0 = λ v. G (if v then e2 else answered (negsuc 0) e) in
-          subst P (sym on) (record { clean = s.clean; blocks = s.blocks; whole = s.whole; six = s.six; buffer = s.buffer; outgoing = s.outgoing; device = s.device; apart = s.apart;
-            hand = record { ready = ready_kept e (PatchRead b) e.block base disk r; left = left; reached = same; inside = inside; here = here } }, refl, refl, refl)))
+          subst P (sym on) (record { clean = s.clean; blocks = s.blocks; whole = s.whole; six = s.six; buffer = s.buffer;
+          outgoing = s.outgoing; device = s.device; apart = s.apart;
+            hand = record { ready = ready_kept e (PatchRead b) e.block base disk r; left = left; reached = same; inside = inside;
+            here = here } }, refl, refl, refl)))
         (λ _ t. reach_to_goes left below (λ z. false≢true (sym t ∙ same_test e.reached (target e + 1) z)))
         refl
       where
@@ -202,16 +166,20 @@ module _ (e : Files) (base disk : List ℕ) (s : IsStanding e base disk) (r : Is
         let whole : e.entry.size % 512 ≡ 0 = ap (λ k. k % 512) (sym at.0) ∙ at.1 in
         let next : Bool → Files = λ w. if w then taking e else reach_to e in
         let last : Bool → Files = λ v. if v then end_put e else next ((q == 0) || (e.reached == target e + 1)) in
-        let stop : IsFull p e.entry.size → G (end_put e) = λ full. end_put_goes e base disk p s u r.no_index r.no_data r.fresh (inr (size_end, full)) in
-        either-way (e.header.free_data == null) (λ a. (e.header.free_data == null) ≡ a → G (last (a || ((q % 8192 == 0) && (e.header.free_index == null)))))
+        let stop : IsFull p e.entry.size → G (end_put e) = λ full.
+        end_put_goes e base disk p s u r.no_index r.no_data r.fresh (inr (size_end, full)) in
+        either-way (e.header.free_data == null) (λ a. (e.header.free_data == null) ≡ a
+        → G (last (a || ((q % 8192 == 0) && (e.header.free_index == null)))))
         (λ _ t. (let z : e.header.free_data ≡ null = is_so e.header.free_data null t in
-          stop (inl (record { free = free_data_none e.blocks base disk e.header e.slot e.entry p bytes m z; held = r.no_data; whole = whole }))))
+          stop (inl (record { free = free_data_none e.blocks base disk e.header e.slot e.entry p bytes m z; held = r.no_data;
+          whole = whole }))))
         (λ _ t. (let some : e.header.free_data ≢ null = λ z. false≢true (sym t ∙ same_test e.header.free_data null z) in
           either-way (q % 8192 == 0) (λ b. (q % 8192 == 0) ≡ b → G (last (b && (e.header.free_index == null))))
           (λ _ t2. (let z2 : q % 8192 ≡ 0 = is_so (q % 8192) 0 t2 in
             either-way (e.header.free_index == null) (λ c. (e.header.free_index == null) ≡ c → G (last c))
             (λ _ t3. (let z3 : e.header.free_index ≡ null = is_so e.header.free_index null t3 in
-              stop (inr (record { free = free_index_none e.blocks base disk e.header e.slot e.entry p bytes m z3; held = r.no_index; whole = ap (λ k. k % 8192) (sym at.0) ∙ z2 }))))
+              stop (inr (record { free = free_index_none e.blocks base disk e.header e.slot e.entry p bytes m z3; held = r.no_index;
+              whole = ap (λ k. k % 8192) (sym at.0) ∙ z2 }))))
             (λ _ t3. goes_on some (λ _ z3. false≢true (sym t3 ∙ same_test e.header.free_index null z3)))
             refl))
           (λ _ t2. goes_on some (λ z2. absurd (false≢true (sym t2 ∙ same_test (q % 8192) 0 z2))))
@@ -224,20 +192,24 @@ module _ (e : Files) (base disk : List ℕ) (s : IsStanding e base disk) (r : Is
         same_test : (a b : ℕ) → a ≡ b → (a == b) ≡ true
         same_test a b z = grind (arith, nat_tests)
 
-        goes_on : e.header.free_data ≢ null → (at_byte e % 8192 ≡ 0 → e.header.free_index ≢ null) → G (if (at_byte e == 0) || (e.reached == target e + 1) then taking e else reach_to e)
+        goes_on : e.header.free_data ≢ null → (at_byte e % 8192 ≡ 0 → e.header.free_index ≢ null)
+            → G (if (at_byte e == 0) || (e.reached == target e + 1) then taking e else reach_to e)
         goes_on some index =
             let q = at_byte e in
             let at = ends_is e ends in
             let cl = read.chain_long in
             let take_it : (0 < q → e.reached ≡ target e + 1) → G (taking e) = λ reached. (
                 let m = u.middle in
-                let f = free_data_first e.blocks base disk e.header e.slot e.entry p bytes e.header.free_data (drop 1 p.free_data) m (free_data_some e.blocks base disk e.header e.slot e.entry p bytes m some) in
+                let f = free_data_first e.blocks base disk e.header e.slot e.entry p bytes e.header.free_data (drop 1 p.free_data) m
+                (free_data_some e.blocks base disk e.header e.slot e.entry p bytes m some) in
                 let high = f.high in
                 let on : nat_lt e.header.free_data e.blocks ≡ true = grind (arith, nat_tests) in
                 let e2 : Files = record e { phase = TakeRead e.header.free_data } in
                 let P : Bool → Type 0 = λ v. G (if v then e2 else answered (negsuc 0) e) in
-                subst P (sym on) (record { clean = s.clean; blocks = s.blocks; whole = s.whole; six = s.six; buffer = s.buffer; outgoing = s.outgoing; device = s.device; apart = s.apart;
-                  hand = record { ready = ready_kept e (TakeRead e.header.free_data) e.block base disk r; left = left; ends = ends; reached = reached; head = refl; some = some; index = index } }, refl, refl, refl)) in
+                subst P (sym on) (record { clean = s.clean; blocks = s.blocks; whole = s.whole; six = s.six; buffer = s.buffer;
+                outgoing = s.outgoing; device = s.device; apart = s.apart;
+                  hand = record { ready = ready_kept e (TakeRead e.header.free_data) e.block base disk r; left = left; ends = ends;
+                  reached = reached; head = refl; some = some; index = index } }, refl, refl, refl)) in
             either-way (q == 0) (λ a. (q == 0) ≡ a → G (if a || (e.reached == target e + 1) then taking e else reach_to e))
             (λ _ t. (let z : q ≡ 0 = is_so q 0 t in take_it (λ h. absurd (omega (arith, h, z)))))
             (λ _ t. (let h : 0 < q = above q t in
@@ -254,8 +226,11 @@ module _ (e : Files) (base disk : List ℕ) (s : IsStanding e base disk) (r : Is
     -- The call goes on with the bytes that are left.
     pub next_put_goes : G (next_put e)
     next_put_goes =
-        either-way (nat_le e.total e.done) (λ v. nat_le e.total e.done ≡ v → G (if v then end_put e else (if at_end e then appending e else in_place e)))
-        (λ _ t. (let ge : e.total ≤ e.done = grind (arith, nat_tests) in let few = u.few in end_put_goes e base disk p s u r.no_index r.no_data r.fresh (inl (omega (arith, ge, few)))))
+        either-way (nat_le e.total e.done) (λ v. nat_le e.total e.done ≡ v
+        → G (if v then end_put e else (if at_end e then appending e else in_place e)))
+        (λ _ t. (let ge : e.total ≤ e.done = grind (arith, nat_tests) in let few = u.few in
+        end_put_goes e base disk p s u r.no_index r.no_data r.fresh (inl (omega (arith, ge, few)))))
         (λ _ t. (let left : e.done < e.total = grind (arith, nat_tests) in
-          either-way (at_end e) (λ v. at_end e ≡ v → G (if v then appending e else in_place e)) (λ _ a. appending_goes left a) (λ _ a. in_place_goes left a) refl))
+          either-way (at_end e) (λ v. at_end e ≡ v → G (if v then appending e else in_place e)) (λ _ a. appending_goes left a) (λ _ a.
+          in_place_goes left a) refl))
         refl

@@ -1,87 +1,42 @@
 -- A call puts its bytes: where it is in its file, and how it ends.
-use Rattle.std.proofs.Common.{◌≡◌, ◌≢◌, ℕ, zero, suc, ◌+◌, ◌*◌, ◌/◌, ◌<◌, ◌≤◌, Bool, true, false, cond, ◌||◌, nat_le, List, [], ◌∷◌, length, map, refl, sym, ap, ◌∙◌, subst, arith, slice_index_or, slice_set, Option, Some, None, ℤ, pos, negsuc, if◌then◌else◌, bytes_eq, not, nat_eq, slice_index, ◌&&◌, ◌%◌, get_or-set_same, get_or-set_other, length-set, ⊎_elim, take, nat_lt, length-take, ◌++◌, count_by, ◌==◌, ◌^◌, inl, inr, ◌⊎◌}
-use Rattle.std.proofs.lemmas.Bool.{false≢true, cases_eq, cases_lt}
+use Rattle.std.proofs.Common.{◌≡◌, ℕ, ◌+◌, ◌/◌, ◌<◌, ◌≤◌, false, List, [], length, refl, sym, ap, ◌∙◌, subst, arith, Some, negsuc, if◌then◌else◌, ⊎_elim, take, length-take, ◌==◌, inl, inr, ◌⊎◌}
 use Rattle.std.proofs.lemmas.Bool.Decides.{nat_tests}
-use Rattle.std.proofs.lemmas.Slice.Eq.{bytes_eq-Decides}
 use Rattle.lfs_format.specs.declared.Entry.{Entry}
-use Rattle.lfs_check.specs.Rules.{entry_is_used, is_name, block_in}
-use Rattle.lfs_check.proofs.Images.{image_blocks}
-use Rattle.lfs_check.specs.Disks.{is_this, block_put, entry_at, entries, dir_with_entry, dir_with_header}
-use Rattle.lfs_check.proofs.BlockPuts.{length_put}
+use Rattle.lfs_check.specs.Rules.{entry_is_used}
+use Rattle.lfs_check.specs.Disks.{block_put, entry_at}
 use Rattle.lfs_layout.specs.Files.{bare_name}
-use Rattle.lfs_layout.specs.Images.{IsCleanImage}
-use Rattle.xinu_base.specs.declared.files.OpenMode.{OpenMode}
-use Rattle.xinu_model.specs.Files.Modes.{reads, writes}
-use Rattle.xinu_model.specs.Files.Stored.{StoredFile, file_named, with_contents, without_file}
 use Rattle.xinu_model.specs.Files.Systems.{FileSystem, FileEffect, is_open, free_device, refused_effect, replies}
-use Rattle.xinu_model.specs.Files.Opening.{open_stored, with_created, opening}
-use Rattle.file_laws.specs.StoredFiles.{stored_files, entry_bytes, entry_chain, entry_data}
-use Rattle.file_laws.proofs.Names.{name_padded, name_used, either-way}
-use Rattle.file_laws.proofs.Named.{IsName, named_none, length_entries, bytes_sized}
-use Rattle.file_laws.proofs.Counted.{files_counted, count_less, entry_small, count_most}
-use Rattle.local_files.specs.declared.OpenFile.{OpenFile}
+use Rattle.file_laws.specs.StoredFiles.{entry_bytes}
+use Rattle.file_laws.proofs.Names.{either-way}
+use Rattle.file_laws.proofs.Named.{bytes_sized}
+use Rattle.file_laws.proofs.Counted.{entry_small}
 use Rattle.local_files.specs.declared.Files.{Files}
 use Rattle.local_files.specs.declared.FileCall.{FileCall}
 use Rattle.local_files.specs.declared.FileCall.TheVariants.{Open, Delete, Close, Read, Write, Getc, Putc, Seek, Truncate, Size}
-use Rattle.local_files.specs.declared.Phase.{Phase}
-use Rattle.local_files.specs.declared.Phase.TheVariants.{EntryWrite, HeaderRead, HeaderWrite, EntryRead, Walk, Fetch, Done}
-use Rattle.local_files.specs.Hands.{system, IsEnding, IsMade, IsDevice, IsOpenOn, AreApart, IsCall, IsWritten, IsEmptied, IsDeleting, IsCreating, IsClosing, IsEntryBlock, IsHeaderBlock, files_after, MayLook, name_of, seen, put_bytes, IsReading, IsWalking, IsFetching, read_count, IsPutting, IsPut, put_files}
-use Rattle.local_files.specs.Steps.{device_at, answered, with_device, lowest_free, shown, kept_at, counted, at_byte, device_of, is_write, is_truncate, has_this_open, is_this_open, piece, or_none, named_device, moved_to}
-use Rattle.local_files.specs.Standing.{Stands, InHand, served, GoesTo, call_bytes, given_bytes}
-use Rattle.local_files.specs.Opens.{opened, ended}
-use Rattle.local_files.proofs.Devices.{device_some, set_stands, shown_set, answered_stands, is_open_same, not_open, shown_at, some_below, apart_set, or-false, open_size}
+use Rattle.local_files.specs.declared.Phase.TheVariants.{EntryRead, Done}
+use Rattle.local_files.specs.Hands.{system, IsEnding, IsMade, IsOpenOn, IsWritten, IsEntryBlock, IsHeaderBlock, files_after, seen, put_bytes, put_files}
+use Rattle.local_files.specs.Putting.{IsPutting, IsPut}
+use Rattle.local_files.specs.Steps.{device_at, answered, shown, at_byte, device_of, or_none, named_device}
+use Rattle.local_files.specs.Standing.{Stands, GoesTo, call_bytes, given_bytes}
+use Rattle.local_files.proofs.Devices.{shown_at}
 use Rattle.xinu_model.specs.Files.Systems as systems
-use Rattle.xinu_model.specs.Files.Opening as model_opening
-use Rattle.local_files.specs.Standing as engine
-use Rattle.xinu_model.specs.Files.Calls as model
-use Rattle.local_files.specs.Opens.{opening as opening_file}
-use Rattle.lfs_format.specs.Directory.{dir_of, IsDirBlock, void_entry}
-use Rattle.local_files.proofs.Closings.{blocks_many, made_open, put_whole}
-use Rattle.file_laws.proofs.Effects.{write_effect, putc_effect, truncate_effect, delete_effect, read_effect, getc_effect, open_bytes_is, write_refused, putc_refused}
+use Rattle.file_laws.proofs.Effects.{open_bytes_is, write_refused, putc_refused}
 use Rattle.xinu_model.specs.Files.Writing.{overwritten, fitting}
-use Rattle.std.proofs.Common.{◌-◌, ◌*◌, drop, replicate, length-drop, length-append, min}
-use Rattle.byteorder.specs.Endian.{little_bytes}
-use Rattle.lfs_format.specs.declared.Index.{Index}
-use Rattle.lfs_format.specs.Words.{word_of}
-use Rattle.lfs_format.specs.Indexes.{index_at, IsIndexPut}
-use Rattle.lfs_format.proofs.Words.{word_of-bytes, length-little}
-use Rattle.lfs_check.specs.Meets.{null}
+use Rattle.std.proofs.Common.{◌-◌}
 use Rattle.lfs_check.specs.declared.fields.Header.{Header}
-use Rattle.lfs_check.specs.declared.geometry.Geometry.{Geometry}
-use Rattle.lfs_check.specs.Geometries.{index_count, first_data, room}
-use Rattle.lfs_check.specs.Laid.{Places, numbers_at, index_for}
-use Rattle.lfs_check.specs.Clean.{places_of, chain_in, data_in}
-use Rattle.lfs_check.specs.Fields.{fields_of}
-use Rattle.lfs_check.specs.Disks.{disk_geometry, header_on}
+use Rattle.lfs_check.specs.Geometries.{first_data, room}
+use Rattle.lfs_check.specs.Laid.{Places, numbers_at}
+use Rattle.lfs_check.specs.Disks.{disk_geometry}
 use Rattle.file_laws.specs.Middle.{IsMiddle}
-use Rattle.file_laws.specs.Changing.{IsCut, IsReadBy, IsIndexRead}
-use Rattle.file_laws.specs.Rewriting.{IsRewriting, IsCleared, IsFinished, IsRemoved, rewritten}
-use Rattle.file_laws.proofs.Middles.{middle_begins}
-use Rattle.file_laws.proofs.Reached.{middle_read, free_data_first, free_data_some}
-use Rattle.file_laws.proofs.Cutting.{cut_begins, cut_data, cut_index, cut_ends}
+use Rattle.file_laws.specs.Rewriting.{IsRewriting}
+use Rattle.file_laws.proofs.Reached.{middle_read}
 use Rattle.file_laws.proofs.Finished.{middle_ends}
-use Rattle.file_laws.proofs.Removed.{middle_removed}
-use Rattle.file_laws.proofs.Counted.{base_counted}
-use Rattle.local_files.specs.Hands.{IsCutFor, IsCutting, IsCutRead, IsCutWrite, IsFreeWrite}
-use Rattle.local_files.specs.Cuts.{cutting, cut_at, end_cut, cut_read, cut_written, freed_index, free_next, freeing, free_written, word_block}
-use Rattle.local_files.specs.Steps.{is_delete}
-use Rattle.local_files.specs.declared.Phase.TheVariants.{CutRead, CutWrite, FreeWrite}
-use Rattle.local_files.proofs.Closings.{blocks_many, put_whole}
-use Rattle.std.proofs.lemmas.List.Sums.{sum_by-cons}
-use Rattle.file_laws.proofs.Rewritten.{rewritten_entry, entry_count}
-use Rattle.local_files.proofs.Freeing.{IsStanding, standing, end_cut_goes, number_at, null_at, some_at, none_at, goes_from}
-use Rattle.std.proofs.lemmas.List.{length-replicate, get_or-map, take_all, take_at, drop_at, drop-drop, drop_all}
-use Rattle.local_files.proofs.CutSteps.{index_on_disk}
-use Rattle.lfs_check.proofs.Directories.{geometry_is}
-use Rattle.local_files.specs.Takes.{walking, fetching, walked, with_taken, read_on, fetched, next_fetch, finished_read, finished_at, given_all, reading, reading_at}
-use Rattle.file_laws.proofs.ReadBlocks.{bytes_in_block}
-use Rattle.file_laws.proofs.Patched.{block_long, middle_sized}
+use Rattle.local_files.proofs.Freeing.{IsStanding}
+use Rattle.file_laws.proofs.Patched.{middle_sized}
 use Rattle.file_laws.proofs.Fitting.{length_overwritten, fitting_is}
-use Rattle.local_files.proofs.Ends.{apart_moved, counted_small}
-use Rattle.xinu_model.specs.Files.Reading.{read_file, getc_file, first_byte, taken, bytes_ahead}
 use Rattle.local_files.proofs.Taking.{open_of}
 use Rattle.local_files.specs.Puts.{end_put}
-use Rattle.file_laws.specs.Fitting.{IsFull, IsDataFull, IsIndexFull}
+use Rattle.file_laws.specs.Fitting.{IsFull}
 use Rattle.lfs_check.proofs.Counting.{length-most}
 use Rattle.lfs_check.proofs.Steps.{times_in-part}
 
@@ -90,48 +45,60 @@ pub put_open : (e : Files) (base disk : List ℕ) (p : Places) → IsStanding e 
 put_open e base disk p s u = open_of base (device_at e (device_of e.call)) u.file u.open_is (s.device (device_of e.call))
 
 -- its entry
-pub put_entry_is : (e : Files) (base disk : List ℕ) (p : Places) → IsStanding e base disk → (u : IsPutting e base disk p) → entry_at base e.slot ≡ u.file.entry
+pub put_entry_is : (e : Files) (base disk : List ℕ) (p : Places) → IsStanding e base disk → (u : IsPutting e base disk p)
+    → entry_at base e.slot ≡ u.file.entry
 put_entry_is e base disk p s u = ap (entry_at base) u.slot ∙ (put_open e base disk p s u).entry
 
 -- it has few bytes
-pub put_small : (e : Files) (base disk : List ℕ) (p : Places) → IsStanding e base disk → (u : IsPutting e base disk p) → u.file.entry.size ≤ 33557504
+pub put_small : (e : Files) (base disk : List ℕ) (p : Places) → IsStanding e base disk → (u : IsPutting e base disk p)
+    → u.file.entry.size ≤ 33557504
 put_small e base disk p s u =
     let o = put_open e base disk p s u in
-    let P : Entry → Type 0 = λ x. x.size ≤ 33557504 in subst P o.entry (entry_small base s.clean u.file.slot o.slot (ap entry_is_used o.entry ∙ o.used))
+    let P : Entry → Type 0 = λ x. x.size ≤ 33557504 in
+    subst P o.entry (entry_small base s.clean u.file.slot o.slot (ap entry_is_used o.entry ∙ o.used))
 
 -- where the call is in it
-pub where_put : (e : Files) (base disk : List ℕ) (p : Places) → IsStanding e base disk → (u : IsPutting e base disk p) → at_byte e ≡ e.position + e.done
+pub where_put : (e : Files) (base disk : List ℕ) (p : Places) → IsStanding e base disk → (u : IsPutting e base disk p)
+    → at_byte e ≡ e.position + e.done
 where_put e base disk p s u =
     let small = put_small e base disk p s u in let within = (put_open e base disk p s u).position in
     let a = u.position in let m = u.most in let f = u.few in omega (arith, small, within, a, m, f)
 
 -- how many bytes there are
-pub puts_long : (e : Files) (base disk : List ℕ) (p : Places) → IsStanding e base disk → (u : IsPutting e base disk p) → length (put_bytes e) ≡ e.total
+pub puts_long : (e : Files) (base disk : List ℕ) (p : Places) → IsStanding e base disk → (u : IsPutting e base disk p)
+    → length (put_bytes e) ≡ e.total
 puts_long e base disk p s u = let t = length-take e.total e.buffer in let l = s.buffer in let m = u.most in omega (arith, t, l, m)
 
 -- how large the file is
-pub put_size : (e : Files) (base disk : List ℕ) (p : Places) → IsStanding e base disk → (u : IsPutting e base disk p) → e.entry.size ≡ e.position + e.done + (u.file.entry.size - (e.position + e.done))
+pub put_size : (e : Files) (base disk : List ℕ) (p : Places) → IsStanding e base disk → (u : IsPutting e base disk p)
+    → e.entry.size ≡ e.position + e.done + (u.file.entry.size - (e.position + e.done))
 put_size e base disk p s u =
     let o = put_open e base disk p s u in
     let is = put_entry_is e base disk p s u in
     let m = u.middle in
-    let sized = middle_sized e.blocks base disk e.header e.slot e.entry p (overwritten e.position (take e.done (put_bytes e)) (entry_bytes base (entry_at base e.slot))) m in
+    let sized = middle_sized e.blocks base disk e.header e.slot e.entry p
+    (overwritten e.position (take e.done (put_bytes e)) (entry_bytes base (entry_at base e.slot))) m in
     let old = bytes_sized base s.clean e.slot m.slot_is m.was_used in
     let size_is = ap (λ (x : Entry). x.size) is in
     let within = o.position in let a = u.position in
-    let l = length_overwritten e.position (take e.done (put_bytes e)) (entry_bytes base (entry_at base e.slot)) (omega (arith, within, a, old, size_is)) in
+    let l = length_overwritten e.position (take e.done (put_bytes e)) (entry_bytes base (entry_at base e.slot))
+    (omega (arith, within, a, old, size_is)) in
     let t = length-take e.done (put_bytes e) in let n = puts_long e base disk p s u in let f = u.few in
     omega (arith, sized, l, t, n, f, old, size_is)
 
 -- The file has room on the disk.
-pub middle_room : (n : ℕ) (base disk : List ℕ) (header : Header) (slot : ℕ) (entry : Entry) (p : Places) (bytes : List ℕ) → IsMiddle n base disk header slot entry p bytes → entry.size ≤ room (disk_geometry n)
+pub middle_room : (n : ℕ) (base disk : List ℕ) (header : Header) (slot : ℕ) (entry : Entry) (p : Places) (bytes : List ℕ)
+    → IsMiddle n base disk header slot entry p bytes → entry.size ≤ room (disk_geometry n)
 middle_room n base disk header slot entry p bytes m =
     let r = (middle_read n base disk header slot entry p bytes m).blocks_long in
-    let most = length-most (first_data (disk_geometry n)) n (numbers_at p.datas slot) (λ b. (let one = m.laid.one_data b in let part = times_in-part b p.datas slot in omega (arith, one, part))) in
+    let most = length-most (first_data (disk_geometry n)) n (numbers_at p.datas slot) (λ b.
+    (let one = m.laid.one_data b in let part = times_in-part b p.datas slot in omega (arith, one, part))) in
     omega (arith, r, most)
 
 -- as many bytes are put as there is room for
-put_fits : (e : Files) (base disk : List ℕ) (p : Places) → IsStanding e base disk → (u : IsPutting e base disk p) → (e.done ≡ e.total) ⊎ ((e.entry.size ≡ e.position + e.done) × IsFull p e.entry.size) → fitting (seen u.file) (put_bytes e) (system e base) ≡ e.done
+put_fits : (e : Files) (base disk : List ℕ) (p : Places) → IsStanding e base disk → (u : IsPutting e base disk p)
+    → (e.done ≡ e.total) ⊎ ((e.entry.size ≡ e.position + e.done) × IsFull p e.entry.size)
+    → fitting (seen u.file) (put_bytes e) (system e base) ≡ e.done
 put_fits e base disk p s u end =
     let o = put_open e base disk p s u in let is = put_entry_is e base disk p s u in let m = u.middle in
     let n = puts_long e base disk p s u in let few = u.few in
@@ -139,21 +106,28 @@ put_fits e base disk p s u end =
     let old = entry_bytes base (entry_at base e.slot) in
     let open_is = open_bytes_is base e.slot (seen u.file) (system e base) s.clean m.slot_is m.was_used refl name in
     let sized = middle_sized e.blocks base disk e.header e.slot e.entry p (overwritten e.position (take e.done (put_bytes e)) old) m in
-    let size : e.entry.size ≡ length (overwritten u.file.position (take e.done (put_bytes e)) (systems.open_bytes (seen u.file) (system e base))) =
-    sym sized ∙ ap (λ q. length (overwritten q (take e.done (put_bytes e)) old)) u.position ∙ ap (λ b. length (overwritten u.file.position (take e.done (put_bytes e)) b)) (sym open_is) in
+    let size : e.entry.size ≡ length (overwritten u.file.position (take e.done (put_bytes e))
+    (systems.open_bytes (seen u.file) (system e base))) =
+    sym sized ∙ ap (λ q. length (overwritten q (take e.done (put_bytes e)) old)) u.position
+    ∙ ap (λ b. length (overwritten u.file.position (take e.done (put_bytes e)) b)) (sym open_is) in
     let within = o.position in let size_is = ap (λ (x : Entry). x.size) is in
     let a = u.position in
-    fitting_is e.blocks base disk e.header e.slot e.entry p (overwritten e.position (take e.done (put_bytes e)) old) (seen u.file) (system e base) (put_bytes e) e.done m refl refl name
+    fitting_is e.blocks base disk e.header e.slot e.entry p (overwritten e.position (take e.done (put_bytes e)) old) (seen u.file)
+    (system e base) (put_bytes e) e.done m refl refl name
     (omega (arith, within, size_is)) (omega (arith, few, n)) size
-    (⊎_elim (λ (all : e.done ≡ e.total). inl (all ∙ sym n)) (λ (full : (e.entry.size ≡ e.position + e.done) × IsFull p e.entry.size). inr (full.0 ∙ ap (λ q. q + e.done) a, full.1)) end)
+    (⊎_elim (λ (all : e.done ≡ e.total). inl (all ∙ sym n)) (λ (full : (e.entry.size ≡ e.position + e.done) × IsFull p e.entry.size).
+    inr (full.0 ∙ ap (λ q. q + e.done) a, full.1)) end)
 
 -- No more bytes are put.
-pub end_put_goes : (e : Files) (base disk : List ℕ) (p : Places) → IsStanding e base disk → IsPutting e base disk p → p.held_index ≡ [] → p.held_data ≡ [] → (e.done ≡ 0 → disk ≡ base)
-    → (e.done ≡ e.total) ⊎ ((e.entry.size ≡ e.position + e.done) × IsFull p e.entry.size) → GoesTo (end_put e).phase e.call (call_bytes e) e (end_put e) base disk
+pub end_put_goes : (e : Files) (base disk : List ℕ) (p : Places) → IsStanding e base disk → IsPutting e base disk p → p.held_index ≡ []
+    → p.held_data ≡ [] → (e.done ≡ 0 → disk ≡ base)
+    → (e.done ≡ e.total) ⊎ ((e.entry.size ≡ e.position + e.done) × IsFull p e.entry.size)
+    → GoesTo (end_put e).phase e.call (call_bytes e) e (end_put e) base disk
 end_put_goes e base disk p s u no_index no_data fresh end =
     either-way (e.done == 0) (λ v. (e.done == 0) ≡ v → G (if v then answered (negsuc 0) e else e2))
     (λ _ t. (let z : e.done ≡ 0 = grind (arith, nat_tests) in refused e.call refl u.call z))
-    (λ _ t. (let some : 0 < e.done = above e.done t in (record { clean = s.clean; blocks = s.blocks; whole = s.whole; six = s.six; buffer = s.buffer; outgoing = s.outgoing; device = s.device; apart = s.apart;
+    (λ _ t. (let some : 0 < e.done = above e.done t in (record { clean = s.clean; blocks = s.blocks; whole = s.whole; six = s.six;
+    buffer = s.buffer; outgoing = s.outgoing; device = s.device; apart = s.apart;
       hand = record { slot = u.middle.slot_is; ending = ending e.call refl u.call some; made = made } }, refl, refl, refl)))
     refl
   where
@@ -170,19 +144,25 @@ end_put_goes e base disk p s u no_index no_data fresh end =
     fits = put_fits e base disk p s u end
 
     refused_stands : e.done ≡ 0 → Stands (answered (negsuc 0) e) disk disk
-    refused_stands z = let D : List ℕ → Type 0 = λ x. Stands (answered (negsuc 0) e) x x in subst D (sym (fresh z)) (record { clean = s.clean; blocks = s.blocks; whole = refl; six = s.six; buffer = s.buffer; outgoing = s.outgoing; device = s.device; apart = s.apart; hand = refl })
+    refused_stands z = let D : List ℕ → Type 0 = λ x. Stands (answered (negsuc 0) e) x x in
+        subst D (sym (fresh z)) (record { clean = s.clean; blocks = s.blocks; whole = refl; six = s.six; buffer = s.buffer;
+        outgoing = s.outgoing; device = s.device; apart = s.apart; hand = refl })
 
     same_system : e.done ≡ 0 → system e base ≡ system (answered (negsuc 0) e) disk
     same_system z = ap (system e) (sym (fresh z))
 
     held : (d : ℕ) (c : FileCall) → e.call ≡ c → named_device c ≡ Some d → systems.open_at (system e base) d ≡ Some (seen u.file)
-    held d c is n = shown_at e.devices d ∙ ap shown (ap (λ j. device_at e (or_none j)) (sym n) ∙ ap (λ x. device_at e (device_of x)) (sym is) ∙ u.open_is)
+    held d c is n = shown_at e.devices d ∙ ap shown (ap (λ j. device_at e (or_none j)) (sym n)
+        ∙ ap (λ x. device_at e (device_of x)) (sym is) ∙ u.open_is)
 
-    refused : (c : FileCall) → e.call ≡ c → IsPut c (put_bytes e) → e.done ≡ 0 → GoesTo (Done (negsuc 0)) c (given_bytes c (put_bytes e)) e (answered (negsuc 0) e) base disk
+    refused : (c : FileCall) → e.call ≡ c → IsPut c (put_bytes e) → e.done ≡ 0
+        → GoesTo (Done (negsuc 0)) c (given_bytes c (put_bytes e)) e (answered (negsuc 0) e) base disk
     refused (Write d) is h z =
         let n = puts_long e base disk p s u in let some = u.some in
-        (write_refused (put_bytes e) d (seen u.file) (system e base) (held d (Write d) is refl) (fits ∙ z) (omega (arith, n, some)) ∙ ap refused_effect (same_system z), refused_stands z)
-    refused (Putc d b) is h z = (putc_refused [] d b (seen u.file) (system e base) (held d (Putc d b) is refl) (ap (λ x. fitting (seen u.file) x (system e base)) (sym h) ∙ fits ∙ z) ∙ ap refused_effect (same_system z), refused_stands z)
+        (write_refused (put_bytes e) d (seen u.file) (system e base) (held d (Write d) is refl) (fits ∙ z) (omega (arith, n, some))
+        ∙ ap refused_effect (same_system z), refused_stands z)
+    refused (Putc d b) is h z = (putc_refused [] d b (seen u.file) (system e base) (held d (Putc d b) is refl) (ap (λ x.
+        fitting (seen u.file) x (system e base)) (sym h) ∙ fits ∙ z) ∙ ap refused_effect (same_system z), refused_stands z)
     refused (Open a b) is h z = absurd h
     refused (Delete a) is h z = absurd h
     refused (Close a) is h z = absurd h
@@ -193,8 +173,10 @@ end_put_goes e base disk p s u no_index no_data fresh end =
     refused (Size a) is h z = absurd h
 
     written : 0 < e.done → IsWritten e2 base
-    written some = record { file = u.file; open_is = u.open_is; writes = u.writes; slot = u.slot; position = u.position; some = some; few = u.few; most = u.most; fits = fits;
-      size = (let z = put_size e base disk p s u in let a = u.position in omega (arith, z, a)); named = u.middle.named ∙ ap (λ (x : Entry). x.name) (put_entry_is e base disk p s u) }
+    written some = record { file = u.file; open_is = u.open_is; writes = u.writes; slot = u.slot; position = u.position; some = some;
+        few = u.few; most = u.most; fits = fits;
+      size = (let z = put_size e base disk p s u in let a = u.position in omega (arith, z, a)); named = u.middle.named
+      ∙ ap (λ (x : Entry). x.name) (put_entry_is e base disk p s u) }
 
     ending : (c : FileCall) → e.call ≡ c → IsPut c (put_bytes e) → 0 < e.done → IsEnding c e2 base
     ending (Write d) is h some = written some
@@ -220,10 +202,13 @@ end_put_goes e base disk p s u no_index no_data fresh end =
     after (Truncate a) h = absurd h
     after (Size a) h = absurd h
 
-    made : (eb hb : List ℕ) → IsEntryBlock e2 disk eb → IsHeaderBlock e2 (block_put disk (e.slot / 13) eb) hb → IsMade e2 base (block_put (block_put disk (e.slot / 13) eb) 0 hb)
+    made : (eb hb : List ℕ) → IsEntryBlock e2 disk eb → IsHeaderBlock e2 (block_put disk (e.slot / 13) eb) hb
+        → IsMade e2 base (block_put (block_put disk (e.slot / 13) eb) 0 hb)
     made eb hb ee hh =
         let m = u.middle in let low = m.low in
         let bytes = overwritten e.position (take e.done (put_bytes e)) (entry_bytes base (entry_at base e.slot)) in
-        let r : IsRewriting disk e.blocks e.slot e.entry e.header eb hb = record { long = m.long; room = omega (arith, low); slot_is = m.slot_is; entry_block = ee; header_block = hh } in
-        let f = middle_ends e.blocks base disk e.header e.slot e.entry p bytes eb hb m no_index no_data u.files (middle_room e.blocks base disk e.header e.slot e.entry p bytes m) r in
+        let r : IsRewriting disk e.blocks e.slot e.entry e.header eb hb =
+        record { long = m.long; room = omega (arith, low); slot_is = m.slot_is; entry_block = ee; header_block = hh } in
+        let f = middle_ends e.blocks base disk e.header e.slot e.entry p bytes eb hb m no_index no_data u.files
+        (middle_room e.blocks base disk e.header e.slot e.entry p bytes m) r in
         record { clean = f.clean; size = f.size; files = f.files ∙ after e.call u.call; entry = f.entry_is; others = f.others }

@@ -1,46 +1,40 @@
 -- A name is looked for in the directory.
-use Rattle.std.proofs.Common.{◌≡◌, ◌≢◌, ℕ, zero, suc, ◌+◌, ◌-◌, ◌*◌, ◌/◌, ◌%◌, ◌<◌, ◌≤◌, Bool, true, false, cond, not, ◌&&◌, ◌||◌, nat_lt, nat_le, nat_eq, ◌==◌, if◌then◌else◌, List, [], ◌∷◌, ◌++◌, length, map, take, drop, refl, sym, ap, ◌∙◌, subst, arith, slice_index_or, slice_set, Option, Some, None, ℤ, pos, negsuc, bytes_eq, ⊎_elim, slice_index}
-use Rattle.std.proofs.lemmas.List.{append-nil}
+use Rattle.std.proofs.Common.{◌≡◌, ◌≢◌, ℕ, ◌+◌, ◌-◌, ◌*◌, ◌/◌, ◌%◌, ◌<◌, ◌≤◌, Bool, true, false, ◌||◌, nat_lt, nat_le, nat_eq, ◌==◌, if◌then◌else◌, List, [], length, refl, sym, ap, ◌∙◌, subst, arith, slice_index_or, slice_set, Option, Some, None, pos, negsuc, bytes_eq, ⊎_elim}
 use Rattle.std.proofs.lemmas.Bool.{false≢true, cases_lt}
 use Rattle.std.proofs.lemmas.Bool.Decides.{nat_tests}
 use Rattle.std.proofs.lemmas.Slice.Eq.{bytes_eq-Decides}
 use Rattle.lfs_format.specs.declared.Entry.{Entry}
-use Rattle.lfs_format.specs.declared.Dir.{Dir}
 use Rattle.lfs_format.specs.Directory.{dir_of, void_entry, IsDirBlock}
 use Rattle.lfs_check.specs.declared.fields.Header.{Header}
-use Rattle.lfs_check.specs.Rules.{entry_is_used, is_name, block_in}
-use Rattle.lfs_check.specs.Fields.{joined, header_2, entries_2}
+use Rattle.lfs_check.specs.Rules.{entry_is_used, block_in}
+use Rattle.lfs_check.specs.Fields.{header_2}
 use Rattle.lfs_check.specs.Disks.{is_this, entry_at, entries, header_on, block_put, dir_with_entry, dir_with_header}
-use Rattle.lfs_check.proofs.Directories.{block_wide, entry_of_block}
+use Rattle.lfs_check.proofs.Directories.{entry_of_block}
 use Rattle.lfs_layout.specs.Files.{bare_name}
-use Rattle.lfs_layout.specs.Images.{IsCleanImage}
 use Rattle.xinu_base.specs.declared.files.OpenMode.{OpenMode}
 use Rattle.xinu_model.specs.Files.Modes.{reads, writes}
 use Rattle.xinu_model.specs.Files.Stored.{StoredFile, file_named}
 use Rattle.xinu_model.specs.Files.Systems.{FileSystem, FileEffect, is_open, free_device, refused_effect}
 use Rattle.xinu_model.specs.Files.Opening.{open_stored, with_created}
 use Rattle.file_laws.specs.StoredFiles.{stored_files, empty_entry, one_more, entry_bytes}
-use Rattle.file_laws.proofs.Names.{either-way, and-true, name_padded, name_used}
+use Rattle.file_laws.proofs.Names.{either-way, and-true, name_padded}
 use Rattle.file_laws.proofs.Named.{IsName, named_at, named_none, length_entries}
-use Rattle.file_laws.proofs.Counted.{files_counted, count_all, count_less}
-use Rattle.file_laws.specs.Rewriting.{IsCreated}
+use Rattle.file_laws.proofs.Counted.{files_counted, count_all}
 use Rattle.file_laws.proofs.Created.{created}
 use Rattle.local_files.specs.declared.OpenFile.{OpenFile}
 use Rattle.local_files.specs.declared.Files.{Files}
 use Rattle.local_files.specs.declared.FileCall.{FileCall}
 use Rattle.local_files.specs.declared.FileCall.TheVariants.{Open, Delete, Close, Read, Write, Getc, Putc, Seek, Truncate, Size}
 use Rattle.local_files.specs.declared.Phase.{Phase}
-use Rattle.local_files.specs.declared.Phase.TheVariants.{Idle, Done, Search, Walk, Fetch, EntryRead, EntryWrite, HeaderRead, HeaderWrite}
-use Rattle.local_files.specs.Hands.{system, IsSearch, IsFreeSlot, IsMade, IsEnding, IsDevice, IsOpenOn, AreApart, IsCall, name_of, put_bytes, files_after, MayLook}
-use Rattle.local_files.specs.Steps.{device_at, answered, lowest_free, shown, is_this_open}
+use Rattle.local_files.specs.declared.Phase.TheVariants.{Search, EntryRead}
+use Rattle.local_files.specs.Hands.{system, IsSearch, IsFreeSlot, IsMade, IsEnding, IsDevice, AreApart, IsCall, name_of, put_bytes, files_after, MayLook}
+use Rattle.local_files.specs.Steps.{device_at, answered, lowest_free, is_this_open}
 use Rattle.local_files.specs.Standing.{Stands, InHand, GoesTo, given_bytes, call_bytes}
 use Rattle.local_files.specs.Opens.{IsNoted, IsLook, opened, finding, missing, searching_on, opening_at}
 use Rattle.local_files.proofs.Closings.{blocks_many}
 use Rattle.local_files.proofs.Devices.{answered_stands, set_stands, shown_set, is_open_same, not_open}
 use Rattle.xinu_model.specs.Files.Systems as systems
 use Rattle.xinu_model.specs.Files.Opening as model_opening
-use Rattle.xinu_model.specs.Files.Calls as model
-use Rattle.local_files.specs.Standing as engine
 use Rattle.local_files.specs.Opens.{opening as opening_file}
 use Rattle.local_files.specs.Cuts.{cutting}
 use Rattle.local_files.proofs.Freeing.{IsStanding, goes_from}
@@ -52,52 +46,67 @@ record Opening (e : Files) (name : List ℕ) (mode : OpenMode) (base : List ℕ)
   right : IsCall (Open name mode)
   look : MayLook (Open name mode) (system e base)
 
-opening_of : (e : Files) (name : List ℕ) (mode : OpenMode) (d : ℕ) (base disk : List ℕ) → e.call ≡ Open name mode → IsSearch e d base disk → Opening e name mode base
+opening_of : (e : Files) (name : List ℕ) (mode : OpenMode) (d : ℕ) (base disk : List ℕ) → e.call ≡ Open name mode → IsSearch e d base disk
+    → Opening e name mode base
 opening_of e name mode d base disk is h =
     let P : FileCall → Type 0 = λ k. MayLook k (system e base) in
     record { right = subst IsCall is h.call; look = subst P is h.look }
 
 -- what an open does that isn't refused at once
-pub begins_stored : (e : Files) (name : List ℕ) (mode : OpenMode) (base : List ℕ) (o : Option StoredFile) → MayLook (Open name mode) (system e base) → file_named (bare_name name) (stored_files base) ≡ o
+pub begins_stored : (e : Files) (name : List ℕ) (mode : OpenMode) (base : List ℕ) (o : Option StoredFile)
+    → MayLook (Open name mode) (system e base) → file_named (bare_name name) (stored_files base) ≡ o
     → model_opening.open_file (bare_name name) mode (system e base) ≡ open_stored o (bare_name name) mode (system e base)
 begins_stored e name mode base o look is =
     let sys = system e base in
-    let to : Bool → Bool → FileEffect = λ u v. if u || v then refused_effect sys else open_stored (file_named (bare_name name) sys.files) (bare_name name) mode sys in
+    let to : Bool → Bool → FileEffect = λ u v.
+    if u || v then refused_effect sys else open_stored (file_named (bare_name name) sys.files) (bare_name name) mode sys in
     ap (λ u. to u (nat_le 6 (free_device sys.devices))) look.0 ∙ ap (to false) look.1 ∙ ap (λ o. open_stored o (bare_name name) mode sys) is
 
 -- The name is in the block.
-pub found_open : (e : Files) (name : List ℕ) (mode : OpenMode) (slot : ℕ) (entry : Entry) (base : List ℕ) → IsCall (Open name mode) → MayLook (Open name mode) (system e base) → Stands (answered (pos 0) e) base base
-    → slot < 78 → entry_at base slot ≡ entry → is_this name entry ≡ true → GoesTo (finding (Open name mode) slot entry e).phase (Open name mode) [] e (finding (Open name mode) slot entry e) base base
+pub found_open : (e : Files) (name : List ℕ) (mode : OpenMode) (slot : ℕ) (entry : Entry) (base : List ℕ) → IsCall (Open name mode)
+    → MayLook (Open name mode) (system e base) → Stands (answered (pos 0) e) base base
+    → slot < 78 → entry_at base slot ≡ entry → is_this name entry ≡ true
+    → GoesTo (finding (Open name mode) slot entry e).phase (Open name mode) [] e (finding (Open name mode) slot entry e) base base
 found_open e name mode slot entry base right look s h at this =
     let sys = system e base in
     let two = and-true (entry_is_used entry) (bytes_eq entry.name name) this in
     let same : entry.name ≡ name = (bytes_eq-Decides entry.name name).0 two.1 in
     let n : IsName name = record { padded = name_padded 27 name right.0; long = right.1 } in
     let used : entry_is_used (entry_at base slot) ≡ true = ap entry_is_used at ∙ two.0 in
-    let there : file_named (bare_name name) (stored_files base) ≡ Some (record { name = bare_name (entry_at base slot).name; bytes = entry_bytes base (entry_at base slot) }) =
-    ap (λ x. file_named (bare_name x) (stored_files base)) (sym same ∙ ap (λ (x : Entry). x.name) (sym at)) ∙ named_at base s.clean slot h used in
+    let there : file_named (bare_name name) (stored_files base) ≡ Some (record { name = bare_name (entry_at base slot).name;
+    bytes = entry_bytes base (entry_at base slot) }) =
+    ap (λ x. file_named (bare_name x) (stored_files base)) (sym same ∙ ap (λ (x : Entry). x.name) (sym at))
+    ∙ named_at base s.clean slot h used in
     let start = begins_stored e name mode base _ look there in
     let d = lowest_free e in
     let free : d < 6 = (let t = look.1 in grind (arith, nat_tests)) in
     let free_test : nat_lt d 6 ≡ true = grind (arith, nat_tests) in
-    let O : Bool → Type 0 = λ w. GoesTo (if w then opened slot entry mode e else answered (negsuc 0) e).phase (Open name mode) [] e (if w then opened slot entry mode e else answered (negsuc 0) e) base base in
+    let O : Bool → Type 0 = λ w. GoesTo (if w then opened slot entry mode e else answered (negsuc 0) e).phase (Open name mode) [] e
+    (if w then opened slot entry mode e else answered (negsuc 0) e) base base in
     let f : OpenFile = opening_file slot entry mode in
     let at_name : List ℕ → systems.OpenFile = λ b. record { name = b; position = 0; may_read = reads mode; may_write = writes mode } in
-    let result : List (Option systems.OpenFile) → FileEffect = λ ds. record { system = record { blocks = e.blocks; files = stored_files base; devices = ds }; reply = pos (4 + d); bytes = [] } in
+    let result : List (Option systems.OpenFile) → FileEffect = λ ds.
+    record { system = record { blocks = e.blocks; files = stored_files base; devices = ds }; reply = pos (4 + d); bytes = [] } in
     let closed : is_this_open name e.devices ≡ false = sym (is_open_same base name e.devices s.clean n s.device) ∙ look.0 in
     either-way mode.only_new
-    (λ v. mode.only_new ≡ v → GoesTo (if v then answered (negsuc 0) e else opening_at slot entry mode e).phase (Open name mode) [] e (if v then answered (negsuc 0) e else opening_at slot entry mode e) base base)
-    (λ _ t. (start ∙ ap (λ v. if v then refused_effect sys else model_opening.opened (bare_name name) mode sys) t, answered_stands (negsuc 0) (answered (pos 0) e) base s))
+    (λ v. mode.only_new ≡ v → GoesTo (if v then answered (negsuc 0) e else opening_at slot entry mode e).phase (Open name mode) [] e
+    (if v then answered (negsuc 0) e else opening_at slot entry mode e) base base)
+    (λ _ t. (start ∙ ap (λ v. if v then refused_effect sys else model_opening.opened (bare_name name) mode sys) t, answered_stands
+    (negsuc 0) (answered (pos 0) e) base s))
     (λ _ t. subst O (sym free_test) (start ∙ ap (λ v. if v then refused_effect sys else model_opening.opened (bare_name name) mode sys) t
-        ∙ ap (λ b. result (slice_set sys.devices d (Some (at_name b)))) (ap bare_name (sym same)) ∙ ap result (sym (shown_set e.devices d (Some f))),
-      set_stands (pos (4 + d)) (answered (pos 0) e) base d (Some f) s free (record { slot = h; entry = at; used = two.0; position = omega arith })
+        ∙ ap (λ b. result (slice_set sys.devices d (Some (at_name b)))) (ap bare_name (sym same))
+        ∙ ap result (sym (shown_set e.devices d (Some f))),
+      set_stands (pos (4 + d)) (answered (pos 0) e) base d (Some f) s free (record { slot = h; entry = at; used = two.0;
+      position = omega arith })
       (λ c ne. apart_from base (device_at e c) f at same (λ g q. not_open name e.devices c g closed q) (s.device c))))
     refl
   where
-    apart_from : (base : List ℕ) (o : Option OpenFile) (f : OpenFile) → entry_at base f.slot ≡ f.entry → f.entry.name ≡ name → ((g : OpenFile) → o ≡ Some g → bytes_eq g.entry.name name ≡ false) → IsDevice base o → AreApart o (Some f) × AreApart (Some f) o
+    apart_from : (base : List ℕ) (o : Option OpenFile) (f : OpenFile) → entry_at base f.slot ≡ f.entry → f.entry.name ≡ name
+        → ((g : OpenFile) → o ≡ Some g → bytes_eq g.entry.name name ≡ false) → IsDevice base o → AreApart o (Some f) × AreApart (Some f) o
     apart_from base None f at same other h = (tt, tt)
     apart_from base (Some g) f at same other h =
-        let ne : g.slot ≢ f.slot = λ q. (let e : g.entry.name ≡ name = ap (λ (x : Entry). x.name) (sym h.entry ∙ ap (entry_at base) q ∙ at) ∙ same in
+        let ne : g.slot ≢ f.slot = λ q. (let e : g.entry.name ≡ name = ap (λ (x : Entry). x.name) (sym h.entry ∙ ap (entry_at base) q ∙ at)
+        ∙ same in
         false≢true (sym (other g refl) ∙ (bytes_eq-Decides g.entry.name name).1 e)) in
         (ne, λ z. ne (sym z))
 
@@ -106,7 +115,8 @@ none_of : (e : Files) (base : List ℕ) (k : FileCall) → e.call ≡ k → MayL
 none_of e base k is look = let L : FileCall → Type 0 = λ q. MayLook q (system e base) in subst L is look
 
 -- the counts are those of the first block
-head : (e : Files) (d : ℕ) (header : Header) (base read : List ℕ) → header ≡ (if d == 0 then header_2 (dir_of read) else e.header) → IsSearch e d base base → read ≡ block_in base d → header ≡ header_on base
+head : (e : Files) (d : ℕ) (header : Header) (base read : List ℕ) → header ≡ (if d == 0 then header_2 (dir_of read) else e.header)
+    → IsSearch e d base base → read ≡ block_in base d → header ≡ header_on base
 unfolding header_on
 head e d header base read counts h r =
     counts ∙ ⊎_elim
@@ -119,8 +129,10 @@ head e d header base read counts h r =
 -- what the code leaves, if the name is in block d
 pub found_goes : (e e' : Files) (d k : ℕ) (header : Header) (entry : Entry) (name base disk read : List ℕ) → e.phase ≡ Search d
     → header ≡ (if d == 0 then header_2 (dir_of read) else e.header)
-    → e' ≡ finding e.call (13 * d + k) entry (record e { header = header }) → (IsLook e.call → name ≡ name_of e.call) → k < 13 → is_this name entry ≡ true
-    → entry ≡ slice_index_or (dir_of read).entries k void_entry → Stands e base disk → read ≡ block_in disk d → GoesTo e'.phase e.call (call_bytes e) e e' base disk
+    → e' ≡ finding e.call (13 * d + k) entry (record e { header = header }) → (IsLook e.call → name ≡ name_of e.call) → k < 13
+    → is_this name entry ≡ true
+    → entry ≡ slice_index_or (dir_of read).entries k void_entry → Stands e base disk → read ≡ block_in disk d
+    → GoesTo e'.phase e.call (call_bytes e) e e' base disk
 found_goes e e' d k header entry name base disk read phase counts new named below this is s honest =
     let H : Phase → Type 0 = λ p. InHand p e base disk in
     let hand : IsSearch e d base disk = subst H phase s.hand in
@@ -136,15 +148,19 @@ found_goes e e' d k header entry name base disk read phase counts new named belo
         sym (is ∙ ap (λ b. slice_index_or (dir_of b).entries k void_entry) (honest ∙ ap (λ x. block_in x d) h.same)
         ∙ entry_of_block base e.blocks d k blocks (let m = many.0 in omega (arith, m)) block below)
 
-    by_call : (c : FileCall) → e.call ≡ c → IsSearch e d base disk → GoesTo (finding c (13 * d + k) entry e1).phase c (given_bytes c (put_bytes e)) e (finding c (13 * d + k) entry e1) base base
+    by_call : (c : FileCall) → e.call ≡ c → IsSearch e d base disk
+        → GoesTo (finding c (13 * d + k) entry e1).phase c (given_bytes c (put_bytes e)) e (finding c (13 * d + k) entry e1) base base
     by_call (Open n mode) c h =
         let o = opening_of e n mode d base disk c h in
         let L : FileCall → Type 0 = λ q. IsLook q → name ≡ name_of q in
         let name_is : name ≡ n = (subst L c named) tt in
         let block = h.block in
-        let idle : Stands (answered (pos 0) e1) base base = record { clean = s.clean; blocks = s.blocks; whole = refl; six = s.six; buffer = s.buffer; outgoing = s.outgoing; device = s.device; apart = s.apart; hand = refl } in
-        let goes = found_open e1 n mode (13 * d + k) entry base o.right o.look idle (omega (arith, block, below)) (here h) (ap (λ x. is_this x entry) (sym name_is) ∙ this) in
-        goes_from (finding (Open n mode) (13 * d + k) entry e1).phase (Open n mode) [] e1 e (finding (Open n mode) (13 * d + k) entry e1) base base refl goes
+        let idle : Stands (answered (pos 0) e1) base base = record { clean = s.clean; blocks = s.blocks; whole = refl; six = s.six;
+        buffer = s.buffer; outgoing = s.outgoing; device = s.device; apart = s.apart; hand = refl } in
+        let goes = found_open e1 n mode (13 * d + k) entry base o.right o.look idle (omega (arith, block, below)) (here h) (ap (λ x.
+        is_this x entry) (sym name_is) ∙ this) in
+        goes_from (finding (Open n mode) (13 * d + k) entry e1).phase (Open n mode) [] e1 e
+        (finding (Open n mode) (13 * d + k) entry e1) base base refl goes
     by_call (Delete n) c h =
         let L : FileCall → Type 0 = λ q. IsLook q → name ≡ name_of q in
         let name_is : name ≡ n = (subst L c named) tt in
@@ -153,13 +169,17 @@ found_goes e e' d k header entry name base disk read phase counts new named belo
         let block = h.block in
         let slot : 13 * d + k < 78 = omega (arith, block, below) in
         let read_is : read ≡ block_in base d = honest ∙ ap (λ x. block_in x d) h.same in
-        let h2 : IsSearch e d base base = record { same = refl; block = h.block; call = h.call; look = h.look; none = h.none; free = h.free; header = h.header } in
+        let h2 : IsSearch e d base base = record { same = refl; block = h.block; call = h.call; look = h.look; none = h.none; free = h.free;
+        header = h.header } in
         let e2 : Files = record e1 { slot = 13 * d + k; entry = entry; call = Delete n } in
         let M : FileCall → Type 0 = λ q. MayLook q (system e base) in
-        let s2 : IsStanding e2 base base = record { clean = s.clean; blocks = s.blocks; whole = refl; six = s.six; buffer = s.buffer; outgoing = s.outgoing; device = s.device; apart = s.apart } in
+        let s2 : IsStanding e2 base base = record { clean = s.clean; blocks = s.blocks; whole = refl; six = s.six; buffer = s.buffer;
+        outgoing = s.outgoing; device = s.device; apart = s.apart } in
         let goes = cutting_goes e2 base s2 slot (here h) two.0 (head e d header base read counts h2 read_is)
-          (record { slot = slot; call = subst IsCall c h.call; closed = subst M c h.look; used = ap entry_is_used (here h) ∙ two.0; named = ap (λ (x : Entry). x.name) (here h) ∙ same ∙ name_is }) in
-        let C : FileCall → Type 0 = λ q. GoesTo (cutting entry (record e2 { call = q })).phase (Delete n) [] e (cutting entry (record e2 { call = q })) base base in
+          (record { slot = slot; call = subst IsCall c h.call; closed = subst M c h.look; used = ap entry_is_used (here h)
+          ∙ two.0; named = ap (λ (x : Entry). x.name) (here h) ∙ same ∙ name_is }) in
+        let C : FileCall → Type 0 = λ q. GoesTo (cutting entry (record e2 { call =
+        q })).phase (Delete n) [] e (cutting entry (record e2 { call = q })) base base in
         subst C (sym c) (goes_from (cutting entry e2).phase (Delete n) [] e2 e (cutting entry e2) base base refl goes)
     by_call (Close n) c h = absurd (none_of e base (Close n) c h.look)
     by_call (Read n m) c h = absurd (none_of e base (Read n m) c h.look)
@@ -188,7 +208,8 @@ passed e d slot name base es h name_is here not_here noted = record { none = all
     all : (k : ℕ) → k < 13 * (d + 1) → is_this (name_of e.call) (entry_at base k) ≡ false
     all k lt = ⊎_elim (h.none k)
         (λ ge. (let i = inside k lt ge in
-        ap (λ x. is_this x (entry_at base k)) (sym name_is) ∙ ap (λ j. is_this name (entry_at base j)) (sym i.1) ∙ ap (is_this name) (sym (here (k - 13 * d) i.0)) ∙ not_here (k - 13 * d) i.0))
+        ap (λ x. is_this x (entry_at base k)) (sym name_is) ∙ ap (λ j. is_this name (entry_at base j)) (sym i.1)
+        ∙ ap (is_this name) (sym (here (k - 13 * d) i.0)) ∙ not_here (k - 13 * d) i.0))
         (cases_lt k (13 * d))
 
     found : slot < 78 → (slot < 13 * (d + 1)) × (entry_is_used (entry_at base slot) ≡ false)
@@ -197,21 +218,26 @@ passed e d slot name base es h name_is here not_here noted = record { none = all
         (omega (arith, q, below), ap (λ k. entry_is_used (entry_at base k)) q ∙ f.1)))
         (λ (b : 78 ≤ e.slot). (let f = noted.found b lt in let low = f.0 in let high = f.1 in
         let i : (slot - 13 * d < 13) × (13 * d + (slot - 13 * d) ≡ slot) = (omega (arith, low, high), omega (arith, low)) in
-        (omega (arith, high), ap (λ k. entry_is_used (entry_at base k)) (sym i.1) ∙ ap entry_is_used (sym (here (slot - 13 * d) i.0)) ∙ f.2)))
+        (omega (arith, high), ap (λ k. entry_is_used (entry_at base k)) (sym i.1) ∙ ap entry_is_used (sym (here (slot - 13 * d) i.0))
+        ∙ f.2)))
         (cases_lt e.slot 78)
 
     full : 78 ≤ slot → (k : ℕ) → k < 13 * (d + 1) → entry_is_used (entry_at base k) ≡ true
     full ge k lt = ⊎_elim
         (λ (b : e.slot < 78). absurd (let q = noted.kept b in omega (arith, q, b, ge)))
         (λ (b : 78 ≤ e.slot). ⊎_elim (h.free.full b k)
-        (λ m. (let i = inside k lt m in ap (λ j. entry_is_used (entry_at base j)) (sym i.1) ∙ ap entry_is_used (sym (here (k - 13 * d) i.0)) ∙ noted.none ge (k - 13 * d) i.0))
+        (λ m. (let i = inside k lt m in ap (λ j. entry_is_used (entry_at base j)) (sym i.1) ∙ ap entry_is_used (sym (here (k - 13 * d) i.0))
+        ∙ noted.none ge (k - 13 * d) i.0))
         (cases_lt k (13 * d)))
         (cases_lt e.slot 78)
 
 -- the search is over: there is no file of the name
-pub missing_open : (e : Files) (name : List ℕ) (mode : OpenMode) (slot : ℕ) (header : Header) (base : List ℕ) → e.call ≡ Open name mode → IsCall (Open name mode) → MayLook (Open name mode) (system e base)
-    → Stands (answered (pos 0) e) base base → ((k : ℕ) → k < 78 → is_this name (entry_at base k) ≡ false) → IsFreeSlot base 78 slot → header ≡ header_on base
-    → GoesTo (missing (Open name mode) (record e { header = header; slot = slot })).phase (Open name mode) [] e (missing (Open name mode) (record e { header = header; slot = slot })) base base
+pub missing_open : (e : Files) (name : List ℕ) (mode : OpenMode) (slot : ℕ) (header : Header) (base : List ℕ) → e.call ≡ Open name mode
+    → IsCall (Open name mode) → MayLook (Open name mode) (system e base)
+    → Stands (answered (pos 0) e) base base → ((k : ℕ) → k < 78 → is_this name (entry_at base k) ≡ false) → IsFreeSlot base 78 slot
+    → header ≡ header_on base
+    → GoesTo (missing (Open name mode) (record e { header = header;
+    slot = slot })).phase (Open name mode) [] e (missing (Open name mode) (record e { header = header; slot = slot })) base base
 missing_open e name mode slot header base call right look s none free counts =
     let sys = system e base in
     let n : IsName name = record { padded = name_padded 27 name right.0; long = right.1 } in
@@ -219,11 +245,16 @@ missing_open e name mode slot header base call right look s none free counts =
     let start = begins_stored e name mode base None look absent in
     let e1 : Files = record e { header = header; slot = slot } in
     let e2 : Files = record e1 { entry = empty_entry name; header = one_more header; phase = EntryRead } in
-    let to : Bool → Bool → FileEffect = λ u v. if u || v then refused_effect sys else model_opening.opened (bare_name name) mode (with_created (bare_name name) sys) in
+    let to : Bool → Bool → FileEffect = λ u v.
+    if u || v then refused_effect sys else model_opening.opened (bare_name name) mode (with_created (bare_name name) sys) in
     let len = (length_entries base s.clean).0 in
     let count = files_counted base s.clean in
-    let refused : Stands (answered (negsuc 0) e1) base base = record { clean = s.clean; blocks = s.blocks; whole = refl; six = s.six; buffer = s.buffer; outgoing = s.outgoing; device = s.device; apart = s.apart; hand = refl } in
-    let G : Bool → Bool → Type 0 = λ u v. GoesTo (if u || v then answered (negsuc 0) e1 else e2).phase (Open name mode) [] e (if u || v then answered (negsuc 0) e1 else e2) base base in
+    let refused : Stands (answered (negsuc 0) e1) base base =
+    record { clean = s.clean; blocks = s.blocks; whole = refl; six = s.six; buffer = s.buffer; outgoing = s.outgoing; device = s.device;
+    apart = s.apart; hand = refl } in
+    let G : Bool → Bool → Type 0 = λ u v.
+    GoesTo (if u || v then answered (negsuc 0) e1 else e2).phase (Open name mode) [] e
+    (if u || v then answered (negsuc 0) e1 else e2) base base in
     either-way mode.only_old
     (λ u. mode.only_old ≡ u → G u (nat_le 78 slot))
     (λ _ t. (start ∙ ap (λ u. to u (nat_le 78 (length sys.files))) t, refused))
@@ -231,19 +262,26 @@ missing_open e name mode slot header base call right look s none free counts =
     (λ v. nat_le 78 slot ≡ v → G false v)
     (λ _ w. (let full : 78 ≤ slot = grind (arith, nat_tests) in
       let all = count_all entry_is_used (entries base) (λ k l. free.full full k (omega (arith, l, len))) in
-      let many : nat_le 78 (length sys.files) ≡ true = (let q : 78 ≤ length (stored_files base) = omega (arith, count, all, len) in grind (arith, nat_tests)) in
+      let many : nat_le 78 (length sys.files) ≡ true = (let q : 78 ≤ length (stored_files base) = omega (arith, count, all, len) in
+      grind (arith, nat_tests)) in
       (start ∙ ap (λ u. to u (nat_le 78 (length sys.files))) t ∙ ap (to false) many, refused)))
     (λ _ w. (let low : slot < 78 = grind (arith, nat_tests) in
       let f = free.found low in
       let becomes : (eb hb : List ℕ) → IsDirBlock (dir_with_entry (dir_of (block_in base (slot / 13))) (slot % 13) (empty_entry name)) eb
-        → IsDirBlock (dir_with_header (dir_of (block_in (block_put base (slot / 13) eb) 0)) (one_more header)) hb → IsMade e2 base (block_put (block_put base (slot / 13) eb) 0 hb) = λ eb hb ee hh. (
+        → IsDirBlock (dir_with_header (dir_of (block_in (block_put base (slot / 13) eb) 0)) (one_more header)) hb
+        → IsMade e2 base (block_put (block_put base (slot / 13) eb) 0 hb) = λ eb hb ee hh. (
       let Q : Header → Type 0 = λ x. IsDirBlock (dir_with_header (dir_of (block_in (block_put base (slot / 13) eb) 0)) (one_more x)) hb in
       let m = created base slot name eb hb s.clean low f.1 right.0 right.1 none ee (subst Q counts hh) in
-      record { clean = m.clean; size = m.size; files = m.files ∙ ap (λ q. files_after q e2 base) (sym call); entry = m.entry; others = m.others }) in
-      (record { clean = s.clean; blocks = s.blocks; whole = refl; six = s.six; buffer = s.buffer; outgoing = s.outgoing; device = s.device; apart = s.apart;
-        hand = record { slot = low; made = becomes; ending = (let E : FileCall → Type 0 = λ q. IsEnding q e2 base in subst E (sym call) (record {
-          slot = low; call = subst IsCall (sym call) right; look = (let M : FileCall → Type 0 = λ q. MayLook q sys in subst M (sym call) look);
-          none = (let N : FileCall → Type 0 = λ q. (k : ℕ) → k < 78 → is_this (name_of q) (entry_at base k) ≡ false in subst N (sym call) none);
+      record { clean = m.clean; size = m.size; files = m.files
+      ∙ ap (λ q. files_after q e2 base) (sym call); entry = m.entry; others = m.others }) in
+      (record { clean = s.clean; blocks = s.blocks; whole = refl; six = s.six; buffer = s.buffer; outgoing = s.outgoing; device = s.device;
+      apart = s.apart;
+        hand = record { slot = low; made = becomes; ending = (let E : FileCall → Type 0 = λ q. IsEnding q e2 base in
+        subst E (sym call) (record {
+          slot = low; call = subst IsCall (sym call) right; look =
+          (let M : FileCall → Type 0 = λ q. MayLook q sys in subst M (sym call) look);
+          none = (let N : FileCall → Type 0 = λ q. (k : ℕ) → k < 78 → is_this (name_of q) (entry_at base k) ≡ false in
+          subst N (sym call) none);
           named = ap name_of (sym call); empty = refl; free = f.1;
           may = λ x y q. same_mode name x mode y (sym call ∙ q) t;
         })) };
@@ -259,18 +297,22 @@ missing_open e name mode slot header base call right look s none free counts =
         only_old_of _ = false
 
 -- the search is over for a deletion: it is refused
-missing_delete : (e : Files) (name : List ℕ) (slot : ℕ) (header : Header) (base : List ℕ) → IsCall (Delete name) → Stands (answered (pos 0) e) base base → ((k : ℕ) → k < 78 → is_this name (entry_at base k) ≡ false)
-    → GoesTo (missing (Delete name) (record e { header = header; slot = slot })).phase (Delete name) [] e (missing (Delete name) (record e { header = header; slot = slot })) base base
+missing_delete : (e : Files) (name : List ℕ) (slot : ℕ) (header : Header) (base : List ℕ) → IsCall (Delete name)
+    → Stands (answered (pos 0) e) base base → ((k : ℕ) → k < 78 → is_this name (entry_at base k) ≡ false)
+    → GoesTo (missing (Delete name) (record e { header = header;
+    slot = slot })).phase (Delete name) [] e (missing (Delete name) (record e { header = header; slot = slot })) base base
 missing_delete e name slot header base right s none =
     let n : IsName name = record { padded = name_padded 27 name right.0; long = right.1 } in
     (delete_refused (bare_name name) [] (system e base) (named_none base name s.clean n none),
-      record { clean = s.clean; blocks = s.blocks; whole = refl; six = s.six; buffer = s.buffer; outgoing = s.outgoing; device = s.device; apart = s.apart; hand = refl })
+      record { clean = s.clean; blocks = s.blocks; whole = refl; six = s.six; buffer = s.buffer; outgoing = s.outgoing; device = s.device;
+      apart = s.apart; hand = refl })
 
 -- what the code leaves, if the name isn't in block d
 pub pass_goes : (e e' : Files) (d : ℕ) (header : Header) (name base disk read : List ℕ) → e.phase ≡ Search d
     → header ≡ (if d == 0 then header_2 (dir_of read) else e.header)
     → e' ≡ searching_on d (record e { header = header; slot = e'.slot }) → (IsLook e.call → name ≡ name_of e.call)
-    → ((k : ℕ) → k < 13 → is_this name (slice_index_or (dir_of read).entries k void_entry) ≡ false) → IsNoted d e.slot e'.slot (dir_of read).entries
+    → ((k : ℕ) → k < 13 → is_this name (slice_index_or (dir_of read).entries k void_entry) ≡ false)
+    → IsNoted d e.slot e'.slot (dir_of read).entries
     → Stands e base disk → read ≡ block_in disk d → GoesTo e'.phase e.call (call_bytes e) e e' base disk
 pass_goes e e' d header name base disk read phase counts new named not_here noted s honest =
     let P : List ℕ → Type 0 = λ x. GoesTo e'.phase e.call (call_bytes e) e e' base x in
@@ -278,8 +320,10 @@ pass_goes e e' d header name base disk read phase counts new named not_here note
     let next : Files = record e1 { phase = Search (d + 1) } in
     subst P (sym hand.same) (subst Q (sym new) (either-way (nat_lt d 5)
     (λ v. nat_lt d 5 ≡ v → Q (if v then next else missing e.call e1))
-    (λ _ t. (record { clean = s.clean; blocks = s.blocks; whole = refl; six = s.six; buffer = s.buffer; outgoing = s.outgoing; device = s.device; apart = s.apart;
-        hand = record { same = refl; block = (let lt : d < 5 = grind (arith, nat_tests) in omega (arith, lt)); call = h.call; look = h.look; none = q.none; free = q.free; header = λ z. counts_is };
+    (λ _ t. (record { clean = s.clean; blocks = s.blocks; whole = refl; six = s.six; buffer = s.buffer; outgoing = s.outgoing;
+    device = s.device; apart = s.apart;
+        hand = record { same = refl; block = (let lt : d < 5 = grind (arith, nat_tests) in omega (arith, lt)); call = h.call; look = h.look;
+        none = q.none; free = q.free; header = λ z. counts_is };
       }, refl, refl, refl))
     (λ _ t. (let five : d ≡ 5 = (let ge : 5 ≤ d = grind (arith, nat_tests) in let b = h.block in omega (arith, ge, b)) in
       let N : ℕ → Type 0 = λ m. (k : ℕ) → k < 13 * (m + 1) → is_this (name_of e.call) (entry_at base k) ≡ false in
@@ -291,7 +335,8 @@ pass_goes e e' d header name base disk read phase counts new named not_here note
     hand = let H : Phase → Type 0 = λ p. InHand p e base disk in subst H phase s.hand
 
     h : IsSearch e d base base
-    h = record { same = refl; block = hand.block; call = hand.call; look = hand.look; none = hand.none; free = hand.free; header = hand.header }
+    h = record { same = refl; block = hand.block; call = hand.call; look = hand.look; none = hand.none; free = hand.free;
+        header = hand.header }
 
     e1 : Files
     e1 = record e { header = header; slot = e'.slot }
@@ -320,12 +365,15 @@ pass_goes e e' d header name base disk read phase counts new named not_here note
     q : Passed e d e'.slot base
     q = let many = blocks_many e base disk s in let blocks = s.blocks in let block = h.block in
         passed e d e'.slot name base (dir_of read).entries h (named looks)
-        (λ k lt. ap (λ b. slice_index_or (dir_of b).entries k void_entry) read_is ∙ entry_of_block base e.blocks d k blocks (let m = many.0 in omega (arith, m)) block lt) not_here noted
+        (λ k lt. ap (λ b. slice_index_or (dir_of b).entries k void_entry) read_is
+        ∙ entry_of_block base e.blocks d k blocks (let m = many.0 in omega (arith, m)) block lt) not_here noted
 
     idle : Stands (answered (pos 0) e) base base
-    idle = record { clean = s.clean; blocks = s.blocks; whole = refl; six = s.six; buffer = s.buffer; outgoing = s.outgoing; device = s.device; apart = s.apart; hand = refl }
+    idle = record { clean = s.clean; blocks = s.blocks; whole = refl; six = s.six; buffer = s.buffer; outgoing = s.outgoing;
+        device = s.device; apart = s.apart; hand = refl }
 
-    by_call : (c : FileCall) → e.call ≡ c → ((k : ℕ) → k < 78 → is_this (name_of e.call) (entry_at base k) ≡ false) → IsFreeSlot base 78 e'.slot → GoesTo (missing c e1).phase c (given_bytes c (put_bytes e)) e (missing c e1) base base
+    by_call : (c : FileCall) → e.call ≡ c → ((k : ℕ) → k < 78 → is_this (name_of e.call) (entry_at base k) ≡ false)
+        → IsFreeSlot base 78 e'.slot → GoesTo (missing c e1).phase c (given_bytes c (put_bytes e)) e (missing c e1) base base
     by_call (Open n mode) c none free =
         let o = opening_of e n mode d base base c h in
         let M : FileCall → Type 0 = λ w. (k : ℕ) → k < 78 → is_this (name_of w) (entry_at base k) ≡ false in

@@ -1,5 +1,5 @@
 -- The work of the engine, as the disk does it.
-use Rattle.std.proofs.Common.{◌≡◌, ℕ, List, [], refl, sym, ap, ◌∙◌, subst, Option, Some, None, Bool, true, false}
+use Rattle.std.proofs.Common.{◌≡◌, ℕ, List, [], refl, sym, ◌∙◌, subst, Option, Some, false}
 use Rattle.std.proofs.lemmas.Bool.{false≢true}
 use Rattle.lfs_check.specs.Rules.{block_in}
 use Rattle.lfs_check.specs.Disks.{block_put}
@@ -37,17 +37,20 @@ none_given (Seek x y) h = refl
 none_given (Truncate x) h = refl
 none_given (Size x) h = refl
 
-pub given_goes : (e e' : Files) (call : FileCall) (bytes base disk : List ℕ) → is_write call ≡ false → GoesTo e'.phase call [] e e' base disk → GoesTo e'.phase call (given_bytes call bytes) e e' base disk
+pub given_goes : (e e' : Files) (call : FileCall) (bytes base disk : List ℕ) → is_write call ≡ false
+    → GoesTo e'.phase call [] e e' base disk → GoesTo e'.phase call (given_bytes call bytes) e e' base disk
 given_goes e e' call bytes base disk h g =
     let P : List ℕ → Type 0 = λ b. GoesTo e'.phase call b e e' base disk in subst P (sym (none_given call h) ∙ given_same call [] bytes h) g
 
-pub other_goes : (e e' : Files) (call : FileCall) (bytes base disk : List ℕ) → is_write call ≡ false → GoesTo e'.phase call (given_bytes call []) e e' base disk → GoesTo e'.phase call (given_bytes call bytes) e e' base disk
+pub other_goes : (e e' : Files) (call : FileCall) (bytes base disk : List ℕ) → is_write call ≡ false
+    → GoesTo e'.phase call (given_bytes call []) e e' base disk → GoesTo e'.phase call (given_bytes call bytes) e e' base disk
 other_goes e e' call bytes base disk h g =
     let P : List ℕ → Type 0 = λ b. GoesTo e'.phase call b e e' base disk in subst P (given_same call [] bytes h) g
 
 -- A block is read.
 pub read_completes : (e e' : Files) (n : ℕ) (base disk read : List ℕ) → wanted e ≡ Some (work.Read n) → IsHonest e read disk
-    → (read ≡ block_in disk n → GoesTo e'.phase e.call (call_bytes e) e e' base disk) → GoesTo e'.phase e.call (call_bytes e) e e' base (served e disk)
+    → (read ≡ block_in disk n → GoesTo e'.phase e.call (call_bytes e) e e' base disk)
+    → GoesTo e'.phase e.call (call_bytes e) e e' base (served e disk)
 read_completes e e' n base disk read is honest goes =
     let H : Option BlockWork → Type 0 = λ w. IsHonestFor w read disk in
     let P : Option BlockWork → Type 0 = λ w. GoesTo e'.phase e.call (call_bytes e) e e' base (served_by w e.block disk) in
@@ -55,7 +58,8 @@ read_completes e e' n base disk read is honest goes =
 
 -- A block is written.
 pub write_completes : (e e' : Files) (n : ℕ) (base disk : List ℕ) → wanted e ≡ Some (work.Write n)
-    → GoesTo e'.phase e.call (call_bytes e) e e' base (block_put disk n e.block) → GoesTo e'.phase e.call (call_bytes e) e e' base (served e disk)
+    → GoesTo e'.phase e.call (call_bytes e) e e' base (block_put disk n e.block)
+    → GoesTo e'.phase e.call (call_bytes e) e e' base (served e disk)
 write_completes e e' n base disk is goes =
     let P : Option BlockWork → Type 0 = λ w. GoesTo e'.phase e.call (call_bytes e) e e' base (served_by w e.block disk) in
     subst P (sym is) goes

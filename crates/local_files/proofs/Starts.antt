@@ -1,112 +1,33 @@
 -- `write`, `putc` and `truncate` begin.
-use Rattle.std.proofs.Common.{◌≡◌, ◌≢◌, ℕ, zero, suc, ◌+◌, ◌*◌, ◌/◌, ◌<◌, ◌≤◌, Bool, true, false, cond, ◌||◌, nat_le, List, [], ◌∷◌, length, map, refl, sym, ap, ◌∙◌, subst, arith, slice_index_or, slice_set, Option, Some, None, ℤ, pos, negsuc, if◌then◌else◌, bytes_eq, not, nat_eq, slice_index, ◌&&◌, ◌%◌, get_or-set_same, get_or-set_other, length-set, ⊎_elim, take, nat_lt, length-take, ◌++◌, count_by, ◌==◌, ◌^◌, inl, inr, ◌⊎◌, max, length-append, replicate}
-use Rattle.std.proofs.lemmas.Bool.{false≢true, cases_eq, cases_lt}
+use Rattle.std.proofs.Common.{◌≡◌, ℕ, ◌+◌, ◌<◌, ◌≤◌, Bool, true, false, ◌||◌, nat_le, List, [], ◌∷◌, length, refl, sym, ap, ◌∙◌, subst, arith, slice_set, Option, Some, None, pos, negsuc, if◌then◌else◌, not, ◌&&◌, take, nat_lt, ◌==◌, inl, inr}
 use Rattle.std.proofs.lemmas.Bool.Decides.{nat_tests}
-use Rattle.std.proofs.lemmas.Slice.Eq.{bytes_eq-Decides}
 use Rattle.lfs_format.specs.declared.Entry.{Entry}
-use Rattle.lfs_check.specs.Rules.{entry_is_used, is_name, block_in}
-use Rattle.lfs_check.proofs.Images.{image_blocks}
-use Rattle.lfs_check.specs.Disks.{is_this, block_put, entry_at, entries, dir_with_entry, dir_with_header}
-use Rattle.lfs_check.proofs.BlockPuts.{length_put, put_same, put_other}
+use Rattle.lfs_check.specs.Rules.{entry_is_used}
+use Rattle.lfs_check.specs.Disks.{entry_at}
 use Rattle.lfs_layout.specs.Files.{bare_name}
 use Rattle.lfs_layout.specs.Images.{IsCleanImage}
-use Rattle.xinu_base.specs.declared.files.OpenMode.{OpenMode}
-use Rattle.xinu_model.specs.Files.Modes.{reads, writes}
-use Rattle.xinu_model.specs.Files.Stored.{StoredFile, file_named, with_contents, without_file}
+use Rattle.xinu_model.specs.Files.Stored.{with_contents}
 use Rattle.xinu_model.specs.Files.Systems.{FileSystem, FileEffect, is_open, free_device, refused_effect, replies}
-use Rattle.xinu_model.specs.Files.Opening.{open_stored, with_created, opening}
-use Rattle.file_laws.specs.StoredFiles.{stored_files, entry_bytes, entry_chain, entry_data}
-use Rattle.file_laws.proofs.Names.{name_padded, name_used, either-way, and-true}
-use Rattle.file_laws.proofs.Named.{IsName, named_none, length_entries, bytes_sized}
-use Rattle.file_laws.proofs.Counted.{files_counted, count_less, entry_small, count_most}
+use Rattle.file_laws.specs.StoredFiles.{stored_files, entry_bytes}
+use Rattle.file_laws.proofs.Names.{either-way}
+use Rattle.file_laws.proofs.Named.{bytes_sized}
 use Rattle.local_files.specs.declared.OpenFile.{OpenFile}
 use Rattle.local_files.specs.declared.Files.{Files}
 use Rattle.local_files.specs.declared.FileCall.{FileCall}
-use Rattle.local_files.specs.declared.FileCall.TheVariants.{Open, Delete, Close, Read, Write, Getc, Putc, Seek, Truncate, Size}
-use Rattle.local_files.specs.declared.Phase.{Phase}
-use Rattle.local_files.specs.declared.Phase.TheVariants.{EntryWrite, HeaderRead, HeaderWrite, EntryRead, Walk, Fetch, Done, Reach, PatchRead, TakeRead, PatchWrite, TakeWrite, AddRead, AddWrite, NewRead}
-use Rattle.local_files.specs.Hands.{system, IsEnding, IsMade, IsDevice, IsOpenOn, AreApart, IsCall, IsWritten, IsEmptied, IsDeleting, IsCreating, IsClosing, IsEntryBlock, IsHeaderBlock, files_after, MayLook, name_of, seen, put_bytes, IsReading, IsWalking, IsFetching, read_count, IsPutting, IsPut, put_files, IsReady, IsAt, IsReach, IsPatch, IsTake, IsPatched, IsTaken, IsTakeWrite, IsFilled, IsAddWrite}
-use Rattle.local_files.specs.Steps.{device_at, answered, with_device, lowest_free, shown, kept_at, counted, at_byte, device_of, is_write, is_truncate, has_this_open, is_this_open, piece, or_none, named_device, moved_to}
+use Rattle.local_files.specs.declared.FileCall.TheVariants.{Write, Putc, Truncate}
+use Rattle.local_files.specs.Hands.{system, IsOpenOn, AreApart, seen, put_bytes}
+use Rattle.local_files.specs.Putting.{IsPut}
+use Rattle.local_files.specs.Steps.{device_at, answered, with_device, shown, or_none, named_device, moved_to}
 use Rattle.local_files.specs.Standing.{Stands, InHand, served, GoesTo, call_bytes, given_bytes}
-use Rattle.local_files.specs.Opens.{opened, ended}
-use Rattle.local_files.proofs.Devices.{device_some, set_stands, shown_set, answered_stands, is_open_same, not_open, shown_at, some_below, apart_set, or-false, open_size}
+use Rattle.local_files.proofs.Devices.{device_some, set_stands, shown_set, answered_stands, shown_at, some_below}
 use Rattle.xinu_model.specs.Files.Systems as systems
-use Rattle.xinu_model.specs.Files.Opening as model_opening
 use Rattle.local_files.specs.Standing as engine
 use Rattle.xinu_model.specs.Files.Calls as model
-use Rattle.local_files.specs.Opens.{opening as opening_file}
-use Rattle.lfs_format.specs.Directory.{dir_of, IsDirBlock, void_entry}
-use Rattle.local_files.proofs.Closings.{blocks_many, made_open, put_whole}
-use Rattle.file_laws.proofs.Effects.{write_effect, putc_effect, truncate_effect, delete_effect, read_effect, getc_effect, open_bytes_is, write_refused, putc_refused}
+use Rattle.file_laws.proofs.Effects.{truncate_effect}
 use Rattle.xinu_model.specs.Files.Writing.{overwritten, fitting}
-use Rattle.std.proofs.Common.{◌-◌, ◌*◌, drop, replicate, length-drop, length-append, min}
-use Rattle.byteorder.specs.Endian.{little_bytes}
-use Rattle.lfs_format.specs.declared.Index.{Index}
-use Rattle.lfs_format.specs.Words.{word_of}
-use Rattle.lfs_format.specs.Indexes.{index_at, IsIndexPut}
-use Rattle.lfs_format.proofs.Words.{word_of-bytes, length-little}
-use Rattle.lfs_check.specs.Meets.{null}
-use Rattle.lfs_check.specs.declared.fields.Header.{Header}
-use Rattle.lfs_check.specs.declared.geometry.Geometry.{Geometry}
-use Rattle.lfs_check.specs.Geometries.{index_count, first_data, room}
-use Rattle.lfs_check.specs.Laid.{Places, numbers_at, index_for}
-use Rattle.lfs_check.specs.Clean.{places_of, chain_in, data_in}
-use Rattle.lfs_check.specs.Fields.{fields_of}
-use Rattle.lfs_check.specs.Disks.{disk_geometry, header_on}
-use Rattle.file_laws.specs.Middle.{IsMiddle}
-use Rattle.file_laws.specs.Changing.{IsCut, IsReadBy, IsIndexRead}
-use Rattle.file_laws.specs.Rewriting.{IsRewriting, IsCleared, IsFinished, IsRemoved, rewritten}
-use Rattle.file_laws.proofs.Middles.{middle_begins, middle_held}
-use Rattle.file_laws.proofs.Reached.{middle_read, free_data_first, free_data_some, free_data_none, free_index_none, middle_data_taken, free_index_some, free_index_first}
-use Rattle.file_laws.proofs.Cutting.{cut_begins, cut_data, cut_index, cut_ends}
-use Rattle.file_laws.proofs.Finished.{middle_ends}
-use Rattle.file_laws.proofs.Removed.{middle_removed}
-use Rattle.file_laws.proofs.Counted.{base_counted}
-use Rattle.local_files.specs.Hands.{IsCutFor, IsCutting, IsCutRead, IsCutWrite, IsFreeWrite}
-use Rattle.local_files.specs.Cuts.{cutting, cut_at, end_cut, cut_read, cut_written, freed_index, free_next, freeing, free_written, word_block}
-use Rattle.local_files.specs.Steps.{is_delete}
-use Rattle.local_files.specs.declared.Phase.TheVariants.{CutRead, CutWrite, FreeWrite}
-use Rattle.local_files.proofs.Closings.{blocks_many, put_whole}
-use Rattle.std.proofs.lemmas.List.Sums.{sum_by-cons}
-use Rattle.file_laws.proofs.Rewritten.{rewritten_entry, entry_count}
-use Rattle.local_files.proofs.Freeing.{IsStanding, standing, end_cut_goes, number_at, null_at, some_at, none_at, goes_from}
-use Rattle.std.proofs.lemmas.List.{length-replicate, get_or-map, take_all, take_at, drop_at, drop-drop, drop_all, take-take, append-nil}
-use Rattle.local_files.proofs.CutSteps.{index_on_disk}
-use Rattle.lfs_check.proofs.Directories.{geometry_is}
-use Rattle.local_files.specs.Takes.{walking, fetching, walked, with_taken, read_on, fetched, next_fetch, finished_read, finished_at, given_all, reading, reading_at}
-use Rattle.file_laws.proofs.ReadBlocks.{bytes_in_block}
-use Rattle.file_laws.proofs.Patched.{block_long, middle_sized, middle_patched, held_range, times_first, middle_appended}
-use Rattle.file_laws.proofs.Fitting.{length_overwritten, fitting_is}
-use Rattle.local_files.proofs.Ends.{apart_moved, counted_small}
-use Rattle.xinu_model.specs.Files.Reading.{read_file, getc_file, first_byte, taken, bytes_ahead}
-use Rattle.local_files.proofs.Taking.{open_of, block_of, take_add}
-use Rattle.local_files.specs.Puts.{end_put, at_end, target, reaching, reach_to, in_place, patching, appending, taking, next_put, put_done, patch_read, reached, take_read, take_written, newing, added_index, with_index, add_read}
-use Rattle.file_laws.specs.Fitting.{IsFull, IsDataFull, IsIndexFull}
-use Rattle.lfs_check.proofs.Counting.{length-most}
-use Rattle.lfs_check.proofs.Steps.{times_in-part}
-use Rattle.local_files.proofs.Putting.{put_open, put_entry_is, put_small, where_put, puts_long, put_size, end_put_goes}
-use Rattle.local_files.proofs.PutSteps.{put_kept, at_kept, ready_kept, ends_is, inside_is, target_in, target_end, next_put_goes}
-use Rattle.local_files.specs.Buffers.{patched}
-use Rattle.file_laws.proofs.Overwrites.{overwritten_more}
-use Rattle.local_files.proofs.Pieces.{IsPiece, piece_is, piece_bytes, after_goes, patched_is, piece_more, done_long, low_old}
-use Rattle.local_files.specs.declared.Phase.TheVariants.{NewWrite, LinkRead, LinkWrite}
-use Rattle.local_files.specs.Hands.{IsNew, IsNewWrite, IsLink, IsLinkWrite}
-use Rattle.local_files.specs.Puts.{fresh_index, new_read, new_written, followed, link_read, linked_index}
-use Rattle.local_files.proofs.Pieces.{done_long, low_old, target_either}
-use Rattle.local_files.proofs.Putting.{put_small, put_open}
-use Rattle.lfs_check.specs.Meets.{times_met}
-use Rattle.file_laws.proofs.Reached.{index_below}
-use Rattle.local_files.proofs.Grows.{IsGrowing, growing, slot_lists, append_at, append_last}
-use Rattle.file_laws.proofs.Reached.{middle_index_got}
-use Rattle.file_laws.proofs.Freed.{middle_index_held}
-use Rattle.file_laws.proofs.Patched.{middle_started, middle_continued}
-use Rattle.lfs_check.proofs.Steps.{index_for-more}
-use Rattle.local_files.specs.declared.Phase.TheVariants.{Counts}
-use Rattle.local_files.specs.Hands.{IsCounting, IsBegun}
-use Rattle.local_files.specs.Puts.{counts_read}
-use Rattle.local_files.proofs.CutSteps.{cutting_goes}
-use Rattle.lfs_check.specs.Fields.{header_2}
-use Rattle.std.proofs.lemmas.List.{take-append-drop}
+use Rattle.std.proofs.Common.{drop}
+use Rattle.std.proofs.lemmas.List.{take_at}
+use Rattle.file_laws.proofs.Fitting.{length_overwritten}
 use Rattle.local_files.specs.Buffers.{put_at}
 use Rattle.local_files.specs.Cuts.{truncating, truncating_at, held_file}
 use Rattle.local_files.specs.Puts.{writing, writing_at}
@@ -118,47 +39,60 @@ use Rattle.xinu_model.specs.Files.Writing.{write_file, putc_file, truncate_file,
 record IsPutCall (call : FileCall) (d : ℕ) (bytes : List ℕ) (sys : FileSystem) : Type 0 where
   named : named_device call ≡ Some d
   put : IsPut call bytes
-  closed : systems.open_at sys d ≡ None → model.file_effect (engine.call_of call (given_bytes call bytes)) (given_bytes call bytes) sys ≡ refused_effect sys
-  refused : (f : systems.OpenFile) → systems.open_at sys d ≡ Some f → f.may_write ≡ false → model.file_effect (engine.call_of call (given_bytes call bytes)) (given_bytes call bytes) sys ≡ refused_effect sys
+  closed : systems.open_at sys d ≡ None → model.file_effect (engine.call_of call (given_bytes call bytes)) (given_bytes call bytes) sys
+      ≡ refused_effect sys
+  refused : (f : systems.OpenFile) → systems.open_at sys d ≡ Some f → f.may_write ≡ false
+      → model.file_effect (engine.call_of call (given_bytes call bytes)) (given_bytes call bytes) sys ≡ refused_effect sys
 
 write_call : (d : ℕ) (bytes : List ℕ) (sys : FileSystem) → IsPutCall (Write d) d bytes sys
 write_call d bytes sys = record {
   named = refl; put = tt;
   closed = λ at. ap (λ o. systems.on_open o (λ f. write_file d bytes f sys) sys) at;
-  refused = λ f at r. ap (λ o. systems.on_open o (λ f. write_file d bytes f sys) sys) at ∙ ap (λ v. if not v || (nat_lt 0 (length bytes) && (fitting f bytes sys == 0)) then refused_effect sys else rest f) r;
+  refused = λ f at r. ap (λ o. systems.on_open o (λ f. write_file d bytes f sys) sys) at
+  ∙ ap (λ v. if not v || (nat_lt 0 (length bytes) && (fitting f bytes sys == 0)) then refused_effect sys else rest f) r;
 }
   where
     rest : systems.OpenFile → FileEffect
-    rest f = replies (pos (fitting f bytes sys)) (record sys { files = files_with f (take (fitting f bytes sys) bytes) sys; devices = slice_set sys.devices d (Some (record f { position = f.position + length (take (fitting f bytes sys) bytes) })) })
+    rest f = replies (pos (fitting f bytes sys)) (record sys { files = files_with f (take (fitting f bytes sys) bytes) sys;
+        devices = slice_set sys.devices d (Some (record f { position = f.position + length (take (fitting f bytes sys) bytes) })) })
 
 putc_call : (d b : ℕ) (sys : FileSystem) → IsPutCall (Putc d b) d (b ∷ []) sys
 putc_call d b sys = record {
   named = refl; put = refl;
   closed = λ at. ap (λ o. systems.on_open o (λ f. putc_file d b f sys) sys) at;
-  refused = λ f at r. ap (λ o. systems.on_open o (λ f. putc_file d b f sys) sys) at ∙ ap (λ v. if not v || not (have_room f (b ∷ []) sys) then refused_effect sys else rest f) r;
+  refused = λ f at r. ap (λ o. systems.on_open o (λ f. putc_file d b f sys) sys) at
+  ∙ ap (λ v. if not v || not (have_room f (b ∷ []) sys) then refused_effect sys else rest f) r;
 }
   where
     rest : systems.OpenFile → FileEffect
-    rest f = replies (pos 0) (record sys { files = files_with f (b ∷ []) sys; devices = slice_set sys.devices d (Some (record f { position = f.position + 1 })) })
+    rest f = replies (pos 0) (record sys { files = files_with f (b ∷ []) sys;
+        devices = slice_set sys.devices d (Some (record f { position = f.position + 1 })) })
 
 -- the bytes are in the buffer
-put_in : (bytes buffer : List ℕ) → length bytes ≤ 1048576 → length buffer ≡ 1048576 → (length (put_at 0 bytes buffer) ≡ 1048576) × (take (length bytes) (put_at 0 bytes buffer) ≡ bytes)
+put_in : (bytes buffer : List ℕ) → length bytes ≤ 1048576 → length buffer ≡ 1048576
+    → (length (put_at 0 bytes buffer) ≡ 1048576) × (take (length bytes) (put_at 0 bytes buffer) ≡ bytes)
 put_in bytes buffer few long =
     let t : nat_le (0 + length bytes) 1048576 ≡ true = grind (arith, nat_tests) in
-    let P : Bool → Type 0 = λ v. (length (if v then overwritten 0 bytes buffer else buffer) ≡ 1048576) × (take (length bytes) (if v then overwritten 0 bytes buffer else buffer) ≡ bytes) in
+    let P : Bool → Type 0 = λ v. (length (if v then overwritten 0 bytes buffer else buffer) ≡ 1048576)
+    × (take (length bytes) (if v then overwritten 0 bytes buffer else buffer) ≡ bytes) in
     let l = length_overwritten 0 bytes buffer (omega arith) in
     subst P (sym t) (omega (arith, l, few, long), take_at bytes (drop (0 + length bytes) buffer) (length bytes) refl)
 
 -- A write of no bytes.
-nothing_put : (base bytes : List ℕ) (d : ℕ) (f : OpenFile) (e : Files) → length bytes ≡ 0 → IsCleanImage base → IsOpenOn base f → f.write ≡ true → systems.open_at (system e base) d ≡ Some (seen f)
+nothing_put : (base bytes : List ℕ) (d : ℕ) (f : OpenFile) (e : Files) → length bytes ≡ 0 → IsCleanImage base → IsOpenOn base f
+    → f.write ≡ true → systems.open_at (system e base) d ≡ Some (seen f)
     → model.file_effect (model.Write d (length bytes)) bytes (system e base) ≡ replies (pos 0) (system e base)
 nothing_put base [] d f e none c o may at =
-    empty_write base d f.slot (seen f) (system e base) c o.slot (ap entry_is_used o.entry ∙ o.used) at may refl (ap (λ (x : Entry). bare_name x.name) (sym o.entry))
+    empty_write base d f.slot (seen f) (system e base) c o.slot (ap entry_is_used o.entry
+    ∙ o.used) at may refl (ap (λ (x : Entry). bare_name x.name) (sym o.entry))
 nothing_put base (x ∷ xs) d f e none c o may at = absurd (omega (arith, none))
 
 -- A call that puts bytes begins.
-begin_put_goes : (e e' : Files) (call : FileCall) (d : ℕ) (bytes disk : List ℕ) → IsPutCall call d bytes (system e disk) → length bytes ≤ 1048576
-    → ((f : OpenFile) → device_at e d ≡ Some f → f.write ≡ true → length bytes ≡ 0 → model.file_effect (engine.call_of call (given_bytes call bytes)) (given_bytes call bytes) (system e disk) ≡ replies (pos 0) (system e disk))
+begin_put_goes : (e e' : Files) (call : FileCall) (d : ℕ) (bytes disk : List ℕ) → IsPutCall call d bytes (system e disk)
+    → length bytes ≤ 1048576
+    → ((f : OpenFile) → device_at e d ≡ Some f → f.write ≡ true → length bytes ≡ 0
+    → model.file_effect (engine.call_of call (given_bytes call bytes)) (given_bytes call bytes) (system e disk) ≡ replies (pos 0)
+    (system e disk))
     → e' ≡ writing_at (device_at e d) bytes call e → Stands e disk disk → GoesTo e'.phase call (given_bytes call bytes) e e' disk disk
 begin_put_goes e e' call d bytes disk c few nothing new s = subst P (sym new) (by_device (device_at e d) refl)
   where
@@ -166,7 +100,8 @@ begin_put_goes e e' call d bytes disk c few nothing new s = subst P (sym new) (b
     P x = GoesTo x.phase call (given_bytes call bytes) e x disk disk
 
     begun : OpenFile → Files
-    begun f = record (held_file f call e) { buffer = put_at 0 bytes e.buffer; position = f.position; total = length bytes; done = 0; reached = 0 }
+    begun f = record (held_file f call e) { buffer = put_at 0 bytes e.buffer; position = f.position; total = length bytes; done = 0;
+        reached = 0 }
 
     bytes_put : (f : OpenFile) → put_bytes (begun f) ≡ bytes
     bytes_put f = (put_in bytes e.buffer few s.buffer).1
@@ -176,9 +111,12 @@ begin_put_goes e e' call d bytes disk c few nothing new s = subst P (sym new) (b
 
     starts : (f : OpenFile) → device_at e d ≡ Some f → f.write ≡ true → 0 < length bytes → P (begun f)
     starts f at may some =
-        (record { clean = s.clean; blocks = s.blocks; whole = refl; six = s.six; buffer = (put_in bytes e.buffer few s.buffer).0; outgoing = s.outgoing; device = s.device; apart = s.apart;
-          hand = record { same = refl; file = f; open_is = ap (λ k. device_at e (or_none k)) c.named ∙ at; writes = may; slot = refl; entry = refl;
-            begun = inr (record { call = put (put_bytes (begun f)) (bytes_put f); position = refl; most = few; some = some; none = refl; not_reached = refl }) } },
+        (record { clean = s.clean; blocks = s.blocks; whole = refl; six = s.six; buffer = (put_in bytes e.buffer few s.buffer).0;
+        outgoing = s.outgoing; device = s.device; apart = s.apart;
+          hand = record { same = refl; file = f; open_is = ap (λ k. device_at e (or_none k)) c.named
+          ∙ at; writes = may; slot = refl; entry = refl;
+            begun = inr (record { call = put (put_bytes (begun f)) (bytes_put f); position = refl; most = few; some = some; none = refl;
+            not_reached = refl }) } },
          refl, ap (given_bytes call) (bytes_put f), refl)
 
     in_file : (f : OpenFile) → device_at e d ≡ Some f → P (writing f bytes call e)
@@ -188,7 +126,8 @@ begin_put_goes e e' call d bytes disk c few nothing new s = subst P (sym new) (b
         let last : Bool → Files = λ z. if z then answered (pos 0) e else begun f in
         let first : Bool → Bool → Files = λ w v. if not w || v then answered (negsuc 0) e else last (length bytes == 0) in
         either-way f.write (λ w. f.write ≡ w → P (first w (nat_lt 1048576 (length bytes))))
-        (λ _ r. (let Q : Bool → Type 0 = λ v. P (first true v) in subst Q (sym small) (either-way (length bytes == 0) (λ z. (length bytes == 0) ≡ z → P (last z))
+        (λ _ r. (let Q : Bool → Type 0 = λ v. P (first true v) in
+        subst Q (sym small) (either-way (length bytes == 0) (λ z. (length bytes == 0) ≡ z → P (last z))
           (λ _ t. (let z : length bytes ≡ 0 = grind (arith, nat_tests) in (nothing f at r z, answered_stands (pos 0) e disk s)))
           (λ _ t. (let z : 0 < length bytes = above (length bytes) t in starts f at r z))
           refl)))
@@ -203,7 +142,8 @@ begin_put_goes e e' call d bytes disk c few nothing new s = subst P (sym new) (b
     by_device (Some f) at = in_file f at
 
 -- `write`
-pub begin_write_goes : (e e' : Files) (call : FileCall) (d : ℕ) (bytes disk : List ℕ) → call ≡ Write d → length bytes ≤ 1048576 → e' ≡ writing_at (device_at e d) bytes (Write d) e → Stands e disk disk
+pub begin_write_goes : (e e' : Files) (call : FileCall) (d : ℕ) (bytes disk : List ℕ) → call ≡ Write d → length bytes ≤ 1048576
+    → e' ≡ writing_at (device_at e d) bytes (Write d) e → Stands e disk disk
     → GoesTo e'.phase call (given_bytes call bytes) e e' disk disk
 begin_write_goes e e' call d bytes disk is few new s =
     let P : FileCall → Type 0 = λ k. GoesTo e'.phase k (given_bytes k bytes) e e' disk disk in
@@ -211,10 +151,12 @@ begin_write_goes e e' call d bytes disk is few new s =
       (λ f at r z. nothing_put disk bytes d f e z s.clean (device_some e disk disk d f s at) r (shown_at e.devices d ∙ ap shown at)) new s)
 
 -- `putc`
-pub begin_putc_goes : (e e' : Files) (call : FileCall) (d b : ℕ) (disk : List ℕ) → call ≡ Putc d b → e' ≡ writing_at (device_at e d) (b ∷ []) (Putc d b) e → Stands e disk disk → GoesTo e'.phase call [] e e' disk disk
+pub begin_putc_goes : (e e' : Files) (call : FileCall) (d b : ℕ) (disk : List ℕ) → call ≡ Putc d b
+    → e' ≡ writing_at (device_at e d) (b ∷ []) (Putc d b) e → Stands e disk disk → GoesTo e'.phase call [] e e' disk disk
 begin_putc_goes e e' call d b disk is new s =
     let P : FileCall → Type 0 = λ k. GoesTo e'.phase k [] e e' disk disk in
-    subst P (sym is) (begin_put_goes e e' (Putc d b) d (b ∷ []) disk (putc_call d b (system e disk)) (omega arith) (λ f at r z. absurd (omega (arith, z))) new s)
+    subst P (sym is) (begin_put_goes e e' (Putc d b) d (b ∷ []) disk (putc_call d b (system e disk)) (omega arith) (λ f at r z.
+    absurd (omega (arith, z))) new s)
 
 -- a list of no elements
 no_bytes : (xs : List ℕ) → length xs ≡ 0 → xs ≡ []
@@ -222,18 +164,22 @@ no_bytes [] h = refl
 no_bytes (x ∷ xs) h = absurd (omega (arith, h))
 
 -- two devices, of which one gets another position
-moved_apart : (x : Option OpenFile) (f g : OpenFile) → g.slot ≡ f.slot → AreApart x (Some f) → AreApart (Some f) x → AreApart x (Some g) × AreApart (Some g) x
+moved_apart : (x : Option OpenFile) (f g : OpenFile) → g.slot ≡ f.slot → AreApart x (Some f) → AreApart (Some f) x
+    → AreApart x (Some g) × AreApart (Some g) x
 moved_apart None f g q a b = (tt, tt)
 moved_apart (Some y) f g q a b = (λ z. a (z ∙ q), λ z. b (sym q ∙ z))
 
 -- `truncate`
-truncate_goes : (e : Files) (d : ℕ) (disk : List ℕ) → Stands e disk disk → GoesTo (truncating_at (device_at e d) d (Truncate d) e).phase (Truncate d) [] e (truncating_at (device_at e d) d (Truncate d) e) disk disk
+truncate_goes : (e : Files) (d : ℕ) (disk : List ℕ) → Stands e disk disk
+    → GoesTo (truncating_at (device_at e d) d (Truncate d) e).phase (Truncate d) [] e
+    (truncating_at (device_at e d) d (Truncate d) e) disk disk
 truncate_goes e d disk s = by_device (device_at e d) refl
   where
     P : Files → Type 0
     P x = GoesTo x.phase (Truncate d) [] e x disk disk
 
-    emptied : (f : OpenFile) → device_at e d ≡ Some f → f.write ≡ true → f.entry.size ≡ 0 → P (answered (pos 0) (with_device d (Some (record f { position = 0 })) e))
+    emptied : (f : OpenFile) → device_at e d ≡ Some f → f.write ≡ true → f.entry.size ≡ 0
+        → P (answered (pos 0) (with_device d (Some (record f { position = 0 })) e))
     emptied f at may z =
         let o = device_some e disk disk d f s at in
         let g : OpenFile = record f { position = 0 } in
@@ -244,10 +190,14 @@ truncate_goes e d disk s = by_device (device_at e d) refl
         let name = (entry_at disk f.slot).name in
         let kept = ap (λ b. with_contents (bare_name name) b (stored_files disk)) (sym none) ∙ kept_contents disk f.slot s.clean o.slot u in
         let b = some_below e.devices d f at in let six = s.six in
-        (truncate_effect disk disk [] d f.slot (seen f) (system e disk) (shown_at e.devices d ∙ ap shown at) may refl (ap (λ (x : Entry). bare_name x.name) (sym o.entry)) (sym kept)
-          ∙ ap (λ xs. let r : FileEffect = record { system = record (system e disk) { devices = xs }; reply = pos 0; bytes = [] } in r) (sym (shown_set e.devices d (Some g))),
-         set_stands (pos 0) e disk d (Some g) s (omega (arith, b, six)) (record { slot = o.slot; entry = o.entry; used = o.used; position = omega arith }) (λ c ne. (
-           let A : Option OpenFile → Type 0 = λ x. AreApart (device_at e c) x in let B : Option OpenFile → Type 0 = λ x. AreApart x (device_at e c) in
+        (truncate_effect disk disk [] d f.slot (seen f) (system e disk) (shown_at e.devices d
+        ∙ ap shown at) may refl (ap (λ (x : Entry). bare_name x.name) (sym o.entry)) (sym kept)
+          ∙ ap (λ xs. let r : FileEffect = record { system = record (system e disk) { devices = xs }; reply = pos 0; bytes = [] } in
+          r) (sym (shown_set e.devices d (Some g))),
+         set_stands (pos 0) e disk d (Some g) s (omega (arith, b, six)) (record { slot = o.slot; entry = o.entry; used = o.used;
+         position = omega arith }) (λ c ne. (
+           let A : Option OpenFile → Type 0 = λ x. AreApart (device_at e c) x in let B : Option OpenFile
+           → Type 0 = λ x. AreApart x (device_at e c) in
            moved_apart (device_at e c) f g refl (subst A at (s.apart c d ne)) (subst B at (s.apart d c (λ q. ne (sym q)))))))
 
     in_file : (f : OpenFile) → device_at e d ≡ Some f → P (truncating f d (Truncate d) e)
@@ -256,21 +206,28 @@ truncate_goes e d disk s = by_device (device_at e d) refl
         let seen_at : systems.open_at sys d ≡ Some (seen f) = shown_at e.devices d ∙ ap shown at in
         let held : Files = held_file f (Truncate d) e in
         let last : Bool → Files = λ z. if z then answered (pos 0) (moved_to (device_at e d) d 0 e) else held in
-        let rest : FileEffect = replies (pos 0) (record sys { files = with_contents (seen f).name [] sys.files; devices = slice_set sys.devices d (Some (record (seen f) { position = 0 })) }) in
+        let rest : FileEffect = replies (pos 0) (record sys { files = with_contents (seen f).name [] sys.files;
+        devices = slice_set sys.devices d (Some (record (seen f) { position = 0 })) }) in
         either-way f.write (λ w. f.write ≡ w → P (if not w then answered (negsuc 0) e else last (f.entry.size == 0)))
         (λ _ r. either-way (f.entry.size == 0) (λ z. (f.entry.size == 0) ≡ z → P (last z))
-          (λ _ t. (let z : f.entry.size ≡ 0 = grind (arith, nat_tests) in let Q : Option OpenFile → Type 0 = λ o. P (answered (pos 0) (moved_to o d 0 e)) in subst Q (sym at) (emptied f at r z)))
-          (λ _ t. (record { clean = s.clean; blocks = s.blocks; whole = refl; six = s.six; buffer = s.buffer; outgoing = s.outgoing; device = s.device; apart = s.apart;
-            hand = record { same = refl; file = f; open_is = at; writes = r; slot = refl; entry = refl; begun = inl refl } }, refl, refl, refl))
+          (λ _ t. (let z : f.entry.size ≡ 0 = grind (arith, nat_tests) in let Q : Option OpenFile
+          → Type 0 = λ o. P (answered (pos 0) (moved_to o d 0 e)) in subst Q (sym at) (emptied f at r z)))
+          (λ _ t. (record { clean = s.clean; blocks = s.blocks; whole = refl; six = s.six; buffer = s.buffer; outgoing = s.outgoing;
+          device = s.device; apart = s.apart;
+            hand = record { same = refl; file = f; open_is = at; writes = r; slot = refl; entry = refl;
+            begun = inl refl } }, refl, refl, refl))
           refl)
-        (λ _ r. (ap (λ o. systems.on_open o (λ g. truncate_file d g sys) sys) seen_at ∙ ap (λ v. if not v then refused_effect sys else rest) r, answered_stands (negsuc 0) e disk s))
+        (λ _ r. (ap (λ o. systems.on_open o (λ g. truncate_file d g sys) sys) seen_at
+        ∙ ap (λ v. if not v then refused_effect sys else rest) r, answered_stands (negsuc 0) e disk s))
         refl
 
     by_device : (o : Option OpenFile) → device_at e d ≡ o → P (truncating_at o d (Truncate d) e)
-    by_device None at = (ap (λ x. systems.on_open x (λ f. truncate_file d f (system e disk)) (system e disk)) (shown_at e.devices d ∙ ap shown at), answered_stands (negsuc 0) e disk s)
+    by_device None at = (ap (λ x. systems.on_open x (λ f. truncate_file d f (system e disk)) (system e disk)) (shown_at e.devices d
+        ∙ ap shown at), answered_stands (negsuc 0) e disk s)
     by_device (Some f) at = in_file f at
 
-pub begin_truncate_goes : (e e' : Files) (call : FileCall) (d : ℕ) (disk : List ℕ) → call ≡ Truncate d → e' ≡ truncating_at (device_at e d) d (Truncate d) e → Stands e disk disk → GoesTo e'.phase call [] e e' disk disk
+pub begin_truncate_goes : (e e' : Files) (call : FileCall) (d : ℕ) (disk : List ℕ) → call ≡ Truncate d
+    → e' ≡ truncating_at (device_at e d) d (Truncate d) e → Stands e disk disk → GoesTo e'.phase call [] e e' disk disk
 begin_truncate_goes e e' call d disk is new s =
     let P : Files → Type 0 = λ x. GoesTo x.phase (Truncate d) [] e x disk disk in
     let Q : FileCall → Type 0 = λ k. GoesTo e'.phase k [] e e' disk disk in

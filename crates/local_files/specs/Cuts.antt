@@ -1,16 +1,13 @@
 -- The steps of `truncate`, and those that a deletion has besides.
-use Rattle.std.specs.Prelude.{ℕ, zero, suc, ◌≡◌, ◌≢◌, ◌+◌, ◌-◌, ◌*◌, ◌/◌, ◌%◌, ◌<◌, ◌≤◌, ◌==◌, Bool, true, false, not, cond, nat_eq, nat_le, nat_lt, ◌&&◌, ◌||◌, if◌then◌else◌, min, max, List, [], ◌∷◌, ◌++◌, length, map, take, drop, replicate, Option, Some, None, slice_index, slice_index_or, slice_set, bytes_eq, ℤ, pos, negsuc}
+use Rattle.std.specs.Prelude.{ℕ, ◌+◌, ◌/◌, ◌%◌, ◌==◌, not, nat_lt, ◌&&◌, if◌then◌else◌, List, ◌++◌, replicate, Option, Some, None, slice_index, pos, negsuc}
 use Rattle.byteorder.specs.Endian.{little_bytes}
 use Rattle.lfs_format.specs.declared.Entry.{Entry}
 use Rattle.lfs_format.specs.declared.Index.{Index}
 use Rattle.lfs_check.specs.Meets.{null}
 use Rattle.local_files.specs.Steps.{answered, moved_to, device_at, is_delete}
-use Rattle.xinu_base.specs.declared.files.OpenMode.{OpenMode}
 use Rattle.local_files.specs.declared.OpenFile.{OpenFile}
 use Rattle.local_files.specs.declared.FileCall.{FileCall}
-use Rattle.local_files.specs.declared.FileCall.TheVariants.{Open, Delete, Close, Read, Write, Getc, Putc, Seek, Truncate, Size}
-use Rattle.local_files.specs.declared.Phase.{Phase}
-use Rattle.local_files.specs.declared.Phase.TheVariants.{Idle, Done, Search, Walk, Fetch, Counts, Reach, PatchRead, PatchWrite, TakeRead, TakeWrite, AddRead, AddWrite, NewRead, NewWrite, LinkRead, LinkWrite, CutRead, CutWrite, FreeWrite, EntryRead, EntryWrite, HeaderRead, HeaderWrite}
+use Rattle.local_files.specs.declared.Phase.TheVariants.{Counts, CutRead, CutWrite, FreeWrite, EntryRead}
 use Rattle.local_files.specs.declared.Files.{Files}
 
 -- a call takes the file of a device in hand, and reads the counts
@@ -29,7 +26,8 @@ truncating_at (Some f) d call e = truncating f d call e
 -- all blocks are free
 abbrev pub end_cut : Files → Files
 end_cut e =
-    if is_delete e.call then record e { entry = record e.entry { name = replicate 28 0 }; header = record e.header { files = (e.header.files + 4294967295) % 4294967296 }; phase = EntryRead }
+    if is_delete e.call then record e { entry = record e.entry { name = replicate 28 0 };
+        header = record e.header { files = (e.header.files + 4294967295) % 4294967296 }; phase = EntryRead }
     else record e { phase = EntryRead }
 
 -- goes on to an index block, if there is such a block

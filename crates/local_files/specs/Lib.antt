@@ -5,4 +5,5 @@ pub mod Cuts
 pub mod Puts
 pub mod Opens
 pub mod Hands
+pub mod Putting
 pub mod Standing

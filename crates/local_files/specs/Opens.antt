@@ -1,8 +1,7 @@
 -- The steps of `open`, `delete`, `close`, `seek` and the size, and the end of a call that wrote the directory.
-use Rattle.std.specs.Prelude.{ℕ, zero, suc, ◌≡◌, ◌≢◌, ◌+◌, ◌-◌, ◌*◌, ◌/◌, ◌%◌, ◌<◌, ◌≤◌, ◌==◌, Bool, true, false, not, cond, nat_eq, nat_le, nat_lt, ◌&&◌, ◌||◌, if◌then◌else◌, min, max, List, [], ◌∷◌, ◌++◌, length, map, take, drop, replicate, Option, Some, None, slice_index, slice_index_or, slice_set, bytes_eq, ℤ, pos, negsuc}
+use Rattle.std.specs.Prelude.{ℕ, ◌≡◌, ◌+◌, ◌-◌, ◌*◌, ◌<◌, ◌≤◌, Bool, true, false, nat_le, nat_lt, ◌||◌, if◌then◌else◌, List, Option, Some, None, slice_index_or, ℤ, pos, negsuc}
 use Rattle.lfs_format.specs.declared.Entry.{Entry}
 use Rattle.lfs_format.specs.Directory.{void_entry}
-use Rattle.lfs_check.specs.declared.fields.Header.{Header}
 use Rattle.lfs_check.specs.Rules.{entry_is_used}
 use Rattle.xinu_model.specs.Files.Modes.{reads, writes}
 use Rattle.file_laws.specs.StoredFiles.{empty_entry, one_more}
@@ -11,9 +10,8 @@ use Rattle.local_files.specs.Cuts.{cutting}
 use Rattle.xinu_base.specs.declared.files.OpenMode.{OpenMode}
 use Rattle.local_files.specs.declared.OpenFile.{OpenFile}
 use Rattle.local_files.specs.declared.FileCall.{FileCall}
-use Rattle.local_files.specs.declared.FileCall.TheVariants.{Open, Delete, Close, Read, Write, Getc, Putc, Seek, Truncate, Size}
-use Rattle.local_files.specs.declared.Phase.{Phase}
-use Rattle.local_files.specs.declared.Phase.TheVariants.{Idle, Done, Search, Walk, Fetch, Counts, Reach, PatchRead, PatchWrite, TakeRead, TakeWrite, AddRead, AddWrite, NewRead, NewWrite, LinkRead, LinkWrite, CutRead, CutWrite, FreeWrite, EntryRead, EntryWrite, HeaderRead, HeaderWrite}
+use Rattle.local_files.specs.declared.FileCall.TheVariants.{Open, Delete}
+use Rattle.local_files.specs.declared.Phase.TheVariants.{Search, EntryRead}
 use Rattle.local_files.specs.declared.Files.{Files}
 
 -- what a device has open at first
@@ -33,7 +31,8 @@ closing (Some f) d e = answered (pos 0) (with_device d None e)
 
 abbrev pub seeking_in : OpenFile → ℕ → ℤ → Files → Files
 seeking_in f d (negsuc n) e = answered (negsuc 0) e
-seeking_in f d (pos n) e = if nat_lt f.entry.size n then answered (negsuc 0) e else answered (pos 0) (with_device d (Some (record f { position = n })) e)
+seeking_in f d (pos n) e = if nat_lt f.entry.size n then answered (negsuc 0) e else answered (pos 0)
+    (with_device d (Some (record f { position = n })) e)
 
 abbrev pub seeking : Option OpenFile → ℕ → ℤ → Files → Files
 seeking None d n e = answered (negsuc 0) e
@@ -62,7 +61,8 @@ finding _ slot entry e = answered (negsuc 0) e
 -- a name that isn't there
 abbrev pub missing : FileCall → Files → Files
 missing (Open name mode) e =
-    if mode.only_old || nat_le 78 e.slot then answered (negsuc 0) e else record e { entry = empty_entry name; header = one_more e.header; phase = EntryRead }
+    if mode.only_old || nat_le 78 e.slot then answered (negsuc 0) e else record e { entry = empty_entry name; header = one_more e.header;
+        phase = EntryRead }
 missing _ e = answered (negsuc 0) e
 
 -- the search goes on, or has passed the last block
@@ -89,5 +89,6 @@ IsLook _ = ⊥
 -- a place for a new file after a directory block, by that before it
 pub record IsNoted (d before after : ℕ) (es : List Entry) : Type 0 where
   pub kept : before < 78 → after ≡ before
-  pub found : 78 ≤ before → after < 78 → (13 * d ≤ after) × (after < 13 * d + 13) × (entry_is_used (slice_index_or es (after - 13 * d) void_entry) ≡ false)
+  pub found : 78 ≤ before → after < 78 → (13 * d ≤ after) × (after < 13 * d + 13)
+      × (entry_is_used (slice_index_or es (after - 13 * d) void_entry) ≡ false)
   pub none : 78 ≤ after → (k : ℕ) → k < 13 → entry_is_used (slice_index_or es k void_entry) ≡ true

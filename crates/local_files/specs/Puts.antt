@@ -1,5 +1,5 @@
 -- The steps of `write` and `putc`.
-use Rattle.std.specs.Prelude.{ℕ, zero, suc, ◌≡◌, ◌≢◌, ◌+◌, ◌-◌, ◌*◌, ◌/◌, ◌%◌, ◌<◌, ◌≤◌, ◌==◌, Bool, true, false, not, cond, nat_eq, nat_le, nat_lt, ◌&&◌, ◌||◌, if◌then◌else◌, min, max, List, [], ◌∷◌, ◌++◌, length, map, take, drop, replicate, Option, Some, None, slice_index, slice_index_or, slice_set, bytes_eq, ℤ, pos, negsuc}
+use Rattle.std.specs.Prelude.{ℕ, zero, suc, ◌+◌, ◌-◌, ◌/◌, ◌%◌, ◌==◌, Bool, not, nat_eq, nat_le, nat_lt, ◌&&◌, ◌||◌, if◌then◌else◌, max, List, length, replicate, Option, Some, None, slice_index, slice_set, pos, negsuc}
 use Rattle.lfs_format.specs.declared.Index.{Index}
 use Rattle.lfs_format.specs.declared.Dir.{Dir}
 use Rattle.lfs_check.specs.Fields.{header_2}
@@ -7,12 +7,9 @@ use Rattle.lfs_check.specs.Meets.{null}
 use Rattle.local_files.specs.Buffers.{put_at, patched}
 use Rattle.local_files.specs.Steps.{answered, at_byte, piece, is_truncate}
 use Rattle.local_files.specs.Cuts.{cutting, held_file}
-use Rattle.xinu_base.specs.declared.files.OpenMode.{OpenMode}
 use Rattle.local_files.specs.declared.OpenFile.{OpenFile}
 use Rattle.local_files.specs.declared.FileCall.{FileCall}
-use Rattle.local_files.specs.declared.FileCall.TheVariants.{Open, Delete, Close, Read, Write, Getc, Putc, Seek, Truncate, Size}
-use Rattle.local_files.specs.declared.Phase.{Phase}
-use Rattle.local_files.specs.declared.Phase.TheVariants.{Idle, Done, Search, Walk, Fetch, Counts, Reach, PatchRead, PatchWrite, TakeRead, TakeWrite, AddRead, AddWrite, NewRead, NewWrite, LinkRead, LinkWrite, CutRead, CutWrite, FreeWrite, EntryRead, EntryWrite, HeaderRead, HeaderWrite}
+use Rattle.local_files.specs.declared.Phase.TheVariants.{Reach, PatchRead, PatchWrite, TakeRead, TakeWrite, AddRead, AddWrite, NewRead, NewWrite, LinkRead, LinkWrite, EntryRead}
 use Rattle.local_files.specs.declared.Files.{Files}
 
 -- a write of these bytes begins
@@ -20,7 +17,8 @@ abbrev pub writing : OpenFile → List ℕ → FileCall → Files → Files
 writing f bytes call e =
     if not f.write || nat_lt 1048576 (length bytes) then answered (negsuc 0) e
     else (if length bytes == 0 then answered (pos 0) e
-    else record (held_file f call e) { buffer = put_at 0 bytes e.buffer; position = f.position; total = length bytes; done = 0; reached = 0 })
+    else record (held_file f call e) { buffer = put_at 0 bytes e.buffer; position = f.position; total = length bytes; done = 0;
+        reached = 0 })
 
 abbrev pub writing_at : Option OpenFile → List ℕ → FileCall → Files → Files
 writing_at None bytes call e = answered (negsuc 0) e
@@ -83,11 +81,13 @@ patch_read b block e = record e { block = patched e.done (piece e) (at_byte e % 
 
 -- the bytes are on the disk
 abbrev pub put_done : Files → Files
-put_done e = let d : Files = record e { done = (e.done + piece e) % 4294967296 } in record d { entry = record e.entry { size = max e.entry.size (at_byte d) } }
+put_done e = let d : Files = record e { done = (e.done + piece e) % 4294967296 } in
+    record d { entry = record e.entry { size = max e.entry.size (at_byte d) } }
 
 -- a free data block was read
 abbrev pub take_read : ℕ → ℕ → Files → Files
-take_read b next e = record e { header = record e.header { free_data = next }; block = patched e.done (piece e) 0 e.buffer (replicate 512 0); phase = TakeWrite b }
+take_read b next e = record e { header = record e.header { free_data = next };
+    block = patched e.done (piece e) 0 e.buffer (replicate 512 0); phase = TakeWrite b }
 
 -- goes on to a free index block, if there is such a block
 abbrev pub newing : ℕ → ℕ → Files → Files
@@ -121,7 +121,8 @@ followed b i e = record e { index = fresh_index b e; at = i; reached = (e.reache
 
 abbrev pub new_written : ℕ → ℕ → Files → Files
 new_written b i e =
-    if at_byte e == 0 then next_put (put_done (followed b i (record e { entry = record e.entry { first = i } }))) else record e { phase = LinkRead b i }
+    if at_byte e == 0 then next_put (put_done (followed b i (record e { entry = record e.entry { first = i } }))) else record e { phase =
+    LinkRead b i }
 
 -- the index block that is named by the one before it
 abbrev pub linked_index : ℕ → Index → Index

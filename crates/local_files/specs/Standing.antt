@@ -1,5 +1,5 @@
 -- What the file engine stands for, together with a disk, and what its completions do.
-use Rattle.std.specs.Prelude.{ℕ, zero, suc, ◌≡◌, ◌≢◌, ◌+◌, ◌-◌, ◌*◌, ◌/◌, ◌%◌, ◌<◌, ◌≤◌, ◌==◌, Bool, true, false, not, cond, nat_eq, nat_le, nat_lt, ◌&&◌, ◌||◌, if◌then◌else◌, min, max, List, [], ◌∷◌, ◌++◌, length, map, take, drop, replicate, Option, Some, None, slice_index, slice_index_or, slice_set, bytes_eq, ℤ, pos, negsuc, ◌⊎◌}
+use Rattle.std.specs.Prelude.{ℕ, ◌≡◌, ◌≢◌, ◌+◌, ◌*◌, ◌/◌, ◌%◌, ◌<◌, List, [], length, take, Option, Some, None, ℤ}
 use Rattle.lfs_check.specs.Disks.{block_put}
 use Rattle.lfs_check.specs.Rules.{block_in}
 use Rattle.lfs_layout.specs.Files.{bare_name}
@@ -7,11 +7,10 @@ use Rattle.lfs_layout.specs.Images.{IsCleanImage}
 use Rattle.xinu_model.specs.Files.Calls as model
 use Rattle.xinu_model.specs.Files.Systems.{FileSystem, FileEffect}
 use Rattle.local_files.specs.Steps.{device_at, at_byte}
-use Rattle.local_files.specs.Hands.{system, IsDevice, AreApart, put_bytes, IsSearch, IsWalking, IsFetching, IsCounting, IsReach, IsPatch, IsPatched, IsTake, IsTakeWrite, IsFilled, IsAddWrite, IsNewWrite, IsLink, IsLinkWrite, IsCutRead, IsCutWrite, IsFreeWrite, IsClosing, IsEnding, IsHeaderBlock, IsMade}
+use Rattle.local_files.specs.Hands.{system, IsDevice, AreApart, put_bytes, IsSearch, IsWalking, IsFetching, IsCutRead, IsCutWrite, IsFreeWrite, IsClosing, IsEnding, IsHeaderBlock, IsMade}
+use Rattle.local_files.specs.Putting.{IsCounting, IsReach, IsPatch, IsPatched, IsTake, IsTakeWrite, IsFilled, IsAddWrite, IsNewWrite, IsLink, IsLinkWrite}
 use Rattle.local_files.specs.declared.BlockWork.{BlockWork}
 use Rattle.local_files.specs.declared.BlockWork.TheVariants as work
-use Rattle.xinu_base.specs.declared.files.OpenMode.{OpenMode}
-use Rattle.local_files.specs.declared.OpenFile.{OpenFile}
 use Rattle.local_files.specs.declared.FileCall.{FileCall}
 use Rattle.local_files.specs.declared.FileCall.TheVariants.{Open, Delete, Close, Read, Write, Getc, Putc, Seek, Truncate, Size}
 use Rattle.local_files.specs.declared.Phase.{Phase}
@@ -68,8 +67,10 @@ InHand CutWrite e base disk = IsCutWrite e base disk
 InHand (FreeWrite b) e base disk = IsFreeWrite e b base disk
 InHand EntryRead e base disk = IsClosing e base disk
 InHand EntryWrite e base disk =
-    IsEnding e.call e base × ((e.slot < 78) × ((hb : List ℕ) → IsHeaderBlock e (block_put disk (e.slot / 13) e.block) hb → IsMade e base (block_put (block_put disk (e.slot / 13) e.block) 0 hb)))
-InHand HeaderRead e base disk = IsEnding e.call e base × ((e.slot < 78) × ((hb : List ℕ) → IsHeaderBlock e disk hb → IsMade e base (block_put disk 0 hb)))
+    IsEnding e.call e base × ((e.slot < 78) × ((hb : List ℕ) → IsHeaderBlock e (block_put disk (e.slot / 13) e.block) hb
+    → IsMade e base (block_put (block_put disk (e.slot / 13) e.block) 0 hb)))
+InHand HeaderRead e base disk = IsEnding e.call e base × ((e.slot < 78)
+    × ((hb : List ℕ) → IsHeaderBlock e disk hb → IsMade e base (block_put disk 0 hb)))
 InHand HeaderWrite e base disk = IsEnding e.call e base × ((e.slot < 78) × IsMade e base (block_put disk 0 e.block))
 
 -- The engine stands for a disk as it was when the call in hand began, together with the disk as it is.
@@ -137,9 +138,11 @@ HasEffect call bytes before reply given after =
 
 -- The files stay as they are and the call is still in hand, or it has its effect and its reply.
 abbrev pub GoesTo : Phase → FileCall → List ℕ → Files → Files → List ℕ → List ℕ → Type 0
-GoesTo (Done reply) call bytes old new base disk = HasEffect call bytes (system old base) reply (gathered new) (system new disk) × Stands new disk disk
+GoesTo (Done reply) call bytes old new base disk =
+    HasEffect call bytes (system old base) reply (gathered new) (system new disk) × Stands new disk disk
 GoesTo Idle call bytes old new base disk = ⊥
-GoesTo _ call bytes old new base disk = Stands new base disk × (new.call ≡ call) × (call_bytes new ≡ bytes) × (system new base ≡ system old base)
+GoesTo _ call bytes old new base disk = Stands new base disk × (new.call ≡ call) × (call_bytes new ≡ bytes)
+    × (system new base ≡ system old base)
 
 -- the reply, once it stands
 abbrev pub reply_in : Phase → Option ℤ

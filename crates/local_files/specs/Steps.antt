@@ -1,15 +1,13 @@
 -- Steps of the engine in its own memory: answers, devices, and where a call is in its file.
-use Rattle.std.specs.Prelude.{ℕ, zero, suc, ◌≡◌, ◌≢◌, ◌+◌, ◌-◌, ◌*◌, ◌/◌, ◌%◌, ◌<◌, ◌≤◌, ◌==◌, Bool, true, false, not, cond, nat_eq, nat_le, nat_lt, ◌&&◌, ◌||◌, if◌then◌else◌, min, max, List, [], ◌∷◌, ◌++◌, length, map, take, drop, replicate, Option, Some, None, slice_index, slice_index_or, slice_set, bytes_eq, ℤ, pos, negsuc}
+use Rattle.std.specs.Prelude.{ℕ, ◌+◌, ◌-◌, ◌%◌, Bool, true, false, nat_lt, if◌then◌else◌, min, List, map, Option, Some, None, slice_index_or, slice_set, bytes_eq, ℤ, pos, negsuc}
 use Rattle.std.specs.List.{list_any}
 use Rattle.xinu_model.specs.Files.Systems as systems
 use Rattle.xinu_model.specs.Files.Systems.{free_device}
 use Rattle.lfs_layout.specs.Files.{bare_name}
-use Rattle.xinu_base.specs.declared.files.OpenMode.{OpenMode}
 use Rattle.local_files.specs.declared.OpenFile.{OpenFile}
 use Rattle.local_files.specs.declared.FileCall.{FileCall}
 use Rattle.local_files.specs.declared.FileCall.TheVariants.{Open, Delete, Close, Read, Write, Getc, Putc, Seek, Truncate, Size}
-use Rattle.local_files.specs.declared.Phase.{Phase}
-use Rattle.local_files.specs.declared.Phase.TheVariants.{Idle, Done, Search, Walk, Fetch, Counts, Reach, PatchRead, PatchWrite, TakeRead, TakeWrite, AddRead, AddWrite, NewRead, NewWrite, LinkRead, LinkWrite, CutRead, CutWrite, FreeWrite, EntryRead, EntryWrite, HeaderRead, HeaderWrite}
+use Rattle.local_files.specs.declared.Phase.TheVariants.{Done}
 use Rattle.local_files.specs.declared.Files.{Files}
 
 -- what the abstract machine sees of an open file
@@ -20,6 +18,11 @@ shown (Some f) = Some (record { name = bare_name f.entry.name; position = f.posi
 -- what a device has open
 abbrev pub device_at : Files → ℕ → Option OpenFile
 device_at e d = slice_index_or e.devices d None
+
+-- the position of what is open
+abbrev pub position_at : Option OpenFile → Option ℕ
+position_at None = None
+position_at (Some f) = Some f.position
 
 -- the call is done, and has given no bytes
 abbrev pub answered : ℤ → Files → Files

@@ -1,14 +1,11 @@
 -- The steps of `read` and `getc`.
-use Rattle.std.specs.Prelude.{ℕ, zero, suc, ◌≡◌, ◌≢◌, ◌+◌, ◌-◌, ◌*◌, ◌/◌, ◌%◌, ◌<◌, ◌≤◌, ◌==◌, Bool, true, false, not, cond, nat_eq, nat_le, nat_lt, ◌&&◌, ◌||◌, if◌then◌else◌, min, max, List, [], ◌∷◌, ◌++◌, length, map, take, drop, replicate, Option, Some, None, slice_index, slice_index_or, slice_set, bytes_eq, ℤ, pos, negsuc}
+use Rattle.std.specs.Prelude.{ℕ, zero, suc, ◌+◌, ◌-◌, ◌/◌, ◌%◌, ◌==◌, not, nat_le, nat_lt, if◌then◌else◌, min, List, take, drop, Option, Some, None, slice_index, pos, negsuc}
 use Rattle.lfs_format.specs.declared.Index.{Index}
 use Rattle.local_files.specs.Buffers.{put_at}
 use Rattle.local_files.specs.Steps.{is_getc, named_device, answered, device_at, moved_to, counted, at_byte, piece}
-use Rattle.xinu_base.specs.declared.files.OpenMode.{OpenMode}
 use Rattle.local_files.specs.declared.OpenFile.{OpenFile}
 use Rattle.local_files.specs.declared.FileCall.{FileCall}
-use Rattle.local_files.specs.declared.FileCall.TheVariants.{Open, Delete, Close, Read, Write, Getc, Putc, Seek, Truncate, Size}
-use Rattle.local_files.specs.declared.Phase.{Phase}
-use Rattle.local_files.specs.declared.Phase.TheVariants.{Idle, Done, Search, Walk, Fetch, Counts, Reach, PatchRead, PatchWrite, TakeRead, TakeWrite, AddRead, AddWrite, NewRead, NewWrite, LinkRead, LinkWrite, CutRead, CutWrite, FreeWrite, EntryRead, EntryWrite, HeaderRead, HeaderWrite}
+use Rattle.local_files.specs.declared.Phase.TheVariants.{Done, Walk, Fetch}
 use Rattle.local_files.specs.declared.Files.{Files}
 
 -- a read goes on to an index block, if there is such a block
@@ -25,7 +22,8 @@ reading f n call e =
     if not f.read then answered (negsuc 0) e
     else (if n == 0 then answered (pos 0) e
     else (if nat_le f.entry.size f.position then answered (negsuc 1) e
-    else walking (f.position / 8192) f.entry.first (record e { call = call; position = f.position; total = min n (f.entry.size - f.position); done = 0 })))
+    else walking (f.position / 8192) f.entry.first (record e { call = call; position = f.position;
+        total = min n (f.entry.size - f.position); done = 0 })))
 
 abbrev pub reading_at : Option OpenFile → ℕ → FileCall → Files → Files
 reading_at None n call e = answered (negsuc 0) e
@@ -38,7 +36,8 @@ walked (suc rest) index e = walking rest index.next (record e { index = index })
 
 -- the bytes of a data block are taken
 abbrev pub with_taken : List ℕ → Files → Files
-with_taken block e = record e { buffer = put_at e.done (take (piece e) (drop (at_byte e % 512) block)) e.buffer; done = (e.done + piece e) % 4294967296 }
+with_taken block e = record e { buffer = put_at e.done (take (piece e) (drop (at_byte e % 512) block)) e.buffer;
+    done = (e.done + piece e) % 4294967296 }
 
 -- the next data block
 abbrev pub next_fetch : Files → Files
@@ -46,7 +45,8 @@ next_fetch e = if at_byte e % 8192 == 0 then walking 0 e.index.next e else fetch
 
 -- all bytes are read
 abbrev pub given_all : Files → Files
-given_all e = if is_getc e.call then answered (pos (slice_index e.buffer 0)) e else record e { phase = Done (counted e.total); given = e.total }
+given_all e = if is_getc e.call then answered (pos (slice_index e.buffer 0)) e else record e { phase = Done (counted e.total);
+    given = e.total }
 
 abbrev pub finished_at : ℕ → Files → Files
 finished_at d e = given_all (moved_to (device_at e d) d (at_byte e) e)

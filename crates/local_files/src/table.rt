@@ -1,8 +1,8 @@
 //! The devices: which files are open, and where in them; and where a call is in its file.
 
-ghost use Rattle.std.specs.Prelude.{◌≡◌, ◌≢◌, ◌<◌, ◌≤◌, ◌+◌, ◌-◌, ◌%◌, ℕ, true, false, slice_set, slice_index_or, Some, None, map, pos, negsuc, min};
+ghost use Rattle.std.specs.Prelude.{◌≡◌, ◌≢◌, ◌<◌, ◌≤◌, ◌+◌, ◌-◌, ◌%◌, ℕ, true, false, slice_set, slice_index_or, Some, None, map, pos, negsuc, min, count_by, is_some};
 ghost use Rattle.xinu_model.specs.Files.Systems.{free_device};
-ghost use Rattle.local_files.specs.Steps.{shown, device_at, is_this_open, answered, at_byte, piece, moved_to, kept_at, counted, named_device, is_getc, is_write, is_truncate, is_delete};
+ghost use Rattle.local_files.specs.Steps.{shown, device_at, position_at, is_this_open, answered, at_byte, piece, moved_to, kept_at, counted, named_device, is_getc, is_write, is_truncate, is_delete};
 
 use crate::{FileCall, FileDev, Files, OpenFile, Phase};
 
@@ -12,6 +12,29 @@ impl Files {
         ensures { result ≡ device_at self.now d }
     {
         self.devices[d.index()]
+    }
+
+    /// The position of a device, if it has a file open.
+    pub fn position(&self, d: FileDev) -> Option<u32>
+        ensures { result ≡ position_at (device_at self.now d) }
+    {
+        match self.device(d) {
+            None => None,
+            Some(f) => Some(f.position),
+        }
+    }
+
+    /// How many devices have a file open.
+    pub fn open_count(&self) -> u32
+        ensures { result ≡ count_by is_some self.now.devices }
+    {
+        let mut n = 0;
+        for d in 0..6 {
+            if self.devices[d].is_some() {
+                n += 1;
+            }
+        }
+        n
     }
 
     // The lowest device that has nothing open; 6 if all are open.
