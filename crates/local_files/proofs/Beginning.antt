@@ -29,14 +29,17 @@ pub close_goes : (e : Files) (d : ℕ) (bytes disk : List ℕ) → Stands e disk
 close_goes e d bytes disk s = by_device (device_at e d) refl
   where
     by_device : (o : Option OpenFile) → device_at e d ≡ o → GoesTo (closing o d e).phase (Close d) bytes e (closing o d e) disk disk
-    by_device None at = (ap (λ x. on_open x (λ f. close_file d f (system e disk)) (system e disk)) (shown_at e.devices d
-        ∙ ap shown at), answered_stands (negsuc 0) e disk s)
+    by_device None at = (
+      ap (λ x. on_open x (λ f. close_file d f (system e disk)) (system e disk)) (shown_at e.devices d
+          ∙ ap shown at),
+      answered_stands (negsuc 0) e disk s,
+    )
     by_device (Some f) at = (
       ap (λ x. on_open x (λ f. close_file d f (system e disk)) (system e disk)) (shown_at e.devices d ∙ ap shown at)
           ∙ ap (λ xs. let r : FileEffect = record { system = record (system e disk) { devices = xs }; reply = pos 0; bytes = [] } in
           r) (sym (shown_set e.devices d None)),
       (let b = some_below e.devices d f at in let six = s.six in
-      set_stands (pos 0) e disk d None s (omega (arith, b, six)) tt (λ c ne. apart_none (device_at e c))),
+          set_stands (pos 0) e disk d None s (omega (arith, b, six)) tt (λ c ne. apart_none (device_at e c))),
     )
 
 -- `seek`
@@ -46,31 +49,44 @@ seek_goes e d n bytes disk s = by_device (device_at e d) refl
   where
     in_file : (f : OpenFile) (n : ℤ) → device_at e d ≡ Some f
         → GoesTo (seeking_in f d n e).phase (Seek d n) bytes e (seeking_in f d n e) disk disk
-    in_file f (negsuc n) at = (ap (λ x. on_open x (λ f. seek_file d (negsuc n) f (system e disk)) (system e disk)) (shown_at e.devices d
-        ∙ ap shown at), answered_stands (negsuc 0) e disk s)
+    in_file f (negsuc n) at = (
+      ap (λ x. on_open x (λ f. seek_file d (negsuc n) f (system e disk)) (system e disk)) (shown_at e.devices d
+          ∙ ap shown at),
+      answered_stands (negsuc 0) e disk s,
+    )
     in_file f (pos n) at =
         let o = device_some e disk disk d f s at in
         let start = ap (λ x. on_open x (λ f. seek_file d (pos n) f (system e disk)) (system e disk)) (shown_at e.devices d ∙ ap shown at) in
         let size = open_size disk f s.clean o in
         let g : OpenFile = record f { position = n } in
-        let shown_f : systems.OpenFile = record { name = bare_name f.entry.name; position = f.position; may_read = f.read;
-        may_write = f.write } in
+        let shown_f : systems.OpenFile = record {
+          name = bare_name f.entry.name;
+          position = f.position;
+          may_read = f.read;
+          may_write = f.write;
+        } in
         let to : Bool → FileEffect = λ v.
         if v then refused_effect (system e disk) else replies (pos 0) (systems.moved d shown_f n (system e disk)) in
         either-way (nat_lt f.entry.size n)
         (λ v. nat_lt f.entry.size n ≡ v → GoesTo (if v then answered (negsuc 0) e else answered (pos 0) (with_device d (Some g) e)).phase
         (Seek d (pos n)) bytes e (if v then answered (negsuc 0) e else answered (pos 0) (with_device d (Some g) e)) disk disk)
         (λ _ t. (start ∙ ap (λ k. to (nat_lt k n)) size ∙ ap to t, answered_stands (negsuc 0) e disk s))
-        (λ _ t. (start ∙ ap (λ k. to (nat_lt k n)) size ∙ ap to t
-            ∙ ap (λ xs. let r : FileEffect = record { system = record (system e disk) { devices = xs }; reply = pos 0; bytes = [] } in
-            r) (sym (shown_set e.devices d (Some g))),
+        (λ _ t. (
+          start ∙ ap (λ k. to (nat_lt k n)) size ∙ ap to t
+              ∙ ap (λ xs. let r : FileEffect = record { system = record (system e disk) { devices = xs }; reply = pos 0; bytes = [] } in
+              r) (sym (shown_set e.devices d (Some g))),
           (let b = some_below e.devices d f at in let six = s.six in
-          let fits : n ≤ f.entry.size = grind (arith, nat_tests) in
-          set_stands (pos 0) e disk d (Some g) s (omega (arith, b, six)) (record { slot = o.slot; entry = o.entry; used = o.used;
-          position = fits }) (λ c ne. (
-          let P : Option OpenFile → Type 0 = λ x. AreApart (device_at e c) x in let Q : Option OpenFile
-          → Type 0 = λ x. AreApart x (device_at e c) in
-          both (device_at e c) f g refl (subst P at (s.apart c d ne)) (subst Q at (s.apart d c (λ q. ne (sym q)))))))))
+              let fits : n ≤ f.entry.size = grind (arith, nat_tests) in
+              set_stands (pos 0) e disk d (Some g) s (omega (arith, b, six)) (record {
+                slot = o.slot;
+                entry = o.entry;
+                used = o.used;
+                position = fits;
+              }) (λ c ne. (
+              let P : Option OpenFile → Type 0 = λ x. AreApart (device_at e c) x in let Q : Option OpenFile
+              → Type 0 = λ x. AreApart x (device_at e c) in
+              both (device_at e c) f g refl (subst P at (s.apart c d ne)) (subst Q at (s.apart d c (λ q. ne (sym q))))))),
+        ))
         refl
       where
         both : (x : Option OpenFile) (f g : OpenFile) → g.slot ≡ f.slot → AreApart x (Some f) → AreApart (Some f) x
@@ -79,8 +95,11 @@ seek_goes e d n bytes disk s = by_device (device_at e d) refl
         both (Some y) f g q a b = (λ z. a (z ∙ q), λ z. b (sym q ∙ z))
 
     by_device : (o : Option OpenFile) → device_at e d ≡ o → GoesTo (seeking o d n e).phase (Seek d n) bytes e (seeking o d n e) disk disk
-    by_device None at = (ap (λ x. on_open x (λ f. seek_file d n f (system e disk)) (system e disk)) (shown_at e.devices d
-        ∙ ap shown at), answered_stands (negsuc 0) e disk s)
+    by_device None at = (
+      ap (λ x. on_open x (λ f. seek_file d n f (system e disk)) (system e disk)) (shown_at e.devices d
+          ∙ ap shown at),
+      answered_stands (negsuc 0) e disk s,
+    )
     by_device (Some f) at = in_file f n at
 
 -- the size
@@ -89,8 +108,11 @@ pub size_goes : (e : Files) (d : ℕ) (bytes disk : List ℕ) → Stands e disk 
 size_goes e d bytes disk s = by_device (device_at e d) refl
   where
     by_device : (o : Option OpenFile) → device_at e d ≡ o → GoesTo (sizing o e).phase (Size d) bytes e (sizing o e) disk disk
-    by_device None at = (ap (λ x. on_open x (λ f. size_of_file f (system e disk)) (system e disk)) (shown_at e.devices d
-        ∙ ap shown at), answered_stands (negsuc 0) e disk s)
+    by_device None at = (
+      ap (λ x. on_open x (λ f. size_of_file f (system e disk)) (system e disk)) (shown_at e.devices d
+          ∙ ap shown at),
+      answered_stands (negsuc 0) e disk s,
+    )
     by_device (Some f) at =
         let o = device_some e disk disk d f s at in
         let small : f.entry.size ≤ 33557504 = (let P : Entry → Type 0 = λ x. x.size ≤ 33557504 in
@@ -124,18 +146,36 @@ open_goes e name mode bytes disk is long none s =
     (λ _ t. either-way (nat_le 6 (lowest_free e))
     (λ v. nat_le 6 (lowest_free e) ≡ v → GoesTo (if v then answered (negsuc 0) e else looking (Open name mode) e).phase
     (Open name mode) bytes e (if v then answered (negsuc 0) e else looking (Open name mode) e) disk disk)
-    (λ _ u. (ap to (opened ∙ t) ∙ ap (λ v.
-    if v then refused_effect sys else open_stored (file_named (bare_name name) sys.files) (bare_name name) mode sys) u, answered_stands
-    (negsuc 0) e disk s))
-    (λ _ u. (record {
-        clean = s.clean; blocks = s.blocks; whole = refl; six = s.six; buffer = s.buffer; outgoing = s.outgoing; device = s.device;
+    (λ _ u. (
+      ap to (opened ∙ t) ∙ ap (λ v.
+          if v then refused_effect sys else open_stored (file_named (bare_name name) sys.files) (bare_name name) mode sys) u,
+      answered_stands
+          (negsuc 0) e disk s,
+    ))
+    (λ _ u. (
+      record {
+        clean = s.clean;
+        blocks = s.blocks;
+        whole = refl;
+        six = s.six;
+        buffer = s.buffer;
+        outgoing = s.outgoing;
+        device = s.device;
         apart = s.apart;
         hand = record {
-          same = refl; block = omega arith; call = (is, long); look = (opened ∙ t, u); none = λ k h. absurd (omega (arith, h));
+          same = refl;
+          block = omega arith;
+          call = (is, long);
+          look = (opened ∙ t, u);
+          none = λ k h. absurd (omega (arith, h));
           free = record { found = λ h. absurd (omega (arith, h)); full = λ h k l. absurd (omega (arith, l)) };
           header = λ h. absurd (omega (arith, h));
         };
-      }, refl, sym none, refl))
+      },
+      refl,
+      sym none,
+      refl,
+    ))
     refl)
     refl
 
@@ -154,15 +194,30 @@ delete_goes e name bytes disk is long none s =
     (λ v. is_this_open name e.devices ≡ v
     → GoesTo (deleting v (Delete name) e).phase (Delete name) bytes e (deleting v (Delete name) e) disk disk)
     (λ _ t. (ap to (opened ∙ t), answered_stands (negsuc 0) e disk s))
-    (λ _ t. (record {
-        clean = s.clean; blocks = s.blocks; whole = refl; six = s.six; buffer = s.buffer; outgoing = s.outgoing; device = s.device;
+    (λ _ t. (
+      record {
+        clean = s.clean;
+        blocks = s.blocks;
+        whole = refl;
+        six = s.six;
+        buffer = s.buffer;
+        outgoing = s.outgoing;
+        device = s.device;
         apart = s.apart;
         hand = record {
-          same = refl; block = omega arith; call = (is, long); look = opened ∙ t; none = λ k h. absurd (omega (arith, h));
+          same = refl;
+          block = omega arith;
+          call = (is, long);
+          look = opened ∙ t;
+          none = λ k h. absurd (omega (arith, h));
           free = record { found = λ h. absurd (omega (arith, h)); full = λ h k l. absurd (omega (arith, l)) };
           header = λ h. absurd (omega (arith, h));
         };
-      }, refl, sym none, refl))
+      },
+      refl,
+      sym none,
+      refl,
+    ))
     refl
 
 pub begin_delete_goes : (e e' : Files) (call : FileCall) (name disk : List ℕ) → call ≡ Delete name → IsCall call

@@ -42,8 +42,19 @@ blocks_many e base disk s =
 
 written_kept : (e : Files) (phase : Phase) (block base : List ℕ) → IsWritten e base
     → IsWritten (record e { phase = phase; block = block }) base
-written_kept e phase block base h = record { file = h.file; open_is = h.open_is; writes = h.writes; slot = h.slot; position = h.position;
-    some = h.some; few = h.few; most = h.most; fits = h.fits; size = h.size; named = h.named }
+written_kept e phase block base h = record {
+  file = h.file;
+  open_is = h.open_is;
+  writes = h.writes;
+  slot = h.slot;
+  position = h.position;
+  some = h.some;
+  few = h.few;
+  most = h.most;
+  fits = h.fits;
+  size = h.size;
+  named = h.named;
+}
 
 after_same : (call : FileCall) (e : Files) (phase : Phase) (block base : List ℕ)
     → files_after call e base ≡ files_after call (record e { phase = phase; block = block }) base
@@ -61,13 +72,26 @@ after_same (Size d) e phase block base = refl
 -- what the call has done does not depend on what it waits for
 ending_kept : (call : FileCall) (e : Files) (phase : Phase) (block base : List ℕ) → IsEnding call e base
     → IsEnding call (record e { phase = phase; block = block }) base
-ending_kept (Open name mode) e phase block base h = record { slot = h.slot; call = h.call; look = h.look; none = h.none; named = h.named;
-    empty = h.empty; free = h.free; may = h.may }
+ending_kept (Open name mode) e phase block base h = record {
+  slot = h.slot;
+  call = h.call;
+  look = h.look;
+  none = h.none;
+  named = h.named;
+  empty = h.empty;
+  free = h.free;
+  may = h.may;
+}
 ending_kept (Delete name) e phase block base h = record { slot = h.slot; call = h.call; closed = h.closed; used = h.used; named = h.named }
 ending_kept (Write d) e phase block base h = written_kept e phase block base h
 ending_kept (Putc d b) e phase block base h = (written_kept e phase block base h.0, h.1)
-ending_kept (Truncate d) e phase block base h = record { file = h.file; open_is = h.open_is; writes = h.writes; slot = h.slot;
-    named = h.named }
+ending_kept (Truncate d) e phase block base h = record {
+  file = h.file;
+  open_is = h.open_is;
+  writes = h.writes;
+  slot = h.slot;
+  named = h.named;
+}
 ending_kept (Close d) e phase block base h = h
 ending_kept (Read d n) e phase block base h = h
 ending_kept (Getc d) e phase block base h = h
@@ -76,8 +100,14 @@ ending_kept (Size d) e phase block base h = h
 
 made_same : (e : Files) (phase : Phase) (block base made : List ℕ) → IsMade e base made
     → IsMade (record e { phase = phase; block = block }) base made
-made_same e phase block base made m = record { clean = m.clean; size = m.size; files = m.files
-    ∙ after_same e.call e phase block base; entry = m.entry; others = m.others }
+made_same e phase block base made m = record {
+  clean = m.clean;
+  size = m.size;
+  files = m.files
+      ∙ after_same e.call e phase block base;
+  entry = m.entry;
+  others = m.others;
+}
 
 -- the blocks of a disk that the engine stands for
 pub put_whole : (e : Files) (base disk : List ℕ) (n : ℕ) → Stands e base disk → n < e.blocks
@@ -95,12 +125,29 @@ put_entry_goes e e' base disk read phase new put s honest =
     let R : List ℕ → Type 0 = λ b. IsDirBlock (dir_with_entry (dir_of b) (e.slot % 13) e.entry) e'.block in
     let block : IsEntryBlock e disk e'.block = subst R honest put in
     let P : Files → Type 0 = λ x. GoesTo x.phase e.call (call_bytes e) e x base disk in
-    subst P (sym new) (record {
-        clean = s.clean; blocks = s.blocks; whole = s.whole; six = s.six; buffer = s.buffer; outgoing = block.long; device = s.device;
+    subst P (sym new) (
+      record {
+        clean = s.clean;
+        blocks = s.blocks;
+        whole = s.whole;
+        six = s.six;
+        buffer = s.buffer;
+        outgoing = block.long;
+        device = s.device;
         apart = s.apart;
-        hand = (ending_kept e.call e EntryWrite e'.block base hand.ending, (hand.slot, λ hb q.
-        made_same e EntryWrite e'.block base (block_put (block_put disk (e.slot / 13) e'.block) 0 hb) (hand.made e'.block hb block q)));
-      }, refl, refl, refl)
+        hand = (
+          ending_kept e.call e EntryWrite e'.block base hand.ending,
+          (
+            hand.slot,
+            λ hb q.
+                made_same e EntryWrite e'.block base (block_put (block_put disk (e.slot / 13) e'.block) 0 hb) (hand.made e'.block hb block q),
+          ),
+        );
+      },
+      refl,
+      refl,
+      refl,
+    )
 
 -- it is written
 pub entry_written_goes : (e e' : Files) (base disk : List ℕ) → e.phase ≡ EntryWrite → e' ≡ record e { phase = HeaderRead }
@@ -113,12 +160,29 @@ entry_written_goes e e' base disk phase new s =
     let at : e.slot / 13 < e.blocks = (let h = hand.1.0 in let m = many.0 in omega (arith, h, m)) in
     let after = block_put disk (e.slot / 13) e.block in
     let P : Files → Type 0 = λ x. GoesTo x.phase e.call (call_bytes e) e x base after in
-    subst P (sym new) (record {
-        clean = s.clean; blocks = s.blocks; whole = put_whole e base disk (e.slot / 13) s at; six = s.six; buffer = s.buffer;
-        outgoing = s.outgoing; device = s.device; apart = s.apart;
-        hand = (ending_kept e.call e HeaderRead e.block base hand.0, (hand.1.0, λ hb q.
-        made_same e HeaderRead e.block base (block_put after 0 hb) (hand.1.1 hb q)));
-      }, refl, refl, refl)
+    subst P (sym new) (
+      record {
+        clean = s.clean;
+        blocks = s.blocks;
+        whole = put_whole e base disk (e.slot / 13) s at;
+        six = s.six;
+        buffer = s.buffer;
+        outgoing = s.outgoing;
+        device = s.device;
+        apart = s.apart;
+        hand = (
+          ending_kept e.call e HeaderRead e.block base hand.0,
+          (
+            hand.1.0,
+            λ hb q.
+                made_same e HeaderRead e.block base (block_put after 0 hb) (hand.1.1 hb q),
+          ),
+        );
+      },
+      refl,
+      refl,
+      refl,
+    )
 
 -- the first directory block was read
 pub put_header_goes : (e e' : Files) (base disk read : List ℕ) → e.phase ≡ HeaderRead
@@ -131,12 +195,25 @@ put_header_goes e e' base disk read phase new put s honest =
     let R : List ℕ → Type 0 = λ b. IsDirBlock (dir_with_header (dir_of b) e.header) e'.block in
     let block : IsHeaderBlock e disk e'.block = subst R honest put in
     let P : Files → Type 0 = λ x. GoesTo x.phase e.call (call_bytes e) e x base disk in
-    subst P (sym new) (record {
-        clean = s.clean; blocks = s.blocks; whole = s.whole; six = s.six; buffer = s.buffer; outgoing = block.long; device = s.device;
+    subst P (sym new) (
+      record {
+        clean = s.clean;
+        blocks = s.blocks;
+        whole = s.whole;
+        six = s.six;
+        buffer = s.buffer;
+        outgoing = block.long;
+        device = s.device;
         apart = s.apart;
-        hand = (ending_kept e.call e HeaderWrite e'.block base hand.0,
-        (hand.1.0, made_same e HeaderWrite e'.block base (block_put disk 0 e'.block) (hand.1.1 e'.block block)));
-      }, refl, refl, refl)
+        hand = (
+          ending_kept e.call e HeaderWrite e'.block base hand.0,
+          (hand.1.0, made_same e HeaderWrite e'.block base (block_put disk 0 e'.block) (hand.1.1 e'.block block)),
+        );
+      },
+      refl,
+      refl,
+      refl,
+    )
 
 -- of the made disk an open device's entry is as it was
 others_open : (e : Files) (base made : List ℕ) (f : OpenFile) → IsMade e base made → entry_is_used (entry_at base e.slot) ≡ false
@@ -193,11 +270,23 @@ made_open e name mode base disk made is s h m =
     ∙ ap (result (files_after (Open name mode) e base)) (sym (shown_set e.devices d (Some f)))
     ∙ ap (λ fs. result fs (map shown (slice_set e.devices d (Some f)))) (sym files) in
     let before : Stands (answered (pos 0) e) made made = record {
-      clean = m.clean; blocks = m.size ∙ s.blocks; whole = refl; six = s.six; buffer = s.buffer; outgoing = s.outgoing;
+      clean = m.clean;
+      blocks = m.size ∙ s.blocks;
+      whole = refl;
+      six = s.six;
+      buffer = s.buffer;
+      outgoing = s.outgoing;
       device = λ c. all_open e base made (device_at e c) m h.free (s.device c);
-      apart = s.apart; hand = refl } in
-    let used : entry_is_used e.entry ≡ true = ap (λ x. not (nat_eq (slice_index x 0) 0)) named ∙ name_used 27 name right.0 in
-    (effect, set_stands (pos (4 + d)) (answered (pos 0) e) made d (Some f) before free (record { slot = h.slot; entry = m.entry;
-    used = used; position = omega arith })
-      (λ c ne. away_from e base made (device_at e c) f refl m h.free (s.device c)))
-
+      apart = s.apart;
+      hand = refl;
+    } in
+    let used : entry_is_used e.entry ≡ true = ap (λ x. not (nat_eq (slice_index x 0) 0)) named ∙ name_used 27 name right.0 in (
+      effect,
+      set_stands (pos (4 + d)) (answered (pos 0) e) made d (Some f) before free (record {
+        slot = h.slot;
+        entry = m.entry;
+        used = used;
+        position = omega arith;
+      })
+          (λ c ne. away_from e base made (device_at e c) f refl m h.free (s.device c)),
+    )

@@ -65,13 +65,13 @@ pub counts_read_goes : (e e' : Files) (base disk read : List ℕ) → e.phase �
 counts_read_goes e e' base disk read phase new s honest =
     let D : List ℕ → Type 0 = λ x. GoesTo e'.phase e.call (call_bytes e) e e' base x in
     subst D (sym h.same) (subst P (sym new) (⊎_elim
-      (λ (t : is_truncate e.call ≡ true). (let Q : Bool → Type 0 = λ v. P (if v then cutting e.entry x else next_put x) in subst Q (sym t)
-        (goes_from (cutting e.entry x).phase e.call (call_bytes e) x e (cutting e.entry x) base base refl
-        (cutting_goes x base st slot entry used header (for e.call refl t)))))
-      (λ (b : IsBegun e h.file). (let Q : Bool → Type 0 = λ v. P (if v then cutting e.entry x else next_put x) in
-      subst Q (sym (not_truncate e.call (put_bytes e) b.call))
-        (goes_from (next_put x).phase e.call (call_bytes e) x e (next_put x) base base refl (next_put_goes x base base st (ready b)))))
-      h.begun))
+    (λ (t : is_truncate e.call ≡ true). (let Q : Bool → Type 0 = λ v. P (if v then cutting e.entry x else next_put x) in subst Q (sym t)
+    (goes_from (cutting e.entry x).phase e.call (call_bytes e) x e (cutting e.entry x) base base refl
+    (cutting_goes x base st slot entry used header (for e.call refl t)))))
+    (λ (b : IsBegun e h.file). (let Q : Bool → Type 0 = λ v. P (if v then cutting e.entry x else next_put x) in
+    subst Q (sym (not_truncate e.call (put_bytes e) b.call))
+    (goes_from (next_put x).phase e.call (call_bytes e) x e (next_put x) base base refl (next_put_goes x base base st (ready b)))))
+    h.begun))
   where
     P : Files → Type 0
     P y = GoesTo y.phase e.call (call_bytes e) e y base base
@@ -83,8 +83,16 @@ counts_read_goes e e' base disk read phase new s honest =
     x = record e { header = header_2 (dir_of read) }
 
     st : IsStanding x base base
-    st = record { clean = s.clean; blocks = s.blocks; whole = refl; six = s.six; outgoing = s.outgoing; buffer = s.buffer;
-        device = s.device; apart = s.apart }
+    st = record {
+      clean = s.clean;
+      blocks = s.blocks;
+      whole = refl;
+      six = s.six;
+      outgoing = s.outgoing;
+      buffer = s.buffer;
+      device = s.device;
+      apart = s.apart;
+    }
 
     header : x.header ≡ header_on base
     header = counts_are base disk read honest h.same
@@ -102,8 +110,13 @@ counts_read_goes e e' base disk read phase new s honest =
     used = ap entry_is_used h.entry ∙ o.used
 
     for : (c : FileCall) → e.call ≡ c → is_truncate c ≡ true → IsCutFor c x base
-    for (Truncate d) is t = record { file = h.file; open_is = h.open_is; writes = h.writes; slot = h.slot;
-        named = ap (λ (y : Entry). y.name) h.entry }
+    for (Truncate d) is t = record {
+      file = h.file;
+      open_is = h.open_is;
+      writes = h.writes;
+      slot = h.slot;
+      named = ap (λ (y : Entry). y.name) h.entry;
+    }
     for (Open a b) is t = absurd (false≢true t)
     for (Delete a) is t = absurd (false≢true t)
     for (Close a) is t = absurd (false≢true t)
@@ -139,9 +152,28 @@ counts_read_goes e e' base disk read phase new s honest =
     ready : IsBegun e h.file → IsReady x base base
     ready b =
         let none = b.none in let not_reached = b.not_reached in
-        record { places = p; no_index = refl; no_data = refl; fresh = λ _. refl;
-          putting = record { call = b.call; file = h.file; open_is = h.open_is; writes = h.writes; slot = h.slot; position = b.position;
-          most = b.most; few = omega (arith, none); some = b.some; files = ap (λ (y : Header). y.files) header; middle = middle b.none };
-          cursor = record { below = omega (arith, not_reached); at = λ z. absurd (omega (arith, z, not_reached));
-          index = λ z. absurd (omega (arith, z, not_reached)) };
-          near = λ z. absurd (omega (arith, z, not_reached)) }
+        record {
+          places = p;
+          no_index = refl;
+          no_data = refl;
+          fresh = λ _. refl;
+          putting = record {
+            call = b.call;
+            file = h.file;
+            open_is = h.open_is;
+            writes = h.writes;
+            slot = h.slot;
+            position = b.position;
+            most = b.most;
+            few = omega (arith, none);
+            some = b.some;
+            files = ap (λ (y : Header). y.files) header;
+            middle = middle b.none;
+          };
+          cursor = record {
+            below = omega (arith, not_reached);
+            at = λ z. absurd (omega (arith, z, not_reached));
+            index = λ z. absurd (omega (arith, z, not_reached));
+          };
+          near = λ z. absurd (omega (arith, z, not_reached));
+        }

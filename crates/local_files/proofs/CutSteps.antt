@@ -47,13 +47,22 @@ use Rattle.std.proofs.lemmas.List.{length-replicate}
 pub for_kept : (call : FileCall) (e e2 : Files) (base : List ℕ) → e2.call ≡ e.call → e2.slot ≡ e.slot → e2.devices ≡ e.devices
     → e2.blocks ≡ e.blocks → e2.entry.name ≡ e.entry.name → IsCutFor call e base → IsCutFor call e2 base
 for_kept (Delete name) e e2 base c l d b n h = record {
-  slot = (let x = h.slot in omega (arith, x, l)); call = subst IsCall (sym c) h.call;
+  slot = (let x = h.slot in omega (arith, x, l));
+  call = subst IsCall (sym c) h.call;
   closed = ap (λ k. is_open (bare_name (name_of k)) (system e2 base)) c
-  ∙ ap (λ ds. is_open (bare_name (name_of e.call)) (let r : FileSystem =
-  record { blocks = e2.blocks; files = stored_files base; devices = map shown ds } in r)) d ∙ h.closed;
-  used = ap (λ k. entry_is_used (entry_at base k)) l ∙ h.used; named = ap (λ k. (entry_at base k).name) l ∙ h.named ∙ ap name_of (sym c) }
-for_kept (Truncate d') e e2 base c l d b n h = record { file = h.file; open_is = ap (λ k. slice_index_or e2.devices (device_of k) None) c
-    ∙ ap (λ ds. slice_index_or ds (device_of e.call) None) d ∙ h.open_is; writes = h.writes; slot = l ∙ h.slot; named = n ∙ h.named }
+      ∙ ap (λ ds. is_open (bare_name (name_of e.call)) (let r : FileSystem =
+      record { blocks = e2.blocks; files = stored_files base; devices = map shown ds } in r)) d ∙ h.closed;
+  used = ap (λ k. entry_is_used (entry_at base k)) l ∙ h.used;
+  named = ap (λ k. (entry_at base k).name) l ∙ h.named ∙ ap name_of (sym c);
+}
+for_kept (Truncate d') e e2 base c l d b n h = record {
+  file = h.file;
+  open_is = ap (λ k. slice_index_or e2.devices (device_of k) None) c
+      ∙ ap (λ ds. slice_index_or ds (device_of e.call) None) d ∙ h.open_is;
+  writes = h.writes;
+  slot = l ∙ h.slot;
+  named = n ∙ h.named;
+}
 for_kept (Open name mode) e e2 base c l d b n h = absurd h
 for_kept (Close d') e e2 base c l d b n h = absurd h
 for_kept (Read d' k) e e2 base c l d b n h = absurd h
@@ -78,12 +87,40 @@ cut_at_goes e base disk s r =
     let e2 : Files = record e { phase = CutRead } in
     let P : Bool → Type 0 = λ v. GoesTo (if v then e2 else answered (negsuc 0) e).phase e.call (call_bytes e) e
     (if v then e2 else answered (negsuc 0) e) base disk in
-    subst P (sym t) (record { clean = s.clean; blocks = s.blocks; whole = s.whole; six = s.six; buffer = s.buffer; outgoing = s.outgoing;
-        device = s.device; apart = s.apart;
-      hand = record { below = r.below; at = r.at; cutting = record { for = for_kept e.call e e2 base refl refl refl refl refl c.for;
-      places = c.places; chain = c.chain; blocks = c.blocks; old_size = c.old_size;
-        chain_long = c.chain_long; blocks_long = c.blocks_long; numbers = c.numbers; short = c.short; cut = c.cut; size = c.size;
-        first = c.first; files = c.files } } }, refl, refl, refl)
+    subst P (sym t) (
+      record {
+        clean = s.clean;
+        blocks = s.blocks;
+        whole = s.whole;
+        six = s.six;
+        buffer = s.buffer;
+        outgoing = s.outgoing;
+        device = s.device;
+        apart = s.apart;
+        hand = record {
+          below = r.below;
+          at = r.at;
+          cutting = record {
+            for = for_kept e.call e e2 base refl refl refl refl refl c.for;
+            places = c.places;
+            chain = c.chain;
+            blocks = c.blocks;
+            old_size = c.old_size;
+            chain_long = c.chain_long;
+            blocks_long = c.blocks_long;
+            numbers = c.numbers;
+            short = c.short;
+            cut = c.cut;
+            size = c.size;
+            first = c.first;
+            files = c.files;
+          };
+        };
+      },
+      refl,
+      refl,
+      refl,
+    )
 
 -- Goes on to the next data block, or the next index block, or the end.
 pub free_next_goes : (e : Files) (freed : ℕ) (base disk : List ℕ) → IsStanding e base disk → (c : IsCutting e freed base disk)
@@ -123,15 +160,46 @@ free_next_goes e freed base disk s c some most index row is =
         let P : Bool → Type 0 = λ w. G (if w then freeing (slice_index e.index.blocks (e.row % 16)) e else rest) in
         let Q : ℕ → Type 0 = λ k. G (freeing k e) in
         let R : Bool → Type 0 = λ w. G (if w then e2 else answered (negsuc 0) e) in
-        subst P (sym x_is) (subst Q (sym v) (subst R (sym on) (record { clean = s.clean; blocks = s.blocks; whole = s.whole; six = s.six;
-        buffer = s.buffer; outgoing = word_long e.header.free_data; device = s.device; apart = s.apart;
-          hand = record { some = some; row = lt; most = most; index = index; below = more; here = refl; block = refl;
-            cutting = record { for = for_kept e.call e e2 base refl refl refl refl refl c.for; places = c.places; chain = c.chain;
-            blocks = c.blocks; old_size = c.old_size;
-              chain_long = c.chain_long; blocks_long = c.blocks_long; numbers = c.numbers; short = c.short; size = c.size; first = c.first;
-              files = c.files;
-              cut = (let K : ℕ → Type 0 = λ k. IsCut e.blocks base disk e.header e.slot e.entry c.places c.chain c.blocks e.reached k in
-              subst K (let q : freed ≡ 16 * j + e.row = omega (arith, is, more) in q) c.cut) } } }, refl, refl, refl)))
+        subst P (sym x_is) (subst Q (sym v) (subst R (sym on) (
+          record {
+            clean = s.clean;
+            blocks = s.blocks;
+            whole = s.whole;
+            six = s.six;
+            buffer = s.buffer;
+            outgoing = word_long e.header.free_data;
+            device = s.device;
+            apart = s.apart;
+            hand = record {
+              some = some;
+              row = lt;
+              most = most;
+              index = index;
+              below = more;
+              here = refl;
+              block = refl;
+              cutting = record {
+                for = for_kept e.call e e2 base refl refl refl refl refl c.for;
+                places = c.places;
+                chain = c.chain;
+                blocks = c.blocks;
+                old_size = c.old_size;
+                chain_long = c.chain_long;
+                blocks_long = c.blocks_long;
+                numbers = c.numbers;
+                short = c.short;
+                size = c.size;
+                first = c.first;
+                files = c.files;
+                cut = (let K : ℕ → Type 0 = λ k. IsCut e.blocks base disk e.header e.slot e.entry c.places c.chain c.blocks e.reached k in
+                    subst K (let q : freed ≡ 16 * j + e.row = omega (arith, is, more) in q) c.cut);
+              };
+            };
+          },
+          refl,
+          refl,
+          refl,
+        )))
       where
         word_long : (w : ℕ) → length (word_block w) ≡ 512
         word_long w = let l = length-little w in let a = length-append (little_bytes 4 w) (replicate 508 0) in
@@ -141,15 +209,15 @@ free_next_goes e freed base disk s c some most index row is =
         → G (free_next e)
     goes_on nulls all =
         let x_is : last ≡ false = ⊎_elim
-            (λ (lt : e.row < 16). (let v : slice_index e.index.blocks (e.row % 16) ≡ null =
-            ap (λ (x : Index). slice_index x.blocks (e.row % 16)) index
-            ∙ ap (λ k. slice_index (index_for j c.chain c.blocks).blocks k) (let q : e.row % 16 ≡ e.row = omega (arith, lt) in q)
-            ∙ nulls lt in
-              let a : nat_lt e.row 16 ≡ true = grind (arith, nat_tests) in
-              ap (λ w. w && not (slice_index e.index.blocks (e.row % 16) == null)) a ∙ ap (λ w. not (w == null)) v))
-            (λ (ge : 16 ≤ e.row). (let a : nat_lt e.row 16 ≡ false = grind (arith, nat_tests) in
-            ap (λ w. w && not (slice_index e.index.blocks (e.row % 16) == null)) a))
-            (cases_lt e.row 16) in
+        (λ (lt : e.row < 16). (let v : slice_index e.index.blocks (e.row % 16) ≡ null =
+        ap (λ (x : Index). slice_index x.blocks (e.row % 16)) index
+        ∙ ap (λ k. slice_index (index_for j c.chain c.blocks).blocks k) (let q : e.row % 16 ≡ e.row = omega (arith, lt) in q)
+        ∙ nulls lt in
+        let a : nat_lt e.row 16 ≡ true = grind (arith, nat_tests) in
+        ap (λ w. w && not (slice_index e.index.blocks (e.row % 16) == null)) a ∙ ap (λ w. not (w == null)) v))
+        (λ (ge : 16 ≤ e.row). (let a : nat_lt e.row 16 ≡ false = grind (arith, nat_tests) in
+        ap (λ w. w && not (slice_index e.index.blocks (e.row % 16) == null)) a))
+        (cases_lt e.row 16) in
         let rest : Bool → Files = λ w. if not w then cut_at (record e { at = e.index.next }) else end_cut e in
         let P : Bool → Type 0 = λ w. G (if w then freeing (slice_index e.index.blocks (e.row % 16)) e else rest (e.index.next == null)) in
         let chain_long = c.chain_long in let blocks_long = c.blocks_long in
@@ -157,26 +225,48 @@ free_next_goes e freed base disk s c some most index row is =
         (λ (more : e.reached < length c.chain). (let next : e.index.next ≡ slice_index c.chain e.reached = ap (λ (x : Index). x.next) index
         ∙ ap (λ k. slice_index_or c.chain k null) (let q : suc j ≡ e.reached = omega (arith, some) in q)
         ∙ some_at c.chain e.reached null more in
-          let below = (c.cut.index e.reached (omega arith) more).below in let high = c.cut.middle.high in
-          let nn : (e.index.next == null) ≡ false = ap (λ k. k == null) next
-          ∙ (let z : slice_index c.chain e.reached ≢ null = λ w. omega (arith, w, below, high) in
-          not_null (slice_index c.chain e.reached) z) in
-          let e2 : Files = record e { at = e.index.next } in
-          let R : Bool → Type 0 = λ w. G (rest w) in
-          let K : ℕ → Type 0 = λ k. IsCut e.blocks base disk e.header e.slot e.entry c.places c.chain c.blocks e.reached k in
-          let goes = cut_at_goes e2 base disk (record { clean = s.clean; blocks = s.blocks; whole = s.whole; six = s.six;
-          outgoing = s.outgoing; buffer = s.buffer; device = s.device; apart = s.apart })
-            (record { below = more; at = next; cutting = record { for = for_kept e.call e e2 base refl refl refl refl refl c.for;
-            places = c.places; chain = c.chain; blocks = c.blocks; old_size = c.old_size;
-                chain_long = c.chain_long; blocks_long = c.blocks_long; numbers = c.numbers; short = c.short; size = c.size;
-                first = c.first; files = c.files;
-                cut = subst K (let q : freed ≡ 16 * e.reached = omega (arith, all, some, more, chain_long, blocks_long) in q) c.cut } }) in
-          subst R (sym nn) (goes_before (cut_at e2).phase (cut_at e2) goes)))
+        let below = (c.cut.index e.reached (omega arith) more).below in let high = c.cut.middle.high in
+        let nn : (e.index.next == null) ≡ false = ap (λ k. k == null) next
+        ∙ (let z : slice_index c.chain e.reached ≢ null = λ w. omega (arith, w, below, high) in
+        not_null (slice_index c.chain e.reached) z) in
+        let e2 : Files = record e { at = e.index.next } in
+        let R : Bool → Type 0 = λ w. G (rest w) in
+        let K : ℕ → Type 0 = λ k. IsCut e.blocks base disk e.header e.slot e.entry c.places c.chain c.blocks e.reached k in
+        let goes = cut_at_goes e2 base disk (record {
+          clean = s.clean;
+          blocks = s.blocks;
+          whole = s.whole;
+          six = s.six;
+          outgoing = s.outgoing;
+          buffer = s.buffer;
+          device = s.device;
+          apart = s.apart;
+        })
+        (record {
+          below = more;
+          at = next;
+          cutting = record {
+            for = for_kept e.call e e2 base refl refl refl refl refl c.for;
+            places = c.places;
+            chain = c.chain;
+            blocks = c.blocks;
+            old_size = c.old_size;
+            chain_long = c.chain_long;
+            blocks_long = c.blocks_long;
+            numbers = c.numbers;
+            short = c.short;
+            size = c.size;
+            first = c.first;
+            files = c.files;
+            cut = subst K (let q : freed ≡ 16 * e.reached = omega (arith, all, some, more, chain_long, blocks_long) in q) c.cut;
+          };
+        }) in
+        subst R (sym nn) (goes_before (cut_at e2).phase (cut_at e2) goes)))
         (λ (end : length c.chain ≤ e.reached). (let next : e.index.next ≡ null = ap (λ (x : Index). x.next) index
         ∙ none_at c.chain (suc j) null (omega (arith, end, some)) in
-          let yes : (e.index.next == null) ≡ true = ap (λ k. k == null) next in
-          let R : Bool → Type 0 = λ w. G (rest w) in
-          subst R (sym yes) (end_cut_goes e freed base disk s c end (omega (arith, all, end, most, some, chain_long, blocks_long)))))
+        let yes : (e.index.next == null) ≡ true = ap (λ k. k == null) next in
+        let R : Bool → Type 0 = λ w. G (rest w) in
+        subst R (sym yes) (end_cut_goes e freed base disk s c end (omega (arith, all, end, most, some, chain_long, blocks_long)))))
         (cases_lt e.reached (length c.chain)))
       where
         not_null : (k : ℕ) → k ≢ null → (k == null) ≡ false
@@ -201,13 +291,44 @@ cut_read_goes e e' base disk read phase new put s honest =
     let e2 : Files = record e { index = index_at (e.at % 7) read; block = e'.block; phase = CutWrite } in
     let R : List ℕ → Type 0 = λ b. IsIndexPut b (e.at % 7) (freed_index (index_at (e.at % 7) read) e) e'.block in
     let P : Files → Type 0 = λ x. GoesTo x.phase e.call (call_bytes e) e x base disk in
-    subst P (sym new) (record { clean = s.clean; blocks = s.blocks; whole = s.whole; six = s.six; buffer = s.buffer; outgoing = put.long;
-        device = s.device; apart = s.apart;
-      hand = record { index = index; put = subst R honest put;
-      read = record { below = r.below; at = r.at; cutting = record { for = for_kept e.call e e2 base refl refl refl refl refl c.for;
-      places = c.places; chain = c.chain;
-        blocks = c.blocks; old_size = c.old_size; chain_long = c.chain_long; blocks_long = c.blocks_long; numbers = c.numbers;
-        short = c.short; cut = c.cut; size = c.size; first = c.first; files = c.files } } } }, refl, refl, refl)
+    subst P (sym new) (
+      record {
+        clean = s.clean;
+        blocks = s.blocks;
+        whole = s.whole;
+        six = s.six;
+        buffer = s.buffer;
+        outgoing = put.long;
+        device = s.device;
+        apart = s.apart;
+        hand = record {
+          index = index;
+          put = subst R honest put;
+          read = record {
+            below = r.below;
+            at = r.at;
+            cutting = record {
+              for = for_kept e.call e e2 base refl refl refl refl refl c.for;
+              places = c.places;
+              chain = c.chain;
+              blocks = c.blocks;
+              old_size = c.old_size;
+              chain_long = c.chain_long;
+              blocks_long = c.blocks_long;
+              numbers = c.numbers;
+              short = c.short;
+              cut = c.cut;
+              size = c.size;
+              first = c.first;
+              files = c.files;
+            };
+          };
+        };
+      },
+      refl,
+      refl,
+      refl,
+    )
 
 -- The index block is written.
 pub cut_written_goes : (e e' : Files) (base disk : List ℕ) → e.phase ≡ CutWrite → e' ≡ free_next (cut_written e) → Stands e base disk
@@ -233,17 +354,35 @@ cut_written_goes e e' base disk phase new s =
     let A : ℕ → Type 0 = λ k. T k (suc e.reached) in
     let B : ℕ → Type 0 = λ j. T e.at j in
     let cut2 = subst B (sym up) (subst A (sym r.at) cut) in
-    let c2 : IsCutting e2 (16 * e.reached) base made = record { for = for_kept e.call e e2 base refl refl refl refl refl c.for; places = p2;
-    chain = c.chain; blocks = c.blocks; old_size = c.old_size;
-      chain_long = c.chain_long; blocks_long = c.blocks_long; numbers = c.numbers; short = c.short; cut = cut2; size = c.size;
-      first = c.first; files = c.files } in
+    let c2 : IsCutting e2 (16 * e.reached) base made = record {
+      for = for_kept e.call e e2 base refl refl refl refl refl c.for;
+      places = p2;
+      chain = c.chain;
+      blocks = c.blocks;
+      old_size = c.old_size;
+      chain_long = c.chain_long;
+      blocks_long = c.blocks_long;
+      numbers = c.numbers;
+      short = c.short;
+      cut = cut2;
+      size = c.size;
+      first = c.first;
+      files = c.files;
+    } in
     let cl = c.chain_long in let bl = c.blocks_long in
-    let goes = free_next_goes e2 (16 * e.reached) base made (record { clean = s.clean; blocks = s.blocks;
-    whole = put_whole e base disk (6 + e.at / 7) s on; six = s.six; outgoing = s.outgoing; buffer = s.buffer; device = s.device;
-    apart = s.apart })
-      c2 (omega (arith, up)) (omega (arith, up, lt)) (w.index
-      ∙ ap (λ k. index_for k c.chain c.blocks) (let q : e.reached ≡ (e.reached + 1) % 4294967296 - 1 = omega (arith, up) in
-      q)) (omega arith) (omega (arith, up, lt, cl, bl)) in
+    let goes = free_next_goes e2 (16 * e.reached) base made (record {
+      clean = s.clean;
+      blocks = s.blocks;
+      whole = put_whole e base disk (6 + e.at / 7) s on;
+      six = s.six;
+      outgoing = s.outgoing;
+      buffer = s.buffer;
+      device = s.device;
+      apart = s.apart;
+    })
+    c2 (omega (arith, up)) (omega (arith, up, lt)) (w.index
+    ∙ ap (λ k. index_for k c.chain c.blocks) (let q : e.reached ≡ (e.reached + 1) % 4294967296 - 1 = omega (arith, up) in
+    q)) (omega arith) (omega (arith, up, lt, cl, bl)) in
     let P : Files → Type 0 = λ x. GoesTo x.phase e.call (call_bytes e) e x base made in
     subst P (sym new) (goes_from (free_next e2).phase e.call (call_bytes e) e2 e (free_next e2) base made refl goes)
 
@@ -268,14 +407,33 @@ free_written_goes e e' b base disk phase new s =
     let A : ℕ → Type 0 = λ y. IsCut e.blocks base (block_put disk y e.block) (let h : Header = record e.header { free_data = y } in
     h) e.slot e.entry p2 c.chain c.blocks e.reached (suc k) in
     let cut2 = subst A (sym w.here) cut in
-    let c2 : IsCutting e2 (suc k) base made = record { for = for_kept e.call e e2 base refl refl refl refl refl c.for; places = p2;
-    chain = c.chain; blocks = c.blocks; old_size = c.old_size;
-      chain_long = c.chain_long; blocks_long = c.blocks_long; numbers = c.numbers; short = c.short; cut = cut2; size = c.size;
-      first = c.first; files = c.files } in
+    let c2 : IsCutting e2 (suc k) base made = record {
+      for = for_kept e.call e e2 base refl refl refl refl refl c.for;
+      places = p2;
+      chain = c.chain;
+      blocks = c.blocks;
+      old_size = c.old_size;
+      chain_long = c.chain_long;
+      blocks_long = c.blocks_long;
+      numbers = c.numbers;
+      short = c.short;
+      cut = cut2;
+      size = c.size;
+      first = c.first;
+      files = c.files;
+    } in
     let more = w.below in
-    let goes = free_next_goes e2 (suc k) base made (record { clean = s.clean; blocks = s.blocks; whole = put_whole e base disk b s on;
-    six = s.six; outgoing = s.outgoing; buffer = s.buffer; device = s.device; apart = s.apart })
-      c2 w.some w.most w.index (omega (arith, up, row)) (omega (arith, up, more)) in
+    let goes = free_next_goes e2 (suc k) base made (record {
+      clean = s.clean;
+      blocks = s.blocks;
+      whole = put_whole e base disk b s on;
+      six = s.six;
+      outgoing = s.outgoing;
+      buffer = s.buffer;
+      device = s.device;
+      apart = s.apart;
+    })
+    c2 w.some w.most w.index (omega (arith, up, row)) (omega (arith, up, more)) in
     let P : Files → Type 0 = λ x. GoesTo x.phase e.call (call_bytes e) e x base made in
     subst P (sym new) (goes_from (free_next e2).phase e.call (call_bytes e) e2 e (free_next e2) base made refl goes)
   where
@@ -286,7 +444,7 @@ free_written_goes e e' b base disk phase new s =
         (λ (z : e.header.free_data ≢ null).
         (let f = free_data_first e.blocks base disk e.header e.slot e.entry p [] e.header.free_data (drop 1 p.free_data) m
         (free_data_some e.blocks base disk e.header e.slot e.entry p [] m z) in
-          let high = f.high in let most = m.high in omega (arith, high, most)))
+        let high = f.high in let most = m.high in omega (arith, high, most)))
         (cases_eq e.header.free_data null)
 
 -- The file in hand is cut: its blocks are to be freed.
@@ -296,12 +454,15 @@ pub cutting_goes : (e : Files) (base : List ℕ) → IsStanding e base base → 
 cutting_goes e base s slot entry used header for =
     either-way (e.entry.size == 0) (λ v. (e.entry.size == 0) ≡ v → G (if v then end_cut e2 else cut_at e2))
     (λ _ t. (let z : e.entry.size ≡ 0 = grind (arith, nat_tests) in
-      goes_from (end_cut e2).phase e.call (call_bytes e) e2 e (end_cut e2) base base refl
-      (end_cut_goes e2 0 base base s2 c2 (omega (arith, chain_long, z)) (omega (arith, blocks_long, z)))))
+    goes_from (end_cut e2).phase e.call (call_bytes e) e2 e (end_cut e2) base base refl
+    (end_cut_goes e2 0 base base s2 c2 (omega (arith, chain_long, z)) (omega (arith, blocks_long, z)))))
     (λ _ t. (let z : e.entry.size ≢ 0 = (λ q. not_zero e.entry.size q t) in
-      let more : 0 < length chain = omega (arith, chain_long, z) in
-      goes_from (cut_at e2).phase e.call (call_bytes e) e2 e (cut_at e2) base base refl (cut_at_goes e2 base base s2 (record { cutting = c2;
-      below = more; at = first ∙ some_at chain 0 null more }))))
+    let more : 0 < length chain = omega (arith, chain_long, z) in
+    goes_from (cut_at e2).phase e.call (call_bytes e) e2 e (cut_at e2) base base refl (cut_at_goes e2 base base s2 (record {
+      cutting = c2;
+      below = more;
+      at = first ∙ some_at chain 0 null more;
+    }))))
     refl
   where
     G : Files → Type 0
@@ -341,12 +502,24 @@ cutting_goes e base s slot entry used header for =
     e2 = record e { at = e.entry.first; reached = 0; row = 0; entry = record e.entry { size = 0; first = null } }
 
     s2 : IsStanding e2 base base
-    s2 = record { clean = s.clean; blocks = s.blocks; whole = s.whole; six = s.six; outgoing = s.outgoing; buffer = s.buffer;
-        device = s.device; apart = s.apart }
+    s2 = record {
+      clean = s.clean;
+      blocks = s.blocks;
+      whole = s.whole;
+      six = s.six;
+      outgoing = s.outgoing;
+      buffer = s.buffer;
+      device = s.device;
+      apart = s.apart;
+    }
 
     p2 : Places
-    p2 = record p { chains = slice_set p.chains e.slot []; datas = slice_set p.datas e.slot [];
-        held_index = numbers_at p.chains e.slot ++ p.held_index; held_data = numbers_at p.datas e.slot ++ p.held_data }
+    p2 = record p {
+      chains = slice_set p.chains e.slot [];
+      datas = slice_set p.datas e.slot [];
+      held_index = numbers_at p.chains e.slot ++ p.held_index;
+      held_data = numbers_at p.datas e.slot ++ p.held_data;
+    }
 
     begun : IsCut n base base (header_on base) e.slot e2.entry p2 chain blocks 0 0
     begun = cut_begins n base base (header_on base) e.slot (entry_at base e.slot) e2.entry p
@@ -357,12 +530,22 @@ cutting_goes e base s slot entry used header for =
         subst P entry (entry_small base s.clean e.slot slot (ap entry_is_used entry ∙ used))
 
     c2 : IsCutting e2 0 base base
-    c2 = record { for = for_kept e.call e e2 base refl refl refl refl refl for; places = p2; chain = chain; blocks = blocks;
-        old_size = e.entry.size; chain_long = chain_long; blocks_long = blocks_long;
-      numbers = λ j h. (let r = (read.block j h).1 in omega (arith, r, same)); short = (let l = small in omega (arith, chain_long, l));
+    c2 = record {
+      for = for_kept e.call e e2 base refl refl refl refl refl for;
+      places = p2;
+      chain = chain;
+      blocks = blocks;
+      old_size = e.entry.size;
+      chain_long = chain_long;
+      blocks_long = blocks_long;
+      numbers = λ j h. (let r = (read.block j h).1 in omega (arith, r, same));
+      short = (let l = small in omega (arith, chain_long, l));
       cut = (let C : ℕ → Header → Type 0 = λ k h. IsCut k base base h e.slot e2.entry p2 chain blocks 0 0 in let A : ℕ
-      → Type 0 = λ k. C k e.header in let B : Header → Type 0 = λ h. C n h in subst A same (subst B (sym header) begun));
-      size = refl; first = refl; files = ap (λ (x : Header). x.files) header }
+          → Type 0 = λ k. C k e.header in let B : Header → Type 0 = λ h. C n h in subst A same (subst B (sym header) begun));
+      size = refl;
+      first = refl;
+      files = ap (λ (x : Header). x.files) header;
+    }
 
     not_zero : (k : ℕ) → k ≡ 0 → (k == 0) ≡ false → ⊥
     not_zero k q t = false≢true (sym t ∙ ap (λ x. x == 0) q)

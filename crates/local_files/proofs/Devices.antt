@@ -39,11 +39,15 @@ device_some e base disk d f s at = let P : Option OpenFile → Type 0 = λ o. Is
 
 -- the file that a device has open is on the disk, and as large as its entry says
 pub open_is : (base : List ℕ) (f : OpenFile) → IsCleanImage base → IsOpenOn base f
-    → file_named (bare_name f.entry.name) (stored_files base) ≡ Some (record { name = bare_name f.entry.name;
-    bytes = entry_bytes base f.entry })
+    → file_named (bare_name f.entry.name) (stored_files base) ≡ Some (record {
+      name = bare_name f.entry.name;
+      bytes = entry_bytes base f.entry;
+    })
 open_is base f c o =
-    let P : Entry → Type 0 = λ x. file_named (bare_name x.name) (stored_files base) ≡ Some (record { name = bare_name x.name;
-    bytes = entry_bytes base x }) in
+    let P : Entry → Type 0 = λ x. file_named (bare_name x.name) (stored_files base) ≡ Some (record {
+      name = bare_name x.name;
+      bytes = entry_bytes base x;
+    }) in
     subst P o.entry (named_at base c f.slot o.slot (ap entry_is_used o.entry ∙ o.used))
 
 pub open_size : (base : List ℕ) (f : OpenFile) → IsCleanImage base → IsOpenOn base f
@@ -83,8 +87,17 @@ not_open n (x ∷ xs) zero f z e = ap (has_this_open n) (sym e) ∙ (or-false (h
 -- The engine answers.
 
 pub answered_stands : (reply : ℤ) (e : Files) (base : List ℕ) → Stands e base base → Stands (answered reply e) base base
-answered_stands reply e base s = record { clean = s.clean; blocks = s.blocks; whole = refl; six = s.six; buffer = s.buffer;
-    outgoing = s.outgoing; device = s.device; apart = s.apart; hand = refl }
+answered_stands reply e base s = record {
+  clean = s.clean;
+  blocks = s.blocks;
+  whole = refl;
+  six = s.six;
+  buffer = s.buffer;
+  outgoing = s.outgoing;
+  device = s.device;
+  apart = s.apart;
+  hand = refl;
+}
 
 -- a device has something else open
 pub device_set : (e : Files) (base disk : List ℕ) (d : ℕ) (x : Option OpenFile) → Stands e base disk → d < 6 → IsDevice base x → (c : ℕ)

@@ -49,8 +49,13 @@ apart_moved (Some y) f g q a b = (λ z. a (z ∙ q), λ z. b (sym q ∙ z))
 open_there : (e : Files) (base made : List ℕ) (o : Option OpenFile) → IsMade e base made → (slot : ℕ) → slot ≡ e.slot → (f : OpenFile)
     → f.slot ≡ slot → AreApart o (Some f) → IsDevice base o → IsDevice made o
 open_there e base made None m slot q f r a h = tt
-open_there e base made (Some g) m slot q f r a h = record { slot = h.slot; entry = m.others g.slot (λ z. a (z ∙ sym q ∙ sym r))
-    ∙ h.entry; used = h.used; position = h.position }
+open_there e base made (Some g) m slot q f r a h = record {
+  slot = h.slot;
+  entry = m.others g.slot (λ z. a (z ∙ sym q ∙ sym r))
+      ∙ h.entry;
+  used = h.used;
+  position = h.position;
+}
 
 -- the device has the new entry
 kept_stands : (e : Files) (base disk made : List ℕ) (d position : ℕ) (f : OpenFile) (reply : ℤ) → Stands e base disk → IsMade e base made
@@ -64,17 +69,27 @@ kept_stands e base disk made d position f reply s m at slot named within =
     let below : d < 6 = (let l = some_below e.devices d f at in omega (arith, l, six)) in
     let P : Option OpenFile → Type 0 = λ x. IsDevice made x in
     let used : entry_is_used e.entry ≡ true = ap (λ x. not (nat_eq (slice_index x 0) 0)) named ∙ o.used in
-    let mine : IsOpenOn made g = record { slot = o.slot; entry = ap (entry_at made) (sym slot)
-    ∙ m.entry; used = used; position = within } in
+    let mine : IsOpenOn made g = record {
+      slot = o.slot;
+      entry = ap (entry_at made) (sym slot)
+          ∙ m.entry;
+      used = used;
+      position = within;
+    } in
     let away : (c : ℕ) → c ≢ d → AreApart (device_at e c) (Some f) = λ c ne.
     (let Q : Option OpenFile → Type 0 = λ x. AreApart (device_at e c) x in subst Q at (s.apart c d ne)) in
     let back : (c : ℕ) → c ≢ d → AreApart (Some f) (device_at e c) = λ c ne.
     (let Q : Option OpenFile → Type 0 = λ x. AreApart x (device_at e c) in subst Q at (s.apart d c (λ z. ne (sym z)))) in
     record {
-      clean = m.clean; blocks = m.size ∙ s.blocks; whole = refl; six = length-set e.devices d (Some g)
-      ∙ six; buffer = s.buffer; outgoing = s.outgoing;
+      clean = m.clean;
+      blocks = m.size ∙ s.blocks;
+      whole = refl;
+      six = length-set e.devices d (Some g)
+          ∙ six;
+      buffer = s.buffer;
+      outgoing = s.outgoing;
       device = set_each P e d (Some g) (omega (arith, below, six)) mine (λ c ne.
-      open_there e base made (device_at e c) m f.slot (sym slot) f refl (away c ne) (s.device c));
+          open_there e base made (device_at e c) m f.slot (sym slot) f refl (away c ne) (s.device c));
       apart = apart_set e base disk d (Some g) s below (λ c ne. apart_moved (device_at e c) f g refl (away c ne) (back c ne));
       hand = refl;
     }
@@ -82,8 +97,11 @@ kept_stands e base disk made d position f reply s m at slot named within =
 -- what the abstract machine sees of the device
 seen_set : (e : Files) (base made : List ℕ) (d position : ℕ) (f : OpenFile) (reply : ℤ) (before : List (Option systems.OpenFile))
     → before ≡ map shown e.devices → e.entry.name ≡ f.entry.name
-    → (let r : FileSystem = record { blocks = e.blocks; files = stored_files made;
-    devices = slice_set before d (Some (let x : systems.OpenFile = record (seen f) { position = position } in x)) } in r)
+    → (let r : FileSystem = record {
+      blocks = e.blocks;
+      files = stored_files made;
+      devices = slice_set before d (Some (let x : systems.OpenFile = record (seen f) { position = position } in x));
+    } in r)
     ≡ system (answered reply (with_device d (Some (let g : OpenFile = record f { entry = e.entry; position = position } in g)) e)) made
 seen_set e base made d position f reply before is named =
     let r : List (Option systems.OpenFile) → FileSystem = λ ds. record { blocks = e.blocks; files = stored_files made; devices = ds } in
@@ -105,8 +123,13 @@ held_file_is e base disk d f s at slot =
     let o = device_some e base disk d f s at in
     let entry : entry_at base e.slot ≡ f.entry = ap (entry_at base) slot ∙ o.entry in
     let below = o.slot in
-    record { at = shown_at e.devices d ∙ ap shown at; slot = omega (arith, slot, below); used = ap entry_is_used entry
-        ∙ o.used; named = ap (λ (x : Entry). bare_name x.name) (sym entry) }
+    record {
+      at = shown_at e.devices d ∙ ap shown at;
+      slot = omega (arith, slot, below);
+      used = ap entry_is_used entry
+          ∙ o.used;
+      named = ap (λ (x : Entry). bare_name x.name) (sym entry);
+    }
 
 -- the device of a call on a device
 kept_is : (e : Files) (d position : ℕ) (f : OpenFile) → device_at e d ≡ Some f
@@ -147,9 +170,11 @@ written_goes e d base disk made is s w m =
     ∙ ap (λ p. kept_at (device_at e d) d p e) q ∙ kept_is e d (f.position + e.done) f at) in
     let P : Files → Type 0 = λ x. GoesTo x.phase (Write d) (put_bytes e) e x base made in
     let result : FileSystem → FileEffect = λ y. record { system = y; reply = pos e.done; bytes = [] } in
-    subst P (sym new_is) (effect ∙ ap result
-    (seen_set e base made d (f.position + e.done) f (pos e.done) (map shown e.devices) refl w.named),
-      kept_stands e base disk made d (f.position + e.done) f (pos e.done) s m at w.slot w.named w.size)
+    subst P (sym new_is) (
+      effect ∙ ap result
+          (seen_set e base made d (f.position + e.done) f (pos e.done) (map shown e.devices) refl w.named),
+      kept_stands e base disk made d (f.position + e.done) f (pos e.done) s m at w.slot w.named w.size,
+    )
 
 -- `putc`
 putc_goes : (e : Files) (d b : ℕ) (base disk made : List ℕ) → e.call ≡ Putc d b → Stands e base disk → IsWritten e base
@@ -184,8 +209,10 @@ putc_goes e d b base disk made is s w one m =
     let P : Files → Type 0 = λ x. GoesTo x.phase (Putc d b) [] e x base made in
     let result : FileSystem → FileEffect = λ y. record { system = y; reply = pos 0; bytes = [] } in
     let size = w.size in
-    subst P (sym new_is) (effect ∙ ap result (seen_set e base made d (f.position + 1) f (pos 0) (map shown e.devices) refl w.named),
-      kept_stands e base disk made d (f.position + 1) f (pos 0) s m at w.slot w.named (omega (arith, size, done_is)))
+    subst P (sym new_is) (
+      effect ∙ ap result (seen_set e base made d (f.position + 1) f (pos 0) (map shown e.devices) refl w.named),
+      kept_stands e base disk made d (f.position + 1) f (pos 0) s m at w.slot w.named (omega (arith, size, done_is)),
+    )
 
 -- `truncate`
 emptied_goes : (e : Files) (d : ℕ) (base disk made : List ℕ) → e.call ≡ Truncate d → Stands e base disk → IsEmptied e base
@@ -205,17 +232,23 @@ emptied_goes e d base disk made is s w m =
     ∙ ap (answered (pos 0)) (kept_is e d 0 f at) in
     let P : Files → Type 0 = λ x. GoesTo x.phase (Truncate d) [] e x base made in
     let result : FileSystem → FileEffect = λ y. record { system = y; reply = pos 0; bytes = [] } in
-    subst P (sym new_is) (effect ∙ ap result (seen_set e base made d 0 f (pos 0) (map shown e.devices) refl w.named),
-      kept_stands e base disk made d 0 f (pos 0) s m at w.slot w.named (omega arith))
+    subst P (sym new_is) (
+      effect ∙ ap result (seen_set e base made d 0 f (pos 0) (map shown e.devices) refl w.named),
+      kept_stands e base disk made d 0 f (pos 0) s m at w.slot w.named (omega arith),
+    )
 
 -- of the made disk, a device has its file as it was, if that is another than the deleted one
 deleted_there : (e : Files) (base made name : List ℕ) (o : Option OpenFile) → IsMade e base made → (entry_at base e.slot).name ≡ name
     → has_this_open name o ≡ false → IsDevice base o → IsDevice made o
 deleted_there e base made name None m is closed h = tt
 deleted_there e base made name (Some g) m is closed h =
-    record { slot = h.slot; used = h.used; position = h.position;
+    record {
+      slot = h.slot;
+      used = h.used;
+      position = h.position;
       entry = m.others g.slot (λ q. false≢true (sym closed ∙ (bytes_eq-Decides g.entry.name name).1 (ap (λ (x : Entry).
-      x.name) (sym h.entry) ∙ ap (λ k. (entry_at base k).name) q ∙ is))) ∙ h.entry }
+          x.name) (sym h.entry) ∙ ap (λ k. (entry_at base k).name) q ∙ is))) ∙ h.entry;
+    }
 
 -- `delete`
 deleted_goes : (e : Files) (name base disk made : List ℕ) → e.call ≡ Delete name → Stands e base disk → IsDeleting e base
@@ -231,11 +264,20 @@ deleted_goes e name base disk made is s w m =
     let files : stored_files made ≡ without_file (bare_name (entry_at base e.slot).name) (stored_files base) = m.files
     ∙ ap (λ k. files_after k e base) is ∙ ap (λ x. without_file (bare_name x) (stored_files base)) (sym named) in
     let effect = delete_effect base made [] e.slot (system e base) s.clean w.slot w.used (ap (λ x.
-    is_open (bare_name x) (system e base)) named ∙ closed) refl files in
-    (ap (λ x. model.file_effect (model.Delete (bare_name x)) [] (system e base)) (sym named) ∙ effect,
-      record { clean = m.clean; blocks = m.size ∙ s.blocks; whole = refl; six = s.six; buffer = s.buffer; outgoing = s.outgoing;
+    is_open (bare_name x) (system e base)) named ∙ closed) refl files in (
+      ap (λ x. model.file_effect (model.Delete (bare_name x)) [] (system e base)) (sym named) ∙ effect,
+      record {
+        clean = m.clean;
+        blocks = m.size ∙ s.blocks;
+        whole = refl;
+        six = s.six;
+        buffer = s.buffer;
+        outgoing = s.outgoing;
         device = λ c. deleted_there e base made name (device_at e c) m named (closed_at name e.devices c none) (s.device c);
-        apart = s.apart; hand = refl })
+        apart = s.apart;
+        hand = refl;
+      },
+    )
   where
     closed_at : (name : List ℕ) (xs : List (Option OpenFile)) (c : ℕ) → is_this_open name xs ≡ false
         → has_this_open name (slice_index_or xs c None) ≡ false

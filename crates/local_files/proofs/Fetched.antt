@@ -90,13 +90,31 @@ fetched_goes e e' b base disk read phase wide new s honest =
     w = let H : Phase → Type 0 = λ p. InHand p e base disk in subst H phase s.hand
 
     r : IsReading e base base
-    r = record { same = refl; some = w.reading.some; few = w.reading.few; file = w.reading.file; open_is = w.reading.open_is;
-        reads = w.reading.reads; position = w.reading.position; within = w.reading.within;
-      total = w.reading.total; left = w.reading.left; taken = w.reading.taken }
+    r = record {
+      same = refl;
+      some = w.reading.some;
+      few = w.reading.few;
+      file = w.reading.file;
+      open_is = w.reading.open_is;
+      reads = w.reading.reads;
+      position = w.reading.position;
+      within = w.reading.within;
+      total = w.reading.total;
+      left = w.reading.left;
+      taken = w.reading.taken;
+    }
 
     st : IsStanding e base base
-    st = record { clean = s.clean; blocks = s.blocks; whole = refl; six = s.six; outgoing = s.outgoing; buffer = s.buffer;
-        device = s.device; apart = s.apart }
+    st = record {
+      clean = s.clean;
+      blocks = s.blocks;
+      whole = refl;
+      six = s.six;
+      outgoing = s.outgoing;
+      buffer = s.buffer;
+      device = s.device;
+      apart = s.apart;
+    }
 
     o : IsOpenOn base r.file
     o = open_of base (device_at e (device_of e.call)) r.file r.open_is (s.device (device_of e.call))
@@ -187,8 +205,16 @@ fetched_goes e e' b base disk read phase wide new s honest =
         ∙ ap (λ n. take n (drop pos_is (entry_bytes base entry))) (sym done_is)
 
     st2 : IsStanding e2 base base
-    st2 = record { clean = s.clean; blocks = s.blocks; whole = refl; six = s.six; outgoing = s.outgoing; buffer = buffer_long;
-        device = s.device; apart = s.apart }
+    st2 = record {
+      clean = s.clean;
+      blocks = s.blocks;
+      whole = refl;
+      six = s.six;
+      outgoing = s.outgoing;
+      buffer = buffer_long;
+      device = s.device;
+      apart = s.apart;
+    }
 
     at2 : at_byte e2 ≡ pos_is + e2.done
     at2 = let t = r.total in let l = r.left in let v = r.within in let y = k_is in let d = done_is in let p = r.position in let z = small in
@@ -200,8 +226,19 @@ fetched_goes e e' b base disk read phase wide new s honest =
 
     goes_on : e2.done < e2.total → G (next_fetch e2)
     goes_on more =
-        let r2 : IsReading e2 base base = record { same = refl; some = r.some; few = r.few; file = r.file; open_is = r.open_is;
-        reads = r.reads; position = r.position; within = r.within; total = r.total; left = more; taken = taken } in
+        let r2 : IsReading e2 base base = record {
+          same = refl;
+          some = r.some;
+          few = r.few;
+          file = r.file;
+          open_is = r.open_is;
+          reads = r.reads;
+          position = r.position;
+          within = r.within;
+          total = r.total;
+          left = more;
+          taken = taken;
+        } in
         let q2 = pos_is + e2.done in
         let y = k_is in let d = done_is in let l = r.left in
         let bound : q2 % 512 ≡ 0 = omega (arith, y, d, l, more) in
@@ -209,24 +246,24 @@ fetched_goes e e' b base disk read phase wide new s honest =
         either-way (at_byte e2 % 8192 == 0) (λ v. (at_byte e2 % 8192 == 0) ≡ v
         → G (if v then walking 0 e.index.next e2 else fetching (slice_index e.index.blocks (at_byte e2 / 512 % 16)) e2))
         (λ _ z. (let whole : at_byte e2 % 8192 ≡ 0 = grind (arith, nat_tests) in
-          let a = at2 in
-          let up : suc (q / 8192) ≡ q2 / 8192 = omega (arith, y, d, l, more, whole, a) in
-          let lt : q2 / 8192 < length chain = omega (arith, more, t, v, cl) in
-          let next : e.index.next ≡ slice_index chain (q2 / 8192 - 0) = ap (λ (x : Index). x.next) w.index
-          ∙ some_at chain (suc (q / 8192)) null (omega (arith, up, lt)) ∙ ap (slice_index chain) (omega (arith, up)) in
-          let x = walking 0 e.index.next e2 in
-          goes_from x.phase e.call (call_bytes e) e2 e x base base refl
-          (subst (B2 x) bytes_same (walking_goes e2 0 e.index.next base st2 r2 (omega arith) next))))
+        let a = at2 in
+        let up : suc (q / 8192) ≡ q2 / 8192 = omega (arith, y, d, l, more, whole, a) in
+        let lt : q2 / 8192 < length chain = omega (arith, more, t, v, cl) in
+        let next : e.index.next ≡ slice_index chain (q2 / 8192 - 0) = ap (λ (x : Index). x.next) w.index
+        ∙ some_at chain (suc (q / 8192)) null (omega (arith, up, lt)) ∙ ap (slice_index chain) (omega (arith, up)) in
+        let x = walking 0 e.index.next e2 in
+        goes_from x.phase e.call (call_bytes e) e2 e x base base refl
+        (subst (B2 x) bytes_same (walking_goes e2 0 e.index.next base st2 r2 (omega arith) next))))
         (λ _ z. (let part_way : at_byte e2 % 8192 ≢ 0 = (λ u. false≢true (sym z ∙ zero_is (at_byte e2 % 8192) u)) in
-          let a = at2 in
-          let same : q / 8192 ≡ q2 / 8192 = omega (arith, y, d, l, more, part_way, a, bound) in
-          let lt : q2 / 512 < length data_list = omega (arith, more, t, v, bl) in
-          let index2 : e2.index ≡ index_for (q2 / 8192) chain data_list = w.index ∙ ap (λ j. index_for j chain data_list) same in
-          let here : slice_index e.index.blocks (at_byte e2 / 512 % 16) ≡ slice_index data_list (q2 / 512) =
-          ap (λ j. slice_index e.index.blocks (j / 512 % 16)) a ∙ block_of e2 base q2 chain data_list index2 lt in
-          let x = fetching (slice_index e.index.blocks (at_byte e2 / 512 % 16)) e2 in
-          goes_from x.phase e.call (call_bytes e) e2 e x base base refl
-          (subst (B2 x) bytes_same (fetching_goes e2 (slice_index e.index.blocks (at_byte e2 / 512 % 16)) base st2 r2 index2 here))))
+        let a = at2 in
+        let same : q / 8192 ≡ q2 / 8192 = omega (arith, y, d, l, more, part_way, a, bound) in
+        let lt : q2 / 512 < length data_list = omega (arith, more, t, v, bl) in
+        let index2 : e2.index ≡ index_for (q2 / 8192) chain data_list = w.index ∙ ap (λ j. index_for j chain data_list) same in
+        let here : slice_index e.index.blocks (at_byte e2 / 512 % 16) ≡ slice_index data_list (q2 / 512) =
+        ap (λ j. slice_index e.index.blocks (j / 512 % 16)) a ∙ block_of e2 base q2 chain data_list index2 lt in
+        let x = fetching (slice_index e.index.blocks (at_byte e2 / 512 % 16)) e2 in
+        goes_from x.phase e.call (call_bytes e) e2 e x base base refl
+        (subst (B2 x) bytes_same (fetching_goes e2 (slice_index e.index.blocks (at_byte e2 / 512 % 16)) base st2 r2 index2 here))))
         refl
       where
         B2 : Files → List ℕ → Type 0
@@ -261,26 +298,49 @@ fetched_goes e e' b base disk read phase wide new s honest =
         let g : OpenFile = record r.file { position = q + k } in
         let six = s.six in
         let e4 : Files = answered (pos 0) e3 in
-        let s4 : Stands e4 base base = record { clean = s3.clean; blocks = s3.blocks; whole = refl; six = s3.six; buffer = s3.buffer;
-        outgoing = s3.outgoing; device = s3.device; apart = s3.apart; hand = refl } in
+        let s4 : Stands e4 base base = record {
+          clean = s3.clean;
+          blocks = s3.blocks;
+          whole = refl;
+          six = s3.six;
+          buffer = s3.buffer;
+          outgoing = s3.outgoing;
+          device = s3.device;
+          apart = s3.apart;
+          hand = refl;
+        } in
         let below : d < 6 = (let l = some_below e.devices d r.file at in omega (arith, l, six)) in
         let at3 : device_at e3 d ≡ Some r.file = ap (λ ds. slice_index_or ds d None) same ∙ at in
         let t = r.total in let y = k_is in let v = r.within in let l = r.left in
-        set_stands (pos 0) e4 base d (Some g) s4 below (record { slot = o.slot; entry = o.entry; used = o.used;
-        position = omega (arith, t, y, v, l) })
+        set_stands (pos 0) e4 base d (Some g) s4 below (record {
+          slot = o.slot;
+          entry = o.entry;
+          used = o.used;
+          position = omega (arith, t, y, v, l);
+        })
         (λ c ne. apart_moved (device_at e3 c) r.file g refl (let Q : Option OpenFile → Type 0 = λ x. AreApart (device_at e3 c) x in
         subst Q at3 (s3.apart c d ne))
         (let Q : Option OpenFile → Type 0 = λ x. AreApart x (device_at e3 c) in subst Q at3 (s3.apart d c (λ z. ne (sym z)))))
 
     -- the reply and the bytes
     finished : (c : FileCall) → e.call ≡ c → e.done + k ≡ e.total
-        → GoesTo (finished_read (named_device c) (record e2 { call =
-        c })).phase c (given_bytes c (put_bytes e)) e (finished_read (named_device c) (record e2 { call = c })) base base
+        → GoesTo (finished_read (named_device c) (record e2 {
+          call =
+              c;
+        })).phase c (given_bytes c (put_bytes e)) e (finished_read (named_device c) (record e2 { call = c })) base base
     finished (Read d n) is end =
         let at = held d (Read d n) is refl in
         let e3 : Files = record e2 { call = Read d n } in
-        let s3 : IsStanding e3 base base = record { clean = s.clean; blocks = s.blocks; whole = refl; six = s.six; outgoing = s.outgoing;
-        buffer = buffer_long; device = s.device; apart = s.apart } in
+        let s3 : IsStanding e3 base base = record {
+          clean = s.clean;
+          blocks = s.blocks;
+          whole = refl;
+          six = s.six;
+          outgoing = s.outgoing;
+          buffer = buffer_long;
+          device = s.device;
+          apart = s.apart;
+        } in
         let count : read_count e.call ≡ n = ap read_count is in
         let total : e.total ≡ min n (entry.size - pos_is) = r.total ∙ ap (λ x. min x (entry.size - pos_is)) count in
         let ahead_bytes = drop pos_is (entry_bytes base entry) in
@@ -310,16 +370,35 @@ fetched_goes e e' b base disk read phase wide new s honest =
         let x : ℕ → systems.OpenFile = λ p. record (seen r.file) { position = p } in
         let m = moved_stands d e3 refl at s3 in
         let P : Files → Type 0 = λ y. GoesTo y.phase (Read d n) [] e y base base in
-        subst P (sym new_is) (effect ∙ ap (λ b. result b (slice_set (map shown e.devices) d (Some (x (pos_is + e.total))))) given
-          ∙ ap (λ p. result (take e.total e2.buffer) (slice_set (map shown e.devices) d (Some (x p)))) (let z : pos_is + e.total ≡ q + k =
-          omega (arith, end) in z) ∙ ap (result (take e.total e2.buffer)) (sym (shown_set e.devices d (Some g))),
-          record { clean = m.clean; blocks = m.blocks; whole = refl; six = m.six; buffer = m.buffer; outgoing = m.outgoing;
-          device = m.device; apart = m.apart; hand = refl })
+        subst P (sym new_is) (
+          effect ∙ ap (λ b. result b (slice_set (map shown e.devices) d (Some (x (pos_is + e.total))))) given
+              ∙ ap (λ p. result (take e.total e2.buffer) (slice_set (map shown e.devices) d (Some (x p)))) (let z : pos_is + e.total ≡ q + k =
+              omega (arith, end) in z) ∙ ap (result (take e.total e2.buffer)) (sym (shown_set e.devices d (Some g))),
+          record {
+            clean = m.clean;
+            blocks = m.blocks;
+            whole = refl;
+            six = m.six;
+            buffer = m.buffer;
+            outgoing = m.outgoing;
+            device = m.device;
+            apart = m.apart;
+            hand = refl;
+          },
+        )
     finished (Getc d) is end =
         let at = held d (Getc d) is refl in
         let e3 : Files = record e2 { call = Getc d } in
-        let s3 : IsStanding e3 base base = record { clean = s.clean; blocks = s.blocks; whole = refl; six = s.six; outgoing = s.outgoing;
-        buffer = buffer_long; device = s.device; apart = s.apart } in
+        let s3 : IsStanding e3 base base = record {
+          clean = s.clean;
+          blocks = s.blocks;
+          whole = refl;
+          six = s.six;
+          outgoing = s.outgoing;
+          buffer = buffer_long;
+          device = s.device;
+          apart = s.apart;
+        } in
         let count : read_count e.call ≡ 1 = ap read_count is in
         let v = r.within in
         let total : e.total ≡ 1 = r.total ∙ ap (λ x. min x (entry.size - pos_is)) count ∙ (omega (arith, v)) in
@@ -342,10 +421,21 @@ fetched_goes e e' b base disk read phase wide new s honest =
         let x : ℕ → systems.OpenFile = λ p. record (seen r.file) { position = p } in
         let m = moved_stands d e3 refl at s3 in
         let P : Files → Type 0 = λ y. GoesTo y.phase (Getc d) [] e y base base in
-        subst P (sym new_is) (effect ∙ ap (λ p. result (slice_set (map shown e.devices) d (Some (x p)))) (let z : pos_is + 1 ≡ q + k =
-        omega (arith, end, total) in z) ∙ ap result (sym (shown_set e.devices d (Some g))),
-          record { clean = m.clean; blocks = m.blocks; whole = refl; six = m.six; buffer = m.buffer; outgoing = m.outgoing;
-          device = m.device; apart = m.apart; hand = refl })
+        subst P (sym new_is) (
+          effect ∙ ap (λ p. result (slice_set (map shown e.devices) d (Some (x p)))) (let z : pos_is + 1 ≡ q + k =
+              omega (arith, end, total) in z) ∙ ap result (sym (shown_set e.devices d (Some g))),
+          record {
+            clean = m.clean;
+            blocks = m.blocks;
+            whole = refl;
+            six = m.six;
+            buffer = m.buffer;
+            outgoing = m.outgoing;
+            device = m.device;
+            apart = m.apart;
+            hand = refl;
+          },
+        )
     finished (Open a b) is end = absurd (let x = r.some in let y = ap read_count is in omega (arith, x, y))
     finished (Delete a) is end = absurd (let x = r.some in let y = ap read_count is in omega (arith, x, y))
     finished (Close a) is end = absurd (let x = r.some in let y = ap read_count is in omega (arith, x, y))

@@ -102,8 +102,16 @@ pub record IsStanding (e : Files) (base disk : List ℕ) : Type 0 where
   pub apart : (c d : ℕ) → c ≢ d → AreApart (device_at e c) (device_at e d)
 
 pub standing : (e : Files) (base disk : List ℕ) → Stands e base disk → IsStanding e base disk
-standing e base disk s = record { clean = s.clean; blocks = s.blocks; whole = s.whole; six = s.six; outgoing = s.outgoing;
-    buffer = s.buffer; device = s.device; apart = s.apart }
+standing e base disk s = record {
+  clean = s.clean;
+  blocks = s.blocks;
+  whole = s.whole;
+  six = s.six;
+  outgoing = s.outgoing;
+  buffer = s.buffer;
+  device = s.device;
+  apart = s.apart;
+}
 
 -- there are used entries
 count_some : (test : Entry → Bool) (es : List Entry) (k : ℕ) → k < length es → test (slice_index_or es k void_entry) ≡ true
@@ -144,11 +152,33 @@ end_cut_goes e freed base disk s c all_index all_data = by_call e.call refl c.fo
         let r : IsRewriting disk n e.slot e.entry e.header eb hb =
         record { long = m.long; room = omega (arith, low); slot_is = m.slot_is; entry_block = ee; header_block = hh } in
         let f = middle_ends n base disk e.header e.slot e.entry c.places [] eb hb m none.0 none.1 c.files (omega (arith, size)) r in
-        record { clean = f.clean; size = f.size; files = f.files; entry = f.entry_is; others = f.others }) in
-        (record { clean = s.clean; blocks = s.blocks; whole = s.whole; six = s.six; buffer = s.buffer; outgoing = s.outgoing;
-        device = s.device; apart = s.apart;
-          hand = record { ending = record { file = h.file; open_is = ap (λ k. device_at e (device_of k)) (sym is)
-          ∙ h.open_is; writes = h.writes; slot = h.slot; named = h.named }; slot = m.slot_is; made = made } }, refl, refl, refl)
+        record { clean = f.clean; size = f.size; files = f.files; entry = f.entry_is; others = f.others }) in (
+          record {
+            clean = s.clean;
+            blocks = s.blocks;
+            whole = s.whole;
+            six = s.six;
+            buffer = s.buffer;
+            outgoing = s.outgoing;
+            device = s.device;
+            apart = s.apart;
+            hand = record {
+              ending = record {
+                file = h.file;
+                open_is = ap (λ k. device_at e (device_of k)) (sym is)
+                    ∙ h.open_is;
+                writes = h.writes;
+                slot = h.slot;
+                named = h.named;
+              };
+              slot = m.slot_is;
+              made = made;
+            };
+          },
+          refl,
+          refl,
+          refl,
+        )
     by_call (Delete name) is h =
         let e2 : Files = end_cut (record e { call = Delete name }) in
         let m = c.cut.middle in
@@ -164,26 +194,70 @@ end_cut_goes e freed base disk s c all_index all_data = by_call e.call refl c.fo
         → IsMade e2 base (block_put (block_put disk (e.slot / 13) eb) 0 hb) = λ eb hb ee hh. (
         let r : IsRewriting disk n e.slot e2.entry e2.header eb hb =
         record { long = m.long; room = omega (arith, low); slot_is = m.slot_is; entry_block = ee; header_block = hh } in
-        let f = middle_removed n base disk e2.header e.slot e.entry e2.entry c.places [] eb hb (with_files m) (record { size = c.size;
-        first = c.first; unused = refl }) c.cut.no_chain c.cut.no_blocks none.0 none.1 less r in
-        record { clean = f.clean; size = f.size; files = f.files ∙ ap (λ x. without_file (bare_name x) (stored_files base)) named;
-          entry = entry_then disk n e.slot e2.entry e2.header eb hb r; others = f.others }) in
-        (record { clean = s.clean; blocks = s.blocks; whole = s.whole; six = s.six; buffer = s.buffer; outgoing = s.outgoing;
-        device = s.device; apart = s.apart;
-          hand = record { ending = record { slot = h.slot; call = subst IsCall is h.call;
-          closed = ap (λ k. is_open (bare_name (name_of k)) (system e base)) (sym is) ∙ h.closed; used = h.used; named = named };
-          slot = m.slot_is; made = made } }, refl, refl, refl)
+        let f = middle_removed n base disk e2.header e.slot e.entry e2.entry c.places [] eb hb (with_files m) (record {
+          size = c.size;
+          first = c.first;
+          unused = refl;
+        }) c.cut.no_chain c.cut.no_blocks none.0 none.1 less r in
+        record {
+          clean = f.clean;
+          size = f.size;
+          files = f.files ∙ ap (λ x. without_file (bare_name x) (stored_files base)) named;
+          entry = entry_then disk n e.slot e2.entry e2.header eb hb r;
+          others = f.others;
+        }) in (
+          record {
+            clean = s.clean;
+            blocks = s.blocks;
+            whole = s.whole;
+            six = s.six;
+            buffer = s.buffer;
+            outgoing = s.outgoing;
+            device = s.device;
+            apart = s.apart;
+            hand = record {
+              ending = record {
+                slot = h.slot;
+                call = subst IsCall is h.call;
+                closed = ap (λ k. is_open (bare_name (name_of k)) (system e base)) (sym is) ∙ h.closed;
+                used = h.used;
+                named = named;
+              };
+              slot = m.slot_is;
+              made = made;
+            };
+          },
+          refl,
+          refl,
+          refl,
+        )
       where
         with_files : IsMiddle n base disk e.header e.slot e.entry c.places []
             → IsMiddle n base disk (let x : Header = record e.header { files = (e.header.files + 4294967295) % 4294967296 } in
             x) e.slot e.entry c.places []
-        with_files m = record { clean = m.clean; base_long = m.base_long; long = m.long; low = m.low; high = m.high; slot_is = m.slot_is;
+        with_files m = record {
+          clean = m.clean;
+          base_long = m.base_long;
+          long = m.long;
+          low = m.low;
+          high = m.high;
+          slot_is = m.slot_is;
           directory = m.directory;
-          laid = record { chains = m.laid.chains; datas = m.laid.datas;
-          file = λ k q u. (let l = m.laid.file k q u in record { indexes = l.indexes; datas = l.datas; first = l.first; each = l.each });
-          no_file = m.laid.no_file;
-            free_index = m.laid.free_index; free_data = m.laid.free_data; one_index = m.laid.one_index; one_data = m.laid.one_data };
-          was_used = m.was_used; named = m.named; others = m.others; mine = m.mine }
+          laid = record {
+            chains = m.laid.chains;
+            datas = m.laid.datas;
+            file = λ k q u. (let l = m.laid.file k q u in record { indexes = l.indexes; datas = l.datas; first = l.first; each = l.each });
+            no_file = m.laid.no_file;
+            free_index = m.laid.free_index;
+            free_data = m.laid.free_data;
+            one_index = m.laid.one_index;
+            one_data = m.laid.one_data;
+          };
+          was_used = m.was_used;
+          named = m.named;
+          others = m.others;
+          mine = m.mine;
+        }
     by_call (Open name mode) is h = absurd h
     by_call (Close d) is h = absurd h
     by_call (Read d k) is h = absurd h

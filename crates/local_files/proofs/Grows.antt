@@ -59,13 +59,47 @@ take_read_goes e e' b base disk read phase new wide s honest =
     let middle = subst M (sym (ap word_of honest))
     (middle_data_taken e.blocks base disk e.header e.slot e.entry p bytes b rest u.middle free) in
     let P : Files → Type 0 = λ x. GoesTo x.phase e.call (call_bytes e) e x base disk in
-    subst P (sym new) (record { clean = s.clean; blocks = s.blocks; whole = s.whole; six = s.six; buffer = s.buffer;
-        outgoing = sym (ap (λ (x : Files). length x.block) new) ∙ wide; device = s.device; apart = s.apart;
-      hand = record { block = refl; taken = record { places = p2; left = h.left; no_index = r.no_index; held = ap (λ x. b ∷ x) r.no_data;
-      ends = h.ends; reached = h.reached; index = h.index;
-        cursor = record { below = r.cursor.below; at = r.cursor.at; index = r.cursor.index };
-        putting = record { call = u.call; file = u.file; open_is = u.open_is; writes = u.writes; slot = u.slot; position = u.position;
-        most = u.most; few = u.few; some = u.some; files = u.files; middle = middle } } } }, refl, refl, refl)
+    subst P (sym new) (
+      record {
+        clean = s.clean;
+        blocks = s.blocks;
+        whole = s.whole;
+        six = s.six;
+        buffer = s.buffer;
+        outgoing = sym (ap (λ (x : Files). length x.block) new) ∙ wide;
+        device = s.device;
+        apart = s.apart;
+        hand = record {
+          block = refl;
+          taken = record {
+            places = p2;
+            left = h.left;
+            no_index = r.no_index;
+            held = ap (λ x. b ∷ x) r.no_data;
+            ends = h.ends;
+            reached = h.reached;
+            index = h.index;
+            cursor = record { below = r.cursor.below; at = r.cursor.at; index = r.cursor.index };
+            putting = record {
+              call = u.call;
+              file = u.file;
+              open_is = u.open_is;
+              writes = u.writes;
+              slot = u.slot;
+              position = u.position;
+              most = u.most;
+              few = u.few;
+              some = u.some;
+              files = u.files;
+              middle = middle;
+            };
+          };
+        };
+      },
+      refl,
+      refl,
+      refl,
+    )
 
 -- It is written with the bytes.
 pub take_written_goes : (e e' : Files) (b : ℕ) (base disk : List ℕ) → e.phase ≡ TakeWrite b → e' ≡ take_written b e → Stands e base disk
@@ -74,18 +108,45 @@ take_written_goes e e' b base disk phase new s = subst P (sym new) (either-way (
     (λ v. (at_byte e % 8192 == 0) ≡ v → P (if v then newing b e.header.free_index e else (let y : Files = record e { phase = AddRead b } in
     y)))
     (λ _ t. (let z : at_byte e % 8192 ≡ 0 = grind (arith, nat_tests) in
-      let some = h.taken.index z in let i = e.header.free_index in
-      let f = free_index_first e.blocks base disk e.header e.slot e.entry h.taken.places bytes i
-      (drop 1 h.taken.places.free_index) h.taken.putting.middle
-      (free_index_some e.blocks base disk e.header e.slot e.entry h.taken.places bytes h.taken.putting.middle some) in
-      let on : nat_lt (6 + i / 7) e.blocks ≡ true = index_on_disk e.blocks i h.taken.putting.middle.low f.below in
-      let e2 : Files = record e { phase = NewRead b i } in
-      let Q : Bool → Type 0 = λ v. P (if v then e2 else answered (negsuc 0) e) in
-      subst Q (sym on) (record { clean = s.clean; blocks = s.blocks; whole = whole; six = s.six; buffer = s.buffer; outgoing = s.outgoing;
-      device = s.device; apart = s.apart; hand = (filled (NewRead b i), (z, refl)) }, refl, refl, refl)))
-    (λ _ t. (record { clean = s.clean; blocks = s.blocks; whole = whole; six = s.six; buffer = s.buffer; outgoing = s.outgoing;
-    device = s.device; apart = s.apart;
-      hand = (filled (AddRead b), λ z. false≢true (sym t ∙ ap (λ k. k == 0) z)) }, refl, refl, refl))
+    let some = h.taken.index z in let i = e.header.free_index in
+    let f = free_index_first e.blocks base disk e.header e.slot e.entry h.taken.places bytes i
+    (drop 1 h.taken.places.free_index) h.taken.putting.middle
+    (free_index_some e.blocks base disk e.header e.slot e.entry h.taken.places bytes h.taken.putting.middle some) in
+    let on : nat_lt (6 + i / 7) e.blocks ≡ true = index_on_disk e.blocks i h.taken.putting.middle.low f.below in
+    let e2 : Files = record e { phase = NewRead b i } in
+    let Q : Bool → Type 0 = λ v. P (if v then e2 else answered (negsuc 0) e) in
+    subst Q (sym on) (
+      record {
+        clean = s.clean;
+        blocks = s.blocks;
+        whole = whole;
+        six = s.six;
+        buffer = s.buffer;
+        outgoing = s.outgoing;
+        device = s.device;
+        apart = s.apart;
+        hand = (filled (NewRead b i), (z, refl));
+      },
+      refl,
+      refl,
+      refl,
+    )))
+    (λ _ t. (
+      record {
+        clean = s.clean;
+        blocks = s.blocks;
+        whole = whole;
+        six = s.six;
+        buffer = s.buffer;
+        outgoing = s.outgoing;
+        device = s.device;
+        apart = s.apart;
+        hand = (filled (AddRead b), λ z. false≢true (sym t ∙ ap (λ k. k == 0) z));
+      },
+      refl,
+      refl,
+      refl,
+    ))
     refl)
   where
     made : List ℕ
@@ -121,22 +182,50 @@ take_written_goes e e' b base disk phase new s = subst P (sym new) (either-way (
         ∙ take_at (piece_bytes e) (drop (0 + length (piece_bytes e)) (replicate 512 0)) (piece e) f.long
 
     filled : (ph : Phase) → IsFilled (record e { phase = ph }) b base (block_put disk b e.block)
-    filled ph = record { filled = has; taken = record { places = h.taken.places; left = h.taken.left; no_index = h.taken.no_index;
-        held = h.taken.held; ends = h.taken.ends; reached = h.taken.reached; index = h.taken.index;
-      cursor = record { below = h.taken.cursor.below; at = h.taken.cursor.at; index = h.taken.cursor.index };
-      putting = record { call = h.taken.putting.call; file = h.taken.putting.file; open_is = h.taken.putting.open_is;
-      writes = h.taken.putting.writes; slot = h.taken.putting.slot; position = h.taken.putting.position;
-        most = h.taken.putting.most; few = h.taken.putting.few; some = h.taken.putting.some; files = h.taken.putting.files;
-        middle = middle } } }
+    filled ph = record {
+      filled = has;
+      taken = record {
+        places = h.taken.places;
+        left = h.taken.left;
+        no_index = h.taken.no_index;
+        held = h.taken.held;
+        ends = h.taken.ends;
+        reached = h.taken.reached;
+        index = h.taken.index;
+        cursor = record { below = h.taken.cursor.below; at = h.taken.cursor.at; index = h.taken.cursor.index };
+        putting = record {
+          call = h.taken.putting.call;
+          file = h.taken.putting.file;
+          open_is = h.taken.putting.open_is;
+          writes = h.taken.putting.writes;
+          slot = h.taken.putting.slot;
+          position = h.taken.putting.position;
+          most = h.taken.putting.most;
+          few = h.taken.putting.few;
+          some = h.taken.putting.some;
+          files = h.taken.putting.files;
+          middle = middle;
+        };
+      };
+    }
 
 -- a taken block with other fields of the engine
 abbrev filled_kept : (e : Files) (ph : Phase) (blk : List ℕ) (b : ℕ) (base disk : List ℕ) → IsFilled e b base disk
     → IsFilled (record e { phase = ph; block = blk }) b base disk
-filled_kept e ph blk b base disk h = record { filled = h.filled;
-    taken = record { places = h.taken.places; left = h.taken.left; no_index = h.taken.no_index; held = h.taken.held; ends = h.taken.ends;
-    reached = h.taken.reached; index = h.taken.index;
-  cursor = record { below = h.taken.cursor.below; at = h.taken.cursor.at; index = h.taken.cursor.index };
-  putting = put_kept e ph e.index e.at e.reached blk base disk h.taken.places h.taken.putting } }
+filled_kept e ph blk b base disk h = record {
+  filled = h.filled;
+  taken = record {
+    places = h.taken.places;
+    left = h.taken.left;
+    no_index = h.taken.no_index;
+    held = h.taken.held;
+    ends = h.taken.ends;
+    reached = h.taken.reached;
+    index = h.taken.index;
+    cursor = record { below = h.taken.cursor.below; at = h.taken.cursor.at; index = h.taken.cursor.index };
+    putting = put_kept e ph e.index e.at e.reached blk base disk h.taken.places h.taken.putting;
+  };
+}
 
 -- The last index block was read: it gets the number.
 pub add_read_goes : (e e' : Files) (b : ℕ) (base disk read : List ℕ) → e.phase ≡ AddRead b → e' ≡ add_read b e'.block e
@@ -147,10 +236,26 @@ add_read_goes e e' b base disk read phase new put s honest =
     let h = subst H phase s.hand in
     let R : List ℕ → Type 0 = λ x. IsIndexPut x (e.at % 7) (added_index b e) e'.block in
     let P : Files → Type 0 = λ x. GoesTo x.phase e.call (call_bytes e) e x base disk in
-    subst P (sym new) (record { clean = s.clean; blocks = s.blocks; whole = s.whole; six = s.six; buffer = s.buffer; outgoing = put.long;
-        device = s.device; apart = s.apart;
-      hand = record { filled = filled_kept e (AddWrite b) e'.block b base disk h.0; room = h.1;
-      put = subst R honest put } }, refl, refl, refl)
+    subst P (sym new) (
+      record {
+        clean = s.clean;
+        blocks = s.blocks;
+        whole = s.whole;
+        six = s.six;
+        buffer = s.buffer;
+        outgoing = put.long;
+        device = s.device;
+        apart = s.apart;
+        hand = record {
+          filled = filled_kept e (AddWrite b) e'.block b base disk h.0;
+          room = h.1;
+          put = subst R honest put;
+        };
+      },
+      refl,
+      refl,
+      refl,
+    )
 
 -- lists that are the same at each place
 same_at : (xs ys : List ℕ) → length xs ≡ length ys → ((k : ℕ) → k < length xs → slice_index xs k ≡ slice_index ys k) → xs ≡ ys
@@ -191,12 +296,12 @@ index_added j i b chain blocks h at =
     ∙ sym (append_last blocks b (16 * j + i) at) ∙ sym (number_at j i chain more h (omega (arith, l, at)))
     ∙ ap (slice_index (index_for j chain more).blocks) (sym q)))
     (λ (q : k ≢ i). (get_or-set_other xs i k b 0 q ∙ ⊎_elim
-      (λ (before : k < i). (number_at j k chain blocks (omega (arith, before, h)) (omega (arith, before, at))
-      ∙ sym (append_at blocks b (16 * j + k) (omega (arith, before, at)))
-      ∙ sym (number_at j k chain more (omega (arith, before, h)) (omega (arith, before, at, l)))))
-      (λ (after : i ≤ k). (null_at j k chain blocks (omega (arith, lt, ls, sx)) (omega (arith, after, at))
-      ∙ sym (null_at j k chain more (omega (arith, lt, ls, sx)) (omega (arith, after, at, l, q)))))
-      (cases_lt k i)))
+    (λ (before : k < i). (number_at j k chain blocks (omega (arith, before, h)) (omega (arith, before, at))
+    ∙ sym (append_at blocks b (16 * j + k) (omega (arith, before, at)))
+    ∙ sym (number_at j k chain more (omega (arith, before, h)) (omega (arith, before, at, l)))))
+    (λ (after : i ≤ k). (null_at j k chain blocks (omega (arith, lt, ls, sx)) (omega (arith, after, at))
+    ∙ sym (null_at j k chain more (omega (arith, lt, ls, sx)) (omega (arith, after, at, l, q)))))
+    (cases_lt k i)))
     (cases_eq k i))
 
 -- bytes after the end
@@ -226,11 +331,17 @@ growing e base disk p s u left ends =
     let size : e.entry.size ≡ e.position + e.done = sym a.0 ∙ q in
     let long = middle_sized e.blocks base disk e.header e.slot e.entry p bytes u.middle in
     let g = f.size in
-    record { size = size; whole = ap (λ k. k % 512) (sym a.0)
-        ∙ a.1; at = a.0; read = middle_read e.blocks base disk e.header e.slot e.entry p bytes u.middle; long = long;
-        grown = omega (arith, g, size);
+    record {
+      size = size;
+      whole = ap (λ k. k % 512) (sym a.0)
+          ∙ a.1;
+      at = a.0;
+      read = middle_read e.blocks base disk e.header e.slot e.entry p bytes u.middle;
+      long = long;
+      grown = omega (arith, g, size);
       more = appended_is bytes (piece_bytes e) ∙ ap (λ k. overwritten k (piece_bytes e) bytes) (long ∙ size)
-      ∙ piece_more e (e.position + e.done) old f (done_long e base disk p s u) refl (low_old e base disk p s u) }
+          ∙ piece_more e (e.position + e.done) old f (done_long e base disk p s u) refl (low_old e base disk p s u);
+    }
 
 -- the slot has its lists
 pub slot_lists : (n : ℕ) (base disk : List ℕ) (header : Header) (slot : ℕ) (entry : Entry) (p : Places) (bytes : List ℕ)
@@ -286,13 +397,33 @@ add_written_goes e e' b base disk phase new s =
     let datas2 : numbers_at p2.datas e.slot ≡ blocks ++ b ∷ [] = get_or-set_same p.datas e.slot (blocks ++ b ∷ []) [] lists.1 in
     let below = (g.read.index j (omega (arith, last))).below in let low = u.middle.low in
     let on : 6 + e.at / 7 < e.blocks = omega (arith, at_is, below, low) in
-    let sx : IsStanding x base disk = record { clean = s.clean; blocks = s.blocks; whole = s.whole; six = s.six; outgoing = s.outgoing;
-    buffer = s.buffer; device = s.device; apart = s.apart } in
-    let s2 : IsStanding x base made = record { clean = s.clean; blocks = s.blocks; whole = put_whole e base disk (6 + e.at / 7) s on;
-    six = s.six; outgoing = s.outgoing; buffer = s.buffer; device = s.device; apart = s.apart } in
-    let cursor : IsAt (put_done x) p2 = record { below = k.cursor.below; at = k.cursor.at; index = λ _. added
-    ∙ ap (index_for j chain) (sym datas2) } in
+    let sx : IsStanding x base disk = record {
+      clean = s.clean;
+      blocks = s.blocks;
+      whole = s.whole;
+      six = s.six;
+      outgoing = s.outgoing;
+      buffer = s.buffer;
+      device = s.device;
+      apart = s.apart;
+    } in
+    let s2 : IsStanding x base made = record {
+      clean = s.clean;
+      blocks = s.blocks;
+      whole = put_whole e base disk (6 + e.at / 7) s on;
+      six = s.six;
+      outgoing = s.outgoing;
+      buffer = s.buffer;
+      device = s.device;
+      apart = s.apart;
+    } in
+    let cursor : IsAt (put_done x) p2 = record {
+      below = k.cursor.below;
+      at = k.cursor.at;
+      index = λ _. added
+          ∙ ap (index_for j chain) (sym datas2);
+    } in
     let ux = put_kept e e.phase (added_index b e) e.at e.reached e.block base disk p u in
     let P : Files → Type 0 = λ y. GoesTo y.phase e.call (call_bytes e) e y base made in
     subst P (sym new) (goes_from (next_put (put_done x)).phase e.call (call_bytes e) x e (next_put (put_done x)) base made refl
-      (after_goes x base disk made p p2 sx s2 ux k.left middle2 k.no_index refl cursor (omega (arith, reached, t_is, some, room))))
+    (after_goes x base disk made p p2 sx s2 ux k.left middle2 k.no_index refl cursor (omega (arith, reached, t_is, some, room))))

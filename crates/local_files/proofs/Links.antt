@@ -67,45 +67,116 @@ new_read_goes e e' b i base disk read phase new put s honest =
     let middle = subst M (sym honest) (middle_index_got e.blocks base disk e.header e.slot e.entry p bytes i rest u.middle free) in
     let R : List ℕ → Type 0 = λ x. IsIndexPut x (i % 7) (fresh_index b e) e'.block in
     let P : Files → Type 0 = λ x. GoesTo x.phase e.call (call_bytes e) e x base disk in
-    subst P (sym new) (record { clean = s.clean; blocks = s.blocks; whole = s.whole; six = s.six; buffer = s.buffer; outgoing = put.long;
-        device = s.device; apart = s.apart;
-      hand = record { put = subst R honest put; new = record { places = p2; left = k.left; held_index = ap (λ x. i ∷ x) k.no_index;
-      held_data = k.held; ends = k.ends; reached = k.reached; whole = z; filled = h.0.filled;
-        cursor = record { below = k.cursor.below; at = k.cursor.at; index = k.cursor.index };
-        putting = record { call = u.call; file = u.file; open_is = u.open_is; writes = u.writes; slot = u.slot; position = u.position;
-        most = u.most; few = u.few; some = u.some; files = u.files; middle = middle } } } }, refl, refl, refl)
+    subst P (sym new) (
+      record {
+        clean = s.clean;
+        blocks = s.blocks;
+        whole = s.whole;
+        six = s.six;
+        buffer = s.buffer;
+        outgoing = put.long;
+        device = s.device;
+        apart = s.apart;
+        hand = record {
+          put = subst R honest put;
+          new = record {
+            places = p2;
+            left = k.left;
+            held_index = ap (λ x. i ∷ x) k.no_index;
+            held_data = k.held;
+            ends = k.ends;
+            reached = k.reached;
+            whole = z;
+            filled = h.0.filled;
+            cursor = record { below = k.cursor.below; at = k.cursor.at; index = k.cursor.index };
+            putting = record {
+              call = u.call;
+              file = u.file;
+              open_is = u.open_is;
+              writes = u.writes;
+              slot = u.slot;
+              position = u.position;
+              most = u.most;
+              few = u.few;
+              some = u.some;
+              files = u.files;
+              middle = middle;
+            };
+          };
+        };
+      },
+      refl,
+      refl,
+      refl,
+    )
 
 -- A piece that the file ends with is on the disk, and so are its numbers: the call goes on.
 pub grown_goes : (e : Files) (entry : Entry) (ix : Index) (a r : ℕ) (base disk made : List ℕ) (p p' : Places) → IsStanding e base disk
     → length made ≡ length base → (u : IsPutting e base disk p) → e.done < e.total
     → entry.size ≡ e.entry.size
-    → IsMiddle e.blocks base made e.header e.slot (put_done (record e { entry = entry; index = ix; at = a;
-    reached = r })).entry p' (overwritten e.position (take (e.done + piece e) (put_bytes e)) (entry_bytes base (entry_at base e.slot)))
+    → IsMiddle e.blocks base made e.header e.slot (put_done (record e {
+      entry = entry;
+      index = ix;
+      at = a;
+      reached = r;
+    })).entry p' (overwritten e.position (take (e.done + piece e) (put_bytes e)) (entry_bytes base (entry_at base e.slot)))
     → p'.held_index ≡ [] → p'.held_data ≡ [] → IsAt (put_done (record e { entry = entry; index = ix; at = a; reached = r })) p'
     → r ≡ at_byte e / 8192 + 1
-    → GoesTo (next_put (put_done (record e { entry = entry; index = ix; at = a;
-    reached = r }))).phase e.call (call_bytes e) e (next_put (put_done (record e { entry = entry; index = ix; at = a;
-    reached = r }))) base made
+    → GoesTo (next_put (put_done (record e {
+      entry = entry;
+      index = ix;
+      at = a;
+      reached = r;
+    }))).phase e.call (call_bytes e) e (next_put (put_done (record e {
+      entry = entry;
+      index = ix;
+      at = a;
+      reached = r;
+    }))) base made
 grown_goes e entry ix a r base disk made p p' s whole u left size middle no_index no_data cursor reached =
     let x : Files = put_done (record e { entry = entry; index = ix; at = a; reached = r }) in
     let f = piece_is e base disk p s u left in
     let done = f.done in let some = f.some in let few = f.few in
     let M : ℕ → Type 0 = λ k. IsMiddle e.blocks base made e.header e.slot x.entry p'
     (overwritten e.position (take k (put_bytes e)) (entry_bytes base (entry_at base e.slot))) in
-    let u2 : IsPutting x base made p' = record { call = u.call; file = u.file; open_is = u.open_is; writes = u.writes; slot = u.slot;
-    position = u.position; most = u.most; few = omega (arith, done, few); some = u.some; files = u.files;
-      middle = subst M (sym f.done) middle } in
+    let u2 : IsPutting x base made p' = record {
+      call = u.call;
+      file = u.file;
+      open_is = u.open_is;
+      writes = u.writes;
+      slot = u.slot;
+      position = u.position;
+      most = u.most;
+      few = omega (arith, done, few);
+      some = u.some;
+      files = u.files;
+      middle = subst M (sym f.done) middle;
+    } in
     let at = f.at in let next_at = f.next_at in let fits = f.fits in
-    let ready : IsReady x base made = record { places = p'; putting = u2; no_index = no_index; no_data = no_data;
-    fresh = λ z. absurd (omega (arith, z, done, some)); cursor = cursor;
+    let ready : IsReady x base made = record {
+      places = p';
+      putting = u2;
+      no_index = no_index;
+      no_data = no_data;
+      fresh = λ z. absurd (omega (arith, z, done, some));
+      cursor = cursor;
       near = λ _. ⊎_elim
           (λ (t : target x ≡ at_byte x / 8192).
           (omega (arith, t, next_at, reached, at, fits, some), omega (arith, t, next_at, reached, at, fits, some)))
           (λ (t : (0 < at_byte x) × (target x ≡ (at_byte x - 1) / 8192)).
           (let v = t.1 in (omega (arith, v, next_at, reached, at, fits, some), omega (arith, v, next_at, reached, at, fits, some))))
-          (target_either x) } in
-    let sx : IsStanding x base made = record { clean = s.clean; blocks = s.blocks; whole = whole; six = s.six; outgoing = s.outgoing;
-    buffer = s.buffer; device = s.device; apart = s.apart } in
+          (target_either x);
+    } in
+    let sx : IsStanding x base made = record {
+      clean = s.clean;
+      blocks = s.blocks;
+      whole = whole;
+      six = s.six;
+      outgoing = s.outgoing;
+      buffer = s.buffer;
+      device = s.device;
+      apart = s.apart;
+    } in
     goes_from (next_put x).phase e.call (call_bytes e) x e (next_put x) base made refl (next_put_goes x base made sx ready)
 
 -- the number of a taken index block
@@ -132,8 +203,11 @@ next_index j b i e chain blocks at long size =
     ap (λ o. let x : Index = record { next = null; offset = o; blocks = slice_set (replicate 16 null) 0 b } in x) at
     ∙ ap (λ k. let x : Index = record { next = k; offset = 8192 * j; blocks = slice_set (replicate 16 null) 0 b } in
     x) (sym (none_at (chain ++ i ∷ []) (suc j) null (omega (arith, l, long))))
-    ∙ ap (λ ns. let x : Index = record { next = slice_index_or (chain ++ i ∷ []) (suc j) null; offset = 8192 * j;
-    blocks = take 16 (ns ++ replicate 16 null) } in x) (sym (drop_at blocks (b ∷ []) (16 * j) (sym size)))
+    ∙ ap (λ ns. let x : Index = record {
+      next = slice_index_or (chain ++ i ∷ []) (suc j) null;
+      offset = 8192 * j;
+      blocks = take 16 (ns ++ replicate 16 null);
+    } in x) (sym (drop_at blocks (b ∷ []) (16 * j) (sym size)))
 
 -- the index block before it names it
 named_index : (j b i : ℕ) (chain blocks : List ℕ) → suc j ≡ length chain → 16 * suc j ≡ length blocks
@@ -151,14 +225,49 @@ pub new_written_goes : (e e' : Files) (b i : ℕ) (base disk : List ℕ) → e.p
 new_written_goes e e' b i base disk phase new s = subst P (sym new) (either-way (at_byte e == 0)
     (λ v. (at_byte e == 0) ≡ v → P (if v then next_put (put_done x) else e2))
     (λ _ t. (let zero_at : at_byte e ≡ 0 = grind (arith, nat_tests) in first zero_at))
-    (λ _ t. (let some : 0 < at_byte e = grind (arith, nat_tests) in
-    (record { clean = s.clean; blocks = s.blocks; whole = whole; six = s.six; buffer = s.buffer; outgoing = s.outgoing; device = s.device;
-    apart = s.apart;
-      hand = record { some = some; written = written; new = record { places = n.places; left = n.left; held_index = n.held_index;
-      held_data = n.held_data; ends = n.ends; reached = n.reached; whole = n.whole; filled = filled;
-        cursor = record { below = n.cursor.below; at = n.cursor.at; index = n.cursor.index };
-        putting = record { call = u.call; file = u.file; open_is = u.open_is; writes = u.writes; slot = u.slot; position = u.position;
-        most = u.most; few = u.few; some = u.some; files = u.files; middle = middle } } } }, refl, refl, refl)))
+    (λ _ t. (let some : 0 < at_byte e = grind (arith, nat_tests) in (
+      record {
+        clean = s.clean;
+        blocks = s.blocks;
+        whole = whole;
+        six = s.six;
+        buffer = s.buffer;
+        outgoing = s.outgoing;
+        device = s.device;
+        apart = s.apart;
+        hand = record {
+          some = some;
+          written = written;
+          new = record {
+            places = n.places;
+            left = n.left;
+            held_index = n.held_index;
+            held_data = n.held_data;
+            ends = n.ends;
+            reached = n.reached;
+            whole = n.whole;
+            filled = filled;
+            cursor = record { below = n.cursor.below; at = n.cursor.at; index = n.cursor.index };
+            putting = record {
+              call = u.call;
+              file = u.file;
+              open_is = u.open_is;
+              writes = u.writes;
+              slot = u.slot;
+              position = u.position;
+              most = u.most;
+              few = u.few;
+              some = u.some;
+              files = u.files;
+              middle = middle;
+            };
+          };
+        };
+      },
+      refl,
+      refl,
+      refl,
+    )))
     refl)
   where
     made : List ℕ
@@ -213,13 +322,17 @@ new_written_goes e e' b i base disk phase new s = subst P (sym new) (either-way 
         let f = piece_is e base disk n.places st u n.left in
         let long = f.long in let fits = f.fits in let psome = f.some in let grown = g.grown in let at = g.at in
         let cl = g.read.chain_long in
-        let p2 : Places = record n.places { chains = slice_set n.places.chains e.slot (i ∷ []);
-        datas = slice_set n.places.datas e.slot (b ∷ []); held_index = []; held_data = [] } in
+        let p2 : Places = record n.places {
+          chains = slice_set n.places.chains e.slot (i ∷ []);
+          datas = slice_set n.places.datas e.slot (b ∷ []);
+          held_index = [];
+          held_data = [];
+        } in
         let none : e.entry.size ≡ 0 = omega (arith, at, z) in
         let m2 = middle_started e.blocks base made e.header e.slot e.entry (put_done x).entry n.places bytes
         (piece_bytes e) i b [] [] middle n.held_index n.held_data none (ap (λ k. take k (block_in made b)) long
         ∙ filled) (omega (arith, long, psome)) (omega (arith, long, fits))
-            (written ∙ first_index b e i z) refl refl (omega (arith, grown, long, none)) in
+        (written ∙ first_index b e i z) refl refl (omega (arith, grown, long, none)) in
         let C : List ℕ → Type 0 = λ y. IsMiddle e.blocks base made e.header e.slot (put_done x).entry p2 y in
         let lists = slot_lists e.blocks base disk e.header e.slot e.entry n.places bytes u.middle in
         let chain2 : numbers_at p2.chains e.slot ≡ i ∷ [] = get_or-set_same n.places.chains e.slot (i ∷ []) [] lists.0 in
@@ -227,11 +340,13 @@ new_written_goes e e' b i base disk phase new s = subst P (sym new) (either-way 
         let few = n.cursor.below in
         let reached : x.reached ≡ 1 = omega (arith, few, cl, none) in
         let c2 = ap length chain2 in
-        let cursor : IsAt (put_done x) p2 = record { below = omega (arith, reached, c2);
-        at = λ _. ap (λ k. slice_index (i ∷ []) (k - 1)) (sym reached) ∙ ap (λ c. slice_index c (x.reached - 1)) (sym chain2);
+        let cursor : IsAt (put_done x) p2 = record {
+          below = omega (arith, reached, c2);
+          at = λ _. ap (λ k. slice_index (i ∷ []) (k - 1)) (sym reached) ∙ ap (λ c. slice_index c (x.reached - 1)) (sym chain2);
           index = λ _. first_index b e i z ∙ ap (λ k. index_for (k - 1) (i ∷ []) (b ∷ [])) (sym reached)
-          ∙ ap (λ c. index_for (x.reached - 1) c (b ∷ [])) (sym chain2)
-          ∙ ap (index_for (x.reached - 1) (numbers_at p2.chains e.slot)) (sym datas2) } in
+              ∙ ap (λ c. index_for (x.reached - 1) c (b ∷ [])) (sym chain2)
+              ∙ ap (index_for (x.reached - 1) (numbers_at p2.chains e.slot)) (sym datas2);
+        } in
         grown_goes e (record e.entry { first = i }) (fresh_index b e) i x.reached base disk made n.places p2 st whole u n.left refl
         (subst C g.more m2) refl refl cursor (omega (arith, reached, z))
 
@@ -246,13 +361,40 @@ link_read_goes e e' b i base disk read phase new put s honest =
     let n = h.new in let u = n.putting in
     let R : List ℕ → Type 0 = λ x. IsIndexPut x (e.at % 7) (linked_index i (index_at (e.at % 7) x)) e'.block in
     let P : Files → Type 0 = λ x. GoesTo x.phase e.call (call_bytes e) e x base disk in
-    subst P (sym new) (record { clean = s.clean; blocks = s.blocks; whole = s.whole; six = s.six; buffer = s.buffer; outgoing = put.long;
-        device = s.device; apart = s.apart;
-      hand = record { put = subst R honest put; link = record { some = h.some; written = h.written;
-      new = record { places = n.places; left = n.left; held_index = n.held_index; held_data = n.held_data; ends = n.ends;
-      reached = n.reached; whole = n.whole; filled = n.filled;
-        cursor = record { below = n.cursor.below; at = n.cursor.at; index = n.cursor.index };
-        putting = put_kept e (LinkWrite b i) e.index e.at e.reached e'.block base disk n.places u } } } }, refl, refl, refl)
+    subst P (sym new) (
+      record {
+        clean = s.clean;
+        blocks = s.blocks;
+        whole = s.whole;
+        six = s.six;
+        buffer = s.buffer;
+        outgoing = put.long;
+        device = s.device;
+        apart = s.apart;
+        hand = record {
+          put = subst R honest put;
+          link = record {
+            some = h.some;
+            written = h.written;
+            new = record {
+              places = n.places;
+              left = n.left;
+              held_index = n.held_index;
+              held_data = n.held_data;
+              ends = n.ends;
+              reached = n.reached;
+              whole = n.whole;
+              filled = n.filled;
+              cursor = record { below = n.cursor.below; at = n.cursor.at; index = n.cursor.index };
+              putting = put_kept e (LinkWrite b i) e.index e.at e.reached e'.block base disk n.places u;
+            };
+          };
+        };
+      },
+      refl,
+      refl,
+      refl,
+    )
 
 -- It is written.
 pub link_written_goes : (e e' : Files) (b i : ℕ) (base disk : List ℕ) → e.phase ≡ LinkWrite b i → e' ≡ next_put (put_done (followed b i e))
@@ -283,8 +425,12 @@ link_written_goes e e' b i base disk phase new s =
     let A : ℕ → Type 0 = λ a. R a (linked_index i (index_at (e.at % 7) (block_in disk (6 + e.at / 7)))) in let B : Index
     → Type 0 = λ x. R (slice_index chain j) x in
     let long = f.long in let fits = f.fits in let psome = f.some in let grown = g.grown in
-    let p2 : Places = record p { chains = slice_set p.chains e.slot (chain ++ i ∷ []); datas = slice_set p.datas e.slot (blocks ++ b ∷ []);
-    held_index = []; held_data = [] } in
+    let p2 : Places = record p {
+      chains = slice_set p.chains e.slot (chain ++ i ∷ []);
+      datas = slice_set p.datas e.slot (blocks ++ b ∷ []);
+      held_index = [];
+      held_data = [];
+    } in
     let fresh = next_index (suc j) b i e chain blocks full last datas_full in
     let middle = middle_continued e.blocks base disk e.header e.slot e.entry (put_done e).entry p bytes
     (piece_bytes e) j i b [] [] e.block u.middle n.held_index n.held_data (omega (arith, at, full, last)) (ap (λ x.
@@ -304,12 +450,14 @@ link_written_goes e e' b i base disk phase new s =
     let a = u.position in let m = u.most in let few = u.few in
     let next : x.reached ≡ suc (suc j) = omega (arith, reached, t_is, size, at, small, within, a, m, few, some) in
     let c2 = ap length chain2 in let l2 = length-append chain (i ∷ []) in
-    let cursor : IsAt (put_done x) p2 = record { below = omega (arith, next, c2, l2, last);
+    let cursor : IsAt (put_done x) p2 = record {
+      below = omega (arith, next, c2, l2, last);
       at = λ _. sym (append_last chain i (x.reached - 1) (omega (arith, next, last)))
-      ∙ ap (λ c. slice_index c (x.reached - 1)) (sym chain2);
+          ∙ ap (λ c. slice_index c (x.reached - 1)) (sym chain2);
       index = λ _. fresh ∙ ap (λ k. index_for k (chain ++ i ∷ []) (blocks ++ b ∷ [])) (let z : suc j ≡ x.reached - 1 =
-      omega (arith, next) in z) ∙ ap (λ c. index_for (x.reached - 1) c (blocks ++ b ∷ [])) (sym chain2)
-      ∙ ap (index_for (x.reached - 1) (numbers_at p2.chains e.slot)) (sym datas2) } in
+          omega (arith, next) in z) ∙ ap (λ c. index_for (x.reached - 1) c (blocks ++ b ∷ [])) (sym chain2)
+          ∙ ap (index_for (x.reached - 1) (numbers_at p2.chains e.slot)) (sym datas2);
+    } in
     let P : Files → Type 0 = λ y. GoesTo y.phase e.call (call_bytes e) e y base made in
     subst P (sym new) (grown_goes e e.entry (fresh_index b e) i x.reached base disk made p p2 st
     (put_whole e base disk (6 + e.at / 7) s on) u n.left refl middle2 refl refl cursor (omega (arith, next, full)))

@@ -70,10 +70,15 @@ piece_is e base disk p s u left =
     let a = u.position in let m = u.most in let bl = s.buffer in
     let d = length-drop e.done e.buffer in let t = length-take (piece e) (drop e.done e.buffer) in
     record {
-      at = q; some = omega (arith, left, q); fits = omega (arith, q); few = omega (arith, left); long = omega (arith, t, d, bl, left, m);
+      at = q;
+      some = omega (arith, left, q);
+      fits = omega (arith, q);
+      few = omega (arith, left);
+      long = omega (arith, t, d, bl, left, m);
       more = ap (λ x. x ++ piece_bytes e) (take-take e.done e.total e.buffer (omega (arith, left)))
-      ∙ sym (take_add e.done (piece e) e.buffer) ∙ sym (take-take (e.done + piece e) e.total e.buffer (omega (arith, left)));
-      done = omega (arith, left, m); next_at = omega (arith, q, left, m, small, within, a);
+          ∙ sym (take_add e.done (piece e) e.buffer) ∙ sym (take-take (e.done + piece e) e.total e.buffer (omega (arith, left)));
+      done = omega (arith, left, m);
+      next_at = omega (arith, q, left, m, small, within, a);
       size = omega (arith, q, left, m, small, within, a);
     }
 
@@ -90,20 +95,44 @@ after_goes e base disk made p p' s s2 u left middle no_index no_data cursor reac
     let done = f.done in let some = f.some in let few = f.few in
     let M : ℕ → Type 0 = λ k. IsMiddle e.blocks base made e.header e.slot x.entry p'
     (overwritten e.position (take k (put_bytes e)) (entry_bytes base (entry_at base e.slot))) in
-    let u2 : IsPutting x base made p' = record { call = u.call; file = u.file; open_is = u.open_is; writes = u.writes; slot = u.slot;
-    position = u.position; most = u.most; few = omega (arith, done, few); some = u.some; files = u.files;
-      middle = subst M (sym f.done) middle } in
+    let u2 : IsPutting x base made p' = record {
+      call = u.call;
+      file = u.file;
+      open_is = u.open_is;
+      writes = u.writes;
+      slot = u.slot;
+      position = u.position;
+      most = u.most;
+      few = omega (arith, done, few);
+      some = u.some;
+      files = u.files;
+      middle = subst M (sym f.done) middle;
+    } in
     let at = f.at in let next_at = f.next_at in let fits = f.fits in
-    let ready : IsReady x base made = record { places = p'; putting = u2; no_index = no_index; no_data = no_data;
-    fresh = λ z. absurd (omega (arith, z, done, some)); cursor = cursor;
+    let ready : IsReady x base made = record {
+      places = p';
+      putting = u2;
+      no_index = no_index;
+      no_data = no_data;
+      fresh = λ z. absurd (omega (arith, z, done, some));
+      cursor = cursor;
       near = λ _. ⊎_elim
           (λ (t : target x ≡ at_byte x / 8192).
           (omega (arith, t, next_at, reached, at, fits, some), omega (arith, t, next_at, reached, at, fits, some)))
           (λ (t : (0 < at_byte x) × (target x ≡ (at_byte x - 1) / 8192)).
           (let a = t.1 in (omega (arith, a, next_at, reached, at, fits, some), omega (arith, a, next_at, reached, at, fits, some))))
-          (target_either x) } in
-    let sx : IsStanding x base made = record { clean = s2.clean; blocks = s2.blocks; whole = s2.whole; six = s2.six; outgoing = s2.outgoing;
-    buffer = s2.buffer; device = s2.device; apart = s2.apart } in
+          (target_either x);
+    } in
+    let sx : IsStanding x base made = record {
+      clean = s2.clean;
+      blocks = s2.blocks;
+      whole = s2.whole;
+      six = s2.six;
+      outgoing = s2.outgoing;
+      buffer = s2.buffer;
+      device = s2.device;
+      apart = s2.apart;
+    } in
     goes_from (next_put x).phase e.call (call_bytes e) x e (next_put x) base made refl (next_put_goes x base made sx ready)
 
 -- what a block gets of the buffer
@@ -149,10 +178,31 @@ patch_read_goes e e' b base disk read phase new wide wide' s honest =
     let block = patched e.done (piece e) (at_byte e % 512) e.buffer read in
     let e2 : Files = record e { block = block; phase = PatchWrite b } in
     let P : Files → Type 0 = λ x. GoesTo x.phase e.call (call_bytes e) e x base disk in
-    subst P (sym new) (record { clean = s.clean; blocks = s.blocks; whole = s.whole; six = s.six; buffer = s.buffer;
-        outgoing = sym (ap (λ (x : Files). length x.block) new) ∙ wide'; device = s.device; apart = s.apart;
-      hand = record { patch = record { ready = ready_kept e (PatchWrite b) block base disk h.ready; left = h.left; reached = h.reached;
-      inside = h.inside; here = h.here }; block = ap (patched e.done (piece e) (at_byte e % 512) e.buffer) honest } }, refl, refl, refl)
+    subst P (sym new) (
+      record {
+        clean = s.clean;
+        blocks = s.blocks;
+        whole = s.whole;
+        six = s.six;
+        buffer = s.buffer;
+        outgoing = sym (ap (λ (x : Files). length x.block) new) ∙ wide';
+        device = s.device;
+        apart = s.apart;
+        hand = record {
+          patch = record {
+            ready = ready_kept e (PatchWrite b) block base disk h.ready;
+            left = h.left;
+            reached = h.reached;
+            inside = h.inside;
+            here = h.here;
+          };
+          block = ap (patched e.done (piece e) (at_byte e % 512) e.buffer) honest;
+        };
+      },
+      refl,
+      refl,
+      refl,
+    )
 
 -- It is written.
 pub patch_written_goes : (e e' : Files) (b : ℕ) (base disk : List ℕ) → e.phase ≡ PatchWrite b → e' ≡ next_put (put_done e)
@@ -189,13 +239,23 @@ patch_written_goes e e' b base disk phase new s =
     let B : List ℕ → Type 0 = λ x. IsMiddle e.blocks base made e.header e.slot (put_done e).entry p x in
     let middle2 = subst B (ap (λ k. overwritten k (piece_bytes e) bytes) (let y : 512 * j + at_byte e % 512 ≡ q = omega (arith, at) in y)
     ∙ piece_more e q old f (done_long e base disk p st u) refl (low_old e base disk p st u)) (subst D (sym b_is) middle) in
-    let s2 : IsStanding e base made = record { clean = s.clean; blocks = s.blocks;
-    whole = put_whole e base disk b s (omega (arith, b_is, high)); six = s.six; outgoing = s.outgoing; buffer = s.buffer; device = s.device;
-    apart = s.apart } in
+    let s2 : IsStanding e base made = record {
+      clean = s.clean;
+      blocks = s.blocks;
+      whole = put_whole e base disk b s (omega (arith, b_is, high));
+      six = s.six;
+      outgoing = s.outgoing;
+      buffer = s.buffer;
+      device = s.device;
+      apart = s.apart;
+    } in
     let t_is = target_in e h.patch.inside in let reached = h.patch.reached in
     let P : Files → Type 0 = λ x. GoesTo x.phase e.call (call_bytes e) e x base made in
-    subst P (sym new) (after_goes e base disk made p p st s2 u h.patch.left middle2 r.no_index r.no_data (record { below = r.cursor.below;
-        at = r.cursor.at; index = r.cursor.index }) (reached ∙ ap (λ k. k + 1) t_is))
+    subst P (sym new) (after_goes e base disk made p p st s2 u h.patch.left middle2 r.no_index r.no_data (record {
+      below = r.cursor.below;
+      at = r.cursor.at;
+      index = r.cursor.index;
+    }) (reached ∙ ap (λ k. k + 1) t_is))
 
 -- An index block was read.
 pub reached_goes : (e e' : Files) (rest at : ℕ) (base disk read : List ℕ) → e.phase ≡ Reach rest at
@@ -225,15 +285,32 @@ reached_goes e e' rest at base disk read phase new s honest = subst P (sym new) 
     by_rest zero z =
         let x : Files = record e { index = index_at (at % 7) read; at = at; reached = target e + 1 } in
         let lt = h.below in
-        let cursor : IsAt x h.ready.places = record { below = omega (arith, lt); at = λ _. h.here
-        ∙ ap (slice_index (numbers_at h.ready.places.chains e.slot)) (omega (arith, z)); index = λ _. index_is
-        ∙ ap (λ j. index_for j (numbers_at h.ready.places.chains e.slot) (numbers_at h.ready.places.datas e.slot)) (omega (arith, z)) } in
-        let ready : IsReady x base disk = record { places = h.ready.places;
-        putting = put_kept e e.phase (index_at (at % 7) read) at (target e + 1) e.block base disk h.ready.places h.ready.putting;
-        no_index = h.ready.no_index; no_data = h.ready.no_data; fresh = h.ready.fresh; cursor = cursor;
-        near = λ _. (omega arith, omega arith) } in
-        let sx : IsStanding x base disk = record { clean = s.clean; blocks = s.blocks; whole = s.whole; six = s.six; outgoing = s.outgoing;
-        buffer = s.buffer; device = s.device; apart = s.apart } in
+        let cursor : IsAt x h.ready.places = record {
+          below = omega (arith, lt);
+          at = λ _. h.here
+              ∙ ap (slice_index (numbers_at h.ready.places.chains e.slot)) (omega (arith, z));
+          index = λ _. index_is
+              ∙ ap (λ j. index_for j (numbers_at h.ready.places.chains e.slot) (numbers_at h.ready.places.datas e.slot)) (omega (arith, z));
+        } in
+        let ready : IsReady x base disk = record {
+          places = h.ready.places;
+          putting = put_kept e e.phase (index_at (at % 7) read) at (target e + 1) e.block base disk h.ready.places h.ready.putting;
+          no_index = h.ready.no_index;
+          no_data = h.ready.no_data;
+          fresh = h.ready.fresh;
+          cursor = cursor;
+          near = λ _. (omega arith, omega arith);
+        } in
+        let sx : IsStanding x base disk = record {
+          clean = s.clean;
+          blocks = s.blocks;
+          whole = s.whole;
+          six = s.six;
+          outgoing = s.outgoing;
+          buffer = s.buffer;
+          device = s.device;
+          apart = s.apart;
+        } in
         goes_from (next_put x).phase e.call (call_bytes e) x e (next_put x) base disk refl (next_put_goes x base disk sx ready)
     by_rest (suc k) z =
         let lt = h.below in let few = h.few in
@@ -249,11 +326,39 @@ reached_goes e e' rest at base disk read phase new s honest = subst P (sym new) 
         let e2 : Files = record x { phase = Reach k number } in
         let Q : Bool → Type 0 = λ v. P (if v then e2 else answered (negsuc 0) x) in
         let zero_now = h.start (omega (arith, z)) in
-        subst Q (sym on) (record { clean = s.clean; blocks = s.blocks; whole = s.whole; six = s.six; buffer = s.buffer;
-        outgoing = s.outgoing; device = s.device; apart = s.apart;
-          hand = record { left = h.left; few = omega (arith, z, few); below = h.below; start = λ _. zero_now; here = next;
-            ready = record { places = h.ready.places; putting =
-            put_kept e (Reach k number) (index_at (at % 7) read) at e.reached e.block base disk h.ready.places h.ready.putting;
-            no_index = h.ready.no_index; no_data = h.ready.no_data; fresh = h.ready.fresh;
-              cursor = record { below = h.ready.cursor.below; at = λ y. absurd (omega (arith, y, zero_now));
-              index = λ y. absurd (omega (arith, y, zero_now)) }; near = h.ready.near } } }, refl, refl, refl)
+        subst Q (sym on) (
+          record {
+            clean = s.clean;
+            blocks = s.blocks;
+            whole = s.whole;
+            six = s.six;
+            buffer = s.buffer;
+            outgoing = s.outgoing;
+            device = s.device;
+            apart = s.apart;
+            hand = record {
+              left = h.left;
+              few = omega (arith, z, few);
+              below = h.below;
+              start = λ _. zero_now;
+              here = next;
+              ready = record {
+                places = h.ready.places;
+                putting =
+                    put_kept e (Reach k number) (index_at (at % 7) read) at e.reached e.block base disk h.ready.places h.ready.putting;
+                no_index = h.ready.no_index;
+                no_data = h.ready.no_data;
+                fresh = h.ready.fresh;
+                cursor = record {
+                  below = h.ready.cursor.below;
+                  at = λ y. absurd (omega (arith, y, zero_now));
+                  index = λ y. absurd (omega (arith, y, zero_now));
+                };
+                near = h.ready.near;
+              };
+            };
+          },
+          refl,
+          refl,
+          refl,
+        )

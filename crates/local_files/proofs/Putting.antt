@@ -126,9 +126,22 @@ pub end_put_goes : (e : Files) (base disk : List ℕ) (p : Places) → IsStandin
 end_put_goes e base disk p s u no_index no_data fresh end =
     either-way (e.done == 0) (λ v. (e.done == 0) ≡ v → G (if v then answered (negsuc 0) e else e2))
     (λ _ t. (let z : e.done ≡ 0 = grind (arith, nat_tests) in refused e.call refl u.call z))
-    (λ _ t. (let some : 0 < e.done = above e.done t in (record { clean = s.clean; blocks = s.blocks; whole = s.whole; six = s.six;
-    buffer = s.buffer; outgoing = s.outgoing; device = s.device; apart = s.apart;
-      hand = record { slot = u.middle.slot_is; ending = ending e.call refl u.call some; made = made } }, refl, refl, refl)))
+    (λ _ t. (let some : 0 < e.done = above e.done t in (
+      record {
+        clean = s.clean;
+        blocks = s.blocks;
+        whole = s.whole;
+        six = s.six;
+        buffer = s.buffer;
+        outgoing = s.outgoing;
+        device = s.device;
+        apart = s.apart;
+        hand = record { slot = u.middle.slot_is; ending = ending e.call refl u.call some; made = made };
+      },
+      refl,
+      refl,
+      refl,
+    )))
     refl
   where
     G : Files → Type 0
@@ -145,8 +158,17 @@ end_put_goes e base disk p s u no_index no_data fresh end =
 
     refused_stands : e.done ≡ 0 → Stands (answered (negsuc 0) e) disk disk
     refused_stands z = let D : List ℕ → Type 0 = λ x. Stands (answered (negsuc 0) e) x x in
-        subst D (sym (fresh z)) (record { clean = s.clean; blocks = s.blocks; whole = refl; six = s.six; buffer = s.buffer;
-        outgoing = s.outgoing; device = s.device; apart = s.apart; hand = refl })
+        subst D (sym (fresh z)) (record {
+          clean = s.clean;
+          blocks = s.blocks;
+          whole = refl;
+          six = s.six;
+          buffer = s.buffer;
+          outgoing = s.outgoing;
+          device = s.device;
+          apart = s.apart;
+          hand = refl;
+        })
 
     same_system : e.done ≡ 0 → system e base ≡ system (answered (negsuc 0) e) disk
     same_system z = ap (system e) (sym (fresh z))
@@ -158,11 +180,16 @@ end_put_goes e base disk p s u no_index no_data fresh end =
     refused : (c : FileCall) → e.call ≡ c → IsPut c (put_bytes e) → e.done ≡ 0
         → GoesTo (Done (negsuc 0)) c (given_bytes c (put_bytes e)) e (answered (negsuc 0) e) base disk
     refused (Write d) is h z =
-        let n = puts_long e base disk p s u in let some = u.some in
-        (write_refused (put_bytes e) d (seen u.file) (system e base) (held d (Write d) is refl) (fits ∙ z) (omega (arith, n, some))
-        ∙ ap refused_effect (same_system z), refused_stands z)
-    refused (Putc d b) is h z = (putc_refused [] d b (seen u.file) (system e base) (held d (Putc d b) is refl) (ap (λ x.
-        fitting (seen u.file) x (system e base)) (sym h) ∙ fits ∙ z) ∙ ap refused_effect (same_system z), refused_stands z)
+        let n = puts_long e base disk p s u in let some = u.some in (
+          write_refused (put_bytes e) d (seen u.file) (system e base) (held d (Write d) is refl) (fits ∙ z) (omega (arith, n, some))
+              ∙ ap refused_effect (same_system z),
+          refused_stands z,
+        )
+    refused (Putc d b) is h z = (
+      putc_refused [] d b (seen u.file) (system e base) (held d (Putc d b) is refl) (ap (λ x.
+          fitting (seen u.file) x (system e base)) (sym h) ∙ fits ∙ z) ∙ ap refused_effect (same_system z),
+      refused_stands z,
+    )
     refused (Open a b) is h z = absurd h
     refused (Delete a) is h z = absurd h
     refused (Close a) is h z = absurd h
@@ -173,10 +200,20 @@ end_put_goes e base disk p s u no_index no_data fresh end =
     refused (Size a) is h z = absurd h
 
     written : 0 < e.done → IsWritten e2 base
-    written some = record { file = u.file; open_is = u.open_is; writes = u.writes; slot = u.slot; position = u.position; some = some;
-        few = u.few; most = u.most; fits = fits;
-      size = (let z = put_size e base disk p s u in let a = u.position in omega (arith, z, a)); named = u.middle.named
-      ∙ ap (λ (x : Entry). x.name) (put_entry_is e base disk p s u) }
+    written some = record {
+      file = u.file;
+      open_is = u.open_is;
+      writes = u.writes;
+      slot = u.slot;
+      position = u.position;
+      some = some;
+      few = u.few;
+      most = u.most;
+      fits = fits;
+      size = (let z = put_size e base disk p s u in let a = u.position in omega (arith, z, a));
+      named = u.middle.named
+          ∙ ap (λ (x : Entry). x.name) (put_entry_is e base disk p s u);
+    }
 
     ending : (c : FileCall) → e.call ≡ c → IsPut c (put_bytes e) → 0 < e.done → IsEnding c e2 base
     ending (Write d) is h some = written some

@@ -38,15 +38,16 @@ pub record IsReadCall (call : FileCall) (d n : ℕ) (sys : FileSystem) : Type 0 
 
 read_call : (d n : ℕ) (sys : FileSystem) → IsReadCall (Read d n) d n sys
 read_call d n sys = record {
-  named = refl; count = refl;
+  named = refl;
+  count = refl;
   closed = λ at. ap (λ o. systems.on_open o (λ f. read_file d n f sys) sys) at;
   refused = λ f at r. ap (λ o. systems.on_open o (λ f. read_file d n f sys) sys) at
-  ∙ ap (λ v. if not v then refused_effect sys else rest f) r;
+      ∙ ap (λ v. if not v then refused_effect sys else rest f) r;
   nothing = λ f at r z. ap (λ o. systems.on_open o (λ f. read_file d n f sys) sys) at
-  ∙ ap (λ v. if not v then refused_effect sys else rest f) r
+      ∙ ap (λ v. if not v then refused_effect sys else rest f) r
       ∙ ap (λ v. if v then replies (pos 0) sys else late f) (ap (λ k. k == 0) z);
   end = λ f at r some past. (let t : (n == 0) ≡ false = grind (arith, nat_tests) in
-  let u : nat_le (length (systems.open_bytes f sys)) f.position ≡ true = grind (arith, nat_tests) in
+      let u : nat_le (length (systems.open_bytes f sys)) f.position ≡ true = grind (arith, nat_tests) in
       ap (λ o. systems.on_open o (λ f. read_file d n f sys) sys) at ∙ ap (λ v. if not v then refused_effect sys else rest f) r
       ∙ ap (λ v. if v then replies (pos 0) sys else late f) t
       ∙ ap (λ v. if v then replies (negsuc 1) sys else taken (bytes_ahead n f sys) d f sys) u);
@@ -60,13 +61,14 @@ read_call d n sys = record {
 
 getc_call : (d : ℕ) (sys : FileSystem) → IsReadCall (Getc d) d 1 sys
 getc_call d sys = record {
-  named = refl; count = refl;
+  named = refl;
+  count = refl;
   closed = λ at. ap (λ o. systems.on_open o (λ f. getc_file d f sys) sys) at;
   refused = λ f at r. ap (λ o. systems.on_open o (λ f. getc_file d f sys) sys) at
-  ∙ ap (λ v. if not v then refused_effect sys else first_byte (bytes_ahead 1 f sys) d f sys) r;
+      ∙ ap (λ v. if not v then refused_effect sys else first_byte (bytes_ahead 1 f sys) d f sys) r;
   nothing = λ f at r z. absurd (omega (arith, z));
   end = λ f at r some past. ap (λ o. systems.on_open o (λ f. getc_file d f sys) sys) at
-  ∙ ap (λ v. if not v then refused_effect sys else first_byte (bytes_ahead 1 f sys) d f sys) r
+      ∙ ap (λ v. if not v then refused_effect sys else first_byte (bytes_ahead 1 f sys) d f sys) r
       ∙ ap (λ b. first_byte (take 1 b) d f sys) (drop_all f.position (systems.open_bytes f sys) past);
 }
 
@@ -95,10 +97,10 @@ begin_read_goes e e' call d n disk c most new s = subst (λ x.
         (λ _ z. (c.nothing (seen f) seen_at r (let y : n ≡ 0 = grind (arith, nat_tests) in y), answered_stands (pos 0) e disk s))
         (λ _ z. (let some : 0 < n = above n z in either-way (nat_le f.entry.size f.position) (λ w. nat_le f.entry.size f.position ≡ w
         → G (last w))
-          (λ _ p. (let past : f.entry.size ≤ f.position = grind (arith, nat_tests) in
-          (c.end (seen f) seen_at r some (omega (arith, size, past)), answered_stands (negsuc 1) e disk s)))
-          (λ _ p. (let within : f.position < f.entry.size = grind (arith, nat_tests) in goes f o at r some within))
-          refl))
+        (λ _ p. (let past : f.entry.size ≤ f.position = grind (arith, nat_tests) in
+        (c.end (seen f) seen_at r some (omega (arith, size, past)), answered_stands (negsuc 1) e disk s)))
+        (λ _ p. (let within : f.position < f.entry.size = grind (arith, nat_tests) in goes f o at r some within))
+        refl))
         refl)
         (λ _ r. (c.refused (seen f) seen_at r, answered_stands (negsuc 0) e disk s))
         refl
@@ -107,20 +109,45 @@ begin_read_goes e e' call d n disk c most new s = subst (λ x.
         above k z = grind (arith, nat_tests)
 
         goes : (f : OpenFile) → IsOpenOn disk f → device_at e d ≡ Some f → f.read ≡ true → 0 < n → f.position < f.entry.size
-            → GoesTo (walking (f.position / 8192) f.entry.first (record e { call = call; position = f.position;
-            total = min n (f.entry.size - f.position); done = 0 })).phase call [] e
-            (walking (f.position / 8192) f.entry.first (record e { call = call; position = f.position;
-            total = min n (f.entry.size - f.position); done = 0 })) disk disk
+            → GoesTo (walking (f.position / 8192) f.entry.first (record e {
+              call = call;
+              position = f.position;
+              total = min n (f.entry.size - f.position);
+              done = 0;
+            })).phase call [] e
+            (walking (f.position / 8192) f.entry.first (record e {
+              call = call;
+              position = f.position;
+              total = min n (f.entry.size - f.position);
+              done = 0;
+            })) disk disk
         goes f o at r some within =
             let start : Files = record e { call = call; position = f.position; total = min n (f.entry.size - f.position); done = 0 } in
-            let st : IsStanding start disk disk = record { clean = s.clean; blocks = s.blocks; whole = refl; six = s.six;
-            outgoing = s.outgoing; buffer = s.buffer; device = s.device; apart = s.apart } in
+            let st : IsStanding start disk disk = record {
+              clean = s.clean;
+              blocks = s.blocks;
+              whole = refl;
+              six = s.six;
+              outgoing = s.outgoing;
+              buffer = s.buffer;
+              device = s.device;
+              apart = s.apart;
+            } in
             let count = c.count in
-            let reading_is : IsReading start disk disk = record { same = refl; some = omega (arith, some, count);
-            few = omega (arith, most, count); file = f; open_is = ap (λ k. device_at e (or_none k)) c.named
-            ∙ at; reads = r; position = refl;
-              within = within; total = ap (λ k. min k (f.entry.size - f.position)) (sym c.count); left = omega (arith, some, within);
-              taken = refl } in
+            let reading_is : IsReading start disk disk = record {
+              same = refl;
+              some = omega (arith, some, count);
+              few = omega (arith, most, count);
+              file = f;
+              open_is = ap (λ k. device_at e (or_none k)) c.named
+                  ∙ at;
+              reads = r;
+              position = refl;
+              within = within;
+              total = ap (λ k. min k (f.entry.size - f.position)) (sym c.count);
+              left = omega (arith, some, within);
+              taken = refl;
+            } in
             let file = reading_file start disk st reading_is in
             let cl = file.chain_long in
             let first : f.entry.first ≡ slice_index (entry_chain disk f.entry) ((f.position + 0) / 8192 - f.position / 8192) =

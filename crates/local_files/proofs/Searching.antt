@@ -73,8 +73,10 @@ found_open e name mode slot entry base right look s h at this =
     let same : entry.name ≡ name = (bytes_eq-Decides entry.name name).0 two.1 in
     let n : IsName name = record { padded = name_padded 27 name right.0; long = right.1 } in
     let used : entry_is_used (entry_at base slot) ≡ true = ap entry_is_used at ∙ two.0 in
-    let there : file_named (bare_name name) (stored_files base) ≡ Some (record { name = bare_name (entry_at base slot).name;
-    bytes = entry_bytes base (entry_at base slot) }) =
+    let there : file_named (bare_name name) (stored_files base) ≡ Some (record {
+      name = bare_name (entry_at base slot).name;
+      bytes = entry_bytes base (entry_at base slot);
+    }) =
     ap (λ x. file_named (bare_name x) (stored_files base)) (sym same ∙ ap (λ (x : Entry). x.name) (sym at))
     ∙ named_at base s.clean slot h used in
     let start = begins_stored e name mode base _ look there in
@@ -91,14 +93,23 @@ found_open e name mode slot entry base right look s h at this =
     either-way mode.only_new
     (λ v. mode.only_new ≡ v → GoesTo (if v then answered (negsuc 0) e else opening_at slot entry mode e).phase (Open name mode) [] e
     (if v then answered (negsuc 0) e else opening_at slot entry mode e) base base)
-    (λ _ t. (start ∙ ap (λ v. if v then refused_effect sys else model_opening.opened (bare_name name) mode sys) t, answered_stands
-    (negsuc 0) (answered (pos 0) e) base s))
-    (λ _ t. subst O (sym free_test) (start ∙ ap (λ v. if v then refused_effect sys else model_opening.opened (bare_name name) mode sys) t
-        ∙ ap (λ b. result (slice_set sys.devices d (Some (at_name b)))) (ap bare_name (sym same))
-        ∙ ap result (sym (shown_set e.devices d (Some f))),
-      set_stands (pos (4 + d)) (answered (pos 0) e) base d (Some f) s free (record { slot = h; entry = at; used = two.0;
-      position = omega arith })
-      (λ c ne. apart_from base (device_at e c) f at same (λ g q. not_open name e.devices c g closed q) (s.device c))))
+    (λ _ t. (
+      start ∙ ap (λ v. if v then refused_effect sys else model_opening.opened (bare_name name) mode sys) t,
+      answered_stands
+          (negsuc 0) (answered (pos 0) e) base s,
+    ))
+    (λ _ t. subst O (sym free_test) (
+      start ∙ ap (λ v. if v then refused_effect sys else model_opening.opened (bare_name name) mode sys) t
+          ∙ ap (λ b. result (slice_set sys.devices d (Some (at_name b)))) (ap bare_name (sym same))
+          ∙ ap result (sym (shown_set e.devices d (Some f))),
+      set_stands (pos (4 + d)) (answered (pos 0) e) base d (Some f) s free (record {
+        slot = h;
+        entry = at;
+        used = two.0;
+        position = omega arith;
+      })
+          (λ c ne. apart_from base (device_at e c) f at same (λ g q. not_open name e.devices c g closed q) (s.device c)),
+    ))
     refl
   where
     apart_from : (base : List ℕ) (o : Option OpenFile) (f : OpenFile) → entry_at base f.slot ≡ f.entry → f.entry.name ≡ name
@@ -155,8 +166,17 @@ found_goes e e' d k header entry name base disk read phase counts new named belo
         let L : FileCall → Type 0 = λ q. IsLook q → name ≡ name_of q in
         let name_is : name ≡ n = (subst L c named) tt in
         let block = h.block in
-        let idle : Stands (answered (pos 0) e1) base base = record { clean = s.clean; blocks = s.blocks; whole = refl; six = s.six;
-        buffer = s.buffer; outgoing = s.outgoing; device = s.device; apart = s.apart; hand = refl } in
+        let idle : Stands (answered (pos 0) e1) base base = record {
+          clean = s.clean;
+          blocks = s.blocks;
+          whole = refl;
+          six = s.six;
+          buffer = s.buffer;
+          outgoing = s.outgoing;
+          device = s.device;
+          apart = s.apart;
+          hand = refl;
+        } in
         let goes = found_open e1 n mode (13 * d + k) entry base o.right o.look idle (omega (arith, block, below)) (here h) (ap (λ x.
         is_this x entry) (sym name_is) ∙ this) in
         goes_from (finding (Open n mode) (13 * d + k) entry e1).phase (Open n mode) [] e1 e
@@ -169,17 +189,40 @@ found_goes e e' d k header entry name base disk read phase counts new named belo
         let block = h.block in
         let slot : 13 * d + k < 78 = omega (arith, block, below) in
         let read_is : read ≡ block_in base d = honest ∙ ap (λ x. block_in x d) h.same in
-        let h2 : IsSearch e d base base = record { same = refl; block = h.block; call = h.call; look = h.look; none = h.none; free = h.free;
-        header = h.header } in
+        let h2 : IsSearch e d base base = record {
+          same = refl;
+          block = h.block;
+          call = h.call;
+          look = h.look;
+          none = h.none;
+          free = h.free;
+          header = h.header;
+        } in
         let e2 : Files = record e1 { slot = 13 * d + k; entry = entry; call = Delete n } in
         let M : FileCall → Type 0 = λ q. MayLook q (system e base) in
-        let s2 : IsStanding e2 base base = record { clean = s.clean; blocks = s.blocks; whole = refl; six = s.six; buffer = s.buffer;
-        outgoing = s.outgoing; device = s.device; apart = s.apart } in
+        let s2 : IsStanding e2 base base = record {
+          clean = s.clean;
+          blocks = s.blocks;
+          whole = refl;
+          six = s.six;
+          buffer = s.buffer;
+          outgoing = s.outgoing;
+          device = s.device;
+          apart = s.apart;
+        } in
         let goes = cutting_goes e2 base s2 slot (here h) two.0 (head e d header base read counts h2 read_is)
-          (record { slot = slot; call = subst IsCall c h.call; closed = subst M c h.look; used = ap entry_is_used (here h)
-          ∙ two.0; named = ap (λ (x : Entry). x.name) (here h) ∙ same ∙ name_is }) in
-        let C : FileCall → Type 0 = λ q. GoesTo (cutting entry (record e2 { call =
-        q })).phase (Delete n) [] e (cutting entry (record e2 { call = q })) base base in
+        (record {
+          slot = slot;
+          call = subst IsCall c h.call;
+          closed = subst M c h.look;
+          used = ap entry_is_used (here h)
+              ∙ two.0;
+          named = ap (λ (x : Entry). x.name) (here h) ∙ same ∙ name_is;
+        }) in
+        let C : FileCall → Type 0 = λ q. GoesTo (cutting entry (record e2 {
+          call =
+              q;
+        })).phase (Delete n) [] e (cutting entry (record e2 { call = q })) base base in
         subst C (sym c) (goes_from (cutting entry e2).phase (Delete n) [] e2 e (cutting entry e2) base base refl goes)
     by_call (Close n) c h = absurd (none_of e base (Close n) c h.look)
     by_call (Read n m) c h = absurd (none_of e base (Read n m) c h.look)
@@ -217,9 +260,11 @@ passed e d slot name base es h name_is here not_here noted = record { none = all
         (λ (b : e.slot < 78). (let q = noted.kept b in let f = h.free.found b in let below = f.0 in
         (omega (arith, q, below), ap (λ k. entry_is_used (entry_at base k)) q ∙ f.1)))
         (λ (b : 78 ≤ e.slot). (let f = noted.found b lt in let low = f.0 in let high = f.1 in
-        let i : (slot - 13 * d < 13) × (13 * d + (slot - 13 * d) ≡ slot) = (omega (arith, low, high), omega (arith, low)) in
-        (omega (arith, high), ap (λ k. entry_is_used (entry_at base k)) (sym i.1) ∙ ap entry_is_used (sym (here (slot - 13 * d) i.0))
-        ∙ f.2)))
+        let i : (slot - 13 * d < 13) × (13 * d + (slot - 13 * d) ≡ slot) = (omega (arith, low, high), omega (arith, low)) in (
+          omega (arith, high),
+          ap (λ k. entry_is_used (entry_at base k)) (sym i.1) ∙ ap entry_is_used (sym (here (slot - 13 * d) i.0))
+              ∙ f.2,
+        )))
         (cases_lt e.slot 78)
 
     full : 78 ≤ slot → (k : ℕ) → k < 13 * (d + 1) → entry_is_used (entry_at base k) ≡ true
@@ -236,8 +281,10 @@ pub missing_open : (e : Files) (name : List ℕ) (mode : OpenMode) (slot : ℕ) 
     → IsCall (Open name mode) → MayLook (Open name mode) (system e base)
     → Stands (answered (pos 0) e) base base → ((k : ℕ) → k < 78 → is_this name (entry_at base k) ≡ false) → IsFreeSlot base 78 slot
     → header ≡ header_on base
-    → GoesTo (missing (Open name mode) (record e { header = header;
-    slot = slot })).phase (Open name mode) [] e (missing (Open name mode) (record e { header = header; slot = slot })) base base
+    → GoesTo (missing (Open name mode) (record e {
+      header = header;
+      slot = slot;
+    })).phase (Open name mode) [] e (missing (Open name mode) (record e { header = header; slot = slot })) base base
 missing_open e name mode slot header base call right look s none free counts =
     let sys = system e base in
     let n : IsName name = record { padded = name_padded 27 name right.0; long = right.1 } in
@@ -250,8 +297,17 @@ missing_open e name mode slot header base call right look s none free counts =
     let len = (length_entries base s.clean).0 in
     let count = files_counted base s.clean in
     let refused : Stands (answered (negsuc 0) e1) base base =
-    record { clean = s.clean; blocks = s.blocks; whole = refl; six = s.six; buffer = s.buffer; outgoing = s.outgoing; device = s.device;
-    apart = s.apart; hand = refl } in
+    record {
+      clean = s.clean;
+      blocks = s.blocks;
+      whole = refl;
+      six = s.six;
+      buffer = s.buffer;
+      outgoing = s.outgoing;
+      device = s.device;
+      apart = s.apart;
+      hand = refl;
+    } in
     let G : Bool → Bool → Type 0 = λ u v.
     GoesTo (if u || v then answered (negsuc 0) e1 else e2).phase (Open name mode) [] e
     (if u || v then answered (negsuc 0) e1 else e2) base base in
@@ -261,31 +317,56 @@ missing_open e name mode slot header base call right look s none free counts =
     (λ _ t. either-way (nat_le 78 slot)
     (λ v. nat_le 78 slot ≡ v → G false v)
     (λ _ w. (let full : 78 ≤ slot = grind (arith, nat_tests) in
-      let all = count_all entry_is_used (entries base) (λ k l. free.full full k (omega (arith, l, len))) in
-      let many : nat_le 78 (length sys.files) ≡ true = (let q : 78 ≤ length (stored_files base) = omega (arith, count, all, len) in
-      grind (arith, nat_tests)) in
-      (start ∙ ap (λ u. to u (nat_le 78 (length sys.files))) t ∙ ap (to false) many, refused)))
+    let all = count_all entry_is_used (entries base) (λ k l. free.full full k (omega (arith, l, len))) in
+    let many : nat_le 78 (length sys.files) ≡ true = (let q : 78 ≤ length (stored_files base) = omega (arith, count, all, len) in
+    grind (arith, nat_tests)) in
+    (start ∙ ap (λ u. to u (nat_le 78 (length sys.files))) t ∙ ap (to false) many, refused)))
     (λ _ w. (let low : slot < 78 = grind (arith, nat_tests) in
-      let f = free.found low in
-      let becomes : (eb hb : List ℕ) → IsDirBlock (dir_with_entry (dir_of (block_in base (slot / 13))) (slot % 13) (empty_entry name)) eb
-        → IsDirBlock (dir_with_header (dir_of (block_in (block_put base (slot / 13) eb) 0)) (one_more header)) hb
-        → IsMade e2 base (block_put (block_put base (slot / 13) eb) 0 hb) = λ eb hb ee hh. (
-      let Q : Header → Type 0 = λ x. IsDirBlock (dir_with_header (dir_of (block_in (block_put base (slot / 13) eb) 0)) (one_more x)) hb in
-      let m = created base slot name eb hb s.clean low f.1 right.0 right.1 none ee (subst Q counts hh) in
-      record { clean = m.clean; size = m.size; files = m.files
-      ∙ ap (λ q. files_after q e2 base) (sym call); entry = m.entry; others = m.others }) in
-      (record { clean = s.clean; blocks = s.blocks; whole = refl; six = s.six; buffer = s.buffer; outgoing = s.outgoing; device = s.device;
-      apart = s.apart;
-        hand = record { slot = low; made = becomes; ending = (let E : FileCall → Type 0 = λ q. IsEnding q e2 base in
-        subst E (sym call) (record {
-          slot = low; call = subst IsCall (sym call) right; look =
-          (let M : FileCall → Type 0 = λ q. MayLook q sys in subst M (sym call) look);
-          none = (let N : FileCall → Type 0 = λ q. (k : ℕ) → k < 78 → is_this (name_of q) (entry_at base k) ≡ false in
-          subst N (sym call) none);
-          named = ap name_of (sym call); empty = refl; free = f.1;
-          may = λ x y q. same_mode name x mode y (sym call ∙ q) t;
-        })) };
-      }, call, ap (λ q. given_bytes q (put_bytes e2)) call, refl)))
+    let f = free.found low in
+    let becomes : (eb hb : List ℕ) → IsDirBlock (dir_with_entry (dir_of (block_in base (slot / 13))) (slot % 13) (empty_entry name)) eb
+    → IsDirBlock (dir_with_header (dir_of (block_in (block_put base (slot / 13) eb) 0)) (one_more header)) hb
+    → IsMade e2 base (block_put (block_put base (slot / 13) eb) 0 hb) = λ eb hb ee hh. (
+    let Q : Header → Type 0 = λ x. IsDirBlock (dir_with_header (dir_of (block_in (block_put base (slot / 13) eb) 0)) (one_more x)) hb in
+    let m = created base slot name eb hb s.clean low f.1 right.0 right.1 none ee (subst Q counts hh) in
+    record {
+      clean = m.clean;
+      size = m.size;
+      files = m.files
+          ∙ ap (λ q. files_after q e2 base) (sym call);
+      entry = m.entry;
+      others = m.others;
+    }) in (
+      record {
+        clean = s.clean;
+        blocks = s.blocks;
+        whole = refl;
+        six = s.six;
+        buffer = s.buffer;
+        outgoing = s.outgoing;
+        device = s.device;
+        apart = s.apart;
+        hand = record {
+          slot = low;
+          made = becomes;
+          ending = (let E : FileCall → Type 0 = λ q. IsEnding q e2 base in
+              subst E (sym call) (record {
+                slot = low;
+                call = subst IsCall (sym call) right;
+                look =
+                    (let M : FileCall → Type 0 = λ q. MayLook q sys in subst M (sym call) look);
+                none = (let N : FileCall → Type 0 = λ q. (k : ℕ) → k < 78 → is_this (name_of q) (entry_at base k) ≡ false in
+                    subst N (sym call) none);
+                named = ap name_of (sym call);
+                empty = refl;
+                free = f.1;
+                may = λ x y q. same_mode name x mode y (sym call ∙ q) t;
+              }));
+        };
+      },
+      call,
+      ap (λ q. given_bytes q (put_bytes e2)) call,
+      refl,
+    )))
     refl)
     refl
   where
@@ -299,13 +380,25 @@ missing_open e name mode slot header base call right look s none free counts =
 -- the search is over for a deletion: it is refused
 missing_delete : (e : Files) (name : List ℕ) (slot : ℕ) (header : Header) (base : List ℕ) → IsCall (Delete name)
     → Stands (answered (pos 0) e) base base → ((k : ℕ) → k < 78 → is_this name (entry_at base k) ≡ false)
-    → GoesTo (missing (Delete name) (record e { header = header;
-    slot = slot })).phase (Delete name) [] e (missing (Delete name) (record e { header = header; slot = slot })) base base
+    → GoesTo (missing (Delete name) (record e {
+      header = header;
+      slot = slot;
+    })).phase (Delete name) [] e (missing (Delete name) (record e { header = header; slot = slot })) base base
 missing_delete e name slot header base right s none =
-    let n : IsName name = record { padded = name_padded 27 name right.0; long = right.1 } in
-    (delete_refused (bare_name name) [] (system e base) (named_none base name s.clean n none),
-      record { clean = s.clean; blocks = s.blocks; whole = refl; six = s.six; buffer = s.buffer; outgoing = s.outgoing; device = s.device;
-      apart = s.apart; hand = refl })
+    let n : IsName name = record { padded = name_padded 27 name right.0; long = right.1 } in (
+      delete_refused (bare_name name) [] (system e base) (named_none base name s.clean n none),
+      record {
+        clean = s.clean;
+        blocks = s.blocks;
+        whole = refl;
+        six = s.six;
+        buffer = s.buffer;
+        outgoing = s.outgoing;
+        device = s.device;
+        apart = s.apart;
+        hand = refl;
+      },
+    )
 
 -- what the code leaves, if the name isn't in block d
 pub pass_goes : (e e' : Files) (d : ℕ) (header : Header) (name base disk read : List ℕ) → e.phase ≡ Search d
@@ -320,23 +413,49 @@ pass_goes e e' d header name base disk read phase counts new named not_here note
     let next : Files = record e1 { phase = Search (d + 1) } in
     subst P (sym hand.same) (subst Q (sym new) (either-way (nat_lt d 5)
     (λ v. nat_lt d 5 ≡ v → Q (if v then next else missing e.call e1))
-    (λ _ t. (record { clean = s.clean; blocks = s.blocks; whole = refl; six = s.six; buffer = s.buffer; outgoing = s.outgoing;
-    device = s.device; apart = s.apart;
-        hand = record { same = refl; block = (let lt : d < 5 = grind (arith, nat_tests) in omega (arith, lt)); call = h.call; look = h.look;
-        none = q.none; free = q.free; header = λ z. counts_is };
-      }, refl, refl, refl))
+    (λ _ t. (
+      record {
+        clean = s.clean;
+        blocks = s.blocks;
+        whole = refl;
+        six = s.six;
+        buffer = s.buffer;
+        outgoing = s.outgoing;
+        device = s.device;
+        apart = s.apart;
+        hand = record {
+          same = refl;
+          block = (let lt : d < 5 = grind (arith, nat_tests) in omega (arith, lt));
+          call = h.call;
+          look = h.look;
+          none = q.none;
+          free = q.free;
+          header = λ z. counts_is;
+        };
+      },
+      refl,
+      refl,
+      refl,
+    ))
     (λ _ t. (let five : d ≡ 5 = (let ge : 5 ≤ d = grind (arith, nat_tests) in let b = h.block in omega (arith, ge, b)) in
-      let N : ℕ → Type 0 = λ m. (k : ℕ) → k < 13 * (m + 1) → is_this (name_of e.call) (entry_at base k) ≡ false in
-      let F : ℕ → Type 0 = λ m. IsFreeSlot base (13 * (m + 1)) e'.slot in
-      by_call e.call refl (subst N five q.none) (subst F five q.free)))
+    let N : ℕ → Type 0 = λ m. (k : ℕ) → k < 13 * (m + 1) → is_this (name_of e.call) (entry_at base k) ≡ false in
+    let F : ℕ → Type 0 = λ m. IsFreeSlot base (13 * (m + 1)) e'.slot in
+    by_call e.call refl (subst N five q.none) (subst F five q.free)))
     refl))
   where
     hand : IsSearch e d base disk
     hand = let H : Phase → Type 0 = λ p. InHand p e base disk in subst H phase s.hand
 
     h : IsSearch e d base base
-    h = record { same = refl; block = hand.block; call = hand.call; look = hand.look; none = hand.none; free = hand.free;
-        header = hand.header }
+    h = record {
+      same = refl;
+      block = hand.block;
+      call = hand.call;
+      look = hand.look;
+      none = hand.none;
+      free = hand.free;
+      header = hand.header;
+    }
 
     e1 : Files
     e1 = record e { header = header; slot = e'.slot }
@@ -369,8 +488,17 @@ pass_goes e e' d header name base disk read phase counts new named not_here note
         ∙ entry_of_block base e.blocks d k blocks (let m = many.0 in omega (arith, m)) block lt) not_here noted
 
     idle : Stands (answered (pos 0) e) base base
-    idle = record { clean = s.clean; blocks = s.blocks; whole = refl; six = s.six; buffer = s.buffer; outgoing = s.outgoing;
-        device = s.device; apart = s.apart; hand = refl }
+    idle = record {
+      clean = s.clean;
+      blocks = s.blocks;
+      whole = refl;
+      six = s.six;
+      buffer = s.buffer;
+      outgoing = s.outgoing;
+      device = s.device;
+      apart = s.apart;
+      hand = refl;
+    }
 
     by_call : (c : FileCall) → e.call ≡ c → ((k : ℕ) → k < 78 → is_this (name_of e.call) (entry_at base k) ≡ false)
         → IsFreeSlot base 78 e'.slot → GoesTo (missing c e1).phase c (given_bytes c (put_bytes e)) e (missing c e1) base base

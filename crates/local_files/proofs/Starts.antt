@@ -46,27 +46,33 @@ record IsPutCall (call : FileCall) (d : ℕ) (bytes : List ℕ) (sys : FileSyste
 
 write_call : (d : ℕ) (bytes : List ℕ) (sys : FileSystem) → IsPutCall (Write d) d bytes sys
 write_call d bytes sys = record {
-  named = refl; put = tt;
+  named = refl;
+  put = tt;
   closed = λ at. ap (λ o. systems.on_open o (λ f. write_file d bytes f sys) sys) at;
   refused = λ f at r. ap (λ o. systems.on_open o (λ f. write_file d bytes f sys) sys) at
-  ∙ ap (λ v. if not v || (nat_lt 0 (length bytes) && (fitting f bytes sys == 0)) then refused_effect sys else rest f) r;
+      ∙ ap (λ v. if not v || (nat_lt 0 (length bytes) && (fitting f bytes sys == 0)) then refused_effect sys else rest f) r;
 }
   where
     rest : systems.OpenFile → FileEffect
-    rest f = replies (pos (fitting f bytes sys)) (record sys { files = files_with f (take (fitting f bytes sys) bytes) sys;
-        devices = slice_set sys.devices d (Some (record f { position = f.position + length (take (fitting f bytes sys) bytes) })) })
+    rest f = replies (pos (fitting f bytes sys)) (record sys {
+      files = files_with f (take (fitting f bytes sys) bytes) sys;
+      devices = slice_set sys.devices d (Some (record f { position = f.position + length (take (fitting f bytes sys) bytes) }));
+    })
 
 putc_call : (d b : ℕ) (sys : FileSystem) → IsPutCall (Putc d b) d (b ∷ []) sys
 putc_call d b sys = record {
-  named = refl; put = refl;
+  named = refl;
+  put = refl;
   closed = λ at. ap (λ o. systems.on_open o (λ f. putc_file d b f sys) sys) at;
   refused = λ f at r. ap (λ o. systems.on_open o (λ f. putc_file d b f sys) sys) at
-  ∙ ap (λ v. if not v || not (have_room f (b ∷ []) sys) then refused_effect sys else rest f) r;
+      ∙ ap (λ v. if not v || not (have_room f (b ∷ []) sys) then refused_effect sys else rest f) r;
 }
   where
     rest : systems.OpenFile → FileEffect
-    rest f = replies (pos 0) (record sys { files = files_with f (b ∷ []) sys;
-        devices = slice_set sys.devices d (Some (record f { position = f.position + 1 })) })
+    rest f = replies (pos 0) (record sys {
+      files = files_with f (b ∷ []) sys;
+      devices = slice_set sys.devices d (Some (record f { position = f.position + 1 }));
+    })
 
 -- the bytes are in the buffer
 put_in : (bytes buffer : List ℕ) → length bytes ≤ 1048576 → length buffer ≡ 1048576
@@ -100,8 +106,13 @@ begin_put_goes e e' call d bytes disk c few nothing new s = subst P (sym new) (b
     P x = GoesTo x.phase call (given_bytes call bytes) e x disk disk
 
     begun : OpenFile → Files
-    begun f = record (held_file f call e) { buffer = put_at 0 bytes e.buffer; position = f.position; total = length bytes; done = 0;
-        reached = 0 }
+    begun f = record (held_file f call e) {
+      buffer = put_at 0 bytes e.buffer;
+      position = f.position;
+      total = length bytes;
+      done = 0;
+      reached = 0;
+    }
 
     bytes_put : (f : OpenFile) → put_bytes (begun f) ≡ bytes
     bytes_put f = (put_in bytes e.buffer few s.buffer).1
@@ -110,14 +121,38 @@ begin_put_goes e e' call d bytes disk c few nothing new s = subst P (sym new) (b
     put k is = let Q : List ℕ → Type 0 = λ x. IsPut call x in subst Q (sym is) c.put
 
     starts : (f : OpenFile) → device_at e d ≡ Some f → f.write ≡ true → 0 < length bytes → P (begun f)
-    starts f at may some =
-        (record { clean = s.clean; blocks = s.blocks; whole = refl; six = s.six; buffer = (put_in bytes e.buffer few s.buffer).0;
-        outgoing = s.outgoing; device = s.device; apart = s.apart;
-          hand = record { same = refl; file = f; open_is = ap (λ k. device_at e (or_none k)) c.named
-          ∙ at; writes = may; slot = refl; entry = refl;
-            begun = inr (record { call = put (put_bytes (begun f)) (bytes_put f); position = refl; most = few; some = some; none = refl;
-            not_reached = refl }) } },
-         refl, ap (given_bytes call) (bytes_put f), refl)
+    starts f at may some = (
+      record {
+        clean = s.clean;
+        blocks = s.blocks;
+        whole = refl;
+        six = s.six;
+        buffer = (put_in bytes e.buffer few s.buffer).0;
+        outgoing = s.outgoing;
+        device = s.device;
+        apart = s.apart;
+        hand = record {
+          same = refl;
+          file = f;
+          open_is = ap (λ k. device_at e (or_none k)) c.named
+              ∙ at;
+          writes = may;
+          slot = refl;
+          entry = refl;
+          begun = inr (record {
+            call = put (put_bytes (begun f)) (bytes_put f);
+            position = refl;
+            most = few;
+            some = some;
+            none = refl;
+            not_reached = refl;
+          });
+        };
+      },
+      refl,
+      ap (given_bytes call) (bytes_put f),
+      refl,
+    )
 
     in_file : (f : OpenFile) → device_at e d ≡ Some f → P (writing f bytes call e)
     in_file f at =
@@ -128,9 +163,9 @@ begin_put_goes e e' call d bytes disk c few nothing new s = subst P (sym new) (b
         either-way f.write (λ w. f.write ≡ w → P (first w (nat_lt 1048576 (length bytes))))
         (λ _ r. (let Q : Bool → Type 0 = λ v. P (first true v) in
         subst Q (sym small) (either-way (length bytes == 0) (λ z. (length bytes == 0) ≡ z → P (last z))
-          (λ _ t. (let z : length bytes ≡ 0 = grind (arith, nat_tests) in (nothing f at r z, answered_stands (pos 0) e disk s)))
-          (λ _ t. (let z : 0 < length bytes = above (length bytes) t in starts f at r z))
-          refl)))
+        (λ _ t. (let z : length bytes ≡ 0 = grind (arith, nat_tests) in (nothing f at r z, answered_stands (pos 0) e disk s)))
+        (λ _ t. (let z : 0 < length bytes = above (length bytes) t in starts f at r z))
+        refl)))
         (λ _ r. (c.refused (seen f) seen_at r, answered_stands (negsuc 0) e disk s))
         refl
       where
@@ -148,7 +183,7 @@ pub begin_write_goes : (e e' : Files) (call : FileCall) (d : ℕ) (bytes disk : 
 begin_write_goes e e' call d bytes disk is few new s =
     let P : FileCall → Type 0 = λ k. GoesTo e'.phase k (given_bytes k bytes) e e' disk disk in
     subst P (sym is) (begin_put_goes e e' (Write d) d bytes disk (write_call d bytes (system e disk)) few
-      (λ f at r z. nothing_put disk bytes d f e z s.clean (device_some e disk disk d f s at) r (shown_at e.devices d ∙ ap shown at)) new s)
+    (λ f at r z. nothing_put disk bytes d f e z s.clean (device_some e disk disk d f s at) r (shown_at e.devices d ∙ ap shown at)) new s)
 
 -- `putc`
 pub begin_putc_goes : (e e' : Files) (call : FileCall) (d b : ℕ) (disk : List ℕ) → call ≡ Putc d b
@@ -189,16 +224,21 @@ truncate_goes e d disk s = by_device (device_at e d) refl
         let none = no_bytes (entry_bytes disk (entry_at disk f.slot)) (omega (arith, sized, size, z)) in
         let name = (entry_at disk f.slot).name in
         let kept = ap (λ b. with_contents (bare_name name) b (stored_files disk)) (sym none) ∙ kept_contents disk f.slot s.clean o.slot u in
-        let b = some_below e.devices d f at in let six = s.six in
-        (truncate_effect disk disk [] d f.slot (seen f) (system e disk) (shown_at e.devices d
-        ∙ ap shown at) may refl (ap (λ (x : Entry). bare_name x.name) (sym o.entry)) (sym kept)
-          ∙ ap (λ xs. let r : FileEffect = record { system = record (system e disk) { devices = xs }; reply = pos 0; bytes = [] } in
-          r) (sym (shown_set e.devices d (Some g))),
-         set_stands (pos 0) e disk d (Some g) s (omega (arith, b, six)) (record { slot = o.slot; entry = o.entry; used = o.used;
-         position = omega arith }) (λ c ne. (
-           let A : Option OpenFile → Type 0 = λ x. AreApart (device_at e c) x in let B : Option OpenFile
-           → Type 0 = λ x. AreApart x (device_at e c) in
-           moved_apart (device_at e c) f g refl (subst A at (s.apart c d ne)) (subst B at (s.apart d c (λ q. ne (sym q)))))))
+        let b = some_below e.devices d f at in let six = s.six in (
+          truncate_effect disk disk [] d f.slot (seen f) (system e disk) (shown_at e.devices d
+              ∙ ap shown at) may refl (ap (λ (x : Entry). bare_name x.name) (sym o.entry)) (sym kept)
+              ∙ ap (λ xs. let r : FileEffect = record { system = record (system e disk) { devices = xs }; reply = pos 0; bytes = [] } in
+              r) (sym (shown_set e.devices d (Some g))),
+          set_stands (pos 0) e disk d (Some g) s (omega (arith, b, six)) (record {
+            slot = o.slot;
+            entry = o.entry;
+            used = o.used;
+            position = omega arith;
+          }) (λ c ne. (
+              let A : Option OpenFile → Type 0 = λ x. AreApart (device_at e c) x in let B : Option OpenFile
+              → Type 0 = λ x. AreApart x (device_at e c) in
+              moved_apart (device_at e c) f g refl (subst A at (s.apart c d ne)) (subst B at (s.apart d c (λ q. ne (sym q)))))),
+        )
 
     in_file : (f : OpenFile) → device_at e d ≡ Some f → P (truncating f d (Truncate d) e)
     in_file f at =
@@ -206,24 +246,52 @@ truncate_goes e d disk s = by_device (device_at e d) refl
         let seen_at : systems.open_at sys d ≡ Some (seen f) = shown_at e.devices d ∙ ap shown at in
         let held : Files = held_file f (Truncate d) e in
         let last : Bool → Files = λ z. if z then answered (pos 0) (moved_to (device_at e d) d 0 e) else held in
-        let rest : FileEffect = replies (pos 0) (record sys { files = with_contents (seen f).name [] sys.files;
-        devices = slice_set sys.devices d (Some (record (seen f) { position = 0 })) }) in
+        let rest : FileEffect = replies (pos 0) (record sys {
+          files = with_contents (seen f).name [] sys.files;
+          devices = slice_set sys.devices d (Some (record (seen f) { position = 0 }));
+        }) in
         either-way f.write (λ w. f.write ≡ w → P (if not w then answered (negsuc 0) e else last (f.entry.size == 0)))
         (λ _ r. either-way (f.entry.size == 0) (λ z. (f.entry.size == 0) ≡ z → P (last z))
-          (λ _ t. (let z : f.entry.size ≡ 0 = grind (arith, nat_tests) in let Q : Option OpenFile
-          → Type 0 = λ o. P (answered (pos 0) (moved_to o d 0 e)) in subst Q (sym at) (emptied f at r z)))
-          (λ _ t. (record { clean = s.clean; blocks = s.blocks; whole = refl; six = s.six; buffer = s.buffer; outgoing = s.outgoing;
-          device = s.device; apart = s.apart;
-            hand = record { same = refl; file = f; open_is = at; writes = r; slot = refl; entry = refl;
-            begun = inl refl } }, refl, refl, refl))
-          refl)
-        (λ _ r. (ap (λ o. systems.on_open o (λ g. truncate_file d g sys) sys) seen_at
-        ∙ ap (λ v. if not v then refused_effect sys else rest) r, answered_stands (negsuc 0) e disk s))
+        (λ _ t. (let z : f.entry.size ≡ 0 = grind (arith, nat_tests) in let Q : Option OpenFile
+        → Type 0 = λ o. P (answered (pos 0) (moved_to o d 0 e)) in subst Q (sym at) (emptied f at r z)))
+        (λ _ t. (
+          record {
+            clean = s.clean;
+            blocks = s.blocks;
+            whole = refl;
+            six = s.six;
+            buffer = s.buffer;
+            outgoing = s.outgoing;
+            device = s.device;
+            apart = s.apart;
+            hand = record {
+              same = refl;
+              file = f;
+              open_is = at;
+              writes = r;
+              slot = refl;
+              entry = refl;
+              begun = inl refl;
+            };
+          },
+          refl,
+          refl,
+          refl,
+        ))
+        refl)
+        (λ _ r. (
+          ap (λ o. systems.on_open o (λ g. truncate_file d g sys) sys) seen_at
+              ∙ ap (λ v. if not v then refused_effect sys else rest) r,
+          answered_stands (negsuc 0) e disk s,
+        ))
         refl
 
     by_device : (o : Option OpenFile) → device_at e d ≡ o → P (truncating_at o d (Truncate d) e)
-    by_device None at = (ap (λ x. systems.on_open x (λ f. truncate_file d f (system e disk)) (system e disk)) (shown_at e.devices d
-        ∙ ap shown at), answered_stands (negsuc 0) e disk s)
+    by_device None at = (
+      ap (λ x. systems.on_open x (λ f. truncate_file d f (system e disk)) (system e disk)) (shown_at e.devices d
+          ∙ ap shown at),
+      answered_stands (negsuc 0) e disk s,
+    )
     by_device (Some f) at = in_file f at
 
 pub begin_truncate_goes : (e e' : Files) (call : FileCall) (d : ℕ) (disk : List ℕ) → call ≡ Truncate d

@@ -72,13 +72,20 @@ reading_file e base s r =
 unfoldable pub reading_kept : (e e2 : Files) (base disk : List ℕ) → e2.call ≡ e.call → e2.devices ≡ e.devices → e2.position ≡ e.position
     → e2.total ≡ e.total → e2.done ≡ e.done → e2.buffer ≡ e.buffer → IsReading e base disk → IsReading e2 base disk
 reading_kept e e2 base disk c d p t n b r = record {
-  same = r.same; some = (let x = r.some in let q = ap read_count c in omega (arith, x, q));
-  few = (let x = r.few in let q = ap read_count c in omega (arith, x, q)); file = r.file;
+  same = r.same;
+  some = (let x = r.some in let q = ap read_count c in omega (arith, x, q));
+  few = (let x = r.few in let q = ap read_count c in omega (arith, x, q));
+  file = r.file;
   open_is = ap (λ k. slice_index_or e2.devices (device_of k) None) c ∙ ap (λ ds. slice_index_or ds (device_of e.call) None) d ∙ r.open_is;
-  reads = r.reads; position = p ∙ r.position; within = r.within; total = t ∙ r.total
-  ∙ ap (λ k. min (read_count k) (r.file.entry.size - r.file.position)) (sym c);
-  left = (let x = r.left in omega (arith, x, t, n)); taken = ap (λ k. take k e2.buffer) n ∙ ap (take e.done) b ∙ r.taken
-  ∙ ap (λ k. take k (drop r.file.position (entry_bytes base r.file.entry))) (sym n) }
+  reads = r.reads;
+  position = p ∙ r.position;
+  within = r.within;
+  total = t ∙ r.total
+      ∙ ap (λ k. min (read_count k) (r.file.entry.size - r.file.position)) (sym c);
+  left = (let x = r.left in omega (arith, x, t, n));
+  taken = ap (λ k. take k e2.buffer) n ∙ ap (take e.done) b ∙ r.taken
+      ∙ ap (λ k. take k (drop r.file.position (entry_bytes base r.file.entry))) (sym n);
+}
 
 -- where the read is in the file
 pub where_is : (e : Files) (base : List ℕ) → IsStanding e base base → (r : IsReading e base base) → at_byte e ≡ r.file.position + e.done
@@ -109,9 +116,22 @@ walking_goes e rest at base s r few here =
     let e2 : Files = record e { phase = Walk rest at } in
     let P : Bool → Type 0 = λ v. GoesTo (if v then e2 else answered (negsuc 0) e).phase e.call (call_bytes e) e
     (if v then e2 else answered (negsuc 0) e) base base in
-    subst P (sym on) (record { clean = s.clean; blocks = s.blocks; whole = s.whole; six = s.six; buffer = s.buffer; outgoing = s.outgoing;
-        device = s.device; apart = s.apart;
-      hand = record { reading = reading_kept e e2 base base refl refl refl refl refl refl r; few = few; here = here } }, refl, refl, refl)
+    subst P (sym on) (
+      record {
+        clean = s.clean;
+        blocks = s.blocks;
+        whole = s.whole;
+        six = s.six;
+        buffer = s.buffer;
+        outgoing = s.outgoing;
+        device = s.device;
+        apart = s.apart;
+        hand = record { reading = reading_kept e e2 base base refl refl refl refl refl refl r; few = few; here = here };
+      },
+      refl,
+      refl,
+      refl,
+    )
 
 -- Goes on to a data block.
 pub fetching_goes : (e : Files) (b : ℕ) (base : List ℕ) → IsStanding e base base → (r : IsReading e base base)
@@ -127,10 +147,26 @@ fetching_goes e b base s r index here =
     let e2 : Files = record e { phase = Fetch b } in
     let P : Bool → Type 0 = λ v. GoesTo (if v then e2 else answered (negsuc 0) e).phase e.call (call_bytes e) e
     (if v then e2 else answered (negsuc 0) e) base base in
-    subst P (sym on) (record { clean = s.clean; blocks = s.blocks; whole = s.whole; six = s.six; buffer = s.buffer; outgoing = s.outgoing;
-        device = s.device; apart = s.apart;
-      hand = record { reading = reading_kept e e2 base base refl refl refl refl refl refl r; index = index;
-      here = here } }, refl, refl, refl)
+    subst P (sym on) (
+      record {
+        clean = s.clean;
+        blocks = s.blocks;
+        whole = s.whole;
+        six = s.six;
+        buffer = s.buffer;
+        outgoing = s.outgoing;
+        device = s.device;
+        apart = s.apart;
+        hand = record {
+          reading = reading_kept e e2 base base refl refl refl refl refl refl r;
+          index = index;
+          here = here;
+        };
+      },
+      refl,
+      refl,
+      refl,
+    )
 
 -- the number of the data block of the position
 pub block_of : (e : Files) (base : List ℕ) (q : ℕ) (chain blocks : List ℕ) → e.index ≡ index_for (q / 8192) chain blocks
@@ -155,13 +191,31 @@ walked_goes e e' rest at base disk read phase new s honest =
     w = let H : Phase → Type 0 = λ p. InHand p e base disk in subst H phase s.hand
 
     r : IsReading e base base
-    r = record { same = refl; some = w.reading.some; few = w.reading.few; file = w.reading.file; open_is = w.reading.open_is;
-        reads = w.reading.reads; position = w.reading.position; within = w.reading.within;
-      total = w.reading.total; left = w.reading.left; taken = w.reading.taken }
+    r = record {
+      same = refl;
+      some = w.reading.some;
+      few = w.reading.few;
+      file = w.reading.file;
+      open_is = w.reading.open_is;
+      reads = w.reading.reads;
+      position = w.reading.position;
+      within = w.reading.within;
+      total = w.reading.total;
+      left = w.reading.left;
+      taken = w.reading.taken;
+    }
 
     st : IsStanding e base base
-    st = record { clean = s.clean; blocks = s.blocks; whole = refl; six = s.six; outgoing = s.outgoing; buffer = s.buffer;
-        device = s.device; apart = s.apart }
+    st = record {
+      clean = s.clean;
+      blocks = s.blocks;
+      whole = refl;
+      six = s.six;
+      outgoing = s.outgoing;
+      buffer = s.buffer;
+      device = s.device;
+      apart = s.apart;
+    }
 
     f : IsReadBy e.blocks base r.file.entry (entry_chain base r.file.entry) (entry_data base r.file.entry)
     f = reading_file e base st r
@@ -180,8 +234,16 @@ walked_goes e e' rest at base disk read phase new s honest =
     e2 = record e { index = index_at (at % 7) read }
 
     st2 : IsStanding e2 base base
-    st2 = record { clean = s.clean; blocks = s.blocks; whole = refl; six = s.six; outgoing = s.outgoing; buffer = s.buffer;
-        device = s.device; apart = s.apart }
+    st2 = record {
+      clean = s.clean;
+      blocks = s.blocks;
+      whole = refl;
+      six = s.six;
+      outgoing = s.outgoing;
+      buffer = s.buffer;
+      device = s.device;
+      apart = s.apart;
+    }
 
     r2 : IsReading e2 base base
     r2 = reading_kept e e2 base base refl refl refl refl refl refl r

@@ -26,8 +26,11 @@ truncating_at (Some f) d call e = truncating f d call e
 -- all blocks are free
 abbrev pub end_cut : Files → Files
 end_cut e =
-    if is_delete e.call then record e { entry = record e.entry { name = replicate 28 0 };
-        header = record e.header { files = (e.header.files + 4294967295) % 4294967296 }; phase = EntryRead }
+    if is_delete e.call then record e {
+      entry = record e.entry { name = replicate 28 0 };
+      header = record e.header { files = (e.header.files + 4294967295) % 4294967296 };
+      phase = EntryRead;
+    }
     else record e { phase = EntryRead }
 
 -- goes on to an index block, if there is such a block

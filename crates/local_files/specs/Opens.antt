@@ -61,8 +61,11 @@ finding _ slot entry e = answered (negsuc 0) e
 -- a name that isn't there
 abbrev pub missing : FileCall → Files → Files
 missing (Open name mode) e =
-    if mode.only_old || nat_le 78 e.slot then answered (negsuc 0) e else record e { entry = empty_entry name; header = one_more e.header;
-        phase = EntryRead }
+    if mode.only_old || nat_le 78 e.slot then answered (negsuc 0) e else record e {
+      entry = empty_entry name;
+      header = one_more e.header;
+      phase = EntryRead;
+    }
 missing _ e = answered (negsuc 0) e
 
 -- the search goes on, or has passed the last block

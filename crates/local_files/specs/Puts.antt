@@ -17,8 +17,13 @@ abbrev pub writing : OpenFile → List ℕ → FileCall → Files → Files
 writing f bytes call e =
     if not f.write || nat_lt 1048576 (length bytes) then answered (negsuc 0) e
     else (if length bytes == 0 then answered (pos 0) e
-    else record (held_file f call e) { buffer = put_at 0 bytes e.buffer; position = f.position; total = length bytes; done = 0;
-        reached = 0 })
+    else record (held_file f call e) {
+      buffer = put_at 0 bytes e.buffer;
+      position = f.position;
+      total = length bytes;
+      done = 0;
+      reached = 0;
+    })
 
 abbrev pub writing_at : Option OpenFile → List ℕ → FileCall → Files → Files
 writing_at None bytes call e = answered (negsuc 0) e
@@ -86,8 +91,11 @@ put_done e = let d : Files = record e { done = (e.done + piece e) % 4294967296 }
 
 -- a free data block was read
 abbrev pub take_read : ℕ → ℕ → Files → Files
-take_read b next e = record e { header = record e.header { free_data = next };
-    block = patched e.done (piece e) 0 e.buffer (replicate 512 0); phase = TakeWrite b }
+take_read b next e = record e {
+  header = record e.header { free_data = next };
+  block = patched e.done (piece e) 0 e.buffer (replicate 512 0);
+  phase = TakeWrite b;
+}
 
 -- goes on to a free index block, if there is such a block
 abbrev pub newing : ℕ → ℕ → Files → Files
@@ -121,8 +129,10 @@ followed b i e = record e { index = fresh_index b e; at = i; reached = (e.reache
 
 abbrev pub new_written : ℕ → ℕ → Files → Files
 new_written b i e =
-    if at_byte e == 0 then next_put (put_done (followed b i (record e { entry = record e.entry { first = i } }))) else record e { phase =
-    LinkRead b i }
+    if at_byte e == 0 then next_put (put_done (followed b i (record e { entry = record e.entry { first = i } }))) else record e {
+      phase =
+          LinkRead b i;
+    }
 
 -- the index block that is named by the one before it
 abbrev pub linked_index : ℕ → Index → Index

@@ -22,8 +22,12 @@ reading f n call e =
     if not f.read then answered (negsuc 0) e
     else (if n == 0 then answered (pos 0) e
     else (if nat_le f.entry.size f.position then answered (negsuc 1) e
-    else walking (f.position / 8192) f.entry.first (record e { call = call; position = f.position;
-        total = min n (f.entry.size - f.position); done = 0 })))
+    else walking (f.position / 8192) f.entry.first (record e {
+      call = call;
+      position = f.position;
+      total = min n (f.entry.size - f.position);
+      done = 0;
+    })))
 
 abbrev pub reading_at : Option OpenFile → ℕ → FileCall → Files → Files
 reading_at None n call e = answered (negsuc 0) e
@@ -36,8 +40,10 @@ walked (suc rest) index e = walking rest index.next (record e { index = index })
 
 -- the bytes of a data block are taken
 abbrev pub with_taken : List ℕ → Files → Files
-with_taken block e = record e { buffer = put_at e.done (take (piece e) (drop (at_byte e % 512) block)) e.buffer;
-    done = (e.done + piece e) % 4294967296 }
+with_taken block e = record e {
+  buffer = put_at e.done (take (piece e) (drop (at_byte e % 512) block)) e.buffer;
+  done = (e.done + piece e) % 4294967296;
+}
 
 -- the next data block
 abbrev pub next_fetch : Files → Files
@@ -45,8 +51,10 @@ next_fetch e = if at_byte e % 8192 == 0 then walking 0 e.index.next e else fetch
 
 -- all bytes are read
 abbrev pub given_all : Files → Files
-given_all e = if is_getc e.call then answered (pos (slice_index e.buffer 0)) e else record e { phase = Done (counted e.total);
-    given = e.total }
+given_all e = if is_getc e.call then answered (pos (slice_index e.buffer 0)) e else record e {
+  phase = Done (counted e.total);
+  given = e.total;
+}
 
 abbrev pub finished_at : ℕ → Files → Files
 finished_at d e = given_all (moved_to (device_at e d) d (at_byte e) e)

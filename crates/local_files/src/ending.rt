@@ -64,7 +64,11 @@ impl Files {
     fn end_at(&mut self, d: FileDev)
         ensures new { self.new ≡ ended_at (Some d) self.old }
     {
-        let position = if self.is_truncate() { 0 } else { self.at_byte() };
+        let position = if self.is_truncate() {
+            0
+        } else {
+            self.at_byte()
+        };
         self.keep_at(d, position);
         let reply = if self.is_write() { count(self.done) } else { 0 };
         self.answer_with(reply);

@@ -62,8 +62,7 @@ impl Files {
         requires idle { self.now.phase ≡ Phase.Idle }
         ensures stands { (old disk : List ℕ) → Stands self.now old old → ((d : ℕ) → device_at self.now d ≡ None) → IsCleanImage disk
             → length disk ≡ 512 * self.now.blocks → Stands self.now disk disk }
-    {
-    }
+    {}
 
     /// Begins a call. `bytes` are those that a write puts.
     pub fn begin(&mut self, call: FileCall, bytes: &[u8])

@@ -18,7 +18,6 @@ mod table;
 mod writing;
 
 pub use buffer::Buffer;
-
 use lfs_check::Header;
 use lfs_format::{Entry, Index};
 use xinu_base::{Below, OpenMode};

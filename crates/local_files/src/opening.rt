@@ -4,7 +4,6 @@ ghost use Rattle.std.specs.Prelude.{List, ◌≡◌, ◌+◌, ◌*◌, ◌<◌, 
 ghost use Rattle.lfs_format.specs.Directory.{dir_of};
 ghost use Rattle.lfs_check.specs.Fields.{header_2};
 ghost use Rattle.lfs_check.specs.Rules.{block_in};
-
 ghost use Rattle.local_files.specs.Hands.{name_of};
 ghost use Rattle.local_files.specs.Steps.{device_at, lowest_free, is_this_open};
 ghost use Rattle.local_files.specs.Opens.{closing, seeking, sizing, beginning, deleting, finding, missing, searching_on, opening_at, IsNoted, IsLook};

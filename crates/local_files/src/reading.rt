@@ -5,8 +5,8 @@ ghost use Rattle.lfs_format.specs.Indexes.{index_at};
 ghost use Rattle.local_files.specs.Steps.{answered, device_at, piece, at_byte, named_device};
 ghost use Rattle.local_files.specs.Takes.{reading_at, reading, walking, fetching, walked, fetched, next_fetch, finished_read, finished_at, given_all, read_on, with_taken};
 
-use crate::{FileCall, FileDev, Files, OpenFile, Phase};
 use crate::table::count;
+use crate::{FileCall, FileDev, Files, OpenFile, Phase};
 use lfs_format::read_index;
 
 impl Files {
@@ -91,7 +91,8 @@ impl Files {
     {
         let from = self.at_byte() as usize % 512;
         let many = self.piece();
-        self.buffer.put(self.done, &read[from..from + many as usize]);
+        self.buffer
+            .put(self.done, &read[from..from + many as usize]);
         self.done = self.done.wrapping_add(many);
     }
 
