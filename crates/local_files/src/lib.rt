@@ -1,8 +1,21 @@
-//! The file engine: what a call on files does to a disk of version 2, block by block.
+//! The file engine: what a call on files does to a disk of version 2, block by block (book, chapters 19 and 20).
 //!
-//! It knows no disk and no process. `begin` takes a call; `wants` then says which block is to be read, or written with `outgoing`, and `completed`
-//! takes each completion, until `answer` has the reply. Between calls it keeps of each open device the entry of its file, the entry's place, the
-//! position and what is allowed, and nothing else of the disk. `specs/Standing` says what the engine stands for together with a disk.
+//! It knows no disk and no process. Between calls it keeps of each open device the entry of its file, the entry's place, the position and
+//! what is allowed, and nothing else of the disk.
+//!
+//! | Call | Condition | Promise |
+//! |---|---|---|
+//! | `new` | | `stands`: no file is open on any clean disk of so many blocks; or `NoMemory`. It takes a buffer of 1 MiB, and no other call takes memory |
+//! | `begin` | `idle`: no call is in hand; `call`, `bytes`: the numbers of bytes are at most 1 MiB | `goes`: the call is in hand, or it is done as the abstract machine's call is |
+//! | `wants`, `outgoing` | | the block that is to be read, or to be written with these bytes |
+//! | `completed` | `wants`: a block is | `goes`: the call goes on, and the files stand as before it, or it is done as the abstract machine's call is, with its reply, its bytes and its files |
+//! | `answer`, `gathered` | | the reply of a call that is done, after which none is in hand; the bytes that it read |
+//! | `position`, `open_count` | | what is open |
+//! | `stands_for_any` | `idle` | a law: with no file open the engine stands for any clean disk of its size, so nothing that it read is kept |
+//!
+//! The contract is one relation, `Stands files base disk` in `specs/Standing`: `base` is the disk as it was when the call in hand began,
+//! and the files of the abstract machine are those of `base` until the call is done. Each number that is read off a disk is tested before
+//! it is used, so a disk that isn't as promised ends a call with -1. The crate depends on `file_laws`, and on the crates below that.
 #![tactic(auto)]
 
 mod buffer;
@@ -28,32 +41,49 @@ pub type FileDev = Below<6>;
 /// A file that a device has open: the place of its entry in the directory, the entry, the position, and whether it is read and written.
 #[derive(Clone, Copy)]
 pub struct OpenFile {
+    /// The place of its entry in the directory, from 0 to 77.
     pub slot: u32,
+    /// The entry.
     pub entry: Entry,
+    /// The position, in bytes.
     pub position: u32,
+    /// Whether it may be read.
     pub read: bool,
+    /// Whether it may be written.
     pub write: bool,
 }
 
 /// A call on files; a name has zeros after it.
 #[derive(Clone, Copy)]
 pub enum FileCall {
+    /// The file of a name is opened, or made.
     Open([u8; 28], OpenMode),
+    /// The file of a name is deleted.
     Delete([u8; 28]),
+    /// A device is closed.
     Close(FileDev),
+    /// So many bytes are read.
     Read(FileDev, u32),
+    /// The bytes that are given with the call are written.
     Write(FileDev),
+    /// One byte is read.
     Getc(FileDev),
+    /// One byte is written.
     Putc(FileDev, u8),
+    /// The position becomes another.
     Seek(FileDev, i32),
+    /// The file is emptied.
     Truncate(FileDev),
+    /// The size of the file is told.
     Size(FileDev),
 }
 
 /// Work on a block of the disk.
 #[derive(Clone, Copy)]
 pub enum BlockWork {
+    /// The block of this number is to be read.
     Read(u32),
+    /// The block of this number is to be written.
     Write(u32),
 }
 
