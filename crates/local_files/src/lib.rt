@@ -1,4 +1,4 @@
-//! The file engine: what a call on files does to a disk of version 2, block by block (book, chapters 19 and 20).
+//! The file engine: what a call on files does to a disk of version 2, block by block (book, chapter 19).
 //!
 //! It knows no disk and no process. Between calls it keeps of each open device the entry of its file, the entry's place, the position and
 //! what is allowed, and nothing else of the disk.
