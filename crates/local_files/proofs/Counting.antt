@@ -32,7 +32,7 @@ use Rattle.local_files.proofs.PutSteps.{next_put_goes}
 use Rattle.local_files.specs.declared.Phase.TheVariants.{Counts}
 use Rattle.local_files.specs.Putting.{IsCounting, IsBegun}
 use Rattle.local_files.specs.Puts.{counts_read}
-use Rattle.local_files.proofs.CutSteps.{cutting_goes}
+use Rattle.local_files.proofs.CutWrites.{cutting_goes}
 use Rattle.lfs_check.specs.Fields.{header_2}
 use Rattle.std.proofs.lemmas.List.{take-append-drop}
 

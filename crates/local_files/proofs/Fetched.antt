@@ -1,6 +1,6 @@
 -- A data block of the file that is read was read.
-use Rattle.std.proofs.Common.{◌≡◌, ◌≢◌, ℕ, zero, suc, ◌+◌, ◌/◌, ◌<◌, ◌≤◌, true, nat_le, List, [], ◌∷◌, length, map, refl, sym, ap, ◌∙◌, subst, arith, slice_index_or, slice_set, Option, Some, None, pos, if◌then◌else◌, slice_index, ◌%◌, ⊎_elim, take, length-take, ◌++◌, ◌==◌}
-use Rattle.std.proofs.lemmas.Bool.{false≢true, cases_lt}
+use Rattle.std.proofs.Common.{◌≡◌, ◌≢◌, ℕ, suc, ◌+◌, ◌/◌, ◌<◌, ◌≤◌, true, nat_le, List, [], ◌∷◌, length, map, refl, sym, ap, ◌∙◌, subst, arith, slice_set, Option, Some, pos, if◌then◌else◌, slice_index, ◌%◌, take, length-take, ◌++◌, ◌==◌}
+use Rattle.std.proofs.lemmas.Bool.{false≢true}
 use Rattle.std.proofs.lemmas.Bool.Decides.{nat_tests}
 use Rattle.lfs_format.specs.declared.Entry.{Entry}
 use Rattle.lfs_check.specs.Rules.{entry_is_used, block_in}
@@ -17,10 +17,10 @@ use Rattle.local_files.specs.declared.FileCall.{FileCall}
 use Rattle.local_files.specs.declared.FileCall.TheVariants.{Open, Delete, Close, Read, Write, Getc, Putc, Seek, Truncate, Size}
 use Rattle.local_files.specs.declared.Phase.{Phase}
 use Rattle.local_files.specs.declared.Phase.TheVariants.{Fetch, Done}
-use Rattle.local_files.specs.Hands.{system, IsOpenOn, AreApart, seen, put_bytes, IsReading, IsFetching, read_count}
+use Rattle.local_files.specs.Hands.{system, IsOpenOn, seen, put_bytes, IsReading, IsFetching, read_count}
 use Rattle.local_files.specs.Steps.{device_at, answered, with_device, shown, at_byte, device_of, piece, or_none, named_device, moved_to}
 use Rattle.local_files.specs.Standing.{Stands, InHand, GoesTo, call_bytes, given_bytes}
-use Rattle.local_files.proofs.Devices.{set_stands, shown_set, shown_at, some_below}
+use Rattle.local_files.proofs.Devices.{shown_set, shown_at}
 use Rattle.xinu_model.specs.Files.Systems as systems
 use Rattle.file_laws.proofs.Effects.{read_effect, getc_effect}
 use Rattle.xinu_model.specs.Files.Writing.{overwritten}
@@ -30,45 +30,13 @@ use Rattle.lfs_check.specs.Meets.{null}
 use Rattle.lfs_check.specs.Laid.{index_for}
 use Rattle.file_laws.specs.Changing.{IsReadBy}
 use Rattle.local_files.proofs.Freeing.{IsStanding, some_at, goes_from}
-use Rattle.std.proofs.lemmas.List.{take_all, take_at, drop_at, drop-drop}
+use Rattle.std.proofs.lemmas.List.{take_at, drop_at, drop-drop}
 use Rattle.local_files.specs.Takes.{walking, fetching, with_taken, fetched, next_fetch, finished_read, finished_at, given_all}
 use Rattle.file_laws.proofs.ReadBlocks.{bytes_in_block}
 use Rattle.file_laws.proofs.Patched.{block_long}
 use Rattle.file_laws.proofs.Fitting.{length_overwritten}
-use Rattle.local_files.proofs.Ends.{apart_moved, counted_small}
-use Rattle.local_files.proofs.Taking.{open_of, reading_file, where_is, walking_goes, fetching_goes, block_of, take_add}
-
--- the first of some bytes
-pub first_of : (xs : List ℕ) → length xs ≡ 1 → xs ≡ slice_index xs 0 ∷ []
-first_of [] l = absurd (omega (arith, l))
-first_of (x ∷ []) l = refl
-first_of (x ∷ y ∷ xs) l = absurd (omega (arith, l))
-
--- the first byte of those that are taken
-pub first_taken : (xs : List ℕ) (n : ℕ) → 0 < n → slice_index (take n xs) 0 ≡ slice_index xs 0
-first_taken xs zero h = absurd (omega (arith, h))
-first_taken [] (suc n) h = refl
-first_taken (x ∷ xs) (suc n) h = refl
-
--- more bytes than there are
-pub take_min : (n : ℕ) (xs : List ℕ) → take n xs ≡ take (min n (length xs)) xs
-take_min n xs = ⊎_elim
-    (λ (lt : n < length xs). ap (λ m. take m xs) (let e : n ≡ min n (length xs) = omega (arith, lt) in e))
-    (λ (ge : length xs ≤ n). take_all n xs ge ∙ sym (take_all (min n (length xs)) xs (omega (arith, ge))))
-    (cases_lt n (length xs))
-
--- a read has no bytes to put
-pub no_bytes : (c : FileCall) (x : List ℕ) → 0 < read_count c → given_bytes c x ≡ []
-no_bytes (Open n m) x h = refl
-no_bytes (Delete n) x h = refl
-no_bytes (Close d) x h = refl
-no_bytes (Read d n) x h = refl
-no_bytes (Write d) x h = absurd (omega (arith, h))
-no_bytes (Getc d) x h = refl
-no_bytes (Putc d b) x h = refl
-no_bytes (Seek d n) x h = refl
-no_bytes (Truncate d) x h = refl
-no_bytes (Size d) x h = refl
+use Rattle.local_files.proofs.Ends.{counted_small}
+use Rattle.local_files.proofs.Taking.{open_of, reading_file, where_is, walking_goes, fetching_goes, block_of, take_add, first_of, first_taken, take_min, no_bytes, moved_stands}
 
 -- A data block was read.
 pub fetched_goes : (e e' : Files) (b : ℕ) (base disk read : List ℕ) → e.phase ≡ Fetch b → length read ≡ 512 → e' ≡ fetched read e
@@ -292,35 +260,8 @@ fetched_goes e e' b base disk read phase wide new s honest =
     seen_at : (d : ℕ) → device_at e d ≡ Some r.file → systems.open_at (system e base) d ≡ Some (seen r.file)
     seen_at d at = shown_at e.devices d ∙ ap shown at
 
-    moved_stands : (d : ℕ) (e3 : Files) → e3.devices ≡ e.devices → device_at e d ≡ Some r.file → IsStanding e3 base base
-        → Stands (answered (pos 0) (with_device d (Some (let g : OpenFile = record r.file { position = q + k } in g)) e3)) base base
-    moved_stands d e3 same at s3 =
-        let g : OpenFile = record r.file { position = q + k } in
-        let six = s.six in
-        let e4 : Files = answered (pos 0) e3 in
-        let s4 : Stands e4 base base = record {
-          clean = s3.clean;
-          blocks = s3.blocks;
-          whole = refl;
-          six = s3.six;
-          buffer = s3.buffer;
-          outgoing = s3.outgoing;
-          device = s3.device;
-          apart = s3.apart;
-          hand = refl;
-        } in
-        let below : d < 6 = (let l = some_below e.devices d r.file at in omega (arith, l, six)) in
-        let at3 : device_at e3 d ≡ Some r.file = ap (λ ds. slice_index_or ds d None) same ∙ at in
-        let t = r.total in let y = k_is in let v = r.within in let l = r.left in
-        set_stands (pos 0) e4 base d (Some g) s4 below (record {
-          slot = o.slot;
-          entry = o.entry;
-          used = o.used;
-          position = omega (arith, t, y, v, l);
-        })
-        (λ c ne. apart_moved (device_at e3 c) r.file g refl (let Q : Option OpenFile → Type 0 = λ x. AreApart (device_at e3 c) x in
-        subst Q at3 (s3.apart c d ne))
-        (let Q : Option OpenFile → Type 0 = λ x. AreApart x (device_at e3 c) in subst Q at3 (s3.apart d c (λ z. ne (sym z)))))
+    end_in : q + k ≤ entry.size
+    end_in = let t = r.total in let y = k_is in let v = r.within in let l = r.left in omega (arith, t, y, v, l)
 
     -- the reply and the bytes
     finished : (c : FileCall) → e.call ≡ c → e.done + k ≡ e.total
@@ -368,7 +309,7 @@ fetched_goes e e' b base disk read phase wide new s honest =
         let result : List ℕ → List (Option systems.OpenFile) → FileEffect = λ b ds.
         record { system = record (system e base) { devices = ds }; reply = pos e.total; bytes = b } in
         let x : ℕ → systems.OpenFile = λ p. record (seen r.file) { position = p } in
-        let m = moved_stands d e3 refl at s3 in
+        let m = moved_stands e3 base d (q + k) r.file s3 o at end_in in
         let P : Files → Type 0 = λ y. GoesTo y.phase (Read d n) [] e y base base in
         subst P (sym new_is) (
           effect ∙ ap (λ b. result b (slice_set (map shown e.devices) d (Some (x (pos_is + e.total))))) given
@@ -419,7 +360,7 @@ fetched_goes e e' b base disk read phase wide new s honest =
         let result : List (Option systems.OpenFile) → FileEffect = λ ds.
         record { system = record (system e base) { devices = ds }; reply = pos byte; bytes = [] } in
         let x : ℕ → systems.OpenFile = λ p. record (seen r.file) { position = p } in
-        let m = moved_stands d e3 refl at s3 in
+        let m = moved_stands e3 base d (q + k) r.file s3 o at end_in in
         let P : Files → Type 0 = λ y. GoesTo y.phase (Getc d) [] e y base base in
         subst P (sym new_is) (
           effect ∙ ap (λ p. result (slice_set (map shown e.devices) d (Some (x p)))) (let z : pos_is + 1 ≡ q + k =

@@ -4,7 +4,9 @@ pub mod Closings
 pub mod Ends
 pub mod Freeing
 pub mod CutSteps
+pub mod CutWrites
 pub mod Searching
+pub mod Passing
 pub mod Taking
 pub mod Fetched
 pub mod ReadCalls
@@ -12,6 +14,8 @@ pub mod Putting
 pub mod PutSteps
 pub mod Pieces
 pub mod Grows
+pub mod Adds
+pub mod NewBlocks
 pub mod Links
 pub mod Counting
 pub mod Starts

@@ -22,7 +22,7 @@ use Rattle.std.proofs.lemmas.List.{drop_all}
 use Rattle.local_files.specs.Takes.{walking, reading_at}
 use Rattle.xinu_model.specs.Files.Reading.{read_file, getc_file, first_byte, taken, bytes_ahead}
 use Rattle.local_files.proofs.Taking.{reading_file, reading_kept, walking_goes}
-use Rattle.local_files.proofs.Fetched.{no_bytes}
+use Rattle.local_files.proofs.Taking.{no_bytes}
 
 -- what a call that reads has for its effect, if it gives no byte
 pub record IsReadCall (call : FileCall) (d n : ℕ) (sys : FileSystem) : Type 0 where

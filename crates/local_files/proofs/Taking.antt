@@ -1,10 +1,10 @@
 -- `read` and `getc`: what they find, block by block.
-use Rattle.std.proofs.Common.{◌≡◌, ℕ, zero, suc, ◌+◌, ◌*◌, ◌/◌, ◌<◌, ◌≤◌, Bool, true, cond, List, [], ◌∷◌, length, refl, sym, ap, ◌∙◌, subst, arith, slice_index_or, Option, Some, None, negsuc, if◌then◌else◌, slice_index, ◌%◌, take, nat_lt, ◌++◌}
+use Rattle.std.proofs.Common.{◌≡◌, ℕ, zero, suc, ◌+◌, ◌*◌, ◌/◌, ◌<◌, ◌≤◌, Bool, true, cond, List, [], ◌∷◌, length, refl, sym, ap, ◌∙◌, subst, arith, slice_index_or, Option, Some, None, negsuc, if◌then◌else◌, slice_index, ◌%◌, take, nat_lt, ◌++◌, ◌-◌, drop, min, pos, ⊎_elim}
 use Rattle.std.proofs.lemmas.Bool.Decides.{nat_tests}
 use Rattle.lfs_format.specs.declared.Entry.{Entry}
 use Rattle.lfs_check.specs.Rules.{entry_is_used, block_in}
 use Rattle.lfs_check.proofs.Images.{image_blocks}
-use Rattle.lfs_check.specs.Disks.{entry_at, entries}
+use Rattle.lfs_check.specs.Disks.{entry_at, entries, disk_geometry, header_on}
 use Rattle.lfs_layout.specs.Images.{IsCleanImage}
 use Rattle.file_laws.specs.StoredFiles.{entry_bytes, entry_chain, entry_data}
 use Rattle.file_laws.proofs.Named.{length_entries}
@@ -13,26 +13,29 @@ use Rattle.local_files.specs.declared.OpenFile.{OpenFile}
 use Rattle.local_files.specs.declared.Files.{Files}
 use Rattle.local_files.specs.declared.Phase.{Phase}
 use Rattle.local_files.specs.declared.Phase.TheVariants.{Walk, Fetch}
-use Rattle.local_files.specs.Hands.{IsDevice, IsOpenOn, IsReading, IsWalking, read_count}
-use Rattle.local_files.specs.Steps.{device_at, answered, at_byte, device_of}
-use Rattle.local_files.specs.Standing.{Stands, InHand, GoesTo, call_bytes}
+use Rattle.local_files.specs.Hands.{IsDevice, IsOpenOn, IsReading, IsWalking, read_count, AreApart}
+use Rattle.local_files.specs.Steps.{device_at, answered, at_byte, device_of, with_device}
+use Rattle.local_files.specs.Standing.{Stands, InHand, GoesTo, call_bytes, given_bytes}
 use Rattle.lfs_format.specs.Directory.{void_entry}
-use Rattle.std.proofs.Common.{◌-◌, ◌*◌, drop, min}
 use Rattle.lfs_format.specs.declared.Index.{Index}
 use Rattle.lfs_format.specs.Indexes.{index_at}
 use Rattle.lfs_check.specs.Meets.{null}
 use Rattle.lfs_check.specs.Laid.{numbers_at, index_for}
 use Rattle.lfs_check.specs.Clean.{places_of, chain_in, data_in}
 use Rattle.lfs_check.specs.Fields.{fields_of}
-use Rattle.lfs_check.specs.Disks.{disk_geometry, header_on}
 use Rattle.file_laws.specs.Changing.{IsReadBy}
 use Rattle.file_laws.proofs.Middles.{middle_begins}
 use Rattle.file_laws.proofs.Reached.{middle_read}
 use Rattle.local_files.proofs.Freeing.{IsStanding, number_at, some_at, goes_from}
-use Rattle.std.proofs.lemmas.List.{get_or-map}
+use Rattle.std.proofs.lemmas.List.{get_or-map, take_all}
 use Rattle.local_files.proofs.CutSteps.{index_on_disk}
 use Rattle.lfs_check.proofs.Directories.{geometry_is}
 use Rattle.local_files.specs.Takes.{walking, fetching, walked}
+use Rattle.std.proofs.lemmas.Bool.{cases_lt}
+use Rattle.local_files.specs.declared.FileCall.{FileCall}
+use Rattle.local_files.specs.declared.FileCall.TheVariants.{Open, Delete, Close, Read, Write, Getc, Putc, Seek, Truncate, Size}
+use Rattle.local_files.proofs.Devices.{set_stands, some_below}
+use Rattle.local_files.proofs.Ends.{apart_moved}
 
 -- a file that a device has open is read off the disk
 pub open_read : (base : List ℕ) (f : OpenFile) → IsCleanImage base → IsOpenOn base f
@@ -283,3 +286,48 @@ take_add (suc m) n [] = ap (λ k. take {A = ℕ} k []) (let e : suc m + n ≡ su
     none (suc k) = refl
 take_add (suc m) n (x ∷ xs) = ap (λ k. take k (x ∷ xs)) (let e : suc m + n ≡ suc (m + n) = omega arith in e)
     ∙ ap (λ t. x ∷ t) (take_add m n xs)
+
+-- the first of some bytes
+pub first_of : (xs : List ℕ) → length xs ≡ 1 → xs ≡ slice_index xs 0 ∷ []
+first_of [] l = absurd (omega (arith, l))
+first_of (x ∷ []) l = refl
+first_of (x ∷ y ∷ xs) l = absurd (omega (arith, l))
+
+-- the first byte of those that are taken
+pub first_taken : (xs : List ℕ) (n : ℕ) → 0 < n → slice_index (take n xs) 0 ≡ slice_index xs 0
+first_taken xs zero h = absurd (omega (arith, h))
+first_taken [] (suc n) h = refl
+first_taken (x ∷ xs) (suc n) h = refl
+
+-- more bytes than there are
+pub take_min : (n : ℕ) (xs : List ℕ) → take n xs ≡ take (min n (length xs)) xs
+take_min n xs = ⊎_elim
+    (λ (lt : n < length xs). ap (λ m. take m xs) (let e : n ≡ min n (length xs) = omega (arith, lt) in e))
+    (λ (ge : length xs ≤ n). take_all n xs ge ∙ sym (take_all (min n (length xs)) xs (omega (arith, ge))))
+    (cases_lt n (length xs))
+
+-- a read has no bytes to put
+pub no_bytes : (c : FileCall) (x : List ℕ) → 0 < read_count c → given_bytes c x ≡ []
+no_bytes (Open n m) x h = refl
+no_bytes (Delete n) x h = refl
+no_bytes (Close d) x h = refl
+no_bytes (Read d n) x h = refl
+no_bytes (Write d) x h = absurd (omega (arith, h))
+no_bytes (Getc d) x h = refl
+no_bytes (Putc d b) x h = refl
+no_bytes (Seek d n) x h = refl
+no_bytes (Truncate d) x h = refl
+no_bytes (Size d) x h = refl
+
+-- Bytes are read: the position of the device moves.
+pub moved_stands : (e : Files) (base : List ℕ) (d to : ℕ) (f : OpenFile) → IsStanding e base base → IsOpenOn base f → device_at e d ≡ Some f → to ≤ f.entry.size
+    → Stands (answered (pos 0) (with_device d (Some (let g : OpenFile = record f { position = to } in g)) e)) base base
+moved_stands e base d to f s o at inside =
+    let g : OpenFile = record f { position = to } in
+    let six = s.six in
+    let e4 : Files = answered (pos 0) e in
+    let s4 : Stands e4 base base = record { clean = s.clean; blocks = s.blocks; whole = refl; six = s.six; buffer = s.buffer; outgoing = s.outgoing; device = s.device; apart = s.apart; hand = refl } in
+    let below : d < 6 = (let l = some_below e.devices d f at in omega (arith, l, six)) in
+    set_stands (pos 0) e4 base d (Some g) s4 below (record { slot = o.slot; entry = o.entry; used = o.used; position = inside })
+    (λ c ne. apart_moved (device_at e c) f g refl (let Q : Option OpenFile → Type 0 = λ x. AreApart (device_at e c) x in subst Q at (s.apart c d ne))
+    (let Q : Option OpenFile → Type 0 = λ x. AreApart x (device_at e c) in subst Q at (s.apart d c (λ z. ne (sym z)))))

@@ -3,12 +3,14 @@ use Rattle.local_files.specs.Standing.{wanted_in}
 use Rattle.local_files.proofs.Serving.{read_completes, write_completes}
 use Rattle.local_files.proofs.Closings.{put_entry_goes, entry_written_goes, put_header_goes}
 use Rattle.local_files.proofs.Ends.{header_written_goes}
-use Rattle.local_files.proofs.CutSteps.{cut_read_goes, cut_written_goes, free_written_goes}
+use Rattle.local_files.proofs.CutWrites.{cut_read_goes, cut_written_goes, free_written_goes}
 use Rattle.local_files.proofs.Taking.{walked_goes}
 use Rattle.local_files.proofs.Fetched.{fetched_goes}
 use Rattle.local_files.proofs.Pieces.{reached_goes, patch_read_goes, patch_written_goes}
-use Rattle.local_files.proofs.Grows.{take_read_goes, take_written_goes, add_read_goes, add_written_goes}
-use Rattle.local_files.proofs.Links.{new_read_goes, new_written_goes, link_read_goes, link_written_goes}
+use Rattle.local_files.proofs.Grows.{take_read_goes, take_written_goes, add_read_goes}
+use Rattle.local_files.proofs.Adds.{add_written_goes}
+use Rattle.local_files.proofs.NewBlocks.{new_read_goes, new_written_goes}
+use Rattle.local_files.proofs.Links.{link_read_goes, link_written_goes}
 use Rattle.local_files.proofs.Counting.{counts_read_goes}
 use Rattle.local_files.proofs.Files.completed.Goals as goal
 

@@ -6,7 +6,8 @@ use Rattle.lfs_check.specs.Fields.{header_2}
 use Rattle.local_files.specs.declared.Files.{Files}
 use Rattle.local_files.specs.Hands.{name_of}
 use Rattle.local_files.specs.Opens.{finding, searching_on, IsLook, IsNoted}
-use Rattle.local_files.proofs.Searching.{found_goes, pass_goes}
+use Rattle.local_files.proofs.Searching.{found_goes}
+use Rattle.local_files.proofs.Passing.{pass_goes}
 use Rattle.local_files.proofs.Files.searched.Goals as goal
 
 pub returns-in-Some : goal.returns-in-Some
