@@ -53,6 +53,7 @@ append_at [] b k h = absurd (omega (arith, h))
 append_at (x ∷ xs) b zero h = refl
 append_at (x ∷ xs) b (suc k) h = append_at xs b k (omega (arith, h))
 
+-- the last element of joined lists
 pub append_last : (xs : List ℕ) (b k : ℕ) → k ≡ length xs → slice_index (xs ++ b ∷ []) k ≡ b
 append_last [] b zero h = refl
 append_last [] b (suc k) h = absurd (omega (arith, h))
@@ -97,6 +98,7 @@ pub record IsGrowing (e : Files) (base disk : List ℕ) (p : Places) : Type 0 wh
   pub more : overwritten e.position (take e.done (put_bytes e)) (entry_bytes base (entry_at base e.slot)) ++ piece_bytes e
       ≡ overwritten e.position (take (e.done + piece e) (put_bytes e)) (entry_bytes base (entry_at base e.slot))
 
+-- a call that is at the end of its file
 pub growing : (e : Files) (base disk : List ℕ) (p : Places) → IsStanding e base disk → (u : IsPutting e base disk p) → e.done < e.total
     → at_end e ≡ true → IsGrowing e base disk p
 growing e base disk p s u left ends =

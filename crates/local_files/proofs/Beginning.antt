@@ -220,6 +220,7 @@ delete_goes e name bytes disk is long none s =
     ))
     refl
 
+-- the same of a deletion
 pub begin_delete_goes : (e e' : Files) (call : FileCall) (name disk : List ℕ) → call ≡ Delete name → IsCall call
     → e' ≡ deleting (is_this_open name e.devices) (Delete name) e → Stands e disk disk
     → GoesTo e'.phase call [] e e' disk disk
@@ -239,6 +240,7 @@ begin_open_goes e e' call name mode disk is right new s =
     let r = subst IsCall is right in
     subst Q (sym is) (subst P (sym new) (open_goes e name mode [] disk r.0 r.1 refl s))
 
+-- the same of `close`
 pub begin_close_goes : (e e' : Files) (call : FileCall) (d : ℕ) (disk : List ℕ) → call ≡ Close d → e' ≡ closing (device_at e d) d e
     → Stands e disk disk → GoesTo e'.phase call [] e e' disk disk
 begin_close_goes e e' call d disk is new s =
@@ -246,6 +248,7 @@ begin_close_goes e e' call d disk is new s =
     let Q : FileCall → Type 0 = λ k. GoesTo (closing (device_at e d) d e).phase k [] e (closing (device_at e d) d e) disk disk in
     subst P (sym new) (subst Q (sym is) (close_goes e d [] disk s))
 
+-- the same of `seek`
 pub begin_seek_goes : (e e' : Files) (call : FileCall) (d : ℕ) (n m : ℤ) (disk : List ℕ) → call ≡ Seek d n → m ≡ n
     → e' ≡ seeking (device_at e d) d m e → Stands e disk disk → GoesTo e'.phase call [] e e' disk disk
 begin_seek_goes e e' call d n m disk is same new s =
@@ -253,6 +256,7 @@ begin_seek_goes e e' call d n m disk is same new s =
     let Q : FileCall → Type 0 = λ k. GoesTo (seeking (device_at e d) d n e).phase k [] e (seeking (device_at e d) d n e) disk disk in
     subst P (sym (new ∙ ap (λ k. seeking (device_at e d) d k e) same)) (subst Q (sym is) (seek_goes e d n [] disk s))
 
+-- the same of the size
 pub begin_size_goes : (e e' : Files) (call : FileCall) (d : ℕ) (disk : List ℕ) → call ≡ Size d → e' ≡ sizing (device_at e d) e
     → Stands e disk disk → GoesTo e'.phase call [] e e' disk disk
 begin_size_goes e e' call d disk is new s =

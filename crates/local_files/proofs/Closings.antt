@@ -33,6 +33,7 @@ use Rattle.local_files.specs.Standing as engine
 use Rattle.local_files.specs.Opens.{opening as opening_file}
 use Rattle.lfs_format.specs.Directory.{dir_of, IsDirBlock}
 
+-- how many blocks there are
 pub blocks_many : (e : Files) (base disk : List ℕ) → Stands e base disk → (14 ≤ e.blocks) × (length disk ≡ 512 * e.blocks)
 blocks_many e base disk s =
     let size = image_blocks base s.clean.faultless in
@@ -40,6 +41,7 @@ blocks_many e base disk s =
     let low : 14 ≤ n = (let P : Bool → Type 0 = λ b. cond b 14 8 ≤ n in subst P s.clean.version size.0) in
     let b = s.blocks in let w = s.whole in (omega (arith, low, b), w ∙ b)
 
+-- what a write has done, with other fields of the engine
 written_kept : (e : Files) (phase : Phase) (block base : List ℕ) → IsWritten e base
     → IsWritten (record e { phase = phase; block = block }) base
 written_kept e phase block base h = record {
@@ -56,6 +58,7 @@ written_kept e phase block base h = record {
   named = h.named;
 }
 
+-- the files after the call, with other fields of the engine
 after_same : (call : FileCall) (e : Files) (phase : Phase) (block base : List ℕ)
     → files_after call e base ≡ files_after call (record e { phase = phase; block = block }) base
 after_same (Open name mode) e phase block base = refl
@@ -98,6 +101,7 @@ ending_kept (Getc d) e phase block base h = h
 ending_kept (Seek d n) e phase block base h = h
 ending_kept (Size d) e phase block base h = h
 
+-- the disk that is made, with other fields of the engine
 made_same : (e : Files) (phase : Phase) (block base made : List ℕ) → IsMade e base made
     → IsMade (record e { phase = phase; block = block }) base made
 made_same e phase block base made m = record {
@@ -223,11 +227,13 @@ others_open e base made f m free o =
     ∙ o.used) in
     (record { slot = o.slot; entry = m.others f.slot ne ∙ o.entry; used = o.used; position = o.position }, ne)
 
+-- what all devices have open is on the disk that is made
 all_open : (e : Files) (base made : List ℕ) (o : Option OpenFile) → IsMade e base made → entry_is_used (entry_at base e.slot) ≡ false
     → IsDevice base o → IsDevice made o
 all_open e base made None m free h = tt
 all_open e base made (Some f) m free h = (others_open e base made f m free h).0
 
+-- what was open is apart from the file that is made
 away_from : (e : Files) (base made : List ℕ) (o : Option OpenFile) (f : OpenFile) → f.slot ≡ e.slot → IsMade e base made
     → entry_is_used (entry_at base e.slot) ≡ false → IsDevice base o → AreApart o (Some f) × AreApart (Some f) o
 away_from e base made None f q m free h = (tt, tt)

@@ -17,11 +17,13 @@ use Rattle.local_files.specs.Steps.{shown, device_at, answered, with_device, has
 use Rattle.local_files.specs.Hands.{IsOpenOn, IsDevice, AreApart}
 use Rattle.local_files.specs.Standing.{Stands}
 
+-- what a device shows
 pub shown_at : (xs : List (Option OpenFile)) (d : ℕ) → slice_index_or (map shown xs) d None ≡ shown (slice_index_or xs d None)
 shown_at [] d = refl
 shown_at (x ∷ xs) zero = refl
 shown_at (x ∷ xs) (suc d) = shown_at xs d
 
+-- what the devices show once one of them is another
 pub shown_set : (xs : List (Option OpenFile)) (d : ℕ) (x : Option OpenFile)
     → map shown (slice_set xs d x) ≡ slice_set (map shown xs) d (shown x)
 shown_set [] d x = refl
@@ -34,6 +36,7 @@ some_below [] d f e = absurd (cc (e))
 some_below (x ∷ xs) zero f e = omega arith
 some_below (x ∷ xs) (suc d) f e = let i = some_below xs d f e in omega (arith, i)
 
+-- what a device has open is on the disk
 pub device_some : (e : Files) (base disk : List ℕ) (d : ℕ) (f : OpenFile) → Stands e base disk → device_at e d ≡ Some f → IsOpenOn base f
 device_some e base disk d f s at = let P : Option OpenFile → Type 0 = λ o. IsDevice base o in subst P at (s.device d)
 
@@ -50,6 +53,7 @@ open_is base f c o =
     }) in
     subst P o.entry (named_at base c f.slot o.slot (ap entry_is_used o.entry ∙ o.used))
 
+-- how large an open file is
 pub open_size : (base : List ℕ) (f : OpenFile) → IsCleanImage base → IsOpenOn base f
     → length (bytes_in (file_named (bare_name f.entry.name) (stored_files base))) ≡ f.entry.size
 open_size base f c o =
@@ -57,6 +61,7 @@ open_size base f c o =
     ap (λ x. length (bytes_in x)) (open_is base f c o) ∙ subst P o.entry (bytes_sized base c f.slot o.slot (ap entry_is_used o.entry
     ∙ o.used))
 
+-- its name is a name
 pub open_name : (base : List ℕ) (f : OpenFile) → IsCleanImage base → IsOpenOn base f → IsName f.entry.name
 open_name base f c o =
     let P : Entry → Type 0 = λ x. IsName x.name in subst P o.entry (entry_name base c f.slot o.slot (ap entry_is_used o.entry ∙ o.used))
@@ -78,6 +83,7 @@ pub or-false : (a b : Bool) → a || b ≡ false → (a ≡ false) × (b ≡ fal
 or-false true b e = absurd (false≢true (sym e))
 or-false false b e = (refl, e)
 
+-- a name that is not open is that of no device
 pub not_open : (n : List ℕ) (xs : List (Option OpenFile)) (d : ℕ) (f : OpenFile) → is_this_open n xs ≡ false
     → slice_index_or xs d None ≡ Some f → bytes_eq f.entry.name n ≡ false
 not_open n [] d f z e = absurd (cc (e))
@@ -86,6 +92,7 @@ not_open n (x ∷ xs) zero f z e = ap (has_this_open n) (sym e) ∙ (or-false (h
 
 -- The engine answers.
 
+-- an engine that answers stands for the same disk
 pub answered_stands : (reply : ℤ) (e : Files) (base : List ℕ) → Stands e base base → Stands (answered reply e) base base
 answered_stands reply e base s = record {
   clean = s.clean;
@@ -110,6 +117,7 @@ device_set e base disk d x s h mine c =
     (λ other. subst P (sym (get_or-set_other e.devices d c x None other)) (s.device c))
     (cases_eq c d)
 
+-- devices are apart if the new one is apart from the others
 pub apart_set : (e : Files) (base disk : List ℕ) (d : ℕ) (x : Option OpenFile) → Stands e base disk → d < 6
     → ((c : ℕ) → c ≢ d → AreApart (device_at e c) x × AreApart x (device_at e c)) → (b c : ℕ) → b ≢ c
     → AreApart (device_at (with_device d x e) b) (device_at (with_device d x e) c)
@@ -132,6 +140,7 @@ apart_set e base disk d x s h mine b c ne =
     (cases_eq c d))
     (cases_eq b d)
 
+-- an engine that answers, and one of whose devices is another
 pub set_stands : (reply : ℤ) (e : Files) (base : List ℕ) (d : ℕ) (x : Option OpenFile) → Stands e base base → d < 6 → IsDevice base x
     → ((c : ℕ) → c ≢ d → AreApart (device_at e c) x × AreApart x (device_at e c)) → Stands (answered reply (with_device d x e)) base base
 set_stands reply e base d x s h mine away = record {
@@ -146,6 +155,7 @@ set_stands reply e base d x s h mine away = record {
   hand = refl;
 }
 
+-- nothing open is apart from all
 pub apart_none : (o : Option OpenFile) → AreApart o None × AreApart None o
 apart_none None = (tt, tt)
 apart_none (Some f) = (tt, tt)

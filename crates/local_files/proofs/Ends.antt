@@ -117,6 +117,7 @@ record IsHeld (e : Files) (base : List ℕ) (d : ℕ) (f : OpenFile) : Type 0 wh
   used : entry_is_used (entry_at base e.slot) ≡ true
   named : (seen f).name ≡ bare_name (entry_at base e.slot).name
 
+-- the device has the file that is in hand
 held_file_is : (e : Files) (base disk : List ℕ) (d : ℕ) (f : OpenFile) → Stands e base disk → device_at e d ≡ Some f → e.slot ≡ f.slot
     → IsHeld e base d f
 held_file_is e base disk d f s at slot =

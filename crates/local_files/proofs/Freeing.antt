@@ -101,6 +101,7 @@ pub record IsStanding (e : Files) (base disk : List ℕ) : Type 0 where
   pub device : (d : ℕ) → IsDevice base (device_at e d)
   pub apart : (c d : ℕ) → c ≢ d → AreApart (device_at e c) (device_at e d)
 
+-- an engine that stands for a disk has it
 pub standing : (e : Files) (base disk : List ℕ) → Stands e base disk → IsStanding e base disk
 standing e base disk s = record {
   clean = s.clean;

@@ -38,6 +38,7 @@ record Passed (e : Files) (d slot : ℕ) (base : List ℕ) : Type 0 where
   none : (k : ℕ) → k < 13 * (d + 1) → is_this (name_of e.call) (entry_at base k) ≡ false
   free : IsFreeSlot base (13 * (d + 1)) slot
 
+-- one more block does not have the name
 passed : (e : Files) (d slot : ℕ) (name base : List ℕ) (es : List Entry) → IsSearch e d base base → name ≡ name_of e.call
     → ((k : ℕ) → k < 13 → slice_index_or es k void_entry ≡ entry_at base (13 * d + k))
     → ((k : ℕ) → k < 13 → is_this name (slice_index_or es k void_entry) ≡ false) → IsNoted d e.slot slot es → Passed e d slot base

@@ -62,6 +62,7 @@ pub record IsPiece (e : Files) (q : ℕ) : Type 0 where
   pub next_at : at_byte (put_done e) ≡ q + piece e
   pub size : (put_done e).entry.size ≡ max e.entry.size (q + piece e)
 
+-- what a piece is
 pub piece_is : (e : Files) (base disk : List ℕ) (p : Places) → IsStanding e base disk → (u : IsPutting e base disk p) → e.done < e.total
     → IsPiece e (e.position + e.done)
 piece_is e base disk p s u left =

@@ -44,9 +44,11 @@ put_kept e ph ix a r b base disk p u = record {
   middle = u.middle;
 }
 
+-- the index block that a call is at, with other fields of the engine
 abbrev pub at_kept : (e : Files) (ph : Phase) (b : List ℕ) (p : Places) → IsAt e p → IsAt (record e { phase = ph; block = b }) p
 at_kept e ph b p c = record { below = c.below; at = c.at; index = c.index }
 
+-- a call that goes on, with other fields of the engine
 abbrev pub ready_kept : (e : Files) (ph : Phase) (b base disk : List ℕ) → IsReady e base disk
     → IsReady (record e { phase = ph; block = b }) base disk
 ready_kept e ph b base disk r = record {
@@ -64,6 +66,7 @@ pub ends_is : (e : Files) → at_end e ≡ true → (at_byte e ≡ e.entry.size)
 ends_is e t = let two = and-true (nat_eq (at_byte e) e.entry.size) (at_byte e % 512 == 0) t in let a = two.0 in let b = two.1 in
     ((grind (arith, nat_tests)), (grind (arith, nat_tests)))
 
+-- at the size, but within a block
 not_ends : (e : Files) → at_end e ≡ false → at_byte e ≡ e.entry.size → at_byte e % 512 ≢ 0
 not_ends e t same z =
     let a : nat_eq (at_byte e) e.entry.size ≡ true = grind (arith, nat_tests) in
@@ -82,9 +85,11 @@ inside_is e base disk p s u t =
     omega (arith, same, n, r)))
     (cases_lt (at_byte e) e.entry.size)
 
+-- the index block of bytes within the file
 pub target_in : (e : Files) → at_end e ≡ false → target e ≡ at_byte e / 8192
 target_in e t = ap (λ v. if v && nat_lt 0 (at_byte e) then (at_byte e - 1) / 8192 else at_byte e / 8192) t
 
+-- the index block of bytes at the end
 pub target_end : (e : Files) → at_end e ≡ true → 0 < at_byte e → target e ≡ (at_byte e - 1) / 8192
 target_end e t h = let a : nat_lt 0 (at_byte e) ≡ true = grind (arith, nat_tests) in
     ap (λ v. if v && nat_lt 0 (at_byte e) then (at_byte e - 1) / 8192 else at_byte e / 8192) t

@@ -36,6 +36,7 @@ pub record IsReadCall (call : FileCall) (d n : ℕ) (sys : FileSystem) : Type 0 
   end : (f : systems.OpenFile) → systems.open_at sys d ≡ Some f → f.may_read ≡ true → 0 < n → length (systems.open_bytes f sys) ≤ f.position
       → model.file_effect (engine.call_of call []) [] sys ≡ replies (negsuc 1) sys
 
+-- `read` that gives no byte
 read_call : (d n : ℕ) (sys : FileSystem) → IsReadCall (Read d n) d n sys
 read_call d n sys = record {
   named = refl;
@@ -59,6 +60,7 @@ read_call d n sys = record {
     rest : systems.OpenFile → FileEffect
     rest f = if n == 0 then replies (pos 0) sys else late f
 
+-- `getc` that gives no byte
 getc_call : (d : ℕ) (sys : FileSystem) → IsReadCall (Getc d) d 1 sys
 getc_call d sys = record {
   named = refl;
@@ -159,6 +161,7 @@ begin_read_goes e e' call d n disk c most new s = subst (λ x.
             (subst B (no_bytes call (put_bytes start) (omega (arith, some, count)))
             (walking_goes start (f.position / 8192) f.entry.first disk st reading_is (omega arith) first))
 
+-- `read`
 pub read_goes : (e e' : Files) (call : FileCall) (d n : ℕ) (disk : List ℕ) → call ≡ Read d n → IsCall call
     → e' ≡ reading_at (device_at e d) n (Read d n) e → Stands e disk disk → GoesTo e'.phase call (given_bytes call []) e e' disk disk
 read_goes e e' call d n disk is right new s =
@@ -167,6 +170,7 @@ read_goes e e' call d n disk is right new s =
     subst B (sym (ap (λ k. given_bytes k []) is))
     (subst P (sym is) (begin_read_goes e e' (Read d n) d n disk (read_call d n (system e disk)) (subst IsCall is right) new s))
 
+-- `getc`
 pub getc_goes : (e e' : Files) (call : FileCall) (d : ℕ) (disk : List ℕ) → call ≡ Getc d → e' ≡ reading_at (device_at e d) 1 (Getc d) e
     → Stands e disk disk → GoesTo e'.phase call (given_bytes call []) e e' disk disk
 getc_goes e e' call d disk is new s =

@@ -43,6 +43,7 @@ pub record Opening (e : Files) (name : List ℕ) (mode : OpenMode) (base : List 
   pub right : IsCall (Open name mode)
   pub look : MayLook (Open name mode) (system e base)
 
+-- the call in hand opens
 pub opening_of : (e : Files) (name : List ℕ) (mode : OpenMode) (d : ℕ) (base disk : List ℕ) → e.call ≡ Open name mode → IsSearch e d base disk
     → Opening e name mode base
 opening_of e name mode d base disk is h =

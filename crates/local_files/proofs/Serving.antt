@@ -37,11 +37,13 @@ none_given (Seek x y) h = refl
 none_given (Truncate x) h = refl
 none_given (Size x) h = refl
 
+-- a call without bytes of its own, whatever bytes it is given
 pub given_goes : (e e' : Files) (call : FileCall) (bytes base disk : List ℕ) → is_write call ≡ false
     → GoesTo e'.phase call [] e e' base disk → GoesTo e'.phase call (given_bytes call bytes) e e' base disk
 given_goes e e' call bytes base disk h g =
     let P : List ℕ → Type 0 = λ b. GoesTo e'.phase call b e e' base disk in subst P (sym (none_given call h) ∙ given_same call [] bytes h) g
 
+-- the same, where it is said with none
 pub other_goes : (e e' : Files) (call : FileCall) (bytes base disk : List ℕ) → is_write call ≡ false
     → GoesTo e'.phase call (given_bytes call []) e e' base disk → GoesTo e'.phase call (given_bytes call bytes) e e' base disk
 other_goes e e' call bytes base disk h g =

@@ -44,6 +44,7 @@ record IsPutCall (call : FileCall) (d : ℕ) (bytes : List ℕ) (sys : FileSyste
   refused : (f : systems.OpenFile) → systems.open_at sys d ≡ Some f → f.may_write ≡ false
       → model.file_effect (engine.call_of call (given_bytes call bytes)) (given_bytes call bytes) sys ≡ refused_effect sys
 
+-- `write` that puts no byte
 write_call : (d : ℕ) (bytes : List ℕ) (sys : FileSystem) → IsPutCall (Write d) d bytes sys
 write_call d bytes sys = record {
   named = refl;
@@ -59,6 +60,7 @@ write_call d bytes sys = record {
       devices = slice_set sys.devices d (Some (record f { position = f.position + length (take (fitting f bytes sys) bytes) }));
     })
 
+-- `putc` that puts no byte
 putc_call : (d b : ℕ) (sys : FileSystem) → IsPutCall (Putc d b) d (b ∷ []) sys
 putc_call d b sys = record {
   named = refl;
@@ -294,6 +296,7 @@ truncate_goes e d disk s = by_device (device_at e d) refl
     )
     by_device (Some f) at = in_file f at
 
+-- the same of what the code leaves
 pub begin_truncate_goes : (e e' : Files) (call : FileCall) (d : ℕ) (disk : List ℕ) → call ≡ Truncate d
     → e' ≡ truncating_at (device_at e d) d (Truncate d) e → Stands e disk disk → GoesTo e'.phase call [] e e' disk disk
 begin_truncate_goes e e' call d disk is new s =

@@ -14,11 +14,13 @@ use Rattle.local_files.specs.declared.Files.{Files}
 abbrev pub held_file : OpenFile → FileCall → Files → Files
 held_file f call e = record e { call = call; slot = f.slot; entry = f.entry; phase = Counts }
 
+-- a file is to be cut to nothing: refused unless it may be written
 abbrev pub truncating : OpenFile → ℕ → FileCall → Files → Files
 truncating f d call e =
     if not f.write then answered (negsuc 0) e
     else (if f.entry.size == 0 then answered (pos 0) (moved_to (device_at e d) d 0 e) else held_file f call e)
 
+-- the same of a device, if it has something open
 abbrev pub truncating_at : Option OpenFile → ℕ → FileCall → Files → Files
 truncating_at None d call e = answered (negsuc 0) e
 truncating_at (Some f) d call e = truncating f d call e
@@ -47,9 +49,11 @@ cutting entry e =
 abbrev pub freed_index : Index → Files → Index
 freed_index index e = record index { next = e.header.free_index }
 
+-- an index block was read
 abbrev pub cut_read : Index → List ℕ → Files → Files
 cut_read index block e = record e { index = index; block = block; phase = CutWrite }
 
+-- it is written: it is the first free one
 abbrev pub cut_written : Files → Files
 cut_written e = record e { header = record e.header { free_index = e.at }; reached = (e.reached + 1) % 4294967296; row = 0 }
 
@@ -57,6 +61,7 @@ cut_written e = record e { header = record e.header { free_index = e.at }; reach
 abbrev pub word_block : ℕ → List ℕ
 word_block word = little_bytes 4 word ++ replicate 508 0
 
+-- a data block is to be freed, if there is such a block
 abbrev pub freeing : ℕ → Files → Files
 freeing b e = if nat_lt b e.blocks then record e { block = word_block e.header.free_data; phase = FreeWrite b } else answered (negsuc 0) e
 
@@ -66,5 +71,6 @@ free_next e =
     if nat_lt e.row 16 && not (slice_index e.index.blocks (e.row % 16) == null) then freeing (slice_index e.index.blocks (e.row % 16)) e
     else (if not (e.index.next == null) then cut_at (record e { at = e.index.next }) else end_cut e)
 
+-- it is written: it is the first free one
 abbrev pub free_written : ℕ → Files → Files
 free_written b e = record e { header = record e.header { free_data = b }; row = (e.row + 1) % 4294967296 }

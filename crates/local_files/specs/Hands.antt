@@ -201,6 +201,7 @@ pub record IsMade (e : Files) (base made : List ℕ) : Type 0 where
 abbrev pub IsEntryBlock : Files → List ℕ → List ℕ → Type 0
 IsEntryBlock e disk eb = IsDirBlock (dir_with_entry (dir_of (block_in disk (e.slot / 13))) (e.slot % 13) e.entry) eb
 
+-- and so with its counts
 abbrev pub IsHeaderBlock : Files → List ℕ → List ℕ → Type 0
 IsHeaderBlock e disk hb = IsDirBlock (dir_with_header (dir_of (block_in disk 0)) e.header) hb
 

@@ -18,6 +18,7 @@ use Rattle.local_files.specs.declared.Files.{Files}
 abbrev pub opening : ℕ → Entry → OpenMode → OpenFile
 opening slot entry mode = record { slot = slot; entry = entry; position = 0; read = reads mode; write = writes mode }
 
+-- the lowest free device gets an entry
 abbrev pub opened : ℕ → Entry → OpenMode → Files → Files
 opened slot entry mode e = answered (pos (4 + lowest_free e)) (with_device (lowest_free e) (Some (opening slot entry mode)) e)
 
@@ -25,19 +26,23 @@ opened slot entry mode e = answered (pos (4 + lowest_free e)) (with_device (lowe
 abbrev pub opening_at : ℕ → Entry → OpenMode → Files → Files
 opening_at slot entry mode e = if nat_lt (lowest_free e) 6 then opened slot entry mode e else answered (negsuc 0) e
 
+-- `close` of a device
 abbrev pub closing : Option OpenFile → ℕ → Files → Files
 closing None d e = answered (negsuc 0) e
 closing (Some f) d e = answered (pos 0) (with_device d None e)
 
+-- `seek` in an open file
 abbrev pub seeking_in : OpenFile → ℕ → ℤ → Files → Files
 seeking_in f d (negsuc n) e = answered (negsuc 0) e
 seeking_in f d (pos n) e = if nat_lt f.entry.size n then answered (negsuc 0) e else answered (pos 0)
     (with_device d (Some (record f { position = n })) e)
 
+-- `seek` of a device
 abbrev pub seeking : Option OpenFile → ℕ → ℤ → Files → Files
 seeking None d n e = answered (negsuc 0) e
 seeking (Some f) d n e = seeking_in f d n e
 
+-- the size of what a device has open
 abbrev pub sizing : Option OpenFile → Files → Files
 sizing None e = answered (negsuc 0) e
 sizing (Some f) e = answered (counted f.entry.size) e
@@ -46,9 +51,11 @@ sizing (Some f) e = answered (counted f.entry.size) e
 abbrev pub looking : FileCall → Files → Files
 looking call e = record e { call = call; slot = 78; phase = Search 0 }
 
+-- an open begins: refused if the file is open or no device is free
 abbrev pub beginning : Bool → FileCall → Files → Files
 beginning is_open call e = if is_open || nat_le 6 (lowest_free e) then answered (negsuc 0) e else looking call e
 
+-- a deletion begins: refused if the file is open
 abbrev pub deleting : Bool → FileCall → Files → Files
 deleting is_open call e = if is_open then answered (negsuc 0) e else looking call e
 

@@ -25,6 +25,7 @@ writing f bytes call e =
       reached = 0;
     })
 
+-- the same of a device, if it has something open
 abbrev pub writing_at : Option OpenFile → List ℕ → FileCall → Files → Files
 writing_at None bytes call e = answered (negsuc 0) e
 writing_at (Some f) bytes call e = writing f bytes call e
@@ -45,6 +46,7 @@ target e = if at_end e && nat_lt 0 (at_byte e) then (at_byte e - 1) / 8192 else 
 abbrev pub reaching : ℕ → ℕ → Files → Files
 reaching rest at e = if nat_lt (6 + at / 7) e.blocks then record e { phase = Reach rest at } else answered (negsuc 0) e
 
+-- goes on to the index block that is needed
 abbrev pub reach_to : Files → Files
 reach_to e = if e.reached == 0 then reaching (target e) e.entry.first e else reaching 0 e.index.next e
 
@@ -109,6 +111,7 @@ take_written b e = if at_byte e % 8192 == 0 then newing b e.header.free_index e 
 abbrev pub added_index : ℕ → Files → Index
 added_index b e = record e.index { blocks = slice_set e.index.blocks (at_byte e / 512 % 16) b }
 
+-- the last index block was read
 abbrev pub add_read : ℕ → List ℕ → Files → Files
 add_read b block e = record e { block = block; phase = AddWrite b }
 
@@ -120,6 +123,7 @@ with_index index e = record e { index = index }
 abbrev pub fresh_index : ℕ → Files → Index
 fresh_index b e = record { next = null; offset = at_byte e; blocks = slice_set (replicate 16 null) 0 b }
 
+-- a free index block was read
 abbrev pub new_read : ℕ → ℕ → Index → List ℕ → Files → Files
 new_read b i old block e = record e { header = record e.header { free_index = old.next }; block = block; phase = NewWrite b i }
 
@@ -127,6 +131,7 @@ new_read b i old block e = record e { header = record e.header { free_index = ol
 abbrev pub followed : ℕ → ℕ → Files → Files
 followed b i e = record e { index = fresh_index b e; at = i; reached = (e.reached + 1) % 4294967296 }
 
+-- it is written: it is the first of the file, or the last one is to name it
 abbrev pub new_written : ℕ → ℕ → Files → Files
 new_written b i e =
     if at_byte e == 0 then next_put (put_done (followed b i (record e { entry = record e.entry { first = i } }))) else record e {
@@ -138,5 +143,6 @@ new_written b i e =
 abbrev pub linked_index : ℕ → Index → Index
 linked_index i index = record index { next = i }
 
+-- the last index block was read
 abbrev pub link_read : ℕ → ℕ → List ℕ → Files → Files
 link_read b i block e = record e { block = block; phase = LinkWrite b i }

@@ -112,6 +112,7 @@ wanted_in EntryWrite e = Some (work.Write (e.slot / 13))
 wanted_in HeaderRead e = Some (work.Read 0)
 wanted_in HeaderWrite e = Some (work.Write 0)
 
+-- the same of the engine
 abbrev pub wanted : Files → Option BlockWork
 wanted e = wanted_in e.phase e
 
@@ -120,6 +121,7 @@ abbrev pub served_by : Option BlockWork → List ℕ → List ℕ → List ℕ
 served_by (Some (work.Write n)) block disk = block_put disk n block
 served_by _ block disk = disk
 
+-- the same of the engine
 abbrev pub served : Files → List ℕ → List ℕ
 served e disk = served_by (wanted e) e.block disk
 
@@ -128,6 +130,7 @@ abbrev pub IsHonestFor : Option BlockWork → List ℕ → List ℕ → Type 0
 IsHonestFor (Some (work.Read n)) read disk = read ≡ block_in disk n
 IsHonestFor _ read disk = Unit {0}
 
+-- the same of the engine
 abbrev pub IsHonest : Files → List ℕ → List ℕ → Type 0
 IsHonest e read disk = IsHonestFor (wanted e) read disk
 

@@ -85,14 +85,17 @@ abbrev pub is_getc : FileCall → Bool
 is_getc (Getc d) = true
 is_getc _ = false
 
+-- whether it is a write
 abbrev pub is_write : FileCall → Bool
 is_write (Write d) = true
 is_write _ = false
 
+-- whether it truncates
 abbrev pub is_truncate : FileCall → Bool
 is_truncate (Truncate d) = true
 is_truncate _ = false
 
+-- whether it deletes
 abbrev pub is_delete : FileCall → Bool
 is_delete (Delete name) = true
 is_delete _ = false
@@ -102,5 +105,6 @@ abbrev pub or_none : Option ℕ → ℕ
 or_none None = 6
 or_none (Some d) = d
 
+-- the device of a call; 6 if it names none
 abbrev pub device_of : FileCall → ℕ
 device_of call = or_none (named_device call)

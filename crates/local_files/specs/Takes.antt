@@ -29,6 +29,7 @@ reading f n call e =
       done = 0;
     })))
 
+-- the same of a device, if it has something open
 abbrev pub reading_at : Option OpenFile → ℕ → FileCall → Files → Files
 reading_at None n call e = answered (negsuc 0) e
 reading_at (Some f) n call e = reading f n call e
@@ -56,9 +57,11 @@ given_all e = if is_getc e.call then answered (pos (slice_index e.buffer 0)) e e
   given = e.total;
 }
 
+-- all bytes are read: the position of the device is after them
 abbrev pub finished_at : ℕ → Files → Files
 finished_at d e = given_all (moved_to (device_at e d) d (at_byte e) e)
 
+-- the same of the device that the call names
 abbrev pub finished_read : Option ℕ → Files → Files
 finished_read None e = answered (negsuc 0) e
 finished_read (Some d) e = finished_at d e
@@ -67,5 +70,6 @@ finished_read (Some d) e = finished_at d e
 abbrev pub read_on : Files → Files
 read_on e = if nat_le e.total e.done then finished_read (named_device e.call) e else next_fetch e
 
+-- a data block was read
 abbrev pub fetched : List ℕ → Files → Files
 fetched block e = read_on (with_taken block e)
