@@ -15,7 +15,7 @@
 //!
 //! The contract is one relation, `Stands files base disk` in `specs/Standing`: `base` is the disk as it was when the call in hand began,
 //! and the files of the abstract machine are those of `base` until the call is done. Each number that is read off a disk is tested before
-//! it is used, so a disk that isn't as promised ends a call with -1. The crate depends on `file_laws`, and on the crates below that.
+//! it is used. The crate depends on `file_laws`, and on the crates below that.
 #![tactic(auto)]
 
 mod buffer;
