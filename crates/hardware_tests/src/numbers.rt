@@ -56,12 +56,16 @@ fn calls_have_names(rt: HostRuntime) {
             (name, args),
         );
     }
-    let calls = [is_built(1), is_built(43), is_built(44)];
-    let devices = [is_built_device(0), is_built_device(2)];
+    let calls = [is_built(1), is_built(44), is_built(45)];
+    let devices = [
+        is_built_device(0),
+        is_built_device(1),
+        is_built_device(2),
+    ];
     same(
         &rt,
         "built",
         (calls, devices),
-        ([true, true, false], [true, false]),
+        ([true, true, false], [true, false, true]),
     );
 }

@@ -81,15 +81,15 @@ args_of number = (syscall_in syscalls number).args
 abbrev pub built : List ℕ
 built =
     1 ∷ 2 ∷ 3 ∷ 4 ∷ 5 ∷ 6 ∷ 7 ∷ 8 ∷ 9 ∷ 10 ∷ 11 ∷ 12 ∷ 13 ∷ 14 ∷ 15 ∷ 16 ∷ 17 ∷ 18 ∷ 19 ∷ 20 ∷ 21 ∷ 22 ∷ 23 ∷ 24 ∷ 25 ∷ 26 ∷ 27 ∷ 28 ∷ 29 ∷ 30 ∷
-    31 ∷ 32 ∷ 33 ∷ 34 ∷ 35 ∷ 36 ∷ 37 ∷ 38 ∷ 39 ∷ 40 ∷ 41 ∷ 42 ∷ 43 ∷ []
+    31 ∷ 32 ∷ 33 ∷ 34 ∷ 35 ∷ 36 ∷ 37 ∷ 38 ∷ 39 ∷ 40 ∷ 41 ∷ 42 ∷ 43 ∷ 44 ∷ []
 
 -- whether the kernel has the call of this number
 abbrev pub is_built : ℕ → Bool
 is_built number = list_any (λ n. number == n) built
 
--- the devices that the machine has so far: the console
+-- the devices that the machine has so far: the console and the raw disk
 abbrev pub built_devices : List ℕ
-built_devices = 0 ∷ []
+built_devices = 0 ∷ 2 ∷ []
 
 -- whether the machine has the device of this number
 abbrev pub is_built_device : ℕ → Bool

@@ -29,14 +29,14 @@ pub enum Next {
 pub fn is_built(number: u32) -> bool
     ensures { result ≡ syscalls.is_built number }
 {
-    matches!(number, 1..=43)
+    matches!(number, 1..=44)
 }
 
 /// Whether the machine has the device of this number.
 pub fn is_built_device(dev: u32) -> bool
     ensures { result ≡ syscalls.is_built_device dev }
 {
-    dev == 0
+    matches!(dev, 0 | 2)
 }
 
 /// The name of the call of this number, and `unknown` for a number that has none.

@@ -1,8 +1,8 @@
 -- Each event keeps each address claimed at most once, unless it gives away what is held.
-use Rattle.std.proofs.Common.{◌≡◌, ◌≢◌, ℕ, ◌<◌, ◌≤◌, ◌==◌, true, false, cond, List, [], ◌∷◌, Option, Some, None, refl, sym, ap, subst, ◌∙◌, arith, ⊎_elim, get_or-set_same}
+use Rattle.std.proofs.Common.{◌≡◌, ◌≢◌, ℕ, ◌<◌, ◌≤◌, ◌==◌, Bool, true, false, cond, List, [], ◌∷◌, Option, Some, None, refl, sym, ap, subst, ◌∙◌, arith, ⊎_elim, get_or-set_same}
 use Rattle.std.proofs.lemmas.Bool.{cond_both, cases_lt, eqb-false}
 use Rattle.xinu_base.specs.declared.events.Event.{Event}
-use Rattle.xinu_base.specs.declared.events.Event.TheVariants.{Step, Tick, Key, Tx}
+use Rattle.xinu_base.specs.declared.events.Event.TheVariants.{Step, Tick, Key, Tx, Disk0, Fail0}
 use Rattle.xinu_base.specs.declared.lines.TranscriptLine.{TranscriptLine}
 use Rattle.xinu_base.specs.declared.lines.TranscriptLine.TheVariants as line
 use Rattle.xinu_base.specs.declared.processes.Rest.{Rest}
@@ -20,6 +20,8 @@ use Rattle.xinu_model.specs.Events.{call_of, call_line, exit_call, with_executed
 use Rattle.xinu_laws.specs.Ownership.GivingAway.{next, gives_back, GivesAway}
 use Rattle.xinu_model.specs.Machine.{Xinu, no_hart, current_hart, CallResult, EventResult, nothing_happens, end_of_event}
 use Rattle.xinu_model.specs.Process.Death.{exit}
+use Rattle.xinu_model.specs.RawDisk.Calls.{disk_of, after_served, serving, served_in, disk_completes}
+use Rattle.xinu_model.specs.RawDisk.Completions.{Served, raw_completed}
 use Rattle.xinu_model.specs.Sound.State.{IsSound}
 use Rattle.xinu_model.specs.Tables.{process_at}
 use Rattle.xinu_laws.proofs.Consoles.Kept.{sound_holds}
@@ -32,7 +34,9 @@ use Rattle.xinu_laws.specs.Preserve.{MayCallAny, KeepsAll}
 use Rattle.xinu_laws.specs.Touches.{reach, at_a_tick, touched_by, KeepsPlaces, Touches}
 use Rattle.xinu_laws.proofs.Ownership.Table.{names_places, places_stay, called_apart}
 use Rattle.xinu_laws.proofs.Preserve.Calls.{sound_where_called, inside_preserved, replies_alive, called_keeps, exit_keeps, continued_keeps}
-use Rattle.xinu_laws.proofs.Preserve.Events.{may_call, may_call_after, receiving_keeps, sending_keeps}
+use Rattle.xinu_laws.proofs.Preserve.Events.{may_call, may_call_after, receiving_keeps, sending_keeps, served_keeps_all}
+use Rattle.xinu_laws.proofs.RawDisks.Completed.{served_completes}
+use Rattle.xinu_laws.proofs.RawDisks.Framed.{disks_in}
 use Rattle.xinu_laws.proofs.Touches.Continued.{continued_touches}
 use Rattle.xinu_laws.proofs.Touches.Events.{touches_end_of_event, touches_ticked}
 use Rattle.xinu_laws.proofs.Touches.Kept.{keeps_places}
@@ -68,6 +72,18 @@ kept_sent (Some sent) s e sound =
 
 pub kept_transmits : (s : Xinu) → IsSound s → KeepsPlaces s (transmits s).state
 kept_transmits s sound = kept_sent (transmitted (console_of s)) s refl sound
+
+-- a completion of the raw disk,
+kept_served : (good : Bool) (found : Option Served) (s : Xinu) → raw_completed good (disk_of s) ≡ found → IsSound s
+    → KeepsPlaces s (served_in found s).state
+kept_served good None s e sound = record { heap = refl; ranges = refl; stacks = refl }
+kept_served good (Some x) s e sound =
+    let r = served_completes good x s e (sound_holds s sound) (disks_in sound.devices) in
+    kept_both (keeps_places r.touches refl refl refl)
+    (kept_end_of_event s.tables.current [] (serving x s) (served_keeps_all s (after_served x s) sound r))
+
+pub kept_completed : (good : Bool) (s : Xinu) → IsSound s → KeepsPlaces s (disk_completes good s).state
+kept_completed good s sound = kept_served good (raw_completed good (disk_of s)) s refl sound
 
 -- and a call that goes on.
 places_spared : (left : Rest) → names_places (touched_by left) ≡ false
@@ -177,6 +193,8 @@ apart_effect s Step choice sound apart =
 apart_effect s Tick choice sound apart = λ _. apart_kept (kept_ticked s sound) apart
 apart_effect s (Key b) choice sound apart = λ _. apart_kept (kept_keyed b s sound) apart
 apart_effect s Tx choice sound apart = λ _. apart_kept (kept_transmits s sound) apart
+apart_effect s Disk0 choice sound apart = λ _. apart_kept (kept_completed true s sound) apart
+apart_effect s Fail0 choice sound apart = λ _. apart_kept (kept_completed false s sound) apart
 apart_effect s _ choice sound apart = λ _. apart
 
 -- Each event keeps each address claimed at most once, unless it gives away what is held.

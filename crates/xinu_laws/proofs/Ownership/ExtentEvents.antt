@@ -1,8 +1,8 @@
 -- Each event leaves the heap where it begins, with as many cells as it has.
-use Rattle.std.proofs.Common.{◌≡◌, refl, false, ℕ, ◌==◌, cond, List, [], Option, Some, None, ap, subst}
+use Rattle.std.proofs.Common.{◌≡◌, refl, false, ℕ, ◌==◌, Bool, true, cond, List, [], Option, Some, None, ap, subst}
 use Rattle.std.proofs.lemmas.Bool.{cond_both, eqb-false}
 use Rattle.xinu_base.specs.declared.events.Event.{Event}
-use Rattle.xinu_base.specs.declared.events.Event.TheVariants.{Step, Tick, Key, Tx}
+use Rattle.xinu_base.specs.declared.events.Event.TheVariants.{Step, Tick, Key, Tx, Disk0, Fail0}
 use Rattle.xinu_base.specs.declared.lines.TranscriptLine.{TranscriptLine}
 use Rattle.xinu_base.specs.declared.registers.Outcome.{Outcome}
 use Rattle.xinu_base.specs.declared.registers.Outcome.TheVariants as outcome
@@ -15,6 +15,8 @@ use Rattle.xinu_model.specs.Events.{call_of, with_executed, reacted, instruction
 use Rattle.xinu_laws.proofs.FileSyscalls.AtOnce.{step_holds}
 use Rattle.xinu_laws.specs.Ownership.GivingAway.{next}
 use Rattle.xinu_model.specs.Machine.{Xinu, current_hart, EventResult, nothing_happens, end_of_event}
+use Rattle.xinu_model.specs.RawDisk.Calls.{disk_of, served_in}
+use Rattle.xinu_model.specs.RawDisk.Completions.{Served, raw_completed}
 use Rattle.xinu_model.specs.Sound.State.{IsSound}
 use Rattle.xinu_model.specs.Tables.{process_at}
 use Rattle.xinu_laws.specs.Touches.{at_a_tick, HasSameExtent, Touches}
@@ -23,6 +25,8 @@ use Rattle.xinu_laws.proofs.Consoles.Signalled.{receiving_signals, sending_signa
 use Rattle.xinu_laws.proofs.HeapCells.Extent.{same_extent}
 use Rattle.xinu_laws.proofs.Preserve.Calls.{sound_where_called}
 use Rattle.xinu_laws.proofs.Preserve.Events.{may_call, may_call_after}
+use Rattle.xinu_laws.proofs.RawDisks.Completed.{served_completes}
+use Rattle.xinu_laws.proofs.RawDisks.Framed.{disks_in}
 use Rattle.xinu_laws.proofs.Touches.Continued.{continued_touches}
 use Rattle.xinu_laws.proofs.Touches.Events.{touches_ticked}
 use Rattle.xinu_laws.proofs.Touches.Processes.{exit_touches}
@@ -62,6 +66,12 @@ extent_sent : (found : Option Sent) (s : Xinu) → transmitted (console_of s) �
 extent_sent None s e k = same_extent s.parts.heap
 extent_sent (Some sent) s e k = (sending_signals sent s e (sound_holds s k)).touches.parts.extent
 
+-- a completion of the raw disk
+extent_served : (good : Bool) (found : Option Served) (s : Xinu) → raw_completed good (disk_of s) ≡ found → IsSound s
+    → HaveSameExtent s (served_in found s).state
+extent_served good None s e k = same_extent s.parts.heap
+extent_served good (Some x) s e k = (served_completes good x s e (sound_holds s k) (disks_in k.devices)).touches.parts.extent
+
 -- what an event leaves, whatever is chosen in it
 extent_effect_of : (s : Xinu) (e : Event) (choice : ℕ) → IsSound s → HaveSameExtent s (effect_of s e choice).state
 extent_effect_of s Step choice k =
@@ -70,6 +80,8 @@ extent_effect_of s Step choice k =
 extent_effect_of s Tick choice k = let touches : Touches at_a_tick s (ticked s).state = touches_ticked {f = at_a_tick} refl s k.tables in touches.parts.extent
 extent_effect_of s (Key b) choice k = (receiving_signals b s (sound_holds s k)).touches.parts.extent
 extent_effect_of s Tx choice k = extent_sent (transmitted (console_of s)) s refl k
+extent_effect_of s Disk0 choice k = extent_served true (raw_completed true (disk_of s)) s refl k
+extent_effect_of s Fail0 choice k = extent_served false (raw_completed false (disk_of s)) s refl k
 extent_effect_of s _ choice k = same_extent s.parts.heap
 
 -- Each event leaves the heap where it begins, with as many cells as it has.

@@ -1,9 +1,9 @@
 -- What more pools and stacks have after a call or an event than before it was free before it: only those calls that touch stacks or ranges are
 -- to be looked at.
-use Rattle.std.proofs.Common.{◌≢◌, ℕ, ◌==◌, Bool, ◌||◌, cond, List, [], ◌∷◌, ap, subst, arith}
+use Rattle.std.proofs.Common.{◌≢◌, ℕ, ◌==◌, Bool, true, false, ◌||◌, cond, List, [], ◌∷◌, ap, subst, arith}
 use Rattle.std.proofs.lemmas.Bool.{cond_both, eqb-false, or_parts}
 use Rattle.xinu_base.specs.declared.events.Event.{Event}
-use Rattle.xinu_base.specs.declared.events.Event.TheVariants.{Step, Tick, Key, Tx}
+use Rattle.xinu_base.specs.declared.events.Event.TheVariants.{Step, Tick, Key, Tx, Disk0, Fail0}
 use Rattle.xinu_base.specs.declared.lines.TranscriptLine.{TranscriptLine}
 use Rattle.xinu_base.specs.declared.lines.TranscriptLine.TheVariants as line
 use Rattle.xinu_base.specs.declared.registers.Outcome.{Outcome}
@@ -20,7 +20,7 @@ use Rattle.xinu_model.specs.Sound.State.{IsSound}
 use Rattle.xinu_model.specs.Tables.{process_at}
 use Rattle.xinu_model.specs.Words.{half}
 use Rattle.xinu_laws.proofs.Rows.RowByRow.{◌⨾◌}
-use Rattle.xinu_laws.proofs.Ownership.Events.{kept_continued, kept_end_of_event, kept_executed, kept_keyed, kept_ticked, kept_transmits, may_call_next}
+use Rattle.xinu_laws.proofs.Ownership.Events.{kept_continued, kept_end_of_event, kept_executed, kept_completed, kept_keyed, kept_ticked, kept_transmits, may_call_next}
 use Rattle.xinu_laws.proofs.Ownership.Grants.{gives_after, gives_before, gives_create, gives_exit, gives_kept, gives_kill, gives_mkbufpool, gives_nothing, gives_within}
 use Rattle.xinu_laws.proofs.Preserve.Calls.{called_keeps, continued_keeps, exit_keeps, sound_where_called}
 use Rattle.xinu_laws.proofs.Preserve.Events.{may_call}
@@ -100,6 +100,8 @@ effect_gives s Step choice sound =
 effect_gives s Tick choice sound = gives_kept (kept_ticked s sound)
 effect_gives s (Key b) choice sound = gives_kept (kept_keyed b s sound)
 effect_gives s Tx choice sound = gives_kept (kept_transmits s sound)
+effect_gives s Disk0 choice sound = gives_kept (kept_completed true s sound)
+effect_gives s Fail0 choice sound = gives_kept (kept_completed false s sound)
 effect_gives s _ choice sound = gives_same s
 
 -- Each event.

@@ -158,7 +158,7 @@ state_sent (Some sent) s e k =
     state_end_of_event s.tables.current (line.Con sent.byte ∷ []) (sending sent s) (sending_keeps sent s e k)
 
 -- what serves a request keeps all
-served_keeps_all : (s : Xinu) (d : CallState) → IsSound s → Completes s d → KeepsAll (record { call = d; answer = Silent })
+pub served_keeps_all : (s : Xinu) (d : CallState) → IsSound s → Completes s d → KeepsAll (record { call = d; answer = Silent })
 served_keeps_all s d k r = record {
   preserved = record { tables = r.tables; harts = r.harts; released = r.released };
   unused = keeps_unused (r.touches.free refl) k.unused;

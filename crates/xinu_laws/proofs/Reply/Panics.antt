@@ -31,6 +31,8 @@ use Rattle.xinu_model.specs.Messages.{can_get, held}
 use Rattle.xinu_model.specs.Pools.Buffers.{pool_at, holder}
 use Rattle.xinu_model.specs.Ports.Queues.{most_nodes, port_at, nodes}
 use Rattle.xinu_model.specs.Process.Calls.{is_suspended}
+use Rattle.xinu_model.specs.RawDisk.Calls.{disk_of, served_in}
+use Rattle.xinu_model.specs.RawDisk.Completions.{Served, raw_completed}
 use Rattle.xinu_model.specs.Rows.{CallRow, found_in, done_by}
 use Rattle.xinu_model.specs.Semaphores.Calls.{answers}
 use Rattle.xinu_model.specs.Semaphores.Counts.{is_good}
@@ -181,14 +183,19 @@ sent_in_calm : (sent : Option Sent) (s : Xinu) → (sent_in sent s).panics ≡ f
 sent_in_calm None s = refl
 sent_in_calm (Some sent) s = refl
 
+-- and so is a completion of the raw disk
+served_in_calm : (served : Option Served) (s : Xinu) → (served_in served s).panics ≡ false
+served_in_calm None s = refl
+served_in_calm (Some x) s = refl
+
 -- An event in which the kernel panics is such a step.
 pub event_panics : (old : Xinu) (e : Event) → panics_in old e ≡ true → (e ≡ Step) × FullStep old
 event_panics old Step h = (refl, step_full old h)
 event_panics old Tick h = absurd (cc)
 event_panics old (Key b) h = absurd (cc)
 event_panics old Tx h = let f = sent_in_calm (transmitted (console_of old)) old in absurd (cc)
-event_panics old Disk0 h = absurd (cc)
+event_panics old Disk0 h = let f = served_in_calm (raw_completed true (disk_of old)) old in absurd (cc)
 event_panics old Disk1 h = absurd (cc)
-event_panics old Fail0 h = absurd (cc)
+event_panics old Fail0 h = let f = served_in_calm (raw_completed false (disk_of old)) old in absurd (cc)
 event_panics old Fail1 h = absurd (cc)
 event_panics old Dump h = absurd (cc)
