@@ -1,0 +1,3 @@
+pub mod SoundFiles
+pub mod WholeBlocks
+pub mod Given
