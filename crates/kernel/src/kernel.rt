@@ -3,6 +3,7 @@
 //! It depends on the kernel's state. What each call of the abstract machine keeps is kept true at each moment.
 
 ghost use Rattle.std.specs.Prelude.{ℕ, ◌≡◌, ◌≢◌, ◌<◌, ◌≤◌, length, map, ◌↔◌, IsTrue, [], option_map};
+ghost use Rattle.given_disks.specs.Disks.{disks_of};
 ghost use Rattle.image_loader.specs.Images.{loaded_of};
 ghost use Rattle.io_calls.specs.Consoles.{after_sending};
 ghost use Rattle.kernel.specs.Booted.{Booted};
@@ -25,6 +26,7 @@ ghost use Rattle.xinu_model.specs.Tables.{process_at};
 use image_loader::Image;
 use kernel_boot::{BootFault, boot};
 use kernel_state::KernelState;
+use lfs_layout::{CleanImage, RawImage};
 use rv_hart::Outcome;
 use std::alloc::Global;
 use std::marker::Model;
@@ -52,17 +54,23 @@ impl Model for Kernel {
 }
 
 impl Kernel {
-    /// A kernel that holds the images and is about to run their processes. There are at most eight.
+    /// A kernel that holds the images and is about to run their processes, with the raw disk of one image and the file system of the other.
+    /// There are at most eight images of programs. The images of disks are dropped if it is refused.
     ///
     /// # Errors
     ///
     /// `Overlap` if and only if an image overlaps an earlier one; else `NoRoom` if and only if the heap after the images has no room
     /// for a stack; `NoMemory`.
-    pub fn new(alloc: Global, images: &[Image<'_>]) -> Result<Self, BootFault>
+    pub fn new(
+        alloc: Global,
+        images: &[Image<'_>],
+        disk0: RawImage,
+        disk1: CleanImage,
+    ) -> Result<Self, BootFault>
         requires few { length images.now ≤ 8 }
-        ensures booted { Booted (map loaded_of images.now) result }
+        ensures booted { Booted (disks_of disk0 disk1) (map loaded_of images.now) result }
     {
-        let state = boot(alloc, images)?;
+        let state = boot(alloc, images, disk0, disk1)?;
         Ok(Kernel {
             state,
             answer: None,

@@ -3,6 +3,7 @@
 //! It depends on the kernel's state and the places of images in RAM.
 
 ghost use Rattle.std.specs.Prelude.{◌≡◌, ◌≤◌, ◌<◌, ◌+◌, ℕ, length, map, IfOk, IfSome, IfNone, if◌then◌else◌};
+ghost use Rattle.given_disks.specs.Disks.{disks_of};
 ghost use Rattle.image_loader.specs.Images.{loaded_of};
 ghost use Rattle.kernel_boot.specs.Boots.{BootsAs};
 ghost use Rattle.kernel_state.specs.Results.{IsStart};
@@ -14,10 +15,13 @@ ghost use Rattle.xinu_model.specs.Tables.{state_at};
 
 use crate::memory_map::{end_of_all, first_overlap, load_all};
 use buffer_pools::Pools;
+use disk_driver::Disk;
 use freelist_memory::Heap;
 use image_loader::Image;
 use kernel_state::{Creation, KernelState, Replies, make_on_stack};
 use kernel_tables::KernelTables;
+use lfs_layout::{CleanImage, RawImage};
+use name_space::Names;
 use ports::Ports;
 use process_core::pid_at;
 use rv_hart::{Hart, RAM_SIZE, Ram};
@@ -36,20 +40,26 @@ pub enum BootFault {
     NoMemory,
 }
 
-/// The state in which the images are in RAM and are about to run. There are at most eight.
+/// The state in which the images are in RAM and are about to run, with the raw disk of one image and the file system of the other. There
+/// are at most eight images of programs. The images of disks are dropped if it is refused.
 ///
 /// # Errors
 ///
 /// `Overlap` if and only if an image overlaps an earlier one; else `NoRoom` if and only if the heap after the images has no room
 /// for a stack; `NoMemory`.
-pub fn boot(alloc: Global, images: &[Image<'_>]) -> Result<KernelState, BootFault>
+pub fn boot(
+    alloc: Global,
+    images: &[Image<'_>],
+    disk0: RawImage,
+    disk1: CleanImage,
+) -> Result<KernelState, BootFault>
     requires few { length images.now ≤ 8 }
-    ensures booted { BootsAs (map loaded_of images.now) result }
+    ensures booted { BootsAs (disks_of disk0 disk1) (map loaded_of images.now) result }
 {
     if let Some(number) = first_overlap(images) {
         return Err(BootFault::Overlap(number));
     }
-    let Ok(mut state) = loaded(alloc, images) else {
+    let Ok(mut state) = loaded(alloc, images, disk0, disk1) else {
         return Err(BootFault::NoMemory);
     };
     if let Some(number) = make_all(&mut state, images) {
@@ -60,9 +70,13 @@ pub fn boot(alloc: Global, images: &[Image<'_>]) -> Result<KernelState, BootFaul
 }
 
 // The state in which the images are in RAM, and no process but the null process was made.
-#[tactic(auto, unfolding(kernel_state::specs::Devices::untouched_devices))]
-fn loaded(alloc: Global, images: &[Image<'_>]) -> Result<KernelState, NoMemory>
-    ensures loaded { IfOk result (λ k. k ≡ start (boot.loaded_machine (map loaded_of images.now))) }
+fn loaded(
+    alloc: Global,
+    images: &[Image<'_>],
+    disk0: RawImage,
+    disk1: CleanImage,
+) -> Result<KernelState, NoMemory>
+    ensures loaded { IfOk result (λ k. k ≡ start (boot.on_disks (disks_of disk0 disk1) (boot.loaded_machine (map loaded_of images.now)))) }
 {
     let mut ram = Ram::new(alloc)?;
     load_all(&mut ram, images);
@@ -80,6 +94,9 @@ fn loaded(alloc: Global, images: &[Image<'_>]) -> Result<KernelState, NoMemory>
         pools,
         ports,
         tty,
+        disk: Disk::new(disk0),
+        names: Names::new(),
+        files: disk1,
         replies: Replies::new(),
         owes_resched: false,
     })

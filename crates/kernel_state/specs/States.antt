@@ -1,16 +1,22 @@
 -- What the kernel's state stands for.
-use Rattle.kernel_state.specs.Devices.{untouched_devices}
+use Rattle.kernel_state.specs.Devices.{files_on}
 use Rattle.kernel_state.specs.declared.state.KernelState.TheInside.{Inside}
 use Rattle.xinu_model.specs.Machine.{CallState}
 
--- the state inside an event; of the devices only the console is called
+-- the state inside an event
 abbrev pub kernel_state : Inside → CallState
 kernel_state k = record {
   state = record {
     tables = k.tables;
     harts = k.harts;
     memory = k.ram;
-    parts = record { heap = k.heap; pools = k.pools; ports = k.ports.ports; next_port = k.ports.next_port; devices = record untouched_devices { console = k.tty } };
+    parts = record {
+      heap = k.heap;
+      pools = k.pools;
+      ports = k.ports.ports;
+      next_port = k.ports.next_port;
+      devices = record { console = k.tty; names = k.names; disk = k.disk; files = files_on k.files };
+    };
   };
   released = k.replies.items;
   owes_resched = k.owes_resched;

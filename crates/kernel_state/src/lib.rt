@@ -14,7 +14,8 @@
 //! | [`make_on_stack`] | a new process on a stack of the heap: `where_stack` |
 //! | [`answer_released`], [`owes_after`] | replies to processes that became ready, and whether a resched is owed for them |
 //!
-//! The crate depends on `kernel_tables`, `freelist_memory`, `buffer_pools`, `ports`, `tty_driver` and `rv_hart`, whose values are its parts.
+//! The crate depends on `kernel_tables`, `freelist_memory`, `buffer_pools`, `ports`, `tty_driver`, `disk_driver`, `name_space`, `lfs_layout` and
+//! `rv_hart`, whose values are its parts. The disk of the file system is an image of which nothing is asked so far.
 #![tactic(auto)]
 
 mod death;

@@ -1,8 +1,8 @@
-//! The state of the kernel inside an event: tables, registers, RAM, heap, pools, ports and console, the replies so far, and whether a
+//! The state of the kernel inside an event: tables, registers, RAM, heap, pools, ports and devices, the replies so far, and whether a
 //! resched is owed.
 //!
-//! It depends on the kernel's tables, the processor core, the heap, the buffer pools, the ports and the console's driver. No fact is kept of
-//! it: the kernel keeps what holds of all of it.
+//! It depends on the kernel's tables, the processor core, the heap, the buffer pools, the ports and the drivers of the devices. No fact is
+//! kept of it: the kernel keeps what holds of all of it.
 
 ghost use Rattle.std.specs.Prelude.{◌≡◌, ◌≤◌, ◌↔◌, IsTrue, [], length};
 ghost use Rattle.kernel_state.specs.Families.{is_on_device};
@@ -15,8 +15,11 @@ ghost use Rattle.xinu_model.specs.Words.{half, signed};
 
 use crate::replies::{Replies, is_resched_due, write_all};
 use buffer_pools::Pools;
+use disk_driver::Disk;
 use freelist_memory::Heap;
 use kernel_tables::KernelTables;
+use lfs_layout::CleanImage;
+use name_space::Names;
 use ports::Ports;
 use rv_hart::{Hart, Outcome, Ram, step};
 use std::marker::Model;
@@ -40,6 +43,12 @@ pub struct KernelState {
     pub ports: Ports,
     /// The console.
     pub tty: Tty,
+    /// The raw disk.
+    pub disk: Disk,
+    /// The mounted prefixes.
+    pub names: Names,
+    /// The disk of the file system.
+    pub files: CleanImage,
     /// The replies to processes that were released in this event.
     pub replies: Replies,
     /// Whether a resched is owed at the end of the event.

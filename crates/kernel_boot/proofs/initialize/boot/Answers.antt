@@ -1,11 +1,13 @@
-use Rattle.std.proofs.Common.{◌≡◌, ◌∙◌, map, ap, arith, sym, subst}
+use Rattle.std.proofs.Common.{◌≡◌, ◌∙◌, map, ap, arith, refl, sym, subst}
 use Rattle.std.proofs.lemmas.List.{length-map}
+use Rattle.given_disks.specs.Disks.{disks_of}
 use Rattle.image_loader.specs.Images.{loaded_of}
+use Rattle.kernel_state.specs.Results.{IsStart}
 use Rattle.xinu_base.specs.declared.processes.State.TheVariants.{Free}
 use Rattle.xinu_model.specs.Boot as boot
 use Rattle.xinu_model.specs.Machine.{CallState}
 use Rattle.xinu_model.specs.Tables.{state_at}
-use Rattle.kernel_boot.proofs.Making.{none_made_free, suspended_made}
+use Rattle.kernel_boot.proofs.Making.{boots_made, none_made_free, refuses_made, suspended_made}
 use Rattle.kernel_boot.proofs.initialize.boot.Goals as goal
 
 pub make_all-requires-clause-none : goal.make_all-requires-clause-none
@@ -19,4 +21,25 @@ start_all-requires-clause-suspended c j low high =
     let n = length-map c.args.images.now loaded_of in
     let few = c.requires.few in
     let made = ap (λ (d : CallState). boot.all_made 1 images d.state) (sym c.in-Ok.ensures.loaded) ∙ c.in_default-make_all.ensures.made in
-    suspended_made images c.make_all.new.k.state (omega (arith, n, few)) made j low (omega (arith, n, high))
+    suspended_made (disks_of c.args.disk0 c.args.disk1) images c.make_all.new.k.state (omega (arith, n, few)) made j low (omega (arith, n, high))
+
+pub returns-in-Some-make_all : goal.returns-in-Some-make_all
+returns-in-Some-make_all c =
+    let images = map loaded_of c.args.images.now in
+    record {
+      booted = refuses_made (disks_of c.args.disk0 c.args.disk1) images c.in-Some-make_all.number c.in_default.ensures.first
+          (ap (λ (d : CallState). boot.all_made 1 images d.state) (sym c.in-Ok.ensures.loaded) ∙ c.in-Some-make_all.ensures.no_room);
+    }
+
+pub returns : goal.returns
+returns c =
+    let images = map loaded_of c.args.images.now in
+    let made = ap (λ (d : CallState). boot.all_made 1 images d.state) (sym c.in-Ok.ensures.loaded) ∙ c.in_default-make_all.ensures.made in
+    let started = c.start_all.ensures.started in
+    record {
+      booted = (
+        boots_made (disks_of c.args.disk0 c.args.disk1) images c.make_all.new.k.state c.in_default.ensures.first made
+            ∙ ap boot.Boots (sym (ap (λ (d : CallState). d.state) started)),
+        subst IsStart (sym started) (record { is = refl }),
+      );
+    }
