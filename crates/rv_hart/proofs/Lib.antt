@@ -1,2 +1,3 @@
 pub mod Dispatch
+pub mod Ran
 pub mod Written

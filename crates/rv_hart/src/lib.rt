@@ -12,6 +12,7 @@
 //! | [`Ram::bytes_from`] | the bytes from an address to the end of RAM |
 //! | [`Ram::copy_out`] | `Ok` if and only if the range is in RAM; then the answer is its bytes |
 //! | [`step`] | `outcome`, `hart`, `memory`: those of `exec`, for all registers, pc and RAM; `zero`: x0 stays 0 |
+//! | [`plain_steps`] | `count`, `hart`, `memory`: those of `ran`, which is at most so many plain instructions, one after another |
 //!
 //! The definition looks for the row whose bits the word has under its mask; the code matches opcode, funct3 and funct7.
 //! `rv_isa/proofs/RowByFields.antt` proves once, over the list of rows, that both find the same row.
@@ -20,7 +21,9 @@
 mod execute;
 mod fetch;
 mod ram;
+mod running;
 
 pub use fetch::step;
 pub use ram::{OutOfRam, Ram};
+pub use running::plain_steps;
 pub use xinu_base::{Cause, Hart, Outcome, RAM_SIZE};

@@ -3,4 +3,5 @@ pub mod FileOutcomes
 pub mod Heap
 pub mod Outcomes
 pub mod Runs
+pub mod Stops
 pub mod ZeroRegister

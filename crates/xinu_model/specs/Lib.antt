@@ -22,6 +22,7 @@ pub mod Runs
 pub mod Searches
 pub mod Semaphores
 pub mod Sound
+pub mod Steps
 pub mod Tables
 pub mod Text
 pub mod Words
