@@ -6,6 +6,7 @@ pub mod FileWork
 pub mod HeapCells
 pub mod NameSpaces
 pub mod Ownership
+pub mod PlainSteps
 pub mod Pools
 pub mod Ports
 pub mod Preserve

@@ -13,6 +13,7 @@
 //! | [`soundness`] | boot is sound, on given disks too, and each event and run keeps it so, also the completions that the machine hasn't yet; a free place holds its fixed value; who goes on with a call on a device finds what it waited for |
 //! | [`moments`] | what holds at each moment of an event: each row, each continuation, a death, a tick, a received character, a transmission, and the end of an event keep it. The kernel's code cites these |
 //! | [`outcomes`] | each choice that is allowed in an event has an outcome; two outcomes of one event whose lines begin one text are equal; a run is determined by its start and its schedule if nothing is chosen in it, and by its text |
+//! | [`steps`] | steps that print nothing come before the events of any run |
 //! | [`footprints`] | the rows are the calls that a transcript names; each call touches no more than its footprint |
 //! | [`replies`] | a call that is refused in its own event changes a0 and pc alone, and prints its call and its reply; -1 tells a refusal, except as a value; a deleted semaphore refuses those who wait, and every other release of them answers 0; who waited on a port is refused if and only if it was renewed; a `getc` or `read` of the console answers -2 if and only if it finds the end mark first in cooked mode; a caller of the raw disk answers what its own completion replies, and a caller of files what its own call does; a call on files that is refused as it takes effect prints that it did; when the kernel panics, and who is told that its time ran out |
 //! | [`console`] | the console by itself stays sound; committed items go after the others and are counted; a transmission sends echo before output, the first of each first; erasing undoes typing |
@@ -39,3 +40,4 @@ pub mod owners;
 pub mod raw_disk;
 pub mod replies;
 pub mod soundness;
+pub mod steps;
