@@ -12,7 +12,7 @@ use Rattle.xinu_model.specs.Semaphores.Counts.{count_of, is_good, most_tokens, w
 use Rattle.xinu_model.specs.Semaphores.Waiting.{emptied_with, signal_first, signalled, signalled_times}
 use Rattle.xinu_model.specs.Tables.{no_semaphore, semaphore_at, Tables}
 use Rattle.kernel_state.proofs.Together.{released_first, released_then, releasing}
-use Rattle.kernel_tables.proofs.Served.{rests_ready, SameRests}
+use Rattle.kernel_tables.proofs.Rests.{rests_ready, SameRests}
 use Rattle.kernel_tables.proofs.Waiters.{rests_written}
 
 -- tables that are equal have the same rests

@@ -4,7 +4,7 @@ use Rattle.std.proofs.lemmas.Int.{ints}
 use Rattle.std.proofs.lemmas.List.{length-append}
 use Rattle.kernel_state.proofs.Together.{released_then, releasing}
 use Rattle.kernel_state.specs.Results.{IsStart}
-use Rattle.kernel_tables.proofs.Served.{SameRests}
+use Rattle.kernel_tables.proofs.Rests.{SameRests}
 use Rattle.kernel_tables.proofs.Waiters.{rests_written}
 use Rattle.tty_driver.specs.Transmitting.{count_by}
 use Rattle.xinu_base.specs.Constants.{OK, SYSERR}

@@ -10,7 +10,7 @@ use Rattle.xinu_model.specs.Process.Scheduling.{ready, ready_all}
 use Rattle.xinu_model.specs.Tables.{process_at, Tables}
 use Rattle.kernel_state.specs.Released.{replies_to}
 use Rattle.kernel_tables.specs.Waking.{are_any}
-use Rattle.kernel_tables.proofs.Served.{rests_ready, rests_tick}
+use Rattle.kernel_tables.proofs.Rests.{rests_ready, rests_tick}
 
 -- what is under way once these are released, if these are the replies
 abbrev pub after_release : List ℕ → List (ℕ × ℤ) → CallState → CallState

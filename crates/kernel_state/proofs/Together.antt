@@ -9,7 +9,7 @@ use Rattle.xinu_model.specs.Tables.{Semaphore, Tables}
 use Rattle.kernel_state.specs.Released.{replies_to}
 use Rattle.kernel_tables.specs.Waking.{are_any}
 use Rattle.kernel_state.proofs.Released.{owed_for, unblocked}
-use Rattle.kernel_tables.proofs.Served.{SameRests}
+use Rattle.kernel_tables.proofs.Rests.{SameRests}
 
 -- what is under way once these became ready, in these tables
 abbrev pub releasing : ℤ → List ℕ → Tables → Xinu → CallState

@@ -1,11 +1,11 @@
 -- The moves of the kernel's tables keep what holds of them at each moment of an event.
-use Rattle.std.proofs.Common.{◌≡◌, ◌≢◌, ◌<◌, ◌∙◌, ◌-◌, nat_lt, ℕ, ℤ, false, set, refl, sym, ap, subst, Option, None, inl, inr}
+use Rattle.std.proofs.Common.{◌≡◌, ◌≢◌, ◌<◌, ◌∙◌, ◌-◌, nat_lt, ℕ, ℤ, false, set, refl, sym, ap, subst, Option, None, Some, inl, inr}
 use Rattle.std.proofs.lemmas.Bool.{cond_both}
 use Rattle.xinu_base.specs.declared.processes.Process.{Process}
 use Rattle.xinu_base.specs.declared.processes.Rest.{Rest}
-use Rattle.xinu_base.specs.declared.processes.Rest.TheVariants.{Nothing, SelfSuspend}
+use Rattle.xinu_base.specs.declared.processes.Rest.TheVariants.{Disk, Nothing, SelfSuspend}
 use Rattle.xinu_base.specs.declared.processes.State.{State}
-use Rattle.xinu_base.specs.declared.processes.State.TheVariants.{Free, Current, Ready, Suspended}
+use Rattle.xinu_base.specs.declared.processes.State.TheVariants.{Free, Current, Ready, Suspended, Waiting}
 use Rattle.xinu_model.specs.Clock.{quantum_falls}
 use Rattle.xinu_model.specs.Process.Calls.{is_ready, with_priority}
 use Rattle.xinu_model.specs.Process.Scheduling.{in_state, ready, resched}
@@ -17,6 +17,13 @@ use Rattle.table_laws.proofs.Tables.States.{is_ready_of}
 use Rattle.table_laws.proofs.Tables.Changes.{inside_process}
 use Rattle.table_laws.proofs.Tables.MoveTo.{inside_move, within_table}
 use Rattle.table_laws.proofs.Tables.Scheduling.{holds_at, inside_last_process, inside_quantum, inside_ready, null_rest_at, sound_resched}
+
+-- who can run doesn't wait
+null_waits : (s : State) → CanRun s → s ≡ Waiting → ⊥
+null_waits s r e = elim r [
+  | inl h ↦ cc
+  | inr h ↦ cc
+]
 
 -- a suspended process becomes ready
 pub inside_resumed : (t : Tables) (p : ℕ) → IsInside t → state_at t p ≡ Suspended → IsInside (ready p t)
@@ -34,6 +41,23 @@ inside_suspended t p o n e =
       if_null = λ f. absurd (n f);
       fits = tt;
       slot = holds_at t p o (λ f. cc);
+      if_free = λ f. absurd (cc);
+    })
+
+-- who waits becomes ready, with the reply of a disk
+abbrev pub answered : ℕ → ℤ → Tables → Tables
+answered p reply t = move_to p (record (process_at t p) { state = Ready; rest = Disk (Some reply) }) (message_at t p) InReady t
+
+pub inside_replied : (t : Tables) (p : ℕ) (reply : ℤ) → IsInside t → p < 64 → state_at t p ≡ Waiting → IsInside (answered p reply t)
+inside_replied t p reply o within e =
+    inside_move t p (record (process_at t p) { state = Ready; rest = Disk (Some reply) }) (message_at t p) InReady o
+    (record {
+      within = within;
+      place_of = (refl, refl, refl);
+      if_current = λ f. cc;
+      if_null = λ f. absurd (null_waits (state_at t 0) o.null (sym (ap (state_at t) f) ∙ e));
+      fits = tt;
+      slot = tt;
       if_free = λ f. absurd (cc);
     })
 

@@ -1,8 +1,8 @@
 pub mod Queues
-pub mod Served
+pub mod Rests
+pub mod Replied
 pub mod Inside
 pub mod Sent
-pub mod Starts
 pub mod Running
 pub mod Wakeups
 pub mod Waiters

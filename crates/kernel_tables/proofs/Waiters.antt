@@ -31,8 +31,7 @@ use Rattle.table_laws.proofs.Tables.MoveTo.{inside_move}
 use Rattle.table_laws.proofs.Tables.Scheduling.{inside_ready}
 use Rattle.table_laws.proofs.Tables.Unblock.{can_be_ready_waiters, can_be_ready_waiting, owner_ready, sound_ready_all, sound_signalled_times, unblock_all_ready, waiter_waits, waiters_gone}
 use Rattle.kernel_tables.proofs.Sent.{with_these}
-use Rattle.kernel_tables.proofs.Served.{rests_ready, rests_ready_all, SameRests, served_move}
-use Rattle.kernel_tables.specs.Served.{AreServed, IsServed}
+use Rattle.kernel_tables.proofs.Rests.{rests_ready, rests_ready_all, SameRests}
 
 -- a number that is found is the first free one
 found_free : (z : ℤ) (t : Tables) (sem : ℕ) → Some sem ≡ number_for z t → free_semaphore t ≡ Some sem
@@ -124,12 +123,6 @@ inside_after_signal t sem r is o w used =
     subst A (sym is) (cond_both (int_lt (count_of x) most_tokens) (answer_to x.waiters) Full A
     (λ _. inside_answered t sem x.waiters refl o w used) (λ _. o))
 
--- no call changes then
-pub rests_after_signal : (t : Tables) (sem : ℕ) (r : Signalled) → SameRests t (after_signal r sem t)
-rests_after_signal t sem Full = record { same = λ p. refl }
-rests_after_signal t sem Kept = record { same = λ p. refl }
-rests_after_signal t sem (Released q) = rests_ready t q
-
 -- n signals
 pub inside_signaln : (t : Tables) (sem n : ℕ) → IsSoundTables t → sem < 128 → (semaphore_at t sem).owner ≢ None
     → (let x = semaphore_at t sem in IsInside (with_tokens sem (x.tokens + (n - length x.waiters)) (ready_all (take n x.waiters) t)))
@@ -184,11 +177,3 @@ pub left_waiting : (took : Bool) (ls : List (List Entry)) (s : ProcessTable) (b 
 left_waiting true ls s b t u m sem rest lt e = e
 left_waiting false ls s b t u m sem rest lt e = moved_with_rest ls s b t (in_state Waiting (process_at t t.current)) m
     (InSemaphore sem) rest lt e
-
--- what is left is served
-pub served_waits : (took : Bool) (t : Tables) (sem n : ℕ) (rest : Rest) → AreServed t → IsServed rest
-    → AreServed (cond took (with_tokens sem n t)
-    (move_to t.current (record (process_at t t.current) { state = Waiting; rest = rest }) (message_at t t.current) (InSemaphore sem) t))
-served_waits true t sem n rest s h = record { rests = s.rests }
-served_waits false t sem n rest s h = served_move t t.current (record (process_at t t.current) { state = Waiting; rest = rest })
-    (message_at t t.current) (InSemaphore sem) s h

@@ -1,4 +1,5 @@
-//! How a process leaves its list, and its number becomes free (book, chapter 5, `kill.c`).
+//! How a process leaves its list: its number becomes free, or it waited and becomes ready without a token (book, chapters 5 and 18, `kill.c`,
+//! `rdsprocess.c`).
 //!
 //! It depends on lists, processes, semaphores, the clock and the slots. Whoever waits on a semaphore gives its place in the count back,
 //! and a sleeper its difference to the one after it.
@@ -11,14 +12,14 @@ ghost use Rattle.queue_table.specs.Lists.{place};
 ghost use Rattle.queue_table.specs.Table as table;
 ghost use Rattle.semaphores.specs.Counts.{beside};
 ghost use Rattle.xinu_base.specs.declared.processes.Process.{Process};
-ghost use Rattle.xinu_model.specs.Tables.{move_to, no_process, Nowhere};
+ghost use Rattle.xinu_model.specs.Tables.{InReady, message_at, move_to, no_process, Nowhere, process_at};
 
 use delta_clock::Clock;
 use messages::Slots;
 use process_core::Procs;
 use queue_table::Lists;
 use semaphores::Sems;
-use xinu_base::{Pid, State};
+use xinu_base::{Pid, Rest, State};
 
 /// Takes `p` out of its list, and frees its number and its slot.
 pub(crate) fn bury(
@@ -42,6 +43,24 @@ pub(crate) fn bury(
     leave(lists, procs, sems, clock, p);
     procs.free_part(lists, p);
     slots.clear(p);
+}
+
+/// Makes `p`, which waits on a semaphore, ready without a token; this is left of its call.
+pub(crate) fn ready_waiter(lists: &mut Lists, procs: &mut Procs, sems: &mut Sems, p: Pid, rest: Rest)
+    requires waits { (process_in procs.old.processes p).state ≡ State.Waiting }
+    requires fits { Fits (table.lists lists.old) procs.old.processes }
+    requires placed { ArePlaced (table.lists lists.old) procs.old.processes }
+    requires queues { AreQueues (table.lists lists.old) sems.old.entries }
+    ensures ready { (messages : List (Option ℕ)) (ticks : ℕ) → tables_of (table.lists lists.new) procs.new (beside sems.new messages ticks) ≡
+        (let t = tables_of (table.lists lists.old) procs.old (beside sems.old messages ticks) in
+        move_to p (record (process_at t p) { state = State.Ready; rest = rest }) (message_at t p) InReady t) }
+    ensures queues { AreQueues (table.lists lists.new) sems.new.entries }
+    ensures within { p < 64 }
+{
+    prove!(p.index() < 64);
+    sems.forget_waiter(lists, p);
+    procs.set_rest(p, rest);
+    procs.ready_defer(lists, p);
 }
 
 /// Takes `p` out of its list. Its state may be another then, since it is to move.

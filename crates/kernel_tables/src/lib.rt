@@ -8,15 +8,14 @@
 //! | Moves | File |
 //! |---|---|
 //! | what is read: the current process, its rest, states, priorities, names, messages | `tables.rt` |
-//! | `resched`, `ready`, `suspend_ready`, `suspend_self`, `set_priority`, `make`, `bury`, `go_on` | `process_moves.rt` |
+//! | `resched`, `ready`, `suspend_ready`, `keep_reply`, `suspend_self`, `set_priority`, `make`, `bury`, `go_on` | `process_moves.rt` |
 //! | `make_semaphore`, `make_two_semaphores`, `wait`, `signal`, `signaln`, `reset_semaphore`, `delete_semaphore` | `semaphore_moves.rt` |
 //! | `send_to`, `take_message`, `listen`, `listen_for` | `message_moves.rt` |
 //! | `sleep`, `tick` | `clock_moves.rt` |
 //! | the ready list, the waiters and the sleepers, one process after another | `walks.rt` |
 //!
-//! Each says that the new tables are those of the model's move on the old ones, and what it answers. What is left of a call is what the calls
-//! that are served leave (`specs/Served.antt`). `new` alone takes memory. The crate depends on `process_core`, `semaphores`, `delta_clock`,
-//! `messages` and `queue_table`, and on the laws of `table_laws`.
+//! Each says that the new tables are those of the model's move on the old ones, and what it answers. `new` alone takes memory. The crate depends
+//! on `process_core`, `semaphores`, `delta_clock`, `messages` and `queue_table`, and on the laws of `table_laws`.
 #![tactic(auto)]
 
 mod clock_moves;

@@ -1,16 +1,16 @@
-//! How a process becomes ready, is suspended, dies or is made (book, chapters 5, 6 and 9).
+//! How a process becomes ready, is suspended, dies or is made (book, chapters 5, 6, 9 and 18).
 //!
 //! It depends on the tables. Each call is one move of the abstract machine.
 
-ghost use Rattle.std.specs.Prelude.{◌≡◌, ◌≢◌, ◌≤◌, None, length};
+ghost use Rattle.std.specs.Prelude.{◌≡◌, ◌≢◌, ◌≤◌, None, Some, length};
 ghost use Rattle.process_core.specs.Starts.{padded};
 ghost use Rattle.xinu_model.specs.Process.Calls.{with_priority};
 ghost use Rattle.xinu_model.specs.Process.Creation.{new_process};
 ghost use Rattle.xinu_model.specs.Process.Scheduling as model;
-ghost use Rattle.xinu_model.specs.Tables.{message_at, move_to, no_process, Nowhere, process_at, state_at};
+ghost use Rattle.xinu_model.specs.Tables.{InReady, message_at, move_to, no_process, Nowhere, process_at, state_at};
 
 use crate::current::{block_current, end_rest};
-use crate::leaving::bury;
+use crate::leaving::{bury, ready_waiter};
 use crate::tables::KernelTables;
 use xinu_base::{Pid, Rest, State};
 
@@ -59,6 +59,20 @@ impl KernelTables {
             &mut self.clock,
             &mut self.slots,
             p,
+        );
+    }
+
+    /// Makes `p`, which waits on a semaphore, ready without a token. What is left of its call is to answer this reply of a disk.
+    pub fn keep_reply(&mut self, p: Pid, reply: i32)
+        requires waits { state_at self.old p ≡ State.Waiting }
+        ensures kept { self.new ≡ move_to p (record (process_at self.old p) { state = State.Ready; rest = Rest.Disk (Some reply) }) (message_at self.old p) InReady self.old }
+    {
+        ready_waiter(
+            &mut self.lists,
+            &mut self.procs,
+            &mut self.sems,
+            p,
+            Rest::Disk(Some(reply)),
         );
     }
 

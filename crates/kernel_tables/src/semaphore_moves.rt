@@ -3,7 +3,6 @@
 //! It depends on the tables. Each call is one move of the abstract machine.
 
 ghost use Rattle.std.specs.Prelude.{◌≡◌, ◌≢◌, ◌≤◌, ◌+◌, ◌-◌, ◌+ℤ◌, ◌≤ℤ◌, true, false, not, pos, Some, int_lt, nat_lt, length, take, IfSome, IfNone, IsSome, if◌then◌else◌};
-ghost use Rattle.kernel_tables.specs.Served.{IsServed};
 ghost use Rattle.semaphores.specs.Counts.{number_for, tokens_of, two_numbers, with_made, with_two};
 ghost use Rattle.semaphores.specs.Signals.{after_signal, signal_answer};
 ghost use Rattle.xinu_model.specs.Process.Scheduling.{ready_all};
@@ -80,7 +79,6 @@ impl KernelTables {
         requires runs { state_at self.old self.old.current ≡ State.Current }
         requires not_null { self.old.current ≢ 0 }
         requires owner { FitsOwner sem (semaphore_at self.old sem).owner rest }
-        requires served { IsServed rest }
         ensures took { result ≡ nat_lt 0 (semaphore_at self.old sem).tokens }
         ensures waits { self.new ≡ (let t = self.old in
             if result then with_tokens sem ((semaphore_at t sem).tokens - 1) t

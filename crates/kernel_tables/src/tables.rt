@@ -6,7 +6,6 @@
 
 ghost use Rattle.std.specs.List.{list_all};
 ghost use Rattle.std.specs.Prelude.{◌≡◌, ◌≢◌, ◌==◌, ◌↔◌, IsTrue, IfSome, IfNone, IfOk, drop};
-ghost use Rattle.kernel_tables.specs.Served.{IsServed};
 ghost use Rattle.xinu_model.specs.Boot.{null_tables};
 ghost use Rattle.xinu_model.specs.Process.Creation.{free_process};
 ghost use Rattle.xinu_model.specs.Tables.{is_free, message_at, process_at, state_at};
@@ -172,11 +171,10 @@ impl KernelTables {
         self.procs.is_done()
     }
 
-    /// What is left of the current process's call, which is one of those that are served.
+    /// What is left of the current process's call.
     #[tactic(auto, unfolding(process_core::specs::Tables::tables_of))]
     pub fn rest(&self) -> Rest
         ensures rest { result ≡ (process_at self.now self.now.current).rest }
-        ensures served { IsServed result }
     {
         self.procs.rest_of(self.procs.current())
     }

@@ -7,10 +7,8 @@ use Rattle.xinu_model.specs.Tables.{no_process, Nowhere}
 use Rattle.table_laws.proofs.Tables.Deaths.{can_move_free}
 use Rattle.table_laws.proofs.Tables.MoveTo.{inside_move}
 use Rattle.kernel_tables.specs.KernelTables.{kernel_tables}
-use Rattle.kernel_tables.specs.Served.{AreServed}
 use Rattle.semaphores.specs.Counts.{beside}
 use Rattle.kernel_tables.proofs.Queues.{inside_placed}
-use Rattle.kernel_tables.proofs.Served.{served_move}
 use Rattle.kernel_tables.proofs.tables.KernelTables.bury.Goals as goal
 
 pub bury-requires-clause-fits : goal.bury-requires-clause-fits
@@ -30,5 +28,4 @@ invariant_of-self c =
       inside = subst IsInside e (inside_move t c.args.p no_process None Nowhere c.self.invariant.inside
           (can_move_free t c.args.p c.bury.ensures.within c.requires.not_null));
       queues = c.bury.ensures.queues;
-      served = subst AreServed e (served_move t c.args.p no_process None Nowhere c.self.invariant.served tt);
     }

@@ -9,9 +9,7 @@ use Rattle.xinu_base.specs.declared.semaphores.Owner.TheVariants.{Device}
 use Rattle.xinu_model.specs.Tables.{no_semaphore, semaphore_at, Tables}
 use Rattle.std.specs.Prelude.{IsSome}
 use Rattle.kernel_tables.specs.KernelTables.{kernel_tables}
-use Rattle.kernel_tables.specs.Served.{AreServed}
 use Rattle.kernel_tables.proofs.Queues.{queues_counted}
-use Rattle.kernel_tables.proofs.Served.{served_kept}
 use Rattle.kernel_tables.proofs.Waiters.{entry_used, inside_deleted, rests_written, written_twice}
 use Rattle.kernel_tables.proofs.tables.KernelTables.delete_semaphore.Goals as goal
 
@@ -55,5 +53,4 @@ invariant_of-self c =
       queues = queues_counted (lists k.lists)
           (lists c.release_all-released.new.lists) c.delete.new.self.entries c.self.invariant.queues.later
           (c.release_all-released.ensures.others 129 (λ e. omega (arith, w, e)) (λ e. omega arith)) c.delete.ensures.counts;
-      served = subst AreServed e (served_kept t _ (rests_written t x.waiters sem no_semaphore) c.self.invariant.served);
     }

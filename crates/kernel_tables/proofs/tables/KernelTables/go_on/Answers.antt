@@ -4,12 +4,10 @@ use Rattle.process_core.proofs.Inside.{inside_fits}
 use Rattle.semaphores.specs.Counts.{beside}
 use Rattle.xinu_model.specs.Sound.Tables.{IsInside}
 use Rattle.kernel_tables.specs.KernelTables.{kernel_tables}
-use Rattle.kernel_tables.specs.Served.{AreServed}
 use Rattle.xinu_base.specs.declared.processes.Rest.TheVariants.{Nothing}
 use Rattle.xinu_model.specs.Tables.{message_at, Nowhere, process_at}
 use Rattle.kernel_tables.proofs.Inside.{inside_goes_on}
 use Rattle.kernel_tables.proofs.Running.{current_in}
-use Rattle.kernel_tables.proofs.Served.{served_move}
 use Rattle.kernel_tables.proofs.tables.KernelTables.go_on.Goals as goal
 
 pub end_rest-requires : goal.end_rest-requires
@@ -37,6 +35,4 @@ invariant_of-self c =
     record {
       inside = subst IsInside e (inside_goes_on t (message_at t t.current) c.self.invariant.inside (rw c.self.view_is c.requires.runs));
       queues = c.self.invariant.queues;
-      served = subst AreServed e (served_move t t.current (record (process_at t t.current) { rest = Nothing })
-          (message_at t t.current) Nowhere c.self.invariant.served tt);
     }

@@ -7,10 +7,8 @@ use Rattle.xinu_model.specs.Tables.{message_at, Nowhere, process_at}
 use Rattle.xinu_base.specs.declared.processes.Rest.TheVariants as rest
 use Rattle.xinu_base.specs.declared.processes.State.TheVariants as state
 use Rattle.kernel_tables.specs.KernelTables.{kernel_tables}
-use Rattle.kernel_tables.specs.Served.{AreServed}
 use Rattle.kernel_tables.proofs.Inside.{inside_blocked}
 use Rattle.kernel_tables.proofs.Running.{current_in}
-use Rattle.kernel_tables.proofs.Served.{served_move}
 use Rattle.kernel_tables.proofs.tables.KernelTables.listen.Goals as goal
 
 pub block_current-requires-clause-runs : goal.block_current-requires-clause-runs
@@ -37,7 +35,4 @@ invariant_of-self c =
       inside = subst IsInside e (inside_blocked t state.Receiving rest.Receive Nowhere sound (rw c.self.view_is c.requires.not_null)
           (λ f. cc) (refl, refl, refl) tt (refl, rw c.self.view_is c.requires.none));
       queues = c.self.invariant.queues;
-      served = subst AreServed e (served_move t t.current
-          (record (process_at t t.current) { state = state.Receiving; rest = rest.Receive })
-          (message_at t t.current) Nowhere c.self.invariant.served tt);
     }

@@ -10,11 +10,9 @@ use Rattle.xinu_model.specs.Tables.{InSleepers, message_at, move_to, process_at}
 use Rattle.xinu_base.specs.declared.processes.Rest.TheVariants as rest
 use Rattle.xinu_base.specs.declared.processes.State.TheVariants as state
 use Rattle.kernel_tables.specs.KernelTables.{kernel_tables}
-use Rattle.kernel_tables.specs.Served.{AreServed}
 use Rattle.kernel_tables.proofs.Inside.{inside_blocked}
 use Rattle.kernel_tables.proofs.Queues.{queues_later}
 use Rattle.kernel_tables.proofs.Running.{current_in, later_tick, wakes_at}
-use Rattle.kernel_tables.proofs.Served.{served_move}
 use Rattle.kernel_tables.proofs.tables.KernelTables.listen_for.Goals as goal
 
 pub sleep_current-requires-clause-runs : goal.sleep_current-requires-clause-runs
@@ -57,6 +55,4 @@ invariant_of-self c =
           (refl, rw c.self.view_is c.requires.none));
       queues = queues_later (lists k.lists) (lists c.sleep_current.new.lists) k.sems.entries c.self.invariant.queues
           (λ q m n. c.sleep_current.ensures.others q n) c.sleep_current.ensures.later;
-      served = subst AreServed e (served_move t t.current (record (process_at t t.current) { state = state.Timed; rest = rest.Timed })
-          (message_at t t.current) (InSleepers (wake_tick t.ticks c.args.delay)) c.self.invariant.served tt);
     }

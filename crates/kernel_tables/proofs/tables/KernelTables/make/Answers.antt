@@ -7,14 +7,12 @@ use Rattle.xinu_base.specs.declared.processes.State.TheVariants.{Free}
 use Rattle.xinu_model.specs.Sound.Tables.{IsInside}
 use Rattle.xinu_model.specs.Tables.{state_at}
 use Rattle.kernel_tables.specs.KernelTables.{kernel_tables}
-use Rattle.kernel_tables.specs.Served.{AreServed}
 use Rattle.semaphores.specs.Counts.{beside}
 use Rattle.process_core.specs.Starts.{padded}
 use Rattle.xinu_model.specs.Process.Creation.{new_process}
 use Rattle.xinu_model.specs.Tables.{move_to, Nowhere}
 use Rattle.kernel_tables.proofs.Queues.{state_in}
 use Rattle.kernel_tables.proofs.Inside.{inside_made}
-use Rattle.kernel_tables.proofs.Served.{served_made}
 use Rattle.kernel_tables.proofs.tables.KernelTables.make.Goals as goal
 
 pub make-requires-clause-free : goal.make-requires-clause-free
@@ -50,5 +48,4 @@ invariant_of-self c =
       inside = rw c.clear.ensures.slots
           (subst IsInside e (inside_made t c.args.p x c.self.invariant.inside within (rw c.self.view_is c.requires.free) refl refl));
       queues = c.self.invariant.queues;
-      served = rw c.clear.ensures.slots (subst AreServed e (served_made t c.args.p x c.self.invariant.served tt));
     }

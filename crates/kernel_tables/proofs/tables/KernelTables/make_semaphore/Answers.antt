@@ -3,8 +3,6 @@ use Rattle.queue_table.specs.Table.{lists}
 use Rattle.semaphores.specs.Counts.{with_made}
 use Rattle.xinu_model.specs.Sound.Tables.{IsInside}
 use Rattle.kernel_tables.specs.KernelTables.{kernel_tables}
-use Rattle.kernel_tables.specs.Served.{AreServed}
-use Rattle.kernel_tables.proofs.Served.{served_kept}
 use Rattle.kernel_tables.proofs.Waiters.{inside_made, rests_made}
 use Rattle.kernel_tables.proofs.tables.KernelTables.make_semaphore.Goals as goal
 
@@ -22,6 +20,4 @@ invariant_of-self c =
             (lists k.lists) c.self.invariant.queues.counts;
         later = c.self.invariant.queues.later;
       };
-      served = subst AreServed e (served_kept t (with_made found c.args.owner _ t)
-          (rests_made found c.args.owner _ t) c.self.invariant.served);
     }

@@ -3,8 +3,6 @@ use Rattle.queue_table.specs.Table.{lists}
 use Rattle.semaphores.specs.Counts.{with_two}
 use Rattle.xinu_model.specs.Sound.Tables.{IsInside}
 use Rattle.kernel_tables.specs.KernelTables.{kernel_tables}
-use Rattle.kernel_tables.specs.Served.{AreServed}
-use Rattle.kernel_tables.proofs.Served.{served_kept}
 use Rattle.kernel_tables.proofs.Waiters.{inside_two, rests_two}
 use Rattle.kernel_tables.proofs.tables.KernelTables.make_two_semaphores.Goals as goal
 
@@ -24,6 +22,4 @@ invariant_of-self c =
             (lists k.lists) counts;
         later = c.self.invariant.queues.later;
       };
-      served = subst AreServed e (served_kept t (with_two found by _ t)
-          (rests_two found by _ t) c.self.invariant.served);
     }

@@ -9,8 +9,6 @@ use Rattle.xinu_model.specs.Sound.Tables.{IsInside}
 use Rattle.table_laws.proofs.Tables.Starts.{inside_null}
 use Rattle.delta_clock.specs.Wakeups.{WakesLater}
 use Rattle.kernel_tables.specs.KernelTables.{kernel_tables}
-use Rattle.kernel_tables.specs.Served.{AreServed}
-use Rattle.kernel_tables.proofs.Starts.{served_start}
 use Rattle.kernel_tables.proofs.tables.KernelTables.new.Goals as goal
 
 -- they are the tables at the start
@@ -33,7 +31,6 @@ invariant_of-result c =
         later = subst WakesLater
             (sym c.in_ok-lists.ensures.empty) c.new-5.ensures.later;
       };
-      served = subst AreServed (sym e) served_start;
     }
 
 pub returns : goal.returns

@@ -7,11 +7,10 @@ use Rattle.xinu_model.specs.Tables.{state_at}
 use Rattle.xinu_model.specs.Process.Scheduling.{ready}
 use Rattle.xinu_model.specs.Sound.Tables.{IsInside}
 use Rattle.kernel_tables.specs.KernelTables.{kernel_tables}
-use Rattle.kernel_tables.specs.Served.{AreServed}
 use Rattle.semaphores.specs.Counts.{beside}
 use Rattle.kernel_tables.proofs.Queues.{queues_kept, state_in}
 use Rattle.kernel_tables.proofs.Inside.{inside_resumed}
-use Rattle.kernel_tables.proofs.Served.{rests_ready, served_kept}
+use Rattle.kernel_tables.proofs.Rests.{rests_ready}
 use Rattle.kernel_tables.proofs.tables.KernelTables.ready.Goals as goal
 
 pub ready_defer-requires-clause-fits : goal.ready_defer-requires-clause-fits
@@ -35,5 +34,4 @@ invariant_of-self c =
       inside = subst IsInside e (inside_resumed t c.args.p c.self.invariant.inside (rw c.self.view_is c.requires.suspended));
       queues = queues_kept (lists k.lists)
           (lists c.ready_defer.new.lists) k.sems.entries c.self.invariant.queues c.ready_defer.ensures.others;
-      served = subst AreServed e (served_kept t (ready c.args.p t) (rests_ready t c.args.p) c.self.invariant.served);
     }

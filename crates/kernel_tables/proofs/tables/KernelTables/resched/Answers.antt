@@ -5,10 +5,9 @@ use Rattle.xinu_model.specs.Process.Scheduling.{resched}
 use Rattle.xinu_model.specs.Sound.Tables.{IsInside}
 use Rattle.table_laws.proofs.Tables.Scheduling.{sound_resched}
 use Rattle.kernel_tables.specs.KernelTables.{kernel_tables}
-use Rattle.kernel_tables.specs.Served.{AreServed}
 use Rattle.semaphores.specs.Counts.{beside}
 use Rattle.kernel_tables.proofs.Queues.{queues_kept}
-use Rattle.kernel_tables.proofs.Served.{rests_resched, served_kept}
+use Rattle.kernel_tables.proofs.Rests.{rests_resched}
 use Rattle.kernel_tables.proofs.tables.KernelTables.resched.Goals as goal
 
 pub resched-requires : goal.resched-requires
@@ -25,5 +24,4 @@ invariant_of-self c =
     record {
       inside = subst IsInside e (sound_resched t c.self.invariant.inside).inside;
       queues = queues_kept (lists k.lists) (lists c.resched.new.lists) k.sems.entries c.self.invariant.queues c.resched.ensures.others;
-      served = subst AreServed e (served_kept t (resched t) (rests_resched t) c.self.invariant.served);
     }

@@ -6,9 +6,7 @@ use Rattle.xinu_model.specs.Sound.Tables.{IsInside, IsSoundTables}
 use Rattle.xinu_model.specs.Tables.{semaphore_at, Tables}
 use Rattle.std.specs.Prelude.{IsSome}
 use Rattle.kernel_tables.specs.KernelTables.{kernel_tables}
-use Rattle.kernel_tables.specs.Served.{AreServed}
 use Rattle.kernel_tables.proofs.Queues.{queues_counted}
-use Rattle.kernel_tables.proofs.Served.{served_kept}
 use Rattle.kernel_tables.proofs.Waiters.{entry_used, inside_reset, rests_written, used_owner}
 use Rattle.kernel_tables.proofs.tables.KernelTables.reset_semaphore.Goals as goal
 
@@ -37,5 +35,4 @@ invariant_of-self c =
       inside = subst IsInside e (inside_reset t sem _ sound w used);
       queues = queues_counted (lists k.lists) (lists c.release_all.new.lists) c.release_all.new.self.entries c.self.invariant.queues.later
           (c.release_all.ensures.others 129 (λ e. omega (arith, w, e)) (λ e. omega arith)) c.release_all.ensures.counts;
-      served = subst AreServed e (served_kept t _ (rests_written t x.waiters sem _) c.self.invariant.served);
     }

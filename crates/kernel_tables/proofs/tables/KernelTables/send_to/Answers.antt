@@ -8,10 +8,8 @@ use Rattle.xinu_model.specs.Messages.{sent}
 use Rattle.xinu_model.specs.Sound.Tables.{IsInside}
 use Rattle.table_laws.proofs.Tables.Deaths.{inside_sent}
 use Rattle.kernel_tables.specs.KernelTables.{kernel_tables}
-use Rattle.kernel_tables.specs.Served.{AreServed}
 use Rattle.kernel_tables.proofs.Queues.{inside_placed, queues_later}
 use Rattle.kernel_tables.proofs.Sent.{with_these}
-use Rattle.kernel_tables.proofs.Served.{rests_sent, served_kept}
 use Rattle.kernel_tables.proofs.tables.KernelTables.send_to.Goals as goal
 
 pub deliver-requires-clause-fits : goal.deliver-requires-clause-fits
@@ -33,6 +31,4 @@ invariant_of-self c =
       inside = subst IsInside e (inside_sent c.args.p c.args.m d c.self.invariant.inside);
       queues = queues_later (lists k.lists)
           (lists c.deliver.new.lists) k.sems.entries c.self.invariant.queues c.deliver.ensures.others c.deliver.ensures.later;
-      served = subst AreServed e (served_kept (kernel_tables k) (sent c.args.p c.args.m d).state.tables
-          (rests_sent c.args.p c.args.m d) c.self.invariant.served);
     }

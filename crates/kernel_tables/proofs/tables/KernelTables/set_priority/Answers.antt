@@ -6,11 +6,9 @@ use Rattle.queue_table.specs.Table.{lists}
 use Rattle.process_core.proofs.Inside.{inside_fits}
 use Rattle.xinu_model.specs.Sound.Tables.{IsInside}
 use Rattle.kernel_tables.specs.KernelTables.{kernel_tables}
-use Rattle.kernel_tables.specs.Served.{AreServed}
 use Rattle.semaphores.specs.Counts.{beside}
 use Rattle.kernel_tables.proofs.Queues.{queues_kept}
 use Rattle.kernel_tables.proofs.Inside.{inside_with_priority}
-use Rattle.kernel_tables.proofs.Served.{rests_with_priority, served_kept}
 use Rattle.kernel_tables.proofs.tables.KernelTables.set_priority.Goals as goal
 
 pub set_priority-requires : goal.set_priority-requires
@@ -32,6 +30,4 @@ invariant_of-self c =
       inside = subst IsInside e (inside_with_priority t c.args.p c.args.n c.self.invariant.inside (rw c.self.view_is c.requires.alive));
       queues = queues_kept (lists k.lists)
           (lists c.set_priority.new.lists) k.sems.entries c.self.invariant.queues c.set_priority.ensures.others;
-      served = subst AreServed e (served_kept t (with_priority c.args.p c.args.n t)
-          (rests_with_priority t c.args.p c.args.n) c.self.invariant.served);
     }

@@ -7,10 +7,8 @@ use Rattle.xinu_model.specs.Sound.Tables.{IsInside}
 use Rattle.xinu_model.specs.Tables.{semaphore_at, Tables}
 use Rattle.std.specs.Prelude.{IsSome}
 use Rattle.kernel_tables.specs.KernelTables.{kernel_tables}
-use Rattle.kernel_tables.specs.Served.{AreServed}
 use Rattle.kernel_tables.proofs.Queues.{queues_counted}
-use Rattle.kernel_tables.proofs.Served.{served_kept}
-use Rattle.kernel_tables.proofs.Waiters.{entry_used, inside_after_signal, rests_after_signal, used_owner}
+use Rattle.kernel_tables.proofs.Waiters.{entry_used, inside_after_signal, used_owner}
 use Rattle.kernel_tables.proofs.tables.KernelTables.signal.Goals as goal
 
 pub signal-requires-clause-used : goal.signal-requires-clause-used
@@ -39,5 +37,4 @@ invariant_of-self c =
       inside = subst IsInside e (inside_after_signal t sem r (c.signal.ensures.answer k.slots k.clock) c.self.invariant.inside w used);
       queues = queues_counted (lists k.lists) (lists c.signal.new.lists) c.signal.new.self.entries c.self.invariant.queues.later
           (c.signal.ensures.others 129 (λ e. omega (arith, w, e)) (λ e. omega arith)) c.signal.ensures.counts;
-      served = subst AreServed e (served_kept t (after_signal r sem t) (rests_after_signal t sem r) c.self.invariant.served);
     }

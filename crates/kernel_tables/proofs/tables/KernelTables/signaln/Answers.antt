@@ -8,9 +8,7 @@ use Rattle.xinu_model.specs.Sound.Tables.{IsInside, IsSoundTables}
 use Rattle.xinu_model.specs.Tables.{semaphore_at, Tables}
 use Rattle.std.specs.Prelude.{IsSome}
 use Rattle.kernel_tables.specs.KernelTables.{kernel_tables}
-use Rattle.kernel_tables.specs.Served.{AreServed}
 use Rattle.kernel_tables.proofs.Queues.{queues_counted}
-use Rattle.kernel_tables.proofs.Served.{served_kept}
 use Rattle.kernel_tables.proofs.Waiters.{entry_used, inside_signaln, rests_written, used_owner}
 use Rattle.kernel_tables.proofs.tables.KernelTables.signaln.Goals as goal
 use Rattle.std.proofs.Common.{int_lt, pos, ◌+ℤ◌, false}
@@ -58,6 +56,4 @@ invariant_of-self c =
       inside = subst IsInside e (inside_signaln t sem n sound w used);
       queues = queues_counted (lists k.lists) (lists c.signaln.new.lists) c.signaln.new.self.entries c.self.invariant.queues.later
           (c.signaln.ensures.others 129 (λ e. omega (arith, w, e)) (λ e. omega arith)) c.signaln.ensures.counts;
-      served = subst AreServed e (served_kept t (with_tokens sem (x.tokens + (n - length x.waiters)) u)
-          (rests_written t (take n x.waiters) sem _) c.self.invariant.served);
     }

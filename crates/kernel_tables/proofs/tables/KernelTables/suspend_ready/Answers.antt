@@ -6,11 +6,9 @@ use Rattle.xinu_model.specs.Process.Scheduling.{in_state}
 use Rattle.xinu_model.specs.Sound.Tables.{IsInside}
 use Rattle.xinu_model.specs.Tables.{message_at, Nowhere, process_at, state_at}
 use Rattle.kernel_tables.specs.KernelTables.{kernel_tables}
-use Rattle.kernel_tables.specs.Served.{AreServed}
 use Rattle.semaphores.specs.Counts.{beside}
 use Rattle.kernel_tables.proofs.Queues.{queues_kept, state_in}
 use Rattle.kernel_tables.proofs.Inside.{inside_suspended}
-use Rattle.kernel_tables.proofs.Served.{served_move}
 use Rattle.kernel_tables.proofs.tables.KernelTables.suspend_ready.Goals as goal
 
 pub suspend_ready-requires-clause-fits : goal.suspend_ready-requires-clause-fits
@@ -33,6 +31,4 @@ invariant_of-self c =
       inside = subst IsInside e (inside_suspended t p c.self.invariant.inside c.requires.not_null (rw c.self.view_is c.requires.ready));
       queues = queues_kept (lists k.lists)
           (lists c.suspend_ready.new.lists) k.sems.entries c.self.invariant.queues c.suspend_ready.ensures.others;
-      served = subst AreServed e (served_move t p (in_state Suspended (process_at t p)) (message_at t p) Nowhere c.self.invariant.served
-          (c.self.invariant.served.rests p));
     }

@@ -3,14 +3,12 @@ use Rattle.queue_table.specs.Table.{lists}
 use Rattle.process_core.proofs.Inside.{inside_fits}
 use Rattle.xinu_model.specs.Sound.Tables.{IsInside}
 use Rattle.kernel_tables.specs.KernelTables.{kernel_tables}
-use Rattle.kernel_tables.specs.Served.{AreServed}
 use Rattle.semaphores.specs.Counts.{beside}
 use Rattle.xinu_base.specs.declared.processes.Rest.TheVariants.{SelfSuspend}
 use Rattle.xinu_base.specs.declared.processes.State.TheVariants.{Suspended}
 use Rattle.xinu_model.specs.Tables.{message_at, Nowhere, process_at}
 use Rattle.kernel_tables.proofs.Inside.{inside_self_suspended}
 use Rattle.kernel_tables.proofs.Running.{current_in}
-use Rattle.kernel_tables.proofs.Served.{served_move}
 use Rattle.kernel_tables.proofs.tables.KernelTables.suspend_self.Goals as goal
 
 pub block_current-requires-clause-runs : goal.block_current-requires-clause-runs
@@ -36,6 +34,4 @@ invariant_of-self c =
       inside = subst IsInside e (inside_self_suspended t c.self.invariant.inside (rw c.self.view_is c.requires.runs)
           (rw c.self.view_is c.requires.not_null));
       queues = c.self.invariant.queues;
-      served = subst AreServed e (served_move t t.current (record (process_at t t.current) { state = Suspended; rest = SelfSuspend })
-          (message_at t t.current) Nowhere c.self.invariant.served tt);
     }

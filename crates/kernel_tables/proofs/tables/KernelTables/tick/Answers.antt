@@ -10,10 +10,9 @@ use Rattle.xinu_model.specs.Sound.Tables.{IsInside, IsSoundTables}
 use Rattle.xinu_model.specs.Tables.{Tables}
 use Rattle.kernel_tables.specs.KernelTables.{kernel_tables}
 use Rattle.kernel_tables.specs.Waking.{are_any}
-use Rattle.kernel_tables.specs.Served.{AreServed}
 use Rattle.kernel_tables.proofs.Queues.{queues_kept, queues_later}
 use Rattle.kernel_tables.proofs.Running.{few_ticks}
-use Rattle.kernel_tables.proofs.Served.{rests_tick, served_kept}
+use Rattle.kernel_tables.proofs.Rests.{rests_tick}
 use Rattle.kernel_tables.proofs.Wakeups.{woken_later}
 use Rattle.kernel_tables.proofs.tables.KernelTables.tick.Goals as goal
 
@@ -65,8 +64,6 @@ invariant_of-self c =
       inside = subst IsInside e (sound_quantum (a_tick_later owes (ready_all ps t))
           (subst F (sym (found c)) (sound_later owes t sound))).inside;
       queues = queues_kept (lists c.wake.new.lists) (lists c.spend.new.lists) k.sems.entries w c.spend.ensures.others;
-      served = subst AreServed e (served_kept t (quantum_falls (a_tick_later owes (ready_all ps t)))
-          (rests_tick ps owes t) c.self.invariant.served);
     }
 
 pub returns : goal.returns

@@ -9,10 +9,9 @@ use Rattle.xinu_model.specs.Tables.{InSemaphore, message_at, move_to, process_at
 use Rattle.xinu_base.specs.declared.processes.State.TheVariants.{Waiting}
 use Rattle.std.specs.Prelude.{IsSome}
 use Rattle.kernel_tables.specs.KernelTables.{kernel_tables}
-use Rattle.kernel_tables.specs.Served.{AreServed}
 use Rattle.kernel_tables.proofs.Queues.{queues_counted}
 use Rattle.kernel_tables.proofs.Running.{current_in}
-use Rattle.kernel_tables.proofs.Waiters.{entry_used, fits_used, inside_waits, left_waiting, served_waits}
+use Rattle.kernel_tables.proofs.Waiters.{entry_used, fits_used, inside_waits, left_waiting}
 use Rattle.table_laws.proofs.Preserve.{current_within}
 use Rattle.kernel_tables.proofs.tables.KernelTables.wait.Goals as goal
 
@@ -66,6 +65,4 @@ invariant_of-self c =
           (rw c.self.view_is c.requires.owner) (c.wait-took.ensures.took k.slots k.clock));
       queues = queues_counted (lists k.lists) (lists c.wait-took.new.lists) c.wait-took.new.self.entries c.self.invariant.queues.later
           (c.wait-took.ensures.others 129 (λ e. omega (arith, w, e))) c.wait-took.ensures.counts;
-      served = subst AreServed e (served_waits c.wait-took.result t sem
-          ((semaphore_at t sem).tokens - 1) c.args.rest c.self.invariant.served c.requires.served);
     }

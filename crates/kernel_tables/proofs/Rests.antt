@@ -1,4 +1,4 @@
--- What the calls that are served leave of a call stays so, whoever moves.
+-- What is left of each call stays so while processes become ready, and in a resched and a tick.
 use Rattle.std.proofs.Common.{◌≡◌, ◌≢◌, ◌∙◌, ◌+◌, ℕ, zero, suc, true, false, Bool, ℤ, List, [], ◌∷◌, set, get_or, Option, Some, None, nat_lt, ◌-◌, refl, sym, subst}
 use Rattle.std.proofs.lemmas.Bool.{cond_both}
 use Rattle.xinu_base.specs.declared.processes.PortTicket.{PortTicket}
@@ -14,7 +14,6 @@ use Rattle.xinu_model.specs.Messages.{can_get, delivered, go_on_receive, listens
 use Rattle.xinu_model.specs.Process.Calls.{is_ready, with_priority}
 use Rattle.xinu_model.specs.Process.Scheduling.{dispatch_first, in_state, is_current, keeps_cpu, preempt, ready, resched, ready_all}
 use Rattle.xinu_model.specs.Tables.{InReady, message_at, move_to, no_process, Nowhere, Place, process_at, state_at, Tables}
-use Rattle.kernel_tables.specs.Served.{AreServed, IsServed}
 
 -- The same is left of each process's call.
 pub record SameRests (t u : Tables) : Type 0 where
@@ -24,10 +23,6 @@ pub record SameRests (t u : Tables) : Type 0 where
 pub rests_twice : (t u v : Tables) → SameRests t u → SameRests u v → SameRests t v
 rests_twice t u v a b = record { same = λ p. b.same p ∙ a.same p }
 
--- what is served stays so
-pub served_kept : (t u : Tables) → SameRests t u → AreServed t → AreServed u
-served_kept t u a s = record { rests = λ p. subst IsServed (sym (a.same p)) (s.rests p) }
-
 -- an entry with the same rest
 rest_set : (l : List Process) (p : ℕ) (x : Process) (q : ℕ) → x.rest ≡ (get_or l p no_process).rest
     → (get_or (set l p x) q no_process).rest ≡ (get_or l q no_process).rest
@@ -36,20 +31,6 @@ rest_set (y ∷ l) zero x zero e = e
 rest_set (y ∷ l) zero x (suc q) e = refl
 rest_set (y ∷ l) (suc p) x zero e = refl
 rest_set (y ∷ l) (suc p) x (suc q) e = rest_set l p x q e
-
--- another entry
-served_set : (l : List Process) (p : ℕ) (x : Process) (r : ℕ) → ((q : ℕ) → IsServed (get_or l q no_process).rest) → IsServed x.rest
-    → IsServed (get_or (set l p x) r no_process).rest
-served_set [] p x r s h = s r
-served_set (y ∷ l) zero x zero s h = h
-served_set (y ∷ l) zero x (suc r) s h = s (suc r)
-served_set (y ∷ l) (suc p) x zero s h = s zero
-served_set (y ∷ l) (suc p) x (suc r) s h = served_set l p x r (λ q. s (suc q)) h
-
--- a process moves
-pub served_move : (t : Tables) (p : ℕ) (x : Process) (m : Option ℕ) (place : Place) → AreServed t → IsServed x.rest
-    → AreServed (move_to p x m place t)
-served_move t p x m place s h = record { rests = λ r. served_set t.processes p x r s.rests h }
 
 -- a process moves with the same left of its call
 pub rests_move : (t : Tables) (p : ℕ) (x : Process) (m : Option ℕ) (place : Place) → x.rest ≡ (process_at t p).rest
@@ -80,33 +61,6 @@ rests_resched t =
     (λ _. rests_twice t (preempt t) (dispatch_first (preempt t).ready (preempt t)) (rests_preempt t)
     (rests_dispatch_first (preempt t).ready (preempt t)))
 
--- another priority
-pub rests_with_priority : (t : Tables) (p : ℕ) (priority : ℤ) → SameRests t (with_priority p priority t)
-rests_with_priority t p priority =
-    let x = record (process_at t p) { priority = priority } in
-    cond_both (is_ready (state_at t p)) (move_to p x (message_at t p) InReady t) (record t { processes = set t.processes p x })
-    (SameRests t)
-    (λ _. rests_move t p x (message_at t p) InReady refl) (λ _. record { same = λ q. rest_set t.processes p x q refl })
-
--- a message
-rests_delivered : (p m : ℕ) (d : CallState) → SameRests d.state.tables (delivered p m d).state.tables
-rests_delivered p m d =
-    let t = d.state.tables in
-    cond_both (listens (state_at t p))
-    (record (with_tables (move_to p (in_state Ready (process_at t p)) (Some m) InReady t) d) { owes_resched = true })
-    (with_tables (record t { messages = set t.messages p (Some m) }) d) (λ (e : CallState). SameRests t e.state.tables)
-    (λ _. rests_move t p (in_state Ready (process_at t p)) (Some m) InReady refl) (λ _. record { same = λ q. refl })
-
-pub rests_sent : (p m : ℕ) (d : CallState) → SameRests d.state.tables (sent p m d).state.tables
-rests_sent p m d =
-    cond_both (can_get p d.state.tables) (delivered p m d) d (λ (e : CallState). SameRests d.state.tables e.state.tables)
-    (λ _. rests_delivered p m d) (λ _. record { same = λ q. refl })
-
--- a process is made
-pub served_made : (t : Tables) (p : ℕ) (x : Process) → AreServed t → IsServed x.rest
-    → AreServed (record (move_to p x None Nowhere t) { last_process = p })
-served_made t p x s h = record { rests = λ r. served_set t.processes p x r s.rests h }
-
 -- the quantum falls
 pub rests_quantum_falls : (t : Tables) → SameRests t (quantum_falls t)
 rests_quantum_falls t =
@@ -124,22 +78,3 @@ rests_tick ps owes t =
     let u = ready_all ps t in
     let v = a_tick_later owes u in
     rests_twice t v (quantum_falls v) (rests_twice t u v (rests_ready_all ps t) (rests_a_tick_later owes u)) (rests_quantum_falls v)
-
--- whatever else is left of a call is the receipt of a message
-pub receives : (r : Rest) (s : Xinu) → IsServed r → r ≢ Nothing → r ≢ SelfSuspend → ((i : ℕ) → r ≢ GetBuf i)
-    → ((ticket : PortTicket) (message : ℕ) → r ≢ PtSend ticket message) → ((ticket : PortTicket) → r ≢ PtRecv ticket)
-    → r ≢ TtyGet → ((part : Span) → r ≢ TtyRead part)
-    → ((b : ℕ) (returned : Bool) → r ≢ TtyPut b returned) → ((part : Span) (returned : Bool) → r ≢ TtyWrite part returned)
-    → continued r s ≡ go_on_receive s
-receives SelfSuspend x s n m g a b c d e f = absurd (m refl)
-receives Nothing x s n m g a b c d e f = absurd (n refl)
-receives Receive x s n m g a b c d e f = refl
-receives Timed x s n m g a b c d e f = refl
-receives (GetBuf i) x s n m g a b c d e f = absurd (g i refl)
-receives (PtSend ticket message) x s n m g a b c d e f = absurd (a ticket message refl)
-receives (PtRecv ticket) x s n m g a b c d e f = absurd (b ticket refl)
-receives TtyGet x s n m g a b c d e f = absurd (c refl)
-receives (TtyRead part) x s n m g a b c d e f = absurd (d part refl)
-receives (TtyPut h r) x s n m g a b c d e f = absurd (e h r refl)
-receives (TtyWrite part r) x s n m g a b c d e f = absurd (f part r refl)
-receives (Disk reply) x s n m g a b c d e f = absurd s
