@@ -1,10 +1,12 @@
 -- What the driver's requests and completions stand for.
-use Rattle.std.specs.Prelude.{ℕ, ◌<◌, List, [], ◌∷◌, ◌++◌, Option, Some, None}
+use Rattle.std.specs.Prelude.{ℕ, ◌≡◌, ◌<◌, true, List, [], ◌∷◌, ◌++◌, Option, Some, None}
 use Rattle.std.specs.List.{AllByRecursion}
 use Rattle.disk_driver.specs.declared.requests.Request.{Request}
 use Rattle.disk_driver.specs.declared.requests.Done.{Done}
 use Rattle.xinu_model.specs.RawDisk.Callers.{given_up, others}
+use Rattle.xinu_model.specs.Memory.{in_ram}
 use Rattle.xinu_model.specs.RawDisk.Completions.{Served}
+use Rattle.xinu_model.specs.RawDisk.Constants.{RD_BLKSIZ}
 use Rattle.xinu_model.specs.RawDisk.Requests as model
 use Rattle.xinu_model.specs.RawDisk.Requests.{RawDisk, orphaned_request}
 
@@ -21,9 +23,14 @@ bytes_read (Some bytes) = bytes
 abbrev pub served_of : Done → RawDisk → Served
 served_of done disk = record { request = request_of done.request; reply = done.reply; bytes = bytes_read done.read; disk = disk }
 
--- each request is for one of so many blocks
+-- a request is for one of so many blocks, and its bytes are in RAM
+pub record IsWithin (blocks : ℕ) (r : model.Request) : Type 0 where
+  pub block : r.block < blocks
+  pub range : in_ram r.at RD_BLKSIZ ≡ true
+
+-- each request is so
 abbrev pub AreWithin : ℕ → List model.Request → Type 0
-AreWithin blocks requests = AllByRecursion (λ (r : model.Request). r.block < blocks) requests
+AreWithin blocks requests = AllByRecursion (IsWithin blocks) requests
 
 -- the requests that stay, if p was killed, of these after those that are kept
 abbrev pub kept_after : ℕ → List model.Request → List model.Request → List model.Request

@@ -4,6 +4,7 @@ ghost use Rattle.std.specs.Prelude.{◌≡◌, ◌<◌, ◌≤◌, [], ◌∷◌
 ghost use Rattle.std.specs.List.{concat};
 ghost use Rattle.disk_driver.specs.Blocks.{blocks_of};
 ghost use Rattle.disk_driver.specs.Served.{bytes_read, request_of, served_of};
+ghost use Rattle.xinu_model.specs.Memory.{in_ram};
 ghost use Rattle.xinu_model.specs.RawDisk.Completions.{after_completion, raw_completed, transferred};
 ghost use Rattle.xinu_model.specs.RawDisk.Requests.{block_at, has_block, requested, requests_given_up};
 
@@ -20,7 +21,7 @@ const OK: i32 = 0;
 #[derive(Drop)]
 pub struct Disk {
     blocks: Blocks,
-    // The requests, each for a block that there is.
+    // The requests, each for a block that there is and with bytes in RAM.
     requests: Requests,
 }
 
@@ -88,10 +89,11 @@ impl Disk {
         self.requests.len()
     }
 
-    /// A request goes after the others.
+    /// A request, whose bytes are in RAM, goes after the others.
     pub fn submit(&mut self, r: Request)
         requires room { length self.old.requests < 64 }
         requires within { has_block r.block self.old ≡ true }
+        requires range { in_ram r.at 512 ≡ true }
         ensures submits { self.new ≡ requested (request_of r) self.old }
     {
         let caller = r.caller;
@@ -103,6 +105,7 @@ impl Disk {
     pub fn complete(&mut self, good: bool) -> Option<Done>
         ensures served { option_map (λ done. served_of done self.new) result ≡ raw_completed good self.old }
         ensures disk { self.new ≡ after_completion (raw_completed good self.old) self.old }
+        ensures range { IfSome result (λ done. in_ram done.request.at 512 ≡ true) }
     {
         let request = self.take_first()?;
         if !good {
@@ -137,6 +140,7 @@ impl Disk {
         ensures empty { IfNone result (self.old.requests ≡ []) }
         ensures same { IfNone result (self.new ≡ self.old) }
         ensures within { IfSome result (λ r. r.block < length self.new.blocks) }
+        ensures range { IfSome result (λ r. in_ram r.at 512 ≡ true) }
     {
         self.requests.pop_at(0)
     }
