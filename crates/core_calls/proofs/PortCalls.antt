@@ -217,7 +217,7 @@ receiver_fits s q ticket a i =
     subst F (sym i.is) (subst (λ o. FitsOwner y.sem o (PtRecv y)) (sym k.receive_owner) (refl, refl))
 
 -- a token is taken of some
-token_taken : (n sem : ℕ) (rest : Rest) (then_ : Xinu → CallResult) (s : Xinu) → true ≡ nat_lt 0 n
+pub token_taken : (n sem : ℕ) (rest : Rest) (then_ : Xinu → CallResult) (s : Xinu) → true ≡ nat_lt 0 n
     → then_ (record s { tables = with_tokens sem (n - 1) s.tables }) ≡ take_token n sem rest then_ s
 token_taken zero sem rest then_ s h = absurd (cc)
 token_taken (suc n) sem rest then_ s h =

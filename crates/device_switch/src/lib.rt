@@ -12,7 +12,7 @@
 //!
 //! | Call | Promise |
 //! |---|---|
-//! | `device` | `named`, `missing`: the device of this number, refused if and only if there is none |
+//! | `device` | `named`, `known`, `missing`: the device of this number, refused if and only if there is none |
 //! | `kind_of` | `kind`: what it is |
 //! | `offers` | `offers`: whether it offers a call |
 //!

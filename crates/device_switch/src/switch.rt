@@ -1,6 +1,6 @@
 //! The table of devices.
 
-ghost use Rattle.std.specs.Prelude.{◌≡◌, IfErr, IfOk, None, Some, option_map};
+ghost use Rattle.std.specs.Prelude.{◌≡◌, IfErr, IfOk, None, Some, is_some, option_map, true};
 ghost use Rattle.xinu_model.specs.Devices.Table as table;
 
 use xinu_base::{Dev, Kind, Op};
@@ -16,6 +16,7 @@ pub struct NoSuch;
 /// `NoSuch` if and only if there is no device of this number.
 pub fn device(word: u32) -> Result<Dev, NoSuch>
     ensures named { IfOk result (λ dev. dev ≡ word) }
+    ensures known { IfOk result (λ _. is_some (table.kind_of word) ≡ true) }
     ensures missing { IfErr result (λ _. table.kind_of word ≡ None) }
 {
     Dev::from_word(word).ok_or(NoSuch)

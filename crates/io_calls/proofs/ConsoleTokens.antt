@@ -1,15 +1,19 @@
 -- A caller that takes a token of the console's, or was released with one, and what it finds.
-use Rattle.std.proofs.Common.{◌≡◌, ◌≢◌, ◌∙◌, ℕ, zero, suc, ◌-◌, ◌<◌, Bool, true, cond, refl, sym, ap, subst, arith}
+use Rattle.std.proofs.Common.{◌≡◌, ◌≢◌, ◌∙◌, ℕ, zero, suc, ◌-◌, ◌<◌, Bool, true, false, cond, refl, sym, ap, subst, arith}
 use Rattle.std.specs.Prelude.{nat_lt}
-use Rattle.io_calls.specs.Consoles.{Begins, GoesOn, HasItem, HasPlace}
-use Rattle.kernel_state.specs.Results.{IsStart}
+use Rattle.io_calls.specs.Consoles.{Begins, GoesOn, HasItem, HasPlace, if_taken}
+use Rattle.kernel_state.specs.Results.{came_to, IsStart}
 use Rattle.xinu_base.specs.declared.processes.Rest.{Rest}
 use Rattle.xinu_base.specs.declared.processes.State.TheVariants.{Waiting}
+use Rattle.xinu_base.specs.declared.syscalls.Next.TheVariants as next
 use Rattle.xinu_laws.proofs.Consoles.Kept.{Holds, device_within, caller_within, token_holds, token_console, goes_on_holds, goes_on_console}
 use Rattle.xinu_laws.proofs.Consoles.Promised.{promised_token, promised_goes_on}
-use Rattle.xinu_model.specs.Machine.{CallState, goes_on}
+use Rattle.xinu_model.specs.Console.Putting.{needs_return, put, put_byte}
+use Rattle.xinu_model.specs.Console.Taking.{console_of}
+use Rattle.xinu_model.specs.Machine.{CallResult, CallState, goes_on, Xinu}
 use Rattle.xinu_model.specs.Messages.{held}
 use Rattle.xinu_model.specs.Semaphores.Counts.{with_tokens}
+use Rattle.xinu_model.specs.Semaphores.Waiting.{await}
 use Rattle.xinu_model.specs.Sound.Console.{HasSpan}
 use Rattle.xinu_model.specs.Sound.Devices.{AreDevices}
 use Rattle.xinu_model.specs.Sound.State.{AreHarts}
@@ -119,3 +123,21 @@ goes_on_as asks d left b e h = record { begins = b; asked = ap asks e ∙ h }
 -- a read or a write that goes on has something left to do
 pub span_left : (d : CallState) (left : Rest) → Begins d → (process_at d.state.tables d.state.tables.current).rest ≡ left → HasSpan left
 span_left d left b e = subst HasSpan e (b.console.spans d.state.tables.current)
+
+-- A newline waits for its second token, after its carriage return,
+pub newline_waits : (b : ℕ) (left : Rest) (u s : Xinu) (e : CallState) (took : Bool) → needs_return b (console_of s).mode ≡ true → u ≡ put 13 s
+    → ((then_ : Xinu → CallResult) → await 1 left then_ u ≡ if_taken took then_ e) → took ≡ false
+    → (then_ : Xinu → CallResult) → put_byte b left then_ s ≡ came_to e next.Waits
+newline_waits b left u s e took needs is waits none then_ =
+    ap (λ y. cond y (await 1 left (λ x. then_ (put 10 x)) (put 13 s)) (then_ (put b s))) needs
+    ∙ sym (ap (await 1 left (λ x. then_ (put 10 x))) is) ∙ waits (λ x. then_ (put 10 x))
+    ∙ ap (λ y. if_taken y (λ x. then_ (put 10 x)) e) none
+
+-- or is put by it.
+pub newline_put : (b : ℕ) (left : Rest) (u s : Xinu) (e : CallState) (took : Bool) → needs_return b (console_of s).mode ≡ true → u ≡ put 13 s
+    → ((then_ : Xinu → CallResult) → await 1 left then_ u ≡ if_taken took then_ e) → took ≡ true
+    → (m : CallState) → m.state ≡ put 10 e.state → (then_ : Xinu → CallResult) → put_byte b left then_ s ≡ then_ m.state
+newline_put b left u s e took needs is waits some m puts then_ =
+    ap (λ y. cond y (await 1 left (λ x. then_ (put 10 x)) (put 13 s)) (then_ (put b s))) needs
+    ∙ sym (ap (await 1 left (λ x. then_ (put 10 x))) is) ∙ waits (λ x. then_ (put 10 x))
+    ∙ ap (λ y. if_taken y (λ x. then_ (put 10 x)) e) some ∙ sym (ap then_ puts)

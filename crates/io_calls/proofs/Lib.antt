@@ -1,5 +1,9 @@
+pub mod BlockBytes
 pub mod ConsoleReads
 pub mod ConsoleSignals
 pub mod ConsoleTokens
 pub mod ConsoleWrites
 pub mod DeviceCalls
+pub mod FewRequests
+pub mod Mounting
+pub mod ReadTexts

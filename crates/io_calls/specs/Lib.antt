@@ -1,2 +1,4 @@
 pub mod Consoles
 pub mod Devices
+pub mod Disks
+pub mod Mounts

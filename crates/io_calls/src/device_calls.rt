@@ -1,24 +1,28 @@
 //! The calls on devices, 36 to 43: each goes to the device that its first argument names, if that offers it (book, chapter 14, `open.c`,
 //! `close.c`, `read.c`, `write.c`, `getc.c`, `putc.c`, `seek.c`, `control.c`).
 //!
-//! Each is the row of its number in the abstract machine's table. So far the console is the one device that is built: any other offers nothing.
+//! Each is the row of its number in the abstract machine's table. The console and the raw disk are built: any other device offers nothing.
 
-ghost use Rattle.std.specs.Prelude.{◌≡◌, ◌%◌, ℕ, ℤ, IfSome, is_some};
+ghost use Rattle.std.specs.Prelude.{◌≡◌, ◌%◌, ℕ, ℤ, IfSome, true};
 ghost use Rattle.io_calls.specs.Consoles.{Begins};
-ghost use Rattle.io_calls.specs.Devices.{by_kind, if_built};
+ghost use Rattle.io_calls.specs.Devices.{by_kind, if_built, is_served_kind};
+ghost use Rattle.kernel_state.specs.Calling.{IsCalling};
 ghost use Rattle.kernel_state.specs.Results.{came_to, IsStart};
 ghost use Rattle.xinu_base.specs.declared.devices.Kind.{Kind};
 ghost use Rattle.xinu_model.specs.Devices.Calls as model;
-ghost use Rattle.xinu_model.specs.Devices.Texts.{text_at, text_in};
 ghost use Rattle.xinu_model.specs.Machine.{CallResult, Xinu};
 
 use crate::console_reads::{console_getc, console_read};
 use crate::console_signals::console_control;
 use crate::console_writes::{console_putc, console_write};
+use crate::disk_calls::{disk_control, disk_read, disk_write};
+use crate::texts::text_at;
 use device_switch::{Kind, Op, device, kind_of, offers};
 use kernel_state::{KernelState, signed};
-use rv_hart::Ram;
 use xinu_base::{Next, SYSERR, is_built_device};
+
+// The number of the raw disk.
+const DISK0: i32 = 2;
 
 /// Call 36: a device is opened, with the texts at two addresses as a name and a mode. Refused if a text isn't there.
 pub(crate) fn device_open(k: &mut KernelState, dev: u32, name: u32, mode: u32) -> Next
@@ -28,11 +32,12 @@ pub(crate) fn device_open(k: &mut KernelState, dev: u32, name: u32, mode: u32) -
     let Some(kind) = offering(dev, Op::Open) else {
         return Next::Returns(SYSERR);
     };
-    if !has_text(&k.ram, name) || !has_text(&k.ram, mode) {
+    if text_at(&k.ram, name).is_none() || text_at(&k.ram, mode).is_none() {
         return Next::Returns(SYSERR);
     }
     match kind {
         Kind::Console => Next::Returns(0),
+        Kind::RawDisk => Next::Returns(DISK0),
         _ => Next::Returns(SYSERR),
     }
 }
@@ -46,14 +51,14 @@ pub(crate) fn device_close(k: &mut KernelState, dev: u32) -> Next
         return Next::Returns(SYSERR);
     };
     match kind {
-        Kind::Console => Next::Returns(0),
+        Kind::Console | Kind::RawDisk => Next::Returns(0),
         _ => Next::Returns(SYSERR),
     }
 }
 
-/// Call 38: a device is read, to an address.
+/// Call 38: a device is read, to an address; the last argument is a number of bytes, of the raw disk the number of a block.
 pub(crate) fn device_read(k: &mut KernelState, dev: u32, at: u32, n: u32) -> Next
-    requires begins { Begins k.old }
+    requires calling { IsCalling k.old }
     ensures read { came_to k.new result ≡ if_built dev (model.device_read dev at n) k.old.state }
 {
     let Some(kind) = offering(dev, Op::Read) else {
@@ -61,13 +66,14 @@ pub(crate) fn device_read(k: &mut KernelState, dev: u32, at: u32, n: u32) -> Nex
     };
     match kind {
         Kind::Console => console_read(k, at, signed(n)),
+        Kind::RawDisk => disk_read(k, at, n),
         _ => Next::Returns(SYSERR),
     }
 }
 
-/// Call 39: a device is written, from an address.
+/// Call 39: a device is written, from an address; the last argument is as that of `read`.
 pub(crate) fn device_write(k: &mut KernelState, dev: u32, at: u32, n: u32) -> Next
-    requires begins { Begins k.old }
+    requires calling { IsCalling k.old }
     ensures write { came_to k.new result ≡ if_built dev (model.device_write dev at n) k.old.state }
 {
     let Some(kind) = offering(dev, Op::Write) else {
@@ -75,6 +81,7 @@ pub(crate) fn device_write(k: &mut KernelState, dev: u32, at: u32, n: u32) -> Ne
     };
     match kind {
         Kind::Console => console_write(k, at, signed(n)),
+        Kind::RawDisk => disk_write(k, at, n),
         _ => Next::Returns(SYSERR),
     }
 }
@@ -117,7 +124,7 @@ pub(crate) fn device_seek(k: &KernelState) -> Next
 
 /// Call 43: a control function of a device.
 pub(crate) fn device_control(k: &mut KernelState, dev: u32, f: u32, x: u32) -> Next
-    requires begins { Begins k.old }
+    requires calling { IsCalling k.old }
     ensures control { came_to k.new result ≡ if_built dev (model.device_control dev f x) k.old.state }
 {
     let Some(kind) = offering(dev, Op::Control) else {
@@ -125,41 +132,18 @@ pub(crate) fn device_control(k: &mut KernelState, dev: u32, f: u32, x: u32) -> N
     };
     match kind {
         Kind::Console => console_control(k, f),
+        Kind::RawDisk => disk_control(k, f),
         _ => Next::Returns(SYSERR),
     }
 }
 
-// What the device is that a word names, if the machine has it and it offers this call. So far it is the console.
+// What the device is that a word names, if the machine has it and it offers this call.
 fn offering(word: u32, op: Op) -> Option<Kind>
     ensures offered { (does : Kind → Xinu → CallResult) (s : Xinu) → if_built word (model.on_device op word does) s ≡ by_kind result does s }
-    ensures console { IfSome result (λ kind. kind ≡ Kind.Console) }
+    ensures served { IfSome result (λ kind. is_served_kind kind ≡ true) }
 {
     match device(word) {
         Ok(dev) if is_built_device(word) && offers(dev, op) => Some(kind_of(dev)),
         _ => None,
     }
-}
-
-// Whether there is a text at an address: a zero byte is among the 128 bytes there that are in RAM.
-fn has_text(ram: &Ram, a: u32) -> bool
-    ensures text { result ≡ is_some (text_at a ram.now) }
-{
-    let bytes = ram.bytes_from(a);
-    if bytes.len() > 128 {
-        has_zero(&bytes[..128])
-    } else {
-        has_zero(bytes)
-    }
-}
-
-// Whether a zero byte is among these.
-fn has_zero(bytes: &[u8]) -> bool
-    ensures zero { result ≡ is_some (text_in bytes.now) }
-{
-    for b in bytes {
-        if *b == 0 {
-            return true;
-        }
-    }
-    false
 }

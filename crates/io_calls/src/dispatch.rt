@@ -1,4 +1,4 @@
-//! The calls on devices by their numbers, and what is left of those that wait.
+//! The calls on devices and names by their numbers, and what is left of those that wait.
 
 ghost use Rattle.std.specs.Prelude.{◌≡◌, ◌≤◌, true};
 ghost use Rattle.kernel_state.specs.Families.{is_on_device};
@@ -14,6 +14,8 @@ use crate::device_calls::{
     device_close, device_control, device_getc, device_open, device_putc, device_read, device_seek,
     device_write,
 };
+use crate::disk_calls::go_on_disk;
+use crate::name_calls::mount;
 use kernel_state::KernelState;
 use xinu_base::{Call, Next, Rest, SYSERR};
 
@@ -34,11 +36,12 @@ pub fn begin(k: &mut KernelState, call: Call) -> Next
         41 => device_putc(k, a[0], a[1]),
         42 => device_seek(k),
         43 => device_control(k, a[0], a[1], a[2]),
+        44 => mount(k, a[0], a[1], a[2]),
         _ => Next::Returns(SYSERR),
     }
 }
 
-/// Does what is left of the current process's call on a device: items or bytes of the console.
+/// Does what is left of the current process's call on a device: items or bytes of the console, or the reply of a disk.
 pub fn go_on(k: &mut KernelState) -> Next
     requires calling { IsCalling k.old }
     requires io { is_on_device (process_at k.old.state.tables k.old.state.tables.current).rest ≡ true }
@@ -49,6 +52,7 @@ pub fn go_on(k: &mut KernelState) -> Next
         Rest::TtyRead(part) => go_on_read(k, part),
         Rest::TtyPut(b, returned) => go_on_putc(k, b, returned),
         Rest::TtyWrite(part, returned) => go_on_write(k, part, returned),
+        Rest::Disk(reply) => go_on_disk(k, reply),
         _ => Next::Returns(SYSERR),
     }
 }

@@ -1,4 +1,4 @@
-//! The calls on devices, 36 to 43, what is left of them, and the interrupts of the console (book, chapters 14 and 15).
+//! The calls on devices, 36 to 44, what is left of them, and the interrupts of devices (book, chapters 14, 15, 18 and 21).
 //!
 //! | Calls | File |
 //! |---|---|
@@ -7,6 +7,9 @@
 //! | `putc` and `write` of the console, and what is left of them | `console_writes.rt` |
 //! | `control` of the console, a character, a transmission | `console_signals.rt` |
 //! | the tokens of the console's semaphores | `console_tokens.rt` |
+//! | `read`, `write` and `control` of the raw disk, what is left of them, a completion | `disk_calls.rt` |
+//! | `mount` | `name_calls.rt` |
+//! | texts in RAM | `texts.rt` |
 //! | by their numbers, and what is left of them | `dispatch.rt` |
 //!
 //! | Call | Condition | Promise |
@@ -14,9 +17,11 @@
 //! | [`begin`] | `io`, `built`: a number from 36 on; `calling`: what holds when a process calls | `called`: what the row of the number gives |
 //! | [`go_on`] | `calling`; `io`: something is left of a call on a device | `continued`: what the abstract machine's continuation gives |
 //! | [`on_type`], [`on_tx`] | `start` and what holds of the console | a character is received; a byte is sent, if there is one |
+//! | [`on_disk`] | `start` and what holds of the raw disk | `completes`: its first request is served, well or badly, if there is one |
 //!
 //! Each call is a function over a `KernelState`, and its clause is the abstract machine's own. `is_built_device` of `xinu_base` says which
-//! devices are served. The crate depends on `kernel_state`, `device_switch` and `tty_driver`; it doesn't know `core_calls`.
+//! devices are served. The crate depends on `kernel_state`, `device_switch`, `tty_driver`, `disk_driver` and `name_space`; it doesn't know
+//! `core_calls`.
 #![tactic(auto)]
 
 mod console_reads;
@@ -24,7 +29,11 @@ mod console_signals;
 mod console_tokens;
 mod console_writes;
 mod device_calls;
+mod disk_calls;
 mod dispatch;
+mod name_calls;
+mod texts;
 
 pub use console_signals::{on_tx, on_type};
+pub use disk_calls::on_disk;
 pub use dispatch::{begin, go_on};

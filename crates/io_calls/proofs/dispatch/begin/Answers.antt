@@ -60,3 +60,10 @@ returns-in-43 c = record {
   called = row_is 43 c.args.call.number c.args.call.args c.args.k.now.state _ c.in-43.is
       c.requires.built (search rules);
 }
+
+pub returns-in-44 : goal.returns-in-44
+unfolding calls
+returns-in-44 c = record {
+  called = row_is 44 c.args.call.number c.args.call.args c.args.k.now.state _ c.in-44.is
+      c.requires.built (search rules);
+}
