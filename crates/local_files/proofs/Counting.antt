@@ -42,7 +42,7 @@ unfolding header_on
 counts_are base disk read honest same = ap (λ b. header_2 (dir_of b)) (honest ∙ ap (λ x. block_in x 0) same)
 
 -- a call that puts bytes doesn't truncate
-not_truncate : (c : FileCall) (bytes : List ℕ) → IsPut c bytes → is_truncate c ≡ false
+pub not_truncate : (c : FileCall) (bytes : List ℕ) → IsPut c bytes → is_truncate c ≡ false
 not_truncate (Write d) bytes h = refl
 not_truncate (Putc d b) bytes h = refl
 not_truncate (Open a b) bytes h = absurd h

@@ -70,7 +70,6 @@ cut_read_goes e e' base disk read phase new put s honest =
               places = c.places;
               chain = c.chain;
               blocks = c.blocks;
-              old_size = c.old_size;
               chain_long = c.chain_long;
               blocks_long = c.blocks_long;
               numbers = c.numbers;
@@ -117,7 +116,6 @@ cut_written_goes e e' base disk phase new s =
       places = p2;
       chain = c.chain;
       blocks = c.blocks;
-      old_size = c.old_size;
       chain_long = c.chain_long;
       blocks_long = c.blocks_long;
       numbers = c.numbers;
@@ -170,7 +168,6 @@ free_written_goes e e' b base disk phase new s =
       places = p2;
       chain = c.chain;
       blocks = c.blocks;
-      old_size = c.old_size;
       chain_long = c.chain_long;
       blocks_long = c.blocks_long;
       numbers = c.numbers;
@@ -293,9 +290,8 @@ cutting_goes e base s slot entry used header for =
       places = p2;
       chain = chain;
       blocks = blocks;
-      old_size = e.entry.size;
-      chain_long = chain_long;
-      blocks_long = blocks_long;
+      chain_long = read.chain_long;
+      blocks_long = read.blocks_long;
       numbers = λ j h. (let r = (read.block j h).1 in omega (arith, r, same));
       short = (let l = small in omega (arith, chain_long, l));
       cut = (let C : ℕ → Header → Type 0 = λ k h. IsCut k base base h e.slot e2.entry p2 chain blocks 0 0 in let A : ℕ

@@ -20,3 +20,6 @@ pub mod Links
 pub mod Counting
 pub mod Starts
 pub mod Serving
+pub mod Falls
+pub mod Completions
+pub mod Bounds

@@ -135,6 +135,14 @@ head e d header base read counts h r =
     ap (λ v. if v then header_2 (dir_of read) else e.header) t ∙ h.header (omega (arith, ge))))
     (cases_lt d 1)
 
+-- an entry of the block is that of the directory
+pub entry_found : (e : Files) (d k : ℕ) (entry : Entry) (base disk read : List ℕ) → IsSearch e d base disk → Stands e base disk
+    → read ≡ block_in disk d → k < 13 → entry ≡ slice_index_or (dir_of read).entries k void_entry → entry_at base (13 * d + k) ≡ entry
+entry_found e d k entry base disk read h s honest below is =
+    let many = blocks_many e base disk s in let blocks = s.blocks in let block = h.block in
+    sym (is ∙ ap (λ b. slice_index_or (dir_of b).entries k void_entry) (honest ∙ ap (λ x. block_in x d) h.same)
+    ∙ entry_of_block base e.blocks d k blocks (let m = many.0 in omega (arith, m)) block below)
+
 -- what the code leaves, if the name is in block d
 pub found_goes : (e e' : Files) (d k : ℕ) (header : Header) (entry : Entry) (name base disk read : List ℕ) → e.phase ≡ Search d
     → header ≡ (if d == 0 then header_2 (dir_of read) else e.header)
@@ -153,9 +161,7 @@ found_goes e e' d k header entry name base disk read phase counts new named belo
     e1 = record e { header = header }
 
     here : IsSearch e d base disk → entry_at base (13 * d + k) ≡ entry
-    here h = let many = blocks_many e base disk s in let blocks = s.blocks in let block = h.block in
-        sym (is ∙ ap (λ b. slice_index_or (dir_of b).entries k void_entry) (honest ∙ ap (λ x. block_in x d) h.same)
-        ∙ entry_of_block base e.blocks d k blocks (let m = many.0 in omega (arith, m)) block below)
+    here h = entry_found e d k entry base disk read h s honest below is
 
     by_call : (c : FileCall) → e.call ≡ c → IsSearch e d base disk
         → GoesTo (finding c (13 * d + k) entry e1).phase c (given_bytes c (put_bytes e)) e (finding c (13 * d + k) entry e1) base base

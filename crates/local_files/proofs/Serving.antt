@@ -49,14 +49,17 @@ pub other_goes : (e e' : Files) (call : FileCall) (bytes base disk : List ℕ) �
 other_goes e e' call bytes base disk h g =
     let P : List ℕ → Type 0 = λ b. GoesTo e'.phase call b e e' base disk in subst P (given_same call [] bytes h) g
 
+-- what is read is the block that is wanted
+pub read_is : (e : Files) (n : ℕ) (disk read : List ℕ) → wanted e ≡ Some (work.Read n) → IsHonest e read disk → read ≡ block_in disk n
+read_is e n disk read is honest = let H : Option BlockWork → Type 0 = λ w. IsHonestFor w read disk in subst H is honest
+
 -- A block is read.
 pub read_completes : (e e' : Files) (n : ℕ) (base disk read : List ℕ) → wanted e ≡ Some (work.Read n) → IsHonest e read disk
     → (read ≡ block_in disk n → GoesTo e'.phase e.call (call_bytes e) e e' base disk)
     → GoesTo e'.phase e.call (call_bytes e) e e' base (served e disk)
 read_completes e e' n base disk read is honest goes =
-    let H : Option BlockWork → Type 0 = λ w. IsHonestFor w read disk in
     let P : Option BlockWork → Type 0 = λ w. GoesTo e'.phase e.call (call_bytes e) e e' base (served_by w e.block disk) in
-    subst P (sym is) (goes (subst H is honest))
+    subst P (sym is) (goes (read_is e n disk read is honest))
 
 -- A block is written.
 pub write_completes : (e e' : Files) (n : ℕ) (base disk : List ℕ) → wanted e ≡ Some (work.Write n)

@@ -220,15 +220,14 @@ IsCutFor (Delete name) e base = IsDeleting e base
 IsCutFor (Truncate d) e base = IsEmptied e base
 IsCutFor _ e base = ⊥
 
--- the file in hand is cut to nothing: of its blocks, which it had for so many bytes, those of the first index blocks are free
+-- the file in hand is cut to nothing: of its blocks, by its size on the base, the first ones are free
 pub record IsCutting (e : Files) (freed : ℕ) (base disk : List ℕ) : Type 0 where
   pub for : IsCutFor e.call e base
   pub places : Places
   pub chain : List ℕ
   pub blocks : List ℕ
-  pub old_size : ℕ
-  pub chain_long : length chain ≡ (old_size + 8191) / 8192
-  pub blocks_long : length blocks ≡ (old_size + 511) / 512
+  pub chain_long : length chain ≡ ((entry_at base e.slot).size + 8191) / 8192
+  pub blocks_long : length blocks ≡ ((entry_at base e.slot).size + 511) / 512
   pub numbers : (j : ℕ) → j < length blocks → slice_index blocks j < e.blocks
   pub short : length chain ≤ 1048576
   pub cut : IsCut e.blocks base disk e.header e.slot e.entry places chain blocks e.reached freed

@@ -7,3 +7,4 @@ pub mod Opens
 pub mod Hands
 pub mod Putting
 pub mod Standing
+pub mod Bounds

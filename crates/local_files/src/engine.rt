@@ -1,9 +1,11 @@
 //! The engine's calls.
 
 ghost use Rattle.std.specs.Prelude.{◌≡◌, ◌+◌, ◌*◌, ◌/◌, ◌<◌, ◌≤◌, ℕ, List, Some, None, IsSome, IfOk, length, take};
-ghost use Rattle.local_files.specs.Standing.{Stands, GoesTo, IsHonest, wanted, served, call_bytes, given_bytes, gathered, reply_in, taken_in};
-ghost use Rattle.local_files.specs.Hands.{IsCall};
+ghost use Rattle.local_files.specs.Standing.{call_of, Stands, GoesTo, IsHonest, wanted, served, call_bytes, given_bytes, gathered, reply_in, taken_in};
+ghost use Rattle.local_files.specs.Hands.{IsCall, system};
 ghost use Rattle.local_files.specs.Steps.{device_at};
+ghost use Rattle.local_files.specs.Bounds.{left};
+ghost use Rattle.xinu_model.specs.Files.Work.{most_turns};
 ghost use Rattle.lfs_layout.specs.Images.{IsCleanImage};
 
 use crate::{BlockWork, Buffer, FileCall, Files, Phase};
@@ -71,6 +73,8 @@ impl Files {
         requires bytes { length bytes.now ≤ 1048576 }
         ensures goes { (disk : List ℕ) → Stands self.old disk disk
             → GoesTo self.new.phase call (given_bytes call bytes.now) self.old self.new disk disk }
+        ensures bound { (disk : List ℕ) → Stands self.old disk disk
+            → left self.new disk ≤ most_turns (call_of call (given_bytes call bytes.now)) (system self.old disk) }
     {
         match call {
             FileCall::Open(name, _) => self.begin_open(call, &name),
@@ -151,6 +155,8 @@ impl Files {
         requires wants { IsSome (wanted self.old) }
         ensures goes { (base disk : List ℕ) → Stands self.old base disk → IsHonest self.old read.now disk
             → GoesTo self.new.phase self.old.call (call_bytes self.old) self.old self.new base (served self.old disk) }
+        ensures less { (base disk : List ℕ) → Stands self.old base disk → IsHonest self.old read.now disk
+            → left self.new base < left self.old base }
     {
         match self.phase {
             Phase::Idle | Phase::Done(_) => {}

@@ -6,16 +6,17 @@
 //! | Call | Condition | Promise |
 //! |---|---|---|
 //! | `new` | | `stands`: no file is open on any clean disk of so many blocks; or `NoMemory`. It takes a buffer of 1 MiB, and no other call takes memory |
-//! | `begin` | `idle`: no call is in hand; `call`, `bytes`: the numbers of bytes are at most 1 MiB | `goes`: the call is in hand, or it is done as the abstract machine's call is |
+//! | `begin` | `idle`: no call is in hand; `call`, `bytes`: the numbers of bytes are at most 1 MiB | `goes`: the call is in hand, or it is done as the abstract machine's call is; `bound`: it has at most as many completions left as the abstract machine allows it |
 //! | `wants`, `outgoing` | | the block that is to be read, or to be written with these bytes |
-//! | `completed` | `wants`: a block is | `goes`: the call goes on, and the files stand as before it, or it is done as the abstract machine's call is, with its reply, its bytes and its files |
+//! | `completed` | `wants`: a block is | `goes`: the call goes on, and the files stand as before it, or it is done as the abstract machine's call is, with its reply, its bytes and its files; `less`: fewer completions are left |
 //! | `answer`, `gathered` | | the reply of a call that is done, after which none is in hand; the bytes that it read |
 //! | `position`, `open_count` | | what is open |
 //! | `stands_for_any` | `idle` | a law: with no file open the engine stands for any clean disk of its size, so nothing that it read is kept |
 //!
 //! The contract is one relation, `Stands files base disk` in `specs/Standing`: `base` is the disk as it was when the call in hand began,
-//! and the files of the abstract machine are those of `base` until the call is done. Each number that is read off a disk is tested before
-//! it is used. The crate depends on `file_laws`, and on the crates below that.
+//! and the files of the abstract machine are those of `base` until the call is done. How many completions the call in hand has left at
+//! most is `left` in `specs/Bounds`. Each number that is read off a disk is tested before it is used. The crate depends on `file_laws`,
+//! and on the crates below that.
 #![tactic(auto)]
 
 mod buffer;

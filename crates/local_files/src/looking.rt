@@ -3,6 +3,7 @@
 ghost use Rattle.std.specs.Prelude.{◌≡◌, ◌+◌, ◌*◌, ◌<◌, ℕ, List};
 ghost use Rattle.lfs_check.specs.Rules.{block_in};
 ghost use Rattle.local_files.specs.Standing.{Stands, GoesTo, call_bytes};
+ghost use Rattle.local_files.specs.Bounds.{left};
 
 use crate::search::find;
 use crate::{Files, Phase};
@@ -14,6 +15,7 @@ impl Files {
         requires phase { self.old.phase ≡ Phase.Search d }
         ensures goes { (base disk : List ℕ) → Stands self.old base disk → read.now ≡ block_in disk d
             → GoesTo self.new.phase self.old.call (call_bytes self.old) self.old self.new base disk }
+        ensures less { (base disk : List ℕ) → Stands self.old base disk → read.now ≡ block_in disk d → left self.new base < left self.old base }
     {
         if d < 6 {
             self.searched(d, read);
@@ -28,6 +30,7 @@ impl Files {
         requires phase { self.old.phase ≡ Phase.Search d }
         ensures goes { (base disk : List ℕ) → Stands self.old base disk → read.now ≡ block_in disk d
             → GoesTo self.new.phase self.old.call (call_bytes self.old) self.old self.new base disk }
+        ensures less { (base disk : List ℕ) → Stands self.old base disk → read.now ≡ block_in disk d → left self.new base < left self.old base }
     {
         let dir = read_dir(read);
         self.keep_header(d, &dir);
