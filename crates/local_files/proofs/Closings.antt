@@ -22,7 +22,7 @@ use Rattle.local_files.specs.declared.FileCall.{FileCall}
 use Rattle.local_files.specs.declared.FileCall.TheVariants.{Open, Delete, Close, Read, Write, Getc, Putc, Seek, Truncate, Size}
 use Rattle.local_files.specs.declared.Phase.{Phase}
 use Rattle.local_files.specs.declared.Phase.TheVariants.{EntryWrite, HeaderRead, HeaderWrite, EntryRead}
-use Rattle.local_files.specs.Hands.{system, IsEnding, IsMade, IsDevice, IsOpenOn, AreApart, IsCall, IsWritten, IsCreating, IsClosing, IsEntryBlock, IsHeaderBlock, files_after, MayLook, name_of}
+use Rattle.local_files.specs.Hands.{system, IsEnding, IsMade, IsDevice, IsOpenOn, AreApart, IsCall, IsWritten, IsCreating, IsClosing, IsEntryWrite, IsHeaderRead, IsEntryBlock, IsHeaderBlock, files_after, MayLook, name_of}
 use Rattle.local_files.specs.Steps.{device_at, answered, lowest_free, shown}
 use Rattle.local_files.specs.Standing.{Stands, InHand, served, GoesTo, call_bytes}
 use Rattle.local_files.specs.Opens.{opened}
@@ -139,14 +139,14 @@ put_entry_goes e e' base disk read phase new put s honest =
         outgoing = block.long;
         device = s.device;
         apart = s.apart;
-        hand = (
-          ending_kept e.call e EntryWrite e'.block base hand.ending,
-          (
-            hand.slot,
-            λ hb q.
-                made_same e EntryWrite e'.block base (block_put (block_put disk (e.slot / 13) e'.block) 0 hb) (hand.made e'.block hb block q),
-          ),
-        );
+        hand = record {
+          ending = ending_kept e.call e EntryWrite e'.block base hand.ending;
+          slot = hand.slot;
+          held = hand.held;
+          next = hand.next e'.block block;
+          made = λ hb q. made_same e EntryWrite e'.block base (block_put (block_put disk (e.slot / 13) e'.block) 0 hb)
+              (hand.made e'.block hb block q);
+        };
       },
       refl,
       refl,
@@ -159,9 +159,9 @@ pub entry_written_goes : (e e' : Files) (base disk : List ℕ) → e.phase ≡ E
 entry_written_goes e e' base disk phase new s =
     let n : Files = record e { phase = HeaderRead } in
     let H : Phase → Type 0 = λ p. InHand p e base disk in
-    let hand = subst H phase s.hand in
+    let hand : IsEntryWrite e base disk = subst H phase s.hand in
     let many = blocks_many e base disk s in
-    let at : e.slot / 13 < e.blocks = (let h = hand.1.0 in let m = many.0 in omega (arith, h, m)) in
+    let at : e.slot / 13 < e.blocks = (let h = hand.slot in let m = many.0 in omega (arith, h, m)) in
     let after = block_put disk (e.slot / 13) e.block in
     let P : Files → Type 0 = λ x. GoesTo x.phase e.call (call_bytes e) e x base after in
     subst P (sym new) (
@@ -174,14 +174,12 @@ entry_written_goes e e' base disk phase new s =
         outgoing = s.outgoing;
         device = s.device;
         apart = s.apart;
-        hand = (
-          ending_kept e.call e HeaderRead e.block base hand.0,
-          (
-            hand.1.0,
-            λ hb q.
-                made_same e HeaderRead e.block base (block_put after 0 hb) (hand.1.1 hb q),
-          ),
-        );
+        hand = record {
+          ending = ending_kept e.call e HeaderRead e.block base hand.ending;
+          slot = hand.slot;
+          held = hand.next;
+          made = λ hb q. made_same e HeaderRead e.block base (block_put after 0 hb) (hand.made hb q);
+        };
       },
       refl,
       refl,
@@ -195,7 +193,7 @@ pub put_header_goes : (e e' : Files) (base disk read : List ℕ) → e.phase ≡
     → GoesTo e'.phase e.call (call_bytes e) e e' base disk
 put_header_goes e e' base disk read phase new put s honest =
     let H : Phase → Type 0 = λ p. InHand p e base disk in
-    let hand = subst H phase s.hand in
+    let hand : IsHeaderRead e base disk = subst H phase s.hand in
     let R : List ℕ → Type 0 = λ b. IsDirBlock (dir_with_header (dir_of b) e.header) e'.block in
     let block : IsHeaderBlock e disk e'.block = subst R honest put in
     let P : Files → Type 0 = λ x. GoesTo x.phase e.call (call_bytes e) e x base disk in
@@ -209,10 +207,12 @@ put_header_goes e e' base disk read phase new put s honest =
         outgoing = block.long;
         device = s.device;
         apart = s.apart;
-        hand = (
-          ending_kept e.call e HeaderWrite e'.block base hand.0,
-          (hand.1.0, made_same e HeaderWrite e'.block base (block_put disk 0 e'.block) (hand.1.1 e'.block block)),
-        );
+        hand = record {
+          ending = ending_kept e.call e HeaderWrite e'.block base hand.ending;
+          slot = hand.slot;
+          held = hand.held;
+          made = made_same e HeaderWrite e'.block base (block_put disk 0 e'.block) (hand.made e'.block block);
+        };
       },
       refl,
       refl,

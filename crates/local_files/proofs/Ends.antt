@@ -19,7 +19,7 @@ use Rattle.local_files.specs.declared.FileCall.{FileCall}
 use Rattle.local_files.specs.declared.FileCall.TheVariants.{Open, Delete, Close, Read, Write, Getc, Putc, Seek, Truncate, Size}
 use Rattle.local_files.specs.declared.Phase.{Phase}
 use Rattle.local_files.specs.declared.Phase.TheVariants.{HeaderWrite}
-use Rattle.local_files.specs.Hands.{system, IsEnding, IsMade, IsDevice, IsOpenOn, AreApart, IsCall, IsWritten, IsEmptied, IsDeleting, files_after, MayLook, name_of, seen, put_bytes}
+use Rattle.local_files.specs.Hands.{system, IsEnding, IsMade, IsHeaderWrite, IsDevice, IsOpenOn, AreApart, IsCall, IsWritten, IsEmptied, IsDeleting, files_after, MayLook, name_of, seen, put_bytes}
 use Rattle.local_files.specs.Steps.{device_at, answered, with_device, lowest_free, shown, kept_at, counted, at_byte, device_of, is_write, is_truncate, has_this_open, is_this_open}
 use Rattle.local_files.specs.Standing.{Stands, InHand, GoesTo, call_bytes, given_bytes}
 use Rattle.local_files.specs.Opens.{opened, ended}
@@ -290,17 +290,17 @@ deleted_goes e name base disk made is s w m =
 pub header_written_goes : (e e' : Files) (base disk : List ℕ) → e.phase ≡ HeaderWrite → e' ≡ ended e.call e → Stands e base disk
     → GoesTo e'.phase e.call (call_bytes e) e e' base (block_put disk 0 e.block)
 header_written_goes e e' base disk phase new s =
-    let H : Phase → Type 0 = λ p. InHand p e base disk in
-    let hand = subst H phase s.hand in
-    let made = block_put disk 0 e.block in
     let P : Files → Type 0 = λ x. GoesTo x.phase e.call (call_bytes e) e x base made in
-    subst P (sym new) (by_call e.call refl hand.0)
+    subst P (sym new) (by_call e.call refl hand.ending)
   where
+    hand : IsHeaderWrite e base disk
+    hand = let H : Phase → Type 0 = λ p. InHand p e base disk in subst H phase s.hand
+
     made : List ℕ
     made = block_put disk 0 e.block
 
     is_made : IsMade e base made
-    is_made = let H : Phase → Type 0 = λ p. InHand p e base disk in let hand = subst H phase s.hand in hand.1.1
+    is_made = hand.made
 
     by_call : (k : FileCall) → e.call ≡ k → IsEnding k e base
         → GoesTo (ended k e).phase k (given_bytes k (put_bytes e)) e (ended k e) base made

@@ -1,5 +1,7 @@
 -- The blocks of a file that is cut are freed.
 use Rattle.std.proofs.Common.{◌≡◌, ◌≢◌, ℕ, zero, suc, ◌+◌, ◌*◌, ◌/◌, ◌<◌, ◌≤◌, Bool, true, cond, List, [], ◌∷◌, length, refl, sym, ap, ◌∙◌, subst, arith, slice_index_or, slice_index, ◌%◌, get_or-set_same, take, ◌++◌, count_by}
+use Rattle.std.proofs.Common.{if◌then◌else◌, false}
+use Rattle.std.proofs.lemmas.Bool.{false≢true}
 use Rattle.lfs_format.specs.declared.Entry.{Entry}
 use Rattle.lfs_check.specs.Rules.{entry_is_used}
 use Rattle.lfs_check.specs.Disks.{block_put, entry_at, entries}
@@ -15,7 +17,7 @@ use Rattle.local_files.specs.declared.FileCall.{FileCall}
 use Rattle.local_files.specs.declared.FileCall.TheVariants.{Open, Delete, Close, Read, Write, Getc, Putc, Seek, Truncate, Size}
 use Rattle.local_files.specs.declared.Phase.{Phase}
 use Rattle.local_files.specs.declared.Phase.TheVariants.{EntryWrite, HeaderRead, HeaderWrite, EntryRead, Idle, Done, Search, Walk, Fetch, Counts, Reach, PatchRead, PatchWrite, TakeRead, TakeWrite, AddRead, AddWrite, NewRead, NewWrite, LinkRead, LinkWrite, CutRead, CutWrite, FreeWrite}
-use Rattle.local_files.specs.Hands.{system, IsMade, IsDevice, AreApart, IsCall, IsEntryBlock, IsHeaderBlock, name_of, put_bytes}
+use Rattle.local_files.specs.Hands.{system, IsMade, IsDevice, AreApart, IsCall, IsEntryBlock, IsHeaderBlock, name_of, put_bytes, name_in_hand}
 use Rattle.local_files.specs.Steps.{device_at, device_of}
 use Rattle.local_files.specs.Standing.{Stands, InHand, served, GoesTo, call_bytes, given_bytes}
 use Rattle.local_files.specs.Standing as engine
@@ -31,6 +33,7 @@ use Rattle.file_laws.specs.Rewriting.{IsRewriting, rewritten}
 use Rattle.file_laws.proofs.Cutting.{cut_ends}
 use Rattle.file_laws.proofs.Finished.{middle_ends}
 use Rattle.file_laws.proofs.Removed.{middle_removed}
+use Rattle.file_laws.proofs.Resting.{middle_holds, ending_holds}
 use Rattle.file_laws.proofs.Counted.{base_counted}
 use Rattle.local_files.specs.Hands.{IsCutFor, IsCutting}
 use Rattle.local_files.specs.Cuts.{end_cut}
@@ -130,6 +133,12 @@ entry_then disk n slot entry header eb hb r =
     let s = r.slot_is in let l = entry_count disk n r.long r.room in
     rewritten_entry disk n slot entry header eb hb r slot s ∙ get_or-set_same (entries disk) slot entry void_entry (omega (arith, s, l))
 
+-- the file in hand is that of its slot
+pub busy_slot : (e : Files) (base : List ℕ) (rests : List ℕ → Bool) → entry_is_used (entry_at base e.slot) ≡ true
+    → rests (bare_name (name_in_hand e base)) ≡ false → rests (bare_name (entry_at base e.slot).name) ≡ false
+busy_slot e base rests used busy =
+    sym (ap (λ v. rests (bare_name (if v then (entry_at base e.slot).name else e.entry.name))) used) ∙ busy
+
 -- All blocks are free: the directory is to be written.
 pub end_cut_goes : (e : Files) (freed : ℕ) (base disk : List ℕ) → IsStanding e base disk → (c : IsCutting e freed base disk)
     → length c.chain ≤ e.reached → length c.blocks ≤ freed
@@ -174,6 +183,10 @@ end_cut_goes e freed base disk s c all_index all_data = by_call e.call refl c.fo
               };
               slot = m.slot_is;
               made = made;
+              held = λ rests busy. middle_holds n base disk e.header e.slot e.entry c.places [] rests m (busy_slot e2 base rests m.was_used busy);
+              next = λ eb ee rests busy.
+                  ending_holds n base disk e.header e.slot e.entry e.entry c.places [] eb rests m ee (busy_slot e2 base rests m.was_used busy) (λ _.
+                  ap (λ x. rests (bare_name x)) m.named ∙ busy_slot e2 base rests m.was_used busy);
             };
           },
           refl,
@@ -226,6 +239,10 @@ end_cut_goes e freed base disk s c all_index all_data = by_call e.call refl c.fo
               };
               slot = m.slot_is;
               made = made;
+              held = λ rests busy. middle_holds n base disk e.header e.slot e.entry c.places [] rests m (busy_slot e2 base rests m.was_used busy);
+              next = λ eb ee rests busy.
+                  ending_holds n base disk e.header e.slot e.entry e2.entry c.places [] eb rests m ee
+                  (busy_slot e2 base rests m.was_used busy) (λ z. absurd (false≢true z));
             };
           },
           refl,

@@ -23,3 +23,5 @@ pub mod Serving
 pub mod Falls
 pub mod Completions
 pub mod Bounds
+pub mod AtRest
+pub mod OneBlock

@@ -19,6 +19,7 @@ use Rattle.file_laws.proofs.Names.{either-way, name_padded}
 use Rattle.file_laws.proofs.Named.{IsName, named_none, length_entries}
 use Rattle.file_laws.proofs.Counted.{files_counted, count_all}
 use Rattle.file_laws.proofs.Created.{created}
+use Rattle.file_laws.proofs.Resting.{clean_holds, creating_holds}
 use Rattle.local_files.specs.declared.Files.{Files}
 use Rattle.local_files.specs.declared.FileCall.{FileCall}
 use Rattle.local_files.specs.declared.FileCall.TheVariants.{Open, Delete, Close, Read, Write, Getc, Putc, Seek, Truncate, Size}
@@ -147,6 +148,10 @@ missing_open e name mode slot header base call right look s none free counts =
         hand = record {
           slot = low;
           made = becomes;
+          held = λ rests busy. clean_holds base rests s.clean;
+          next = λ eb ee rests busy.
+              creating_holds base slot (empty_entry name) eb rests s.clean low f.1 ee
+              (sym (ap (λ v. rests (bare_name (if v then (entry_at base slot).name else name))) f.1) ∙ busy);
           ending = (let E : FileCall → Type 0 = λ q. IsEnding q e2 base in
               subst E (sym call) (record {
                 slot = low;

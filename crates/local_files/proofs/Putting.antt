@@ -14,7 +14,7 @@ use Rattle.local_files.specs.declared.Files.{Files}
 use Rattle.local_files.specs.declared.FileCall.{FileCall}
 use Rattle.local_files.specs.declared.FileCall.TheVariants.{Open, Delete, Close, Read, Write, Getc, Putc, Seek, Truncate, Size}
 use Rattle.local_files.specs.declared.Phase.TheVariants.{EntryRead, Done}
-use Rattle.local_files.specs.Hands.{system, IsEnding, IsMade, IsOpenOn, IsWritten, IsEntryBlock, IsHeaderBlock, files_after, seen, put_bytes, put_files}
+use Rattle.local_files.specs.Hands.{system, IsEnding, IsMade, IsOpenOn, IsWritten, IsEntryBlock, IsHeaderBlock, files_after, seen, put_bytes, put_files, name_in_hand}
 use Rattle.local_files.specs.Putting.{IsPutting, IsPut}
 use Rattle.local_files.specs.Steps.{device_at, answered, shown, at_byte, device_of, or_none, named_device}
 use Rattle.local_files.specs.Standing.{Stands, GoesTo, call_bytes, given_bytes}
@@ -22,7 +22,7 @@ use Rattle.local_files.proofs.Devices.{shown_at}
 use Rattle.xinu_model.specs.Files.Systems as systems
 use Rattle.file_laws.proofs.Effects.{open_bytes_is, write_refused, putc_refused}
 use Rattle.xinu_model.specs.Files.Writing.{overwritten, fitting}
-use Rattle.std.proofs.Common.{◌-◌}
+use Rattle.std.proofs.Common.{Bool, ◌-◌}
 use Rattle.lfs_check.specs.declared.fields.Header.{Header}
 use Rattle.lfs_check.specs.Geometries.{first_data, room}
 use Rattle.lfs_check.specs.Laid.{Places, numbers_at}
@@ -31,7 +31,8 @@ use Rattle.file_laws.specs.Middle.{IsMiddle}
 use Rattle.file_laws.specs.Rewriting.{IsRewriting}
 use Rattle.file_laws.proofs.Reached.{middle_read}
 use Rattle.file_laws.proofs.Finished.{middle_ends}
-use Rattle.local_files.proofs.Freeing.{IsStanding}
+use Rattle.file_laws.proofs.Resting.{middle_holds, ending_holds}
+use Rattle.local_files.proofs.Freeing.{IsStanding, busy_slot}
 use Rattle.file_laws.proofs.Patched.{middle_sized}
 use Rattle.file_laws.proofs.Fitting.{length_overwritten, fitting_is}
 use Rattle.local_files.proofs.Taking.{open_of}
@@ -136,7 +137,15 @@ end_put_goes e base disk p s u no_index no_data fresh end =
         outgoing = s.outgoing;
         device = s.device;
         apart = s.apart;
-        hand = record { slot = u.middle.slot_is; ending = ending e.call refl u.call some; made = made };
+        hand = record {
+          slot = u.middle.slot_is;
+          ending = ending e.call refl u.call some;
+          made = made;
+          held = λ rests busy. middle_holds e.blocks base disk e.header e.slot e.entry p bytes rests u.middle (used rests busy);
+          next = λ eb ee rests busy.
+              ending_holds e.blocks base disk e.header e.slot e.entry e.entry p bytes eb rests u.middle ee (used rests busy) (λ _.
+              ap (λ n. rests (bare_name n)) u.middle.named ∙ used rests busy);
+        };
       },
       refl,
       refl,
@@ -149,6 +158,12 @@ end_put_goes e base disk p s u no_index no_data fresh end =
 
     e2 : Files
     e2 = record e { phase = EntryRead }
+
+    bytes : List ℕ
+    bytes = overwritten e.position (take e.done (put_bytes e)) (entry_bytes base (entry_at base e.slot))
+
+    used : (rests : List ℕ → Bool) → rests (bare_name (name_in_hand e2 base)) ≡ false → rests (bare_name (entry_at base e.slot).name) ≡ false
+    used rests busy = busy_slot e2 base rests u.middle.was_used busy
 
     above : (k : ℕ) → (k == 0) ≡ false → 0 < k
     above k z = grind (arith, nat_tests)
@@ -243,7 +258,6 @@ end_put_goes e base disk p s u no_index no_data fresh end =
         → IsMade e2 base (block_put (block_put disk (e.slot / 13) eb) 0 hb)
     made eb hb ee hh =
         let m = u.middle in let low = m.low in
-        let bytes = overwritten e.position (take e.done (put_bytes e)) (entry_bytes base (entry_at base e.slot)) in
         let r : IsRewriting disk e.blocks e.slot e.entry e.header eb hb =
         record { long = m.long; room = omega (arith, low); slot_is = m.slot_is; entry_block = ee; header_block = hh } in
         let f = middle_ends e.blocks base disk e.header e.slot e.entry p bytes eb hb m no_index no_data u.files

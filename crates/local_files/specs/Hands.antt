@@ -1,5 +1,5 @@
 -- What is so while a call waits for a block.
-use Rattle.std.specs.Prelude.{ℕ, ◌≡◌, ◌≢◌, ◌+◌, ◌-◌, ◌*◌, ◌/◌, ◌%◌, ◌<◌, ◌≤◌, true, false, nat_le, min, List, [], ◌∷◌, length, map, take, drop, Option, Some, None, slice_index}
+use Rattle.std.specs.Prelude.{ℕ, ◌≡◌, ◌≢◌, ◌+◌, ◌-◌, ◌*◌, ◌/◌, ◌%◌, ◌<◌, ◌≤◌, true, false, nat_le, min, if◌then◌else◌, Bool, List, [], ◌∷◌, length, map, take, drop, Option, Some, None, slice_index}
 use Rattle.lfs_format.specs.Indexes.{IsIndexPut}
 use Rattle.lfs_format.specs.Directory.{dir_of, IsDirBlock}
 use Rattle.lfs_check.specs.Meets.{null}
@@ -14,6 +14,7 @@ use Rattle.xinu_model.specs.Files.Systems.{FileSystem, is_open, free_device}
 use Rattle.xinu_model.specs.Files.Writing.{overwritten, fitting}
 use Rattle.file_laws.specs.StoredFiles.{stored_files, entry_bytes, entry_chain, entry_data}
 use Rattle.file_laws.specs.Changing.{IsCut}
+use Rattle.file_laws.specs.Holds.{Holds}
 use Rattle.local_files.specs.Steps.{shown, device_at, device_of}
 use Rattle.local_files.specs.Cuts.{word_block, freed_index}
 use Rattle.xinu_base.specs.declared.files.OpenMode.{OpenMode}
@@ -205,12 +206,45 @@ IsEntryBlock e disk eb = IsDirBlock (dir_with_entry (dir_of (block_in disk (e.sl
 abbrev pub IsHeaderBlock : Files → List ℕ → List ℕ → Type 0
 IsHeaderBlock e disk hb = IsDirBlock (dir_with_header (dir_of (block_in disk 0)) e.header) hb
 
+-- the name of the file in hand: that of its slot, or that of its entry if the slot is free
+abbrev pub name_in_hand : Files → List ℕ → List ℕ
+name_in_hand e base = if entry_is_used (entry_at base e.slot) then (entry_at base e.slot).name else e.entry.name
+
+-- a disk holds the files of the base that are at rest, whichever they are, if the file in hand isn't
+abbrev pub HoldsOthers : Files → List ℕ → List ℕ → Type 0
+HoldsOthers e base disk = (rests : List ℕ → Bool) → rests (bare_name (name_in_hand e base)) ≡ false → Holds disk (stored_files base) rests
+
 -- the entry's block is to be written: whatever blocks come of the two writes, the disk is made
 pub record IsClosing (e : Files) (base disk : List ℕ) : Type 0 where
   pub ending : IsEnding e.call e base
   pub slot : e.slot < 78
+  pub held : HoldsOthers e base disk
+  pub next : (eb : List ℕ) → IsEntryBlock e disk eb → HoldsOthers e base (block_put disk (e.slot / 13) eb)
   pub made : (eb hb : List ℕ) → IsEntryBlock e disk eb → IsHeaderBlock e (block_put disk (e.slot / 13) eb) hb
       → IsMade e base (block_put (block_put disk (e.slot / 13) eb) 0 hb)
+
+-- the entry's block is to be written as it is in hand
+pub record IsEntryWrite (e : Files) (base disk : List ℕ) : Type 0 where
+  pub ending : IsEnding e.call e base
+  pub slot : e.slot < 78
+  pub held : HoldsOthers e base disk
+  pub next : HoldsOthers e base (block_put disk (e.slot / 13) e.block)
+  pub made : (hb : List ℕ) → IsHeaderBlock e (block_put disk (e.slot / 13) e.block) hb
+      → IsMade e base (block_put (block_put disk (e.slot / 13) e.block) 0 hb)
+
+-- it is written, and the counts are to be
+pub record IsHeaderRead (e : Files) (base disk : List ℕ) : Type 0 where
+  pub ending : IsEnding e.call e base
+  pub slot : e.slot < 78
+  pub held : HoldsOthers e base disk
+  pub made : (hb : List ℕ) → IsHeaderBlock e disk hb → IsMade e base (block_put disk 0 hb)
+
+-- they are to be written as they are in hand
+pub record IsHeaderWrite (e : Files) (base disk : List ℕ) : Type 0 where
+  pub ending : IsEnding e.call e base
+  pub slot : e.slot < 78
+  pub held : HoldsOthers e base disk
+  pub made : IsMade e base (block_put disk 0 e.block)
 
 -- Cutting.
 

@@ -8,3 +8,4 @@ pub mod Hands
 pub mod Putting
 pub mod Standing
 pub mod Bounds
+pub mod Resting

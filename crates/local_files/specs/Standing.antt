@@ -1,5 +1,5 @@
 -- What the file engine stands for, together with a disk, and what its completions do.
-use Rattle.std.specs.Prelude.{ℕ, ◌≡◌, ◌≢◌, ◌+◌, ◌*◌, ◌/◌, ◌%◌, ◌<◌, List, [], length, take, Option, Some, None, ℤ}
+use Rattle.std.specs.Prelude.{ℕ, ◌≡◌, ◌≢◌, ◌+◌, ◌*◌, ◌/◌, ◌%◌, List, [], length, take, Option, Some, None, ℤ}
 use Rattle.lfs_check.specs.Disks.{block_put}
 use Rattle.lfs_check.specs.Rules.{block_in}
 use Rattle.lfs_layout.specs.Files.{bare_name}
@@ -7,7 +7,7 @@ use Rattle.lfs_layout.specs.Images.{IsCleanImage}
 use Rattle.xinu_model.specs.Files.Calls as model
 use Rattle.xinu_model.specs.Files.Systems.{FileSystem, FileEffect}
 use Rattle.local_files.specs.Steps.{device_at, at_byte}
-use Rattle.local_files.specs.Hands.{system, IsDevice, AreApart, put_bytes, IsSearch, IsWalking, IsFetching, IsCutRead, IsCutWrite, IsFreeWrite, IsClosing, IsEnding, IsHeaderBlock, IsMade}
+use Rattle.local_files.specs.Hands.{system, IsDevice, AreApart, put_bytes, IsSearch, IsWalking, IsFetching, IsCutRead, IsCutWrite, IsFreeWrite, IsClosing, IsEntryWrite, IsHeaderRead, IsHeaderWrite}
 use Rattle.local_files.specs.Putting.{IsCounting, IsReach, IsPatch, IsPatched, IsTake, IsTakeWrite, IsFilled, IsAddWrite, IsNewWrite, IsLink, IsLinkWrite}
 use Rattle.local_files.specs.declared.BlockWork.{BlockWork}
 use Rattle.local_files.specs.declared.BlockWork.TheVariants as work
@@ -66,12 +66,9 @@ InHand CutRead e base disk = IsCutRead e base disk
 InHand CutWrite e base disk = IsCutWrite e base disk
 InHand (FreeWrite b) e base disk = IsFreeWrite e b base disk
 InHand EntryRead e base disk = IsClosing e base disk
-InHand EntryWrite e base disk =
-    IsEnding e.call e base × ((e.slot < 78) × ((hb : List ℕ) → IsHeaderBlock e (block_put disk (e.slot / 13) e.block) hb
-    → IsMade e base (block_put (block_put disk (e.slot / 13) e.block) 0 hb)))
-InHand HeaderRead e base disk = IsEnding e.call e base × ((e.slot < 78)
-    × ((hb : List ℕ) → IsHeaderBlock e disk hb → IsMade e base (block_put disk 0 hb)))
-InHand HeaderWrite e base disk = IsEnding e.call e base × ((e.slot < 78) × IsMade e base (block_put disk 0 e.block))
+InHand EntryWrite e base disk = IsEntryWrite e base disk
+InHand HeaderRead e base disk = IsHeaderRead e base disk
+InHand HeaderWrite e base disk = IsHeaderWrite e base disk
 
 -- The engine stands for a disk as it was when the call in hand began, together with the disk as it is.
 pub record Stands (e : Files) (base disk : List ℕ) : Type 0 where

@@ -11,6 +11,9 @@
 //! | `completed` | `wants`: a block is | `goes`: the call goes on, and the files stand as before it, or it is done as the abstract machine's call is, with its reply, its bytes and its files; `less`: fewer completions are left |
 //! | `answer`, `gathered` | | the reply of a call that is done, after which none is in hand; the bytes that it read |
 //! | `position`, `open_count` | | what is open |
+//! | `holds_files_at_rest` | | a law: at each moment the disk holds the files that are neither open nor named by the call in hand |
+//! | `wants_a_block_of_the_disk`, `changes_one_block` | | laws: the block that is wanted lies on the disk, and a completion changes at most one |
+//! | `has_a_completion_left` | | a law: while a block is wanted, a completion is left |
 //! | `stands_for_any` | `idle` | a law: with no file open the engine stands for any clean disk of its size, so nothing that it read is kept |
 //!
 //! The contract is one relation, `Stands files base disk` in `specs/Standing`: `base` is the disk as it was when the call in hand began,
@@ -24,6 +27,7 @@ mod cutting;
 mod ending;
 mod engine;
 mod growing;
+mod laws;
 mod looking;
 mod opening;
 mod reading;

@@ -1,0 +1,189 @@
+-- The disk holds the files at rest, whatever the engine waits for.
+use Rattle.std.proofs.Common.{◌*◌, ◌+◌, ◌-◌, ◌≡◌, ℕ, zero, suc, Bool, true, false, ◌||◌, List, [], ◌∷◌, map, refl, sym, ap, ◌∙◌, subst, Option, Some, None, slice_index_or, is_some, bytes_eq, if◌then◌else◌, take}
+use Rattle.std.specs.List.{list_any}
+use Rattle.std.proofs.lemmas.Bool.{false≢true}
+use Rattle.std.proofs.lemmas.Slice.Eq.{bytes_eq-Decides}
+use Rattle.lfs_format.specs.declared.Entry.{Entry}
+use Rattle.lfs_check.specs.Rules.{entry_is_used}
+use Rattle.lfs_check.specs.Laid.{Places}
+use Rattle.lfs_check.specs.Disks.{entry_at}
+use Rattle.lfs_layout.specs.Files.{bare_name}
+use Rattle.xinu_model.specs.Files.Systems.{has_open}
+use Rattle.xinu_model.specs.Files.Rest.{names_file}
+use Rattle.xinu_model.specs.Files.Writing.{overwritten}
+use Rattle.file_laws.specs.StoredFiles.{stored_files, entry_bytes}
+use Rattle.file_laws.specs.Holds.{Holds}
+use Rattle.file_laws.proofs.Resting.{clean_holds, middle_holds}
+use Rattle.local_files.specs.declared.OpenFile.{OpenFile}
+use Rattle.local_files.specs.declared.Files.{Files}
+use Rattle.local_files.specs.declared.FileCall.{FileCall}
+use Rattle.local_files.specs.declared.FileCall.TheVariants.{Open, Delete, Close, Read, Write, Getc, Putc, Seek, Truncate, Size}
+use Rattle.local_files.specs.declared.Phase.{Phase}
+use Rattle.local_files.specs.declared.Phase.TheVariants.{Idle, Done, Search, Walk, Fetch, Counts, Reach, PatchRead, PatchWrite, TakeRead, TakeWrite, AddRead, AddWrite, NewRead, NewWrite, LinkRead, LinkWrite, CutRead, CutWrite, FreeWrite, EntryRead, EntryWrite, HeaderRead, HeaderWrite}
+use Rattle.local_files.specs.Hands.{put_bytes, name_of, IsEnding, IsCutFor, IsCutting, HoldsOthers, name_in_hand}
+use Rattle.local_files.specs.Putting.{IsPutting}
+use Rattle.local_files.specs.Steps.{shown, device_at, device_of}
+use Rattle.local_files.specs.Standing.{Stands, InHand, call_of, wanted, wanted_in}
+use Rattle.local_files.specs.Resting.{AreAtRest}
+use Rattle.local_files.proofs.Devices.{device_some}
+
+-- a name that isn't at rest
+not_resting : (b : Bool) → (b ≡ true → ⊥) → b ≡ false
+not_resting true h = absurd (h refl)
+not_resting false h = refl
+
+-- equal names
+same_name : (a b : List ℕ) → a ≡ b → bytes_eq a b ≡ true
+same_name a b e = (bytes_eq-Decides a b).1 e
+
+-- what a device has open is open
+or_true : (b : Bool) → b || true ≡ true
+or_true true = refl
+or_true false = refl
+
+-- the file of a device is open
+open_there : (xs : List (Option OpenFile)) (d : ℕ) (f : OpenFile) → slice_index_or xs d None ≡ Some f
+    → list_any (has_open (bare_name f.entry.name)) (map shown xs) ≡ true
+open_there [] d f e = absurd (cc (e))
+open_there (x ∷ xs) zero f e =
+    let n = bare_name f.entry.name in
+    ap (λ o. has_open n (shown o) || list_any (has_open n) (map shown xs)) e
+    ∙ ap (λ v. v || list_any (has_open n) (map shown xs)) (same_name n n refl)
+open_there (x ∷ xs) (suc d) f e =
+    let n = bare_name f.entry.name in ap (λ v. has_open n (shown x) || v) (open_there xs d f e) ∙ or_true (has_open n (shown x))
+
+-- it isn't at rest
+open_busy : (e : Files) (base : List ℕ) (rests : List ℕ → Bool) (d : ℕ) (f : OpenFile) → AreAtRest e base rests → device_at e d ≡ Some f
+    → rests (bare_name f.entry.name) ≡ false
+open_busy e base rests d f a at =
+    not_resting (rests (bare_name f.entry.name)) (λ r. false≢true (sym (a.closed (bare_name f.entry.name) r) ∙ open_there e.devices d f at))
+
+-- the file that the call in hand names isn't at rest
+named_busy : (e : Files) (base : List ℕ) (rests : List ℕ → Bool) (name : List ℕ) → AreAtRest e base rests → is_some (wanted e) ≡ true
+    → names_file (bare_name name) (call_of e.call []) ≡ true → rests (bare_name name) ≡ false
+named_busy e base rests name a w n = not_resting (rests (bare_name name)) (λ r. false≢true (sym (a.unnamed (bare_name name) r w) ∙ n))
+
+-- the file of a slot that a device has open isn't at rest
+slot_busy : (e : Files) (base disk : List ℕ) (rests : List ℕ → Bool) (d : ℕ) (f : OpenFile) → Stands e base disk → AreAtRest e base rests
+    → device_at e d ≡ Some f → e.slot ≡ f.slot
+    → (entry_is_used (entry_at base e.slot) ≡ true) × (rests (bare_name (entry_at base e.slot).name) ≡ false)
+slot_busy e base disk rests d f s a at slot =
+    let o = device_some e base disk d f s at in
+    let is : entry_at base e.slot ≡ f.entry = ap (entry_at base) slot ∙ o.entry in
+    (ap entry_is_used is ∙ o.used, ap (λ (x : Entry). rests (bare_name x.name)) is ∙ open_busy e base rests d f a at)
+
+-- the file that is deleted isn't at rest
+deleted_busy : (e : Files) (base : List ℕ) (rests : List ℕ → Bool) (name : List ℕ) → AreAtRest e base rests → is_some (wanted e) ≡ true
+    → e.call ≡ Delete name → (entry_at base e.slot).name ≡ name_of e.call → rests (bare_name (entry_at base e.slot).name) ≡ false
+deleted_busy e base rests name a w is named =
+    let n : (entry_at base e.slot).name ≡ name = named ∙ ap name_of is in
+    ap (λ x. rests (bare_name x)) n
+    ∙ named_busy e base rests name a w (ap (λ c. names_file (bare_name name) (call_of c [])) is ∙ same_name (bare_name name) (bare_name name) refl)
+
+-- a file that is written
+putting_holds : (e : Files) (base disk : List ℕ) (rests : List ℕ → Bool) (p : Places) → Stands e base disk → AreAtRest e base rests
+    → IsPutting e base disk p → Holds disk (stored_files base) rests
+putting_holds e base disk rests p s a u =
+    middle_holds e.blocks base disk e.header e.slot e.entry p
+    (overwritten e.position (take e.done (put_bytes e)) (entry_bytes base (entry_at base e.slot))) rests u.middle
+    (slot_busy e base disk rests (device_of e.call) u.file s a u.open_is u.slot).1
+
+-- a file that is cut
+cutting_holds : (e : Files) (freed : ℕ) (base disk : List ℕ) (rests : List ℕ → Bool) → Stands e base disk → AreAtRest e base rests
+    → is_some (wanted e) ≡ true → IsCutting e freed base disk → Holds disk (stored_files base) rests
+cutting_holds e freed base disk rests s a w c =
+    middle_holds e.blocks base disk e.header e.slot e.entry c.places [] rests c.cut.middle (by_call e.call refl c.for)
+  where
+    by_call : (k : FileCall) → e.call ≡ k → IsCutFor k e base → rests (bare_name (entry_at base e.slot).name) ≡ false
+    by_call (Delete name) is h = deleted_busy e base rests name a w is h.named
+    by_call (Truncate d) is h = (slot_busy e base disk rests (device_of e.call) h.file s a h.open_is h.slot).1
+    by_call (Open n m) is h = absurd h
+    by_call (Close n) is h = absurd h
+    by_call (Read n m) is h = absurd h
+    by_call (Write n) is h = absurd h
+    by_call (Getc n) is h = absurd h
+    by_call (Putc n m) is h = absurd h
+    by_call (Seek n m) is h = absurd h
+    by_call (Size n) is h = absurd h
+
+-- a call that writes the directory
+ending_busy : (e : Files) (base disk : List ℕ) (rests : List ℕ → Bool) → Stands e base disk → AreAtRest e base rests
+    → is_some (wanted e) ≡ true → IsEnding e.call e base → rests (bare_name (name_in_hand e base)) ≡ false
+ending_busy e base disk rests s a w h = by_call e.call refl h
+  where
+    in_slot : entry_is_used (entry_at base e.slot) ≡ true → rests (bare_name (entry_at base e.slot).name) ≡ false
+        → rests (bare_name (name_in_hand e base)) ≡ false
+    in_slot used busy = ap (λ v. rests (bare_name (if v then (entry_at base e.slot).name else e.entry.name))) used ∙ busy
+
+    on_device : (d : ℕ) (f : OpenFile) → device_at e d ≡ Some f → e.slot ≡ f.slot → rests (bare_name (name_in_hand e base)) ≡ false
+    on_device d f at slot = let b = slot_busy e base disk rests d f s a at slot in in_slot b.0 b.1
+
+    by_call : (k : FileCall) → e.call ≡ k → IsEnding k e base → rests (bare_name (name_in_hand e base)) ≡ false
+    by_call (Open name mode) is h =
+        let n : e.entry.name ≡ name = h.named ∙ ap name_of is in
+        ap (λ v. rests (bare_name (if v then (entry_at base e.slot).name else e.entry.name))) h.free ∙ ap (λ x. rests (bare_name x)) n
+        ∙ named_busy e base rests name a w (ap (λ c. names_file (bare_name name) (call_of c [])) is
+        ∙ same_name (bare_name name) (bare_name name) refl)
+    by_call (Delete name) is h = in_slot h.used (deleted_busy e base rests name a w is h.named)
+    by_call (Write d) is h = on_device (device_of e.call) h.file h.open_is h.slot
+    by_call (Putc d b) is h = on_device (device_of e.call) h.0.file h.0.open_is h.0.slot
+    by_call (Truncate d) is h = on_device (device_of e.call) h.file h.open_is h.slot
+    by_call (Close n) is h = absurd h
+    by_call (Read n m) is h = absurd h
+    by_call (Getc n) is h = absurd h
+    by_call (Seek n m) is h = absurd h
+    by_call (Size n) is h = absurd h
+
+-- the disk is the base
+clean_still : (base disk : List ℕ) (rests : List ℕ → Bool) (e : Files) → Stands e base disk → disk ≡ base
+    → Holds disk (stored_files base) rests
+clean_still base disk rests e s same = let P : List ℕ → Type 0 = λ x. Holds x (stored_files base) rests in
+    subst P (sym same) (clean_holds base rests s.clean)
+
+-- At each moment the disk holds the files at rest.
+pub held_always : (e : Files) (base disk : List ℕ) (rests : List ℕ → Bool) → Stands e base disk → AreAtRest e base rests
+    → Holds disk (stored_files base) rests
+held_always e base disk rests s a = by_phase e.phase refl s.hand
+  where
+    busy : (p : Phase) → e.phase ≡ p → is_some (wanted_in p e) ≡ true → is_some (wanted e) ≡ true
+    busy p is w = ap (λ q. is_some (wanted_in q e)) is ∙ w
+
+    ends : (p : Phase) → e.phase ≡ p → is_some (wanted_in p e) ≡ true → IsEnding e.call e base → HoldsOthers e base disk
+        → Holds disk (stored_files base) rests
+    ends p is w h held = held rests (ending_busy e base disk rests s a (busy p is w) h)
+
+    cuts : (p : Phase) (freed : ℕ) → e.phase ≡ p → is_some (wanted_in p e) ≡ true → IsCutting e freed base disk
+        → Holds disk (stored_files base) rests
+    cuts p freed is w c = cutting_holds e freed base disk rests s a (busy p is w) c
+
+    puts : (p : Places) → IsPutting e base disk p → Holds disk (stored_files base) rests
+    puts p u = putting_holds e base disk rests p s a u
+
+    still : disk ≡ base → Holds disk (stored_files base) rests
+    still same = clean_still base disk rests e s same
+
+    by_phase : (p : Phase) → e.phase ≡ p → InHand p e base disk → Holds disk (stored_files base) rests
+    by_phase Idle is h = still h
+    by_phase (Done r) is h = still h
+    by_phase (Search d) is h = still h.same
+    by_phase (Walk rest at) is h = still h.reading.same
+    by_phase (Fetch b) is h = still h.reading.same
+    by_phase Counts is h = still h.same
+    by_phase (Reach rest at) is h = puts h.ready.places h.ready.putting
+    by_phase (PatchRead b) is h = puts h.ready.places h.ready.putting
+    by_phase (PatchWrite b) is h = puts h.patch.ready.places h.patch.ready.putting
+    by_phase (TakeRead b) is h = puts h.ready.places h.ready.putting
+    by_phase (TakeWrite b) is h = puts h.taken.places h.taken.putting
+    by_phase (AddRead b) is h = puts h.0.taken.places h.0.taken.putting
+    by_phase (AddWrite b) is h = puts h.filled.taken.places h.filled.taken.putting
+    by_phase (NewRead b i) is h = puts h.0.taken.places h.0.taken.putting
+    by_phase (NewWrite b i) is h = puts h.new.places h.new.putting
+    by_phase (LinkRead b i) is h = puts h.new.places h.new.putting
+    by_phase (LinkWrite b i) is h = puts h.link.new.places h.link.new.putting
+    by_phase CutRead is h = cuts CutRead (16 * e.reached) is refl h.cutting
+    by_phase CutWrite is h = cuts CutWrite (16 * e.reached) is refl h.read.cutting
+    by_phase (FreeWrite b) is h = cuts (FreeWrite b) (16 * (e.reached - 1) + e.row) is refl h.cutting
+    by_phase EntryRead is h = ends EntryRead is refl h.ending h.held
+    by_phase EntryWrite is h = ends EntryWrite is refl h.ending h.held
+    by_phase HeaderRead is h = ends HeaderRead is refl h.ending h.held
+    by_phase HeaderWrite is h = ends HeaderWrite is refl h.ending h.held

@@ -1,0 +1,31 @@
+-- The files at rest, and the blocks that a completion touches.
+use Rattle.std.specs.Prelude.{ℕ, ◌≡◌, ◌≢◌, ◌<◌, Bool, true, false, List, [], length, Option, Some, None, is_some}
+use Rattle.lfs_check.specs.Rules.{block_in}
+use Rattle.xinu_model.specs.Files.Systems.{is_open}
+use Rattle.xinu_model.specs.Files.Rest.{names_file}
+use Rattle.local_files.specs.Hands.{system}
+use Rattle.local_files.specs.Standing.{wanted, call_of}
+use Rattle.local_files.specs.declared.BlockWork.{BlockWork}
+use Rattle.local_files.specs.declared.BlockWork.TheVariants.{Read, Write}
+use Rattle.local_files.specs.declared.Files.{Files}
+
+-- Names of files at rest: none of them is open, and the call in hand names none of them.
+pub record AreAtRest (e : Files) (base : List ℕ) (rests : List ℕ → Bool) : Type 0 where
+  pub closed : (name : List ℕ) → rests name ≡ true → is_open name (system e base) ≡ false
+  pub unnamed : (name : List ℕ) → rests name ≡ true → is_some (wanted e) ≡ true → names_file name (call_of e.call []) ≡ false
+
+-- the number of the block
+abbrev pub block_of : BlockWork → ℕ
+block_of (Read n) = n
+block_of (Write n) = n
+
+-- work on a block of a disk of this many blocks, if there is any
+abbrev pub IsOnDisk : Option BlockWork → ℕ → Type 0
+IsOnDisk None blocks = Unit {0}
+IsOnDisk (Some w) blocks = block_of w < blocks
+
+-- A disk is another one in at most one block.
+pub record ChangesOneBlock (old new : List ℕ) : Type 0 where
+  pub block : ℕ
+  pub long : length new ≡ length old
+  pub others : (m : ℕ) → m ≢ block → block_in new m ≡ block_in old m
