@@ -330,8 +330,8 @@ pub free_written_falls : (e e' : Files) (b : ℕ) (base disk : List ℕ) → e.p
 free_written_falls e e' b base disk phase new s =
     let H : Phase → Type 0 = λ p. InHand p e base disk in
     let h : IsFreeWrite e b base disk = subst H phase s.hand in
-    let row = h.row in let some = h.some in let more = h.below in let long = h.cutting.blocks_long in
-    let up : (e.row + 1) % 4294967296 ≡ suc e.row = omega (arith, row) in
+    let row = h.within in let some = h.some in let more = h.below in let long = h.cutting.blocks_long in
+    let up : (e.freed + 1) % 4294967296 ≡ suc e.freed = omega (arith, row) in
     falls_to e e' (free_next (free_written b e)) base (FreeWrite b) phase new
     (free_next_less (free_written b e) base (left_in (FreeWrite b) e base) (omega (arith, more, long)) (omega (arith, up, more, long))
     (omega (arith, row, some, more, long)))

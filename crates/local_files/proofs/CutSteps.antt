@@ -110,39 +110,39 @@ cut_at_goes e base disk s r =
 -- Goes on to the next data block, or the next index block, or the end.
 pub free_next_goes : (e : Files) (freed : ℕ) (base disk : List ℕ) → IsStanding e base disk → (c : IsCutting e freed base disk)
     → 0 < e.reached → e.reached ≤ length c.chain → e.index ≡ index_for (e.reached - 1) c.chain c.blocks
-    → e.row ≤ 16 → freed ≡ min (16 * (e.reached - 1) + e.row) (length c.blocks)
+    → e.freed ≤ 16 → freed ≡ min (16 * (e.reached - 1) + e.freed) (length c.blocks)
     → GoesTo (free_next e).phase e.call (call_bytes e) e (free_next e) base disk
 free_next_goes e freed base disk s c some most index row is =
     ⊎_elim
-    (λ (more : 16 * j + e.row < length c.blocks). ⊎_elim (λ (lt : e.row < 16). goes_data more lt) (λ (ge : 16 ≤ e.row).
-    goes_on (λ lt. absurd (omega (arith, ge, lt))) (omega (arith, ge, row, is, more))) (cases_lt e.row 16))
-    (λ (less : length c.blocks ≤ 16 * j + e.row). goes_on (λ lt. null_at j e.row c.chain c.blocks lt less) (omega (arith, is, less, row)))
-    (cases_lt (16 * j + e.row) (length c.blocks))
+    (λ (more : 16 * j + e.freed < length c.blocks). ⊎_elim (λ (lt : e.freed < 16). goes_data more lt) (λ (ge : 16 ≤ e.freed).
+    goes_on (λ lt. absurd (omega (arith, ge, lt))) (omega (arith, ge, row, is, more))) (cases_lt e.freed 16))
+    (λ (less : length c.blocks ≤ 16 * j + e.freed). goes_on (λ lt. null_at j e.freed c.chain c.blocks lt less) (omega (arith, is, less, row)))
+    (cases_lt (16 * j + e.freed) (length c.blocks))
   where
     j : ℕ
     j = e.reached - 1
 
     last : Bool
-    last = nat_lt e.row 16 && not (slice_index e.index.blocks (e.row % 16) == null)
+    last = nat_lt e.freed 16 && not (slice_index e.index.blocks (e.freed % 16) == null)
 
     G : Files → Type 0
     G x = GoesTo x.phase e.call (call_bytes e) e x base disk
 
-    goes_data : 16 * j + e.row < length c.blocks → e.row < 16 → G (free_next e)
+    goes_data : 16 * j + e.freed < length c.blocks → e.freed < 16 → G (free_next e)
     goes_data more lt =
-        let b = slice_index c.blocks (16 * j + e.row) in
-        let v : slice_index e.index.blocks (e.row % 16) ≡ b = ap (λ (x : Index). slice_index x.blocks (e.row % 16)) index
-        ∙ ap (λ k. slice_index (index_for j c.chain c.blocks).blocks k) (let q : e.row % 16 ≡ e.row = omega (arith, lt) in q)
-        ∙ number_at j e.row c.chain c.blocks lt more in
-        let low = c.numbers (16 * j + e.row) more in let high = c.cut.middle.high in
-        let a : nat_lt e.row 16 ≡ true = grind (arith, nat_tests) in
+        let b = slice_index c.blocks (16 * j + e.freed) in
+        let v : slice_index e.index.blocks (e.freed % 16) ≡ b = ap (λ (x : Index). slice_index x.blocks (e.freed % 16)) index
+        ∙ ap (λ k. slice_index (index_for j c.chain c.blocks).blocks k) (let q : e.freed % 16 ≡ e.freed = omega (arith, lt) in q)
+        ∙ number_at j e.freed c.chain c.blocks lt more in
+        let low = c.numbers (16 * j + e.freed) more in let high = c.cut.middle.high in
+        let a : nat_lt e.freed 16 ≡ true = grind (arith, nat_tests) in
         let nn : (b == null) ≡ false = (let q : b ≢ null = λ z. omega (arith, z, low, high) in grind (arith, nat_tests)) in
-        let x_is : last ≡ true = ap (λ w. w && not (slice_index e.index.blocks (e.row % 16) == null)) a ∙ ap (λ w. not (w == null)) v
+        let x_is : last ≡ true = ap (λ w. w && not (slice_index e.index.blocks (e.freed % 16) == null)) a ∙ ap (λ w. not (w == null)) v
         ∙ ap not nn in
         let on : nat_lt b e.blocks ≡ true = grind (arith, nat_tests) in
         let e2 : Files = record e { block = word_block e.header.free_data; phase = FreeWrite b } in
         let rest = if not (e.index.next == null) then cut_at (record e { at = e.index.next }) else end_cut e in
-        let P : Bool → Type 0 = λ w. G (if w then freeing (slice_index e.index.blocks (e.row % 16)) e else rest) in
+        let P : Bool → Type 0 = λ w. G (if w then freeing (slice_index e.index.blocks (e.freed % 16)) e else rest) in
         let Q : ℕ → Type 0 = λ k. G (freeing k e) in
         let R : Bool → Type 0 = λ w. G (if w then e2 else answered (negsuc 0) e) in
         subst P (sym x_is) (subst Q (sym v) (subst R (sym on) (
@@ -157,7 +157,7 @@ free_next_goes e freed base disk s c some most index row is =
             apart = s.apart;
             hand = record {
               some = some;
-              row = lt;
+              within = lt;
               most = most;
               index = index;
               below = more;
@@ -176,7 +176,7 @@ free_next_goes e freed base disk s c some most index row is =
                 first = c.first;
                 files = c.files;
                 cut = (let K : ℕ → Type 0 = λ k. IsCut e.blocks base disk e.header e.slot e.entry c.places c.chain c.blocks e.reached k in
-                    subst K (let q : freed ≡ 16 * j + e.row = omega (arith, is, more) in q) c.cut);
+                    subst K (let q : freed ≡ 16 * j + e.freed = omega (arith, is, more) in q) c.cut);
               };
             };
           },
@@ -189,21 +189,21 @@ free_next_goes e freed base disk s c some most index row is =
         word_long w = let l = length-little w in let a = length-append (little_bytes 4 w) (replicate 508 0) in
             let r = length-replicate {A = ℕ} 508 0 in omega (arith, l, a, r)
 
-    goes_on : (e.row < 16 → slice_index (index_for j c.chain c.blocks).blocks e.row ≡ null) → (freed ≡ min (16 * j + 16) (length c.blocks))
+    goes_on : (e.freed < 16 → slice_index (index_for j c.chain c.blocks).blocks e.freed ≡ null) → (freed ≡ min (16 * j + 16) (length c.blocks))
         → G (free_next e)
     goes_on nulls all =
         let x_is : last ≡ false = ⊎_elim
-        (λ (lt : e.row < 16). (let v : slice_index e.index.blocks (e.row % 16) ≡ null =
-        ap (λ (x : Index). slice_index x.blocks (e.row % 16)) index
-        ∙ ap (λ k. slice_index (index_for j c.chain c.blocks).blocks k) (let q : e.row % 16 ≡ e.row = omega (arith, lt) in q)
+        (λ (lt : e.freed < 16). (let v : slice_index e.index.blocks (e.freed % 16) ≡ null =
+        ap (λ (x : Index). slice_index x.blocks (e.freed % 16)) index
+        ∙ ap (λ k. slice_index (index_for j c.chain c.blocks).blocks k) (let q : e.freed % 16 ≡ e.freed = omega (arith, lt) in q)
         ∙ nulls lt in
-        let a : nat_lt e.row 16 ≡ true = grind (arith, nat_tests) in
-        ap (λ w. w && not (slice_index e.index.blocks (e.row % 16) == null)) a ∙ ap (λ w. not (w == null)) v))
-        (λ (ge : 16 ≤ e.row). (let a : nat_lt e.row 16 ≡ false = grind (arith, nat_tests) in
-        ap (λ w. w && not (slice_index e.index.blocks (e.row % 16) == null)) a))
-        (cases_lt e.row 16) in
+        let a : nat_lt e.freed 16 ≡ true = grind (arith, nat_tests) in
+        ap (λ w. w && not (slice_index e.index.blocks (e.freed % 16) == null)) a ∙ ap (λ w. not (w == null)) v))
+        (λ (ge : 16 ≤ e.freed). (let a : nat_lt e.freed 16 ≡ false = grind (arith, nat_tests) in
+        ap (λ w. w && not (slice_index e.index.blocks (e.freed % 16) == null)) a))
+        (cases_lt e.freed 16) in
         let rest : Bool → Files = λ w. if not w then cut_at (record e { at = e.index.next }) else end_cut e in
-        let P : Bool → Type 0 = λ w. G (if w then freeing (slice_index e.index.blocks (e.row % 16)) e else rest (e.index.next == null)) in
+        let P : Bool → Type 0 = λ w. G (if w then freeing (slice_index e.index.blocks (e.freed % 16)) e else rest (e.index.next == null)) in
         let chain_long = c.chain_long in let blocks_long = c.blocks_long in
         subst P (sym x_is) (⊎_elim
         (λ (more : e.reached < length c.chain). (let next : e.index.next ≡ slice_index c.chain e.reached = ap (λ (x : Index). x.next) index

@@ -148,7 +148,7 @@ pub free_written_goes : (e e' : Files) (b : ℕ) (base disk : List ℕ) → e.ph
 free_written_goes e e' b base disk phase new s =
     let H : Phase → Type 0 = λ p. InHand p e base disk in
     let w : IsFreeWrite e b base disk = subst H phase s.hand in
-    let c = w.cutting in let k = 16 * (e.reached - 1) + e.row in
+    let c = w.cutting in let k = 16 * (e.reached - 1) + e.freed in
     let x = slice_index c.blocks k in
     let made = block_put disk b e.block in
     let here = w.here in let low = c.numbers k w.below in
@@ -158,8 +158,8 @@ free_written_goes e e' b base disk phase new s =
     let cut = cut_data e.blocks base disk e.header e.slot e.entry c.places c.chain c.blocks e.reached k e.block c.cut w.below s.outgoing word in
     let e2 : Files = free_written b e in
     let p2 : Places = record c.places { free_data = x ∷ c.places.free_data; held_data = drop (suc k) c.blocks } in
-    let row = w.row in
-    let up : (e.row + 1) % 4294967296 ≡ suc e.row = omega (arith, row) in
+    let row = w.within in
+    let up : (e.freed + 1) % 4294967296 ≡ suc e.freed = omega (arith, row) in
     let A : ℕ → Type 0 = λ y. IsCut e.blocks base (block_put disk y e.block) (let h : Header = record e.header { free_data = y } in
     h) e.slot e.entry p2 c.chain c.blocks e.reached (suc k) in
     let cut2 = subst A (sym w.here) cut in
@@ -254,7 +254,7 @@ cutting_goes e base s slot entry used header for =
     first = ap (λ (x : Entry). x.first) (sym entry) ∙ read.first
 
     e2 : Files
-    e2 = record e { at = e.entry.first; reached = 0; row = 0; entry = record e.entry { size = 0; first = null } }
+    e2 = record e { at = e.entry.first; reached = 0; freed = 0; entry = record e.entry { size = 0; first = null } }
 
     s2 : IsStanding e2 base base
     s2 = record {

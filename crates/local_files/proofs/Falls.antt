@@ -163,12 +163,12 @@ end_cut_less e base m h =
 
 -- goes on to the next data block, or the next index block, or the end
 pub free_next_less : (e : Files) (base : List ℕ) (m : ℕ) → 4 < m
-    → cut_left (entry_at base e.slot).size e.reached (16 * (e.reached - 1) + e.row) < m
+    → cut_left (entry_at base e.slot).size e.reached (16 * (e.reached - 1) + e.freed) < m
     → cut_left (entry_at base e.slot).size e.reached (16 * e.reached) < m
     → left (free_next e) base < m
 free_next_less e base m four freed index =
-    let b = slice_index e.index.blocks (e.row % 16) in
-    below_if (nat_lt e.row 16 && not (b == null)) (freeing b e)
+    let b = slice_index e.index.blocks (e.freed % 16) in
+    below_if (nat_lt e.freed 16 && not (b == null)) (freeing b e)
     (if not (e.index.next == null) then cut_at (record e { at = e.index.next }) else end_cut e) base m
     (λ _. below_if (nat_lt b e.blocks) (record e { block = word_block e.header.free_data; phase = FreeWrite b }) (answered (negsuc 0) e)
     base m (λ _. freed) (λ _. omega (arith, four)))
@@ -179,5 +179,5 @@ free_next_less e base m four freed index =
 pub cutting_less : (entry : Entry) (e : Files) (base : List ℕ) (m : ℕ) → cut_left (entry_at base e.slot).size 0 0 < m
     → left (cutting entry e) base < m
 cutting_less entry e base m h =
-    let c : Files = record e { at = entry.first; reached = 0; row = 0; entry = record entry { size = 0; first = null } } in
+    let c : Files = record e { at = entry.first; reached = 0; freed = 0; entry = record entry { size = 0; first = null } } in
     below_if (entry.size == 0) (end_cut c) (cut_at c) base m (λ _. end_cut_less c base m (omega (arith, h))) (λ _. cut_at_less c base m h)

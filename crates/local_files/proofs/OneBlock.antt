@@ -151,7 +151,7 @@ module _ (e : Files) (base disk : List ℕ) (s : Stands e base disk) where
   in_phase (LinkWrite k i) h = link_block k i h.link.new h.link.some
   in_phase CutRead h = cut_block h
   in_phase CutWrite h = cut_block h.read
-  in_phase (FreeWrite k) h = let b = h.cutting.numbers (16 * (e.reached - 1) + e.row) h.below in let here = h.here in omega (arith, b, here)
+  in_phase (FreeWrite k) h = let b = h.cutting.numbers (16 * (e.reached - 1) + e.freed) h.below in let here = h.here in omega (arith, b, here)
   in_phase EntryRead h = let b = h.slot in omega (arith, b, low)
   in_phase EntryWrite h = let b = h.slot in omega (arith, b, low)
   in_phase HeaderRead h = omega (arith, low)

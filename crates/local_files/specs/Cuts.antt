@@ -42,7 +42,7 @@ cut_at e = if nat_lt (6 + e.at / 7) e.blocks then record e { phase = CutRead } e
 -- the file in hand is cut to nothing
 abbrev pub cutting : Entry → Files → Files
 cutting entry e =
-    let c : Files = record e { at = entry.first; reached = 0; row = 0; entry = record entry { size = 0; first = null } } in
+    let c : Files = record e { at = entry.first; reached = 0; freed = 0; entry = record entry { size = 0; first = null } } in
     if entry.size == 0 then end_cut c else cut_at c
 
 -- an index block that names the first free one
@@ -55,7 +55,7 @@ cut_read index block e = record e { index = index; block = block; phase = CutWri
 
 -- it is written: it is the first free one
 abbrev pub cut_written : Files → Files
-cut_written e = record e { header = record e.header { free_index = e.at }; reached = (e.reached + 1) % 4294967296; row = 0 }
+cut_written e = record e { header = record e.header { free_index = e.at }; reached = (e.reached + 1) % 4294967296; freed = 0 }
 
 -- a block that begins with a word
 abbrev pub word_block : ℕ → List ℕ
@@ -68,9 +68,9 @@ freeing b e = if nat_lt b e.blocks then record e { block = word_block e.header.f
 -- goes on to the next data block, or the next index block, or the end
 abbrev pub free_next : Files → Files
 free_next e =
-    if nat_lt e.row 16 && not (slice_index e.index.blocks (e.row % 16) == null) then freeing (slice_index e.index.blocks (e.row % 16)) e
+    if nat_lt e.freed 16 && not (slice_index e.index.blocks (e.freed % 16) == null) then freeing (slice_index e.index.blocks (e.freed % 16)) e
     else (if not (e.index.next == null) then cut_at (record e { at = e.index.next }) else end_cut e)
 
 -- it is written: it is the first free one
 abbrev pub free_written : ℕ → Files → Files
-free_written b e = record e { header = record e.header { free_data = b }; row = (e.row + 1) % 4294967296 }
+free_written b e = record e { header = record e.header { free_data = b }; freed = (e.freed + 1) % 4294967296 }

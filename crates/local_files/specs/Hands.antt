@@ -284,10 +284,10 @@ pub record IsCutWrite (e : Files) (base disk : List ℕ) : Type 0 where
 -- a data block of the index block before is to be written, freed
 pub record IsFreeWrite (e : Files) (b : ℕ) (base disk : List ℕ) : Type 0 where
   pub some : 0 < e.reached
-  pub cutting : IsCutting e (16 * (e.reached - 1) + e.row) base disk
-  pub row : e.row < 16
+  pub cutting : IsCutting e (16 * (e.reached - 1) + e.freed) base disk
+  pub within : e.freed < 16
   pub most : e.reached ≤ length cutting.chain
   pub index : e.index ≡ index_for (e.reached - 1) cutting.chain cutting.blocks
-  pub below : 16 * (e.reached - 1) + e.row < length cutting.blocks
-  pub here : b ≡ slice_index cutting.blocks (16 * (e.reached - 1) + e.row)
+  pub below : 16 * (e.reached - 1) + e.freed < length cutting.blocks
+  pub here : b ≡ slice_index cutting.blocks (16 * (e.reached - 1) + e.freed)
   pub block : e.block ≡ word_block e.header.free_data

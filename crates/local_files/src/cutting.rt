@@ -40,7 +40,7 @@ impl Files {
     {
         self.at = self.entry.first;
         self.reached = 0;
-        self.row = 0;
+        self.freed = 0;
         let empty = self.entry.size == 0;
         self.entry.size = 0;
         self.entry.first = NULL;
@@ -84,7 +84,7 @@ impl Files {
     {
         self.header.free_index = self.at;
         self.reached = self.reached.wrapping_add(1);
-        self.row = 0;
+        self.freed = 0;
         self.free_next();
     }
 
@@ -92,8 +92,8 @@ impl Files {
     fn free_next(&mut self)
         ensures new { self.new ≡ free_next self.old }
     {
-        if self.row < 16 && self.index.blocks[self.row as usize % 16] != NULL {
-            self.free(self.index.blocks[self.row as usize % 16]);
+        if self.freed < 16 && self.index.blocks[self.freed as usize % 16] != NULL {
+            self.free(self.index.blocks[self.freed as usize % 16]);
         } else if self.index.next != NULL {
             self.at = self.index.next;
             self.cut_at();
@@ -121,7 +121,7 @@ impl Files {
         ensures new { self.new ≡ free_next (free_written b self.old) }
     {
         self.header.free_data = b;
-        self.row = self.row.wrapping_add(1);
+        self.freed = self.freed.wrapping_add(1);
         self.free_next();
     }
 

@@ -49,7 +49,7 @@ impl Files {
             },
             at: 0,
             reached: 0,
-            row: 0,
+            freed: 0,
             position: 0,
             total: 0,
             done: 0,

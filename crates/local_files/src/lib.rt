@@ -154,8 +154,8 @@ pub struct Files {
     pub index: Index,
     pub at: u32,
     pub reached: u32,
-    /// How many of its data blocks are freed.
-    pub row: u32,
+    /// How many of the data blocks that it names are freed.
+    pub freed: u32,
     /// Where the call begins in the file, how many bytes it takes or puts, and how many of them it has.
     pub position: u32,
     pub total: u32,
