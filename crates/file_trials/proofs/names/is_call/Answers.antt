@@ -1,0 +1,14 @@
+use Rattle.std.proofs.Common.{sym, ◌∙◌, subst}
+use Rattle.local_files.specs.declared.FileCall.{FileCall}
+use Rattle.local_files.specs.Hands.{IsCall}
+use Rattle.file_trials.proofs.names.is_call.Goals as goal
+
+pub returns-in-Open : goal.returns-in-Open
+returns-in-Open c = λ h.
+    let P : FileCall → Type 0 = λ x. IsCall x in
+    subst P (sym c.in-Open.is) (sym c.is_name.ensures.name ∙ h, c.is_name.ensures.len)
+
+pub returns-in-Delete : goal.returns-in-Delete
+returns-in-Delete c = λ h.
+    let P : FileCall → Type 0 = λ x. IsCall x in
+    subst P (sym c.in-Delete.is) (sym c.is_name-in-Delete.ensures.name ∙ h, c.is_name-in-Delete.ensures.len)

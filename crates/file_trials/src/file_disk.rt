@@ -1,0 +1,100 @@
+//! A file engine with its disk, on which each completion is an honest one.
+
+ghost use Rattle.std.specs.Prelude.{◌≡◌, ◌≤◌, ◌+◌, ◌*◌, ℕ, List, true, length, IsSome};
+ghost use Rattle.lfs_check.specs.Disks.{block_put};
+ghost use Rattle.local_files.specs.Standing.{Stands, GoesTo, wanted, served, call_bytes};
+
+use crate::names::is_call;
+use lfs_check::block_at;
+use local_files::{BlockWork, FileCall, FileDev, Files, Phase};
+
+/// A file engine and the bytes of its disk.
+#[derive(Drop)]
+pub struct FileDisk {
+    files: Files,
+    disk: Vec<u8>,
+}
+
+impl FileDisk {
+    /// An engine with a disk.
+    pub fn new(files: Files, disk: Vec<u8>) -> FileDisk {
+        FileDisk { files, disk }
+    }
+
+    /// The bytes of the disk.
+    pub fn disk(&self) -> &[u8] {
+        &self.disk
+    }
+
+    /// Puts another disk in the place of this one.
+    pub fn replace(&mut self, disk: Vec<u8>) {
+        self.disk = disk;
+    }
+
+    /// Begins a call, if none is in hand, and it can be one; answers whether it did. `bytes` are those that a write puts.
+    pub fn begin(&mut self, call: &FileCall, bytes: &[u8]) -> bool {
+        if bytes.len() > 1_048_576 || !is_call(call) || !matches!(self.files.phase, Phase::Idle) {
+            return false;
+        }
+        self.files.begin(*call, bytes);
+        true
+    }
+
+    /// Carries out the work that the engine wants. Answers whether it wants some, and on a block of the disk.
+    pub fn complete(&mut self) -> bool {
+        serve(&mut self.files, &mut self.disk)
+    }
+
+    /// The reply of the call in hand, once it stands.
+    pub fn answer(&mut self) -> Option<i32> {
+        self.files.answer()
+    }
+
+    /// The bytes that a read that is done has given.
+    pub fn gathered(&self) -> &[u8] {
+        self.files.gathered()
+    }
+
+    /// The position of a device, if it has a file open.
+    pub fn position(&self, d: FileDev) -> Option<u32> {
+        self.files.position(d)
+    }
+
+    /// How many devices have a file open.
+    pub fn open_count(&self) -> u32 {
+        self.files.open_count()
+    }
+}
+
+// Carries out the work that the engine wants, if it is on a block of the disk.
+fn serve(files: &mut Files, disk: &mut [u8]) -> bool {
+    match files.wants() {
+        None => false,
+        Some(BlockWork::Read(n)) => {
+            if n as usize >= disk.len() / 512 {
+                return false;
+            }
+            let block = block_at(disk, n);
+            files.completed(&block);
+            true
+        }
+        Some(BlockWork::Write(n)) => {
+            if n as usize >= disk.len() / 512 {
+                return false;
+            }
+            let block = *files.outgoing();
+            put_block(disk, n, &block);
+            files.completed(&block);
+            true
+        }
+    }
+}
+
+// Writes a block of a disk.
+fn put_block(disk: &mut [u8], n: u32, block: &[u8; 512])
+    requires within { 512 * n + 512 ≤ length disk.old }
+    ensures len { length disk.new ≡ length disk.old }
+{
+    let at = 512 * n as usize;
+    disk[at..at + 512].copy_from_slice(block);
+}

@@ -1,0 +1,178 @@
+//! A call on the engine and on the plain list, whose replies and files are compared.
+
+use crate::file_disk::FileDisk;
+use crate::plain_files::PlainFiles;
+use crate::reading_back::{has_files, has_others};
+use crate::script::Script;
+use lfs_layout::CleanImage;
+use local_files::{FileCall, FileDev, Files};
+use std::alloc::{AllocError, Global};
+
+/// In what the engine and the plain list differ.
+#[derive(Clone, Copy)]
+pub enum Trouble {
+    /// Out of memory.
+    NoMemory,
+    /// The call can't be begun, or it wants no block of the disk, or it takes more completions than it may.
+    Stuck,
+    /// The reply of the engine, and that of the list.
+    Reply(i32, i32),
+    /// The bytes that were read.
+    Bytes,
+    /// What is open, or the positions.
+    Devices,
+    /// The files, after so many completions.
+    Files(u32),
+}
+
+impl From<AllocError> for Trouble {
+    fn from(_error: AllocError) -> Trouble {
+        Trouble::NoMemory
+    }
+}
+
+/// How often the files are read back off the disk: at one of so many completions, and at the end of one of so many calls; never if 0.
+#[derive(Clone, Copy)]
+pub struct Readings {
+    pub completions: u32,
+    pub calls: u32,
+}
+
+/// The engine with its disk, the plain list, and how many calls and completions there were.
+#[derive(Drop)]
+pub struct Trial {
+    pub served: FileDisk,
+    pub plain: PlainFiles,
+    pub readings: Readings,
+    pub calls: u32,
+    pub completions: u32,
+}
+
+impl Trial {
+    /// A trial on an empty disk.
+    ///
+    /// # Errors
+    ///
+    /// `Stuck` if there is no disk of so many blocks; `NoMemory` out of memory.
+    pub fn on_empty_disk(alloc: Global, blocks: u32, readings: Readings) -> Result<Trial, Trouble> {
+        if blocks < 14 || blocks > 65_542 {
+            return Err(Trouble::Stuck);
+        }
+        match (Files::new(alloc, blocks), CleanImage::empty(alloc, blocks)) {
+            (Ok(files), Ok(image)) => Ok(Trial {
+                served: FileDisk::new(files, image.into_bytes()),
+                plain: PlainFiles::new(alloc, blocks),
+                readings,
+                calls: 0,
+                completions: 0,
+            }),
+            _ => Err(Trouble::NoMemory),
+        }
+    }
+
+    /// Plays so many calls of a script.
+    pub fn play(&mut self, alloc: Global, script: &mut Script, calls: u32) -> Result<(), Trouble> {
+        for _ in 0..calls {
+            let call = script.next_call(&self.plain);
+            let bytes = script.bytes(alloc, &call)?;
+            self.call(alloc, &call, &bytes)?;
+        }
+        Ok(())
+    }
+
+    /// Makes a call on both. Answers the reply, and in what they differ if they do.
+    ///
+    /// While the call is in hand, all files but its own are read off the disk as they were; once it is done the disk is clean and has the
+    /// files of the list.
+    pub fn call(&mut self, alloc: Global, call: &FileCall, bytes: &[u8]) -> Result<i32, Trouble> {
+        let most = self.plain.most_turns(call, bytes.len());
+        let name = self.plain.name_in(call);
+        if !self.served.begin(call, bytes) {
+            return Err(Trouble::Stuck);
+        }
+        self.calls = self.calls.wrapping_add(1);
+        for _ in 0..most {
+            if let Some(reply) = self.served.answer() {
+                return self.finish(alloc, call, bytes, reply);
+            }
+            self.complete(alloc, &name)?;
+        }
+        match self.served.answer() {
+            Some(reply) => self.finish(alloc, call, bytes, reply),
+            None => Err(Trouble::Stuck),
+        }
+    }
+
+    // One completion.
+    fn complete(&mut self, alloc: Global, name: &[u8; 28]) -> Result<(), Trouble> {
+        if !self.served.complete() {
+            return Err(Trouble::Stuck);
+        }
+        self.completions = self.completions.wrapping_add(1);
+        if is_due(self.completions, self.readings.completions)
+            && !has_others(alloc, self.served.disk(), self.plain.files(), name)?
+        {
+            return Err(Trouble::Files(self.completions));
+        }
+        Ok(())
+    }
+
+    // The call on the plain list, and the comparison.
+    fn finish(
+        &mut self,
+        alloc: Global,
+        call: &FileCall,
+        bytes: &[u8],
+        reply: i32,
+    ) -> Result<i32, Trouble> {
+        let wanted = self.plain.call(alloc, call, bytes)?;
+        if reply != wanted {
+            return Err(Trouble::Reply(reply, wanted));
+        }
+        if self.served.gathered() != self.plain.given() {
+            return Err(Trouble::Bytes);
+        }
+        if !self.has_devices() {
+            return Err(Trouble::Devices);
+        }
+        if is_due(self.calls, self.readings.calls) {
+            self.compare_files(alloc)?;
+        }
+        Ok(reply)
+    }
+
+    /// Reads all files off the disk and compares them with the list.
+    pub fn compare_files(&self, alloc: Global) -> Result<(), Trouble> {
+        if has_files(alloc, self.served.disk(), self.plain.files())? {
+            Ok(())
+        } else {
+            Err(Trouble::Files(self.completions))
+        }
+    }
+
+    // Whether the same devices are open, at the same positions.
+    fn has_devices(&self) -> bool {
+        for d in 0..6 {
+            if let Some(d) = FileDev::from_word(d) {
+                if !are_same(self.served.position(d), self.plain.position(d)) {
+                    return false;
+                }
+            }
+        }
+        self.served.open_count() == self.plain.open_count()
+    }
+}
+
+// Whether two positions are the same.
+fn are_same(x: Option<u32>, y: Option<usize>) -> bool {
+    match (x, y) {
+        (Some(x), Some(y)) => x as usize == y,
+        (None, None) => true,
+        _ => false,
+    }
+}
+
+// Whether one of so many is this one.
+fn is_due(n: u32, every: u32) -> bool {
+    every > 0 && n % every == 0
+}
