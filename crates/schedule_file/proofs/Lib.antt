@@ -1,5 +1,6 @@
 pub mod DigitLemmas
 pub mod PlaceLemmas
 pub mod RoundLemmas
+pub mod Skipped
 pub mod TypedLemmas
 pub mod ReadingLemmas

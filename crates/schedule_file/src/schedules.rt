@@ -1,6 +1,6 @@
 //! Schedules: the reading of a text, and the events one by one.
 
-ghost use Rattle.std.specs.Prelude.{ℕ, ◌≡◌, ◌+◌, ◌≤◌, ◌<◌, ◌++◌, true, false, List, [], ◌∷◌, length, Some, None, MatchOption, IfSome, IfOk, IfErr, MatchResult, OnOk};
+ghost use Rattle.std.specs.Prelude.{ℕ, ◌≡◌, ◌+◌, ◌≤◌, ◌<◌, ◌++◌, true, false, List, [], ◌∷◌, length, drop, replicate, Some, None, MatchOption, IfSome, IfOk, IfErr, MatchResult, OnOk};
 ghost use Rattle.std.specs.List.{All};
 ghost use Rattle.schedule_file.specs.ScheduleFiles.{reading, events_in, Names, is_bad, events_at};
 ghost use Rattle.schedule_file.specs.ScheduleFiles as files;
@@ -91,6 +91,40 @@ impl Schedule {
             self.taken = 0;
         }
         Some(event)
+    }
+
+    /// How many steps come next at least. What is at hand is counted, nothing is looked for.
+    #[inline]
+    pub fn steps_ahead(&self) -> u32
+        ensures ahead { self.now ≡ replicate result Event.Step ++ drop result self.now }
+        ensures within { result ≤ length self.now }
+    {
+        match self.event {
+            Event::Step => self.left,
+            _ => 0,
+        }
+    }
+
+    /// Takes so many events off the schedule; all, if there are no more.
+    #[inline]
+    pub fn skip(&mut self, count: u32)
+        ensures skips { self.new ≡ drop count self.old }
+    {
+        if count <= self.left {
+            self.left -= count;
+        } else {
+            self.skip_each(count);
+        }
+    }
+
+    // Takes so many events off the schedule, one by one.
+    #[cold]
+    fn skip_each(&mut self, count: u32)
+        ensures skips { self.new ≡ drop count self.old }
+    {
+        for _ in 0..count {
+            self.next_event();
+        }
     }
 }
 
