@@ -36,7 +36,7 @@ use xinu_base::{Call, Next, Pid, Rest, SYSERR, is_built};
 #[derive(Drop)]
 pub struct Kernel {
     // The state.
-    state: KernelState,
+    pub(crate) state: KernelState,
     // How the event's call went.
     answer: Option<Next>,
 }

@@ -11,6 +11,7 @@
 //! | `state`, `answer` | | the state, with its parts and the replies to released processes; how the event's call went so far |
 //! | `current`, `is_done`, `call_of` | | the current process, whether nothing is left of its call, the call in its registers |
 //! | `instruction` | `idle`; `not_null`: the null process isn't current | `outcome`, `state`: those of `exec` |
+//! | `steps` | `idle`; `lives`: a process besides the null process is left | `steps`, `plain`: the state after so many steps that print nothing |
 //! | `begin_core` | `idle`, `not_null`; `numbers`: the number of each port can rise | `called`: what the row of the call's number gives; a number whose call isn't built is refused; `answer`: the answer is the row's |
 //! | `go_on_core` | `idle`, `not_null`; `waits`: something is left of the call | `continued`: what the abstract machine's continuation gives; `answer` |
 //! | `die` | `idle`, `not_null` | `dies`: the caller's death, as `exit` |
@@ -25,6 +26,7 @@
 #![tactic(auto)]
 
 mod kernel;
+mod steps;
 
 pub use kernel::Kernel;
 pub use kernel_boot::BootFault;
