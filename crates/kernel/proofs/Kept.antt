@@ -1,9 +1,15 @@
 -- What holds of a kernel between two events and inside one.
-use Rattle.std.proofs.Common.{◌≡◌, ◌≢◌, Option, None, Some, [], ap, subst}
+use Rattle.std.proofs.Common.{◌≡◌, ◌≢◌, Bool, Option, None, Some, [], ap, subst}
 use Rattle.io_calls.specs.Consoles.{after_sending}
-use Rattle.xinu_laws.proofs.Preserve.Events.{may_call, may_call_after, sending_keeps, state_end_of_event}
+use Rattle.io_calls.specs.Disks.{after_completing}
+use Rattle.xinu_laws.proofs.Consoles.Kept.{sound_holds}
+use Rattle.xinu_laws.proofs.Preserve.Events.{may_call, may_call_after, sending_keeps, served_keeps_all, state_end_of_event}
+use Rattle.xinu_laws.proofs.RawDisks.Completed.{served_completes}
+use Rattle.xinu_laws.proofs.RawDisks.Framed.{disks_in}
 use Rattle.xinu_model.specs.Console.Taking.{console_of}
 use Rattle.xinu_model.specs.Console.Transmitting.{Sent, transmitted}
+use Rattle.xinu_model.specs.RawDisk.Calls.{after_served, disk_of}
+use Rattle.xinu_model.specs.RawDisk.Completions.{raw_completed, Served}
 use Rattle.xinu_model.specs.Machine.{CallResult, current_hart, end_of_event, Silent, Xinu}
 use Rattle.kernel_state.specs.Results.{idle, IsIdle, IsStart}
 use Rattle.xinu_laws.specs.Preserve.{KeepsAll, MayCallAny}
@@ -42,3 +48,10 @@ pub after_sending_keeps : (found : Option Sent) (s : Xinu) → transmitted (cons
     → KeepsAll (record { call = after_sending found s; answer = Silent })
 after_sending_keeps None s e k = kept_idle s k
 after_sending_keeps (Some sent) s e k = sending_keeps sent s e k
+
+-- So does what a completion of the raw disk leaves, whether a request waits or not.
+pub after_completing_keeps : (good : Bool) (found : Option Served) (s : Xinu) → raw_completed good (disk_of s) ≡ found → IsSound s
+    → KeepsAll (record { call = after_completing found s; answer = Silent })
+after_completing_keeps good None s e k = kept_idle s k
+after_completing_keeps good (Some x) s e k =
+    served_keeps_all s (after_served x s) k (served_completes good x s e (sound_holds s k) (disks_in k.devices))

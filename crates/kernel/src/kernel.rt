@@ -6,6 +6,7 @@ ghost use Rattle.std.specs.Prelude.{ℕ, ◌≡◌, ◌≢◌, ◌<◌, ◌≤�
 ghost use Rattle.given_disks.specs.Disks.{disks_of};
 ghost use Rattle.image_loader.specs.Images.{loaded_of};
 ghost use Rattle.io_calls.specs.Consoles.{after_sending};
+ghost use Rattle.io_calls.specs.Disks.{after_completing};
 ghost use Rattle.kernel.specs.Booted.{Booted};
 ghost use Rattle.kernel_state.specs.Calling.{IsCalling};
 ghost use Rattle.kernel_state.specs.Results.{answer_of, answer_so_far, came_to, idle, IsIdle};
@@ -20,6 +21,8 @@ ghost use Rattle.xinu_model.specs.Machine as model;
 ghost use Rattle.xinu_model.specs.Machine.{Silent};
 ghost use Rattle.xinu_model.specs.Ports.Queues.{port_at};
 ghost use Rattle.xinu_model.specs.Process.Death.{exit};
+ghost use Rattle.xinu_model.specs.RawDisk.Calls.{disk_of};
+ghost use Rattle.xinu_model.specs.RawDisk.Completions.{raw_completed};
 ghost use Rattle.xinu_model.specs.Sound.State.{IsSound};
 ghost use Rattle.xinu_model.specs.Tables.{process_at};
 
@@ -179,6 +182,16 @@ impl Kernel {
         let byte = io_calls::on_tx(&mut self.state);
         self.answer = None;
         byte
+    }
+
+    /// The raw disk completes its first request, well or badly. If the caller lives it becomes ready with its reply, and what was read goes to
+    /// RAM. Nothing changes if no request waits.
+    pub fn on_disk(&mut self, good: bool)
+        requires idle { IsIdle self.old }
+        ensures completes { self.new ≡ record { call = after_completing (raw_completed good (disk_of self.old.call.state)) self.old.call.state; answer = Silent } }
+    {
+        io_calls::on_disk(&mut self.state, good);
+        self.answer = None;
     }
 
     /// The current process dies, by `exit` or by a trap.

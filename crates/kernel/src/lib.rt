@@ -7,7 +7,7 @@
 //!
 //! | Call | Condition | Promise |
 //! |---|---|---|
-//! | `Kernel::new` | `few`: at most eight images | `booted`: idle in the state in which the images boot, or boot's own refusal; or `NoMemory` |
+//! | `Kernel::new` | `few`: at most eight images | `booted`: idle in the state in which the images boot on the disks of two images, or boot's own refusal; or `NoMemory` |
 //! | `state`, `answer` | | the state, with its parts and the replies to released processes; how the event's call went so far |
 //! | `current`, `is_done`, `call_of` | | the current process, whether nothing is left of its call, the call in its registers |
 //! | `instruction` | `idle`; `not_null`: the null process isn't current | `outcome`, `state`: those of `exec` |
@@ -18,6 +18,7 @@
 //! | `on_tick` | `idle`; `few`: the ticks don't wrap | `ticks`: the tick with its own reschedules |
 //! | `on_type` | `idle` | `received`: a character is received |
 //! | `on_tx` | `idle` | `byte`, `sent`: the byte that the console sends; `None`, and nothing changes, if and only if output is held or there is none |
+//! | `on_disk` | `idle` | `completes`: the raw disk's first request is served, well or badly; nothing changes if none waits |
 //! | `close_event` | | `closed`: idle in the state at the end of the event |
 //!
 //! That a kernel stands for a state that is sound, inside an event or between two, is kept by the type: the invariant of `Kernel` is what

@@ -11,6 +11,7 @@ ghost use Rattle.xinu_model.specs.Boot as boot;
 ghost use Rattle.xinu_model.specs.Heap.Cells as cells;
 ghost use Rattle.xinu_model.specs.Machine.{start};
 ghost use Rattle.xinu_model.specs.Process.Creation.{stack_size};
+ghost use Rattle.xinu_model.specs.Sound.State.{IsSound};
 ghost use Rattle.xinu_model.specs.Tables.{state_at};
 
 use crate::memory_map::{end_of_all, first_overlap, load_all};
@@ -55,6 +56,7 @@ pub fn boot(
 ) -> Result<KernelState, BootFault>
     requires few { length images.now ≤ 8 }
     ensures booted { BootsAs (disks_of disk0 disk1) (map loaded_of images.now) result }
+    ensures sound { IfOk result (λ k. IsSound k.state) }
 {
     if let Some(number) = first_overlap(images) {
         return Err(BootFault::Overlap(number));

@@ -2,10 +2,10 @@
 //!
 //! | Call | Condition | Promise |
 //! |---|---|---|
-//! | [`boot`] | `few`: at most eight images | `booted`: nothing was done yet in the state in which the images boot; or `Overlap` or `NoRoom`, boot's own refusal; or `NoMemory` |
+//! | [`boot`] | `few`: at most eight images of programs | `booted`: nothing was done yet in the state in which the images boot on the disks of two images; or `Overlap` or `NoRoom`, boot's own refusal; or `NoMemory`; `sound`: the state is sound |
 //!
 //! The first that overlaps an earlier one is found, RAM and tables are made, each image gets a process on a stack of the heap, and these
-//! become ready, in the order of the definition (`boot` of `xinu_model`). The crate depends on `kernel_state`, `image_loader`, and the crates
+//! become ready, in the order of the definition (`boot_on` of `xinu_model`). The disks are those of two images (`disks_of` of `given_disks`). The crate depends on `kernel_state`, `image_loader`, and the crates
 //! whose parts it makes.
 #![tactic(auto)]
 

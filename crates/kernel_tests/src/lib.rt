@@ -8,6 +8,8 @@ mod clock;
 #[cfg(test)]
 mod counts;
 #[cfg(test)]
+mod devices;
+#[cfg(test)]
 mod heap;
 #[cfg(test)]
 mod lists;

@@ -8,6 +8,7 @@ use byteorder::{ByteOrder, LittleEndian};
 use image_loader::{Image, read_image};
 use kernel::{BootFault, Kernel};
 use kernel_state::KernelState;
+use lfs_layout::{CleanImage, RawImage};
 use ports::port_numbered;
 use process_core::pid_at;
 use rv_hart::Outcome;
@@ -37,7 +38,7 @@ fn file_of(place: u32, stack: u32) -> [u8; 44] {
 }
 
 // The image of a file.
-fn image_of(file: &[u8]) -> Result<Image<'_>, Fail> {
+pub(crate) fn image_of(file: &[u8]) -> Result<Image<'_>, Fail> {
     match read_image(file) {
         Ok(image) => Ok(image),
         Err(_) => Err(Fail::from("no image")),
@@ -45,7 +46,7 @@ fn image_of(file: &[u8]) -> Result<Image<'_>, Fail> {
 }
 
 // `None` if the sequence number of a port can't rise.
-fn numbers_left(k: &KernelState) -> Option<()>
+pub(crate) fn numbers_left(k: &KernelState) -> Option<()>
     requires many { length k.now.state.parts.ports ≡ 30 }
     ensures numbers { IfSome result (λ _. (q : ℕ) → (port_at k.now.state.parts.ports q).seq < 4294967295) }
 {
@@ -94,6 +95,20 @@ fn tick(kernel: &mut Kernel)
     }
 }
 
+// The smallest disks, on which there is nothing.
+fn disks(alloc: std::alloc::Global) -> Result<(RawImage, CleanImage), Fail> {
+    let Ok(bytes) = vec![in alloc; 0u8; 4096] else {
+        return Err(Fail::from("no memory"));
+    };
+    let Ok(disk0) = RawImage::new(bytes) else {
+        return Err(Fail::from("no disk"));
+    };
+    let Ok(disk1) = CleanImage::empty(alloc, 14) else {
+        return Err(Fail::from("no disk"));
+    };
+    Ok((disk0, disk1))
+}
+
 // Why the programs at these places, with these stacks, don't boot.
 fn fault_of(
     alloc: std::alloc::Global,
@@ -104,7 +119,8 @@ fn fault_of(
         file_of(programs[1].0, programs[1].1),
     ];
     let images = [image_of(&files[0])?, image_of(&files[1])?];
-    Ok(Kernel::new(alloc, &images).err())
+    let (disk0, disk1) = disks(alloc)?;
+    Ok(Kernel::new(alloc, &images, disk0, disk1).err())
 }
 
 #[test]
@@ -129,7 +145,8 @@ fn boot(alloc: std::alloc::Global) -> Result<Kernel, Fail>
 {
     let files = [file_of(0, 4096), file_of(16, 4096)];
     let images = [image_of(&files[0])?, image_of(&files[1])?];
-    let Ok(kernel) = Kernel::new(alloc, &images) else {
+    let (disk0, disk1) = disks(alloc)?;
+    let Ok(kernel) = Kernel::new(alloc, &images, disk0, disk1) else {
         return Err(Fail::from("no kernel"));
     };
     Ok(kernel)
