@@ -57,11 +57,7 @@ fn calls_have_names(rt: HostRuntime) {
         );
     }
     let calls = [is_built(1), is_built(44), is_built(45)];
-    let devices = [
-        is_built_device(0),
-        is_built_device(1),
-        is_built_device(2),
-    ];
+    let devices = [is_built_device(0), is_built_device(1), is_built_device(2)];
     same(
         &rt,
         "built",

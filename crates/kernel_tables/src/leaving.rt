@@ -46,7 +46,13 @@ pub(crate) fn bury(
 }
 
 /// Makes `p`, which waits on a semaphore, ready without a token; this is left of its call.
-pub(crate) fn ready_waiter(lists: &mut Lists, procs: &mut Procs, sems: &mut Sems, p: Pid, rest: Rest)
+pub(crate) fn ready_waiter(
+    lists: &mut Lists,
+    procs: &mut Procs,
+    sems: &mut Sems,
+    p: Pid,
+    rest: Rest,
+)
     requires waits { (process_in procs.old.processes p).state ≡ State.Waiting }
     requires fits { Fits (table.lists lists.old) procs.old.processes }
     requires placed { ArePlaced (table.lists lists.old) procs.old.processes }

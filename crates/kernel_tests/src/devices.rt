@@ -173,7 +173,10 @@ fn blocks_are_read_and_a_failed_write_changes_none(rt: HostRuntime) -> Result<()
         (6, [0; 3], Some(Next::Returns(0)), 2),
         (0, [0; 3], refused, 2),
     ];
-    assert_eq!(rt; disk_after(rt.alloc(), &rows, 1_048_575, 5)?, (None, (Some(4), Some(6), 0)));
+    assert_eq!(rt;
+        disk_after(rt.alloc(), &rows, 1_048_575, 5)?,
+        (None, (Some(4), Some(6), 0))
+    );
     Ok(())
 }
 
@@ -185,7 +188,10 @@ fn the_first_request_of_the_dead_goes_on(rt: HostRuntime) -> Result<(), Fail> {
             (5, [1, 0, 0], Some(Next::Returns(0)), 2),
             (completion, [0; 3], None, 2),
         ];
-        assert_eq!(rt; disk_after(rt.alloc(), &rows, 0, 2)?, (None, (Some(0x93), Some(byte), 0)));
+        assert_eq!(rt;
+            disk_after(rt.alloc(), &rows, 0, 2)?,
+            (None, (Some(0x93), Some(byte), 0))
+        );
     }
     Ok(())
 }
@@ -201,7 +207,10 @@ fn what_the_dead_read_goes_nowhere_and_their_later_requests_go(
         (5, [2, 0, 0], Some(Next::Returns(0)), 3),
         (DISK0, [0; 3], None, 3),
     ];
-    assert_eq!(rt; disk_after(rt.alloc(), &rows, 8192, 2)?, (None, (Some(0), Some(3), 0)));
+    assert_eq!(rt;
+        disk_after(rt.alloc(), &rows, 8192, 2)?,
+        (None, (Some(0), Some(3), 0))
+    );
     Ok(())
 }
 
@@ -230,14 +239,7 @@ fn mounts(kernel: &mut Kernel) -> u32
 fn names_after(
     alloc: Global,
     rows: &[Row],
-) -> Result<
-    (
-        Option<usize>,
-        [Option<(usize, usize)>; 2],
-        u32,
-    ),
-    Fail,
-> {
+) -> Result<(Option<usize>, [Option<(usize, usize)>; 2], u32), Fail> {
     let mut kernel = boot(alloc)?;
     let row = first_wrong(&mut kernel, rows);
     let names = [
@@ -258,8 +260,14 @@ fn names_are_mounted_or_refused(rt: HostRuntime) -> Result<(), Fail> {
         (44, [16, 96, 2], refused, 1),
         (44, [16, 32, 3], Some(Next::Returns(0)), 1),
     ];
-    assert_eq!(rt; names_after(rt.alloc(), &rows)?, (None, [Some((3, 5)), None], 39));
+    assert_eq!(rt;
+        names_after(rt.alloc(), &rows)?,
+        (None, [Some((3, 5)), None], 39)
+    );
     let long = [(44, [64, 64, 0], Some(Next::Returns(0)), 1)];
-    assert_eq!(rt; names_after(rt.alloc(), &long)?, (None, [None, Some((0, 32))], 39));
+    assert_eq!(rt;
+        names_after(rt.alloc(), &long)?,
+        (None, [None, Some((0, 32))], 39)
+    );
     Ok(())
 }

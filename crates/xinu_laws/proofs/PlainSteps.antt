@@ -74,8 +74,10 @@ one_more count x s r went a =
       counted = counted ∙ omega arith;
       state = sym (ap (λ harts. record s { harts = harts; memory = x.memory }) (set_twice s.harts s.tables.current did.hart x.hart))
           ∙ a.state ∙ ap (stepped_times a.steps) same;
-      plain = (record { quiet = e ∙ ap nothing_happens same; lives = subst (λ s. is_over s ≡ false) same r.lives },
-          subst (ArePlain a.steps) same a.plain);
+      plain = (
+        record { quiet = e ∙ ap nothing_happens same; lives = subst (λ s. is_over s ≡ false) same r.lives },
+        subst (ArePlain a.steps) same a.plain,
+      );
     }
 
 -- an instruction, and the others if it is a plain one
@@ -106,10 +108,13 @@ run_after (suc n) s events lines new end p run =
     let mid = (stepped s).state in
     let quiet : end_with (stepped s).panics (is_over mid) ≡ end_with false false =
     ap (λ (e : EventResult). end_with e.panics (is_over mid)) x.quiet ∙ ap (end_with false) x.lives in
-    let effect = ap (λ (e : EventResult). record { lines = e.lines; state = mid; panics = (stepped s).panics }) x.quiet in
-    (mid, [], record { choice = 0; allowed = omega arith; effect = effect },
-    subst (λ o. Follows o (λ rest. RunsTo mid (replicate n Step ++ events) rest new end) [] lines mid new end) (sym quiet)
-    (lines, run_after n mid events lines new end p.1 run, refl))
+    let effect = ap (λ (e : EventResult). record { lines = e.lines; state = mid; panics = (stepped s).panics }) x.quiet in (
+      mid,
+      [],
+      record { choice = 0; allowed = omega arith; effect = effect },
+      subst (λ o. Follows o (λ rest. RunsTo mid (replicate n Step ++ events) rest new end) [] lines mid new end) (sym quiet)
+          (lines, run_after n mid events lines new end p.1 run, refl),
+    )
 
 -- Plain instructions are that many plain steps.
 module _ (n : ℕ) (s : Xinu) (r : IsRunning s) where
@@ -139,9 +144,10 @@ pub null_plain : (n : ℕ) (s : Xinu) → s.tables.current ≡ 0 → is_over s �
 null_plain zero s e l = tt
 null_plain (suc n) s e l =
     let x = null_step s e in
-    let same : s ≡ (stepped s).state = sym (ap (λ (x : EventResult). x.state) x) in
-    (record { quiet = x ∙ ap nothing_happens same; lives = subst (λ s. is_over s ≡ false) same l },
-    subst (ArePlain n) same (null_plain n s e l))
+    let same : s ≡ (stepped s).state = sym (ap (λ (x : EventResult). x.state) x) in (
+      record { quiet = x ∙ ap nothing_happens same; lives = subst (λ s. is_over s ≡ false) same l },
+      subst (ArePlain n) same (null_plain n s e l),
+    )
 
 -- steps keep the state sound
 pub steps_sound : (n : ℕ) (s : Xinu) → IsSound s → IsSound (stepped_times n s)
