@@ -175,33 +175,12 @@ add_written_goes e e' b base disk phase new s =
     let datas2 : numbers_at p2.datas e.slot ≡ blocks ++ b ∷ [] = get_or-set_same p.datas e.slot (blocks ++ b ∷ []) [] lists.1 in
     let below = (g.read.index j (omega (arith, last))).below in let low = u.middle.low in
     let on : 6 + e.at / 7 < e.blocks = omega (arith, at_is, below, low) in
-    let sx : IsStanding x base disk = record {
-      clean = s.clean;
-      blocks = s.blocks;
-      whole = s.whole;
-      six = s.six;
-      outgoing = s.outgoing;
-      buffer = s.buffer;
-      device = s.device;
-      apart = s.apart;
-    } in
-    let s2 : IsStanding x base made = record {
-      clean = s.clean;
-      blocks = s.blocks;
-      whole = put_whole e base disk (6 + e.at / 7) s on;
-      six = s.six;
-      outgoing = s.outgoing;
-      buffer = s.buffer;
-      device = s.device;
-      apart = s.apart;
-    } in
     let cursor : IsAt (put_done x) p2 = record {
       below = k.cursor.below;
       at = k.cursor.at;
       index = λ _. added
           ∙ ap (index_for j chain) (sym datas2);
     } in
-    let ux = put_kept e e.phase (added_index b e) e.at e.reached e.block base disk p u in
     let P : Files → Type 0 = λ y. GoesTo y.phase e.call (call_bytes e) e y base made in
-    subst P (sym new) (goes_from (next_put (put_done x)).phase e.call (call_bytes e) x e (next_put (put_done x)) base made refl
-    (after_goes x base disk made p p2 sx s2 ux k.left middle2 k.no_index refl cursor (omega (arith, reached, t_is, some, room))))
+    subst P (sym new) (after_goes e e.entry (added_index b e) e.at e.reached base disk made p p2 st
+    (put_whole e base disk (6 + e.at / 7) s on) u k.left refl middle2 k.no_index refl cursor (omega (arith, reached, t_is, some, room)))

@@ -20,7 +20,8 @@ use Rattle.lfs_format.specs.declared.Index.{Index}
 use Rattle.lfs_format.proofs.Words.{length-little}
 use Rattle.lfs_check.specs.Meets.{null}
 use Rattle.lfs_check.specs.Geometries.{index_count}
-use Rattle.lfs_check.specs.Laid.{index_for}
+use Rattle.lfs_check.specs.declared.fields.Header.{Header}
+use Rattle.lfs_check.specs.Laid.{Places, index_for}
 use Rattle.lfs_check.specs.Disks.{disk_geometry}
 use Rattle.file_laws.specs.Changing.{IsCut}
 use Rattle.local_files.specs.Hands.{IsCutFor, IsCutting, IsCutRead}
@@ -58,6 +59,27 @@ for_kept (Putc d' k) e e2 base c l d b n h = absurd h
 for_kept (Seek d' k) e e2 base c l d b n h = absurd h
 for_kept (Size d') e e2 base c l d b n h = absurd h
 
+-- a file that is cut, with other fields of the engine
+abbrev pub cutting_kept : (e : Files) (ph : Phase) (ix : Index) (hd : Header) (a r f : ℕ) (block : List ℕ) (freed freed2 : ℕ)
+    (base disk made : List ℕ) (p : Places) (c : IsCutting e freed base disk) → hd.files ≡ e.header.files
+    → IsCut e.blocks base made hd e.slot e.entry p c.chain c.blocks r freed2
+    → IsCutting (record e { phase = ph; index = ix; header = hd; at = a; reached = r; freed = f; block = block }) freed2 base made
+cutting_kept e ph ix hd a r f block freed freed2 base disk made p c files cut = record {
+  for = for_kept e.call e (record e { phase = ph; index = ix; header = hd; at = a; reached = r; freed = f; block = block }) base
+      refl refl refl refl refl c.for;
+  places = p;
+  chain = c.chain;
+  blocks = c.blocks;
+  chain_long = c.chain_long;
+  blocks_long = c.blocks_long;
+  numbers = c.numbers;
+  short = c.short;
+  cut = cut;
+  size = c.size;
+  first = c.first;
+  files = files ∙ c.files;
+}
+
 -- a disk block of index blocks is on the disk
 pub index_on_disk : (n i : ℕ) → 14 ≤ n → i < index_count (disk_geometry n) → nat_lt (6 + i / 7) n ≡ true
 index_on_disk n i low h = let q : 6 + i / 7 < n = omega (arith, low, h) in grind (arith, nat_tests)
@@ -86,20 +108,8 @@ cut_at_goes e base disk s r =
         hand = record {
           below = r.below;
           at = r.at;
-          cutting = record {
-            for = for_kept e.call e e2 base refl refl refl refl refl c.for;
-            places = c.places;
-            chain = c.chain;
-            blocks = c.blocks;
-            chain_long = c.chain_long;
-            blocks_long = c.blocks_long;
-            numbers = c.numbers;
-            short = c.short;
-            cut = c.cut;
-            size = c.size;
-            first = c.first;
-            files = c.files;
-          };
+          cutting = cutting_kept e CutRead e.index e.header e.at e.reached e.freed e.block (16 * e.reached) (16 * e.reached) base disk disk
+              c.places c refl c.cut;
         };
       },
       refl,
@@ -163,21 +173,10 @@ free_next_goes e freed base disk s c some most index row is =
               below = more;
               here = refl;
               block = refl;
-              cutting = record {
-                for = for_kept e.call e e2 base refl refl refl refl refl c.for;
-                places = c.places;
-                chain = c.chain;
-                blocks = c.blocks;
-                chain_long = c.chain_long;
-                blocks_long = c.blocks_long;
-                numbers = c.numbers;
-                short = c.short;
-                size = c.size;
-                first = c.first;
-                files = c.files;
-                cut = (let K : ℕ → Type 0 = λ k. IsCut e.blocks base disk e.header e.slot e.entry c.places c.chain c.blocks e.reached k in
-                    subst K (let q : freed ≡ 16 * j + e.freed = omega (arith, is, more) in q) c.cut);
-              };
+              cutting = cutting_kept e (FreeWrite b) e.index e.header e.at e.reached e.freed (word_block e.header.free_data) freed
+                  (16 * j + e.freed) base disk disk c.places c refl
+                  (let K : ℕ → Type 0 = λ k. IsCut e.blocks base disk e.header e.slot e.entry c.places c.chain c.blocks e.reached k in
+                  subst K (let q : freed ≡ 16 * j + e.freed = omega (arith, is, more) in q) c.cut);
             };
           },
           refl,
@@ -229,20 +228,8 @@ free_next_goes e freed base disk s c some most index row is =
         (record {
           below = more;
           at = next;
-          cutting = record {
-            for = for_kept e.call e e2 base refl refl refl refl refl c.for;
-            places = c.places;
-            chain = c.chain;
-            blocks = c.blocks;
-            chain_long = c.chain_long;
-            blocks_long = c.blocks_long;
-            numbers = c.numbers;
-            short = c.short;
-            size = c.size;
-            first = c.first;
-            files = c.files;
-            cut = subst K (let q : freed ≡ 16 * e.reached = omega (arith, all, some, more, chain_long, blocks_long) in q) c.cut;
-          };
+          cutting = cutting_kept e e.phase e.index e.header e.index.next e.reached e.freed e.block freed (16 * e.reached) base disk disk c.places c refl
+              (subst K (let q : freed ≡ 16 * e.reached = omega (arith, all, some, more, chain_long, blocks_long) in q) c.cut);
         }) in
         subst R (sym nn) (goes_before (cut_at e2).phase (cut_at e2) goes)))
         (λ (end : length c.chain ≤ e.reached). (let next : e.index.next ≡ null = ap (λ (x : Index). x.next) index

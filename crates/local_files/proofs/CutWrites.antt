@@ -32,7 +32,7 @@ use Rattle.local_files.specs.Cuts.{cutting, cut_at, end_cut, cut_read, cut_writt
 use Rattle.local_files.specs.declared.Phase.TheVariants.{CutRead, CutWrite, FreeWrite}
 use Rattle.local_files.proofs.Closings.{put_whole}
 use Rattle.local_files.proofs.Freeing.{IsStanding, end_cut_goes, some_at, goes_from}
-use Rattle.local_files.proofs.CutSteps.{for_kept, cut_at_goes, free_next_goes}
+use Rattle.local_files.proofs.CutSteps.{for_kept, cutting_kept, cut_at_goes, free_next_goes}
 
 -- The index block was read.
 pub cut_read_goes : (e e' : Files) (base disk read : List ℕ) → e.phase ≡ CutRead → e' ≡ cut_read (index_at (e.at % 7) read) e'.block e
@@ -65,20 +65,8 @@ cut_read_goes e e' base disk read phase new put s honest =
           read = record {
             below = r.below;
             at = r.at;
-            cutting = record {
-              for = for_kept e.call e e2 base refl refl refl refl refl c.for;
-              places = c.places;
-              chain = c.chain;
-              blocks = c.blocks;
-              chain_long = c.chain_long;
-              blocks_long = c.blocks_long;
-              numbers = c.numbers;
-              short = c.short;
-              cut = c.cut;
-              size = c.size;
-              first = c.first;
-              files = c.files;
-            };
+            cutting = cutting_kept e CutWrite (index_at (e.at % 7) read) e.header e.at e.reached e.freed e'.block (16 * e.reached)
+                  (16 * e.reached) base disk disk c.places c refl c.cut;
           };
         };
       },
@@ -111,20 +99,8 @@ cut_written_goes e e' base disk phase new s =
     let A : ℕ → Type 0 = λ k. T k (suc e.reached) in
     let B : ℕ → Type 0 = λ j. T e.at j in
     let cut2 = subst B (sym up) (subst A (sym r.at) cut) in
-    let c2 : IsCutting e2 (16 * e.reached) base made = record {
-      for = for_kept e.call e e2 base refl refl refl refl refl c.for;
-      places = p2;
-      chain = c.chain;
-      blocks = c.blocks;
-      chain_long = c.chain_long;
-      blocks_long = c.blocks_long;
-      numbers = c.numbers;
-      short = c.short;
-      cut = cut2;
-      size = c.size;
-      first = c.first;
-      files = c.files;
-    } in
+    let c2 : IsCutting e2 (16 * e.reached) base made = cutting_kept e e.phase e.index (record e.header { free_index = e.at }) e.at ((e.reached + 1) % 4294967296) 0 e.block
+    (16 * e.reached) (16 * e.reached) base disk made p2 c refl cut2 in
     let cl = c.chain_long in let bl = c.blocks_long in
     let goes = free_next_goes e2 (16 * e.reached) base made (record {
       clean = s.clean;
@@ -163,20 +139,8 @@ free_written_goes e e' b base disk phase new s =
     let A : ℕ → Type 0 = λ y. IsCut e.blocks base (block_put disk y e.block) (let h : Header = record e.header { free_data = y } in
     h) e.slot e.entry p2 c.chain c.blocks e.reached (suc k) in
     let cut2 = subst A (sym w.here) cut in
-    let c2 : IsCutting e2 (suc k) base made = record {
-      for = for_kept e.call e e2 base refl refl refl refl refl c.for;
-      places = p2;
-      chain = c.chain;
-      blocks = c.blocks;
-      chain_long = c.chain_long;
-      blocks_long = c.blocks_long;
-      numbers = c.numbers;
-      short = c.short;
-      cut = cut2;
-      size = c.size;
-      first = c.first;
-      files = c.files;
-    } in
+    let c2 : IsCutting e2 (suc k) base made = cutting_kept e e.phase e.index (record e.header { free_data = b }) e.at e.reached ((e.freed + 1) % 4294967296) e.block k (suc k)
+    base disk made p2 c refl cut2 in
     let more = w.below in
     let goes = free_next_goes e2 (suc k) base made (record {
       clean = s.clean;

@@ -21,14 +21,14 @@ use Rattle.local_files.proofs.Freeing.{standing}
 use Rattle.local_files.specs.Puts.{next_put, put_done}
 use Rattle.local_files.proofs.Putting.{put_open, put_small}
 use Rattle.local_files.proofs.PutSteps.{put_kept, target_end}
-use Rattle.local_files.proofs.Pieces.{piece_is, piece_bytes}
+use Rattle.local_files.proofs.Pieces.{after_goes, piece_is, piece_bytes}
 use Rattle.local_files.specs.declared.Phase.TheVariants.{LinkRead, LinkWrite}
 use Rattle.local_files.specs.Putting.{IsLink, IsLinkWrite}
 use Rattle.local_files.specs.Puts.{fresh_index, followed, link_read, linked_index}
 use Rattle.local_files.proofs.Putting.{put_small, put_open}
 use Rattle.local_files.proofs.Adds.{growing, slot_lists, append_last}
 use Rattle.file_laws.proofs.Patched.{middle_continued}
-use Rattle.local_files.proofs.NewBlocks.{grown_goes, next_index, named_index}
+use Rattle.local_files.proofs.NewBlocks.{next_index, named_index}
 
 -- The last index block was read: it is to name the new one.
 pub link_read_goes : (e e' : Files) (b i : ℕ) (base disk read : List ℕ) → e.phase ≡ LinkRead b i → e' ≡ link_read b i e'.block e
@@ -139,5 +139,5 @@ link_written_goes e e' b i base disk phase new s =
           ∙ ap (index_for (x.reached - 1) (numbers_at p2.chains e.slot)) (sym datas2);
     } in
     let P : Files → Type 0 = λ y. GoesTo y.phase e.call (call_bytes e) e y base made in
-    subst P (sym new) (grown_goes e e.entry (fresh_index b e) i x.reached base disk made p p2 st
+    subst P (sym new) (after_goes e e.entry (fresh_index b e) i x.reached base disk made p p2 st
     (put_whole e base disk (6 + e.at / 7) s on) u n.left refl middle2 refl refl cursor (omega (arith, next, full)))

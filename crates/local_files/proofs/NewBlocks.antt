@@ -32,7 +32,7 @@ use Rattle.std.proofs.lemmas.List.{drop_at}
 use Rattle.file_laws.proofs.Patched.{held_range, times_first}
 use Rattle.local_files.specs.Puts.{target, next_put, put_done, reached}
 use Rattle.local_files.proofs.PutSteps.{next_put_goes}
-use Rattle.local_files.proofs.Pieces.{piece_is, piece_bytes}
+use Rattle.local_files.proofs.Pieces.{after_goes, piece_is, piece_bytes}
 use Rattle.local_files.specs.declared.Phase.TheVariants.{NewWrite, LinkRead}
 use Rattle.local_files.specs.Putting.{IsNew, IsNewWrite}
 use Rattle.local_files.specs.Puts.{fresh_index, new_read, new_written, followed, linked_index}
@@ -107,75 +107,6 @@ new_read_goes e e' b i base disk read phase new put s honest =
       refl,
       refl,
     )
-
--- A piece that the file ends with is on the disk, and so are its numbers: the call goes on.
-pub grown_goes : (e : Files) (entry : Entry) (ix : Index) (a r : ℕ) (base disk made : List ℕ) (p p' : Places) → IsStanding e base disk
-    → length made ≡ length base → (u : IsPutting e base disk p) → e.done < e.total
-    → entry.size ≡ e.entry.size
-    → IsMiddle e.blocks base made e.header e.slot (put_done (record e {
-      entry = entry;
-      index = ix;
-      at = a;
-      reached = r;
-    })).entry p' (overwritten e.position (take (e.done + piece e) (put_bytes e)) (entry_bytes base (entry_at base e.slot)))
-    → p'.held_index ≡ [] → p'.held_data ≡ [] → IsAt (put_done (record e { entry = entry; index = ix; at = a; reached = r })) p'
-    → r ≡ at_byte e / 8192 + 1
-    → GoesTo (next_put (put_done (record e {
-      entry = entry;
-      index = ix;
-      at = a;
-      reached = r;
-    }))).phase e.call (call_bytes e) e (next_put (put_done (record e {
-      entry = entry;
-      index = ix;
-      at = a;
-      reached = r;
-    }))) base made
-grown_goes e entry ix a r base disk made p p' s whole u left size middle no_index no_data cursor reached =
-    let x : Files = put_done (record e { entry = entry; index = ix; at = a; reached = r }) in
-    let f = piece_is e base disk p s u left in
-    let done = f.done in let some = f.some in let few = f.few in
-    let M : ℕ → Type 0 = λ k. IsMiddle e.blocks base made e.header e.slot x.entry p'
-    (overwritten e.position (take k (put_bytes e)) (entry_bytes base (entry_at base e.slot))) in
-    let u2 : IsPutting x base made p' = record {
-      call = u.call;
-      file = u.file;
-      open_is = u.open_is;
-      writes = u.writes;
-      slot = u.slot;
-      position = u.position;
-      most = u.most;
-      few = omega (arith, done, few);
-      some = u.some;
-      files = u.files;
-      middle = subst M (sym f.done) middle;
-    } in
-    let at = f.at in let next_at = f.next_at in let fits = f.fits in
-    let ready : IsReady x base made = record {
-      places = p';
-      putting = u2;
-      no_index = no_index;
-      no_data = no_data;
-      fresh = λ z. absurd (omega (arith, z, done, some));
-      cursor = cursor;
-      near = λ _. ⊎_elim
-          (λ (t : target x ≡ at_byte x / 8192).
-          (omega (arith, t, next_at, reached, at, fits, some), omega (arith, t, next_at, reached, at, fits, some)))
-          (λ (t : (0 < at_byte x) × (target x ≡ (at_byte x - 1) / 8192)).
-          (let v = t.1 in (omega (arith, v, next_at, reached, at, fits, some), omega (arith, v, next_at, reached, at, fits, some))))
-          (target_either x);
-    } in
-    let sx : IsStanding x base made = record {
-      clean = s.clean;
-      blocks = s.blocks;
-      whole = whole;
-      six = s.six;
-      outgoing = s.outgoing;
-      buffer = s.buffer;
-      device = s.device;
-      apart = s.apart;
-    } in
-    goes_from (next_put x).phase e.call (call_bytes e) x e (next_put x) base made refl (next_put_goes x base made sx ready)
 
 -- the number of a taken index block
 new_below : (e : Files) (b i : ℕ) (base disk : List ℕ) → IsNew e b i base disk → i < index_count (disk_geometry e.blocks)
@@ -345,5 +276,5 @@ new_written_goes e e' b i base disk phase new s = subst P (sym new) (either-way 
               ∙ ap (λ c. index_for (x.reached - 1) c (b ∷ [])) (sym chain2)
               ∙ ap (index_for (x.reached - 1) (numbers_at p2.chains e.slot)) (sym datas2);
         } in
-        grown_goes e (record e.entry { first = i }) (fresh_index b e) i x.reached base disk made n.places p2 st whole u n.left refl
+        after_goes e (record e.entry { first = i }) (fresh_index b e) i x.reached base disk made n.places p2 st whole u n.left refl
         (subst C g.more m2) refl refl cursor (omega (arith, reached, z))

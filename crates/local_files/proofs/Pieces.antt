@@ -83,15 +83,31 @@ piece_is e base disk p s u left =
       size = omega (arith, q, left, m, small, within, a);
     }
 
--- A piece is on the disk: the call goes on.
-pub after_goes : (e : Files) (base disk made : List ℕ) (p p' : Places) → IsStanding e base disk → IsStanding e base made
-    → (u : IsPutting e base disk p) → e.done < e.total
-    → IsMiddle e.blocks base made e.header e.slot (put_done e).entry p'
-    (overwritten e.position (take (e.done + piece e) (put_bytes e)) (entry_bytes base (entry_at base e.slot)))
-    → p'.held_index ≡ [] → p'.held_data ≡ [] → IsAt (put_done e) p' → e.reached ≡ at_byte e / 8192 + 1
-    → GoesTo (next_put (put_done e)).phase e.call (call_bytes e) e (next_put (put_done e)) base made
-after_goes e base disk made p p' s s2 u left middle no_index no_data cursor reached =
-    let x : Files = put_done e in
+-- A piece is on the disk, and so are its numbers if it is in a new block: the call goes on.
+pub after_goes : (e : Files) (entry : Entry) (ix : Index) (a r : ℕ) (base disk made : List ℕ) (p p' : Places) → IsStanding e base disk
+    → length made ≡ length base → (u : IsPutting e base disk p) → e.done < e.total
+    → entry.size ≡ e.entry.size
+    → IsMiddle e.blocks base made e.header e.slot (put_done (record e {
+      entry = entry;
+      index = ix;
+      at = a;
+      reached = r;
+    })).entry p' (overwritten e.position (take (e.done + piece e) (put_bytes e)) (entry_bytes base (entry_at base e.slot)))
+    → p'.held_index ≡ [] → p'.held_data ≡ [] → IsAt (put_done (record e { entry = entry; index = ix; at = a; reached = r })) p'
+    → r ≡ at_byte e / 8192 + 1
+    → GoesTo (next_put (put_done (record e {
+      entry = entry;
+      index = ix;
+      at = a;
+      reached = r;
+    }))).phase e.call (call_bytes e) e (next_put (put_done (record e {
+      entry = entry;
+      index = ix;
+      at = a;
+      reached = r;
+    }))) base made
+after_goes e entry ix a r base disk made p p' s whole u left size middle no_index no_data cursor reached =
+    let x : Files = put_done (record e { entry = entry; index = ix; at = a; reached = r }) in
     let f = piece_is e base disk p s u left in
     let done = f.done in let some = f.some in let few = f.few in
     let M : ℕ → Type 0 = λ k. IsMiddle e.blocks base made e.header e.slot x.entry p'
@@ -121,18 +137,18 @@ after_goes e base disk made p p' s s2 u left middle no_index no_data cursor reac
           (λ (t : target x ≡ at_byte x / 8192).
           (omega (arith, t, next_at, reached, at, fits, some), omega (arith, t, next_at, reached, at, fits, some)))
           (λ (t : (0 < at_byte x) × (target x ≡ (at_byte x - 1) / 8192)).
-          (let a = t.1 in (omega (arith, a, next_at, reached, at, fits, some), omega (arith, a, next_at, reached, at, fits, some))))
+          (let v = t.1 in (omega (arith, v, next_at, reached, at, fits, some), omega (arith, v, next_at, reached, at, fits, some))))
           (target_either x);
     } in
     let sx : IsStanding x base made = record {
-      clean = s2.clean;
-      blocks = s2.blocks;
-      whole = s2.whole;
-      six = s2.six;
-      outgoing = s2.outgoing;
-      buffer = s2.buffer;
-      device = s2.device;
-      apart = s2.apart;
+      clean = s.clean;
+      blocks = s.blocks;
+      whole = whole;
+      six = s.six;
+      outgoing = s.outgoing;
+      buffer = s.buffer;
+      device = s.device;
+      apart = s.apart;
     } in
     goes_from (next_put x).phase e.call (call_bytes e) x e (next_put x) base made refl (next_put_goes x base made sx ready)
 
@@ -240,19 +256,10 @@ patch_written_goes e e' b base disk phase new s =
     let B : List ℕ → Type 0 = λ x. IsMiddle e.blocks base made e.header e.slot (put_done e).entry p x in
     let middle2 = subst B (ap (λ k. overwritten k (piece_bytes e) bytes) (let y : 512 * j + at_byte e % 512 ≡ q = omega (arith, at) in y)
     ∙ piece_more e q old f (done_long e base disk p st u) refl (low_old e base disk p st u)) (subst D (sym b_is) middle) in
-    let s2 : IsStanding e base made = record {
-      clean = s.clean;
-      blocks = s.blocks;
-      whole = put_whole e base disk b s (omega (arith, b_is, high));
-      six = s.six;
-      outgoing = s.outgoing;
-      buffer = s.buffer;
-      device = s.device;
-      apart = s.apart;
-    } in
     let t_is = target_in e h.patch.inside in let reached = h.patch.reached in
     let P : Files → Type 0 = λ x. GoesTo x.phase e.call (call_bytes e) e x base made in
-    subst P (sym new) (after_goes e base disk made p p st s2 u h.patch.left middle2 r.no_index r.no_data (record {
+    subst P (sym new) (after_goes e e.entry e.index e.at e.reached base disk made p p st
+    (put_whole e base disk b s (omega (arith, b_is, high))) u h.patch.left refl middle2 r.no_index r.no_data (record {
       below = r.cursor.below;
       at = r.cursor.at;
       index = r.cursor.index;
