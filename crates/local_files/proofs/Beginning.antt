@@ -16,7 +16,7 @@ use Rattle.local_files.specs.declared.Files.{Files}
 use Rattle.local_files.specs.declared.FileCall.{FileCall}
 use Rattle.local_files.specs.declared.FileCall.TheVariants.{Open, Delete, Close, Seek, Size}
 use Rattle.local_files.specs.Steps.{shown, device_at, answered, with_device, lowest_free, is_this_open}
-use Rattle.local_files.specs.Hands.{system, AreApart, IsCall}
+use Rattle.local_files.specs.Hands.{system, AreApart, IsCall, MayLook}
 use Rattle.local_files.specs.Standing.{Stands, GoesTo}
 use Rattle.local_files.specs.Opens.{closing, seeking, seeking_in, sizing, beginning, looking, deleting}
 use Rattle.local_files.proofs.Devices.{shown_at, shown_set, some_below, device_some, open_size, is_open_same, answered_stands, set_stands, apart_none}
@@ -127,6 +127,29 @@ size_goes e d bytes disk s = by_device (device_at e d) refl
           answered_stands (pos f.entry.size) e disk s,
         )
 
+-- a call that looks for its name begins
+look_stands : (e : Files) (call : FileCall) (disk : List ℕ) → IsCall call → MayLook call (system e disk) → Stands e disk disk
+    → Stands (looking call e) disk disk
+look_stands e call disk right look s = record {
+  clean = s.clean;
+  blocks = s.blocks;
+  whole = refl;
+  six = s.six;
+  buffer = s.buffer;
+  outgoing = s.outgoing;
+  device = s.device;
+  apart = s.apart;
+  hand = record {
+    same = refl;
+    block = omega arith;
+    call = right;
+    look = look;
+    none = λ k h. absurd (omega (arith, h));
+    free = record { found = λ h. absurd (omega (arith, h)); full = λ h k l. absurd (omega (arith, l)) };
+    header = λ h. absurd (omega (arith, h));
+  };
+}
+
 -- `open`
 pub open_goes : (e : Files) (name : List ℕ) (mode : OpenMode) (bytes disk : List ℕ) → is_name 27 name ≡ true → length name ≡ 28 → bytes ≡ []
     → Stands e disk disk
@@ -153,25 +176,7 @@ open_goes e name mode bytes disk is long none s =
           (negsuc 0) e disk s,
     ))
     (λ _ u. (
-      record {
-        clean = s.clean;
-        blocks = s.blocks;
-        whole = refl;
-        six = s.six;
-        buffer = s.buffer;
-        outgoing = s.outgoing;
-        device = s.device;
-        apart = s.apart;
-        hand = record {
-          same = refl;
-          block = omega arith;
-          call = (is, long);
-          look = (opened ∙ t, u);
-          none = λ k h. absurd (omega (arith, h));
-          free = record { found = λ h. absurd (omega (arith, h)); full = λ h k l. absurd (omega (arith, l)) };
-          header = λ h. absurd (omega (arith, h));
-        };
-      },
+      look_stands e (Open name mode) disk (is, long) (opened ∙ t, u) s,
       refl,
       sym none,
       refl,
@@ -195,25 +200,7 @@ delete_goes e name bytes disk is long none s =
     → GoesTo (deleting v (Delete name) e).phase (Delete name) bytes e (deleting v (Delete name) e) disk disk)
     (λ _ t. (ap to (opened ∙ t), answered_stands (negsuc 0) e disk s))
     (λ _ t. (
-      record {
-        clean = s.clean;
-        blocks = s.blocks;
-        whole = refl;
-        six = s.six;
-        buffer = s.buffer;
-        outgoing = s.outgoing;
-        device = s.device;
-        apart = s.apart;
-        hand = record {
-          same = refl;
-          block = omega arith;
-          call = (is, long);
-          look = opened ∙ t;
-          none = λ k h. absurd (omega (arith, h));
-          free = record { found = λ h. absurd (omega (arith, h)); full = λ h k l. absurd (omega (arith, l)) };
-          header = λ h. absurd (omega (arith, h));
-        };
-      },
+      look_stands e (Delete name) disk (is, long) (opened ∙ t) s,
       refl,
       sym none,
       refl,

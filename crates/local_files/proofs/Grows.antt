@@ -32,7 +32,7 @@ use Rattle.std.proofs.lemmas.List.{take_at}
 use Rattle.local_files.proofs.CutSteps.{index_on_disk}
 use Rattle.file_laws.proofs.Patched.{held_range, times_first}
 use Rattle.local_files.specs.Puts.{take_read, take_written, newing, added_index, add_read}
-use Rattle.local_files.proofs.PutSteps.{put_kept}
+use Rattle.local_files.proofs.PutSteps.{put_changed, put_kept}
 use Rattle.local_files.proofs.Pieces.{IsPiece, piece_is, piece_bytes, patched_is}
 
 -- The free data block was read: it is taken.
@@ -74,19 +74,7 @@ take_read_goes e e' b base disk read phase new wide s honest =
             reached = h.reached;
             index = h.index;
             cursor = record { below = r.cursor.below; at = r.cursor.at; index = r.cursor.index };
-            putting = record {
-              call = u.call;
-              file = u.file;
-              open_is = u.open_is;
-              writes = u.writes;
-              slot = u.slot;
-              position = u.position;
-              most = u.most;
-              few = u.few;
-              some = u.some;
-              files = u.files;
-              middle = middle;
-            };
+            putting = put_changed e (TakeWrite b) e.index e2.header e.at e.reached e2.block base disk disk p p2 u refl middle;
           };
         };
       },
@@ -187,19 +175,8 @@ take_written_goes e e' b base disk phase new s = subst P (sym new) (either-way (
         reached = h.taken.reached;
         index = h.taken.index;
         cursor = record { below = h.taken.cursor.below; at = h.taken.cursor.at; index = h.taken.cursor.index };
-        putting = record {
-          call = h.taken.putting.call;
-          file = h.taken.putting.file;
-          open_is = h.taken.putting.open_is;
-          writes = h.taken.putting.writes;
-          slot = h.taken.putting.slot;
-          position = h.taken.putting.position;
-          most = h.taken.putting.most;
-          few = h.taken.putting.few;
-          some = h.taken.putting.some;
-          files = h.taken.putting.files;
-          middle = middle;
-        };
+        putting = put_changed e ph e.index e.header e.at e.reached e.block base disk made h.taken.places h.taken.places
+            h.taken.putting refl middle;
       };
     }
 

@@ -31,7 +31,7 @@ use Rattle.local_files.proofs.Freeing.{IsStanding, standing, some_at, none_at, g
 use Rattle.std.proofs.lemmas.List.{drop_at}
 use Rattle.file_laws.proofs.Patched.{held_range, times_first}
 use Rattle.local_files.specs.Puts.{target, next_put, put_done, reached}
-use Rattle.local_files.proofs.PutSteps.{next_put_goes}
+use Rattle.local_files.proofs.PutSteps.{put_changed}
 use Rattle.local_files.proofs.Pieces.{after_goes, piece_is, piece_bytes}
 use Rattle.local_files.specs.declared.Phase.TheVariants.{NewWrite, LinkRead}
 use Rattle.local_files.specs.Putting.{IsNew, IsNewWrite}
@@ -87,19 +87,8 @@ new_read_goes e e' b i base disk read phase new put s honest =
             whole = z;
             filled = h.0.filled;
             cursor = record { below = k.cursor.below; at = k.cursor.at; index = k.cursor.index };
-            putting = record {
-              call = u.call;
-              file = u.file;
-              open_is = u.open_is;
-              writes = u.writes;
-              slot = u.slot;
-              position = u.position;
-              most = u.most;
-              few = u.few;
-              some = u.some;
-              files = u.files;
-              middle = middle;
-            };
+            putting = put_changed e (NewWrite b i) e.index (record e.header { free_index = (index_at (i % 7) read).next }) e.at e.reached
+                e'.block base disk disk p p2 u refl middle;
           };
         };
       },
@@ -177,19 +166,7 @@ new_written_goes e e' b i base disk phase new s = subst P (sym new) (either-way 
             whole = n.whole;
             filled = filled;
             cursor = record { below = n.cursor.below; at = n.cursor.at; index = n.cursor.index };
-            putting = record {
-              call = u.call;
-              file = u.file;
-              open_is = u.open_is;
-              writes = u.writes;
-              slot = u.slot;
-              position = u.position;
-              most = u.most;
-              few = u.few;
-              some = u.some;
-              files = u.files;
-              middle = middle;
-            };
+            putting = put_changed e (LinkRead b i) e.index e.header e.at e.reached e.block base disk made n.places n.places u refl middle;
           };
         };
       },

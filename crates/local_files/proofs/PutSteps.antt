@@ -17,6 +17,8 @@ use Rattle.std.proofs.Common.{◌-◌, drop}
 use Rattle.lfs_format.specs.declared.Index.{Index}
 use Rattle.lfs_check.specs.Meets.{null}
 use Rattle.lfs_check.specs.Laid.{Places, numbers_at, index_for}
+use Rattle.lfs_check.specs.declared.fields.Header.{Header}
+use Rattle.file_laws.specs.Middle.{IsMiddle}
 use Rattle.file_laws.specs.Changing.{IsReadBy}
 use Rattle.file_laws.proofs.Reached.{middle_read, free_data_first, free_data_some, free_data_none, free_index_none}
 use Rattle.local_files.proofs.Freeing.{IsStanding, some_at}
@@ -26,11 +28,13 @@ use Rattle.local_files.specs.Puts.{end_put, at_end, target, reaching, reach_to, 
 use Rattle.file_laws.specs.Fitting.{IsFull}
 use Rattle.local_files.proofs.Putting.{where_put, put_size, end_put_goes}
 
--- what is put does not depend on what the call waits for
-abbrev pub put_kept : (e : Files) (ph : Phase) (ix : Index) (a r : ℕ) (b : List ℕ) (base disk : List ℕ) (p : Places)
-    → IsPutting e base disk p
-    → IsPutting (record e { phase = ph; index = ix; at = a; reached = r; block = b }) base disk p
-put_kept e ph ix a r b base disk p u = record {
+-- what is put, once a block is written or taken
+abbrev pub put_changed : (e : Files) (ph : Phase) (ix : Index) (hd : Header) (a r : ℕ) (b : List ℕ) (base disk made : List ℕ) (p p2 : Places)
+    → IsPutting e base disk p → hd.files ≡ e.header.files
+    → IsMiddle e.blocks base made hd e.slot e.entry p2
+    (overwritten e.position (take e.done (put_bytes e)) (entry_bytes base (entry_at base e.slot)))
+    → IsPutting (record e { phase = ph; index = ix; header = hd; at = a; reached = r; block = b }) base made p2
+put_changed e ph ix hd a r b base disk made p p2 u files middle = record {
   call = u.call;
   file = u.file;
   open_is = u.open_is;
@@ -40,9 +44,15 @@ put_kept e ph ix a r b base disk p u = record {
   most = u.most;
   few = u.few;
   some = u.some;
-  files = u.files;
-  middle = u.middle;
+  files = files ∙ u.files;
+  middle = middle;
 }
+
+-- it does not depend on what the call waits for
+abbrev pub put_kept : (e : Files) (ph : Phase) (ix : Index) (a r : ℕ) (b : List ℕ) (base disk : List ℕ) (p : Places)
+    → IsPutting e base disk p
+    → IsPutting (record e { phase = ph; index = ix; at = a; reached = r; block = b }) base disk p
+put_kept e ph ix a r b base disk p u = put_changed e ph ix e.header a r b base disk disk p p u refl u.middle
 
 -- the index block that a call is at, with other fields of the engine
 abbrev pub at_kept : (e : Files) (ph : Phase) (b : List ℕ) (p : Places) → IsAt e p → IsAt (record e { phase = ph; block = b }) p
