@@ -25,12 +25,12 @@ use Rattle.file_laws.specs.Changing.{IsReadBy}
 use Rattle.file_laws.proofs.Reached.{middle_read}
 use Rattle.local_files.proofs.Closings.{put_whole}
 use Rattle.file_laws.proofs.Rewritten.{entry_count}
-use Rattle.local_files.proofs.Freeing.{IsStanding, standing, number_at, null_at, goes_from}
+use Rattle.local_files.proofs.Freeing.{IsStanding, standing, number_at, null_at}
 use Rattle.std.proofs.lemmas.List.{length-replicate, take_all, drop_all, append-nil}
 use Rattle.file_laws.proofs.Patched.{middle_sized, middle_appended}
 use Rattle.local_files.specs.Puts.{at_end, next_put, put_done, added_index, with_index}
 use Rattle.local_files.proofs.Putting.{where_put}
-use Rattle.local_files.proofs.PutSteps.{put_kept, ends_is, target_end}
+use Rattle.local_files.proofs.PutSteps.{ends_is, target_end}
 use Rattle.local_files.proofs.Pieces.{piece_is, piece_bytes, after_goes, piece_more, done_long, low_old}
 
 -- lists that are the same at each place

@@ -19,7 +19,7 @@ use Rattle.local_files.specs.Steps.{shown, device_at, answered, with_device, low
 use Rattle.local_files.specs.Hands.{system, AreApart, IsCall, MayLook}
 use Rattle.local_files.specs.Standing.{Stands, GoesTo}
 use Rattle.local_files.specs.Opens.{closing, seeking, seeking_in, sizing, beginning, looking, deleting}
-use Rattle.local_files.proofs.Devices.{shown_at, shown_set, some_below, device_some, open_size, is_open_same, answered_stands, set_stands, apart_none}
+use Rattle.local_files.proofs.Devices.{apart_moved, shown_at, shown_set, some_below, device_some, open_size, is_open_same, answered_stands, set_stands, apart_none}
 use Rattle.xinu_model.specs.Files.Systems as systems
 use Rattle.file_laws.proofs.Counted.{entry_small}
 
@@ -85,14 +85,9 @@ seek_goes e d n bytes disk s = by_device (device_at e d) refl
               }) (λ c ne. (
               let P : Option OpenFile → Type 0 = λ x. AreApart (device_at e c) x in let Q : Option OpenFile
               → Type 0 = λ x. AreApart x (device_at e c) in
-              both (device_at e c) f g refl (subst P at (s.apart c d ne)) (subst Q at (s.apart d c (λ q. ne (sym q))))))),
+              apart_moved (device_at e c) f g refl (subst P at (s.apart c d ne)) (subst Q at (s.apart d c (λ q. ne (sym q))))))),
         ))
         refl
-      where
-        both : (x : Option OpenFile) (f g : OpenFile) → g.slot ≡ f.slot → AreApart x (Some f) → AreApart (Some f) x
-            → AreApart x (Some g) × AreApart (Some g) x
-        both None f g q a b = (tt, tt)
-        both (Some y) f g q a b = (λ z. a (z ∙ q), λ z. b (sym q ∙ z))
 
     by_device : (o : Option OpenFile) → device_at e d ≡ o → GoesTo (seeking o d n e).phase (Seek d n) bytes e (seeking o d n e) disk disk
     by_device None at = (

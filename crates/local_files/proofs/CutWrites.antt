@@ -66,7 +66,7 @@ cut_read_goes e e' base disk read phase new put s honest =
             below = r.below;
             at = r.at;
             cutting = cutting_kept e CutWrite (index_at (e.at % 7) read) e.header e.at e.reached e.freed e'.block (16 * e.reached)
-                  (16 * e.reached) base disk disk c.places c refl c.cut;
+                (16 * e.reached) base disk disk c.places c refl c.cut;
           };
         };
       },

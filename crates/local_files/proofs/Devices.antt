@@ -159,3 +159,9 @@ set_stands reply e base d x s h mine away = record {
 pub apart_none : (o : Option OpenFile) → AreApart o None × AreApart None o
 apart_none None = (tt, tt)
 apart_none (Some f) = (tt, tt)
+
+-- two devices stay apart if one has another position or entry of the same slot
+pub apart_moved : (x : Option OpenFile) (f g : OpenFile) → g.slot ≡ f.slot → AreApart x (Some f) → AreApart (Some f) x
+    → AreApart x (Some g) × AreApart (Some g) x
+apart_moved None f g q a b = (tt, tt)
+apart_moved (Some y) f g q a b = (λ z. a (z ∙ q), λ z. b (sym q ∙ z))

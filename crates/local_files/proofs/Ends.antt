@@ -23,7 +23,7 @@ use Rattle.local_files.specs.Hands.{system, IsEnding, IsMade, IsHeaderWrite, IsD
 use Rattle.local_files.specs.Steps.{device_at, answered, with_device, lowest_free, shown, kept_at, counted, at_byte, device_of, is_write, is_truncate, has_this_open, is_this_open}
 use Rattle.local_files.specs.Standing.{Stands, InHand, GoesTo, call_bytes, given_bytes}
 use Rattle.local_files.specs.Opens.{opened, ended}
-use Rattle.local_files.proofs.Devices.{device_some, shown_set, is_open_same, shown_at, some_below, apart_set, or-false}
+use Rattle.local_files.proofs.Devices.{apart_moved, device_some, shown_set, is_open_same, shown_at, some_below, apart_set, or-false}
 use Rattle.xinu_model.specs.Files.Systems as systems
 use Rattle.xinu_model.specs.Files.Calls as model
 use Rattle.local_files.proofs.Closings.{made_open}
@@ -38,12 +38,6 @@ set_each P e d x h mine others c =
     subst Q (sym same) (subst P (sym (get_or-set_same e.devices d x None h)) mine)))
     (λ other. subst P (sym (get_or-set_other e.devices d c x None other)) (others c other))
     (cases_eq c d)
-
--- two devices stay apart if one has another position or entry of the same slot
-pub apart_moved : (x : Option OpenFile) (f g : OpenFile) → g.slot ≡ f.slot → AreApart x (Some f) → AreApart (Some f) x
-    → AreApart x (Some g) × AreApart (Some g) x
-apart_moved None f g q a b = (tt, tt)
-apart_moved (Some y) f g q a b = (λ z. a (z ∙ q), λ z. b (sym q ∙ z))
 
 -- of the made disk, a device whose file has another slot has it as it was
 open_there : (e : Files) (base made : List ℕ) (o : Option OpenFile) → IsMade e base made → (slot : ℕ) → slot ≡ e.slot → (f : OpenFile)

@@ -1,7 +1,6 @@
 -- A file grows: a new index block is taken.
-use Rattle.std.proofs.Common.{◌≡◌, ℕ, suc, ◌+◌, ◌*◌, ◌/◌, ◌<◌, ◌≤◌, List, [], ◌∷◌, length, refl, sym, ap, ◌∙◌, subst, arith, slice_index_or, slice_set, if◌then◌else◌, slice_index, ◌%◌, get_or-set_same, ⊎_elim, take, ◌++◌, ◌==◌, length-append, replicate}
+use Rattle.std.proofs.Common.{◌≡◌, ℕ, suc, ◌+◌, ◌*◌, ◌/◌, ◌<◌, ◌≤◌, List, [], ◌∷◌, length, refl, sym, ap, ◌∙◌, subst, arith, slice_index_or, slice_set, if◌then◌else◌, slice_index, ◌%◌, get_or-set_same, take, ◌++◌, ◌==◌, length-append, replicate}
 use Rattle.std.proofs.lemmas.Bool.Decides.{nat_tests}
-use Rattle.lfs_format.specs.declared.Entry.{Entry}
 use Rattle.lfs_check.specs.Rules.{block_in}
 use Rattle.lfs_check.specs.Disks.{block_put, entry_at}
 use Rattle.lfs_check.proofs.BlockPuts.{put_same, put_other}
@@ -11,7 +10,7 @@ use Rattle.local_files.specs.declared.Files.{Files}
 use Rattle.local_files.specs.declared.Phase.{Phase}
 use Rattle.local_files.specs.declared.Phase.TheVariants.{NewRead}
 use Rattle.local_files.specs.Hands.{put_bytes}
-use Rattle.local_files.specs.Putting.{IsPutting, IsReady, IsAt}
+use Rattle.local_files.specs.Putting.{IsPutting, IsAt}
 use Rattle.local_files.specs.Steps.{at_byte, piece}
 use Rattle.local_files.specs.Standing.{Stands, InHand, GoesTo, call_bytes}
 use Rattle.local_files.proofs.Closings.{put_whole}
@@ -27,16 +26,15 @@ use Rattle.lfs_check.specs.Disks.{disk_geometry}
 use Rattle.file_laws.specs.Middle.{IsMiddle}
 use Rattle.file_laws.proofs.Reached.{free_index_some}
 use Rattle.local_files.proofs.Closings.{put_whole}
-use Rattle.local_files.proofs.Freeing.{IsStanding, standing, some_at, none_at, goes_from}
+use Rattle.local_files.proofs.Freeing.{standing, some_at, none_at}
 use Rattle.std.proofs.lemmas.List.{drop_at}
 use Rattle.file_laws.proofs.Patched.{held_range, times_first}
-use Rattle.local_files.specs.Puts.{target, next_put, put_done, reached}
+use Rattle.local_files.specs.Puts.{next_put, put_done}
 use Rattle.local_files.proofs.PutSteps.{put_changed}
 use Rattle.local_files.proofs.Pieces.{after_goes, piece_is, piece_bytes}
 use Rattle.local_files.specs.declared.Phase.TheVariants.{NewWrite, LinkRead}
 use Rattle.local_files.specs.Putting.{IsNew, IsNewWrite}
 use Rattle.local_files.specs.Puts.{fresh_index, new_read, new_written, followed, linked_index}
-use Rattle.local_files.proofs.Pieces.{target_either}
 use Rattle.file_laws.proofs.Reached.{index_below}
 use Rattle.local_files.proofs.Adds.{growing, slot_lists, append_last}
 use Rattle.file_laws.proofs.Reached.{middle_index_got}

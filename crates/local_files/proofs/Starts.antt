@@ -19,7 +19,7 @@ use Rattle.local_files.specs.Hands.{system, IsOpenOn, AreApart, seen, put_bytes}
 use Rattle.local_files.specs.Putting.{IsPut}
 use Rattle.local_files.specs.Steps.{device_at, answered, with_device, shown, or_none, named_device, moved_to}
 use Rattle.local_files.specs.Standing.{Stands, InHand, served, GoesTo, call_bytes, given_bytes}
-use Rattle.local_files.proofs.Devices.{device_some, set_stands, shown_set, answered_stands, shown_at, some_below}
+use Rattle.local_files.proofs.Devices.{apart_moved, device_some, set_stands, shown_set, answered_stands, shown_at, some_below}
 use Rattle.xinu_model.specs.Files.Systems as systems
 use Rattle.local_files.specs.Standing as engine
 use Rattle.xinu_model.specs.Files.Calls as model
@@ -200,12 +200,6 @@ no_bytes : (xs : List ℕ) → length xs ≡ 0 → xs ≡ []
 no_bytes [] h = refl
 no_bytes (x ∷ xs) h = absurd (omega (arith, h))
 
--- two devices, of which one gets another position
-moved_apart : (x : Option OpenFile) (f g : OpenFile) → g.slot ≡ f.slot → AreApart x (Some f) → AreApart (Some f) x
-    → AreApart x (Some g) × AreApart (Some g) x
-moved_apart None f g q a b = (tt, tt)
-moved_apart (Some y) f g q a b = (λ z. a (z ∙ q), λ z. b (sym q ∙ z))
-
 -- `truncate`
 truncate_goes : (e : Files) (d : ℕ) (disk : List ℕ) → Stands e disk disk
     → GoesTo (truncating_at (device_at e d) d (Truncate d) e).phase (Truncate d) [] e
@@ -239,7 +233,7 @@ truncate_goes e d disk s = by_device (device_at e d) refl
           }) (λ c ne. (
               let A : Option OpenFile → Type 0 = λ x. AreApart (device_at e c) x in let B : Option OpenFile
               → Type 0 = λ x. AreApart x (device_at e c) in
-              moved_apart (device_at e c) f g refl (subst A at (s.apart c d ne)) (subst B at (s.apart d c (λ q. ne (sym q)))))),
+              apart_moved (device_at e c) f g refl (subst A at (s.apart c d ne)) (subst B at (s.apart d c (λ q. ne (sym q)))))),
         )
 
     in_file : (f : OpenFile) → device_at e d ≡ Some f → P (truncating f d (Truncate d) e)

@@ -34,8 +34,7 @@ use Rattle.local_files.specs.Takes.{walking, fetching, walked}
 use Rattle.std.proofs.lemmas.Bool.{cases_lt}
 use Rattle.local_files.specs.declared.FileCall.{FileCall}
 use Rattle.local_files.specs.declared.FileCall.TheVariants.{Open, Delete, Close, Read, Write, Getc, Putc, Seek, Truncate, Size}
-use Rattle.local_files.proofs.Devices.{set_stands, some_below}
-use Rattle.local_files.proofs.Ends.{apart_moved}
+use Rattle.local_files.proofs.Devices.{set_stands, some_below, apart_moved}
 
 -- a file that a device has open is read off the disk
 pub open_read : (base : List ℕ) (f : OpenFile) → IsCleanImage base → IsOpenOn base f
