@@ -1,8 +1,9 @@
 //! A file engine with its disk, on which each completion is an honest one.
 
-ghost use Rattle.std.specs.Prelude.{◌≡◌, ◌≤◌, ◌+◌, ◌*◌, ℕ, List, true, length, IsSome};
+ghost use Rattle.std.specs.Prelude.{◌≡◌, ◌≤◌, ◌+◌, ◌*◌, ℕ, List, true, length, Some};
 ghost use Rattle.lfs_check.specs.Disks.{block_put};
-ghost use Rattle.local_files.specs.Standing.{Stands, GoesTo, wanted, served, call_bytes};
+ghost use Rattle.local_files.specs.Standing.{Stands, GoesTo, wanted, call_bytes};
+ghost use Rattle.file_trials.specs.Honest.{IsWithin};
 
 use crate::names::is_call;
 use lfs_check::block_at;
@@ -11,8 +12,10 @@ use local_files::{BlockWork, FileCall, FileDev, Files, Phase};
 /// A file engine and the bytes of its disk.
 #[derive(Drop)]
 pub struct FileDisk {
-    files: Files,
-    disk: Vec<u8>,
+    /// The engine.
+    pub files: Files,
+    /// The bytes of the disk.
+    pub disk: Vec<u8>,
 }
 
 impl FileDisk {
@@ -41,8 +44,21 @@ impl FileDisk {
     }
 
     /// Carries out the work that the engine wants. Answers whether it wants some, and on a block of the disk.
-    pub fn complete(&mut self) -> bool {
-        serve(&mut self.files, &mut self.disk)
+    pub fn complete(&mut self) -> bool
+        ensures goes { result ≡ true → (base : List ℕ) → Stands self.old.files base self.old.disk.items
+            → GoesTo self.new.files.phase self.old.files.call (call_bytes self.old.files) self.old.files self.new.files base
+            self.new.disk.items }
+    {
+        match self.files.wants() {
+            None => false,
+            Some(work) => {
+                if !is_within(work, &self.disk) {
+                    return false;
+                }
+                serve(&mut self.files, &mut self.disk, work);
+                true
+            }
+        }
     }
 
     /// The reply of the call in hand, once it stands.
@@ -66,33 +82,41 @@ impl FileDisk {
     }
 }
 
-// Carries out the work that the engine wants, if it is on a block of the disk.
-fn serve(files: &mut Files, disk: &mut [u8]) -> bool {
-    match files.wants() {
-        None => false,
-        Some(BlockWork::Read(n)) => {
-            if n as usize >= disk.len() / 512 {
-                return false;
-            }
+// Carries out the work that the engine wants.
+fn serve(files: &mut Files, disk: &mut [u8], work: BlockWork)
+    requires wants { wanted files.old ≡ Some work }
+    requires within { IsWithin work disk.old }
+    ensures len { length disk.new ≡ length disk.old }
+    ensures goes { (base : List ℕ) → Stands files.old base disk.old
+        → GoesTo files.new.phase files.old.call (call_bytes files.old) files.old files.new base disk.new }
+{
+    match work {
+        BlockWork::Read(n) => {
             let block = block_at(disk, n);
             files.completed(&block);
-            true
         }
-        Some(BlockWork::Write(n)) => {
-            if n as usize >= disk.len() / 512 {
-                return false;
-            }
+        BlockWork::Write(n) => {
             let block = *files.outgoing();
             put_block(disk, n, &block);
             files.completed(&block);
-            true
         }
+    }
+}
+
+// Whether the block that is to be read or written is on a disk.
+fn is_within(work: BlockWork, disk: &[u8]) -> bool
+    ensures { result ≡ true → IsWithin work disk.now }
+{
+    match work {
+        BlockWork::Read(n) => (n as usize) < disk.len() / 512,
+        BlockWork::Write(n) => (n as usize) < disk.len() / 512,
     }
 }
 
 // Writes a block of a disk.
 fn put_block(disk: &mut [u8], n: u32, block: &[u8; 512])
     requires within { 512 * n + 512 ≤ length disk.old }
+    ensures block { disk.new ≡ block_put disk.old n block.now }
     ensures len { length disk.new ≡ length disk.old }
 {
     let at = 512 * n as usize;

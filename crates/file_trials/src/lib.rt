@@ -1,9 +1,13 @@
 //! Trials of the file engine over a disk, beside a plain list of files.
 //!
 //! A [`FileDisk`] is an engine with the bytes of its disk, on which each completion is an honest one. [`PlainFiles`] is a list of names and
-//! bytes with the ten calls by the book's rules. A [`Trial`] makes each call on both and compares the replies, the bytes that are read, what
-//! is open, and the files, which it reads off the disk by `lfs_layout`. A [`Script`] draws calls. The tests are worked rows and short
-//! scripts; `file_bench` plays long ones.
+//! bytes with the ten calls by the book's rules. A [`Trial`] makes each call on both and compares the replies, the bytes that are read,
+//! what is open, and the files, which it reads off the disk by `lfs_layout`. A [`Script`] draws calls. The tests are worked rows and
+//! short scripts; `file_bench` plays long ones.
+//!
+//! | What | Promise |
+//! |---|---|
+//! | [`FileDisk::complete`] | `goes`: the completion is honest, so the call in hand goes on, and the files stand as before it, or it is done as the abstract machine's call is |
 #![tactic(auto)]
 
 mod file_disk;

@@ -1,6 +1,6 @@
 //! Names of files, with zeros up to 28 bytes.
 
-ghost use Rattle.std.specs.Prelude.{◌≡◌, ◌≤◌, true, length};
+ghost use Rattle.std.specs.Prelude.{◌≡◌, true, length};
 ghost use Rattle.lfs_check.specs.Rules.{text_length, are_zeros, is_name};
 ghost use Rattle.local_files.specs.Hands.{IsCall};
 

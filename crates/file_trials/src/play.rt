@@ -38,13 +38,15 @@ pub struct Readings {
     pub calls: u32,
 }
 
-/// The engine with its disk, the plain list, and how many calls and completions there were.
+/// The engine with its disk, the plain list, and how many calls there were, how many of them with a negative reply, and how many
+/// completions.
 #[derive(Drop)]
 pub struct Trial {
     pub served: FileDisk,
     pub plain: PlainFiles,
     pub readings: Readings,
     pub calls: u32,
+    pub refused: u32,
     pub completions: u32,
 }
 
@@ -64,6 +66,7 @@ impl Trial {
                 plain: PlainFiles::new(alloc, blocks),
                 readings,
                 calls: 0,
+                refused: 0,
                 completions: 0,
             }),
             _ => Err(Trouble::NoMemory),
@@ -134,6 +137,9 @@ impl Trial {
         }
         if !self.has_devices() {
             return Err(Trouble::Devices);
+        }
+        if reply < 0 {
+            self.refused = self.refused.wrapping_add(1);
         }
         if is_due(self.calls, self.readings.calls) {
             self.compare_files(alloc)?;

@@ -6,10 +6,10 @@ use std::alloc::Global;
 
 /// Blocks of the disk, seeds, names, the most bytes at once, and how many calls are made.
 const SCRIPTS: [(u32, u32, u32, u32, u32); 4] = [
-    (14, 1, 9, 1600, 60),
-    (14, 2, 100, 600, 60),
-    (30, 3, 9, 9000, 40),
-    (64, 4, 20, 20_000, 20),
+    (14, 1, 9, 1600, 200),
+    (14, 2, 100, 600, 200),
+    (30, 3, 9, 9000, 200),
+    (64, 4, 20, 20_000, 100),
 ];
 
 // Plays a script on an empty disk.
