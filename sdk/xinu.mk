@@ -1,0 +1,31 @@
+# xinu.mk - what the Makefile of a program in C includes
+#
+# The Makefile names its programs, each a file NAME.c, and includes this:
+#
+#	PROGRAMS = sender receiver
+#	receiver.elf: PLACE = 0x10000
+#	include ../../sdk/xinu.mk
+#
+# PLACE is where a program lies in RAM, 0 if it isn't said. Two programs of one run may not overlap.
+
+SDK := $(dir $(lastword $(MAKEFILE_LIST)))
+CROSS ?= riscv64-unknown-elf-
+PLACE ?= 0
+
+# No variable is addressed by gp, which is 0 in a new process: so -msmall-data-limit=0.
+XFLAGS = -march=rv32i -mabi=ilp32 -msmall-data-limit=0 -O2 -Wall -Wextra -std=gnu11 \
+	-ffreestanding -fno-tree-loop-distribute-patterns -fno-asynchronous-unwind-tables \
+	-nostdlib -static -I$(SDK) $(CFLAGS)
+XLINK = -T $(SDK)xinu.ld -Wl,--defsym=PLACE=$(PLACE) -Wl,--build-id=none -Wl,-z,max-page-size=4
+
+.SUFFIXES:
+.PHONY: all clean
+
+.DEFAULT_GOAL := all
+all: $(PROGRAMS:=.elf)
+
+%.elf: %.c $(SDK)start.S $(SDK)xinu.c $(SDK)xinu.h $(SDK)xinu.ld $(SDK)xinu.mk
+	$(CROSS)gcc $(XFLAGS) $(XLINK) -o $@ $(SDK)start.S $< $(SDK)xinu.c -lgcc
+
+clean:
+	rm -f $(PROGRAMS:=.elf) *.xim
