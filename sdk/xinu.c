@@ -137,29 +137,69 @@ static	void	put(
 }
 
 /*------------------------------------------------------------------------
- *  putnum  -  Put a number with at least width digits or blanks
+ *  decimal  -  Find the digits of a number, and how many there are; RV32I
+ *		  has no division, so powers of ten are subtracted
+ *------------------------------------------------------------------------
+ */
+static	int32	decimal(
+	  uint32	n,		/* The number			*/
+	  char		*digits		/* Room for 10 digits		*/
+	)
+{
+	static const uint32 tens[] = { 1000000000, 100000000, 10000000, 1000000,
+		100000, 10000, 1000, 100, 10, 1 };
+	int32	i, count = 0;
+
+	for (i = 0; i < 10; i++) {
+		digits[count] = '0';
+		while (n >= tens[i]) {
+			n -= tens[i];
+			digits[count]++;
+		}
+		if (count > 0 || digits[count] != '0' || i == 9) {
+			count++;
+		}
+	}
+	return count;
+}
+
+/*------------------------------------------------------------------------
+ *  hexadecimal  -  The same with the base 16
+ *------------------------------------------------------------------------
+ */
+static	int32	hexadecimal(
+	  uint32	n,		/* The number			*/
+	  char		*digits		/* Room for 8 digits		*/
+	)
+{
+	int32	shift, count = 0;
+
+	for (shift = 28; shift >= 0; shift -= 4) {
+		if (count > 0 || n >> shift != 0 || shift == 0) {
+			digits[count++] = "0123456789abcdef"[(n >> shift) & 15];
+		}
+	}
+	return count;
+}
+
+/*------------------------------------------------------------------------
+ *  putnum  -  Put digits, and before them so much that there are width
+ *		  characters
  *------------------------------------------------------------------------
  */
 static	void	putnum(
 	  struct outbuf	*out,
-	  uint32	n,		/* The number			*/
-	  uint32	base,		/* 10 or 16			*/
+	  const char	*digits,
+	  int32		count,		/* How many digits there are	*/
 	  int32		width,		/* At least so many characters	*/
-	  char		pad		/* What comes before the number	*/
+	  char		pad		/* What comes before the digits	*/
 	)
 {
-	char	digits[10];
-	int32	count = 0;
-
-	do {
-		digits[count++] = "0123456789abcdef"[n % base];
-		n /= base;
-	} while (n != 0);
 	while (width-- > count) {
 		put(out, pad);
 	}
-	while (count > 0) {
-		put(out, digits[--count]);
+	while (count-- > 0) {
+		put(out, *digits++);
 	}
 }
 
@@ -177,8 +217,8 @@ status	fprintf(
 	struct	outbuf	out = { .dev = dev };
 	va_list	args;
 	const char *s;
+	char	digits[10], pad;
 	int32	n, width;
-	char	pad;
 
 	va_start(args, fmt);
 	for (; *fmt != '\0'; fmt++) {
@@ -197,13 +237,13 @@ status	fprintf(
 				put(&out, '-');
 				width--;
 			}
-			putnum(&out, n < 0 ? -(uint32)n : (uint32)n, 10, width, pad);
+			putnum(&out, digits, decimal(n < 0 ? -(uint32)n : (uint32)n, digits), width, pad);
 			break;
 		case 'u':
-			putnum(&out, va_arg(args, uint32), 10, width, pad);
+			putnum(&out, digits, decimal(va_arg(args, uint32), digits), width, pad);
 			break;
 		case 'x':
-			putnum(&out, va_arg(args, uint32), 16, width, pad);
+			putnum(&out, digits, hexadecimal(va_arg(args, uint32), digits), width, pad);
 			break;
 		case 'c':
 			put(&out, va_arg(args, int32));
