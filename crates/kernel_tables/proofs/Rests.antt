@@ -1,19 +1,11 @@
 -- What is left of each call stays so while processes become ready, and in a resched and a tick.
-use Rattle.std.proofs.Common.{◌≡◌, ◌≢◌, ◌∙◌, ◌+◌, ℕ, zero, suc, true, false, Bool, ℤ, List, [], ◌∷◌, set, get_or, Option, Some, None, nat_lt, ◌-◌, refl, sym, subst}
+use Rattle.std.proofs.Common.{◌≡◌, ◌∙◌, ◌+◌, ℕ, zero, suc, true, false, Bool, ℤ, List, [], ◌∷◌, set, get_or, Option, nat_lt, ◌-◌, refl}
 use Rattle.std.proofs.lemmas.Bool.{cond_both}
-use Rattle.xinu_base.specs.declared.processes.PortTicket.{PortTicket}
 use Rattle.xinu_base.specs.declared.processes.Process.{Process}
-use Rattle.xinu_base.specs.declared.processes.Rest.{Rest}
-use Rattle.xinu_base.specs.declared.processes.Rest.TheVariants.{Nothing, Receive, Timed, SelfSuspend, GetBuf, PtSend, PtRecv, TtyGet, TtyPut, TtyRead, TtyWrite, Disk}
-use Rattle.xinu_base.specs.declared.processes.Span.{Span}
 use Rattle.xinu_base.specs.declared.processes.State.TheVariants.{Ready, Current}
-use Rattle.xinu_model.specs.Calls.{continued}
 use Rattle.xinu_model.specs.Clock.{a_tick_later, quantum_falls}
-use Rattle.xinu_model.specs.Machine.{CallState, with_tables, Xinu}
-use Rattle.xinu_model.specs.Messages.{can_get, delivered, go_on_receive, listens, sent}
-use Rattle.xinu_model.specs.Process.Calls.{is_ready, with_priority}
 use Rattle.xinu_model.specs.Process.Scheduling.{dispatch_first, in_state, is_current, keeps_cpu, preempt, ready, resched, ready_all}
-use Rattle.xinu_model.specs.Tables.{InReady, message_at, move_to, no_process, Nowhere, Place, process_at, state_at, Tables}
+use Rattle.xinu_model.specs.Tables.{InReady, message_at, move_to, no_process, Place, process_at, state_at, Tables}
 
 -- The same is left of each process's call.
 pub record SameRests (t u : Tables) : Type 0 where

@@ -11,7 +11,7 @@ use Rattle.semaphores.proofs.Counting.{owner_at}
 use Rattle.semaphores.proofs.Finding.{are_found}
 use Rattle.semaphores.specs.Signals.{after_signal, answer_to, signal_answer}
 use Rattle.semaphores.specs.declared.waiting.Signalled.{Signalled}
-use Rattle.semaphores.specs.declared.waiting.Signalled.TheVariants.{Full, Kept, Released}
+use Rattle.semaphores.specs.declared.waiting.Signalled.TheVariants.{Full}
 use Rattle.xinu_base.specs.declared.processes.Process.{Process}
 use Rattle.xinu_base.specs.declared.processes.Rest.{Rest}
 use Rattle.xinu_base.specs.declared.processes.State.TheVariants.{Waiting}
@@ -31,7 +31,7 @@ use Rattle.table_laws.proofs.Tables.MoveTo.{inside_move}
 use Rattle.table_laws.proofs.Tables.Scheduling.{inside_ready}
 use Rattle.table_laws.proofs.Tables.Unblock.{can_be_ready_waiters, can_be_ready_waiting, owner_ready, sound_ready_all, sound_signalled_times, unblock_all_ready, waiter_waits, waiters_gone}
 use Rattle.kernel_tables.proofs.Sent.{with_these}
-use Rattle.kernel_tables.proofs.Rests.{rests_ready, rests_ready_all, SameRests}
+use Rattle.kernel_tables.proofs.Rests.{rests_ready_all, SameRests}
 
 -- a number that is found is the first free one
 found_free : (z : ℤ) (t : Tables) (sem : ℕ) → Some sem ≡ number_for z t → free_semaphore t ≡ Some sem

@@ -10,7 +10,7 @@ use Rattle.xinu_model.specs.Tables.{no_semaphore, semaphore_at, Tables}
 use Rattle.std.specs.Prelude.{IsSome}
 use Rattle.kernel_tables.specs.KernelTables.{kernel_tables}
 use Rattle.kernel_tables.proofs.Queues.{queues_counted}
-use Rattle.kernel_tables.proofs.Waiters.{entry_used, inside_deleted, rests_written, written_twice}
+use Rattle.kernel_tables.proofs.Waiters.{entry_used, inside_deleted, written_twice}
 use Rattle.kernel_tables.proofs.tables.KernelTables.delete_semaphore.Goals as goal
 
 pub release_all-released-requires-clause-used : goal.release_all-released-requires-clause-used

@@ -4,8 +4,7 @@ use Rattle.process_core.proofs.Inside.{inside_fits}
 use Rattle.semaphores.specs.Counts.{beside}
 use Rattle.xinu_model.specs.Sound.Tables.{IsInside}
 use Rattle.kernel_tables.specs.KernelTables.{kernel_tables}
-use Rattle.xinu_base.specs.declared.processes.Rest.TheVariants.{Nothing}
-use Rattle.xinu_model.specs.Tables.{message_at, Nowhere, process_at}
+use Rattle.xinu_model.specs.Tables.{message_at}
 use Rattle.kernel_tables.proofs.Inside.{inside_goes_on}
 use Rattle.kernel_tables.proofs.Running.{current_in}
 use Rattle.kernel_tables.proofs.tables.KernelTables.go_on.Goals as goal

@@ -3,7 +3,7 @@ use Rattle.queue_table.specs.Table.{lists}
 use Rattle.process_core.proofs.Inside.{inside_fits}
 use Rattle.semaphores.specs.Counts.{beside}
 use Rattle.xinu_model.specs.Sound.Tables.{IsInside, IsSoundTables}
-use Rattle.xinu_model.specs.Tables.{message_at, Nowhere, process_at}
+use Rattle.xinu_model.specs.Tables.{Nowhere}
 use Rattle.xinu_base.specs.declared.processes.Rest.TheVariants as rest
 use Rattle.xinu_base.specs.declared.processes.State.TheVariants as state
 use Rattle.kernel_tables.specs.KernelTables.{kernel_tables}

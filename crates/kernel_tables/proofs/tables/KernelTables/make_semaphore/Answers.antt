@@ -1,9 +1,8 @@
 use Rattle.std.proofs.Common.{sym, subst}
 use Rattle.queue_table.specs.Table.{lists}
-use Rattle.semaphores.specs.Counts.{with_made}
 use Rattle.xinu_model.specs.Sound.Tables.{IsInside}
 use Rattle.kernel_tables.specs.KernelTables.{kernel_tables}
-use Rattle.kernel_tables.proofs.Waiters.{inside_made, rests_made}
+use Rattle.kernel_tables.proofs.Waiters.{inside_made}
 use Rattle.kernel_tables.proofs.tables.KernelTables.make_semaphore.Goals as goal
 
 pub invariant_of-self : goal.invariant_of-self

@@ -1,9 +1,8 @@
 use Rattle.std.proofs.Common.{sym, subst}
 use Rattle.queue_table.specs.Table.{lists}
-use Rattle.semaphores.specs.Counts.{with_two}
 use Rattle.xinu_model.specs.Sound.Tables.{IsInside}
 use Rattle.kernel_tables.specs.KernelTables.{kernel_tables}
-use Rattle.kernel_tables.proofs.Waiters.{inside_two, rests_two}
+use Rattle.kernel_tables.proofs.Waiters.{inside_two}
 use Rattle.kernel_tables.proofs.tables.KernelTables.make_two_semaphores.Goals as goal
 
 pub invariant_of-self : goal.invariant_of-self

@@ -4,13 +4,11 @@ use Rattle.queue_table.specs.Table.{lists}
 use Rattle.process_core.proofs.Fitting.{suspended_nowhere}
 use Rattle.process_core.proofs.Inside.{inside_fits}
 use Rattle.xinu_model.specs.Tables.{state_at}
-use Rattle.xinu_model.specs.Process.Scheduling.{ready}
 use Rattle.xinu_model.specs.Sound.Tables.{IsInside}
 use Rattle.kernel_tables.specs.KernelTables.{kernel_tables}
 use Rattle.semaphores.specs.Counts.{beside}
 use Rattle.kernel_tables.proofs.Queues.{queues_kept, state_in}
 use Rattle.kernel_tables.proofs.Inside.{inside_resumed}
-use Rattle.kernel_tables.proofs.Rests.{rests_ready}
 use Rattle.kernel_tables.proofs.tables.KernelTables.ready.Goals as goal
 
 pub ready_defer-requires-clause-fits : goal.ready_defer-requires-clause-fits

@@ -1,13 +1,11 @@
 use Rattle.std.proofs.Common.{sym, subst}
 use Rattle.queue_table.specs.Table.{lists}
 use Rattle.process_core.proofs.Inside.{inside_fits}
-use Rattle.xinu_model.specs.Process.Scheduling.{resched}
 use Rattle.xinu_model.specs.Sound.Tables.{IsInside}
 use Rattle.table_laws.proofs.Tables.Scheduling.{sound_resched}
 use Rattle.kernel_tables.specs.KernelTables.{kernel_tables}
 use Rattle.semaphores.specs.Counts.{beside}
 use Rattle.kernel_tables.proofs.Queues.{queues_kept}
-use Rattle.kernel_tables.proofs.Rests.{rests_resched}
 use Rattle.kernel_tables.proofs.tables.KernelTables.resched.Goals as goal
 
 pub resched-requires : goal.resched-requires

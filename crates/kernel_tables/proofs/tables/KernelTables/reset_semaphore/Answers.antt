@@ -7,7 +7,7 @@ use Rattle.xinu_model.specs.Tables.{semaphore_at, Tables}
 use Rattle.std.specs.Prelude.{IsSome}
 use Rattle.kernel_tables.specs.KernelTables.{kernel_tables}
 use Rattle.kernel_tables.proofs.Queues.{queues_counted}
-use Rattle.kernel_tables.proofs.Waiters.{entry_used, inside_reset, rests_written, used_owner}
+use Rattle.kernel_tables.proofs.Waiters.{entry_used, inside_reset, used_owner}
 use Rattle.kernel_tables.proofs.tables.KernelTables.reset_semaphore.Goals as goal
 
 pub release_all-requires-clause-used : goal.release_all-requires-clause-used

@@ -4,7 +4,6 @@ use Rattle.process_core.proofs.Inside.{inside_fits}
 use Rattle.queue_table.specs.Table.{lists}
 use Rattle.semaphores.specs.Counts.{beside}
 use Rattle.xinu_model.specs.Machine.{CallState}
-use Rattle.xinu_model.specs.Messages.{sent}
 use Rattle.xinu_model.specs.Sound.Tables.{IsInside}
 use Rattle.table_laws.proofs.Tables.Deaths.{inside_sent}
 use Rattle.kernel_tables.specs.KernelTables.{kernel_tables}

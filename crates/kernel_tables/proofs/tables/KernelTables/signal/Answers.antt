@@ -2,7 +2,6 @@ use Rattle.std.proofs.Common.{sym, subst, arith}
 use Rattle.queue_table.specs.Table.{lists}
 use Rattle.process_core.proofs.Inside.{inside_fits}
 use Rattle.semaphores.specs.Counts.{beside}
-use Rattle.semaphores.specs.Signals.{after_signal}
 use Rattle.xinu_model.specs.Sound.Tables.{IsInside}
 use Rattle.xinu_model.specs.Tables.{semaphore_at, Tables}
 use Rattle.std.specs.Prelude.{IsSome}

@@ -1,15 +1,14 @@
-use Rattle.std.proofs.Common.{◌≡◌, ◌∙◌, ◌+◌, ◌-◌, length, take, ap, sym, subst, arith}
+use Rattle.std.proofs.Common.{◌≡◌, ◌∙◌, take, ap, sym, subst, arith}
 use Rattle.queue_table.specs.Table.{lists}
 use Rattle.process_core.proofs.Inside.{inside_fits}
 use Rattle.semaphores.specs.Counts.{beside}
 use Rattle.xinu_model.specs.Process.Scheduling.{ready_all}
-use Rattle.xinu_model.specs.Semaphores.Counts.{with_tokens}
 use Rattle.xinu_model.specs.Sound.Tables.{IsInside, IsSoundTables}
 use Rattle.xinu_model.specs.Tables.{semaphore_at, Tables}
 use Rattle.std.specs.Prelude.{IsSome}
 use Rattle.kernel_tables.specs.KernelTables.{kernel_tables}
 use Rattle.kernel_tables.proofs.Queues.{queues_counted}
-use Rattle.kernel_tables.proofs.Waiters.{entry_used, inside_signaln, rests_written, used_owner}
+use Rattle.kernel_tables.proofs.Waiters.{entry_used, inside_signaln, used_owner}
 use Rattle.kernel_tables.proofs.tables.KernelTables.signaln.Goals as goal
 use Rattle.std.proofs.Common.{int_lt, pos, ◌+ℤ◌, false}
 use Rattle.semaphores.proofs.Counting.{count_at}

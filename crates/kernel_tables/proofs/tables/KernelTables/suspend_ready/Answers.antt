@@ -1,10 +1,9 @@
 use Rattle.std.proofs.Common.{◌≡◌, ◌∙◌, sym, subst}
-use Rattle.xinu_base.specs.declared.processes.State.TheVariants.{Ready, Suspended}
+use Rattle.xinu_base.specs.declared.processes.State.TheVariants.{Ready}
 use Rattle.queue_table.specs.Table.{lists}
 use Rattle.process_core.proofs.Inside.{inside_fits}
-use Rattle.xinu_model.specs.Process.Scheduling.{in_state}
 use Rattle.xinu_model.specs.Sound.Tables.{IsInside}
-use Rattle.xinu_model.specs.Tables.{message_at, Nowhere, process_at, state_at}
+use Rattle.xinu_model.specs.Tables.{state_at}
 use Rattle.kernel_tables.specs.KernelTables.{kernel_tables}
 use Rattle.semaphores.specs.Counts.{beside}
 use Rattle.kernel_tables.proofs.Queues.{queues_kept, state_in}

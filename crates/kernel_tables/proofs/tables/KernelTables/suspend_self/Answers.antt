@@ -4,9 +4,6 @@ use Rattle.process_core.proofs.Inside.{inside_fits}
 use Rattle.xinu_model.specs.Sound.Tables.{IsInside}
 use Rattle.kernel_tables.specs.KernelTables.{kernel_tables}
 use Rattle.semaphores.specs.Counts.{beside}
-use Rattle.xinu_base.specs.declared.processes.Rest.TheVariants.{SelfSuspend}
-use Rattle.xinu_base.specs.declared.processes.State.TheVariants.{Suspended}
-use Rattle.xinu_model.specs.Tables.{message_at, Nowhere, process_at}
 use Rattle.kernel_tables.proofs.Inside.{inside_self_suspended}
 use Rattle.kernel_tables.proofs.Running.{current_in}
 use Rattle.kernel_tables.proofs.tables.KernelTables.suspend_self.Goals as goal

@@ -12,7 +12,6 @@ use Rattle.kernel_tables.specs.KernelTables.{kernel_tables}
 use Rattle.kernel_tables.specs.Waking.{are_any}
 use Rattle.kernel_tables.proofs.Queues.{queues_kept, queues_later}
 use Rattle.kernel_tables.proofs.Running.{few_ticks}
-use Rattle.kernel_tables.proofs.Rests.{rests_tick}
 use Rattle.kernel_tables.proofs.Wakeups.{woken_later}
 use Rattle.kernel_tables.proofs.tables.KernelTables.tick.Goals as goal
 
