@@ -1,7 +1,7 @@
 -- The blocks of a disk of zero bytes.
-use Rattle.std.proofs.Common.{◌≡◌, ◌∙◌, ℕ, zero, suc, ◌+◌, ◌-◌, ◌*◌, ◌/◌, ◌∷◌, List, length, replicate, drop, refl, ap, arith}
+use Rattle.std.proofs.Common.{◌≡◌, ◌∙◌, ℕ, zero, suc, ◌-◌, ◌*◌, ◌/◌, ◌∷◌, List, length, replicate, drop, refl, ap, arith}
 use Rattle.std.proofs.lemmas.List.{length-replicate}
-use Rattle.std.proofs.Math.Nat.{mul-zero, mul-suc}
+use Rattle.std.proofs.Math.Nat.{mul-suc}
 use Rattle.std.proofs.lemmas.List.{drop-replicate, take-replicate}
 use Rattle.std.specs.Simd.{first_chunks}
 use Rattle.disk_driver.specs.Blocks.{blocks_of}
