@@ -49,6 +49,10 @@ run_read : (rows : List Row) (t : Taken) → Holds run_options rows t → run_fr
 run_read rows t h =
     rw (
       value_read run_options rows t h (codes "schedule") _ refl refl refl refl,
+      value_read run_options rows t h (codes "disk0") _ refl refl refl refl,
+      value_read run_options rows t h (codes "disk1") _ refl refl refl refl,
+      value_read run_options rows t h (codes "out0") _ refl refl refl refl,
+      value_read run_options rows t h (codes "out1") _ refl refl refl refl,
       flag_read run_options rows t h
           (codes "plain") _ refl refl refl,
       args_read run_options rows t h refl,

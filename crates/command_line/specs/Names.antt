@@ -1,9 +1,10 @@
 -- The command of the code, as the names that it holds.
-use Rattle.std.specs.Prelude.{map}
-use Rattle.command_line.specs.RunArgs.{RunFiles as RunNames}
+use Rattle.std.specs.Prelude.{map, option_map}
+use Rattle.command_line.specs.RunArgs.{DiskFiles as DiskNames, RunFiles as RunNames}
 use Rattle.command_line.specs.AsmArgs.{AsmFiles as AsmNames}
 use Rattle.command_line.specs.DiskArgs.{DiskAction as ActionNames, Mkfs, Ls, Get, Put, Check, Repair}
 use Rattle.command_line.specs.Commands.{Command as CommandNames, Run, Asm, Disk}
+use Rattle.command_line.specs.declared.run_args.DiskFiles.{DiskFiles}
 use Rattle.command_line.specs.declared.run_args.RunFiles.{RunFiles}
 use Rattle.command_line.specs.declared.asm_args.AsmFiles.{AsmFiles}
 use Rattle.command_line.specs.declared.disk_args.DiskAction.{DiskAction}
@@ -11,8 +12,16 @@ use Rattle.command_line.specs.declared.disk_args.DiskAction.TheVariants as actio
 use Rattle.command_line.specs.declared.command.Command.{Command}
 use Rattle.command_line.specs.declared.command.Command.TheVariants as command
 
+abbrev pub disk_names : DiskFiles → DiskNames
+disk_names d = record {
+  disk0 = option_map (λ s. s.now) d.disk0;
+  disk1 = option_map (λ s. s.now) d.disk1;
+  out0 = option_map (λ s. s.now) d.out0;
+  out1 = option_map (λ s. s.now) d.out1;
+}
+
 abbrev pub run_names : RunFiles → RunNames
-run_names r = record { schedule = r.schedule.now; images = map (λ s. s.now) r.images.items; plain = r.plain }
+run_names r = record { schedule = r.schedule.now; disks = disk_names r.disks; images = map (λ s. s.now) r.images.items; plain = r.plain }
 
 abbrev pub asm_names : AsmFiles → AsmNames
 asm_names a = record { source = a.source.now; out = a.out.now; elf = a.elf }

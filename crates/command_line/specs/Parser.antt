@@ -6,7 +6,7 @@ use Rattle.clap.specs.Walk.{Row, Rule, all_of, first_of}
 use Rattle.clap.specs.Simple.{App, new_rule, new_shape, with_subcommand}
 use Rattle.clap.specs.declared.builder.action.ArgAction.TheVariants.{Set, Append, SetTrue}
 use Rattle.command_line.specs.Reading.{CommandRow, OptionRow, Text}
-use Rattle.command_line.specs.RunArgs.{RunFiles, run_of}
+use Rattle.command_line.specs.RunArgs.{RunFiles, disk_files, run_of}
 use Rattle.command_line.specs.AsmArgs.{AsmFiles, asm_of}
 use Rattle.command_line.specs.DiskArgs.{DiskAction, action_named, actions}
 use Rattle.command_line.specs.Commands.{Command, command_named, commands}
@@ -67,7 +67,7 @@ abbrev pub flag_in : Text → List Row → Bool
 flag_in name rows = option_map_or (bytes_eq (codes "true")) (first_of name rows) false
 
 abbrev pub run_in : List Row → Option RunFiles
-run_in rows = run_of (first_of (codes "schedule") rows) (flag_in (codes "plain") rows) (args_in rows)
+run_in rows = run_of (first_of (codes "schedule") rows) (disk_files (λ name. first_of name rows)) (flag_in (codes "plain") rows) (args_in rows)
 
 abbrev pub asm_in : List Row → Option AsmFiles
 asm_in rows = asm_of (first_of (codes "out") rows) (flag_in (codes "elf") rows) (args_in rows)

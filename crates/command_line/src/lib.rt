@@ -25,4 +25,4 @@ pub use asm_args::AsmFiles;
 pub use command::{Command, command_of};
 pub use disk_args::DiskAction;
 pub use refusal::ArgsFault;
-pub use run_args::RunFiles;
+pub use run_args::{DiskFiles, RunFiles};

@@ -121,6 +121,10 @@ fn run_command<'a>(alloc: Global) -> Result<Command<'a>, AllocError>
     ensures local { IfOk result (λ c. (fields_of c).has_globals ≡ false) }
 {
     let command = with_value(Command::new(alloc, "run"), alloc, "schedule")?;
+    let command = with_value(command, alloc, "disk0")?;
+    let command = with_value(command, alloc, "disk1")?;
+    let command = with_value(command, alloc, "out0")?;
+    let command = with_value(command, alloc, "out1")?;
     let command = with_flag(command, alloc, "plain")?;
     with_args(command, alloc)
 }
