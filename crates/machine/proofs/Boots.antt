@@ -7,8 +7,10 @@ use Rattle.xinu_base.specs.declared.processes.Process.{Process}
 use Rattle.xinu_base.specs.declared.processes.State.{State}
 use Rattle.xinu_base.specs.declared.processes.State.TheVariants.{Current, Free, Ready, Suspended}
 use Rattle.table_laws.proofs.Tables.Starts.{all_are_made, boots_from, none_made, same_everywhere}
+use Rattle.xinu_laws.proofs.Ownership.Boot.{apart_boot}
 use Rattle.xinu_laws.proofs.Touches.ClockEvents.{resched_ticks}
-use Rattle.xinu_model.specs.Boot.{all_made, all_ready, all_started, boot, Boots, first_overlap, Loaded, loaded_machine, unless_overlap, where_stack, with_image}
+use Rattle.xinu_laws.specs.Ownership.Apart.{IsApart}
+use Rattle.xinu_model.specs.Boot.{all_made, all_ready, all_started, boot, boot_on, Boots, Disks, first_overlap, Loaded, on_disks, loaded_machine, unless_overlap, where_stack, with_image}
 use Rattle.xinu_model.specs.Heap.Cells.{Stack, take_stack}
 use Rattle.xinu_model.specs.Machine.{Xinu}
 use Rattle.xinu_model.specs.Ports.Queues.{first_ports, MessagePort, no_port, port_at}
@@ -130,3 +132,34 @@ first_number q = ap (λ (p : MessagePort). p.seq) (same_everywhere 30 q no_port)
 pub boot_numbers : (images : List Loaded) (start : Xinu) → boot images ≡ Boots start → (q : ℕ) → (port_at start.parts.ports q).seq ≡ 0
 boot_numbers images start e q =
     ap (λ (ports : List MessagePort). (port_at ports q).seq) (unless_overlap_ports (first_overlap 1 [] images) images start e) ∙ first_number q
+
+-- ---- on disks
+
+-- The machine starts on disks as it does without, but for the disks.
+pub started_on : (disks : Disks) (images : List Loaded) (start : Xinu) → boot_on disks images ≡ Boots start → (s : Xinu) × ((boot images ≡ Boots s) × (on_disks disks s ≡ start))
+started_on disks images start e =
+    let b = boots_from (boot images) (λ s. Boots (on_disks disks s)) start e in
+    let same : on_disks disks b.0 ≡ start = cc in (b.0, (b.1, same))
+
+-- what holds of each start without disks and doesn't speak of them holds of one on disks
+on_given : (P : Xinu → Type 0) (disks : Disks) (images : List Loaded) (start : Xinu) → ((s : Xinu) → P s → P (on_disks disks s)) → ((s : Xinu) → boot images ≡ Boots s → P s)
+    → boot_on disks images ≡ Boots start → P start
+on_given P disks images start keeps holds e =
+    let b = started_on disks images start e in subst P b.1.1 (keeps b.0 (holds b.0 b.1.0))
+
+-- A process lives besides the null process.
+pub boot_on_lives : (disks : Disks) (images : List Loaded) (start : Xinu) → 1 ≤ length images → length images < 64 → boot_on disks images ≡ Boots start → is_over start ≡ false
+boot_on_lives disks images start some few e = on_given (λ s. is_over s ≡ false) disks images start (λ s h. h) (λ s b. boot_lives images s some few b) e
+
+-- The clock begins at 0.
+pub boot_on_ticks : (disks : Disks) (images : List Loaded) (start : Xinu) → boot_on disks images ≡ Boots start → start.tables.ticks ≡ 0
+boot_on_ticks disks images start e = on_given (λ s. s.tables.ticks ≡ 0) disks images start (λ s h. h) (λ s b. boot_ticks images s b) e
+
+-- The numbers of the ports begin at 0.
+pub boot_on_numbers : (disks : Disks) (images : List Loaded) (start : Xinu) → boot_on disks images ≡ Boots start → (q : ℕ) → (port_at start.parts.ports q).seq ≡ 0
+boot_on_numbers disks images start e q =
+    on_given (λ s. (port_at s.parts.ports q).seq ≡ 0) disks images start (λ s h. h) (λ s b. boot_numbers images s b q) e
+
+-- No address has two owners.
+pub boot_on_apart : (disks : Disks) (images : List Loaded) (start : Xinu) → boot_on disks images ≡ Boots start → IsApart start
+boot_on_apart disks images start e = on_given IsApart disks images start (λ s h. record { low = h.low; stacks = h.stacks; claims = h.claims }) (λ s b. apart_boot images s b) e

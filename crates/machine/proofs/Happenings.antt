@@ -52,14 +52,14 @@ goes_on_later s n w =
     waits Nothing n = absurd (n refl)
     waits _ n = refl
 
--- the events of disks do nothing
-pub other_does : (old : Xinu) (e : Event) → e ≢ Step → e ≢ Tick → ((b : ℕ) → e ≢ Key b) → e ≢ Tx → e ≢ Dump → effect_of old e 0 ≡ nothing_happens old
-other_does old Step a b k t c = absurd (a refl)
-other_does old Tick a b k t c = absurd (b refl)
-other_does old (Key x) a b k t c = absurd (k x refl)
-other_does old Tx a b k t c = absurd (t refl)
-other_does old Dump a b k t c = absurd (c refl)
-other_does old Disk0 a b k t c = refl
-other_does old Disk1 a b k t c = refl
-other_does old Fail0 a b k t c = refl
-other_does old Fail1 a b k t c = refl
+-- the events of the disk with files do nothing
+pub other_does : (old : Xinu) (e : Event) → e ≢ Step → e ≢ Tick → ((b : ℕ) → e ≢ Key b) → e ≢ Tx → e ≢ Disk0 → e ≢ Fail0 → e ≢ Dump → effect_of old e 0 ≡ nothing_happens old
+other_does old Step a b k t d f c = absurd (a refl)
+other_does old Tick a b k t d f c = absurd (b refl)
+other_does old (Key x) a b k t d f c = absurd (k x refl)
+other_does old Tx a b k t d f c = absurd (t refl)
+other_does old Dump a b k t d f c = absurd (c refl)
+other_does old Disk0 a b k t d f c = absurd (d refl)
+other_does old Fail0 a b k t d f c = absurd (f refl)
+other_does old Disk1 a b k t d f c = refl
+other_does old Fail1 a b k t d f c = refl

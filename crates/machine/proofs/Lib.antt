@@ -1,6 +1,7 @@
 pub mod Apart
 pub mod Boots
 pub mod Closing
+pub mod Completions
 pub mod Dumps
 pub mod Happenings
 pub mod Transmissions

@@ -1,4 +1,5 @@
 pub mod Apart
+pub mod Disks
 pub mod Machines
 pub mod Printed
 pub mod RunEnds

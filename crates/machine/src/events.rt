@@ -1,5 +1,5 @@
-//! Events: a step of the current process, a tick of the clock, the console's interrupts, the printing of the tables (book, chapters 12, 13
-//! and 15).
+//! Events: a step of the current process, a tick of the clock, the interrupts of the console and of the raw disk, the printing of the tables
+//! (book, chapters 12, 13, 15 and 18).
 
 ghost use Rattle.std.specs.Prelude.{ℕ, ◌≡◌, ◌≢◌, ◌<◌, ◌≤◌, ◌+◌, ◌∷◌, [], map};
 ghost use Rattle.kernel_state.specs.Results.{answer_so_far, IsIdle};
@@ -13,6 +13,7 @@ ghost use Rattle.xinu_model.specs.Events.{panics_in, reacted, stepped};
 ghost use Rattle.xinu_model.specs.Machine as model;
 ghost use Rattle.xinu_model.specs.Ports.Queues.{port_at};
 ghost use Rattle.xinu_model.specs.Process.Death.{exit};
+ghost use Rattle.xinu_model.specs.RawDisk.Calls.{disk_completes};
 ghost use Rattle.xinu_model.specs.Sound.State.{IsSound};
 ghost use Rattle.xinu_model.specs.Text.{shown};
 
@@ -65,6 +66,8 @@ fn other_event<H: Host>(kernel: &mut Kernel, event: Event, out: &mut Printer, ho
         Event::Tick => tick(kernel, out, host),
         Event::Key(b) => receive(kernel, b, out, host),
         Event::Tx => transmit(kernel, out, host),
+        Event::Disk0 => complete(kernel, true, out, host),
+        Event::Fail0 => complete(kernel, false, out, host),
         Event::Dump => {
             print_tables(kernel.state(), out, host);
             false
@@ -192,6 +195,18 @@ fn transmit<H: Host>(kernel: &mut Kernel, out: &mut Printer, host: &mut H) -> bo
         }
         None => false,
     }
+}
+
+// The raw disk completes its first request, well or badly, if one waits.
+fn complete<H: Host>(kernel: &mut Kernel, good: bool, out: &mut Printer, host: &mut H) -> bool
+    requires idle { IsIdle kernel.old }
+    ensures effect { EffectPrints (disk_completes good kernel.old.call.state) kernel.new.call.state result out.old out.new (H.view host.old) (H.view host.new) }
+    ensures idle { IsIdle kernel.new }
+    ensures sound { IsSound kernel.new.call.state }
+{
+    let current = kernel.current();
+    kernel.on_disk(good);
+    end_event(kernel, current, out, host)
 }
 
 // Ends an event that began in process `was`: prints the replies to released processes, the caller's and the switch. Whether the kernel

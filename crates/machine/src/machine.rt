@@ -3,6 +3,7 @@
 ghost use Rattle.std.specs.Prelude.{◌≡◌, ◌+◌, ◌∷◌, [], ◌<◌, false, is_some};
 ghost use Rattle.host_port.specs.Printing.{Prints};
 ghost use Rattle.machine.specs.Apart.{KeepsApart};
+ghost use Rattle.machine.specs.Disks.{AreBytes};
 ghost use Rattle.machine.specs.RunEnds.{end_of_go};
 ghost use Rattle.machine.specs.Printed.{EventPrints};
 ghost use Rattle.xinu_base.specs.declared.lines.TranscriptLine.TheVariants as line;
@@ -90,6 +91,26 @@ impl Machine {
         ensures { Prints out.old out.new (H.view host.old) (H.view host.new) (shown out.old.plain (tables_of self.now.state)) }
     {
         print_tables(self.kernel.state(), out, host);
+    }
+
+    /// The bytes of a disk: of the raw disk for 0, of the disk with files for 1.
+    pub fn disk(&self, n: u8) -> &[u8]
+        requires which { n < 2 }
+        ensures bytes { AreBytes n result.now self.now.state }
+    {
+        disk_of(self.kernel.state(), n)
+    }
+}
+
+// The bytes of a disk.
+fn disk_of(k: &KernelState, n: u8) -> &[u8]
+    requires which { n < 2 }
+    ensures bytes { AreBytes n result.now k.now.state }
+{
+    if n == 0 {
+        k.disk.bytes()
+    } else {
+        k.files.bytes()
     }
 }
 

@@ -1,9 +1,8 @@
 //! The tables of the machine, one line after another.
 
-ghost use Rattle.std.specs.Prelude.{◌≡◌, ◌<◌, ◌≤◌, ◌∷◌, [], length, map};
+ghost use Rattle.std.specs.Prelude.{◌≡◌, ◌<◌, ◌≤◌, ◌∷◌, [], false, length, map};
 ghost use Rattle.host_port.specs.Printing.{Prints};
 ghost use Rattle.xinu_base.specs.declared.lines.TranscriptLine.TheVariants as line;
-ghost use Rattle.xinu_model.specs.Devices.State.{first_devices};
 ghost use Rattle.xinu_model.specs.Heap.Cells.{free_blocks};
 ghost use Rattle.xinu_model.specs.Pools.Buffers.{pool_at};
 ghost use Rattle.xinu_model.specs.Ports.Queues.{port_at};
@@ -15,6 +14,7 @@ ghost use Rattle.xinu_model.specs.Text.{shown};
 
 use crate::printing::print_line;
 use buffer_pools::{Pools, pool_id_at};
+use disk_driver::Disk;
 use freelist_memory::Heap;
 use host_port::{Host, Printer};
 use kernel_state::KernelState;
@@ -26,7 +26,6 @@ use tty_driver::Tty;
 use xinu_base::{Owner, PoolId, Port, Sem, State, TranscriptLine};
 
 /// Prints the tables.
-#[tactic(auto, unfolding(kernel_state::specs::Devices::untouched_devices))]
 pub(crate) fn print_tables<H: Host>(k: &KernelState, out: &mut Printer, host: &mut H)
     requires sound { IsSound k.now.state }
     requires few { k.now.state.tables.ticks ≤ 1000000000 }
@@ -45,7 +44,7 @@ pub(crate) fn print_tables<H: Host>(k: &KernelState, out: &mut Printer, host: &m
     print_free(&k.heap, out, host);
     print_pools(&k.pools, out, host);
     print_ports(&k.ports, out, host);
-    print_devices(&k.tty, out, host);
+    print_devices(&k.tty, &k.disk, out, host);
 }
 
 // Prints the processes, by number.
@@ -230,12 +229,12 @@ fn print_messages<H: Host>(port: Port, messages: &[u32], out: &mut Printer, host
     }
 }
 
-// Prints the devices. All but the console are as at the start.
-fn print_devices<H: Host>(tty: &Tty, out: &mut Printer, host: &mut H)
-    ensures prints { Prints out.old out.new (H.view host.old) (H.view host.new) (shown out.old.plain (text.device_lines (record first_devices { console = tty.now }))) }
+// Prints the devices. No file is open and no call on files is under way.
+fn print_devices<H: Host>(tty: &Tty, disk: &Disk, out: &mut Printer, host: &mut H)
+    ensures prints { Prints out.old out.new (H.view host.old) (H.view host.new) (shown out.old.plain (text.console_line tty.now ∷ line.Disk0 (length disk.now.requests) ∷ line.Disk1 false ∷ [])) }
 {
     print_console(tty, out, host);
-    print_line(&TranscriptLine::Disk0(0), out, host);
+    print_line(&TranscriptLine::Disk0(disk.pending() as u32), out, host);
     print_line(&TranscriptLine::Disk1(false), out, host);
 }
 

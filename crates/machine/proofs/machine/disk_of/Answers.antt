@@ -1,0 +1,24 @@
+use Rattle.std.proofs.Common.{◌≢◌, ℕ, suc, zero, List, refl, subst, sym}
+use Rattle.given_disks.proofs.Given.{held_files}
+use Rattle.given_disks.specs.HeldFiles.{HoldsFiles}
+use Rattle.kernel_state.specs.Devices.{files_on}
+use Rattle.lfs_layout.specs.Images.{IsCleanImage}
+use Rattle.machine.specs.Disks.{AreBytes}
+use Rattle.xinu_model.specs.Machine.{CallState, Xinu}
+use Rattle.machine.proofs.machine.disk_of.Goals as goal
+
+-- disk 1 is the other than disk 0
+disk_1 : (n : ℕ) (bytes : List ℕ) (s : Xinu) → n ≢ 0 → HoldsFiles bytes s.parts.devices.files → AreBytes n bytes s
+disk_1 zero bytes s other holds = absurd (other refl)
+disk_1 (suc n) bytes s other holds = holds
+
+pub returns-else-n-eq0 : goal.returns-else-n-eq0
+returns-else-n-eq0 c =
+    let clean = subst IsCleanImage (sym c.bytes-else-n-eq0.ensures.bytes) c.bytes-else-n-eq0.ensures.clean in
+    let held = held_files c.bytes-else-n-eq0.result.now clean in
+    let inside : HoldsFiles c.bytes-else-n-eq0.result.now (files_on c.k.inside.files)
+    = subst (λ (b : List ℕ). HoldsFiles c.bytes-else-n-eq0.result.now (files_on b)) c.bytes-else-n-eq0.ensures.bytes held in
+    record {
+      bytes = disk_1 c.args.n c.bytes-else-n-eq0.result.now c.args.k.now.state c.if-n-eq0.false
+          (subst (λ (d : CallState). HoldsFiles c.bytes-else-n-eq0.result.now d.state.parts.devices.files) c.k.view_is inside);
+    }
