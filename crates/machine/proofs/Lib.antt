@@ -6,6 +6,7 @@ pub mod Dumps
 pub mod Happenings
 pub mod Transmissions
 pub mod Lives
+pub mod PlainSteps
 pub mod Printings
 pub mod ShownLines
 pub mod Walks

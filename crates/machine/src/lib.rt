@@ -9,6 +9,7 @@
 //! | [`Machine::boot`] | one to eight images | `starts`: the machine stands for the state in which `boot_on` of the abstract machine starts on the disks; or `Overlap` or `NoRoom` exactly as it says; or `NoMemory`; `apart`: no address has two owners; `sound`: what always holds between two events holds |
 //! | [`Machine::start`] | | prints the `run` line of the first process |
 //! | [`Machine::event`] | `goes_on`: no event ended the run; `few`: fewer than 10^9 were taken | `happens`: the machine goes to a state that `Happens` allows, and prints its lines; `goes`: the answer says how the run ends with this event, if it does; `apart`: no address comes to have two owners, unless a process gives back what a pool or a stack has, and pools and stacks get only what was free; `sound`: what always holds between two events holds, of the console as of the other parts; `lived`, `counted`, `over` |
+//! | [`Machine::steps`] | `goes_on`; `few`: no more than 10^9 events with them | `steps`, `plain`: the state after so many steps that print nothing and don't end the run; `tables`, `parts`: registers and RAM alone change; `sound`, `counted`, `over` |
 //! | [`Machine::dump`] | | prints the tables of the state |
 //! | [`Machine::disk`] | disk 0 or 1 | `bytes`: of disk 0 the blocks of the raw disk; disk 1 holds the files at rest, and is clean for its files if nothing is open and no call on files is under way |
 //!
@@ -21,6 +22,7 @@ mod boot;
 mod events;
 mod machine;
 mod printing;
+mod steps;
 mod tables;
 
 pub use kernel::BootFault;
