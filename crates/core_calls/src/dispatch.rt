@@ -82,8 +82,8 @@ pub fn begin(k: &mut KernelState, call: Call) -> Next
     }
 }
 
-/// Does what is left of the current process's call: the end of a self-suspension, a buffer, a message to or from a port, items or bytes of
-/// the console, or the receipt of a message.
+/// Does what is left of the current process's call: the end of a self-suspension, a buffer, a message to or from a port, or the receipt of
+/// a message.
 pub fn go_on(k: &mut KernelState) -> Next
     requires calling { IsCalling k.old }
     requires core { is_on_device (process_at k.old.state.tables k.old.state.tables.current).rest ≡ false }

@@ -3,7 +3,7 @@
 use Rattle.std.proofs.Common.{◌≡◌, ◌≢◌, ◌∙◌, ℕ, zero, suc, ◌+◌, ◌<◌, ◌≤◌, ◌==◌, Bool, true, false, not, cond, List, [], ◌∷◌, ◌++◌, length, filter, Option, Some, None, refl, sym, ap, subst, arith, ⊎_elim}
 use Rattle.std.specs.Prelude.{IsSome}
 use Rattle.std.specs.List.{AllByRecursion}
-use Rattle.std.proofs.lemmas.Bool.{cond_both, eq-eqb, eqb-true, eqb-false}
+use Rattle.std.proofs.lemmas.Bool.{cond_both, eqb-true}
 use Rattle.table_laws.proofs.Lists.Counts.{first_is_counted, get_or-le-total, numbers_without_same, numbers_without_other}
 use Rattle.table_laws.proofs.Tables.MoveTo.{by_number, within_table}
 use Rattle.table_laws.proofs.Tables.Unblock.{waiter_waits}

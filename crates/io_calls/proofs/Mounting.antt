@@ -1,5 +1,5 @@
 -- A mount by its texts.
-use Rattle.std.proofs.Common.{◌≡◌, ◌∙◌, ℕ, Bool, true, false, cond, List, Option, Some, None, refl, sym, ap}
+use Rattle.std.proofs.Common.{◌≡◌, ◌∙◌, ℕ, true, false, cond, List, Option, Some, None, refl, sym, ap}
 use Rattle.std.specs.Prelude.{is_some, unwrap_or}
 use Rattle.io_calls.specs.Mounts.{texts_mounted}
 use Rattle.kernel_state.specs.Results.{came_to, IsStart}
@@ -7,7 +7,7 @@ use Rattle.xinu_base.specs.Constants.{OK, SYSERR}
 use Rattle.xinu_base.specs.declared.syscalls.Next.TheVariants as next
 use Rattle.xinu_model.specs.Devices.Table.{kind_of}
 use Rattle.xinu_model.specs.Devices.Texts.{text_at}
-use Rattle.xinu_model.specs.Machine.{CallResult, CallState, refused, Returns, Xinu}
+use Rattle.xinu_model.specs.Machine.{CallState, refused, Xinu}
 use Rattle.xinu_model.specs.Names.Calls.{mount, mount_rows, mount_texts, names_of, with_names}
 use Rattle.xinu_model.specs.Names.Mounting.{NameRow}
 

@@ -1,7 +1,7 @@
 -- A text is read byte by byte: what was read, and the text of what is left.
-use Rattle.std.proofs.Common.{◌≡◌, ◌∙◌, ℕ, zero, suc, ◌+◌, ◌<◌, ◌==◌, false, true, List, [], ◌∷◌, ◌++◌, length, take, drop, get_or, Option, Some, None, refl, sym, ap, add-one, append_assoc, append-nil, drop-cons}
-use Rattle.std.proofs.lemmas.List.{drop_all, take_more}
-use Rattle.std.specs.Prelude.{option_map, ◌≤◌}
+use Rattle.std.proofs.Common.{◌≡◌, ◌∙◌, ℕ, zero, suc, ◌+◌, ◌<◌, ◌==◌, false, List, [], ◌∷◌, ◌++◌, length, take, drop, get_or, Option, Some, None, refl, sym, ap, add-one, append_assoc, drop-cons}
+use Rattle.std.proofs.lemmas.List.{take_more}
+use Rattle.std.specs.Prelude.{option_map}
 use Rattle.xinu_model.specs.Devices.Texts.{text_in}
 
 -- a text after these bytes

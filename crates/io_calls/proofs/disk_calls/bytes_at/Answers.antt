@@ -1,4 +1,4 @@
-use Rattle.std.proofs.Common.{◌≡◌, ◌∙◌, ◌<◌, ◌≤◌, ap, arith, length, length-set, refl, sym, take, take_all}
+use Rattle.std.proofs.Common.{◌≡◌, ◌∙◌, ap, arith, length-set, refl, sym, take, take_all}
 use Rattle.io_calls.proofs.BlockBytes.{byte_read, no_bytes}
 use Rattle.io_calls.proofs.disk_calls.bytes_at.Goals as goal
 use Rattle.xinu_model.specs.Memory.{bytes_from}
