@@ -2,8 +2,9 @@
 //!
 //! | Arguments | What is done |
 //! |---|---|
-//! | `script BLOCKS CALLS SEED NAMES LONGEST COMPLETIONS EVERY` | so many drawn calls on an empty disk, beside the plain list of files; the disk is read back at one of so many completions, at one of so many calls, and at the end |
-//! | `time BLOCKS SIZE` | calls on a file of so many bytes, the only one on its disk: for each kind of call a line with its name, how often it was made, its completions and its nanoseconds of processor time |
+//! | `script BLOCKS CALLS SEED NAMES LONGEST COMPLETIONS EVERY` | so many drawn calls, beside the plain list of files; the files are read back as often as the two last numbers say |
+//! | `counts` and the same | the same, and how many calls were refused and how many completions there were |
+//! | `time BLOCKS SIZE` | calls on the only file of a disk: of each kind its name, how often it was made, its completions and its nanoseconds |
 #![tactic(auto)]
 
 mod played;
@@ -40,8 +41,9 @@ fn report<R: CpuClock>(
 ) -> io::Result<()> {
     match command {
         "script" => Ok(played::play(alloc, numbers, text)?),
+        "counts" => Ok(played::count(alloc, numbers, text)?),
         "time" => timings::time(rt, alloc, numbers, text),
-        _ => Ok(text.push_str("file_bench: script or time, and numbers\n")?),
+        _ => Ok(text.push_str("file_bench: script, counts or time, and numbers\n")?),
     }
 }
 

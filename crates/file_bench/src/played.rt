@@ -9,52 +9,58 @@ use std::alloc::{AllocError, Global};
 ///
 /// Out of memory.
 pub(crate) fn play(alloc: Global, numbers: &[u32], text: &mut String) -> Result<(), AllocError> {
+    match played(alloc, numbers) {
+        Ok(trial) => {
+            let line = format!(in alloc; "{} calls: as the plain list\n", trial.calls)?;
+            text.push_str(line.as_str())
+        }
+        Err(trouble) => tell(alloc, trouble, text),
+    }
+}
+
+/// Plays the script that the numbers say, and adds to a text how many calls there were, how many of them had a negative reply, and how
+/// many completions.
+///
+/// # Errors
+///
+/// Out of memory.
+pub(crate) fn count(alloc: Global, numbers: &[u32], text: &mut String) -> Result<(), AllocError> {
+    match played(alloc, numbers) {
+        Ok(trial) => {
+            let counts = (trial.calls, trial.refused, trial.completions);
+            let line = format!(in alloc;
+                "{} calls, {} refused, {} completions\n",
+                counts.0, counts.1, counts.2
+            )?;
+            text.push_str(line.as_str())
+        }
+        Err(trouble) => tell(alloc, trouble, text),
+    }
+}
+
+// Plays a script, and reads the files back at its end.
+fn played(alloc: Global, numbers: &[u32]) -> Result<Trial, Trouble> {
     match *numbers {
         [blocks, calls, seed, names, longest, completions, every] => {
             let readings = Readings {
                 completions,
                 calls: every,
             };
-            let script = Script::new(seed, Sizes { names, longest });
-            match Trial::on_empty_disk(alloc, blocks, readings) {
-                Ok(mut trial) => {
-                    let end = played(alloc, &mut trial, script, calls);
-                    tell(alloc, &trial, end, text)
-                }
-                Err(trouble) => tell_trouble(alloc, trouble, text),
-            }
+            let mut trial = Trial::on_empty_disk(alloc, blocks, readings)?;
+            trial.play(
+                alloc,
+                &mut Script::new(seed, Sizes { names, longest }),
+                calls,
+            )?;
+            trial.compare_files(alloc)?;
+            Ok(trial)
         }
-        _ => text.push_str("file_bench: a script takes seven numbers\n"),
-    }
-}
-
-// Plays so many calls, and reads the files back at the end.
-fn played(alloc: Global, trial: &mut Trial, script: Script, calls: u32) -> Result<(), Trouble> {
-    let mut script = script;
-    trial.play(alloc, &mut script, calls)?;
-    trial.compare_files(alloc)
-}
-
-// How the script ended.
-fn tell(
-    alloc: Global,
-    trial: &Trial,
-    end: Result<(), Trouble>,
-    text: &mut String,
-) -> Result<(), AllocError> {
-    let line = format!(in alloc;
-        "{} calls, {} completions: ",
-        trial.calls, trial.completions
-    )?;
-    text.push_str(line.as_str())?;
-    match end {
-        Ok(()) => text.push_str("as the plain list\n"),
-        Err(trouble) => tell_trouble(alloc, trouble, text),
+        _ => Err(Trouble::Stuck),
     }
 }
 
 // In what the engine and the plain list differ.
-fn tell_trouble(alloc: Global, trouble: Trouble, text: &mut String) -> Result<(), AllocError> {
+fn tell(alloc: Global, trouble: Trouble, text: &mut String) -> Result<(), AllocError> {
     match trouble {
         Trouble::NoMemory => text.push_str("out of memory\n"),
         Trouble::Stuck => text.push_str("the call can't go on\n"),
