@@ -1,0 +1,62 @@
+//! The legend: what the bands and the marks stand for.
+
+use crate::doings::{state_letter, state_name};
+use crate::ink::{Ink, width_of};
+use crate::layout::MARGIN;
+use std::alloc::AllocError;
+use xinu_base::State;
+
+/// How high the legend is.
+pub(crate) const LEGEND: u32 = 44;
+
+/// Draws the legend at this height.
+pub(crate) fn draw_legend(ink: &mut Ink, y: u32) -> Result<(), AllocError> {
+    let mut x = MARGIN;
+    for state in [
+        State::Current,
+        State::Ready,
+        State::Receiving,
+        State::Timed,
+        State::Sleeping,
+        State::Waiting,
+        State::Suspended,
+    ] {
+        let letter = state_letter(state);
+        let class = if matches!(state, State::Current) { "v" } else { "w" };
+        ink.bar(letter, (x, y), (20, 13))?;
+        ink.words(class, x.saturating_add(7), y.saturating_add(10), letter)?;
+        x = entry(ink, x.saturating_add(26), y, state_name(state))?;
+    }
+    draw_marks(ink, y.saturating_add(22))
+}
+
+// Draws the marks and what they stand for.
+fn draw_marks(ink: &mut Ink, y: u32) -> Result<(), AllocError> {
+    let mut x = MARGIN;
+    let marks = [
+        ("c", 4, 3, "l5 3.5-5 3.5z", "call = reply"),
+        ("r", 9, 3, "l-5 3.5 5 3.5z", "reply"),
+        ("t", 8, 3, "l-3 4h2l-1 4 4-5h-2l2-3z", "trap"),
+        ("d", 3, 2, "l8 8m0-8l-8 8", "death"),
+        ("l", 6, 1, "V0", "makes ready"),
+        ("g", 1, 0, "h13v13h-13z", "+n: n steps that change nothing else (n*: n events)"),
+    ];
+    for (class, right, down, path, text) in marks {
+        let top = y.saturating_add(down);
+        let at = x.saturating_add(right);
+        if class == "l" {
+            let rest = format!(in ink.alloc; "V{}l-3 -5h6l-3 5", y.saturating_add(13))?;
+            ink.path(class, at, top, rest.as_str())?;
+        } else {
+            ink.path(class, at, top, path)?;
+        }
+        x = entry(ink, x.saturating_add(18), y, text)?;
+    }
+    Ok(())
+}
+
+// Writes a text of the legend, and answers where the next entry begins.
+fn entry(ink: &mut Ink, x: u32, y: u32, text: &str) -> Result<u32, AllocError> {
+    ink.words("s", x, y.saturating_add(10), text)?;
+    Ok(x.saturating_add(width_of(text.len(), 60)).saturating_add(22))
+}
