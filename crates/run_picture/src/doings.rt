@@ -69,7 +69,7 @@ impl Doing {
             State::Ready => String::from_str(alloc, "ready"),
             State::Receiving => String::from_str(alloc, "message"),
             State::Sleeping => numbered(alloc, "tick ", self.number),
-            State::Timed => numbered(alloc, "message or tick ", self.number),
+            State::Timed => numbered(alloc, "timed to ", self.number),
             State::Suspended => String::from_str(alloc, "suspended"),
             State::Waiting => self.awaited_word(alloc),
         }

@@ -1,6 +1,6 @@
 //! The rows of a strip: which there are, and how far below its top each is.
 
-use crate::labels::Lane;
+use crate::labels::{Label, Lane};
 use crate::layout::Strip;
 use crate::rows::Row;
 use std::alloc::{AllocError, Global};
@@ -9,6 +9,7 @@ use std::alloc::{AllocError, Global};
 pub(crate) const HEADS: u32 = 18;
 /// How high the row of a process is, and how far below its top its band is.
 pub(crate) const PROCESS: u32 = 34;
+
 pub(crate) const BAND: u32 = 15;
 /// How high a band is.
 pub(crate) const BAND_HEIGHT: u32 = 13;
@@ -17,22 +18,47 @@ pub(crate) const DEVICE: u32 = 17;
 /// How far the rows of devices are below those of processes.
 pub(crate) const BETWEEN: u32 = 6;
 
-/// The rows of a strip: the processes that live in it, and below them the devices.
+/// The lanes of the devices, from the top down.
+const DEVICES: [Lane; 5] = [
+    Lane::Typed,
+    Lane::Sent,
+    Lane::Disk0,
+    Lane::Disk1,
+    Lane::Clock,
+];
+
+/// The rows of a strip: the processes that live in it, and below them the devices at which something happens in it. In the first strip all
+/// devices have rows.
 #[derive(Drop)]
 pub(crate) struct Frame {
     pub(crate) rows: Vec<usize>,
+    devices: Vec<Lane>,
 }
 
 impl Frame {
     /// The rows of a strip.
-    pub(crate) fn new(alloc: Global, rows: &[Row], strip: Strip) -> Result<Frame, AllocError> {
+    pub(crate) fn new(
+        alloc: Global,
+        rows: &[Row],
+        labels: &[Label],
+        strip: Strip,
+    ) -> Result<Frame, AllocError> {
         let mut shown = Vec::new(alloc);
         for (number, row) in rows.iter().enumerate() {
             if row.is_in(strip.from, strip.to) {
                 shown.push(number)?;
             }
         }
-        Ok(Frame { rows: shown })
+        let mut devices = Vec::new(alloc);
+        for lane in DEVICES {
+            if strip.from == 0 || is_used(lane, labels, strip) {
+                devices.push(lane)?;
+            }
+        }
+        Ok(Frame {
+            rows: shown,
+            devices,
+        })
     }
 
     /// How far below the top of the strip a lane begins, if it is one of its lanes.
@@ -42,25 +68,40 @@ impl Frame {
                 let place = self.rows.iter().position(|shown| *shown == row)?;
                 Some(HEADS.saturating_add(times(place, PROCESS)))
             }
-            Lane::Typed => Some(self.devices(0)),
-            Lane::Sent => Some(self.devices(1)),
-            Lane::Disk0 => Some(self.devices(2)),
-            Lane::Disk1 => Some(self.devices(3)),
-            Lane::Clock => Some(self.devices(4)),
+            lane => {
+                let place = self.devices.iter().position(|shown| *shown == lane)?;
+                Some(self.below_processes(place))
+            }
         }
     }
 
     /// How far below the top of the strip its rows end.
     pub(crate) fn bottom(&self) -> u32 {
-        self.devices(5)
+        self.below_processes(self.devices.len())
     }
 
-    // How far below the top of the strip the lane of a device begins.
-    fn devices(&self, place: usize) -> u32 {
+    // How far below the top of the strip a lane of a device begins.
+    fn below_processes(&self, place: usize) -> u32 {
         times(self.rows.len(), PROCESS)
             .saturating_add(HEADS + BETWEEN)
             .saturating_add(times(place, DEVICE))
     }
+}
+
+// Whether something is drawn in the lane of a device in a strip; the console's two lanes are drawn together.
+fn is_used(lane: Lane, labels: &[Label], strip: Strip) -> bool {
+    let other = match lane {
+        Lane::Typed => Lane::Sent,
+        Lane::Sent => Lane::Typed,
+        lane => lane,
+    };
+    for label in labels {
+        let is_in = strip.from <= label.column && label.column < strip.to;
+        if is_in && (label.lane == lane || label.lane == other) {
+            return true;
+        }
+    }
+    false
 }
 
 // So many times a height.

@@ -57,7 +57,9 @@ impl Ink {
         (x, y): (u32, u32),
         (width, height): (u32, u32),
     ) -> Result<(), AllocError> {
-        let path = format!(in self.alloc; "<path class=\"{class}\" d=\"M{x} {y}h{width}v{height}h-{width}z\"/>\n")?;
+        let path = format!(in self.alloc;
+            "<path class=\"{class}\" d=\"M{x} {y}h{width}v{height}h-{width}z\"/>\n"
+        )?;
         self.put(path.as_str())
     }
 

@@ -15,10 +15,12 @@ pub(crate) const LEFT: u32 = 150;
 pub(crate) const RIGHT: u32 = 860;
 /// The tenths of a character of a label, of a word in a band and of a head, in their fonts.
 pub(crate) const LABEL: u32 = 67;
+
 pub(crate) const WORD: u32 = 61;
+
 pub(crate) const HEAD: u32 = 60;
 /// How far after its mark the text of a label begins.
-pub(crate) const AFTER_MARK: u32 = 8;
+pub(crate) const AFTER_MARK: u32 = 10;
 
 /// Where a column is: the stretch of quiet events before it, and its left edge.
 #[derive(Clone, Copy)]
@@ -75,6 +77,7 @@ pub(crate) fn laid_out(
         let gap = gap_width(column)?;
         let room = gap.saturating_add(*width);
         if strip.end.saturating_add(room) > RIGHT && strip.to > strip.from {
+            strip.end = spread(layout.places.as_mut_slice(), strip);
             layout.strips.push(strip)?;
             strip.from = strip.to;
             strip.end = LEFT;
@@ -90,12 +93,21 @@ pub(crate) fn laid_out(
     Ok(layout)
 }
 
+// Moves the columns of a strip apart, so that it ends at the right edge, and answers where it ends.
+fn spread(places: &mut [Place], strip: Strip) -> u32 {
+    let free = RIGHT.saturating_sub(strip.end) as u64;
+    let count = strip.to.saturating_sub(strip.from).max(1) as u64;
+    for (k, place) in places.iter_mut().skip(strip.from).enumerate() {
+        let more = free.saturating_mul(k as u64) / count;
+        let more = u32::try_from(more).unwrap_or(0);
+        place.gap = place.gap.saturating_add(more);
+        place.x = place.x.saturating_add(more);
+    }
+    RIGHT
+}
+
 // How wide each column is: as its head, its longest label, and a letter in a band.
-fn widths_of(
-    alloc: Global,
-    columns: &[Column],
-    labels: &[Label],
-) -> Result<Vec<u32>, AllocError> {
+fn widths_of(alloc: Global, columns: &[Column], labels: &[Label]) -> Result<Vec<u32>, AllocError> {
     let mut widths = Vec::new(alloc);
     for column in columns {
         let head = width_of(column.head.len(), HEAD).saturating_add(9);

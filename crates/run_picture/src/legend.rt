@@ -22,7 +22,11 @@ pub(crate) fn draw_legend(ink: &mut Ink, y: u32) -> Result<(), AllocError> {
         State::Suspended,
     ] {
         let letter = state_letter(state);
-        let class = if matches!(state, State::Current) { "v" } else { "w" };
+        let class = if matches!(state, State::Current) {
+            "v"
+        } else {
+            "w"
+        };
         ink.bar(letter, (x, y), (20, 13))?;
         ink.words(class, x.saturating_add(7), y.saturating_add(10), letter)?;
         x = entry(ink, x.saturating_add(26), y, state_name(state))?;
@@ -39,7 +43,13 @@ fn draw_marks(ink: &mut Ink, y: u32) -> Result<(), AllocError> {
         ("t", 8, 3, "l-3 4h2l-1 4 4-5h-2l2-3z", "trap"),
         ("d", 3, 2, "l8 8m0-8l-8 8", "death"),
         ("l", 6, 1, "V0", "makes ready"),
-        ("g", 1, 0, "h13v13h-13z", "+n: n steps that change nothing else (n*: n events)"),
+        (
+            "g",
+            1,
+            0,
+            "h13v13h-13z",
+            "+n: n plain steps (n*: n events in which nothing happens)",
+        ),
     ];
     for (class, right, down, path, text) in marks {
         let top = y.saturating_add(down);
@@ -58,5 +68,8 @@ fn draw_marks(ink: &mut Ink, y: u32) -> Result<(), AllocError> {
 // Writes a text of the legend, and answers where the next entry begins.
 fn entry(ink: &mut Ink, x: u32, y: u32, text: &str) -> Result<u32, AllocError> {
     ink.words("s", x, y.saturating_add(10), text)?;
-    Ok(x.saturating_add(width_of(text.len(), 60)).saturating_add(22))
+    Ok(
+        x.saturating_add(width_of(text.len(), 60))
+            .saturating_add(22),
+    )
 }

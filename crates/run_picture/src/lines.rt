@@ -91,7 +91,12 @@ fn add_line(alloc: Global, notes: &mut Vec<Note>, line: &str) -> Result<(), Allo
     let process = Lane::Process(number_of(first) as usize);
     match kind {
         "call" => add(notes, process, Mark::Call, call_text(alloc, line)?),
-        "trap" => add(notes, process, Mark::Trap, format!(in alloc; "trap {second}")?),
+        "trap" => add(
+            notes,
+            process,
+            Mark::Trap,
+            format!(in alloc; "trap {second}")?,
+        ),
         "ret" => add_reply(alloc, notes, number_of(first) as usize, second),
         "con" => add(notes, Lane::Sent, Mark::Device, sent(alloc, first)?),
         "file" => add_file(alloc, notes, number_of(first), second),

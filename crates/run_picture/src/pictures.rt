@@ -11,6 +11,7 @@ use std::alloc::AllocError;
 
 /// How far from the top the heading, the legend and the first strip are.
 const HEADING: u32 = 32;
+
 const TOP: u32 = 48;
 /// How much is left free between two strips.
 const BETWEEN: u32 = 22;
@@ -26,11 +27,15 @@ impl Recording {
         draw_legend(&mut body, TOP)?;
         let height = self.draw_strips(&mut body, TOP.saturating_add(LEGEND + BETWEEN))?;
         let mut ink = Ink::new(self.alloc);
-        let open = format!(in self.alloc; "<svg xmlns=\"http://www.w3.org/2000/svg\" viewBox=\"0 0 {WIDTH} {height}\" width=\"{WIDTH}\" style=\"max-width:100%;height:auto\">\n")?;
+        let open = format!(in self.alloc;
+            "<svg xmlns=\"http://www.w3.org/2000/svg\" viewBox=\"0 0 {WIDTH} {height}\" width=\"{WIDTH}\" style=\"max-width:100%;height:auto\">\n"
+        )?;
         ink.put(open.as_str())?;
         ink.title(heading, "")?;
         ink.put(STYLE)?;
-        let ground = format!(in self.alloc; "<path fill=\"#fff\" d=\"M0 0h{WIDTH}v{height}h-{WIDTH}z\"/>\n")?;
+        let ground = format!(in self.alloc;
+            "<path fill=\"#fff\" d=\"M0 0h{WIDTH}v{height}h-{WIDTH}z\"/>\n"
+        )?;
         ink.put(ground.as_str())?;
         ink.put(body.text.as_str())?;
         ink.put("</svg>\n")?;
@@ -42,7 +47,8 @@ impl Recording {
         let layout = laid_out(self.alloc, self.columns.as_slice(), self.labels.as_slice())?;
         let mut y = top;
         for strip in layout.strips.as_slice() {
-            let frame = Frame::new(self.alloc, self.rows.as_slice(), *strip)?;
+            let labels = self.labels.as_slice();
+            let frame = Frame::new(self.alloc, self.rows.as_slice(), labels, *strip)?;
             let open = format!(in self.alloc; "<g transform=\"translate(0 {y})\">\n")?;
             ink.put(open.as_str())?;
             draw_strip(ink, self, &layout, *strip, &frame)?;

@@ -291,7 +291,7 @@ impl Recording {
 
     // Adds a row for the new process of a number.
     fn add_row(&mut self, p: usize, tables: &str) -> Result<(), AllocError> {
-        let made = made_as(self.alloc, tables, p as u32)?;
+        let made = made_as(self.alloc, tables, u32::try_from(p).unwrap_or(0))?;
         if let Some(place) = self.row_of.get_mut(p) {
             *place = self.rows.len();
         }
@@ -342,13 +342,7 @@ impl Recording {
     }
 
     // Links the event to a process that it made ready.
-    fn add_link(
-        &mut self,
-        p: usize,
-        was: Doing,
-        now: Doing,
-        from: Lane,
-    ) -> Result<(), AllocError> {
+    fn add_link(&mut self, p: usize, was: Doing, now: Doing, from: Lane) -> Result<(), AllocError> {
         let row = self.row(p);
         if was.lives() && !was.is_ready() && now.is_ready() && from != Lane::Process(row) {
             let column = self.column();

@@ -52,7 +52,12 @@ fn draw_grid(
                 ink.bar("g", (place.gap, HEADS), (width, height))?;
                 ink.words("q", place.gap.saturating_add(3), 12, gap.as_str())?;
             }
-            ink.path("k", place.x, HEADS, format!(in ink.alloc; "v{height}")?.as_str())?;
+            ink.path(
+                "k",
+                place.x,
+                HEADS,
+                format!(in ink.alloc; "v{height}")?.as_str(),
+            )?;
             ink.words("a", place.x.saturating_add(3), 12, column.head.as_str())?;
         }
     }
@@ -103,19 +108,31 @@ fn draw_link(
     if link.column < strip.from || link.column >= strip.to {
         return Ok(());
     }
-    let (Some(from), Some(row)) = (frame.top_of(link.from), frame.top_of(Lane::Process(link.row)))
-    else {
+    let (Some(from), Some(row)) = (
+        frame.top_of(link.from),
+        frame.top_of(Lane::Process(link.row)),
+    ) else {
         return Ok(());
     };
     let x = layout.x_of(link.column, strip);
     if from < row {
         let end = row.saturating_add(BAND);
         let start = from.saturating_add(BAND + BAND_HEIGHT);
-        ink.path("l", x, start, format!(in ink.alloc; "V{end}l-3 -5h6l-3 5")?.as_str())
+        ink.path(
+            "l",
+            x,
+            start,
+            format!(in ink.alloc; "V{end}l-3 -5h6l-3 5")?.as_str(),
+        )
     } else {
         let end = row.saturating_add(BAND + BAND_HEIGHT);
         let start = from.saturating_add(5);
-        ink.path("l", x, start, format!(in ink.alloc; "V{end}l-3 5h6l-3 -5")?.as_str())
+        ink.path(
+            "l",
+            x,
+            start,
+            format!(in ink.alloc; "V{end}l-3 5h6l-3 -5")?.as_str(),
+        )
     }
 }
 
@@ -208,7 +225,12 @@ fn draw_label(ink: &mut Ink, label: &Label, x: u32, frame: &Frame) -> Result<(),
         Mark::Call => ink.path("c", x1, y, "l5 3.5-5 3.5z")?,
         Mark::Reply => ink.path("r", x.saturating_add(6), y, "l-5 3.5 5 3.5z")?,
         Mark::Trap => ink.path("t", x.saturating_add(4), y, "l-3 4h2l-1 4 4-5h-2l2-3z")?,
-        Mark::Death => ink.path("d", x.saturating_sub(4), y.saturating_add(13), "l8 8m0-8l-8 8")?,
+        Mark::Death => ink.path(
+            "d",
+            x.saturating_sub(4),
+            y.saturating_add(13),
+            "l8 8m0-8l-8 8",
+        )?,
         Mark::Device => ink.path("m", x1, y, "v8")?,
     }
     if label.text.is_empty() {
@@ -222,4 +244,3 @@ fn draw_label(ink: &mut Ink, label: &Label, x: u32, frame: &Frame) -> Result<(),
     let y = top.saturating_add(11);
     ink.words(class, x.saturating_add(AFTER_MARK), y, label.text.as_str())
 }
-

@@ -43,7 +43,11 @@ fn read_line(shown: &mut Shown, line: &str, asked: &[Doing; 64]) {
     match kind {
         "now" => shown.ticks = first,
         "proc" => put(shown, first, Doing::plain(state_of(second))),
-        "wait" => put(shown, number_of(second), waiting(first, number_of(second), asked)),
+        "wait" => put(
+            shown,
+            number_of(second),
+            waiting(first, number_of(second), asked),
+        ),
         "sleep" => put_sleeper(shown, first, number_of(second)),
         _ => {}
     }
