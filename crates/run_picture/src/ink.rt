@@ -36,7 +36,7 @@ impl Ink {
         Ok(())
     }
 
-    /// Writes a text at a place, in a class.
+    /// Writes a text at a place, in a class; in none if its name is empty.
     pub(crate) fn words(
         &mut self,
         class: &str,
@@ -44,8 +44,11 @@ impl Ink {
         y: u32,
         text: &str,
     ) -> Result<(), AllocError> {
-        let open = format!(in self.alloc; "<text class=\"{class}\" x=\"{x}\" y=\"{y}\">")?;
-        self.put(open.as_str())?;
+        self.put("<text")?;
+        if !class.is_empty() {
+            self.put(format!(in self.alloc; " class=\"{class}\"")?.as_str())?;
+        }
+        self.put(format!(in self.alloc; " x=\"{x}\" y=\"{y}\">")?.as_str())?;
         self.content(text)?;
         self.put("</text>\n")
     }
@@ -71,7 +74,15 @@ impl Ink {
         y: u32,
         rest: &str,
     ) -> Result<(), AllocError> {
-        let path = format!(in self.alloc; "<path class=\"{class}\" d=\"M{x} {y}{rest}\"/>\n")?;
+        self.outline(class, format!(in self.alloc; "M{x} {y}{rest}")?.as_str())
+    }
+
+    /// Writes a path, in a class; nothing if it is empty.
+    pub(crate) fn outline(&mut self, class: &str, path: &str) -> Result<(), AllocError> {
+        if path.is_empty() {
+            return Ok(());
+        }
+        let path = format!(in self.alloc; "<path class=\"{class}\" d=\"{path}\"/>\n")?;
         self.put(path.as_str())
     }
 

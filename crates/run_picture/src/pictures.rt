@@ -13,6 +13,8 @@ use std::alloc::AllocError;
 const HEADING: u32 = 32;
 
 const TOP: u32 = 48;
+/// The most bytes of the strips. With what is before and after them, the document has at most 1000000.
+const MOST_BYTES: usize = 990_000;
 /// How much is left free between two strips.
 const BETWEEN: u32 = 22;
 
@@ -42,17 +44,28 @@ impl Recording {
         Ok(ink.text)
     }
 
-    // Draws the strips below each other, and answers how high the picture is.
+    // Draws the strips below each other, as far as the document has room, and answers how high the picture is.
     fn draw_strips(&self, ink: &mut Ink, top: u32) -> Result<u32, AllocError> {
         let layout = laid_out(self.alloc, self.columns.as_slice(), self.labels.as_slice())?;
         let mut y = top;
         for strip in layout.strips.as_slice() {
             let labels = self.labels.as_slice();
             let frame = Frame::new(self.alloc, self.rows.as_slice(), labels, *strip)?;
+            let before = ink.text.len();
             let open = format!(in self.alloc; "<g transform=\"translate(0 {y})\">\n")?;
             ink.put(open.as_str())?;
             draw_strip(ink, self, &layout, *strip, &frame)?;
             ink.put("</g>\n")?;
+            if ink.text.len() > MOST_BYTES {
+                ink.text.truncate(before);
+                ink.words(
+                    "s",
+                    MARGIN,
+                    y.saturating_add(8),
+                    "The picture has no room for more.",
+                )?;
+                return Ok(y.saturating_add(BETWEEN));
+            }
             y = y.saturating_add(frame.bottom()).saturating_add(BETWEEN);
         }
         Ok(y)

@@ -11,6 +11,15 @@ use crate::rows::Row;
 use std::alloc::AllocError;
 use xinu_base::State;
 
+/// The lanes of the devices, with the name of each device, and of a part of it.
+const DEVICE_NAMES: [(Lane, &str, &str); 5] = [
+    (Lane::Typed, "console", "typed"),
+    (Lane::Sent, "", "sent"),
+    (Lane::Disk0, "disk 0", ""),
+    (Lane::Disk1, "disk 1", ""),
+    (Lane::Clock, "clock", ""),
+];
+
 /// Draws a strip whose rows these are.
 pub(crate) fn draw_strip(
     ink: &mut Ink,
@@ -43,58 +52,79 @@ fn draw_grid(
     strip: Strip,
     frame: &Frame,
 ) -> Result<(), AllocError> {
-    let height = frame.bottom().saturating_sub(HEADS);
+    draw_gaps(ink, columns, layout, strip, frame)?;
+    let bottom = frame.bottom();
+    let mut lines = String::new(ink.alloc);
+    ink.put("<g class=\"a\">")?;
     for k in strip.from..strip.to {
         if let (Some(column), Some(place)) = (columns.get(k), layout.places.get(k)) {
-            let gap = gap_text(ink.alloc, column)?;
-            if !gap.is_empty() {
-                let width = place.x.saturating_sub(place.gap);
-                ink.bar("g", (place.gap, HEADS), (width, height))?;
-                ink.words("q", place.gap.saturating_add(3), 12, gap.as_str())?;
-            }
-            ink.path(
-                "k",
-                place.x,
-                HEADS,
-                format!(in ink.alloc; "v{height}")?.as_str(),
-            )?;
-            ink.words("a", place.x.saturating_add(3), 12, column.head.as_str())?;
+            let line = format!(in ink.alloc; "M{} {HEADS}V{bottom}", place.x)?;
+            lines.push_str(line.as_str())?;
+            ink.words("", place.x.saturating_add(3), 12, column.head.as_str())?;
         }
     }
-    Ok(())
+    ink.put("</g>\n")?;
+    ink.outline("k", lines.as_str())
 }
 
-// Draws the names of the rows.
+// Draws the stretches of quiet events, each with their number.
+fn draw_gaps(
+    ink: &mut Ink,
+    columns: &[Column],
+    layout: &Layout,
+    strip: Strip,
+    frame: &Frame,
+) -> Result<(), AllocError> {
+    let bottom = frame.bottom();
+    let mut gaps = String::new(ink.alloc);
+    ink.put("<g class=\"q\">")?;
+    for k in strip.from..strip.to {
+        if let (Some(column), Some(place)) = (columns.get(k), layout.places.get(k)) {
+            let text = gap_text(ink.alloc, column)?;
+            if !text.is_empty() {
+                let (left, right) = (place.gap, place.x);
+                let gap = format!(in ink.alloc; "M{left} {HEADS}H{right}V{bottom}H{left}z")?;
+                gaps.push_str(gap.as_str())?;
+                ink.words("", left.saturating_add(3), 12, text.as_str())?;
+            }
+        }
+    }
+    ink.put("</g>\n")?;
+    ink.outline("g", gaps.as_str())
+}
+
+// Draws the names of the rows. The priority of a process is said where its row begins.
 fn draw_rows(ink: &mut Ink, rows: &[Row], strip: Strip, frame: &Frame) -> Result<(), AllocError> {
+    let mut lines = String::new(ink.alloc);
     for number in frame.rows.as_slice() {
         if let (Some(row), Some(top)) = (rows.get(*number), frame.top_of(Lane::Process(*number))) {
             let name = format!(in ink.alloc; "{} {}", row.number, row.name)?;
-            let priority = format!(in ink.alloc; "priority {}", row.priority)?;
             ink.words("n", MARGIN, top.saturating_add(13), name.as_str())?;
-            ink.words("q", MARGIN, top.saturating_add(26), priority.as_str())?;
-            draw_base(ink, top.saturating_add(PROCESS), strip)?;
+            if row.first >= strip.from {
+                let priority = format!(in ink.alloc; "priority {}", row.priority)?;
+                ink.words("q", MARGIN, top.saturating_add(26), priority.as_str())?;
+            }
+            add_line(ink, &mut lines, top.saturating_add(PROCESS), strip)?;
         }
     }
-    for (lane, name, part) in [
-        (Lane::Typed, "console", "typed"),
-        (Lane::Sent, "", "sent"),
-        (Lane::Disk0, "disk 0", ""),
-        (Lane::Disk1, "disk 1", ""),
-        (Lane::Clock, "clock", ""),
-    ] {
+    for (lane, name, part) in DEVICE_NAMES {
         if let Some(top) = frame.top_of(lane) {
-            ink.words("n", MARGIN, top.saturating_add(12), name)?;
-            ink.words("e", LEFT - 8, top.saturating_add(12), part)?;
-            draw_base(ink, top.saturating_add(DEVICE), strip)?;
+            if !name.is_empty() {
+                ink.words("n", MARGIN, top.saturating_add(12), name)?;
+            }
+            if !part.is_empty() {
+                ink.words("e", LEFT - 8, top.saturating_add(12), part)?;
+            }
+            add_line(ink, &mut lines, top.saturating_add(DEVICE), strip)?;
         }
     }
-    Ok(())
+    ink.outline("k", lines.as_str())
 }
 
-// Draws the line below a row.
-fn draw_base(ink: &mut Ink, y: u32, strip: Strip) -> Result<(), AllocError> {
-    let width = strip.end.saturating_sub(MARGIN);
-    ink.path("k", MARGIN, y, format!(in ink.alloc; "h{width}")?.as_str())
+// Adds the line below a row.
+fn add_line(ink: &Ink, lines: &mut String, y: u32, strip: Strip) -> Result<(), AllocError> {
+    let end = strip.end;
+    lines.push_str(format!(in ink.alloc; "M{MARGIN} {y}H{end}")?.as_str())
 }
 
 // Draws the line from an event to a process that it made ready, if the event is in the strip.
@@ -148,7 +178,7 @@ fn draw_kept(
     let Some(column) = recording.columns.get(band.from) else {
         return Ok(());
     };
-    ink.put("<g>")?;
+    ink.put("<g class=\"b\">")?;
     ink.title(column.title.as_str(), column.lines.as_str())?;
     draw_band(ink, band, LEFT, layout, strip, frame)?;
     ink.put("</g>\n")
@@ -239,7 +269,7 @@ fn draw_label(ink: &mut Ink, label: &Label, x: u32, frame: &Frame) -> Result<(),
     let class = if matches!(label.mark, Mark::Trap) {
         "z"
     } else {
-        "x"
+        ""
     };
     let y = top.saturating_add(11);
     ink.words(class, x.saturating_add(AFTER_MARK), y, label.text.as_str())

@@ -9,8 +9,8 @@ text{font:11px ui-monospace,SFMono-Regular,Menlo,Consolas,"DejaVu Sans Mono",mon
 .h{font:600 15px system-ui,-apple-system,"Segoe UI",Roboto,"Helvetica Neue",Arial,sans-serif}
 .s{font:11px system-ui,-apple-system,"Segoe UI",Roboto,"Helvetica Neue",Arial,sans-serif;fill:#52606d}
 .n{font-weight:600}
-.q,.e,.a{font-size:9.5px;fill:#7b8794}
-.a{fill:#3e4c59}
+.q,.q text,.e,.a text{font-size:9.5px;fill:#7b8794}
+.a text{fill:#3e4c59}
 .e{text-anchor:end}
 .w,.v{font-size:10px}
 .w{paint-order:stroke;stroke:#fff;stroke-width:3px;stroke-linejoin:round}

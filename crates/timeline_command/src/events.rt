@@ -40,11 +40,7 @@ impl Taken {
 ///
 /// # Errors
 /// Out of memory.
-pub(crate) fn take(
-    alloc: Global,
-    machine: &mut Machine,
-    event: Event,
-) -> Result<Taken, HostFault>
+pub(crate) fn take(alloc: Global, machine: &mut Machine, event: Event) -> Result<Taken, HostFault>
     requires goes_on { machine.old.over ≡ false }
     requires few { machine.old.events < 1000000000 }
     ensures counted { machine.new.events ≡ machine.old.events + 1 }

@@ -1,0 +1,54 @@
+//! The picture of a stored run.
+
+use host_port::{Channel, MemoryHost};
+use rv_asm::assemble;
+use std::alloc::Global;
+use std::fs;
+use std::io::{self, ErrorKind};
+use std::rt::Files;
+use timeline_command::timeline;
+
+/// The picture of the run of a name, or the text of the refusal.
+pub(crate) fn picture_of<R: Files + AllocGlobal>(
+    rt: &R,
+    alloc: Global,
+    name: &str,
+) -> io::Result<String> {
+    let mut host = MemoryHost::new(alloc);
+    let mut args = Vec::new(alloc);
+    args.push(String::from_str(alloc, "--schedule")?)?;
+    let schedule = format!(in alloc; "{name}.txt")?;
+    add_file(&mut host, schedule.as_str(), fs::read(rt, schedule.as_str())?.as_slice())?;
+    args.push(schedule)?;
+    for k in 1u32..9 {
+        let path = format!(in alloc; "{name}_{k}.s")?;
+        if let Ok(text) = fs::read(rt, path.as_str()) {
+            if let Ok(image) = assemble(alloc, text.as_slice()) {
+                add_file(&mut host, path.as_str(), image.as_slice())?;
+                args.push(path)?;
+            }
+        }
+    }
+    let _ = timeline(alloc, args.as_slice(), &mut host);
+    text_of(alloc, &host)
+}
+
+/// Adds a file to a host.
+pub(crate) fn add_file(host: &mut MemoryHost, name: &str, bytes: &[u8]) -> io::Result<()> {
+    match host.add_file(name, bytes) {
+        Ok(()) => Ok(()),
+        Err(_) => Err(ErrorKind::OutOfMemory)?,
+    }
+}
+
+/// What was sent on Out, and on Fault after it.
+pub(crate) fn text_of(alloc: Global, host: &MemoryHost) -> io::Result<String> {
+    let mut text = String::new(alloc);
+    for channel in [Channel::Out, Channel::Fault] {
+        match std::str::from_utf8(host.sent(channel)) {
+            Ok(sent) => text.push_str(sent)?,
+            Err(_) => return Err(ErrorKind::InvalidData)?,
+        }
+    }
+    Ok(text)
+}
