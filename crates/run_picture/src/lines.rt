@@ -6,6 +6,9 @@ use crate::tables::number_of;
 use std::alloc::{AllocError, Global};
 use xinu_base::{Event, State};
 
+/// How long a text in the lane of a device may be before nothing more is added.
+const LONGEST_LANE: usize = 60;
+
 /// What a mark says, and in which lane: the processes are named by their numbers.
 #[derive(Drop)]
 pub(crate) struct Note {
@@ -153,10 +156,21 @@ fn add_file(
     let text = format!(in alloc; " {process} {moment}")?;
     for note in notes.iter_mut() {
         if matches!(note.lane, Lane::Disk1) {
-            return note.text.push_str(text.as_str());
+            return add_to_lane(&mut note.text, text.as_str());
         }
     }
     add(notes, Lane::Disk1, Mark::Device, text)
+}
+
+// Adds a text to what a lane says, if it isn't long already.
+fn add_to_lane(lane: &mut String, text: &str) -> Result<(), AllocError> {
+    if lane.len() < LONGEST_LANE {
+        lane.push_str(text)
+    } else if lane.ends_with("..") {
+        Ok(())
+    } else {
+        lane.push_str(" ..")
+    }
 }
 
 // The byte of a line `con`, as it is shown.
