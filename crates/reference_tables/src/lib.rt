@@ -1,0 +1,35 @@
+//! The reference machine's tables: processes, messages, the ready list, semaphores and the sleepers, as plain lists.
+//!
+//! The reference machine is the abstract machine of `xinu_model` once more, as code to be read beside the definitions: the same names in
+//! the same order, each function a few lines, and its contract says that it is the definition's function. Nothing is kept true of it, and
+//! nothing is done cleverly: the ready list is a list, a process leaves all lists by being filtered out of them, and whoever sleeps is
+//! kept with the tick at which it wakes.
+//!
+//! A clause sees `Tables` as the record `Tables` of `specs/Tables.antt` in `xinu_model`, so each promise is one equation. An entry that
+//! isn't there reads as the definition's fixed value, and writing it does nothing. Out of memory is the only refusal (`NoMemory`), and it
+//! comes only from a list that grows. What counts upwards has a condition: `few` of a tick, that the ticks so far don't fill their word.
+//!
+//! | File | Its functions |
+//! |---|---|
+//! | `lists` | lists of processes: who leaves, and the two insertions, by key and by wake tick |
+//! | `tables` | an entry of the process table, a message, and the one move that all calls make: [`Tables::move_to`] |
+//! | `semaphores` | the owner, the tokens and the waiters of a semaphore, and its count |
+//! | `scheduling` | who becomes ready, and who runs: [`Tables::make_ready`], [`Tables::resched`] |
+//! | `searches` | the free number that the next process, or the next semaphore, gets |
+//! | `clock` | who is due at a tick, and what a tick does to the tables |
+#![tactic(auto)]
+
+mod clock;
+mod lists;
+mod scheduling;
+mod searches;
+mod semaphores;
+mod tables;
+
+pub use lists::{
+    append, copied, get_or, join_ready, join_sleepers, leave, leave_ready, leave_sleepers, push,
+    set,
+};
+pub use scheduling::in_state;
+pub use semaphores::{Semaphore, no_semaphore};
+pub use tables::{Place, Tables, no_process};
