@@ -31,5 +31,5 @@ pub use lists::{
     set,
 };
 pub use scheduling::in_state;
-pub use semaphores::{Semaphore, no_semaphore};
+pub use semaphores::Semaphore;
 pub use tables::{Place, Tables, no_process};

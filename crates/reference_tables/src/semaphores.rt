@@ -1,6 +1,6 @@
 //! Semaphores: the owner, the tokens and the waiters of each (book, chapter 7).
 
-ghost use Rattle.std.specs.Prelude.{◌≡◌, IfOk, []};
+ghost use Rattle.std.specs.Prelude.{◌≡◌, ◌≤◌, IfOk, []};
 ghost use Rattle.xinu_model.specs.Tables as model;
 
 use crate::lists::{copied, leave, push, set};
@@ -8,7 +8,7 @@ use crate::tables::Tables;
 use std::marker::Model;
 use xinu_base::{NoMemory, Owner, Pid, Sem};
 
-/// A semaphore: whose it is, its tokens, and the processes that wait, in order.
+/// A semaphore: whose it is, its tokens, and the processes that wait, in order. There are at most as many tokens as the greatest count.
 #[derive(Drop)]
 pub struct Semaphore {
     /// Whose it is, if it is in use.
@@ -20,11 +20,14 @@ pub struct Semaphore {
 }
 
 impl Model for Semaphore {
+    ghost use Rattle.std.specs.Prelude.{◌≤◌};
     ghost use Rattle.xinu_model.specs.Tables as model;
 
     ghost Value = { model.Semaphore };
 
     ghost view = { λ x. record { owner = x.owner; tokens = x.tokens; waiters = x.waiters.items } };
+
+    ghost invariant = { λ x. x.tokens ≤ 2147483647 };
 }
 
 impl Tables {
@@ -54,6 +57,7 @@ impl Tables {
     /// The tokens of semaphore `sem`.
     pub fn tokens_of(&self, sem: u32) -> u32
         ensures tokens { result ≡ (model.semaphore_at self.now sem).tokens }
+        ensures most { result ≤ 2147483647 }
     {
         match self.semaphores.get(sem as usize) {
             Some(x) => x.tokens,
@@ -81,8 +85,9 @@ impl Tables {
         }
     }
 
-    /// Semaphore `sem` has n tokens.
+    /// Semaphore `sem` has n tokens, at most as many as the greatest count.
     pub fn set_tokens(&mut self, sem: u32, n: u32)
+        requires most { n ≤ 2147483647 }
         ensures tokens { self.new ≡ counts.with_tokens sem n self.old }
     {
         if let Some(x) = self.semaphores.get_mut(sem as usize) {
@@ -90,16 +95,45 @@ impl Tables {
         }
     }
 
-    /// Semaphore `sem` is `x` from now on.
-    pub fn set_semaphore(&mut self, sem: u32, x: Semaphore)
+    // Semaphore `sem` is `x` from now on.
+    fn set_semaphore(&mut self, sem: u32, x: Semaphore)
         ensures semaphore { self.new ≡ counts.with_semaphore sem x self.old }
     {
         set(&mut self.semaphores, sem as usize, x);
     }
+
+    /// Semaphore `sem` is given up: it is what it was at the start.
+    pub fn free_semaphore_at(&mut self, sem: u32)
+        ensures freed { self.new ≡ counts.with_semaphore sem model.no_semaphore self.old }
+    {
+        let x = no_semaphore(Vec::new(*self.ready.allocator()));
+        self.set_semaphore(sem, x);
+    }
+
+    /// Semaphore `sem` is made, with an owner and n tokens, at most as many as the greatest count.
+    pub fn make_semaphore(&mut self, sem: Sem, by: Owner, n: u32)
+        requires most { n ≤ 2147483647 }
+        ensures made { self.new ≡ counts.make_semaphore sem by n self.old }
+    {
+        let x = Semaphore {
+            owner: Some(by),
+            tokens: n,
+            waiters: Vec::new(*self.ready.allocator()),
+        };
+        self.set_semaphore(sem.index() as u32, x);
+        self.set_last_semaphore(sem);
+    }
+
+    // The last number given.
+    fn set_last_semaphore(&mut self, sem: Sem)
+        ensures last { self.new ≡ record self.old { last_semaphore = sem } }
+    {
+        self.last_semaphore = sem;
+    }
 }
 
-/// What is at a free number.
-pub fn no_semaphore(waiters: Vec<Pid>) -> Semaphore
+// What is at a free number.
+fn no_semaphore(waiters: Vec<Pid>) -> Semaphore
     requires none { waiters.items ≡ [] }
     ensures free { result ≡ model.no_semaphore }
 {
@@ -123,6 +157,7 @@ impl Semaphore {
 
     // It has n tokens.
     fn set_tokens(&mut self, n: u32)
+        requires most { n ≤ 2147483647 }
         ensures tokens { self.new ≡ record self.old { tokens = n } }
     {
         self.tokens = n;

@@ -1,6 +1,6 @@
 //! The tables as one value, and how a process moves (book, chapters 4 to 8 and 13).
 
-ghost use Rattle.std.specs.Prelude.{◌≡◌, IfOk, slice_set, Some, None, if◌then◌else◌};
+ghost use Rattle.std.specs.Prelude.{◌≡◌, IfOk, IfNone, nat_lt, slice_set, Some, None, if◌then◌else◌};
 ghost use Rattle.xinu_model.specs.Tables as model;
 
 use crate::lists::{get_or, join_ready, join_sleepers, leave_ready, leave_sleepers, set};
@@ -74,6 +74,17 @@ impl Tables {
         ensures process { result ≡ model.process_at self.now p }
     {
         get_or(&self.processes, p.index(), no_process())
+    }
+
+    /// The process number that a word is. `None` if and only if it is none, and then no process is read there.
+    pub fn named(&self, word: u32) -> Option<Pid>
+        ensures named { result ≡ (if nat_lt word 64 then Some word else None) }
+        ensures nobody { IfNone result (model.process_at self.now word ≡ model.no_process) }
+    {
+        match self.processes.get(word as usize) {
+            None => None,
+            Some(_) => Pid::from_word(word),
+        }
     }
 
     /// The process that a word names. `None` if and only if it names no living process.

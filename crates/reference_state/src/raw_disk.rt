@@ -1,0 +1,44 @@
+//! The raw disk (book, chapter 18).
+
+use crate::bytes::Bytes;
+use std::marker::Model;
+use xinu_base::Pid;
+
+/// A request: who waits for it, unless that was killed; the address of its bytes in RAM; its block; and for a write the bytes, as they were
+/// when it was made.
+#[derive(Drop)]
+pub struct Request {
+    /// Who waits for it.
+    pub caller: Option<Pid>,
+    /// The address of its bytes.
+    pub at: u32,
+    /// The number of its block.
+    pub block: u32,
+    /// What is written.
+    pub written: Option<Bytes>,
+}
+
+impl Model for Request {
+    ghost use Rattle.xinu_model.specs.RawDisk.Requests as model;
+
+    ghost Value = { model.Request };
+
+    ghost view = { λ r. record { caller = r.caller; at = r.at; block = r.block; written = r.written } };
+}
+
+/// The raw disk: its blocks, and the requests in their order.
+#[derive(Drop)]
+pub struct RawDisk {
+    /// The blocks.
+    pub blocks: Vec<Bytes>,
+    /// The requests.
+    pub requests: Vec<Request>,
+}
+
+impl Model for RawDisk {
+    ghost use Rattle.xinu_model.specs.RawDisk.Requests as model;
+
+    ghost Value = { model.RawDisk };
+
+    ghost view = { λ d. record { blocks = d.blocks.items; requests = d.requests.items } };
+}
