@@ -54,8 +54,8 @@ fetched_unsent h k calls m is = record {
 -- A command that was done has the status 0.
 pub done_status : (v : Verdict) (left : Option Xinu) (h k : Outside) (c : Carries v None left h k) → 0 ≡ c.output.status
 done_status (Refuses cause) left h k c = (let work = c.deserved.1 in cc)
-done_status (Does (Runs plain start events)) left h k c = sym (ap (λ o. o.status) c.sends.writes.written)
-done_status (Does (Outputs out disk1 file)) left h k c = sym (ap (λ o. o.status) c.sends.writes.written)
+done_status (Does (Runs wanted start events)) left h k c = sym (ap (λ o. o.status) c.sends.begins.output.written)
+done_status (Does (Outputs out disk1 file)) left h k c = sym (ap (λ o. o.status) c.sends.begins)
 
 -- A command that was done answers 0.
 pub done_answers : (command : Option Command) (left : Option Xinu) (h k : Outside) → Performs command None left h k → Answers 0 command h k left

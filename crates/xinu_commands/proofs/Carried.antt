@@ -1,21 +1,16 @@
 -- A command that is carried out: refused before anything was sent, stage by stage, and by a printed run.
-use Rattle.std.proofs.Common.{◌≡◌, ◌≤◌, Bool, false, ℕ, List, [], take, Option, Some, None, refl, sym, ap, subst, ◌∙◌, arith, inl, inr}
-use Rattle.host_port.specs.declared.host.HostFault.{HostFault}
-use Rattle.host_port.specs.declared.host.HostFault.TheVariants as host
+use Rattle.std.proofs.Common.{◌≡◌, ◌≤◌, Bool, false, ℕ, List, [], take, Option, Some, None, refl, sym, ap, subst, ◌∙◌, arith, inl}
 use Rattle.host_port.specs.HostCalls.{Rose}
 use Rattle.host_port.specs.Outside.{Outside, grown}
 use Rattle.host_port.proofs.Prints.{grown-nil}
-use Rattle.host_port.specs.Printing.{Printing, Prints}
-use Rattle.xinu_base.specs.declared.events.Event.{Event}
+use Rattle.host_port.specs.Printing.{Printing}
 use Rattle.xinu_model.specs.Machine.{Xinu}
 use Rattle.xinu_model.specs.Text.{shown}
 use Rattle.xinu_model.proofs.Runs.{some_run}
-use Rattle.xinu_commands.specs.Conversions.{host_refusal}
-use Rattle.xinu_commands.specs.Theorem.{Carries, Deserved, IsPart, IsPartSent, IsSent, IsUnsent, IsWhole, Sends, WorkSends}
-use Rattle.xinu_commands.specs.Work.{Output, Verdict, Refuses, Does, Runs, Outputs, only_printed, output_of, transcript}
+use Rattle.xinu_commands.specs.Theorem.{Carries, Deserved, IsPart, IsPartSent, IsSent, IsUnsent, IsWhole, Sends}
+use Rattle.xinu_commands.specs.Work.{Output, Verdict, Refuses, Does, Runs, Outputs, only_printed, output_of, run_output, transcript}
 use Rattle.xinu_commands.specs.declared.refusals.Refusal.{Refusal}
 use Rattle.xinu_commands.specs.declared.refusals.Refusal.TheVariants as refusal
-use Rattle.xinu_commands.proofs.Printed.{PrintsTranscript}
 
 -- ---- nothing was sent
 
@@ -38,16 +33,16 @@ pub carries_nothing : (v : Verdict) (cause : Refusal) (h k : Outside) → Deserv
     → Carries v (Some cause) None h k
 carries_nothing (Refuses c) cause h k deserved unsent =
     record { output = only_printed 0 []; deserved = deserved; sends = unsent; refused = λ some. refl }
-carries_nothing (Does (Runs plain start events)) cause h k deserved unsent =
-    let run = some_run events start in record {
-      output = only_printed 0 (shown plain (transcript start run.0 run.1 run.2));
+carries_nothing (Does (Runs wanted start events)) cause h k deserved unsent =
+    let run = some_run events start in
+    let output = run_output wanted (shown wanted.plain (transcript start run.0 run.1 run.2)) run.1 None in record {
+      output = output;
       deserved = deserved;
       sends = record {
-        last = Some run.1;
-        writes = record { lines = run.0; state = run.1; end = run.2; runs = run.3; written = refl; last = refl };
-        part = nothing_sent (only_printed 0 (shown plain (transcript start run.0 run.1 run.2))) h k unsent;
+        begins = record { last = run.1; disk1 = None; output = record { lines = run.0; end = run.2; runs = run.3; held = tt; written = refl } };
+        part = nothing_sent output h k unsent;
+        writes = λ none. absurd (cc);
         whole = λ none. absurd (cc);
-        leaves = λ none. absurd (cc);
       };
       refused = λ some. refl;
     }
@@ -55,11 +50,10 @@ carries_nothing (Does (Outputs out disk1 file)) cause h k deserved unsent = reco
   output = output_of out disk1 file;
   deserved = deserved;
   sends = record {
-    last = None;
-    writes = record { written = refl; last = refl };
+    begins = refl;
     part = nothing_sent (output_of out disk1 file) h k unsent;
+    writes = λ none. absurd (cc);
     whole = λ none. absurd (cc);
-    leaves = λ none. absurd (cc);
   };
   refused = λ some. refl;
 }
@@ -125,11 +119,10 @@ sends_within : (v : Verdict) (output : Output) (ended : Option Refusal) (left : 
 sends_within (Refuses cause) output ended left h i j k before after sends =
     unsent_both h j k (unsent_both h i j before sends) after
 sends_within (Does work) output ended left h i j k before after sends = record {
-  last = sends.last;
-  writes = sends.writes;
+  begins = sends.begins;
   part = part_sent_within output h i j k before after sends.part;
+  writes = sends.writes;
   whole = λ none. sent_within output h i j k before after (sends.whole none);
-  leaves = sends.leaves;
 }
 
 -- What is carried out from one moment to another is so from before to after, if nothing is sent there.
@@ -142,7 +135,7 @@ carries_within v ended left h i j k before earlier after later carries = record 
   refused = carries.refused;
 }
 
--- ---- a printed run
+-- ---- printers
 
 -- a printer that hasn't failed
 abbrev pub new_printer : Bool → Printing
@@ -151,65 +144,3 @@ new_printer plain = record { plain = plain; failure = None }
 -- such a printer that isn't plain
 abbrev pub fresh : Printing
 fresh = new_printer false
-
--- what was printed of a run was sent
-printed_sends : (plain : Bool) (start : Xinu) (events : List Event) (new : Xinu) (a e : Printing) (h k : Outside) (ended : Option Refusal) (left : Option Xinu)
-    → a ≡ new_printer plain → (p : PrintsTranscript start events new a e h k) → (ended ≡ None → e.failure ≡ None) → (ended ≡ None → left ≡ Some new)
-    → WorkSends (Runs plain start events) (only_printed 0 (shown plain (transcript start p.lines p.last p.end))) ended left h k
-printed_sends plain start events new a e h k ended left is_fresh p done leaves =
-    let all = transcript start p.lines p.last p.end in
-    let P : List ℕ → Type 0 = λ bytes. Prints a e h k bytes in
-    let prints : Prints a e h k (shown plain all) = subst P (ap (λ (x : Printing). shown x.plain all) is_fresh) p.prints in
-    record {
-      last = Some p.last;
-      writes = record { lines = p.lines; state = p.last; end = p.end; runs = p.runs; written = refl; last = refl };
-      part = record {
-        out = (prints.part.0, ap (λ (x : Outside). x.out) prints.part.1);
-        disk0 = ap (λ (x : Outside). x.disk0) prints.part.1;
-        disk1 = ap (λ (x : Outside). x.disk1) prints.part.1;
-        image = ap (λ (x : Outside). x.image) prints.part.1;
-      };
-      whole = λ none. record {
-        out = ap (λ (x : Outside). x.out) (prints.whole (done none)).1;
-        disk0 = ap (λ (x : Outside). x.disk0) prints.part.1;
-        disk1 = ap (λ (x : Outside). x.disk1) prints.part.1;
-        image = ap (λ (x : Outside). x.image) prints.part.1;
-      };
-      leaves = λ none. leaves none ∙ ap Some (sym (p.whole (done none)));
-    }
-
--- a run that was printed whole
-pub run_done : (plain : Bool) (v : Verdict) (start : Xinu) (events : List Event) (new : Xinu) (a e : Printing) (h k : Outside)
-    → v ≡ Does (Runs plain start events) → a ≡ new_printer plain → e.failure ≡ None → PrintsTranscript start events new a e h k → Carries v None (Some new) h k
-run_done plain v start events new a e h k is is_fresh none p =
-    carries_as v (Does (Runs plain start events)) None (Some new) h k is (record {
-      output = only_printed 0 (shown plain (transcript start p.lines p.last p.end));
-      deserved = (Runs plain start events, refl);
-      sends = printed_sends plain start events new a e h k None (Some new) is_fresh p (λ x. none) (λ x. refl);
-      refused = λ some. absurd (cc);
-    })
-
--- why a run wasn't printed whole
-refused_deserved : (plain : Bool) (f : HostFault) (start : Xinu) (events : List Event) (new : Xinu) (a e : Printing) (h k : Outside) → a ≡ new_printer plain
-    → e.failure ≡ Some f → PrintsTranscript start events new a e h k → Deserved (Does (Runs plain start events)) (Some (host_refusal f)) h k
-refused_deserved plain host.Failed start events new a e h k is_fresh failed p = (
-  (λ same. cc),
-  elim (p.prints.cause failed) [
-    | inl had ↦ (let none : a.failure ≡ None = ap (λ (x : Printing). x.failure) is_fresh in absurd (cc))
-    | inr rose ↦ rose
-  ],
-)
-refused_deserved plain host.NoMemory start events new a e h k is_fresh failed p = tt
-
--- a run of which the host refused a line
-pub run_refused : (plain : Bool) (v : Verdict) (f : HostFault) (r : Refusal) (start : Xinu) (events : List Event) (new : Xinu) (a e : Printing) (h k : Outside)
-    → v ≡ Does (Runs plain start events) → r ≡ host_refusal f → a ≡ new_printer plain → e.failure ≡ Some f → PrintsTranscript start events new a e h k
-    → Carries v (Some r) None h k
-run_refused plain v f r start events new a e h k is is_r is_fresh failed p =
-    let P : Refusal → Type 0 = λ x. Carries v (Some x) None h k in
-    subst P (sym is_r) (carries_as v (Does (Runs plain start events)) (Some (host_refusal f)) None h k is (record {
-      output = only_printed 0 (shown plain (transcript start p.lines p.last p.end));
-      deserved = refused_deserved plain f start events new a e h k is_fresh failed p;
-      sends = printed_sends plain start events new a e h k (Some (host_refusal f)) None is_fresh p (λ none. absurd (cc)) (λ none. absurd (cc));
-      refused = λ some. refl;
-    }))

@@ -19,7 +19,7 @@ use Rattle.xinu_commands.proofs.InputFaults.{cases_fetched}
 
 -- ---- a disk that is too long breaks rule 0
 
-abbrev too_long : DiskFault
+abbrev pub too_long : DiskFault
 too_long = record { block = 0; rule = 0 }
 
 last_false : (a b c : Bool) → c ≡ false → cond {A = Option ℕ} (a && b && c) None (Some 0) ≡ Some 0
@@ -40,7 +40,7 @@ size_fault-long : (bytes : List ℕ) → 33557504 < length bytes → size_fault 
 unfolding size_fault
 size_fault-long bytes long = ap (named 0) (rule_0-long bytes long)
 
-disk_fault-long : (bytes : List ℕ) → 33557504 < length bytes → disk_fault bytes ≡ Some too_long
+pub disk_fault-long : (bytes : List ℕ) → 33557504 < length bytes → disk_fault bytes ≡ Some too_long
 unfolding disk_fault
 disk_fault-long bytes long = ap (λ (r : Option ℕ). either_fault (named 0 r) (shape_fault (geometry_of bytes) (fields_of (geometry_of bytes) bytes) bytes)) (rule_0-long bytes long)
 

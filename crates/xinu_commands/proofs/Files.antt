@@ -1,27 +1,26 @@
 -- The fetched bytes of the files, and the verdict on them.
-use Rattle.std.proofs.Common.{◌≡◌, ◌≢◌, ◌≤◌, ◌+◌, ℕ, Bool, List, [], ◌∷◌, length, take, Option, Some, None, refl, sym, ap, subst, ◌∙◌, inl, inr}
+use Rattle.std.proofs.Common.{◌≡◌, ◌≢◌, ◌≤◌, ◌+◌, ℕ, List, [], ◌∷◌, length, take, Option, Some, None, refl, sym, ap, subst, ◌∙◌, inl, inr}
 use Rattle.std.proofs.lemmas.List.{take_all}
-use Rattle.std.specs.Prelude.{MatchOption, ⊤, Err, option_map}
+use Rattle.std.specs.Prelude.{MatchOption, ⊤, option_map}
 use Rattle.host_port.specs.Outside.{Outside}
 use Rattle.elf_loader.specs.LoadedFiles.{loads}
 use Rattle.schedule_file.specs.ScheduleFiles.{Bad, Many, Names, events_in}
 use Rattle.schedule_file.specs.declared.faults.ScheduleFault.{ScheduleFault}
 use Rattle.schedule_file.specs.declared.faults.ScheduleFault.TheVariants as schedule
+use Rattle.given_disks.specs.Disks.{disks_of}
+use Rattle.lfs_check.specs.declared.faults.DiskFault.{DiskFault}
+use Rattle.lfs_layout.specs.Images.{opened}
 use Rattle.xinu_base.specs.declared.events.Event.{Event}
-use Rattle.xinu_model.specs.Boot.{Loaded, Start, Boots, Overlaps, NoRoom, boot}
-use Rattle.machine.specs.Starts.{Starts}
-use Rattle.kernel_boot.specs.declared.initialize.BootFault.{BootFault}
-use Rattle.kernel_boot.specs.declared.initialize.BootFault.TheVariants as boot_fault
-use Rattle.xinu_commands.specs.Conversions.{boot_refusal, schedule_refusal}
+use Rattle.xinu_model.specs.Boot.{Loaded, Start, Boots, Overlaps, NoRoom, boot_on}
+use Rattle.xinu_commands.specs.Conversions.{schedule_refusal}
+use Rattle.xinu_commands.specs.DiskVerdict.{disk_fault, rule_broken}
 use Rattle.xinu_commands.specs.InputFaults.{ReadsAs, schedule_fault, image_fault}
 use Rattle.xinu_commands.specs.Stages.{HoldsFault, HoldsSchedule, IsScheduleCause}
-use Rattle.xinu_commands.specs.Theorem.{Carries}
-use Rattle.xinu_commands.specs.RunVerdict.{run_verdict, start_verdict, boot_verdict, images_verdict}
+use Rattle.xinu_commands.specs.RunVerdict.{Setup, run_verdict, disk0_verdict, disk1_verdict, raw_broken, raw_fault, start_verdict, boot_verdict, images_verdict}
 use Rattle.xinu_commands.specs.Verdict.{file_bytes}
-use Rattle.xinu_commands.specs.Work.{Verdict, Refuses, unless_fault}
+use Rattle.xinu_commands.specs.Work.{Verdict, Wanted, Refuses, unless_fault}
 use Rattle.xinu_commands.specs.declared.refusals.Refusal.{Refusal}
 use Rattle.xinu_commands.specs.declared.refusals.Refusal.TheVariants as refusal
-use Rattle.xinu_commands.proofs.Carried.{carries_nothing, unsent_refl}
 use Rattle.xinu_commands.proofs.InputFaults.{cases_fetched, schedule_fault-fetched, schedule_fault-short, schedule_whole, image_fault-long}
 
 -- ---- a file that was fetched
@@ -77,16 +76,18 @@ pub unless_fault_refused : {T : Type 0} (fault : Option Refusal) (read : Option 
 unless_fault_refused fault read next cause is = rw is refl
 
 -- a schedule file that was read
-pub schedule_read : (plain : Bool) (bytes : List ℕ) (events : List Event) (images : List (List ℕ)) → ReadsAs bytes events
-    → run_verdict plain bytes images ≡ images_verdict 1 images (boot_verdict plain events)
-schedule_read plain bytes events images reads =
-    unless_fault_read (option_map refusal.Schedule (schedule_fault bytes)) (events_in bytes) (λ x. images_verdict 1 images (boot_verdict plain x)) events (ap (option_map refusal.Schedule) reads.good) reads.reads
+pub schedule_read : (wanted : Wanted) (bytes : List ℕ) (events : List Event) (disk0 disk1 : List ℕ) (images : List (List ℕ)) → ReadsAs bytes events
+    → run_verdict wanted bytes disk0 disk1 images ≡ disk0_verdict wanted events disk0 disk1 images
+schedule_read wanted bytes events disk0 disk1 images reads =
+    unless_fault_read (option_map refusal.Schedule (schedule_fault bytes)) (events_in bytes) (λ x. disk0_verdict wanted x disk0 disk1 images) events
+    (ap (option_map refusal.Schedule) reads.good) reads.reads
 
 -- a schedule file with a fault
-pub schedule_refused : (plain : Bool) (bytes : List ℕ) (l : ℕ) (images : List (List ℕ)) → schedule_fault bytes ≡ Some l
-    → run_verdict plain bytes images ≡ Refuses (refusal.Schedule l)
-schedule_refused plain bytes l images is =
-    unless_fault_refused (option_map refusal.Schedule (schedule_fault bytes)) (events_in bytes) (λ x. images_verdict 1 images (boot_verdict plain x)) (refusal.Schedule l) (ap (option_map refusal.Schedule) is)
+pub schedule_refused : (wanted : Wanted) (bytes : List ℕ) (l : ℕ) (disk0 disk1 : List ℕ) (images : List (List ℕ)) → schedule_fault bytes ≡ Some l
+    → run_verdict wanted bytes disk0 disk1 images ≡ Refuses (refusal.Schedule l)
+schedule_refused wanted bytes l disk0 disk1 images is =
+    unless_fault_refused (option_map refusal.Schedule (schedule_fault bytes)) (events_in bytes) (λ x. disk0_verdict wanted x disk0 disk1 images)
+    (refusal.Schedule l) (ap (option_map refusal.Schedule) is)
 
 -- an image file that was read
 pub image_read : (i : ℕ) (bytes : List ℕ) (image : Loaded) (files : List (List ℕ)) (next : List Loaded → Verdict) → option_map (refusal.Image i) (image_fault bytes) ≡ None
@@ -111,10 +112,10 @@ image_fetched i bytes items files next fetched =
     ]
 
 -- the verdict on images with which the machine starts, or for which it has no room
-pub boot_verdict_at : (plain : Bool) (events : List Event) (images : List Loaded) (s : Start) → boot images ≡ s
-    → boot_verdict plain events images ≡ start_verdict plain events s
+pub boot_verdict_at : (setup : Setup) (events : List Event) (images : List Loaded) (s : Start) → boot_on setup.disks images ≡ s
+    → boot_verdict setup events images ≡ start_verdict setup.wanted events s
 unfolding boot_verdict
-boot_verdict_at plain events images s is = ap (start_verdict plain events) is
+boot_verdict_at setup events images s is = ap (start_verdict setup.wanted events) is
 
 -- ---- no stage finds that there is no command
 
@@ -133,14 +134,14 @@ image_keeps : (i : ℕ) (fault : Option ℕ) → option_map (refusal.Image i) fa
 image_keeps i None is = cc
 image_keeps i (Some f) is = cc
 
-start_keeps : (plain : Bool) (events : List Event) (s : Start) → start_verdict plain events s ≢ Refuses refusal.Usage
-start_keeps plain events (Boots x) is = cc
-start_keeps plain events (Overlaps i) is = cc
-start_keeps plain events (NoRoom i) is = cc
+start_keeps : (wanted : Wanted) (events : List Event) (s : Start) → start_verdict wanted events s ≢ Refuses refusal.Usage
+start_keeps wanted events (Boots x) is = cc
+start_keeps wanted events (Overlaps i) is = cc
+start_keeps wanted events (NoRoom i) is = cc
 
-pub boot_keeps : (plain : Bool) (events : List Event) (images : List Loaded) → boot_verdict plain events images ≢ Refuses refusal.Usage
+pub boot_keeps : (setup : Setup) (events : List Event) (images : List Loaded) → boot_verdict setup events images ≢ Refuses refusal.Usage
 unfolding boot_verdict
-boot_keeps plain events images is = start_keeps plain events (boot images) is
+boot_keeps setup events images is = start_keeps setup.wanted events (boot_on setup.disks images) is
 
 pub images_keep : (i : ℕ) (files : List (List ℕ)) (next : List Loaded → Verdict)
     → ((images : List Loaded) → next images ≢ Refuses refusal.Usage) → images_verdict i files next ≢ Refuses refusal.Usage
@@ -149,24 +150,26 @@ images_keep i (bytes ∷ files) next rest is =
     unless_fault_keeps (option_map (refusal.Image i) (image_fault bytes)) (loads bytes) (λ x. images_verdict (i + 1) files (λ images. next (x ∷ images))) (image_keeps i (image_fault bytes))
     (λ x. images_keep (i + 1) files (λ images. next (x ∷ images)) (λ images. rest (x ∷ images))) is
 
-pub run_keeps : (plain : Bool) (schedule : List ℕ) (images : List (List ℕ)) → run_verdict plain schedule images ≢ Refuses refusal.Usage
-run_keeps plain schedule images is =
-    unless_fault_keeps (option_map refusal.Schedule (schedule_fault schedule)) (events_in schedule) (λ events. images_verdict 1 images (boot_verdict plain events)) (schedule_keeps (schedule_fault schedule))
-    (λ events. images_keep 1 images (boot_verdict plain events) (λ x. boot_keeps plain events x)) is
+raw_keeps : (f : Option DiskFault) → option_map raw_broken f ≢ Some refusal.Usage
+raw_keeps None is = cc
+raw_keeps (Some x) is = cc
 
--- ---- a machine that doesn't start
+clean_keeps : (f : Option DiskFault) → option_map rule_broken f ≢ Some refusal.Usage
+clean_keeps None is = cc
+clean_keeps (Some x) is = cc
 
-boot_refused_of : (plain : Bool) (f : BootFault) (events : List Event) (images : List Loaded) (h : Outside) → Starts images (Err f)
-    → Carries (boot_verdict plain events images) (Some (boot_refusal f)) None h h
-boot_refused_of plain (boot_fault.Overlap i) events images h starts =
-    carries_nothing (boot_verdict plain events images) (refusal.Overlap i) h h (boot_verdict_at plain events images (Overlaps i) starts) (unsent_refl h)
-boot_refused_of plain (boot_fault.NoRoom i) events images h starts =
-    carries_nothing (boot_verdict plain events images) (refusal.NoRoom i) h h (boot_verdict_at plain events images (NoRoom i) starts) (unsent_refl h)
-boot_refused_of plain boot_fault.NoMemory events images h starts =
-    carries_nothing (boot_verdict plain events images) refusal.NoMemory h h tt (unsent_refl h)
+pub disk1_keeps : (wanted : Wanted) (events : List Event) (disk0 disk1 : List ℕ) (images : List (List ℕ)) → disk1_verdict wanted events disk0 disk1 images ≢ Refuses refusal.Usage
+disk1_keeps wanted events disk0 disk1 images is =
+    let setup : List ℕ → Setup = λ d. record { disks = disks_of disk0 d; wanted = wanted } in
+    unless_fault_keeps (option_map rule_broken (disk_fault disk1)) (Some (opened disk1)) (λ d. images_verdict 1 images (boot_verdict (setup d) events)) (clean_keeps (disk_fault disk1))
+    (λ d. images_keep 1 images (boot_verdict (setup d) events) (λ x. boot_keeps (setup d) events x)) is
 
-pub boot_refused : (plain : Bool) (f : BootFault) (r : Refusal) (events : List Event) (images : List Loaded) (h : Outside) → r ≡ boot_refusal f
-    → Starts images (Err f) → Carries (boot_verdict plain events images) (Some r) None h h
-boot_refused plain f r events images h is starts =
-    let P : Refusal → Type 0 = λ x. Carries (boot_verdict plain events images) (Some x) None h h in
-    subst P (sym is) (boot_refused_of plain f events images h starts)
+pub disk0_keeps : (wanted : Wanted) (events : List Event) (disk0 disk1 : List ℕ) (images : List (List ℕ)) → disk0_verdict wanted events disk0 disk1 images ≢ Refuses refusal.Usage
+disk0_keeps wanted events disk0 disk1 images is =
+    unless_fault_keeps (option_map raw_broken (raw_fault disk0)) (Some disk0) (λ d. disk1_verdict wanted events d disk1 images) (raw_keeps (raw_fault disk0))
+    (λ d. disk1_keeps wanted events d disk1 images) is
+
+pub run_keeps : (wanted : Wanted) (schedule disk0 disk1 : List ℕ) (images : List (List ℕ)) → run_verdict wanted schedule disk0 disk1 images ≢ Refuses refusal.Usage
+run_keeps wanted schedule disk0 disk1 images is =
+    unless_fault_keeps (option_map refusal.Schedule (schedule_fault schedule)) (events_in schedule) (λ events. disk0_verdict wanted events disk0 disk1 images) (schedule_keeps (schedule_fault schedule))
+    (λ events. disk0_keeps wanted events disk0 disk1 images) is

@@ -1,30 +1,24 @@
--- The files of a run's images, fetched and read one after another, and the schedule's file before them.
-use Rattle.std.proofs.Common.{◌≡◌, ◌≤◌, ◌<◌, ◌+◌, ◌-◌, ◌==◌, ◌∙◌, ◌++◌, ◌||◌, ℕ, Bool, true, false, if◌then◌else◌, List, [], ◌∷◌, length, map, take, drop, get_or, Option, Some, None, refl, sym, ap, ap₂, subst, arith, append_assoc, append-nil}
+-- The files of a run's images, fetched and read one after another.
+use Rattle.std.proofs.Common.{◌≡◌, ◌≤◌, ◌<◌, ◌+◌, ◌-◌, ◌==◌, ◌∙◌, ◌++◌, ◌||◌, ℕ, true, false, if◌then◌else◌, List, [], ◌∷◌, length, map, take, drop, get_or, Option, Some, None, refl, sym, ap, subst, arith, append_assoc, append-nil}
 use Rattle.std.proofs.lemmas.List.{drop_more, length-append, take_all}
 use Rattle.std.specs.Prelude.{Result, Ok, Err, IsErr, IsErrAnd, is_some, option_and_then, option_map}
-use Rattle.command_line.specs.Commands.{Run}
 use Rattle.command_line.specs.Reading.{Text}
-use Rattle.command_line.specs.RunArgs.{RunFiles}
 use Rattle.elf_loader.specs.LoadedFiles.{loads}
-use Rattle.host_port.proofs.Prints.{grown-nil}
-use Rattle.host_port.specs.Outside.{Outside, HostCall, fetching, grown}
+use Rattle.host_port.specs.Outside.{Outside, HostCall}
 use Rattle.machine.specs.Printed.{Booted}
 use Rattle.xinu_base.specs.declared.events.Event.{Event}
 use Rattle.xinu_model.specs.Boot.{Loaded}
 use Rattle.xinu_model.specs.Machine.{Xinu}
-use Rattle.xinu_commands.specs.Calls.{calls_due, calls_in, due_by, unless_refused}
 use Rattle.xinu_commands.specs.InputFaults.{have_fault, image_fault, images_loaded}
-use Rattle.xinu_commands.specs.RunVerdict.{boot_verdict, images_verdict, run_verdict}
-use Rattle.xinu_commands.specs.Stages.{Fetches, HoldsFault, HoldsSchedule, IsFetched, IsScheduleCause, KeepsFiles, Performs, RunsImages, Stage, fetch_due, images_left, left_of, refusal_of}
-use Rattle.xinu_commands.specs.Theorem.{Carries, Deserved, HasCalled, IsDecided, IsUnsent}
-use Rattle.xinu_commands.specs.Verdict.{Input, ScheduleInput, ImageInput, DiskInput, SourceInput, file_bytes, image_bytes}
+use Rattle.xinu_commands.specs.RunVerdict.{Setup, boot_verdict, images_verdict}
+use Rattle.xinu_commands.specs.Stages.{Fetches, IsFetched, RunsImages, Stage, images_left, left_of, no_fetches, refusal_of}
+use Rattle.xinu_commands.specs.Theorem.{Deserved, IsDecided}
+use Rattle.xinu_commands.specs.Verdict.{file_bytes, image_bytes}
 use Rattle.xinu_commands.specs.Work.{Verdict, Refuses, unless_fault}
 use Rattle.xinu_commands.specs.declared.refusals.Refusal.{Refusal}
 use Rattle.xinu_commands.specs.declared.refusals.Refusal.TheVariants as refusal
-use Rattle.xinu_commands.proofs.Called.{called_first, fetched_then, keeps_both}
-use Rattle.xinu_commands.proofs.Carried.{carries_as, carries_nothing, carries_within, unsent_refl}
-use Rattle.xinu_commands.proofs.Fetches.{left_next, left_refused, none_left, nothing_named, run_after, run_first, run_then}
-use Rattle.xinu_commands.proofs.Files.{boot_keeps, image_fetched, image_read, image_refused, images_keep, run_keeps, schedule_read, schedule_refused}
+use Rattle.xinu_commands.proofs.Fetches.{left_next, left_refused, none_left, run_after}
+use Rattle.xinu_commands.proofs.Files.{boot_keeps, image_fetched, image_read, image_refused, images_keep}
 use Rattle.xinu_commands.proofs.GoodImages.{good_loads, good_parts}
 use Rattle.xinu_commands.proofs.Staged.{fetched_stage, refused_stage, stage_as, stage_due, unfetched_stage}
 
@@ -101,12 +95,12 @@ unfolding have_fault
 no_files = refl
 
 -- what is carried out with the images that files load
-pub files_carry : (plain : Bool) (files : List (List ℕ)) (events : List Event) (images : List Loaded) (ended : Option Refusal) (left : Option Xinu) (h k : Outside) → have_fault files ≡ false
-    → images_loaded files ≡ Some images → Carries (boot_verdict plain events images) ended left h k → Carries (images_verdict 1 files (boot_verdict plain events)) ended left h k
-files_carry plain files events images ended left h k good loaded carries =
-    let read = images_read 1 files (boot_verdict plain events) good in
+pub files_carry : (setup : Setup) (files : List (List ℕ)) (events : List Event) (images : List Loaded) (outputs : List HostCall) (ended : Option Refusal) (left : Option Xinu) (h k : Outside) → have_fault files ≡ false
+    → images_loaded files ≡ Some images → Stage (boot_verdict setup events images) no_fetches outputs ended left h k → Stage (images_verdict 1 files (boot_verdict setup events)) no_fetches outputs ended left h k
+files_carry setup files events images outputs ended left h k good loaded stage =
+    let read = images_read 1 files (boot_verdict setup events) good in
     let same : read.0 ≡ images = (let first = read.1.0 in cc) in
-    carries_as (images_verdict 1 files (boot_verdict plain events)) (boot_verdict plain events images) ended left h k (read.1.1 ∙ ap (boot_verdict plain events) same) carries
+    stage_as (images_verdict 1 files (boot_verdict setup events)) (boot_verdict setup events images) no_fetches outputs ended left h k (read.1.1 ∙ ap (boot_verdict setup events) same) stage
 
 -- ---- files one after another
 
@@ -196,42 +190,42 @@ first_and_rest (x ∷ xs) d some =
     ap (λ ys. x ∷ ys) (sym (take_all (length (x ∷ xs) - 1) xs few))
 
 -- After images without a fault the next one is fetched, and then what is left is carried out.
-next_stage : (plain : Bool) (before files : List (List ℕ)) (name : Text) (names : List Text) (events : List Event) (ended : Option Refusal) (left : Option Xinu) (h k : Outside)
+next_stage : (setup : Setup) (before files : List (List ℕ)) (name : Text) (names : List Text) (events : List Event) (outputs : List HostCall) (ended : Option Refusal) (left : Option Xinu) (h k : Outside)
     → have_fault before ≡ false
-    → Stage (images_verdict 1 (before ++ files) (boot_verdict plain events)) (λ v. name ∷ images_left (length before + 1) names v) [] ended left h k
-    → Stage (images_verdict 1 (before ++ files) (boot_verdict plain events)) (images_left (length before) (name ∷ names)) [] ended left h k
-next_stage plain before files name names events ended left h k good s =
-    let v = images_verdict 1 (before ++ files) (boot_verdict plain events) in
-    stage_due v (λ x. name ∷ images_left (length before + 1) names x) (images_left (length before) (name ∷ names)) [] ended left h k
-    (left_next (length before) name names v (run_after plain events before files good)) s
+    → Stage (images_verdict 1 (before ++ files) (boot_verdict setup events)) (λ v. name ∷ images_left (length before + 1) names v) outputs ended left h k
+    → Stage (images_verdict 1 (before ++ files) (boot_verdict setup events)) (images_left (length before) (name ∷ names)) outputs ended left h k
+next_stage setup before files name names events outputs ended left h k good s =
+    let v = images_verdict 1 (before ++ files) (boot_verdict setup events) in
+    stage_due v (λ x. name ∷ images_left (length before + 1) names x) (images_left (length before) (name ∷ names)) outputs ended left h k
+    (left_next (length before) name names v (run_after setup events before files good)) s
 
 -- the host didn't fetch it
-pub image_unfetched : (plain : Bool) (before : List (List ℕ)) (name : Text) (names : List Text) (events : List Event) (r : Refusal) (h k : Outside) → have_fault before ≡ false
-    → Fetches name (Some r) h k → RunsImages plain before (name ∷ names) events (Some r) None h k
-image_unfetched plain before name names events r h k good f =
+pub image_unfetched : (setup : Setup) (before : List (List ℕ)) (name : Text) (names : List Text) (events : List Event) (outputs : List HostCall) (r : Refusal) (h k : Outside) → have_fault before ≡ false
+    → Fetches name (Some r) h k → RunsImages setup before (name ∷ names) events outputs (Some r) None h k
+image_unfetched setup before name names events outputs r h k good f =
     let files = image_bytes (length before + 1) (name ∷ names) h.file (λ j. []) in
-    let v = images_verdict 1 (before ++ files) (boot_verdict plain events) in record {
+    let v = images_verdict 1 (before ++ files) (boot_verdict setup events) in record {
       unseen = λ j. [];
-      stage = next_stage plain before files name names events (Some r) None h k good
-          (unfetched_stage v name (images_left (length before + 1) names) [] r h k (images_keep 1 (before ++ files) (boot_verdict plain events) (λ images. boot_keeps plain events images)) f);
+      stage = next_stage setup before files name names events outputs (Some r) None h k good
+          (unfetched_stage v name (images_left (length before + 1) names) outputs r h k (images_keep 1 (before ++ files) (boot_verdict setup events) (λ images. boot_keeps setup events images)) f);
     }
 
 -- it was fetched, and ended the run
-image_ended : (plain : Bool) (before : List (List ℕ)) (name : Text) (names : List Text) (events : List Event) (items : List ℕ) (r : Refusal) (h k : Outside) → have_fault before ≡ false
+image_ended : (setup : Setup) (before : List (List ℕ)) (name : Text) (names : List Text) (events : List Event) (outputs : List HostCall) (items : List ℕ) (r : Refusal) (h k : Outside) → have_fault before ≡ false
     → IsFetched 1048576 (h.file name) items → Fetches name None h k
-    → ((files : List (List ℕ)) → Deserved (images_verdict 1 (before ++ items ∷ files) (boot_verdict plain events)) (Some r) k k)
-    → ((files : List (List ℕ)) → IsDecided (Some r) → images_left (length before + 1) names (images_verdict 1 (before ++ items ∷ files) (boot_verdict plain events)) ≡ [])
-    → RunsImages plain before (name ∷ names) events (Some r) None h k
-image_ended plain before name names events items r h k good fetched f deserved none =
+    → ((files : List (List ℕ)) → Deserved (images_verdict 1 (before ++ items ∷ files) (boot_verdict setup events)) (Some r) k k)
+    → ((files : List (List ℕ)) → IsDecided (Some r) → images_left (length before + 1) names (images_verdict 1 (before ++ items ∷ files) (boot_verdict setup events)) ≡ [])
+    → RunsImages setup before (name ∷ names) events outputs (Some r) None h k
+image_ended setup before name names events outputs items r h k good fetched f deserved none =
     let files = image_bytes (length before + 1 + 1) names h.file (λ j. items) in
     let bytes = file_bytes (h.file name) items in
     let rest = images_left (length before + 1) names in
-    let v = images_verdict 1 (before ++ items ∷ files) (boot_verdict plain events) in record {
+    let v = images_verdict 1 (before ++ items ∷ files) (boot_verdict setup events) in record {
       unseen = λ j. items;
-      stage = stage_as (images_verdict 1 (before ++ bytes ∷ files) (boot_verdict plain events)) v (images_left (length before) (name ∷ names)) [] (Some r) None h k
-          (fetched_among 1 before bytes items files (boot_verdict plain events) fetched.front)
-          (next_stage plain before (items ∷ files) name names events (Some r) None h k good
-          (fetched_stage v name rest [] (Some r) None h k k f (refused_stage v rest [] r k (deserved files) (none files))));
+      stage = stage_as (images_verdict 1 (before ++ bytes ∷ files) (boot_verdict setup events)) v (images_left (length before) (name ∷ names)) outputs (Some r) None h k
+          (fetched_among 1 before bytes items files (boot_verdict setup events) fetched.front)
+          (next_stage setup before (items ∷ files) name names events outputs (Some r) None h k good
+          (fetched_stage v name rest outputs (Some r) None h k k f (refused_stage v rest outputs r k (deserved files) (none files))));
     }
 
 -- a refusal of an image names its fault
@@ -241,36 +235,36 @@ judged_by i None r is holds = absurd (cc)
 judged_by i (Some f) r is holds = holds f refl (cc)
 
 -- it has a fault
-pub image_bad : (plain : Bool) (before : List (List ℕ)) (name : Text) (names : List Text) (events : List Event) (bytes items : List ℕ) (n : ℕ) (r : Refusal) (h k : Outside) → have_fault before ≡ false
+pub image_bad : (setup : Setup) (before : List (List ℕ)) (name : Text) (names : List Text) (events : List Event) (outputs : List HostCall) (bytes items : List ℕ) (n : ℕ) (r : Refusal) (h k : Outside) → have_fault before ≡ false
     → IsFetched 1048576 (h.file name) items → Fetches name None h k → Some r ≡ option_map (refusal.Image n) (image_fault bytes) → bytes ≡ items → n ≡ length before + 1
-    → RunsImages plain before (name ∷ names) events (Some r) None h k
-image_bad plain before name names events bytes items n r h k good fetched f judged same number =
+    → RunsImages setup before (name ∷ names) events outputs (Some r) None h k
+image_bad setup before name names events outputs bytes items n r h k good fetched f judged same number =
     let count : 1 + length before ≡ n = omega arith in
     let is : Some r ≡ option_map (refusal.Image n) (image_fault items) = judged ∙ ap (λ (b : List ℕ). option_map (refusal.Image n) (image_fault b)) same in
     let refuses : (files : List (List ℕ)) (fault : ℕ) → image_fault items ≡ Some fault
-    → images_verdict 1 (before ++ items ∷ files) (boot_verdict plain events) ≡ Refuses (refusal.Image n fault) =
-    λ files fault bad. refused_among 1 before items fault files (boot_verdict plain events) good bad ∙ ap (λ m. Refuses (refusal.Image m fault)) count in
-    image_ended plain before name names events items r h k good fetched f
+    → images_verdict 1 (before ++ items ∷ files) (boot_verdict setup events) ≡ Refuses (refusal.Image n fault) =
+    λ files fault bad. refused_among 1 before items fault files (boot_verdict setup events) good bad ∙ ap (λ m. Refuses (refusal.Image m fault)) count in
+    image_ended setup before name names events outputs items r h k good fetched f
     (λ files. judged_by n (image_fault items) r is (λ fault bad same_r.
-    (let P : Refusal → Type 0 = λ x. Deserved (images_verdict 1 (before ++ items ∷ files) (boot_verdict plain events)) (Some x) k k in
+    (let P : Refusal → Type 0 = λ x. Deserved (images_verdict 1 (before ++ items ∷ files) (boot_verdict setup events)) (Some x) k k in
     subst P (sym same_r) (refuses files fault bad))))
     (λ files decided. judged_by n (image_fault items) r is (λ fault bad same_r.
-    left_refused (length before + 1) n names (images_verdict 1 (before ++ items ∷ files) (boot_verdict plain events)) fault (refuses files fault bad) number))
+    left_refused (length before + 1) n names (images_verdict 1 (before ++ items ∷ files) (boot_verdict setup events)) fault (refuses files fault bad) number))
 
 -- memory ran out after it
-pub image_unkept : (plain : Bool) (before : List (List ℕ)) (name : Text) (names : List Text) (events : List Event) (items : List ℕ) (h k : Outside) → have_fault before ≡ false
-    → IsFetched 1048576 (h.file name) items → Fetches name None h k → RunsImages plain before (name ∷ names) events (Some refusal.NoMemory) None h k
-image_unkept plain before name names events items h k good fetched f =
-    image_ended plain before name names events items refusal.NoMemory h k good fetched f (λ files. tt) (λ files decided. absurd decided)
+pub image_unkept : (setup : Setup) (before : List (List ℕ)) (name : Text) (names : List Text) (events : List Event) (outputs : List HostCall) (items : List ℕ) (h k : Outside) → have_fault before ≡ false
+    → IsFetched 1048576 (h.file name) items → Fetches name None h k → RunsImages setup before (name ∷ names) events outputs (Some refusal.NoMemory) None h k
+image_unkept setup before name names events outputs items h k good fetched f =
+    image_ended setup before name names events outputs items refusal.NoMemory h k good fetched f (λ files. tt) (λ files decided. absurd decided)
 
 -- it was read, and then the images after it
-pub image_then : (plain : Bool) (before after : List (List ℕ)) (name : Text) (names : List Text) (events : List Event) (items : List ℕ) (ended : Option Refusal) (left : Option Xinu) (h j k : Outside)
-    → have_fault before ≡ false → after ≡ before ++ items ∷ [] → IsFetched 1048576 (h.file name) items → Fetches name None h j → RunsImages plain after names events ended left j k
-    → RunsImages plain before (name ∷ names) events ended left h k
-image_then plain before after name names events items ended left h j k good added fetched f rest =
+pub image_then : (setup : Setup) (before after : List (List ℕ)) (name : Text) (names : List Text) (events : List Event) (outputs : List HostCall) (items : List ℕ) (ended : Option Refusal) (left : Option Xinu) (h j k : Outside)
+    → have_fault before ≡ false → after ≡ before ++ items ∷ [] → IsFetched 1048576 (h.file name) items → Fetches name None h j → RunsImages setup after names events outputs ended left j k
+    → RunsImages setup before (name ∷ names) events outputs ended left h k
+image_then setup before after name names events outputs items ended left h j k good added fetched f rest =
     let i = length before + 1 in
     let unseen = with_bytes_of i items rest.unseen in
-    let next = boot_verdict plain events in
+    let next = boot_verdict setup events in
     let bytes = file_bytes (h.file name) items in
     let later = image_bytes (i + 1) names h.file unseen in
     let own : file_bytes (h.file name) (unseen i) ≡ bytes = ap (file_bytes (h.file name)) (with_own i items rest.unseen) in
@@ -286,119 +280,19 @@ image_then plain before after name names events items ended left h j k good adde
     let same : v ≡ w =
     ap (λ b. images_verdict 1 (before ++ b ∷ later) next) own ∙ fetched_among 1 before bytes items later next fetched.front
     ∙ ap (λ bs. images_verdict 1 bs next) joined ∙ ap (λ bs. images_verdict 1 (after ++ bs) next) same_later in
-    let P : ℕ → Type 0 = λ m. Stage w (images_left m names) [] ended left j k in record {
+    let P : ℕ → Type 0 = λ m. Stage w (images_left m names) outputs ended left j k in record {
       unseen = unseen;
-      stage = next_stage plain before (image_bytes i (name ∷ names) h.file unseen) name names events ended left h k good
-          (stage_as v w (λ x. name ∷ images_left i names x) [] ended left h k same
-          (fetched_stage w name (images_left i names) [] ended left h j k f (subst P size rest.stage)));
+      stage = next_stage setup before (image_bytes i (name ∷ names) h.file unseen) name names events outputs ended left h k good
+          (stage_as v w (λ x. name ∷ images_left i names x) outputs ended left h k same
+          (fetched_stage w name (images_left i names) outputs ended left h j k f (subst P size rest.stage)));
     }
 
 -- no image is left
-pub images_run : (plain : Bool) (before : List (List ℕ)) (events : List Event) (ended : Option Refusal) (left : Option Xinu) (h k : Outside) → Carries (images_verdict 1 before (boot_verdict plain events)) ended left h k
-    → k.calls ≡ h.calls → KeepsFiles h k → RunsImages plain before [] events ended left h k
-images_run plain before events ended left h k carries calls keeps =
-    let v = images_verdict 1 (before ++ []) (boot_verdict plain events) in
-    let fetches = images_left (length before) [] in
-    let none : calls_in (due_by fetches [] v) ≡ [] = ap₂ (λ (xs : List Text) (ys : List HostCall). map fetching xs ++ ys) (none_left (length before) v) (nothing_named v) in
-    let same : k.calls ≡ grown h.calls [] = calls ∙ sym (grown-nil h.calls) in record {
+pub images_run : (setup : Setup) (before : List (List ℕ)) (events : List Event) (outputs : List HostCall) (ended : Option Refusal) (left : Option Xinu) (h k : Outside)
+    → Stage (images_verdict 1 before (boot_verdict setup events)) no_fetches outputs ended left h k → RunsImages setup before [] events outputs ended left h k
+images_run setup before events outputs ended left h k s =
+    let v = images_verdict 1 (before ++ []) (boot_verdict setup events) in record {
       unseen = λ j. [];
-      stage = record {
-        carries = carries_as v (images_verdict 1 before (boot_verdict plain events)) ended left h k (ap (λ bs. images_verdict 1 bs (boot_verdict plain events)) (append-nil before)) carries;
-        calls = record {
-          count = 0;
-          first = same;
-          all = λ decided. same ∙ ap (grown h.calls) (sym none);
-          unsent = λ few. absurd (let size = ap length (none_left (length before) v) in omega (arith, few, size));
-        };
-        keeps = keeps;
-      };
-    }
-
--- ---- a whole run
-
--- these bytes for the schedule and for the images
-abbrev unseen_by : List ℕ → (ℕ → List ℕ) → Input → List ℕ
-unseen_by schedule images ScheduleInput = schedule
-unseen_by schedule images (ImageInput i) = images i
-unseen_by schedule images DiskInput = []
-unseen_by schedule images SourceInput = []
-
--- the calls of a run of which the schedule's file was asked for
-schedule_called : (files : RunFiles) (v : Verdict) (r : Refusal) (h k : Outside) → IsUnsent h k → (IsDecided (Some r) → ⊥) → HasCalled (fetch_due files.schedule) (Some r) h k
-    → HasCalled (calls_due (Some (Run files)) v) (Some r) h k
-schedule_called files v r h k unsent never calls =
-    let first = run_first files v in
-    let P : List Text → Type 0 = λ names. HasCalled (record { fetches = names; outputs = unless_refused v [] }) (Some r) h k in
-    subst P (sym first.1) (called_first files.schedule first.0 (unless_refused v []) r h k unsent never calls)
-
--- A run of these files was carried out for these bytes of the schedule.
-record RunsFor (files : RunFiles) (r : Refusal) (schedule : List ℕ) (h k : Outside) : Type 0 where
-  pub carries : Carries (run_verdict files.plain (file_bytes (h.file files.schedule) schedule) (image_bytes 1 files.images h.file (λ i. []))) (Some r) None h k
-  pub calls : HasCalled (calls_due (Some (Run files)) (run_verdict files.plain (file_bytes (h.file files.schedule) schedule) (image_bytes 1 files.images h.file (λ i. [])))) (Some r) h k
-
--- why a schedule isn't run, before an image was fetched
-schedule_carries : (files : RunFiles) (r : Refusal) (h k : Outside) → IsScheduleCause r (h.file files.schedule) h k → IsUnsent h k → HasCalled (fetch_due files.schedule) (Some r) h k
-    → (bytes : List ℕ) × RunsFor files r bytes h k
-schedule_carries files refusal.HostFault h k cause unsent calls =
-    let images = image_bytes 1 files.images h.file (λ i. []) in
-    let v = run_verdict files.plain (file_bytes (h.file files.schedule) []) images in (
-      [],
-      record {
-        carries = carries_nothing v refusal.HostFault h k (run_keeps files.plain (file_bytes (h.file files.schedule) []) images, cause) unsent;
-        calls = schedule_called files v refusal.HostFault h k unsent (λ decided. decided) calls;
-      },
-    )
-schedule_carries files (refusal.Schedule l) h k cause unsent calls =
-    let holds : HoldsFault (h.file files.schedule) l = cause in
-    let bytes = file_bytes (h.file files.schedule) holds.unseen in
-    let images = image_bytes 1 files.images h.file (λ i. []) in
-    let refuses = schedule_refused files.plain bytes l images holds.fault in
-    let P : Verdict → Type 0 = λ v. HasCalled (calls_due (Some (Run files)) v) (Some (refusal.Schedule l)) h k in (
-      holds.unseen,
-      record {
-        carries = carries_nothing (run_verdict files.plain bytes images) (refusal.Schedule l) h k refuses unsent;
-        calls = subst P (sym refuses) calls;
-      },
-    )
-schedule_carries files refusal.NoMemory h k cause unsent calls =
-    let v = run_verdict files.plain (file_bytes (h.file files.schedule) []) (image_bytes 1 files.images h.file (λ i. [])) in (
-      [],
-      record {
-        carries = carries_nothing v refusal.NoMemory h k tt unsent;
-        calls = schedule_called files v refusal.NoMemory h k unsent (λ decided. decided) calls;
-      },
-    )
-schedule_carries files other h k cause unsent calls = absurd cause
-
-pub schedule_refuses : (plain : Bool) (r : Refusal) (s : Text) (names : List Text) (h k : Outside) → IsScheduleCause r (h.file s) h k → IsUnsent h k
-    → HasCalled (fetch_due s) (Some r) h k → KeepsFiles h k → Performs (Some (Run (record { schedule = s; images = names; plain = plain }))) (Some r) None h k
-schedule_refuses plain r s names h k cause unsent calls keeps =
-    let held = schedule_carries (record { schedule = s; images = names; plain = plain }) r h k cause unsent calls in record {
-      obeys = record { unseen = unseen_by held.0 (λ i. []); carries = held.1.carries };
-      calls = held.1.calls;
-      keeps = keeps;
-    }
-
--- the schedule was read, and then the images
-pub run_performs : (plain : Bool) (s : Text) (names : List Text) (events : List Event) (ended : Option Refusal) (left : Option Xinu) (h j k : Outside) → HoldsSchedule (h.file s) events
-    → IsUnsent h j → HasCalled (fetch_due s) None h j → KeepsFiles h j → RunsImages plain [] names events ended left j k
-    → Performs (Some (Run (record { schedule = s; images = names; plain = plain }))) ended left h k
-run_performs plain s names events ended left h j k holds unsent calls keeps runs =
-    let files : RunFiles = record { schedule = s; images = names; plain = plain } in
-    let images = image_bytes 1 names h.file runs.unseen in
-    let bytes = file_bytes (h.file s) holds.unseen in
-    let v = images_verdict 1 (image_bytes 1 names j.file runs.unseen) (boot_verdict plain events) in
-    let same : run_verdict plain bytes images ≡ v =
-    schedule_read plain bytes events images holds.reads
-    ∙ ap (λ (file : Text → Option (List ℕ)). images_verdict 1 (image_bytes 1 names file runs.unseen) (boot_verdict plain events)) (sym keeps.file) in
-    let P : List Text → Type 0 = λ fetches. HasCalled (record { fetches = fetches; outputs = unless_refused v [] }) ended h k in
-    let Q : Verdict → Type 0 = λ x. HasCalled (calls_due (Some (Run files)) x) ended h k in
-    let made = fetched_then s (images_left 0 names v) (unless_refused v []) ended h j k unsent (calls.all tt) runs.stage.calls in record {
-      obeys = record {
-        unseen = unseen_by holds.unseen runs.unseen;
-        carries = carries_as (run_verdict plain bytes images) v ended left h k same
-            (carries_within v ended left h j k k unsent keeps.later (unsent_refl k) (omega arith) runs.stage.carries);
-      };
-      calls = subst Q (sym same) (subst P (run_then files v (run_after plain events [] (image_bytes 1 names j.file runs.unseen) no_files)) made);
-      keeps = keeps_both h j k keeps runs.stage.keeps;
+      stage = stage_due v no_fetches (images_left (length before) []) outputs ended left h k (none_left (length before) v)
+          (stage_as v (images_verdict 1 before (boot_verdict setup events)) no_fetches outputs ended left h k (ap (λ bs. images_verdict 1 bs (boot_verdict setup events)) (append-nil before)) s);
     }

@@ -16,6 +16,9 @@ pub mod InputFaults
 pub mod Possible
 pub mod Printed
 pub mod Sent
+pub mod RunDisks
+pub mod RunSent
+pub mod WholeRuns
 pub mod SoFar
 pub mod Staged
 pub mod Statuses

@@ -11,7 +11,7 @@ use Rattle.command_line.specs.AsmArgs.{AsmFiles, asm_from}
 use Rattle.command_line.specs.Commands.{Command, Run, Asm, Disk, command_from, command_of, commands, simple_command_of}
 use Rattle.command_line.specs.DiskArgs.{DiskAction, Mkfs, Ls, Get, Put, Check, Repair, action_from, action_of, actions, check_of, get_of, is_block_count, ls_of, mkfs_of, put_of, repair_of}
 use Rattle.command_line.specs.Reading.{Text, is_given, option_value, request_of}
-use Rattle.command_line.specs.RunArgs.{RunFiles, is_file_name, run_from, run_of}
+use Rattle.command_line.specs.RunArgs.{DiskFiles, RunFiles, disk_files, is_file_name, may_be_disks, run_from, run_of}
 use Rattle.xinu_commands.specs.Stages.{IsBlockCount, IsPossible}
 
 -- a value that is there if a test holds
@@ -43,12 +43,13 @@ pub record IsImageCount (images : ℕ) : Type 0 where
   pub some : 1 ≤ images
   pub few : images ≤ 8
 
-count_of_run : (schedule : Option Text) (plain : Bool) (images : List Text) (r : RunFiles) → run_of schedule plain images ≡ Some r → IsImageCount (length r.images)
-count_of_run None plain images r is = cc
-count_of_run (Some schedule) plain images r is =
-    let files : RunFiles = record { schedule = schedule; images = images; plain = plain } in
-    let holds = some_if (is_file_name schedule && (list_all is_file_name images && (nat_lt 0 (length images) && nat_le (length images) 8))) files r is in
-    let counts = and_parts (nat_lt 0 (length images)) (nat_le (length images) 8) (and_parts (list_all is_file_name images) _ (and_parts (is_file_name schedule) _ holds.0).1).1 in
+count_of_run : (schedule : Option Text) (disks : DiskFiles) (plain : Bool) (images : List Text) (r : RunFiles) → run_of schedule disks plain images ≡ Some r → IsImageCount (length r.images)
+count_of_run None disks plain images r is = cc
+count_of_run (Some schedule) disks plain images r is =
+    let files : RunFiles = record { schedule = schedule; disks = disks; images = images; plain = plain } in
+    let holds = some_if (is_file_name schedule && (may_be_disks disks && (list_all is_file_name images && (nat_lt 0 (length images) && nat_le (length images) 8)))) files r is in
+    let named = (and_parts (may_be_disks disks) _ (and_parts (is_file_name schedule) _ holds.0).1).1 in
+    let counts = and_parts (nat_lt 0 (length images)) (nat_le (length images) 8) (and_parts (list_all is_file_name images) _ named).1 in
     let some : 0 < length images = ltb-true 0 (length images) counts.0 in
     let few : length images ≤ 8 = leb-true (length images) 8 counts.1 in
     let same : length images ≡ length r.images = ap (λ (x : RunFiles). length x.images) holds.1 in
@@ -57,7 +58,7 @@ count_of_run (Some schedule) plain images r is =
 pub image_count : (args : List Text) (r : RunFiles) → command_of args ≡ Some (Run r) → IsImageCount (length r.images)
 image_count args r is =
     option_and_then_some command_from (request_of commands args) (Run r) (run_given args r is)
-    (λ q calls given. count_of_run (option_value (codes "schedule") q.taken) (is_given (codes "plain") q.taken) q.taken.positional r
+    (λ q calls given. count_of_run (option_value (codes "schedule") q.taken) (disk_files (λ name. option_value name q.taken)) (is_given (codes "plain") q.taken) q.taken.positional r
     (run_named (bytes_eq (codes "run") q.command) (bytes_eq (codes "asm") q.command) (run_from q.taken) (asm_from q.taken) r given))
 
 -- ---- an action is possible

@@ -1,7 +1,8 @@
 -- What was printed and written is the output of an action, as far as the host took it.
-use Rattle.std.proofs.Common.{◌≡◌, ◌≢◌, ◌∙◌, ◌≤◌, inl, inr, ℕ, Bool, true, false, List, [], ◌∷◌, length, take, Option, Some, None, refl, sym, ap, subst, arith}
+use Rattle.std.proofs.Common.{◌≡◌, ◌≢◌, ◌∙◌, ◌≤◌, inl, inr, ℕ, ◌+◌, Bool, true, false, List, [], ◌∷◌, ◌++◌, length, min, take, Option, Some, None, refl, sym, ap, subst, arith}
 use Rattle.std.specs.Prelude.{if◌then◌else◌, option_map}
-use Rattle.std.proofs.lemmas.List.{take_all}
+use Rattle.std.proofs.Math.Seq.{take-append-add}
+use Rattle.std.proofs.lemmas.List.{take-append-le, take_all, take_min}
 use Rattle.host_port.specs.declared.host.Channel.{Channel}
 use Rattle.host_port.specs.declared.host.Channel.TheVariants.{Out, Fault, Disk0, Disk1, Image}
 use Rattle.host_port.specs.declared.host.HostFault.{HostFault}
@@ -9,11 +10,11 @@ use Rattle.host_port.specs.declared.host.HostFault.TheVariants as host
 use Rattle.host_port.specs.HostCalls.{Rose}
 use Rattle.host_port.specs.Outside.{Outside, HostCall, appended, counted, emptied_channel, grown, made_empty, with_calls}
 use Rattle.host_port.specs.Printing.{Printing, Prints}
-use Rattle.host_port.proofs.Prints.{grown-nil}
+use Rattle.host_port.proofs.Prints.{grown-grown, grown-nil}
 use Rattle.xinu_commands.specs.Conversions.{host_refusal}
 use Rattle.xinu_commands.specs.Stages.{IsHostCause, SendsOutput, output_on, outputs_due}
-use Rattle.xinu_commands.specs.Theorem.{HasCalled, IsDecided, IsPartSent, IsSent}
-use Rattle.xinu_commands.specs.Work.{output_of}
+use Rattle.xinu_commands.specs.Theorem.{HasCalled, IsDecided, IsPart, IsPartSent, IsSent, IsWhole}
+use Rattle.xinu_commands.specs.Work.{Output, output_of}
 use Rattle.xinu_commands.specs.declared.refusals.Refusal.{Refusal}
 use Rattle.xinu_commands.specs.declared.refusals.Refusal.TheVariants as refusal
 use Rattle.xinu_commands.proofs.Called.{keeps_both, undecided}
@@ -48,13 +49,13 @@ outputs_called n outputs ended h k cause some all = record {
 
 -- ---- text
 
-no_failure : (f : Option HostFault) → option_map host_refusal f ≡ None → f ≡ None
+pub no_failure : (f : Option HostFault) → option_map host_refusal f ≡ None → f ≡ None
 no_failure None is = refl
 no_failure (Some host.Failed) is = absurd (cc)
 no_failure (Some host.NoMemory) is = absurd (cc)
 
 -- text that was printed
-pub text_sent : (text : List ℕ) (a e : Printing) (ended : Option Refusal) (h k : Outside) → a ≡ fresh → Prints a e h k text → ended ≡ option_map host_refusal e.failure
+pub text_sent : (text : List ℕ) (a e : Printing) (ended : Option Refusal) (h k : Outside) → a.failure ≡ None → Prints a e h k text → ended ≡ option_map host_refusal e.failure
     → SendsOutput (output_of text None None) [] ended h k
 text_sent text a e ended h k is_fresh p is =
     let P : Option Refusal → Type 0 = λ x. SendsOutput (output_of text None None) [] x h k in
@@ -81,7 +82,7 @@ text_sent text a e ended h k is_fresh p is =
 
     cause : IsHostCause (option_map host_refusal e.failure) h k
     cause = host_cause e.failure h k (λ failed. elim (p.cause failed) [
-      | inl had ↦ (let none : a.failure ≡ None = ap (λ (x : Printing). x.failure) is_fresh in absurd (cc))
+      | inl had ↦ absurd (cc)
       | inr rose ↦ rose
     ])
 
@@ -259,49 +260,113 @@ file_written c not_out not_fault call bytes h i k first second before after =
     let P : List ℕ → Type 0 = λ b. k ≡ written h c (call ∷ []) b k.faults in
     written_sends c file call bytes None (length bytes) h k (subst P (sym all) whole) (λ none. whole) tt (omega arith)
 
--- ---- text, and then a disk
+-- ---- one output after another
 
 nothing_more : {T : Type 0} (n : ℕ) (o : Option (List T)) → grown o (take n []) ≡ o
 nothing_more n o = ap (grown o) (take_all n [] (omega arith)) ∙ grown-nil o
 
--- the text was printed, and then the disk was written
-pub both_sent : (text disk : List ℕ) (calls : List HostCall) (ended : Option Refusal) (h i k : Outside) → SendsOutput (output_of text None None) [] None h i
-    → SendsOutput (output_of [] (Some disk) None) calls ended i k → SendsOutput (output_of text (Some disk) None) calls ended h k
-both_sent text disk calls ended h i k first second =
-    let before = first.whole refl in
-    let same_calls : i.calls ≡ h.calls = first.calls.all tt ∙ grown-nil h.calls in
-    let cause = cause_within ended h i k first.keeps.later second.cause in
-    let all : take (length text) text ≡ text = take_all (length text) text (omega arith) in record {
-      part = record {
-        out = (length text, second.part.out.1 ∙ nothing_more second.part.out.0 i.out ∙ before.out ∙ ap (grown h.out) (sym all));
-        disk0 = second.part.disk0 ∙ before.disk0;
-        disk1 = part_within (Some disk) h.disk1 i.disk1 k.disk1 k.disk1 before.disk1 refl second.part.disk1;
-        image = second.part.image ∙ before.image;
-      };
-      whole = λ none. let after = second.whole none in record {
-        out = after.out ∙ grown-nil i.out ∙ before.out;
-        disk0 = after.disk0 ∙ before.disk0;
-        disk1 = whole_within (Some disk) h.disk1 i.disk1 k.disk1 k.disk1 before.disk1 refl after.disk1;
-        image = after.image ∙ before.image;
-      };
-      cause = cause;
-      calls = outputs_called second.calls.count calls ended h k cause
-          (second.calls.first ∙ ap (λ (o : Option (List HostCall)). grown o (take second.calls.count calls)) same_calls)
-          (λ none. all_called none ∙ ap (λ (o : Option (List HostCall)). grown o calls) same_calls);
-      keeps = keeps_both h i k first.keeps second.keeps;
-    }
-  where
-    all_called : ended ≡ None → k.calls ≡ grown i.calls calls
-    all_called none =
-        let P : Option Refusal → Type 0 = λ x. IsDecided x in second.calls.all (subst P (sym none) tt)
+-- what one of two outputs has for a channel
+abbrev pub either_has : Option (List ℕ) → Option (List ℕ) → Option (List ℕ)
+either_has None y = y
+either_has (Some x) y = Some x
 
--- the text wasn't printed
-pub text_unsent : (text disk : List ℕ) (calls : List HostCall) (r : Refusal) (h i : Outside) → SendsOutput (output_of text None None) [] (Some r) h i
-    → SendsOutput (output_of text (Some disk) None) calls (Some r) h i
-text_unsent text disk calls r h i first = record {
-  part = record { out = first.part.out; disk0 = first.part.disk0; disk1 = inl first.part.disk1; image = first.part.image };
-  whole = λ none. absurd (cc);
-  cause = first.cause;
-  calls = outputs_called 0 calls (Some r) h i first.cause (first.calls.first ∙ nothing_more first.calls.count h.calls ∙ sym (grown-nil h.calls)) (λ none. absurd (cc));
-  keeps = first.keeps;
+-- one of the two has nothing for it
+abbrev pub HasOne : Option (List ℕ) → Option (List ℕ) → Type 0
+HasOne None y = Unit {0}
+HasOne (Some x) None = Unit {0}
+HasOne (Some x) (Some y) = ⊥
+
+-- two outputs without a file for the same channel, of which the second has no text
+pub record AreApart (x y : Output) : Type 0 where
+  pub no_text : y.out ≡ []
+  pub disk0 : HasOne x.disk0 y.disk0
+  pub disk1 : HasOne x.disk1 y.disk1
+  pub image : HasOne x.image y.image
+
+-- both together
+abbrev pub joined : Output → Output → Output
+joined x y = record {
+  status = 0;
+  out = x.out;
+  disk0 = either_has x.disk0 y.disk0;
+  disk1 = either_has x.disk1 y.disk1;
+  image = either_has x.image y.image;
 }
+
+-- of two outputs one after the other a part of the second was sent, on a channel
+part_after : (x y h i k : Option (List ℕ)) → HasOne x y → IsWhole x h i → IsPart y i k → IsPart (either_has x y) h k
+part_after None y h i k one whole part = part_within y h i k k whole refl part
+part_after (Some x) None h i k one whole part =
+    inr (length x, part ∙ whole ∙ ap (grown (emptied_channel h)) (sym (take_all (length x) x (omega arith))))
+part_after (Some x) (Some y) h i k one whole part = absurd one
+
+-- all of both was
+whole_after : (x y h i k : Option (List ℕ)) → HasOne x y → IsWhole x h i → IsWhole y i k → IsWhole (either_has x y) h k
+whole_after None y h i k one first second = whole_within y h i k k first refl second
+whole_after (Some x) None h i k one first second = second ∙ first
+whole_after (Some x) (Some y) h i k one first second = absurd one
+
+-- of the first alone a part was
+part_before : (x y h i : Option (List ℕ)) → HasOne x y → IsPart x h i → IsPart (either_has x y) h i
+part_before None None h i one part = part
+part_before None (Some y) h i one part = inl part
+part_before (Some x) y h i one part = part
+
+module _ (x y : Output) (first_calls second_calls : List HostCall) (apart : AreApart x y) where
+  -- the first was sent, and then the second up to its end
+  pub both_sent : (ended : Option Refusal) (h i k : Outside) → SendsOutput x first_calls None h i → SendsOutput y second_calls ended i k
+      → SendsOutput (joined x y) (first_calls ++ second_calls) ended h k
+  both_sent ended h i k first second =
+      let before = first.whole refl in
+      let made = first.calls.all tt in
+      let cause = cause_within ended h i k first.keeps.later second.cause in record {
+        part = record {
+          out = (
+            length x.out,
+            second.part.out.1 ∙ ap (λ t. grown i.out (take second.part.out.0 t)) apart.no_text ∙ nothing_more second.part.out.0 i.out
+                ∙ before.out ∙ ap (grown h.out) (sym (take_all (length x.out) x.out (omega arith))),
+          );
+          disk0 = part_after x.disk0 y.disk0 h.disk0 i.disk0 k.disk0 apart.disk0 before.disk0 second.part.disk0;
+          disk1 = part_after x.disk1 y.disk1 h.disk1 i.disk1 k.disk1 apart.disk1 before.disk1 second.part.disk1;
+          image = part_after x.image y.image h.image i.image k.image apart.image before.image second.part.image;
+        };
+        whole = λ none. let after = second.whole none in record {
+          out = after.out ∙ ap (grown i.out) apart.no_text ∙ grown-nil i.out ∙ before.out;
+          disk0 = whole_after x.disk0 y.disk0 h.disk0 i.disk0 k.disk0 apart.disk0 before.disk0 after.disk0;
+          disk1 = whole_after x.disk1 y.disk1 h.disk1 i.disk1 k.disk1 apart.disk1 before.disk1 after.disk1;
+          image = whole_after x.image y.image h.image i.image k.image apart.image before.image after.image;
+        };
+        cause = cause;
+        calls = outputs_called (length first_calls + second.calls.count) (first_calls ++ second_calls) ended h k cause
+            (second.calls.first ∙ ap (λ (o : Option (List HostCall)). grown o (take second.calls.count second_calls)) made
+            ∙ grown-grown h.calls first_calls (take second.calls.count second_calls)
+            ∙ ap (grown h.calls) (sym (take-append-add first_calls second_calls second.calls.count)))
+            (λ none. all_called none ∙ ap (λ (o : Option (List HostCall)). grown o second_calls) made ∙ grown-grown h.calls first_calls second_calls);
+        keeps = keeps_both h i k first.keeps second.keeps;
+      }
+    where
+      all_called : ended ≡ None → k.calls ≡ grown i.calls second_calls
+      all_called none =
+          let P : Option Refusal → Type 0 = λ x. IsDecided x in second.calls.all (subst P (sym none) tt)
+
+  -- the first wasn't sent to its end
+  pub first_sent : (r : Refusal) (h i : Outside) → SendsOutput x first_calls (Some r) h i → SendsOutput (joined x y) (first_calls ++ second_calls) (Some r) h i
+  first_sent r h i first =
+      let calls = out_part_calls first.calls.count first.calls.first in record {
+        part = record {
+          out = first.part.out;
+          disk0 = part_before x.disk0 y.disk0 h.disk0 i.disk0 apart.disk0 first.part.disk0;
+          disk1 = part_before x.disk1 y.disk1 h.disk1 i.disk1 apart.disk1 first.part.disk1;
+          image = part_before x.image y.image h.image i.image apart.image first.part.image;
+        };
+        whole = λ none. absurd (cc);
+        cause = first.cause;
+        calls = outputs_called calls.0 (first_calls ++ second_calls) (Some r) h i first.cause calls.1 (λ none. absurd (cc));
+        keeps = first.keeps;
+      }
+    where
+      out_part_calls : (n : ℕ) → i.calls ≡ grown h.calls (take n first_calls) → (m : ℕ) × (i.calls ≡ grown h.calls (take m (first_calls ++ second_calls)))
+      out_part_calls n is =
+          let m = min n (length first_calls) in
+          let few : m ≤ length first_calls = omega arith in
+          (m, is ∙ ap (grown h.calls) (sym (take_min n first_calls) ∙ sym (take-append-le m first_calls second_calls few)))

@@ -1,5 +1,5 @@
 -- The stages of an action on a disk, put together.
-use Rattle.std.proofs.Common.{◌≡◌, ◌≢◌, ◌∙◌, ℕ, List, [], ◌∷◌, take, Option, Some, None, refl, sym, ap, subst, arith}
+use Rattle.std.proofs.Common.{◌≡◌, ◌≢◌, ◌∙◌, ℕ, List, [], ◌∷◌, ◌++◌, take, Option, Some, None, IsSome, refl, sym, ap, subst, arith}
 use Rattle.std.specs.Prelude.{Result, Ok, Err, IsErr, IsErrAnd, option_map}
 use Rattle.command_line.specs.Commands.{Disk}
 use Rattle.command_line.specs.DiskArgs.{DiskAction, Mkfs, Ls, Get, Put, Check, Repair}
@@ -11,13 +11,13 @@ use Rattle.lfs_check.specs.declared.faults.CheckFault.{CheckFault}
 use Rattle.lfs_check.specs.declared.faults.CheckFault.TheVariants as check
 use Rattle.lfs_check.specs.declared.faults.DiskFault.{DiskFault}
 use Rattle.xinu_model.specs.Machine.{Xinu}
-use Rattle.xinu_commands.specs.Calls.{action_fetches, action_outputs, due_by, source_fetches, unless_refused}
+use Rattle.xinu_commands.specs.Calls.{action_fetches, action_outputs, due_by, if_named, source_fetches, unless_refused}
 use Rattle.xinu_commands.specs.Conversions.{check_refusal}
 use Rattle.xinu_commands.specs.DiskVerdict.{check_verdict, disk_fault, disk_with, file_lines, file_on, get_verdict, ls_verdict, mkfs_verdict, put_verdict, repair_line, repair_verdict, report_line, rule_broken, set_verdict, size_fault, with_disk}
-use Rattle.xinu_commands.specs.Stages.{Fetches, IsFetched, IsHostCause, Performs, SendsOutput, SetsFile, Stage, no_fetches, refusal_of}
+use Rattle.xinu_commands.specs.Stages.{Fetches, IsFetched, IsHostCause, MayFetch, Performs, SendsOutput, SetsFile, Stage, no_fetches, refusal_of}
 use Rattle.xinu_commands.specs.Theorem.{Deserved, HasCalled, IsDecided}
-use Rattle.xinu_commands.specs.Verdict.{Input, ScheduleInput, ImageInput, DiskInput, SourceInput, action_verdict, file_bytes}
-use Rattle.xinu_commands.specs.Work.{Work, Verdict, Refuses, Does, Outputs, if_some, output_of}
+use Rattle.xinu_commands.specs.Verdict.{Input, ScheduleInput, Disk0Input, Disk1Input, ImageInput, DiskInput, SourceInput, action_verdict, file_bytes}
+use Rattle.xinu_commands.specs.Work.{Begins, Output, Work, Verdict, Writes, Refuses, Does, Outputs, if_some, output_of}
 use Rattle.xinu_commands.specs.declared.refusals.Refusal.{Refusal}
 use Rattle.xinu_commands.specs.declared.refusals.Refusal.TheVariants as refusal
 use Rattle.xinu_commands.proofs.Called.{called_first, fetched_then, keeps_both, keeps_refl, nothing_called, undecided}
@@ -36,27 +36,34 @@ of_refused (Err x) cause P err is holds =
 
 -- ---- an output
 
-sent_deserved : (out : List ℕ) (disk1 image : Option (List ℕ)) (ended : Option Refusal) (h k : Outside) → IsHostCause ended h k
-    → Deserved (Does (Outputs out disk1 image)) ended h k
-sent_deserved out disk1 image None h k cause = (Outputs out disk1 image, refl)
-sent_deserved out disk1 image (Some refusal.HostFault) h k cause = ((λ same. cc), cause)
-sent_deserved out disk1 image (Some refusal.NoMemory) h k cause = tt
-sent_deserved out disk1 image (Some other) h k cause = absurd cause
+-- why work was ended by the host
+pub work_deserved : (work : Work) (ended : Option Refusal) (h k : Outside) → IsHostCause ended h k → Deserved (Does work) ended h k
+work_deserved work None h k cause = (work, refl)
+work_deserved work (Some refusal.HostFault) h k cause = ((λ same. cc), cause)
+work_deserved work (Some refusal.NoMemory) h k cause = tt
+work_deserved work (Some other) h k cause = absurd cause
+
+-- an output of the work that was sent carries it out
+pub work_stage : (v : Verdict) (work : Work) (output : Output) (outputs : List HostCall) (ended : Option Refusal) (left : Option Xinu) (h k : Outside) → v ≡ Does work
+    → Begins work output → (ended ≡ None → Writes work output left) → (IsSome ended → left ≡ None) → SendsOutput output outputs ended h k
+    → Stage v no_fetches outputs ended left h k
+work_stage v work output outputs ended left h k is begins writes refused sends =
+    let P : Verdict → Type 0 = λ x. HasCalled (due_by no_fetches outputs x) ended h k in record {
+      carries = carries_as v (Does work) ended left h k is (record {
+        output = output;
+        deserved = work_deserved work ended h k sends.cause;
+        sends = record { begins = begins; part = sends.part; writes = writes; whole = sends.whole };
+        refused = refused;
+      });
+      calls = subst P (sym is) sends.calls;
+      keeps = sends.keeps;
+    }
 
 -- an output that was sent carries out the work that it is
 pub sent_stage : (v : Verdict) (out : List ℕ) (disk1 image : Option (List ℕ)) (outputs : List HostCall) (ended : Option Refusal) (h k : Outside) → v ≡ Does (Outputs out disk1 image)
     → SendsOutput (output_of out disk1 image) outputs ended h k → Stage v no_fetches outputs ended None h k
 sent_stage v out disk1 image outputs ended h k is sends =
-    let P : Verdict → Type 0 = λ x. HasCalled (due_by no_fetches outputs x) ended h k in record {
-      carries = carries_as v (Does (Outputs out disk1 image)) ended None h k is (record {
-        output = output_of out disk1 image;
-        deserved = sent_deserved out disk1 image ended h k sends.cause;
-        sends = record { last = None; writes = record { written = refl; last = refl }; part = sends.part; whole = sends.whole; leaves = λ none. refl };
-        refused = λ some. refl;
-      });
-      calls = subst P (sym is) sends.calls;
-      keeps = sends.keeps;
-    }
+    work_stage v (Outputs out disk1 image) (output_of out disk1 image) outputs ended None h k is refl (λ none. record { written = refl; leaves = refl }) (λ some. refl) sends
 
 -- ---- a refusal
 
@@ -116,6 +123,19 @@ fetched_stage v name fetches outputs ended left h j k f s = record {
   keeps = keeps_both h j k f.keeps s.keeps;
 }
 
+-- if a file is named it was fetched, and then what is left was carried out
+pub may_fetched_stage : (v : Verdict) (name : Option Text) (fetches : Verdict → List Text) (outputs : List HostCall) (ended : Option Refusal) (left : Option Xinu) (h j k : Outside)
+    → MayFetch name None h j → Stage v fetches outputs ended left j k → Stage v (λ x. if_named name ++ fetches x) outputs ended left h k
+may_fetched_stage v None fetches outputs ended left h j k f s =
+    let P : Outside → Type 0 = λ x. Stage v fetches outputs ended left x k in subst P f.1 s
+may_fetched_stage v (Some name) fetches outputs ended left h j k f s = fetched_stage v name fetches outputs ended left h j k f s
+
+-- the host refused to fetch it
+pub may_unfetched_stage : (v : Verdict) (name : Option Text) (fetches : Verdict → List Text) (outputs : List HostCall) (r : Refusal) (h k : Outside) → v ≢ Refuses refusal.Usage
+    → MayFetch name (Some r) h k → Stage v (λ x. if_named name ++ fetches x) outputs (Some r) None h k
+may_unfetched_stage v None fetches outputs r h k usage f = (let none = f.0 in absurd (cc))
+may_unfetched_stage v (Some name) fetches outputs r h k usage f = unfetched_stage v name fetches outputs r h k usage f
+
 -- the same verdict in another form
 pub stage_as : (v w : Verdict) (fetches : Verdict → List Text) (outputs : List HostCall) (ended : Option Refusal) (left : Option Xinu) (h k : Outside) → v ≡ w
     → Stage w fetches outputs ended left h k → Stage v fetches outputs ended left h k
@@ -134,6 +154,8 @@ stage_due v fetches others outputs ended left h k same s =
 -- the bytes of a disk and of a source
 abbrev pub action_files : List ℕ → List ℕ → Input → List ℕ
 action_files disk source ScheduleInput = []
+action_files disk source Disk0Input = []
+action_files disk source Disk1Input = []
 action_files disk source (ImageInput i) = []
 action_files disk source DiskInput = disk
 action_files disk source SourceInput = source
@@ -153,7 +175,7 @@ performs_by action disk source ended h k s = record {
 
 -- ---- no action finds that there is no command
 
-broken_keeps : (f : Option DiskFault) → option_map rule_broken f ≢ Some refusal.Usage
+pub broken_keeps : (f : Option DiskFault) → option_map rule_broken f ≢ Some refusal.Usage
 broken_keeps None is = cc
 broken_keeps (Some x) is = cc
 
@@ -170,7 +192,7 @@ unfolding set_verdict
 set_keeps name source d is =
     if_some_keeps refusal.DoesNotFit (disk_with name source d) (λ made. Does (Outputs [] (Some made) None)) (λ same. cc) (λ made. does_keeps (Outputs [] (Some made) None)) is
 
-disk_keeps : (disk : List ℕ) (next : List ℕ → Verdict) → ((d : List ℕ) → next d ≢ Refuses refusal.Usage) → with_disk disk next ≢ Refuses refusal.Usage
+pub disk_keeps : (disk : List ℕ) (next : List ℕ → Verdict) → ((d : List ℕ) → next d ≢ Refuses refusal.Usage) → with_disk disk next ≢ Refuses refusal.Usage
 disk_keeps disk next rest is = unless_fault_keeps (option_map rule_broken (disk_fault disk)) (Some (opened disk)) next (broken_keeps (disk_fault disk)) rest is
 
 pub action_keeps : (action : DiskAction) (held : Input → Text → List ℕ) → action_verdict action held ≢ Refuses refusal.Usage
@@ -224,6 +246,8 @@ source_unfetched disk name source out r h k clean f =
   where
     by_input : Input → List ℕ → List ℕ → List ℕ
     by_input ScheduleInput s d = []
+    by_input Disk0Input s d = []
+    by_input Disk1Input s d = []
     by_input (ImageInput i) s d = []
     by_input DiskInput s d = d
     by_input SourceInput s d = s

@@ -1,25 +1,30 @@
 -- Why the exit statuses mean what they do.
 use Rattle.std.proofs.lemmas.Bool.{cases_eq}
 use Rattle.std.specs.List.{list_any}
-use Rattle.std.proofs.Common.{◌⊎◌, inl, inr, ◌==◌, IsTrue, ◌≡◌, ◌≢◌, ◌↔◌, ℕ, Bool, true, false, nat_le, if◌then◌else◌, List, length, Option, Some, None, IsSome, refl, sym, ap, subst, ◌∙◌}
+use Rattle.std.proofs.Common.{◌⊎◌, inl, inr, ◌==◌, IsTrue, ◌≡◌, ◌≢◌, ◌↔◌, ℕ, Bool, true, false, nat_le, if◌then◌else◌, List, length, Option, Some, None, IsSome, refl, sym, ap, ap₂, subst, ◌∙◌}
 use Rattle.std.specs.Prelude.{option_map}
+use Rattle.std.specs.Option.{option_or}
 use Rattle.command_line.specs.Commands.{Command, Run, Asm, Disk}
 use Rattle.command_line.specs.Reading.{Text}
 use Rattle.command_line.specs.RunArgs.{RunFiles}
+use Rattle.given_disks.specs.Disks.{disks_of}
 use Rattle.host_port.specs.HostCalls.{Rose}
 use Rattle.host_port.specs.Outside.{Outside, grown}
+use Rattle.lfs_check.specs.declared.faults.DiskFault.{DiskFault}
+use Rattle.lfs_layout.specs.Images.{opened}
 use Rattle.schedule_file.specs.ScheduleFiles.{Reading, Reads, Bad, Many, events_in, events_read, reading}
 use Rattle.xinu_base.specs.declared.events.Event.{Event}
-use Rattle.xinu_model.specs.Boot.{Loaded, Start, Boots, Overlaps, NoRoom, boot}
+use Rattle.xinu_model.specs.Boot.{Disks, Loaded, Start, Boots, Overlaps, NoRoom, boot_on}
 use Rattle.xinu_model.specs.Machine.{Xinu}
 use Rattle.xinu_commands.specs.Calls.{calls_due, calls_in}
+use Rattle.xinu_commands.specs.DiskVerdict.{disk_fault, rule_broken}
 use Rattle.xinu_commands.specs.InputFaults.{fault_line, have_fault, images_loaded, longest_schedule, schedule_fault}
-use Rattle.xinu_commands.specs.Statuses.{SaysOfFiles, start_with, status_due, statuses}
+use Rattle.xinu_commands.specs.Statuses.{AreAccepted, SaysOfFiles, disks_fault, start_with, status_due, statuses}
 use Rattle.xinu_commands.specs.Theorem.{Answers, Carries, IsDecided, IsStatus}
 use Rattle.xinu_commands.specs.Refusals.{status_of}
-use Rattle.xinu_commands.specs.RunVerdict.{run_verdict, boot_verdict, start_verdict, images_verdict}
-use Rattle.xinu_commands.specs.Verdict.{Input, ScheduleInput, ImageInput, SourceInput, file_bytes, image_bytes, verdict}
-use Rattle.xinu_commands.specs.Work.{Output, Verdict, Refuses, Does}
+use Rattle.xinu_commands.specs.RunVerdict.{Setup, run_verdict, boot_verdict, disk0_verdict, disk1_verdict, empty_disk0, empty_disk1, raw_broken, raw_fault, start_verdict, images_verdict}
+use Rattle.xinu_commands.specs.Verdict.{Input, ScheduleInput, Disk0Input, Disk1Input, ImageInput, SourceInput, disk_bytes, file_bytes, image_bytes, verdict, wanted_of}
+use Rattle.xinu_commands.specs.Work.{Output, Verdict, Wanted, Refuses, Does}
 use Rattle.xinu_commands.specs.declared.refusals.Refusal.{Refusal}
 use Rattle.xinu_commands.specs.declared.refusals.Refusal.TheVariants as refusal
 use Rattle.xinu_commands.proofs.Answered.{done_status}
@@ -27,6 +32,7 @@ use Rattle.xinu_commands.proofs.Assembled.{asm_keeps}
 use Rattle.xinu_commands.proofs.Files.{run_keeps, schedule_read, schedule_refused, boot_verdict_at}
 use Rattle.xinu_commands.proofs.ImageFiles.{images_read, images_refused}
 use Rattle.xinu_commands.proofs.Printed.{some_is_none}
+use Rattle.xinu_commands.proofs.RunDisks.{clean_read, clean_refused, raw_read, raw_refused}
 use Rattle.xinu_commands.proofs.Staged.{action_keeps}
 
 -- ---- which statuses there are
@@ -93,7 +99,7 @@ called_due exit command old new left a memory fault = a.calls.all (decided_by a.
 -- ---- no command
 
 command_keeps : (c : Command) (file : Text → Option (List ℕ)) (unseen : Input → List ℕ) → verdict (Some c) file unseen ≢ Refuses refusal.Usage
-command_keeps (Run r) file unseen = run_keeps r.plain (file_bytes (file r.schedule) (unseen ScheduleInput)) _
+command_keeps (Run r) file unseen = run_keeps (wanted_of r) (file_bytes (file r.schedule) (unseen ScheduleInput)) _ _ _
 command_keeps (Asm a) file unseen = asm_keeps a.elf (file_bytes (file a.source) (unseen SourceInput))
 command_keeps (Disk action) file unseen = action_keeps action _
 
@@ -158,75 +164,117 @@ some_of o x is = rw is refl
 no_more : {X : Type 0} (b : Bool) → b ≡ true → b ≡ false → X
 no_more b is other = (let same : true ≡ false = sym is ∙ other in absurd (cc))
 
-says_schedule : (exit : ℕ) (s : List ℕ) (files : List (List ℕ)) (l : ℕ) → schedule_fault s ≡ Some l → exit ≡ 5 → SaysOfFiles exit s files
-says_schedule exit s files l bad is = record {
-  done = (λ e. absurd (cc), λ p. (let good = p.0 in cc));
-  bad_schedule = (λ e. some_of (schedule_fault s) l bad, λ p. is);
-  bad_image = (λ e. absurd (cc), λ p. (let good = p.0 in cc));
-  no_start = (λ e. absurd (cc), λ p. (let good = p.0 in cc));
-}
+module _ (exit : ℕ) (s disk0 disk1 : List ℕ) (files : List (List ℕ)) where
+  -- the disks on which the machine starts
+  abbrev own_disks : Disks
+  own_disks = disks_of disk0 (opened disk1)
 
-says_image : (exit : ℕ) (s : List ℕ) (files : List (List ℕ)) → schedule_fault s ≡ None → have_fault files ≡ true → exit ≡ 4 → SaysOfFiles exit s files
-says_image exit s files good bad is = record {
-  done = (λ e. absurd (cc), λ p. no_more (have_fault files) bad p.1.good);
-  bad_schedule = (λ e. absurd (cc), λ p. absurd (some_is_none (schedule_fault s) p good));
-  bad_image = (λ e. (good, bad), λ p. is);
-  no_start = (λ e. absurd (cc), λ p. no_more (have_fault files) bad p.1.good);
-}
+  says_schedule : (l : ℕ) → schedule_fault s ≡ Some l → exit ≡ 5 → SaysOfFiles exit s disk0 disk1 files
+  says_schedule l bad is = record {
+    done = (λ e. absurd (cc), λ p. (let good = p.0.schedule in cc));
+    bad_schedule = (λ e. some_of (schedule_fault s) l bad, λ p. is);
+    bad_disk = (λ e. absurd (cc), λ p. (let good = p.0 in cc));
+    bad_image = (λ e. absurd (cc), λ p. (let good = p.0.schedule in cc));
+    no_start = (λ e. absurd (cc), λ p. (let good = p.0.schedule in cc));
+  }
 
-says_no_start : (exit : ℕ) (s : List ℕ) (files : List (List ℕ)) (i : ℕ) → schedule_fault s ≡ None → have_fault files ≡ false
-    → (start_with files ≡ Some (Overlaps i)) ⊎ (start_with files ≡ Some (NoRoom i)) → exit ≡ 8 → SaysOfFiles exit s files
-says_no_start exit s files i good fine start is = record {
-  done = (λ e. absurd (cc), λ p. (let boots = p.1.boots in elim start [ inl overlaps ↦ absurd (cc) | inr full ↦ absurd (cc) ]));
-  bad_schedule = (λ e. absurd (cc), λ p. absurd (some_is_none (schedule_fault s) p good));
-  bad_image = (λ e. absurd (cc), λ p. no_more (have_fault files) p.1 fine);
-  no_start = (λ e. (good, record { good = fine; image = i; start = start }), λ p. is);
-}
+  says_disk : (cause : Refusal) → schedule_fault s ≡ None → disks_fault disk0 disk1 ≡ Some cause → exit ≡ 6 → SaysOfFiles exit s disk0 disk1 files
+  says_disk cause good bad is = record {
+    done = (λ e. absurd (cc), λ p. (let none = p.0.disks in cc));
+    bad_schedule = (λ e. absurd (cc), λ p. absurd (some_is_none (schedule_fault s) p good));
+    bad_disk = (λ e. (good, some_of (disks_fault disk0 disk1) cause bad), λ p. is);
+    bad_image = (λ e. absurd (cc), λ p. (let none = p.0.disks in cc));
+    no_start = (λ e. absurd (cc), λ p. (let none = p.0.disks in cc));
+  }
 
-says_done : (exit : ℕ) (s : List ℕ) (files : List (List ℕ)) (x : Xinu) → schedule_fault s ≡ None → have_fault files ≡ false → start_with files ≡ Some (Boots x)
-    → exit ≡ 0 → SaysOfFiles exit s files
-says_done exit s files x good fine start is = record {
-  done = (λ e. (good, record { good = fine; start = x; boots = start }), λ p. is);
-  bad_schedule = (λ e. absurd (cc), λ p. absurd (some_is_none (schedule_fault s) p good));
-  bad_image = (λ e. absurd (cc), λ p. no_more (have_fault files) p.1 fine);
-  no_start = (λ e. absurd (cc), λ p. elim p.1.start [ inl overlaps ↦ cc | inr full ↦ cc ]);
-}
+  says_image : AreAccepted s disk0 disk1 → have_fault files ≡ true → exit ≡ 4 → SaysOfFiles exit s disk0 disk1 files
+  says_image good bad is = record {
+    done = (λ e. absurd (cc), λ p. no_more (have_fault files) bad p.1.good);
+    bad_schedule = (λ e. absurd (cc), λ p. absurd (some_is_none (schedule_fault s) p good.schedule));
+    bad_disk = (λ e. absurd (cc), λ p. absurd (some_is_none (disks_fault disk0 disk1) p.1 good.disks));
+    bad_image = (λ e. (good, bad), λ p. is);
+    no_start = (λ e. absurd (cc), λ p. no_more (have_fault files) bad p.1.good);
+  }
 
--- by how the machine starts
-says_start : (plain : Bool) (exit : ℕ) (s : List ℕ) (files : List (List ℕ)) (events : List Event) (images : List Loaded) (start : Start) → schedule_fault s ≡ None
-    → have_fault files ≡ false → images_loaded files ≡ Some images → boot images ≡ start → exit ≡ status_due (start_verdict plain events start)
-    → SaysOfFiles exit s files
-unfolding start_with
-says_start plain exit s files events images (Boots x) good fine loaded starts is =
-    says_done exit s files x good fine (ap (option_map boot) loaded ∙ ap Some starts) is
-says_start plain exit s files events images (Overlaps i) good fine loaded starts is =
-    says_no_start exit s files i good fine (inl (ap (option_map boot) loaded ∙ ap Some starts)) is
-says_start plain exit s files events images (NoRoom i) good fine loaded starts is =
-    says_no_start exit s files i good fine (inr (ap (option_map boot) loaded ∙ ap Some starts)) is
+  says_no_start : (i : ℕ) → AreAccepted s disk0 disk1 → have_fault files ≡ false
+      → (start_with own_disks files ≡ Some (Overlaps i)) ⊎ (start_with own_disks files ≡ Some (NoRoom i)) → exit ≡ 8 → SaysOfFiles exit s disk0 disk1 files
+  says_no_start i good fine start is = record {
+    done = (λ e. absurd (cc), λ p. (let boots = p.1.boots in elim start [ inl overlaps ↦ absurd (cc) | inr full ↦ absurd (cc) ]));
+    bad_schedule = (λ e. absurd (cc), λ p. absurd (some_is_none (schedule_fault s) p good.schedule));
+    bad_disk = (λ e. absurd (cc), λ p. absurd (some_is_none (disks_fault disk0 disk1) p.1 good.disks));
+    bad_image = (λ e. absurd (cc), λ p. no_more (have_fault files) p.1 fine);
+    no_start = (λ e. (good, record { good = fine; image = i; start = start }), λ p. is);
+  }
 
--- by whether an image file has a fault
-says_by_images : (plain : Bool) (exit : ℕ) (s : List ℕ) (files : List (List ℕ)) (events : List Event) (bad : Bool) → schedule_fault s ≡ None → have_fault files ≡ bad
-    → exit ≡ status_due (images_verdict 1 files (boot_verdict plain events)) → SaysOfFiles exit s files
-says_by_images plain exit s files events true good bad is =
-    says_image exit s files good bad (is ∙ ap status_due (images_refused 1 files (boot_verdict plain events) bad).2)
-says_by_images plain exit s files events false good fine is =
-    let read = images_read 1 files (boot_verdict plain events) fine in
-    says_start plain exit s files events read.0 (boot read.0) good fine read.1.0 refl
-    (is ∙ ap status_due read.1.1 ∙ ap status_due (boot_verdict_at plain events read.0 (boot read.0) refl))
+  says_done : (x : Xinu) → AreAccepted s disk0 disk1 → have_fault files ≡ false → start_with own_disks files ≡ Some (Boots x) → exit ≡ 0 → SaysOfFiles exit s disk0 disk1 files
+  says_done x good fine start is = record {
+    done = (λ e. (good, record { good = fine; start = x; boots = start }), λ p. is);
+    bad_schedule = (λ e. absurd (cc), λ p. absurd (some_is_none (schedule_fault s) p good.schedule));
+    bad_disk = (λ e. absurd (cc), λ p. absurd (some_is_none (disks_fault disk0 disk1) p.1 good.disks));
+    bad_image = (λ e. absurd (cc), λ p. no_more (have_fault files) p.1 fine);
+    no_start = (λ e. absurd (cc), λ p. elim p.1.start [ inl overlaps ↦ cc | inr full ↦ cc ]);
+  }
 
--- by the fault of the schedule
-says_by_schedule : (plain : Bool) (exit : ℕ) (s : List ℕ) (files : List (List ℕ)) (f : Option ℕ) → schedule_fault s ≡ f → exit ≡ status_due (run_verdict plain s files)
-    → SaysOfFiles exit s files
-says_by_schedule plain exit s files (Some l) bad is =
-    says_schedule exit s files l bad (is ∙ ap status_due (schedule_refused plain s l files bad))
-says_by_schedule plain exit s files None good is =
-    let read = good_reads s good in
-    says_by_images plain exit s files read.0 (have_fault files) good refl
-    (is ∙ ap status_due (schedule_read plain s read.0 files (record { good = good; reads = read.1 })))
+  module _ (wanted : Wanted) (events : List Event) where
+    -- the run on these disks
+    abbrev own_setup : Setup
+    own_setup = record { disks = own_disks; wanted = wanted }
+
+    -- by how the machine starts
+    says_start : (images : List Loaded) (start : Start) → AreAccepted s disk0 disk1 → have_fault files ≡ false → images_loaded files ≡ Some images → boot_on own_disks images ≡ start
+        → exit ≡ status_due (start_verdict wanted events start) → SaysOfFiles exit s disk0 disk1 files
+    unfolding start_with
+    says_start images (Boots x) good fine loaded starts is =
+        says_done x good fine (ap (option_map (boot_on own_disks)) loaded ∙ ap Some starts) is
+    says_start images (Overlaps i) good fine loaded starts is =
+        says_no_start i good fine (inl (ap (option_map (boot_on own_disks)) loaded ∙ ap Some starts)) is
+    says_start images (NoRoom i) good fine loaded starts is =
+        says_no_start i good fine (inr (ap (option_map (boot_on own_disks)) loaded ∙ ap Some starts)) is
+
+    -- by whether an image file has a fault
+    says_by_images : (bad : Bool) → AreAccepted s disk0 disk1 → have_fault files ≡ bad
+        → exit ≡ status_due (images_verdict 1 files (boot_verdict own_setup events)) → SaysOfFiles exit s disk0 disk1 files
+    says_by_images true good bad is = says_image good bad (is ∙ ap status_due (images_refused 1 files (boot_verdict own_setup events) bad).2)
+    says_by_images false good fine is =
+        let read = images_read 1 files (boot_verdict own_setup events) fine in
+        says_start read.0 (boot_on own_disks read.0) good fine read.1.0 refl
+        (is ∙ ap status_due read.1.1 ∙ ap status_due (boot_verdict_at own_setup events read.0 (boot_on own_disks read.0) refl))
+
+    -- by the fault of the disk with files
+    says_by_disk1 : (f : Option DiskFault) → schedule_fault s ≡ None → raw_fault disk0 ≡ None → disk_fault disk1 ≡ f
+        → exit ≡ status_due (disk1_verdict wanted events disk0 disk1 files) → SaysOfFiles exit s disk0 disk1 files
+    unfolding disks_fault
+    says_by_disk1 (Some x) good raw bad is =
+        says_disk (rule_broken x) good (ap₂ (λ a b. option_or (option_map raw_broken a) (option_map rule_broken b)) raw bad)
+        (is ∙ ap status_due (clean_refused wanted events files disk0 disk1 x bad))
+    says_by_disk1 None good raw fine is =
+        says_by_images (have_fault files) (record { schedule = good; disks = ap₂ (λ a b. option_or (option_map raw_broken a) (option_map rule_broken b)) raw fine }) refl
+        (is ∙ ap status_due (clean_read wanted events files disk0 disk1 fine))
+
+    -- by the fault of the raw disk
+    says_by_disk0 : (f : Option DiskFault) → schedule_fault s ≡ None → raw_fault disk0 ≡ f → exit ≡ status_due (disk0_verdict wanted events disk0 disk1 files)
+        → SaysOfFiles exit s disk0 disk1 files
+    unfolding disks_fault
+    says_by_disk0 (Some x) good bad is =
+        says_disk (raw_broken x) good (ap (λ a. option_or (option_map raw_broken a) (option_map rule_broken (disk_fault disk1))) bad)
+        (is ∙ ap status_due (raw_refused wanted events files disk0 disk1 x bad))
+    says_by_disk0 None good fine is =
+        says_by_disk1 (disk_fault disk1) good fine refl (is ∙ ap status_due (raw_read wanted events files disk0 disk1 fine))
+
+  -- by the fault of the schedule
+  says_by_schedule : (wanted : Wanted) (f : Option ℕ) → schedule_fault s ≡ f → exit ≡ status_due (run_verdict wanted s disk0 disk1 files) → SaysOfFiles exit s disk0 disk1 files
+  says_by_schedule wanted (Some l) bad is = says_schedule l bad (is ∙ ap status_due (schedule_refused wanted s l disk0 disk1 files bad))
+  says_by_schedule wanted None good is =
+      let read = good_reads s good in
+      says_by_disk0 wanted read.0 (raw_fault disk0) good refl
+      (is ∙ ap status_due (schedule_read wanted s read.0 disk0 disk1 files (record { good = good; reads = read.1 })))
 
 pub says_of_files : (exit : ℕ) (files : RunFiles) (old new : Outside) (left : Option Xinu) (a : Answers exit (Some (Run files)) old new left) → exit ≢ 7 → exit ≢ 3
-    → SaysOfFiles exit (file_bytes (old.file files.schedule) (a.obeys.unseen ScheduleInput)) (image_bytes 1 files.images old.file (λ i. a.obeys.unseen (ImageInput i)))
+    → SaysOfFiles exit (file_bytes (old.file files.schedule) (a.obeys.unseen ScheduleInput)) (disk_bytes files.disks.disk0 empty_disk0 old.file (a.obeys.unseen Disk0Input))
+    (disk_bytes files.disks.disk1 empty_disk1 old.file (a.obeys.unseen Disk1Input)) (image_bytes 1 files.images old.file (λ i. a.obeys.unseen (ImageInput i)))
 says_of_files exit files old new left a memory fault =
     let schedule = file_bytes (old.file files.schedule) (a.obeys.unseen ScheduleInput) in
-    says_by_schedule files.plain exit schedule (image_bytes 1 files.images old.file (λ i. a.obeys.unseen (ImageInput i))) (schedule_fault schedule) refl
+    let disk0 = disk_bytes files.disks.disk0 empty_disk0 old.file (a.obeys.unseen Disk0Input) in
+    let disk1 = disk_bytes files.disks.disk1 empty_disk1 old.file (a.obeys.unseen Disk1Input) in
+    says_by_schedule exit schedule disk0 disk1 (image_bytes 1 files.images old.file (λ i. a.obeys.unseen (ImageInput i))) (wanted_of files) (schedule_fault schedule) refl
     (due exit (Some (Run files)) old new left a memory fault)

@@ -1,11 +1,12 @@
 -- The calls of the host that are due: the files that a command fetches, and then those that it writes.
-use Rattle.std.specs.Prelude.{List, [], ◌∷◌, ◌++◌, map, take, Option, Some, None}
+use Rattle.std.specs.Prelude.{ℕ, zero, suc, List, [], ◌∷◌, ◌++◌, map, take, Option, Some, None}
 use Rattle.command_line.specs.Commands.{Command, Run, Asm, Disk}
 use Rattle.command_line.specs.DiskArgs.{DiskAction, Mkfs, Ls, Get, Put, Check, Repair}
 use Rattle.command_line.specs.Reading.{Text}
-use Rattle.command_line.specs.RunArgs.{RunFiles}
+use Rattle.command_line.specs.RunArgs.{DiskFiles, RunFiles}
 use Rattle.host_port.specs.Outside.{HostCall, fetching, naming}
-use Rattle.host_port.specs.declared.host.Channel.TheVariants.{Disk1, Image}
+use Rattle.host_port.specs.declared.host.Channel.{Channel}
+use Rattle.host_port.specs.declared.host.Channel.TheVariants.{Disk0, Disk1, Image}
 use Rattle.xinu_commands.specs.Work.{Verdict, Refuses, Does}
 use Rattle.xinu_commands.specs.declared.refusals.Refusal.TheVariants as refusal
 
@@ -20,11 +21,22 @@ calls_in due = map fetching due.fetches ++ due.outputs
 
 -- ---- the files that are fetched
 
--- A run fetches the schedule, and then the images, which are counted from 1, up to the file that is refused.
+-- a file, if one is named
+abbrev pub if_named : Option Text → List Text
+if_named None = []
+if_named (Some name) = name ∷ []
+
+-- the files of the raw disk and of the disk with files, up to disk d
+abbrev pub disks_up_to : ℕ → DiskFiles → List Text
+disks_up_to zero d = if_named d.disk0
+disks_up_to (suc n) d = if_named d.disk0 ++ if_named d.disk1
+
+-- A run fetches the schedule, then its disks, and then the images, which are counted from 1, up to the file that is refused.
 abbrev pub run_fetches : RunFiles → Verdict → List Text
 run_fetches r (Refuses (refusal.Schedule l)) = r.schedule ∷ []
-run_fetches r (Refuses (refusal.Image i f)) = r.schedule ∷ take i r.images
-run_fetches r _ = r.schedule ∷ r.images
+run_fetches r (Refuses (refusal.Disk d b rule)) = r.schedule ∷ disks_up_to d r.disks
+run_fetches r (Refuses (refusal.Image i f)) = r.schedule ∷ disks_up_to 1 r.disks ++ take i r.images
+run_fetches r _ = r.schedule ∷ disks_up_to 1 r.disks ++ r.images
 
 -- The source of a file that is set is fetched only if the disk is accepted.
 abbrev pub source_fetches : Text → Verdict → List Text
@@ -58,10 +70,19 @@ action_outputs (Put image name source out) = naming Disk1 out ∷ []
 action_outputs (Check image) = []
 action_outputs (Repair image out) = naming Disk1 out ∷ []
 
--- the file that a command writes
+-- the file that a channel writes, if one is named
+abbrev pub if_written : Channel → Option Text → List HostCall
+if_written channel None = []
+if_written channel (Some name) = naming channel name ∷ []
+
+-- the files that a run writes: its raw disk, and then its disk with files
+abbrev pub run_outputs : DiskFiles → List HostCall
+run_outputs d = if_written Disk0 d.out0 ++ if_written Disk1 d.out1
+
+-- the files that a command writes
 abbrev pub outputs_of : Option Command → List HostCall
 outputs_of None = []
-outputs_of (Some (Run r)) = []
+outputs_of (Some (Run r)) = run_outputs r.disks
 outputs_of (Some (Asm a)) = naming Image a.out ∷ []
 outputs_of (Some (Disk action)) = action_outputs action
 

@@ -5,6 +5,7 @@ pub mod DiskVerdict
 pub mod InputFaults
 pub mod Refusals
 pub mod RunVerdict
+pub mod Setups
 pub mod Stages
 pub mod Statuses
 pub mod Theorem

@@ -1,25 +1,29 @@
 -- What the stages of a command promise one another: its arguments, its files, its output.
-use Rattle.std.specs.Prelude.{◌≡◌, ◌≤◌, ◌+◌, ◌-◌, ℕ, Bool, List, [], ◌∷◌, ◌++◌, length, take, true, Option, Some, None, Result, Ok, Err, option_map}
+use Rattle.std.specs.Prelude.{◌≡◌, ◌≤◌, ◌+◌, ◌-◌, ℕ, zero, List, [], ◌∷◌, ◌++◌, length, take, true, Option, Some, None, Result, Ok, Err, is_some, option_map, if◌then◌else◌}
 use Rattle.std.specs.List.{slice_get}
 use Rattle.std.specs.Option.{option_map_or}
+use Rattle.machine.specs.Disks.{raw_bytes}
 use Rattle.machine.specs.Printed.{Booted}
 use Rattle.command_line.specs.Commands.{Command}
 use Rattle.command_line.specs.DiskArgs.{DiskAction, Mkfs, Put}
 use Rattle.command_line.specs.Reading.{Text}
+use Rattle.command_line.specs.RunArgs.{DiskFiles, RunFiles}
+use Rattle.given_disks.specs.HeldFiles.{HoldsFiles}
 use Rattle.host_port.specs.HostCalls.{Rose}
 use Rattle.host_port.specs.Outside.{Outside, HostCall, naming}
 use Rattle.host_port.specs.declared.host.Channel.{Channel}
 use Rattle.host_port.specs.declared.host.Channel.TheVariants.{Out, Fault, Disk0, Disk1, Image}
+use Rattle.lfs_check.specs.declared.faults.DiskFault.{DiskFault}
 use Rattle.lfs_layout.specs.Files.{files_of, is_text, listing}
 use Rattle.xinu_base.specs.declared.events.Event.{Event}
 use Rattle.xinu_model.specs.Machine.{Xinu}
-use Rattle.xinu_commands.specs.Calls.{Due, calls_due, due_by, source_fetches}
+use Rattle.xinu_commands.specs.Calls.{Due, calls_due, due_by, if_named, run_outputs, source_fetches}
 use Rattle.xinu_commands.specs.DiskVerdict.{file_line, put_verdict}
 use Rattle.xinu_commands.specs.InputFaults.{ReadsAs, schedule_fault}
-use Rattle.xinu_commands.specs.RunVerdict.{boot_verdict, images_verdict}
+use Rattle.xinu_commands.specs.RunVerdict.{Setup, boot_verdict, disk0_verdict, disk1_verdict, empty_disk0, empty_disk1, images_verdict}
 use Rattle.xinu_commands.specs.Theorem.{Carries, HasCalled, IsPartSent, IsSent, IsUnsent, Obeys}
-use Rattle.xinu_commands.specs.Verdict.{file_bytes, image_bytes, verdict}
-use Rattle.xinu_commands.specs.Work.{Output, Verdict, Refuses, output_of}
+use Rattle.xinu_commands.specs.Verdict.{disk_bytes, file_bytes, image_bytes, verdict}
+use Rattle.xinu_commands.specs.Work.{Output, Verdict, Wanted, Refuses, output_of}
 use Rattle.xinu_commands.specs.declared.refusals.Refusal.{Refusal}
 use Rattle.xinu_commands.specs.declared.refusals.Refusal.TheVariants as refusal
 
@@ -108,6 +112,10 @@ output_on Disk0 bytes = record (output_of [] None None) { disk0 = Some bytes }
 output_on Disk1 bytes = output_of [] (Some bytes) None
 output_on Image bytes = output_of [] None (Some bytes)
 
+-- a disk of a run, on its channel
+abbrev pub disks_output : Option (List ℕ) → Option (List ℕ) → Output
+disks_output disk0 disk1 = record { status = 0; out = []; disk0 = disk0; disk1 = disk1; image = None }
+
 -- files to be written, when none is to be fetched
 abbrev pub outputs_due : List HostCall → Due
 outputs_due outputs = record { fetches = []; outputs = outputs }
@@ -120,6 +128,12 @@ pub record SendsOutput (output : Output) (outputs : List HostCall) (ended : Opti
   pub calls : HasCalled (outputs_due outputs) ended old new
   pub keeps : KeepsFiles old new
 
+-- The disks of a state were written, each if a file is named for it. That with files holds the files of the state.
+pub record SendsDisks (d : DiskFiles) (s : Xinu) (ended : Option Refusal) (old new : Outside) : Type 0 where
+  pub disk1 : List ℕ
+  pub held : HoldsFiles disk1 s.parts.devices.files
+  pub sends : SendsOutput (disks_output (if is_some d.out0 then Some (raw_bytes s) else None) (if is_some d.out1 then Some disk1 else None)) (run_outputs d) ended old new
+
 -- What is left of a command with this verdict was carried out: these files were fetched, as far as the verdict lets them be, and these
 -- written.
 pub record Stage (v : Verdict) (fetches : Verdict → List Text) (outputs : List HostCall) (ended : Option Refusal) (left : Option Xinu) (old new : Outside) : Type 0 where
@@ -131,16 +145,58 @@ pub record Stage (v : Verdict) (fetches : Verdict → List Text) (outputs : List
 abbrev pub no_fetches : Verdict → List Text
 no_fetches v = []
 
--- The images that are fetched after the first n, by the names of those that are left: up to the one that is refused.
+-- ---- the stages of a run
+
+-- Why a disk isn't accepted: it breaks a rule, or memory ran out.
+abbrev pub IsDiskCause : ℕ → Option DiskFault → Refusal → Type 0
+IsDiskCause disk fault (refusal.Disk d b r) = (d ≡ disk) × (fault ≡ Some (record { block = b; rule = r }))
+IsDiskCause disk fault refusal.NoMemory = Unit {0}
+IsDiskCause disk fault _ = ⊥
+
+-- A file was fetched if one is named, or the host refused it. Nothing was sent.
+abbrev pub MayFetch : Option Text → Option Refusal → Outside → Outside → Type 0
+MayFetch None ended old new = (ended ≡ None) × (new ≡ old)
+MayFetch (Some name) ended old new = Fetches name ended old new
+
+-- These bytes were fetched of a file, if one is named.
+abbrev pub MayBeFetched : ℕ → Option Text → (Text → Option (List ℕ)) → Option (List ℕ) → Type 0
+MayBeFetched most None file bytes = bytes ≡ None
+MayBeFetched most (Some name) file None = ⊥
+MayBeFetched most (Some name) file (Some bytes) = IsFetched most (file name) bytes
+
+-- The images that are fetched after the first n, by the names of those that are left: up to the one that is refused; none if a disk is.
 abbrev pub images_left : ℕ → List Text → Verdict → List Text
 images_left n names (Refuses (refusal.Image i f)) = take (i - n) names
+images_left n names (Refuses (refusal.Disk d b r)) = []
 images_left n names _ = names
 
+-- the files that are fetched after the raw disk: the disk with files, unless the raw one is refused, and the images
+abbrev pub disk1_left : RunFiles → Verdict → List Text
+disk1_left r (Refuses (refusal.Disk zero b rule)) = []
+disk1_left r v = if_named r.disks.disk1 ++ images_left 0 r.images v
+
+-- the files that are fetched after the schedule
+abbrev pub disk0_left : RunFiles → Verdict → List Text
+disk0_left r v = if_named r.disks.disk0 ++ disk1_left r v
+
 -- After these image files, those of these names were fetched and read in order, and then all images ran through the events, for some bytes
--- of the files that can't be observed.
-pub record RunsImages (plain : Bool) (before : List (List ℕ)) (names : List Text) (events : List Event) (ended : Option Refusal) (left : Option Xinu) (old new : Outside) : Type 0 where
+-- of the files that can't be observed. These files were written.
+pub record RunsImages (setup : Setup) (before : List (List ℕ)) (names : List Text) (events : List Event) (outputs : List HostCall) (ended : Option Refusal) (left : Option Xinu) (old new : Outside) : Type 0 where
   pub unseen : ℕ → List ℕ
-  pub stage : Stage (images_verdict 1 (before ++ image_bytes (length before + 1) names old.file unseen) (boot_verdict plain events)) (images_left (length before) names) [] ended left old new
+  pub stage : Stage (images_verdict 1 (before ++ image_bytes (length before + 1) names old.file unseen) (boot_verdict setup events)) (images_left (length before) names) outputs ended left old new
+
+-- On this raw disk, the disk with files was fetched and checked, and then the images ran.
+pub record RunsOnRaw (r : RunFiles) (wanted : Wanted) (events : List Event) (disk0 : List ℕ) (ended : Option Refusal) (left : Option Xinu) (old new : Outside) : Type 0 where
+  pub unseen : List ℕ
+  pub images : ℕ → List ℕ
+  pub stage : Stage (disk1_verdict wanted events disk0 (disk_bytes r.disks.disk1 empty_disk1 old.file unseen) (image_bytes 1 r.images old.file images)) (disk1_left r) (run_outputs r.disks) ended left old new
+
+-- The raw disk was fetched and checked, and then the images ran on it.
+pub record RunsEvents (r : RunFiles) (wanted : Wanted) (events : List Event) (ended : Option Refusal) (left : Option Xinu) (old new : Outside) : Type 0 where
+  pub unseen : List ℕ
+  pub disk1 : List ℕ
+  pub images : ℕ → List ℕ
+  pub stage : Stage (disk0_verdict wanted events (disk_bytes r.disks.disk0 empty_disk0 old.file unseen) (disk_bytes r.disks.disk1 empty_disk1 old.file disk1) (image_bytes 1 r.images old.file images)) (disk0_left r) (run_outputs r.disks) ended left old new
 
 -- A file was fetched and then set on a disk, for some bytes of it if it can't be observed.
 pub record SetsFile (disk name source out : List ℕ) (ended : Option Refusal) (old new : Outside) : Type 0 where

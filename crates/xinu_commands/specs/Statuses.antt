@@ -1,19 +1,23 @@
 -- What the exit statuses say of a command's files.
 use Rattle.std.specs.Prelude.{◌≡◌, ◌↔◌, ◌≤◌, ◌<◌, ◌⊎◌, ℕ, true, false, List, [], ◌∷◌, length, Option, Some, None, IsSome, option_map}
+use Rattle.std.specs.Option.{option_or}
 use Rattle.command_line.specs.DiskArgs.{DiskAction, Mkfs, Ls, Get, Put, Check, Repair}
 use Rattle.command_line.specs.Reading.{Text}
+use Rattle.given_disks.specs.Disks.{disks_of}
 use Rattle.lfs_check.specs.declared.faults.DiskFault.{DiskFault}
 use Rattle.lfs_layout.specs.Images.{opened}
 use Rattle.rv_asm.specs.Assembly.{Makes, Fails, assembly}
 use Rattle.rv_asm.specs.declared.faults.AsmFault.{AsmFault}
-use Rattle.xinu_model.specs.Boot.{Start, Boots, Overlaps, NoRoom, boot}
+use Rattle.xinu_model.specs.Boot.{Disks, Start, Boots, Overlaps, NoRoom, boot_on}
 use Rattle.xinu_model.specs.Machine.{Xinu}
 use Rattle.xinu_commands.specs.AsmVerdict.{longest_source}
-use Rattle.xinu_commands.specs.DiskVerdict.{disk_fault, disk_with, file_on, size_fault}
+use Rattle.xinu_commands.specs.DiskVerdict.{disk_fault, disk_with, file_on, rule_broken, size_fault}
 use Rattle.xinu_commands.specs.InputFaults.{have_fault, images_loaded, schedule_fault}
 use Rattle.xinu_commands.specs.Refusals.{status_of}
+use Rattle.xinu_commands.specs.RunVerdict.{raw_broken, raw_fault}
 use Rattle.xinu_commands.specs.Verdict.{Input, DiskInput, SourceInput}
 use Rattle.xinu_commands.specs.Work.{Verdict, Refuses, Does}
+use Rattle.xinu_commands.specs.declared.refusals.Refusal.{Refusal}
 
 -- the exit statuses
 abbrev pub statuses : List ℕ
@@ -24,28 +28,38 @@ abbrev pub status_due : Verdict → ℕ
 status_due (Refuses cause) = status_of cause
 status_due (Does work) = 0
 
--- how the machine starts with the images of files, if each of them loads
-unfoldable pub start_with : List (List ℕ) → Option Start
-start_with files = option_map boot (images_loaded files)
+-- why a disk of a run is refused, the raw one first
+unfoldable pub disks_fault : List ℕ → List ℕ → Option Refusal
+disks_fault disk0 disk1 = option_or (option_map raw_broken (raw_fault disk0)) (option_map rule_broken (disk_fault disk1))
+
+-- how the machine starts on disks with the images of files, if each of them loads
+unfoldable pub start_with : Disks → List (List ℕ) → Option Start
+start_with disks files = option_map (boot_on disks) (images_loaded files)
 
 -- These files are images with which the machine starts.
-pub record CanStart (files : List (List ℕ)) : Type 0 where
+pub record CanStart (disks : Disks) (files : List (List ℕ)) : Type 0 where
   pub good : have_fault files ≡ false
   pub start : Xinu
-  pub boots : start_with files ≡ Some (Boots start)
+  pub boots : start_with disks files ≡ Some (Boots start)
 
 -- These files are images, and one overlaps an earlier one, or the heap after them has no room for the stack of one.
-pub record CannotStart (files : List (List ℕ)) : Type 0 where
+pub record CannotStart (disks : Disks) (files : List (List ℕ)) : Type 0 where
   pub good : have_fault files ≡ false
   pub image : ℕ
-  pub start : (start_with files ≡ Some (Overlaps image)) ⊎ (start_with files ≡ Some (NoRoom image))
+  pub start : (start_with disks files ≡ Some (Overlaps image)) ⊎ (start_with disks files ≡ Some (NoRoom image))
 
--- What the exit status of a run says of its schedule file and its image files, if it is neither 3 nor 7.
-pub record SaysOfFiles (exit : ℕ) (schedule : List ℕ) (images : List (List ℕ)) : Type 0 where
-  pub done : exit ≡ 0 ↔ ((schedule_fault schedule ≡ None) × CanStart images)
+-- The schedule and the disks of a run are accepted.
+pub record AreAccepted (events disk0 disk1 : List ℕ) : Type 0 where
+  pub schedule : schedule_fault events ≡ None
+  pub disks : disks_fault disk0 disk1 ≡ None
+
+-- What the exit status of a run says of its schedule file, its disks and its image files, if it is neither 3 nor 7.
+pub record SaysOfFiles (exit : ℕ) (schedule disk0 disk1 : List ℕ) (images : List (List ℕ)) : Type 0 where
+  pub done : exit ≡ 0 ↔ (AreAccepted schedule disk0 disk1 × CanStart (disks_of disk0 (opened disk1)) images)
   pub bad_schedule : exit ≡ 5 ↔ IsSome (schedule_fault schedule)
-  pub bad_image : exit ≡ 4 ↔ ((schedule_fault schedule ≡ None) × (have_fault images ≡ true))
-  pub no_start : exit ≡ 8 ↔ ((schedule_fault schedule ≡ None) × CannotStart images)
+  pub bad_disk : exit ≡ 6 ↔ ((schedule_fault schedule ≡ None) × IsSome (disks_fault disk0 disk1))
+  pub bad_image : exit ≡ 4 ↔ (AreAccepted schedule disk0 disk1 × (have_fault images ≡ true))
+  pub no_start : exit ≡ 8 ↔ (AreAccepted schedule disk0 disk1 × CannotStart (disks_of disk0 (opened disk1)) images)
 
 -- ---- a source
 

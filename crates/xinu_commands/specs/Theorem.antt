@@ -7,7 +7,7 @@ use Rattle.xinu_model.specs.Machine.{Xinu}
 use Rattle.xinu_commands.specs.Calls.{Due, calls_due, calls_in}
 use Rattle.xinu_commands.specs.Refusals.{status_of, text_of}
 use Rattle.xinu_commands.specs.Verdict.{Input, verdict}
-use Rattle.xinu_commands.specs.Work.{Output, Verdict, Refuses, Does, Work, Writes}
+use Rattle.xinu_commands.specs.Work.{Begins, Output, Verdict, Refuses, Does, Work, Writes}
 use Rattle.xinu_commands.specs.declared.refusals.Refusal.{Refusal}
 use Rattle.xinu_commands.specs.declared.refusals.Refusal.TheVariants as refusal
 
@@ -50,13 +50,12 @@ pub record IsUnsent (old new : Outside) : Type 0 where
   pub disk1 : new.disk1 ≡ old.disk1
   pub image : new.image ≡ old.image
 
--- Of an output that the work may have a prefix was sent; if the command was done all of it, and the work's last state is left.
+-- Of an output that the work may have a prefix was sent; if the command was done all of the work's output, and what the work leaves is left.
 pub record WorkSends (work : Work) (output : Output) (ended : Option Refusal) (left : Option Xinu) (old new : Outside) : Type 0 where
-  pub last : Option Xinu
-  pub writes : Writes work output last
+  pub begins : Begins work output
   pub part : IsPartSent output old new
+  pub writes : ended ≡ None → Writes work output left
   pub whole : ended ≡ None → IsSent output old new
-  pub leaves : ended ≡ None → left ≡ last
 
 -- What is sent by the verdict: nothing if it is a refusal.
 abbrev pub Sends : Verdict → Output → Option Refusal → Option Xinu → Outside → Outside → Type 0

@@ -1,5 +1,7 @@
 -- What a command deserves, a refusal by its cause or work, and what the work puts out.
-use Rattle.std.specs.Prelude.{◌≡◌, ℕ, Bool, List, [], ◌∷◌, ◌++◌, Option, Some, None}
+use Rattle.std.specs.Prelude.{◌≡◌, ℕ, Bool, List, [], ◌∷◌, ◌++◌, Option, Some, None, if◌then◌else◌}
+use Rattle.given_disks.specs.HeldFiles.{HoldsFiles}
+use Rattle.machine.specs.Disks.{raw_bytes}
 use Rattle.xinu_base.specs.declared.events.Event.{Event}
 use Rattle.xinu_base.specs.declared.events.End.{End}
 use Rattle.xinu_base.specs.declared.lines.TranscriptLine.{TranscriptLine}
@@ -27,10 +29,16 @@ only_printed status bytes =
 abbrev pub output_of : List ℕ → Option (List ℕ) → Option (List ℕ) → Output
 output_of out disk1 image = record { status = 0; out = out; disk0 = None; disk1 = disk1; image = image }
 
--- The work that is due: a run from this start through these events, of which all lines are shown or, if it is plain, the bytes of the
--- console alone; or an output, text with a disk or another file.
+-- What is asked of a run: whether its output is plain, which is the bytes of the console alone, and which of its disks are written at
+-- its end.
+pub record Wanted : Type 0 where
+  pub plain : Bool
+  pub out0 : Bool
+  pub out1 : Bool
+
+-- The work that is due: a run from this start through these events; or an output, text with a disk or another file.
 pub data Work : Type 0 where
-  Runs : (plain : Bool) → (start : Xinu) → (events : List Event) → Work
+  Runs : (wanted : Wanted) → (start : Xinu) → (events : List Event) → Work
   Outputs : (out : List ℕ) → (disk1 image : Option (List ℕ)) → Work
 
 -- a refusal by its cause, or the work that is due
@@ -59,21 +67,55 @@ abbrev pub transcript : Xinu → List TranscriptLine → Xinu → End → List T
 transcript start lines last end =
     line.Switch start.tables.current ∷ lines ++ tables_of last ++ line.End end ∷ []
 
--- The output is what is shown of the transcript of one run from this start through these events, and this is the run's last state.
-pub record RunWrites (plain : Bool) (start : Xinu) (events : List Event) (output : Output) (left : Option Xinu) : Type 0 where
+-- The output of a run: what is shown of it; if it is asked for, its raw disk in its last state; and if that is asked for, its disk with files,
+-- once the run has come to it.
+abbrev pub run_output : Wanted → List ℕ → Xinu → Option (List ℕ) → Output
+run_output wanted out last disk1 = record {
+  status = 0;
+  out = out;
+  disk0 = if wanted.out0 then Some (raw_bytes last) else None;
+  disk1 = if wanted.out1 then disk1 else None;
+  image = None;
+}
+
+-- A disk holds the files of a state, if there is one.
+abbrev pub IsHeld : Option (List ℕ) → Xinu → Type 0
+IsHeld None s = Unit {0}
+IsHeld (Some disk) s = HoldsFiles disk s.parts.devices.files
+
+-- The output is that of one run from this start through these events, which leads to this state. The disk with files holds the files of
+-- that state.
+pub record RunOutput (wanted : Wanted) (start : Xinu) (events : List Event) (output : Output) (last : Xinu) (disk1 : Option (List ℕ)) : Type 0 where
   pub lines : List TranscriptLine
-  pub state : Xinu
   pub end : End
-  pub runs : RunsTo start events lines state end
-  pub written : output ≡ only_printed 0 (shown plain (transcript start lines state end))
-  pub last : left ≡ Some state
+  pub runs : RunsTo start events lines last end
+  pub held : IsHeld disk1 last
+  pub written : output ≡ run_output wanted (shown wanted.plain (transcript start lines last end)) last disk1
+
+-- The output is that of a run. It has no disk with files if the run didn't come to it.
+pub record RunBegins (wanted : Wanted) (start : Xinu) (events : List Event) (o : Output) : Type 0 where
+  pub last : Xinu
+  pub disk1 : Option (List ℕ)
+  pub output : RunOutput wanted start events o last disk1
+
+-- The output is that of a run, with its disk with files, and its last state is left.
+pub record RunWrites (wanted : Wanted) (start : Xinu) (events : List Event) (o : Output) (left : Option Xinu) : Type 0 where
+  pub last : Xinu
+  pub disk1 : List ℕ
+  pub output : RunOutput wanted start events o last (Some disk1)
+  pub leaves : left ≡ Some last
 
 -- The output is exactly this one, and no machine is left.
 pub record OutputWrites (out : List ℕ) (disk1 image : Option (List ℕ)) (output : Output) (left : Option Xinu) : Type 0 where
   pub written : output ≡ output_of out disk1 image
-  pub last : left ≡ None
+  pub leaves : left ≡ None
 
--- What work puts out, and the state that it leaves. It is a relation, since a run may have several outcomes.
+-- What work may put out, up to where it is broken off. It is a relation, since a run may have several outcomes.
+abbrev pub Begins : Work → Output → Type 0
+Begins (Runs wanted start events) output = RunBegins wanted start events output
+Begins (Outputs out disk1 image) output = output ≡ output_of out disk1 image
+
+-- What work puts out, and what it leaves.
 abbrev pub Writes : Work → Output → Option Xinu → Type 0
-Writes (Runs plain start events) output left = RunWrites plain start events output left
+Writes (Runs wanted start events) output left = RunWrites wanted start events output left
 Writes (Outputs out disk1 image) output left = OutputWrites out disk1 image output left

@@ -19,7 +19,8 @@ ghost use Rattle.xinu_commands.specs.AsmVerdict.{written_file};
 ghost use Rattle.xinu_commands.specs.Calls.{calls_due, calls_in};
 ghost use Rattle.xinu_commands.specs.Statuses.{SaysOfDisk, SaysOfFiles, SaysOfSource, status_due, statuses};
 ghost use Rattle.xinu_commands.specs.Theorem.{Answers};
-ghost use Rattle.xinu_commands.specs.Verdict.{ScheduleInput, ImageInput, SourceInput, file_bytes, image_bytes, verdict};
+ghost use Rattle.xinu_commands.specs.RunVerdict.{empty_disk0, empty_disk1};
+ghost use Rattle.xinu_commands.specs.Verdict.{ScheduleInput, Disk0Input, Disk1Input, ImageInput, SourceInput, disk_bytes, file_bytes, image_bytes, verdict};
 
 /// The exit status is 0, 2, 3, 4, 5, 6, 7, 8, 9, 12 or 13.
 pub fn statuses_are_these()
@@ -46,11 +47,11 @@ pub fn calls_are_due()
     ensures { (exit : ℕ) (command : Option Command) (old new : Outside) (left : Option Xinu) (a : Answers exit command old new left) → exit ≢ 7 → exit ≢ 3 → new.calls ≡ grown old.calls (calls_in (calls_due command (verdict command old.file a.obeys.unseen))) }
 {}
 
-/// The exit status of a run is 5 if and only if the schedule file has a fault; if it has none, 4 if and only if an image file has one; if none
-/// has one, 8 if and only if an image overlaps an earlier one or the heap has no room for the stack of one, and else 0: unless the host failed
+/// The exit status of a run is 5 if and only if the schedule file has a fault; if it has none, 6 if and only if a disk breaks a rule; if none
+/// does, 4 if and only if an image file has a fault; if none has one, 8 if and only if an image overlaps an earlier one or the heap has no room for the stack of one, and else 0: unless the host failed
 /// or memory ran out.
 pub fn statuses_say_of_files()
-    ensures { (exit : ℕ) (files : RunFiles) (old new : Outside) (left : Option Xinu) (a : Answers exit (Some (Run files)) old new left) → exit ≢ 7 → exit ≢ 3 → SaysOfFiles exit (file_bytes (old.file files.schedule) (a.obeys.unseen ScheduleInput)) (image_bytes 1 files.images old.file (λ i. a.obeys.unseen (ImageInput i))) }
+    ensures { (exit : ℕ) (files : RunFiles) (old new : Outside) (left : Option Xinu) (a : Answers exit (Some (Run files)) old new left) → exit ≢ 7 → exit ≢ 3 → SaysOfFiles exit (file_bytes (old.file files.schedule) (a.obeys.unseen ScheduleInput)) (disk_bytes files.disks.disk0 empty_disk0 old.file (a.obeys.unseen Disk0Input)) (disk_bytes files.disks.disk1 empty_disk1 old.file (a.obeys.unseen Disk1Input)) (image_bytes 1 files.images old.file (λ i. a.obeys.unseen (ImageInput i))) }
 {}
 
 /// The exit status of `asm` is 9 if and only if the source is too long or has a fault, and else 0: unless the host failed or memory ran out.

@@ -1,56 +1,95 @@
 //! The run of images through the events of a schedule.
 
 ghost use Rattle.std.specs.Prelude.{◌≡◌, ◌+◌, ◌≤◌, ◌∷◌, [], false, length, map};
+ghost use Rattle.command_line.specs.Names.{disk_names};
 ghost use Rattle.host_port.specs.Printing.{Prints};
 ghost use Rattle.image_loader.specs.Images.{loaded_of};
 ghost use Rattle.xinu_base.specs.declared.lines.TranscriptLine.TheVariants as line;
 ghost use Rattle.xinu_model.specs.Text.{shown};
-ghost use Rattle.xinu_commands.specs.Stages.{KeepsFiles, left_of, refusal_of};
-ghost use Rattle.xinu_commands.specs.Theorem.{Carries};
-ghost use Rattle.xinu_commands.specs.Transcripts.{RunPrints};
+ghost use Rattle.xinu_commands.specs.Calls.{run_outputs};
 ghost use Rattle.xinu_commands.specs.RunVerdict.{boot_verdict};
+ghost use Rattle.xinu_commands.specs.Setups.{setup_of};
+ghost use Rattle.xinu_commands.specs.Stages.{Stage, left_of, no_fetches, refusal_of};
+ghost use Rattle.xinu_commands.specs.Transcripts.{RunPrints, SendsTranscript};
 
 use crate::refusals::Refusal;
+use crate::sending::send_disks;
+use command_line::DiskFiles;
 use host_port::{Host, Line, Printer};
 use image_loader::Image;
+use lfs_layout::{CleanImage, RawImage};
 use machine::{Go, Machine};
 use schedule_file::Schedule;
 use std::alloc::Global;
 use xinu_base::End;
 
-/// Runs images through the events of a schedule, and answers the machine as the run left it. There are one to eight images. If `plain`,
-/// the bytes of the console are printed and nothing else.
+/// What a run goes on besides its images, and what is asked of it.
+#[derive(Drop)]
+pub(crate) struct Setup<'a> {
+    /// The events.
+    pub(crate) schedule: Schedule,
+    /// The raw disk at the start.
+    pub(crate) disk0: RawImage,
+    /// The disk with files at the start.
+    pub(crate) disk1: CleanImage,
+    /// Whether the bytes of the console are printed and nothing else.
+    pub(crate) plain: bool,
+    /// The files of the disks: each disk is written at the end if a file is named for that.
+    pub(crate) disks: DiskFiles<'a>,
+}
+
+/// Runs images through the events of a schedule, writes the disks, and answers the machine as the run left it. There are one to eight images.
 ///
 /// # Errors
 /// `Overlap(i)` if and only if image `i`, counted from 1, is the first that overlaps an earlier one; else `NoRoom(i)` if and only if the
 /// heap after the images has no room for the stack of image `i`, and it is the first; unless memory runs out; `HostFault` if the host
-/// refused a line; `NoMemory`.
+/// refused a line or a disk; `NoMemory`.
 pub(crate) fn run_images<H: Host>(
     alloc: Global,
     images: &[Image<'_>],
-    schedule: Schedule,
-    plain: bool,
+    setup: Setup<'_>,
     host: &mut H,
 ) -> Result<Machine, Refusal>
     requires some { 1 ≤ length images.now }
     requires few { length images.now ≤ 8 }
-    requires events { length schedule ≤ 1000000000 }
-    ensures carries { Carries (boot_verdict plain schedule (map loaded_of images.now)) (refusal_of result) (left_of result) (H.view host.old) (H.view host.new) }
-    ensures calls { (H.view host.new).calls ≡ (H.view host.old).calls }
-    ensures keeps { KeepsFiles (H.view host.old) (H.view host.new) }
+    requires events { length setup.schedule ≤ 1000000000 }
+    ensures stage { Stage (boot_verdict (setup_of setup.entry) setup.entry.schedule (map loaded_of images.now)) no_fetches (run_outputs (disk_names setup.entry.disks)) (refusal_of result) (left_of result) (H.view host.old) (H.view host.new) }
 {
-    let mut machine = match Machine::boot(alloc, images) {
+    let Setup {
+        schedule,
+        disk0,
+        disk1,
+        plain,
+        disks,
+    } = setup;
+    let mut machine = match Machine::boot(alloc, images, disk0, disk1) {
         Ok(machine) => machine,
         Err(fault) => return Err(Refusal::from(fault)),
     };
+    print_run(&mut machine, schedule, plain, host)?;
+    send_disks(&machine, disks, host)?;
+    Ok(machine)
+}
+
+// Runs a machine through the events of a schedule, and prints the transcript, or if it is plain the bytes of the console.
+fn print_run<H: Host>(
+    machine: &mut Machine,
+    schedule: Schedule,
+    plain: bool,
+    host: &mut H,
+) -> Result<(), Refusal>
+    requires over { machine.old.over ≡ false }
+    requires few { machine.old.events + length schedule ≤ 1000000000 }
+    ensures prints { SendsTranscript plain machine.old.state schedule machine.new.state (refusal_of result) (H.view host.old) (H.view host.new) }
+{
     let mut schedule = schedule;
     let mut out = Printer::new(plain);
     machine.start(&mut out, host);
-    let end = take_events(&mut machine, &mut schedule, &mut out, host);
+    let end = take_events(machine, &mut schedule, &mut out, host);
     machine.dump(&mut out, host);
     print_end(end, &mut out, host);
     match out.failed() {
-        None => Ok(machine),
+        None => Ok(()),
         Some(fault) => Err(Refusal::from(fault)),
     }
 }

@@ -1,18 +1,22 @@
-//! What `asm` and an action on a disk send: lines on Out, and a file.
+//! What is sent besides a transcript: lines on Out, and files.
 
-ghost use Rattle.std.specs.Prelude.{◌≡◌, ◌≢◌, ◌∷◌, [], None, option_map, if◌then◌else◌};
+ghost use Rattle.std.specs.Prelude.{◌≡◌, ◌≢◌, ◌∷◌, [], Some, None, is_some, option_map, if◌then◌else◌};
+ghost use Rattle.command_line.specs.Names.{disk_names};
 ghost use Rattle.host_port.specs.Outside.{naming};
 ghost use Rattle.host_port.specs.Printing.{Prints};
 ghost use Rattle.lfs_layout.specs.Images.{IsCleanImage};
+ghost use Rattle.xinu_commands.specs.Calls.{if_written};
 ghost use Rattle.xinu_commands.specs.Conversions.{host_refusal};
 ghost use Rattle.xinu_commands.specs.DiskVerdict.{file_lines};
-ghost use Rattle.xinu_commands.specs.Stages.{SendsOutput, line_at, output_on, refusal_of};
+ghost use Rattle.xinu_commands.specs.Stages.{SendsDisks, SendsOutput, disks_output, line_at, output_on, refusal_of};
 ghost use Rattle.xinu_commands.specs.Work.{output_of};
 
 use crate::disk_lines::file_line;
 use crate::refusals::Refusal;
+use command_line::DiskFiles;
 use host_port::{Channel, Host, Line, Printer};
 use lfs_layout::CleanImage;
+use machine::Machine;
 
 /// The most files of a disk.
 const MOST_FILES: usize = 78;
@@ -38,6 +42,39 @@ pub(crate) fn send_file<H: Host>(
     match host.emit(channel, bytes) {
         Ok(()) => Ok(()),
         Err(fault) => Err(Refusal::from(fault)),
+    }
+}
+
+/// Writes the disks of a machine, the raw one first, each if a file is named for it.
+///
+/// # Errors
+/// `HostFault` if the host failed; `NoMemory`.
+pub(crate) fn send_disks<H: Host>(
+    machine: &Machine,
+    disks: DiskFiles<'_>,
+    host: &mut H,
+) -> Result<(), Refusal>
+    ensures sends { SendsDisks (disk_names disks.entry) machine.now.state (refusal_of result) (H.view host.old) (H.view host.new) }
+{
+    let disk1 = machine.disk(1);
+    send_disk(host, Channel::Disk0, disks.out0, machine.disk(0))?;
+    send_disk(host, Channel::Disk1, disks.out1, disk1)
+}
+
+// Writes a disk, if a file is named for it.
+fn send_disk<H: Host>(
+    host: &mut H,
+    channel: Channel,
+    name: Option<&str>,
+    bytes: &[u8],
+) -> Result<(), Refusal>
+    requires not_out { channel ≢ Channel.Out }
+    requires not_fault { channel ≢ Channel.Fault }
+    ensures sends { SendsOutput (if is_some (option_map (λ s. s.now) name.entry) then output_on channel bytes.now else disks_output None None) (if_written channel (option_map (λ s. s.now) name.entry)) (refusal_of result) (H.view host.old) (H.view host.new) }
+{
+    match name {
+        Some(name) => send_file(host, channel, name, bytes),
+        None => Ok(()),
     }
 }
 

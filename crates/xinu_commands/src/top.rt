@@ -14,8 +14,8 @@ use std::alloc::Global;
 /// Does what the arguments after the program's name say, and answers the exit status.
 ///
 /// The status is 0 if the command was done: the transcript of the run was written on Out, or if it is plain the bytes of its console alone,
-/// or the file of a text that was assembled, or the output of an action on a disk on Out and in its file. It is 2 if the arguments give no
-/// command, 3 if the host failed, 4 if an image file has a fault, 5 if the schedule file has one, 6 if the disk breaks a rule, 7 if memory
+/// and its disks in their files, or the file of a text that was assembled, or the output of an action on a disk on Out and in its file. It is 2 if the arguments give no
+/// command, 3 if the host failed, 4 if an image file has a fault, 5 if the schedule file has one, 6 if a disk breaks a rule, 7 if memory
 /// ran out, 8 if an image overlaps an earlier one or the heap has no room for the stack of one, 9 if the text has a fault, 12 if the disk
 /// has no file of the name, and 13 if the file doesn't fit. Each but 0 sends its text on Fault. Afterwards `last` is the machine as the run
 /// left it if a run was done, and else None.

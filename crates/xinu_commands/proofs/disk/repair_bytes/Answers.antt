@@ -10,7 +10,7 @@ use Rattle.xinu_commands.specs.DiskVerdict.{repair_line, repair_verdict}
 use Rattle.xinu_commands.specs.Stages.{SendsOutput, Stage, no_fetches, refusal_of}
 use Rattle.xinu_commands.specs.Work.{output_of}
 use Rattle.xinu_commands.proofs.DiskVerdicts.{repair_broken, repair_counts, repair_does, sized, unsized}
-use Rattle.xinu_commands.proofs.Sent.{both_sent, text_unsent}
+use Rattle.xinu_commands.proofs.Sent.{AreApart, both_sent, first_sent}
 use Rattle.xinu_commands.proofs.Staged.{broken_stage, of_refused, sent_stage}
 use Rattle.xinu_commands.proofs.disk.repair_bytes.Goals as goal
 
@@ -31,13 +31,14 @@ returns-in_err-print_line g c =
     let k = g.H.Host.view c.print_line.new.host in
     let bytes = c.args.bytes.now in
     let calls = naming Disk1 c.args.out.now ∷ [] in
+    let apart : AreApart (output_of (repair_line bytes) None None) (output_of [] (Some (repaired bytes)) None) = record { no_text = refl; disk0 = tt; disk1 = tt; image = tt } in
     let r = c.in_err-print_line.field-0.0 in
     let text = c.repair_line.ensures ∙ repair_counts bytes c.in_ok-repaired.repaired.kept c.in_ok-repaired.repaired.dropped c.in_ok-repaired.ensures.kept c.in_ok-repaired.ensures.dropped in
     let P : List ℕ → Type 0 = λ t. SendsOutput (output_of t None None) [] (Some r) h k in
     record {
       stage = of_refused c.from_residual-in_err-print_line.result r (λ ended. Stage (repair_verdict bytes) no_fetches calls ended None h k) c.from_residual-in_err-print_line.ensures.0 c.from_residual-in_err-print_line.ensures.1
           (sent_stage (repair_verdict bytes) (repair_line bytes) (Some (repaired bytes)) None calls (Some r) h k (repair_does bytes (sized bytes c.in_ok-repaired.ensures.image.0))
-          (text_unsent (repair_line bytes) (repaired bytes) calls r h k (subst P text c.in_err-print_line.ensures.sends)));
+          (first_sent (output_of (repair_line bytes) None None) (output_of [] (Some (repaired bytes)) None) [] calls apart r h k (subst P text c.in_err-print_line.ensures.sends)));
     }
 
 pub returns : goal.returns
@@ -47,12 +48,13 @@ returns g c =
     let k = g.H.Host.view c.send_file.new.host in
     let bytes = c.args.bytes.now in
     let calls = naming Disk1 c.args.out.now ∷ [] in
+    let apart : AreApart (output_of (repair_line bytes) None None) (output_of [] (Some (repaired bytes)) None) = record { no_text = refl; disk0 = tt; disk1 = tt; image = tt } in
     let ended = refusal_of c.send_file.result in
     let text = c.repair_line.ensures ∙ repair_counts bytes c.in_ok-repaired.repaired.kept c.in_ok-repaired.repaired.dropped c.in_ok-repaired.ensures.kept c.in_ok-repaired.ensures.dropped in
     let P : List ℕ → Type 0 = λ t. SendsOutput (output_of t None None) [] None h i in
     let Q : List ℕ → Type 0 = λ b. SendsOutput (output_of [] (Some b) None) calls ended i k in
     record {
       stage = sent_stage (repair_verdict bytes) (repair_line bytes) (Some (repaired bytes)) None calls ended h k (repair_does bytes (sized bytes c.in_ok-repaired.ensures.image.0))
-          (both_sent (repair_line bytes) (repaired bytes) calls ended h i k (subst P text c.in_ok-print_line.ensures.sends)
+          (both_sent (output_of (repair_line bytes) None None) (output_of [] (Some (repaired bytes)) None) [] calls apart ended h i k (subst P text c.in_ok-print_line.ensures.sends)
           (subst Q (c.bytes.ensures.bytes ∙ c.in_ok-repaired.ensures.image.1) c.send_file.ensures.sends));
     }

@@ -1,10 +1,12 @@
 use Rattle.std.proofs.Common.{◌≡◌, ◌∙◌, ◌∷◌, [], ℕ, List, Some, None, Bor, Vec, Global, ap, arith, length, map, rules, subst, sym}
 use Rattle.std.proofs.lemmas.List.{length-append, length-map, map-append}
+use Rattle.command_line.specs.Names.{disk_names}
+use Rattle.xinu_commands.specs.Calls.{run_outputs}
 use Rattle.xinu_commands.specs.InputFaults.{have_fault}
 use Rattle.xinu_commands.specs.RunVerdict.{boot_verdict, images_verdict}
-use Rattle.xinu_commands.specs.Theorem.{Carries}
+use Rattle.xinu_commands.specs.Setups.{setup_of}
 use Rattle.xinu_commands.specs.declared.refusals.Refusal.TheVariants as refusal
-use Rattle.xinu_commands.specs.Stages.{RunsImages, left_of, refusal_of}
+use Rattle.xinu_commands.specs.Stages.{RunsImages, Stage, left_of, no_fetches, refusal_of}
 use Rattle.xinu_commands.proofs.ImageFiles.{empty_slice, first_and_rest, image_bad, image_then, image_unfetched, image_unkept, images_run, judged_good, of_err, rest_length}
 use Rattle.xinu_commands.proofs.GoodImages.{good_more}
 use Rattle.xinu_commands.proofs.run_command.+run_from.Goals as goal
@@ -16,9 +18,9 @@ returns-in_err-file-in-len1-up g t c =
     let files = map (λ v. v.items) c.args.files.items in
     let r = c.in_err-file-in-len1-up.field-0.0 in
     record {
-      runs = of_err c.from_residual.result r (λ ended left. RunsImages c.args.plain files (map (λ s. s.now) c.args.names.now) c.args.schedule ended left h k) c.from_residual.ensures.0 c.from_residual.ensures.1
-          (subst (λ (names : List (Bor (List ℕ))). RunsImages c.args.plain files (map (λ s. s.now) names) c.args.schedule (Some r) None h k) (sym (first_and_rest c.args.names.now _ c.in-len1-up.len_at_least))
-          (image_unfetched c.args.plain files _ _ c.args.schedule r h k c.requires.good c.in_err-file-in-len1-up.ensures.fetches));
+      runs = of_err c.from_residual.result r (λ ended left. RunsImages (setup_of c.args.setup) files (map (λ s. s.now) c.args.names.now) c.args.setup.schedule (run_outputs (disk_names c.args.setup.disks)) ended left h k) c.from_residual.ensures.0 c.from_residual.ensures.1
+          (subst (λ (names : List (Bor (List ℕ))). RunsImages (setup_of c.args.setup) files (map (λ s. s.now) names) c.args.setup.schedule (run_outputs (disk_names c.args.setup.disks)) (Some r) None h k) (sym (first_and_rest c.args.names.now _ c.in-len1-up.len_at_least))
+          (image_unfetched (setup_of c.args.setup) files _ _ c.args.setup.schedule _ r h k c.requires.good c.in_err-file-in-len1-up.ensures.fetches));
     }
 
 pub returns-in_err-judge-in-len1-up : goal.returns-in_err-judge-in-len1-up
@@ -28,10 +30,10 @@ returns-in_err-judge-in-len1-up g t c =
     let files = map (λ v. v.items) c.args.files.items in
     let r = c.in_err-judge-in-len1-up.field-0.0 in
     record {
-      runs = of_err c.from_residual-in_err-judge-in-len1-up.result r (λ ended left. RunsImages c.args.plain files (map (λ s. s.now) c.args.names.now) c.args.schedule ended left h k)
+      runs = of_err c.from_residual-in_err-judge-in-len1-up.result r (λ ended left. RunsImages (setup_of c.args.setup) files (map (λ s. s.now) c.args.names.now) c.args.setup.schedule (run_outputs (disk_names c.args.setup.disks)) ended left h k)
           c.from_residual-in_err-judge-in-len1-up.ensures.0 c.from_residual-in_err-judge-in-len1-up.ensures.1
-          (subst (λ (names : List (Bor (List ℕ))). RunsImages c.args.plain files (map (λ s. s.now) names) c.args.schedule (Some r) None h k) (sym (first_and_rest c.args.names.now _ c.in-len1-up.len_at_least))
-          (image_bad c.args.plain files _ _ c.args.schedule c.as_slice-in-len1-up.result.now c.in_ok-file-in-len1-up.file.items _ r h k c.requires.good c.in_ok-file-in-len1-up.ensures.bytes
+          (subst (λ (names : List (Bor (List ℕ))). RunsImages (setup_of c.args.setup) files (map (λ s. s.now) names) c.args.setup.schedule (run_outputs (disk_names c.args.setup.disks)) (Some r) None h k) (sym (first_and_rest c.args.names.now _ c.in-len1-up.len_at_least))
+          (image_bad (setup_of c.args.setup) files _ _ c.args.setup.schedule _ c.as_slice-in-len1-up.result.now c.in_ok-file-in-len1-up.file.items _ r h k c.requires.good c.in_ok-file-in-len1-up.ensures.bytes
           c.in_ok-file-in-len1-up.ensures.fetches c.in_err-judge-in-len1-up.ensures.judged c.as_slice-in-len1-up.ensures.value
           (omega (arith, c.len.ensures, c.requires.few, length-map c.args.files.items (λ v. v.items)))));
     }
@@ -60,10 +62,10 @@ returns-in-empty g t c =
     let left = left_of c.run_files.result in
     let none : c.args.names.now ≡ [] = empty_slice c.args.names.now c.in-empty.len_below in
     let same = c.as_slice.ensures.value in
-    let carries = subst (λ (all : List (Vec ℕ Global)). Carries (images_verdict 1 (map (λ v. v.items) all) (boot_verdict c.args.plain c.args.schedule)) ended left h k) same c.run_files.ensures.carries in
+    let stage = subst (λ (all : List (Vec ℕ Global)). Stage (images_verdict 1 (map (λ v. v.items) all) (boot_verdict (setup_of c.args.setup) c.args.setup.schedule)) no_fetches (run_outputs (disk_names c.args.setup.disks)) ended left h k) same c.run_files.ensures.stage in
     record {
-      runs = subst (λ (names : List (Bor (List ℕ))). RunsImages c.args.plain files (map (λ s. s.now) names) c.args.schedule ended left h k) (sym none)
-          (images_run c.args.plain files c.args.schedule ended left h k carries c.run_files.ensures.calls c.run_files.ensures.keeps);
+      runs = subst (λ (names : List (Bor (List ℕ))). RunsImages (setup_of c.args.setup) files (map (λ s. s.now) names) c.args.setup.schedule (run_outputs (disk_names c.args.setup.disks)) ended left h k) (sym none)
+          (images_run (setup_of c.args.setup) files c.args.setup.schedule (run_outputs (disk_names c.args.setup.disks)) ended left h k stage);
     }
 
 pub returns-in-Ok : goal.returns-in-Ok
@@ -77,8 +79,8 @@ returns-in-Ok g t c =
     let left = left_of c.run_from.result in
     let added = ap (map (λ v. v.items)) c.in-Ok.ensures.items ∙ map-append (λ v. v.items) c.args.files.items (file ∷ []) in
     record {
-      runs = subst (λ (names : List (Bor (List ℕ))). RunsImages c.args.plain files (map (λ s. s.now) names) c.args.schedule ended left h k) (sym (first_and_rest c.args.names.now _ c.in-len1-up.len_at_least))
-          (image_then c.args.plain files (map (λ v. v.items) c.push.new.self.items) _ _ c.args.schedule file.items ended left h j k c.requires.good added c.in_ok-file-in-len1-up.ensures.bytes
+      runs = subst (λ (names : List (Bor (List ℕ))). RunsImages (setup_of c.args.setup) files (map (λ s. s.now) names) c.args.setup.schedule (run_outputs (disk_names c.args.setup.disks)) ended left h k) (sym (first_and_rest c.args.names.now _ c.in-len1-up.len_at_least))
+          (image_then (setup_of c.args.setup) files (map (λ v. v.items) c.push.new.self.items) _ _ c.args.setup.schedule _ file.items ended left h j k c.requires.good added c.in_ok-file-in-len1-up.ensures.bytes
           c.in_ok-file-in-len1-up.ensures.fetches c.run_from.ensures.runs);
     }
 
@@ -88,7 +90,7 @@ returns-in-Err g t c =
     let k = g.H.Host.view c.fetch_file.new.host in
     let files = map (λ v. v.items) c.args.files.items in
     record {
-      runs = subst (λ (names : List (Bor (List ℕ))). RunsImages c.args.plain files (map (λ s. s.now) names) c.args.schedule (Some refusal.NoMemory) None h k)
+      runs = subst (λ (names : List (Bor (List ℕ))). RunsImages (setup_of c.args.setup) files (map (λ s. s.now) names) c.args.setup.schedule (run_outputs (disk_names c.args.setup.disks)) (Some refusal.NoMemory) None h k)
           (sym (first_and_rest c.args.names.now _ c.in-len1-up.len_at_least))
-          (image_unkept c.args.plain files _ _ c.args.schedule c.in_ok-file-in-len1-up.file.items h k c.requires.good c.in_ok-file-in-len1-up.ensures.bytes c.in_ok-file-in-len1-up.ensures.fetches);
+          (image_unkept (setup_of c.args.setup) files _ _ c.args.setup.schedule _ c.in_ok-file-in-len1-up.file.items h k c.requires.good c.in_ok-file-in-len1-up.ensures.bytes c.in_ok-file-in-len1-up.ensures.fetches);
     }
