@@ -51,21 +51,17 @@ impl Recording {
         for strip in layout.strips.as_slice() {
             let labels = self.labels.as_slice();
             let frame = Frame::new(self.alloc, self.rows.as_slice(), labels, *strip)?;
-            let before = ink.text.len();
-            let open = format!(in self.alloc; "<g transform=\"translate(0 {y})\">\n")?;
-            ink.put(open.as_str())?;
-            draw_strip(ink, self, &layout, *strip, &frame)?;
-            ink.put("</g>\n")?;
-            if ink.text.len() > MOST_BYTES {
-                ink.text.truncate(before);
-                ink.words(
-                    "s",
-                    MARGIN,
-                    y.saturating_add(8),
-                    "The picture has no room for more.",
-                )?;
+            let mut drawn = Ink::new(self.alloc);
+            draw_strip(&mut drawn, self, &layout, *strip, &frame)?;
+            if ink.text.len().saturating_add(drawn.text.len()) > MOST_BYTES {
+                let line = y.saturating_add(8);
+                ink.words("s", MARGIN, line, "The picture has no room for more.")?;
                 return Ok(y.saturating_add(BETWEEN));
             }
+            let open = format!(in self.alloc; "<g transform=\"translate(0 {y})\">\n")?;
+            ink.put(open.as_str())?;
+            ink.put(drawn.text.as_str())?;
+            ink.put("</g>\n")?;
             y = y.saturating_add(frame.bottom()).saturating_add(BETWEEN);
         }
         Ok(y)

@@ -1,9 +1,9 @@
 //! The command: its arguments and files are read as `run` reads them, and the picture is drawn.
 
+use crate::disks::named_disks;
 use crate::drawing::picture_of;
 use crate::inputs::Inputs;
 use crate::words::words_of;
-use command_line::{Command, command_of};
 use host_port::{Channel, Host, HostFault};
 use std::alloc::Global;
 use xinu_commands::xinu;
@@ -28,26 +28,20 @@ fn tell<H: Host>(host: &mut H, text: &str, status: u8) -> u8 {
 
 // Carries the command out, and answers its status, which isn't 0 if it was refused and told.
 fn carry_out<H: Host>(alloc: Global, args: &[String], host: &mut H) -> Result<u8, HostFault> {
-    let words = match words_of(alloc, args)? {
-        Some(words) if !concerns_output(alloc, words.run.as_slice()) => words,
-        _ => return Ok(refuse_arguments(alloc, host)),
+    let Some(words) = words_of(alloc, args)? else {
+        return Ok(refuse_arguments(alloc, host));
+    };
+    let Some(named) = named_disks(alloc, words.run.as_slice()) else {
+        return Ok(refuse_arguments(alloc, host));
     };
     let mut inputs = Inputs::new(alloc, host);
     let status = begin_run(alloc, words.run.as_slice(), &mut inputs);
     if !inputs.has_begun() {
         return Ok(status);
     }
-    let picture = picture_of(alloc, inputs.files(), words.part)?;
+    let picture = picture_of(alloc, inputs.files(), named, words.part)?;
     inputs.send(picture.as_bytes())?;
     Ok(0)
-}
-
-// Whether the arguments are those of a run with an option that concerns its output.
-fn concerns_output(alloc: Global, args: &[String]) -> bool {
-    match command_of(alloc, args) {
-        Ok(Command::Run(files)) => files.plain,
-        _ => false,
-    }
 }
 
 // Refuses arguments, as the program refuses those that give no command.

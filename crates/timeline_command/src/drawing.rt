@@ -1,13 +1,15 @@
 //! The run that is drawn: its events are taken, and the picture is told of each.
 
-ghost use Rattle.std.specs.Prelude.{◌≡◌, ◌≤◌, ◌+◌, false, length, IfOk, vec_len};
+ghost use Rattle.std.specs.Prelude.{◌≡◌, ◌≤◌, ◌+◌, false, length, IfOk};
 
+use crate::disks::{Named, clean_disk, raw_disk, take_disk};
 use crate::events::{start, tables, take};
 use crate::parts::Drawing;
 use crate::words::Part;
 use elf_loader::load;
 use host_port::HostFault;
 use image_loader::Image;
+use lfs_layout::{CleanImage, RawImage};
 use machine::{Go, Machine};
 use run_picture::Ending;
 use schedule_file::Schedule;
@@ -16,20 +18,26 @@ use std::alloc::Global;
 /// The most bytes of a schedule that is read.
 const LONGEST: usize = 4_294_967_294;
 
-/// The picture of a part of the run of these files, the schedule first. They are files that `run` accepts.
+/// The picture of a part of the run of these files: the schedule, those of the disks that are named, and the images. They are files that
+/// `run` accepts.
 ///
 /// # Errors
 /// Out of memory.
 pub(crate) fn picture_of(
     alloc: Global,
     files: &[Vec<u8>],
+    named: Named,
     part: Part,
 ) -> Result<String, HostFault> {
-    let [schedule, images @ ..] = files else {
+    let [schedule, rest @ ..] = files else {
         return Err(HostFault::NoMemory);
     };
+    let (disk0, rest) = take_disk(rest, named.disk0);
+    let (disk1, images) = take_disk(rest, named.disk1);
     let mut schedule = schedule_in(alloc, schedule.as_slice())?;
-    let mut machine = machine_of(alloc, images)?;
+    let disk0 = raw_disk(alloc, disk0)?;
+    let disk1 = clean_disk(alloc, disk1)?;
+    let mut machine = machine_of(alloc, images, disk0, disk1)?;
     draw(alloc, &mut machine, &mut schedule, part)
 }
 
@@ -46,8 +54,13 @@ fn schedule_in(alloc: Global, file: &[u8]) -> Result<Schedule, HostFault>
     }
 }
 
-// The machine that is booted with the images in files.
-fn machine_of(alloc: Global, files: &[Vec<u8>]) -> Result<Machine, HostFault>
+// The machine that is booted on these disks with the images in files.
+fn machine_of(
+    alloc: Global,
+    files: &[Vec<u8>],
+    disk0: RawImage,
+    disk1: CleanImage,
+) -> Result<Machine, HostFault>
     ensures running { IfOk result (λ m. m.over ≡ false) }
     ensures fresh { IfOk result (λ m. m.events ≡ 0) }
 {
@@ -55,7 +68,7 @@ fn machine_of(alloc: Global, files: &[Vec<u8>]) -> Result<Machine, HostFault>
     if images.is_empty() || images.len() > 8 {
         return Err(HostFault::NoMemory);
     }
-    match Machine::boot(alloc, images.as_slice()) {
+    match Machine::boot(alloc, images.as_slice(), disk0, disk1) {
         Ok(machine) => Ok(machine),
         Err(_) => Err(HostFault::NoMemory),
     }

@@ -11,6 +11,7 @@
 #![tactic(auto)]
 
 mod command;
+mod disks;
 mod drawing;
 mod events;
 mod inputs;
