@@ -13,6 +13,7 @@ pub mod Files
 pub mod GoodImages
 pub mod ImageFiles
 pub mod InputFaults
+pub mod PlainSteps
 pub mod Possible
 pub mod Printed
 pub mod Sent

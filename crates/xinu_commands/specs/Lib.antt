@@ -3,6 +3,7 @@ pub mod Calls
 pub mod Conversions
 pub mod DiskVerdict
 pub mod InputFaults
+pub mod PlainSteps
 pub mod Refusals
 pub mod RunVerdict
 pub mod Setups

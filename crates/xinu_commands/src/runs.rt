@@ -7,6 +7,7 @@ ghost use Rattle.image_loader.specs.Images.{loaded_of};
 ghost use Rattle.xinu_base.specs.declared.lines.TranscriptLine.TheVariants as line;
 ghost use Rattle.xinu_model.specs.Text.{shown};
 ghost use Rattle.xinu_commands.specs.Calls.{run_outputs};
+ghost use Rattle.xinu_commands.specs.PlainSteps.{ArePlainSteps};
 ghost use Rattle.xinu_commands.specs.RunVerdict.{boot_verdict};
 ghost use Rattle.xinu_commands.specs.Setups.{setup_of};
 ghost use Rattle.xinu_commands.specs.Stages.{Stage, left_of, no_fetches, refusal_of};
@@ -107,6 +108,7 @@ fn take_events<H: Host>(
     ensures { RunPrints machine.old.state schedule.old machine.new.state result out.old out.new (H.view host.old) (H.view host.new) }
 {
     while out.failed().is_none() {
+        take_steps(machine, schedule);
         let Some(event) = schedule.next_event() else {
             return End::Schedule;
         };
@@ -117,6 +119,19 @@ fn take_events<H: Host>(
         }
     }
     End::Schedule
+}
+
+// Takes the steps that come next on the schedule and print nothing.
+fn take_steps(machine: &mut Machine, schedule: &mut Schedule)
+    requires over { machine.old.over ≡ false }
+    requires few { machine.old.events + length schedule.old ≤ 1000000000 }
+    ensures steps { ArePlainSteps machine.old.state schedule.old machine.new.state schedule.new }
+    ensures over { machine.new.over ≡ false }
+    ensures few { machine.new.events + length schedule.new ≤ 1000000000 }
+    ensures fewer { length schedule.new ≤ length schedule.old }
+{
+    let taken = machine.steps(schedule.steps_ahead());
+    schedule.skip(taken);
 }
 
 // Prints the last line.

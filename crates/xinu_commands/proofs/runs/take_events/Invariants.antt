@@ -13,9 +13,9 @@ pub record UnderWay (start : Booted) (all : List Event) (here : Booted) (left : 
   pub few : here.events + length left ≤ 1000000000
   pub so_far : SoFar start.state all here.state left before after was is
 
-abbrev pub invariant-loop-schedule : goal.invariant-loop-schedule
-invariant-loop-schedule g l =
+abbrev pub invariant-loop-machine : goal.invariant-loop-machine
+invariant-loop-machine g l =
     UnderWay l.initial.machine l.initial.schedule l.machine l.schedule l.initial.out l.out (g.H.Host.view l.initial.host) (g.H.Host.view l.host)
 
-abbrev pub decreases-loop-schedule : goal.decreases-loop-schedule
-decreases-loop-schedule g l = length l.schedule
+abbrev pub decreases-loop-machine : goal.decreases-loop-machine
+decreases-loop-machine g l = length l.schedule
