@@ -21,6 +21,7 @@ SOURCE = b"li a7, 1\necall\nsys exit\n"
 
 COMMANDS = [
     ("the stored run", ["run", "--schedule", os.path.join(CRATE, "data", "four_steps.txt"), os.path.join(CRATE, "data", "getpid_and_exit.xim")]),
+    ("a run with four disks", ["run", "--schedule", os.path.join(CRATE, "data", "four_steps.txt"), "--disk0", "raw", "--disk1", "disk", "--out0", "out0", "--out1", "out1", os.path.join(CRATE, "data", "getpid_and_exit.xim")]),
     ("asm over a text of three lines", ["asm", "three.s", "--out", "out"]),
     ("the same with --elf", ["asm", "three.s", "--out", "out", "--elf"]),
     ("disk mkfs 256", ["disk", "mkfs", "256", "--out", "out"]),
@@ -59,6 +60,8 @@ def main():
         subprocess.run(["cc", "-shared", "-fPIC", "-O2", "-o", library, os.path.join(BENCH, "refuse.c")], check=True)
         with open(os.path.join(folder, "three.s"), "wb") as source:
             source.write(SOURCE)
+        with open(os.path.join(folder, "raw"), "wb") as raw:
+            raw.write(bytes(8 * 512))
         subprocess.run([program, "disk", "mkfs", "256", "--out", "disk"], cwd=folder, check=True)
         for name, args in COMMANDS:
             print(f"{name}: status 7 up to allocation {last_refused(program, folder, args, library)}")

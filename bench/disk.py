@@ -1,13 +1,15 @@
 #!/usr/bin/env python3
-"""Times `xinu_run disk check` on full images of several sizes.
+"""Times `xinu_run disk check` on full images of several sizes, and a run that reads and writes every block of the largest raw disk.
 
 usage: bench/disk.py
 
 It builds the program, makes each image with `disk mkfs`, fills all of its data blocks with eight files by `disk put`, and prints for
 each the seconds of processor time of the slowest `disk put` and of `disk check`, and the greatest memory of the check in bytes and as
-a multiple of the image. The last line is how much longer the check of the largest image takes than that of the smallest, for each byte.
-No part of the gate."""
+a multiple of the image. Then it prints how much longer the check of the largest image takes than that of the smallest, for each byte.
+Last it runs an image that reads each block of a raw disk of 65,536 blocks and writes it back to the block 32,768 further on, compares the
+disk that comes out, and prints the seconds and the greatest memory, also as a multiple of RAM and the two disks. No part of the gate."""
 import os
+import struct
 import subprocess
 import sys
 import tempfile
@@ -17,19 +19,40 @@ CRATE = os.path.join(os.path.dirname(os.path.abspath(__file__)), "..", "crates",
 PROGRAM = os.path.join(CRATE, "out", "xinu_run")
 DATA = ["run", "--schedule", "data/four_steps.txt", "data/getpid_and_exit.xim"]
 BLOCKS = (2054, 16390, 65542)
+RAW_BLOCKS = 65536
+RAM = 1 << 20
+# Reads block s0 to 8192, and writes it to block s0 + 32768, of which only the lowest 16 bits count.
+COPIER = b"""
+        li s0, 0
+        li s1, 65536
+next:   li a0, 2
+        li a1, 8192
+        mv a2, s0
+        sys read
+        li t0, 32768
+        add a2, s0, t0
+        slli a2, a2, 16
+        srli a2, a2, 16
+        li a0, 2
+        li a1, 8192
+        sys write
+        addi s0, s0, 1
+        blt s0, s1, next
+        sys exit
+"""
 FILES = 8
 
 
 def timed(words):
     """The processor seconds of a command, its greatest memory in bytes and what it printed."""
-    process = subprocess.Popen([PROGRAM, "disk", *words], stdout=subprocess.PIPE)
+    process = subprocess.Popen([PROGRAM, *words], stdout=subprocess.PIPE)
     memory, ended = 0, 0
     while not ended:
         time.sleep(0.002)
         memory = max(memory, greatest_memory(process.pid))
         ended, status, usage = os.wait4(process.pid, os.WNOHANG)
     if status != 0:
-        sys.exit(f"disk {words[0]} ended with status {status}")
+        sys.exit(f"{' '.join(words[:2])} ended with status {status}")
     return usage.ru_utime + usage.ru_stime, memory, process.stdout.read().decode()
 
 
@@ -43,14 +66,32 @@ def greatest_memory(pid):
 def filled(folder, blocks):
     """An image of a number of blocks without a free data block, and the seconds of the slowest `put`."""
     image, source = os.path.join(folder, f"disk{blocks}"), os.path.join(folder, "source")
-    timed(["mkfs", str(blocks), "--out", image])
+    timed(["disk", "mkfs", str(blocks), "--out", image])
     data, slowest = blocks - 6 - (blocks + 63) // 64, 0.0
     for k in range(FILES):
         share = data * (k + 1) // FILES - data * k // FILES
         with open(source, "wb") as file:
             file.write(bytes([k + 1]) * (512 * share))
-        slowest = max(slowest, timed(["put", image, f"file{k}", source, "--out", image])[0])
+        slowest = max(slowest, timed(["disk", "put", image, f"file{k}", source, "--out", image])[0])
     return image, slowest
+
+
+def raw_run(folder):
+    """Reads and writes every block of the largest raw disk, and prints how long it takes."""
+    raw, out, source, image, schedule = (os.path.join(folder, name) for name in ("raw", "out", "copier.s", "copier", "schedule"))
+    blocks = [struct.pack("<I", k) * 128 for k in range(RAW_BLOCKS)]
+    half = RAW_BLOCKS // 2
+    # The first half is copied over the second, and then the second, which is as the first by then, over the first.
+    for name, content in ((raw, b"".join(blocks)), (source, COPIER), (schedule, b"round 66000\n")):
+        with open(name, "wb") as file:
+            file.write(content)
+    timed(["asm", source, "--out", image])
+    seconds, memory, _ = timed(["run", "--plain", "--schedule", schedule, "--disk0", raw, "--out0", out, image])
+    with open(out, "rb") as file:
+        if file.read() != b"".join(blocks[:half] * 2):
+            sys.exit("another disk came out")
+    size = RAM + 512 * RAW_BLOCKS + 512 * 256
+    print(f"run over {512 * RAW_BLOCKS} bytes of raw disk: {seconds:.3f} s, {memory} bytes of memory, {memory / size:.2f} times RAM and disks")
 
 
 def main():
@@ -60,12 +101,13 @@ def main():
         for blocks in BLOCKS:
             image, put = filled(folder, blocks)
             size = os.path.getsize(image)
-            seconds, memory, printed = timed(["check", image])
+            seconds, memory, printed = timed(["disk", "check", image])
             if not printed.startswith(f"clean {FILES} 0 "):
                 sys.exit(f"disk check printed {printed!r}")
             rates.append(seconds / size)
             print(f"{size:9} bytes  put {put:6.3f} s  check {seconds:6.3f} s  {memory:10} bytes of memory, {memory / size:5.2f} times")
-    print(f"check of the largest against the smallest, for each byte: {rates[-1] / rates[0]:.2f}")
+        print(f"check of the largest against the smallest, for each byte: {rates[-1] / rates[0]:.2f}")
+        raw_run(folder)
 
 
 if __name__ == "__main__":

@@ -2,7 +2,7 @@
 
 ghost use Rattle.std.specs.Prelude.{◌+◌, ◌≤◌, length};
 
-use super::programs::{repeated, status_of};
+use super::programs::{repeated, status_of, version_1};
 use host_port::{Channel, MemoryHost, QuietMemoryHost};
 use std::alloc::Global;
 use std::test::Fail;
@@ -60,21 +60,6 @@ fn with_shared_block(alloc: Global) -> Result<Vec<u8>, Fail> {
         disk.as_mut_slice()[3152] = 10;
     }
     Ok(disk)
-}
-
-// A disk of version 1 of eight blocks, without files.
-fn version_1() -> [u8; 4096] {
-    let mut disk = [0; 4096];
-    disk[0] = 2;
-    for i in 0..6 {
-        disk[512 + 72 * i] = i as u8 + 1;
-    }
-    disk[944..948].copy_from_slice(&[255; 4]);
-    for b in 2..7 {
-        disk[512 * b] = b as u8 + 1;
-    }
-    disk[3584..3588].copy_from_slice(&[255; 4]);
-    disk
 }
 
 // Whether an action that only prints says this of a disk.

@@ -20,4 +20,6 @@ mod programs;
 #[cfg(test)]
 mod real_files;
 #[cfg(test)]
+mod run_disks;
+#[cfg(test)]
 mod schedules;

@@ -43,6 +43,21 @@ pub(crate) fn repeated(alloc: Global, byte: u8, count: usize) -> Result<Vec<u8>,
     Ok(vec![in alloc; byte; count]?)
 }
 
+/// A disk of version 1 of eight blocks, without files.
+pub(crate) fn version_1() -> [u8; 4096] {
+    let mut disk = [0; 4096];
+    disk[0] = 2;
+    for i in 0..6 {
+        disk[512 + 72 * i] = i as u8 + 1;
+    }
+    disk[944..948].copy_from_slice(&[255; 4]);
+    for b in 2..7 {
+        disk[512 * b] = b as u8 + 1;
+    }
+    disk[3584..3588].copy_from_slice(&[255; 4]);
+    disk
+}
+
 /// A host that never fails and holds a schedule and an image.
 pub(crate) fn quiet_host(
     alloc: Global,

@@ -67,3 +67,29 @@ fn a_refusal_is_told_on_standard_error(rt: HostRuntime) -> Result<(), Fail> {
     }
     prepare(&rt, false)
 }
+
+// What a disk is written to isn't in a folder that there is.
+#[test]
+fn a_disk_without_a_folder_is_a_host_fault(rt: HostRuntime) -> Result<(), Fail> {
+    fs::write(&rt, "disk_four.txt", b"step 4\n")?;
+    fs::write(&rt, "disk_good.xim", &GETPID_AND_EXIT)?;
+    for option in ["--out0", "--out1"] {
+        let mut host = RealHost::new(FileRuntime { rt: rt.clone()? });
+        let args = [
+            "run",
+            "--plain",
+            "--schedule",
+            "disk_four.txt",
+            option,
+            "no_folder/disk",
+            "disk_good.xim",
+        ];
+        assert_eq!(rt; status_of(rt.alloc(), &args, &mut host)?, 3, "{option}");
+        let text = fs::read_to_string(&rt, STANDARD_ERROR)?;
+        fs::remove_file(&rt, STANDARD_ERROR)?;
+        assert_eq!(rt; text.as_str(), "xinu: host fault\n", "{option}");
+    }
+    fs::remove_file(&rt, "disk_four.txt")?;
+    fs::remove_file(&rt, "disk_good.xim")?;
+    Ok(())
+}

@@ -6,121 +6,134 @@ use std::process::Abort;
 use std::test::Fail;
 
 /// Arguments, with a bar between two, and the command that they give.
-const COMMANDS: [(&str, &str); 50] = [
+const COMMANDS: [(&str, &str); 53] = [
     // a run of one image
     (
         "run|--schedule|s|i",
-        r#"Run(RunFiles { schedule: "s", images: ["i"], plain: false })"#,
+        r#"Run(RunFiles { schedule: "s", disks: DiskFiles { disk0: None, disk1: None, out0: None, out1: None }, images: ["i"], plain: false })"#,
     ),
     (
         "run|i|--schedule|s",
-        r#"Run(RunFiles { schedule: "s", images: ["i"], plain: false })"#,
+        r#"Run(RunFiles { schedule: "s", disks: DiskFiles { disk0: None, disk1: None, out0: None, out1: None }, images: ["i"], plain: false })"#,
     ),
     (
         "run|--schedule=s|i",
-        r#"Run(RunFiles { schedule: "s", images: ["i"], plain: false })"#,
+        r#"Run(RunFiles { schedule: "s", disks: DiskFiles { disk0: None, disk1: None, out0: None, out1: None }, images: ["i"], plain: false })"#,
     ),
     (
         "run|i|--schedule=s",
-        r#"Run(RunFiles { schedule: "s", images: ["i"], plain: false })"#,
+        r#"Run(RunFiles { schedule: "s", disks: DiskFiles { disk0: None, disk1: None, out0: None, out1: None }, images: ["i"], plain: false })"#,
     ),
     (
         "run|--schedule=a=b|i",
-        r#"Run(RunFiles { schedule: "a=b", images: ["i"], plain: false })"#,
+        r#"Run(RunFiles { schedule: "a=b", disks: DiskFiles { disk0: None, disk1: None, out0: None, out1: None }, images: ["i"], plain: false })"#,
     ),
     (
         "run|--schedule=-x|i",
-        r#"Run(RunFiles { schedule: "-x", images: ["i"], plain: false })"#,
+        r#"Run(RunFiles { schedule: "-x", disks: DiskFiles { disk0: None, disk1: None, out0: None, out1: None }, images: ["i"], plain: false })"#,
     ),
     (
         "run|--schedule=--|i",
-        r#"Run(RunFiles { schedule: "--", images: ["i"], plain: false })"#,
+        r#"Run(RunFiles { schedule: "--", disks: DiskFiles { disk0: None, disk1: None, out0: None, out1: None }, images: ["i"], plain: false })"#,
     ),
     (
         "run|--schedule|-|i",
-        r#"Run(RunFiles { schedule: "-", images: ["i"], plain: false })"#,
+        r#"Run(RunFiles { schedule: "-", disks: DiskFiles { disk0: None, disk1: None, out0: None, out1: None }, images: ["i"], plain: false })"#,
     ),
     (
         "run|--schedule|s|-",
-        r#"Run(RunFiles { schedule: "s", images: ["-"], plain: false })"#,
+        r#"Run(RunFiles { schedule: "s", disks: DiskFiles { disk0: None, disk1: None, out0: None, out1: None }, images: ["-"], plain: false })"#,
     ),
     (
         "run|--schedule|s|--|i",
-        r#"Run(RunFiles { schedule: "s", images: ["i"], plain: false })"#,
+        r#"Run(RunFiles { schedule: "s", disks: DiskFiles { disk0: None, disk1: None, out0: None, out1: None }, images: ["i"], plain: false })"#,
     ),
     (
         "run|--schedule|s|i|--",
-        r#"Run(RunFiles { schedule: "s", images: ["i"], plain: false })"#,
+        r#"Run(RunFiles { schedule: "s", disks: DiskFiles { disk0: None, disk1: None, out0: None, out1: None }, images: ["i"], plain: false })"#,
     ),
     (
         "run|--schedule|s|--|--",
-        r#"Run(RunFiles { schedule: "s", images: ["--"], plain: false })"#,
+        r#"Run(RunFiles { schedule: "s", disks: DiskFiles { disk0: None, disk1: None, out0: None, out1: None }, images: ["--"], plain: false })"#,
     ),
     (
         "run|--schedule|s|--|-x",
-        r#"Run(RunFiles { schedule: "s", images: ["-x"], plain: false })"#,
+        r#"Run(RunFiles { schedule: "s", disks: DiskFiles { disk0: None, disk1: None, out0: None, out1: None }, images: ["-x"], plain: false })"#,
     ),
     (
         "run|--schedule|s|--|--schedule",
-        r#"Run(RunFiles { schedule: "s", images: ["--schedule"], plain: false })"#,
+        r#"Run(RunFiles { schedule: "s", disks: DiskFiles { disk0: None, disk1: None, out0: None, out1: None }, images: ["--schedule"], plain: false })"#,
     ),
     (
         "run|--schedule|run|run",
-        r#"Run(RunFiles { schedule: "run", images: ["run"], plain: false })"#,
+        r#"Run(RunFiles { schedule: "run", disks: DiskFiles { disk0: None, disk1: None, out0: None, out1: None }, images: ["run"], plain: false })"#,
     ),
     (
         "run|--schedule|é s|help",
-        r#"Run(RunFiles { schedule: "é s", images: ["help"], plain: false })"#,
+        r#"Run(RunFiles { schedule: "é s", disks: DiskFiles { disk0: None, disk1: None, out0: None, out1: None }, images: ["help"], plain: false })"#,
     ),
     // several images, at most eight
     (
         "run|--schedule|s|i|j",
-        r#"Run(RunFiles { schedule: "s", images: ["i", "j"], plain: false })"#,
+        r#"Run(RunFiles { schedule: "s", disks: DiskFiles { disk0: None, disk1: None, out0: None, out1: None }, images: ["i", "j"], plain: false })"#,
     ),
     (
         "run|i|--schedule|s|i",
-        r#"Run(RunFiles { schedule: "s", images: ["i", "i"], plain: false })"#,
+        r#"Run(RunFiles { schedule: "s", disks: DiskFiles { disk0: None, disk1: None, out0: None, out1: None }, images: ["i", "i"], plain: false })"#,
     ),
     (
         "run|c|--schedule=s|--|b|--|-a",
-        r#"Run(RunFiles { schedule: "s", images: ["c", "b", "--", "-a"], plain: false })"#,
+        r#"Run(RunFiles { schedule: "s", disks: DiskFiles { disk0: None, disk1: None, out0: None, out1: None }, images: ["c", "b", "--", "-a"], plain: false })"#,
     ),
     (
         "run|1|2|3|--schedule|s|4|5|6|7|8",
-        r#"Run(RunFiles { schedule: "s", images: ["1", "2", "3", "4", "5", "6", "7", "8"], plain: false })"#,
+        r#"Run(RunFiles { schedule: "s", disks: DiskFiles { disk0: None, disk1: None, out0: None, out1: None }, images: ["1", "2", "3", "4", "5", "6", "7", "8"], plain: false })"#,
     ),
     // a plain output
     (
         "run|--schedule|s|i",
-        r#"Run(RunFiles { schedule: "s", images: ["i"], plain: false })"#,
+        r#"Run(RunFiles { schedule: "s", disks: DiskFiles { disk0: None, disk1: None, out0: None, out1: None }, images: ["i"], plain: false })"#,
     ),
     (
         "run|--plain|--schedule|s|i",
-        r#"Run(RunFiles { schedule: "s", images: ["i"], plain: true })"#,
+        r#"Run(RunFiles { schedule: "s", disks: DiskFiles { disk0: None, disk1: None, out0: None, out1: None }, images: ["i"], plain: true })"#,
     ),
     (
         "run|--schedule|s|--plain|i",
-        r#"Run(RunFiles { schedule: "s", images: ["i"], plain: true })"#,
+        r#"Run(RunFiles { schedule: "s", disks: DiskFiles { disk0: None, disk1: None, out0: None, out1: None }, images: ["i"], plain: true })"#,
     ),
     (
         "run|--schedule=s|i|--plain",
-        r#"Run(RunFiles { schedule: "s", images: ["i"], plain: true })"#,
+        r#"Run(RunFiles { schedule: "s", disks: DiskFiles { disk0: None, disk1: None, out0: None, out1: None }, images: ["i"], plain: true })"#,
     ),
     (
         "run|i|--plain|--schedule|s",
-        r#"Run(RunFiles { schedule: "s", images: ["i"], plain: true })"#,
+        r#"Run(RunFiles { schedule: "s", disks: DiskFiles { disk0: None, disk1: None, out0: None, out1: None }, images: ["i"], plain: true })"#,
     ),
     (
         "run|--plain|--schedule|s|--|i",
-        r#"Run(RunFiles { schedule: "s", images: ["i"], plain: true })"#,
+        r#"Run(RunFiles { schedule: "s", disks: DiskFiles { disk0: None, disk1: None, out0: None, out1: None }, images: ["i"], plain: true })"#,
     ),
     (
         "run|--schedule|s|--|--plain",
-        r#"Run(RunFiles { schedule: "s", images: ["--plain"], plain: false })"#,
+        r#"Run(RunFiles { schedule: "s", disks: DiskFiles { disk0: None, disk1: None, out0: None, out1: None }, images: ["--plain"], plain: false })"#,
     ),
     (
         "run|--schedule|s|plain",
-        r#"Run(RunFiles { schedule: "s", images: ["plain"], plain: false })"#,
+        r#"Run(RunFiles { schedule: "s", disks: DiskFiles { disk0: None, disk1: None, out0: None, out1: None }, images: ["plain"], plain: false })"#,
+    ),
+    // a run on disks
+    (
+        "run|--schedule|s|--disk0|d|--disk1|e|--out0|f|--out1|g|i",
+        r#"Run(RunFiles { schedule: "s", disks: DiskFiles { disk0: Some("d"), disk1: Some("e"), out0: Some("f"), out1: Some("g") }, images: ["i"], plain: false })"#,
+    ),
+    (
+        "run|--out1=g|i|--disk1|e|--plain|--schedule|s|--disk0=d|--out0|f",
+        r#"Run(RunFiles { schedule: "s", disks: DiskFiles { disk0: Some("d"), disk1: Some("e"), out0: Some("f"), out1: Some("g") }, images: ["i"], plain: true })"#,
+    ),
+    (
+        "run|--schedule|s|--disk0|d|--out0|d|d",
+        r#"Run(RunFiles { schedule: "s", disks: DiskFiles { disk0: Some("d"), disk1: None, out0: Some("d"), out1: None }, images: ["d"], plain: false })"#,
     ),
     // a text to assemble
     (
@@ -203,7 +216,7 @@ const COMMANDS: [(&str, &str); 50] = [
 ];
 
 /// Arguments that give no command.
-const NO_COMMANDS: [&str; 125] = [
+const NO_COMMANDS: [&str; 135] = [
     // the first argument
     "--schedule|s|i",
     "--schedule|s|run|i",
@@ -230,7 +243,8 @@ const NO_COMMANDS: [&str; 125] = [
     "run|--sched=s|i",
     "run|--schedules|s|i",
     "run|-s|s|i",
-    "run|--schedule|s|--disk0|d|i",
+    "run|--schedule|s|--disk2|d|i",
+    "run|--schedule|s|--out|d|i",
     "run|--schedule|s|---|i",
     "run|--schedule|s|--=v|i",
     "run|--schedule|s|-x",
@@ -257,6 +271,16 @@ const NO_COMMANDS: [&str; 125] = [
     "--plain|run|--schedule|s|i",
     "asm|s|--out|o|--plain",
     "disk|check|d|--plain",
+    // a disk's option twice, without its value or with an empty one, or where it isn't an option
+    "run|--schedule|s|--disk0|d|--disk0|d|i",
+    "run|--schedule|s|--out1|d|i|--out1=e",
+    "run|--schedule|s|i|--disk1",
+    "run|--schedule|s|--disk1|--out1|e|i",
+    "run|--schedule|s|--disk0=|i",
+    "run|--schedule|s|--out0||i",
+    "run|--disk0|d|i",
+    "asm|s|--out|o|--out1|e",
+    "disk|check|d|--disk1|e",
     // an image too few or too many
     "run|--schedule|s",
     "run|--schedule|s|--",

@@ -11,7 +11,7 @@
 //! | `$ xinu ARGUMENTS` | what the top call prints with these arguments: what it sends on Out and on Fault, and its status if it isn't 0 |
 //!
 //! The first process of a session is the image file `1`, the next is `2`, and so on. Image k begins at 4096 * (k - 1) and has 4096 bytes of
-//! content, with zeros after those of its text. What a command writes into the file after `--out` is there for the next one. A session ends
+//! content, with zeros after those of its text. What a command writes into the files of `--out`, `--out0` and `--out1` is there for the next one. A session ends
 //! at the next heading, and its files are forgotten.
 //!
 //! A byte that isn't a printable character is shown as `\x` and two digits. Output whose last line doesn't end has a `\` there.

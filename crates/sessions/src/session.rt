@@ -68,7 +68,7 @@ impl Session {
         self.add_file(name.as_str(), bytes)
     }
 
-    /// Makes the top call with these arguments, and answers what it prints. The file that it writes is one of the session afterwards.
+    /// Makes the top call with these arguments, and answers what it prints. The files that it writes are of the session afterwards.
     ///
     /// # Errors
     /// Out of memory.
@@ -79,9 +79,10 @@ impl Session {
         }
         let mut host = self.host()?;
         let status = status_of(self.alloc, args.as_slice(), &mut host);
-        if let Some(name) = out_name(arguments) {
-            self.keep_written(name, &host)?;
-        }
+        self.keep_written(arguments, "--out", Channel::Image, &host)?;
+        self.keep_written(arguments, "--out", Channel::Disk1, &host)?;
+        self.keep_written(arguments, "--out0", Channel::Disk0, &host)?;
+        self.keep_written(arguments, "--out1", Channel::Disk1, &host)?;
         Ok(shown(self.alloc, &host, status)?)
     }
 
@@ -99,29 +100,35 @@ impl Session {
         Ok(host)
     }
 
-    // Keeps the file that a command wrote under this name.
-    fn keep_written(&mut self, name: &str, host: &MemoryHost) -> io::Result<()> {
-        for channel in [Channel::Image, Channel::Disk1] {
-            let bytes = host.sent(channel);
-            if !bytes.is_empty() {
-                self.add_file(name, bytes)?;
-            }
+    // Keeps what a command wrote on a channel, if an option names a file for it.
+    fn keep_written(
+        &mut self,
+        arguments: &str,
+        option: &str,
+        channel: Channel,
+        host: &MemoryHost,
+    ) -> io::Result<()> {
+        let bytes = host.sent(channel);
+        match value_of(arguments, option) {
+            Some(name) if !bytes.is_empty() => self.add_file(name, bytes),
+            _ => Ok(()),
         }
-        Ok(())
     }
 }
 
-// The name of the file that a command writes: the word after `--out`, or what follows `--out=`.
-fn out_name(arguments: &str) -> Option<&str> {
+// The value of an option: the word after it, or what follows the `=` after it.
+fn value_of<'a>(arguments: &'a str, option: &str) -> Option<&'a str> {
     let mut is_next = false;
     for word in arguments.split_whitespace() {
         if is_next {
             return Some(word);
         }
-        if let Some(name) = word.strip_prefix("--out=") {
-            return Some(name);
+        if let Some((name, value)) = word.split_once("=")
+            && name == option
+        {
+            return Some(value);
         }
-        is_next = word == "--out";
+        is_next = word == option;
     }
     None
 }
