@@ -1,5 +1,5 @@
 -- The disk holds the files at rest, whatever the engine waits for.
-use Rattle.std.proofs.Common.{◌*◌, ◌+◌, ◌-◌, ◌≡◌, ℕ, zero, suc, Bool, true, false, ◌||◌, List, [], ◌∷◌, map, refl, sym, ap, ◌∙◌, subst, Option, Some, None, slice_index_or, is_some, bytes_eq, if◌then◌else◌, take}
+use Rattle.std.proofs.Common.{not, ◌*◌, ◌+◌, ◌-◌, ◌≡◌, ℕ, zero, suc, Bool, true, false, ◌||◌, List, [], ◌∷◌, map, refl, sym, ap, ◌∙◌, subst, Option, Some, None, slice_index_or, is_some, bytes_eq, if◌then◌else◌, take}
 use Rattle.std.specs.List.{list_any}
 use Rattle.std.proofs.lemmas.Bool.{false≢true}
 use Rattle.std.proofs.lemmas.Slice.Eq.{bytes_eq-Decides}
@@ -8,24 +8,27 @@ use Rattle.lfs_check.specs.Rules.{entry_is_used}
 use Rattle.lfs_check.specs.Laid.{Places}
 use Rattle.lfs_check.specs.Disks.{entry_at}
 use Rattle.lfs_layout.specs.Files.{bare_name}
-use Rattle.xinu_model.specs.Files.Systems.{has_open}
-use Rattle.xinu_model.specs.Files.Rest.{names_file}
+use Rattle.xinu_model.specs.Files.Systems.{FileSystem, is_open, has_open}
+use Rattle.xinu_model.specs.Files.Rest.{names_file, is_at_rest}
+use Rattle.xinu_model.specs.Files.Work.{FileRequest, FileWork}
 use Rattle.xinu_model.specs.Files.Writing.{overwritten}
 use Rattle.file_laws.specs.StoredFiles.{stored_files, entry_bytes}
 use Rattle.file_laws.specs.Holds.{Holds}
+use Rattle.file_laws.proofs.Names.{and-true}
 use Rattle.file_laws.proofs.Resting.{clean_holds, middle_holds}
 use Rattle.local_files.specs.declared.OpenFile.{OpenFile}
+use Rattle.local_files.specs.declared.BlockWork.{BlockWork}
 use Rattle.local_files.specs.declared.Files.{Files}
 use Rattle.local_files.specs.declared.FileCall.{FileCall}
 use Rattle.local_files.specs.declared.FileCall.TheVariants.{Open, Delete, Close, Read, Write, Getc, Putc, Seek, Truncate, Size}
 use Rattle.local_files.specs.declared.Phase.{Phase}
 use Rattle.local_files.specs.declared.Phase.TheVariants.{Idle, Done, Search, Walk, Fetch, Counts, Reach, PatchRead, PatchWrite, TakeRead, TakeWrite, AddRead, AddWrite, NewRead, NewWrite, LinkRead, LinkWrite, CutRead, CutWrite, FreeWrite, EntryRead, EntryWrite, HeaderRead, HeaderWrite}
-use Rattle.local_files.specs.Hands.{put_bytes, name_of, IsEnding, IsCutFor, IsCutting, HoldsOthers, name_in_hand}
+use Rattle.local_files.specs.Hands.{system, put_bytes, name_of, IsEnding, IsCutFor, IsCutting, HoldsOthers, name_in_hand}
 use Rattle.local_files.specs.Putting.{IsPutting}
 use Rattle.local_files.specs.Steps.{shown, device_at, device_of}
-use Rattle.local_files.specs.Standing.{Stands, InHand, call_of, wanted, wanted_in}
-use Rattle.local_files.specs.Resting.{AreAtRest}
-use Rattle.local_files.proofs.Devices.{device_some}
+use Rattle.local_files.specs.Standing.{Stands, InHand, call_of, wanted, wanted_in, call_bytes}
+use Rattle.local_files.specs.Resting.{AreAtRest, IsFirstCall}
+use Rattle.local_files.proofs.Devices.{device_some, or-false}
 
 -- a name that isn't at rest
 not_resting : (b : Bool) → (b ≡ true → ⊥) → b ≡ false
@@ -78,7 +81,8 @@ deleted_busy : (e : Files) (base : List ℕ) (rests : List ℕ → Bool) (name :
 deleted_busy e base rests name a w is named =
     let n : (entry_at base e.slot).name ≡ name = named ∙ ap name_of is in
     ap (λ x. rests (bare_name x)) n
-    ∙ named_busy e base rests name a w (ap (λ c. names_file (bare_name name) (call_of c [])) is ∙ same_name (bare_name name) (bare_name name) refl)
+    ∙ named_busy e base rests name a w (ap (λ c. names_file (bare_name name) (call_of c [])) is
+    ∙ same_name (bare_name name) (bare_name name) refl)
 
 -- a file that is written
 putting_holds : (e : Files) (base disk : List ℕ) (rests : List ℕ → Bool) (p : Places) → Stands e base disk → AreAtRest e base rests
@@ -187,3 +191,48 @@ held_always e base disk rests s a = by_phase e.phase refl s.hand
     by_phase EntryWrite is h = ends EntryWrite is refl h.ending h.held
     by_phase HeaderRead is h = ends HeaderRead is refl h.ending h.held
     by_phase HeaderWrite is h = ends HeaderWrite is refl h.ending h.held
+
+-- a call names a file whatever bytes it has
+names_same : (name : List ℕ) (call : FileCall) (a b : List ℕ) → names_file name (call_of call a) ≡ names_file name (call_of call b)
+names_same name (Open n m) a b = refl
+names_same name (Delete n) a b = refl
+names_same name (Close d) a b = refl
+names_same name (Read d n) a b = refl
+names_same name (Write d) a b = refl
+names_same name (Getc d) a b = refl
+names_same name (Putc d n) a b = refl
+names_same name (Seek d n) a b = refl
+names_same name (Truncate d) a b = refl
+names_same name (Size d) a b = refl
+
+-- What is at rest of the file work is at rest of the engine that has its first call in hand.
+pub work_held : (e : Files) (base disk : List ℕ) (w : FileWork) → Stands e base disk → w.system ≡ system e base
+    → IsFirstCall (wanted e) (call_of e.call (call_bytes e)) w.calls → Holds disk w.system.files (λ name. is_at_rest name w)
+work_held e base disk w s same first =
+    let P : FileSystem → Type 0 = λ x. Holds disk x.files (λ name. is_at_rest name w) in
+    subst P (sym same) (held_always e base disk (λ name. is_at_rest name w) s (record { closed = closed; unnamed = unnamed }))
+  where
+    both : (name : List ℕ) → is_at_rest name w ≡ true
+        → (is_open name w.system ≡ false) × (list_any (λ (a : FileRequest). names_file name a.call) w.calls ≡ false)
+    both name r =
+        let two = and-true (not (is_open name w.system)) (not (list_any (λ (a : FileRequest). names_file name a.call) w.calls)) r in
+        (not_true (is_open name w.system) two.0, not_true (list_any (λ (a : FileRequest). names_file name a.call) w.calls) two.1)
+      where
+        not_true : (b : Bool) → not b ≡ true → b ≡ false
+        not_true true h = absurd (false≢true h)
+        not_true false h = refl
+
+    closed : (name : List ℕ) → is_at_rest name w ≡ true → is_open name (system e base) ≡ false
+    closed name r = ap (is_open name) (sym same) ∙ (both name r).0
+
+    in_hand : (name : List ℕ) (o : Option BlockWork) (calls : List FileRequest) → is_some o ≡ true
+        → IsFirstCall o (call_of e.call (call_bytes e)) calls
+        → list_any (λ (a : FileRequest). names_file name a.call) calls ≡ false → names_file name (call_of e.call []) ≡ false
+    in_hand name None calls some f none = absurd (false≢true some)
+    in_hand name (Some x) [] some f none = absurd f
+    in_hand name (Some x) (a ∷ calls) some f none =
+        names_same name e.call [] (call_bytes e) ∙ ap (names_file name) (sym f)
+        ∙ (or-false (names_file name a.call) (list_any (λ (b : FileRequest). names_file name b.call) calls) none).0
+
+    unnamed : (name : List ℕ) → is_at_rest name w ≡ true → is_some (wanted e) ≡ true → names_file name (call_of e.call []) ≡ false
+    unnamed name r some = in_hand name (wanted e) w.calls some first (both name r).1

@@ -1,7 +1,9 @@
 -- The files at rest, and the blocks that a completion touches.
-use Rattle.std.specs.Prelude.{ℕ, ◌≡◌, ◌≢◌, ◌<◌, Bool, true, false, List, [], length, Option, Some, None, is_some}
+use Rattle.std.specs.Prelude.{ℕ, ◌≡◌, ◌≢◌, ◌<◌, Bool, true, false, List, [], ◌∷◌, length, Option, Some, None, is_some}
 use Rattle.lfs_check.specs.Rules.{block_in}
+use Rattle.xinu_model.specs.Files.Calls.{FileCall}
 use Rattle.xinu_model.specs.Files.Systems.{is_open}
+use Rattle.xinu_model.specs.Files.Work.{FileRequest}
 use Rattle.xinu_model.specs.Files.Rest.{names_file}
 use Rattle.local_files.specs.Hands.{system}
 use Rattle.local_files.specs.Standing.{wanted, call_of}
@@ -13,6 +15,12 @@ use Rattle.local_files.specs.declared.Files.{Files}
 pub record AreAtRest (e : Files) (base : List ℕ) (rests : List ℕ → Bool) : Type 0 where
   pub closed : (name : List ℕ) → rests name ≡ true → is_open name (system e base) ≡ false
   pub unnamed : (name : List ℕ) → rests name ≡ true → is_some (wanted e) ≡ true → names_file name (call_of e.call []) ≡ false
+
+-- the call in hand, if there is one, is the first of the calls under way
+abbrev pub IsFirstCall : Option BlockWork → FileCall → List FileRequest → Type 0
+IsFirstCall None call calls = Unit {0}
+IsFirstCall (Some w) call [] = ⊥
+IsFirstCall (Some w) call (a ∷ calls) = a.call ≡ call
 
 -- the number of the block
 abbrev pub block_of : BlockWork → ℕ

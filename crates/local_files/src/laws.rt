@@ -3,18 +3,25 @@
 ghost use Rattle.std.specs.Prelude.{◌≡◌, ◌≤◌, ◌<◌, ℕ, List, Bool, IsSome};
 ghost use Rattle.file_laws.specs.StoredFiles.{stored_files};
 ghost use Rattle.file_laws.specs.Holds.{Holds};
-ghost use Rattle.local_files.specs.Standing.{Stands, wanted, served};
+ghost use Rattle.xinu_model.specs.Files.Work.{FileWork};
+ghost use Rattle.xinu_model.specs.Files.Rest.{is_at_rest};
+ghost use Rattle.local_files.specs.Hands.{system};
+ghost use Rattle.local_files.specs.Standing.{Stands, wanted, served, call_of, call_bytes};
 ghost use Rattle.local_files.specs.Bounds.{left};
-ghost use Rattle.local_files.specs.Resting.{AreAtRest, IsOnDisk, ChangesOneBlock};
+ghost use Rattle.local_files.specs.Resting.{AreAtRest, IsFirstCall, IsOnDisk, ChangesOneBlock};
 
 use crate::Files;
 
 impl Files {
     /// At each moment the disk holds the files that are at rest: between two calls, and before and after each completion of a call,
-    /// also between the two writes of the directory.
+    /// also between the two writes of the directory. So it holds those that are at rest of the abstract machine's file work, if the engine
+    /// has its first call in hand.
     pub fn holds_files_at_rest(&self)
         ensures held { (base disk : List ℕ) (rests : List ℕ → Bool) → Stands self.now base disk → AreAtRest self.now base rests
             → Holds disk (stored_files base) rests }
+        ensures work { (base disk : List ℕ) (w : FileWork) → Stands self.now base disk → w.system ≡ system self.now base
+            → IsFirstCall (wanted self.now) (call_of self.now.call (call_bytes self.now)) w.calls
+            → Holds disk w.system.files (λ name. is_at_rest name w) }
     {}
 
     /// The block that is wanted lies on the disk.
