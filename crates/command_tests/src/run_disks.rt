@@ -69,9 +69,9 @@ fn a_raw_disk_that_is_not_named_has_64_empty_blocks(rt: HostRuntime) -> Result<(
 #[test]
 fn a_raw_disk_comes_out_as_it_was_given(rt: HostRuntime) -> Result<(), Fail> {
     let args = ["run", "--schedule", "s", "--disk0", "d", "--out0", "e", "i"];
-    for blocks in [8, 65_536] {
-        let mut given = repeated(rt.alloc(), 7, 512 * blocks)?;
-        given.as_mut_slice()[4095] = 8;
+    for blocks in [8, 65_536usize] {
+        let mut given = repeated(rt.alloc(), 7, blocks * 512 - 1)?;
+        given.push(8)?;
         let disk = written(rt.alloc(), &args, Channel::Disk0, given.as_slice())?;
         assert!(rt; disk.as_slice() == given.as_slice(), "{blocks}");
     }
@@ -116,7 +116,10 @@ fn disks_of_a_bad_size_are_refused(rt: HostRuntime) -> Result<(), Fail> {
             ("--disk0", "xinu: disk 0 block 0 rule 0\n"),
             ("--disk1", "xinu: disk 1 block 0 rule 0\n"),
         ] {
-            assert!(rt; is_refused(rt.alloc(), option, disk.as_slice(), text)?, "{length}");
+            assert!(rt;
+                is_refused(rt.alloc(), option, disk.as_slice(), text)?,
+                "{length}"
+            );
         }
     }
     Ok(())
@@ -125,12 +128,15 @@ fn disks_of_a_bad_size_are_refused(rt: HostRuntime) -> Result<(), Fail> {
 // One of version 2 of 13 blocks, and one of version 1 of eight, on which block 7 names block 2.
 #[test]
 fn disks_that_break_a_rule_are_refused(rt: HostRuntime) -> Result<(), Fail> {
-    let mut short = repeated(rt.alloc(), 0, 6656)?;
-    short.as_mut_slice()[492] = 2;
+    let mut short = [0; 6656];
+    short[492] = 2;
     let text = "xinu: disk 1 block 0 rule 0\n";
-    assert!(rt; is_refused(rt.alloc(), "--disk1", short.as_slice(), text)?);
+    assert!(rt; is_refused(rt.alloc(), "--disk1", &short, text)?);
     let mut round = version_1();
-    round[3584..3588].copy_from_slice(&[2, 0, 0, 0]);
+    round[3584] = 2;
+    for i in 3585..3588 {
+        round[i] = 0;
+    }
     let text = "xinu: disk 1 block 2 rule 6\n";
     assert!(rt; is_refused(rt.alloc(), "--disk1", &round, text)?);
     Ok(())

@@ -18,7 +18,11 @@ pub(crate) fn picture_of<R: Files + AllocGlobal>(
     let mut args = Vec::new(alloc);
     args.push(String::from_str(alloc, "--schedule")?)?;
     let schedule = format!(in alloc; "{name}.txt")?;
-    add_file(&mut host, schedule.as_str(), fs::read(rt, schedule.as_str())?.as_slice())?;
+    add_file(
+        &mut host,
+        schedule.as_str(),
+        fs::read(rt, schedule.as_str())?.as_slice(),
+    )?;
     args.push(schedule)?;
     for k in 1u32..9 {
         let path = format!(in alloc; "{name}_{k}.s")?;

@@ -53,7 +53,10 @@ impl Reader {
             self.event.push_str(":")?;
         } else if line.starts_with("<text class=\"n\"") {
             let name = String::from_str(self.alloc, content(line))?;
-            self.rows.push(Row { y: y_of(line), name })?;
+            self.rows.push(Row {
+                y: y_of(line),
+                name,
+            })?;
         } else if line.starts_with("<text") && !self.event.is_empty() {
             self.add_text(line)?;
         }
