@@ -8,6 +8,9 @@ use std::io::{self, ErrorKind};
 use std::rt::Files;
 use timeline_command::timeline;
 
+// The most bytes of a text that is assembled.
+const LONGEST: usize = 4_294_967_294;
+
 /// The picture of the run of a name, or the text of the refusal.
 pub(crate) fn picture_of<R: Files + AllocGlobal>(
     rt: &R,
@@ -27,7 +30,7 @@ pub(crate) fn picture_of<R: Files + AllocGlobal>(
     for k in 1u32..9 {
         let path = format!(in alloc; "{name}_{k}.s")?;
         if let Ok(text) = fs::read(rt, path.as_str()) {
-            if let Ok(image) = assemble(alloc, text.as_slice()) {
+            if let Some(image) = image_of(alloc, text.as_slice()) {
                 add_file(&mut host, path.as_str(), image.as_slice())?;
                 args.push(path)?;
             }
@@ -35,6 +38,17 @@ pub(crate) fn picture_of<R: Files + AllocGlobal>(
     }
     let _ = timeline(alloc, args.as_slice(), &mut host);
     text_of(alloc, &host)
+}
+
+// The image file of a text of assembler, if it has no fault.
+fn image_of(alloc: Global, text: &[u8]) -> Option<Vec<u8>> {
+    if text.len() > LONGEST {
+        return None;
+    }
+    match assemble(alloc, text) {
+        Ok(image) => Some(image),
+        Err(_) => None,
+    }
 }
 
 /// Adds a file to a host.

@@ -65,18 +65,26 @@ impl Reader {
 
     // Adds a text with the name of its row.
     fn add_text(&mut self, line: &str) -> Result<(), AllocError> {
-        let y = y_of(line);
-        let mut name = "";
-        for row in self.rows.as_slice() {
-            if row.y <= y.saturating_add(3) {
-                name = row.name.as_str();
-            }
-        }
+        let name = name_at(self.rows.as_slice(), y_of(line));
         let separator = if self.texts.is_empty() { " " } else { ", " };
         self.texts.push_str(separator)?;
         self.texts.push_str(name)?;
         self.texts.push_str(" ")?;
         self.texts.push_str(content(line))
+    }
+}
+
+// The name of the lowest row that begins above a height.
+fn name_at(rows: &[Row], y: u32) -> &str {
+    let mut found = None;
+    for row in rows {
+        if row.y <= y.saturating_add(3) {
+            found = Some(row);
+        }
+    }
+    match found {
+        Some(row) => row.name.as_str(),
+        None => "",
     }
 }
 
