@@ -1,6 +1,6 @@
 //! The engine's calls.
 
-ghost use Rattle.std.specs.Prelude.{◌≡◌, ◌+◌, ◌*◌, ◌/◌, ◌<◌, ◌≤◌, ℕ, List, Some, None, IsSome, IfOk, length, take};
+ghost use Rattle.std.specs.Prelude.{◌≡◌, ◌+◌, ◌*◌, ◌/◌, ◌<◌, ◌≤◌, ℕ, List, Some, None, IsSome, IfOk, length, replicate, take};
 ghost use Rattle.local_files.specs.Standing.{call_of, Stands, GoesTo, IsHonest, wanted, served, call_bytes, given_bytes, gathered, reply_in, taken_in};
 ghost use Rattle.local_files.specs.Hands.{IsCall, system};
 ghost use Rattle.local_files.specs.Steps.{device_at};
@@ -23,6 +23,7 @@ impl Files {
     pub fn new(alloc: Global, blocks: u32) -> Result<Files, NoMemory>
         ensures stands { (disk : List ℕ) → IsCleanImage disk → length disk ≡ 512 * blocks → IfOk result (λ e. Stands e disk disk) }
         ensures idle { IfOk result (λ e. e.phase ≡ Phase.Idle) }
+        ensures closed { IfOk result (λ e. e.devices ≡ replicate 6 None) }
     {
         let buffer = Buffer::new(alloc)?;
         Ok(Files {

@@ -145,6 +145,7 @@ impl Ram {
     pub fn copy_out(&self, a: u32, n: usize) -> Result<&[u8], OutOfRam>
         ensures answer { is_ok result ≡ in_ram a n }
         ensures bytes { IfOk result (λ bytes. bytes.now ≡ take n (drop a self.now)) }
+        ensures len { IfOk result (λ bytes. length bytes.now ≡ n) }
     {
         let at = a as usize;
         if at > SIZE || SIZE - at < n {
