@@ -14,11 +14,10 @@ use Rattle.xinu_model.specs.Runs.{RunsTo, Follows, end_with, is_over}
 use Rattle.xinu_model.specs.Sound.State.{IsSound}
 use Rattle.xinu_model.specs.Text.{text}
 use Rattle.xinu_model.proofs.Outcomes.{agree}
-use Rattle.xinu_laws.proofs.FileSyscalls.Chosen.{choice_happens}
+use Rattle.xinu_laws.proofs.FileSyscalls.Chosen.{choice_happens, effect_panics}
 use Rattle.xinu_laws.proofs.Preserve.Events.{sound_happens}
 use Rattle.xinu_laws.proofs.FileSystems.Orders.{own_bytes, same_bytes}
 use Rattle.transcript_laws.proofs.Texts.{and_true, begun, rest_of, starts, text_append}
-use Rattle.transcript_laws.proofs.Told.{same_panic}
 use Rattle.transcript_laws.specs.Reading.{starts_with, last_lines, Prints, accepts_after, accepts, Tells}
 
 -- what a run prints doesn't begin with a call that took effect as the next one
@@ -92,7 +91,7 @@ accepted_prints told t (e ∷ events) s rest k holds =
     let h = choice_happens s e c k (t.allowed s e rest) in
     let both = and_true (starts_with (text x.lines) rest) _ holds in
     let split = begun (text x.lines) rest both.0 in
-    let same = same_panic s e c k in
+    let same = effect_panics s e c k in
     let after = accepted_after told events x.lines x.state rest (end_with x.panics (is_over x.state))
     (λ more y. accepted_prints told t events x.state more (sound_happens s e x.lines x.state k h) y) split both.1 in
     record {

@@ -18,6 +18,7 @@ use Rattle.transcript_laws.specs.Choices.{told}
 use Rattle.transcript_laws.specs.Reading.{last_lines}
 use Rattle.transcript_laws.specs.Transcripts.{IsText, first_text}
 use Rattle.transcript_laws.proofs.Accepted.{run_begins}
+use Rattle.transcript_laws.proofs.Checked.{printed}
 use Rattle.transcript_laws.proofs.Texts.{same_rest, text_append}
 use Rattle.transcript_laws.proofs.Told.{tells}
 
@@ -98,12 +99,14 @@ one_run (e ∷ events) s lines others last other end ending k (mid, first, h, fo
 -- A text is the transcript of one run.
 pub transcripts_agree : (disks : Disks) (images : List Loaded) (events : List Event) (bytes : List ℕ) → length images < NPROC
     → AreSoundDisks disks
-    → (t u : IsText disks images events bytes) → SameRun t.lines t.last t.end u.lines u.last u.end
+    → (t u : IsText disks images events bytes) → SameRun t.run.lines t.last t.run.end u.run.lines u.last u.run.end
 transcripts_agree disks images events bytes few k t u =
-    let b : Boots t.start ≡ Boots u.start = sym t.boots ∙ u.boots in
-    let same : u.start ≡ t.start = cc in
-    let first = first_text t.start in
-    let theirs = subst (λ (s : Xinu). bytes ≡ first_text s ++ text (u.lines ++ last_lines u.last u.end)) same u.is in
-    one_run events t.start t.lines u.lines t.last u.last t.end u.end (sound_boot_on disks images t.start few k t.boots) t.runs
-    (subst (λ (s : Xinu). RunsTo s events u.lines u.last u.end) same u.runs)
-    (same_rest first (text (t.lines ++ last_lines t.last t.end)) (text (u.lines ++ last_lines u.last u.end)) (sym t.is ∙ theirs))
+    let r = t.run in
+    let q = u.run in
+    let b : Boots r.start ≡ Boots q.start = sym r.boots ∙ q.boots in
+    let same : q.start ≡ r.start = cc in
+    let ours = printed disks images events bytes t in
+    let theirs = subst (λ (s : Xinu). bytes ≡ first_text s ++ text (q.lines ++ last_lines u.last q.end)) same (printed disks images events bytes u) in
+    one_run events r.start r.lines q.lines t.last u.last r.end q.end (sound_boot_on disks images r.start few k r.boots) r.runs
+    (subst (λ (s : Xinu). RunsTo s events q.lines u.last q.end) same q.runs)
+    (same_rest (first_text r.start) (text (r.lines ++ last_lines t.last r.end)) (text (q.lines ++ last_lines u.last q.end)) (sym ours ∙ theirs))

@@ -1,5 +1,5 @@
 -- A text tells the choice of the event with which it begins.
-use Rattle.std.proofs.Common.{◌≡◌, ◌≢◌, ◌==◌, ℕ, zero, suc, ◌+◌, ◌-◌, ◌≤◌, ◌<◌, Bool, true, false, if◌then◌else◌, List, [], ◌∷◌, ◌++◌, map, length, drop, Option, Some, None, refl, sym, ap, ◌∙◌, subst, append_assoc, append-nil, arith, ℤ}
+use Rattle.std.proofs.Common.{◌≡◌, ◌≢◌, ◌==◌, ℕ, zero, suc, ◌+◌, ◌-◌, ◌≤◌, ◌<◌, Bool, true, false, if◌then◌else◌, List, [], ◌∷◌, ◌++◌, map, length, drop, Option, Some, None, refl, sym, ap, ◌∙◌, append_assoc, append-nil, arith, ℤ}
 use Rattle.std.specs.Prelude.{is_some, unwrap_or}
 use Rattle.std.proofs.lemmas.Bool.{cond_both, eqb-true}
 use Rattle.xinu_base.specs.Events.{is_built_event}
@@ -13,11 +13,7 @@ use Rattle.xinu_model.specs.Agree.{begins_next}
 use Rattle.xinu_base.specs.declared.registers.Outcome.{Outcome}
 use Rattle.xinu_base.specs.declared.registers.Outcome.TheVariants as outcome
 use Rattle.xinu_laws.proofs.FileSyscalls.AtOnce.{next_is}
-use Rattle.xinu_laws.proofs.FileSyscalls.Chosen.{choice_happens}
-use Rattle.xinu_laws.proofs.Preserve.Events.{state_stepped}
-use Rattle.table_laws.proofs.Lists.Counts.{first_is_counted}
-use Rattle.table_laws.proofs.Tables.Unblock.{waiter_waits}
-use Rattle.xinu_base.specs.declared.processes.State.TheVariants.{Current, Waiting}
+use Rattle.xinu_laws.proofs.FileSyscalls.Texts.{other_runs}
 use Rattle.xinu_laws.proofs.Touches.Moves.{touches_sent}
 use Rattle.xinu_laws.specs.Touches.{reach, Touches}
 use Rattle.xinu_model.specs.Footprints.{on_tables}
@@ -26,12 +22,11 @@ use Rattle.xinu_model.specs.Messages.{sent}
 use Rattle.xinu_model.specs.Calls.{called, continued}
 use Rattle.xinu_model.specs.Isa.Exec.{exec}
 use Rattle.xinu_model.specs.Process.Death.{exit}
-use Rattle.xinu_model.specs.Sound.Tables.{count_in}
-use Rattle.xinu_model.specs.Tables.{process_at, semaphore_at, state_at}
-use Rattle.xinu_model.specs.Events.{MayChoose, call_of, effect_of, event_effect, instruction_step, is_done, next_file_call, panics_in, reacted, stepped, step_at_once, step_with, with_executed}
+use Rattle.xinu_model.specs.Tables.{process_at}
+use Rattle.xinu_model.specs.Events.{MayChoose, call_of, event_effect, instruction_step, is_done, next_file_call, reacted, stepped, step_at_once, step_with, with_executed}
 use Rattle.xinu_model.specs.Files.Calls.{file_effect}
-use Rattle.xinu_model.specs.Files.Syscalls.{LF_SEM, at_once, files_of, file_step, completing, completed_in}
-use Rattle.xinu_model.specs.Files.Work.{FileRequest, FileNote, FileStep, had_turn, took_effect, first_effect, next_effects, orphaned_call, turned, calls_completed, callers_waiting, least_effects}
+use Rattle.xinu_model.specs.Files.Syscalls.{at_once, files_of, file_step, completing, completed_in}
+use Rattle.xinu_model.specs.Files.Work.{FileRequest, FileNote, FileStep, had_turn, took_effect, first_effect, next_effects, orphaned_call, turned, calls_completed, least_effects}
 use Rattle.xinu_model.specs.Machine.{Xinu, EventResult, start, current_hart, nothing_happens, return_line, switched, end_of_event, replies_of, closed}
 use Rattle.xinu_model.specs.Sound.State.{IsSound}
 use Rattle.xinu_model.specs.Text.{text}
@@ -197,22 +192,6 @@ exit_makes_none s e =
     let t : Touches (reach on_tables) u (sent parent p (start u)).state = touches_sent parent p (start u) in
     ap (λ l. callers.given_up (λ (a : FileRequest). a.caller) orphaned_call p l) (ap (λ w. w.calls) (t.parts.devices.files refl) ∙ e)
 
--- who makes a call on files and waits runs no longer
-other_runs : (s : Xinu) (a : FileRequest) → IsSound s → next_file_call s ≡ Some a → (stepped s).state.tables.current ≢ s.tables.current
-other_runs s a k made same =
-    let m = next_is s a made in
-    let after = state_stepped s k in
-    let t = (stepped s).state.tables in
-    let p = s.tables.current in
-    let waiters : (semaphore_at t LF_SEM).waiters ≡ p ∷ callers_waiting m.more =
-    after.devices.files.waiters ∙ ap callers_waiting m.is ∙ ap (λ o. callers.living o ++ callers_waiting m.more) m.caller in
-    let waits : state_at t p ≡ Waiting =
-    waiter_waits t LF_SEM p after.tables.inside (subst (λ ws. 0 < count_in p ws) (sym waiters)
-    (first_is_counted p (callers_waiting m.more))) in
-    let runs : state_at t p ≡ Current = subst (λ q. state_at t q ≡ Current) same after.tables.runs in
-    let f = sym waits ∙ runs in
-    absurd (cc)
-
 -- So a step in which a call on files is made that waits isn't one in which it takes effect.
 step_waits : (s : Xinu) (a : FileRequest) (more : List TranscriptLine) → IsSound s → next_file_call s ≡ Some a
     → says_done (text ((stepped s).lines ++ more)) ≡ false
@@ -292,57 +271,3 @@ tells = record {
         ≡ (if b then event_effect s e c else nothing_happens s)
     by_built s e c more k may none true = event_right s e c more k may none
     by_built s e c more k may none false = refl
-
--- the kernel panics in a step whether or not the call on files in it takes effect as it is made: it never does if there is one
-step_panics : (c : ℕ) (found : Option FileRequest) (s : Xinu) → IsSound s → next_file_call s ≡ found
-    → (step_with c found s).panics ≡ (stepped s).panics
-step_panics zero found s k made = refl
-step_panics (suc c) None s k made = refl
-step_panics (suc c) (Some a) s k made =
-    let h = choice_happens s Step 1 k (subst (λ (o : Option FileRequest). 1 ≤ (if is_some o then 1 else 0)) (sym made) (omega arith)) in
-    by_choice h.choice
-    (ap (λ (o : Option FileRequest). step_with h.choice o s) (sym made) ∙ h.effect
-    ∙ ap (λ (o : Option FileRequest). record {
-      lines = (step_with 1 o s).lines;
-      state = (step_with 1 o s).state;
-      panics =
-          (stepped s).panics;
-    }) made)
-  where
-    by_choice : (d : ℕ) → step_with d (Some a) s ≡ record {
-      lines = (step_at_once a s).lines;
-      state = (step_at_once a s).state;
-      panics =
-          (stepped s).panics;
-    }
-        → false ≡ (stepped s).panics
-    by_choice zero e =
-        let f : true ≡ false = sym (at_once_says s a []) ∙ ap (λ (x : EventResult). says_done (text (x.lines ++ []))) (sym e)
-        ∙ step_waits s a [] k made in
-        absurd (cc)
-    by_choice (suc d) e = ap (λ (x : EventResult). x.panics) e
-
--- nor does it panic at a completion
-completed_panics : (calls : List FileRequest) (c : ℕ) (s : Xinu) → (completed_in calls c s).panics ≡ (completed_in calls 0 s).panics
-completed_panics [] c s = refl
-completed_panics (a ∷ calls) c s = refl
-
--- Whether the kernel panics in an event doesn't depend on what is chosen in it.
-pub same_panic : (s : Xinu) (e : Event) (c : ℕ) → IsSound s → (effect_of s e c).panics ≡ panics_in s e
-same_panic s e c k = by_built (is_built_event e)
-  where
-    by_event : (e : Event) → (event_effect s e c).panics ≡ (event_effect s e 0).panics
-    by_event Step = step_panics c (next_file_call s) s k refl
-    by_event Disk1 = completed_panics (files_of s).calls c s
-    by_event Tick = refl
-    by_event Dump = refl
-    by_event (Key b) = refl
-    by_event Tx = refl
-    by_event Disk0 = refl
-    by_event Fail0 = refl
-    by_event Fail1 = refl
-
-    by_built : (b : Bool) → (if b then event_effect s e c else nothing_happens s).panics
-        ≡ (if b then event_effect s e 0 else nothing_happens s).panics
-    by_built true = by_event e
-    by_built false = refl

@@ -1,32 +1,21 @@
 -- Which texts are transcripts, and whether a text is one.
-use Rattle.std.specs.Prelude.{◌≡◌, ℕ, Bool, false, ◌&&◌, List, ◌∷◌, ◌++◌, length, drop}
-use Rattle.xinu_base.specs.declared.events.End.{End}
+use Rattle.std.specs.Prelude.{◌≡◌, ℕ, Bool, false, ◌&&◌, List, length, drop}
 use Rattle.xinu_base.specs.declared.events.Event.{Event}
 use Rattle.xinu_base.specs.declared.lines.TranscriptLine.{TranscriptLine}
 use Rattle.xinu_base.specs.declared.lines.TranscriptLine.TheVariants as line
 use Rattle.xinu_model.specs.Boot.{Boots, Disks, Loaded, Start, boot_on}
 use Rattle.xinu_model.specs.Machine.{Xinu}
-use Rattle.xinu_model.specs.Runs.{IsTranscript, RunsTo}
+use Rattle.xinu_model.specs.Runs.{IsTranscript}
 use Rattle.xinu_model.specs.Text.{line_text, text}
-use Rattle.transcript_laws.specs.Reading.{accepts, last_lines, starts_with}
+use Rattle.transcript_laws.specs.Reading.{accepts, starts_with}
 use Rattle.transcript_laws.specs.Choices.{told}
 
 -- A text is the transcript of a run: it is what the machine prints that starts with these images on these disks, and runs through these
 -- events.
 pub record IsText (disks : Disks) (images : List Loaded) (events : List Event) (bytes : List ℕ) : Type 0 where
-  pub start : Xinu
-  pub boots : boot_on disks images ≡ Boots start
-  pub lines : List TranscriptLine
-  pub last : Xinu
-  pub end : End
-  pub runs : RunsTo start events lines last end
-  pub is : bytes ≡ text (line.Switch start.tables.current ∷ lines ++ last_lines last end)
-
--- A text is that of a transcript of the machine that is given no disks.
-pub record IsTextWithoutDisks (images : List Loaded) (events : List Event) (bytes : List ℕ) : Type 0 where
   pub last : Xinu
   pub all : List TranscriptLine
-  pub transcript : IsTranscript images events last all
+  pub run : IsTranscript disks images events last all
   pub is : bytes ≡ text all
 
 -- the line that is printed first: who runs first

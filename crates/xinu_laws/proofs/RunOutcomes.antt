@@ -7,11 +7,13 @@ use Rattle.xinu_base.specs.declared.lines.FileMoment.TheVariants.{Next}
 use Rattle.xinu_base.specs.declared.lines.TranscriptLine.{TranscriptLine}
 use Rattle.xinu_base.specs.declared.lines.TranscriptLine.TheVariants as line
 use Rattle.xinu_laws.proofs.FileSyscalls.Texts.{texts_agree}
-use Rattle.xinu_laws.proofs.Preserve.Events.{sound_boot, sound_happens}
+use Rattle.xinu_laws.proofs.Preserve.Disks.{sound_boot_on}
+use Rattle.xinu_laws.proofs.Preserve.Events.{sound_happens}
+use Rattle.xinu_laws.specs.GivenDisks.{AreSoundDisks}
 use Rattle.xinu_laws.specs.Outcomes.{ChoosesNothing}
 use Rattle.xinu_model.proofs.Outcomes.{agree}
 use Rattle.xinu_model.specs.Agree.{begins_next}
-use Rattle.xinu_model.specs.Boot.{Loaded}
+use Rattle.xinu_model.specs.Boot.{Disks, Loaded}
 use Rattle.xinu_model.specs.Events.{panics_in}
 use Rattle.xinu_model.specs.Machine.{Xinu}
 use Rattle.xinu_model.specs.Runs.{is_over, end_with, Follows, RunsTo, IsTranscript}
@@ -104,9 +106,10 @@ texts_have_one_run (e ∷ events) old lines others new other end ending more res
     (moved_follows old e events r.1 s.1 others r.0 s.0 other ending one.0 one.1 s.3)
 
 -- So a whole transcript has one run.
-pub transcripts_have_one_run : (images : List Loaded) (events : List Event) (last other : Xinu) (all : List TranscriptLine)
-    → length images < 64 → IsTranscript images events last all → IsTranscript images events other all → last ≡ other
-transcripts_have_one_run images events last other all few t u =
+pub transcripts_have_one_run : (disks : Disks) (images : List Loaded) (events : List Event) (last other : Xinu) (all : List TranscriptLine)
+    → length images < 64 → AreSoundDisks disks → IsTranscript disks images events last all → IsTranscript disks images events other all
+    → last ≡ other
+transcripts_have_one_run disks images events last other all few good t u =
     let booted = sym t.boots ∙ u.boots in
     let starts : t.start ≡ u.start = cc in
     let more = tables_of last ++ line.End t.end ∷ [] in
@@ -114,6 +117,6 @@ transcripts_have_one_run images events last other all few t u =
     let run = subst (λ s. RunsTo s events u.lines other u.end) (sym starts) u.runs in
     let same = ap (drop 1) (sym t.whole ∙ u.whole) in
     (texts_have_one_run events t.start t.lines u.lines last other t.end u.end more rest
-    (sound_boot images t.start few t.boots) refl refl t.runs run
+    (sound_boot_on disks images t.start few good t.boots) refl refl t.runs run
     (sym (append_assoc t.lines (tables_of last) (line.End t.end ∷ [])) ∙ same
     ∙ append_assoc u.lines (tables_of other) (line.End u.end ∷ []))).1

@@ -5,9 +5,10 @@ ghost use Rattle.xinu_base.specs.Constants.{NPROC};
 ghost use Rattle.xinu_base.specs.declared.events.End.{End};
 ghost use Rattle.xinu_base.specs.declared.events.Event.{Event};
 ghost use Rattle.xinu_base.specs.declared.lines.TranscriptLine.{TranscriptLine};
+ghost use Rattle.xinu_laws.specs.GivenDisks.{AreSoundDisks};
 ghost use Rattle.xinu_laws.specs.Outcomes.{ChoosesNothing};
 ghost use Rattle.xinu_model.specs.Agree.{begins_next};
-ghost use Rattle.xinu_model.specs.Boot.{Loaded};
+ghost use Rattle.xinu_model.specs.Boot.{Disks, Loaded};
 ghost use Rattle.xinu_model.specs.Events.{effect_of, MayChoose, Happens};
 ghost use Rattle.xinu_model.specs.Machine.{Xinu};
 ghost use Rattle.xinu_model.specs.Runs.{IsTranscript, RunsTo};
@@ -37,6 +38,7 @@ pub fn runs_are_determined()
         (more rest : List TranscriptLine) → IsSound old → begins_next more ≡ false → begins_next rest ≡ false →
         RunsTo old events lines new end → RunsTo old events others other ending → lines ++ more ≡ others ++ rest →
         (lines ≡ others) × (new ≡ other) × (end ≡ ending) }
-    ensures transcripts { (images : List Loaded) (events : List Event) (last other : Xinu) (all : List TranscriptLine) → length images < NPROC →
-        IsTranscript images events last all → IsTranscript images events other all → last ≡ other }
+    ensures transcripts { (disks : Disks) (images : List Loaded) (events : List Event) (last other : Xinu) (all : List TranscriptLine) →
+        length images < NPROC → AreSoundDisks disks → IsTranscript disks images events last all →
+        IsTranscript disks images events other all → last ≡ other }
 {}

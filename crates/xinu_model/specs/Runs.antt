@@ -6,7 +6,7 @@ use Rattle.xinu_base.specs.declared.events.End.{End}
 use Rattle.xinu_base.specs.declared.events.End.TheVariants.{Schedule, Done, Panic}
 use Rattle.xinu_base.specs.declared.lines.TranscriptLine.{TranscriptLine}
 use Rattle.xinu_base.specs.declared.lines.TranscriptLine.TheVariants as line
-use Rattle.xinu_model.specs.Boot.{Loaded, Boots, boot}
+use Rattle.xinu_model.specs.Boot.{Boots, Disks, Loaded, boot_on}
 use Rattle.xinu_model.specs.Events.{Happens, panics_in}
 use Rattle.xinu_model.specs.Machine.{Xinu}
 use Rattle.xinu_model.specs.Tables.{is_free}
@@ -33,10 +33,11 @@ RunsTo old [] lines new end = (lines ≡ []) × (new ≡ old) × (end ≡ Schedu
 RunsTo old (e ∷ events) lines new end =
     (mid : Xinu) × (first : List TranscriptLine) × Happens old e first mid × Follows (end_with (panics_in old e) (is_over mid)) (λ rest. RunsTo mid events rest new end) first lines mid new end
 
--- What a whole run prints: the line of its first process, the lines of its events, the tables of its last state, its end.
-pub record IsTranscript (images : List Loaded) (events : List Event) (last : Xinu) (all : List TranscriptLine) : Type 0 where
+-- What a whole run prints that starts with these images on these disks: the line of its first process, the lines of its events, the tables
+-- of its last state, its end.
+pub record IsTranscript (disks : Disks) (images : List Loaded) (events : List Event) (last : Xinu) (all : List TranscriptLine) : Type 0 where
   pub start : Xinu
-  pub boots : boot images ≡ Boots start
+  pub boots : boot_on disks images ≡ Boots start
   pub lines : List TranscriptLine
   pub end : End
   pub runs : RunsTo start events lines last end

@@ -192,7 +192,7 @@ event_panics s Disk0 choice k = refl
 event_panics s Fail0 choice k = refl
 event_panics s Fail1 choice k = refl
 
-effect_panics : (s : Xinu) (e : Event) (choice : ℕ) → IsSound s → (effect_of s e choice).panics ≡ (effect_of s e 0).panics
+pub effect_panics : (s : Xinu) (e : Event) (choice : ℕ) → IsSound s → (effect_of s e choice).panics ≡ (effect_of s e 0).panics
 effect_panics s e choice k = by_built (is_built_event e)
   where
     by_built : (b : Bool)

@@ -168,7 +168,7 @@ step_not_done s more =
     by_outcome (outcome.Trap cause) x e n = refl
 
 -- Who makes a call and waits runs no longer.
-other_runs : (s : Xinu) (a : FileRequest) → IsSound s → next_file_call s ≡ Some a → (stepped s).state.tables.current ≢ s.tables.current
+pub other_runs : (s : Xinu) (a : FileRequest) → IsSound s → next_file_call s ≡ Some a → (stepped s).state.tables.current ≢ s.tables.current
 other_runs s a k made same =
     let m = next_is s a made in
     let after = state_stepped s k in
