@@ -3,8 +3,8 @@
 use std::marker::Model;
 use xinu_base::Sem;
 
-/// A pool: where its memory begins, the size of its buffers in bytes, how many it has, its semaphore, and the addresses of the free ones, the
-/// one that was freed last first.
+/// A pool: where its memory begins, the size of its buffers in bytes, how many it has, its semaphore, and the addresses of the free ones,
+/// the one that was freed last first. Its memory lies in RAM.
 #[derive(Drop)]
 pub struct BufferPool {
     /// The address of its memory.
@@ -20,9 +20,12 @@ pub struct BufferPool {
 }
 
 impl Model for BufferPool {
+    ghost use Rattle.std.specs.Prelude.{◌+◌, ◌*◌, ◌≤◌};
     ghost use Rattle.xinu_model.specs.Pools.Buffers as model;
 
     ghost Value = { model.BufferPool };
 
     ghost view = { λ p. record { base = p.base; size = p.size; number = p.number; semaphore = p.semaphore; free = p.free.items } };
+
+    ghost invariant = { λ p. p.base + p.number * (p.size + 4) ≤ 1048576 };
 }

@@ -5,7 +5,7 @@ use std::marker::Model;
 use xinu_base::Pid;
 
 /// A request: who waits for it, unless that was killed; the address of its bytes in RAM; its block; and for a write the bytes, as they were
-/// when it was made.
+/// when it was made. A block's bytes at the address lie in RAM.
 #[derive(Drop)]
 pub struct Request {
     /// Who waits for it.
@@ -19,14 +19,17 @@ pub struct Request {
 }
 
 impl Model for Request {
+    ghost use Rattle.std.specs.Prelude.{◌+◌, ◌≤◌};
     ghost use Rattle.xinu_model.specs.RawDisk.Requests as model;
 
     ghost Value = { model.Request };
 
     ghost view = { λ r. record { caller = r.caller; at = r.at; block = r.block; written = r.written } };
+
+    ghost invariant = { λ r. r.at + 512 ≤ 1048576 };
 }
 
-/// The raw disk: its blocks, and the requests in their order.
+/// The raw disk: its blocks, of which there are at most 2147483647, and the requests in their order.
 #[derive(Drop)]
 pub struct RawDisk {
     /// The blocks.
@@ -36,9 +39,12 @@ pub struct RawDisk {
 }
 
 impl Model for RawDisk {
+    ghost use Rattle.std.specs.Prelude.{◌≤◌, length};
     ghost use Rattle.xinu_model.specs.RawDisk.Requests as model;
 
     ghost Value = { model.RawDisk };
 
     ghost view = { λ d. record { blocks = d.blocks.items; requests = d.requests.items } };
+
+    ghost invariant = { λ d. length d.blocks.items ≤ 2147483647 };
 }
