@@ -42,7 +42,8 @@ impl Machine {
 
     /// What is printed of the replies to released processes and of a switch; the replies are written.
     pub fn event_result(&mut self, was: Pid) -> Result<Happened, NoMemory>
-        ensures result { IfOk result (λ h. happened h self.new.state ≡ model.event_result was [] self.old.released self.old.state.tables self.old.state false) }
+        ensures result { IfOk result (λ h. happened h self.new.state ≡
+            model.event_result was [] self.old.released self.old.state.tables self.old.state false) }
         ensures start { IfOk result (λ _. IsStart self.new) }
     {
         let mut lines = self.no_lines();
@@ -109,7 +110,8 @@ impl Machine {
 
     // The replies, one after another.
     fn write_replies(&mut self, replies: &[(Pid, i32)])
-        ensures written { self.new ≡ record self.old { state = record self.old.state { harts = model.with_replies replies.now self.old.state.harts } } }
+        ensures written { self.new ≡
+            record self.old { state = record self.old.state { harts = model.with_replies replies.now self.old.state.harts } } }
     {
         for reply in replies {
             self.write_reply(reply.0, reply.1);
@@ -118,7 +120,8 @@ impl Machine {
 
     // A reply in register a0 of a process.
     fn write_reply(&mut self, p: Pid, value: i32)
-        ensures written { self.new ≡ record self.old { state = record self.old.state { harts = model.with_reply self.old.state.harts (p, value) } } }
+        ensures written { self.new ≡
+            record self.old { state = record self.old.state { harts = model.with_reply self.old.state.harts (p, value) } } }
     {
         self.harts[p.index()].regs[10] = value.cast_unsigned();
     }

@@ -165,7 +165,8 @@ impl Machine {
         message: Option<u32>,
         place: Place,
     ) -> Result<(), NoMemory>
-        ensures moved { IfOk result (λ _. self.new ≡ model.with_tables (tables.move_to p x message (place_of place) self.old.state.tables) self.old) }
+        ensures moved { IfOk result (λ _. self.new ≡
+            model.with_tables (tables.move_to p x message (place_of place) self.old.state.tables) self.old) }
     {
         self.tables.move_to(p, x, message, place)
     }
