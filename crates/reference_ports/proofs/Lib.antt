@@ -1,0 +1,7 @@
+pub mod Disposals
+pub mod FreeRoom
+pub mod FullPorts
+pub mod NewPorts
+pub mod Places
+pub mod RoomLeft
+pub mod TokenTaken

@@ -1,0 +1,24 @@
+use Rattle.std.proofs.Common.{◌∙◌, ◌+◌, ◌∷◌, add-one, drop, drop-cons, get_or, sym, ap, subst}
+use Rattle.xinu_model.specs.Machine.{CallState}
+use Rattle.xinu_model.specs.Ports.Calls.{freed_buffers}
+use Rattle.xinu_model.specs.Sound.Pools.{ArePools}
+use Rattle.xinu_model.specs.Sound.Tables.{IsSoundTables}
+use Rattle.xinu_laws.proofs.Pools.Calls.{pools_freed_buffer}
+use Rattle.xinu_laws.proofs.Pools.Preserve.{sound_freed_buffer}
+use Rattle.reference_ports.proofs.pools.free_buffers.Goals as goal
+
+pub loop-a-preserved : goal.loop-a-preserved
+loop-a-preserved c =
+    let d = c.loop-a.m in
+    let i = c.loop-a.invariant in
+    let all = c.args.addresses.now in
+    let a = get_or all c.loop-a.a-index 0 in
+    let left = drop-cons all c.loop-a.a-index 0 c.loop-a-test.true ∙ ap (λ n. a ∷ drop n all) (sym (add-one c.loop-a.a-index)) in
+    let is = sym c.in_ok-free_buffer.ensures.freed in
+    let S : CallState → Type 0 = λ e. IsSoundTables e.state.tables in
+    let P : CallState → Type 0 = λ e. ArePools e.state.tables e.state.parts.pools in (
+      subst S is (sound_freed_buffer a d i.0 i.1),
+      subst P is (pools_freed_buffer a d i.0.inside i.1),
+      ap (freed_buffers (drop (c.loop-a.a-index + 1) all)) c.in_ok-free_buffer.ensures.freed
+          ∙ sym (ap (λ l. freed_buffers l d) left) ∙ i.2,
+    )

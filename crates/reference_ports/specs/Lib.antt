@@ -1,0 +1,3 @@
+pub mod FreeBuffers
+pub mod Heads
+pub mod PortRoom
