@@ -1,6 +1,6 @@
 /* xinu.h - the kernel's calls, constants and devices, for programs in C */
 
-/* The calls are those of docs/KERNEL.md, by the names and types of the book.  What differs	*/
+/* The calls are those of docs/CALLS.md, by the names and types of the book.  What differs	*/
 /*   from the book's Xinu: OK is 0, create takes exactly two arguments for the new process,	*/
 /*   and the console's control functions have other numbers.					*/
 /*												*/
