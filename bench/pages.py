@@ -106,7 +106,7 @@ def counts():
         text = file.read()
     crates = len([path for path in glob.glob("crates/*") if os.path.isdir(path)])
     edits = len(glob.glob("crates/*/must-fail/*.edit"))
-    said = re.search(r"(\d+) crates and (\d+) wrong bodies", text)
+    said = re.search(r"(\d+)\s+crates\s+and\s+(\d+)\s+wrong\s+bodies", text)
     if said and (int(said[1]), int(said[2])) != (crates, edits):
         yield f"README.md: {said[0]}, but there are {crates} and {edits}"
 
