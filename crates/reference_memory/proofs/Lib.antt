@@ -1,0 +1,4 @@
+pub mod HeapCells
+pub mod LeavingCallers
+pub mod Made
+pub mod NameFields
