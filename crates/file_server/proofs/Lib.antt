@@ -1,0 +1,9 @@
+pub mod Bytes
+pub mod Calls
+pub mod Engines
+pub mod Held
+pub mod Issues
+pub mod Puts
+pub mod Servers
+pub mod Starts
+pub mod Turns

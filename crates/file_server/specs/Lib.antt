@@ -1,0 +1,6 @@
+pub mod DiskStates
+pub mod FileDisks
+pub mod Requests
+pub mod ServerStates
+pub mod Servers
+pub mod Starts

@@ -1,0 +1,166 @@
+//! A disk with the file engine that works on it: a call begins, and goes on at each good completion until it has its reply.
+
+ghost use Rattle.std.specs.Prelude.{◌≡◌, ◌≤◌, ◌<◌, ◌/◌, ◌+◌, ◌-◌, ◌*◌, ℕ, List, Some, None, IsSome, IfOk, MatchOption, length};
+ghost use Rattle.file_laws.specs.StoredFiles.{stored_files};
+ghost use Rattle.file_server.specs.DiskStates.{HasFewTurns, HeldCall, Waits, IsDone, IsFirstHeld};
+ghost use Rattle.given_disks.specs.HeldFiles.{HoldsFiles};
+ghost use Rattle.lfs_check.specs.Disks.{block_put};
+ghost use Rattle.lfs_layout.specs.Images.{IsCleanImage};
+ghost use Rattle.local_files.specs.Bounds.{left};
+ghost use Rattle.local_files.specs.Hands.{IsCall};
+ghost use Rattle.local_files.specs.Resting.{ChangesOneBlock, IsOnDisk};
+ghost use Rattle.local_files.specs.Standing.{Stands, GoesTo, wanted, served, call_of, call_bytes, given_bytes};
+ghost use Rattle.xinu_model.specs.Files.Systems.{closed_system};
+ghost use Rattle.xinu_model.specs.Files.Work.{FileWork, most_turns};
+
+use lfs_check::block_at;
+use lfs_layout::CleanImage;
+use local_files::{BlockWork, FileCall, Files};
+use std::alloc::Global;
+use std::marker::Model;
+use xinu_base::NoMemory;
+
+/// The engine, the bytes of the disk, and the disk as it was when the call in hand began.
+#[derive(Drop)]
+pub(crate) struct FileDisk {
+    files: Files,
+    disk: Vec<u8>,
+    settled: Vec<u8>,
+}
+
+impl Model for FileDisk {
+    ghost use Rattle.file_server.specs.DiskStates.{DiskState};
+    ghost use Rattle.file_server.specs.FileDisks.{disk_state, IsFileDisk};
+
+    ghost Value = { DiskState };
+
+    ghost view = { disk_state };
+
+    ghost invariant = { IsFileDisk };
+}
+
+impl FileDisk {
+    // The disk of an image, with no file open and no call in hand.
+    pub(crate) fn new(alloc: Global, image: CleanImage) -> Result<FileDisk, NoMemory>
+        ensures system { IfOk result (λ d. d.system ≡ closed_system (length image / 512) (stored_files image)) }
+        ensures idle { IfOk result (λ d. d.hand ≡ None) }
+        ensures image { IfOk result (λ d. d.image ≡ image) }
+    {
+        let blocks = image.blocks();
+        let disk = image.into_bytes();
+        let files = Files::new(alloc, blocks)?;
+        let settled = copy_of(alloc, &disk)?;
+        Ok(FileDisk {
+            files,
+            disk,
+            settled,
+        })
+    }
+
+    // Begins a call: it has its reply, or it waits for a block.
+    pub(crate) fn begin(&mut self, call: FileCall, bytes: &[u8]) -> Option<i32>
+        requires idle { self.old.hand ≡ None }
+        requires call { IsCall call }
+        requires bytes { length bytes.now ≤ 1048576 }
+        ensures goes { MatchOption result
+            (Waits (call_of call (given_bytes call bytes.now)) (given_bytes call bytes.now) (most_turns (call_of call (given_bytes call bytes.now)) self.old.system) self.old self.new)
+            (λ reply. IsDone (call_of call (given_bytes call bytes.now)) (given_bytes call bytes.now) reply self.old self.new) }
+        ensures image { self.new.image ≡ self.old.image }
+    {
+        self.files.begin(call, bytes);
+        self.files.has_a_completion_left();
+        self.files.answer()
+    }
+
+    // One good completion of the call that waits: it has its reply, or it waits on, with fewer completions left.
+    pub(crate) fn complete(&mut self) -> Option<i32>
+        requires busy { IsSome self.old.hand }
+        ensures goes { (h : HeldCall) → self.old.hand ≡ Some h → MatchOption result
+            (Waits h.call h.bytes (h.left - 1) self.old self.new) (λ reply. IsDone h.call h.bytes reply self.old self.new) }
+        ensures image { ChangesOneBlock self.old.image self.new.image }
+    {
+        self.files.wants_a_block_of_the_disk();
+        self.files.changes_one_block();
+        serve(&mut self.files, &mut self.disk);
+        self.files.has_a_completion_left();
+        match self.files.answer() {
+            None => None,
+            Some(reply) => {
+                self.settled.copy_from_slice(&self.disk);
+                Some(reply)
+            }
+        }
+    }
+
+    // The bytes that the call that has its reply has given.
+    pub(crate) fn given(&self) -> &[u8]
+        ensures bytes { result.now ≡ self.now.given }
+    {
+        self.files.gathered()
+    }
+
+    // The bytes of the disk.
+    pub(crate) fn bytes(&self) -> &[u8]
+        ensures bytes { result.now ≡ self.now.image }
+    {
+        &self.disk
+    }
+
+    // The disk holds the files that are at rest, and is clean for its files if nothing is open and no call is under way. So few are they
+    // that a call has fewer turns than a word counts.
+    pub(crate) fn holds_files(&self)
+        ensures holds { (w : FileWork) → w.system ≡ self.now.system → IsFirstHeld self.now.hand w.calls → HoldsFiles self.now.image w }
+        ensures few { HasFewTurns self.now.system }
+    {
+        self.files.holds_files_at_rest();
+    }
+}
+
+// Carries out the work that the engine wants.
+fn serve(files: &mut Files, disk: &mut [u8])
+    requires wants { IsSome (wanted files.old) }
+    requires blocks { length disk.old ≡ 512 * files.old.blocks }
+    requires outgoing { length files.old.block ≡ 512 }
+    requires within { IsOnDisk (wanted files.old) files.old.blocks }
+    ensures disk { disk.new ≡ served files.old disk.old }
+    ensures len { length disk.new ≡ length disk.old }
+    ensures goes { (base : List ℕ) → Stands files.old base disk.old
+        → GoesTo files.new.phase files.old.call (call_bytes files.old) files.old files.new base disk.new }
+    ensures less { (base : List ℕ) → Stands files.old base disk.old → left files.new base < left files.old base }
+{
+    match files.wants() {
+        None => unreachable!(),
+        Some(BlockWork::Read(n)) => {
+            let block = block_at(disk, n);
+            files.completed(&block);
+        }
+        Some(BlockWork::Write(n)) => {
+            let block = *files.outgoing();
+            put_block(disk, n, &block);
+            files.completed(&block);
+        }
+    }
+}
+
+// Writes a block of a disk.
+fn put_block(disk: &mut [u8], n: u32, block: &[u8; 512])
+    requires within { 512 * n + 512 ≤ length disk.old }
+    ensures block { disk.new ≡ block_put disk.old n block.now }
+    ensures len { length disk.new ≡ length disk.old }
+{
+    let at = 512 * n as usize;
+    disk[at..at + 512].copy_from_slice(block);
+}
+
+// A copy of some bytes.
+fn copy_of(alloc: Global, bytes: &[u8]) -> Result<Vec<u8>, NoMemory>
+    ensures same { IfOk result (λ copy. copy.items ≡ bytes.now) }
+{
+    match vec![in alloc; 0u8; bytes.len()] {
+        Ok(mut copy) => {
+            copy.copy_from_slice(bytes);
+            Ok(copy)
+        }
+        Err(_) => Err(NoMemory),
+    }
+}

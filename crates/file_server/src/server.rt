@@ -1,0 +1,159 @@
+//! The calls on files under way: they are made, completed, and given up.
+
+ghost use Rattle.file_laws.specs.StoredFiles.{stored_files};
+ghost use Rattle.file_server.specs.Requests.{IsRequest, note_of, request_of};
+ghost use Rattle.file_server.specs.ServerStates.{IsCompleted, IsIssued};
+ghost use Rattle.given_disks.specs.HeldFiles.{HoldsFiles};
+ghost use Rattle.local_files.specs.Resting.{ChangesOneBlock};
+ghost use Rattle.std.specs.Prelude.{◌≡◌, ◌<◌, ◌≤◌, ◌/◌, [], ◌∷◌, IfOk, MatchOption, false, true, length, map};
+ghost use Rattle.xinu_base.specs.declared.lines.FileMoment.TheVariants.{Finished};
+ghost use Rattle.xinu_model.specs.Files.Rest.{are_calls};
+ghost use Rattle.xinu_model.specs.Files.Systems.{closed_system};
+ghost use Rattle.xinu_model.specs.Files.Work.{FileStep, calls_given_up, took_effect};
+
+use crate::file_disk::FileDisk;
+use crate::requests::{FileNote, FileNotes, FileRequest, Requests, keep};
+use crate::starting::{begin_next, bytes_of, hand_over, take_effect};
+use lfs_layout::CleanImage;
+use rv_hart::Ram;
+use std::alloc::Global;
+use std::marker::Model;
+use xinu_base::{FileMoment, NoMemory, Pid};
+
+/// The calls on files under way, and the disk.
+#[derive(Drop)]
+pub struct FileServer {
+    disk: FileDisk,
+    // The calls in their order; the first has begun, and waits for a block.
+    requests: Requests,
+    // How many good completions the first has had.
+    turns: u32,
+}
+
+impl Model for FileServer {
+    ghost use Rattle.file_server.specs.ServerStates.{ServerState};
+    ghost use Rattle.file_server.specs.Servers.{IsServer, server_state};
+
+    ghost Value = { ServerState };
+
+    ghost view = { server_state };
+
+    ghost invariant = { IsServer };
+}
+
+impl FileServer {
+    /// The disk of an image, with no file open and no call under way. It takes all the memory that it ever has: a buffer for the bytes
+    /// of a call, and a copy of the disk.
+    ///
+    /// # Errors
+    ///
+    /// Out of memory.
+    pub fn new(alloc: Global, image: CleanImage) -> Result<FileServer, NoMemory>
+        ensures starts { IfOk result (λ s. s.work ≡ record { system = closed_system (length image / 512) (stored_files image); calls = []; turns = 0; bytes = [] }) }
+        ensures image { IfOk result (λ s. s.image ≡ image) }
+    {
+        let disk = FileDisk::new(alloc, image)?;
+        Ok(FileServer {
+            disk,
+            requests: Requests::new(),
+            turns: 0,
+        })
+    }
+
+    /// The bytes of the disk.
+    pub fn bytes(&self) -> &[u8]
+        ensures bytes { result.now ≡ self.now.image }
+    {
+        self.disk.bytes()
+    }
+
+    /// Whether a call is under way.
+    pub fn are_calls(&self) -> bool
+        ensures calls { result ≡ are_calls self.now.work.calls }
+    {
+        !self.requests.is_empty()
+    }
+
+    /// How many calls are under way.
+    pub fn pending(&self) -> usize
+        ensures pending { result ≡ length self.now.work.calls }
+        ensures most { result ≤ 64 }
+    {
+        self.requests.len()
+    }
+
+    /// A call is made, with bytes in RAM. It has its reply at once, and a read's bytes are in RAM, or it is under way after the others.
+    pub fn issue(&mut self, r: FileRequest, ram: &mut Ram) -> Option<i32>
+        requires room { length self.old.work.calls < 64 }
+        requires request { IsRequest r }
+        ensures issued { MatchOption result
+            (let after : FileStep = record { work = self.new.work; memory = ram.new; notes = [] } in IsIssued 0 (request_of r) ram.old self.old.work after)
+            (λ reply. (let after : FileStep = record { work = self.new.work; memory = ram.new; notes = took_effect (request_of r) Finished reply ∷ [] } in
+            IsIssued 1 (request_of r) ram.old self.old.work after)) }
+        ensures image { self.new.image ≡ self.old.image }
+    {
+        if !self.requests.is_empty() {
+            self.requests.push(r);
+            return None;
+        }
+        let Some(reply) = self.disk.begin(r.call, bytes_of(&r, ram)) else {
+            self.requests.push(r);
+            return None;
+        };
+        hand_over(ram, r.caller, r.at, self.disk.given());
+        Some(reply)
+    }
+
+    /// One good completion of the disk. The first call has its reply, or a turn. Once it has its reply, the next becomes the first, with the
+    /// bytes that are in RAM then, and so on as long as one needs no block. Tells what happened, in order.
+    pub fn complete(&mut self, ram: &mut Ram) -> FileNotes
+        requires busy { are_calls self.old.work.calls ≡ true }
+        ensures completed { (let after : FileStep = record { work = self.new.work; memory = ram.new; notes = map note_of result.items } in
+            IsCompleted self.old.work ram.old after) }
+        ensures image { ChangesOneBlock self.old.image self.new.image }
+    {
+        let mut notes = FileNotes::new();
+        let first = self.requests.as_slice()[0];
+        self.disk.holds_files();
+        let Some(reply) = self.disk.complete() else {
+            self.turns += 1;
+            notes.push(FileNote {
+                caller: first.caller,
+                moment: FileMoment::Turn,
+                reply: None,
+            });
+            return notes;
+        };
+        take_effect(
+            &first,
+            &self.disk,
+            ram,
+            &mut notes,
+            FileMoment::Finished,
+            reply,
+        );
+        self.requests.pop_at(0);
+        self.turns = 0;
+        begin_next(&mut self.disk, &mut self.requests, ram, &mut notes);
+        notes
+    }
+
+    /// Gives up what `p` asked for, once it was killed: the first call goes on without its caller, and the others are taken out.
+    pub fn forget(&mut self, p: Pid)
+        ensures forgets { self.new.work ≡ calls_given_up p self.old.work }
+        ensures image { self.new.image ≡ self.old.image }
+    {
+        let mut kept = Requests::new();
+        for r in self.requests.as_slice() {
+            keep(&mut kept, *r, p);
+        }
+        self.requests = kept;
+    }
+
+    /// A law: the disk holds the files at rest, and if no file is open and no call is under way it is clean for exactly its files.
+    pub fn holds(&self)
+        ensures holds { HoldsFiles self.now.image self.now.work }
+    {
+        self.disk.holds_files();
+    }
+}
