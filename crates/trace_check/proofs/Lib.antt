@@ -1,0 +1,3 @@
+pub mod ReadOn
+pub mod Counts
+pub mod Along
