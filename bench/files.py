@@ -4,9 +4,10 @@
 usage: bench/files.py
 
 It builds the program `file_bench`. The scripts come first: each call is made on the engine with its disk and on a plain list of files, and
-the program stops at the first reply, byte or file that differs. On the two smaller disks the files are read back off the disk after each
-completion and after each call, on the largest at one completion of a thousand and at one call of a hundred; on each also at the end. For
-each script it prints how many calls were refused, how many completions there were, and the seconds of processor time.
+the program stops at the first reply, byte or file that differs. The files are read back off the disk after each completion and after each
+call, and at the end. The last script has calls of up to a mebibyte on the largest disk; there the files are read back at one completion of
+a thousand and at one call of a hundred. For each script it prints how many calls were refused, how many completions there were, and the
+seconds of processor time. The memory of a disk that is read back is kept for the next one, else most of the time goes into fresh pages.
 
 Then come the completions and the microseconds of processor time of single calls on a file at its end, the least of five runs, first for
 several sizes of the file on the largest disk, and then for one size on several disks. It ends with status 1 if a script went wrong. No part
@@ -23,6 +24,7 @@ SCRIPTS = (
     (14, 10000, 2, 100, 600, 1, 1),
     (256, 10000, 3, 30, 20000, 1, 1),
     (256, 10000, 4, 100, 100000, 1, 1),
+    (65542, 10000, 5, 100, 20000, 1, 1),
     (65542, 10000, 5, 100, 1048576, 1000, 100),
 )
 RUNS = 5
@@ -34,7 +36,8 @@ SIZE = 65536
 
 def output(words):
     """What the program prints with these words, and the seconds of its processor time."""
-    process = subprocess.Popen([PROGRAM, *map(str, words)], stdout=subprocess.PIPE)
+    kept = {"MALLOC_MMAP_THRESHOLD_": str(1 << 30), "MALLOC_TRIM_THRESHOLD_": str((1 << 32) - 1)}
+    process = subprocess.Popen([PROGRAM, *map(str, words)], stdout=subprocess.PIPE, env={**os.environ, **kept})
     printed = process.stdout.read().decode()
     _, status, usage = os.wait4(process.pid, 0)
     if status != 0:
