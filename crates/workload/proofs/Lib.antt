@@ -1,0 +1,3 @@
+pub mod ImageFiles
+pub mod Reading
+pub mod Turns

@@ -1,0 +1,5 @@
+pub mod Draws
+pub mod Groups
+pub mod Programs
+pub mod Schedules
+pub mod Shapes

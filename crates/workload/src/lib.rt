@@ -1,0 +1,25 @@
+//! The workload of a soak test: four programs and a schedule that a number gives.
+//!
+//! All is drawn from one sequence of numbers, which a number begins ([`Draws`]): first the programs 1 to 4, as image files, and then the
+//! schedule, as a text. A program makes 64 calls over and over; which calls, and with which arguments, is drawn.
+//! `specs/Groups.antt` has the shapes of the calls, `specs/Programs.antt` the programs, and `specs/Schedules.antt` the events.
+//!
+//! | Call | Promise |
+//! |---|---|
+//! | [`program_file`] | `loads`: the file loads as `program` of the definition; `draws`: what is drawn next comes after it |
+//! | [`schedule_text`] | `reads`: the text reads as the 200,000 events of the definition; `size`: it has at most 2,000,000 bytes |
+//!
+//! Both take memory, and `NoMemory` is free.
+#![tactic(auto)]
+
+mod draws;
+mod groups;
+mod programs;
+mod schedules;
+mod shapes;
+#[cfg(test)]
+mod tests;
+
+pub use draws::Draws;
+pub use programs::program_file;
+pub use schedules::schedule_text;

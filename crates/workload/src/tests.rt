@@ -1,0 +1,48 @@
+//! The first words of a program, and the events of a schedule.
+
+use crate::{Draws, program_file, schedule_text};
+use schedule_file::Schedule;
+use std::test::Fail;
+
+/// The first instructions of the first program that the number 0 gives: `getpid`, `getmem 20` and `chprio 3 12`.
+const FIRST: [u32; 12] = [
+    0x0010_0893,
+    0x0000_0073,
+    0x0000_0537,
+    0x0145_0513,
+    0x00a0_0893,
+    0x0000_0073,
+    0x0000_0537,
+    0x0035_0513,
+    0x0000_05b7,
+    0x00c5_8593,
+    0x0070_0893,
+    0x0000_0073,
+];
+
+/// The bytes of the header and of the two texts before them.
+const BEFORE: usize = 36;
+
+#[test]
+fn the_number_0_gives_getpid_first(rt: HostRuntime) -> Result<(), Fail> {
+    let file = program_file(rt.alloc(), 1, &mut Draws::new(0))?;
+    for (k, word) in FIRST.iter().enumerate() {
+        let at = BEFORE + 4 * k;
+        assert_eq!(rt;
+            file.as_slice().get(at..at + 4),
+            Some(word.to_le_bytes().as_slice())
+        );
+    }
+    Ok(())
+}
+
+#[test]
+fn a_schedule_has_200_000_events(rt: HostRuntime) -> Result<(), Fail> {
+    let text = schedule_text(rt.alloc(), &mut Draws::new(0))?;
+    let mut schedule = Schedule::read(rt.alloc(), text.as_slice())?;
+    for _ in 0..200_000u32 {
+        assert!(rt; schedule.next_event().is_some());
+    }
+    assert!(rt; schedule.next_event().is_none());
+    Ok(())
+}
