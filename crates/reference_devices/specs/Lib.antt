@@ -1,0 +1,4 @@
+pub mod Columns
+pub mod Received
+pub mod Steps
+pub mod Transfers
