@@ -1,0 +1,2 @@
+pub mod RoomBySize
+pub mod Small
