@@ -3,7 +3,9 @@ pub mod Calls
 pub mod Engines
 pub mod Held
 pub mod Issues
+pub mod Lists
 pub mod Puts
 pub mod Servers
+pub mod Settling
 pub mod Starts
 pub mod Turns

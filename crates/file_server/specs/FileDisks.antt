@@ -1,6 +1,7 @@
 -- What a disk with the file engine stands for.
 use Rattle.std.specs.Prelude.{ℕ, ◌≡◌, List, Option, Some, None}
 use Rattle.file_server.specs.DiskStates.{HeldCall, DiskState}
+use Rattle.file_server.specs.Settled.{Follows}
 use Rattle.file_server.specs.declared.file_disk.FileDisk.TheInside.{Inside}
 use Rattle.local_files.specs.Bounds.{left}
 use Rattle.local_files.specs.Hands.{system}
@@ -22,7 +23,9 @@ disk_state d = record {
   image = d.disk.items;
 }
 
--- The engine stands for the disk as it was when the call in hand began together with the disk as it is, and no answer waits to be taken.
+-- The engine stands for the disk as it was when the call in hand began together with the disk as it is, no answer waits to be taken, and
+-- the blocks that were written since are remembered.
 pub record IsFileDisk (d : Inside) : Type 0 where
   pub stands : Stands d.files d.settled.items d.disk.items
   pub taken : reply_in d.files.phase ≡ None
+  pub follows : Follows d.written.items d.settled.items d.disk.items

@@ -3,4 +3,5 @@ pub mod FileDisks
 pub mod Requests
 pub mod ServerStates
 pub mod Servers
+pub mod Settled
 pub mod Starts

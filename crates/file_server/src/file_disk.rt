@@ -13,6 +13,7 @@ ghost use Rattle.local_files.specs.Standing.{Stands, GoesTo, wanted, served, cal
 ghost use Rattle.xinu_model.specs.Files.Systems.{closed_system};
 ghost use Rattle.xinu_model.specs.Files.Work.{FileWork, most_turns};
 
+use crate::settled::{Written, note_write, settle};
 use lfs_check::block_at;
 use lfs_layout::CleanImage;
 use local_files::{BlockWork, FileCall, Files};
@@ -26,6 +27,8 @@ pub(crate) struct FileDisk {
     files: Files,
     disk: Vec<u8>,
     settled: Vec<u8>,
+    // The blocks in which these two may differ.
+    written: Written,
 }
 
 impl Model for FileDisk {
@@ -50,10 +53,12 @@ impl FileDisk {
         let disk = image.into_bytes();
         let files = Files::new(alloc, blocks)?;
         let settled = copy_of(alloc, &disk)?;
+        let written = Written::new();
         Ok(FileDisk {
             files,
             disk,
             settled,
+            written,
         })
     }
 
@@ -81,12 +86,13 @@ impl FileDisk {
     {
         self.files.wants_a_block_of_the_disk();
         self.files.changes_one_block();
+        note_write(&mut self.written, &self.files);
         serve(&mut self.files, &mut self.disk);
         self.files.has_a_completion_left();
         match self.files.answer() {
             None => None,
             Some(reply) => {
-                self.settled.copy_from_slice(&self.disk);
+                settle(&mut self.settled, &self.disk, &mut self.written);
                 Some(reply)
             }
         }

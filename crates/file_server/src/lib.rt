@@ -14,10 +14,11 @@
 //! | `bytes` | | the bytes of the disk |
 //! | `holds` | | a law: the disk holds the files at rest, and if no file is open and no call is under way it is clean for exactly its files |
 //!
-//! Two layers stand below: `file_disk` has the engine, the disk, and the disk as it was when the call in hand began, and knows one call at a
-//! time; `starting` begins the first of the calls, and each after it, until one waits for a block. The files of a clause are those of the
-//! disk as it was when the call in hand began, so a call takes effect as its reply comes. The crate depends on `local_files`, the engine, on
-//! `given_disks`, which says what a disk has of the files, on `rv_hart` for RAM, and on `xinu_laws` for lemmas.
+//! Three layers stand below: `settled` remembers which blocks a call writes, and copies them as it takes effect; `file_disk` has the engine,
+//! the disk, and the disk as it was when the call in hand began, and knows one call at a time; `starting` begins the first of the calls, and
+//! each after it, until one waits for a block. The files of a clause are those of the disk as it was when the call in hand began, so a call
+//! takes effect as its reply comes. The crate depends on `local_files`, the engine, on `given_disks`, which says what a disk has of the
+//! files, on `rv_hart` for RAM, and on `xinu_laws` for lemmas.
 #![tactic(auto)]
 
 mod file_disk;
@@ -25,6 +26,7 @@ mod requests;
 #[cfg(test)]
 mod rows;
 mod server;
+mod settled;
 mod starting;
 
 pub use requests::{FileNote, FileNotes, FileRequest};

@@ -20,7 +20,7 @@ invariant_of-self c =
     let b = begun c.answer.result c.args.call (given_bytes c.args.call c.args.bytes.now) e c.begin.new.self c.answer.new.self base c.self.inside.disk.items
     c.answer.ensures.reply c.answer.ensures.new c.self.invariant.stands c.self.invariant.taken free c.begin.ensures.goes c.begin.ensures.bound
     c.has_a_completion_left.ensures.some in
-    record { stands = b.stands; taken = b.taken }
+    record { stands = b.stands; taken = b.taken; follows = c.self.invariant.follows }
 
 pub returns-clause-goes : goal.returns-clause-goes
 returns-clause-goes c =

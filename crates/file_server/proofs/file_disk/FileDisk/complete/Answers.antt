@@ -6,6 +6,8 @@ use Rattle.std.specs.Vec.{with_items}
 use Rattle.std.proofs.lemmas.List.{with_items_is}
 use Rattle.file_server.specs.DiskStates.{DiskState, Waits, IsDone}
 use Rattle.file_server.specs.FileDisks.{held_for}
+use Rattle.file_server.specs.Settled.{Follows}
+use Rattle.file_server.proofs.Settling.{no_difference}
 use Rattle.file_server.proofs.Engines.{done_with, kept_in, over_stands, some_held, state_of, still_stands, waits_on}
 use Rattle.local_files.specs.Resting.{ChangesOneBlock}
 use Rattle.local_files.specs.Standing.{Stands, call_bytes, reply_in, served, wanted}
@@ -38,7 +40,14 @@ invariant_of-self c =
     with_items_is c.self.inside.disk c.serve.new.disk (c.serve.ensures.len ∙ ap length c.deref_mut.ensures.value ∙ sym c.self.inside.disk.ok.0) in
     let P : Files → Type 0 = λ x. Stands x base (with_items c.self.inside.disk c.serve.new.disk).items in
     let Q : List ℕ → Type 0 = λ x. Stands f base x in
-    record { stands = subst P (sym kept) (subst Q (sym items) s); taken = ap (λ (x : Files). reply_in x.phase) kept ∙ none }
+    let disk = c.self.inside.disk.items in
+    let new : (with_items c.self.inside.disk c.serve.new.disk).items ≡ served e disk = items ∙ c.serve.ensures.disk ∙ ap (served e) c.deref_mut.ensures.value in
+    let W : List ℕ → Type 0 = λ x. Follows c.note_write.new.written.items base x in
+    record {
+      stands = subst P (sym kept) (subst Q (sym items) s);
+      taken = ap (λ (x : Files). reply_in x.phase) kept ∙ none;
+      follows = subst W (sym new) (c.note_write.ensures.follows base disk c.self.invariant.stands c.self.invariant.follows);
+    }
 
 pub invariant_of-self-in-Some : goal.invariant_of-self-in-Some
 invariant_of-self-in-Some c =
@@ -48,7 +57,9 @@ invariant_of-self-in-Some c =
     let is = sym c.in-Some.is ∙ c.answer.ensures.reply in
     let items : (with_items c.self.inside.disk c.serve.new.disk).items ≡ c.serve.new.disk =
     with_items_is c.self.inside.disk c.serve.new.disk (c.serve.ensures.len ∙ ap length c.deref_mut.ensures.value ∙ sym c.self.inside.disk.ok.0) in
-    let settled : c.copy_from_slice.new.self.items ≡ c.serve.new.disk = c.copy_from_slice.ensures.items ∙ c.deref.ensures.value ∙ items in
+    let settled : (with_items c.self.inside.settled c.settle.new.settled).items ≡ c.serve.new.disk =
+    with_items_is c.self.inside.settled c.settle.new.settled (c.settle.ensures.len ∙ ap length c.deref_mut-in-Some.ensures.value ∙ sym c.self.inside.settled.ok.0)
+    ∙ c.settle.ensures.same ∙ c.deref.ensures.value ∙ items in
     let o = over_stands f e.call (call_bytes e) e c.in-Some.reply base c.serve.new.disk is g in
     let P : Files → Type 0 = λ x. Stands x c.serve.new.disk c.serve.new.disk in
     let Q : List ℕ → Type 0 = λ x. Stands c.answer.new.self x (with_items c.self.inside.disk c.serve.new.disk).items in
@@ -56,6 +67,9 @@ invariant_of-self-in-Some c =
     record {
       stands = subst Q (sym settled) (subst R (sym items) (subst P (sym c.answer.ensures.new) o.0));
       taken = ap (λ (x : Files). reply_in x.phase) c.answer.ensures.new ∙ o.1;
+      follows = no_difference e.blocks (with_items c.self.inside.settled c.settle.new.settled).items (with_items c.self.inside.disk c.serve.new.disk).items
+          c.settle.new.written.items (ap length items ∙ c.serve.ensures.len ∙ ap length c.deref_mut.ensures.value ∙ c.self.invariant.stands.whole ∙ c.self.invariant.stands.blocks)
+          (settled ∙ sym items) c.settle.ensures.none;
     }
 
 pub returns-in-None-clause-goes : goal.returns-in-None-clause-goes
@@ -82,14 +96,16 @@ returns-in-Some-clause-goes c = λ h is. (
     let held : held_for (wanted e) e base ≡ Some h = ap (λ (v : DiskState). v.hand) c.self.view_is ∙ is in
     let items : (with_items c.self.inside.disk c.serve.new.disk).items ≡ c.serve.new.disk =
     with_items_is c.self.inside.disk c.serve.new.disk (c.serve.ensures.len ∙ ap length c.deref_mut.ensures.value ∙ sym c.self.inside.disk.ok.0) in
-    let settled : c.copy_from_slice.new.self.items ≡ c.serve.new.disk = c.copy_from_slice.ensures.items ∙ c.deref.ensures.value ∙ items in
+    let settled : (with_items c.self.inside.settled c.settle.new.settled).items ≡ c.serve.new.disk =
+    with_items_is c.self.inside.settled c.settle.new.settled (c.settle.ensures.len ∙ ap length c.deref_mut-in-Some.ensures.value ∙ sym c.self.inside.settled.ok.0)
+    ∙ c.settle.ensures.same ∙ c.deref.ensures.value ∙ items in
     let w = done_with h c.in-Some.reply e f c.answer.new.self base c.self.inside.disk.items c.serve.new.disk (sym c.in-Some.is ∙ c.answer.ensures.reply) c.answer.ensures.new held
     (c.serve.ensures.goes base s) in
     let Q : List ℕ → Type 0 = λ x. IsDone h.call h.bytes c.in-Some.reply (state_of e base c.self.inside.disk.items) (state_of c.answer.new.self c.serve.new.disk x) in
     let R : List ℕ → Type 0 = λ x. IsDone h.call h.bytes c.in-Some.reply (state_of e base c.self.inside.disk.items) (state_of c.answer.new.self x (with_items c.self.inside.disk c.serve.new.disk).items) in
-    let P : DiskState → Type 0 = λ v. IsDone h.call h.bytes (to_z w32 (of_z w32 c.in-Some.reply)) v (state_of c.answer.new.self c.copy_from_slice.new.self.items (with_items c.self.inside.disk c.serve.new.disk).items) in
+    let P : DiskState → Type 0 = λ v. IsDone h.call h.bytes (to_z w32 (of_z w32 c.in-Some.reply)) v (state_of c.answer.new.self (with_items c.self.inside.settled c.settle.new.settled).items (with_items c.self.inside.disk c.serve.new.disk).items) in
     let fits : SFits w32 c.in-Some.reply = search rules in
-    let Z : ℤ → Type 0 = λ z. IsDone h.call h.bytes z (state_of e base c.self.inside.disk.items) (state_of c.answer.new.self c.copy_from_slice.new.self.items (with_items c.self.inside.disk c.serve.new.disk).items) in
+    let Z : ℤ → Type 0 = λ z. IsDone h.call h.bytes z (state_of e base c.self.inside.disk.items) (state_of c.answer.new.self (with_items c.self.inside.settled c.settle.new.settled).items (with_items c.self.inside.disk c.serve.new.disk).items) in
     subst P c.self.view_is (subst Z (sym (to_z-of_z w32 c.in-Some.reply fits)) (subst R (sym settled) (subst Q (sym items) w.goes))))
 
 pub returns-in-None-clause-image : goal.returns-in-None-clause-image

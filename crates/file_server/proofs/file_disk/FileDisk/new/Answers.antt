@@ -5,6 +5,7 @@ use Rattle.lfs_check.proofs.Images.{whole_blocks}
 use Rattle.lfs_layout.specs.Images.{IsCleanImage}
 use Rattle.local_files.specs.Standing.{Stands, reply_in}
 use Rattle.local_files.specs.Steps.{shown}
+use Rattle.file_server.proofs.Settling.{no_difference}
 use Rattle.xinu_model.specs.Files.Systems.{FileSystem, OpenFile}
 use Rattle.file_server.proofs.file_disk.FileDisk.new.Goals as goal
 
@@ -20,6 +21,8 @@ invariant_of-result c =
     record {
       stands = subst Q (sym (c.in_ok-settled.ensures.same ∙ c.deref.ensures.value)) (c.in_ok-files.ensures.stands disk clean long);
       taken = ap reply_in c.in_ok-files.ensures.idle;
+      follows = no_difference c.blocks-blocks.result c.in_ok-settled.settled.items disk c.new-written.result.items long
+          (c.in_ok-settled.ensures.same ∙ c.deref.ensures.value) c.new-written.ensures;
     }
 
 pub returns-clause-system : goal.returns-clause-system
