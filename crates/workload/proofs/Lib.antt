@@ -1,3 +1,4 @@
+pub mod Counted
 pub mod ImageFiles
 pub mod Reading
 pub mod Turns

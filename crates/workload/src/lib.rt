@@ -1,15 +1,18 @@
-//! The workload of a soak test: four programs and a schedule that a number gives.
+//! The workload of a soak test: four programs and a schedule that a number gives, and what is counted of their run.
 //!
 //! All is drawn from one sequence of numbers, which a number begins ([`Draws`]): first the programs 1 to 4, as image files, and then the
 //! schedule, as a text. A program makes 64 calls over and over; which calls, and with which arguments, is drawn.
-//! `specs/Groups.antt` has the shapes of the calls, `specs/Programs.antt` the programs, and `specs/Schedules.antt` the events.
+//! `specs/Groups.antt` has the shapes of the calls, `specs/Programs.antt` the programs, `specs/Schedules.antt` the events, and
+//! `specs/Summaries.antt` what is counted of the text of a run. A [`Tally`] counts text by text, so none has to be kept.
 //!
 //! | Call | Promise |
 //! |---|---|
 //! | [`program_file`] | `loads`: the file loads as `program` of the definition; `draws`: what is drawn next comes after it |
 //! | [`schedule_text`] | `reads`: the text reads as the 200,000 events of the definition; `size`: it has at most 2,000,000 bytes |
+//! | [`Tally::add`] | `counts`: the lines of one more text are counted |
+//! | [`Tally::summary`] | `line`: the line is `summary` of the definition |
 //!
-//! Both take memory, and `NoMemory` is free.
+//! All but `add` take memory, and `NoMemory` is free.
 #![tactic(auto)]
 
 mod draws;
@@ -17,9 +20,11 @@ mod groups;
 mod programs;
 mod schedules;
 mod shapes;
+mod tallies;
 #[cfg(test)]
 mod tests;
 
 pub use draws::Draws;
 pub use programs::program_file;
 pub use schedules::schedule_text;
+pub use tallies::Tally;

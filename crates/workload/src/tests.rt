@@ -1,8 +1,9 @@
-//! The first words of a program, and the events of a schedule.
+//! The first words of a program, the events of a schedule, and the counts of a text.
 
-use crate::{Draws, program_file, schedule_text};
+use crate::{Draws, Tally, program_file, schedule_text};
 use schedule_file::Schedule;
 use std::test::Fail;
+use xinu_base::End;
 
 /// The first instructions of the first program that the number 0 gives: `getpid`, `getmem 20` and `chprio 3 12`.
 const FIRST: [u32; 12] = [
@@ -44,5 +45,16 @@ fn a_schedule_has_200_000_events(rt: HostRuntime) -> Result<(), Fail> {
         assert!(rt; schedule.next_event().is_some());
     }
     assert!(rt; schedule.next_event().is_none());
+    Ok(())
+}
+
+#[test]
+fn lines_are_counted_by_their_first_words(rt: HostRuntime) -> Result<(), Fail> {
+    let mut tally = Tally::new();
+    tally.add(b"run 1\ncall 1 getpid\nret 1 1\n");
+    tally.add(b"con 61\nconsole cooked 0 0 0 0 run\nend schedule\n");
+    let line = tally.summary(rt.alloc(), 7, 4, End::Schedule)?;
+    let counted = "soak 7 events 4 calls 1 rets 1 switches 1 con 1 end schedule\n";
+    assert_eq!(rt; line.as_str(), counted);
     Ok(())
 }
