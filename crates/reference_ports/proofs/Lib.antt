@@ -1,6 +1,6 @@
 pub mod Disposals
 pub mod FreeRoom
-pub mod FullPorts
+pub mod GrantedRange
 pub mod NewPorts
 pub mod Places
 pub mod RoomLeft

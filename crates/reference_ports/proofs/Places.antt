@@ -1,5 +1,5 @@
 -- Where the buffers of a pool are: the k-th is k steps after the first.
-use Rattle.std.proofs.Common.{◌≡◌, ◌≢◌, ℕ, zero, suc, ◌+◌, ◌*◌, ◌/◌, ◌%◌, ◌<◌, ◌≤◌, ◌==◌, true, false, List, [], ◌∷◌, length, get_or, subst, sym, ap, ◌∙◌, ⊎_elim, arith}
+use Rattle.std.proofs.Common.{◌≡◌, ◌≢◌, ℕ, zero, suc, ◌+◌, ◌*◌, ◌/◌, ◌%◌, ◌<◌, ◌≤◌, ◌==◌, true, false, List, [], ◌∷◌, ◌++◌, ◌-◌, append_assoc, length, get_or, subst, sym, ap, ◌∙◌, ⊎_elim, arith}
 use Rattle.std.specs.List.{AllByRecursion}
 use Rattle.std.specs.Prelude.{nat_lt}
 use Rattle.std.proofs.Math.Nat.{mul-mod_left}
@@ -68,3 +68,17 @@ first_within a pool within own some is = go pool.free own some is
     go : (l : List ℕ) → AllByRecursion (λ b. is_in b (buffers pool) ≡ true) l → 0 < length l → a ≡ get_or l 0 a → a ≤ 1048576
     go [] own some is = absurd (omega (arith, some))
     go (b ∷ l) own some is = buffer_within a pool within (subst (λ x. is_in x (buffers pool) ≡ true) (sym is) own.0)
+
+-- one address further is so many steps after the first
+pub next_step : (first step i next : ℕ) → next ≡ first + i * step → next + step ≡ first + (i + 1) * step
+next_step first step i next is =
+    let e : suc i ≡ i + 1 = omega arith in
+    let m : suc i * step ≡ (i + 1) * step = ap (λ k. k * step) e in
+    omega (arith, is, m)
+
+-- an address goes after those that are in
+pub one_more_in : (list : List ℕ) (next step n i : ℕ) → i < n
+    → (list ++ next ∷ []) ++ addresses (next + step) step (n - (i + 1)) ≡ list ++ addresses next step (n - i)
+one_more_in list next step n i lt =
+    let left : suc (n - (i + 1)) ≡ n - i = omega (arith, lt) in
+    append_assoc list (next ∷ []) (addresses (next + step) step (n - (i + 1))) ∙ ap (λ k. list ++ addresses next step k) left

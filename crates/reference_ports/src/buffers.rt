@@ -1,10 +1,13 @@
 //! The buffers of a pool: where they are, which are held, and by which pool (book, chapter 10).
 
-ghost use Rattle.std.specs.Prelude.{◌≡◌, ◌≤◌, ◌<◌, ◌+◌, ◌∷◌, [], IfSome, MatchOption, drop, length};
+ghost use Rattle.std.specs.Prelude.{◌≡◌, ◌≤◌, ◌<◌, ◌+◌, ◌*◌, ◌∷◌, [], IfOk, IfSome, MatchOption, drop, length};
 ghost use Rattle.reference_ports.specs.FreeBuffers.{HasOwnFree};
+ghost use Rattle.xinu_model.specs.Memory.{ranges_meet};
 ghost use Rattle.xinu_model.specs.Pools.Buffers as model;
 
 use reference_state::BufferPool;
+use reference_tables::push;
+use xinu_base::NoMemory;
 
 // Whether an address is that of a buffer of a pool.
 fn is_buffer(a: u32, pool: &BufferPool) -> bool
@@ -67,4 +70,52 @@ fn number_of(pool: &BufferPool) -> u32
     ensures few { result ≤ 1048576 }
 {
     pool.number
+}
+
+/// n addresses, the first one given and each one a step after the one before, go into an empty list.
+pub(crate) fn addresses(list: &mut Vec<u32>, first: u32, step: u32, n: u32) -> Result<(), NoMemory>
+    requires empty { list.old.items ≡ [] }
+    requires fits { first + n * step ≤ 4294967295 }
+    ensures addresses { IfOk result (λ _. list.new.items ≡ model.addresses first step n) }
+{
+    let mut next = first;
+    for i in 0..n {
+        push(list, next)?;
+        next += step;
+    }
+    Ok(())
+}
+
+/// Whether a range of addresses meets that of a pool.
+pub(crate) fn meets_pool(base: u32, bytes: u32, pools: &[BufferPool]) -> bool
+    ensures meets { result ≡ model.meets_pool base bytes pools.now }
+{
+    for pool in pools {
+        if meets(base, bytes, pool) {
+            return true;
+        }
+    }
+    false
+}
+
+// Whether a range of addresses meets that of one pool.
+fn meets(base: u32, bytes: u32, pool: &BufferPool) -> bool
+    ensures meets { result ≡ ranges_meet base bytes pool.now.base (model.pool_bytes pool.now.size pool.now.number) }
+{
+    let own = bytes_of(pool);
+    bytes > 0
+        && own > 0
+        && base < pool.base + own
+        && u64::from(pool.base) < u64::from(base) + u64::from(bytes)
+}
+
+// How many bytes a pool takes.
+fn bytes_of(pool: &BufferPool) -> u32
+    ensures bytes { result ≡ model.pool_bytes pool.now.size pool.now.number }
+    ensures within { pool.now.base + result ≤ 1048576 }
+{
+    if pool.number == 0 {
+        return 0;
+    }
+    pool.number * (pool.size + 4)
 }

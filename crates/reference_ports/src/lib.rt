@@ -6,6 +6,7 @@
 //! | File | What it has |
 //! |---|---|
 //! | `buffers` | which addresses are buffers of a pool, and which pool has one |
+//! | [`new_pools`] | 28 `mkbufpool` |
 //! | [`pools`] | 29 `getbuf`, 30 `freebuf`, and [`pools::go_on_getbuf`] |
 //! | `queues` | the queue of a port: its messages, how many all ports hold, and whether a ticket is stale |
 //! | `port_changes` | what changes the ports: one is made, deleted, emptied, or has other messages |
@@ -17,6 +18,7 @@
 #![tactic(auto)]
 
 mod buffers;
+pub mod new_pools;
 pub mod pools;
 mod port_changes;
 pub mod ports;
