@@ -12,6 +12,8 @@ mod elf_files;
 #[cfg(test)]
 mod file_runtime;
 #[cfg(test)]
+mod files;
+#[cfg(test)]
 mod host_faults;
 #[cfg(test)]
 mod out_of_memory;

@@ -4,7 +4,7 @@ ghost use Rattle.std.specs.Prelude.{ℕ, ◌≡◌, ◌≢◌, ◌<◌, ◌≤�
 ghost use Rattle.kernel_state.specs.Calling.{IsCalling};
 ghost use Rattle.kernel_state.specs.Results.{came_to, IsStart};
 ghost use Rattle.kernel_state.specs.Families.{is_on_device};
-ghost use Rattle.xinu_base.specs.Syscalls.{is_built};
+ghost use Rattle.xinu_base.specs.Syscalls.{is_call};
 ghost use Rattle.xinu_laws.specs.Preserve.{ticking};
 ghost use Rattle.xinu_model.specs.Calls.{called, continued};
 ghost use Rattle.xinu_model.specs.Machine.{Silent};
@@ -22,64 +22,26 @@ use crate::process_calls::{
 };
 use crate::semaphore_calls::{semcount, semcreate, semdelete, semreset, signal, signaln, wait};
 use kernel_state::{Creation, KernelState, answer_released, half, signed};
-use xinu_base::{Call, Next, Rest, SYSERR, State};
+use xinu_base::{Call, Next, Rest, SYSERR, State, each_call};
 
 /// Begins the call of a number from 1 to 35.
 pub fn begin(k: &mut KernelState, call: Call) -> Next
     requires core { call.number ≤ 35 }
-    requires built { is_built call.number ≡ true }
+    requires known { is_call call.number ≡ true }
     requires calling { IsCalling k.old }
     requires numbers { (q : ℕ) → (port_at k.old.state.parts.ports q).seq < 4294967295 }
     ensures called { came_to k.new result ≡ called call.number call.args k.old.state }
 {
-    let a = call.args;
-    match call.number {
-        1 => getpid(k),
-        2 => create(
-            k,
-            Creation {
-                entry: a[0],
-                stack: a[1],
-                priority: half(a[2]),
-                args: (a[4], a[5]),
-            },
-            a[3],
-        ),
-        3 => resume(k, a[0]),
-        4 => suspend(k, a[0]),
-        5 => kill(k, a[0]),
-        6 => yield_now(k),
-        7 => chprio(k, a[0], half(a[1])),
-        8 => getprio(k, a[0]),
-        9 => exit(k),
-        10 => getmem(k, a[0]),
-        11 => freemem(k, a[0], a[1]),
-        12 => getstk(k, a[0]),
-        13 => freestk(k, a[0], a[1]),
-        14 => semcreate(k, signed(a[0])),
-        15 => semdelete(k, a[0]),
-        16 => semreset(k, a[0], signed(a[1])),
-        17 => semcount(k, a[0]),
-        18 => wait(k, a[0]),
-        19 => signal(k, a[0]),
-        20 => signaln(k, a[0], signed(a[1])),
-        21 => send(k, a[0], a[1]),
-        22 => receive(k),
-        23 => recvclr(k),
-        24 => recvtime(k, signed(a[0])),
-        25 => sleep(k, signed(a[0])),
-        26 => sleepms(k, signed(a[0])),
-        27 => clktime(k),
-        28 => mkbufpool(k, a[0], a[1]),
-        29 => getbuf(k, a[0]),
-        30 => freebuf(k, a[0]),
-        31 => ptcreate(k, signed(a[0])),
-        32 => ptdelete(k, a[0], a[1]),
-        33 => ptreset(k, a[0], a[1]),
-        34 => ptsend(k, a[0], a[1]),
-        35 => ptrecv(k, a[0]),
-        _ => Next::Returns(SYSERR),
+    let args = call.args;
+    macro_rules! begins {
+        (core { $($number:literal $name:literal $count:literal $begin:expr;)* } io { $($others:tt)* }) => {
+            match call.number {
+                $($number => $begin,)*
+                _ => Next::Returns(SYSERR),
+            }
+        };
     }
+    each_call!(begins, k, args)
 }
 
 /// Does what is left of the current process's call: the end of a self-suspension, a buffer, a message to or from a port, or the receipt of

@@ -4,6 +4,7 @@ pub mod Engines
 pub mod Held
 pub mod Issues
 pub mod Lists
+pub mod Places
 pub mod Puts
 pub mod Servers
 pub mod Settling

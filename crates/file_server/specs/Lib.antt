@@ -1,5 +1,6 @@
 pub mod DiskStates
 pub mod FileDisks
+pub mod OpenFiles
 pub mod Requests
 pub mod ServerStates
 pub mod Servers

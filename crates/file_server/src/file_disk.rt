@@ -1,8 +1,10 @@
 //! A disk with the file engine that works on it: a call begins, and goes on at each good completion until it has its reply.
 
-ghost use Rattle.std.specs.Prelude.{◌≡◌, ◌≤◌, ◌<◌, ◌/◌, ◌+◌, ◌-◌, ◌*◌, ℕ, List, Some, None, IsSome, IfOk, MatchOption, length};
+ghost use Rattle.std.specs.Prelude.{◌≡◌, ◌≤◌, ◌<◌, ◌/◌, ◌+◌, ◌-◌, ◌*◌, ℕ, List, Option, Some, None, IsSome, IfOk, MatchOption, is_some, length};
+ghost use Rattle.std.specs.List.{list_any};
 ghost use Rattle.file_laws.specs.StoredFiles.{stored_files};
 ghost use Rattle.file_server.specs.DiskStates.{HasFewTurns, HeldCall, Waits, IsDone, IsFirstHeld};
+ghost use Rattle.file_server.specs.OpenFiles.{place_of};
 ghost use Rattle.given_disks.specs.HeldFiles.{HoldsFiles};
 ghost use Rattle.lfs_check.specs.Disks.{block_put};
 ghost use Rattle.lfs_layout.specs.Images.{IsCleanImage};
@@ -10,7 +12,7 @@ ghost use Rattle.local_files.specs.Bounds.{left};
 ghost use Rattle.local_files.specs.Hands.{IsCall};
 ghost use Rattle.local_files.specs.Resting.{ChangesOneBlock, IsOnDisk};
 ghost use Rattle.local_files.specs.Standing.{Stands, GoesTo, wanted, served, call_of, call_bytes, given_bytes};
-ghost use Rattle.xinu_model.specs.Files.Systems.{closed_system};
+ghost use Rattle.xinu_model.specs.Files.Systems.{OpenFile, closed_system, open_at};
 ghost use Rattle.xinu_model.specs.Files.Work.{FileWork, most_turns};
 
 use crate::settled::{Written, note_write, settle};
@@ -110,6 +112,24 @@ impl FileDisk {
         ensures bytes { result.now ≡ self.now.image }
     {
         &self.disk
+    }
+
+    // The position and the size of the file that a device has open.
+    pub(crate) fn open_file(&self, d: usize) -> Option<(u32, u32)>
+        requires below { d < 6 }
+        ensures open { result ≡ place_of (open_at self.now.system d) self.now.system }
+    {
+        match self.files.devices[d] {
+            None => None,
+            Some(f) => Some((f.position, f.entry.size)),
+        }
+    }
+
+    // Whether a device has a file open.
+    pub(crate) fn has_open(&self) -> bool
+        ensures open { result ≡ list_any (λ (x : Option OpenFile). is_some x) self.now.system.devices }
+    {
+        self.files.open_count() > 0
     }
 
     // The disk holds the files that are at rest, and is clean for its files if nothing is open and no call is under way. So few are they

@@ -11,6 +11,7 @@
 //! | `complete` | `busy`: a call is under way | `completed`: `calls_completed` of as many calls as took effect, which are as many as the abstract machine allows, with RAM and what happened, in order; `image`: at most one block of the disk changes |
 //! | `forget` | | `forgets`: `calls_given_up`; `image`: the disk stays |
 //! | `are_calls`, `pending` | | whether calls are under way, and how many, which are at most 64 |
+//! | `open_file`, `is_busy` | | the position and the size of an open file; whether a file is open or a call is under way |
 //! | `bytes` | | the bytes of the disk |
 //! | `holds` | | a law: the disk holds the files at rest, and if no file is open and no call is under way it is clean for exactly its files |
 //!

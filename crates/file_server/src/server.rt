@@ -1,14 +1,15 @@
 //! The calls on files under way: they are made, completed, and given up.
 
 ghost use Rattle.file_laws.specs.StoredFiles.{stored_files};
+ghost use Rattle.file_server.specs.OpenFiles.{place_of};
 ghost use Rattle.file_server.specs.Requests.{IsRequest, note_of, request_of};
 ghost use Rattle.file_server.specs.ServerStates.{IsCompleted, IsIssued};
 ghost use Rattle.given_disks.specs.HeldFiles.{HoldsFiles};
 ghost use Rattle.local_files.specs.Resting.{ChangesOneBlock};
 ghost use Rattle.std.specs.Prelude.{◌≡◌, ◌<◌, ◌≤◌, ◌/◌, [], ◌∷◌, IfOk, MatchOption, false, true, length, map};
 ghost use Rattle.xinu_base.specs.declared.lines.FileMoment.TheVariants.{Finished};
-ghost use Rattle.xinu_model.specs.Files.Rest.{are_calls};
-ghost use Rattle.xinu_model.specs.Files.Systems.{closed_system};
+ghost use Rattle.xinu_model.specs.Files.Rest.{are_calls, is_busy};
+ghost use Rattle.xinu_model.specs.Files.Systems.{closed_system, open_at};
 ghost use Rattle.xinu_model.specs.Files.Work.{FileStep, calls_given_up, took_effect};
 
 use crate::file_disk::FileDisk;
@@ -72,6 +73,21 @@ impl FileServer {
         ensures calls { result ≡ are_calls self.now.work.calls }
     {
         !self.requests.is_empty()
+    }
+
+    /// The position and the size of the file that a device has open, counted from the first file device.
+    pub fn open_file(&self, d: usize) -> Option<(u32, u32)>
+        requires below { d < 6 }
+        ensures open { result ≡ place_of (open_at self.now.work.system d) self.now.work.system }
+    {
+        self.disk.open_file(d)
+    }
+
+    /// Whether a file is open or a call is under way.
+    pub fn is_busy(&self) -> bool
+        ensures busy { result ≡ is_busy self.now.work }
+    {
+        self.disk.has_open() || self.are_calls()
     }
 
     /// How many calls are under way.

@@ -1,7 +1,7 @@
 //! The bounds of the numbers, and the names of calls at the ends of their table.
 
 use crate::rows::same;
-use xinu_base::{Dev, Pid, PoolId, Port, Sem, call_args, call_name, is_built, is_built_device};
+use xinu_base::{Dev, Pid, PoolId, Port, Sem, call_args, call_name, is_call};
 
 // These five give a number's index, if the word is one.
 fn pid(w: u32) -> Option<usize> {
@@ -56,12 +56,10 @@ fn calls_have_names(rt: HostRuntime) {
             (name, args),
         );
     }
-    let calls = [is_built(1), is_built(44), is_built(45)];
-    let devices = [is_built_device(0), is_built_device(1), is_built_device(2)];
     same(
         &rt,
-        "built",
-        (calls, devices),
-        ([true, true, false], [true, false, true]),
+        "calls",
+        [is_call(1), is_call(44), is_call(45)],
+        [true, true, false],
     );
 }

@@ -1,5 +1,5 @@
--- Fewer requests wait for the raw disk than there is room for: the callers are processes that wait, each once, and the null process and the
--- current one don't wait.
+-- Fewer requests wait for the raw disk, and fewer calls on files are under way, than there is room for: the callers are processes that wait,
+-- each once, and the null process and the current one don't wait.
 use Rattle.std.proofs.Common.{◌≡◌, ◌≢◌, ◌∙◌, ℕ, zero, suc, ◌+◌, ◌<◌, ◌≤◌, ◌==◌, Bool, true, false, not, cond, List, [], ◌∷◌, ◌++◌, length, filter, Option, Some, None, refl, sym, ap, subst, arith, ⊎_elim}
 use Rattle.std.specs.Prelude.{IsSome}
 use Rattle.std.specs.List.{AllByRecursion}
@@ -9,9 +9,10 @@ use Rattle.table_laws.proofs.Tables.MoveTo.{by_number, within_table}
 use Rattle.table_laws.proofs.Tables.Unblock.{waiter_waits}
 use Rattle.xinu_base.specs.declared.processes.State.{State}
 use Rattle.xinu_base.specs.declared.processes.State.TheVariants.{Free, Current, Ready, Receiving, Sleeping, Suspended, Waiting, Timed}
-use Rattle.xinu_model.specs.RawDisk.Callers.{HaveCallers, living}
-use Rattle.xinu_model.specs.RawDisk.Requests.{RawDisk, Request, requesters}
-use Rattle.xinu_model.specs.Sound.Disks.{IsRawDisk}
+use Rattle.xinu_model.specs.Files.Work.{FileRequest, FileWork}
+use Rattle.xinu_model.specs.RawDisk.Callers.{callers, HaveCallers, living}
+use Rattle.xinu_model.specs.RawDisk.Requests.{RawDisk, Request}
+use Rattle.xinu_model.specs.Sound.Disks.{IsFileDisk, IsRawDisk}
 use Rattle.xinu_model.specs.Sound.Tables.{count_in, IsInside, IsSoundTables, times, waiting_places}
 use Rattle.xinu_model.specs.Tables.{no_semaphore, numbers_without, Semaphore, semaphore_at, state_at, Tables}
 
@@ -65,23 +66,25 @@ two_missing a b l other low_a low_b none_a none_b once below =
     let all = few_numbers 64 (a ∷ b ∷ l) (more_once a (b ∷ l) none (more_once b l none_b once)) (more_below 64 a (b ∷ l) low_a (more_below 64 b l low_b below)) in
     omega (arith, all)
 
--- a request that has a caller has one
-one_has : (o : Option ℕ) (others : List ℕ) (n : ℕ) → IsSome o → length others ≡ n → length (living o ++ others) ≡ suc n
-one_has None others n some e = absurd (cc)
-one_has (Some p) others n some e = ap suc e
+-- What of a request is its caller.
+module _ {A : Type 0} (caller : A → Option ℕ) where
+  -- a request that has a caller has one
+  one_has : (o : Option ℕ) (others : List ℕ) (n : ℕ) → IsSome o → length others ≡ n → length (living o ++ others) ≡ suc n
+  one_has None others n some e = absurd (cc)
+  one_has (Some p) others n some e = ap suc e
 
--- those of whom all have callers have as many
-all_have : (l : List Request) → AllByRecursion (λ (r : Request). IsSome r.caller) l → length (requesters l) ≡ length l
-all_have [] h = refl
-all_have (r ∷ l) h = one_has r.caller (requesters l) (length l) h.0 (all_have l h.1)
+  -- those of whom all have callers have as many
+  all_have : (l : List A) → AllByRecursion (λ a. IsSome (caller a)) l → length (callers caller l) ≡ length l
+  all_have [] h = refl
+  all_have (a ∷ l) h = one_has (caller a) (callers caller l) (length l) h.0 (all_have l h.1)
 
-first_has : (o : Option ℕ) (others : List ℕ) (n : ℕ) → length others ≡ n → suc n ≤ suc (length (living o ++ others))
-first_has None others n e = omega (arith, e)
-first_has (Some p) others n e = omega (arith, e)
+  first_has : (o : Option ℕ) (others : List ℕ) (n : ℕ) → length others ≡ n → suc n ≤ suc (length (living o ++ others))
+  first_has None others n e = omega (arith, e)
+  first_has (Some p) others n e = omega (arith, e)
 
-few_have : (l : List Request) → HaveCallers (λ (r : Request). r.caller) l → length l ≤ suc (length (requesters l))
-few_have [] h = omega arith
-few_have (r ∷ l) h = first_has r.caller (requesters l) (length l) (all_have l h)
+  few_have : (l : List A) → HaveCallers caller l → length l ≤ suc (length (callers caller l))
+  few_have [] h = omega arith
+  few_have (a ∷ l) h = first_has (caller a) (callers caller l) (length l) (all_have l h)
 
 -- how often a process is among the waiters of a semaphore
 waits_there : (t : Tables) (p sem : ℕ) → IsInside t → count_in p (semaphore_at t sem).waiters ≤ waiting_places (state_at t p)
@@ -100,21 +103,34 @@ places Suspended = omega arith
 places Waiting = omega arith
 places Timed = omega arith
 
--- Who may call finds room for its request.
+-- On no semaphore wait more than 62 processes while one calls.
+few_wait : (t : Tables) (sem : ℕ) → IsSoundTables t → t.current ≢ 0 → length (semaphore_at t sem).waiters < 63
+few_wait t sem k not_null =
+    let o = k.inside in
+    let ws = (semaphore_at t sem).waiters in
+    let once : (p : ℕ) → count_in p ws ≤ 1 = λ p. (let a = waits_there t p sem o in let b = places (state_at t p) in omega (arith, a, b)) in
+    let below : (p : ℕ) → 0 < count_in p ws → p < 64
+    = λ p some. within_table t p o.processes (λ f. let g = sym (waiter_waits t sem p o some) ∙ f in cc) in
+    let none_current : count_in t.current ws ≡ 0
+    = (let a = waits_there t t.current sem o in let b : waiting_places (state_at t t.current) ≡ 0 = ap waiting_places k.runs in omega (arith, a, b)) in
+    let none_null : count_in 0 ws ≡ 0
+    = ⊎_elim (λ (e : state_at t 0 ≡ Current). let a = waits_there t 0 sem o in let b : waiting_places (state_at t 0) ≡ 0 = ap waiting_places e in omega (arith, a, b))
+    (λ (e : state_at t 0 ≡ Ready). let a = waits_there t 0 sem o in let b : waiting_places (state_at t 0) ≡ 0 = ap waiting_places e in omega (arith, a, b)) o.null in
+    let low : t.current < 64 = within_table t t.current o.processes (λ f. let g = sym k.runs ∙ f in cc) in
+    two_missing 0 t.current ws (λ e. not_null (sym e)) (omega arith) low none_null none_current once below
+
+-- Who may call finds room for its request,
 pub few_requests : (t : Tables) (d : RawDisk) → IsSoundTables t → t.current ≢ 0 → IsRawDisk t d → length d.requests < 64
 few_requests t d k not_null disk =
-    let o = k.inside in
-    let ws = (semaphore_at t 2).waiters in
-    let once : (p : ℕ) → count_in p ws ≤ 1 = λ p. (let a = waits_there t p 2 o in let b = places (state_at t p) in omega (arith, a, b)) in
-    let below : (p : ℕ) → 0 < count_in p ws → p < 64
-    = λ p some. within_table t p o.processes (λ f. let g = sym (waiter_waits t 2 p o some) ∙ f in cc) in
-    let none_current : count_in t.current ws ≡ 0
-    = (let a = waits_there t t.current 2 o in let b : waiting_places (state_at t t.current) ≡ 0 = ap waiting_places k.runs in omega (arith, a, b)) in
-    let none_null : count_in 0 ws ≡ 0
-    = ⊎_elim (λ (e : state_at t 0 ≡ Current). let a = waits_there t 0 2 o in let b : waiting_places (state_at t 0) ≡ 0 = ap waiting_places e in omega (arith, a, b))
-    (λ (e : state_at t 0 ≡ Ready). let a = waits_there t 0 2 o in let b : waiting_places (state_at t 0) ≡ 0 = ap waiting_places e in omega (arith, a, b)) o.null in
-    let low : t.current < 64 = within_table t t.current o.processes (λ f. let g = sym k.runs ∙ f in cc) in
-    let waiters = two_missing 0 t.current ws (λ e. not_null (sym e)) (omega arith) low none_null none_current once below in
+    let waiters = few_wait t 2 k not_null in
     let same = ap length disk.waiters in
-    let few = few_have d.requests disk.itself.callers in
+    let few = few_have (λ (r : Request). r.caller) d.requests disk.itself.callers in
+    omega (arith, waiters, same, few)
+
+-- and for its call on files.
+pub few_calls : (t : Tables) (w : FileWork) → IsSoundTables t → t.current ≢ 0 → IsFileDisk t w → length w.calls < 64
+few_calls t w k not_null files =
+    let waiters = few_wait t 3 k not_null in
+    let same = ap length files.waiters in
+    let few = few_have (λ (a : FileRequest). a.caller) w.calls files.itself.callers in
     omega (arith, waiters, same, few)

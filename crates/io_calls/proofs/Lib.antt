@@ -1,9 +1,13 @@
 pub mod BlockBytes
+pub mod CallRows
 pub mod ConsoleReads
 pub mod ConsoleSignals
 pub mod ConsoleTokens
 pub mod ConsoleWrites
 pub mod DeviceCalls
 pub mod FewRequests
+pub mod FileCalls
+pub mod FileTexts
 pub mod Mounting
+pub mod Openings
 pub mod ReadTexts

@@ -1,10 +1,11 @@
 //! The calls on devices and names by their numbers, and what is left of those that wait.
 
 ghost use Rattle.std.specs.Prelude.{◌≡◌, ◌≤◌, true};
+ghost use Rattle.kernel_state.specs.Beginnings.{BeginsAs, next_of};
 ghost use Rattle.kernel_state.specs.Families.{is_on_device};
 ghost use Rattle.kernel_state.specs.Calling.{IsCalling};
 ghost use Rattle.kernel_state.specs.Results.{came_to};
-ghost use Rattle.xinu_base.specs.Syscalls.{is_built};
+ghost use Rattle.xinu_base.specs.Syscalls.{is_call};
 ghost use Rattle.xinu_model.specs.Calls.{called, continued};
 ghost use Rattle.xinu_model.specs.Tables.{process_at};
 
@@ -16,29 +17,26 @@ use crate::device_calls::{
 };
 use crate::disk_calls::go_on_disk;
 use crate::name_calls::mount;
-use kernel_state::KernelState;
-use xinu_base::{Call, Next, Rest, SYSERR};
+use kernel_state::{Begun, KernelState};
+use xinu_base::{Call, Next, Rest, SYSERR, each_call};
 
-/// Begins the call of a number from 36 on.
-pub fn begin(k: &mut KernelState, call: Call) -> Next
+/// Begins the call of a number from 36 to 44.
+pub fn begin(k: &mut KernelState, call: Call) -> Begun
     requires io { 36 ≤ call.number }
-    requires built { is_built call.number ≡ true }
+    requires known { is_call call.number ≡ true }
     requires calling { IsCalling k.old }
-    ensures called { came_to k.new result ≡ called call.number call.args k.old.state }
+    ensures called { BeginsAs result (called call.number call.args k.old.state) k.old.state (came_to k.new (next_of result)) }
 {
-    let a = call.args;
-    match call.number {
-        36 => device_open(k, a[0], a[1], a[2]),
-        37 => device_close(k, a[0]),
-        38 => device_read(k, a[0], a[1], a[2]),
-        39 => device_write(k, a[0], a[1], a[2]),
-        40 => device_getc(k, a[0]),
-        41 => device_putc(k, a[0], a[1]),
-        42 => device_seek(k),
-        43 => device_control(k, a[0], a[1], a[2]),
-        44 => mount(k, a[0], a[1], a[2]),
-        _ => Next::Returns(SYSERR),
+    let args = call.args;
+    macro_rules! begins {
+        (core { $($others:tt)* } io { $($number:literal $name:literal $count:literal $begin:expr;)* }) => {
+            match call.number {
+                $($number => $begin,)*
+                _ => Begun::ByRow(Next::Returns(SYSERR)),
+            }
+        };
     }
+    each_call!(begins, k, args)
 }
 
 /// Does what is left of the current process's call on a device: items or bytes of the console, or the reply of a disk.

@@ -2,30 +2,31 @@
 
 ghost use Rattle.std.specs.Prelude.{◌≡◌, is_some, unwrap_or};
 ghost use Rattle.io_calls.specs.Mounts.{texts_mounted};
+ghost use Rattle.kernel_state.specs.Beginnings.{BeginsAs, next_of};
 ghost use Rattle.kernel_state.specs.Results.{came_to, IsStart};
 ghost use Rattle.xinu_model.specs.Devices.Texts as texts;
 ghost use Rattle.xinu_model.specs.Names.Calls as model;
 
 use crate::texts::text_at;
 use device_switch::{Dev, device};
-use kernel_state::KernelState;
+use kernel_state::{Begun, KernelState};
 use name_space::Names;
 use rv_hart::Ram;
 use xinu_base::{Next, SYSERR};
 
 /// Call 44: the text at an address is mounted as a prefix, with another text in its place, for a device. Refused if there is no such
 /// device, a text isn't there or has more than 31 bytes, or 40 prefixes are mounted.
-pub(crate) fn mount(k: &mut KernelState, prefix: u32, replacement: u32, dev: u32) -> Next
+pub(crate) fn mount(k: &mut KernelState, prefix: u32, replacement: u32, dev: u32) -> Begun
     requires start { IsStart k.old }
-    ensures mounts { came_to k.new result ≡ model.mount prefix replacement dev k.old.state }
+    ensures mounts { BeginsAs result (model.mount prefix replacement dev k.old.state) k.old.state (came_to k.new (next_of result)) }
 {
     let Ok(dev) = device(dev) else {
-        return Next::Returns(SYSERR);
+        return Begun::ByRow(Next::Returns(SYSERR));
     };
     if mount_texts(&mut k.names, &k.ram, prefix, replacement, dev) {
-        return Next::Returns(0);
+        return Begun::ByRow(Next::Returns(0));
     }
-    Next::Returns(SYSERR)
+    Begun::ByRow(Next::Returns(SYSERR))
 }
 
 // Mounts the texts at two addresses. False, and nothing changes, if one isn't there or they may not be mounted.

@@ -1,17 +1,29 @@
 -- What holds of a kernel between two events and inside one.
-use Rattle.std.proofs.Common.{◌≡◌, ◌≢◌, Bool, Option, None, Some, [], ap, subst}
+use Rattle.std.proofs.Common.{◌≡◌, ◌≢◌, ℕ, Bool, Option, None, Some, List, [], refl, ap, sym, subst}
+use Rattle.std.specs.List.{AllByRecursion}
 use Rattle.io_calls.specs.Consoles.{after_sending}
 use Rattle.io_calls.specs.Disks.{after_completing}
+use Rattle.io_calls.specs.Files.{CompletesFiles}
 use Rattle.xinu_laws.proofs.Consoles.Kept.{sound_holds}
 use Rattle.xinu_laws.proofs.Preserve.Events.{may_call, may_call_after, sending_keeps, served_keeps_all, state_end_of_event}
 use Rattle.xinu_laws.proofs.RawDisks.Completed.{served_completes}
-use Rattle.xinu_laws.proofs.RawDisks.Framed.{disks_in}
+use Rattle.xinu_laws.proofs.RawDisks.Framed.{disks_in, with_disks}
+use Rattle.xinu_laws.proofs.FileSyscalls.AtOnce.{at_once_keeps}
+use Rattle.xinu_laws.proofs.FileSyscalls.Completed.{step_completes}
+use Rattle.xinu_laws.proofs.Touches.Kept.{keeps_console, keeps_names, keeps_pools, keeps_ports, keeps_unused}
+use Rattle.xinu_model.specs.Files.Calls.{FileCall}
+use Rattle.xinu_model.specs.Files.Sound.{IsFileRequest}
+use Rattle.xinu_model.specs.Files.Syscalls.{awaits_files, files_of, request_for}
+use Rattle.xinu_model.specs.Files.Work.{FileNote, FileRequest, queued_after}
 use Rattle.xinu_model.specs.Console.Taking.{console_of}
 use Rattle.xinu_model.specs.Console.Transmitting.{Sent, transmitted}
 use Rattle.xinu_model.specs.RawDisk.Calls.{after_served, disk_of}
 use Rattle.xinu_model.specs.RawDisk.Completions.{raw_completed, Served}
 use Rattle.xinu_model.specs.Machine.{CallResult, current_hart, end_of_event, Silent, Xinu}
+use Rattle.kernel_state.specs.Beginnings.{BeginsAs}
 use Rattle.kernel_state.specs.Results.{idle, IsIdle, IsStart}
+use Rattle.kernel_state.specs.declared.begun.Begun.{Begun}
+use Rattle.kernel_state.specs.declared.begun.Begun.TheVariants.{ByRow, AtOnce}
 use Rattle.xinu_laws.specs.Preserve.{KeepsAll, MayCallAny}
 use Rattle.xinu_model.specs.Events.{with_executed}
 use Rattle.xinu_model.specs.Isa.Exec.{exec}
@@ -55,3 +67,30 @@ pub after_completing_keeps : (good : Bool) (found : Option Served) (s : Xinu) �
 after_completing_keeps good None s e k = kept_idle s k
 after_completing_keeps good (Some x) s e k =
     served_keeps_all s (after_served x s) k (served_completes good x s e (sound_holds s k) (disks_in k.devices))
+
+-- the one call that is made can be carried out, if it could wait
+made_can : (call : FileCall) (at : ℕ) (s : Xinu) → (files_of s).calls ≡ [] → KeepsAll (awaits_files call at s) → IsFileRequest (request_for call at s)
+made_can call at s alone waits =
+    let a = request_for call at s in
+    (subst (λ (l : List FileRequest). AllByRecursion IsFileRequest (queued_after l a s.memory (files_of s)).calls) alone waits.devices.files.itself.calls).0
+
+-- A call that began keeps all if what its row does keeps it.
+pub begun_keeps : (b : Begun) (row : CallResult) (s : Xinu) (result : CallResult) → BeginsAs b row s result → MayCallAny s → KeepsAll row
+    → KeepsAll result
+begun_keeps (ByRow next) row s result is may keeps = subst KeepsAll (sym is) keeps
+begun_keeps (AtOnce reply) row s result is may keeps =
+    subst KeepsAll (sym is.effect)
+    (at_once_keeps (request_for is.call is.at s) s may is.alone refl
+    (made_can is.call is.at s is.alone (subst KeepsAll is.waits keeps)))
+
+-- And so does what a good completion of the disk with files leaves.
+pub completed_keeps : (s : Xinu) (notes : List FileNote) (result : CallResult) → CompletesFiles s notes result → IsSound s → KeepsAll result
+completed_keeps s notes result c k =
+    let r = step_completes c.effects s c.least (sound_holds s k) (disks_in k.devices) in
+    subst KeepsAll (sym c.is) (record {
+      preserved = record { tables = r.tables; harts = r.harts; released = r.released };
+      unused = keeps_unused (r.touches.free refl) k.unused;
+      pools = keeps_pools refl r.touches k.pools;
+      ports = keeps_ports refl r.touches r.tables.inside k.ports;
+      devices = with_disks (keeps_console refl r.touches r.tables.inside k.devices.console) (keeps_names refl r.touches k.devices.names) r.disks;
+    })

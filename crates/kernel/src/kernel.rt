@@ -3,11 +3,14 @@
 //! It depends on the kernel's state. What each call of the abstract machine keeps is kept true at each moment.
 
 ghost use Rattle.std.specs.Prelude.{ℕ, ◌≡◌, ◌≢◌, ◌<◌, ◌≤◌, length, map, ◌↔◌, IsTrue, [], option_map};
+ghost use Rattle.file_server.specs.Requests.{note_of};
 ghost use Rattle.given_disks.specs.Disks.{disks_of};
 ghost use Rattle.image_loader.specs.Images.{loaded_of};
 ghost use Rattle.io_calls.specs.Consoles.{after_sending};
 ghost use Rattle.io_calls.specs.Disks.{after_completing};
+ghost use Rattle.io_calls.specs.Files.{CompletesFiles};
 ghost use Rattle.kernel.specs.Booted.{Booted};
+ghost use Rattle.kernel_state.specs.Beginnings.{BeginsAs, next_of};
 ghost use Rattle.kernel_state.specs.Calling.{IsCalling};
 ghost use Rattle.kernel_state.specs.Results.{answer_of, answer_so_far, came_to, idle, IsIdle};
 ghost use Rattle.xinu_laws.specs.Preserve.{ticking};
@@ -26,14 +29,15 @@ ghost use Rattle.xinu_model.specs.RawDisk.Completions.{raw_completed};
 ghost use Rattle.xinu_model.specs.Sound.State.{IsSound};
 ghost use Rattle.xinu_model.specs.Tables.{process_at};
 
+use file_server::FileNotes;
 use image_loader::Image;
 use kernel_boot::{BootFault, boot};
-use kernel_state::KernelState;
+use kernel_state::{Begun, KernelState};
 use lfs_layout::{CleanImage, RawImage};
 use rv_hart::Outcome;
 use std::alloc::Global;
 use std::marker::Model;
-use xinu_base::{Call, Next, Pid, Rest, SYSERR, is_built};
+use xinu_base::{Call, Next, Pid, Rest, SYSERR, is_call};
 
 /// The kernel. A clause sees the state of the abstract machine inside an event, and how the event's call goes.
 #[derive(Drop)]
@@ -128,17 +132,18 @@ impl Kernel {
         self.state.instruction()
     }
 
-    /// Begins a call of the current process. A number whose call isn't built is refused. The sequence number of a port may rise.
-    pub fn begin_core(&mut self, call: Call) -> Next
+    /// Begins a call of the current process. A number that has no call is refused. The sequence number of a port may rise. A call on
+    /// files may take effect as it is made, if no other is under way.
+    pub fn begin_core(&mut self, call: Call) -> Begun
         requires idle { IsIdle self.old }
         requires not_null { self.old.call.state.tables.current ≢ 0 }
         requires numbers { (q : ℕ) → (port_at self.old.call.state.parts.ports q).seq < 4294967295 }
-        ensures called { self.new ≡ called call.number call.args self.old.call.state }
-        ensures answer { self.new.answer ≡ answer_of result }
+        ensures called { BeginsAs result (called call.number call.args self.old.call.state) self.old.call.state self.new }
+        ensures answer { self.new.answer ≡ answer_of (next_of result) }
     {
-        let next = begin(&mut self.state, call);
-        self.answer = Some(next);
-        next
+        let begun = begin(&mut self.state, call);
+        self.answer = Some(begun.next());
+        begun
     }
 
     /// Does what is left of the call in which the current process waited.
@@ -194,6 +199,18 @@ impl Kernel {
         self.answer = None;
     }
 
+    /// The disk with files completes well: the first call on files has its reply, or a turn. Once it has its reply the next becomes the first,
+    /// and so on as long as one needs no block. Whoever has a reply becomes ready with it, and what was read is in RAM. Tells what happened,
+    /// in order; nothing does if no call is under way.
+    pub fn on_files(&mut self) -> FileNotes
+        requires idle { IsIdle self.old }
+        ensures completes { CompletesFiles self.old.call.state (map note_of result.items) self.new }
+    {
+        let notes = io_calls::on_files(&mut self.state);
+        self.answer = None;
+        notes
+    }
+
     /// The current process dies, by `exit` or by a trap.
     pub fn die(&mut self)
         requires idle { IsIdle self.old }
@@ -216,17 +233,17 @@ impl Kernel {
     }
 }
 
-// Begins the call of a number; any number whose call isn't built is refused.
-fn begin(k: &mut KernelState, call: Call) -> Next
+// Begins the call of a number; any number that has no call is refused.
+fn begin(k: &mut KernelState, call: Call) -> Begun
     requires calling { IsCalling k.old }
     requires numbers { (q : ℕ) → (port_at k.old.state.parts.ports q).seq < 4294967295 }
-    ensures called { came_to k.new result ≡ called call.number call.args k.old.state }
+    ensures called { BeginsAs result (called call.number call.args k.old.state) k.old.state (came_to k.new (next_of result)) }
 {
-    if !is_built(call.number) {
-        return Next::Returns(SYSERR);
+    if !is_call(call.number) {
+        return Begun::ByRow(Next::Returns(SYSERR));
     }
     if call.number < 36 {
-        core_calls::begin(k, call)
+        Begun::ByRow(core_calls::begin(k, call))
     } else {
         io_calls::begin(k, call)
     }

@@ -17,6 +17,7 @@ ghost use Rattle.xinu_model.specs.Tables.{state_at};
 use crate::memory_map::{end_of_all, first_overlap, load_all};
 use buffer_pools::Pools;
 use disk_driver::Disk;
+use file_server::FileServer;
 use freelist_memory::Heap;
 use image_loader::Image;
 use kernel_state::{Creation, KernelState, Replies, make_on_stack};
@@ -37,7 +38,7 @@ pub enum BootFault {
     Overlap(u8),
     /// The heap has no room for the stack of the image with this number.
     NoRoom(u8),
-    /// There was no memory for RAM, tables, heap, pools or console.
+    /// There was no memory for RAM, tables, heap, pools, console or files.
     NoMemory,
 }
 
@@ -88,6 +89,7 @@ fn loaded(
     let ports = Ports::new(alloc)?;
     let tty = Tty::new(alloc)?;
     let tables = KernelTables::new(alloc)?;
+    let files = FileServer::new(alloc, disk1)?;
     Ok(KernelState {
         tables,
         harts: [Hart::ZERO; 64],
@@ -98,7 +100,7 @@ fn loaded(
         tty,
         disk: Disk::new(disk0),
         names: Names::new(),
-        files: disk1,
+        files,
         replies: Replies::new(),
         owes_resched: false,
     })

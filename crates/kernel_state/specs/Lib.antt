@@ -1,5 +1,5 @@
+pub mod Beginnings
 pub mod Calling
-pub mod Devices
 pub mod Families
 pub mod Released
 pub mod Results

@@ -1,5 +1,4 @@
 -- What the kernel's state stands for.
-use Rattle.kernel_state.specs.Devices.{files_on}
 use Rattle.kernel_state.specs.declared.state.KernelState.TheInside.{Inside}
 use Rattle.xinu_model.specs.Machine.{CallState}
 
@@ -15,7 +14,7 @@ kernel_state k = record {
       pools = k.pools;
       ports = k.ports.ports;
       next_port = k.ports.next_port;
-      devices = record { console = k.tty; names = k.names; disk = k.disk; files = files_on k.files };
+      devices = record { console = k.tty; names = k.names; disk = k.disk; files = k.files.work };
     };
   };
   released = k.replies.items;

@@ -9,7 +9,7 @@ use xinu_base::Pid;
 
 impl KernelState {
     /// `p`, which isn't the null process, dies: its parent is sent its number, its stack is free, unless the heap refuses it, so is its
-    /// number, and what it asked of the raw disk is given up.
+    /// number, and what it asked of disks is given up.
     pub fn end(&mut self, p: Pid)
         requires not_null { p ≢ 0 }
         ensures killed { self.new ≡ killed p self.old }
@@ -23,5 +23,6 @@ impl KernelState {
         self.harts[p.index()] = Hart::ZERO;
         self.heap.freestk(stack, size);
         self.disk.forget(p);
+        self.files.forget(p);
     }
 }

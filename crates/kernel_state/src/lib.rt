@@ -13,17 +13,20 @@
 //! | `close` | the event's one resched, and the replies in registers: `end_of_event` |
 //! | [`make_on_stack`] | a new process on a stack of the heap: `where_stack` |
 //! | [`answer_released`], [`owes_after`] | replies to processes that became ready, and whether a resched is owed for them |
+//! | [`Begun`] | how a call begins: as its row says, or it is on files and takes effect as it is made (`BeginsAs`) |
 //!
-//! The crate depends on `kernel_tables`, `freelist_memory`, `buffer_pools`, `ports`, `tty_driver`, `disk_driver`, `name_space`, `lfs_layout` and
-//! `rv_hart`, whose values are its parts. The disk of the file system is an image of which nothing is asked so far.
+//! The crate depends on `kernel_tables`, `freelist_memory`, `buffer_pools`, `ports`, `tty_driver`, `disk_driver`, `name_space`, `file_server`
+//! and `rv_hart`, whose values are its parts. Of a `FileServer` the state has the file work; its disk holds the files at rest (`holds`).
 #![tactic(auto)]
 
+mod begun;
 mod death;
 mod new_process;
 mod releases;
 mod replies;
 mod state;
 
+pub use begun::Begun;
 pub use new_process::{Creation, make_on_stack};
 pub use replies::{Replies, answer_released, owes_after};
 pub use state::{KernelState, half, signed};

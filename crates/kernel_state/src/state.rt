@@ -16,9 +16,9 @@ ghost use Rattle.xinu_model.specs.Words.{half, signed};
 use crate::replies::{Replies, is_resched_due, write_all};
 use buffer_pools::Pools;
 use disk_driver::Disk;
+use file_server::FileServer;
 use freelist_memory::Heap;
 use kernel_tables::KernelTables;
-use lfs_layout::CleanImage;
 use name_space::Names;
 use ports::Ports;
 use rv_hart::{Hart, Outcome, Ram, step};
@@ -47,8 +47,8 @@ pub struct KernelState {
     pub disk: Disk,
     /// The mounted prefixes.
     pub names: Names,
-    /// The disk of the file system.
-    pub files: CleanImage,
+    /// The disk with files, and the calls on them.
+    pub files: FileServer,
     /// The replies to processes that were released in this event.
     pub replies: Replies,
     /// Whether a resched is owed at the end of the event.

@@ -83,12 +83,12 @@ fn call(kernel: &mut Kernel, number: u32, args: [u32; 3]) -> Option<Next>
         return Some(next);
     }
     numbers_left(kernel.state())?;
-    let next = kernel.begin_core(Call {
+    let begun = kernel.begin_core(Call {
         number,
         args: [args[0], args[1], args[2], 0, 0, 0],
     });
     kernel.close_event();
-    Some(next)
+    Some(begun.next())
 }
 
 // A request is completed, well or badly.

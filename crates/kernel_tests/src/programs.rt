@@ -72,7 +72,7 @@ fn step(kernel: &mut Kernel) -> Option<(u32, Next, Pid)>
         Outcome::Call => {
             let call = kernel.call_of();
             numbers_left(kernel.state())?;
-            let next = kernel.begin_core(call);
+            let next = kernel.begin_core(call).next();
             kernel.close_event();
             Some((call.number, next, kernel.current()))
         }

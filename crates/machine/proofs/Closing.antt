@@ -1,5 +1,5 @@
 -- The end of an event is printed.
-use Rattle.std.proofs.Common.{◌≡◌, ◌∙◌, ℕ, Bool, List, [], ◌∷◌, ◌++◌, map, Option, Some, None, ℤ, refl, sym, ap, subst}
+use Rattle.std.proofs.Common.{◌≡◌, ◌∙◌, ℕ, Bool, List, [], ◌∷◌, ◌++◌, map, Option, Some, None, ℤ, refl, sym, ap, subst, append_assoc}
 use Rattle.std.proofs.lemmas.List.{map-append}
 use Rattle.kernel_state.specs.Results.{answer_so_far, idle}
 use Rattle.host_port.specs.Outside.{Outside}
@@ -65,6 +65,19 @@ first_printed was line result new panics a b c h i j first rest = record {
   panics = rest.panics;
   prints = shown_both a b c h i j (line ∷ []) (end_of_event was [] result).lines first rest.prints;
 }
+
+-- Any lines that are printed first do.
+pub lines_printed : (was : ℕ) (first : List TranscriptLine) (result : CallResult) (new : Xinu) (panics : Bool) (a b c : Printing) (h i j : Outside)
+    → Prints a b h i (shown a.plain first) → EffectPrints (end_of_event was [] result) new panics b c i j → EffectPrints (end_of_event was first result) new panics a c h j
+lines_printed was first result new panics a b c h i j prints rest =
+    let replies = map return_line (replies_of result) in
+    let switch = switched was (closed result).current in
+    record {
+      state = rest.state;
+      panics = rest.panics;
+      prints = subst (λ l. Prints a c h j (shown a.plain l)) (sym (append_assoc first replies switch))
+          (shown_both a b c h i j first (replies ++ switch) prints rest.prints);
+    }
 
 -- the same of an event by another name
 pub effect_as : (effect other : EventResult) (new : Xinu) (panics : Bool) (a b : Printing) (h i : Outside) → effect ≡ other → EffectPrints effect new panics a b h i → EffectPrints other new panics a b h i

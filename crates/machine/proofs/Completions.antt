@@ -13,8 +13,8 @@ use Rattle.xinu_model.specs.RawDisk.Calls.{after_served, reply_kept, served_in}
 use Rattle.xinu_model.specs.RawDisk.Completions.{Served}
 use Rattle.xinu_model.specs.Tables.{Tables}
 
--- nobody is switched to himself
-not_switched : (p : ℕ) → switched p p ≡ []
+-- Nobody is switched to himself.
+pub not_switched : (p : ℕ) → switched p p ≡ []
 not_switched p = (let same : (p == p) ≡ true = grind arith in ap (λ b. if b then [] else Switch p ∷ []) same)
 
 -- The event ends with what the disk did, if it did anything.
@@ -24,8 +24,8 @@ completion_is None s =
     ap (λ (ls : List TranscriptLine). let e : EventResult = record { lines = ls; state = s; panics = (nothing_happens s).panics } in e) (not_switched s.tables.current)
 completion_is (Some x) s = refl
 
--- a reply that is kept leaves the clock alone
-kept_ticks : (caller : Option ℕ) (reply : ℤ) (d : CallState) → (reply_kept caller reply d).state.tables.ticks ≡ d.state.tables.ticks
+-- A reply that is kept leaves the clock alone.
+pub kept_ticks : (caller : Option ℕ) (reply : ℤ) (d : CallState) → (reply_kept caller reply d).state.tables.ticks ≡ d.state.tables.ticks
 kept_ticks None reply d = refl
 kept_ticks (Some p) reply d = refl
 
@@ -38,8 +38,8 @@ completion_ticks (Some x) s =
     cond_both (d.owes_resched || is_off Silent) (resched d.state.tables) d.state.tables (λ (t : Tables). t.ticks ≡ s.tables.ticks)
     (λ _. resched_ticks d.state.tables ∙ kept) (λ _. kept)
 
--- nor are the ports touched
-kept_ports : (caller : Option ℕ) (reply : ℤ) (d : CallState) → (reply_kept caller reply d).state.parts.ports ≡ d.state.parts.ports
+-- It touches no ports.
+pub kept_ports : (caller : Option ℕ) (reply : ℤ) (d : CallState) → (reply_kept caller reply d).state.parts.ports ≡ d.state.parts.ports
 kept_ports None reply d = refl
 kept_ports (Some p) reply d = refl
 

@@ -3,10 +3,14 @@ pub mod Boots
 pub mod Closing
 pub mod Completions
 pub mod Dumps
+pub mod EventBounds
+pub mod FilesDone
+pub mod FirstCalls
 pub mod Happenings
-pub mod Transmissions
 pub mod Lives
+pub mod OpenFiles
 pub mod PlainSteps
 pub mod Printings
 pub mod ShownLines
+pub mod Transmissions
 pub mod Walks

@@ -1,5 +1,6 @@
 pub mod Apart
 pub mod Disks
+pub mod FileEffects
 pub mod Machines
 pub mod Printed
 pub mod RunEnds

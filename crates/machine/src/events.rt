@@ -1,15 +1,16 @@
-//! Events: a step of the current process, a tick of the clock, the interrupts of the console and of the raw disk, the printing of the tables
-//! (book, chapters 12, 13, 15 and 18).
+//! Events: a step of the current process, a tick of the clock, the interrupts of the console and of the disks, the printing of the tables
+//! (book, chapters 12, 13, 15, 18 and 19).
 
 ghost use Rattle.std.specs.Prelude.{ℕ, ◌≡◌, ◌≢◌, ◌<◌, ◌≤◌, ◌+◌, ◌∷◌, [], map};
 ghost use Rattle.kernel_state.specs.Results.{answer_so_far, IsIdle};
 ghost use Rattle.host_port.specs.Printing.{Prints};
+ghost use Rattle.machine.specs.FileEffects.{ChosenPrints, ReactPrints};
 ghost use Rattle.machine.specs.Printed.{EffectPrints, EventPrints};
-ghost use Rattle.xinu_base.specs.declared.lines.TranscriptLine.TheVariants as line;
-ghost use Rattle.xinu_model.specs.Calls.{called};
+ghost use Rattle.xinu_base.specs.declared.events.Event.TheVariants as events;
+ghost use Rattle.xinu_base.specs.declared.registers.Outcome.TheVariants as outcomes;
 ghost use Rattle.xinu_model.specs.Clock.{ticked};
 ghost use Rattle.xinu_model.specs.Console.Signals.{keyed, transmits};
-ghost use Rattle.xinu_model.specs.Events.{panics_in, reacted, stepped};
+ghost use Rattle.xinu_model.specs.Events.{panics_in};
 ghost use Rattle.xinu_model.specs.Machine as model;
 ghost use Rattle.xinu_model.specs.Ports.Queues.{port_at};
 ghost use Rattle.xinu_model.specs.Process.Death.{exit};
@@ -17,12 +18,14 @@ ghost use Rattle.xinu_model.specs.RawDisk.Calls.{disk_completes};
 ghost use Rattle.xinu_model.specs.Sound.State.{IsSound};
 ghost use Rattle.xinu_model.specs.Text.{shown};
 
-use crate::printing::{print_line, print_replies, print_reply, print_switch};
+use crate::printing::{
+    print_line, print_made, print_notes, print_replies, print_reply, print_switch,
+};
 use crate::tables::print_tables;
 use host_port::{Host, Printer};
 use kernel::Kernel;
 use rv_hart::Outcome;
-use xinu_base::{Call, Event, Next, Pid, TranscriptLine};
+use xinu_base::{Event, Next, Pid, TranscriptLine};
 
 /// Takes one event and prints its lines. Whether the kernel panicked in it.
 pub(crate) fn happen<H: Host>(
@@ -48,19 +51,17 @@ pub(crate) fn happen<H: Host>(
     }
 }
 
-// Takes one event that isn't a step, and prints its lines. Whether the kernel panicked in it.
+// Takes one event that isn't a step, and prints its lines. Whether the kernel panicked in it. A failed completion of the files' disk does
+// nothing.
 #[cold]
 fn other_event<H: Host>(kernel: &mut Kernel, event: Event, out: &mut Printer, host: &mut H) -> bool
     requires idle { IsIdle kernel.old }
     requires sound { IsSound kernel.old.call.state }
     requires few { kernel.old.call.state.tables.ticks < 1000000000 }
     requires not_step { event ≢ Event.Step }
-    ensures happens { EventPrints kernel.old.call.state event kernel.new.call.state out.old out.new (H.view host.old) (H.view host.new) }
-    ensures panics { result ≡ panics_in kernel.old.call.state event }
+    ensures effect { ChosenPrints kernel.old.call.state event kernel.new.call.state result out.old out.new (H.view host.old) (H.view host.new) }
     ensures idle { IsIdle kernel.new }
     ensures sound { IsSound kernel.new.call.state }
-    ensures ticks { kernel.new.call.state.tables.ticks ≤ kernel.old.call.state.tables.ticks + 1 }
-    ensures numbers { (q : ℕ) → (port_at kernel.new.call.state.parts.ports q).seq ≤ (port_at kernel.old.call.state.parts.ports q).seq + 1 }
 {
     match event {
         Event::Tick => tick(kernel, out, host),
@@ -68,6 +69,7 @@ fn other_event<H: Host>(kernel: &mut Kernel, event: Event, out: &mut Printer, ho
         Event::Tx => transmit(kernel, out, host),
         Event::Disk0 => complete(kernel, true, out, host),
         Event::Fail0 => complete(kernel, false, out, host),
+        Event::Disk1 => complete_files(kernel, out, host),
         Event::Dump => {
             print_tables(kernel.state(), out, host);
             false
@@ -81,7 +83,7 @@ fn step<H: Host>(kernel: &mut Kernel, out: &mut Printer, host: &mut H) -> bool
     requires idle { IsIdle kernel.old }
     requires sound { IsSound kernel.old.call.state }
     requires numbers { (q : ℕ) → (port_at kernel.old.call.state.parts.ports q).seq < 1000000000 }
-    ensures effect { EffectPrints (stepped kernel.old.call.state) kernel.new.call.state result out.old out.new (H.view host.old) (H.view host.new) }
+    ensures effect { ChosenPrints kernel.old.call.state events.Step kernel.new.call.state result out.old out.new (H.view host.old) (H.view host.new) }
     ensures idle { IsIdle kernel.new }
     ensures sound { IsSound kernel.new.call.state }
 {
@@ -103,17 +105,14 @@ fn react<H: Host>(kernel: &mut Kernel, outcome: Outcome, out: &mut Printer, host
     requires sound { IsSound kernel.old.call.state }
     requires numbers { (q : ℕ) → (port_at kernel.old.call.state.parts.ports q).seq < 1000000000 }
     requires not_null { kernel.old.call.state.tables.current ≢ 0 }
-    ensures effect { EffectPrints (reacted outcome kernel.old.call.state) kernel.new.call.state result out.old out.new (H.view host.old) (H.view host.new) }
+    ensures effect { ReactPrints outcome kernel.old.call.state kernel.new.call.state result out.old out.new (H.view host.old) (H.view host.new) }
     ensures idle { IsIdle kernel.new }
     ensures sound { IsSound kernel.new.call.state }
 {
     let current = kernel.current();
     match outcome {
         Outcome::Went => false,
-        Outcome::Call => {
-            let call = kernel.call_of();
-            make_call(kernel, call, out, host)
-        }
+        Outcome::Call => make_call(kernel, out, host),
         Outcome::Exit => {
             let mut call = kernel.call_of();
             call.number = 9;
@@ -123,19 +122,22 @@ fn react<H: Host>(kernel: &mut Kernel, outcome: Outcome, out: &mut Printer, host
     }
 }
 
-// A call of the current process, which isn't the null process.
+// The call that the registers of the current process ask for, which isn't the null process. If it takes effect on files as it is made, the
+// line of that follows its own.
 #[cold]
-fn make_call<H: Host>(kernel: &mut Kernel, call: Call, out: &mut Printer, host: &mut H) -> bool
+fn make_call<H: Host>(kernel: &mut Kernel, out: &mut Printer, host: &mut H) -> bool
     requires idle { IsIdle kernel.old }
     requires not_null { kernel.old.call.state.tables.current ≢ 0 }
     requires numbers { (q : ℕ) → (port_at kernel.old.call.state.parts.ports q).seq < 1000000000 }
-    ensures effect { EffectPrints (model.end_of_event kernel.old.call.state.tables.current (line.Call kernel.old.call.state.tables.current call ∷ []) (called call.number call.args kernel.old.call.state)) kernel.new.call.state result out.old out.new (H.view host.old) (H.view host.new) }
+    ensures effect { ReactPrints outcomes.Call kernel.old.call.state kernel.new.call.state result out.old out.new (H.view host.old) (H.view host.new) }
     ensures idle { IsIdle kernel.new }
     ensures sound { IsSound kernel.new.call.state }
 {
     let current = kernel.current();
+    let call = kernel.call_of();
     print_line(&TranscriptLine::Call(current, call), out, host);
-    kernel.begin_core(call);
+    let begun = kernel.begin_core(call);
+    print_made(begun, current, out, host);
     end_event(kernel, current, out, host)
 }
 
@@ -206,6 +208,19 @@ fn complete<H: Host>(kernel: &mut Kernel, good: bool, out: &mut Printer, host: &
 {
     let current = kernel.current();
     kernel.on_disk(good);
+    end_event(kernel, current, out, host)
+}
+
+// The files' disk completes well. What happened to the calls on files under way is told first.
+fn complete_files<H: Host>(kernel: &mut Kernel, out: &mut Printer, host: &mut H) -> bool
+    requires idle { IsIdle kernel.old }
+    ensures effect { ChosenPrints kernel.old.call.state events.Disk1 kernel.new.call.state result out.old out.new (H.view host.old) (H.view host.new) }
+    ensures idle { IsIdle kernel.new }
+    ensures sound { IsSound kernel.new.call.state }
+{
+    let current = kernel.current();
+    let notes = kernel.on_files();
+    print_notes(notes.as_slice(), out, host);
     end_event(kernel, current, out, host)
 }
 

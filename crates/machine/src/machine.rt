@@ -64,8 +64,8 @@ impl Machine {
     /// Takes one event and prints its lines.
     ///
     /// `Panic` comes if and only if the kernel panicked in this event, else `Done` if and only if the last process beside the null process
-    /// died in it. An event that the machine doesn't have yet changes and prints nothing. No address comes to have two owners in it, unless a
-    /// process gives back what a pool or a stack has. What always holds between two events holds after it.
+    /// died in it. The lines say which calls on files took effect. No address comes to have two owners in it, unless a process gives back what
+    /// a pool or a stack has. What always holds between two events holds after it.
     pub fn event<H: Host>(&mut self, event: Event, out: &mut Printer, host: &mut H) -> Go
         requires goes_on { self.old.over ≡ false }
         requires few { self.old.events < 1000000000 }
@@ -110,6 +110,7 @@ fn disk_of(k: &KernelState, n: u8) -> &[u8]
     if n == 0 {
         k.disk.bytes()
     } else {
+        k.files.holds();
         k.files.bytes()
     }
 }

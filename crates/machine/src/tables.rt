@@ -1,8 +1,11 @@
 //! The tables of the machine, one line after another.
 
-ghost use Rattle.std.specs.Prelude.{◌≡◌, ◌<◌, ◌≤◌, ◌∷◌, [], false, length, map};
+ghost use Rattle.std.specs.Prelude.{◌≡◌, ◌<◌, ◌≤◌, ◌+◌, ◌∷◌, ◌++◌, [], length, map};
 ghost use Rattle.host_port.specs.Printing.{Prints};
 ghost use Rattle.xinu_base.specs.declared.lines.TranscriptLine.TheVariants as line;
+ghost use Rattle.xinu_model.specs.Files.Constants as files;
+ghost use Rattle.xinu_model.specs.Files.Rest.{is_busy};
+ghost use Rattle.xinu_model.specs.Files.Systems.{open_at};
 ghost use Rattle.xinu_model.specs.Heap.Cells.{free_blocks};
 ghost use Rattle.xinu_model.specs.Pools.Buffers.{pool_at};
 ghost use Rattle.xinu_model.specs.Ports.Queues.{port_at};
@@ -15,6 +18,7 @@ ghost use Rattle.xinu_model.specs.Text.{shown};
 use crate::printing::print_line;
 use buffer_pools::{Pools, pool_id_at};
 use disk_driver::Disk;
+use file_server::FileServer;
 use freelist_memory::Heap;
 use host_port::{Host, Printer};
 use kernel_state::KernelState;
@@ -23,7 +27,10 @@ use ports::{Ports, port_numbered};
 use process_core::pid_at;
 use semaphores::sem_at;
 use tty_driver::Tty;
-use xinu_base::{Owner, PoolId, Port, Sem, State, TranscriptLine};
+use xinu_base::{Dev, Owner, PoolId, Port, Sem, State, TranscriptLine};
+
+/// The first file device.
+const LFILE0: u32 = 4;
 
 /// Prints the tables.
 pub(crate) fn print_tables<H: Host>(k: &KernelState, out: &mut Printer, host: &mut H)
@@ -44,7 +51,7 @@ pub(crate) fn print_tables<H: Host>(k: &KernelState, out: &mut Printer, host: &m
     print_free(&k.heap, out, host);
     print_pools(&k.pools, out, host);
     print_ports(&k.ports, out, host);
-    print_devices(&k.tty, &k.disk, out, host);
+    print_devices(&k.tty, &k.disk, &k.files, out, host);
 }
 
 // Prints the processes, by number.
@@ -229,13 +236,46 @@ fn print_messages<H: Host>(port: Port, messages: &[u32], out: &mut Printer, host
     }
 }
 
-// Prints the devices. No file is open and no call on files is under way.
-fn print_devices<H: Host>(tty: &Tty, disk: &Disk, out: &mut Printer, host: &mut H)
-    ensures prints { Prints out.old out.new (H.view host.old) (H.view host.new) (shown out.old.plain (text.console_line tty.now ∷ line.Disk0 (length disk.now.requests) ∷ line.Disk1 false ∷ [])) }
+// Prints the devices.
+fn print_devices<H: Host>(
+    tty: &Tty,
+    disk: &Disk,
+    server: &FileServer,
+    out: &mut Printer,
+    host: &mut H,
+)
+    requires six { length server.now.work.system.devices ≡ 6 }
+    ensures prints { Prints out.old out.new (H.view host.old) (H.view host.new)
+        (shown out.old.plain (text.console_line tty.now ∷ line.Disk0 (length disk.now.requests)
+            ∷ text.open_file_lines files.LFILE0 server.now.work.system.devices server.now.work.system ++ line.Disk1 (is_busy server.now.work) ∷ [])) }
 {
     print_console(tty, out, host);
     print_line(&TranscriptLine::Disk0(disk.pending() as u32), out, host);
-    print_line(&TranscriptLine::Disk1(false), out, host);
+    print_open_files(server, out, host);
+    print_line(&TranscriptLine::Disk1(server.is_busy()), out, host);
+}
+
+// Prints the file devices that have a file open, by number.
+fn print_open_files<H: Host>(server: &FileServer, out: &mut Printer, host: &mut H)
+    requires six { length server.now.work.system.devices ≡ 6 }
+    ensures prints { Prints out.old out.new (H.view host.old) (H.view host.new)
+        (shown out.old.plain (text.open_file_lines files.LFILE0 server.now.work.system.devices server.now.work.system)) }
+{
+    for d in 0..6 {
+        print_open_file(server, d, out, host);
+    }
+}
+
+// Prints a file device, counted from the first one, if it has a file open.
+fn print_open_file<H: Host>(server: &FileServer, d: usize, out: &mut Printer, host: &mut H)
+    requires below { d < 6 }
+    ensures prints { Prints out.old out.new (H.view host.old) (H.view host.new)
+        (shown out.old.plain (text.open_file_line (files.LFILE0 + d) (open_at server.now.work.system d) server.now.work.system)) }
+{
+    if let Some((position, size)) = server.open_file(d) {
+        let dev = Dev::from_word(LFILE0 + d as u32).unwrap();
+        print_line(&TranscriptLine::OpenFile(dev, position, size), out, host);
+    }
 }
 
 // Prints the console: its mode, how much it holds, and whether output is held.

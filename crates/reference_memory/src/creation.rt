@@ -18,10 +18,13 @@ use xinu_base::{INITRET, MINSTK, NoMemory, Pid, Process, Rest, SYSERR, State};
 
 /// How a process begins: the address of its first instruction, and what is in registers a0 and a1.
 #[derive(Clone, Copy)]
-struct Entry {
-    pc: u32,
-    x: u32,
-    y: u32,
+pub struct Entry {
+    /// The address of the first instruction.
+    pub pc: u32,
+    /// What is in a0.
+    pub x: u32,
+    /// What is in a1.
+    pub y: u32,
 }
 
 /// Call 2: a new process with this entry, stack and priority, named by the text at an address; it begins with x and y in a0 and a1. Refused
@@ -72,16 +75,16 @@ fn created(
     Ok(Answer::Returns(p.index() as i32))
 }
 
-// The size of a stack: at least MINSTK bytes, and a multiple of 8.
-fn stack_size(wanted: u32) -> u32
+/// The size of a stack: at least MINSTK bytes, and a multiple of 8.
+pub fn stack_size(wanted: u32) -> u32
     requires few { creation.stack_size wanted ≤ 1048576 }
     ensures size { result ≡ creation.stack_size wanted }
 {
     8 * wanted.max(MINSTK).div_ceil(8)
 }
 
-// The registers of a new process: x1 is the address whose execution exits, x2 the top of the stack at a multiple of 16.
-fn new_hart(entry: Entry, top: u32) -> Hart
+/// The registers of a new process: x1 is the address whose execution exits, x2 the top of the stack at a multiple of 16.
+pub fn new_hart(entry: Entry, top: u32) -> Hart
     ensures hart { result ≡ creation.new_hart entry.pc top entry.x entry.y }
 {
     let mut regs = [0; 32];
@@ -92,8 +95,8 @@ fn new_hart(entry: Entry, top: u32) -> Hart
     Hart { regs, pc: entry.pc }
 }
 
-// A new process on a stack; it is suspended.
-fn new_process(name: [u8; 15], priority: i16, parent: Pid, top: u32, size: u32) -> Process
+/// A new process on a stack; it is suspended.
+pub fn new_process(name: [u8; 15], priority: i16, parent: Pid, top: u32, size: u32) -> Process
     ensures process { result ≡ creation.new_process name priority parent top size }
 {
     Process {
@@ -107,8 +110,8 @@ fn new_process(name: [u8; 15], priority: i16, parent: Pid, top: u32, size: u32) 
     }
 }
 
-// Process `p` is made, with its registers, and the search for the next number begins after it.
-fn make_process(m: &mut Machine, p: Pid, x: Process, hart: Hart) -> Result<(), NoMemory>
+/// Process `p` is made, with its registers, and the search for the next number begins after it.
+pub fn make_process(m: &mut Machine, p: Pid, x: Process, hart: Hart) -> Result<(), NoMemory>
     ensures made { IfOk result (λ _. m.new ≡ record m.old {
       state = record m.old.state {
         tables = record (move_to p x None Nowhere m.old.state.tables) { last_process = p };

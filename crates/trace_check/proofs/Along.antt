@@ -1,7 +1,6 @@
 -- What is left of a text after an event.
 use Rattle.std.proofs.Common.{◌≡◌, ◌∙◌, ℕ, Bool, true, false, if◌then◌else◌, List, ◌∷◌, length, drop, Option, Some, None, refl, sym, ap}
 use Rattle.std.specs.Prelude.{◌&&◌}
-use Rattle.xinu_base.specs.Events.{is_built_event}
 use Rattle.xinu_base.specs.declared.events.Event.{Event}
 use Rattle.xinu_base.specs.declared.events.Event.TheVariants.{Step}
 use Rattle.xinu_model.specs.Events.{effect_of, next_file_call, step_with, stepped}
@@ -25,7 +24,7 @@ said_or_told None s rest = by_said (says_done rest)
 said_or_told (Some a) s rest = refl
 
 pub step_as_told : (s : Xinu) (rest : List ℕ) → effect_of s Step (if says_done rest then 1 else 0) ≡ effect_of s Step (told s Step rest)
-step_as_told s rest = ap (λ x. if is_built_event Step then x else nothing_happens s) (said_or_told (next_file_call s) s rest)
+step_as_told s rest = said_or_told (next_file_call s) s rest
 
 -- What is left of a text after an event is accepted of what is left of the run.
 pub event_taken : (told : Xinu → Event → List ℕ → ℕ) (s : Xinu) (e : Event) (events : List Event) (rest : List ℕ) (t : Taken) (new : Xinu)

@@ -1,3 +1,4 @@
 pub mod ReadOn
+pub mod Blocks
 pub mod Counts
 pub mod Along

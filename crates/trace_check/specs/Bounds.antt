@@ -8,10 +8,12 @@ use Rattle.xinu_model.specs.Ports.Queues.{port_at}
 use Rattle.xinu_model.specs.Sound.State.{IsSound}
 
 -- A state that is sound, and reached by at most this many events: each is at most one tick, and raises the number of a port by at most one.
+-- A disk has at most 65542 blocks, and no event changes how many.
 pub record IsWithin (events : ℕ) (s : Xinu) : Type 0 where
   pub sound : IsSound s
   pub ticks : s.tables.ticks ≤ events
   pub numbers : (q : ℕ) → (port_at s.parts.ports q).seq ≤ events
+  pub blocks : (files_of s).system.blocks ≤ 65542
 
 -- the most calls on files that a text can tell to take effect in an event, more than have to
 abbrev pub most_told : Xinu → Event → ℕ

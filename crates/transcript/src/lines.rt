@@ -10,7 +10,7 @@ ghost use Rattle.xinu_model.specs.Text as model;
 
 use host_port::Line;
 use xinu_base::{
-    Call, Pid, PoolId, State, TranscriptLine, TtyMode, call_args, call_name, is_built,
+    Call, Pid, PoolId, State, TranscriptLine, TtyMode, call_args, call_name, is_call,
 };
 
 /// The text of a line, with its line feed.
@@ -210,7 +210,7 @@ fn put_call(text: &mut Line, p: Pid, call: &Call)
 {
     text.word("call");
     put_process(text, p);
-    if is_built(call.number) {
+    if is_call(call.number) {
         text.word(call_name(call.number));
         put_arguments(text, &call.args[..call_args(call.number)]);
     } else {

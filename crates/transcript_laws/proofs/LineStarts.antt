@@ -5,7 +5,7 @@ use Rattle.std.specs.List.{AllByRecursion, list_all}
 use Rattle.std.specs.Prelude.{not, ◌&&◌}
 use Rattle.transcript_laws.proofs.Texts.{starts, and_true}
 use Rattle.std.specs.Fmt.{decimal, digits, digits_onto, digit_glyph, signed_decimal}
-use Rattle.xinu_base.specs.Syscalls.{Syscall, args_of, is_built, name_of, syscall_in, syscalls}
+use Rattle.xinu_base.specs.Syscalls.{Syscall, args_of, is_call, name_of, syscall_in, syscalls}
 use Rattle.xinu_model.specs.Words.{signed}
 use Rattle.transcript_laws.specs.Choices.{after_blank, after_line, begins_done, says_done}
 use Rattle.std.proofs.lemmas.Bool.{cond_both}
@@ -149,7 +149,7 @@ words_feed (w ∷ words) = (signed_feed (signed w), words_feed words)
 
 call_feed : (call : Call) → AllByRecursion NoFeed (call_fields call)
 call_feed call =
-    cond_both (is_built call.number) (name_of call.number ∷ map signed_field (take (args_of call.number) call.args))
+    cond_both (is_call call.number) (name_of call.number ∷ map signed_field (take (args_of call.number) call.args))
     (codes "unknown" ∷ signed_field call.number ∷ []) (AllByRecursion NoFeed)
     (λ _. (name_feed syscalls call.number (rows_feed syscalls refl), words_feed (take (args_of call.number) call.args)))
     (λ _. (unknown_feed, (signed_feed (signed call.number), tt)))

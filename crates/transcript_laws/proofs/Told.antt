@@ -1,8 +1,7 @@
 -- A text tells the choice of the event with which it begins.
-use Rattle.std.proofs.Common.{◌≡◌, ◌≢◌, ◌==◌, ℕ, zero, suc, ◌+◌, ◌-◌, ◌≤◌, ◌<◌, Bool, true, false, if◌then◌else◌, List, [], ◌∷◌, ◌++◌, map, length, drop, Option, Some, None, refl, sym, ap, ◌∙◌, append_assoc, append-nil, arith, ℤ}
+use Rattle.std.proofs.Common.{◌≡◌, ◌≢◌, ◌==◌, ℕ, zero, suc, ◌+◌, ◌-◌, ◌≤◌, true, false, if◌then◌else◌, List, [], ◌∷◌, ◌++◌, map, length, drop, Option, Some, None, refl, sym, ap, ◌∙◌, append_assoc, append-nil, arith, ℤ}
 use Rattle.std.specs.Prelude.{is_some, unwrap_or}
 use Rattle.std.proofs.lemmas.Bool.{cond_both, eqb-true}
-use Rattle.xinu_base.specs.Events.{is_built_event}
 use Rattle.xinu_base.specs.declared.events.Event.{Event}
 use Rattle.xinu_base.specs.declared.events.Event.TheVariants.{Step, Tick, Key, Tx, Disk0, Disk1, Fail0, Fail1, Dump}
 use Rattle.xinu_base.specs.declared.lines.FileMoment.TheVariants.{Finished, Next}
@@ -23,7 +22,7 @@ use Rattle.xinu_model.specs.Calls.{called, continued}
 use Rattle.xinu_model.specs.Isa.Exec.{exec}
 use Rattle.xinu_model.specs.Process.Death.{exit}
 use Rattle.xinu_model.specs.Tables.{process_at}
-use Rattle.xinu_model.specs.Events.{MayChoose, call_of, event_effect, instruction_step, is_done, next_file_call, reacted, stepped, step_at_once, step_with, with_executed}
+use Rattle.xinu_model.specs.Events.{MayChoose, call_of, effect_of, instruction_step, is_done, next_file_call, reacted, stepped, step_at_once, step_with, with_executed}
 use Rattle.xinu_model.specs.Files.Calls.{file_effect}
 use Rattle.xinu_model.specs.Files.Syscalls.{at_once, files_of, file_step, completing, completed_in}
 use Rattle.xinu_model.specs.Files.Work.{FileRequest, FileNote, FileStep, had_turn, took_effect, first_effect, next_effects, orphaned_call, turned, calls_completed, least_effects}
@@ -245,7 +244,7 @@ step_right (suc (suc c)) (Some a) s more k made may = absurd (omega (arith, may)
 
 -- each event has the effect that its text tells
 event_right : (s : Xinu) (e : Event) (c : ℕ) (more : List TranscriptLine) → IsSound s → MayChoose s e c → begins_next more ≡ false
-    → event_effect s e (told s e (text ((event_effect s e c).lines ++ more))) ≡ event_effect s e c
+    → effect_of s e (told s e (text ((effect_of s e c).lines ++ more))) ≡ effect_of s e c
 event_right s Step c more k may none = ap (λ n. step_with n (next_file_call s) s) (step_right c (next_file_call s) s more k refl may)
 event_right s Disk1 c more k may none = ap (λ n. completed_in (files_of s).calls n s)
     (completion_right (files_of s).calls c s more refl may none)
@@ -259,15 +258,4 @@ event_right s Fail1 c more k may none = refl
 
 -- The text of an event tells what was chosen in it.
 pub tells : Tells told
-tells = record {
-  allowed = may_tell;
-  right = λ s e c more k may none. by_built s e c more k may none (is_built_event e);
-}
-  where
-    by_built : (s : Xinu) (e : Event) (c : ℕ) (more : List TranscriptLine) → IsSound s → MayChoose s e c → begins_next more ≡ false
-        → (b : Bool)
-        → (if b then event_effect s e (told s e (text
-        ((if b then event_effect s e c else nothing_happens s).lines ++ more))) else nothing_happens s)
-        ≡ (if b then event_effect s e c else nothing_happens s)
-    by_built s e c more k may none true = event_right s e c more k may none
-    by_built s e c more k may none false = refl
+tells = record { allowed = may_tell; right = event_right }

@@ -1,5 +1,4 @@
 pub mod Constants
-pub mod Events
 pub mod Hexadecimal
 pub mod Insert
 pub mod Names

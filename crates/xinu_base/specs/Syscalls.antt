@@ -1,5 +1,5 @@
 -- The table of calls: for each number a name and how many arguments are printed (book, appendix on system calls).
-use Rattle.std.specs.Prelude.{ℕ, Bool, true, false, List, [], ◌∷◌, ◌==◌, if◌then◌else◌, codes, slice_index}
+use Rattle.std.specs.Prelude.{ℕ, Bool, List, [], ◌∷◌, ◌==◌, if◌then◌else◌, codes}
 use Rattle.std.specs.List.{list_any}
 
 -- A system call: its number, its name, and how many arguments it takes.
@@ -77,32 +77,6 @@ name_of number = (syscall_in syscalls number).name
 abbrev pub args_of : ℕ → ℕ
 args_of number = (syscall_in syscalls number).args
 
--- the calls that the kernel has so far
-abbrev pub built : List ℕ
-built =
-    1 ∷ 2 ∷ 3 ∷ 4 ∷ 5 ∷ 6 ∷ 7 ∷ 8 ∷ 9 ∷ 10 ∷ 11 ∷ 12 ∷ 13 ∷ 14 ∷ 15 ∷ 16 ∷ 17 ∷ 18 ∷ 19 ∷ 20 ∷ 21 ∷ 22 ∷ 23 ∷ 24 ∷ 25 ∷ 26 ∷ 27 ∷ 28 ∷ 29 ∷ 30 ∷
-    31 ∷ 32 ∷ 33 ∷ 34 ∷ 35 ∷ 36 ∷ 37 ∷ 38 ∷ 39 ∷ 40 ∷ 41 ∷ 42 ∷ 43 ∷ 44 ∷ []
-
--- whether the kernel has the call of this number
-abbrev pub is_built : ℕ → Bool
-is_built number = list_any (λ n. number == n) built
-
--- the devices that the machine has so far: the console and the raw disk
-abbrev pub built_devices : List ℕ
-built_devices = 0 ∷ 2 ∷ []
-
--- whether the machine has the device of this number
-abbrev pub is_built_device : ℕ → Bool
-is_built_device dev = list_any (λ n. dev == n) built_devices
-
--- the calls on a device, which their first argument names
-abbrev pub device_numbers : List ℕ
-device_numbers = 36 ∷ 37 ∷ 38 ∷ 39 ∷ 40 ∷ 41 ∷ 42 ∷ 43 ∷ []
-
--- whether the machine has the device of a call, if it is one on a device
-abbrev pub has_device : ℕ → List ℕ → Bool
-has_device number args = if list_any (λ n. number == n) device_numbers then is_built_device (slice_index args 0) else true
-
--- Whether a call is served: the kernel has it, and the machine has its device. A device that isn't built offers nothing.
-abbrev pub is_served : ℕ → List ℕ → Bool
-is_served number args = if is_built number then has_device number args else false
+-- whether the number has a call
+abbrev pub is_call : ℕ → Bool
+is_call number = list_any (λ row. number == row.number) syscalls

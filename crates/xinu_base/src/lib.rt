@@ -5,8 +5,7 @@
 //! | What | Promise |
 //! |---|---|
 //! | [`Below`]: [`Pid`], [`Sem`], [`PoolId`], [`Port`], [`Dev`] | seen as numbers: `from_word` gives one if and only if the word is below the bound, `index` gives it back |
-//! | [`call_name`], [`call_args`], [`is_built`] | the name and the number of arguments of a call, and whether the kernel has it: the table `syscalls` in `specs/Syscalls.antt` |
-//! | [`is_built_device`] | whether the machine has a device; a call on any other is refused (`is_served`) |
+//! | [`call_name`], [`call_args`], [`is_call`] | the name of a call, how many arguments it takes, and whether a number has one: the table `syscalls` in `specs/Syscalls.antt` |
 //! | all other types | plain data: a contract sees their fields |
 //!
 //! `specs/Insert.antt` has the two insertions of the kernel's lists, `specs/Constants.antt` the constants by the book's names,
@@ -35,7 +34,7 @@ pub use numbers::{Below, Dev, Pid, PoolId, Port, Sem};
 pub use processes::{PortTicket, Process, Rest, Span, State};
 pub use registers::{Cause, Hart, Outcome};
 pub use semaphores::Owner;
-pub use syscalls::{Call, Next, call_args, call_name, is_built, is_built_device};
+pub use syscalls::{Call, Next, call_args, call_name, is_call};
 
 /// The answer of a call that found no memory.
 #[derive(Clone, Copy, Debug, PartialEq, Eq)]

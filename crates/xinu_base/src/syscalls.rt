@@ -25,18 +25,78 @@ pub enum Next {
     Panics,
 }
 
-/// Whether the kernel has the call of this number.
-pub fn is_built(number: u32) -> bool
-    ensures { result ≡ syscalls.is_built number }
-{
-    matches!(number, 1..=44)
+/// The calls of the kernel, a row each, in the families that begin them: the number, the name, how many arguments it takes, and how it is
+/// begun over the state `$k` with the arguments `$args`. The rows are handed to the macro `$arms`, which writes the arms of a body.
+#[macro_export]
+macro_rules! each_call {
+    ($arms:ident, $k:ident, $args:ident) => {
+        $arms! {
+            core {
+                1 "getpid" 0 getpid($k);
+                2 "create" 6 create(
+                    $k,
+                    Creation {
+                        entry: $args[0],
+                        stack: $args[1],
+                        priority: half($args[2]),
+                        args: ($args[4], $args[5]),
+                    },
+                    $args[3],
+                );
+                3 "resume" 1 resume($k, $args[0]);
+                4 "suspend" 1 suspend($k, $args[0]);
+                5 "kill" 1 kill($k, $args[0]);
+                6 "yield" 0 yield_now($k);
+                7 "chprio" 2 chprio($k, $args[0], half($args[1]));
+                8 "getprio" 1 getprio($k, $args[0]);
+                9 "exit" 0 exit($k);
+                10 "getmem" 1 getmem($k, $args[0]);
+                11 "freemem" 2 freemem($k, $args[0], $args[1]);
+                12 "getstk" 1 getstk($k, $args[0]);
+                13 "freestk" 2 freestk($k, $args[0], $args[1]);
+                14 "semcreate" 1 semcreate($k, signed($args[0]));
+                15 "semdelete" 1 semdelete($k, $args[0]);
+                16 "semreset" 2 semreset($k, $args[0], signed($args[1]));
+                17 "semcount" 1 semcount($k, $args[0]);
+                18 "wait" 1 wait($k, $args[0]);
+                19 "signal" 1 signal($k, $args[0]);
+                20 "signaln" 2 signaln($k, $args[0], signed($args[1]));
+                21 "send" 2 send($k, $args[0], $args[1]);
+                22 "receive" 0 receive($k);
+                23 "recvclr" 0 recvclr($k);
+                24 "recvtime" 1 recvtime($k, signed($args[0]));
+                25 "sleep" 1 sleep($k, signed($args[0]));
+                26 "sleepms" 1 sleepms($k, signed($args[0]));
+                27 "clktime" 0 clktime($k);
+                28 "mkbufpool" 2 mkbufpool($k, $args[0], $args[1]);
+                29 "getbuf" 1 getbuf($k, $args[0]);
+                30 "freebuf" 1 freebuf($k, $args[0]);
+                31 "ptcreate" 1 ptcreate($k, signed($args[0]));
+                32 "ptdelete" 2 ptdelete($k, $args[0], $args[1]);
+                33 "ptreset" 2 ptreset($k, $args[0], $args[1]);
+                34 "ptsend" 2 ptsend($k, $args[0], $args[1]);
+                35 "ptrecv" 1 ptrecv($k, $args[0]);
+            }
+            io {
+                36 "open" 3 device_open($k, $args[0], $args[1], $args[2]);
+                37 "close" 1 device_close($k, $args[0]);
+                38 "read" 3 device_read($k, $args[0], $args[1], $args[2]);
+                39 "write" 3 device_write($k, $args[0], $args[1], $args[2]);
+                40 "getc" 1 device_getc($k, $args[0]);
+                41 "putc" 2 device_putc($k, $args[0], $args[1]);
+                42 "seek" 2 device_seek($k, $args[0], $args[1]);
+                43 "control" 3 device_control($k, $args[0], $args[1], $args[2]);
+                44 "mount" 3 mount($k, $args[0], $args[1], $args[2]);
+            }
+        }
+    };
 }
 
-/// Whether the machine has the device of this number.
-pub fn is_built_device(dev: u32) -> bool
-    ensures { result ≡ syscalls.is_built_device dev }
+/// Whether the number has a call.
+pub fn is_call(number: u32) -> bool
+    ensures { result ≡ syscalls.is_call number }
 {
-    matches!(dev, 0 | 2)
+    matches!(number, 1..=44)
 }
 
 /// The name of the call of this number, and `unknown` for a number that has none.
@@ -44,53 +104,15 @@ pub fn call_name(number: u32) -> &'static str
     ensures name { result.now ≡ syscalls.name_of number }
     ensures short { length result.now ≤ 9 }
 {
-    match number {
-        1 => "getpid",
-        2 => "create",
-        3 => "resume",
-        4 => "suspend",
-        5 => "kill",
-        6 => "yield",
-        7 => "chprio",
-        8 => "getprio",
-        9 => "exit",
-        10 => "getmem",
-        11 => "freemem",
-        12 => "getstk",
-        13 => "freestk",
-        14 => "semcreate",
-        15 => "semdelete",
-        16 => "semreset",
-        17 => "semcount",
-        18 => "wait",
-        19 => "signal",
-        20 => "signaln",
-        21 => "send",
-        22 => "receive",
-        23 => "recvclr",
-        24 => "recvtime",
-        25 => "sleep",
-        26 => "sleepms",
-        27 => "clktime",
-        28 => "mkbufpool",
-        29 => "getbuf",
-        30 => "freebuf",
-        31 => "ptcreate",
-        32 => "ptdelete",
-        33 => "ptreset",
-        34 => "ptsend",
-        35 => "ptrecv",
-        36 => "open",
-        37 => "close",
-        38 => "read",
-        39 => "write",
-        40 => "getc",
-        41 => "putc",
-        42 => "seek",
-        43 => "control",
-        44 => "mount",
-        _ => "unknown",
+    macro_rules! names {
+        ($($family:ident { $($number:literal $name:literal $count:literal $begin:expr;)* })*) => {
+            match number {
+                $($($number => $name,)*)*
+                _ => "unknown",
+            }
+        };
     }
+    each_call!(names, k, args)
 }
 
 /// How many arguments the call of this number takes. A number that has no call takes one.
@@ -98,11 +120,13 @@ pub fn call_args(number: u32) -> usize
     ensures args { result ≡ syscalls.args_of number }
     ensures few { result ≤ 6 }
 {
-    match number {
-        1 | 6 | 9 | 22 | 23 | 27 => 0,
-        7 | 11 | 13 | 16 | 20 | 21 | 28 | 32 | 33 | 34 | 41 | 42 => 2,
-        36 | 38 | 39 | 43 | 44 => 3,
-        2 => 6,
-        _ => 1,
+    macro_rules! counts {
+        ($($family:ident { $($number:literal $name:literal $count:literal $begin:expr;)* })*) => {
+            match number {
+                $($($number => $count,)*)*
+                _ => 1,
+            }
+        };
     }
+    each_call!(counts, k, args)
 }

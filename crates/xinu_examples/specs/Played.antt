@@ -9,8 +9,8 @@ use Rattle.xinu_base.specs.declared.events.Event.TheVariants.{Tick, Key, Tx, Dis
 use Rattle.xinu_base.specs.declared.lines.TranscriptLine.{TranscriptLine}
 use Rattle.xinu_base.specs.declared.lines.TranscriptLine.TheVariants as line
 use Rattle.xinu_model.specs.Boot.{null_tables, image_name}
-use Rattle.xinu_model.specs.Calls.{call_of_number, continued}
-use Rattle.xinu_model.specs.Events.{is_done, made_first, event_effect}
+use Rattle.xinu_model.specs.Calls.{called, continued}
+use Rattle.xinu_model.specs.Events.{is_done, made_first, effect_of}
 use Rattle.xinu_model.specs.Files.Syscalls.{files_of, file_line, at_once}
 use Rattle.xinu_model.specs.Files.Work.{FileRequest, issued}
 use Rattle.xinu_model.specs.Machine.{Xinu, first_parts, no_hart, EventResult, end_of_event}
@@ -62,7 +62,7 @@ called_next [] x = x
 called_next (call ∷ rest) x =
     let s = x.state in
     let p = s.tables.current in
-    after (end_of_event p (line.Call p call ∷ []) (call_of_number call.number call.args s)) (slice_set x.programs p rest) x
+    after (end_of_event p (line.Call p call ∷ []) (called call.number call.args s)) (slice_set x.programs p rest) x
 
 -- the same, but a call on files takes effect as it is made, if none is before it
 abbrev pub made_at_once : Option FileRequest → Call → List Call → Played → Played
@@ -77,7 +77,7 @@ abbrev pub called_at_once : List Call → Played → Played
 called_at_once [] x = x
 called_at_once (call ∷ rest) x =
     let s = x.state in
-    let waits = call_of_number call.number call.args s in
+    let waits = called call.number call.args s in
     made_at_once (made_first s.tables.current (files_of s).calls (files_of waits.call.state).calls) call rest x
 
 -- a step: the current process goes on with the call in which it waited, or makes its next one, in one of both ways
@@ -99,7 +99,7 @@ played_at_once x = played_with called_at_once x
 
 -- an event that isn't a step, whether the machine has it or not, in which so many calls on files more take effect than have to
 abbrev pub played_choice : ℕ → Event → Played → Played
-played_choice choice e x = after (event_effect x.state e choice) x.programs x
+played_choice choice e x = after (effect_of x.state e choice) x.programs x
 
 abbrev pub played_event : Event → Played → Played
 played_event e x = played_choice 0 e x

@@ -1,11 +1,9 @@
 -- Plain instructions are machine steps that print nothing.
-use Rattle.std.proofs.Common.{◌≡◌, ◌≢◌, ◌∙◌, ◌+◌, ◌<◌, ◌==◌, ℕ, zero, suc, Bool, true, false, cond, List, [], ◌∷◌, ◌++◌, length, replicate, refl, sym, ap, subst, arith}
+use Rattle.std.proofs.Common.{◌≡◌, ◌∙◌, ◌+◌, ◌<◌, ◌==◌, ℕ, zero, suc, false, cond, List, [], ◌++◌, length, replicate, refl, sym, ap, subst, arith}
 use Rattle.std.proofs.lemmas.Bool.{ne_eqb}
 use Rattle.std.proofs.lemmas.List.{get_or-set_same, set-get_or}
-use Rattle.std.specs.Prelude.{slice_set}
-use Rattle.xinu_model.specs.Steps.{ArePlain, IsPlain, stepped_times, with_ran}
+use Rattle.xinu_model.specs.Steps.{ArePlain, stepped_times, with_ran}
 use Rattle.xinu_model.specs.Isa.Ran.{Ran, ran, ran_on, unless_stopped}
-use Rattle.xinu_base.specs.declared.registers.Hart.{Hart}
 use Rattle.xinu_base.specs.declared.registers.Outcome.{Outcome}
 use Rattle.xinu_base.specs.declared.registers.Outcome.TheVariants.{Went}
 use Rattle.xinu_base.specs.declared.events.End.{End}
@@ -20,7 +18,7 @@ use Rattle.xinu_laws.proofs.Preserve.Events.{may_call_after, state_stepped}
 use Rattle.xinu_model.specs.Sound.State.{IsSound}
 use Rattle.xinu_laws.specs.Preserve.{MayCallAny}
 use Rattle.xinu_model.specs.Events.{instruction_step, is_done, reacted, stepped, with_executed}
-use Rattle.xinu_model.specs.Isa.Exec.{exec, Executed}
+use Rattle.xinu_model.specs.Isa.Exec.{exec}
 use Rattle.xinu_model.specs.Machine.{current_hart, end_of_event, EventResult, no_hart, nothing_happens, Xinu}
 use Rattle.xinu_model.specs.Calls.{continued}
 use Rattle.xinu_model.specs.Runs.{end_with, Follows, is_over, RunsTo}

@@ -1,9 +1,9 @@
 //! Footprints: which parts of the state each call may change.
 
-ghost use Rattle.std.specs.Prelude.{◌≡◌, ℕ, true, false, List, Some, length, map, take};
+ghost use Rattle.std.specs.Prelude.{◌≡◌, ℕ, true, false, List, Some, map};
 ghost use Rattle.xinu_base.specs.declared.lines.TranscriptLine.{TranscriptLine};
 ghost use Rattle.xinu_base.specs.declared.processes.Rest.{Rest};
-ghost use Rattle.xinu_model.specs.Calls.{calls, call_of_number, continued};
+ghost use Rattle.xinu_model.specs.Calls.{calls, called, continued};
 ghost use Rattle.xinu_model.specs.Clock.{ticked};
 ghost use Rattle.table_laws.specs.Frame.{Frame};
 ghost use Rattle.xinu_model.specs.Machine.{Xinu, CallResult, replies_of, end_of_event};
@@ -16,13 +16,13 @@ ghost use Rattle.xinu_laws.specs.Touches.{Reach, reach, touched_by, stacks_of, K
 
 /// The rows have the numbers, names and arities that the transcript prints.
 pub fn rows_are_syscalls()
-    ensures { map (λ (r : CallRow). r.syscall) calls ≡ take (length calls) syscalls }
+    ensures { map (λ (r : CallRow). r.syscall) calls ≡ syscalls }
 {}
 
 /// Each call touches no more than its footprint.
 pub fn calls_stay_within()
     ensures { (number : ℕ) (args : List ℕ) (s : Xinu) (r : CallRow) → IsSound s → found_in calls number ≡ Some r →
-        Touches (reach r.touches) s (call_of_number number args s).call.state }
+        Touches (reach r.touches) s (called number args s).call.state }
 {}
 
 /// So does what is left of a call that waited.

@@ -3,14 +3,9 @@
 //!
 //! Nothing of it runs: each law is the contract of a function that does nothing, proved for all images, states and lists of events.
 //!
-//! A law on rows, on what is left of a call, or on a part of the state holds for all calls of the table. A law on what happens in an event or a
-//! run is about the events that the machine has: in them a call that isn't served is refused, and an event that isn't built does nothing. No call
-//! on files is served so far, so nothing is chosen in any event yet: what is said of choices (`choices_happen`, `texts_agree`), and of a call that
-//! is refused as it takes effect (`refused_effects_are_told`), waits for them.
-//!
 //! | Module | Its laws |
 //! |---|---|
-//! | [`soundness`] | boot is sound, on given disks too, and each event and run keeps it so, also the completions that the machine hasn't yet; a free place holds its fixed value; who goes on with a call on a device finds what it waited for |
+//! | [`soundness`] | boot is sound, on given disks too, and each event and run keeps it so; a free place holds its fixed value; who goes on with a call on a device finds what it waited for |
 //! | [`moments`] | what holds at each moment of an event: each row, each continuation, a death, a tick, a received character, a transmission, and the end of an event keep it. The kernel's code cites these |
 //! | [`outcomes`] | each choice that is allowed in an event has an outcome; two outcomes of one event whose lines begin one text are equal; a run is determined by its start and its schedule if nothing is chosen in it, and by its text |
 //! | [`steps`] | steps that print nothing come before the events of any run |

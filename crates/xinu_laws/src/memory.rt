@@ -5,7 +5,7 @@ ghost use Rattle.xinu_base.specs.declared.events.Event.{Event};
 ghost use Rattle.xinu_base.specs.declared.lines.TranscriptLine.{TranscriptLine};
 ghost use Rattle.xinu_laws.specs.Ownership.Apart.{is_in_free};
 ghost use Rattle.xinu_laws.specs.Ownership.Grants.{GivesOnlyFree};
-ghost use Rattle.xinu_model.specs.Calls.{call_of_number};
+ghost use Rattle.xinu_model.specs.Calls.{called};
 ghost use Rattle.xinu_model.specs.Heap.Calls.{getmem, getstk};
 ghost use Rattle.xinu_model.specs.Events.{Happens};
 ghost use Rattle.xinu_laws.specs.FreeCells.{IsLeast, IsGreatest, BeginNowhere};
@@ -34,7 +34,7 @@ pub fn grants_were_free()
 /// An address that more pools and stacks have after a call or an event than before it was free before it, whatever processes gave back
 /// earlier.
 pub fn holders_get_only_free_memory()
-    ensures calls { (number : ℕ) (args : List ℕ) (s : Xinu) → IsSound s → GivesOnlyFree s (call_of_number number args s).call.state }
+    ensures calls { (number : ℕ) (args : List ℕ) (s : Xinu) → IsSound s → GivesOnlyFree s (called number args s).call.state }
     ensures events { (old : Xinu) (e : Event) (lines : List TranscriptLine) (new : Xinu) → IsSound old → Happens old e lines new →
         GivesOnlyFree old new }
 {}

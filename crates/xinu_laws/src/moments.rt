@@ -1,9 +1,9 @@
 //! What holds at each moment of an event: the laws that the kernel's code cites.
 
-ghost use Rattle.std.specs.Prelude.{◌≡◌, ◌≢◌, ◌+◌, ◌≤◌, ℕ, true, false, [], List, Some, slice_index};
-ghost use Rattle.xinu_base.specs.Syscalls.{is_served};
+ghost use Rattle.std.specs.Prelude.{◌≡◌, ◌≢◌, ◌+◌, ◌≤◌, ℕ, false, [], List, Some, slice_index};
+ghost use Rattle.xinu_base.specs.Syscalls.{is_call};
 ghost use Rattle.xinu_base.specs.declared.lines.TranscriptLine.{TranscriptLine};
-ghost use Rattle.xinu_model.specs.Calls.{calls, call_of_number, called, continued};
+ghost use Rattle.xinu_model.specs.Calls.{calls, called, continued};
 ghost use Rattle.xinu_model.specs.Clock.{ticked};
 ghost use Rattle.xinu_model.specs.Console.Signals.{keyed, receiving, sending, transmits};
 ghost use Rattle.xinu_model.specs.Console.Taking.{console_of};
@@ -20,13 +20,11 @@ ghost use Rattle.xinu_model.specs.Sound.Tables.{IsInside};
 ghost use Rattle.xinu_model.specs.Sound.State.{IsSound};
 ghost use Rattle.xinu_model.specs.Tables.{process_at};
 
-/// The call of a number does what the row of this number says. A call that is served is carried out so, and any other is refused.
+/// The call of a number does what the row of this number says, and a number that has no call is refused.
 pub fn calls_are_rows()
     ensures row { (number : ℕ) (args : List ℕ) (s : Xinu) (r : CallRow) → found_in calls number ≡ Some r →
-        call_of_number number args s ≡ r.effect (slice_index args) s }
-    ensures served { (number : ℕ) (args : List ℕ) (s : Xinu) → is_served number args ≡ true →
-        called number args s ≡ call_of_number number args s }
-    ensures other { (number : ℕ) (args : List ℕ) (s : Xinu) → is_served number args ≡ false → called number args s ≡ refused s }
+        called number args s ≡ r.effect (slice_index args) s }
+    ensures other { (number : ℕ) (args : List ℕ) (s : Xinu) → is_call number ≡ false → called number args s ≡ refused s }
 {}
 
 /// In a sound state, and after an instruction, any process but the null process may call; what a call keeps holds inside an event, and its
@@ -42,8 +40,7 @@ pub fn processes_may_call()
 pub fn calls_keep_all()
     ensures rows { (number : ℕ) (r : CallRow) → found_in calls number ≡ Some r → (args : ℕ → ℕ) (s : Xinu) → MayCallAny s →
         KeepsAll (r.effect args s) }
-    ensures numbers { (number : ℕ) (args : List ℕ) (s : Xinu) → MayCallAny s → KeepsAll (call_of_number number args s) }
-    ensures called { (number : ℕ) (args : List ℕ) (s : Xinu) → MayCallAny s → KeepsAll (called number args s) }
+    ensures numbers { (number : ℕ) (args : List ℕ) (s : Xinu) → MayCallAny s → KeepsAll (called number args s) }
 {}
 
 /// What is left of a call that waited keeps it too.

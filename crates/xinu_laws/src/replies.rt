@@ -16,7 +16,7 @@ ghost use Rattle.xinu_laws.specs.Consoles.{IsAtEnd};
 ghost use Rattle.xinu_model.specs.Process.Scheduling.{ready_all};
 ghost use Rattle.xinu_laws.specs.Ownership.GivingAway.{next};
 ghost use Rattle.xinu_laws.specs.Replies.{AnswersFirst, IsCalling, IsFullCall, IsFullSend, IsRefused, LeavesRefused, LeavesRefusedEffect, value_kept, value_told};
-ghost use Rattle.xinu_model.specs.Calls.{call_of_number, continued};
+ghost use Rattle.xinu_model.specs.Calls.{called, continued};
 ghost use Rattle.xinu_model.specs.Clock.{wakeup};
 ghost use Rattle.xinu_model.specs.Console.Taking.{TY_ISEM, console_of, console_getc, console_read};
 ghost use Rattle.xinu_model.specs.Events.{Happens, next_file_call, panics_in, step_at_once, with_executed};
@@ -49,8 +49,8 @@ pub fn refusals_change_nothing()
 /// A call that answers -1 was refused, unless that is the priority, the count or the message that it answers.
 pub fn refusals_are_told()
     ensures { (number : ℕ) (args : List ℕ) (s : Xinu) → ArePools s.tables s.parts.pools → ArePorts s.tables s.parts.ports →
-        (call_of_number number args s).answer ≡ Returns SYSERR →
-        (call_of_number number args s ≡ refused s) ⊎ (value_told number (slice_index args) s ≡ Some SYSERR) }
+        (called number args s).answer ≡ Returns SYSERR →
+        (called number args s ≡ refused s) ⊎ (value_told number (slice_index args) s ≡ Some SYSERR) }
 {}
 
 /// Who waits on a semaphore that a process made answers -1 if it is deleted, which changes nothing but who waits and the semaphore itself.
@@ -139,7 +139,7 @@ pub fn refused_effects_are_told()
 /// The kernel panics only in a step that sends a message to a port while all ports together hold as many as they can: in the event of the
 /// call, or as it goes on, if the port wasn't renewed meanwhile.
 pub fn full_ports_panic()
-    ensures calls { (number : ℕ) (args : List ℕ) (s : Xinu) → (call_of_number number args s).answer ≡ Panics →
+    ensures calls { (number : ℕ) (args : List ℕ) (s : Xinu) → (called number args s).answer ≡ Panics →
         (number ≡ 34) × (most_nodes ≤ nodes s.parts.ports) }
     ensures continued { (left : Rest) (s : Xinu) → (continued left s).answer ≡ Panics → IsFullSend left s }
     ensures events { (old : Xinu) (e : Event) → panics_in old e ≡ true →

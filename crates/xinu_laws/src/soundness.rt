@@ -10,7 +10,7 @@ ghost use Rattle.xinu_model.specs.Boot.{Loaded, Boots, Disks, first_disks, boot,
 ghost use Rattle.xinu_base.specs.declared.processes.Rest.TheVariants.{Disk};
 ghost use Rattle.xinu_model.specs.Console.Constants.{TY_OBUFLEN};
 ghost use Rattle.xinu_model.specs.Console.Taking.{console_of};
-ghost use Rattle.xinu_model.specs.Events.{Happens, event_effect};
+ghost use Rattle.xinu_model.specs.Events.{Happens, effect_of};
 ghost use Rattle.xinu_model.specs.Machine.{Xinu, no_hart};
 ghost use Rattle.xinu_model.specs.Runs.{RunsTo};
 ghost use Rattle.xinu_base.specs.declared.processes.State.TheVariants.{Free};
@@ -38,7 +38,7 @@ pub fn events_keep_sound()
 
 /// So does each event that is defined, whether the machine has it yet or not. A call that isn't served is refused in it too.
 pub fn all_events_keep_sound()
-    ensures { (s : Xinu) (e : Event) (choice : ℕ) → IsSound s → IsSound (event_effect s e choice).state }
+    ensures { (s : Xinu) (e : Event) (choice : ℕ) → IsSound s → IsSound (effect_of s e choice).state }
 {}
 
 /// Each run keeps a state sound.

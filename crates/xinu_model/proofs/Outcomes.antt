@@ -1,9 +1,8 @@
 -- The outcomes of an event: there is one, and no other.
-use Rattle.std.proofs.Common.{◌≡◌, ◌==◌, ℕ, zero, suc, ◌≤◌, nat_lt, arith, Bool, true, false, List, [], ◌∷◌, ◌++◌, map, Option, Some, None, if◌then◌else◌, refl, sym, ap, ◌∙◌, subst, ℤ}
+use Rattle.std.proofs.Common.{◌≡◌, ◌==◌, ℕ, zero, suc, ◌≤◌, nat_lt, arith, true, false, List, [], ◌∷◌, ◌++◌, map, Option, Some, None, if◌then◌else◌, refl, sym, ap, ◌∙◌, subst, ℤ}
 use Rattle.std.specs.Prelude.{is_some}
 use Rattle.std.proofs.lemmas.Bool.{cond_both}
 use Rattle.std.proofs.lemmas.Bool.Decides.{nat_tests}
-use Rattle.xinu_base.specs.Events.{is_built_event}
 use Rattle.xinu_base.specs.declared.events.Event.{Event}
 use Rattle.xinu_base.specs.declared.events.Event.TheVariants.{Step, Tick, Key, Tx, Disk0, Disk1, Fail0, Fail1, Dump}
 use Rattle.xinu_base.specs.declared.lines.TranscriptLine.{TranscriptLine}
@@ -17,7 +16,7 @@ use Rattle.xinu_model.specs.Clock.{wakeup, quantum_falls, a_tick_later}
 use Rattle.xinu_model.specs.Console.Signals.{receiving, sent_in}
 use Rattle.xinu_model.specs.Console.Taking.{console_of}
 use Rattle.xinu_model.specs.Console.Transmitting.{Sent, transmitted}
-use Rattle.xinu_model.specs.Events.{call_of, call_line, exit_call, reacted, is_done, instruction_step, stepped, next_file_call, step_at_once, step_with, event_effect, effect_of, most_chosen, MayChoose, Happens, with_executed}
+use Rattle.xinu_model.specs.Events.{call_of, call_line, exit_call, reacted, is_done, instruction_step, stepped, next_file_call, step_at_once, step_with, effect_of, most_chosen, MayChoose, Happens, with_executed}
 use Rattle.xinu_model.specs.Files.Syscalls.{files_of, file_line, at_once}
 use Rattle.xinu_model.specs.Files.Work.{FileRequest, issued}
 use Rattle.xinu_model.specs.Isa.Exec.{exec}
@@ -81,7 +80,7 @@ step_with_no_next zero found s = step_no_next s
 step_with_no_next (suc choice) None s = step_no_next s
 step_with_no_next (suc choice) (Some a) s = refl
 
-event_no_next : (s : Xinu) (e : Event) (choice : ℕ) → begins_next (event_effect s e choice).lines ≡ false
+event_no_next : (s : Xinu) (e : Event) (choice : ℕ) → begins_next (effect_of s e choice).lines ≡ false
 event_no_next s Step choice = step_with_no_next choice (next_file_call s) s
 event_no_next s Tick choice =
     replies_no_next (wakeup s).released s.tables.current (quantum_falls (a_tick_later (wakeup s).owes_resched (wakeup s).state.tables)).current
@@ -92,11 +91,6 @@ event_no_next s Disk0 choice = served_no_next (raw_completed true (disk_of s)) s
 event_no_next s Disk1 choice = completed_no_next (files_of s).calls choice s refl
 event_no_next s Fail0 choice = served_no_next (raw_completed false (disk_of s)) s
 event_no_next s Fail1 choice = refl
-
-effect_no_next : (s : Xinu) (e : Event) (choice : ℕ) → begins_next (effect_of s e choice).lines ≡ false
-effect_no_next s e choice =
-    cond_both (is_built_event e) (event_effect s e choice) (nothing_happens s) (λ (x : EventResult). begins_next x.lines ≡ false)
-    (λ _. event_no_next s e choice) (λ _. refl)
 
 -- a step in which no call on files takes effect tells of none
 step_tells : (s : Xinu) → effects_told (stepped s).lines ≡ 0
@@ -142,7 +136,7 @@ step_choices (suc c) zero (Some a) s p q same =
 step_choices (suc c) (suc d) (Some a) s p q same = omega (arith, p, q)
 
 -- The lines of an event tell what was chosen in it.
-same_choice : (s : Xinu) (e : Event) (c d : ℕ) → MayChoose s e c → MayChoose s e d → (event_effect s e c).lines ≡ (event_effect s e d).lines → c ≡ d
+same_choice : (s : Xinu) (e : Event) (c d : ℕ) → MayChoose s e c → MayChoose s e d → (effect_of s e c).lines ≡ (effect_of s e d).lines → c ≡ d
 same_choice s Step c d p q same = step_choices c d (next_file_call s) s p q same
 same_choice s Disk1 c d p q same = choices_told c d (files_of s).calls s refl p q same
 same_choice s Tick c d p q same = omega (arith, p, q)
@@ -153,15 +147,10 @@ same_choice s Disk0 c d p q same = omega (arith, p, q)
 same_choice s Fail0 c d p q same = omega (arith, p, q)
 same_choice s Fail1 c d p q same = omega (arith, p, q)
 
--- Choices with equal lines have one effect, whether the machine has the event or not.
+-- Choices with equal lines have one effect.
 same_effect : (s : Xinu) (e : Event) (c d : ℕ) → MayChoose s e c → MayChoose s e d → (effect_of s e c).lines ≡ (effect_of s e d).lines
     → effect_of s e c ≡ effect_of s e d
-same_effect s e c d p q = by_built (is_built_event e)
-  where
-    by_built : (b : Bool) → (if b then event_effect s e c else nothing_happens s).lines ≡ (if b then event_effect s e d else nothing_happens s).lines
-        → (if b then event_effect s e c else nothing_happens s) ≡ (if b then event_effect s e d else nothing_happens s)
-    by_built false same = refl
-    by_built true same = ap (event_effect s e) (same_choice s e c d p q same)
+same_effect s e c d p q same = ap (effect_of s e) (same_choice s e c d p q same)
 
 -- if nothing is chosen there is one choice
 forced_choice : (n c d : ℕ) → nat_lt 0 n ≡ false → c ≤ n → d ≤ n → c ≡ d
@@ -175,5 +164,5 @@ agree old e = record {
   told = λ lines new other h k.
       (same_outcome old e lines lines new other h k
       (same_effect old e h.choice k.choice h.allowed k.allowed (ap (λ (x : EventResult). x.lines) (h.effect) ∙ sym (ap (λ (x : EventResult). x.lines) k.effect)))).1;
-  first = λ lines new h. subst (λ (l : List TranscriptLine). begins_next l ≡ false) (ap (λ (x : EventResult). x.lines) h.effect) (effect_no_next old e h.choice);
+  first = λ lines new h. subst (λ (l : List TranscriptLine). begins_next l ≡ false) (ap (λ (x : EventResult). x.lines) h.effect) (event_no_next old e h.choice);
 }

@@ -1,6 +1,5 @@
 -- The table of calls, and what is left of those that waited (book, chapters 4 to 15 and the appendix on system calls).
-use Rattle.std.specs.Prelude.{ℕ, if◌then◌else◌, List, ◌++◌}
-use Rattle.xinu_base.specs.Syscalls.{is_served}
+use Rattle.std.specs.Prelude.{ℕ, List, ◌++◌}
 use Rattle.xinu_base.specs.declared.processes.Rest.{Rest}
 use Rattle.xinu_base.specs.declared.processes.Rest.TheVariants as rest
 use Rattle.xinu_model.specs.Clock.{clock_calls}
@@ -8,7 +7,7 @@ use Rattle.xinu_model.specs.Console.Putting.{go_on_putc, go_on_write}
 use Rattle.xinu_model.specs.Console.Taking.{go_on_getc, go_on_read}
 use Rattle.xinu_model.specs.Devices.Calls.{device_calls}
 use Rattle.xinu_model.specs.Heap.Calls.{memory_calls}
-use Rattle.xinu_model.specs.Machine.{Xinu, Silent, CallResult, start, refused}
+use Rattle.xinu_model.specs.Machine.{Xinu, Silent, CallResult, start}
 use Rattle.xinu_model.specs.Messages.{message_calls, go_on_receive}
 use Rattle.xinu_model.specs.Pools.Calls.{pool_calls, go_on_getbuf}
 use Rattle.xinu_model.specs.Ports.Calls.{port_calls, go_on_ptsend, go_on_ptrecv}
@@ -21,13 +20,9 @@ use Rattle.xinu_model.specs.Semaphores.Calls.{semaphore_calls}
 unfoldable pub calls : List CallRow
 calls = process_calls ++ (memory_calls ++ (semaphore_calls ++ (message_calls ++ (clock_calls ++ (pool_calls ++ (port_calls ++ device_calls))))))
 
--- what the call of this number does with its arguments; a number without a call is refused
-abbrev pub call_of_number : ℕ → List ℕ → Xinu → CallResult
-call_of_number number args s = done_by (found_in calls number) args s
-
--- the same; refused if the call isn't built, or goes to a device that isn't
+-- What the call of this number does with its arguments; a number without a call is refused.
 abbrev pub called : ℕ → List ℕ → Xinu → CallResult
-called number args s = if is_served number args then call_of_number number args s else refused s
+called number args s = done_by (found_in calls number) args s
 
 -- What the first step of a process does that waited, once it is current again, by what is left of its call.
 abbrev pub continued : Rest → Xinu → CallResult

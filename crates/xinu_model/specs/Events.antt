@@ -2,7 +2,6 @@
 use Rattle.std.specs.Prelude.{◌≡◌, ◌≤◌, ℕ, zero, suc, ◌-◌, ◌==◌, nat_lt, Bool, true, false, if◌then◌else◌, List, [], ◌∷◌, drop, map, take, slice_index, slice_set, Option, Some, None, is_some}
 use Rattle.xinu_base.specs.declared.syscalls.Call.{Call}
 use Rattle.xinu_base.specs.declared.events.Event.{Event}
-use Rattle.xinu_base.specs.Events.{is_built_event}
 use Rattle.xinu_base.specs.declared.events.Event.TheVariants.{Step, Tick, Key, Tx, Disk0, Disk1, Fail0, Dump}
 use Rattle.xinu_base.specs.declared.lines.TranscriptLine.{TranscriptLine}
 use Rattle.xinu_base.specs.declared.lines.TranscriptLine.TheVariants as line
@@ -90,20 +89,16 @@ step_with (suc choice) None s = stepped s
 step_with (suc choice) (Some a) s = step_at_once a s
 
 -- What an event prints and leaves, if this many calls on files more take effect in it than have to.
-abbrev pub event_effect : Xinu → Event → ℕ → EventResult
-event_effect s Step choice = step_with choice (next_file_call s) s
-event_effect s Tick choice = ticked s
-event_effect s (Key b) choice = keyed b s
-event_effect s Tx choice = transmits s
-event_effect s Disk0 choice = disk_completes true s
-event_effect s Fail0 choice = disk_completes false s
-event_effect s Disk1 choice = files_complete choice s
-event_effect s Dump choice = record { lines = tables_of s; state = s; panics = false }
-event_effect s _ choice = nothing_happens s
-
--- The same; an event that the machine doesn't have yet does nothing.
 abbrev pub effect_of : Xinu → Event → ℕ → EventResult
-effect_of s e choice = if is_built_event e then event_effect s e choice else nothing_happens s
+effect_of s Step choice = step_with choice (next_file_call s) s
+effect_of s Tick choice = ticked s
+effect_of s (Key b) choice = keyed b s
+effect_of s Tx choice = transmits s
+effect_of s Disk0 choice = disk_completes true s
+effect_of s Fail0 choice = disk_completes false s
+effect_of s Disk1 choice = files_complete choice s
+effect_of s Dump choice = record { lines = tables_of s; state = s; panics = false }
+effect_of s _ choice = nothing_happens s
 
 -- how many calls on files may take effect in an event, more than have to
 abbrev pub most_chosen : Xinu → Event → ℕ

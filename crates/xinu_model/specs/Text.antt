@@ -1,7 +1,7 @@
 -- The lines of a transcript as bytes, and the tables of a state as lines.
 use Rattle.std.specs.Prelude.{ℕ, ◌+◌, nat_lt, ◌||◌, Bool, true, false, if◌then◌else◌, List, [], ◌∷◌, ◌++◌, map, length, take, Option, Some, None, slice_index_or, codes, ℤ}
 use Rattle.std.specs.Fmt.{decimal, signed_decimal}
-use Rattle.xinu_base.specs.Syscalls.{name_of, args_of, is_built}
+use Rattle.xinu_base.specs.Syscalls.{name_of, args_of, is_call}
 use Rattle.xinu_base.specs.Names.{state_name, cause_name, end_name, moment_name, mode_name}
 use Rattle.xinu_base.specs.Hexadecimal.{hex_byte, hex_of}
 use Rattle.xinu_base.specs.declared.syscalls.Call.{Call}
@@ -63,7 +63,7 @@ busy_name false = codes "clean"
 -- the name of a call and its arguments; of a number without a call the number
 abbrev pub call_fields : Call → List (List ℕ)
 call_fields call =
-    if is_built call.number then name_of call.number ∷ map signed_field (take (args_of call.number) call.args)
+    if is_call call.number then name_of call.number ∷ map signed_field (take (args_of call.number) call.args)
     else codes "unknown" ∷ signed_field call.number ∷ []
 
 -- the fields of a line

@@ -11,9 +11,6 @@
 //! |---|---|
 //! | [`laws::outcomes_agree`] | if nothing is chosen in an event, its lines and the state after it are determined by the state before; equal lines have equal states; no outcome begins with a file call that took effect as the next one |
 //! | [`laws::events_happen`], [`laws::runs_happen`] | each event has an outcome, and there is a run through each list of events, from each state |
-//!
-//! They are about the events that the machine has: in them a call that isn't served is refused, and an event that isn't built does nothing. No call
-//! on files is served so far, so nothing is chosen in any event yet.
 #![tactic(auto)]
 
 pub mod laws;

@@ -1,8 +1,6 @@
 -- Each choice that is allowed has an outcome: a step in which a call on files is made doesn't end in a panic.
-use Rattle.std.proofs.Common.{◌≡◌, ◌≢◌, ◌⊎◌, ◌∙◌, ℕ, zero, suc, ◌==◌, ◌||◌, ◌%◌, Bool, true, false, cond, List, [], ◌∷◌, Option, Some, None, refl, sym, ap, inl, inr, ⊎_elim}
-use Rattle.std.specs.Prelude.{if◌then◌else◌}
+use Rattle.std.proofs.Common.{◌≡◌, ◌≢◌, ◌⊎◌, ◌∙◌, ℕ, zero, suc, ◌==◌, ◌||◌, ◌%◌, false, cond, List, [], ◌∷◌, Option, Some, None, refl, sym, ap, inl, inr, ⊎_elim}
 use Rattle.std.proofs.lemmas.Bool.{cond_both, eqb-false}
-use Rattle.xinu_base.specs.Events.{is_built_event}
 use Rattle.xinu_base.specs.declared.events.Event.{Event}
 use Rattle.xinu_base.specs.declared.events.Event.TheVariants.{Step, Tick, Key, Tx, Disk0, Disk1, Fail0, Fail1, Dump}
 use Rattle.xinu_base.specs.declared.lines.TranscriptLine.{TranscriptLine}
@@ -16,7 +14,7 @@ use Rattle.xinu_laws.specs.Preserve.{MayCallAny, KeepsAll}
 use Rattle.table_laws.specs.Preserve.{FitsAnswer}
 use Rattle.xinu_laws.specs.Touches.{reach, touched_by, Touches}
 use Rattle.xinu_model.specs.Calls.{calls, called, continued}
-use Rattle.xinu_model.specs.Events.{call_of, call_line, exit_call, with_executed, reacted, instruction_step, is_done, stepped, next_file_call, step_with, event_effect, effect_of, MayChoose, Happens}
+use Rattle.xinu_model.specs.Events.{call_of, call_line, exit_call, with_executed, reacted, instruction_step, is_done, stepped, next_file_call, step_with, effect_of, MayChoose, Happens}
 use Rattle.xinu_model.specs.Files.Syscalls.{files_of, completed_in}
 use Rattle.xinu_model.specs.Files.Work.{FileRequest, orphaned_call}
 use Rattle.xinu_model.specs.Footprints.{Footprint, on_tables, on_console, on_disk}
@@ -42,7 +40,7 @@ use Rattle.xinu_laws.proofs.Preserve.Events.{may_call, may_call_after}
 use Rattle.xinu_laws.proofs.RawDisks.Kept.{disk_read_keeps, disk_write_keeps, disk_control_keeps}
 use Rattle.table_laws.proofs.Tables.MoveTo.{process_move_same}
 use Rattle.xinu_laws.proofs.Touches.Continued.{continued_touches}
-use Rattle.xinu_laws.proofs.Touches.Few.{IsLawOfFew, built_law_of_few}
+use Rattle.xinu_laws.proofs.Touches.Few.{IsLawOfFew, law_of_few}
 use Rattle.xinu_laws.proofs.Touches.Moves.{touches_sent}
 
 -- From s to u no call on files is made as the first, or the current process waits.
@@ -145,7 +143,7 @@ calm_reacted outcome.Went s c before some = refl
 calm_reacted outcome.Call s c before some =
     let call = call_of (current_hart s) in
     calm s s.tables.current (call_line s call ∷ []) (called call.number call.args s) (called_keeps call.number call.args s c)
-    (built_law_of_few none_law call.number call.args s (sound_where_called s c)) before some
+    (law_of_few none_law call.number call.args s (sound_where_called s c)) before some
 calm_reacted outcome.Exit s c before some =
     calm s s.tables.current (call_line s (exit_call (current_hart s)) ∷ []) (exit s) (exit_keeps s c)
     (killed_none s.tables.current (start s)) before some
@@ -181,24 +179,16 @@ completed_panics : (calls_ : List FileRequest) (choice : ℕ) (s : Xinu)
 completed_panics [] choice s = refl
 completed_panics (a ∷ calls_) choice s = refl
 
-event_panics : (s : Xinu) (e : Event) (choice : ℕ) → IsSound s → (event_effect s e choice).panics ≡ (event_effect s e 0).panics
-event_panics s Step choice k = step_panics choice (next_file_call s) s k refl
-event_panics s Disk1 choice k = completed_panics (files_of s).calls choice s
-event_panics s Tick choice k = refl
-event_panics s Dump choice k = refl
-event_panics s (Key b) choice k = refl
-event_panics s Tx choice k = refl
-event_panics s Disk0 choice k = refl
-event_panics s Fail0 choice k = refl
-event_panics s Fail1 choice k = refl
-
 pub effect_panics : (s : Xinu) (e : Event) (choice : ℕ) → IsSound s → (effect_of s e choice).panics ≡ (effect_of s e 0).panics
-effect_panics s e choice k = by_built (is_built_event e)
-  where
-    by_built : (b : Bool)
-        → (if b then event_effect s e choice else nothing_happens s).panics ≡ (if b then event_effect s e 0 else nothing_happens s).panics
-    by_built true = event_panics s e choice k
-    by_built false = refl
+effect_panics s Step choice k = step_panics choice (next_file_call s) s k refl
+effect_panics s Disk1 choice k = completed_panics (files_of s).calls choice s
+effect_panics s Tick choice k = refl
+effect_panics s Dump choice k = refl
+effect_panics s (Key b) choice k = refl
+effect_panics s Tx choice k = refl
+effect_panics s Disk0 choice k = refl
+effect_panics s Fail0 choice k = refl
+effect_panics s Fail1 choice k = refl
 
 -- Each choice that is allowed has its outcome.
 pub choice_happens : (old : Xinu) (e : Event) (choice : ℕ) → IsSound old → MayChoose old e choice

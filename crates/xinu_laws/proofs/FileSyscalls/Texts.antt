@@ -2,7 +2,6 @@
 use Rattle.std.proofs.Common.{◌≡◌, ◌≢◌, ◌==◌, ℕ, zero, suc, ◌+◌, ◌-◌, ◌<◌, ◌≤◌, Bool, true, false, List, [], ◌∷◌, ◌++◌, map, length, if◌then◌else◌, Option, Some, None, refl, sym, ap, ◌∙◌, subst, ℤ, arith, append_assoc, append-nil}
 use Rattle.std.specs.Prelude.{is_some}
 use Rattle.std.proofs.lemmas.Bool.{cond_both, eqb-true}
-use Rattle.xinu_base.specs.Events.{is_built_event}
 use Rattle.xinu_base.specs.declared.events.Event.{Event}
 use Rattle.xinu_base.specs.declared.events.Event.TheVariants.{Step, Tick, Key, Tx, Disk0, Disk1, Fail0, Fail1, Dump}
 use Rattle.xinu_base.specs.declared.lines.FileMoment.TheVariants.{Finished, Next}
@@ -16,7 +15,7 @@ use Rattle.xinu_model.proofs.FileOutcomes.{effect_one, note_lines, least_le}
 use Rattle.xinu_model.proofs.Outcomes.{same_outcome}
 use Rattle.xinu_model.specs.Agree.{begins_next}
 use Rattle.xinu_model.specs.Calls.{called, continued}
-use Rattle.xinu_model.specs.Events.{call_of, exit_call, with_executed, reacted, instruction_step, is_done, stepped, next_file_call, step_with, event_effect, MayChoose, Happens}
+use Rattle.xinu_model.specs.Events.{call_of, exit_call, with_executed, reacted, instruction_step, is_done, stepped, next_file_call, step_with, effect_of, MayChoose, Happens}
 use Rattle.xinu_model.specs.Files.Calls.{file_effect}
 use Rattle.xinu_model.specs.Files.Syscalls.{files_of, file_step, completing, completed_in}
 use Rattle.xinu_model.specs.Files.Work.{FileRequest, FileNote, FileStep, had_turn, took_effect, first_effect, next_effects, turned, calls_completed, least_effects, callers_waiting}
@@ -195,7 +194,7 @@ step_choice (suc c) (suc d) (Some a) s more rest k e p q same = omega (arith, p,
 
 -- The text of an event tells what was chosen in it.
 event_choice : (s : Xinu) (e : Event) (c d : ℕ) (more rest : List TranscriptLine) → IsSound s → begins_next more ≡ false
-    → begins_next rest ≡ false → MayChoose s e c → MayChoose s e d → (event_effect s e c).lines ++ more ≡ (event_effect s e d).lines ++ rest
+    → begins_next rest ≡ false → MayChoose s e c → MayChoose s e d → (effect_of s e c).lines ++ more ≡ (effect_of s e d).lines ++ rest
     → c ≡ d
 event_choice s Step c d more rest k m r p q same = step_choice c d (next_file_call s) s more rest k refl p q same
 event_choice s Disk1 c d more rest k m r p q same = completed_choice (files_of s).calls c d s more rest refl m r p q same
@@ -213,11 +212,5 @@ pub texts_agree : (old : Xinu) (e : Event) (lines others : List TranscriptLine) 
     → lines ++ more ≡ others ++ rest → (lines ≡ others) × (new ≡ other)
 texts_agree old e lines others new other more rest sound m r h k same =
     same_outcome old e lines others new other h k
-    (by_built (is_built_event e)
-    (ap (λ (x : EventResult). x.lines ++ more) h.effect ∙ same ∙ sym (ap (λ (x : EventResult). x.lines ++ rest) k.effect)))
-  where
-    by_built : (b : Bool)
-        → (if b then event_effect old e h.choice else nothing_happens old).lines ++ more ≡ (if b then event_effect old e k.choice else nothing_happens old).lines ++ rest
-        → (if b then event_effect old e h.choice else nothing_happens old) ≡ (if b then event_effect old e k.choice else nothing_happens old)
-    by_built false same = refl
-    by_built true same = ap (event_effect old e) (event_choice old e h.choice k.choice more rest sound m r h.allowed k.allowed same)
+    (ap (effect_of old e) (event_choice old e h.choice k.choice more rest sound m r h.allowed k.allowed
+    (ap (λ (x : EventResult). x.lines ++ more) h.effect ∙ same ∙ sym (ap (λ (x : EventResult). x.lines ++ rest) k.effect))))

@@ -1,8 +1,8 @@
 -- Each event keeps each address claimed at most once, unless it gives away what is held.
-use Rattle.std.proofs.Common.{◌≡◌, ◌≢◌, ℕ, ◌<◌, ◌≤◌, ◌==◌, Bool, true, false, cond, List, [], ◌∷◌, Option, Some, None, refl, sym, ap, subst, ◌∙◌, arith, ⊎_elim, get_or-set_same}
+use Rattle.std.proofs.Common.{map, ◌∷◌, [], ◌+◌, ◌≡◌, ◌≢◌, ℕ, ◌<◌, ◌≤◌, ◌==◌, Bool, true, false, cond, List, Option, Some, None, refl, sym, ap, subst, ◌∙◌, arith, ⊎_elim, get_or-set_same}
 use Rattle.std.proofs.lemmas.Bool.{cond_both, cases_lt, eqb-false}
 use Rattle.xinu_base.specs.declared.events.Event.{Event}
-use Rattle.xinu_base.specs.declared.events.Event.TheVariants.{Step, Tick, Key, Tx, Disk0, Fail0}
+use Rattle.xinu_base.specs.declared.events.Event.TheVariants.{Step, Tick, Key, Tx, Disk0, Disk1, Fail0}
 use Rattle.xinu_base.specs.declared.lines.TranscriptLine.{TranscriptLine}
 use Rattle.xinu_base.specs.declared.lines.TranscriptLine.TheVariants as line
 use Rattle.xinu_base.specs.declared.processes.Rest.{Rest}
@@ -10,6 +10,9 @@ use Rattle.xinu_base.specs.declared.processes.Rest.TheVariants as rest
 use Rattle.xinu_base.specs.declared.registers.Outcome.{Outcome}
 use Rattle.xinu_base.specs.declared.registers.Outcome.TheVariants as outcome
 use Rattle.xinu_laws.proofs.FileSyscalls.AtOnce.{step_holds}
+use Rattle.xinu_laws.proofs.FileSyscalls.Completed.{step_completes}
+use Rattle.xinu_model.specs.Files.Syscalls.{completed_in, completing, file_line, file_step, files_complete, files_of}
+use Rattle.xinu_model.specs.Files.Work.{FileRequest, calls_completed, least_effects}
 use Rattle.xinu_laws.specs.Ownership.Apart.{holders, IsApart}
 use Rattle.xinu_model.specs.Calls.{called, continued}
 use Rattle.xinu_model.specs.Clock.{ticked}
@@ -34,7 +37,7 @@ use Rattle.xinu_laws.specs.Preserve.{MayCallAny, KeepsAll}
 use Rattle.xinu_laws.specs.Touches.{reach, at_a_tick, touched_by, KeepsPlaces, Touches}
 use Rattle.xinu_laws.proofs.Ownership.Table.{names_places, places_stay, called_apart}
 use Rattle.xinu_laws.proofs.Preserve.Calls.{sound_where_called, inside_preserved, replies_alive, called_keeps, exit_keeps, continued_keeps}
-use Rattle.xinu_laws.proofs.Preserve.Events.{may_call, may_call_after, receiving_keeps, sending_keeps, served_keeps_all}
+use Rattle.xinu_laws.proofs.Preserve.Events.{completing_keeps, least_chosen, may_call, may_call_after, receiving_keeps, sending_keeps, served_keeps_all}
 use Rattle.xinu_laws.proofs.RawDisks.Completed.{served_completes}
 use Rattle.xinu_laws.proofs.RawDisks.Framed.{disks_in}
 use Rattle.xinu_laws.proofs.Touches.Continued.{continued_touches}
@@ -84,6 +87,21 @@ kept_served good (Some x) s e sound =
 
 pub kept_completed : (good : Bool) (s : Xinu) → IsSound s → KeepsPlaces s (disk_completes good s).state
 kept_completed good s sound = kept_served good (raw_completed good (disk_of s)) s refl sound
+
+-- one of the files' disk,
+kept_called : (calls : List FileRequest) (choice : ℕ) (s : Xinu) → (files_of s).calls ≡ calls → IsSound s
+    → KeepsPlaces s (completed_in calls choice s).state
+kept_called [] choice s e sound = record { heap = refl; ranges = refl; stacks = refl }
+kept_called (a ∷ calls) choice s e sound =
+    let n = least_effects (a ∷ calls) (files_of s) + choice in
+    let x = calls_completed n (file_step s) in
+    let may = least_chosen (a ∷ calls) choice s e in
+    let r = step_completes n s may (sound_holds s sound) (disks_in sound.devices) in
+    kept_both (keeps_places r.touches refl refl refl)
+    (kept_end_of_event s.tables.current (map file_line x.notes) (completing x s) (completing_keeps n s may sound))
+
+pub kept_files : (choice : ℕ) (s : Xinu) → IsSound s → KeepsPlaces s (files_complete choice s).state
+kept_files choice s sound = kept_called (files_of s).calls choice s refl sound
 
 -- and a call that goes on.
 places_spared : (left : Rest) → names_places (touched_by left) ≡ false
@@ -195,6 +213,7 @@ apart_effect s (Key b) choice sound apart = λ _. apart_kept (kept_keyed b s sou
 apart_effect s Tx choice sound apart = λ _. apart_kept (kept_transmits s sound) apart
 apart_effect s Disk0 choice sound apart = λ _. apart_kept (kept_completed true s sound) apart
 apart_effect s Fail0 choice sound apart = λ _. apart_kept (kept_completed false s sound) apart
+apart_effect s Disk1 choice sound apart = λ _. apart_kept (kept_files choice s sound) apart
 apart_effect s _ choice sound apart = λ _. apart
 
 -- Each event keeps each address claimed at most once, unless it gives away what is held.

@@ -1,8 +1,8 @@
 -- Each event leaves the heap where it begins, with as many cells as it has.
-use Rattle.std.proofs.Common.{◌≡◌, refl, false, ℕ, ◌==◌, Bool, true, cond, List, [], Option, Some, None, ap, subst}
+use Rattle.std.proofs.Common.{◌∷◌, [], ◌+◌, ◌≡◌, refl, false, ℕ, ◌==◌, Bool, true, cond, List, Option, Some, None, ap, subst}
 use Rattle.std.proofs.lemmas.Bool.{cond_both, eqb-false}
 use Rattle.xinu_base.specs.declared.events.Event.{Event}
-use Rattle.xinu_base.specs.declared.events.Event.TheVariants.{Step, Tick, Key, Tx, Disk0, Fail0}
+use Rattle.xinu_base.specs.declared.events.Event.TheVariants.{Step, Tick, Key, Tx, Disk0, Disk1, Fail0}
 use Rattle.xinu_base.specs.declared.lines.TranscriptLine.{TranscriptLine}
 use Rattle.xinu_base.specs.declared.registers.Outcome.{Outcome}
 use Rattle.xinu_base.specs.declared.registers.Outcome.TheVariants as outcome
@@ -13,6 +13,9 @@ use Rattle.xinu_model.specs.Console.Taking.{console_of}
 use Rattle.xinu_model.specs.Console.Transmitting.{Sent, transmitted}
 use Rattle.xinu_model.specs.Events.{call_of, with_executed, reacted, instruction_step, is_done, stepped, next_file_call, effect_of, Happens}
 use Rattle.xinu_laws.proofs.FileSyscalls.AtOnce.{step_holds}
+use Rattle.xinu_laws.proofs.FileSyscalls.Completed.{step_completes}
+use Rattle.xinu_model.specs.Files.Syscalls.{completed_in, files_of}
+use Rattle.xinu_model.specs.Files.Work.{FileRequest, least_effects}
 use Rattle.xinu_laws.specs.Ownership.GivingAway.{next}
 use Rattle.xinu_model.specs.Machine.{Xinu, current_hart, EventResult, nothing_happens, end_of_event}
 use Rattle.xinu_model.specs.RawDisk.Calls.{disk_of, served_in}
@@ -24,13 +27,13 @@ use Rattle.xinu_laws.proofs.Consoles.Kept.{sound_holds}
 use Rattle.xinu_laws.proofs.Consoles.Signalled.{receiving_signals, sending_signals}
 use Rattle.xinu_laws.proofs.HeapCells.Extent.{same_extent}
 use Rattle.xinu_laws.proofs.Preserve.Calls.{sound_where_called}
-use Rattle.xinu_laws.proofs.Preserve.Events.{may_call, may_call_after}
+use Rattle.xinu_laws.proofs.Preserve.Events.{least_chosen, may_call, may_call_after}
 use Rattle.xinu_laws.proofs.RawDisks.Completed.{served_completes}
 use Rattle.xinu_laws.proofs.RawDisks.Framed.{disks_in}
 use Rattle.xinu_laws.proofs.Touches.Continued.{continued_touches}
 use Rattle.xinu_laws.proofs.Touches.Events.{touches_ticked}
 use Rattle.xinu_laws.proofs.Touches.Processes.{exit_touches}
-use Rattle.xinu_laws.proofs.Touches.Few.{IsLawOfFew, built_law_of_few}
+use Rattle.xinu_laws.proofs.Touches.Few.{IsLawOfFew, law_of_few}
 
 -- the heap of s and that of u have the same extent
 abbrev HaveSameExtent : Xinu → Xinu → Type 0
@@ -44,7 +47,7 @@ extent_law = record { same = λ number s. same_extent s.parts.heap; others = λ 
 -- what comes of an instruction
 extent_reacted : (o : Outcome) (s : Xinu) → IsSound s → HaveSameExtent s (reacted o s).state
 extent_reacted outcome.Went s k = same_extent s.parts.heap
-extent_reacted outcome.Call s k = let call = call_of (current_hart s) in built_law_of_few extent_law call.number call.args s k
+extent_reacted outcome.Call s k = let call = call_of (current_hart s) in law_of_few extent_law call.number call.args s k
 extent_reacted outcome.Exit s k = (exit_touches s k).parts.extent
 extent_reacted (outcome.Trap cause) s k = (exit_touches s k).parts.extent
 
@@ -72,6 +75,14 @@ extent_served : (good : Bool) (found : Option Served) (s : Xinu) → raw_complet
 extent_served good None s e k = same_extent s.parts.heap
 extent_served good (Some x) s e k = (served_completes good x s e (sound_holds s k) (disks_in k.devices)).touches.parts.extent
 
+-- a good completion of the files' disk
+extent_called : (calls : List FileRequest) (choice : ℕ) (s : Xinu) → (files_of s).calls ≡ calls → IsSound s
+    → HaveSameExtent s (completed_in calls choice s).state
+extent_called [] choice s e k = same_extent s.parts.heap
+extent_called (a ∷ calls) choice s e k =
+    (step_completes (least_effects (a ∷ calls) (files_of s) + choice) s (least_chosen (a ∷ calls) choice s e) (sound_holds s k)
+    (disks_in k.devices)).touches.parts.extent
+
 -- what an event leaves, whatever is chosen in it
 extent_effect_of : (s : Xinu) (e : Event) (choice : ℕ) → IsSound s → HaveSameExtent s (effect_of s e choice).state
 extent_effect_of s Step choice k =
@@ -82,6 +93,7 @@ extent_effect_of s (Key b) choice k = (receiving_signals b s (sound_holds s k)).
 extent_effect_of s Tx choice k = extent_sent (transmitted (console_of s)) s refl k
 extent_effect_of s Disk0 choice k = extent_served true (raw_completed true (disk_of s)) s refl k
 extent_effect_of s Fail0 choice k = extent_served false (raw_completed false (disk_of s)) s refl k
+extent_effect_of s Disk1 choice k = extent_called (files_of s).calls choice s refl k
 extent_effect_of s _ choice k = same_extent s.parts.heap
 
 -- Each event leaves the heap where it begins, with as many cells as it has.

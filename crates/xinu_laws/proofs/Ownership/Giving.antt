@@ -1,18 +1,17 @@
 -- An event that gives away what is held leaves an address claimed twice: so just those events have to be excepted.
 use Rattle.std.proofs.Common.{◌≡◌, ℕ, ◌==◌, ◌&&◌, ◌||◌, Bool, false, true, not, cond, List, [], ◌∷◌, Option, Some, None, refl, sym, ap, subst, ◌∙◌, arith}
 use Rattle.std.specs.List.{list_all}
-use Rattle.std.proofs.lemmas.Bool.{cond_both, cond-true, cond-false, ne_eqb}
-use Rattle.xinu_base.specs.Syscalls.{is_served}
+use Rattle.std.proofs.lemmas.Bool.{cond-true, cond-false, ne_eqb}
 use Rattle.xinu_base.specs.declared.events.Event.{Event}
 use Rattle.xinu_base.specs.declared.events.Event.TheVariants.{Step}
 use Rattle.xinu_base.specs.declared.lines.TranscriptLine.{TranscriptLine}
 use Rattle.xinu_laws.proofs.FileSyscalls.AtOnce.{step_holds}
 use Rattle.xinu_laws.specs.Ownership.Apart.{holders, IsApart}
-use Rattle.xinu_model.specs.Calls.{calls, call_of_number, called, continued}
+use Rattle.xinu_model.specs.Calls.{calls, called, continued}
 use Rattle.xinu_model.specs.Events.{call_of, call_line, with_executed, reacted, instruction_step, is_done, stepped, next_file_call, effect_of, Happens}
 use Rattle.xinu_laws.specs.Ownership.GivingAway.{next, gives_back, GivesAway}
 use Rattle.xinu_model.specs.Footprints.{Footprint}
-use Rattle.xinu_model.specs.Machine.{Xinu, current_hart, CallResult, refused, EventResult, nothing_happens, end_of_event}
+use Rattle.xinu_model.specs.Machine.{Xinu, current_hart, EventResult, nothing_happens, end_of_event}
 use Rattle.xinu_model.specs.Rows.{CallRow, found_in, done_by}
 use Rattle.xinu_laws.specs.Touches.{reach, Touches}
 use Rattle.xinu_model.specs.Sound.State.{IsSound}
@@ -47,7 +46,7 @@ spared false st ra h e = cc
 
 -- a call of such a number
 holders_call : (number : ℕ) (args : List ℕ) (s : Xinu) → IsSound s → gives_back number ≡ true
-    → KeepsHolders s (call_of_number number args s).call.state
+    → KeepsHolders s (called number args s).call.state
 holders_call number args s k g = by_row (found_in calls number) refl
   where
     by_row : (found : Option CallRow) → found_in calls number ≡ found → KeepsHolders s (done_by found args s).call.state
@@ -60,12 +59,6 @@ holders_call number args s k g = by_row (found_in calls number) refl
         let t : Touches (reach f) s (done_by (Some r) args s).call.state = subst (λ x. Touches (reach f) s (done_by x args s).call.state) e
         (call_touches number args s r k e) in
         holders_kept s (done_by (Some r) args s).call.state (t.parts.ranges h.1) (t.stacks h.0)
-
-holders_called : (number : ℕ) (args : List ℕ) (s : Xinu) → IsSound s → gives_back number ≡ true
-    → KeepsHolders s (called number args s).call.state
-holders_called number args s k g =
-    cond_both (is_served number args) (call_of_number number args s) (refused s) (λ (h : CallResult). KeepsHolders s h.call.state)
-    (λ _. holders_call number args s k g) (λ _ a. refl)
 
 -- the step that gives away is the call
 stepped_calls : (old : Xinu) (e : Event) (new : Xinu) → GivesAway old e new
@@ -94,7 +87,7 @@ holders_given_away old e lines new sound h g =
     (λ is. subst (KeepsHolders old)
     (sym (ap (λ (x : EventResult). x.state) (stepped_calls old e new g)) ∙ is)
     (λ a. holders_kept result.call.state (end_of_event old.tables.current (call_line s call ∷ []) result).state ended.ranges ended.stacks a
-    ∙ holders_called call.number call.args s (sound_where_called s may) gives a))
+    ∙ holders_call call.number call.args s (sound_where_called s may) gives a))
     (λ b is. subst (KeepsHolders old) is (λ a. refl))
     happened
 

@@ -3,7 +3,7 @@
 use Rattle.std.proofs.Common.{◌≢◌, ℕ, ◌==◌, Bool, true, false, ◌||◌, cond, List, [], ◌∷◌, ap, subst, arith}
 use Rattle.std.proofs.lemmas.Bool.{cond_both, eqb-false, or_parts}
 use Rattle.xinu_base.specs.declared.events.Event.{Event}
-use Rattle.xinu_base.specs.declared.events.Event.TheVariants.{Step, Tick, Key, Tx, Disk0, Fail0}
+use Rattle.xinu_base.specs.declared.events.Event.TheVariants.{Step, Tick, Key, Tx, Disk0, Disk1, Fail0}
 use Rattle.xinu_base.specs.declared.lines.TranscriptLine.{TranscriptLine}
 use Rattle.xinu_base.specs.declared.lines.TranscriptLine.TheVariants as line
 use Rattle.xinu_base.specs.declared.registers.Outcome.{Outcome}
@@ -11,7 +11,7 @@ use Rattle.xinu_base.specs.declared.registers.Outcome.TheVariants as outcome
 use Rattle.xinu_laws.proofs.FileSyscalls.AtOnce.{step_holds}
 use Rattle.xinu_laws.specs.Ownership.GivingAway.{next}
 use Rattle.xinu_laws.specs.Ownership.Grants.{GivesOnlyFree}
-use Rattle.xinu_model.specs.Calls.{calls, call_of_number, called, continued}
+use Rattle.xinu_model.specs.Calls.{calls, called, continued}
 use Rattle.xinu_model.specs.Events.{call_of, call_line, exit_call, with_executed, reacted, instruction_step, is_done, stepped, next_file_call, effect_of, Happens}
 use Rattle.xinu_model.specs.Footprints.{Footprint}
 use Rattle.xinu_model.specs.Machine.{Xinu, current_hart, EventResult, nothing_happens, end_of_event}
@@ -20,11 +20,11 @@ use Rattle.xinu_model.specs.Sound.State.{IsSound}
 use Rattle.xinu_model.specs.Tables.{process_at}
 use Rattle.xinu_model.specs.Words.{half}
 use Rattle.xinu_laws.proofs.Rows.RowByRow.{◌⨾◌}
-use Rattle.xinu_laws.proofs.Ownership.Events.{kept_continued, kept_end_of_event, kept_executed, kept_completed, kept_keyed, kept_ticked, kept_transmits, may_call_next}
+use Rattle.xinu_laws.proofs.Ownership.Events.{kept_continued, kept_end_of_event, kept_executed, kept_completed, kept_files, kept_keyed, kept_ticked, kept_transmits, may_call_next}
 use Rattle.xinu_laws.proofs.Ownership.Grants.{gives_after, gives_before, gives_create, gives_exit, gives_kept, gives_kill, gives_mkbufpool, gives_nothing, gives_within}
 use Rattle.xinu_laws.proofs.Preserve.Calls.{called_keeps, continued_keeps, exit_keeps, sound_where_called}
 use Rattle.xinu_laws.proofs.Preserve.Events.{may_call}
-use Rattle.xinu_laws.proofs.Touches.Few.{IsLawOfFew, law_of_few, built_law_of_few}
+use Rattle.xinu_laws.proofs.Touches.Few.{IsLawOfFew, law_of_few}
 
 -- whether a footprint names stacks or ranges
 abbrev names_grants : Footprint → Bool
@@ -49,12 +49,8 @@ grants_law = record {
 }
 
 -- So the call of any number does,
-pub call_gives : (number : ℕ) (args : List ℕ) (s : Xinu) → IsSound s → GivesOnlyFree s (call_of_number number args s).call.state
+pub call_gives : (number : ℕ) (args : List ℕ) (s : Xinu) → IsSound s → GivesOnlyFree s (called number args s).call.state
 call_gives number args s sound = law_of_few grants_law number args s sound
-
--- and a call that is served or refused.
-called_gives : (number : ℕ) (args : List ℕ) (s : Xinu) → IsSound s → GivesOnlyFree s (called number args s).call.state
-called_gives number args s sound = built_law_of_few grants_law number args s sound
 
 -- What comes of an instruction.
 reacted_gives : (o : Outcome) (old : Xinu) → IsSound old → old.tables.current ≢ 0
@@ -66,7 +62,7 @@ reacted_gives outcome.Call old sound runs =
     let result = called call.number call.args s in
     let may = may_call_next old sound runs in
     gives_before old result.call.state (end_of_event old.tables.current (call_line s call ∷ []) result).state
-    (gives_after old s result.call.state (kept_executed old) (called_gives call.number call.args s (sound_where_called s may)))
+    (gives_after old s result.call.state (kept_executed old) (call_gives call.number call.args s (sound_where_called s may)))
     (kept_end_of_event old.tables.current (call_line s call ∷ []) result (called_keeps call.number call.args s may))
 reacted_gives outcome.Exit old sound runs =
     let s = with_executed (next old) old in
@@ -102,6 +98,7 @@ effect_gives s (Key b) choice sound = gives_kept (kept_keyed b s sound)
 effect_gives s Tx choice sound = gives_kept (kept_transmits s sound)
 effect_gives s Disk0 choice sound = gives_kept (kept_completed true s sound)
 effect_gives s Fail0 choice sound = gives_kept (kept_completed false s sound)
+effect_gives s Disk1 choice sound = gives_kept (kept_files choice s sound)
 effect_gives s _ choice sound = gives_same s
 
 -- Each event.

@@ -14,7 +14,7 @@ use Rattle.xinu_laws.proofs.Ownership.Memory.{FreesNothingHeld, apart_getmem, ap
 use Rattle.xinu_laws.proofs.Ownership.Processes.{apart_create, apart_exit, apart_kill}
 use Rattle.xinu_laws.proofs.Rows.RowByRow.{◌⨾◌}
 use Rattle.xinu_laws.proofs.Touches.Kept.{keeps_places}
-use Rattle.xinu_laws.proofs.Touches.Few.{CallLaw, IsLawOfFew, built_law_of_few}
+use Rattle.xinu_laws.proofs.Touches.Few.{CallLaw, IsLawOfFew, law_of_few}
 
 -- What the call of a number does keeps each address claimed at most once; a call that gives memory back does if nothing held becomes free.
 abbrev pub KeepsApart : CallLaw
@@ -51,4 +51,4 @@ apart_law = record {
 
 -- So the call of any number does, and a call that is served or refused.
 pub called_apart : (number : ℕ) (args : List ℕ) (s : Xinu) → IsSound s → KeepsApart number s (called number args s).call.state
-called_apart number args s sound = built_law_of_few apart_law number args s sound
+called_apart number args s sound = law_of_few apart_law number args s sound

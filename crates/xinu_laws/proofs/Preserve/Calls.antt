@@ -2,9 +2,8 @@
 use Rattle.std.proofs.Common.{◌≡◌, ℕ, ◌%◌, Bool, true, false, not, ◌&&◌, ◌||◌, List, Option, Some, None, refl}
 use Rattle.std.specs.Prelude.{slice_index}
 use Rattle.std.specs.List.{AllByRecursion}
-use Rattle.std.proofs.lemmas.Bool.{cond_both, and_parts, or_parts}
-use Rattle.xinu_base.specs.Syscalls.{is_served}
-use Rattle.xinu_model.specs.Calls.{calls, call_of_number, called, continued}
+use Rattle.std.proofs.lemmas.Bool.{and_parts, or_parts}
+use Rattle.xinu_model.specs.Calls.{calls, called, continued}
 use Rattle.xinu_model.specs.Console.Putting.{go_on_putc, go_on_write}
 use Rattle.xinu_model.specs.Console.Taking.{go_on_getc, go_on_read}
 use Rattle.xinu_model.specs.Footprints.{Footprint, on_tables, on_deaths, on_pools, on_ports, on_console}
@@ -353,18 +352,13 @@ row_keeps number r e a s c =
 pub refused_keeps_all : (s : Xinu) → MayCallAny s → KeepsAll (refused s)
 refused_keeps_all s c = record { preserved = record { tables = c.may.tables; harts = c.may.harts; released = tt }; unused = c.unused; pools = c.pools; ports = c.ports; devices = c.devices }
 
--- the call of any number, whether it is served or not,
-pub call_keeps : (number : ℕ) (args : List ℕ) (s : Xinu) → MayCallAny s → KeepsAll (call_of_number number args s)
-call_keeps number args s c = by_row (found_in calls number) refl
+-- the call of any number,
+pub called_keeps : (number : ℕ) (args : List ℕ) (s : Xinu) → MayCallAny s → KeepsAll (called number args s)
+called_keeps number args s c = by_row (found_in calls number) refl
   where
     by_row : (found : Option CallRow) → found_in calls number ≡ found → KeepsAll (done_by found args s)
     by_row None e = refused_keeps_all s c
     by_row (Some r) e = row_keeps number r e (slice_index args) s c
-
-pub called_keeps : (number : ℕ) (args : List ℕ) (s : Xinu) → MayCallAny s → KeepsAll (called number args s)
-called_keeps number args s c =
-    cond_both (is_served number args) (call_of_number number args s) (refused s) KeepsAll (λ _. call_keeps number args s c)
-    (λ _. refused_keeps_all s c)
 
 -- the death of the caller,
 pub exit_keeps : (s : Xinu) → MayCallAny s → KeepsAll (exit s)

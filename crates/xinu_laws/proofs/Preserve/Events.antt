@@ -5,7 +5,6 @@ use Rattle.std.proofs.lemmas.Bool.{cond_both, eqb-false}
 use Rattle.xinu_base.specs.declared.events.End.{End}
 use Rattle.xinu_base.specs.declared.events.Event.{Event}
 use Rattle.xinu_base.specs.declared.events.Event.TheVariants.{Step, Tick, Key, Tx, Disk0, Disk1, Fail0}
-use Rattle.xinu_base.specs.Events.{is_built_event}
 use Rattle.xinu_base.specs.declared.lines.TranscriptLine.{TranscriptLine}
 use Rattle.xinu_base.specs.declared.lines.TranscriptLine.TheVariants as line
 use Rattle.xinu_base.specs.declared.registers.Outcome.{Outcome}
@@ -16,7 +15,7 @@ use Rattle.xinu_model.specs.Clock.{due, ticked}
 use Rattle.xinu_model.specs.Console.Signals.{receiving, keyed, after_sent, sending, sent_in}
 use Rattle.xinu_model.specs.Console.Taking.{console_of}
 use Rattle.xinu_model.specs.Console.Transmitting.{Sent, transmitted}
-use Rattle.xinu_model.specs.Events.{call_of, call_line, exit_call, with_executed, reacted, is_done, instruction_step, stepped, next_file_call, step_at_once, step_with, event_effect, effect_of}
+use Rattle.xinu_model.specs.Events.{call_of, call_line, exit_call, with_executed, reacted, is_done, instruction_step, stepped, next_file_call, step_at_once, step_with, effect_of}
 use Rattle.xinu_model.specs.Files.Syscalls.{files_of, file_step, file_line, completing, completed_in, at_once}
 use Rattle.xinu_model.specs.Files.Work.{FileRequest, calls_completed, least_effects, issued}
 use Rattle.xinu_model.specs.Isa.Exec.{exec}
@@ -175,6 +174,25 @@ state_served good (Some x) s e k =
     state_end_of_event s.tables.current [] (serving x s)
     (served_keeps_all s (after_served x s) k (served_completes good x s e (sound_holds s k) (disks_in k.devices)))
 
+-- so many calls take effect as have to and as are chosen
+pub least_chosen : (calls : List FileRequest) (choice : ℕ) (s : Xinu) → (files_of s).calls ≡ calls
+    → least_effects (files_of s).calls (files_of s) ≤ least_effects calls (files_of s) + choice
+least_chosen calls choice s e =
+    subst (λ l. least_effects l (files_of s) ≤ least_effects calls (files_of s) + choice) (sym e) (omega arith)
+
+-- What a good completion of the files' disk keeps.
+pub completing_keeps : (k : ℕ) (s : Xinu) → least_effects (files_of s).calls (files_of s) ≤ k → IsSound s
+    → KeepsAll (completing (calls_completed k (file_step s)) s)
+completing_keeps n s may k =
+    let r = step_completes n s may (sound_holds s k) (disks_in k.devices) in
+    record {
+      preserved = record { tables = r.tables; harts = r.harts; released = r.released };
+      unused = keeps_unused (r.touches.free refl) k.unused;
+      pools = keeps_pools refl r.touches k.pools;
+      ports = keeps_ports refl r.touches r.tables.inside k.ports;
+      devices = with_disks (keeps_console refl r.touches r.tables.inside k.devices.console) (keeps_names refl r.touches k.devices.names) r.disks;
+    }
+
 -- and so does a good completion of the files' disk, whatever is chosen in it
 state_completed : (calls : List FileRequest) (choice : ℕ) (s : Xinu) → (files_of s).calls ≡ calls → IsSound s
     → IsSound (completed_in calls choice s).state
@@ -182,15 +200,8 @@ state_completed [] choice s e k = k
 state_completed (a ∷ calls) choice s e k =
     let n = least_effects (a ∷ calls) (files_of s) + choice in
     let x = calls_completed n (file_step s) in
-    let few : least_effects (files_of s).calls (files_of s) ≤ n = subst (λ l. least_effects l (files_of s) ≤ n) (sym e) (omega arith) in
-    let r = step_completes n s few (sound_holds s k) (disks_in k.devices) in
-    state_end_of_event s.tables.current (map file_line x.notes) (completing x s) (record {
-      preserved = record { tables = r.tables; harts = r.harts; released = r.released };
-      unused = keeps_unused (r.touches.free refl) k.unused;
-      pools = keeps_pools refl r.touches k.pools;
-      ports = keeps_ports refl r.touches r.tables.inside k.ports;
-      devices = with_disks (keeps_console refl r.touches r.tables.inside k.devices.console) (keeps_names refl r.touches k.devices.names) r.disks;
-    })
+    state_end_of_event s.tables.current (map file_line x.notes) (completing x s)
+    (completing_keeps n s (least_chosen (a ∷ calls) choice s e) k)
 
 -- and a step in which a call on files takes effect as it is made
 state_at_once : (a : FileRequest) (s : Xinu) → next_file_call s ≡ Some a → IsSound s → IsSound (step_at_once a s).state
@@ -210,7 +221,7 @@ state_step_with (suc choice) None s e k = state_stepped s k
 state_step_with (suc choice) (Some a) s e k = state_at_once a s e k
 
 -- What an event leaves is sound, whatever is chosen in it, and whether the machine has it or not.
-pub state_event : (s : Xinu) (e : Event) (choice : ℕ) → IsSound s → IsSound (event_effect s e choice).state
+pub state_event : (s : Xinu) (e : Event) (choice : ℕ) → IsSound s → IsSound (effect_of s e choice).state
 state_event s Step choice k = state_step_with choice (next_file_call s) s refl k
 state_event s Tick choice k = state_ticked s k
 state_event s (Key b) choice k = state_keyed b s k
@@ -220,14 +231,9 @@ state_event s Fail0 choice k = state_served false (raw_completed false (disk_of 
 state_event s Disk1 choice k = state_completed (files_of s).calls choice s refl k
 state_event s _ choice k = k
 
-state_effect : (s : Xinu) (e : Event) (choice : ℕ) → IsSound s → IsSound (effect_of s e choice).state
-state_effect s e choice k =
-    cond_both (is_built_event e) (event_effect s e choice) (nothing_happens s) (λ (x : EventResult). IsSound x.state)
-    (λ _. state_event s e choice k) (λ _. k)
-
 -- Each event keeps the state sound.
 pub sound_happens : IsKept IsSound
-sound_happens old e lines new k h = subst IsSound (ap (λ (x : EventResult). x.state) h.effect) (state_effect old e h.choice k)
+sound_happens old e lines new k h = subst IsSound (ap (λ (x : EventResult). x.state) h.effect) (state_event old e h.choice k)
 
 -- Each run keeps the state sound.
 pub sound_run : (events : List Event) (old : Xinu) (lines : List TranscriptLine) (new : Xinu) (end : End) → IsSound old

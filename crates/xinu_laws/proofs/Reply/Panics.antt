@@ -1,11 +1,10 @@
 -- The kernel panics only in a send whose ticket isn't stale, while all ports together hold as many messages as they can.
-use Rattle.std.proofs.Common.{◌≡◌, ◌≢◌, ◌⊎◌, inl, inr, ℕ, suc, ◌+◌, ◌-◌, ◌≤◌, ◌%◌, ◌==◌, true, false, cond, List, [], Option, Some, None, refl, sym, ◌∙◌}
+use Rattle.std.proofs.Common.{◌∷◌, [], ◌+◌, ◌≡◌, ◌≢◌, ◌⊎◌, inl, inr, ℕ, suc, ◌-◌, ◌≤◌, ◌%◌, ◌==◌, true, false, cond, List, Option, Some, None, refl, sym, ◌∙◌}
 use Rattle.std.specs.Prelude.{slice_index}
 use Rattle.std.specs.List.{AllByRecursion}
 use Rattle.std.proofs.lemmas.Bool.{cond_both, eqb-false}
 use Rattle.xinu_laws.proofs.Ownership.Events.{done_rest}
 use Rattle.xinu_base.specs.Constants.{OK}
-use Rattle.xinu_base.specs.Syscalls.{is_served}
 use Rattle.xinu_base.specs.declared.events.Event.{Event}
 use Rattle.xinu_base.specs.declared.events.Event.TheVariants.{Step, Tick, Key, Tx, Disk0, Disk1, Fail0, Fail1, Dump}
 use Rattle.xinu_base.specs.declared.processes.Rest.{Rest}
@@ -17,7 +16,7 @@ use Rattle.xinu_laws.proofs.Rows.CallRows.{of_row, number_of_row}
 use Rattle.xinu_laws.proofs.Rows.RowByRow.{◌⨾◌}
 use Rattle.xinu_laws.specs.Ownership.GivingAway.{next}
 use Rattle.xinu_laws.specs.Replies.{IsFullCall, IsFullSend}
-use Rattle.xinu_model.specs.Calls.{calls, call_of_number, called, continued}
+use Rattle.xinu_model.specs.Calls.{calls, called, continued}
 use Rattle.xinu_model.specs.Console.Putting.{put, writes}
 use Rattle.xinu_model.specs.Console.Constants.{TY_NEWLINE}
 use Rattle.xinu_model.specs.Console.Signals.{sent_in}
@@ -26,12 +25,14 @@ use Rattle.xinu_model.specs.Console.Transmitting.{Sent, transmitted}
 use Rattle.xinu_model.specs.Events.{call_of, with_executed, reacted, instruction_step, is_done, stepped, panics_in}
 use Rattle.xinu_model.specs.Heap.Cells as heap
 use Rattle.xinu_model.specs.Heap.Cells.{take_stack}
-use Rattle.xinu_model.specs.Machine.{Xinu, Answer, Returns, Waits, Gone, Panics, Silent, CallResult, EventResult, is_panic, start, refused, goes_on, current_hart, nothing_happens, end_of_event}
+use Rattle.xinu_model.specs.Machine.{Xinu, Answer, Returns, Waits, Gone, Panics, Silent, EventResult, is_panic, start, refused, goes_on, current_hart, nothing_happens, end_of_event}
 use Rattle.xinu_model.specs.Messages.{can_get, held}
 use Rattle.xinu_model.specs.Pools.Buffers.{pool_at, holder}
 use Rattle.xinu_model.specs.Ports.Queues.{most_nodes, port_at, nodes}
 use Rattle.xinu_model.specs.Process.Calls.{is_suspended}
 use Rattle.xinu_model.specs.RawDisk.Calls.{disk_of, served_in}
+use Rattle.xinu_model.specs.Files.Syscalls.{completed_in, files_of}
+use Rattle.xinu_model.specs.Files.Work.{FileRequest}
 use Rattle.xinu_model.specs.RawDisk.Completions.{Served, raw_completed}
 use Rattle.xinu_model.specs.Rows.{CallRow, found_in, done_by}
 use Rattle.xinu_model.specs.Semaphores.Calls.{answers}
@@ -99,7 +100,7 @@ rows_panic =
     tt
 
 -- So is a call of any number,
-pub call_panics : (number : ℕ) (args : List ℕ) (s : Xinu) → (call_of_number number args s).answer ≡ Panics
+pub call_panics : (number : ℕ) (args : List ℕ) (s : Xinu) → (called number args s).answer ≡ Panics
     → (number ≡ 34) × (most_nodes ≤ nodes s.parts.ports)
 call_panics number args s = by_row (found_in calls number) refl
   where
@@ -109,14 +110,6 @@ call_panics number args s = by_row (found_in calls number) refl
     by_row (Some r) e = λ f.
         let k = of_row PanicsFull calls rows_panic number r e (slice_index args) s f in
         (sym (number_of_row calls number r e) ∙ k.0, k.1)
-
--- and one that is served or refused.
-called_panics : (number : ℕ) (args : List ℕ) (s : Xinu) → (called number args s).answer ≡ Panics
-    → (number ≡ 34) × (most_nodes ≤ nodes s.parts.ports)
-called_panics number args s =
-    cond_both (is_served number args) (call_of_number number args s) (refused s)
-    (λ (h : CallResult). h.answer ≡ Panics → (number ≡ 34) × (most_nodes ≤ nodes s.parts.ports))
-    (λ _. call_panics number args s) (λ _ e. absurd (cc))
 
 -- What is left of a call panics if it is such a send.
 pub continued_panics : (left : Rest) (s : Xinu) → (continued left s).answer ≡ Panics → IsFullSend left s
@@ -173,7 +166,7 @@ step_full old =
     by_outcome runs left outcome.Call is = λ e.
         let s = with_executed (next old) old in
         let call = call_of (current_hart s) in
-        let k = called_panics call.number call.args s (panic_is (called call.number call.args s).answer e) in
+        let k = call_panics call.number call.args s (panic_is (called call.number call.args s).answer e) in
         inl (record { calling = record { runs = runs; rest = left; call = is }; number = k.0; full = k.1 })
     by_outcome runs left outcome.Exit is = λ e. absurd (cc)
     by_outcome runs left (outcome.Trap cause) is = λ e. absurd (cc)
@@ -188,6 +181,11 @@ served_in_calm : (served : Option Served) (s : Xinu) → (served_in served s).pa
 served_in_calm None s = refl
 served_in_calm (Some x) s = refl
 
+-- nor does the kernel panic in one of the files' disk
+called_calm : (calls : List FileRequest) (s : Xinu) → (completed_in calls 0 s).panics ≡ false
+called_calm [] s = refl
+called_calm (a ∷ calls) s = refl
+
 -- An event in which the kernel panics is such a step.
 pub event_panics : (old : Xinu) (e : Event) → panics_in old e ≡ true → (e ≡ Step) × FullStep old
 event_panics old Step h = (refl, step_full old h)
@@ -195,7 +193,7 @@ event_panics old Tick h = absurd (cc)
 event_panics old (Key b) h = absurd (cc)
 event_panics old Tx h = let f = sent_in_calm (transmitted (console_of old)) old in absurd (cc)
 event_panics old Disk0 h = let f = served_in_calm (raw_completed true (disk_of old)) old in absurd (cc)
-event_panics old Disk1 h = absurd (cc)
+event_panics old Disk1 h = let f = called_calm (files_of old).calls old in absurd (cc)
 event_panics old Fail0 h = let f = served_in_calm (raw_completed false (disk_of old)) old in absurd (cc)
 event_panics old Fail1 h = absurd (cc)
 event_panics old Dump h = absurd (cc)

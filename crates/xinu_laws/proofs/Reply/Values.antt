@@ -5,7 +5,7 @@ use Rattle.std.specs.List.{AllByRecursion}
 use Rattle.xinu_base.specs.Constants.{SYSERR}
 use Rattle.xinu_base.specs.declared.processes.Rest.{Rest}
 use Rattle.xinu_base.specs.declared.processes.Rest.TheVariants.{PtRecv}
-use Rattle.xinu_model.specs.Calls.{calls, call_of_number}
+use Rattle.xinu_model.specs.Calls.{calls, called}
 use Rattle.xinu_model.specs.Machine.{Xinu, Returns, Waits, CallState, CallResult, start, returns, refused}
 use Rattle.xinu_model.specs.Messages.{can_get, held, received, recvtime}
 use Rattle.xinu_model.specs.Ports.Calls.{finish_receive, take_from, take_message, received_from, ticket_of}
@@ -175,7 +175,7 @@ calls_tell =
 
 -- A call of any number that answers -1 was refused, or that is its value.
 pub refused_or_told : (number : ℕ) (args : List ℕ) (s : Xinu) → ArePools s.tables s.parts.pools → ArePorts s.tables s.parts.ports
-    → TellsValue s (value_told number (slice_index args) s) (call_of_number number args s)
+    → TellsValue s (value_told number (slice_index args) s) (called number args s)
 refused_or_told number args s pools ports = by_row (found_in calls number) refl
   where
     by_row : (found : Option CallRow) → found_in calls number ≡ found

@@ -1,9 +1,9 @@
 -- Rows are found by number: what holds of all rows of a list holds of the one that is found.
-use Rattle.std.proofs.Common.{◌≡◌, ℕ, ◌==◌, Bool, true, false, cond, List, [], ◌∷◌, filter, length, map, take, Some, refl, sym, ap, subst, ◌∙◌}
-use Rattle.std.specs.List.{AllByRecursion, list_all}
-use Rattle.std.proofs.lemmas.Bool.{cond_both, and_parts, eqb-true}
+use Rattle.std.proofs.Common.{◌≡◌, ℕ, ◌==◌, Bool, true, false, cond, List, [], ◌∷◌, filter, map, Some, None, refl, sym, ap, subst, ◌∙◌}
+use Rattle.std.specs.List.{AllByRecursion, list_all, list_any}
+use Rattle.std.proofs.lemmas.Bool.{cond_both, and_parts, or_parts, eqb-true}
 use Rattle.xinu_model.specs.Calls.{calls}
-use Rattle.xinu_base.specs.Syscalls.{syscalls}
+use Rattle.xinu_base.specs.Syscalls.{Syscall, is_call, syscalls}
 use Rattle.xinu_model.specs.Rows.{CallRow, found_in}
 
 -- rows in an option are equal if the options are
@@ -52,6 +52,18 @@ of_few P test (row ∷ rows) all number r =
     (λ _. of_few P test rows (others_of P row (filter test rows) (test row) all) number r)
 
 -- The rows have the numbers, names and arities that are printed.
-pub rows_are_syscalls : map (λ (r : CallRow). r.syscall) calls ≡ take (length calls) syscalls
+pub rows_are_syscalls : map (λ (r : CallRow). r.syscall) calls ≡ syscalls
 unfolding calls
 rows_are_syscalls = refl
+
+-- rows none of which has a number
+none_found : (rows : List CallRow) (number : ℕ)
+    → list_any (λ (c : Syscall). number == c.number) (map (λ (r : CallRow). r.syscall) rows) ≡ false → found_in rows number ≡ None
+none_found [] number e = refl
+none_found (row ∷ rows) number e =
+    let both = or_parts (number == row.syscall.number) (list_any (λ (c : Syscall). number == c.number) (map (λ (r : CallRow). r.syscall) rows)) e in
+    ap (λ b. cond b (Some row) (found_in rows number)) both.0 ∙ none_found rows number both.1
+
+-- A number that has no call has no row.
+pub no_row : (number : ℕ) → is_call number ≡ false → found_in calls number ≡ None
+no_row number e = none_found calls number (ap (λ l. list_any (λ (c : Syscall). number == c.number) l) rows_are_syscalls ∙ e)

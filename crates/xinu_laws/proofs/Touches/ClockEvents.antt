@@ -22,7 +22,7 @@ use Rattle.xinu_laws.proofs.Preserve.Calls.{sound_where_called}
 use Rattle.xinu_laws.proofs.Preserve.Events.{may_call, may_call_after}
 use Rattle.xinu_laws.proofs.Touches.Continued.{continued_touches}
 use Rattle.xinu_laws.proofs.Touches.Processes.{exit_touches}
-use Rattle.xinu_laws.proofs.Touches.Few.{IsLawOfFew, built_law_of_few}
+use Rattle.xinu_laws.proofs.Touches.Few.{IsLawOfFew, law_of_few}
 
 -- from s to u the ticks stay
 abbrev KeepsTicks : Xinu → Xinu → Type 0
@@ -58,7 +58,7 @@ ticks_reacted : (o : Outcome) (s : Xinu) → IsSound s → KeepsTicks s (reacted
 ticks_reacted outcome.Went s k = refl
 ticks_reacted outcome.Call s k =
     let call = call_of (current_hart s) in closed_ticks (called call.number call.args s)
-    ∙ built_law_of_few ticks_law call.number call.args s k
+    ∙ law_of_few ticks_law call.number call.args s k
 ticks_reacted outcome.Exit s k = closed_ticks (exit s) ∙ (exit_touches s k).clock refl
 ticks_reacted (outcome.Trap cause) s k = closed_ticks (exit s) ∙ (exit_touches s k).clock refl
 

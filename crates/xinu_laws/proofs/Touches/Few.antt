@@ -2,12 +2,10 @@
 use Rattle.std.proofs.Common.{◌≡◌, ℕ, Bool, true, false, List, filter, Option, Some, None, refl, subst}
 use Rattle.std.specs.List.{AllByRecursion}
 use Rattle.std.specs.Prelude.{slice_index}
-use Rattle.std.proofs.lemmas.Bool.{cond_both}
-use Rattle.xinu_base.specs.Syscalls.{is_served}
 use Rattle.xinu_laws.specs.Touches.{reach, Touches}
-use Rattle.xinu_model.specs.Calls.{calls, call_of_number, called}
+use Rattle.xinu_model.specs.Calls.{calls, called}
 use Rattle.xinu_model.specs.Footprints.{Footprint}
-use Rattle.xinu_model.specs.Machine.{Xinu, CallResult, refused}
+use Rattle.xinu_model.specs.Machine.{Xinu}
 use Rattle.xinu_model.specs.Rows.{CallRow, found_in, done_by}
 use Rattle.xinu_model.specs.Sound.State.{IsSound}
 use Rattle.xinu_laws.proofs.Rows.CallRows.{of_few, number_of_row}
@@ -28,8 +26,8 @@ pub record IsLawOfFew (names : Footprint → Bool) (Law : CallLaw) : Type 0 wher
   pub few : AllByRecursion (Obeys Law) (filter (λ r. names r.touches) calls)
 
 module _ {names : Footprint → Bool} {Law : CallLaw} (k : IsLawOfFew names Law) (number : ℕ) (args : List ℕ) (s : Xinu) (sound : IsSound s) where
-  -- The call of any number obeys it,
-  pub law_of_few : Law number s (call_of_number number args s).call.state
+  -- The call of any number obeys it.
+  pub law_of_few : Law number s (called number args s).call.state
   law_of_few = by_row (found_in calls number) refl
     where
       by_row : (found : Option CallRow) → found_in calls number ≡ found → Law number s (done_by found args s).call.state
@@ -43,9 +41,3 @@ module _ {names : Footprint → Bool} {Law : CallLaw} (k : IsLawOfFew names Law)
           by_test false h =
               k.others number r.touches s (r.effect (slice_index args) s).call.state h
               (subst (λ x. Touches (reach r.touches) s (done_by x args s).call.state) e (call_touches number args s r sound e))
-
-  -- whether it is served or refused.
-  pub built_law_of_few : Law number s (called number args s).call.state
-  built_law_of_few =
-      cond_both (is_served number args) (call_of_number number args s) (refused s) (λ (h : CallResult). Law number s h.call.state)
-      (λ _. law_of_few) (λ _. k.same number s)

@@ -37,7 +37,7 @@ use Rattle.xinu_laws.proofs.Preserve.Calls.{sound_where_called}
 use Rattle.xinu_laws.proofs.Preserve.Events.{may_call, may_call_after}
 use Rattle.xinu_laws.proofs.Touches.Continued.{continued_touches}
 use Rattle.xinu_laws.proofs.Touches.Events.{touches_ticked}
-use Rattle.xinu_laws.proofs.Touches.Few.{IsLawOfFew, built_law_of_few}
+use Rattle.xinu_laws.proofs.Touches.Few.{IsLawOfFew, law_of_few}
 use Rattle.xinu_laws.proofs.Touches.Moves.{parts_emptied, parts_signalled}
 use Rattle.xinu_laws.proofs.Touches.Processes.{exit_touches}
 
@@ -227,7 +227,7 @@ continued_once _ s k = stays_once s s refl
 -- and what comes of an instruction
 reacted_once : (o : Outcome) (s : Xinu) → IsSound s → RisesOnce s (reacted o s).state
 reacted_once outcome.Went s k = stays_once s s refl
-reacted_once outcome.Call s k = let call = call_of (current_hart s) in built_law_of_few ports_law call.number call.args s k
+reacted_once outcome.Call s k = let call = call_of (current_hart s) in law_of_few ports_law call.number call.args s k
 reacted_once outcome.Exit s k = stays_once s (exit s).call.state ((exit_touches s k).parts.ports refl).0
 reacted_once (outcome.Trap cause) s k = stays_once s (exit s).call.state ((exit_touches s k).parts.ports refl).0
 

@@ -2,7 +2,7 @@
 use Rattle.std.proofs.Common.{◌≡◌, ℕ, ◌%◌, List, Some, sym, subst}
 use Rattle.std.specs.Prelude.{slice_index}
 use Rattle.std.specs.List.{AllByRecursion}
-use Rattle.xinu_model.specs.Calls.{calls, call_of_number}
+use Rattle.xinu_model.specs.Calls.{calls, called}
 use Rattle.xinu_model.specs.Machine.{Xinu}
 use Rattle.xinu_model.specs.Rows.{CallRow, found_in, done_by}
 use Rattle.xinu_model.specs.Sound.State.{IsSound}
@@ -77,7 +77,7 @@ calls_touch =
 
 -- The call of a number that has a row stays within the row's footprint.
 pub call_touches : (number : ℕ) (args : List ℕ) (s : Xinu) (r : CallRow) → IsSound s → found_in calls number ≡ Some r
-    → Touches (reach r.touches) s (call_of_number number args s).call.state
+    → Touches (reach r.touches) s (called number args s).call.state
 call_touches number args s r k e =
     subst (λ found. Touches (reach r.touches) s (done_by found args s).call.state) (sym e)
     (of_row Stays calls calls_touch number r e (slice_index args) s k)

@@ -1,20 +1,34 @@
-use Rattle.std.proofs.Common.{◌∙◌, ap, arith, subst, sym}
+use Rattle.std.proofs.Common.{sym}
+use Rattle.machine.specs.FileEffects.{ChosenPrints}
 use Rattle.xinu_base.specs.declared.events.Event.TheVariants.{Step}
-use Rattle.xinu_laws.proofs.Touches.ClockEvents.{ticks_stepped}
-use Rattle.xinu_laws.proofs.Touches.PortEvents.{RisesOnce, stepped_once}
-use Rattle.xinu_model.specs.Machine.{Xinu}
-use Rattle.machine.proofs.Happenings.{effect_is, happened}
+use Rattle.machine.proofs.EventBounds.{chosen_once, chosen_ticks}
+use Rattle.machine.proofs.Happenings.{chosen_as, happened}
 use Rattle.machine.proofs.events.happen.Goals as goal
 
 pub returns-in-Step : goal.returns-in-Step
 returns-in-Step g c =
     let s = c.args.kernel.now.call.state in
-    let k = effect_is s c.step.new.kernel.call.state c.args.event Step c.step.result _ _ _ _ c.in-Step.is c.step.ensures.effect in
+    let new = c.step.new.kernel.call.state in
+    let k = chosen_as s new c.args.event Step c.step.result _ _ _ _ c.in-Step.is c.step.ensures.effect in
     record {
-      happens = happened s c.step.new.kernel.call.state c.args.event c.step.result _ _ _ _ k;
+      happens = happened s new c.args.event c.step.result _ _ _ _ k;
       panics = sym k.panics;
       idle = c.step.ensures.idle;
       sound = c.step.ensures.sound;
-      ticks = (let e = sym (ap (λ (x : Xinu). x.tables.ticks) c.step.ensures.effect.state) ∙ ticks_stepped s c.requires.sound in omega arith);
-      numbers = subst (RisesOnce s) c.step.ensures.effect.state (stepped_once s c.requires.sound);
+      ticks = chosen_ticks s new c.args.event c.step.result _ _ _ _ c.requires.sound k;
+      numbers = chosen_once s new c.args.event c.step.result _ _ _ _ c.requires.sound k;
+    }
+
+pub returns-in_default : goal.returns-in_default
+returns-in_default g c =
+    let s = c.args.kernel.now.call.state in
+    let new = c.other_event.new.kernel.call.state in
+    let k = c.other_event.ensures.effect in
+    record {
+      happens = happened s new c.args.event c.other_event.result _ _ _ _ k;
+      panics = sym k.panics;
+      idle = c.other_event.ensures.idle;
+      sound = c.other_event.ensures.sound;
+      ticks = chosen_ticks s new c.args.event c.other_event.result _ _ _ _ c.requires.sound k;
+      numbers = chosen_once s new c.args.event c.other_event.result _ _ _ _ c.requires.sound k;
     }

@@ -1,11 +1,19 @@
-use Rattle.std.proofs.Common.{◌≢◌, ℕ, [], ap, rules, ◌∙◌}
+use Rattle.std.proofs.Common.{◌≢◌, ◌∙◌, ℕ, [], ap, refl, rules, sym, true}
+use Rattle.std.proofs.lemmas.Bool.{eq-eqb}
+use Rattle.xinu_base.specs.declared.events.Event.TheVariants.{Step}
 use Rattle.xinu_base.specs.declared.processes.Rest.TheVariants.{Nothing}
 use Rattle.xinu_model.specs.Events.{stepped}
 use Rattle.xinu_model.specs.Machine.{CallResult, end_of_event}
 use Rattle.xinu_model.specs.Tables.{process_at}
 use Rattle.machine.proofs.Closing.{effect_as}
-use Rattle.machine.proofs.Happenings.{goes_on_later}
+use Rattle.machine.proofs.FirstCalls.{step_chosen}
+use Rattle.machine.proofs.Happenings.{goes_on_later, none_chosen, nothing_printed, null_steps}
 use Rattle.machine.proofs.events.step.Goals as goal
+
+pub returns-then-eq-clause-effect : goal.returns-then-eq-clause-effect
+returns-then-eq-clause-effect g c =
+    let s = c.args.kernel.now.call.state in
+    none_chosen s s Step _ _ _ _ _ _ (null_steps s (search rules)) (nothing_printed s c.args.out.now (g.H.Host.view c.args.host.now))
 
 pub returns-then-not-is_done-clause-effect : goal.returns-then-not-is_done-clause-effect
 returns-then-not-is_done-clause-effect g c =
@@ -14,4 +22,4 @@ returns-then-not-is_done-clause-effect g c =
     let w : (process_at s.tables s.tables.current).rest ≢ Nothing = search rules in
     let e = ap (λ (n : ℕ). end_of_event n [] c.go_on_core.new.self) c.current-current.ensures.current
     ∙ ap (λ (r : CallResult). end_of_event s.tables.current [] r) c.go_on_core.ensures.continued ∙ goes_on_later s n w in
-    effect_as _ (stepped s) _ _ _ _ _ _ e c.end_event.ensures.effect
+    none_chosen s c.end_event.new.kernel.call.state Step (stepped s) c.end_event.result _ _ _ _ refl (effect_as _ (stepped s) _ _ _ _ _ _ e c.end_event.ensures.effect)

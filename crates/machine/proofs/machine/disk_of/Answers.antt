@@ -1,8 +1,5 @@
 use Rattle.std.proofs.Common.{◌≢◌, ℕ, suc, zero, List, refl, subst, sym}
-use Rattle.given_disks.proofs.Given.{held_files}
 use Rattle.given_disks.specs.HeldFiles.{HoldsFiles}
-use Rattle.kernel_state.specs.Devices.{files_on}
-use Rattle.lfs_layout.specs.Images.{IsCleanImage}
 use Rattle.machine.specs.Disks.{AreBytes}
 use Rattle.xinu_model.specs.Machine.{CallState, Xinu}
 use Rattle.machine.proofs.machine.disk_of.Goals as goal
@@ -14,11 +11,8 @@ disk_1 (suc n) bytes s other holds = holds
 
 pub returns-else-n-eq0 : goal.returns-else-n-eq0
 returns-else-n-eq0 c =
-    let clean = subst IsCleanImage (sym c.bytes-else-n-eq0.ensures.bytes) c.bytes-else-n-eq0.ensures.clean in
-    let held = held_files c.bytes-else-n-eq0.result.now clean in
-    let inside : HoldsFiles c.bytes-else-n-eq0.result.now (files_on c.k.inside.files)
-    = subst (λ (b : List ℕ). HoldsFiles c.bytes-else-n-eq0.result.now (files_on b)) c.bytes-else-n-eq0.ensures.bytes held in
+    let bytes = c.bytes-else-n-eq0.result.now in
+    let held : HoldsFiles bytes c.k.inside.files.work = subst (λ b. HoldsFiles b c.k.inside.files.work) (sym c.bytes-else-n-eq0.ensures.bytes) c.holds.ensures.holds in
     record {
-      bytes = disk_1 c.args.n c.bytes-else-n-eq0.result.now c.args.k.now.state c.if-n-eq0.false
-          (subst (λ (d : CallState). HoldsFiles c.bytes-else-n-eq0.result.now d.state.parts.devices.files) c.k.view_is inside);
+      bytes = disk_1 c.args.n bytes c.args.k.now.state c.if-n-eq0.false (subst (λ (d : CallState). HoldsFiles bytes d.state.parts.devices.files) c.k.view_is held);
     }

@@ -1,8 +1,10 @@
-use Rattle.std.proofs.Common.{◌≡◌, ◌∙◌, Some, ap, sym, subst}
+use Rattle.std.proofs.Common.{◌≡◌, Some, ap, sym, subst}
 use Rattle.kernel.specs.Kernels.{kernel_result}
+use Rattle.kernel_state.specs.Beginnings.{BeginsAs, next_of}
+use Rattle.kernel_state.specs.Results.{came_to}
 use Rattle.xinu_laws.specs.Preserve.{KeepsAll}
 use Rattle.xinu_model.specs.Machine.{CallResult}
-use Rattle.kernel.proofs.Kept.{idle_may_call}
+use Rattle.kernel.proofs.Kept.{begun_keeps, idle_may_call}
 use Rattle.xinu_laws.proofs.Preserve.Calls.{called_keeps}
 use Rattle.xinu_model.specs.Calls.{called}
 use Rattle.kernel.proofs.kernel.Kernel.begin_core.Goals as goal
@@ -10,7 +12,18 @@ use Rattle.kernel.proofs.kernel.Kernel.begin_core.Goals as goal
 pub invariant_of-self : goal.invariant_of-self
 invariant_of-self c =
     let h = c.args.self.now in
+    let s = h.call.state in
     let call = c.args.call in
+    let b = c.begin-begun.result in
+    let d = c.begin-begun.new.k in
     let old : KeepsAll h = subst KeepsAll c.self.view_is c.self.invariant.keeps in
-    let e : kernel_result (record { state = c.begin-next.new.k; answer = Some c.begin-next.result }) ≡ called call.number call.args h.call.state = c.begin-next.ensures.called ∙ ap (λ (h : CallResult). called call.number call.args h.call.state) c.self.view_is in
-    record { keeps = subst KeepsAll (sym e) (called_keeps call.number call.args h.call.state (idle_may_call h c.requires.idle old c.requires.not_null)) }
+    let may = idle_may_call h c.requires.idle old c.requires.not_null in
+    let P : CallResult → Type 0
+    = λ h. BeginsAs b (called call.number call.args h.call.state) h.call.state (came_to d (next_of b)) in
+    let is : BeginsAs b (called call.number call.args s) s (came_to d (next_of b)) = subst P c.self.view_is c.begin-begun.ensures.called in
+    let e : came_to d (next_of b) ≡ kernel_result (record { state = d; answer = Some c.next.result })
+    = ap (λ n. came_to d n) (sym c.next.ensures.next) in
+    record {
+      keeps = subst KeepsAll e
+          (begun_keeps b (called call.number call.args s) s (came_to d (next_of b)) is may (called_keeps call.number call.args s may));
+    }
