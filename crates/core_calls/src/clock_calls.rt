@@ -13,10 +13,11 @@ use xinu_base::{Next, SYSERR};
 
 /// Call 25: the caller sleeps so many seconds. Refused if they are negative or more than 2147483.
 pub(crate) fn sleep(k: &mut KernelState, seconds: i32) -> Next
-    requires start { IsStart k.old }
-    requires sound { IsSoundTables k.old.state.tables }
-    requires not_null { k.old.state.tables.current ≢ 0 }
-    ensures sleep { came_to k.new result ≡ model.sleep seconds k.old.state }
+    requires start { IsStart k.old.call }
+    requires sound { IsSoundTables k.old.call.state.tables }
+    requires not_null { k.old.call.state.tables.current ≢ 0 }
+    ensures sleep { came_to k.new.call result ≡ model.sleep seconds k.old.call.state }
+    ensures image { k.new.image ≡ k.old.image }
 {
     if seconds < 0 {
         return Next::Returns(SYSERR);
@@ -29,10 +30,11 @@ pub(crate) fn sleep(k: &mut KernelState, seconds: i32) -> Next
 
 /// Call 26: the caller sleeps so many ticks; for 0 it lets the others run. Refused if they are negative.
 pub(crate) fn sleepms(k: &mut KernelState, delay: i32) -> Next
-    requires start { IsStart k.old }
-    requires sound { IsSoundTables k.old.state.tables }
-    requires not_null { k.old.state.tables.current ≢ 0 }
-    ensures sleepms { came_to k.new result ≡ model.sleepms delay k.old.state }
+    requires start { IsStart k.old.call }
+    requires sound { IsSoundTables k.old.call.state.tables }
+    requires not_null { k.old.call.state.tables.current ≢ 0 }
+    ensures sleepms { came_to k.new.call result ≡ model.sleepms delay k.old.call.state }
+    ensures image { k.new.image ≡ k.old.image }
 {
     if delay < 0 {
         return Next::Returns(SYSERR);
@@ -46,8 +48,8 @@ pub(crate) fn sleepms(k: &mut KernelState, delay: i32) -> Next
 
 /// Call 27: the seconds since the start.
 pub(crate) fn clktime(k: &KernelState) -> Next
-    requires start { IsStart k.now }
-    ensures clktime { came_to k.now result ≡ model.clktime k.now.state }
+    requires start { IsStart k.now.call }
+    ensures clktime { came_to k.now.call result ≡ model.clktime k.now.call.state }
 {
     Next::Returns(k.tables.seconds() as i32)
 }

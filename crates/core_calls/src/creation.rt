@@ -14,8 +14,9 @@ use xinu_base::{Next, SYSERR};
 /// Call 2: a new process, which is suspended, and whose name is at an address; its number. Refused if the priority is below 1, the
 /// name isn't in RAM, no number is free or the heap has no such stack.
 pub(crate) fn create(k: &mut KernelState, new: Creation, name: u32) -> Next
-    requires start { IsStart k.old }
-    ensures create { came_to k.new result ≡ model.create new.entry new.stack new.priority name new.args.0 new.args.1 k.old.state }
+    requires start { IsStart k.old.call }
+    ensures create { came_to k.new.call result ≡ model.create new.entry new.stack new.priority name new.args.0 new.args.1 k.old.call.state }
+    ensures image { k.new.image ≡ k.old.image }
 {
     if new.priority < 1 {
         return Next::Returns(SYSERR);

@@ -28,9 +28,10 @@ use xinu_base::{Call, Next, Rest, SYSERR, State, each_call};
 pub fn begin(k: &mut KernelState, call: Call) -> Next
     requires core { call.number ≤ 35 }
     requires known { is_call call.number ≡ true }
-    requires calling { IsCalling k.old }
-    requires numbers { (q : ℕ) → (port_at k.old.state.parts.ports q).seq < 4294967295 }
-    ensures called { came_to k.new result ≡ called call.number call.args k.old.state }
+    requires calling { IsCalling k.old.call }
+    requires numbers { (q : ℕ) → (port_at k.old.call.state.parts.ports q).seq < 4294967295 }
+    ensures called { came_to k.new.call result ≡ called call.number call.args k.old.call.state }
+    ensures image { k.new.image ≡ k.old.image }
 {
     let args = call.args;
     macro_rules! begins {
@@ -47,10 +48,11 @@ pub fn begin(k: &mut KernelState, call: Call) -> Next
 /// Does what is left of the current process's call: the end of a self-suspension, a buffer, a message to or from a port, or the receipt of
 /// a message.
 pub fn go_on(k: &mut KernelState) -> Next
-    requires calling { IsCalling k.old }
-    requires core { is_on_device (process_at k.old.state.tables k.old.state.tables.current).rest ≡ false }
-    requires waits { (process_at k.old.state.tables k.old.state.tables.current).rest ≢ Rest.Nothing }
-    ensures continued { came_to k.new result ≡ continued (process_at k.old.state.tables k.old.state.tables.current).rest k.old.state }
+    requires calling { IsCalling k.old.call }
+    requires core { is_on_device (process_at k.old.call.state.tables k.old.call.state.tables.current).rest ≡ false }
+    requires waits { (process_at k.old.call.state.tables k.old.call.state.tables.current).rest ≢ Rest.Nothing }
+    ensures continued { came_to k.new.call result ≡ continued (process_at k.old.call.state.tables k.old.call.state.tables.current).rest k.old.call.state }
+    ensures image { k.new.image ≡ k.old.image }
 {
     match k.tables.rest() {
         Rest::SelfSuspend => go_on_suspend(k),
@@ -63,10 +65,11 @@ pub fn go_on(k: &mut KernelState) -> Next
 
 /// A tick of the clock, with its own reschedules.
 pub fn tick(k: &mut KernelState)
-    requires start { IsStart k.old }
-    requires runs { state_at k.old.state.tables k.old.state.tables.current ≡ State.Current }
-    requires few { k.old.state.tables.ticks < 4294967295 }
-    ensures ticks { record { call = k.new; answer = Silent } ≡ ticking k.old.state }
+    requires start { IsStart k.old.call }
+    requires runs { state_at k.old.call.state.tables k.old.call.state.tables.current ≡ State.Current }
+    requires few { k.old.call.state.tables.ticks < 4294967295 }
+    ensures ticks { record { call = k.new.call; answer = Silent } ≡ ticking k.old.call.state }
+    ensures image { k.new.image ≡ k.old.image }
 {
     let woken = k.tables.tick();
     answer_released(&mut k.replies, &k.tables, woken.as_slice(), 0);

@@ -16,8 +16,9 @@ const TIMEOUT: i32 = -3;
 
 /// Call 21: the process of this number is sent a word. Refused if there is none, or it holds a word.
 pub(crate) fn send(k: &mut KernelState, word: u32, message: u32) -> Next
-    requires start { IsStart k.old }
-    ensures send { came_to k.new result ≡ model.send word message k.old.state }
+    requires start { IsStart k.old.call }
+    ensures send { came_to k.new.call result ≡ model.send word message k.old.call.state }
+    ensures image { k.new.image ≡ k.old.image }
 {
     let Some(p) = k.tables.alive(word) else {
         return Next::Returns(SYSERR);
@@ -33,10 +34,11 @@ pub(crate) fn send(k: &mut KernelState, word: u32, message: u32) -> Next
 
 /// Call 22: the caller's message, for which it waits.
 pub(crate) fn receive(k: &mut KernelState) -> Next
-    requires start { IsStart k.old }
-    requires sound { IsSoundTables k.old.state.tables }
-    requires not_null { k.old.state.tables.current ≢ 0 }
-    ensures receive { came_to k.new result ≡ model.receive k.old.state }
+    requires start { IsStart k.old.call }
+    requires sound { IsSoundTables k.old.call.state.tables }
+    requires not_null { k.old.call.state.tables.current ≢ 0 }
+    ensures receive { came_to k.new.call result ≡ model.receive k.old.call.state }
+    ensures image { k.new.image ≡ k.old.image }
 {
     match k.tables.take_message() {
         Some(message) => Next::Returns(message.cast_signed()),
@@ -49,9 +51,10 @@ pub(crate) fn receive(k: &mut KernelState) -> Next
 
 /// Call 23: the caller's message, or 0.
 pub(crate) fn recvclr(k: &mut KernelState) -> Next
-    requires start { IsStart k.old }
-    requires sound { IsSoundTables k.old.state.tables }
-    ensures recvclr { came_to k.new result ≡ model.recvclr k.old.state }
+    requires start { IsStart k.old.call }
+    requires sound { IsSoundTables k.old.call.state.tables }
+    ensures recvclr { came_to k.new.call result ≡ model.recvclr k.old.call.state }
+    ensures image { k.new.image ≡ k.old.image }
 {
     match k.tables.take_message() {
         Some(message) => Next::Returns(message.cast_signed()),
@@ -61,10 +64,11 @@ pub(crate) fn recvclr(k: &mut KernelState) -> Next
 
 /// Call 24: the caller's message, for which it waits so many ticks, at least one. Refused if that is negative.
 pub(crate) fn recvtime(k: &mut KernelState, delay: i32) -> Next
-    requires start { IsStart k.old }
-    requires sound { IsSoundTables k.old.state.tables }
-    requires not_null { k.old.state.tables.current ≢ 0 }
-    ensures recvtime { came_to k.new result ≡ model.recvtime delay k.old.state }
+    requires start { IsStart k.old.call }
+    requires sound { IsSoundTables k.old.call.state.tables }
+    requires not_null { k.old.call.state.tables.current ≢ 0 }
+    ensures recvtime { came_to k.new.call result ≡ model.recvtime delay k.old.call.state }
+    ensures image { k.new.image ≡ k.old.image }
 {
     if delay < 0 {
         return Next::Returns(SYSERR);
@@ -80,9 +84,10 @@ pub(crate) fn recvtime(k: &mut KernelState, delay: i32) -> Next
 
 /// What is left of a call that waited for a message: the message that came, or that the time ran out.
 pub(crate) fn go_on_receive(k: &mut KernelState) -> Next
-    requires start { IsStart k.old }
-    requires runs { state_at k.old.state.tables k.old.state.tables.current ≡ State.Current }
-    ensures received { came_to k.new result ≡ model.go_on_receive k.old.state }
+    requires start { IsStart k.old.call }
+    requires runs { state_at k.old.call.state.tables k.old.call.state.tables.current ≡ State.Current }
+    ensures received { came_to k.new.call result ≡ model.go_on_receive k.old.call.state }
+    ensures image { k.new.image ≡ k.old.image }
 {
     match k.tables.take_message() {
         Some(message) => Next::Returns(message.cast_signed()),

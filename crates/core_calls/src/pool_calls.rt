@@ -18,8 +18,9 @@ use xinu_base::{Next, Owner, PoolId, Rest, SYSERR};
 /// Call 28: a pool of `n` buffers of this size, rounded up to whole words; its number. Refused if the size isn't 8 to 8192 or `n`
 /// isn't 1 to 2048, all pools are made, or no semaphore or no memory that meets no other pool is left.
 pub(crate) fn mkbufpool(k: &mut KernelState, size: u32, n: u32) -> Next
-    requires start { IsStart k.old }
-    ensures mkbufpool { came_to k.new result ≡ model.mkbufpool size n k.old.state }
+    requires start { IsStart k.old.call }
+    ensures mkbufpool { came_to k.new.call result ≡ model.mkbufpool size n k.old.call.state }
+    ensures image { k.new.image ≡ k.old.image }
 {
     if !is_pool_size(size, n) {
         return Next::Returns(SYSERR);
@@ -45,11 +46,12 @@ pub(crate) fn mkbufpool(k: &mut KernelState, size: u32, n: u32) -> Next
 
 /// Call 29: a buffer of the pool that a word names, for which the caller waits; its address. Refused if the pool isn't made.
 pub(crate) fn getbuf(k: &mut KernelState, word: u32) -> Next
-    requires start { IsStart k.old }
-    requires sound { IsSoundTables k.old.state.tables }
-    requires pools { ArePools k.old.state.tables k.old.state.parts.pools }
-    requires not_null { k.old.state.tables.current ≢ 0 }
-    ensures getbuf { came_to k.new result ≡ model.getbuf word k.old.state }
+    requires start { IsStart k.old.call }
+    requires sound { IsSoundTables k.old.call.state.tables }
+    requires pools { ArePools k.old.call.state.tables k.old.call.state.parts.pools }
+    requires not_null { k.old.call.state.tables.current ≢ 0 }
+    ensures getbuf { came_to k.new.call result ≡ model.getbuf word k.old.call.state }
+    ensures image { k.new.image ≡ k.old.image }
 {
     let Some(i) = PoolId::from_word(word) else {
         return Next::Returns(SYSERR);
@@ -66,11 +68,12 @@ pub(crate) fn getbuf(k: &mut KernelState, word: u32) -> Next
 
 /// What is left of call 29 once the caller was released: its buffer of pool `i`.
 pub(crate) fn go_on_getbuf(k: &mut KernelState, i: PoolId) -> Next
-    requires start { IsStart k.old }
-    requires sound { IsSoundTables k.old.state.tables }
-    requires pools { ArePools k.old.state.tables k.old.state.parts.pools }
-    requires waits { (process_at k.old.state.tables k.old.state.tables.current).rest ≡ Rest.GetBuf i }
-    ensures goes_on { came_to k.new result ≡ model.go_on_getbuf i k.old.state }
+    requires start { IsStart k.old.call }
+    requires sound { IsSoundTables k.old.call.state.tables }
+    requires pools { ArePools k.old.call.state.tables k.old.call.state.parts.pools }
+    requires waits { (process_at k.old.call.state.tables k.old.call.state.tables.current).rest ≡ Rest.GetBuf i }
+    ensures goes_on { came_to k.new.call result ≡ model.go_on_getbuf i k.old.call.state }
+    ensures image { k.new.image ≡ k.old.image }
 {
     k.tables.go_on();
     take_buffer(k, i)
@@ -78,9 +81,10 @@ pub(crate) fn go_on_getbuf(k: &mut KernelState, i: PoolId) -> Next
 
 /// Call 30: the buffer at an address is given back. Refused if none is held there.
 pub(crate) fn freebuf(k: &mut KernelState, a: u32) -> Next
-    requires start { IsStart k.old }
-    requires pools { ArePools k.old.state.tables k.old.state.parts.pools }
-    ensures freebuf { came_to k.new result ≡ model.freebuf a k.old.state }
+    requires start { IsStart k.old.call }
+    requires pools { ArePools k.old.call.state.tables k.old.call.state.parts.pools }
+    ensures freebuf { came_to k.new.call result ≡ model.freebuf a k.old.call.state }
+    ensures image { k.new.image ≡ k.old.image }
 {
     if free_buffer(k, a) {
         Next::Returns(0)
@@ -91,9 +95,10 @@ pub(crate) fn freebuf(k: &mut KernelState, a: u32) -> Next
 
 /// Gives back the buffers at these addresses, one after another. An address at which none is held is passed over.
 pub(crate) fn free_buffers(k: &mut KernelState, addresses: &[u32])
-    requires sound { IsSoundTables k.old.state.tables }
-    requires pools { ArePools k.old.state.tables k.old.state.parts.pools }
-    ensures freed { k.new ≡ freed_buffers addresses.now k.old }
+    requires sound { IsSoundTables k.old.call.state.tables }
+    requires pools { ArePools k.old.call.state.tables k.old.call.state.parts.pools }
+    ensures freed { k.new.call ≡ freed_buffers addresses.now k.old.call }
+    ensures image { k.new.image ≡ k.old.image }
 {
     for a in addresses {
         free_buffer(k, *a);
@@ -102,9 +107,10 @@ pub(crate) fn free_buffers(k: &mut KernelState, addresses: &[u32])
 
 // Gives back the buffer at an address. Whether one was held there; if none was nothing changes.
 fn free_buffer(k: &mut KernelState, a: u32) -> bool
-    requires pools { ArePools k.old.state.tables k.old.state.parts.pools }
-    ensures freed { k.new ≡ model.freed_buffer a k.old }
-    ensures held { result ≡ is_some (holder a k.old.state.parts.pools) }
+    requires pools { ArePools k.old.call.state.tables k.old.call.state.parts.pools }
+    ensures freed { k.new.call ≡ model.freed_buffer a k.old.call }
+    ensures held { result ≡ is_some (holder a k.old.call.state.parts.pools) }
+    ensures image { k.new.image ≡ k.old.image }
 {
     let Some(i) = k.pools.free(a) else {
         return false;
@@ -116,9 +122,10 @@ fn free_buffer(k: &mut KernelState, a: u32) -> bool
 
 // Takes the buffer of pool `i` that was freed last, and writes the pool's number before it.
 fn take_buffer(k: &mut KernelState, i: PoolId) -> Next
-    requires start { IsStart k.old }
-    requires free { 0 < length (pool_at k.old.state.parts.pools i).free }
-    ensures taken { came_to k.new result ≡ model.take_buffer i k.old.state }
+    requires start { IsStart k.old.call }
+    requires free { 0 < length (pool_at k.old.call.state.parts.pools i).free }
+    ensures taken { came_to k.new.call result ≡ model.take_buffer i k.old.call.state }
+    ensures image { k.new.image ≡ k.old.image }
 {
     let a = k.pools.get_part(i);
     k.ram.write32(a - 4, i.index() as u32);

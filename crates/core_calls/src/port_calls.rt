@@ -24,9 +24,10 @@ use xinu_base::{Next, Owner, Port, PortTicket, Rest, SYSERR};
 /// Call 31: a port that can hold `count` messages; its number. Refused if the count is negative, or no port or no two semaphores are
 /// free.
 pub(crate) fn ptcreate(k: &mut KernelState, count: i32) -> Next
-    requires start { IsStart k.old }
-    requires numbers { (q : ℕ) → (port_at k.old.state.parts.ports q).seq < 4294967295 }
-    ensures ptcreate { came_to k.new result ≡ model.ptcreate count k.old.state }
+    requires start { IsStart k.old.call }
+    requires numbers { (q : ℕ) → (port_at k.old.call.state.parts.ports q).seq < 4294967295 }
+    ensures ptcreate { came_to k.new.call result ≡ model.ptcreate count k.old.call.state }
+    ensures image { k.new.image ≡ k.old.image }
 {
     let Some(q) = k.ports.place_free() else {
         return Next::Returns(SYSERR);
@@ -41,12 +42,13 @@ pub(crate) fn ptcreate(k: &mut KernelState, count: i32) -> Next
 /// Call 32: the port that a word names is deleted, its messages dropped (0) or given back as buffers (1). All who wait on it go on, the
 /// senders first. Refused if the port isn't in use, or `how` is neither.
 pub(crate) fn ptdelete(k: &mut KernelState, word: u32, how: u32) -> Next
-    requires start { IsStart k.old }
-    requires sound { IsSoundTables k.old.state.tables }
-    requires pools { ArePools k.old.state.tables k.old.state.parts.pools }
-    requires ports { ArePorts k.old.state.tables k.old.state.parts.ports }
-    requires numbers { (q : ℕ) → (port_at k.old.state.parts.ports q).seq < 4294967295 }
-    ensures ptdelete { came_to k.new result ≡ model.ptdelete word how k.old.state }
+    requires start { IsStart k.old.call }
+    requires sound { IsSoundTables k.old.call.state.tables }
+    requires pools { ArePools k.old.call.state.tables k.old.call.state.parts.pools }
+    requires ports { ArePorts k.old.call.state.tables k.old.call.state.parts.ports }
+    requires numbers { (q : ℕ) → (port_at k.old.call.state.parts.ports q).seq < 4294967295 }
+    ensures ptdelete { came_to k.new.call result ≡ model.ptdelete word how k.old.call.state }
+    ensures image { k.new.image ≡ k.old.image }
 {
     let Some(port) = used_port(k, word, how) else {
         return Next::Returns(SYSERR);
@@ -59,12 +61,13 @@ pub(crate) fn ptdelete(k: &mut KernelState, word: u32, how: u32) -> Next
 /// Call 33: the port that a word names is as it was made, its messages dropped (0) or given back as buffers (1). All who wait on it go
 /// on, the senders first. Refused if the port isn't in use, or `how` is neither.
 pub(crate) fn ptreset(k: &mut KernelState, word: u32, how: u32) -> Next
-    requires start { IsStart k.old }
-    requires sound { IsSoundTables k.old.state.tables }
-    requires pools { ArePools k.old.state.tables k.old.state.parts.pools }
-    requires ports { ArePorts k.old.state.tables k.old.state.parts.ports }
-    requires numbers { (q : ℕ) → (port_at k.old.state.parts.ports q).seq < 4294967295 }
-    ensures ptreset { came_to k.new result ≡ model.ptreset word how k.old.state }
+    requires start { IsStart k.old.call }
+    requires sound { IsSoundTables k.old.call.state.tables }
+    requires pools { ArePools k.old.call.state.tables k.old.call.state.parts.pools }
+    requires ports { ArePorts k.old.call.state.tables k.old.call.state.parts.ports }
+    requires numbers { (q : ℕ) → (port_at k.old.call.state.parts.ports q).seq < 4294967295 }
+    ensures ptreset { came_to k.new.call result ≡ model.ptreset word how k.old.call.state }
+    ensures image { k.new.image ≡ k.old.image }
 {
     let Some(port) = used_port(k, word, how) else {
         return Next::Returns(SYSERR);
@@ -77,11 +80,12 @@ pub(crate) fn ptreset(k: &mut KernelState, word: u32, how: u32) -> Next
 /// Call 34: a message for the port that a word names; the caller waits for room. Refused if the port isn't in use. The kernel panics if
 /// all ports together are full.
 pub(crate) fn ptsend(k: &mut KernelState, word: u32, message: u32) -> Next
-    requires start { IsStart k.old }
-    requires sound { IsSoundTables k.old.state.tables }
-    requires ports { ArePorts k.old.state.tables k.old.state.parts.ports }
-    requires not_null { k.old.state.tables.current ≢ 0 }
-    ensures ptsend { came_to k.new result ≡ model.ptsend word message k.old.state }
+    requires start { IsStart k.old.call }
+    requires sound { IsSoundTables k.old.call.state.tables }
+    requires ports { ArePorts k.old.call.state.tables k.old.call.state.parts.ports }
+    requires not_null { k.old.call.state.tables.current ≢ 0 }
+    ensures ptsend { came_to k.new.call result ≡ model.ptsend word message k.old.call.state }
+    ensures image { k.new.image ≡ k.old.image }
 {
     let Some(q) = Port::from_word(word) else {
         return Next::Returns(SYSERR);
@@ -98,10 +102,11 @@ pub(crate) fn ptsend(k: &mut KernelState, word: u32, message: u32) -> Next
 
 /// What is left of call 34 once the caller was released: its message goes into the port, unless the port changed.
 pub(crate) fn go_on_ptsend(k: &mut KernelState, ticket: PortTicket, message: u32) -> Next
-    requires start { IsStart k.old }
-    requires sound { IsSoundTables k.old.state.tables }
-    requires ports { ArePorts k.old.state.tables k.old.state.parts.ports }
-    ensures goes_on { came_to k.new result ≡ model.go_on_ptsend ticket message k.old.state }
+    requires start { IsStart k.old.call }
+    requires sound { IsSoundTables k.old.call.state.tables }
+    requires ports { ArePorts k.old.call.state.tables k.old.call.state.parts.ports }
+    ensures goes_on { came_to k.new.call result ≡ model.go_on_ptsend ticket message k.old.call.state }
+    ensures image { k.new.image ≡ k.old.image }
 {
     k.tables.go_on();
     finish_send(k, ticket, message)
@@ -109,11 +114,12 @@ pub(crate) fn go_on_ptsend(k: &mut KernelState, ticket: PortTicket, message: u32
 
 /// Call 35: the first message of the port that a word names, for which the caller waits. Refused if the port isn't in use.
 pub(crate) fn ptrecv(k: &mut KernelState, word: u32) -> Next
-    requires start { IsStart k.old }
-    requires sound { IsSoundTables k.old.state.tables }
-    requires ports { ArePorts k.old.state.tables k.old.state.parts.ports }
-    requires not_null { k.old.state.tables.current ≢ 0 }
-    ensures ptrecv { came_to k.new result ≡ model.ptrecv word k.old.state }
+    requires start { IsStart k.old.call }
+    requires sound { IsSoundTables k.old.call.state.tables }
+    requires ports { ArePorts k.old.call.state.tables k.old.call.state.parts.ports }
+    requires not_null { k.old.call.state.tables.current ≢ 0 }
+    ensures ptrecv { came_to k.new.call result ≡ model.ptrecv word k.old.call.state }
+    ensures image { k.new.image ≡ k.old.image }
 {
     let Some(q) = Port::from_word(word) else {
         return Next::Returns(SYSERR);
@@ -130,10 +136,11 @@ pub(crate) fn ptrecv(k: &mut KernelState, word: u32) -> Next
 
 /// What is left of call 35 once the caller was released: it takes the first message of the port, unless the port changed.
 pub(crate) fn go_on_ptrecv(k: &mut KernelState, ticket: PortTicket) -> Next
-    requires start { IsStart k.old }
-    requires sound { IsSoundTables k.old.state.tables }
-    requires ports { ArePorts k.old.state.tables k.old.state.parts.ports }
-    ensures goes_on { came_to k.new result ≡ model.go_on_ptrecv ticket k.old.state }
+    requires start { IsStart k.old.call }
+    requires sound { IsSoundTables k.old.call.state.tables }
+    requires ports { ArePorts k.old.call.state.tables k.old.call.state.parts.ports }
+    ensures goes_on { came_to k.new.call result ≡ model.go_on_ptrecv ticket k.old.call.state }
+    ensures image { k.new.image ≡ k.old.image }
 {
     k.tables.go_on();
     finish_receive(k, ticket)
@@ -142,8 +149,8 @@ pub(crate) fn go_on_ptrecv(k: &mut KernelState, ticket: PortTicket) -> Next
 // The port that a word names, with its head. `None` if it isn't in use, or `how` says neither that its messages are dropped (0) nor that they
 // are given back as buffers (1).
 fn used_port(k: &KernelState, word: u32, how: u32) -> Option<(Port, PortHead)>
-    requires ports { ArePorts k.now.state.tables k.now.state.parts.ports }
-    ensures head { option_map (λ x. x.1) result ≡ option_map head_of (cleared_queue word how k.now.state) }
+    requires ports { ArePorts k.now.call.state.tables k.now.call.state.parts.ports }
+    ensures head { option_map (λ x. x.1) result ≡ option_map head_of (cleared_queue word how k.now.call.state) }
     ensures named { IfSome result (λ x. x.0 ≡ word) }
 {
     let q = Port::from_word(word)?;
@@ -156,9 +163,10 @@ fn used_port(k: &KernelState, word: u32, how: u32) -> Option<(Port, PortHead)>
 
 // The messages of port `q` are dropped, or given back as buffers if `how` is 1.
 fn dispose(k: &mut KernelState, q: Port, how: u32)
-    requires sound { IsSoundTables k.old.state.tables }
-    requires pools { ArePools k.old.state.tables k.old.state.parts.pools }
-    ensures disposed { k.new ≡ model.disposed how (queued (port_at k.old.state.parts.ports q).queue) k.old }
+    requires sound { IsSoundTables k.old.call.state.tables }
+    requires pools { ArePools k.old.call.state.tables k.old.call.state.parts.pools }
+    ensures disposed { k.new.call ≡ model.disposed how (queued (port_at k.old.call.state.parts.ports q).queue) k.old.call }
+    ensures image { k.new.image ≡ k.old.image }
 {
     if how == 1 {
         let messages = k.ports.messages_of(q);
@@ -168,9 +176,10 @@ fn dispose(k: &mut KernelState, q: Port, how: u32)
 
 // All who wait on port `q`, which has this head, go on, the senders first, and its semaphores and its number are free.
 fn delete_port(k: &mut KernelState, q: Port, head: &PortHead)
-    requires clears { CanClear q head.now k.old }
-    ensures deleted { (queue : PortQueue) → (port_at k.old.state.parts.ports q).queue ≡ Some queue →
-        k.new ≡ model.deleted q queue (emptied queue.receive (emptied queue.send k.old)) }
+    requires clears { CanClear q head.now k.old.call }
+    ensures deleted { (queue : PortQueue) → (port_at k.old.call.state.parts.ports q).queue ≡ Some queue →
+        k.new.call ≡ model.deleted q queue (emptied queue.receive (emptied queue.send k.old.call)) }
+    ensures image { k.new.image ≡ k.old.image }
 {
     let senders = k.tables.delete_semaphore(head.send);
     k.owes_resched = owes_after(k.owes_resched, senders.as_slice());
@@ -181,9 +190,10 @@ fn delete_port(k: &mut KernelState, q: Port, head: &PortHead)
 
 // All who wait on port `q`, which has this head, go on, the senders first, and it is as it was made.
 fn reset_port(k: &mut KernelState, q: Port, head: &PortHead)
-    requires clears { CanClear q head.now k.old }
-    ensures reset { (queue : PortQueue) → (port_at k.old.state.parts.ports q).queue ≡ Some queue →
-        k.new ≡ model.emptied_port q queue (emptied queue.receive (emptied queue.send k.old)) }
+    requires clears { CanClear q head.now k.old.call }
+    ensures reset { (queue : PortQueue) → (port_at k.old.call.state.parts.ports q).queue ≡ Some queue →
+        k.new.call ≡ model.emptied_port q queue (emptied queue.receive (emptied queue.send k.old.call)) }
+    ensures image { k.new.image ≡ k.old.image }
 {
     let senders = k.tables.reset_semaphore(head.send, head.first_count);
     k.owes_resched = owes_after(k.owes_resched, senders.as_slice());
@@ -194,9 +204,10 @@ fn reset_port(k: &mut KernelState, q: Port, head: &PortHead)
 
 // Puts a message into the port of a ticket, for a caller that has a token, and signals the receivers.
 fn finish_send(k: &mut KernelState, ticket: PortTicket, message: u32) -> Next
-    requires start { IsStart k.old }
-    requires room { HaveRoom k.old.state.tables k.old.state.parts.ports }
-    ensures finished { came_to k.new result ≡ model.finish_send ticket message k.old.state }
+    requires start { IsStart k.old.call }
+    requires room { HaveRoom k.old.call.state.tables k.old.call.state.parts.ports }
+    ensures finished { came_to k.new.call result ≡ model.finish_send ticket message k.old.call.state }
+    ensures image { k.new.image ≡ k.old.image }
 {
     match k.ports.send(ticket, message) {
         Sent::Stale => Next::Returns(SYSERR),
@@ -210,9 +221,10 @@ fn finish_send(k: &mut KernelState, ticket: PortTicket, message: u32) -> Next
 
 // Takes the first message of the port of a ticket, for a caller that has a token, and signals the senders.
 fn finish_receive(k: &mut KernelState, ticket: PortTicket) -> Next
-    requires start { IsStart k.old }
-    requires room { HaveRoom k.old.state.tables k.old.state.parts.ports }
-    ensures finished { came_to k.new result ≡ model.finish_receive ticket k.old.state }
+    requires start { IsStart k.old.call }
+    requires room { HaveRoom k.old.call.state.tables k.old.call.state.parts.ports }
+    ensures finished { came_to k.new.call result ≡ model.finish_receive ticket k.old.call.state }
+    ensures image { k.new.image ≡ k.old.image }
 {
     let Some(received) = k.ports.receive(ticket) else {
         return Next::Returns(SYSERR);

@@ -16,16 +16,17 @@ use xinu_base::{Next, Pid, SYSERR, State};
 
 /// Call 1: the number of the caller.
 pub(crate) fn getpid(k: &KernelState) -> Next
-    requires start { IsStart k.now }
-    ensures getpid { came_to k.now result ≡ model.getpid k.now.state }
+    requires start { IsStart k.now.call }
+    ensures getpid { came_to k.now.call result ≡ model.getpid k.now.call.state }
 {
     Next::Returns(k.tables.current().index() as i32)
 }
 
 /// Call 3: the process of this number becomes ready; its priority. Refused if it isn't suspended.
 pub(crate) fn resume(k: &mut KernelState, word: u32) -> Next
-    requires start { IsStart k.old }
-    ensures resume { came_to k.new result ≡ model.resume word k.old.state }
+    requires start { IsStart k.old.call }
+    ensures resume { came_to k.new.call result ≡ model.resume word k.old.call.state }
+    ensures image { k.new.image ≡ k.old.image }
 {
     let Some(p) = k.tables.alive(word) else {
         return Next::Returns(SYSERR);
@@ -42,9 +43,10 @@ pub(crate) fn resume(k: &mut KernelState, word: u32) -> Next
 /// Call 4: the process of this number is suspended; its priority. The caller itself answers it once it goes on. Refused if it is
 /// the null process, or neither ready nor current.
 pub(crate) fn suspend(k: &mut KernelState, word: u32) -> Next
-    requires start { IsStart k.old }
-    requires sound { IsSoundTables k.old.state.tables }
-    ensures suspend { came_to k.new result ≡ model.suspend word k.old.state }
+    requires start { IsStart k.old.call }
+    requires sound { IsSoundTables k.old.call.state.tables }
+    ensures suspend { came_to k.new.call result ≡ model.suspend word k.old.call.state }
+    ensures image { k.new.image ≡ k.old.image }
 {
     let Some(p) = k.tables.alive(word) else {
         return Next::Returns(SYSERR);
@@ -66,8 +68,9 @@ pub(crate) fn suspend(k: &mut KernelState, word: u32) -> Next
 
 /// Call 5: the process of this number dies, be it the caller. Refused if it is the null process, or there is none.
 pub(crate) fn kill(k: &mut KernelState, word: u32) -> Next
-    requires start { IsStart k.old }
-    ensures kill { came_to k.new result ≡ model.kill word k.old.state }
+    requires start { IsStart k.old.call }
+    ensures kill { came_to k.new.call result ≡ model.kill word k.old.call.state }
+    ensures image { k.new.image ≡ k.old.image }
 {
     let Some(p) = k.tables.alive(word) else {
         return Next::Returns(SYSERR);
@@ -86,8 +89,9 @@ pub(crate) fn kill(k: &mut KernelState, word: u32) -> Next
 
 /// Call 6: the caller lets the others run.
 pub(crate) fn yield_now(k: &mut KernelState) -> Next
-    requires start { IsStart k.old }
-    ensures yields { came_to k.new result ≡ clock.yield k.old.state }
+    requires start { IsStart k.old.call }
+    ensures yields { came_to k.new.call result ≡ clock.yield k.old.call.state }
+    ensures image { k.new.image ≡ k.old.image }
 {
     k.owes_resched = true;
     Next::Returns(0)
@@ -95,8 +99,9 @@ pub(crate) fn yield_now(k: &mut KernelState) -> Next
 
 /// Call 7: the process of this number gets a priority; the one before. Refused if there is none.
 pub(crate) fn chprio(k: &mut KernelState, word: u32, priority: i16) -> Next
-    requires start { IsStart k.old }
-    ensures chprio { came_to k.new result ≡ model.chprio word priority k.old.state }
+    requires start { IsStart k.old.call }
+    ensures chprio { came_to k.new.call result ≡ model.chprio word priority k.old.call.state }
+    ensures image { k.new.image ≡ k.old.image }
 {
     let Some(p) = k.tables.alive(word) else {
         return Next::Returns(SYSERR);
@@ -109,8 +114,8 @@ pub(crate) fn chprio(k: &mut KernelState, word: u32, priority: i16) -> Next
 
 /// Call 8: the priority of the process of this number. Refused if there is none.
 pub(crate) fn getprio(k: &KernelState, word: u32) -> Next
-    requires start { IsStart k.now }
-    ensures getprio { came_to k.now result ≡ model.getprio word k.now.state }
+    requires start { IsStart k.now.call }
+    ensures getprio { came_to k.now.call result ≡ model.getprio word k.now.call.state }
 {
     match k.tables.alive(word) {
         Some(p) => Next::Returns(i32::from(k.tables.priority_of(p))),
@@ -120,9 +125,10 @@ pub(crate) fn getprio(k: &KernelState, word: u32) -> Next
 
 /// Call 9, and the end of a process that was trapped or returned from its first function: the caller dies.
 pub fn exit(k: &mut KernelState) -> Next
-    requires start { IsStart k.old }
-    requires not_null { k.old.state.tables.current ≢ 0 }
-    ensures exit { came_to k.new result ≡ exit k.old.state }
+    requires start { IsStart k.old.call }
+    requires not_null { k.old.call.state.tables.current ≢ 0 }
+    ensures exit { came_to k.new.call result ≡ exit k.old.call.state }
+    ensures image { k.new.image ≡ k.old.image }
 {
     let current = k.tables.current();
     k.end(current);
@@ -131,9 +137,10 @@ pub fn exit(k: &mut KernelState) -> Next
 
 /// What is left of the call by which the caller suspended itself: to answer its priority.
 pub(crate) fn go_on_suspend(k: &mut KernelState) -> Next
-    requires start { IsStart k.old }
-    requires runs { state_at k.old.state.tables k.old.state.tables.current ≡ State.Current }
-    ensures suspended { came_to k.new result ≡ model.go_on_suspend k.old.state }
+    requires start { IsStart k.old.call }
+    requires runs { state_at k.old.call.state.tables k.old.call.state.tables.current ≡ State.Current }
+    ensures suspended { came_to k.new.call result ≡ model.go_on_suspend k.old.call.state }
+    ensures image { k.new.image ≡ k.old.image }
 {
     let current = k.tables.current();
     let priority = k.tables.priority_of(current);

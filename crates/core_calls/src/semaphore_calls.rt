@@ -14,8 +14,9 @@ use xinu_base::{Next, Owner, Pid, Rest, SYSERR, Sem};
 
 /// Call 14: a new semaphore with this count; its number. Refused if the count is negative or no number is free.
 pub(crate) fn semcreate(k: &mut KernelState, count: i32) -> Next
-    requires start { IsStart k.old }
-    ensures semcreate { came_to k.new result ≡ model.semcreate count k.old.state }
+    requires start { IsStart k.old.call }
+    ensures semcreate { came_to k.new.call result ≡ model.semcreate count k.old.call.state }
+    ensures image { k.new.image ≡ k.old.image }
 {
     match k.tables.make_semaphore(Owner::Image, count) {
         Some(sem) => Next::Returns(sem.index() as i32),
@@ -25,9 +26,10 @@ pub(crate) fn semcreate(k: &mut KernelState, count: i32) -> Next
 
 /// Call 15: the semaphore is given up; all who wait on it are refused.
 pub(crate) fn semdelete(k: &mut KernelState, word: u32) -> Next
-    requires start { IsStart k.old }
-    requires sound { IsSoundTables k.old.state.tables }
-    ensures semdelete { came_to k.new result ≡ model.semdelete word k.old.state }
+    requires start { IsStart k.old.call }
+    requires sound { IsSoundTables k.old.call.state.tables }
+    ensures semdelete { came_to k.new.call result ≡ model.semdelete word k.old.call.state }
+    ensures image { k.new.image ≡ k.old.image }
 {
     let Some(sem) = k.tables.good_semaphore(word) else {
         return Next::Returns(SYSERR);
@@ -39,9 +41,10 @@ pub(crate) fn semdelete(k: &mut KernelState, word: u32) -> Next
 
 /// Call 16: all who wait go on, and the semaphore has this count. Refused if the count is negative.
 pub(crate) fn semreset(k: &mut KernelState, word: u32, count: i32) -> Next
-    requires start { IsStart k.old }
-    requires sound { IsSoundTables k.old.state.tables }
-    ensures semreset { came_to k.new result ≡ model.semreset word count k.old.state }
+    requires start { IsStart k.old.call }
+    requires sound { IsSoundTables k.old.call.state.tables }
+    ensures semreset { came_to k.new.call result ≡ model.semreset word count k.old.call.state }
+    ensures image { k.new.image ≡ k.old.image }
 {
     if count < 0 {
         return Next::Returns(SYSERR);
@@ -56,8 +59,8 @@ pub(crate) fn semreset(k: &mut KernelState, word: u32, count: i32) -> Next
 
 /// Call 17: the count.
 pub(crate) fn semcount(k: &KernelState, word: u32) -> Next
-    requires start { IsStart k.now }
-    ensures semcount { came_to k.now result ≡ model.semcount word k.now.state }
+    requires start { IsStart k.now.call }
+    ensures semcount { came_to k.now.call result ≡ model.semcount word k.now.call.state }
 {
     match k.tables.good_semaphore(word) {
         Some(sem) => Next::Returns(k.tables.count_of(sem)),
@@ -67,10 +70,11 @@ pub(crate) fn semcount(k: &KernelState, word: u32) -> Next
 
 /// Call 18: the caller takes a token, or waits for one.
 pub(crate) fn wait(k: &mut KernelState, word: u32) -> Next
-    requires start { IsStart k.old }
-    requires sound { IsSoundTables k.old.state.tables }
-    requires not_null { k.old.state.tables.current ≢ 0 }
-    ensures wait { came_to k.new result ≡ model.wait word k.old.state }
+    requires start { IsStart k.old.call }
+    requires sound { IsSoundTables k.old.call.state.tables }
+    requires not_null { k.old.call.state.tables.current ≢ 0 }
+    ensures wait { came_to k.new.call result ≡ model.wait word k.old.call.state }
+    ensures image { k.new.image ≡ k.old.image }
 {
     let Some(sem) = k.tables.good_semaphore(word) else {
         return Next::Returns(SYSERR);
@@ -84,8 +88,9 @@ pub(crate) fn wait(k: &mut KernelState, word: u32) -> Next
 
 /// Call 19: one signal. Refused if the count is the greatest.
 pub(crate) fn signal(k: &mut KernelState, word: u32) -> Next
-    requires start { IsStart k.old }
-    ensures signal { came_to k.new result ≡ model.signal word k.old.state }
+    requires start { IsStart k.old.call }
+    ensures signal { came_to k.new.call result ≡ model.signal word k.old.call.state }
+    ensures image { k.new.image ≡ k.old.image }
 {
     let Some(sem) = k.tables.good_semaphore(word) else {
         return Next::Returns(SYSERR);
@@ -102,9 +107,10 @@ pub(crate) fn signal(k: &mut KernelState, word: u32) -> Next
 
 /// Call 20: n signals. Refused if n is negative or the count would pass the greatest.
 pub(crate) fn signaln(k: &mut KernelState, word: u32, n: i32) -> Next
-    requires start { IsStart k.old }
-    requires sound { IsSoundTables k.old.state.tables }
-    ensures signaln { came_to k.new result ≡ model.signaln word n k.old.state }
+    requires start { IsStart k.old.call }
+    requires sound { IsSoundTables k.old.call.state.tables }
+    ensures signaln { came_to k.new.call result ≡ model.signaln word n k.old.call.state }
+    ensures image { k.new.image ≡ k.old.image }
 {
     if n < 0 {
         return Next::Returns(SYSERR);

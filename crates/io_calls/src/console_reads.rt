@@ -21,8 +21,9 @@ const EOF: i32 = -2;
 
 /// `getc`: the next item, for which the caller waits.
 pub(crate) fn console_getc(k: &mut KernelState) -> Next
-    requires begins { Begins k.old }
-    ensures getc { came_to k.new result ≡ model.console_getc k.old.state }
+    requires begins { Begins k.old.call }
+    ensures getc { came_to k.new.call result ≡ model.console_getc k.old.call.state }
+    ensures image { k.new.image ≡ k.old.image }
 {
     if await_item(k, Rest::TtyGet) {
         take_char(k)
@@ -33,9 +34,10 @@ pub(crate) fn console_getc(k: &mut KernelState) -> Next
 
 /// What is left of a `getc` once the caller was released: its item.
 pub(crate) fn go_on_getc(k: &mut KernelState) -> Next
-    requires begins { Begins k.old }
-    requires waits { (process_at k.old.state.tables k.old.state.tables.current).rest ≡ Rest.TtyGet }
-    ensures goes_on { came_to k.new result ≡ model.go_on_getc k.old.state }
+    requires begins { Begins k.old.call }
+    requires waits { (process_at k.old.call.state.tables k.old.call.state.tables.current).rest ≡ Rest.TtyGet }
+    ensures goes_on { came_to k.new.call result ≡ model.go_on_getc k.old.call.state }
+    ensures image { k.new.image ≡ k.old.image }
 {
     resume_item(k);
     take_char(k)
@@ -43,8 +45,9 @@ pub(crate) fn go_on_getc(k: &mut KernelState) -> Next
 
 // The first item, by the caller's token.
 fn take_char(k: &mut KernelState) -> Next
-    requires item { HasItem k.old }
-    ensures taken { came_to k.new result ≡ model.take_next k.old.state }
+    requires item { HasItem k.old.call }
+    ensures taken { came_to k.new.call result ≡ model.take_next k.old.call.state }
+    ensures image { k.new.image ≡ k.old.image }
 {
     match k.tty.take() {
         Item::Char(b) => Next::Returns(i32::from(b)),
@@ -58,8 +61,9 @@ fn take_char(k: &mut KernelState) -> Next
 /// `read`: n bytes to an address; in cooked mode a read of no bytes answers 0, and outside it 0 stands for as many bytes as there are
 /// tokens. Refused if n is negative or the range isn't in RAM.
 pub(crate) fn console_read(k: &mut KernelState, at: u32, n: i32) -> Next
-    requires begins { Begins k.old }
-    ensures read { came_to k.new result ≡ model.console_read at n k.old.state }
+    requires begins { Begins k.old.call }
+    ensures read { came_to k.new.call result ≡ model.console_read at n k.old.call.state }
+    ensures image { k.new.image ≡ k.old.image }
 {
     if n < 0 {
         return Next::Returns(SYSERR);
@@ -76,8 +80,9 @@ pub(crate) fn console_read(k: &mut KernelState, at: u32, n: i32) -> Next
 
 // Reads n bytes to an address. Refused if the range isn't in RAM.
 fn read_range(k: &mut KernelState, at: u32, n: u32) -> Next
-    requires begins { Begins k.old }
-    ensures read { came_to k.new result ≡ model.read_range at n k.old.state }
+    requires begins { Begins k.old.call }
+    ensures read { came_to k.new.call result ≡ model.read_range at n k.old.call.state }
+    ensures image { k.new.image ≡ k.old.image }
 {
     if n > RAM_SIZE || at > RAM_SIZE - n {
         return Next::Returns(SYSERR);
@@ -94,9 +99,10 @@ fn read_range(k: &mut KernelState, at: u32, n: u32) -> Next
 
 /// What is left of a read once the caller was released: the item for which it waited, and the rest.
 pub(crate) fn go_on_read(k: &mut KernelState, part: Span) -> Next
-    requires begins { Begins k.old }
-    requires waits { (process_at k.old.state.tables k.old.state.tables.current).rest ≡ Rest.TtyRead part }
-    ensures goes_on { came_to k.new result ≡ model.go_on_read part k.old.state }
+    requires begins { Begins k.old.call }
+    requires waits { (process_at k.old.call.state.tables k.old.call.state.tables.current).rest ≡ Rest.TtyRead part }
+    ensures goes_on { came_to k.new.call result ≡ model.go_on_read part k.old.call.state }
+    ensures image { k.new.image ≡ k.old.image }
 {
     resume_item(k);
     match read_item(k, part.at, part.done) {
@@ -114,10 +120,11 @@ pub(crate) fn go_on_read(k: &mut KernelState, part: Span) -> Next
 
 // Reads what is left of a range.
 fn reads(k: &mut KernelState, part: Span) -> Next
-    requires begins { Begins k.old }
+    requires begins { Begins k.old.call }
     requires order { part.done ≤ part.want }
     requires range { part.at + part.want ≤ ram_size }
-    ensures reads { came_to k.new result ≡ model.reads (part.want - part.done) part.at part.done k.old.state }
+    ensures reads { came_to k.new.call result ≡ model.reads (part.want - part.done) part.at part.done k.old.call.state }
+    ensures image { k.new.image ≡ k.old.image }
 {
     for done in part.done..part.want {
         let left = Span {
@@ -137,10 +144,11 @@ fn reads(k: &mut KernelState, part: Span) -> Next
 
 // The first item, by the caller's token, is stored after `done` others. The answer, if the read ends with it.
 fn read_item(k: &mut KernelState, at: u32, done: u32) -> Option<Next>
-    requires item { HasItem k.old }
+    requires item { HasItem k.old.call }
     requires range { at + done < ram_size }
-    ensures reads { (then_ : Xinu → CallResult) → model.read_next at done then_ k.old.state ≡ unless_ended result then_ k.new }
-    ensures begins { IfNone result (Begins k.new) }
+    ensures reads { (then_ : Xinu → CallResult) → model.read_next at done then_ k.old.call.state ≡ unless_ended result then_ k.new.call }
+    ensures begins { IfNone result (Begins k.new.call) }
+    ensures image { k.new.image ≡ k.old.image }
 {
     let is_cooked = k.tty.mode() == TtyMode::Cooked;
     let byte = match k.tty.take() {

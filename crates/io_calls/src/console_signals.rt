@@ -24,10 +24,11 @@ const TC_ICHARS: u32 = 4;
 
 /// A character is received.
 pub fn on_type(k: &mut KernelState, b: u8)
-    requires start { IsStart k.old }
-    requires sound { IsSoundTables k.old.state.tables }
-    requires console { IsConsole k.old.state.tables (console_of k.old.state) }
-    ensures received { record { call = k.new; answer = Silent } ≡ model.receiving b k.old.state }
+    requires start { IsStart k.old.call }
+    requires sound { IsSoundTables k.old.call.state.tables }
+    requires console { IsConsole k.old.call.state.tables (console_of k.old.call.state) }
+    ensures received { record { call = k.new.call; answer = Silent } ≡ model.receiving b k.old.call.state }
+    ensures image { k.new.image ≡ k.old.image }
 {
     let count = k.tty.receive(b);
     signal_items(k, count);
@@ -35,11 +36,12 @@ pub fn on_type(k: &mut KernelState, b: u8)
 
 /// A byte is sent, the first of the echo or else of the output. `None` if and only if output is held or there is no byte.
 pub fn on_tx(k: &mut KernelState) -> Option<u8>
-    requires start { IsStart k.old }
-    requires sound { IsSoundTables k.old.state.tables }
-    requires console { IsConsole k.old.state.tables (console_of k.old.state) }
-    ensures byte { result ≡ option_map (λ sent. sent.byte) (transmitted (console_of k.old.state)) }
-    ensures sent { k.new ≡ after_sending (transmitted (console_of k.old.state)) k.old.state }
+    requires start { IsStart k.old.call }
+    requires sound { IsSoundTables k.old.call.state.tables }
+    requires console { IsConsole k.old.call.state.tables (console_of k.old.call.state) }
+    ensures byte { result ≡ option_map (λ sent. sent.byte) (transmitted (console_of k.old.call.state)) }
+    ensures sent { k.new.call ≡ after_sending (transmitted (console_of k.old.call.state)) k.old.call.state }
+    ensures image { k.new.image ≡ k.old.image }
 {
     let (b, is_output) = k.tty.transmit()?;
     if is_output {
@@ -50,8 +52,9 @@ pub fn on_tx(k: &mut KernelState) -> Option<u8>
 
 /// `control` of the console: how many items can be taken, or another mode or echo. Refused if there is no such function.
 pub(crate) fn console_control(k: &mut KernelState, f: u32) -> Next
-    requires begins { Begins k.old }
-    ensures control { came_to k.new result ≡ model.console_control f k.old.state }
+    requires begins { Begins k.old.call }
+    ensures control { came_to k.new.call result ≡ model.console_control f k.old.call.state }
+    ensures image { k.new.image ≡ k.old.image }
 {
     if f == TC_ICHARS {
         return Next::Returns(input_tokens(k) as i32);
@@ -67,11 +70,12 @@ pub(crate) fn console_control(k: &mut KernelState, f: u32) -> Next
 
 // Items were committed: each is a signal of the input.
 fn signal_items(k: &mut KernelState, count: u32)
-    requires start { IsStart k.old }
-    requires sound { IsSoundTables k.old.state.tables }
+    requires start { IsStart k.old.call }
+    requires sound { IsSoundTables k.old.call.state.tables }
     requires few { count ≤ 128 }
-    requires tokens { (semaphore_at k.old.state.tables TY_ISEM).tokens ≤ 128 }
-    ensures signalled { k.new ≡ signalled_times TY_ISEM count k.old }
+    requires tokens { (semaphore_at k.old.call.state.tables TY_ISEM).tokens ≤ 128 }
+    ensures signalled { k.new.call ≡ signalled_times TY_ISEM count k.old.call }
+    ensures image { k.new.image ≡ k.old.image }
 {
     let released = k.tables.signaln(input_sem(), count);
     k.release(released.as_slice(), 0);

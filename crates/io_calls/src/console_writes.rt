@@ -19,8 +19,9 @@ use xinu_base::{Next, RAM_SIZE, Rest, SYSERR, Span};
 
 /// `putc`: a byte, for which the caller waits for room.
 pub(crate) fn console_putc(k: &mut KernelState, b: u8) -> Next
-    requires begins { Begins k.old }
-    ensures putc { came_to k.new result ≡ model.console_putc b k.old.state }
+    requires begins { Begins k.old.call }
+    ensures putc { came_to k.new.call result ≡ model.console_putc b k.old.call.state }
+    ensures image { k.new.image ≡ k.old.image }
 {
     if await_place(k, Rest::TtyPut(b, false)) {
         put_char(k, b)
@@ -31,9 +32,10 @@ pub(crate) fn console_putc(k: &mut KernelState, b: u8) -> Next
 
 /// What is left of a `putc` once the caller was released: the byte, or the newline after its carriage return.
 pub(crate) fn go_on_putc(k: &mut KernelState, b: u8, returned: bool) -> Next
-    requires begins { Begins k.old }
-    requires waits { (process_at k.old.state.tables k.old.state.tables.current).rest ≡ Rest.TtyPut b returned }
-    ensures goes_on { came_to k.new result ≡ model.go_on_putc b returned k.old.state }
+    requires begins { Begins k.old.call }
+    requires waits { (process_at k.old.call.state.tables k.old.call.state.tables.current).rest ≡ Rest.TtyPut b returned }
+    ensures goes_on { came_to k.new.call result ≡ model.go_on_putc b returned k.old.call.state }
+    ensures image { k.new.image ≡ k.old.image }
 {
     resume_place(k);
     if returned {
@@ -45,8 +47,9 @@ pub(crate) fn go_on_putc(k: &mut KernelState, b: u8, returned: bool) -> Next
 
 // A byte, by the caller's token.
 fn put_char(k: &mut KernelState, b: u8) -> Next
-    requires place { HasPlace k.old }
-    ensures puts { came_to k.new result ≡ model.put_byte b (rest.TtyPut b true) (answers OK) k.old.state }
+    requires place { HasPlace k.old.call }
+    ensures puts { came_to k.new.call result ≡ model.put_byte b (rest.TtyPut b true) (answers OK) k.old.call.state }
+    ensures image { k.new.image ≡ k.old.image }
 {
     if put_byte(k, b, Rest::TtyPut(b, true)) {
         Next::Returns(0)
@@ -57,8 +60,9 @@ fn put_char(k: &mut KernelState, b: u8) -> Next
 
 /// `write`: n bytes from an address. Refused if n is negative or the range isn't in RAM.
 pub(crate) fn console_write(k: &mut KernelState, at: u32, n: i32) -> Next
-    requires begins { Begins k.old }
-    ensures write { came_to k.new result ≡ model.console_write at n k.old.state }
+    requires begins { Begins k.old.call }
+    ensures write { came_to k.new.call result ≡ model.console_write at n k.old.call.state }
+    ensures image { k.new.image ≡ k.old.image }
 {
     if n < 0 {
         return Next::Returns(SYSERR);
@@ -73,9 +77,10 @@ pub(crate) fn console_write(k: &mut KernelState, at: u32, n: i32) -> Next
 /// What is left of a write once the caller was released: the byte for which it waited, or the newline after its carriage return, and
 /// the rest.
 pub(crate) fn go_on_write(k: &mut KernelState, part: Span, returned: bool) -> Next
-    requires begins { Begins k.old }
-    requires waits { (process_at k.old.state.tables k.old.state.tables.current).rest ≡ Rest.TtyWrite part returned }
-    ensures goes_on { came_to k.new result ≡ model.go_on_write part returned k.old.state }
+    requires begins { Begins k.old.call }
+    requires waits { (process_at k.old.call.state.tables k.old.call.state.tables.current).rest ≡ Rest.TtyWrite part returned }
+    ensures goes_on { came_to k.new.call result ≡ model.go_on_write part returned k.old.call.state }
+    ensures image { k.new.image ≡ k.old.image }
 {
     resume_place(k);
     let left = Span {
@@ -97,10 +102,11 @@ pub(crate) fn go_on_write(k: &mut KernelState, part: Span, returned: bool) -> Ne
 
 // Writes what is left of a range.
 fn writes(k: &mut KernelState, part: Span) -> Next
-    requires begins { Begins k.old }
+    requires begins { Begins k.old.call }
     requires order { part.done ≤ part.want }
     requires range { part.at + part.want ≤ ram_size }
-    ensures writes { came_to k.new result ≡ model.writes (part.want - part.done) part.at part.done k.old.state }
+    ensures writes { came_to k.new.call result ≡ model.writes (part.want - part.done) part.at part.done k.old.call.state }
+    ensures image { k.new.image ≡ k.old.image }
 {
     for done in part.done..part.want {
         let left = Span {

@@ -33,8 +33,9 @@ const REFUSED: Begun = Begun::ByRow(Next::Returns(SYSERR));
 
 /// Call 36: a device is opened, with the texts at two addresses as a name and a mode. Refused if a text isn't there.
 pub(crate) fn device_open(k: &mut KernelState, dev: u32, name: u32, mode: u32) -> Begun
-    requires calling { IsCalling k.old }
-    ensures opens { BeginsAs result (model.device_open dev name mode k.old.state) k.old.state (came_to k.new (next_of result)) }
+    requires calling { IsCalling k.old.call }
+    ensures opens { BeginsAs result (model.device_open dev name mode k.old.call.state) k.old.call.state (came_to k.new.call (next_of result)) }
+    ensures image { k.new.image ≡ k.old.image }
 {
     let Some(kind) = offering(dev, Op::Open) else {
         return REFUSED;
@@ -47,8 +48,9 @@ pub(crate) fn device_open(k: &mut KernelState, dev: u32, name: u32, mode: u32) -
 
 /// Call 37: a device is closed.
 pub(crate) fn device_close(k: &mut KernelState, dev: u32) -> Begun
-    requires calling { IsCalling k.old }
-    ensures close { BeginsAs result (model.device_close dev k.old.state) k.old.state (came_to k.new (next_of result)) }
+    requires calling { IsCalling k.old.call }
+    ensures close { BeginsAs result (model.device_close dev k.old.call.state) k.old.call.state (came_to k.new.call (next_of result)) }
+    ensures image { k.new.image ≡ k.old.image }
 {
     let Some(kind) = offering(dev, Op::Close) else {
         return REFUSED;
@@ -62,8 +64,9 @@ pub(crate) fn device_close(k: &mut KernelState, dev: u32) -> Begun
 
 /// Call 38: a device is read, to an address; the last argument is a number of bytes, of the raw disk the number of a block.
 pub(crate) fn device_read(k: &mut KernelState, dev: u32, at: u32, n: u32) -> Begun
-    requires calling { IsCalling k.old }
-    ensures read { BeginsAs result (model.device_read dev at n k.old.state) k.old.state (came_to k.new (next_of result)) }
+    requires calling { IsCalling k.old.call }
+    ensures read { BeginsAs result (model.device_read dev at n k.old.call.state) k.old.call.state (came_to k.new.call (next_of result)) }
+    ensures image { k.new.image ≡ k.old.image }
 {
     let Some(kind) = offering(dev, Op::Read) else {
         return REFUSED;
@@ -78,8 +81,9 @@ pub(crate) fn device_read(k: &mut KernelState, dev: u32, at: u32, n: u32) -> Beg
 
 /// Call 39: a device is written, from an address; the last argument is as that of `read`.
 pub(crate) fn device_write(k: &mut KernelState, dev: u32, at: u32, n: u32) -> Begun
-    requires calling { IsCalling k.old }
-    ensures write { BeginsAs result (model.device_write dev at n k.old.state) k.old.state (came_to k.new (next_of result)) }
+    requires calling { IsCalling k.old.call }
+    ensures write { BeginsAs result (model.device_write dev at n k.old.call.state) k.old.call.state (came_to k.new.call (next_of result)) }
+    ensures image { k.new.image ≡ k.old.image }
 {
     let Some(kind) = offering(dev, Op::Write) else {
         return REFUSED;
@@ -94,8 +98,9 @@ pub(crate) fn device_write(k: &mut KernelState, dev: u32, at: u32, n: u32) -> Be
 
 /// Call 40: a character is read from a device.
 pub(crate) fn device_getc(k: &mut KernelState, dev: u32) -> Begun
-    requires calling { IsCalling k.old }
-    ensures getc { BeginsAs result (model.device_getc dev k.old.state) k.old.state (came_to k.new (next_of result)) }
+    requires calling { IsCalling k.old.call }
+    ensures getc { BeginsAs result (model.device_getc dev k.old.call.state) k.old.call.state (came_to k.new.call (next_of result)) }
+    ensures image { k.new.image ≡ k.old.image }
 {
     let Some(kind) = offering(dev, Op::Getc) else {
         return REFUSED;
@@ -109,8 +114,9 @@ pub(crate) fn device_getc(k: &mut KernelState, dev: u32) -> Begun
 
 /// Call 41: a character, the lowest byte of a word, is written to a device.
 pub(crate) fn device_putc(k: &mut KernelState, dev: u32, word: u32) -> Begun
-    requires calling { IsCalling k.old }
-    ensures putc { BeginsAs result (model.device_putc dev (word % 256) k.old.state) k.old.state (came_to k.new (next_of result)) }
+    requires calling { IsCalling k.old.call }
+    ensures putc { BeginsAs result (model.device_putc dev (word % 256) k.old.call.state) k.old.call.state (came_to k.new.call (next_of result)) }
+    ensures image { k.new.image ≡ k.old.image }
 {
     let Some(kind) = offering(dev, Op::Putc) else {
         return REFUSED;
@@ -124,8 +130,9 @@ pub(crate) fn device_putc(k: &mut KernelState, dev: u32, word: u32) -> Begun
 
 /// Call 42: a device has another position.
 pub(crate) fn device_seek(k: &mut KernelState, dev: u32, n: u32) -> Begun
-    requires calling { IsCalling k.old }
-    ensures seek { BeginsAs result (model.device_seek dev (signed n) k.old.state) k.old.state (came_to k.new (next_of result)) }
+    requires calling { IsCalling k.old.call }
+    ensures seek { BeginsAs result (model.device_seek dev (signed n) k.old.call.state) k.old.call.state (came_to k.new.call (next_of result)) }
+    ensures image { k.new.image ≡ k.old.image }
 {
     let Some(kind) = offering(dev, Op::Seek) else {
         return REFUSED;
@@ -138,8 +145,9 @@ pub(crate) fn device_seek(k: &mut KernelState, dev: u32, n: u32) -> Begun
 
 /// Call 43: a control function of a device, with an argument.
 pub(crate) fn device_control(k: &mut KernelState, dev: u32, f: u32, x: u32) -> Begun
-    requires calling { IsCalling k.old }
-    ensures control { BeginsAs result (model.device_control dev f x k.old.state) k.old.state (came_to k.new (next_of result)) }
+    requires calling { IsCalling k.old.call }
+    ensures control { BeginsAs result (model.device_control dev f x k.old.call.state) k.old.call.state (came_to k.new.call (next_of result)) }
+    ensures image { k.new.image ≡ k.old.image }
 {
     let Some(kind) = offering(dev, Op::Control) else {
         return REFUSED;

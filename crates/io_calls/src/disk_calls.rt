@@ -28,8 +28,9 @@ const RD_CTL_SIZE: u32 = 1;
 
 /// `read`: a block to an address; its caller waits. Refused if there is no such block or it would leave RAM.
 pub(crate) fn disk_read(k: &mut KernelState, at: u32, block: u32) -> Next
-    requires asks { AsksDisk k.old }
-    ensures read { came_to k.new result ≡ model.disk_read at block k.old.state }
+    requires asks { AsksDisk k.old.call }
+    ensures read { came_to k.new.call result ≡ model.disk_read at block k.old.call.state }
+    ensures image { k.new.image ≡ k.old.image }
 {
     if !may_request(k, at, block) {
         return Next::Returns(SYSERR);
@@ -39,8 +40,9 @@ pub(crate) fn disk_read(k: &mut KernelState, at: u32, block: u32) -> Next
 
 /// `write`: a block from an address, with the bytes that are there now; its caller waits. Refused as `read`.
 pub(crate) fn disk_write(k: &mut KernelState, at: u32, block: u32) -> Next
-    requires asks { AsksDisk k.old }
-    ensures write { came_to k.new result ≡ model.disk_write at block k.old.state }
+    requires asks { AsksDisk k.old.call }
+    ensures write { came_to k.new.call result ≡ model.disk_write at block k.old.call.state }
+    ensures image { k.new.image ≡ k.old.image }
 {
     if !may_request(k, at, block) {
         return Next::Returns(SYSERR);
@@ -51,8 +53,8 @@ pub(crate) fn disk_write(k: &mut KernelState, at: u32, block: u32) -> Next
 
 /// `control`: how many blocks there are. Refused if there is no such function.
 pub(crate) fn disk_control(k: &KernelState, f: u32) -> Next
-    requires start { IsStart k.now }
-    ensures control { came_to k.now result ≡ model.disk_control f k.now.state }
+    requires start { IsStart k.now.call }
+    ensures control { came_to k.now.call result ≡ model.disk_control f k.now.call.state }
 {
     if f == RD_CTL_SIZE {
         Next::Returns(k.disk.blocks() as i32)
@@ -63,9 +65,10 @@ pub(crate) fn disk_control(k: &KernelState, f: u32) -> Next
 
 /// What is left of a `read` or a `write` once its request was completed: the reply that was kept.
 pub(crate) fn go_on_disk(k: &mut KernelState, reply: Option<i32>) -> Next
-    requires asks { AsksDisk k.old }
-    requires waits { (process_at k.old.state.tables k.old.state.tables.current).rest ≡ Rest.Disk reply }
-    ensures goes_on { came_to k.new result ≡ model.go_on_disk reply k.old.state }
+    requires asks { AsksDisk k.old.call }
+    requires waits { (process_at k.old.call.state.tables k.old.call.state.tables.current).rest ≡ Rest.Disk reply }
+    ensures goes_on { came_to k.new.call result ≡ model.go_on_disk reply k.old.call.state }
+    ensures image { k.new.image ≡ k.old.image }
 {
     let Some(reply) = reply else {
         return Next::Returns(SYSERR);
@@ -77,10 +80,11 @@ pub(crate) fn go_on_disk(k: &mut KernelState, reply: Option<i32>) -> Next
 /// The disk completes its first request, well or badly. If the caller lives it becomes ready with its reply, and what was read goes to RAM.
 /// Nothing changes if no request waits.
 pub fn on_disk(k: &mut KernelState, good: bool)
-    requires start { IsStart k.old }
-    requires sound { IsSoundTables k.old.state.tables }
-    requires disk { IsRawDisk k.old.state.tables (disk_of k.old.state) }
-    ensures completes { k.new ≡ after_completing (raw_completed good (disk_of k.old.state)) k.old.state }
+    requires start { IsStart k.old.call }
+    requires sound { IsSoundTables k.old.call.state.tables }
+    requires disk { IsRawDisk k.old.call.state.tables (disk_of k.old.call.state) }
+    ensures completes { k.new.call ≡ after_completing (raw_completed good (disk_of k.old.call.state)) k.old.call.state }
+    ensures image { k.new.image ≡ k.old.image }
 {
     let Some(done) = k.disk.complete(good) else {
         return;
@@ -94,8 +98,9 @@ pub fn on_disk(k: &mut KernelState, good: bool)
 // A request was served whose caller is p, which waits: what was read goes to RAM, and p becomes ready with its reply.
 fn answer_caller(k: &mut KernelState, p: Pid, done: &Done)
     requires range { in_ram done.now.request.at 512 ≡ true }
-    requires waits { state_at k.old.state.tables p ≡ State.Waiting }
-    ensures answered { k.new ≡ model.keep_reply p done.now.reply (record k.old { state = record k.old.state { memory = with_bytes k.old.state.memory done.now.request.at (length (bytes_read done.now.read)) (bytes_read done.now.read) } }) }
+    requires waits { state_at k.old.call.state.tables p ≡ State.Waiting }
+    ensures answered { k.new.call ≡ model.keep_reply p done.now.reply (record k.old.call { state = record k.old.call.state { memory = with_bytes k.old.call.state.memory done.now.request.at (length (bytes_read done.now.read)) (bytes_read done.now.read) } }) }
+    ensures image { k.new.image ≡ k.old.image }
 {
     if let Some(bytes) = &done.read {
         let _ = k.ram.copy_in(done.request.at, bytes);
@@ -106,16 +111,17 @@ fn answer_caller(k: &mut KernelState, p: Pid, done: &Done)
 
 // Whether there is a block, and the bytes of one at an address are in RAM.
 fn may_request(k: &KernelState, at: u32, block: u32) -> bool
-    ensures may { result ≡ model.may_request at block k.now.state }
+    ensures may { result ≡ model.may_request at block k.now.call.state }
 {
     at <= RAM_SIZE - RD_BLKSIZ && block < k.disk.blocks()
 }
 
 // The caller makes a request, and waits until it is completed.
 fn await_disk(k: &mut KernelState, at: u32, block: u32, written: Option<[u8; 512]>) -> Next
-    requires asks { AsksDisk k.old }
-    requires may { model.may_request at block k.old.state ≡ true }
-    ensures waits { came_to k.new result ≡ model.awaits_disk written at block k.old.state }
+    requires asks { AsksDisk k.old.call }
+    requires may { model.may_request at block k.old.call.state ≡ true }
+    ensures waits { came_to k.new.call result ≡ model.awaits_disk written at block k.old.call.state }
+    ensures image { k.new.image ≡ k.old.image }
 {
     let caller = Some(k.tables.current());
     k.disk.submit(Request {
@@ -131,7 +137,7 @@ fn await_disk(k: &mut KernelState, at: u32, block: u32, written: Option<[u8; 512
 // The bytes of a block at an address.
 fn bytes_at(k: &KernelState, at: u32) -> [u8; 512]
     requires there { at + 512 ≤ ram_size }
-    ensures bytes { result ≡ bytes_from k.now.state.memory at 512 }
+    ensures bytes { result ≡ bytes_from k.now.call.state.memory at 512 }
 {
     let mut bytes = [0; 512];
     for i in 0..RD_BLKSIZ {

@@ -24,8 +24,9 @@ use xinu_base::{Call, Next, Rest, SYSERR, each_call};
 pub fn begin(k: &mut KernelState, call: Call) -> Begun
     requires io { 36 ≤ call.number }
     requires known { is_call call.number ≡ true }
-    requires calling { IsCalling k.old }
-    ensures called { BeginsAs result (called call.number call.args k.old.state) k.old.state (came_to k.new (next_of result)) }
+    requires calling { IsCalling k.old.call }
+    ensures called { BeginsAs result (called call.number call.args k.old.call.state) k.old.call.state (came_to k.new.call (next_of result)) }
+    ensures image { k.new.image ≡ k.old.image }
 {
     let args = call.args;
     macro_rules! begins {
@@ -41,9 +42,10 @@ pub fn begin(k: &mut KernelState, call: Call) -> Begun
 
 /// Does what is left of the current process's call on a device: items or bytes of the console, or the reply of a disk.
 pub fn go_on(k: &mut KernelState) -> Next
-    requires calling { IsCalling k.old }
-    requires io { is_on_device (process_at k.old.state.tables k.old.state.tables.current).rest ≡ true }
-    ensures continued { came_to k.new result ≡ continued (process_at k.old.state.tables k.old.state.tables.current).rest k.old.state }
+    requires calling { IsCalling k.old.call }
+    requires io { is_on_device (process_at k.old.call.state.tables k.old.call.state.tables.current).rest ≡ true }
+    ensures continued { came_to k.new.call result ≡ continued (process_at k.old.call.state.tables k.old.call.state.tables.current).rest k.old.call.state }
+    ensures image { k.new.image ≡ k.old.image }
 {
     match k.tables.rest() {
         Rest::TtyGet => go_on_getc(k),

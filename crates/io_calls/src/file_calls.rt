@@ -10,6 +10,7 @@ ghost use Rattle.io_calls.specs.Files.{AreTold, AsksFiles, bytes_asked, Complete
 ghost use Rattle.kernel_state.specs.Beginnings.{BeginsAs, next_of};
 ghost use Rattle.kernel_state.specs.Results.{came_to, IsStart};
 ghost use Rattle.local_files.specs.Hands.{IsCall};
+ghost use Rattle.local_files.specs.Resting.{ChangesOneBlock};
 ghost use Rattle.xinu_model.specs.Devices.Calls.{named_control};
 ghost use Rattle.xinu_model.specs.Devices.Texts.{text_at};
 ghost use Rattle.xinu_model.specs.Files.Issue.{file_control_call, read_call, write_call};
@@ -37,8 +38,9 @@ const LF_CTL_SIZE: u32 = 2;
 
 /// `read`: n bytes of a file to an address. Refused as it is made if n is negative or the range isn't in RAM.
 pub(crate) fn file_read(k: &mut KernelState, d: FileDev, at: u32, n: i32) -> Begun
-    requires asks { AsksFiles k.old }
-    ensures read { BeginsAs result (model.asks_files (read_call d at n) at k.old.state) k.old.state (came_to k.new (next_of result)) }
+    requires asks { AsksFiles k.old.call }
+    ensures read { BeginsAs result (model.asks_files (read_call d at n) at k.old.call.state) k.old.call.state (came_to k.new.call (next_of result)) }
+    ensures image { k.new.image ≡ k.old.image }
 {
     match bytes_asked(at, n) {
         Some(count) => ask_at(k, FileCall::Read(d, count), 0, at),
@@ -48,8 +50,9 @@ pub(crate) fn file_read(k: &mut KernelState, d: FileDev, at: u32, n: i32) -> Beg
 
 /// `write`: n bytes from an address to a file. Refused as it is made, as `read`.
 pub(crate) fn file_write(k: &mut KernelState, d: FileDev, at: u32, n: i32) -> Begun
-    requires asks { AsksFiles k.old }
-    ensures write { BeginsAs result (model.asks_files (write_call d at n) at k.old.state) k.old.state (came_to k.new (next_of result)) }
+    requires asks { AsksFiles k.old.call }
+    ensures write { BeginsAs result (model.asks_files (write_call d at n) at k.old.call.state) k.old.call.state (came_to k.new.call (next_of result)) }
+    ensures image { k.new.image ≡ k.old.image }
 {
     match bytes_asked(at, n) {
         Some(count) => ask_at(k, FileCall::Write(d), count, at),
@@ -59,8 +62,9 @@ pub(crate) fn file_write(k: &mut KernelState, d: FileDev, at: u32, n: i32) -> Be
 
 /// `control` of a file device. Refused as it is made if there is no such function.
 pub(crate) fn file_control(k: &mut KernelState, d: FileDev, f: u32) -> Begun
-    requires asks { AsksFiles k.old }
-    ensures control { BeginsAs result (model.asks_files (file_control_call d f) 0 k.old.state) k.old.state (came_to k.new (next_of result)) }
+    requires asks { AsksFiles k.old.call }
+    ensures control { BeginsAs result (model.asks_files (file_control_call d f) 0 k.old.call.state) k.old.call.state (came_to k.new.call (next_of result)) }
+    ensures image { k.new.image ≡ k.old.image }
 {
     match f {
         LF_CTL_TRUNC => ask(k, FileCall::Truncate(d)),
@@ -72,8 +76,9 @@ pub(crate) fn file_control(k: &mut KernelState, d: FileDev, f: u32) -> Begun
 /// `control` of the file system, with the address of a text. Refused as it is made if there is no such function, or no text that can be the
 /// name of a file.
 pub(crate) fn system_control(k: &mut KernelState, f: u32, x: u32) -> Begun
-    requires asks { AsksFiles k.old }
-    ensures control { BeginsAs result (model.asks_files (named_control f (text_at x k.old.state.memory)) 0 k.old.state) k.old.state (came_to k.new (next_of result)) }
+    requires asks { AsksFiles k.old.call }
+    ensures control { BeginsAs result (model.asks_files (named_control f (text_at x k.old.call.state.memory)) 0 k.old.call.state) k.old.call.state (came_to k.new.call (next_of result)) }
+    ensures image { k.new.image ≡ k.old.image }
 {
     match named_control(&k.ram, f, x) {
         Some(call) => ask(k, call),
@@ -92,19 +97,21 @@ fn named_control(ram: &Ram, f: u32, x: u32) -> Option<FileCall>
 
 /// A call that can be made and has no bytes in RAM. It takes effect as it is made, or its caller waits.
 pub(crate) fn ask(k: &mut KernelState, call: FileCall) -> Begun
-    requires asks { AsksFiles k.old }
+    requires asks { AsksFiles k.old.call }
     requires call { IsCall call }
-    ensures asks { BeginsAs result (model.awaits_files (call_with call 0) 0 k.old.state) k.old.state (came_to k.new (next_of result)) }
+    ensures asks { BeginsAs result (model.awaits_files (call_with call 0) 0 k.old.call.state) k.old.call.state (came_to k.new.call (next_of result)) }
+    ensures image { k.new.image ≡ k.old.image }
 {
     ask_at(k, call, 0, 0)
 }
 
 // A call that can be made, with the address of its bytes and how many it writes. It takes effect as it is made, or its caller waits.
 fn ask_at(k: &mut KernelState, call: FileCall, count: u32, at: u32) -> Begun
-    requires asks { AsksFiles k.old }
+    requires asks { AsksFiles k.old.call }
     requires call { IsCall call }
     requires range { InRam (call_with call count) at }
-    ensures asks { BeginsAs result (model.awaits_files (call_with call count) at k.old.state) k.old.state (came_to k.new (next_of result)) }
+    ensures asks { BeginsAs result (model.awaits_files (call_with call count) at k.old.call.state) k.old.call.state (came_to k.new.call (next_of result)) }
+    ensures image { k.new.image ≡ k.old.image }
 {
     let caller = Some(k.tables.current());
     let request = FileRequest {
@@ -137,10 +144,11 @@ fn bytes_asked(at: u32, n: i32) -> Option<u32>
 /// The files' disk completes well: the first call takes effect and some after it, or it has a turn. The living callers of those that took
 /// effect become ready with their replies. Tells what happened, in order; nothing happens if no call is under way.
 pub fn on_files(k: &mut KernelState) -> FileNotes
-    requires start { IsStart k.old }
-    requires sound { IsSoundTables k.old.state.tables }
-    requires files { IsFileDisk k.old.state.tables (files_of k.old.state) }
-    ensures completes { CompletesFiles k.old.state (map note_of result.items) (record { call = k.new; answer = Silent }) }
+    requires start { IsStart k.old.call }
+    requires sound { IsSoundTables k.old.call.state.tables }
+    requires files { IsFileDisk k.old.call.state.tables (files_of k.old.call.state) }
+    ensures completes { CompletesFiles k.old.call.state (map note_of result.items) (record { call = k.new.call; answer = Silent }) }
+    ensures image { ChangesOneBlock k.old.image k.new.image }
 {
     if !k.files.are_calls() {
         return FileNotes::new();
@@ -152,8 +160,9 @@ pub fn on_files(k: &mut KernelState) -> FileNotes
 
 // The living callers of the calls that took effect become ready with their replies.
 fn tell_all(k: &mut KernelState, notes: &[FileNote])
-    requires callers { AreTold (map note_of notes.now) k.old.state.tables }
-    ensures told { k.new ≡ model.all_told (map note_of notes.now) k.old }
+    requires callers { AreTold (map note_of notes.now) k.old.call.state.tables }
+    ensures told { k.new.call ≡ model.all_told (map note_of notes.now) k.old.call }
+    ensures image { k.new.image ≡ k.old.image }
 {
     for note in notes {
         tell(k, *note);
@@ -162,8 +171,9 @@ fn tell_all(k: &mut KernelState, notes: &[FileNote])
 
 // The caller of a call that took effect, if it lives, becomes ready with its reply.
 fn tell(k: &mut KernelState, note: FileNote)
-    requires waits { WaitsFor note.reply note.caller k.old.state.tables }
-    ensures told { k.new ≡ model.told note.reply note.caller k.old }
+    requires waits { WaitsFor note.reply note.caller k.old.call.state.tables }
+    ensures told { k.new.call ≡ model.told note.reply note.caller k.old.call }
+    ensures image { k.new.image ≡ k.old.image }
 {
     let (Some(reply), Some(p)) = (note.reply, note.caller) else {
         return;

@@ -17,8 +17,9 @@ use xinu_base::{Next, SYSERR};
 /// Call 44: the text at an address is mounted as a prefix, with another text in its place, for a device. Refused if there is no such
 /// device, a text isn't there or has more than 31 bytes, or 40 prefixes are mounted.
 pub(crate) fn mount(k: &mut KernelState, prefix: u32, replacement: u32, dev: u32) -> Begun
-    requires start { IsStart k.old }
-    ensures mounts { BeginsAs result (model.mount prefix replacement dev k.old.state) k.old.state (came_to k.new (next_of result)) }
+    requires start { IsStart k.old.call }
+    ensures mounts { BeginsAs result (model.mount prefix replacement dev k.old.call.state) k.old.call.state (came_to k.new.call (next_of result)) }
+    ensures image { k.new.image ≡ k.old.image }
 {
     let Ok(dev) = device(dev) else {
         return Begun::ByRow(Next::Returns(SYSERR));

@@ -27,7 +27,7 @@ pub(crate) enum Opening {
 
 /// `open` of a device of this kind, with the texts at two addresses as a name and a mode, which have to be there.
 pub(crate) fn what_opens(k: &KernelState, kind: Kind, name: u32, mode: u32) -> Opening
-    ensures opens { comes_to result k.now.state ≡ model.open_texts name mode kind k.now.state }
+    ensures opens { comes_to result k.now.call.state ≡ model.open_texts name mode kind k.now.call.state }
     ensures can { CanBeMade result }
 {
     let Some(name) = text_at(&k.ram, name) else {

@@ -1,2 +1,3 @@
 pub mod Booted
 pub mod Kernels
+pub mod Values

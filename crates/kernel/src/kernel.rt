@@ -2,9 +2,10 @@
 //!
 //! It depends on the kernel's state. What each call of the abstract machine keeps is kept true at each moment.
 
-ghost use Rattle.std.specs.Prelude.{ℕ, ◌≡◌, ◌≢◌, ◌<◌, ◌≤◌, length, map, ◌↔◌, IsTrue, [], option_map};
+ghost use Rattle.std.specs.Prelude.{ℕ, ◌≡◌, ◌≢◌, ◌<◌, ◌≤◌, length, map, IfOk, ◌↔◌, IsTrue, [], option_map};
 ghost use Rattle.file_server.specs.Requests.{note_of};
 ghost use Rattle.given_disks.specs.Disks.{disks_of};
+ghost use Rattle.given_disks.specs.HeldFiles.{HoldsFiles};
 ghost use Rattle.image_loader.specs.Images.{loaded_of};
 ghost use Rattle.io_calls.specs.Consoles.{after_sending};
 ghost use Rattle.io_calls.specs.Disks.{after_completing};
@@ -13,12 +14,14 @@ ghost use Rattle.kernel.specs.Booted.{Booted};
 ghost use Rattle.kernel_state.specs.Beginnings.{BeginsAs, next_of};
 ghost use Rattle.kernel_state.specs.Calling.{IsCalling};
 ghost use Rattle.kernel_state.specs.Results.{answer_of, answer_so_far, came_to, idle, IsIdle};
+ghost use Rattle.local_files.specs.Resting.{ChangesOneBlock};
 ghost use Rattle.xinu_laws.specs.Preserve.{ticking};
 ghost use Rattle.xinu_model.specs.Calls.{called, continued};
 ghost use Rattle.xinu_model.specs.Console.Signals.{receiving};
 ghost use Rattle.xinu_model.specs.Console.Taking.{console_of};
 ghost use Rattle.xinu_model.specs.Console.Transmitting.{transmitted};
 ghost use Rattle.xinu_model.specs.Events as events;
+ghost use Rattle.xinu_model.specs.Files.Syscalls.{files_of};
 ghost use Rattle.xinu_model.specs.Isa.Exec.{exec};
 ghost use Rattle.xinu_model.specs.Machine as model;
 ghost use Rattle.xinu_model.specs.Machine.{Silent};
@@ -39,7 +42,8 @@ use std::alloc::Global;
 use std::marker::Model;
 use xinu_base::{Call, Next, Pid, Rest, SYSERR, is_call};
 
-/// The kernel. A clause sees the state of the abstract machine inside an event, and how the event's call goes.
+/// The kernel. A clause sees the state of the abstract machine inside an event and how the event's call goes, `came`, and the bytes of the
+/// disk with files, `image`.
 #[derive(Drop)]
 pub struct Kernel {
     // The state.
@@ -49,13 +53,13 @@ pub struct Kernel {
 }
 
 impl Model for Kernel {
-    ghost use Rattle.xinu_model.specs.Machine.{CallResult};
+    ghost use Rattle.kernel.specs.Values.{KernelValue};
 
-    ghost Value = { CallResult };
+    ghost Value = { KernelValue };
 
-    ghost use Rattle.kernel.specs.Kernels.{kernel_result, IsKernel};
+    ghost use Rattle.kernel.specs.Kernels.{kernel_value, IsKernel};
 
-    ghost view = { kernel_result };
+    ghost view = { kernel_value };
 
     ghost invariant = { IsKernel };
 }
@@ -76,6 +80,7 @@ impl Kernel {
     ) -> Result<Self, BootFault>
         requires few { length images.now ≤ 8 }
         ensures booted { Booted (disks_of disk0 disk1) (map loaded_of images.now) result }
+        ensures image { IfOk result (λ k. k.image ≡ disk1) }
     {
         let state = boot(alloc, images, disk0, disk1)?;
         Ok(Kernel {
@@ -86,48 +91,58 @@ impl Kernel {
 
     /// The state inside the event: tables, heap, pools, thirty ports and devices, and the replies to released processes so far.
     pub fn state(&self) -> &KernelState
-        ensures state { result.now ≡ self.now.call }
-        ensures many { length result.now.state.parts.ports ≡ 30 }
+        ensures state { result.now.call ≡ self.now.came.call }
+        ensures image { result.now.image ≡ self.now.image }
+        ensures many { length result.now.call.state.parts.ports ≡ 30 }
     {
         &self.state
     }
 
+    /// A law: the disk with files holds the files at rest, and if no file is open and no call on files is under way it is clean for exactly
+    /// its files.
+    pub fn holds_files(&self)
+        ensures holds { HoldsFiles self.now.image (files_of self.now.came.call.state) }
+    {
+        self.state.holds_files();
+    }
+
     /// How the event's call went so far. `None` if there is no call.
     pub fn answer(&self) -> Option<Next>
-        ensures answer { self.now.answer ≡ answer_so_far result }
+        ensures answer { self.now.came.answer ≡ answer_so_far result }
     {
         self.answer
     }
 
     /// The current process.
     pub fn current(&self) -> Pid
-        ensures current { result ≡ self.now.call.state.tables.current }
+        ensures current { result ≡ self.now.came.call.state.tables.current }
     {
         self.state.current()
     }
 
     /// Whether nothing is left of the current process's call, so that its next step is an instruction.
     pub fn is_done(&self) -> bool
-        ensures done { IsTrue result ↔ ((process_at self.now.call.state.tables self.now.call.state.tables.current).rest ≡ Rest.Nothing) }
+        ensures done { IsTrue result ↔ ((process_at self.now.came.call.state.tables self.now.came.call.state.tables.current).rest ≡ Rest.Nothing) }
     {
         self.state.is_done()
     }
 
     /// The call that the current process's registers ask for.
     pub fn call_of(&self) -> Call
-        ensures call { result ≡ events.call_of (model.current_hart self.now.call.state) }
+        ensures call { result ≡ events.call_of (model.current_hart self.now.came.call.state) }
     {
         self.state.call_of()
     }
 
     /// Carries out one instruction of the current process, which isn't the null process.
     pub fn instruction(&mut self) -> Outcome
-        requires idle { IsIdle self.old }
-        requires not_null { self.old.call.state.tables.current ≢ 0 }
-        ensures outcome { result ≡ (exec (model.current_hart self.old.call.state) self.old.call.state.memory).outcome }
-        ensures idle { IsIdle self.new }
-        ensures sound { IsSound self.new.call.state }
-        ensures state { self.new ≡ idle (events.with_executed (exec (model.current_hart self.old.call.state) self.old.call.state.memory) self.old.call.state) }
+        requires idle { IsIdle self.old.came }
+        requires not_null { self.old.came.call.state.tables.current ≢ 0 }
+        ensures outcome { result ≡ (exec (model.current_hart self.old.came.call.state) self.old.came.call.state.memory).outcome }
+        ensures idle { IsIdle self.new.came }
+        ensures sound { IsSound self.new.came.call.state }
+        ensures state { self.new.came ≡ idle (events.with_executed (exec (model.current_hart self.old.came.call.state) self.old.came.call.state.memory) self.old.came.call.state) }
+        ensures image { self.new.image ≡ self.old.image }
     {
         self.state.instruction()
     }
@@ -135,11 +150,12 @@ impl Kernel {
     /// Begins a call of the current process. A number that has no call is refused. The sequence number of a port may rise. A call on
     /// files may take effect as it is made, if no other is under way.
     pub fn begin_core(&mut self, call: Call) -> Begun
-        requires idle { IsIdle self.old }
-        requires not_null { self.old.call.state.tables.current ≢ 0 }
-        requires numbers { (q : ℕ) → (port_at self.old.call.state.parts.ports q).seq < 4294967295 }
-        ensures called { BeginsAs result (called call.number call.args self.old.call.state) self.old.call.state self.new }
-        ensures answer { self.new.answer ≡ answer_of (next_of result) }
+        requires idle { IsIdle self.old.came }
+        requires not_null { self.old.came.call.state.tables.current ≢ 0 }
+        requires numbers { (q : ℕ) → (port_at self.old.came.call.state.parts.ports q).seq < 4294967295 }
+        ensures called { BeginsAs result (called call.number call.args self.old.came.call.state) self.old.came.call.state self.new.came }
+        ensures answer { self.new.came.answer ≡ answer_of (next_of result) }
+        ensures image { self.new.image ≡ self.old.image }
     {
         let begun = begin(&mut self.state, call);
         self.answer = Some(begun.next());
@@ -148,11 +164,12 @@ impl Kernel {
 
     /// Does what is left of the call in which the current process waited.
     pub fn go_on_core(&mut self) -> Next
-        requires idle { IsIdle self.old }
-        requires not_null { self.old.call.state.tables.current ≢ 0 }
-        requires waits { (process_at self.old.call.state.tables self.old.call.state.tables.current).rest ≢ Rest.Nothing }
-        ensures continued { self.new ≡ continued (process_at self.old.call.state.tables self.old.call.state.tables.current).rest self.old.call.state }
-        ensures answer { self.new.answer ≡ answer_of result }
+        requires idle { IsIdle self.old.came }
+        requires not_null { self.old.came.call.state.tables.current ≢ 0 }
+        requires waits { (process_at self.old.came.call.state.tables self.old.came.call.state.tables.current).rest ≢ Rest.Nothing }
+        ensures continued { self.new.came ≡ continued (process_at self.old.came.call.state.tables self.old.came.call.state.tables.current).rest self.old.came.call.state }
+        ensures answer { self.new.came.answer ≡ answer_of result }
+        ensures image { self.new.image ≡ self.old.image }
     {
         let next = go_on(&mut self.state);
         self.answer = Some(next);
@@ -161,9 +178,10 @@ impl Kernel {
 
     /// A tick of the clock, with its own reschedules.
     pub fn on_tick(&mut self)
-        requires idle { IsIdle self.old }
-        requires few { self.old.call.state.tables.ticks < 4294967295 }
-        ensures ticks { self.new ≡ ticking self.old.call.state }
+        requires idle { IsIdle self.old.came }
+        requires few { self.old.came.call.state.tables.ticks < 4294967295 }
+        ensures ticks { self.new.came ≡ ticking self.old.came.call.state }
+        ensures image { self.new.image ≡ self.old.image }
     {
         core_calls::tick(&mut self.state);
         self.answer = None;
@@ -171,8 +189,9 @@ impl Kernel {
 
     /// A character is received from the console.
     pub fn on_type(&mut self, b: u8)
-        requires idle { IsIdle self.old }
-        ensures received { self.new ≡ receiving b self.old.call.state }
+        requires idle { IsIdle self.old.came }
+        ensures received { self.new.came ≡ receiving b self.old.came.call.state }
+        ensures image { self.new.image ≡ self.old.image }
     {
         io_calls::on_type(&mut self.state, b);
         self.answer = None;
@@ -180,9 +199,10 @@ impl Kernel {
 
     /// The console may send a byte. `None`, and nothing changes, if and only if output is held or there is nothing to be sent.
     pub fn on_tx(&mut self) -> Option<u8>
-        requires idle { IsIdle self.old }
-        ensures byte { result ≡ option_map (λ sent. sent.byte) (transmitted (console_of self.old.call.state)) }
-        ensures sent { self.new ≡ record { call = after_sending (transmitted (console_of self.old.call.state)) self.old.call.state; answer = Silent } }
+        requires idle { IsIdle self.old.came }
+        ensures byte { result ≡ option_map (λ sent. sent.byte) (transmitted (console_of self.old.came.call.state)) }
+        ensures sent { self.new.came ≡ record { call = after_sending (transmitted (console_of self.old.came.call.state)) self.old.came.call.state; answer = Silent } }
+        ensures image { self.new.image ≡ self.old.image }
     {
         let byte = io_calls::on_tx(&mut self.state);
         self.answer = None;
@@ -192,19 +212,21 @@ impl Kernel {
     /// The raw disk completes its first request, well or badly. If the caller lives it becomes ready with its reply, and what was read goes to
     /// RAM. Nothing changes if no request waits.
     pub fn on_disk(&mut self, good: bool)
-        requires idle { IsIdle self.old }
-        ensures completes { self.new ≡ record { call = after_completing (raw_completed good (disk_of self.old.call.state)) self.old.call.state; answer = Silent } }
+        requires idle { IsIdle self.old.came }
+        ensures completes { self.new.came ≡ record { call = after_completing (raw_completed good (disk_of self.old.came.call.state)) self.old.came.call.state; answer = Silent } }
+        ensures image { self.new.image ≡ self.old.image }
     {
         io_calls::on_disk(&mut self.state, good);
         self.answer = None;
     }
 
     /// The disk with files completes well: the first call on files has its reply, or a turn. Once it has its reply the next becomes the first,
-    /// and so on as long as one needs no block. Whoever has a reply becomes ready with it, and what was read is in RAM. Tells what happened,
-    /// in order; nothing does if no call is under way.
+    /// and so on as long as one needs no block. Whoever has a reply becomes ready with it, and what was read is in RAM. At most one block of the
+    /// disk changes. Tells what happened, in order; nothing does if no call is under way.
     pub fn on_files(&mut self) -> FileNotes
-        requires idle { IsIdle self.old }
-        ensures completes { CompletesFiles self.old.call.state (map note_of result.items) self.new }
+        requires idle { IsIdle self.old.came }
+        ensures completes { CompletesFiles self.old.came.call.state (map note_of result.items) self.new.came }
+        ensures image { ChangesOneBlock self.old.image self.new.image }
     {
         let notes = io_calls::on_files(&mut self.state);
         self.answer = None;
@@ -213,9 +235,10 @@ impl Kernel {
 
     /// The current process dies, by `exit` or by a trap.
     pub fn die(&mut self)
-        requires idle { IsIdle self.old }
-        requires not_null { self.old.call.state.tables.current ≢ 0 }
-        ensures dies { self.new ≡ exit self.old.call.state }
+        requires idle { IsIdle self.old.came }
+        requires not_null { self.old.came.call.state.tables.current ≢ 0 }
+        ensures dies { self.new.came ≡ exit self.old.came.call.state }
+        ensures image { self.new.image ≡ self.old.image }
     {
         let next = core_calls::exit(&mut self.state);
         self.answer = Some(next);
@@ -223,9 +246,10 @@ impl Kernel {
 
     /// Ends the event: its one resched, and the replies.
     pub fn close_event(&mut self)
-        ensures idle { IsIdle self.new }
-        ensures closed { self.new ≡ idle (model.end_of_event 0 [] self.old).state }
-        ensures sound { IsSound self.new.call.state }
+        ensures idle { IsIdle self.new.came }
+        ensures closed { self.new.came ≡ idle (model.end_of_event 0 [] self.old.came).state }
+        ensures sound { IsSound self.new.came.call.state }
+        ensures image { self.new.image ≡ self.old.image }
     {
         let answer = self.answer;
         self.state.close(answer);
@@ -235,9 +259,10 @@ impl Kernel {
 
 // Begins the call of a number; any number that has no call is refused.
 fn begin(k: &mut KernelState, call: Call) -> Begun
-    requires calling { IsCalling k.old }
-    requires numbers { (q : ℕ) → (port_at k.old.state.parts.ports q).seq < 4294967295 }
-    ensures called { BeginsAs result (called call.number call.args k.old.state) k.old.state (came_to k.new (next_of result)) }
+    requires calling { IsCalling k.old.call }
+    requires numbers { (q : ℕ) → (port_at k.old.call.state.parts.ports q).seq < 4294967295 }
+    ensures called { BeginsAs result (called call.number call.args k.old.call.state) k.old.call.state (came_to k.new.call (next_of result)) }
+    ensures image { k.new.image ≡ k.old.image }
 {
     if !is_call(call.number) {
         return Begun::ByRow(Next::Returns(SYSERR));
@@ -251,9 +276,10 @@ fn begin(k: &mut KernelState, call: Call) -> Begun
 
 // Does what is left of the current process's call.
 fn go_on(k: &mut KernelState) -> Next
-    requires calling { IsCalling k.old }
-    requires waits { (process_at k.old.state.tables k.old.state.tables.current).rest ≢ Rest.Nothing }
-    ensures continued { came_to k.new result ≡ continued (process_at k.old.state.tables k.old.state.tables.current).rest k.old.state }
+    requires calling { IsCalling k.old.call }
+    requires waits { (process_at k.old.call.state.tables k.old.call.state.tables.current).rest ≢ Rest.Nothing }
+    ensures continued { came_to k.new.call result ≡ continued (process_at k.old.call.state.tables k.old.call.state.tables.current).rest k.old.call.state }
+    ensures image { k.new.image ≡ k.old.image }
 {
     if k.is_on_device() {
         io_calls::go_on(k)

@@ -18,13 +18,14 @@ use xinu_base::Pid;
 impl Kernel {
     /// Takes machine steps that print nothing, at most so many, and answers how many. The step after them, if there were fewer, may print.
     pub fn steps(&mut self, most: u32) -> u32
-        requires idle { IsIdle self.old }
-        requires lives { is_over self.old.call.state ≡ false }
-        ensures steps { self.new ≡ idle (stepped_times result self.old.call.state) }
-        ensures plain { ArePlain result self.old.call.state }
-        ensures tables { self.new.call.state.tables ≡ self.old.call.state.tables }
-        ensures parts { self.new.call.state.parts ≡ self.old.call.state.parts }
+        requires idle { IsIdle self.old.came }
+        requires lives { is_over self.old.came.call.state ≡ false }
+        ensures steps { self.new.came ≡ idle (stepped_times result self.old.came.call.state) }
+        ensures plain { ArePlain result self.old.came.call.state }
+        ensures tables { self.new.came.call.state.tables ≡ self.old.came.call.state.tables }
+        ensures parts { self.new.came.call.state.parts ≡ self.old.came.call.state.parts }
         ensures most { result ≤ most }
+        ensures image { self.new.image ≡ self.old.image }
     {
         if self.state.current() == Pid::default() {
             return most;
@@ -38,9 +39,10 @@ impl Kernel {
 
 // Plain instructions of the current process, at most so many: how many.
 fn instructions(k: &mut KernelState, most: u32) -> u32
-    ensures count { result ≡ (ran most (current_hart k.old.state) k.old.state.memory).count }
-    ensures state { k.new ≡ record k.old { state = with_ran (ran most (current_hart k.old.state) k.old.state.memory) k.old.state } }
+    ensures count { result ≡ (ran most (current_hart k.old.call.state) k.old.call.state.memory).count }
+    ensures state { k.new.call ≡ record k.old.call { state = with_ran (ran most (current_hart k.old.call.state) k.old.call.state.memory) k.old.call.state } }
     ensures most { result ≤ most }
+    ensures image { k.new.image ≡ k.old.image }
 {
     let current = k.tables.current();
     plain_steps(&mut k.harts[current.index()], &mut k.ram, most)

@@ -57,7 +57,8 @@ pub fn boot(
 ) -> Result<KernelState, BootFault>
     requires few { length images.now ≤ 8 }
     ensures booted { BootsAs (disks_of disk0 disk1) (map loaded_of images.now) result }
-    ensures sound { IfOk result (λ k. IsSound k.state) }
+    ensures sound { IfOk result (λ k. IsSound k.call.state) }
+    ensures image { IfOk result (λ k. k.image ≡ disk1) }
 {
     if let Some(number) = first_overlap(images) {
         return Err(BootFault::Overlap(number));
@@ -79,7 +80,8 @@ fn loaded(
     disk0: RawImage,
     disk1: CleanImage,
 ) -> Result<KernelState, NoMemory>
-    ensures loaded { IfOk result (λ k. k ≡ start (boot.on_disks (disks_of disk0 disk1) (boot.loaded_machine (map loaded_of images.now)))) }
+    ensures loaded { IfOk result (λ k. k.call ≡ start (boot.on_disks (disks_of disk0 disk1) (boot.loaded_machine (map loaded_of images.now)))) }
+    ensures image { IfOk result (λ k. k.image ≡ disk1) }
 {
     let mut ram = Ram::new(alloc)?;
     load_all(&mut ram, images);
@@ -108,12 +110,13 @@ fn loaded(
 
 // Makes the first processes of the images, in order. The number of the first image for whose stack the heap has no room.
 fn make_all(k: &mut KernelState, images: &[Image<'_>]) -> Option<u8>
-    requires start { IsStart k.old }
+    requires start { IsStart k.old.call }
     requires few { length images.now ≤ 8 }
-    requires none { (j : ℕ) → 1 ≤ j → state_at k.old.state.tables j ≡ State.Free }
-    ensures made { IfNone result (boot.all_made 1 (map loaded_of images.now) k.old.state ≡ boot.Boots k.new.state) }
-    ensures no_room { IfSome result (λ i. boot.all_made 1 (map loaded_of images.now) k.old.state ≡ boot.NoRoom i) }
-    ensures start { IfNone result (IsStart k.new) }
+    requires none { (j : ℕ) → 1 ≤ j → state_at k.old.call.state.tables j ≡ State.Free }
+    ensures made { IfNone result (boot.all_made 1 (map loaded_of images.now) k.old.call.state ≡ boot.Boots k.new.call.state) }
+    ensures no_room { IfSome result (λ i. boot.all_made 1 (map loaded_of images.now) k.old.call.state ≡ boot.NoRoom i) }
+    ensures start { IfNone result (IsStart k.new.call) }
+    ensures image { k.new.image ≡ k.old.image }
 {
     let mut number = 1;
     for image in images {
@@ -127,11 +130,12 @@ fn make_all(k: &mut KernelState, images: &[Image<'_>]) -> Option<u8>
 
 // Makes the first process of an image. False if the heap has no room for its stack.
 fn make_image(k: &mut KernelState, number: u8, image: &Image<'_>) -> bool
-    requires start { IsStart k.old }
+    requires start { IsStart k.old.call }
     requires below { number < 9 }
-    requires free { state_at k.old.state.tables number ≡ State.Free }
-    ensures made { boot.where_stack (cells.take_stack (stack_size (loaded_of image.now).stack) k.old.state.parts.heap) number (loaded_of image.now) k.old.state ≡ (if result then boot.Boots k.new.state else boot.NoRoom number) }
-    ensures start { IsStart k.new }
+    requires free { state_at k.old.call.state.tables number ≡ State.Free }
+    ensures made { boot.where_stack (cells.take_stack (stack_size (loaded_of image.now).stack) k.old.call.state.parts.heap) number (loaded_of image.now) k.old.call.state ≡ (if result then boot.Boots k.new.call.state else boot.NoRoom number) }
+    ensures start { IsStart k.new.call }
+    ensures image { k.new.image ≡ k.old.image }
 {
     let mut name = *b"image0\0\0\0\0\0\0\0\0\0";
     name[5] += number;
@@ -156,10 +160,11 @@ fn make_image(k: &mut KernelState, number: u8, image: &Image<'_>) -> bool
 
 // The processes of the images become ready in order, with one resched.
 fn start_all(k: &mut KernelState, images: &[Image<'_>])
-    requires start { IsStart k.old }
+    requires start { IsStart k.old.call }
     requires few { length images.now ≤ 8 }
-    requires suspended { (j : ℕ) → 0 < j → j < 1 + length images.now → state_at k.old.state.tables j ≡ State.Suspended }
-    ensures started { k.new ≡ start (boot.all_started (map loaded_of images.now) k.old.state) }
+    requires suspended { (j : ℕ) → 0 < j → j < 1 + length images.now → state_at k.old.call.state.tables j ≡ State.Suspended }
+    ensures started { k.new.call ≡ start (boot.all_started (map loaded_of images.now) k.old.call.state) }
+    ensures image { k.new.image ≡ k.old.image }
 {
     ready_all(&mut k.tables, images);
     k.tables.resched();

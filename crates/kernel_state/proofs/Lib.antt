@@ -3,3 +3,4 @@ pub mod GoingOn
 pub mod Released
 pub mod Rows
 pub mod Together
+pub mod Values

@@ -4,3 +4,4 @@ pub mod Families
 pub mod Released
 pub mod Results
 pub mod States
+pub mod Values

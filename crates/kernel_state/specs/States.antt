@@ -1,4 +1,5 @@
 -- What the kernel's state stands for.
+use Rattle.kernel_state.specs.Values.{KernelValue}
 use Rattle.kernel_state.specs.declared.state.KernelState.TheInside.{Inside}
 use Rattle.xinu_model.specs.Machine.{CallState}
 
@@ -20,3 +21,7 @@ kernel_state k = record {
   released = k.replies.items;
   owes_resched = k.owes_resched;
 }
+
+-- that and the bytes of the disk with files
+abbrev pub kernel_value : Inside → KernelValue
+kernel_value k = record { call = kernel_state k; image = k.files.image }

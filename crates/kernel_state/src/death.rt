@@ -12,7 +12,8 @@ impl KernelState {
     /// number, and what it asked of disks is given up.
     pub fn end(&mut self, p: Pid)
         requires not_null { p ≢ 0 }
-        ensures killed { self.new ≡ killed p self.old }
+        ensures killed { self.new.call ≡ killed p self.old.call }
+        ensures image { self.new.image ≡ self.old.image }
     {
         let parent = self.tables.parent_of(p);
         let (stack, size) = self.tables.stack_of(p);

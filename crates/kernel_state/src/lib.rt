@@ -1,12 +1,13 @@
 //! The kernel's state inside an event, and the moves that several families of calls make.
 //!
-//! A clause sees a [`KernelState`] as the abstract machine's `CallState`: its state inside an event, the replies to released processes so
-//! far, and whether a resched is owed. No fact is kept of it, so its parts are public: whoever changes one owes the clause of the call that
+//! A clause sees a [`KernelState`] as the abstract machine's `CallState`, `call`: its state inside an event, the replies to released processes
+//! so far, and whether a resched is owed; and beside it the bytes of the disk with files, `image`. No fact is kept of it, so its parts are public: whoever changes one owes the clause of the call that
 //! does, and `kernel` keeps what holds of all of it.
 //!
 //! | Call | Promise |
 //! |---|---|
 //! | `current`, `is_done`, `is_on_device`, `call_of`, `released` | the current process; whether nothing is left of its call, and whether what is left is of a call on a device; the call in its registers; the replies so far |
+//! | `holds_files` | a law: the disk with files holds the files at rest |
 //! | `instruction` | `exec` of the current process |
 //! | `release`, `give_token` | who waited on a semaphore is ready, and is answered if nothing is left of its call: `replies_to`, `signalled` |
 //! | `end` | a process dies: `killed` |
@@ -16,7 +17,7 @@
 //! | [`Begun`] | how a call begins: as its row says, or it is on files and takes effect as it is made (`BeginsAs`) |
 //!
 //! The crate depends on `kernel_tables`, `freelist_memory`, `buffer_pools`, `ports`, `tty_driver`, `disk_driver`, `name_space`, `file_server`
-//! and `rv_hart`, whose values are its parts. Of a `FileServer` the state has the file work; its disk holds the files at rest (`holds`).
+//! and `rv_hart`, whose values are its parts. Of a `FileServer` the state has the file work.
 #![tactic(auto)]
 
 mod begun;

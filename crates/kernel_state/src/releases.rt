@@ -16,9 +16,10 @@ impl KernelState {
     /// Gives `sem`, which no process made and whose count isn't the greatest, a token: its first waiter is released, and goes on by
     /// itself, or the token is kept.
     pub fn give_token(&mut self, sem: Sem)
-        requires part { IsOfPart (semaphore_at self.old.state.tables sem).owner }
-        requires room { int_lt (count_of (semaphore_at self.old.state.tables sem)) most_tokens ≡ true }
-        ensures signalled { self.new ≡ signalled sem self.old }
+        requires part { IsOfPart (semaphore_at self.old.call.state.tables sem).owner }
+        requires room { int_lt (count_of (semaphore_at self.old.call.state.tables sem)) most_tokens ≡ true }
+        ensures signalled { self.new.call ≡ signalled sem self.old.call }
+        ensures image { self.new.image ≡ self.old.image }
     {
         if let Signalled::Released(_) = self.tables.signal(sem) {
             self.owes_resched = true;
@@ -27,10 +28,11 @@ impl KernelState {
 
     /// These processes became ready: each of whose call nothing is left gets this reply, and a resched is owed if there are any.
     pub fn release(&mut self, released: &[Pid], value: i32)
-        requires none { self.old.released ≡ [] }
+        requires none { self.old.call.released ≡ [] }
         requires few { length released.now ≤ 64 }
-        ensures released { self.new ≡
-            record self.old { released = replies_to value released.now self.old.state.tables; owes_resched = are_any released.now } }
+        ensures released { self.new.call ≡
+            record self.old.call { released = replies_to value released.now self.old.call.state.tables; owes_resched = are_any released.now } }
+        ensures image { self.new.image ≡ self.old.image }
     {
         answer_released(&mut self.replies, &self.tables, released, value);
         self.owes_resched = !released.is_empty();

@@ -5,9 +5,11 @@
 //! kept of it: the kernel keeps what holds of all of it.
 
 ghost use Rattle.std.specs.Prelude.{◌≡◌, ◌≤◌, ◌↔◌, IsTrue, [], length};
+ghost use Rattle.given_disks.specs.HeldFiles.{HoldsFiles};
 ghost use Rattle.kernel_state.specs.Families.{is_on_device};
 ghost use Rattle.kernel_state.specs.Results.{answer_so_far};
 ghost use Rattle.xinu_model.specs.Events.{call_of, with_executed};
+ghost use Rattle.xinu_model.specs.Files.Syscalls.{files_of};
 ghost use Rattle.xinu_model.specs.Isa.Exec.{exec};
 ghost use Rattle.xinu_model.specs.Machine.{current_hart, end_of_event, start};
 ghost use Rattle.xinu_model.specs.Tables.{process_at};
@@ -26,7 +28,7 @@ use std::marker::Model;
 use tty_driver::Tty;
 use xinu_base::{Call, Next, Pid, Rest};
 
-/// The state. A clause sees the abstract machine's inside an event.
+/// The state. A clause sees the abstract machine's inside an event, `call`, and the bytes of the disk with files, `image`.
 #[derive(Drop)]
 pub struct KernelState {
     /// The tables.
@@ -56,33 +58,33 @@ pub struct KernelState {
 }
 
 impl Model for KernelState {
-    ghost use Rattle.xinu_model.specs.Machine.{CallState};
+    ghost use Rattle.kernel_state.specs.Values.{KernelValue};
 
-    ghost Value = { CallState };
+    ghost Value = { KernelValue };
 
-    ghost use Rattle.kernel_state.specs.States.{kernel_state};
+    ghost use Rattle.kernel_state.specs.States.{kernel_value};
 
-    ghost view = { kernel_state };
+    ghost view = { kernel_value };
 }
 
 impl KernelState {
     /// The current process.
     pub fn current(&self) -> Pid
-        ensures current { result ≡ self.now.state.tables.current }
+        ensures current { result ≡ self.now.call.state.tables.current }
     {
         self.tables.current()
     }
 
     /// Whether nothing is left of the current process's call.
     pub fn is_done(&self) -> bool
-        ensures done { IsTrue result ↔ ((process_at self.now.state.tables self.now.state.tables.current).rest ≡ Rest.Nothing) }
+        ensures done { IsTrue result ↔ ((process_at self.now.call.state.tables self.now.call.state.tables.current).rest ≡ Rest.Nothing) }
     {
         self.tables.is_done()
     }
 
     /// Whether what is left of the current process's call is of one on a device.
     pub fn is_on_device(&self) -> bool
-        ensures on { result ≡ is_on_device (process_at self.now.state.tables self.now.state.tables.current).rest }
+        ensures on { result ≡ is_on_device (process_at self.now.call.state.tables self.now.call.state.tables.current).rest }
     {
         matches!(
             self.tables.rest(),
@@ -96,7 +98,7 @@ impl KernelState {
 
     /// The call that the current process's registers ask for.
     pub fn call_of(&self) -> Call
-        ensures call { result ≡ call_of (current_hart self.now.state) }
+        ensures call { result ≡ call_of (current_hart self.now.call.state) }
     {
         let hart = &self.harts[self.tables.current().index()];
         let regs = &hart.regs;
@@ -108,8 +110,9 @@ impl KernelState {
 
     /// Carries out one instruction of the current process.
     pub fn instruction(&mut self) -> Outcome
-        ensures outcome { result ≡ (exec (current_hart self.old.state) self.old.state.memory).outcome }
-        ensures state { self.new ≡ record self.old { state = with_executed (exec (current_hart self.old.state) self.old.state.memory) self.old.state } }
+        ensures outcome { result ≡ (exec (current_hart self.old.call.state) self.old.call.state.memory).outcome }
+        ensures state { self.new.call ≡ record self.old.call { state = with_executed (exec (current_hart self.old.call.state) self.old.call.state.memory) self.old.call.state } }
+        ensures image { self.new.image ≡ self.old.image }
     {
         let current = self.tables.current();
         step(&mut self.harts[current.index()], &mut self.ram)
@@ -117,15 +120,24 @@ impl KernelState {
 
     /// The replies of this event to released processes, in order.
     pub fn released(&self) -> &[(Pid, i32)]
-        ensures released { result.now ≡ self.now.released }
+        ensures released { result.now ≡ self.now.call.released }
         ensures few { length result.now ≤ 64 }
     {
         self.replies.as_slice()
     }
 
+    /// A law: the disk with files holds the files at rest, and if no file is open and no call on files is under way it is clean for exactly
+    /// its files.
+    pub fn holds_files(&self)
+        ensures holds { HoldsFiles self.now.image (files_of self.now.call.state) }
+    {
+        self.files.holds();
+    }
+
     /// Ends the event of a call that went so: its one resched, and the replies.
     pub fn close(&mut self, answer: Option<Next>)
-        ensures closed { self.new ≡ start (end_of_event 0 [] (record { call = self.old; answer = answer_so_far answer })).state }
+        ensures closed { self.new.call ≡ start (end_of_event 0 [] (record { call = self.old.call; answer = answer_so_far answer })).state }
+        ensures image { self.new.image ≡ self.old.image }
     {
         let caller = self.tables.current();
         write_all(&mut self.harts, self.replies.as_slice(), answer, caller);

@@ -1,15 +1,25 @@
 -- The bytes of a machine's disks.
 use Rattle.std.specs.Prelude.{◌≡◌, ℕ, zero, suc, List}
 use Rattle.std.specs.List.{concat}
-use Rattle.given_disks.specs.HeldFiles.{HoldsFiles}
+use Rattle.local_files.specs.Resting.{ChangesOneBlock}
+use Rattle.machine.specs.Printed.{Booted}
+use Rattle.xinu_base.specs.declared.events.Event.{Event}
+use Rattle.xinu_base.specs.declared.events.Event.TheVariants as event
 use Rattle.xinu_model.specs.Machine.{Xinu}
 
 -- the bytes of the raw disk of a state: its blocks, one after another
 abbrev pub raw_bytes : Xinu → List ℕ
 raw_bytes s = concat s.parts.devices.disk.blocks
 
--- Those of disk 0 are the raw disk's. Disk 1 holds the files of the state at rest, and is clean for all its files if nothing is open and no
--- call on files is under way.
-abbrev pub AreBytes : ℕ → List ℕ → Xinu → Type 0
-AreBytes zero bytes s = bytes ≡ raw_bytes s
-AreBytes (suc n) bytes s = HoldsFiles bytes s.parts.devices.files
+-- the bytes of disk 0 are the raw disk's, and those of disk 1 the ones of the disk with files
+abbrev pub disk_bytes : ℕ → Xinu → List ℕ → List ℕ
+disk_bytes zero s image = raw_bytes s
+disk_bytes (suc n) s image = image
+
+abbrev pub bytes_of : ℕ → Booted → List ℕ
+bytes_of n m = disk_bytes n m.state m.image
+
+-- A good completion of the disk with files changes at most one block of it, and any other event none.
+abbrev pub ChangesDisk : Event → List ℕ → List ℕ → Type 0
+ChangesDisk event.Disk1 old new = ChangesOneBlock old new
+ChangesDisk _ old new = new ≡ old

@@ -8,9 +8,11 @@ use Rattle.xinu_model.specs.Events.{Happens}
 use Rattle.xinu_model.specs.Machine.{EventResult, Xinu}
 use Rattle.xinu_model.specs.Text.{shown}
 
--- what the machine keeps for contracts: its state, the number of events taken, and whether one of them ended the run
+-- what the machine keeps for contracts: its state, the bytes of the disk with files, the number of events taken, and whether one of them
+-- ended the run
 pub record Booted : Type 0 where
   pub state : Xinu
+  pub image : List ℕ
   pub events : ℕ
   pub over : Bool
 

@@ -33,9 +33,11 @@ impl Machine {
         ensures starts { Starts (disks_of disk0 disk1) (map loaded_of images.now) result }
         ensures apart { IfOk result (λ m. IsApart m.state) }
         ensures sound { IfOk result (λ m. IsSound m.state) }
+        ensures image { IfOk result (λ m. m.image ≡ disk1) }
     {
         see_disks(&disk0, &disk1);
         let kernel = Kernel::new(alloc, images, disk0, disk1)?;
+        kernel.holds_files();
         Ok(Machine {
             kernel,
             events: 0,

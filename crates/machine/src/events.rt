@@ -4,6 +4,7 @@
 ghost use Rattle.std.specs.Prelude.{ℕ, ◌≡◌, ◌≢◌, ◌<◌, ◌≤◌, ◌+◌, ◌∷◌, [], map};
 ghost use Rattle.kernel_state.specs.Results.{answer_so_far, IsIdle};
 ghost use Rattle.host_port.specs.Printing.{Prints};
+ghost use Rattle.machine.specs.Disks.{ChangesDisk};
 ghost use Rattle.machine.specs.FileEffects.{ChosenPrints, ReactPrints};
 ghost use Rattle.machine.specs.Printed.{EffectPrints, EventPrints};
 ghost use Rattle.xinu_base.specs.declared.events.Event.TheVariants as events;
@@ -34,16 +35,17 @@ pub(crate) fn happen<H: Host>(
     out: &mut Printer,
     host: &mut H,
 ) -> bool
-    requires idle { IsIdle kernel.old }
-    requires sound { IsSound kernel.old.call.state }
-    requires few { kernel.old.call.state.tables.ticks < 1000000000 }
-    requires numbers { (q : ℕ) → (port_at kernel.old.call.state.parts.ports q).seq < 1000000000 }
-    ensures happens { EventPrints kernel.old.call.state event kernel.new.call.state out.old out.new (H.view host.old) (H.view host.new) }
-    ensures panics { result ≡ panics_in kernel.old.call.state event }
-    ensures idle { IsIdle kernel.new }
-    ensures sound { IsSound kernel.new.call.state }
-    ensures ticks { kernel.new.call.state.tables.ticks ≤ kernel.old.call.state.tables.ticks + 1 }
-    ensures numbers { (q : ℕ) → (port_at kernel.new.call.state.parts.ports q).seq ≤ (port_at kernel.old.call.state.parts.ports q).seq + 1 }
+    requires idle { IsIdle kernel.old.came }
+    requires sound { IsSound kernel.old.came.call.state }
+    requires few { kernel.old.came.call.state.tables.ticks < 1000000000 }
+    requires numbers { (q : ℕ) → (port_at kernel.old.came.call.state.parts.ports q).seq < 1000000000 }
+    ensures happens { EventPrints kernel.old.came.call.state event kernel.new.came.call.state out.old out.new (H.view host.old) (H.view host.new) }
+    ensures panics { result ≡ panics_in kernel.old.came.call.state event }
+    ensures idle { IsIdle kernel.new.came }
+    ensures sound { IsSound kernel.new.came.call.state }
+    ensures ticks { kernel.new.came.call.state.tables.ticks ≤ kernel.old.came.call.state.tables.ticks + 1 }
+    ensures numbers { (q : ℕ) → (port_at kernel.new.came.call.state.parts.ports q).seq ≤ (port_at kernel.old.came.call.state.parts.ports q).seq + 1 }
+    ensures image { ChangesDisk event kernel.old.image kernel.new.image }
 {
     match event {
         Event::Step => step(kernel, out, host),
@@ -55,13 +57,14 @@ pub(crate) fn happen<H: Host>(
 // nothing.
 #[cold]
 fn other_event<H: Host>(kernel: &mut Kernel, event: Event, out: &mut Printer, host: &mut H) -> bool
-    requires idle { IsIdle kernel.old }
-    requires sound { IsSound kernel.old.call.state }
-    requires few { kernel.old.call.state.tables.ticks < 1000000000 }
+    requires idle { IsIdle kernel.old.came }
+    requires sound { IsSound kernel.old.came.call.state }
+    requires few { kernel.old.came.call.state.tables.ticks < 1000000000 }
     requires not_step { event ≢ Event.Step }
-    ensures effect { ChosenPrints kernel.old.call.state event kernel.new.call.state result out.old out.new (H.view host.old) (H.view host.new) }
-    ensures idle { IsIdle kernel.new }
-    ensures sound { IsSound kernel.new.call.state }
+    ensures effect { ChosenPrints kernel.old.came.call.state event kernel.new.came.call.state result out.old out.new (H.view host.old) (H.view host.new) }
+    ensures idle { IsIdle kernel.new.came }
+    ensures sound { IsSound kernel.new.came.call.state }
+    ensures image { ChangesDisk event kernel.old.image kernel.new.image }
 {
     match event {
         Event::Tick => tick(kernel, out, host),
@@ -80,12 +83,13 @@ fn other_event<H: Host>(kernel: &mut Kernel, event: Event, out: &mut Printer, ho
 
 // A step: nothing if the null process is current, else what is left of the current process's call, else an instruction.
 fn step<H: Host>(kernel: &mut Kernel, out: &mut Printer, host: &mut H) -> bool
-    requires idle { IsIdle kernel.old }
-    requires sound { IsSound kernel.old.call.state }
-    requires numbers { (q : ℕ) → (port_at kernel.old.call.state.parts.ports q).seq < 1000000000 }
-    ensures effect { ChosenPrints kernel.old.call.state events.Step kernel.new.call.state result out.old out.new (H.view host.old) (H.view host.new) }
-    ensures idle { IsIdle kernel.new }
-    ensures sound { IsSound kernel.new.call.state }
+    requires idle { IsIdle kernel.old.came }
+    requires sound { IsSound kernel.old.came.call.state }
+    requires numbers { (q : ℕ) → (port_at kernel.old.came.call.state.parts.ports q).seq < 1000000000 }
+    ensures effect { ChosenPrints kernel.old.came.call.state events.Step kernel.new.came.call.state result out.old out.new (H.view host.old) (H.view host.new) }
+    ensures idle { IsIdle kernel.new.came }
+    ensures sound { IsSound kernel.new.came.call.state }
+    ensures image { kernel.new.image ≡ kernel.old.image }
 {
     let current = kernel.current();
     if current == Pid::default() {
@@ -101,13 +105,14 @@ fn step<H: Host>(kernel: &mut Kernel, out: &mut Printer, host: &mut H) -> bool
 
 // What comes of an instruction of the current process, which isn't the null process.
 fn react<H: Host>(kernel: &mut Kernel, outcome: Outcome, out: &mut Printer, host: &mut H) -> bool
-    requires idle { IsIdle kernel.old }
-    requires sound { IsSound kernel.old.call.state }
-    requires numbers { (q : ℕ) → (port_at kernel.old.call.state.parts.ports q).seq < 1000000000 }
-    requires not_null { kernel.old.call.state.tables.current ≢ 0 }
-    ensures effect { ReactPrints outcome kernel.old.call.state kernel.new.call.state result out.old out.new (H.view host.old) (H.view host.new) }
-    ensures idle { IsIdle kernel.new }
-    ensures sound { IsSound kernel.new.call.state }
+    requires idle { IsIdle kernel.old.came }
+    requires sound { IsSound kernel.old.came.call.state }
+    requires numbers { (q : ℕ) → (port_at kernel.old.came.call.state.parts.ports q).seq < 1000000000 }
+    requires not_null { kernel.old.came.call.state.tables.current ≢ 0 }
+    ensures effect { ReactPrints outcome kernel.old.came.call.state kernel.new.came.call.state result out.old out.new (H.view host.old) (H.view host.new) }
+    ensures idle { IsIdle kernel.new.came }
+    ensures sound { IsSound kernel.new.came.call.state }
+    ensures image { kernel.new.image ≡ kernel.old.image }
 {
     let current = kernel.current();
     match outcome {
@@ -126,12 +131,13 @@ fn react<H: Host>(kernel: &mut Kernel, outcome: Outcome, out: &mut Printer, host
 // line of that follows its own.
 #[cold]
 fn make_call<H: Host>(kernel: &mut Kernel, out: &mut Printer, host: &mut H) -> bool
-    requires idle { IsIdle kernel.old }
-    requires not_null { kernel.old.call.state.tables.current ≢ 0 }
-    requires numbers { (q : ℕ) → (port_at kernel.old.call.state.parts.ports q).seq < 1000000000 }
-    ensures effect { ReactPrints outcomes.Call kernel.old.call.state kernel.new.call.state result out.old out.new (H.view host.old) (H.view host.new) }
-    ensures idle { IsIdle kernel.new }
-    ensures sound { IsSound kernel.new.call.state }
+    requires idle { IsIdle kernel.old.came }
+    requires not_null { kernel.old.came.call.state.tables.current ≢ 0 }
+    requires numbers { (q : ℕ) → (port_at kernel.old.came.call.state.parts.ports q).seq < 1000000000 }
+    ensures effect { ReactPrints outcomes.Call kernel.old.came.call.state kernel.new.came.call.state result out.old out.new (H.view host.old) (H.view host.new) }
+    ensures idle { IsIdle kernel.new.came }
+    ensures sound { IsSound kernel.new.came.call.state }
+    ensures image { kernel.new.image ≡ kernel.old.image }
 {
     let current = kernel.current();
     let call = kernel.call_of();
@@ -144,11 +150,12 @@ fn make_call<H: Host>(kernel: &mut Kernel, out: &mut Printer, host: &mut H) -> b
 // The current process, which isn't the null process, dies. The line says why.
 #[cold]
 fn die<H: Host>(kernel: &mut Kernel, why: TranscriptLine, out: &mut Printer, host: &mut H) -> bool
-    requires idle { IsIdle kernel.old }
-    requires not_null { kernel.old.call.state.tables.current ≢ 0 }
-    ensures effect { EffectPrints (model.end_of_event kernel.old.call.state.tables.current (why ∷ []) (exit kernel.old.call.state)) kernel.new.call.state result out.old out.new (H.view host.old) (H.view host.new) }
-    ensures idle { IsIdle kernel.new }
-    ensures sound { IsSound kernel.new.call.state }
+    requires idle { IsIdle kernel.old.came }
+    requires not_null { kernel.old.came.call.state.tables.current ≢ 0 }
+    ensures effect { EffectPrints (model.end_of_event kernel.old.came.call.state.tables.current (why ∷ []) (exit kernel.old.came.call.state)) kernel.new.came.call.state result out.old out.new (H.view host.old) (H.view host.new) }
+    ensures idle { IsIdle kernel.new.came }
+    ensures sound { IsSound kernel.new.came.call.state }
+    ensures image { kernel.new.image ≡ kernel.old.image }
 {
     let current = kernel.current();
     print_line(&why, out, host);
@@ -158,11 +165,12 @@ fn die<H: Host>(kernel: &mut Kernel, why: TranscriptLine, out: &mut Printer, hos
 
 // A tick of the clock.
 fn tick<H: Host>(kernel: &mut Kernel, out: &mut Printer, host: &mut H) -> bool
-    requires idle { IsIdle kernel.old }
-    requires few { kernel.old.call.state.tables.ticks < 1000000000 }
-    ensures effect { EffectPrints (ticked kernel.old.call.state) kernel.new.call.state result out.old out.new (H.view host.old) (H.view host.new) }
-    ensures idle { IsIdle kernel.new }
-    ensures sound { IsSound kernel.new.call.state }
+    requires idle { IsIdle kernel.old.came }
+    requires few { kernel.old.came.call.state.tables.ticks < 1000000000 }
+    ensures effect { EffectPrints (ticked kernel.old.came.call.state) kernel.new.came.call.state result out.old out.new (H.view host.old) (H.view host.new) }
+    ensures idle { IsIdle kernel.new.came }
+    ensures sound { IsSound kernel.new.came.call.state }
+    ensures image { kernel.new.image ≡ kernel.old.image }
 {
     let current = kernel.current();
     kernel.on_tick();
@@ -171,10 +179,11 @@ fn tick<H: Host>(kernel: &mut Kernel, out: &mut Printer, host: &mut H) -> bool
 
 // A character is received from the console.
 fn receive<H: Host>(kernel: &mut Kernel, b: u8, out: &mut Printer, host: &mut H) -> bool
-    requires idle { IsIdle kernel.old }
-    ensures effect { EffectPrints (keyed b kernel.old.call.state) kernel.new.call.state result out.old out.new (H.view host.old) (H.view host.new) }
-    ensures idle { IsIdle kernel.new }
-    ensures sound { IsSound kernel.new.call.state }
+    requires idle { IsIdle kernel.old.came }
+    ensures effect { EffectPrints (keyed b kernel.old.came.call.state) kernel.new.came.call.state result out.old out.new (H.view host.old) (H.view host.new) }
+    ensures idle { IsIdle kernel.new.came }
+    ensures sound { IsSound kernel.new.came.call.state }
+    ensures image { kernel.new.image ≡ kernel.old.image }
 {
     let current = kernel.current();
     kernel.on_type(b);
@@ -183,11 +192,12 @@ fn receive<H: Host>(kernel: &mut Kernel, b: u8, out: &mut Printer, host: &mut H)
 
 // The console may send a byte, whose line comes first.
 fn transmit<H: Host>(kernel: &mut Kernel, out: &mut Printer, host: &mut H) -> bool
-    requires idle { IsIdle kernel.old }
-    requires sound { IsSound kernel.old.call.state }
-    ensures effect { EffectPrints (transmits kernel.old.call.state) kernel.new.call.state result out.old out.new (H.view host.old) (H.view host.new) }
-    ensures idle { IsIdle kernel.new }
-    ensures sound { IsSound kernel.new.call.state }
+    requires idle { IsIdle kernel.old.came }
+    requires sound { IsSound kernel.old.came.call.state }
+    ensures effect { EffectPrints (transmits kernel.old.came.call.state) kernel.new.came.call.state result out.old out.new (H.view host.old) (H.view host.new) }
+    ensures idle { IsIdle kernel.new.came }
+    ensures sound { IsSound kernel.new.came.call.state }
+    ensures image { kernel.new.image ≡ kernel.old.image }
 {
     let current = kernel.current();
     match kernel.on_tx() {
@@ -201,10 +211,11 @@ fn transmit<H: Host>(kernel: &mut Kernel, out: &mut Printer, host: &mut H) -> bo
 
 // The raw disk completes its first request, well or badly, if one waits.
 fn complete<H: Host>(kernel: &mut Kernel, good: bool, out: &mut Printer, host: &mut H) -> bool
-    requires idle { IsIdle kernel.old }
-    ensures effect { EffectPrints (disk_completes good kernel.old.call.state) kernel.new.call.state result out.old out.new (H.view host.old) (H.view host.new) }
-    ensures idle { IsIdle kernel.new }
-    ensures sound { IsSound kernel.new.call.state }
+    requires idle { IsIdle kernel.old.came }
+    ensures effect { EffectPrints (disk_completes good kernel.old.came.call.state) kernel.new.came.call.state result out.old out.new (H.view host.old) (H.view host.new) }
+    ensures idle { IsIdle kernel.new.came }
+    ensures sound { IsSound kernel.new.came.call.state }
+    ensures image { kernel.new.image ≡ kernel.old.image }
 {
     let current = kernel.current();
     kernel.on_disk(good);
@@ -213,10 +224,11 @@ fn complete<H: Host>(kernel: &mut Kernel, good: bool, out: &mut Printer, host: &
 
 // The files' disk completes well. What happened to the calls on files under way is told first.
 fn complete_files<H: Host>(kernel: &mut Kernel, out: &mut Printer, host: &mut H) -> bool
-    requires idle { IsIdle kernel.old }
-    ensures effect { ChosenPrints kernel.old.call.state events.Disk1 kernel.new.call.state result out.old out.new (H.view host.old) (H.view host.new) }
-    ensures idle { IsIdle kernel.new }
-    ensures sound { IsSound kernel.new.call.state }
+    requires idle { IsIdle kernel.old.came }
+    ensures effect { ChosenPrints kernel.old.came.call.state events.Disk1 kernel.new.came.call.state result out.old out.new (H.view host.old) (H.view host.new) }
+    ensures idle { IsIdle kernel.new.came }
+    ensures sound { IsSound kernel.new.came.call.state }
+    ensures image { ChangesDisk events.Disk1 kernel.old.image kernel.new.image }
 {
     let current = kernel.current();
     let notes = kernel.on_files();
@@ -228,9 +240,10 @@ fn complete_files<H: Host>(kernel: &mut Kernel, out: &mut Printer, host: &mut H)
 // panicked.
 #[cold]
 fn end_event<H: Host>(kernel: &mut Kernel, was: Pid, out: &mut Printer, host: &mut H) -> bool
-    ensures effect { EffectPrints (model.end_of_event was [] kernel.old) kernel.new.call.state result out.old out.new (H.view host.old) (H.view host.new) }
-    ensures idle { IsIdle kernel.new }
-    ensures sound { IsSound kernel.new.call.state }
+    ensures effect { EffectPrints (model.end_of_event was [] kernel.old.came) kernel.new.came.call.state result out.old out.new (H.view host.old) (H.view host.new) }
+    ensures idle { IsIdle kernel.new.came }
+    ensures sound { IsSound kernel.new.came.call.state }
+    ensures image { kernel.new.image ≡ kernel.old.image }
 {
     let answer = kernel.answer();
     print_answers(kernel, out, host);
@@ -241,7 +254,7 @@ fn end_event<H: Host>(kernel: &mut Kernel, was: Pid, out: &mut Printer, host: &m
 
 // Prints the replies to released processes, and the caller's.
 fn print_answers<H: Host>(kernel: &Kernel, out: &mut Printer, host: &mut H)
-    ensures prints { Prints out.old out.new (H.view host.old) (H.view host.new) (shown out.old.plain (map model.return_line (model.replies_of kernel.now))) }
+    ensures prints { Prints out.old out.new (H.view host.old) (H.view host.new) (shown out.old.plain (map model.return_line (model.replies_of kernel.now.came))) }
 {
     print_replies(kernel.state().released(), out, host);
     match kernel.answer() {

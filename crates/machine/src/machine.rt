@@ -1,9 +1,10 @@
 //! The machine: its kernel, and how many events it took.
 
 ghost use Rattle.std.specs.Prelude.{◌≡◌, ◌+◌, ◌∷◌, [], ◌<◌, false, is_some};
+ghost use Rattle.given_disks.specs.HeldFiles.{HoldsFiles};
 ghost use Rattle.host_port.specs.Printing.{Prints};
 ghost use Rattle.machine.specs.Apart.{KeepsApart};
-ghost use Rattle.machine.specs.Disks.{AreBytes};
+ghost use Rattle.machine.specs.Disks.{bytes_of, ChangesDisk, disk_bytes};
 ghost use Rattle.machine.specs.RunEnds.{end_of_go};
 ghost use Rattle.machine.specs.Printed.{EventPrints};
 ghost use Rattle.xinu_base.specs.declared.lines.TranscriptLine.TheVariants as line;
@@ -33,7 +34,8 @@ pub enum Go {
     Panic,
 }
 
-/// A machine that was booted. A clause sees its state, how many events it took, and whether one of them ended the run.
+/// A machine that was booted. A clause sees its state, the bytes of the disk with files, how many events it took, and whether
+/// one of them ended the run.
 #[derive(Drop)]
 pub struct Machine {
     pub(crate) kernel: Kernel,
@@ -65,7 +67,9 @@ impl Machine {
     ///
     /// `Panic` comes if and only if the kernel panicked in this event, else `Done` if and only if the last process beside the null process
     /// died in it. The lines say which calls on files took effect. No address comes to have two owners in it, unless a process gives back what
-    /// a pool or a stack has. What always holds between two events holds after it.
+    /// a pool or a stack has. What always holds between two events holds after it: the disk with files holds the files of the state at rest,
+    /// and is clean for exactly them if no file is open and no call on files is under way. Only a good completion of that disk changes it,
+    /// and at most one block of it.
     pub fn event<H: Host>(&mut self, event: Event, out: &mut Printer, host: &mut H) -> Go
         requires goes_on { self.old.over ≡ false }
         requires few { self.old.events < 1000000000 }
@@ -74,11 +78,14 @@ impl Machine {
         ensures goes { end_of_go result ≡ end_with (panics_in self.old.state event) (runs.is_over self.new.state) }
         ensures apart { KeepsApart self.old.state event self.new.state }
         ensures sound { IsSound self.new.state }
+        ensures holds { HoldsFiles self.new.image self.new.state.parts.devices.files }
+        ensures one_block { ChangesDisk event self.old.image self.new.image }
         ensures counted { self.new.events ≡ self.old.events + 1 }
         ensures over { self.new.over ≡ is_some (end_of_go result) }
     {
         self.events += 1;
         let panics = happen(&mut self.kernel, event, out, host);
+        self.kernel.holds_files();
         let go = go_on(panics, self.kernel.state());
         if go != Go::Goes {
             self.has_ended = true;
@@ -93,10 +100,11 @@ impl Machine {
         print_tables(self.kernel.state(), out, host);
     }
 
-    /// The bytes of a disk: of the raw disk for 0, of the disk with files for 1.
+    /// The bytes of a disk: of the raw disk for 0, of the disk with files for 1. That holds the files of the state at rest.
     pub fn disk(&self, n: u8) -> &[u8]
         requires which { n < 2 }
-        ensures bytes { AreBytes n result.now self.now.state }
+        ensures bytes { result.now ≡ bytes_of n self.now }
+        ensures holds { HoldsFiles self.now.image self.now.state.parts.devices.files }
     {
         disk_of(self.kernel.state(), n)
     }
@@ -105,20 +113,19 @@ impl Machine {
 // The bytes of a disk.
 fn disk_of(k: &KernelState, n: u8) -> &[u8]
     requires which { n < 2 }
-    ensures bytes { AreBytes n result.now k.now.state }
+    ensures bytes { result.now ≡ disk_bytes n k.now.call.state k.now.image }
 {
     if n == 0 {
         k.disk.bytes()
     } else {
-        k.files.holds();
         k.files.bytes()
     }
 }
 
 // Whether the null process alone is left. Nothing is counted while another process runs.
 fn is_over(k: &KernelState) -> bool
-    requires sound { IsSound k.now.state }
-    ensures over { result ≡ runs.is_over k.now.state }
+    requires sound { IsSound k.now.call.state }
+    ensures over { result ≡ runs.is_over k.now.call.state }
 {
     if k.current() != Pid::default() {
         return false;
@@ -128,8 +135,8 @@ fn is_over(k: &KernelState) -> bool
 
 // What an event means for the run, by whether the kernel panicked in it and whether the null process alone is left.
 fn go_on(panics: bool, k: &KernelState) -> Go
-    requires sound { IsSound k.now.state }
-    ensures goes { end_of_go result ≡ end_with panics (runs.is_over k.now.state) }
+    requires sound { IsSound k.now.call.state }
+    ensures goes { end_of_go result ≡ end_with panics (runs.is_over k.now.call.state) }
 {
     if panics {
         Go::Panic

@@ -17,6 +17,7 @@ impl Machine {
         ensures plain { ArePlain result self.old.state }
         ensures tables { self.new.state.tables ≡ self.old.state.tables }
         ensures parts { self.new.state.parts ≡ self.old.state.parts }
+        ensures image { self.new.image ≡ self.old.image }
         ensures sound { IsSound self.new.state }
         ensures counted { self.new.events ≡ self.old.events + result }
         ensures over { self.new.over ≡ false }

@@ -34,9 +34,9 @@ const LFILE0: u32 = 4;
 
 /// Prints the tables.
 pub(crate) fn print_tables<H: Host>(k: &KernelState, out: &mut Printer, host: &mut H)
-    requires sound { IsSound k.now.state }
-    requires few { k.now.state.tables.ticks ≤ 1000000000 }
-    ensures prints { Prints out.old out.new (H.view host.old) (H.view host.new) (shown out.old.plain (text.tables_of k.now.state)) }
+    requires sound { IsSound k.now.call.state }
+    requires few { k.now.call.state.tables.ticks ≤ 1000000000 }
+    ensures prints { Prints out.old out.new (H.view host.old) (H.view host.new) (shown out.old.plain (text.tables_of k.now.call.state)) }
 {
     let tables = &k.tables;
     print_line(

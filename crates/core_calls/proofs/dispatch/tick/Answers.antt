@@ -4,6 +4,7 @@ use Rattle.xinu_model.specs.Machine.{CallState}
 use Rattle.kernel_state.specs.Released.{replies_to}
 use Rattle.kernel_state.specs.States.{kernel_state}
 use Rattle.kernel_state.proofs.Released.{ticking_is}
+use Rattle.kernel_state.proofs.Values.{call_is}
 use Rattle.core_calls.proofs.dispatch.tick.Goals as goal
 
 pub returns : goal.returns
@@ -13,6 +14,6 @@ returns c =
     record {
       ticks = ticking_is s c.tick-woken.result.items u _ c.k.inside.owes_resched c.tick-woken.ensures.due c.tick-woken.ensures.ticked
           (c.answer_released.ensures.replies ∙ ap (λ ps. replies_to (pos 0) ps u) c.as_slice.ensures.value)
-          (ap (λ (d : CallState). d.owes_resched) (c.k.view_is ∙ c.requires.start.is))
-          ∙ ap (λ (d : CallState). ticking d.state) c.k.view_is;
+          (ap (λ (d : CallState). d.owes_resched) ((call_is c.k.view_is) ∙ c.requires.start.is))
+          ∙ ap (λ (d : CallState). ticking d.state) (call_is c.k.view_is);
     }

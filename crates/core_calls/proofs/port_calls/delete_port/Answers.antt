@@ -7,30 +7,31 @@ use Rattle.xinu_model.specs.Tables.{semaphore_at}
 use Rattle.kernel_tables.specs.Waking.{are_any}
 use Rattle.kernel_state.specs.States.{kernel_state}
 use Rattle.core_calls.proofs.PortRenewals.{can_follow, given_up, is_renewable, port_deleted, port_no_device, port_used, renewed_in, send_owner}
+use Rattle.kernel_state.proofs.Values.{call_is}
 use Rattle.core_calls.proofs.port_calls.delete_port.Goals as goal
 
 pub delete_semaphore-senders-requires-clause-runs : goal.delete_semaphore-senders-requires-clause-runs
 delete_semaphore-senders-requires-clause-runs c =
     let d = kernel_state c.k.inside in
-    let r = is_renewable c.args.q c.args.head.now d c.args.k.now c.k.view_is c.requires.clears.tables c.requires.clears.ports c.requires.clears.used in
+    let r = is_renewable c.args.q c.args.head.now d c.args.k.now.call (call_is c.k.view_is) c.requires.clears.tables c.requires.clears.ports c.requires.clears.used in
     r.tables.runs
 
 pub delete_semaphore-senders-requires-clause-used : goal.delete_semaphore-senders-requires-clause-used
 delete_semaphore-senders-requires-clause-used c =
     let d = kernel_state c.k.inside in
-    let r = is_renewable c.args.q c.args.head.now d c.args.k.now c.k.view_is c.requires.clears.tables c.requires.clears.ports c.requires.clears.used in
+    let r = is_renewable c.args.q c.args.head.now d c.args.k.now.call (call_is c.k.view_is) c.requires.clears.tables c.requires.clears.ports c.requires.clears.used in
     port_used c.args.q (semaphore_at d.state.tables c.args.head.now.send).owner (send_owner c.args.q c.args.head.now d r)
 
 pub delete_semaphore-senders-requires-clause-no_device : goal.delete_semaphore-senders-requires-clause-no_device
 delete_semaphore-senders-requires-clause-no_device c =
     let d = kernel_state c.k.inside in
-    let r = is_renewable c.args.q c.args.head.now d c.args.k.now c.k.view_is c.requires.clears.tables c.requires.clears.ports c.requires.clears.used in
+    let r = is_renewable c.args.q c.args.head.now d c.args.k.now.call (call_is c.k.view_is) c.requires.clears.tables c.requires.clears.ports c.requires.clears.used in
     port_no_device c.args.q (semaphore_at d.state.tables c.args.head.now.send).owner (send_owner c.args.q c.args.head.now d r)
 
 pub delete_semaphore-receivers-requires-clause-runs : goal.delete_semaphore-receivers-requires-clause-runs
 delete_semaphore-receivers-requires-clause-runs c =
     let d = kernel_state c.k.inside in
-    let r = is_renewable c.args.q c.args.head.now d c.args.k.now c.k.view_is c.requires.clears.tables c.requires.clears.ports c.requires.clears.used in
+    let r = is_renewable c.args.q c.args.head.now d c.args.k.now.call (call_is c.k.view_is) c.requires.clears.tables c.requires.clears.ports c.requires.clears.used in
     let u = c.delete_semaphore-senders.new.self in
     let f = can_follow c.args.q c.args.head.now d u given_up r c.delete_semaphore-senders.ensures.deleted in
     f.runs
@@ -38,7 +39,7 @@ delete_semaphore-receivers-requires-clause-runs c =
 pub delete_semaphore-receivers-requires-clause-used : goal.delete_semaphore-receivers-requires-clause-used
 delete_semaphore-receivers-requires-clause-used c =
     let d = kernel_state c.k.inside in
-    let r = is_renewable c.args.q c.args.head.now d c.args.k.now c.k.view_is c.requires.clears.tables c.requires.clears.ports c.requires.clears.used in
+    let r = is_renewable c.args.q c.args.head.now d c.args.k.now.call (call_is c.k.view_is) c.requires.clears.tables c.requires.clears.ports c.requires.clears.used in
     let u = c.delete_semaphore-senders.new.self in
     let f = can_follow c.args.q c.args.head.now d u given_up r c.delete_semaphore-senders.ensures.deleted in
     port_used c.args.q (semaphore_at u c.args.head.now.receive).owner f.owned
@@ -46,7 +47,7 @@ delete_semaphore-receivers-requires-clause-used c =
 pub delete_semaphore-receivers-requires-clause-no_device : goal.delete_semaphore-receivers-requires-clause-no_device
 delete_semaphore-receivers-requires-clause-no_device c =
     let d = kernel_state c.k.inside in
-    let r = is_renewable c.args.q c.args.head.now d c.args.k.now c.k.view_is c.requires.clears.tables c.requires.clears.ports c.requires.clears.used in
+    let r = is_renewable c.args.q c.args.head.now d c.args.k.now.call (call_is c.k.view_is) c.requires.clears.tables c.requires.clears.ports c.requires.clears.used in
     let u = c.delete_semaphore-senders.new.self in
     let f = can_follow c.args.q c.args.head.now d u given_up r c.delete_semaphore-senders.ensures.deleted in
     port_no_device c.args.q (semaphore_at u c.args.head.now.receive).owner f.owned
@@ -54,7 +55,7 @@ delete_semaphore-receivers-requires-clause-no_device c =
 pub returns : goal.returns
 returns c =
     let d = kernel_state c.k.inside in
-    let r = is_renewable c.args.q c.args.head.now d c.args.k.now c.k.view_is c.requires.clears.tables c.requires.clears.ports c.requires.clears.used in
+    let r = is_renewable c.args.q c.args.head.now d c.args.k.now.call (call_is c.k.view_is) c.requires.clears.tables c.requires.clears.ports c.requires.clears.used in
     let q = c.args.q in
     let head = c.args.head.now in
     let senders = c.delete_semaphore-senders.result.items in
@@ -70,11 +71,11 @@ returns c =
       deleted = λ queue used. (
           let U : CallState → Type 0 = λ d. (port_at d.state.parts.ports q).queue ≡ Some queue in
           ap O owes
-          ∙ port_deleted q head queue d c.delete_semaphore-senders.new.self v senders receivers p r (subst U (sym c.k.view_is) used) (record {
+          ∙ port_deleted q head queue d c.delete_semaphore-senders.new.self v senders receivers p r (subst U (sym (call_is c.k.view_is)) used) (record {
             first = c.delete_semaphore-senders.ensures.released;
             between = c.delete_semaphore-senders.ensures.deleted;
             second = c.delete_semaphore-receivers.ensures.released;
             after = c.delete_semaphore-receivers.ensures.deleted;
           }) c.delete.ensures.deleted
-          ∙ ap (λ d. deleted q queue (emptied queue.receive (emptied queue.send d))) c.k.view_is);
+          ∙ ap (λ d. deleted q queue (emptied queue.receive (emptied queue.send d))) (call_is c.k.view_is));
     }

@@ -11,6 +11,7 @@ use Rattle.kernel_state.specs.Results.{came_to, IsStart}
 use Rattle.kernel_state.specs.States.{kernel_state}
 use Rattle.core_calls.proofs.PortCalls.{table_of}
 use Rattle.core_calls.proofs.PortRenewals.{no_port_made, no_two_made, ptcreate_is}
+use Rattle.kernel_state.proofs.Values.{call_is}
 use Rattle.core_calls.proofs.port_calls.ptcreate.Goals as goal
 
 pub returns-in_default : goal.returns-in_default
@@ -18,13 +19,13 @@ returns-in_default c =
     let R : CallState → Type 0 = λ d. refused d.state ≡ ptcreate c.args.count d.state in
     record {
       ptcreate = ap (λ d. came_to d (Returns (negsuc 0))) c.requires.start.is
-          ∙ subst R c.k.view_is (no_port_made (kernel_state c.k.inside).state c.args.count c.in_default.ensures.found);
+          ∙ subst R (call_is c.k.view_is) (no_port_made (kernel_state c.k.inside).state c.args.count c.in_default.ensures.found);
     }
 
 pub returns-in_default-make_two_semaphores : goal.returns-in_default-make_two_semaphores
 returns-in_default-make_two_semaphores c =
     let d = kernel_state c.k.inside in
-    let begins = (subst IsStart (sym c.k.view_is) c.requires.start).is in
+    let begins = (subst IsStart (sym (call_is c.k.view_is)) c.requires.start).is in
     let fits : SFits w32 c.args.count = search rules in
     record {
       ptcreate = ap (λ (t : Tables). came_to (record d { state = record d.state { tables = t } }) (Returns (negsuc 0)))
@@ -32,7 +33,7 @@ returns-in_default-make_two_semaphores c =
           ∙ ap (λ d. came_to d (Returns (negsuc 0))) begins
           ∙ no_two_made d.state c.in-Some.q (to_z w32 (of_z w32 c.args.count)) c.in-Some.ensures.found c.in_default-make_two_semaphores.ensures.found
           ∙ ap (λ z. ptcreate z d.state) (to_z-of_z w32 c.args.count fits)
-          ∙ ap (λ (d : CallState). ptcreate c.args.count d.state) c.k.view_is;
+          ∙ ap (λ (d : CallState). ptcreate c.args.count d.state) (call_is c.k.view_is);
     }
 
 pub returns : goal.returns
@@ -45,7 +46,7 @@ returns c =
     let send = c.in-Some-make_two_semaphores.send in
     let receive = c.in-Some-make_two_semaphores.receive in
     let made : p ≡ with_made q (record { first_count = z; send = send; receive = receive }) (table_of d.state) = search rules in
-    let begins = (subst IsStart (sym c.k.view_is) c.requires.start).is in
+    let begins = (subst IsStart (sym (call_is c.k.view_is)) c.requires.start).is in
     let fits : SFits w32 c.args.count = search rules in
     let value : to_z w32 c.index.result ≡ pos q = search rules in
     let W : CallState → CallState = λ d. record d {
@@ -57,5 +58,5 @@ returns c =
           ∙ ptcreate_is d.state q send receive z t p c.in-Some.ensures.found
           c.in-Some-make_two_semaphores.ensures'.found c.in-Some-make_two_semaphores.ensures'.made made
           ∙ ap (λ z. ptcreate z d.state) (to_z-of_z w32 c.args.count fits)
-          ∙ ap (λ (d : CallState). ptcreate c.args.count d.state) c.k.view_is;
+          ∙ ap (λ (d : CallState). ptcreate c.args.count d.state) (call_is c.k.view_is);
     }

@@ -9,26 +9,26 @@ use Rattle.core_calls.proofs.port_calls.ptdelete.Goals as goal
 
 pub delete_port-requires : goal.delete_port-requires
 delete_port-requires c =
-    let d = c.args.k.now in
+    let d = c.args.k.now.call in
     let port = c.in-Some.port in
     let uses = clears c.args.word c.args.how port.0 port.1 d.state c.in-Some.ensures.named c.in-Some.ensures.head in
-    let x = is_disposed port.0 c.args.how port.1 d c.dispose.new.k c.requires.sound c.requires.pools c.requires.ports c.requires.numbers uses
+    let x = is_disposed port.0 c.args.how port.1 d c.dispose.new.k.call c.requires.sound c.requires.pools c.requires.ports c.requires.numbers uses
     c.dispose.ensures.disposed in
     record { clears = x.clears }
 
 pub returns : goal.returns
 returns c =
-    let d = c.args.k.now in
+    let d = c.args.k.now.call in
     let how = c.args.how in
     let port = c.in-Some.port in
     let uses = clears c.args.word how port.0 port.1 d.state c.in-Some.ensures.named c.in-Some.ensures.head in
-    let x = is_disposed port.0 how port.1 d c.dispose.new.k c.requires.sound c.requires.pools c.requires.ports c.requires.numbers uses
+    let x = is_disposed port.0 how port.1 d c.dispose.new.k.call c.requires.sound c.requires.pools c.requires.ports c.requires.numbers uses
     c.dispose.ensures.disposed in
     let queue = uses.queue in
     record {
       ptdelete = ap (λ d. came_to d (Returns (pos 0)))
           (c.delete_port.ensures.deleted queue (ap (λ l. (port_at l port.0).queue) x.same ∙ uses.used)
           ∙ ap (λ e. deleted port.0 queue (emptied queue.receive (emptied queue.send e)))
-          (disposed_at_start port.0 how queue d c.dispose.new.k c.requires.start.is uses.used c.dispose.ensures.disposed))
+          (disposed_at_start port.0 how queue d c.dispose.new.k.call c.requires.start.is uses.used c.dispose.ensures.disposed))
           ∙ ptdelete_is d.state port.0 c.args.word how queue c.in-Some.ensures.named uses.used uses.allowed;
     }

@@ -11,31 +11,32 @@ use Rattle.kernel_tables.specs.Waking.{are_any}
 use Rattle.kernel_state.specs.States.{kernel_state}
 use Rattle.core_calls.proofs.PortRenewals.{can_follow, head_counted, is_renewable, port_reset, port_used, renewed_in, send_owner, with_count}
 use Rattle.core_calls.proofs.InTurn.{released_to}
+use Rattle.kernel_state.proofs.Values.{call_is}
 use Rattle.core_calls.proofs.port_calls.reset_port.Goals as goal
 
 pub reset_semaphore-senders-requires-clause-runs : goal.reset_semaphore-senders-requires-clause-runs
 reset_semaphore-senders-requires-clause-runs c =
     let d = kernel_state c.k.inside in
-    let r = is_renewable c.args.q c.args.head.now d c.args.k.now c.k.view_is c.requires.clears.tables c.requires.clears.ports c.requires.clears.used in
+    let r = is_renewable c.args.q c.args.head.now d c.args.k.now.call (call_is c.k.view_is) c.requires.clears.tables c.requires.clears.ports c.requires.clears.used in
     r.tables.runs
 
 pub reset_semaphore-senders-requires-clause-used : goal.reset_semaphore-senders-requires-clause-used
 reset_semaphore-senders-requires-clause-used c =
     let d = kernel_state c.k.inside in
-    let r = is_renewable c.args.q c.args.head.now d c.args.k.now c.k.view_is c.requires.clears.tables c.requires.clears.ports c.requires.clears.used in
+    let r = is_renewable c.args.q c.args.head.now d c.args.k.now.call (call_is c.k.view_is) c.requires.clears.tables c.requires.clears.ports c.requires.clears.used in
     port_used c.args.q (semaphore_at d.state.tables c.args.head.now.send).owner (send_owner c.args.q c.args.head.now d r)
 
 pub reset_semaphore-senders-requires-clause-tokens : goal.reset_semaphore-senders-requires-clause-tokens
 reset_semaphore-senders-requires-clause-tokens c =
     let d = kernel_state c.k.inside in
-    let r = is_renewable c.args.q c.args.head.now d c.args.k.now c.k.view_is c.requires.clears.tables c.requires.clears.ports c.requires.clears.used in
+    let r = is_renewable c.args.q c.args.head.now d c.args.k.now.call (call_is c.k.view_is) c.requires.clears.tables c.requires.clears.ports c.requires.clears.used in
     let fits : SFits w32 c.args.head.now.first_count = search rules in
     subst (λ z. pos 0 ≤ℤ z) (sym (to_z-of_z w32 c.args.head.now.first_count fits)) (head_counted c.args.head.now r.has.queue r.has.is)
 
 pub reset_semaphore-receivers-requires-clause-runs : goal.reset_semaphore-receivers-requires-clause-runs
 reset_semaphore-receivers-requires-clause-runs c =
     let d = kernel_state c.k.inside in
-    let r = is_renewable c.args.q c.args.head.now d c.args.k.now c.k.view_is c.requires.clears.tables c.requires.clears.ports c.requires.clears.used in
+    let r = is_renewable c.args.q c.args.head.now d c.args.k.now.call (call_is c.k.view_is) c.requires.clears.tables c.requires.clears.ports c.requires.clears.used in
     let u = c.reset_semaphore-senders.new.self in
     let fits : SFits w32 c.args.head.now.first_count = search rules in
     let between = c.reset_semaphore-senders.ensures.reset
@@ -46,7 +47,7 @@ reset_semaphore-receivers-requires-clause-runs c =
 pub reset_semaphore-receivers-requires-clause-used : goal.reset_semaphore-receivers-requires-clause-used
 reset_semaphore-receivers-requires-clause-used c =
     let d = kernel_state c.k.inside in
-    let r = is_renewable c.args.q c.args.head.now d c.args.k.now c.k.view_is c.requires.clears.tables c.requires.clears.ports c.requires.clears.used in
+    let r = is_renewable c.args.q c.args.head.now d c.args.k.now.call (call_is c.k.view_is) c.requires.clears.tables c.requires.clears.ports c.requires.clears.used in
     let u = c.reset_semaphore-senders.new.self in
     let fits : SFits w32 c.args.head.now.first_count = search rules in
     let between = c.reset_semaphore-senders.ensures.reset
@@ -57,7 +58,7 @@ reset_semaphore-receivers-requires-clause-used c =
 pub returns : goal.returns
 returns c =
     let d = kernel_state c.k.inside in
-    let r = is_renewable c.args.q c.args.head.now d c.args.k.now c.k.view_is c.requires.clears.tables c.requires.clears.ports c.requires.clears.used in
+    let r = is_renewable c.args.q c.args.head.now d c.args.k.now.call (call_is c.k.view_is) c.requires.clears.tables c.requires.clears.ports c.requires.clears.used in
     let q = c.args.q in
     let head = c.args.head.now in
     let senders = c.reset_semaphore-senders.result.items in
@@ -76,11 +77,11 @@ returns c =
       reset = λ queue used. (
           let U : CallState → Type 0 = λ d. (port_at d.state.parts.ports q).queue ≡ Some queue in
           ap O owes
-          ∙ port_reset q head queue d c.reset_semaphore-senders.new.self v senders receivers p r (subst U (sym c.k.view_is) used) (record {
+          ∙ port_reset q head queue d c.reset_semaphore-senders.new.self v senders receivers p r (subst U (sym (call_is c.k.view_is)) used) (record {
             first = c.reset_semaphore-senders.ensures.released;
             between = between;
             second = c.reset_semaphore-receivers.ensures.released;
             after = c.reset_semaphore-receivers.ensures.reset;
           }) c.reset.ensures.reset
-          ∙ ap (λ d. emptied_port q queue (emptied queue.receive (emptied queue.send d))) c.k.view_is);
+          ∙ ap (λ d. emptied_port q queue (emptied queue.receive (emptied queue.send d))) (call_is c.k.view_is));
     }

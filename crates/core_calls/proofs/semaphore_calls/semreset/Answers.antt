@@ -8,6 +8,7 @@ use Rattle.kernel_state.proofs.Together.{releasing}
 use Rattle.core_calls.proofs.SemaphoreCalls.{at_least_zero, semreset_counts}
 use Rattle.std.proofs.lemmas.Int.{to_z-of_z}
 use mir.Val.{SFits, of_z, to_z}
+use Rattle.kernel_state.proofs.Values.{call_is}
 use Rattle.core_calls.proofs.semaphore_calls.semreset.Goals as goal
 
 pub returns : goal.returns
@@ -23,5 +24,5 @@ returns c =
           (c.release.ensures.released ∙ ap (λ l. releasing (pos 0) l u s) c.as_slice.ensures.value)
           ∙ semreset_counts s c.in-Some.sem c.args.word z c.reset_semaphore-released.result.items u l c.in-Some.ensures.named c.in-Some.ensures.good c.reset_semaphore-released.ensures.released c.reset_semaphore-released.ensures.reset
           ∙ ap (λ z. semreset c.args.word z s) is
-          ∙ ap (λ (d : CallState). semreset c.args.word c.args.count d.state) c.k.view_is;
+          ∙ ap (λ (d : CallState). semreset c.args.word c.args.count d.state) (call_is c.k.view_is);
     }

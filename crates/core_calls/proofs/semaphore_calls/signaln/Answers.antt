@@ -8,6 +8,7 @@ use Rattle.kernel_state.proofs.Together.{releasing}
 use Rattle.core_calls.proofs.SemaphoreCalls.{at_least_zero, not_negative, signaln_is}
 use Rattle.std.proofs.lemmas.Int.{to_z-of_z}
 use mir.Val.{SFits, of_z, to_z}
+use Rattle.kernel_state.proofs.Values.{call_is}
 use Rattle.core_calls.proofs.semaphore_calls.signaln.Goals as goal
 
 pub returns : goal.returns
@@ -24,5 +25,5 @@ returns c =
           ∙ signaln_is s c.in-Some.sem c.args.word n c.signaln-released.result.items u c.in-Some.ensures.named c.in-Some.ensures.good
           (sym c.if-not-has_room.ensures.room) c.signaln-released.ensures.released c.signaln-released.ensures.signalled
           ∙ ap (λ z. signaln c.args.word z s) (sym is)
-          ∙ ap (λ (d : CallState). signaln c.args.word c.args.n d.state) c.k.view_is;
+          ∙ ap (λ (d : CallState). signaln c.args.word c.args.n d.state) (call_is c.k.view_is);
     }

@@ -7,7 +7,7 @@ use Rattle.io_calls.proofs.console_reads.reads.Goals as goal
 
 pub returns-then-not-await_item : goal.returns-then-not-await_item
 returns-then-not-await_item c = record {
-  reads = read_waits c.args.part c.args.k.now.state c.loop-done.done c.loop-done.k c.await_item.new.k c.await_item.result
+  reads = read_waits c.args.part c.args.k.now.call.state c.loop-done.done c.loop-done.k c.await_item.new.k.call c.await_item.result
       c.loop-done.invariant.1 c.loop-done-test.true c.await_item.ensures.waits c.if-not-await_item.true;
 }
 
@@ -16,17 +16,17 @@ read_item-requires-clause-item c = c.await_item.ensures.item c.if-not-await_item
 
 pub returns-in-Some : goal.returns-in-Some
 returns-in-Some c = record {
-  reads = read_ends c.args.part c.args.k.now.state c.loop-done.done c.loop-done.k c.await_item.new.k c.await_item.result
+  reads = read_ends c.args.part c.args.k.now.call.state c.loop-done.done c.loop-done.k c.await_item.new.k.call c.await_item.result
       c.loop-done.invariant.1 c.loop-done-test.true c.await_item.ensures.waits c.if-not-await_item.false
-      c.read_item.new.k c.read_item.result c.read_item.ensures.reads c.in-Some.next c.in-Some.is;
+      c.read_item.new.k.call c.read_item.result c.read_item.ensures.reads c.in-Some.next c.in-Some.is;
 }
 
 pub loop-done-preserved : goal.loop-done-preserved
 loop-done-preserved c = (
   refl,
-  read_goes_on c.args.part c.args.k.now.state c.loop-done.done c.loop-done.k c.await_item.new.k c.await_item.result
+  read_goes_on c.args.part c.args.k.now.call.state c.loop-done.done c.loop-done.k c.await_item.new.k.call c.await_item.result
       c.loop-done.invariant.1 c.loop-done-test.true c.await_item.ensures.waits c.if-not-await_item.false
-      c.read_item.new.k c.read_item.result c.read_item.ensures.reads c.in_default.is c.in_default.ensures.begins,
+      c.read_item.new.k.call c.read_item.result c.read_item.ensures.reads c.in_default.is c.in_default.ensures.begins,
 )
 
 pub returns : goal.returns
@@ -34,5 +34,5 @@ returns c =
     let range = c.requires.range in
     record {
       reads = ap (λ z. came_to c.loop-done.k (Returns z)) (to_z_pos w32 c.args.part.want (omega (arith, range)))
-          ∙ read_over c.args.part c.args.k.now.state c.loop-done.done c.loop-done.k c.loop-done.invariant.1 c.loop-done-test.false;
+          ∙ read_over c.args.part c.args.k.now.call.state c.loop-done.done c.loop-done.k c.loop-done.invariant.1 c.loop-done-test.false;
     }

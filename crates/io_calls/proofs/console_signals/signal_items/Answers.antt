@@ -7,6 +7,7 @@ use Rattle.xinu_model.specs.Machine.{start}
 use Rattle.xinu_model.specs.Semaphores.Waiting.{signalled_times}
 use Rattle.io_calls.proofs.ConsoleSignals.{signals_are}
 use Rattle.kernel_state.proofs.Together.{releasing}
+use Rattle.kernel_state.proofs.Values.{call_is}
 use Rattle.io_calls.proofs.console_signals.signal_items.Goals as goal
 
 pub returns : goal.returns
@@ -15,12 +16,12 @@ returns c =
     let n = c.args.count in
     let sem = c.input_sem.result in
     let u = c.signaln-released.new.self in
-    let i = subst IsStart (sym c.k.view_is) c.requires.start in
+    let i = subst IsStart (sym (call_is c.k.view_is)) c.requires.start in
     record {
       signalled = c.release.ensures.released
           ∙ ap (λ l. releasing OK l u k.state) c.as_slice.ensures.value
           ∙ signals_are k.state sem n c.signaln-released.result.items u c.signaln-released.ensures.released c.signaln-released.ensures.signalled
           ∙ ap (λ s. signalled_times s n (start k.state)) c.input_sem.ensures.input
           ∙ sym (ap (signalled_times TY_ISEM n) i.is)
-          ∙ ap (signalled_times TY_ISEM n) c.k.view_is;
+          ∙ ap (signalled_times TY_ISEM n) (call_is c.k.view_is);
     }

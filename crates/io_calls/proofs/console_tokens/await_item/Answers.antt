@@ -4,6 +4,7 @@ use Rattle.io_calls.specs.Consoles.{Begins, HasItem}
 use Rattle.kernel_state.specs.States.{kernel_state}
 use Rattle.xinu_model.specs.Tables.{semaphore_at}
 use Rattle.io_calls.proofs.ConsoleTokens.{in_tables, item_taken, waited}
+use Rattle.kernel_state.proofs.Values.{call_is}
 use Rattle.io_calls.proofs.console_tokens.await_item.Goals as goal
 
 pub returns-clause-item : goal.returns-clause-item
@@ -12,5 +13,5 @@ returns-clause-item c took =
     let t = k.state.tables in
     let same = c.input_sem.ensures.input in
     subst (λ t. HasItem (in_tables t k)) (sym (c.wait.ensures.waits ∙ ap (λ sem. waited c.wait.result sem c.args.rest t) same))
-    (item_taken c.args.rest c.wait.result k (subst Begins (sym c.k.view_is) c.requires.begins)
+    (item_taken c.args.rest c.wait.result k (subst Begins (sym (call_is c.k.view_is)) c.requires.begins)
     (c.wait.ensures.took ∙ ap (λ sem. nat_lt 0 (semaphore_at t sem).tokens) same) took)

@@ -6,8 +6,8 @@ use Rattle.xinu_model.specs.Devices.Calls.{close_as}
 
 pub returns-in_default : goal.returns-in_default
 returns-in_default c =
-    let s = c.args.k.now.state in
+    let s = c.args.k.now.call.state in
     let does = close_as c.args.dev in
     record {
-      close = no_device op.Close c.args.dev does c.offering.result s (c.offering.ensures.offered does s) c.args.k.now refl c.requires.calling.starts c.in_default.is;
+      close = no_device op.Close c.args.dev does c.offering.result s (c.offering.ensures.offered does s) c.args.k.now.call refl c.requires.calling.starts c.in_default.is;
     }

@@ -6,8 +6,8 @@ use Rattle.xinu_model.specs.Devices.Calls.{control_as}
 
 pub returns-in_default : goal.returns-in_default
 returns-in_default c =
-    let s = c.args.k.now.state in
+    let s = c.args.k.now.call.state in
     let does = control_as c.args.dev c.args.f c.args.x in
     record {
-      control = no_device op.Control c.args.dev does c.offering.result s (c.offering.ensures.offered does s) c.args.k.now refl c.requires.calling.starts c.in_default.is;
+      control = no_device op.Control c.args.dev does c.offering.result s (c.offering.ensures.offered does s) c.args.k.now.call refl c.requires.calling.starts c.in_default.is;
     }

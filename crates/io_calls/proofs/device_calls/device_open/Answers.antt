@@ -6,8 +6,8 @@ use Rattle.xinu_model.specs.Devices.Calls.{open_texts}
 
 pub returns-in_default : goal.returns-in_default
 returns-in_default c =
-    let s = c.args.k.now.state in
+    let s = c.args.k.now.call.state in
     let does = open_texts c.args.name c.args.mode in
     record {
-      opens = no_device op.Open c.args.dev does c.offering.result s (c.offering.ensures.offered does s) c.args.k.now refl c.requires.calling.starts c.in_default.is;
+      opens = no_device op.Open c.args.dev does c.offering.result s (c.offering.ensures.offered does s) c.args.k.now.call refl c.requires.calling.starts c.in_default.is;
     }

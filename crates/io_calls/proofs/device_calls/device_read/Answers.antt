@@ -6,8 +6,8 @@ use Rattle.xinu_model.specs.Devices.Calls.{read_as}
 
 pub returns-in_default : goal.returns-in_default
 returns-in_default c =
-    let s = c.args.k.now.state in
+    let s = c.args.k.now.call.state in
     let does = read_as c.args.dev c.args.at c.args.n in
     record {
-      read = no_device op.Read c.args.dev does c.offering.result s (c.offering.ensures.offered does s) c.args.k.now refl c.requires.calling.starts c.in_default.is;
+      read = no_device op.Read c.args.dev does c.offering.result s (c.offering.ensures.offered does s) c.args.k.now.call refl c.requires.calling.starts c.in_default.is;
     }

@@ -7,8 +7,8 @@ use Rattle.xinu_model.specs.Words.{signed}
 
 pub returns-in_default : goal.returns-in_default
 returns-in_default c =
-    let s = c.args.k.now.state in
+    let s = c.args.k.now.call.state in
     let does = seek_as c.args.dev (signed c.args.n) in
     record {
-      seek = no_device op.Seek c.args.dev does c.offering.result s (c.offering.ensures.offered does s) c.args.k.now refl c.requires.calling.starts c.in_default.is;
+      seek = no_device op.Seek c.args.dev does c.offering.result s (c.offering.ensures.offered does s) c.args.k.now.call refl c.requires.calling.starts c.in_default.is;
     }

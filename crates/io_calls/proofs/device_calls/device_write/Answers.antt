@@ -6,8 +6,8 @@ use Rattle.xinu_model.specs.Devices.Calls.{write_as}
 
 pub returns-in_default : goal.returns-in_default
 returns-in_default c =
-    let s = c.args.k.now.state in
+    let s = c.args.k.now.call.state in
     let does = write_as c.args.dev c.args.at c.args.n in
     record {
-      write = no_device op.Write c.args.dev does c.offering.result s (c.offering.ensures.offered does s) c.args.k.now refl c.requires.calling.starts c.in_default.is;
+      write = no_device op.Write c.args.dev does c.offering.result s (c.offering.ensures.offered does s) c.args.k.now.call refl c.requires.calling.starts c.in_default.is;
     }

@@ -1,6 +1,7 @@
 use Rattle.std.proofs.Common.{map, subst, sym}
 use Rattle.file_server.specs.Requests.{note_of}
 use Rattle.io_calls.proofs.FileCalls.{completed_told}
+use Rattle.kernel_state.proofs.Values.{call_is}
 use Rattle.io_calls.proofs.file_calls.on_files.Goals as goal
 use Rattle.io_calls.specs.Files.{AreTold}
 use Rattle.kernel_state.specs.States.{kernel_state}
@@ -16,6 +17,6 @@ tell_all-requires c =
     record {
       callers = subst (λ notes. AreTold (map note_of notes) t) (sym c.as_slice.ensures.value)
           (completed_told t (files_of k.state) k.state.memory _
-          (subst (λ (d : CallState). IsSoundTables d.state.tables) (sym c.k.view_is) c.requires.sound)
-          (subst (λ (d : CallState). IsFileDisk d.state.tables (files_of d.state)) (sym c.k.view_is) c.requires.files) c.complete-notes.ensures.completed);
+          (subst (λ (d : CallState). IsSoundTables d.state.tables) (sym (call_is c.k.view_is)) c.requires.sound)
+          (subst (λ (d : CallState). IsFileDisk d.state.tables (files_of d.state)) (sym (call_is c.k.view_is)) c.requires.files) c.complete-notes.ensures.completed);
     }

@@ -24,7 +24,7 @@ start_all-requires-clause-suspended c j low high =
     let n = length-map c.args.images.now loaded_of in
     let few = c.requires.few in
     let made = ap (λ (d : CallState). boot.all_made 1 images d.state) (sym c.in-Ok.ensures.loaded) ∙ c.in_default-make_all.ensures.made in
-    suspended_made (disks_of c.args.disk0 c.args.disk1) images c.make_all.new.k.state (omega (arith, n, few)) made j low (omega (arith, n, high))
+    suspended_made (disks_of c.args.disk0 c.args.disk1) images c.make_all.new.k.call.state (omega (arith, n, few)) made j low (omega (arith, n, high))
 
 pub returns-in-Some-make_all : goal.returns-in-Some-make_all
 returns-in-Some-make_all c =
@@ -41,8 +41,8 @@ returns c =
     let made = ap (λ (d : CallState). boot.all_made 1 images d.state) (sym c.in-Ok.ensures.loaded) ∙ c.in_default-make_all.ensures.made in
     let started = c.start_all.ensures.started in
     let disks = disks_of c.args.disk0 c.args.disk1 in
-    let boots : boot.boot_on disks images ≡ boot.Boots c.start_all.new.k.state
-    = boots_made disks images c.make_all.new.k.state c.in_default.ensures.first made
+    let boots : boot.boot_on disks images ≡ boot.Boots c.start_all.new.k.call.state
+    = boots_made disks images c.make_all.new.k.call.state c.in_default.ensures.first made
     ∙ ap boot.Boots (sym (ap (λ (d : CallState). d.state) started)) in
     let raw = subst (λ l. is_raw l ≡ true) c.disk0.view_is c.disk0.invariant in
     let clean = subst IsCleanImage c.disk1.view_is c.disk1.invariant in
@@ -50,5 +50,5 @@ returns c =
     let few = c.requires.few in
     record {
       booted = (boots, subst IsStart (sym started) (record { is = refl }));
-      sound = sound_boot_on disks images c.start_all.new.k.state (omega (arith, n, few)) (sound_disks c.args.disk0 c.args.disk1 raw clean) boots;
+      sound = sound_boot_on disks images c.start_all.new.k.call.state (omega (arith, n, few)) (sound_disks c.args.disk0 c.args.disk1 raw clean) boots;
     }

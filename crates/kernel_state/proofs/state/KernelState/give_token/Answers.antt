@@ -5,12 +5,13 @@ use Rattle.xinu_model.specs.Machine.{CallState}
 use Rattle.xinu_model.specs.Semaphores.Waiting.{signalled}
 use Rattle.xinu_model.specs.Tables.{semaphore_at}
 use Rattle.kernel_state.proofs.GoingOn.{part_used, token_passed}
+use Rattle.kernel_state.proofs.Values.{call_is}
 use Rattle.kernel_state.proofs.state.KernelState.give_token.Goals as goal
 
 pub signal-requires : goal.signal-requires
 signal-requires c =
     let P : CallState → Type 0 = λ d. IsOfPart (semaphore_at d.state.tables c.args.sem).owner in
-    record { used = part_used (semaphore_at c.self.inside.tables c.args.sem).owner (subst P (sym c.self.view_is) c.requires.part) }
+    record { used = part_used (semaphore_at c.self.inside.tables c.args.sem).owner (subst P (sym (call_is c.self.view_is)) c.requires.part) }
 
 pub returns-in-Released : goal.returns-in-Released
 returns-in-Released c =
@@ -18,6 +19,6 @@ returns-in-Released c =
     let P : CallState → Type 0 = λ d. IsOfPart (semaphore_at d.state.tables c.args.sem).owner in
     record {
       signalled = token_passed d c.args.sem _ c.signal.new.self c.in-Released.ensures.inside
-          (subst P (sym c.self.view_is) c.requires.part) c.in-Released.ensures.answer c.in-Released.ensures.signalled
-          ∙ ap (signalled c.args.sem) c.self.view_is;
+          (subst P (sym (call_is c.self.view_is)) c.requires.part) c.in-Released.ensures.answer c.in-Released.ensures.signalled
+          ∙ ap (signalled c.args.sem) (call_is c.self.view_is);
     }
