@@ -117,7 +117,7 @@ impl FileDisk {
     // The position and the size of the file that a device has open.
     pub(crate) fn open_file(&self, d: usize) -> Option<(u32, u32)>
         requires below { d < 6 }
-        ensures open { result ≡ place_of (open_at self.now.system d) self.now.system }
+        ensures place { result ≡ place_of (open_at self.now.system d) self.now.system }
     {
         match self.files.devices[d] {
             None => None,
@@ -127,7 +127,7 @@ impl FileDisk {
 
     // Whether a device has a file open.
     pub(crate) fn has_open(&self) -> bool
-        ensures open { result ≡ list_any (λ (x : Option OpenFile). is_some x) self.now.system.devices }
+        ensures any { result ≡ list_any (λ (x : Option OpenFile). is_some x) self.now.system.devices }
     {
         self.files.open_count() > 0
     }

@@ -78,7 +78,7 @@ impl FileServer {
     /// The position and the size of the file that a device has open, counted from the first file device.
     pub fn open_file(&self, d: usize) -> Option<(u32, u32)>
         requires below { d < 6 }
-        ensures open { result ≡ place_of (open_at self.now.work.system d) self.now.work.system }
+        ensures place { result ≡ place_of (open_at self.now.work.system d) self.now.work.system }
     {
         self.disk.open_file(d)
     }

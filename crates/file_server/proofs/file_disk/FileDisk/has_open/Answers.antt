@@ -9,6 +9,6 @@ use Rattle.file_server.proofs.file_disk.FileDisk.has_open.Goals as goal
 pub returns : goal.returns
 returns c =
     record {
-      open = ap (nat_lt 0) c.open_count.ensures
+      any = ap (nat_lt 0) c.open_count.ensures
           ∙ subst (λ (v : DiskState). nat_lt 0 _ ≡ list_any (λ (x : Option OpenFile). is_some x) v.system.devices) c.self.view_is (any_open c.self.inside.files.devices);
     }

@@ -10,7 +10,7 @@ pub returns-in-None : goal.returns-in-None
 returns-in-None c =
     let e = c.self.inside.files in
     let none : device_at e c.args.d ≡ None = search rules in
-    record { open = subst (λ (v : DiskState). None ≡ place_of (open_at v.system c.args.d) v.system) c.self.view_is (place_closed e c.self.inside.settled.items c.args.d none) }
+    record { place = subst (λ (v : DiskState). None ≡ place_of (open_at v.system c.args.d) v.system) c.self.view_is (place_closed e c.self.inside.settled.items c.args.d none) }
 
 pub returns-in-Some : goal.returns-in-Some
 returns-in-Some c =
@@ -18,6 +18,6 @@ returns-in-Some c =
     let f = c.in-Some.f in
     let some : device_at e c.args.d ≡ Some f = search rules in
     record {
-      open = subst (λ (v : DiskState). Some (f.position, f.entry.size) ≡ place_of (open_at v.system c.args.d) v.system) c.self.view_is
+      place = subst (λ (v : DiskState). Some (f.position, f.entry.size) ≡ place_of (open_at v.system c.args.d) v.system) c.self.view_is
           (place_open e c.self.inside.settled.items c.self.inside.disk.items c.args.d f c.self.invariant.stands some);
     }
