@@ -1,4 +1,4 @@
-use Rattle.std.proofs.Common.{◌≡◌, Option, Some, None, rules, subst}
+use Rattle.std.proofs.Common.{◌≡◌, Some, None, rules, subst}
 use Rattle.file_server.proofs.Places.{place_closed, place_open}
 use Rattle.file_server.specs.DiskStates.{DiskState}
 use Rattle.file_server.specs.OpenFiles.{place_of}
