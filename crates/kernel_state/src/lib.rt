@@ -1,8 +1,8 @@
 //! The kernel's state inside an event, and the moves that several families of calls make.
 //!
 //! A clause sees a [`KernelState`] as the abstract machine's `CallState`, `call`: its state inside an event, the replies to released processes
-//! so far, and whether a resched is owed; and beside it the bytes of the disk with files, `image`. No fact is kept of it, so its parts are public: whoever changes one owes the clause of the call that
-//! does, and `kernel` keeps what holds of all of it.
+//! so far, and whether a resched is owed; and beside it the bytes of the disk with files, `image`. No fact is kept of it, so its parts are
+//! public: whoever changes one owes the clause of the call that does, and `kernel` keeps what holds of all of it.
 //!
 //! | Call | Promise |
 //! |---|---|
@@ -17,7 +17,7 @@
 //! | [`Begun`] | how a call begins: as its row says, or it is on files and takes effect as it is made (`BeginsAs`) |
 //!
 //! The crate depends on `kernel_tables`, `freelist_memory`, `buffer_pools`, `ports`, `tty_driver`, `disk_driver`, `name_space`, `file_server`
-//! and `rv_hart`, whose values are its parts. Of a `FileServer` the state has the file work.
+//! and `rv_hart`, whose values are its parts. Of a `FileServer` the state has the file work and the bytes of the disk.
 #![tactic(auto)]
 
 mod begun;

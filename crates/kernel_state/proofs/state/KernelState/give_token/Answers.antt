@@ -13,12 +13,10 @@ signal-requires c =
     let P : CallState → Type 0 = λ d. IsOfPart (semaphore_at d.state.tables c.args.sem).owner in
     record { used = part_used (semaphore_at c.self.inside.tables c.args.sem).owner (subst P (sym (call_is c.self.view_is)) c.requires.part) }
 
-pub returns-in-Released : goal.returns-in-Released
-returns-in-Released c =
+pub returns-in-Released-clause-signalled : goal.returns-in-Released-clause-signalled
+returns-in-Released-clause-signalled c =
     let d = kernel_state c.self.inside in
     let P : CallState → Type 0 = λ d. IsOfPart (semaphore_at d.state.tables c.args.sem).owner in
-    record {
-      signalled = token_passed d c.args.sem _ c.signal.new.self c.in-Released.ensures.inside
-          (subst P (sym (call_is c.self.view_is)) c.requires.part) c.in-Released.ensures.answer c.in-Released.ensures.signalled
-          ∙ ap (signalled c.args.sem) (call_is c.self.view_is);
-    }
+    token_passed d c.args.sem _ c.signal.new.self c.in-Released.ensures.inside
+    (subst P (sym (call_is c.self.view_is)) c.requires.part) c.in-Released.ensures.answer c.in-Released.ensures.signalled
+    ∙ ap (signalled c.args.sem) (call_is c.self.view_is)
