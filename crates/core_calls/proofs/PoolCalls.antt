@@ -1,9 +1,9 @@
 -- There is a buffer for whoever was released to take one.
-use Rattle.std.proofs.Common.{◌≡◌, ◌∙◌, ℕ, ◌<◌, ◌-◌, Bool, true, false, cond, nat_lt, length, Option, Some, None, ap, arith, sym}
+use Rattle.std.proofs.Common.{◌≡◌, ◌∙◌, ℕ, ◌<◌, ◌-◌, Bool, true, false, cond, nat_lt, length, Some, None, ap, arith}
 use Rattle.xinu_base.specs.declared.processes.Rest.TheVariants.{GetBuf}
 use Rattle.xinu_laws.proofs.Pools.Steps.{promised_goes_on}
 use Rattle.table_laws.proofs.Preserve.{current_within}
-use Rattle.xinu_model.specs.Machine.{CallResult, refused, Xinu}
+use Rattle.xinu_model.specs.Machine.{refused, Xinu}
 use Rattle.xinu_model.specs.Messages.{held}
 use Rattle.xinu_model.specs.Pools.Buffers.{pool_at}
 use Rattle.xinu_model.specs.Pools.Calls.{getbuf, take_buffer}

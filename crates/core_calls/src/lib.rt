@@ -20,8 +20,8 @@
 //! | [`tick`] | `start`, `runs`; `few`: the ticks don't wrap | `ticks`: the tick with its own reschedules |
 //! | [`exit`] | `start`, `not_null` | the caller's death |
 //!
-//! Each call is a function over a `KernelState`, and its clause is the abstract machine's own call of that name. The crate depends on
-//! `kernel_state` and, for the types of its parts, on the crates below that.
+//! Each call is a function over a `KernelState`, and its clause is the abstract machine's own call of that name. None changes the disk with
+//! files: `image`. The crate depends on `kernel_state` and, for the types of its parts, on the crates below that.
 #![tactic(auto)]
 
 mod clock_calls;

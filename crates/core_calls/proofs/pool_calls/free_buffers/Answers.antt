@@ -8,7 +8,7 @@ use Rattle.core_calls.proofs.pool_calls.free_buffers.Goals as goal
 
 pub loop-a-preserved : goal.loop-a-preserved
 loop-a-preserved c =
-    let d = c.loop-a.k in
+    let d = c.loop-a.k.call in
     let i = c.loop-a.invariant in
     let all = c.args.addresses.now in
     let a = get_or all c.loop-a.a-index 0 in
@@ -21,4 +21,5 @@ loop-a-preserved c =
       subst P is k.pools,
       ap (freed_buffers (drop (c.loop-a.a-index + 1) all)) c.free_buffer.ensures.freed
           ∙ sym (ap (λ l. freed_buffers l d) left) ∙ i.2,
+      c.free_buffer.ensures.image ∙ i.3,
     )

@@ -52,8 +52,8 @@ delete_semaphore-receivers-requires-clause-no_device c =
     let f = can_follow c.args.q c.args.head.now d u given_up r c.delete_semaphore-senders.ensures.deleted in
     port_no_device c.args.q (semaphore_at u c.args.head.now.receive).owner f.owned
 
-pub returns : goal.returns
-returns c =
+pub returns-clause-deleted : goal.returns-clause-deleted
+returns-clause-deleted c =
     let d = kernel_state c.k.inside in
     let r = is_renewable c.args.q c.args.head.now d c.args.k.now.call (call_is c.k.view_is) c.requires.clears.tables c.requires.clears.ports c.requires.clears.used in
     let q = c.args.q in
@@ -67,15 +67,13 @@ returns c =
     = c.owes_after-k-inside-2.ensures.owes ∙ ap (λ l. cond (are_any l) true c.owes_after-k-inside.result) c.as_slice-2.ensures.value
     ∙ ap (λ b. cond (are_any receivers) true b)
     (c.owes_after-k-inside.ensures.owes ∙ ap (λ l. cond (are_any l) true d.owes_resched) c.as_slice.ensures.value) in
-    record {
-      deleted = λ queue used. (
-          let U : CallState → Type 0 = λ d. (port_at d.state.parts.ports q).queue ≡ Some queue in
-          ap O owes
-          ∙ port_deleted q head queue d c.delete_semaphore-senders.new.self v senders receivers p r (subst U (sym (call_is c.k.view_is)) used) (record {
-            first = c.delete_semaphore-senders.ensures.released;
-            between = c.delete_semaphore-senders.ensures.deleted;
-            second = c.delete_semaphore-receivers.ensures.released;
-            after = c.delete_semaphore-receivers.ensures.deleted;
-          }) c.delete.ensures.deleted
-          ∙ ap (λ d. deleted q queue (emptied queue.receive (emptied queue.send d))) (call_is c.k.view_is));
-    }
+    λ queue used. (
+    let U : CallState → Type 0 = λ d. (port_at d.state.parts.ports q).queue ≡ Some queue in
+    ap O owes
+    ∙ port_deleted q head queue d c.delete_semaphore-senders.new.self v senders receivers p r (subst U (sym (call_is c.k.view_is)) used) (record {
+      first = c.delete_semaphore-senders.ensures.released;
+      between = c.delete_semaphore-senders.ensures.deleted;
+      second = c.delete_semaphore-receivers.ensures.released;
+      after = c.delete_semaphore-receivers.ensures.deleted;
+    }) c.delete.ensures.deleted
+    ∙ ap (λ d. deleted q queue (emptied queue.receive (emptied queue.send d))) (call_is c.k.view_is))

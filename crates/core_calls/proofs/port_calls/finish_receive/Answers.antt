@@ -25,8 +25,8 @@ give_token-requires-clause-room c =
     senders_below c.k.inside.tables c.k.inside.ports.ports c.args.ticket c.in-Some.received (subst R (sym (call_is c.k.view_is)) c.requires.room) p
     (c.in-Some.ensures.signed p.queue p.used)
 
-pub returns : goal.returns
-returns c =
+pub returns-clause-finished : goal.returns-clause-finished
+returns-clause-finished c =
     let k = kernel_state c.k.inside in
     let i = subst IsStart (sym (call_is c.k.view_is)) c.requires.start in
     let p = c.receive.new.self in
@@ -34,9 +34,7 @@ returns c =
     let W : CallState → CallState = λ d. record d { state = record d.state { parts = record d.state.parts { ports = p.ports; next_port = p.next_port } } } in
     let f : SFits w32 c.cast_signed.result = search rules in
     let v : to_z w32 (of_z w32 c.cast_signed.result) ≡ signed r.message = to_z-of_z w32 c.cast_signed.result f ∙ c.cast_signed.ensures in
-    record {
-      finished = ap (λ v. record { call = c.give_token.new.self; answer = Returns v }) v
-          ∙ ap (λ d. record { call = d; answer = Returns (signed r.message) }) (c.give_token.ensures.signalled ∙ ap (λ d. signalled r.send (W d)) i.is)
-          ∙ message_taken k.state c.args.ticket r p c.in-Some.ensures.answer c.in-Some.ensures.ports
-          ∙ ap (λ (d : CallState). model.finish_receive c.args.ticket d.state) (call_is c.k.view_is);
-    }
+    ap (λ v. record { call = c.give_token.new.self.call; answer = Returns v }) v
+    ∙ ap (λ d. record { call = d; answer = Returns (signed r.message) }) (c.give_token.ensures.signalled ∙ ap (λ d. signalled r.send (W d)) i.is)
+    ∙ message_taken k.state c.args.ticket r p c.in-Some.ensures.answer c.in-Some.ensures.ports
+    ∙ ap (λ (d : CallState). model.finish_receive c.args.ticket d.state) (call_is c.k.view_is)

@@ -14,30 +14,26 @@ use Rattle.core_calls.proofs.PortRenewals.{no_port_made, no_two_made, ptcreate_i
 use Rattle.kernel_state.proofs.Values.{call_is}
 use Rattle.core_calls.proofs.port_calls.ptcreate.Goals as goal
 
-pub returns-in_default : goal.returns-in_default
-returns-in_default c =
+pub returns-in_default-clause-ptcreate : goal.returns-in_default-clause-ptcreate
+returns-in_default-clause-ptcreate c =
     let R : CallState → Type 0 = λ d. refused d.state ≡ ptcreate c.args.count d.state in
-    record {
-      ptcreate = ap (λ d. came_to d (Returns (negsuc 0))) c.requires.start.is
-          ∙ subst R (call_is c.k.view_is) (no_port_made (kernel_state c.k.inside).state c.args.count c.in_default.ensures.found);
-    }
+    ap (λ d. came_to d (Returns (negsuc 0))) c.requires.start.is
+    ∙ subst R (call_is c.k.view_is) (no_port_made (kernel_state c.k.inside).state c.args.count c.in_default.ensures.found)
 
-pub returns-in_default-make_two_semaphores : goal.returns-in_default-make_two_semaphores
-returns-in_default-make_two_semaphores c =
+pub returns-in_default-make_two_semaphores-clause-ptcreate : goal.returns-in_default-make_two_semaphores-clause-ptcreate
+returns-in_default-make_two_semaphores-clause-ptcreate c =
     let d = kernel_state c.k.inside in
     let begins = (subst IsStart (sym (call_is c.k.view_is)) c.requires.start).is in
     let fits : SFits w32 c.args.count = search rules in
-    record {
-      ptcreate = ap (λ (t : Tables). came_to (record d { state = record d.state { tables = t } }) (Returns (negsuc 0)))
-          c.in_default-make_two_semaphores.ensures.made
-          ∙ ap (λ d. came_to d (Returns (negsuc 0))) begins
-          ∙ no_two_made d.state c.in-Some.q (to_z w32 (of_z w32 c.args.count)) c.in-Some.ensures.found c.in_default-make_two_semaphores.ensures.found
-          ∙ ap (λ z. ptcreate z d.state) (to_z-of_z w32 c.args.count fits)
-          ∙ ap (λ (d : CallState). ptcreate c.args.count d.state) (call_is c.k.view_is);
-    }
+    ap (λ (t : Tables). came_to (record d { state = record d.state { tables = t } }) (Returns (negsuc 0)))
+    c.in_default-make_two_semaphores.ensures.made
+    ∙ ap (λ d. came_to d (Returns (negsuc 0))) begins
+    ∙ no_two_made d.state c.in-Some.q (to_z w32 (of_z w32 c.args.count)) c.in-Some.ensures.found c.in_default-make_two_semaphores.ensures.found
+    ∙ ap (λ z. ptcreate z d.state) (to_z-of_z w32 c.args.count fits)
+    ∙ ap (λ (d : CallState). ptcreate c.args.count d.state) (call_is c.k.view_is)
 
-pub returns : goal.returns
-returns c =
+pub returns-clause-ptcreate : goal.returns-clause-ptcreate
+returns-clause-ptcreate c =
     let d = kernel_state c.k.inside in
     let q = c.in-Some.q in
     let t = c.make_two_semaphores.new.self in
@@ -52,11 +48,9 @@ returns c =
     let W : CallState → CallState = λ d. record d {
       state = record d.state { tables = t; parts = record d.state.parts { ports = p.ports; next_port = p.next_port } };
     } in
-    record {
-      ptcreate = ap (λ v. machine.returns (W d) v) value
-          ∙ ap (λ d. machine.returns (W d) (pos q)) begins
-          ∙ ptcreate_is d.state q send receive z t p c.in-Some.ensures.found
-          c.in-Some-make_two_semaphores.ensures'.found c.in-Some-make_two_semaphores.ensures'.made made
-          ∙ ap (λ z. ptcreate z d.state) (to_z-of_z w32 c.args.count fits)
-          ∙ ap (λ (d : CallState). ptcreate c.args.count d.state) (call_is c.k.view_is);
-    }
+    ap (λ v. machine.returns (W d) v) value
+    ∙ ap (λ d. machine.returns (W d) (pos q)) begins
+    ∙ ptcreate_is d.state q send receive z t p c.in-Some.ensures.found
+    c.in-Some-make_two_semaphores.ensures'.found c.in-Some-make_two_semaphores.ensures'.made made
+    ∙ ap (λ z. ptcreate z d.state) (to_z-of_z w32 c.args.count fits)
+    ∙ ap (λ (d : CallState). ptcreate c.args.count d.state) (call_is c.k.view_is)

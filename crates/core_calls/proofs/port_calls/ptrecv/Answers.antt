@@ -27,14 +27,11 @@ finish_receive-requires-clause-room c =
     subst R (sym c.if-wait.ensures.waits)
     (room_taken c.k.inside.tables c.in-Some-receive_ticket.ticket.sem c.k.inside.ports.ports (subst A (sym (call_is c.k.view_is)) c.requires.ports))
 
-pub returns-then-wait : goal.returns-then-wait
-returns-then-wait c =
+pub returns-then-wait-clause-ptrecv : goal.returns-then-wait-clause-ptrecv
+returns-then-wait-clause-ptrecv c =
     let s = (kernel_state c.k.inside).state in
     let ticket = c.in-Some-receive_ticket.ticket in
-    record {
-      ptrecv =
-          c.finish_receive.ensures.finished
-          ∙ receive_takes s c.in-Some.q c.args.word ticket c.wait.new.self (port_named c.in-Some.q c.args.word c.in-Some.ensures)
-          (is_receiver s c.in-Some.q ticket c.in-Some-receive_ticket.ensures.ticket) c.if-wait.ensures.took c.if-wait.ensures.waits
-          ∙ ap (λ (d : CallState). ptrecv c.args.word d.state) (call_is c.k.view_is);
-    }
+    c.finish_receive.ensures.finished
+    ∙ receive_takes s c.in-Some.q c.args.word ticket c.wait.new.self (port_named c.in-Some.q c.args.word c.in-Some.ensures)
+    (is_receiver s c.in-Some.q ticket c.in-Some-receive_ticket.ensures.ticket) c.if-wait.ensures.took c.if-wait.ensures.waits
+    ∙ ap (λ (d : CallState). ptrecv c.args.word d.state) (call_is c.k.view_is)

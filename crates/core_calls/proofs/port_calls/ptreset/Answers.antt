@@ -16,8 +16,8 @@ reset_port-requires c =
     c.dispose.ensures.disposed in
     record { clears = x.clears }
 
-pub returns : goal.returns
-returns c =
+pub returns-clause-ptreset : goal.returns-clause-ptreset
+returns-clause-ptreset c =
     let d = c.args.k.now.call in
     let how = c.args.how in
     let port = c.in-Some.port in
@@ -25,10 +25,8 @@ returns c =
     let x = is_disposed port.0 how port.1 d c.dispose.new.k.call c.requires.sound c.requires.pools c.requires.ports c.requires.numbers uses
     c.dispose.ensures.disposed in
     let queue = uses.queue in
-    record {
-      ptreset = ap (λ d. came_to d (Returns (pos 0)))
-          (c.reset_port.ensures.reset queue (ap (λ l. (port_at l port.0).queue) x.same ∙ uses.used)
-          ∙ ap (λ e. emptied_port port.0 queue (emptied queue.receive (emptied queue.send e)))
-          (disposed_at_start port.0 how queue d c.dispose.new.k.call c.requires.start.is uses.used c.dispose.ensures.disposed))
-          ∙ ptreset_is d.state port.0 c.args.word how queue c.in-Some.ensures.named uses.used uses.allowed;
-    }
+    ap (λ d. came_to d (Returns (pos 0)))
+    (c.reset_port.ensures.reset queue (ap (λ l. (port_at l port.0).queue) x.same ∙ uses.used)
+    ∙ ap (λ e. emptied_port port.0 queue (emptied queue.receive (emptied queue.send e)))
+    (disposed_at_start port.0 how queue d c.dispose.new.k.call c.requires.start.is uses.used c.dispose.ensures.disposed))
+    ∙ ptreset_is d.state port.0 c.args.word how queue c.in-Some.ensures.named uses.used uses.allowed

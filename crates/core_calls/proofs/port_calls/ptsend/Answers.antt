@@ -27,14 +27,11 @@ finish_send-requires-clause-room c =
     subst R (sym c.if-wait.ensures.waits)
     (room_taken c.k.inside.tables c.in-Some-send_ticket.ticket.sem c.k.inside.ports.ports (subst A (sym (call_is c.k.view_is)) c.requires.ports))
 
-pub returns-then-wait : goal.returns-then-wait
-returns-then-wait c =
+pub returns-then-wait-clause-ptsend : goal.returns-then-wait-clause-ptsend
+returns-then-wait-clause-ptsend c =
     let s = (kernel_state c.k.inside).state in
     let ticket = c.in-Some-send_ticket.ticket in
-    record {
-      ptsend =
-          c.finish_send.ensures.finished
-          ∙ send_takes s c.in-Some.q c.args.word c.args.message ticket c.wait.new.self (port_named c.in-Some.q c.args.word c.in-Some.ensures)
-          (is_sender s c.in-Some.q ticket c.in-Some-send_ticket.ensures.ticket) c.if-wait.ensures.took c.if-wait.ensures.waits
-          ∙ ap (λ (d : CallState). ptsend c.args.word c.args.message d.state) (call_is c.k.view_is);
-    }
+    c.finish_send.ensures.finished
+    ∙ send_takes s c.in-Some.q c.args.word c.args.message ticket c.wait.new.self (port_named c.in-Some.q c.args.word c.in-Some.ensures)
+    (is_sender s c.in-Some.q ticket c.in-Some-send_ticket.ensures.ticket) c.if-wait.ensures.took c.if-wait.ensures.waits
+    ∙ ap (λ (d : CallState). ptsend c.args.word c.args.message d.state) (call_is c.k.view_is)

@@ -55,8 +55,8 @@ reset_semaphore-receivers-requires-clause-used c =
     let f = can_follow c.args.q c.args.head.now d u (with_count (tokens_of c.args.head.now.first_count)) r between in
     port_used c.args.q (semaphore_at u c.args.head.now.receive).owner f.owned
 
-pub returns : goal.returns
-returns c =
+pub returns-clause-reset : goal.returns-clause-reset
+returns-clause-reset c =
     let d = kernel_state c.k.inside in
     let r = is_renewable c.args.q c.args.head.now d c.args.k.now.call (call_is c.k.view_is) c.requires.clears.tables c.requires.clears.ports c.requires.clears.used in
     let q = c.args.q in
@@ -73,15 +73,13 @@ returns c =
     = c.owes_after-k-inside-2.ensures.owes ∙ ap (λ l. cond (are_any l) true c.owes_after-k-inside.result) c.as_slice-2.ensures.value
     ∙ ap (λ b. cond (are_any receivers) true b)
     (c.owes_after-k-inside.ensures.owes ∙ ap (λ l. cond (are_any l) true d.owes_resched) c.as_slice.ensures.value) in
-    record {
-      reset = λ queue used. (
-          let U : CallState → Type 0 = λ d. (port_at d.state.parts.ports q).queue ≡ Some queue in
-          ap O owes
-          ∙ port_reset q head queue d c.reset_semaphore-senders.new.self v senders receivers p r (subst U (sym (call_is c.k.view_is)) used) (record {
-            first = c.reset_semaphore-senders.ensures.released;
-            between = between;
-            second = c.reset_semaphore-receivers.ensures.released;
-            after = c.reset_semaphore-receivers.ensures.reset;
-          }) c.reset.ensures.reset
-          ∙ ap (λ d. emptied_port q queue (emptied queue.receive (emptied queue.send d))) (call_is c.k.view_is));
-    }
+    λ queue used. (
+    let U : CallState → Type 0 = λ d. (port_at d.state.parts.ports q).queue ≡ Some queue in
+    ap O owes
+    ∙ port_reset q head queue d c.reset_semaphore-senders.new.self v senders receivers p r (subst U (sym (call_is c.k.view_is)) used) (record {
+      first = c.reset_semaphore-senders.ensures.released;
+      between = between;
+      second = c.reset_semaphore-receivers.ensures.released;
+      after = c.reset_semaphore-receivers.ensures.reset;
+    }) c.reset.ensures.reset
+    ∙ ap (λ d. emptied_port q queue (emptied queue.receive (emptied queue.send d))) (call_is c.k.view_is))

@@ -8,11 +8,9 @@ use Rattle.core_calls.proofs.SemaphoreCalls.{signal_releases}
 use Rattle.kernel_state.proofs.Values.{call_is}
 use Rattle.core_calls.proofs.semaphore_calls.signal.Goals as goal
 
-pub returns-in-Released : goal.returns-in-Released
-returns-in-Released c =
+pub returns-in-Released-clause-signal : goal.returns-in-Released-clause-signal
+returns-in-Released-clause-signal c =
     let s = (kernel_state c.k.inside).state in
-    record {
-      signal = ap (λ d. came_to d (Returns (pos 0))) c.release.ensures.released
-          ∙ signal_releases s c.in-Some.sem c.args.word c.in-Released.p c.signal.new.self c.in-Some.ensures.named c.in-Some.ensures.good c.in-Released.ensures.answer c.in-Released.ensures.signalled
-          ∙ ap (λ (d : CallState). signal c.args.word d.state) (call_is c.k.view_is);
-    }
+    ap (λ d. came_to d (Returns (pos 0))) c.release.ensures.released
+    ∙ signal_releases s c.in-Some.sem c.args.word c.in-Released.p c.signal.new.self c.in-Some.ensures.named c.in-Some.ensures.good c.in-Released.ensures.answer c.in-Released.ensures.signalled
+    ∙ ap (λ (d : CallState). signal c.args.word d.state) (call_is c.k.view_is)
