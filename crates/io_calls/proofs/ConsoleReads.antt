@@ -1,5 +1,5 @@
 -- The steps of a read.
-use Rattle.std.proofs.Common.{◌≡◌, ◌∙◌, ℕ, suc, ◌+◌, ◌-◌, ◌<◌, ◌≤◌, Bool, true, false, Option, Some, None, pos, refl, sym, ap, subst, arith}
+use Rattle.std.proofs.Common.{◌≡◌, ◌∙◌, ℕ, suc, ◌+◌, ◌-◌, ◌<◌, ◌≤◌, Bool, true, false, Option, Some, None, pos, sym, ap, subst, arith}
 use Rattle.io_calls.specs.Consoles.{Begins, if_taken, IsReading, unless_ended}
 use Rattle.kernel_state.specs.Results.{came_to}
 use Rattle.xinu_base.specs.declared.processes.Rest.TheVariants.{TtyRead}
@@ -48,10 +48,6 @@ module _ (part : Span) (first : Xinu) (done : ℕ) (d e : CallState) (took : Boo
           early = omega (arith, early);
           same = sym (ap (λ o. unless_ended o (reads (part.want - suc done) part.at (suc done)) m) none) ∙ after_item;
         })
-
--- A read begins.
-pub read_starts : (part : Span) (d : CallState) → Begins d → part.done ≤ part.want → IsReading part d.state part.done d
-read_starts part d b le = record { begins = b; early = le; same = refl }
 
 -- A read of all its bytes is over.
 pub read_over : (part : Span) (first : Xinu) (done : ℕ) (d : CallState) → IsReading part first done d → part.want ≤ done

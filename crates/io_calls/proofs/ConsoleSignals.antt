@@ -1,6 +1,5 @@
 -- Items that are committed, and bytes that are sent.
-use Rattle.std.proofs.Common.{◌≡◌, ◌∙◌, ◌+◌, ◌-◌, ◌≤◌, ◌==◌, ℕ, Bool, true, false, cond, pos, ◌+ℤ◌, int_lt, List, ◌++◌, length, take, Option, Some, None, refl, sym, ap, subst, arith}
-use Rattle.std.proofs.lemmas.Int.{ints}
+use Rattle.std.proofs.Common.{◌≡◌, ◌∙◌, ◌+◌, ◌-◌, ◌≤◌, ◌==◌, ℕ, false, cond, pos, List, ◌++◌, length, take, Option, Some, None, refl, sym, ap, subst, arith}
 use Rattle.std.proofs.lemmas.List.{length-append}
 use Rattle.kernel_state.proofs.Together.{released_then, releasing}
 use Rattle.kernel_state.specs.Results.{IsStart}
@@ -19,10 +18,10 @@ use Rattle.xinu_model.specs.Console.State.{Console}
 use Rattle.xinu_model.specs.Console.Taking.{console_of, TY_ISEM, with_console}
 use Rattle.xinu_model.specs.Machine.{CallState, Returns, start, Xinu}
 use Rattle.xinu_model.specs.Semaphores.Calls.{answers}
-use Rattle.xinu_model.specs.Semaphores.Counts.{count_of, most_tokens, with_tokens}
+use Rattle.xinu_model.specs.Semaphores.Counts.{with_tokens}
 use Rattle.xinu_model.specs.Semaphores.Waiting.{signalled_times}
 use Rattle.xinu_model.specs.Sound.Console.{IsConsole}
-use Rattle.xinu_model.specs.Tables.{Semaphore, semaphore_at, Tables}
+use Rattle.xinu_model.specs.Tables.{semaphore_at, Tables}
 
 -- n signals of a semaphore at once
 pub signals_are : (s : Xinu) (sem n : ℕ) (released : List ℕ) (u : Tables) → released ≡ take n (semaphore_at s.tables sem).waiters
@@ -35,14 +34,6 @@ signals_are s sem n released u these is =
     let k = x.tokens + (n - length x.waiters) in
     let r = subst (SameRests t) (sym is) (rests_written t ps sem _) in
     released_then OK ps released s (with_tokens sem k) u these is r
-
--- the count leaves room for n signals
-pub room_for : (x : Semaphore) (n : ℕ) → x.tokens ≤ 128 → n ≤ 128 → int_lt most_tokens (count_of x +ℤ pos n) ≡ false
-room_for x n few less = by_size (int_lt most_tokens (count_of x +ℤ pos n)) refl
-  where
-    by_size : (b : Bool) → int_lt most_tokens (count_of x +ℤ pos n) ≡ b → int_lt most_tokens (count_of x +ℤ pos n) ≡ false
-    by_size false e = e
-    by_size true e = absurd (omega (arith, ints, e, few, less))
 
 -- there are no more tokens than items
 pub few_tokens : (t : Tables) (c : Console) → IsConsole t c → (semaphore_at t TY_ISEM).tokens ≤ 128

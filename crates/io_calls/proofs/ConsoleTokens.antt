@@ -1,8 +1,8 @@
 -- A caller that takes a token of the console's, or was released with one, and what it finds.
-use Rattle.std.proofs.Common.{◌≡◌, ◌≢◌, ◌∙◌, ℕ, zero, suc, ◌-◌, ◌<◌, Bool, true, false, cond, refl, sym, ap, subst, arith}
+use Rattle.std.proofs.Common.{◌≡◌, ◌∙◌, ℕ, zero, suc, ◌-◌, ◌<◌, Bool, true, false, cond, refl, sym, ap, subst, arith}
 use Rattle.std.specs.Prelude.{nat_lt}
 use Rattle.io_calls.specs.Consoles.{Begins, GoesOn, HasItem, HasPlace, if_taken}
-use Rattle.kernel_state.specs.Results.{came_to, IsStart}
+use Rattle.kernel_state.specs.Results.{came_to}
 use Rattle.xinu_base.specs.declared.processes.Rest.{Rest}
 use Rattle.xinu_base.specs.declared.processes.State.TheVariants.{Waiting}
 use Rattle.xinu_base.specs.declared.syscalls.Next.TheVariants as next
@@ -14,10 +14,7 @@ use Rattle.xinu_model.specs.Machine.{CallResult, CallState, goes_on, Xinu}
 use Rattle.xinu_model.specs.Messages.{held}
 use Rattle.xinu_model.specs.Semaphores.Counts.{with_tokens}
 use Rattle.xinu_model.specs.Semaphores.Waiting.{await}
-use Rattle.xinu_model.specs.Sound.Console.{HasSpan}
-use Rattle.xinu_model.specs.Sound.Devices.{AreDevices}
-use Rattle.xinu_model.specs.Sound.State.{AreHarts}
-use Rattle.xinu_model.specs.Sound.Tables.{asks_input, asks_output, IsSoundTables}
+use Rattle.xinu_model.specs.Sound.Tables.{asks_input, asks_output}
 use Rattle.xinu_model.specs.Tables.{InSemaphore, message_at, move_to, process_at, semaphore_at, Tables}
 
 -- the tables of a caller that has a token, or waits
@@ -109,20 +106,6 @@ place_released d g =
     let p = promised_goes_on asks_output 1 (held s) s refl (caller_within s h) h.tables.runs g.asked in
     let room = g.begins.console.room in
     record { begins = begins_resumed d g.begins; place = omega (arith, p, room) }
-
--- a process may call
-pub begins_of : (d : CallState) → IsStart d → IsSoundTables d.state.tables → AreHarts d.state.harts → d.state.tables.current ≢ 0
-    → AreDevices d.state.tables d.state.parts.devices → Begins d
-begins_of d i k h n v = record { starts = i; may = record { tables = k; harts = h; not_null = n }; console = v.console }
-
--- what is left of a call that takes an item, or puts a byte
-pub goes_on_as : (asks : Rest → Bool) (d : CallState) (left : Rest) → Begins d → (process_at d.state.tables d.state.tables.current).rest ≡ left → asks left ≡ true
-    → GoesOn asks d
-goes_on_as asks d left b e h = record { begins = b; asked = ap asks e ∙ h }
-
--- a read or a write that goes on has something left to do
-pub span_left : (d : CallState) (left : Rest) → Begins d → (process_at d.state.tables d.state.tables.current).rest ≡ left → HasSpan left
-span_left d left b e = subst HasSpan e (b.console.spans d.state.tables.current)
 
 -- A newline waits for its second token, after its carriage return,
 pub newline_waits : (b : ℕ) (left : Rest) (u s : Xinu) (e : CallState) (took : Bool) → needs_return b (console_of s).mode ≡ true → u ≡ put 13 s

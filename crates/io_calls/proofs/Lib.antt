@@ -5,9 +5,9 @@ pub mod ConsoleSignals
 pub mod ConsoleTokens
 pub mod ConsoleWrites
 pub mod DeviceCalls
+pub mod DiskCalls
 pub mod FewRequests
 pub mod FileCalls
 pub mod FileTexts
-pub mod Mounting
 pub mod Openings
 pub mod ReadTexts

@@ -1,29 +1,7 @@
 -- A text is read byte by byte: what was read, and the text of what is left.
-use Rattle.std.proofs.Common.{◌≡◌, ◌∙◌, ℕ, zero, suc, ◌+◌, ◌<◌, ◌==◌, false, List, [], ◌∷◌, ◌++◌, length, take, drop, get_or, Option, Some, None, refl, sym, ap, add-one, append_assoc, drop-cons}
-use Rattle.std.proofs.lemmas.List.{take_more}
+use Rattle.std.proofs.Common.{ℕ, List, ◌++◌, Option}
 use Rattle.std.specs.Prelude.{option_map}
-use Rattle.xinu_model.specs.Devices.Texts.{text_in}
 
 -- a text after these bytes
 abbrev pub after_bytes : List ℕ → Option (List ℕ) → Option (List ℕ)
 after_bytes read o = option_map (λ text. read ++ text) o
-
--- the text of a byte that isn't zero and of what follows
-more_read : (read : List ℕ) (b : ℕ) (o : Option (List ℕ)) → after_bytes read (option_map (λ text. b ∷ text) o) ≡ after_bytes (read ++ b ∷ []) o
-more_read read b None = refl
-more_read read b (Some text) = ap Some (sym (append_assoc read (b ∷ []) text))
-
-text_more : (read : List ℕ) (b : ℕ) (rest : List ℕ) → (b == 0) ≡ false → after_bytes read (text_in (b ∷ rest)) ≡ after_bytes (read ++ b ∷ []) (text_in rest)
-text_more read zero rest h = absurd (cc)
-text_more read (suc b) rest h = more_read read (suc b) (text_in rest)
-
--- a byte that isn't zero goes to what was read
-pub text_step : (bytes : List ℕ) (i b : ℕ) → i < length bytes → b ≡ get_or bytes i b → (b == 0) ≡ false
-    → text_in bytes ≡ after_bytes (take i bytes) (text_in (drop i bytes))
-    → text_in bytes ≡ after_bytes (take (i + 1) bytes) (text_in (drop (i + 1) bytes))
-text_step bytes i b lt is h so_far =
-    let next : drop i bytes ≡ b ∷ drop (i + 1) bytes
-    = drop-cons bytes i b lt ∙ ap (λ y. y ∷ drop (suc i) bytes) (sym is) ∙ ap (λ n. b ∷ drop n bytes) (sym (add-one i)) in
-    let more : take (i + 1) bytes ≡ take i bytes ++ b ∷ [] = take_more bytes i b lt ∙ ap (λ y. take i bytes ++ y ∷ []) (sym is) in
-    so_far ∙ ap (λ l. after_bytes (take i bytes) (text_in l)) next ∙ text_more (take i bytes) b (drop (i + 1) bytes) h
-    ∙ sym (ap (λ l. after_bytes l (text_in (drop (i + 1) bytes))) more)

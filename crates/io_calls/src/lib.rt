@@ -21,10 +21,11 @@
 //! | [`go_on`] | `calling`; `io`: something is left of a call on a device | `continued`: what the abstract machine's continuation gives |
 //! | [`on_type`], [`on_tx`] | `start` and what holds of the console | a character is received; a byte is sent, if there is one |
 //! | [`on_disk`] | `start` and what holds of the raw disk | `completes`: its first request is served, well or badly, if there is one |
-//! | [`on_files`] | `start` and what holds of files | `completes`: as many calls on files take effect as the abstract machine allows, if one is under way, with what happened, in order |
+//! | [`on_files`] | `start` and what holds of files | `completes`: as many calls on files take effect as the abstract machine allows, if one is under way, with what happened, in order; `image`: at most one block of their disk changes |
 //!
-//! Each call is a function over a `KernelState`, and its clause is the abstract machine's own. The crate depends on `kernel_state`,
-//! `device_switch`, `tty_driver`, `disk_driver`, `file_server` and `name_space`; it doesn't know `core_calls`.
+//! Each call is a function over a `KernelState`, and its clause is the abstract machine's own. Its clause `image` says that no byte of the
+//! disk with files changes; only [`on_files`] changes any. The crate depends on `kernel_state`, `device_switch`, `tty_driver`,
+//! `disk_driver`, `file_server` and `name_space`; it doesn't know `core_calls`.
 #![tactic(auto)]
 
 mod console_reads;

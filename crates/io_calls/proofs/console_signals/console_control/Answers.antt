@@ -2,6 +2,7 @@ use Rattle.std.proofs.Common.{◌∙◌, ap, subst, sym}
 use Rattle.std.proofs.lemmas.Bool.{ne_eqb}
 use Rattle.io_calls.specs.Consoles.{Begins}
 use Rattle.kernel_state.specs.States.{kernel_state}
+use Rattle.kernel_state.specs.Values.{KernelValue}
 use Rattle.xinu_base.specs.Constants.{OK}
 use Rattle.xinu_model.specs.Console.Signals.{console_control}
 use Rattle.xinu_model.specs.Console.Taking.{console_of}
@@ -31,6 +32,7 @@ returns-in-Some c =
           ∙ control_done c.args.f c.in-Some.count k c.control.new.self b.starts (ne_eqb c.args.f 4 c.if-f-eq-TC_ICHARS.false)
           (sym c.control.ensures.count ∙ c.in-Some.is) c.control.ensures.console
           ∙ ap (λ (d : CallState). console_control c.args.f d.state) (call_is c.k.view_is);
+      image = c.signal_items.ensures.image ∙ ap (λ (v : KernelValue). v.image) c.k.view_is;
     }
 
 pub returns-in-None : goal.returns-in-None
@@ -41,4 +43,5 @@ returns-in-None c =
       control = control_missing c.args.f k c.control.new.self b.starts (ne_eqb c.args.f 4 c.if-f-eq-TC_ICHARS.false)
           (sym c.control.ensures.count ∙ c.in-None.is) c.control.ensures.console
           ∙ ap (λ (d : CallState). console_control c.args.f d.state) (call_is c.k.view_is);
+      image = ap (λ (v : KernelValue). v.image) c.k.view_is;
     }

@@ -1,6 +1,7 @@
 use Rattle.std.proofs.Common.{◌≡◌, ◌∙◌, ◌≤◌, ap, subst, sym}
 use Rattle.kernel_state.specs.Results.{IsStart}
 use Rattle.kernel_state.specs.States.{kernel_state}
+use Rattle.kernel_state.specs.Values.{KernelValue}
 use Rattle.xinu_model.specs.Console.Receiving.{received}
 use Rattle.xinu_model.specs.Console.Signals.{receiving}
 use Rattle.xinu_model.specs.Console.State.{Console}
@@ -38,4 +39,5 @@ returns c =
           ∙ ap (λ x. signalled_times TY_ISEM (received b (console_of k.state)).count (now x k)) c.receive-count.ensures.console
           ∙ ap (λ d. signalled_times TY_ISEM (received b (console_of k.state)).count (now (received b (console_of k.state)).console d)) i.is)
           ∙ ap (λ (d : CallState). receiving b d.state) (call_is c.k.view_is);
+      image = c.signal_items.ensures.image ∙ ap (λ (v : KernelValue). v.image) c.k.view_is;
     }

@@ -1,6 +1,7 @@
 use Rattle.std.proofs.Common.{◌∙◌, ap, subst, sym}
 use Rattle.kernel_state.specs.Results.{IsStart}
 use Rattle.kernel_state.specs.States.{kernel_state}
+use Rattle.kernel_state.specs.Values.{KernelValue}
 use Rattle.xinu_base.specs.Constants.{OK}
 use Rattle.xinu_model.specs.Console.Taking.{TY_ISEM}
 use Rattle.xinu_model.specs.Machine.{start}
@@ -24,4 +25,5 @@ returns c =
           ∙ ap (λ s. signalled_times s n (start k.state)) c.input_sem.ensures.input
           ∙ sym (ap (signalled_times TY_ISEM n) i.is)
           ∙ ap (signalled_times TY_ISEM n) (call_is c.k.view_is);
+      image = c.release.ensures.image ∙ ap (λ (v : KernelValue). v.image) c.k.view_is;
     }

@@ -3,4 +3,8 @@ use Rattle.io_calls.specs.Consoles.{IsWriting}
 use Rattle.io_calls.proofs.console_writes.writes.Given as goal
 
 abbrev pub invariant-loop-done : goal.invariant-loop-done
-invariant-loop-done l = (l.done-end ≡ l.part.want) × IsWriting l.part l.fn.k.state l.done l.k
+invariant-loop-done l = record {
+  end : l.done-end ≡ l.part.want;
+  writing : IsWriting l.part l.fn.k.call.state l.done l.k.call;
+  image : l.k.image ≡ l.fn.k.image;
+}

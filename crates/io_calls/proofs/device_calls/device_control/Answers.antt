@@ -10,4 +10,5 @@ returns-in_default c =
     let does = control_as c.args.dev c.args.f c.args.x in
     record {
       control = no_device op.Control c.args.dev does c.offering.result s (c.offering.ensures.offered does s) c.args.k.now.call refl c.requires.calling.starts c.in_default.is;
+      image = refl;
     }

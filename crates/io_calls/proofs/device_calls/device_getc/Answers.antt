@@ -10,4 +10,5 @@ returns-in_default c =
     let does = getc_as c.args.dev in
     record {
       getc = no_device op.Getc c.args.dev does c.offering.result s (c.offering.ensures.offered does s) c.args.k.now.call refl c.requires.calling.starts c.in_default.is;
+      image = refl;
     }

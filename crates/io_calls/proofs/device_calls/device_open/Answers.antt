@@ -10,4 +10,5 @@ returns-in_default c =
     let does = open_texts c.args.name c.args.mode in
     record {
       opens = no_device op.Open c.args.dev does c.offering.result s (c.offering.ensures.offered does s) c.args.k.now.call refl c.requires.calling.starts c.in_default.is;
+      image = refl;
     }

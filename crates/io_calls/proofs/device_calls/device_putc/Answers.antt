@@ -10,4 +10,5 @@ returns-in_default c =
     let does = putc_as c.args.dev (c.args.word % 256) in
     record {
       putc = no_device op.Putc c.args.dev does c.offering.result s (c.offering.ensures.offered does s) c.args.k.now.call refl c.requires.calling.starts c.in_default.is;
+      image = refl;
     }

@@ -10,4 +10,5 @@ returns-in_default c =
     let does = read_as c.args.dev c.args.at c.args.n in
     record {
       read = no_device op.Read c.args.dev does c.offering.result s (c.offering.ensures.offered does s) c.args.k.now.call refl c.requires.calling.starts c.in_default.is;
+      image = refl;
     }

@@ -11,4 +11,5 @@ returns-in_default c =
     let does = seek_as c.args.dev (signed c.args.n) in
     record {
       seek = no_device op.Seek c.args.dev does c.offering.result s (c.offering.ensures.offered does s) c.args.k.now.call refl c.requires.calling.starts c.in_default.is;
+      image = refl;
     }

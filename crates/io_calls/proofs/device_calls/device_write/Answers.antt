@@ -10,4 +10,5 @@ returns-in_default c =
     let does = write_as c.args.dev c.args.at c.args.n in
     record {
       write = no_device op.Write c.args.dev does c.offering.result s (c.offering.ensures.offered does s) c.args.k.now.call refl c.requires.calling.starts c.in_default.is;
+      image = refl;
     }

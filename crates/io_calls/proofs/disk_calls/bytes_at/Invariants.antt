@@ -7,5 +7,5 @@ abbrev pub invariant-loop-i : goal.invariant-loop-i
 invariant-loop-i l = record {
   low : l.i ≤ 512;
   size : length l.bytes ≡ 512;
-  read : take l.i l.bytes ≡ bytes_from l.k.state.memory l.at l.i;
+  read : take l.i l.bytes ≡ bytes_from l.k.call.state.memory l.at l.i;
 }

@@ -9,92 +9,110 @@ use Rattle.xinu_model.specs.Devices.Calls.{device_open, device_close, device_rea
 use Rattle.xinu_model.specs.Names.Calls.{mount}
 use Rattle.xinu_model.specs.Words.{signed}
 
-pub returns-in-36 : goal.returns-in-36
+pub returns-in-36-each_call : goal.returns-in-36-each_call
 unfolding calls
-returns-in-36 c =
+returns-in-36-each_call c =
     let a : ℕ → ℕ = slice_index c.args.call.args in
     let s = c.args.k.now.call.state in
+    let r = c.each_call-device_open in
     record {
-      called = begins_as_row 36 c.args.call.number c.args.call.args s c.device_open.result (device_open (a 0) (a 1) (a 2) s) (came_to c.device_open.new.k.call (next_of c.device_open.result))
-          c.in-36.is refl c.device_open.ensures.opens;
+      called = begins_as_row 36 c.args.call.number c.args.call.args s r.result (device_open (a 0) (a 1) (a 2) s) (came_to r.new.k.call (next_of r.result))
+          c.in-36-each_call.is refl r.ensures.opens;
+      image = r.ensures.image;
     }
 
-pub returns-in-37 : goal.returns-in-37
+pub returns-in-37-each_call : goal.returns-in-37-each_call
 unfolding calls
-returns-in-37 c =
+returns-in-37-each_call c =
     let a : ℕ → ℕ = slice_index c.args.call.args in
     let s = c.args.k.now.call.state in
+    let r = c.each_call-device_close in
     record {
-      called = begins_as_row 37 c.args.call.number c.args.call.args s c.device_close.result (device_close (a 0) s) (came_to c.device_close.new.k.call (next_of c.device_close.result))
-          c.in-37.is refl c.device_close.ensures.close;
+      called = begins_as_row 37 c.args.call.number c.args.call.args s r.result (device_close (a 0) s) (came_to r.new.k.call (next_of r.result))
+          c.in-37-each_call.is refl r.ensures.close;
+      image = r.ensures.image;
     }
 
-pub returns-in-38 : goal.returns-in-38
+pub returns-in-38-each_call : goal.returns-in-38-each_call
 unfolding calls
-returns-in-38 c =
+returns-in-38-each_call c =
     let a : ℕ → ℕ = slice_index c.args.call.args in
     let s = c.args.k.now.call.state in
+    let r = c.each_call-device_read in
     record {
-      called = begins_as_row 38 c.args.call.number c.args.call.args s c.device_read.result (device_read (a 0) (a 1) (a 2) s) (came_to c.device_read.new.k.call (next_of c.device_read.result))
-          c.in-38.is refl c.device_read.ensures.read;
+      called = begins_as_row 38 c.args.call.number c.args.call.args s r.result (device_read (a 0) (a 1) (a 2) s) (came_to r.new.k.call (next_of r.result))
+          c.in-38-each_call.is refl r.ensures.read;
+      image = r.ensures.image;
     }
 
-pub returns-in-39 : goal.returns-in-39
+pub returns-in-39-each_call : goal.returns-in-39-each_call
 unfolding calls
-returns-in-39 c =
+returns-in-39-each_call c =
     let a : ℕ → ℕ = slice_index c.args.call.args in
     let s = c.args.k.now.call.state in
+    let r = c.each_call-device_write in
     record {
-      called = begins_as_row 39 c.args.call.number c.args.call.args s c.device_write.result (device_write (a 0) (a 1) (a 2) s) (came_to c.device_write.new.k.call (next_of c.device_write.result))
-          c.in-39.is refl c.device_write.ensures.write;
+      called = begins_as_row 39 c.args.call.number c.args.call.args s r.result (device_write (a 0) (a 1) (a 2) s) (came_to r.new.k.call (next_of r.result))
+          c.in-39-each_call.is refl r.ensures.write;
+      image = r.ensures.image;
     }
 
-pub returns-in-40 : goal.returns-in-40
+pub returns-in-40-each_call : goal.returns-in-40-each_call
 unfolding calls
-returns-in-40 c =
+returns-in-40-each_call c =
     let a : ℕ → ℕ = slice_index c.args.call.args in
     let s = c.args.k.now.call.state in
+    let r = c.each_call-device_getc in
     record {
-      called = begins_as_row 40 c.args.call.number c.args.call.args s c.device_getc.result (device_getc (a 0) s) (came_to c.device_getc.new.k.call (next_of c.device_getc.result))
-          c.in-40.is refl c.device_getc.ensures.getc;
+      called = begins_as_row 40 c.args.call.number c.args.call.args s r.result (device_getc (a 0) s) (came_to r.new.k.call (next_of r.result))
+          c.in-40-each_call.is refl r.ensures.getc;
+      image = r.ensures.image;
     }
 
-pub returns-in-41 : goal.returns-in-41
+pub returns-in-41-each_call : goal.returns-in-41-each_call
 unfolding calls
-returns-in-41 c =
+returns-in-41-each_call c =
     let a : ℕ → ℕ = slice_index c.args.call.args in
     let s = c.args.k.now.call.state in
+    let r = c.each_call-device_putc in
     record {
-      called = begins_as_row 41 c.args.call.number c.args.call.args s c.device_putc.result (device_putc (a 0) (a 1 % 256) s) (came_to c.device_putc.new.k.call (next_of c.device_putc.result))
-          c.in-41.is refl c.device_putc.ensures.putc;
+      called = begins_as_row 41 c.args.call.number c.args.call.args s r.result (device_putc (a 0) (a 1 % 256) s) (came_to r.new.k.call (next_of r.result))
+          c.in-41-each_call.is refl r.ensures.putc;
+      image = r.ensures.image;
     }
 
-pub returns-in-42 : goal.returns-in-42
+pub returns-in-42-each_call : goal.returns-in-42-each_call
 unfolding calls
-returns-in-42 c =
+returns-in-42-each_call c =
     let a : ℕ → ℕ = slice_index c.args.call.args in
     let s = c.args.k.now.call.state in
+    let r = c.each_call-device_seek in
     record {
-      called = begins_as_row 42 c.args.call.number c.args.call.args s c.device_seek.result (device_seek (a 0) (signed (a 1)) s) (came_to c.device_seek.new.k.call (next_of c.device_seek.result))
-          c.in-42.is refl c.device_seek.ensures.seek;
+      called = begins_as_row 42 c.args.call.number c.args.call.args s r.result (device_seek (a 0) (signed (a 1)) s) (came_to r.new.k.call (next_of r.result))
+          c.in-42-each_call.is refl r.ensures.seek;
+      image = r.ensures.image;
     }
 
-pub returns-in-43 : goal.returns-in-43
+pub returns-in-43-each_call : goal.returns-in-43-each_call
 unfolding calls
-returns-in-43 c =
+returns-in-43-each_call c =
     let a : ℕ → ℕ = slice_index c.args.call.args in
     let s = c.args.k.now.call.state in
+    let r = c.each_call-device_control in
     record {
-      called = begins_as_row 43 c.args.call.number c.args.call.args s c.device_control.result (device_control (a 0) (a 1) (a 2) s) (came_to c.device_control.new.k.call (next_of c.device_control.result))
-          c.in-43.is refl c.device_control.ensures.control;
+      called = begins_as_row 43 c.args.call.number c.args.call.args s r.result (device_control (a 0) (a 1) (a 2) s) (came_to r.new.k.call (next_of r.result))
+          c.in-43-each_call.is refl r.ensures.control;
+      image = r.ensures.image;
     }
 
-pub returns-in-44 : goal.returns-in-44
+pub returns-in-44-each_call : goal.returns-in-44-each_call
 unfolding calls
-returns-in-44 c =
+returns-in-44-each_call c =
     let a : ℕ → ℕ = slice_index c.args.call.args in
     let s = c.args.k.now.call.state in
+    let r = c.each_call-mount in
     record {
-      called = begins_as_row 44 c.args.call.number c.args.call.args s c.mount.result (mount (a 0) (a 1) (a 2) s) (came_to c.mount.new.k.call (next_of c.mount.result))
-          c.in-44.is refl c.mount.ensures.mounts;
+      called = begins_as_row 44 c.args.call.number c.args.call.args s r.result (mount (a 0) (a 1) (a 2) s) (came_to r.new.k.call (next_of r.result))
+          c.in-44-each_call.is refl r.ensures.mounts;
+      image = r.ensures.image;
     }

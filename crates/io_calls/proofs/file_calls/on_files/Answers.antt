@@ -1,10 +1,11 @@
-use Rattle.std.proofs.Common.{map, subst, sym}
+use Rattle.std.proofs.Common.{ap, map, refl, subst, sym}
 use Rattle.file_server.specs.Requests.{note_of}
-use Rattle.io_calls.proofs.FileCalls.{completed_told}
+use Rattle.io_calls.proofs.FileCalls.{changed, completed_told, stays}
 use Rattle.kernel_state.proofs.Values.{call_is}
 use Rattle.io_calls.proofs.file_calls.on_files.Goals as goal
 use Rattle.io_calls.specs.Files.{AreTold}
 use Rattle.kernel_state.specs.States.{kernel_state}
+use Rattle.kernel_state.specs.Values.{KernelValue}
 use Rattle.xinu_model.specs.Files.Syscalls.{files_of}
 use Rattle.xinu_model.specs.Machine.{CallState}
 use Rattle.xinu_model.specs.Sound.Disks.{IsFileDisk}
@@ -20,3 +21,9 @@ tell_all-requires c =
           (subst (λ (d : CallState). IsSoundTables d.state.tables) (sym (call_is c.k.view_is)) c.requires.sound)
           (subst (λ (d : CallState). IsFileDisk d.state.tables (files_of d.state)) (sym (call_is c.k.view_is)) c.requires.files) c.complete-notes.ensures.completed);
     }
+
+pub returns-then-not-are_calls-clause-image : goal.returns-then-not-are_calls-clause-image
+returns-then-not-are_calls-clause-image c = stays refl
+
+pub returns-clause-image : goal.returns-clause-image
+returns-clause-image c = changed (ap (λ (v : KernelValue). v.image) c.k.view_is) c.tell_all.ensures.image c.complete-notes.ensures.image

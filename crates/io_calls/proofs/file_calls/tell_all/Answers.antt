@@ -8,7 +8,7 @@ use Rattle.xinu_model.specs.Machine.{CallState}
 
 pub tell-requires : goal.tell-requires
 tell-requires c =
-    let t = c.loop-note.k.state.tables in
+    let t = c.loop-note.k.call.state.tables in
     let n = c.note-item.result in
     let i = c.loop-note.note-index in
     let notes = c.args.notes.now in
@@ -19,7 +19,7 @@ tell-requires c =
 
 pub loop-note-preserved : goal.loop-note-preserved
 loop-note-preserved c =
-    let k = c.loop-note.k in
+    let k = c.loop-note.k.call in
     let n = c.note-item.result in
     let i = c.loop-note.note-index in
     let notes = c.args.notes.now in
@@ -29,4 +29,5 @@ loop-note-preserved c =
       callers = subst (λ (d : CallState). AreTold rest d.state.tables) (sym c.tell.ensures.told)
           (others_wait (note_of n) rest k (subst (λ l. AreTold l k.state.tables) first c.loop-note.invariant.callers));
       left = ap (all_told rest) c.tell.ensures.told ∙ sym (ap (λ l. all_told l k) first) ∙ c.loop-note.invariant.left;
+      image = c.tell.ensures.image ∙ c.loop-note.invariant.image;
     }

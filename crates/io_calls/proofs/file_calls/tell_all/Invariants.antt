@@ -7,6 +7,7 @@ use Rattle.io_calls.proofs.file_calls.tell_all.Given as goal
 
 abbrev pub invariant-loop-note : goal.invariant-loop-note
 invariant-loop-note l = record {
-  callers : AreTold (map note_of (drop l.note-index l.notes)) l.k.state.tables;
-  left : all_told (map note_of (drop l.note-index l.notes)) l.k ≡ all_told (map note_of l.notes) l.initial.k;
+  callers : AreTold (map note_of (drop l.note-index l.notes)) l.k.call.state.tables;
+  left : all_told (map note_of (drop l.note-index l.notes)) l.k.call ≡ all_told (map note_of l.notes) l.initial.k.call;
+  image : l.k.image ≡ l.initial.k.image;
 }
