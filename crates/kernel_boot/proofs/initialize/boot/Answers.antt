@@ -1,4 +1,4 @@
-use Rattle.std.proofs.Common.{◌≡◌, ◌∙◌, map, ap, arith, refl, sym, subst, true}
+use Rattle.std.proofs.Common.{◌≡◌, ◌∙◌, map, ap, arith, refl, rules, sym, subst, true}
 use Rattle.std.proofs.lemmas.List.{length-map}
 use Rattle.given_disks.proofs.Given.{sound_disks}
 use Rattle.given_disks.specs.Disks.{disks_of}
@@ -33,6 +33,7 @@ returns-in-Some-make_all c =
       booted = refuses_made (disks_of c.args.disk0 c.args.disk1) images c.in-Some-make_all.number c.in_default.ensures.first
           (ap (λ (d : CallState). boot.all_made 1 images d.state) (sym c.in-Ok.ensures.loaded) ∙ c.in-Some-make_all.ensures.no_room);
       sound = tt;
+      image = tt;
     }
 
 pub returns : goal.returns
@@ -51,4 +52,5 @@ returns c =
     record {
       booted = (boots, subst IsStart (sym started) (record { is = refl }));
       sound = sound_boot_on disks images c.start_all.new.k.call.state (omega (arith, n, few)) (sound_disks c.args.disk0 c.args.disk1 raw clean) boots;
+      image = search rules;
     }

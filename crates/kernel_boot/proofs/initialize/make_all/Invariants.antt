@@ -9,6 +9,7 @@ use Rattle.kernel_boot.proofs.initialize.make_all.Given as goal
 
 abbrev pub invariant-loop-image : goal.invariant-loop-image
 invariant-loop-image l =
-    (l.number ≡ l.image-index + 1) × IsStart l.k
-    × (all_made (l.image-index + 1) (map loaded_of (drop l.image-index l.images)) l.k.state ≡ all_made 1 (map loaded_of l.images) l.initial.k.state)
-    × ((j : ℕ) → l.image-index + 1 ≤ j → state_at l.k.state.tables j ≡ Free)
+    (l.number ≡ l.image-index + 1) × IsStart l.k.call
+    × (all_made (l.image-index + 1) (map loaded_of (drop l.image-index l.images)) l.k.call.state ≡ all_made 1 (map loaded_of l.images) l.initial.k.call.state)
+    × (l.k.image ≡ l.initial.k.image)
+    × ((j : ℕ) → l.image-index + 1 ≤ j → state_at l.k.call.state.tables j ≡ Free)
