@@ -4,13 +4,13 @@
 ghost use Rattle.std.specs.Prelude.{◌≡◌, IfOk, option_map};
 ghost use Rattle.reference_state.specs.Answers.{IsStart};
 ghost use Rattle.reference_state.specs.FileCalls.{file_call_of};
-ghost use Rattle.reference_switch.specs.Outcomes.{comes_to};
+ghost use Rattle.reference_switch.specs.Outcomes.{comes_to, LeavesFiles};
 ghost use Rattle.xinu_model.specs.Devices.Calls as model;
 ghost use Rattle.xinu_model.specs.Files.Syscalls.{asks_files};
 ghost use Rattle.xinu_model.specs.Machine.{refused};
 ghost use Rattle.xinu_model.specs.Names.Calls.{names_of};
 ghost use Rattle.xinu_model.specs.Names.Mapping.{map_name};
-ghost use Rattle.xinu_model.specs.Sound.Console.{IsConsole};
+ghost use Rattle.xinu_model.specs.Sound.State.{IsSound};
 
 use crate::file_calls::{file_control_call, open_call, read_call, system_control_call, write_call};
 use crate::outcomes::DeviceOutcome;
@@ -153,7 +153,9 @@ fn close_as(m: &Machine, dev: u32, kind: Kind) -> DeviceOutcome
 /// Call 38: a device is read, to an address; the last argument is a signed number of bytes, of the raw disk the number of a block.
 pub fn device_read(m: &mut Machine, dev: u32, at: u32, n: u32) -> Result<DeviceOutcome, NoMemory>
     requires start { IsStart m.old }
+    requires sound { IsSound m.old.state }
     ensures read { IfOk result (λ r. comes_to m.new r ≡ model.device_read dev at n m.old.state) }
+    ensures files { IfOk result (λ r. LeavesFiles m.old r m.new) }
 {
     match kind_for(Op::Read, dev) {
         None => Ok(refuse(m)),
@@ -170,7 +172,9 @@ fn read_as(
     kind: Kind,
 ) -> Result<DeviceOutcome, NoMemory>
     requires start { IsStart m.old }
+    requires sound { IsSound m.old.state }
     ensures read { IfOk result (λ r. comes_to m.new r ≡ model.read_as dev at n kind m.old.state) }
+    ensures files { IfOk result (λ r. LeavesFiles m.old r m.new) }
 {
     match kind {
         Kind::Console => Ok(DeviceOutcome::Done(console_read(m, at, n.cast_signed())?)),
@@ -184,7 +188,9 @@ fn read_as(
 /// Call 39: a device is written, from an address; the last argument is as that of `read`.
 pub fn device_write(m: &mut Machine, dev: u32, at: u32, n: u32) -> Result<DeviceOutcome, NoMemory>
     requires start { IsStart m.old }
+    requires sound { IsSound m.old.state }
     ensures write { IfOk result (λ r. comes_to m.new r ≡ model.device_write dev at n m.old.state) }
+    ensures files { IfOk result (λ r. LeavesFiles m.old r m.new) }
 {
     match kind_for(Op::Write, dev) {
         None => Ok(refuse(m)),
@@ -201,7 +207,9 @@ fn write_as(
     kind: Kind,
 ) -> Result<DeviceOutcome, NoMemory>
     requires start { IsStart m.old }
+    requires sound { IsSound m.old.state }
     ensures write { IfOk result (λ r. comes_to m.new r ≡ model.write_as dev at n kind m.old.state) }
+    ensures files { IfOk result (λ r. LeavesFiles m.old r m.new) }
 {
     match kind {
         Kind::Console => Ok(DeviceOutcome::Done(console_write(m, at, n.cast_signed())?)),
@@ -215,7 +223,9 @@ fn write_as(
 /// Call 40: a character is read from a device.
 pub fn device_getc(m: &mut Machine, dev: u32) -> Result<DeviceOutcome, NoMemory>
     requires start { IsStart m.old }
+    requires sound { IsSound m.old.state }
     ensures getc { IfOk result (λ r. comes_to m.new r ≡ model.device_getc dev m.old.state) }
+    ensures files { IfOk result (λ r. LeavesFiles m.old r m.new) }
 {
     match kind_for(Op::Getc, dev) {
         None => Ok(refuse(m)),
@@ -226,7 +236,9 @@ pub fn device_getc(m: &mut Machine, dev: u32) -> Result<DeviceOutcome, NoMemory>
 // `getc` by what the device is.
 fn getc_as(m: &mut Machine, dev: u32, kind: Kind) -> Result<DeviceOutcome, NoMemory>
     requires start { IsStart m.old }
+    requires sound { IsSound m.old.state }
     ensures getc { IfOk result (λ r. comes_to m.new r ≡ model.getc_as dev kind m.old.state) }
+    ensures files { IfOk result (λ r. LeavesFiles m.old r m.new) }
 {
     match kind {
         Kind::Console => Ok(DeviceOutcome::Done(console_getc(m)?)),
@@ -240,7 +252,9 @@ fn getc_as(m: &mut Machine, dev: u32, kind: Kind) -> Result<DeviceOutcome, NoMem
 /// Call 41: a character is written to a device.
 pub fn device_putc(m: &mut Machine, dev: u32, b: u8) -> Result<DeviceOutcome, NoMemory>
     requires start { IsStart m.old }
+    requires sound { IsSound m.old.state }
     ensures putc { IfOk result (λ r. comes_to m.new r ≡ model.device_putc dev b m.old.state) }
+    ensures files { IfOk result (λ r. LeavesFiles m.old r m.new) }
 {
     match kind_for(Op::Putc, dev) {
         None => Ok(refuse(m)),
@@ -251,7 +265,9 @@ pub fn device_putc(m: &mut Machine, dev: u32, b: u8) -> Result<DeviceOutcome, No
 // `putc` by what the device is.
 fn putc_as(m: &mut Machine, dev: u32, b: u8, kind: Kind) -> Result<DeviceOutcome, NoMemory>
     requires start { IsStart m.old }
+    requires sound { IsSound m.old.state }
     ensures putc { IfOk result (λ r. comes_to m.new r ≡ model.putc_as dev b kind m.old.state) }
+    ensures files { IfOk result (λ r. LeavesFiles m.old r m.new) }
 {
     match kind {
         Kind::Console => Ok(DeviceOutcome::Done(console_putc(m, b)?)),
@@ -290,8 +306,9 @@ fn seek_as(m: &Machine, dev: u32, n: i32, kind: Kind) -> DeviceOutcome
 /// Call 43: a control function of a device, with its argument.
 pub fn device_control(m: &mut Machine, dev: u32, f: u32, x: u32) -> Result<DeviceOutcome, NoMemory>
     requires start { IsStart m.old }
-    requires console { IsConsole m.old.state.tables m.old.state.parts.devices.console }
+    requires sound { IsSound m.old.state }
     ensures control { IfOk result (λ r. comes_to m.new r ≡ model.device_control dev f x m.old.state) }
+    ensures files { IfOk result (λ r. LeavesFiles m.old r m.new) }
 {
     match kind_for(Op::Control, dev) {
         None => Ok(refuse(m)),
@@ -308,8 +325,9 @@ fn control_as(
     kind: Kind,
 ) -> Result<DeviceOutcome, NoMemory>
     requires start { IsStart m.old }
-    requires console { IsConsole m.old.state.tables m.old.state.parts.devices.console }
+    requires sound { IsSound m.old.state }
     ensures control { IfOk result (λ r. comes_to m.new r ≡ model.control_as dev f x kind m.old.state) }
+    ensures files { IfOk result (λ r. LeavesFiles m.old r m.new) }
 {
     match kind {
         Kind::Console => Ok(DeviceOutcome::Done(console_control(m, f)?)),

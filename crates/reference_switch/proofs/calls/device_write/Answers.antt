@@ -2,13 +2,15 @@ use Rattle.std.proofs.Common.{◌∙◌, sym, ◌≡◌, subst}
 use Rattle.std.specs.Prelude.{IfOk}
 use Rattle.reference_switch.specs.Outcomes.{comes_to}
 use Rattle.xinu_model.specs.Devices.Calls as model
+use Rattle.reference_switch.proofs.Stays.{leaves_same}
 use Rattle.reference_switch.proofs.calls.device_write.Goals as goal
 
 pub returns-in-None : goal.returns-in-None
-returns-in-None c = record { write = c.refuse.ensures.refused ∙ sym (c.in-None.ensures.kind (model.write_as c.args.dev c.args.at c.args.n) c.args.m.now.state) }
+returns-in-None c = record { write = c.refuse.ensures.refused ∙ sym (c.in-None.ensures.kind (model.write_as c.args.dev c.args.at c.args.n) c.args.m.now.state); files = leaves_same c.args.m.now c.refuse.result }
 
 pub returns-in-Some : goal.returns-in-Some
 returns-in-Some c = record {
   write = subst (λ x. IfOk c.write_as.result (λ r. comes_to c.write_as.new.m r ≡ x))
       (sym (c.in-Some.ensures.kind (model.write_as c.args.dev c.args.at c.args.n) c.args.m.now.state)) c.write_as.ensures.write;
+  files = c.write_as.ensures.files;
 }
