@@ -51,7 +51,7 @@ fn raw_disk(alloc: Global) -> Result<RawImage, Fail> {
 
 // Three processes of one priority, the first of which runs.
 fn boot(alloc: Global) -> Result<Kernel, Fail>
-    ensures idle { IfOk result (λ k. IsIdle k) }
+    ensures idle { IfOk result (λ k. IsIdle k.came) }
 {
     let files = [file_of(0), file_of(256), file_of(512)];
     let images = [
@@ -71,8 +71,8 @@ fn boot(alloc: Global) -> Result<Kernel, Fail>
 
 // The current process makes a call, or goes on with the one in which it waited.
 fn call(kernel: &mut Kernel, number: u32, args: [u32; 3]) -> Option<Next>
-    requires idle { IsIdle kernel.old }
-    ensures idle { IsIdle kernel.new }
+    requires idle { IsIdle kernel.old.came }
+    ensures idle { IsIdle kernel.new.came }
 {
     if kernel.current() == Pid::default() {
         return None;
@@ -93,8 +93,8 @@ fn call(kernel: &mut Kernel, number: u32, args: [u32; 3]) -> Option<Next>
 
 // A request is completed, well or badly.
 fn complete(kernel: &mut Kernel, good: bool)
-    requires idle { IsIdle kernel.old }
-    ensures idle { IsIdle kernel.new }
+    requires idle { IsIdle kernel.old.came }
+    ensures idle { IsIdle kernel.new.came }
 {
     kernel.on_disk(good);
     kernel.close_event();
@@ -102,8 +102,8 @@ fn complete(kernel: &mut Kernel, good: bool)
 
 // What is answered.
 fn act(kernel: &mut Kernel, number: u32, args: [u32; 3]) -> Option<Next>
-    requires idle { IsIdle kernel.old }
-    ensures idle { IsIdle kernel.new }
+    requires idle { IsIdle kernel.old.came }
+    ensures idle { IsIdle kernel.new.came }
 {
     if number == DISK0 || number == FAIL0 {
         complete(kernel, number == DISK0);
@@ -114,8 +114,8 @@ fn act(kernel: &mut Kernel, number: u32, args: [u32; 3]) -> Option<Next>
 
 // The first row that goes otherwise than wanted.
 fn first_wrong(kernel: &mut Kernel, rows: &[Row]) -> Option<usize>
-    requires idle { IsIdle kernel.old }
-    ensures idle { IsIdle kernel.new }
+    requires idle { IsIdle kernel.old.came }
+    ensures idle { IsIdle kernel.new.came }
 {
     for at in 0..rows.len() {
         let (number, args, answer, runs) = rows[at];
@@ -224,8 +224,8 @@ fn mapped(k: &KernelState, name: &[u8]) -> Option<(usize, usize)> {
 
 // How often in turn one prefix more is mounted, at most 50 times.
 fn mounts(kernel: &mut Kernel) -> u32
-    requires idle { IsIdle kernel.old }
-    ensures idle { IsIdle kernel.new }
+    requires idle { IsIdle kernel.old.came }
+    ensures idle { IsIdle kernel.new.came }
 {
     for count in 0..50 {
         if call(kernel, 44, [16, 32, 2]) != Some(Next::Returns(0)) {

@@ -47,8 +47,8 @@ pub(crate) fn image_of(file: &[u8]) -> Result<Image<'_>, Fail> {
 
 // `None` if the sequence number of a port can't rise.
 pub(crate) fn numbers_left(k: &KernelState) -> Option<()>
-    requires many { length k.now.state.parts.ports ≡ 30 }
-    ensures numbers { IfSome result (λ _. (q : ℕ) → (port_at k.now.state.parts.ports q).seq < 4294967295) }
+    requires many { length k.now.call.state.parts.ports ≡ 30 }
+    ensures numbers { IfSome result (λ _. (q : ℕ) → (port_at k.now.call.state.parts.ports q).seq < 4294967295) }
 {
     let ports = &k.ports;
     for number in 0..30 {
@@ -61,8 +61,8 @@ pub(crate) fn numbers_left(k: &KernelState) -> Option<()>
 
 // One step: the number and the answer of its call, and who runs after it.
 fn step(kernel: &mut Kernel) -> Option<(u32, Next, Pid)>
-    requires idle { IsIdle kernel.old }
-    ensures idle { IsIdle kernel.new }
+    requires idle { IsIdle kernel.old.came }
+    ensures idle { IsIdle kernel.new.came }
 {
     if kernel.current() == Pid::default() {
         return None;
@@ -86,8 +86,8 @@ fn step(kernel: &mut Kernel) -> Option<(u32, Next, Pid)>
 
 // A tick.
 fn tick(kernel: &mut Kernel)
-    requires idle { IsIdle kernel.old }
-    ensures idle { IsIdle kernel.new }
+    requires idle { IsIdle kernel.old.came }
+    ensures idle { IsIdle kernel.new.came }
 {
     if kernel.state().tables.ticks() < 1000 {
         kernel.on_tick();
@@ -141,7 +141,7 @@ fn images_overlap_or_have_no_room_in_their_order(rt: HostRuntime) -> Result<(), 
 
 // Two programs with the file's calls, of which the first is current.
 fn boot(alloc: std::alloc::Global) -> Result<Kernel, Fail>
-    ensures idle { IfOk result (λ k. IsIdle k) }
+    ensures idle { IfOk result (λ k. IsIdle k.came) }
 {
     let files = [file_of(0, 4096), file_of(16, 4096)];
     let images = [image_of(&files[0])?, image_of(&files[1])?];
@@ -154,8 +154,8 @@ fn boot(alloc: std::alloc::Global) -> Result<Kernel, Fail>
 
 // The call that a program makes with its second step from here on.
 fn next_call(kernel: &mut Kernel) -> Option<(u32, Next, Pid)>
-    requires idle { IsIdle kernel.old }
-    ensures idle { IsIdle kernel.new }
+    requires idle { IsIdle kernel.old.came }
+    ensures idle { IsIdle kernel.new.came }
 {
     match step(kernel) {
         None => step(kernel),
@@ -165,8 +165,8 @@ fn next_call(kernel: &mut Kernel) -> Option<(u32, Next, Pid)>
 
 // The first call that is another than wanted: its row. A row may begin with a tick.
 fn first_wrong(kernel: &mut Kernel, calls: &[(bool, (u32, Next, Pid))]) -> Option<usize>
-    requires idle { IsIdle kernel.old }
-    ensures idle { IsIdle kernel.new }
+    requires idle { IsIdle kernel.old.came }
+    ensures idle { IsIdle kernel.new.came }
 {
     for row in 0..calls.len() {
         let (ticks, wanted) = calls[row];
@@ -182,7 +182,7 @@ fn first_wrong(kernel: &mut Kernel, calls: &[(bool, (u32, Next, Pid))]) -> Optio
 
 // Whether all processes are gone and a step makes no call; the ticks, and the free bytes of the heap.
 fn seen_at_last(kernel: &mut Kernel) -> (bool, u32, u32)
-    requires idle { IsIdle kernel.old }
+    requires idle { IsIdle kernel.old.came }
 {
     let makes_no_call = step(kernel).is_none();
     let k = kernel.state();

@@ -3,4 +3,4 @@ use Rattle.kernel_state.specs.Results.{IsIdle}
 use Rattle.kernel_tests.proofs.devices.first_wrong.Given as goal
 
 abbrev pub invariant-loop-at : goal.invariant-loop-at
-invariant-loop-at l = IsIdle l.kernel
+invariant-loop-at l = IsIdle l.kernel.came

@@ -3,4 +3,4 @@ use Rattle.kernel_state.specs.Results.{IsIdle}
 use Rattle.kernel_tests.proofs.devices.mounts.Given as goal
 
 abbrev pub invariant-loop-count : goal.invariant-loop-count
-invariant-loop-count l = IsIdle l.kernel
+invariant-loop-count l = IsIdle l.kernel.came

@@ -3,4 +3,4 @@ use Rattle.kernel_state.specs.Results.{IsIdle}
 use Rattle.kernel_tests.proofs.programs.first_wrong.Given as goal
 
 abbrev pub invariant-loop-row : goal.invariant-loop-row
-invariant-loop-row l = IsIdle l.kernel
+invariant-loop-row l = IsIdle l.kernel.came
