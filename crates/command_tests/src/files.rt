@@ -1,6 +1,6 @@
-//! A file that a run writes while a thousand completions of its disk fail.
+//! A file that a run writes while a thousand completions of its disk fail, and one that it reads off a disk of version 1.
 
-use super::programs::status_of;
+use super::programs::{repeated, status_of};
 use host_port::{Channel, QuietMemoryHost};
 use std::alloc::Global;
 use std::test::Fail;
@@ -20,15 +20,39 @@ li a0, 4
 sys close
 sys exit
 ";
-/// The arguments that assemble it.
+/// A process that reads the last two bytes of the file.
+const READER: &[u8] = b".entry start
+name: .ascii \"big\\0\"
+mode: .ascii \"rw\\0\\0\"
+start: li a0, 3
+la a1, name
+la a2, mode
+sys open
+li a1, 8191
+sys seek
+li a0, 4
+li a1, 4096
+li a2, 2
+sys read
+end: j end
+";
+/// The arguments that assemble a process.
 const ASM: [&str; 4] = ["asm", "w", "--out", "i"];
-/// Those that run it, and write the disk.
+/// Those that run the writer, and write the disk.
 const RUN_WRITER: [&str; 6] = ["run", "--schedule", "s", "--out1", "d", "i"];
+/// Those that run the reader on a disk.
+const RUN_READER: [&str; 6] = ["run", "--schedule", "s", "--disk1", "d", "i"];
 
-// The host after a run of the writer through these events.
-fn after(alloc: Global, schedule: &[u8]) -> Result<QuietMemoryHost, Fail> {
+// The host after a run of a process through these events, on this disk.
+fn after(
+    alloc: Global,
+    args: &[&str],
+    process: &[u8],
+    schedule: &[u8],
+    disk: &[u8],
+) -> Result<QuietMemoryHost, Fail> {
     let mut host = QuietMemoryHost::new(alloc);
-    host.add_file("w", WRITER)?;
+    host.add_file("w", process)?;
     if status_of(alloc, &ASM, &mut host)? != 0 {
         return Err("another text")?;
     }
@@ -36,7 +60,8 @@ fn after(alloc: Global, schedule: &[u8]) -> Result<QuietMemoryHost, Fail> {
     let mut host = QuietMemoryHost::new(alloc);
     host.add_file("i", image.as_slice())?;
     host.add_file("s", schedule)?;
-    if status_of(alloc, &RUN_WRITER, &mut host)? != 0 {
+    host.add_file("d", disk)?;
+    if status_of(alloc, args, &mut host)? != 0 {
         return Err("another run")?;
     }
     Ok(host)
@@ -55,11 +80,58 @@ fn failed_completions_change_nothing(rt: HostRuntime) -> Result<(), Fail> {
         schedule.push_str("fail1\n")?;
     }
     schedule.push_str("round 195\n")?;
-    let failing = after(rt.alloc(), schedule.as_bytes())?;
-    let good = after(rt.alloc(), b"round 200\n")?;
+    let failing = after(rt.alloc(), &RUN_WRITER, WRITER, schedule.as_bytes(), b"")?;
+    let good = after(rt.alloc(), &RUN_WRITER, WRITER, b"round 200\n", b"")?;
     assert!(rt; failing.sent(Channel::Out) == good.sent(Channel::Out));
     assert!(rt; has(good.sent(Channel::Out), b"ret 1 8193\n"));
     assert_eq!(rt; good.sent(Channel::Disk1).len(), 131_072);
     assert!(rt; failing.sent(Channel::Disk1) == good.sent(Channel::Disk1));
+    Ok(())
+}
+
+// Puts a word at a place of a disk.
+fn put(disk: &mut Vec<u8>, at: usize, word: u32) {
+    for (k, b) in word.to_le_bytes().iter().enumerate() {
+        if let Some(place) = disk.get_mut(at.saturating_add(k)) {
+            *place = *b;
+        }
+    }
+}
+
+// A disk of version 1 of 64 blocks with one file of 8193 bytes, called `big`. Its data blocks are those from 2 to 18, and its index blocks
+// 0 and 1.
+fn version_1(alloc: Global) -> Result<Vec<u8>, Fail> {
+    let mut disk = repeated(alloc, 0, 64 * 512)?;
+    let directory = [19, 2, 1, 8193, 0, u32::from_le_bytes(*b"big\0")];
+    for (k, word) in directory.iter().enumerate() {
+        put(&mut disk, 4 * k, *word);
+    }
+    put(&mut disk, 512, 1);
+    put(&mut disk, 512 + 72, u32::MAX);
+    put(&mut disk, 512 + 76, 8192);
+    for k in 0..16u32 {
+        let place = 4 * k as usize;
+        put(&mut disk, 520 + place, 2 + k);
+        put(&mut disk, 592 + place, if k == 0 { 18 } else { u32::MAX });
+    }
+    for i in 2..7u32 {
+        let next = if i == 6 { u32::MAX } else { i + 1 };
+        put(&mut disk, 512 + 72 * i as usize, next);
+    }
+    for b in 19..64u32 {
+        let next = if b == 63 { u32::MAX } else { b + 1 };
+        put(&mut disk, 512 * b as usize, next);
+    }
+    Ok(disk)
+}
+
+#[test]
+fn a_file_on_a_disk_of_version_1_is_read(rt: HostRuntime) -> Result<(), Fail> {
+    let disk = version_1(rt.alloc())?;
+    let events = b"round 200\n";
+    let read = after(rt.alloc(), &RUN_READER, READER, events, disk.as_slice())?;
+    for reply in ["ret 1 4\n", "ret 1 0\n", "ret 1 2\n"] {
+        assert!(rt; has(read.sent(Channel::Out), reply.as_bytes()), "{reply}");
+    }
     Ok(())
 }
