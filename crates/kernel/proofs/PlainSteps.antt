@@ -4,6 +4,7 @@ use Rattle.kernel.proofs.Kept.{idle_may_call, idle_sound, kept_idle}
 use Rattle.kernel.specs.Kernels.{IsKernel, kernel_result}
 use Rattle.kernel.specs.declared.kernel.Kernel.TheInside.{Inside}
 use Rattle.kernel_state.specs.Results.{answer_so_far, idle, IsIdle}
+use Rattle.kernel_state.specs.Values.{KernelValue}
 use Rattle.xinu_base.specs.declared.processes.Rest.TheVariants.{Nothing}
 use Rattle.xinu_laws.proofs.PlainSteps.{IsRunning, plain_of, steps_of, steps_sound}
 use Rattle.xinu_laws.specs.Preserve.{KeepsAll}
@@ -18,17 +19,17 @@ abbrev pub run_in : ℕ → CallState → CallState
 run_in most d = record d { state = with_ran (ran most (current_hart d.state) d.state.memory) d.state }
 
 -- The kernel after this many steps: they were plain, and its tables and parts are as before.
-pub record IsAfter (k : Inside) (d : CallState) (s : Xinu) (steps : ℕ) : Type 0 where
+pub record IsAfter (k : Inside) (d : KernelValue) (s : Xinu) (steps : ℕ) : Type 0 where
   pub state : kernel_result (record { state = d; answer = k.answer }) ≡ idle (stepped_times steps s)
   pub plain : ArePlain steps s
-  pub tables : d.state.tables ≡ s.tables
-  pub parts : d.state.parts ≡ s.parts
+  pub tables : d.call.state.tables ≡ s.tables
+  pub parts : d.call.state.parts ≡ s.parts
 
 -- plain instructions are such steps, and keep what each call keeps
-module _ (k : Inside) (d : CallState) (h : CallResult) (most steps : ℕ) (view : kernel_result k ≡ h) (keeps : KeepsAll (kernel_result k))
+module _ (k : Inside) (d : KernelValue) (h : CallResult) (most steps : ℕ) (view : kernel_result k ≡ h) (keeps : KeepsAll (kernel_result k))
     (i : IsIdle h) (n : h.call.state.tables.current ≢ 0)
     (done : (process_at h.call.state.tables h.call.state.tables.current).rest ≡ Nothing) (lives : is_over h.call.state ≡ false)
-    (is : d ≡ run_in most k.state) (count : steps ≡ (ran most (current_hart k.state.state) k.state.state.memory).count) where
+    (is : d.call ≡ run_in most k.state.call) (count : steps ≡ (ran most (current_hart k.state.call.state) k.state.call.state.memory).count) where
   all : KeepsAll h
   all = subst KeepsAll view keeps
 

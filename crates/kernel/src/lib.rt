@@ -1,14 +1,16 @@
 //! The kernel: which family a call is of, a death, a tick, the interrupts of devices, and the end of an event.
 //!
-//! A clause sees a [`Kernel`] as a `CallResult` of the abstract machine: its state inside an event, the replies to released processes so
-//! far, whether a resched is owed, and how the event's call went. Between events it is idle: `idle s` in `specs/Results` of `kernel_state`.
+//! A clause sees of a [`Kernel`] what an event came to so far, `came`, a `CallResult` of the abstract machine: its state inside an event, the
+//! replies to released processes, whether a resched is owed, and how the event's call went. Beside it are the bytes of the disk with files,
+//! `image`, which no call but `on_files` changes. Between events a kernel is idle: `came` is `idle s` in `specs/Results` of `kernel_state`.
 //! A call, what is left of one, a death or a tick makes of an idle kernel what the abstract machine's own row or step gives, and
 //! `close_event` makes it the idle kernel of the event's end. Replies are written into registers there, those of released processes first.
 //!
 //! | Call | Condition | Promise |
 //! |---|---|---|
-//! | `Kernel::new` | `few`: at most eight images | `booted`: idle in the state in which the images boot on the disks of two images, or boot's own refusal; or `NoMemory` |
+//! | `Kernel::new` | `few`: at most eight images | `booted`: idle in the state in which the images boot on the disks of two images, or boot's own refusal; or `NoMemory`; `image`: the disk with files has the bytes of the image |
 //! | `state`, `answer` | | the state, with its parts and the replies to released processes; how the event's call went so far |
+//! | `holds_files` | | `holds`: a law, the disk with files holds the files of the state at rest |
 //! | `current`, `is_done`, `call_of` | | the current process, whether nothing is left of its call, the call in its registers |
 //! | `instruction` | `idle`; `not_null`: the null process isn't current | `outcome`, `state`: those of `exec` |
 //! | `steps` | `idle`; `lives`: a process besides the null process is left | `steps`, `plain`: the state after so many steps that print nothing |
@@ -19,7 +21,7 @@
 //! | `on_type` | `idle` | `received`: a character is received |
 //! | `on_tx` | `idle` | `byte`, `sent`: the byte that the console sends; `None`, and nothing changes, if and only if output is held or there is none |
 //! | `on_disk` | `idle` | `completes`: the raw disk's first request is served, well or badly; nothing changes if none waits |
-//! | `on_files` | `idle` | `completes`: so many calls on files take effect, as many as the abstract machine allows, and what happened; nothing changes if none is under way |
+//! | `on_files` | `idle` | `completes`: so many calls on files take effect, as many as the abstract machine allows, and what happened; nothing changes if none is under way; `image`: at most one block of the disk changes |
 //! | `close_event` | | `closed`: idle in the state at the end of the event |
 //!
 //! That a kernel stands for a state that is sound, inside an event or between two, is kept by the type: the invariant of `Kernel` is what

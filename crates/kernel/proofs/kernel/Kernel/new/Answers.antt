@@ -9,6 +9,6 @@ use Rattle.xinu_model.specs.Machine.{CallState, Silent}
 pub invariant_of-result : goal.invariant_of-result
 invariant_of-result c =
     let k = c.in_ok-state.state in
-    let e : kernel_result (record { state = k; answer = None }) ≡ idle k.state
+    let e : kernel_result (record { state = k; answer = None }) ≡ idle k.call.state
     = ap (λ (d : CallState). record { call = d; answer = Silent }) c.in_ok-state.ensures.booted.1.is in
-    record { keeps = subst KeepsAll (sym e) (kept_idle k.state c.in_ok-state.ensures.sound) }
+    record { keeps = subst KeepsAll (sym e) (kept_idle k.call.state c.in_ok-state.ensures.sound) }
