@@ -10,7 +10,6 @@ use Rattle.xinu_base.specs.declared.lines.TranscriptLine.{TranscriptLine}
 use Rattle.xinu_model.specs.Files.Syscalls.{all_told, completed_in, completing, file_line, files_of, file_step, told}
 use Rattle.xinu_model.specs.Files.Work.{calls_completed, FileNote, FileRequest, FileStep, least_effects, most_effects, turned}
 use Rattle.xinu_model.specs.Machine.{CallResult, CallState, end_of_event, EventResult, nothing_happens, Xinu}
-use Rattle.xinu_model.specs.Ports.Queues.{MessagePort}
 use Rattle.machine.proofs.Completions.{kept_ports, kept_ticks, not_switched}
 
 -- what the event comes to at which so many calls take effect

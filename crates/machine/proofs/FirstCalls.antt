@@ -1,5 +1,5 @@
 -- A call on files that takes effect as it is made.
-use Rattle.std.proofs.Common.{◌≡◌, ◌≢◌, ◌∙◌, ◌≤◌, ℕ, Bool, false, cond, List, [], ◌∷◌, Option, Some, None, refl, sym, ap, subst, arith}
+use Rattle.std.proofs.Common.{◌≡◌, ◌≢◌, ◌∙◌, ◌≤◌, ℕ, Bool, cond, List, [], ◌∷◌, Option, Some, None, refl, sym, ap, subst, arith}
 use Rattle.std.specs.Prelude.{if◌then◌else◌, is_some}
 use Rattle.std.proofs.lemmas.Bool.{eq-eqb, ne_eqb}
 use Rattle.host_port.specs.Outside.{Outside}
@@ -7,7 +7,7 @@ use Rattle.host_port.specs.Printing.{Printing}
 use Rattle.kernel_state.specs.Beginnings.{BeginsAs}
 use Rattle.kernel_state.specs.declared.begun.Begun.{Begun}
 use Rattle.kernel_state.specs.declared.begun.Begun.TheVariants.{AtOnce, ByRow}
-use Rattle.machine.specs.FileEffects.{ChosenPrints, IsFirstMade, MayTake, ReactPrints, made_lines, reacted_with}
+use Rattle.machine.specs.FileEffects.{ChosenPrints, MayTake, ReactPrints, made_lines, reacted_with}
 use Rattle.machine.specs.Printed.{EffectPrints}
 use Rattle.xinu_base.specs.declared.events.Event.TheVariants.{Step}
 use Rattle.xinu_base.specs.declared.lines.FileMoment.TheVariants.{Finished}
@@ -43,6 +43,12 @@ call_began (AtOnce reply) s new result panics a b h i is prints =
       may = record { is_call = refl; caller = refl; alone = is.alone; waits = is.waits };
       prints = subst (λ r. EffectPrints (end_of_event p first r) new panics a b h i) is.effect prints;
     }
+
+-- What came of an instruction with which no call on files took effect.
+pub without_files : (o r : Outcome) (s new : Xinu) (panics : Bool) (a b : Printing) (h i : Outside) → o ≡ r → EffectPrints (reacted r s) new panics a b h i
+    → ReactPrints o s new panics a b h i
+without_files o r s new panics a b h i is prints =
+    record { made = None; may = tt; prints = subst (λ x. EffectPrints (reacted x s) new panics a b h i) (sym is) prints }
 
 -- A step in which nothing is left of a call is an instruction.
 stepped_is : (s : Xinu) → s.tables.current ≢ 0 → (process_at s.tables s.tables.current).rest ≡ Nothing → stepped s ≡ instruction_step s

@@ -1,9 +1,10 @@
 -- From what an event does to that it happened.
-use Rattle.std.proofs.Common.{◌≡◌, ◌≢◌, ℕ, false, cond, [], refl, sym, ap, subst, ◌∙◌, arith, Bool}
+use Rattle.std.proofs.Common.{◌≡◌, ◌≢◌, ℕ, false, cond, List, [], refl, sym, ap, subst, ◌∙◌, arith, Bool}
 use Rattle.std.proofs.lemmas.Bool.{eq-eqb, ne_eqb}
 use Rattle.host_port.specs.Outside.{Outside}
 use Rattle.host_port.specs.Printing.{Printing}
 use Rattle.machine.proofs.ShownLines.{shown_nothing}
+use Rattle.machine.specs.Disks.{ChangesDisk}
 use Rattle.machine.specs.FileEffects.{ChosenPrints}
 use Rattle.machine.specs.Printed.{EffectPrints, EventPrints}
 use Rattle.xinu_base.specs.declared.events.Event.{Event}
@@ -11,7 +12,7 @@ use Rattle.xinu_base.specs.declared.events.Event.TheVariants.{Step, Tick, Key, T
 use Rattle.xinu_base.specs.declared.processes.Rest.{Rest}
 use Rattle.xinu_base.specs.declared.processes.Rest.TheVariants.{Nothing}
 use Rattle.xinu_model.specs.Calls.{continued}
-use Rattle.xinu_model.specs.Events.{effect_of, instruction_step, is_done, panics_in, stepped}
+use Rattle.xinu_model.specs.Events.{effect_of, instruction_step, is_done, stepped}
 use Rattle.xinu_model.specs.Machine.{Xinu, end_of_event, EventResult, nothing_happens}
 use Rattle.xinu_model.specs.Tables.{process_at}
 
@@ -86,3 +87,12 @@ other_does old Disk0 a b k t d f g c = absurd (d refl)
 other_does old Fail0 a b k t d f g c = absurd (f refl)
 other_does old Disk1 a b k t d f g c = absurd (g refl)
 other_does old Fail1 a b k t d f g c = refl
+
+-- what an event changes of the disk with files, if it is another event by its kind
+pub changes_as : (e f : Event) (old new : List ℕ) → e ≡ f → ChangesDisk f old new → ChangesDisk e old new
+changes_as e f old new same k = subst (λ x. ChangesDisk x old new) (sym same) k
+
+-- any event but a good completion of that disk may leave it
+pub unchanged : (e : Event) (bytes : List ℕ) → e ≢ Disk1 → ChangesDisk e bytes bytes
+unchanged Disk1 bytes n = absurd (n refl)
+unchanged _ bytes n = refl

@@ -2,7 +2,6 @@
 use Rattle.std.proofs.Common.{◌≡◌, ◌∙◌, ℕ, zero, suc, ◌+◌, ◌<◌, List, [], ◌∷◌, ◌++◌, length, take, Option, None, slice_index_or, ap, sym, subst, arith, append-nil, append_assoc}
 use Rattle.host_port.specs.Outside.{Outside}
 use Rattle.host_port.specs.Printing.{Printing, Prints}
-use Rattle.xinu_base.specs.declared.lines.TranscriptLine.{TranscriptLine}
 use Rattle.xinu_model.specs.Files.Constants.{LFILE0}
 use Rattle.xinu_model.specs.Files.Systems.{FileSystem, OpenFile, open_at}
 use Rattle.xinu_model.specs.Text.{open_file_line, open_file_lines, shown}

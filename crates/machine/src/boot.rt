@@ -1,6 +1,6 @@
 //! Boot: a machine whose kernel holds the images and the disks (book, chapter 22).
 
-ghost use Rattle.std.specs.Prelude.{◌≤◌, IfOk, length, map};
+ghost use Rattle.std.specs.Prelude.{◌≡◌, ◌≤◌, IfOk, length, map};
 ghost use Rattle.given_disks.specs.Disks.{disks_of};
 ghost use Rattle.image_loader.specs.Images.{loaded_of};
 ghost use Rattle.machine.specs.Starts.{Starts};

@@ -247,7 +247,7 @@ fn print_devices<H: Host>(
     requires six { length server.now.work.system.devices ≡ 6 }
     ensures prints { Prints out.old out.new (H.view host.old) (H.view host.new)
         (shown out.old.plain (text.console_line tty.now ∷ line.Disk0 (length disk.now.requests)
-            ∷ text.open_file_lines files.LFILE0 server.now.work.system.devices server.now.work.system ++ line.Disk1 (is_busy server.now.work) ∷ [])) }
+        ∷ text.open_file_lines files.LFILE0 server.now.work.system.devices server.now.work.system ++ line.Disk1 (is_busy server.now.work) ∷ [])) }
 {
     print_console(tty, out, host);
     print_line(&TranscriptLine::Disk0(disk.pending() as u32), out, host);

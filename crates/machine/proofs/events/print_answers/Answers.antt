@@ -15,6 +15,6 @@ returns-in-Some-Returns g c =
     let f : SFits w32 value = search rules in
     let is : c.answer.result ≡ Some (next.Returns value) = search rules in
     record {
-      prints = answers_printed c.args.kernel.now c.answer.result value c.current.result c.released.result.now _ _ _ _ _ _ c.answer.ensures.answer is (c.released.ensures.released ∙ ap (λ (d : CallState). d.released) c.state.ensures.state)
+      prints = answers_printed c.args.kernel.now.came c.answer.result value c.current.result c.released.result.now _ _ _ _ _ _ c.answer.ensures.answer is (c.released.ensures.released ∙ ap (λ (d : CallState). d.released) c.state.ensures.state)
           c.current.ensures.current c.print_replies.ensures.prints (subst P (to_z-of_z w32 value f) c.print_reply.ensures.prints);
     }

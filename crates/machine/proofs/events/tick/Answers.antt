@@ -6,6 +6,11 @@ use Rattle.machine.proofs.events.tick.Goals as goal
 
 pub returns : goal.returns
 returns g c =
-    let s = c.args.kernel.now.call.state in
-    let e = ap (λ (n : ℕ). end_of_event n [] c.on_tick.new.self) c.current-current.ensures.current ∙ ap (λ (r : CallResult). end_of_event s.tables.current [] r) c.on_tick.ensures.ticks in
-    record { effect = effect_as _ (ticked s) _ _ _ _ _ _ e c.end_event.ensures.effect; idle = c.end_event.ensures.idle; sound = c.end_event.ensures.sound }
+    let s = c.args.kernel.now.came.call.state in
+    let e = ap (λ (n : ℕ). end_of_event n [] c.on_tick.new.self.came) c.current-current.ensures.current ∙ ap (λ (r : CallResult). end_of_event s.tables.current [] r) c.on_tick.ensures.ticks in
+    record {
+      effect = effect_as _ (ticked s) _ _ _ _ _ _ e c.end_event.ensures.effect;
+      idle = c.end_event.ensures.idle;
+      sound = c.end_event.ensures.sound;
+      image = c.end_event.ensures.image ∙ c.on_tick.ensures.image;
+    }

@@ -2,7 +2,6 @@ use Rattle.std.proofs.Common.{◌∷◌, ◌++◌, [], ℕ, Bool, length, subst}
 use Rattle.host_port.specs.Printing.{Prints}
 use Rattle.xinu_base.specs.declared.lines.TranscriptLine.TheVariants.{Disk0, Disk1}
 use Rattle.xinu_model.specs.Files.Constants.{LFILE0}
-use Rattle.xinu_model.specs.Files.Rest.{is_busy}
 use Rattle.xinu_model.specs.Text.{console_line, open_file_lines, shown}
 use Rattle.machine.proofs.ShownLines.{shown_both}
 use Rattle.machine.proofs.tables.print_devices.Goals as goal

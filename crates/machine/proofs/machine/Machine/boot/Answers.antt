@@ -13,11 +13,12 @@ invariant_of-result c =
     let n = length-map c.args.images.now loaded_of in
     let some = c.requires.some in
     let few = c.requires.few in
-    let s = c.in_ok-kernel.kernel.call.state in
+    let s = c.in_ok-kernel.kernel.came.call.state in
     let booted = c.in_ok-kernel.ensures.booted in
     record {
       idle = booted.1;
       sound = sound_boot_on disks images s (omega (arith, n, few)) c.see_disks.ensures.sound booted.0;
+      holds = c.holds_files.ensures.holds;
       lives = λ _. boot_on_lives disks images s (omega (arith, n, some)) (omega (arith, n, few)) booted.0;
       few = omega arith;
       ticks = (let e = boot_on_ticks disks images s booted.0 in omega arith);
@@ -26,11 +27,11 @@ invariant_of-result c =
 
 pub returns-clause-apart : goal.returns-clause-apart
 returns-clause-apart c =
-    boot_on_apart (disks_of c.args.disk0 c.args.disk1) (map loaded_of c.args.images.now) c.in_ok-kernel.kernel.call.state c.in_ok-kernel.ensures.booted.0
+    boot_on_apart (disks_of c.args.disk0 c.args.disk1) (map loaded_of c.args.images.now) c.in_ok-kernel.kernel.came.call.state c.in_ok-kernel.ensures.booted.0
 
 pub returns-clause-sound : goal.returns-clause-sound
 returns-clause-sound c =
     let images = map loaded_of c.args.images.now in
     let n = length-map c.args.images.now loaded_of in
     let few = c.requires.few in
-    sound_boot_on (disks_of c.args.disk0 c.args.disk1) images c.in_ok-kernel.kernel.call.state (omega (arith, n, few)) c.see_disks.ensures.sound c.in_ok-kernel.ensures.booted.0
+    sound_boot_on (disks_of c.args.disk0 c.args.disk1) images c.in_ok-kernel.kernel.came.call.state (omega (arith, n, few)) c.see_disks.ensures.sound c.in_ok-kernel.ensures.booted.0
