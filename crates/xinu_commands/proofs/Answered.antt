@@ -6,14 +6,13 @@ use Rattle.command_line.specs.declared.refusal.ArgsFault.TheVariants as args
 use Rattle.host_port.specs.declared.host.Channel.TheVariants.{Fault}
 use Rattle.host_port.specs.HostCalls.{Rose}
 use Rattle.host_port.specs.Outside.{Outside, HostCall, appended, with_calls, counted, grown}
-use Rattle.xinu_model.specs.Machine.{Xinu}
 use Rattle.xinu_commands.specs.Conversions.{args_refusal}
 use Rattle.xinu_commands.specs.Calls.{calls_due}
 use Rattle.xinu_commands.specs.Refusals.{TellsRefusal, text_of}
 use Rattle.xinu_commands.specs.Stages.{Performs}
 use Rattle.xinu_commands.specs.Theorem.{Answers, Carries, IsUnsent}
 use Rattle.xinu_commands.specs.Verdict.{verdict}
-use Rattle.xinu_commands.specs.Work.{Verdict, Refuses, Does, Runs, Outputs}
+use Rattle.xinu_commands.specs.Work.{Does, Left, Outputs, Refuses, Runs, Verdict}
 use Rattle.xinu_commands.specs.declared.refusals.Refusal.{Refusal}
 use Rattle.xinu_commands.specs.declared.refusals.Refusal.TheVariants as refusal
 use Rattle.xinu_commands.proofs.Carried.{carries_nothing, carries_within, unsent_both, unsent_refl}
@@ -52,13 +51,13 @@ fetched_unsent h k calls m is = record {
 }
 
 -- A command that was done has the status 0.
-pub done_status : (v : Verdict) (left : Option Xinu) (h k : Outside) (c : Carries v None left h k) → 0 ≡ c.output.status
+pub done_status : (v : Verdict) (left : Option Left) (h k : Outside) (c : Carries v None left h k) → 0 ≡ c.output.status
 done_status (Refuses cause) left h k c = (let work = c.deserved.1 in cc)
 done_status (Does (Runs wanted start events)) left h k c = sym (ap (λ o. o.status) c.sends.begins.output.written)
 done_status (Does (Outputs out disk1 file)) left h k c = sym (ap (λ o. o.status) c.sends.begins)
 
 -- A command that was done answers 0.
-pub done_answers : (command : Option Command) (left : Option Xinu) (h k : Outside) → Performs command None left h k → Answers 0 command h k left
+pub done_answers : (command : Option Command) (left : Option Left) (h k : Outside) → Performs command None left h k → Answers 0 command h k left
 done_answers command left h k p = record {
   ended = None;
   obeys = p.obeys;

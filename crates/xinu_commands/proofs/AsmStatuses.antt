@@ -7,12 +7,12 @@ use Rattle.host_port.specs.Outside.{Outside}
 use Rattle.rv_asm.specs.Assembly.{Assembly, Makes, Fails, assembly}
 use Rattle.rv_asm.specs.declared.faults.AsmFault.{AsmFault}
 use Rattle.rv_asm.specs.declared.faults.AsmFault.TheVariants as asm
-use Rattle.xinu_model.specs.Machine.{Xinu}
 use Rattle.xinu_commands.specs.AsmVerdict.{asm_refusal, asm_verdict}
 use Rattle.xinu_commands.specs.Refusals.{status_of}
 use Rattle.xinu_commands.specs.Statuses.{HasFault, IsAssembled, SaysOfSource, status_due}
 use Rattle.xinu_commands.specs.Theorem.{Answers}
 use Rattle.xinu_commands.specs.Verdict.{SourceInput, file_bytes}
+use Rattle.xinu_commands.specs.Work.{Left}
 use Rattle.xinu_commands.proofs.Assembled.{asm_long, asm_short}
 use Rattle.xinu_commands.proofs.Statuses.{due}
 
@@ -58,7 +58,7 @@ source_says exit elf source memory due_is =
       | inr short ↦ text_says exit elf source (assembly source) short refl memory due_is
     ]
 
-pub says_of_source : (exit : ℕ) (a : AsmFiles) (old new : Outside) (left : Option Xinu) (s : Answers exit (Some (Asm a)) old new left)
+pub says_of_source : (exit : ℕ) (a : AsmFiles) (old new : Outside) (left : Option Left) (s : Answers exit (Some (Asm a)) old new left)
     → exit ≢ 7 → exit ≢ 3
     → SaysOfSource exit (file_bytes (old.file a.source) (s.obeys.unseen SourceInput))
 says_of_source exit a old new left s memory fault =

@@ -4,11 +4,10 @@ use Rattle.host_port.specs.HostCalls.{Rose}
 use Rattle.host_port.specs.Outside.{Outside, grown}
 use Rattle.host_port.proofs.Prints.{grown-nil}
 use Rattle.host_port.specs.Printing.{Printing}
-use Rattle.xinu_model.specs.Machine.{Xinu}
 use Rattle.xinu_model.specs.Text.{shown}
 use Rattle.xinu_model.proofs.Runs.{some_run}
 use Rattle.xinu_commands.specs.Theorem.{Carries, Deserved, IsPart, IsPartSent, IsSent, IsUnsent, IsWhole, Sends}
-use Rattle.xinu_commands.specs.Work.{Output, Verdict, Refuses, Does, Runs, Outputs, only_printed, output_of, run_output, transcript}
+use Rattle.xinu_commands.specs.Work.{Does, Left, Output, Outputs, Refuses, Runs, Verdict, only_printed, output_of, run_output, transcript}
 use Rattle.xinu_commands.specs.declared.refusals.Refusal.{Refusal}
 use Rattle.xinu_commands.specs.declared.refusals.Refusal.TheVariants as refusal
 
@@ -73,7 +72,7 @@ unsent_both h i k first second = record {
 -- ---- from one stage to the next
 
 -- the same verdict in another form
-pub carries_as : (v w : Verdict) (ended : Option Refusal) (left : Option Xinu) (h k : Outside) → v ≡ w → Carries w ended left h k
+pub carries_as : (v w : Verdict) (ended : Option Refusal) (left : Option Left) (h k : Outside) → v ≡ w → Carries w ended left h k
     → Carries v ended left h k
 carries_as v w ended left h k same carries =
     let P : Verdict → Type 0 = λ x. Carries x ended left h k in subst P (sym same) carries
@@ -114,7 +113,7 @@ part_sent_within output h i j k before after sent = record {
   image = part_within output.image h.image i.image j.image k.image before.image after.image sent.image;
 }
 
-sends_within : (v : Verdict) (output : Output) (ended : Option Refusal) (left : Option Xinu) (h i j k : Outside) → IsUnsent h i
+sends_within : (v : Verdict) (output : Output) (ended : Option Refusal) (left : Option Left) (h i j k : Outside) → IsUnsent h i
     → IsUnsent j k → Sends v output ended left i j → Sends v output ended left h k
 sends_within (Refuses cause) output ended left h i j k before after sends =
     unsent_both h j k (unsent_both h i j before sends) after
@@ -126,7 +125,7 @@ sends_within (Does work) output ended left h i j k before after sends = record {
 }
 
 -- What is carried out from one moment to another is so from before to after, if nothing is sent there.
-pub carries_within : (v : Verdict) (ended : Option Refusal) (left : Option Xinu) (h i j k : Outside) → IsUnsent h i → h.faults ≤ i.faults
+pub carries_within : (v : Verdict) (ended : Option Refusal) (left : Option Left) (h i j k : Outside) → IsUnsent h i → h.faults ≤ i.faults
     → IsUnsent j k → j.faults ≤ k.faults → Carries v ended left i j → Carries v ended left h k
 carries_within v ended left h i j k before earlier after later carries = record {
   output = carries.output;

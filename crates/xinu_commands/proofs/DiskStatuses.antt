@@ -6,11 +6,11 @@ use Rattle.command_line.specs.Reading.{Text}
 use Rattle.host_port.specs.Outside.{Outside}
 use Rattle.lfs_check.specs.declared.faults.DiskFault.{DiskFault}
 use Rattle.lfs_layout.specs.Images.{opened}
-use Rattle.xinu_model.specs.Machine.{Xinu}
 use Rattle.xinu_commands.specs.DiskVerdict.{disk_fault, disk_with, file_on, size_fault}
 use Rattle.xinu_commands.specs.Statuses.{LacksFile, LacksRoom, SaysOfDisk, action_fault, status_due}
 use Rattle.xinu_commands.specs.Theorem.{Answers}
 use Rattle.xinu_commands.specs.Verdict.{Input, DiskInput, SourceInput, action_verdict, file_bytes}
+use Rattle.xinu_commands.specs.Work.{Left}
 use Rattle.xinu_commands.proofs.DiskVerdicts.{check_broken, check_does, get_broken, get_does, get_missing, ls_broken, ls_does, mkfs_does, put_broken, put_sets, repair_broken, repair_does, set_done, set_full}
 use Rattle.xinu_commands.proofs.Printed.{some_is_none}
 use Rattle.xinu_commands.proofs.Statuses.{due}
@@ -100,7 +100,7 @@ module _ (exit : ℕ) (held : Input → Text → List ℕ) where
   action_says (Check image) is = check_says image (disk_fault (held DiskInput image)) refl is
   action_says (Repair image out) is = repair_says image out (size_fault (held DiskInput image)) refl is
 
-pub says_of_disk : (exit : ℕ) (action : DiskAction) (old new : Outside) (left : Option Xinu) (a : Answers exit (Some (Disk action)) old new left) → exit ≢ 7 → exit ≢ 3
+pub says_of_disk : (exit : ℕ) (action : DiskAction) (old new : Outside) (left : Option Left) (a : Answers exit (Some (Disk action)) old new left) → exit ≢ 7 → exit ≢ 3
     → SaysOfDisk exit action (λ input name. file_bytes (old.file name) (a.obeys.unseen input))
 says_of_disk exit action old new left a memory fault =
     action_says exit (λ input name. file_bytes (old.file name) (a.obeys.unseen input)) action (due exit (Some (Disk action)) old new left a memory fault)

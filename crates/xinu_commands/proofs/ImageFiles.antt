@@ -8,13 +8,12 @@ use Rattle.host_port.specs.Outside.{Outside, HostCall}
 use Rattle.machine.specs.Printed.{Booted}
 use Rattle.xinu_base.specs.declared.events.Event.{Event}
 use Rattle.xinu_model.specs.Boot.{Loaded}
-use Rattle.xinu_model.specs.Machine.{Xinu}
 use Rattle.xinu_commands.specs.InputFaults.{have_fault, image_fault, images_loaded}
 use Rattle.xinu_commands.specs.RunVerdict.{Setup, boot_verdict, images_verdict}
 use Rattle.xinu_commands.specs.Stages.{Fetches, IsFetched, RunsImages, Stage, images_left, left_of, no_fetches, refusal_of}
 use Rattle.xinu_commands.specs.Theorem.{Deserved, IsDecided}
 use Rattle.xinu_commands.specs.Verdict.{file_bytes, image_bytes}
-use Rattle.xinu_commands.specs.Work.{Verdict, Refuses, unless_fault}
+use Rattle.xinu_commands.specs.Work.{Left, Refuses, Verdict, unless_fault}
 use Rattle.xinu_commands.specs.declared.refusals.Refusal.{Refusal}
 use Rattle.xinu_commands.specs.declared.refusals.Refusal.TheVariants as refusal
 use Rattle.xinu_commands.proofs.Fetches.{left_next, left_refused, none_left, run_after}
@@ -95,7 +94,7 @@ unfolding have_fault
 no_files = refl
 
 -- what is carried out with the images that files load
-pub files_carry : (setup : Setup) (files : List (List ℕ)) (events : List Event) (images : List Loaded) (outputs : List HostCall) (ended : Option Refusal) (left : Option Xinu) (h k : Outside) → have_fault files ≡ false
+pub files_carry : (setup : Setup) (files : List (List ℕ)) (events : List Event) (images : List Loaded) (outputs : List HostCall) (ended : Option Refusal) (left : Option Left) (h k : Outside) → have_fault files ≡ false
     → images_loaded files ≡ Some images → Stage (boot_verdict setup events images) no_fetches outputs ended left h k → Stage (images_verdict 1 files (boot_verdict setup events)) no_fetches outputs ended left h k
 files_carry setup files events images outputs ended left h k good loaded stage =
     let read = images_read 1 files (boot_verdict setup events) good in
@@ -171,7 +170,7 @@ judged_good n bytes items judged same = sym (ap image_fault same) ∙ fault_none
 -- ---- one image
 
 -- what holds of a refusal holds of a result that is this refusal
-pub of_err : (r : Result Booted Refusal) (cause : Refusal) (P : Option Refusal → Option Xinu → Type 0) → IsErr r
+pub of_err : (r : Result Booted Refusal) (cause : Refusal) (P : Option Refusal → Option Left → Type 0) → IsErr r
     → IsErrAnd r (λ x. x ≡ cause) → P (Some cause) None → P (refusal_of r) (left_of r)
 of_err (Ok m) cause P err is holds = absurd (cc)
 of_err (Err x) cause P err is holds =
@@ -190,7 +189,7 @@ first_and_rest (x ∷ xs) d some =
     ap (λ ys. x ∷ ys) (sym (take_all (length (x ∷ xs) - 1) xs few))
 
 -- After images without a fault the next one is fetched, and then what is left is carried out.
-next_stage : (setup : Setup) (before files : List (List ℕ)) (name : Text) (names : List Text) (events : List Event) (outputs : List HostCall) (ended : Option Refusal) (left : Option Xinu) (h k : Outside)
+next_stage : (setup : Setup) (before files : List (List ℕ)) (name : Text) (names : List Text) (events : List Event) (outputs : List HostCall) (ended : Option Refusal) (left : Option Left) (h k : Outside)
     → have_fault before ≡ false
     → Stage (images_verdict 1 (before ++ files) (boot_verdict setup events)) (λ v. name ∷ images_left (length before + 1) names v) outputs ended left h k
     → Stage (images_verdict 1 (before ++ files) (boot_verdict setup events)) (images_left (length before) (name ∷ names)) outputs ended left h k
@@ -258,7 +257,7 @@ image_unkept setup before name names events outputs items h k good fetched f =
     image_ended setup before name names events outputs items refusal.NoMemory h k good fetched f (λ files. tt) (λ files decided. absurd decided)
 
 -- it was read, and then the images after it
-pub image_then : (setup : Setup) (before after : List (List ℕ)) (name : Text) (names : List Text) (events : List Event) (outputs : List HostCall) (items : List ℕ) (ended : Option Refusal) (left : Option Xinu) (h j k : Outside)
+pub image_then : (setup : Setup) (before after : List (List ℕ)) (name : Text) (names : List Text) (events : List Event) (outputs : List HostCall) (items : List ℕ) (ended : Option Refusal) (left : Option Left) (h j k : Outside)
     → have_fault before ≡ false → after ≡ before ++ items ∷ [] → IsFetched 1048576 (h.file name) items → Fetches name None h j → RunsImages setup after names events outputs ended left j k
     → RunsImages setup before (name ∷ names) events outputs ended left h k
 image_then setup before after name names events outputs items ended left h j k good added fetched f rest =
@@ -288,7 +287,7 @@ image_then setup before after name names events outputs items ended left h j k g
     }
 
 -- no image is left
-pub images_run : (setup : Setup) (before : List (List ℕ)) (events : List Event) (outputs : List HostCall) (ended : Option Refusal) (left : Option Xinu) (h k : Outside)
+pub images_run : (setup : Setup) (before : List (List ℕ)) (events : List Event) (outputs : List HostCall) (ended : Option Refusal) (left : Option Left) (h k : Outside)
     → Stage (images_verdict 1 before (boot_verdict setup events)) no_fetches outputs ended left h k → RunsImages setup before [] events outputs ended left h k
 images_run setup before events outputs ended left h k s =
     let v = images_verdict 1 (before ++ []) (boot_verdict setup events) in record {

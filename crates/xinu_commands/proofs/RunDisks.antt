@@ -10,13 +10,12 @@ use Rattle.host_port.specs.Outside.{Outside, HostCall}
 use Rattle.lfs_check.specs.declared.faults.DiskFault.{DiskFault}
 use Rattle.lfs_layout.specs.Images.{opened}
 use Rattle.xinu_base.specs.declared.events.Event.{Event}
-use Rattle.xinu_model.specs.Machine.{Xinu}
 use Rattle.xinu_commands.specs.Calls.{if_named, run_outputs}
 use Rattle.xinu_commands.specs.DiskVerdict.{disk_fault, rule_broken}
 use Rattle.xinu_commands.specs.RunVerdict.{boot_verdict, disk0_verdict, disk1_verdict, empty_disk0, empty_disk1, images_verdict, raw_broken, raw_fault}
 use Rattle.xinu_commands.specs.Stages.{IsDiskCause, MayBeFetched, MayFetch, RunsEvents, RunsImages, RunsOnRaw, Stage, disk1_left, images_left}
 use Rattle.xinu_commands.specs.Verdict.{disk_bytes, file_bytes, image_bytes}
-use Rattle.xinu_commands.specs.Work.{Verdict, Wanted, Refuses}
+use Rattle.xinu_commands.specs.Work.{Left, Refuses, Verdict, Wanted}
 use Rattle.xinu_commands.specs.declared.refusals.Refusal.{Refusal}
 use Rattle.xinu_commands.specs.declared.refusals.Refusal.TheVariants as refusal
 use Rattle.xinu_commands.proofs.DiskFetched.{disk_fault-long, too_long}
@@ -114,7 +113,7 @@ module _ (r : RunFiles) (wanted : Wanted) (events : List Event) (disk0 : List �
   on_raw disk1 images = disk1_verdict wanted events disk0 disk1 images
 
   -- the disk is fetched first
-  disk1_first : (disk1 : List ℕ) (images : List (List ℕ)) (ended : Option Refusal) (left : Option Xinu) (h k : Outside)
+  disk1_first : (disk1 : List ℕ) (images : List (List ℕ)) (ended : Option Refusal) (left : Option Left) (h k : Outside)
       → Stage (on_raw disk1 images) (λ v. if_named r.disks.disk1 ++ images_left 0 r.images v) (run_outputs r.disks) ended left h k
       → Stage (on_raw disk1 images) (disk1_left r) (run_outputs r.disks) ended left h k
   disk1_first disk1 images ended left h k s =
@@ -133,7 +132,7 @@ module _ (r : RunFiles) (wanted : Wanted) (events : List Event) (disk0 : List �
       }
 
   -- it was fetched, and then what is left was carried out
-  disk1_fetched : (bytes : Option (List ℕ)) (images : ℕ → List ℕ) (ended : Option Refusal) (left : Option Xinu) (h j k : Outside) → MayBeFetched 33557504 r.disks.disk1 h.file bytes → MayFetch r.disks.disk1 None h j
+  disk1_fetched : (bytes : Option (List ℕ)) (images : ℕ → List ℕ) (ended : Option Refusal) (left : Option Left) (h j k : Outside) → MayBeFetched 33557504 r.disks.disk1 h.file bytes → MayFetch r.disks.disk1 None h j
       → Stage (on_raw (unwrap_or bytes empty_disk1) (image_bytes 1 r.images h.file images)) (images_left 0 r.images) (run_outputs r.disks) ended left j k
       → RunsOnRaw r wanted events disk0 ended left h k
   disk1_fetched bytes images ended left h j k fetched f s =
@@ -157,7 +156,7 @@ module _ (r : RunFiles) (wanted : Wanted) (events : List Event) (disk0 : List �
       (λ x fault. clean_refused wanted events all disk0 disk1 x fault) (λ b rule. refl))
 
   -- it is accepted, and the images ran on it
-  pub disk1_good : (bytes : Option (List ℕ)) (image : List ℕ) (ended : Option Refusal) (left : Option Xinu) (h j k : Outside) → MayBeFetched 33557504 r.disks.disk1 h.file bytes → MayFetch r.disks.disk1 None h j
+  pub disk1_good : (bytes : Option (List ℕ)) (image : List ℕ) (ended : Option Refusal) (left : Option Left) (h j k : Outside) → MayBeFetched 33557504 r.disks.disk1 h.file bytes → MayFetch r.disks.disk1 None h j
       → disk_fault (unwrap_or bytes empty_disk1) ≡ None → image ≡ opened (unwrap_or bytes empty_disk1)
       → RunsImages (record { disks = disks_of disk0 image; wanted = wanted }) [] r.images events (run_outputs r.disks) ended left j k → RunsOnRaw r wanted events disk0 ended left h k
   disk1_good bytes image ended left h j k fetched f none is runs =
@@ -190,7 +189,7 @@ module _ (r : RunFiles) (wanted : Wanted) (events : List Event) where
       }
 
   -- it was fetched, and then what is left was carried out
-  disk0_fetched : (bytes : Option (List ℕ)) (unseen : List ℕ) (images : ℕ → List ℕ) (ended : Option Refusal) (left : Option Xinu) (h j k : Outside) → MayBeFetched 33557504 r.disks.disk0 h.file bytes → MayFetch r.disks.disk0 None h j
+  disk0_fetched : (bytes : Option (List ℕ)) (unseen : List ℕ) (images : ℕ → List ℕ) (ended : Option Refusal) (left : Option Left) (h j k : Outside) → MayBeFetched 33557504 r.disks.disk0 h.file bytes → MayFetch r.disks.disk0 None h j
       → Stage (on_events (unwrap_or bytes empty_disk0) (disk_bytes r.disks.disk1 empty_disk1 h.file unseen) (image_bytes 1 r.images h.file images)) (disk1_left r) (run_outputs r.disks) ended left j k
       → RunsEvents r wanted events ended left h k
   disk0_fetched bytes unseen images ended left h j k fetched f s =
@@ -217,7 +216,7 @@ module _ (r : RunFiles) (wanted : Wanted) (events : List Event) where
       (λ x fault. raw_refused wanted events all disk0 disk1 x fault) (λ b rule. refl))
 
   -- it is accepted, and what is left ran on it
-  pub disk0_good : (bytes : Option (List ℕ)) (image : List ℕ) (ended : Option Refusal) (left : Option Xinu) (h j k : Outside) → MayBeFetched 33557504 r.disks.disk0 h.file bytes → MayFetch r.disks.disk0 None h j
+  pub disk0_good : (bytes : Option (List ℕ)) (image : List ℕ) (ended : Option Refusal) (left : Option Left) (h j k : Outside) → MayBeFetched 33557504 r.disks.disk0 h.file bytes → MayFetch r.disks.disk0 None h j
       → raw_fault (unwrap_or bytes empty_disk0) ≡ None → image ≡ unwrap_or bytes empty_disk0
       → RunsOnRaw r wanted events image ended left j k → RunsEvents r wanted events ended left h k
   disk0_good bytes image ended left h j k fetched f none is runs =

@@ -22,7 +22,7 @@ use Rattle.xinu_commands.specs.Conversions.{boot_refusal, host_refusal}
 use Rattle.xinu_commands.specs.RunVerdict.{Setup, boot_verdict}
 use Rattle.xinu_commands.specs.Stages.{SendsDisks, SendsOutput, Stage, disks_output, no_fetches, output_on}
 use Rattle.xinu_commands.specs.Transcripts.{SendsTranscript}
-use Rattle.xinu_commands.specs.Work.{Output, RunOutput, Verdict, Wanted, Does, Runs, output_of, transcript}
+use Rattle.xinu_commands.specs.Work.{Does, Left, Output, RunOutput, Runs, Verdict, Wanted, output_of, transcript}
 use Rattle.xinu_commands.specs.declared.refusals.Refusal.{Refusal}
 use Rattle.xinu_commands.specs.declared.refusals.Refusal.TheVariants as refusal
 use Rattle.xinu_commands.proofs.Called.{keeps_refl}
@@ -73,7 +73,7 @@ transcript_ended d plain v start events new r h k is t =
     (first_sent (text_of_run text) (disks_of_run wanted t.last None) [] (run_outputs d) (run_apart text wanted t.last None) r h k t.sends)
 
 -- A transcript that was sent whole is followed by the disks, up to where the host refused something.
-pub disks_ended : (d : DiskFiles) (plain : Bool) (v : Verdict) (start : Xinu) (events : List Event) (new : Xinu) (ended : Option Refusal) (left : Option Xinu) (h j k : Outside)
+pub disks_ended : (d : DiskFiles) (plain : Bool) (v : Verdict) (start : Xinu) (events : List Event) (new : Xinu) (ended : Option Refusal) (left : Option Left) (h j k : Outside)
     → v ≡ Does (Runs (record { plain = plain; out0 = is_some d.out0; out1 = is_some d.out1 }) start events) → SendsTranscript plain start events new None h j
     → SendsDisks d new ended j k → (ended ≡ None → left ≡ Some new) → (IsSome ended → left ≡ None) → Stage v no_fetches (run_outputs d) ended left h k
 disks_ended d plain v start events new ended left h j k is t s leaves refused =

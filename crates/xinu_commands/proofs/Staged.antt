@@ -10,14 +10,13 @@ use Rattle.lfs_check.specs.Faults.{Refuses as RefusesBy, report}
 use Rattle.lfs_check.specs.declared.faults.CheckFault.{CheckFault}
 use Rattle.lfs_check.specs.declared.faults.CheckFault.TheVariants as check
 use Rattle.lfs_check.specs.declared.faults.DiskFault.{DiskFault}
-use Rattle.xinu_model.specs.Machine.{Xinu}
 use Rattle.xinu_commands.specs.Calls.{action_fetches, action_outputs, due_by, if_named, source_fetches, unless_refused}
 use Rattle.xinu_commands.specs.Conversions.{check_refusal}
 use Rattle.xinu_commands.specs.DiskVerdict.{check_verdict, disk_fault, disk_with, file_lines, file_on, get_verdict, ls_verdict, mkfs_verdict, put_verdict, repair_line, repair_verdict, report_line, rule_broken, set_verdict, size_fault, with_disk}
 use Rattle.xinu_commands.specs.Stages.{Fetches, IsFetched, IsHostCause, MayFetch, Performs, SendsOutput, SetsFile, Stage, no_fetches, refusal_of}
 use Rattle.xinu_commands.specs.Theorem.{Deserved, HasCalled, IsDecided}
 use Rattle.xinu_commands.specs.Verdict.{Input, ScheduleInput, Disk0Input, Disk1Input, ImageInput, DiskInput, SourceInput, action_verdict, file_bytes}
-use Rattle.xinu_commands.specs.Work.{Begins, Output, Work, Verdict, Writes, Refuses, Does, Outputs, if_some, output_of}
+use Rattle.xinu_commands.specs.Work.{Begins, Does, Left, Output, Outputs, Refuses, Verdict, Work, Writes, if_some, output_of}
 use Rattle.xinu_commands.specs.declared.refusals.Refusal.{Refusal}
 use Rattle.xinu_commands.specs.declared.refusals.Refusal.TheVariants as refusal
 use Rattle.xinu_commands.proofs.Called.{called_first, fetched_then, keeps_both, keeps_refl, nothing_called, undecided}
@@ -44,7 +43,7 @@ work_deserved work (Some refusal.NoMemory) h k cause = tt
 work_deserved work (Some other) h k cause = absurd cause
 
 -- an output of the work that was sent carries it out
-pub work_stage : (v : Verdict) (work : Work) (output : Output) (outputs : List HostCall) (ended : Option Refusal) (left : Option Xinu) (h k : Outside) → v ≡ Does work
+pub work_stage : (v : Verdict) (work : Work) (output : Output) (outputs : List HostCall) (ended : Option Refusal) (left : Option Left) (h k : Outside) → v ≡ Does work
     → Begins work output → (ended ≡ None → Writes work output left) → (IsSome ended → left ≡ None) → SendsOutput output outputs ended h k
     → Stage v no_fetches outputs ended left h k
 work_stage v work output outputs ended left h k is begins writes refused sends =
@@ -115,7 +114,7 @@ unfetched_stage v name fetches outputs r h k usage f = record {
 }
 
 -- it was fetched, and then what is left was carried out
-pub fetched_stage : (v : Verdict) (name : Text) (fetches : Verdict → List Text) (outputs : List HostCall) (ended : Option Refusal) (left : Option Xinu) (h j k : Outside)
+pub fetched_stage : (v : Verdict) (name : Text) (fetches : Verdict → List Text) (outputs : List HostCall) (ended : Option Refusal) (left : Option Left) (h j k : Outside)
     → Fetches name None h j → Stage v fetches outputs ended left j k → Stage v (λ x. name ∷ fetches x) outputs ended left h k
 fetched_stage v name fetches outputs ended left h j k f s = record {
   carries = carries_within v ended left h j k k f.unsent f.keeps.later (unsent_refl k) (omega arith) s.carries;
@@ -124,7 +123,7 @@ fetched_stage v name fetches outputs ended left h j k f s = record {
 }
 
 -- if a file is named it was fetched, and then what is left was carried out
-pub may_fetched_stage : (v : Verdict) (name : Option Text) (fetches : Verdict → List Text) (outputs : List HostCall) (ended : Option Refusal) (left : Option Xinu) (h j k : Outside)
+pub may_fetched_stage : (v : Verdict) (name : Option Text) (fetches : Verdict → List Text) (outputs : List HostCall) (ended : Option Refusal) (left : Option Left) (h j k : Outside)
     → MayFetch name None h j → Stage v fetches outputs ended left j k → Stage v (λ x. if_named name ++ fetches x) outputs ended left h k
 may_fetched_stage v None fetches outputs ended left h j k f s =
     let P : Outside → Type 0 = λ x. Stage v fetches outputs ended left x k in subst P f.1 s
@@ -137,13 +136,13 @@ may_unfetched_stage v None fetches outputs r h k usage f = (let none = f.0 in ab
 may_unfetched_stage v (Some name) fetches outputs r h k usage f = unfetched_stage v name fetches outputs r h k usage f
 
 -- the same verdict in another form
-pub stage_as : (v w : Verdict) (fetches : Verdict → List Text) (outputs : List HostCall) (ended : Option Refusal) (left : Option Xinu) (h k : Outside) → v ≡ w
+pub stage_as : (v w : Verdict) (fetches : Verdict → List Text) (outputs : List HostCall) (ended : Option Refusal) (left : Option Left) (h k : Outside) → v ≡ w
     → Stage w fetches outputs ended left h k → Stage v fetches outputs ended left h k
 stage_as v w fetches outputs ended left h k is s =
     let P : Verdict → Type 0 = λ x. Stage x fetches outputs ended left h k in subst P (sym is) s
 
 -- the same files in another form
-pub stage_due : (v : Verdict) (fetches others : Verdict → List Text) (outputs : List HostCall) (ended : Option Refusal) (left : Option Xinu) (h k : Outside) → others v ≡ fetches v
+pub stage_due : (v : Verdict) (fetches others : Verdict → List Text) (outputs : List HostCall) (ended : Option Refusal) (left : Option Left) (h k : Outside) → others v ≡ fetches v
     → Stage v fetches outputs ended left h k → Stage v others outputs ended left h k
 stage_due v fetches others outputs ended left h k same s =
     let P : List Text → Type 0 = λ files. HasCalled (record { fetches = files; outputs = unless_refused v outputs }) ended h k in

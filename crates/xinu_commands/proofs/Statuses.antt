@@ -24,7 +24,7 @@ use Rattle.xinu_commands.specs.Theorem.{Answers, Carries, IsDecided, IsStatus}
 use Rattle.xinu_commands.specs.Refusals.{status_of}
 use Rattle.xinu_commands.specs.RunVerdict.{Setup, run_verdict, boot_verdict, disk0_verdict, disk1_verdict, empty_disk0, empty_disk1, raw_broken, raw_fault, start_verdict, images_verdict}
 use Rattle.xinu_commands.specs.Verdict.{Input, ScheduleInput, Disk0Input, Disk1Input, ImageInput, SourceInput, disk_bytes, file_bytes, image_bytes, verdict, wanted_of}
-use Rattle.xinu_commands.specs.Work.{Output, Verdict, Wanted, Refuses, Does}
+use Rattle.xinu_commands.specs.Work.{Does, Left, Output, Refuses, Verdict, Wanted}
 use Rattle.xinu_commands.specs.declared.refusals.Refusal.{Refusal}
 use Rattle.xinu_commands.specs.declared.refusals.Refusal.TheVariants as refusal
 use Rattle.xinu_commands.proofs.Answered.{done_status}
@@ -54,12 +54,12 @@ cause_listed (refusal.Asm l f) = refl
 cause_listed refusal.NoSuchFile = refl
 cause_listed refusal.DoesNotFit = refl
 
-listed_by : (v : Verdict) (ended : Option Refusal) (left : Option Xinu) (exit : ℕ) (h k : Outside) (c : Carries v ended left h k) → IsStatus ended c.output exit → exit ≢ 7 → IsListed exit
+listed_by : (v : Verdict) (ended : Option Refusal) (left : Option Left) (exit : ℕ) (h k : Outside) (c : Carries v ended left h k) → IsStatus ended c.output exit → exit ≢ 7 → IsListed exit
 listed_by v None left exit h k c status memory =
     let zero : exit ≡ 0 = status ∙ sym (done_status v left h k c) in rw zero refl
 listed_by v (Some cause) left exit h k c status memory = subst IsListed (sym (status memory)) (cause_listed cause)
 
-pub listed : (exit : ℕ) (command : Option Command) (old new : Outside) (left : Option Xinu) → Answers exit command old new left → IsTrue (list_any (λ n. exit == n) statuses)
+pub listed : (exit : ℕ) (command : Option Command) (old new : Outside) (left : Option Left) → Answers exit command old new left → IsTrue (list_any (λ n. exit == n) statuses)
 listed exit command old new left a =
     elim (cases_eq exit 7) [
       | inl seven ↦ rw seven refl
@@ -68,11 +68,11 @@ listed exit command old new left a =
 
 -- ---- the status is the verdict's
 
-done_due : (v : Verdict) → (left : Option Xinu) (h k : Outside) (c : Carries v None left h k) → 0 ≡ status_due v
+done_due : (v : Verdict) → (left : Option Left) (h k : Outside) (c : Carries v None left h k) → 0 ≡ status_due v
 done_due (Refuses cause) left h k c = (let work = c.deserved.1 in cc)
 done_due (Does work) left h k c = refl
 
-carried_due : (v : Verdict) (ended : Option Refusal) (left : Option Xinu) (exit : ℕ) (h k : Outside) (c : Carries v ended left h k)
+carried_due : (v : Verdict) (ended : Option Refusal) (left : Option Left) (exit : ℕ) (h k : Outside) (c : Carries v ended left h k)
     → IsStatus ended c.output exit → exit ≢ 7 → exit ≢ 3 → exit ≡ status_due v
 carried_due v None left exit h k c status memory fault =
     status ∙ sym (done_status v left h k c) ∙ done_due v left h k c
@@ -80,7 +80,7 @@ carried_due v (Some refusal.HostFault) left exit h k c status memory fault = abs
 carried_due v (Some refusal.NoMemory) left exit h k c status memory fault = absurd (memory (status memory))
 carried_due v (Some other) left exit h k c status memory fault = status memory ∙ sym (ap status_due c.deserved)
 
-pub due : (exit : ℕ) (command : Option Command) (old new : Outside) (left : Option Xinu) (a : Answers exit command old new left)
+pub due : (exit : ℕ) (command : Option Command) (old new : Outside) (left : Option Left) (a : Answers exit command old new left)
     → exit ≢ 7 → exit ≢ 3 → exit ≡ status_due (verdict command old.file a.obeys.unseen)
 due exit command old new left a = carried_due (verdict command old.file a.obeys.unseen) a.ended left exit old new a.obeys.carries a.status
 
@@ -92,7 +92,7 @@ decided_by (Some refusal.NoMemory) output exit status memory fault = absurd (mem
 decided_by (Some other) output exit status memory fault = tt
 
 -- with such a status all calls that are due were made
-pub called_due : (exit : ℕ) (command : Option Command) (old new : Outside) (left : Option Xinu) (a : Answers exit command old new left)
+pub called_due : (exit : ℕ) (command : Option Command) (old new : Outside) (left : Option Left) (a : Answers exit command old new left)
     → exit ≢ 7 → exit ≢ 3 → new.calls ≡ grown old.calls (calls_in (calls_due command (verdict command old.file a.obeys.unseen)))
 called_due exit command old new left a memory fault = a.calls.all (decided_by a.ended a.obeys.carries.output exit a.status memory fault)
 
@@ -110,7 +110,7 @@ usage_alone (Refuses cause) other is = cc
 usage_alone (Does work) other is = cc
 
 -- A command that is no command ends with status 2 or 7.
-refused_usage : (ended : Option Refusal) (left : Option Xinu) (exit : ℕ) (h k : Outside) (c : Carries (Refuses refusal.Usage) ended left h k)
+refused_usage : (ended : Option Refusal) (left : Option Left) (exit : ℕ) (h k : Outside) (c : Carries (Refuses refusal.Usage) ended left h k)
     → IsStatus ended c.output exit → exit ≢ 7 → exit ≡ 2
 refused_usage None left exit h k c status memory = (let work = c.deserved.1 in cc)
 refused_usage (Some refusal.Usage) left exit h k c status memory = status memory
@@ -118,7 +118,7 @@ refused_usage (Some refusal.HostFault) left exit h k c status memory = absurd (c
 refused_usage (Some refusal.NoMemory) left exit h k c status memory = absurd (memory (status memory))
 refused_usage (Some other) left exit h k c status memory = (let same = c.deserved in cc)
 
-pub usage : (exit : ℕ) (command : Option Command) (old new : Outside) (left : Option Xinu) → Answers exit command old new left → exit ≢ 7
+pub usage : (exit : ℕ) (command : Option Command) (old new : Outside) (left : Option Left) → Answers exit command old new left → exit ≢ 7
     → exit ≡ 2 ↔ (command ≡ None)
 usage exit None old new left a memory =
     (λ is. refl, λ none. refused_usage a.ended left exit old new a.obeys.carries a.status memory)
@@ -130,13 +130,13 @@ usage exit (Some c) old new left a memory = (
 
 -- ---- host faults
 
-carried_fault : (v : Verdict) (ended : Option Refusal) (left : Option Xinu) (exit : ℕ) (h k : Outside) (c : Carries v ended left h k)
+carried_fault : (v : Verdict) (ended : Option Refusal) (left : Option Left) (exit : ℕ) (h k : Outside) (c : Carries v ended left h k)
     → IsStatus ended c.output exit → exit ≡ 3 → (v ≢ Refuses refusal.Usage) × Rose h.faults k.faults
 carried_fault v None left exit h k c status three = (let zero = status ∙ sym (done_status v left h k c) in absurd (cc))
 carried_fault v (Some refusal.HostFault) left exit h k c status three = c.deserved
 carried_fault v (Some other) left exit h k c status three = (let is = status (λ seven. cc) in absurd (cc))
 
-pub faults_counted : (exit : ℕ) (command : Option Command) (old new : Outside) (left : Option Xinu) → Answers exit command old new left
+pub faults_counted : (exit : ℕ) (command : Option Command) (old new : Outside) (left : Option Left) → Answers exit command old new left
     → exit ≡ 3 → IsSome command × Rose old.faults new.faults
 faults_counted exit None old new left a three =
     absurd ((carried_fault (Refuses refusal.Usage) a.ended left exit old new a.obeys.carries a.status three).0 refl)
@@ -269,7 +269,7 @@ module _ (exit : ℕ) (s disk0 disk1 : List ℕ) (files : List (List ℕ)) where
       says_by_disk0 wanted read.0 (raw_fault disk0) good refl
       (is ∙ ap status_due (schedule_read wanted s read.0 disk0 disk1 files (record { good = good; reads = read.1 })))
 
-pub says_of_files : (exit : ℕ) (files : RunFiles) (old new : Outside) (left : Option Xinu) (a : Answers exit (Some (Run files)) old new left) → exit ≢ 7 → exit ≢ 3
+pub says_of_files : (exit : ℕ) (files : RunFiles) (old new : Outside) (left : Option Left) (a : Answers exit (Some (Run files)) old new left) → exit ≢ 7 → exit ≢ 3
     → SaysOfFiles exit (file_bytes (old.file files.schedule) (a.obeys.unseen ScheduleInput)) (disk_bytes files.disks.disk0 empty_disk0 old.file (a.obeys.unseen Disk0Input))
     (disk_bytes files.disks.disk1 empty_disk1 old.file (a.obeys.unseen Disk1Input)) (image_bytes 1 files.images old.file (λ i. a.obeys.unseen (ImageInput i)))
 says_of_files exit files old new left a memory fault =

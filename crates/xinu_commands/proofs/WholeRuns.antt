@@ -5,13 +5,12 @@ use Rattle.command_line.specs.Reading.{Text}
 use Rattle.command_line.specs.RunArgs.{RunFiles}
 use Rattle.host_port.specs.Outside.{Outside}
 use Rattle.xinu_base.specs.declared.events.Event.{Event}
-use Rattle.xinu_model.specs.Machine.{Xinu}
 use Rattle.xinu_commands.specs.Calls.{calls_due, run_outputs, unless_refused}
 use Rattle.xinu_commands.specs.RunVerdict.{disk0_verdict, empty_disk0, empty_disk1, run_verdict}
 use Rattle.xinu_commands.specs.Stages.{HoldsFault, HoldsSchedule, IsScheduleCause, KeepsFiles, Performs, RunsEvents, disk0_left, fetch_due}
 use Rattle.xinu_commands.specs.Theorem.{Carries, HasCalled, IsDecided, IsUnsent}
 use Rattle.xinu_commands.specs.Verdict.{Input, ScheduleInput, Disk0Input, Disk1Input, ImageInput, DiskInput, SourceInput, disk_bytes, file_bytes, image_bytes, wanted_of}
-use Rattle.xinu_commands.specs.Work.{Verdict}
+use Rattle.xinu_commands.specs.Work.{Left, Verdict}
 use Rattle.xinu_commands.specs.declared.refusals.Refusal.{Refusal}
 use Rattle.xinu_commands.specs.declared.refusals.Refusal.TheVariants as refusal
 use Rattle.xinu_commands.proofs.Called.{called_first, fetched_then, keeps_both}
@@ -90,7 +89,7 @@ schedule_refuses r cause h k is unsent calls keeps =
     }
 
 -- the schedule was read, and then the disks and the images
-pub run_performs : (r : RunFiles) (events : List Event) (ended : Option Refusal) (left : Option Xinu) (h j k : Outside) → HoldsSchedule (h.file r.schedule) events
+pub run_performs : (r : RunFiles) (events : List Event) (ended : Option Refusal) (left : Option Left) (h j k : Outside) → HoldsSchedule (h.file r.schedule) events
     → IsUnsent h j → HasCalled (fetch_due r.schedule) None h j → KeepsFiles h j → RunsEvents r (wanted_of r) events ended left j k
     → Performs (Some (Run r)) ended left h k
 run_performs r events ended left h j k holds unsent calls keeps runs =

@@ -16,14 +16,13 @@ use Rattle.host_port.specs.declared.host.Channel.TheVariants.{Out, Fault, Disk0,
 use Rattle.lfs_check.specs.declared.faults.DiskFault.{DiskFault}
 use Rattle.lfs_layout.specs.Files.{files_of, is_text, listing}
 use Rattle.xinu_base.specs.declared.events.Event.{Event}
-use Rattle.xinu_model.specs.Machine.{Xinu}
 use Rattle.xinu_commands.specs.Calls.{Due, calls_due, due_by, if_named, run_outputs, source_fetches}
 use Rattle.xinu_commands.specs.DiskVerdict.{file_line, put_verdict}
 use Rattle.xinu_commands.specs.InputFaults.{ReadsAs, schedule_fault}
 use Rattle.xinu_commands.specs.RunVerdict.{Setup, boot_verdict, disk0_verdict, disk1_verdict, empty_disk0, empty_disk1, images_verdict}
 use Rattle.xinu_commands.specs.Theorem.{Carries, HasCalled, IsPartSent, IsSent, IsUnsent, Obeys}
 use Rattle.xinu_commands.specs.Verdict.{disk_bytes, file_bytes, image_bytes, verdict}
-use Rattle.xinu_commands.specs.Work.{Output, Verdict, Wanted, Refuses, output_of}
+use Rattle.xinu_commands.specs.Work.{Left, Output, Refuses, Verdict, Wanted, output_of}
 use Rattle.xinu_commands.specs.declared.refusals.Refusal.{Refusal}
 use Rattle.xinu_commands.specs.declared.refusals.Refusal.TheVariants as refusal
 
@@ -55,14 +54,18 @@ abbrev pub refusal_of : {T : Type 0} → Result T Refusal → Option Refusal
 refusal_of (Ok x) = None
 refusal_of (Err cause) = Some cause
 
--- the state of the machine that was left
-abbrev pub left_of : Result Booted Refusal → Option Xinu
-left_of (Ok m) = Some m.state
+-- what a machine has of a run when it is left
+abbrev pub left_by : Booted → Left
+left_by m = record { state = m.state; disk1 = m.image }
+
+-- what a machine that was left has, if there is one
+abbrev pub left_of : Result Booted Refusal → Option Left
+left_of (Ok m) = Some (left_by m)
 left_of (Err cause) = None
 
 -- the same, if there may be no machine
-abbrev pub last_of : Result (Option Booted) Refusal → Option Xinu
-last_of (Ok m) = option_map (λ b. b.state) m
+abbrev pub last_of : Result (Option Booted) Refusal → Option Left
+last_of (Ok m) = option_map left_by m
 last_of (Err cause) = None
 
 -- ---- the stages of `asm` and of an action on a disk
@@ -128,15 +131,14 @@ pub record SendsOutput (output : Output) (outputs : List HostCall) (ended : Opti
   pub calls : HasCalled (outputs_due outputs) ended old new
   pub keeps : KeepsFiles old new
 
--- The disks of a state were written, each if a file is named for it. That with files holds the files of the state.
-pub record SendsDisks (d : DiskFiles) (s : Xinu) (ended : Option Refusal) (old new : Outside) : Type 0 where
-  pub disk1 : List ℕ
-  pub held : HoldsFiles disk1 s.parts.devices.files
-  pub sends : SendsOutput (disks_output (if is_some d.out0 then Some (raw_bytes s) else None) (if is_some d.out1 then Some disk1 else None)) (run_outputs d) ended old new
+-- The disks of a machine were written, each if a file is named for it. That with files holds the files of the state.
+pub record SendsDisks (d : DiskFiles) (m : Left) (ended : Option Refusal) (old new : Outside) : Type 0 where
+  pub held : HoldsFiles m.disk1 m.state.parts.devices.files
+  pub sends : SendsOutput (disks_output (if is_some d.out0 then Some (raw_bytes m.state) else None) (if is_some d.out1 then Some m.disk1 else None)) (run_outputs d) ended old new
 
 -- What is left of a command with this verdict was carried out: these files were fetched, as far as the verdict lets them be, and these
 -- written.
-pub record Stage (v : Verdict) (fetches : Verdict → List Text) (outputs : List HostCall) (ended : Option Refusal) (left : Option Xinu) (old new : Outside) : Type 0 where
+pub record Stage (v : Verdict) (fetches : Verdict → List Text) (outputs : List HostCall) (ended : Option Refusal) (left : Option Left) (old new : Outside) : Type 0 where
   pub carries : Carries v ended left old new
   pub calls : HasCalled (due_by fetches outputs v) ended old new
   pub keeps : KeepsFiles old new
@@ -181,18 +183,18 @@ disk0_left r v = if_named r.disks.disk0 ++ disk1_left r v
 
 -- After these image files, those of these names were fetched and read in order, and then all images ran through the events, for some bytes
 -- of the files that can't be observed. These files were written.
-pub record RunsImages (setup : Setup) (before : List (List ℕ)) (names : List Text) (events : List Event) (outputs : List HostCall) (ended : Option Refusal) (left : Option Xinu) (old new : Outside) : Type 0 where
+pub record RunsImages (setup : Setup) (before : List (List ℕ)) (names : List Text) (events : List Event) (outputs : List HostCall) (ended : Option Refusal) (left : Option Left) (old new : Outside) : Type 0 where
   pub unseen : ℕ → List ℕ
   pub stage : Stage (images_verdict 1 (before ++ image_bytes (length before + 1) names old.file unseen) (boot_verdict setup events)) (images_left (length before) names) outputs ended left old new
 
 -- On this raw disk, the disk with files was fetched and checked, and then the images ran.
-pub record RunsOnRaw (r : RunFiles) (wanted : Wanted) (events : List Event) (disk0 : List ℕ) (ended : Option Refusal) (left : Option Xinu) (old new : Outside) : Type 0 where
+pub record RunsOnRaw (r : RunFiles) (wanted : Wanted) (events : List Event) (disk0 : List ℕ) (ended : Option Refusal) (left : Option Left) (old new : Outside) : Type 0 where
   pub unseen : List ℕ
   pub images : ℕ → List ℕ
   pub stage : Stage (disk1_verdict wanted events disk0 (disk_bytes r.disks.disk1 empty_disk1 old.file unseen) (image_bytes 1 r.images old.file images)) (disk1_left r) (run_outputs r.disks) ended left old new
 
 -- The raw disk was fetched and checked, and then the images ran on it.
-pub record RunsEvents (r : RunFiles) (wanted : Wanted) (events : List Event) (ended : Option Refusal) (left : Option Xinu) (old new : Outside) : Type 0 where
+pub record RunsEvents (r : RunFiles) (wanted : Wanted) (events : List Event) (ended : Option Refusal) (left : Option Left) (old new : Outside) : Type 0 where
   pub unseen : List ℕ
   pub disk1 : List ℕ
   pub images : ℕ → List ℕ
@@ -204,7 +206,7 @@ pub record SetsFile (disk name source out : List ℕ) (ended : Option Refusal) (
   pub stage : Stage (put_verdict name (file_bytes (old.file source) unseen) disk) (source_fetches source) (naming Disk1 out ∷ []) ended None old new
 
 -- A command was carried out.
-pub record Performs (command : Option Command) (ended : Option Refusal) (left : Option Xinu) (old new : Outside) : Type 0 where
+pub record Performs (command : Option Command) (ended : Option Refusal) (left : Option Left) (old new : Outside) : Type 0 where
   pub obeys : Obeys command ended left old new
   pub calls : HasCalled (calls_due command (verdict command old.file obeys.unseen)) ended old new
   pub keeps : KeepsFiles old new

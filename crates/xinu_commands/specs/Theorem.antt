@@ -3,11 +3,10 @@ use Rattle.std.specs.Prelude.{◌≡◌, ◌≢◌, ◌≤◌, ◌<◌, ◌⊎�
 use Rattle.command_line.specs.Commands.{Command}
 use Rattle.host_port.specs.HostCalls.{Rose}
 use Rattle.host_port.specs.Outside.{Outside, emptied_channel, grown}
-use Rattle.xinu_model.specs.Machine.{Xinu}
 use Rattle.xinu_commands.specs.Calls.{Due, calls_due, calls_in}
 use Rattle.xinu_commands.specs.Refusals.{status_of, text_of}
 use Rattle.xinu_commands.specs.Verdict.{Input, verdict}
-use Rattle.xinu_commands.specs.Work.{Begins, Output, Verdict, Refuses, Does, Work, Writes}
+use Rattle.xinu_commands.specs.Work.{Begins, Does, Left, Output, Refuses, Verdict, Work, Writes}
 use Rattle.xinu_commands.specs.declared.refusals.Refusal.{Refusal}
 use Rattle.xinu_commands.specs.declared.refusals.Refusal.TheVariants as refusal
 
@@ -51,26 +50,26 @@ pub record IsUnsent (old new : Outside) : Type 0 where
   pub image : new.image ≡ old.image
 
 -- Of an output that the work may have a prefix was sent; if the command was done all of the work's output, and what the work leaves is left.
-pub record WorkSends (work : Work) (output : Output) (ended : Option Refusal) (left : Option Xinu) (old new : Outside) : Type 0 where
+pub record WorkSends (work : Work) (output : Output) (ended : Option Refusal) (left : Option Left) (old new : Outside) : Type 0 where
   pub begins : Begins work output
   pub part : IsPartSent output old new
   pub writes : ended ≡ None → Writes work output left
   pub whole : ended ≡ None → IsSent output old new
 
 -- What is sent by the verdict: nothing if it is a refusal.
-abbrev pub Sends : Verdict → Output → Option Refusal → Option Xinu → Outside → Outside → Type 0
+abbrev pub Sends : Verdict → Output → Option Refusal → Option Left → Outside → Outside → Type 0
 Sends (Refuses cause) output ended left old new = IsUnsent old new
 Sends (Does work) output ended left old new = WorkSends work output ended left old new
 
 -- A command with this verdict was carried out, to its end or up to a refusal, which leaves no machine.
-pub record Carries (v : Verdict) (ended : Option Refusal) (left : Option Xinu) (old new : Outside) : Type 0 where
+pub record Carries (v : Verdict) (ended : Option Refusal) (left : Option Left) (old new : Outside) : Type 0 where
   pub output : Output
   pub deserved : Deserved v ended old new
   pub sends : Sends v output ended left old new
   pub refused : IsSome ended → left ≡ None
 
 -- A command was carried out as its verdict says, for some bytes of the files that can't be observed.
-pub record Obeys (command : Option Command) (ended : Option Refusal) (left : Option Xinu) (old new : Outside) : Type 0 where
+pub record Obeys (command : Option Command) (ended : Option Refusal) (left : Option Left) (old new : Outside) : Type 0 where
   pub unseen : Input → List ℕ
   pub carries : Carries (verdict command old.file unseen) ended left old new
 
@@ -106,7 +105,7 @@ pub record HasCalled (due : Due) (ended : Option Refusal) (old new : Outside) : 
 -- The theorem. The command was done, or refused for a cause, as it deserves by the bytes of its files (`obeys`). Its status and its
 -- message say which. It asked the host for the files that are due by its verdict, in order; no file that can be observed changed, and the
 -- count of faults never falls.
-pub record Answers (exit : ℕ) (command : Option Command) (old new : Outside) (left : Option Xinu) : Type 0 where
+pub record Answers (exit : ℕ) (command : Option Command) (old new : Outside) (left : Option Left) : Type 0 where
   pub ended : Option Refusal
   pub obeys : Obeys command ended left old new
   pub status : IsStatus ended obeys.carries.output exit

@@ -36,6 +36,11 @@ pub record Wanted : Type 0 where
   pub out0 : Bool
   pub out1 : Bool
 
+-- What a run leaves: the machine's last state, and the bytes of its disk with files.
+pub record Left : Type 0 where
+  pub state : Xinu
+  pub disk1 : List ℕ
+
 -- The work that is due: a run from this start through these events; or an output, text with a disk or another file.
 pub data Work : Type 0 where
   Runs : (wanted : Wanted) → (start : Xinu) → (events : List Event) → Work
@@ -98,15 +103,14 @@ pub record RunBegins (wanted : Wanted) (start : Xinu) (events : List Event) (o :
   pub disk1 : Option (List ℕ)
   pub output : RunOutput wanted start events o last disk1
 
--- The output is that of a run, with its disk with files, and its last state is left.
-pub record RunWrites (wanted : Wanted) (start : Xinu) (events : List Event) (o : Output) (left : Option Xinu) : Type 0 where
-  pub last : Xinu
-  pub disk1 : List ℕ
-  pub output : RunOutput wanted start events o last (Some disk1)
+-- The output is that of a run. Its last state and its disk with files are left, and it is that disk that is written.
+pub record RunWrites (wanted : Wanted) (start : Xinu) (events : List Event) (o : Output) (left : Option Left) : Type 0 where
+  pub last : Left
+  pub output : RunOutput wanted start events o last.state (Some last.disk1)
   pub leaves : left ≡ Some last
 
 -- The output is exactly this one, and no machine is left.
-pub record OutputWrites (out : List ℕ) (disk1 image : Option (List ℕ)) (output : Output) (left : Option Xinu) : Type 0 where
+pub record OutputWrites (out : List ℕ) (disk1 image : Option (List ℕ)) (output : Output) (left : Option Left) : Type 0 where
   pub written : output ≡ output_of out disk1 image
   pub leaves : left ≡ None
 
@@ -116,6 +120,6 @@ Begins (Runs wanted start events) output = RunBegins wanted start events output
 Begins (Outputs out disk1 image) output = output ≡ output_of out disk1 image
 
 -- What work puts out, and what it leaves.
-abbrev pub Writes : Work → Output → Option Xinu → Type 0
+abbrev pub Writes : Work → Output → Option Left → Type 0
 Writes (Runs wanted start events) output left = RunWrites wanted start events output left
 Writes (Outputs out disk1 image) output left = OutputWrites out disk1 image output left

@@ -14,49 +14,49 @@ ghost use Rattle.host_port.specs.Outside.{Outside, grown};
 ghost use Rattle.image_loader.specs.ImageFiles.{image_in};
 ghost use Rattle.rv_asm.specs.Assembly.{Makes, assembly};
 ghost use Rattle.xinu_model.specs.Boot.{Loaded};
-ghost use Rattle.xinu_model.specs.Machine.{Xinu};
 ghost use Rattle.xinu_commands.specs.AsmVerdict.{written_file};
 ghost use Rattle.xinu_commands.specs.Calls.{calls_due, calls_in};
 ghost use Rattle.xinu_commands.specs.Statuses.{SaysOfDisk, SaysOfFiles, SaysOfSource, status_due, statuses};
 ghost use Rattle.xinu_commands.specs.Theorem.{Answers};
 ghost use Rattle.xinu_commands.specs.RunVerdict.{empty_disk0, empty_disk1};
 ghost use Rattle.xinu_commands.specs.Verdict.{ScheduleInput, Disk0Input, Disk1Input, ImageInput, SourceInput, disk_bytes, file_bytes, image_bytes, verdict};
+ghost use Rattle.xinu_commands.specs.Work.{Left};
 
 /// The exit status is 0, 2, 3, 4, 5, 6, 7, 8, 9, 12 or 13.
 pub fn statuses_are_these()
-    ensures { (exit : ℕ) (command : Option Command) (old new : Outside) (left : Option Xinu) → Answers exit command old new left → IsTrue (list_any (λ n. exit == n) statuses) }
+    ensures { (exit : ℕ) (command : Option Command) (old new : Outside) (left : Option Left) → Answers exit command old new left → IsTrue (list_any (λ n. exit == n) statuses) }
 {}
 
 /// The exit status is exactly that of the verdict, unless the host failed or memory ran out.
 pub fn statuses_are_due()
-    ensures { (exit : ℕ) (command : Option Command) (old new : Outside) (left : Option Xinu) (a : Answers exit command old new left) → exit ≢ 7 → exit ≢ 3 → exit ≡ status_due (verdict command old.file a.obeys.unseen) }
+    ensures { (exit : ℕ) (command : Option Command) (old new : Outside) (left : Option Left) (a : Answers exit command old new left) → exit ≢ 7 → exit ≢ 3 → exit ≡ status_due (verdict command old.file a.obeys.unseen) }
 {}
 
 /// The exit status is 2 if and only if the arguments give no command, unless memory ran out.
 pub fn no_command_is_status_2()
-    ensures { (exit : ℕ) (command : Option Command) (old new : Outside) (left : Option Xinu) → Answers exit command old new left → exit ≢ 7 → exit ≡ 2 ↔ (command ≡ None) }
+    ensures { (exit : ℕ) (command : Option Command) (old new : Outside) (left : Option Left) → Answers exit command old new left → exit ≢ 7 → exit ≡ 2 ↔ (command ≡ None) }
 {}
 
 /// The exit status is 3 only if there was a command and the host's count of faults rose.
 pub fn host_faults_are_counted()
-    ensures { (exit : ℕ) (command : Option Command) (old new : Outside) (left : Option Xinu) → Answers exit command old new left → exit ≡ 3 → IsSome command × Rose old.faults new.faults }
+    ensures { (exit : ℕ) (command : Option Command) (old new : Outside) (left : Option Left) → Answers exit command old new left → exit ≡ 3 → IsSome command × Rose old.faults new.faults }
 {}
 
 /// Exactly the files that are due by the verdict are fetched and named for their channels, in order, unless the host failed or memory ran out.
 pub fn calls_are_due()
-    ensures { (exit : ℕ) (command : Option Command) (old new : Outside) (left : Option Xinu) (a : Answers exit command old new left) → exit ≢ 7 → exit ≢ 3 → new.calls ≡ grown old.calls (calls_in (calls_due command (verdict command old.file a.obeys.unseen))) }
+    ensures { (exit : ℕ) (command : Option Command) (old new : Outside) (left : Option Left) (a : Answers exit command old new left) → exit ≢ 7 → exit ≢ 3 → new.calls ≡ grown old.calls (calls_in (calls_due command (verdict command old.file a.obeys.unseen))) }
 {}
 
 /// The exit status of a run is 5 if and only if the schedule file has a fault; if it has none, 6 if and only if a disk breaks a rule; if none
 /// does, 4 if and only if an image file has a fault; if none has one, 8 if and only if an image overlaps an earlier one or the heap has no room for the stack of one, and else 0: unless the host failed
 /// or memory ran out.
 pub fn statuses_say_of_files()
-    ensures { (exit : ℕ) (files : RunFiles) (old new : Outside) (left : Option Xinu) (a : Answers exit (Some (Run files)) old new left) → exit ≢ 7 → exit ≢ 3 → SaysOfFiles exit (file_bytes (old.file files.schedule) (a.obeys.unseen ScheduleInput)) (disk_bytes files.disks.disk0 empty_disk0 old.file (a.obeys.unseen Disk0Input)) (disk_bytes files.disks.disk1 empty_disk1 old.file (a.obeys.unseen Disk1Input)) (image_bytes 1 files.images old.file (λ i. a.obeys.unseen (ImageInput i))) }
+    ensures { (exit : ℕ) (files : RunFiles) (old new : Outside) (left : Option Left) (a : Answers exit (Some (Run files)) old new left) → exit ≢ 7 → exit ≢ 3 → SaysOfFiles exit (file_bytes (old.file files.schedule) (a.obeys.unseen ScheduleInput)) (disk_bytes files.disks.disk0 empty_disk0 old.file (a.obeys.unseen Disk0Input)) (disk_bytes files.disks.disk1 empty_disk1 old.file (a.obeys.unseen Disk1Input)) (image_bytes 1 files.images old.file (λ i. a.obeys.unseen (ImageInput i))) }
 {}
 
 /// The exit status of `asm` is 9 if and only if the source is too long or has a fault, and else 0: unless the host failed or memory ran out.
 pub fn statuses_say_of_sources()
-    ensures { (exit : ℕ) (files : AsmFiles) (old new : Outside) (left : Option Xinu) (a : Answers exit (Some (Asm files)) old new left) → exit ≢ 7 → exit ≢ 3 → SaysOfSource exit (file_bytes (old.file files.source) (a.obeys.unseen SourceInput)) }
+    ensures { (exit : ℕ) (files : AsmFiles) (old new : Outside) (left : Option Left) (a : Answers exit (Some (Asm files)) old new left) → exit ≢ 7 → exit ≢ 3 → SaysOfSource exit (file_bytes (old.file files.source) (a.obeys.unseen SourceInput)) }
 {}
 
 /// The file that `asm` writes of a text that is assembled loads, and as an image file and as an ELF file it is the same image.
@@ -68,5 +68,5 @@ pub fn written_files_load()
 /// breaks none, 12 if and only if it lacks the file that is asked for, 13 if and only if it has no room for the file that is set, and else 0:
 /// unless the host failed or memory ran out.
 pub fn statuses_say_of_disks()
-    ensures { (exit : ℕ) (action : DiskAction) (old new : Outside) (left : Option Xinu) (a : Answers exit (Some (Disk action)) old new left) → exit ≢ 7 → exit ≢ 3 → SaysOfDisk exit action (λ input name. file_bytes (old.file name) (a.obeys.unseen input)) }
+    ensures { (exit : ℕ) (action : DiskAction) (old new : Outside) (left : Option Left) (a : Answers exit (Some (Disk action)) old new left) → exit ≢ 7 → exit ≢ 3 → SaysOfDisk exit action (λ input name. file_bytes (old.file name) (a.obeys.unseen input)) }
 {}

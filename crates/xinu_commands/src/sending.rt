@@ -8,7 +8,7 @@ ghost use Rattle.lfs_layout.specs.Images.{IsCleanImage};
 ghost use Rattle.xinu_commands.specs.Calls.{if_written};
 ghost use Rattle.xinu_commands.specs.Conversions.{host_refusal};
 ghost use Rattle.xinu_commands.specs.DiskVerdict.{file_lines};
-ghost use Rattle.xinu_commands.specs.Stages.{SendsDisks, SendsOutput, disks_output, line_at, output_on, refusal_of};
+ghost use Rattle.xinu_commands.specs.Stages.{SendsDisks, SendsOutput, disks_output, left_by, line_at, output_on, refusal_of};
 ghost use Rattle.xinu_commands.specs.Work.{output_of};
 
 use crate::disk_lines::file_line;
@@ -54,7 +54,7 @@ pub(crate) fn send_disks<H: Host>(
     disks: DiskFiles<'_>,
     host: &mut H,
 ) -> Result<(), Refusal>
-    ensures sends { SendsDisks (disk_names disks.entry) machine.now.state (refusal_of result) (H.view host.old) (H.view host.new) }
+    ensures sends { SendsDisks (disk_names disks.entry) (left_by machine.now) (refusal_of result) (H.view host.old) (H.view host.new) }
 {
     let disk1 = machine.disk(1);
     send_disk(host, Channel::Disk0, disks.out0, machine.disk(0))?;

@@ -3,6 +3,7 @@
 ghost use Rattle.std.specs.Prelude.{map, option_map};
 ghost use Rattle.std.specs.String.{string_bytes};
 ghost use Rattle.command_line.specs.Commands.{command_of};
+ghost use Rattle.xinu_commands.specs.Stages.{left_by};
 ghost use Rattle.xinu_commands.specs.Theorem.{Answers};
 
 use crate::commands::carry_out;
@@ -20,7 +21,7 @@ use std::alloc::Global;
 /// has no file of the name, and 13 if the file doesn't fit. Each but 0 sends its text on Fault. Afterwards `last` is the machine as the run
 /// left it if a run was done, and else None.
 pub fn xinu<H: Host>(alloc: Global, args: &[String], host: &mut H, last: &mut Option<Machine>) -> u8
-    ensures answers { Answers result (command_of (map string_bytes args.now)) (H.view host.old) (H.view host.new) (option_map (λ m. m.state) last.new) }
+    ensures answers { Answers result (command_of (map string_bytes args.now)) (H.view host.old) (H.view host.new) (option_map left_by last.new) }
 {
     *last = None;
     match carry_out(alloc, args, host) {
