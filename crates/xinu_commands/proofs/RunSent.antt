@@ -73,22 +73,23 @@ transcript_ended d plain v start events new r h k is t =
     (first_sent (text_of_run text) (disks_of_run wanted t.last None) [] (run_outputs d) (run_apart text wanted t.last None) r h k t.sends)
 
 -- A transcript that was sent whole is followed by the disks, up to where the host refused something.
-pub disks_ended : (d : DiskFiles) (plain : Bool) (v : Verdict) (start : Xinu) (events : List Event) (new : Xinu) (ended : Option Refusal) (left : Option Left) (h j k : Outside)
-    → v ≡ Does (Runs (record { plain = plain; out0 = is_some d.out0; out1 = is_some d.out1 }) start events) → SendsTranscript plain start events new None h j
-    → SendsDisks d new ended j k → (ended ≡ None → left ≡ Some new) → (IsSome ended → left ≡ None) → Stage v no_fetches (run_outputs d) ended left h k
-disks_ended d plain v start events new ended left h j k is t s leaves refused =
+pub disks_ended : (d : DiskFiles) (plain : Bool) (v : Verdict) (start : Xinu) (events : List Event) (m : Left) (ended : Option Refusal) (left : Option Left) (h j k : Outside)
+    → v ≡ Does (Runs (record { plain = plain; out0 = is_some d.out0; out1 = is_some d.out1 }) start events) → SendsTranscript plain start events m.state None h j
+    → SendsDisks d m ended j k → (ended ≡ None → left ≡ Some m) → (IsSome ended → left ≡ None) → Stage v no_fetches (run_outputs d) ended left h k
+disks_ended d plain v start events m ended left h j k is t s leaves refused =
+    let new = m.state in
     let wanted : Wanted = record { plain = plain; out0 = is_some d.out0; out1 = is_some d.out1 } in
     let same : t.last ≡ new = t.whole refl in
     let text = shown plain (transcript start t.lines new t.end) in
-    let output = joined (text_of_run text) (disks_of_run wanted new (Some s.disk1)) in
+    let output = joined (text_of_run text) (disks_of_run wanted new (Some m.disk1)) in
     let P : Xinu → Type 0 = λ x. SendsOutput (text_of_run (shown plain (transcript start t.lines x t.end))) [] None h j in
-    let Q : Xinu → Type 0 = λ x. RunOutput wanted start events (joined (text_of_run (shown plain (transcript start t.lines x t.end))) (disks_of_run wanted x (Some s.disk1))) x (Some s.disk1) in
-    let R : Xinu → Type 0 = λ x. HoldsFiles s.disk1 x.parts.devices.files in
-    let run : RunOutput wanted start events output new (Some s.disk1) =
+    let Q : Xinu → Type 0 = λ x. RunOutput wanted start events (joined (text_of_run (shown plain (transcript start t.lines x t.end))) (disks_of_run wanted x (Some m.disk1))) x (Some m.disk1) in
+    let R : Xinu → Type 0 = λ x. HoldsFiles m.disk1 x.parts.devices.files in
+    let run : RunOutput wanted start events output new (Some m.disk1) =
     subst Q same (record { lines = t.lines; end = t.end; runs = t.runs; held = subst R (sym same) s.held; written = refl }) in
     work_stage v (Runs wanted start events) output (run_outputs d) ended left h k is
-    (record { last = new; disk1 = Some s.disk1; output = run }) (λ none. record { last = new; disk1 = s.disk1; output = run; leaves = leaves none }) refused
-    (both_sent (text_of_run text) (disks_of_run wanted new (Some s.disk1)) [] (run_outputs d) (run_apart text wanted new (Some s.disk1)) ended h j k (subst P same t.sends) s.sends)
+    (record { last = new; disk1 = Some m.disk1; output = run }) (λ none. record { last = m; output = run; leaves = leaves none }) refused
+    (both_sent (text_of_run text) (disks_of_run wanted new (Some m.disk1)) [] (run_outputs d) (run_apart text wanted new (Some m.disk1)) ended h j k (subst P same t.sends) s.sends)
 
 -- ---- a machine that doesn't start
 
@@ -127,27 +128,29 @@ both_are (Some c) None disk0 disk1 = refl
 both_are (Some c) (Some d) disk0 disk1 = refl
 
 -- The raw disk wasn't sent whole.
-pub raw_disk_sent : (d : DiskFiles) (s : Xinu) (disk0 disk1 : List ℕ) (r : Refusal) (h k : Outside) → disk0 ≡ raw_bytes s → HoldsFiles disk1 s.parts.devices.files
-    → SendsOutput (one_disk Disk0 d.out0 disk0) (if_written Disk0 d.out0) (Some r) h k → SendsDisks d s (Some r) h k
-raw_disk_sent d s disk0 disk1 r h k is held sends =
+pub raw_disk_sent : (d : DiskFiles) (m : Left) (disk0 disk1 : List ℕ) (r : Refusal) (h k : Outside) → disk0 ≡ raw_bytes m.state → disk1 ≡ m.disk1
+    → HoldsFiles m.disk1 m.state.parts.devices.files
+    → SendsOutput (one_disk Disk0 d.out0 disk0) (if_written Disk0 d.out0) (Some r) h k → SendsDisks d m (Some r) h k
+raw_disk_sent d m disk0 disk1 r h k is own held sends =
     let P : Output → Type 0 = λ o. SendsOutput o (run_outputs d) (Some r) h k in
-    let Q : List ℕ → Type 0 = λ b. SendsOutput (disks_output (if is_some d.out0 then Some b else None) (if is_some d.out1 then Some disk1 else None)) (run_outputs d) (Some r) h k in record {
-      disk1 = disk1;
+    let Q : List ℕ → Type 0 = λ b. SendsOutput (disks_output (if is_some d.out0 then Some b else None) (if is_some d.out1 then Some disk1 else None)) (run_outputs d) (Some r) h k in
+    let R : List ℕ → Type 0 = λ b. SendsOutput (disks_output (if is_some d.out0 then Some (raw_bytes m.state) else None) (if is_some d.out1 then Some b else None)) (run_outputs d) (Some r) h k in record {
       held = held;
-      sends = subst Q is (subst P (both_are d.out0 d.out1 disk0 disk1)
-          (first_sent (one_disk Disk0 d.out0 disk0) (one_disk Disk1 d.out1 disk1) (if_written Disk0 d.out0) (if_written Disk1 d.out1) (raw_apart d.out0 d.out1 disk0 disk1) r h k sends));
+      sends = subst R own (subst Q is (subst P (both_are d.out0 d.out1 disk0 disk1)
+          (first_sent (one_disk Disk0 d.out0 disk0) (one_disk Disk1 d.out1 disk1) (if_written Disk0 d.out0) (if_written Disk1 d.out1) (raw_apart d.out0 d.out1 disk0 disk1) r h k sends)));
     }
 
 -- The raw disk was sent, and then the disk with files up to where the host refused something.
-pub both_disks_sent : (d : DiskFiles) (s : Xinu) (disk0 disk1 : List ℕ) (ended : Option Refusal) (h j k : Outside) → disk0 ≡ raw_bytes s → HoldsFiles disk1 s.parts.devices.files
-    → SendsOutput (one_disk Disk0 d.out0 disk0) (if_written Disk0 d.out0) None h j → SendsOutput (one_disk Disk1 d.out1 disk1) (if_written Disk1 d.out1) ended j k → SendsDisks d s ended h k
-both_disks_sent d s disk0 disk1 ended h j k is held first second =
+pub both_disks_sent : (d : DiskFiles) (m : Left) (disk0 disk1 : List ℕ) (ended : Option Refusal) (h j k : Outside) → disk0 ≡ raw_bytes m.state → disk1 ≡ m.disk1
+    → HoldsFiles m.disk1 m.state.parts.devices.files
+    → SendsOutput (one_disk Disk0 d.out0 disk0) (if_written Disk0 d.out0) None h j → SendsOutput (one_disk Disk1 d.out1 disk1) (if_written Disk1 d.out1) ended j k → SendsDisks d m ended h k
+both_disks_sent d m disk0 disk1 ended h j k is own held first second =
     let P : Output → Type 0 = λ o. SendsOutput o (run_outputs d) ended h k in
-    let Q : List ℕ → Type 0 = λ b. SendsOutput (disks_output (if is_some d.out0 then Some b else None) (if is_some d.out1 then Some disk1 else None)) (run_outputs d) ended h k in record {
-      disk1 = disk1;
+    let Q : List ℕ → Type 0 = λ b. SendsOutput (disks_output (if is_some d.out0 then Some b else None) (if is_some d.out1 then Some disk1 else None)) (run_outputs d) ended h k in
+    let R : List ℕ → Type 0 = λ b. SendsOutput (disks_output (if is_some d.out0 then Some (raw_bytes m.state) else None) (if is_some d.out1 then Some b else None)) (run_outputs d) ended h k in record {
       held = held;
-      sends = subst Q is (subst P (both_are d.out0 d.out1 disk0 disk1)
-          (both_sent (one_disk Disk0 d.out0 disk0) (one_disk Disk1 d.out1 disk1) (if_written Disk0 d.out0) (if_written Disk1 d.out1) (raw_apart d.out0 d.out1 disk0 disk1) ended h j k first second));
+      sends = subst R own (subst Q is (subst P (both_are d.out0 d.out1 disk0 disk1)
+          (both_sent (one_disk Disk0 d.out0 disk0) (one_disk Disk1 d.out1 disk1) (if_written Disk0 d.out0) (if_written Disk1 d.out1) (raw_apart d.out0 d.out1 disk0 disk1) ended h j k first second)));
     }
 
 -- Nothing is sent of a disk for which no file is named.

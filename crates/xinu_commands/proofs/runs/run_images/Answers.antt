@@ -5,7 +5,7 @@ use Rattle.xinu_model.specs.Boot.{Boots}
 use Rattle.xinu_commands.specs.Calls.{run_outputs}
 use Rattle.xinu_commands.specs.RunVerdict.{boot_verdict}
 use Rattle.xinu_commands.specs.Setups.{setup_of}
-use Rattle.xinu_commands.specs.Stages.{Stage, no_fetches}
+use Rattle.xinu_commands.specs.Stages.{Stage, left_by, no_fetches}
 use Rattle.xinu_commands.proofs.Files.{boot_verdict_at}
 use Rattle.xinu_commands.proofs.ImageFiles.{of_err}
 use Rattle.xinu_commands.proofs.RunSent.{boot_refused, disks_ended, transcript_ended}
@@ -44,7 +44,7 @@ returns-in_err-send_disks g c =
     let r = c.in_err-send_disks.field-0.0 in
     record {
       stage = of_err c.from_residual-in_err-send_disks.result r (λ ended left. Stage v no_fetches (run_outputs d) ended left h k) c.from_residual-in_err-send_disks.ensures.0 c.from_residual-in_err-send_disks.ensures.1
-          (disks_ended d setup.plain v start setup.schedule c.print_run.new.machine.state (Some r) None h j k is c.in_ok-print_run.ensures.prints c.in_err-send_disks.ensures.sends (λ none. absurd (cc)) (λ some. refl));
+          (disks_ended d setup.plain v start setup.schedule (left_by c.print_run.new.machine) (Some r) None h j k is c.in_ok-print_run.ensures.prints c.in_err-send_disks.ensures.sends (λ none. absurd (cc)) (λ some. refl));
     }
 
 pub returns : goal.returns
@@ -52,7 +52,7 @@ returns g c =
     let setup = c.args.setup in
     let d = disk_names setup.disks in
     let start = c.in-Ok.machine.state in
-    let new = c.print_run.new.machine.state in
+    let new = left_by c.print_run.new.machine in
     let h = g.H.Host.view c.args.host.now in
     let j = g.H.Host.view c.print_run.new.host in
     let k = g.H.Host.view c.send_disks.new.host in
