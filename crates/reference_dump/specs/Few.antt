@@ -28,7 +28,7 @@ pub record AreFewWaiters (t : Tables) : Type 0 where
 pub record AreFew (s : Xinu) : Type 0 where
   pub tables : AreFewWaiters s.tables
   pub pools : length s.parts.pools ≤ 20
-  pub buffers : (i : ℕ) → length (pool_at s.parts.pools i).free ≤ 1048576
+  pub buffers : (i : ℕ) → length (pool_at s.parts.pools i).free ≤ (pool_at s.parts.pools i).number
   pub ports : length s.parts.ports ≤ 30
   pub messages : (q : ℕ) → IfSome (port_at s.parts.ports q).queue (λ queue. length queue.messages ≤ 4294967295)
   pub console : IsSmallConsole s.parts.devices.console

@@ -15,7 +15,7 @@ pub(crate) fn push_pools(
     list: &[BufferPool],
 ) -> Result<(), NoMemory>
     requires many { length list.now ≤ 20 }
-    requires few { (i : ℕ) → length (pools.pool_at list.now i).free ≤ 1048576 }
+    requires few { (i : ℕ) → length (pools.pool_at list.now i).free ≤ (pools.pool_at list.now i).number }
     ensures pushed { IfOk result (λ _. lines.new.items ≡ lines.old.items ++ model.pool_lines 0 list.now) }
 {
     for (number, pool) in list.iter().enumerate() {
@@ -26,7 +26,7 @@ pub(crate) fn push_pools(
 
 // The lines of a pool and its free buffers.
 fn push_pool(lines: &mut Vec<TranscriptLine>, i: PoolId, pool: &BufferPool) -> Result<(), NoMemory>
-    requires few { length pool.now.free ≤ 1048576 }
+    requires few { length pool.now.free ≤ pool.now.number }
     ensures pushed { IfOk result (λ _. lines.new.items ≡ lines.old.items ++ model.pool_line i pool.now) }
 {
     let free = pool.free.len() as u32;
