@@ -29,7 +29,7 @@ MADE = {"out/xinu_run", "sum.s", "steps.txt"}
 
 def pages():
     """The paths of the pages, from the top."""
-    found = ["README.md"]
+    found = ["README.md", "CHANGELOG.md"]
     for folder in ("docs", "sdk", "examples", "labs"):
         found += sorted(glob.glob(os.path.join(folder, "**", "*.md"), recursive=True))
     return found
