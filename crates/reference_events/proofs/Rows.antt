@@ -3,13 +3,13 @@ use Rattle.std.proofs.Common.{◌≡◌, ◌∙◌, ℕ, List, ap, subst, sym}
 use Rattle.std.specs.Prelude.{IfOk, Result}
 use Rattle.reference_state.specs.Answers.{came_to}
 use Rattle.reference_state.specs.declared.answers.Answer.{Answer}
-use Rattle.xinu_model.specs.Calls.{call_of_number}
+use Rattle.xinu_model.specs.Calls.{called}
 use Rattle.xinu_model.specs.Machine.{CallResult, CallState, Xinu}
 
 -- what was done is the row of a number
-pub row_is : (n number : ℕ) (args : List ℕ) (s : Xinu) (r : CallResult) → number ≡ n → r ≡ call_of_number n args s
-    → r ≡ call_of_number number args s
-row_is n number args s r e is = is ∙ ap (λ n. call_of_number n args s) (sym e)
+pub row_is : (n number : ℕ) (args : List ℕ) (s : Xinu) (r : CallResult) → number ≡ n → r ≡ called n args s
+    → r ≡ called number args s
+row_is n number args s r e is = is ∙ ap (λ n. called n args s) (sym e)
 
 -- what was done with one argument was done with another, which is the same
 pub ok_with : {E : Type 0} {X : Type 0} (f : X → CallResult) (x y : X) (d : CallState) (r : Result Answer E) → x ≡ y
@@ -18,5 +18,5 @@ ok_with f x y d r e h = subst (λ z. IfOk r (λ a. came_to d a ≡ f z)) e h
 
 -- the same of a call that may run out of memory
 pub ok_row : {E : Type 0} (n number : ℕ) (args : List ℕ) (s : Xinu) (d : CallState) (r : Result Answer E) → number ≡ n
-    → IfOk r (λ a. came_to d a ≡ call_of_number n args s) → IfOk r (λ a. came_to d a ≡ call_of_number number args s)
-ok_row n number args s d r e h = ok_with (λ k. call_of_number k args s) n number d r (sym e) h
+    → IfOk r (λ a. came_to d a ≡ called n args s) → IfOk r (λ a. came_to d a ≡ called number args s)
+ok_row n number args s d r e h = ok_with (λ k. called k args s) n number d r (sym e) h

@@ -26,7 +26,7 @@ pub fn core_call(m: &mut Machine, call: Call) -> Result<Answer, NoMemory>
     requires core { call.number ≤ 27 }
     requires few_ticks { m.old.state.tables.ticks ≤ 2147483647 }
     requires few_waiters { (sem : ℕ) → length (semaphore_at m.old.state.tables sem).waiters ≤ 64 }
-    ensures call { IfOk result (λ a. came_to m.new a ≡ model.call_of_number call.number call.args m.old.state) }
+    ensures call { IfOk result (λ a. came_to m.new a ≡ model.called call.number call.args m.old.state) }
 {
     let a = call.args;
     match call.number {
