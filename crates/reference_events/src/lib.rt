@@ -11,7 +11,7 @@
 //! The calls have the conditions of `reference_calls`: the ticks so far leave room for the longest sleep (`few_ticks`), and at most 64
 //! processes wait on each semaphore (`few_waiters`).
 //!
-//! The calls on pools, ports and devices, and a whole step, aren't here yet.
+//! The calls on pools and ports are in `reference_ports`, those on devices in `reference_switch` and `reference_devices`.
 #![tactic(auto)]
 
 pub mod dispatch;
