@@ -1,13 +1,18 @@
 #!/usr/bin/env python3
-"""Times `xinu_run disk check` on full images of several sizes, and a run that reads and writes every block of the largest raw disk.
+"""Times `xinu_run disk check` on full images of several sizes, a run that reads and writes every block of the largest raw disk, and a run of
+four processes that write and read files.
 
 usage: bench/disk.py
 
 It builds the program, makes each image with `disk mkfs`, fills all of its data blocks with eight files by `disk put`, and prints for
 each the seconds of processor time of the slowest `disk put` and of `disk check`, and the greatest memory of the check in bytes and as
 a multiple of the image. Then it prints how much longer the check of the largest image takes than that of the smallest, for each byte.
-Last it runs an image that reads each block of a raw disk of 65,536 blocks and writes it back to the block 32,768 further on, compares the
-disk that comes out, and prints the seconds and the greatest memory, also as a multiple of RAM and the two disks. No part of the gate."""
+Then it runs an image that reads each block of a raw disk of 65,536 blocks and writes it back to the block 32,768 further on, compares the
+disk that comes out, and prints the seconds and the greatest memory, also as a multiple of RAM and the two disks.
+
+Last it runs four images, each of which writes and reads a file of its own over and over on a disk of 65,542 blocks, and the same four with
+`getpid` in the place of each call on files. It prints the completions and the events per second of processor time, the greatest memory, and
+whether the disk that comes out is clean. No part of the gate."""
 import os
 import struct
 import subprocess
@@ -40,6 +45,36 @@ next:   li a0, 2
         blt s0, s1, next
         sys exit
 """
+# Opens the file, and then writes 2,048 bytes at its start and reads them back, over and over.
+WRITER = """
+        .entry start
+name:   .ascii "{name}\\0\\0\\0"
+mode:   .ascii "rw\\0\\0"
+start:  li a0, 3
+        la a1, name
+        la a2, mode
+        sys {open}
+        mv s0, a0
+again:  mv a0, s0
+        li a1, {at}
+        li a2, 2048
+        sys {write}
+        mv a0, s0
+        li a1, 0
+        sys {seek}
+        mv a0, s0
+        li a1, {at}
+        li a2, 2048
+        sys {read}
+        mv a0, s0
+        li a1, 0
+        sys {seek}
+        j again
+"""
+ON_FILES = {call: call for call in ("open", "write", "seek", "read")}
+WITHOUT_FILES = dict.fromkeys(ON_FILES, "getpid")
+# What is in a round of a schedule: steps, transmissions, completions of both disks, and a tick.
+ROUNDS, ROUND_EVENTS, ROUND_COMPLETIONS = 2000, 1081, 8
 FILES = 8
 
 
@@ -94,6 +129,33 @@ def raw_run(folder):
     print(f"run over {512 * RAW_BLOCKS} bytes of raw disk: {seconds:.3f} s, {memory} bytes of memory, {memory / size:.2f} times RAM and disks")
 
 
+def file_run(folder, calls):
+    """Runs four processes that make these calls over and over: the seconds, the memory, and the image of the disk that comes out."""
+    disk, out, schedule = (os.path.join(folder, name) for name in ("disk", "disk-out", "rounds"))
+    with open(schedule, "w") as file:
+        file.write(f"round {ROUNDS}\n")
+    timed(["disk", "mkfs", str(BLOCKS[-1]), "--out", disk])
+    images = []
+    for k, name in enumerate("abcd"):
+        source, image = os.path.join(folder, f"{name}.s"), os.path.join(folder, name)
+        with open(source, "w") as file:
+            file.write(f"        .org {65536 * k}\n" + WRITER.format(name=name, at=524288 + 4096 * k, **calls))
+        timed(["asm", source, "--out", image])
+        images.append(image)
+    seconds, memory, _ = timed(["run", "--plain", "--schedule", schedule, "--disk1", disk, "--out1", out, *images])
+    return seconds, memory, out
+
+
+def file_runs(folder):
+    """Times four processes on files beside the same without files, and checks the disk."""
+    size = RAM + 512 * BLOCKS[-1] + 512 * 64
+    for title, calls in (("on files", ON_FILES), ("without files", WITHOUT_FILES)):
+        seconds, memory, out = file_run(folder, calls)
+        print(f"four processes {title}: {seconds:.3f} s, {ROUNDS * ROUND_EVENTS / seconds:.0f} events/s, {ROUNDS * ROUND_COMPLETIONS / seconds:.0f} "
+              f"completions/s, {memory} bytes of memory, {memory / size:.2f} times RAM and disks")
+        print(f"  its disk: {timed(['disk', 'ls', out])[2].count('file ')} files, which another run starts from")
+
+
 def main():
     subprocess.run(["rt", "run", "--", *DATA], cwd=CRATE, check=True, stdout=subprocess.DEVNULL)
     rates = []
@@ -108,6 +170,7 @@ def main():
             print(f"{size:9} bytes  put {put:6.3f} s  check {seconds:6.3f} s  {memory:10} bytes of memory, {memory / size:5.2f} times")
         print(f"check of the largest against the smallest, for each byte: {rates[-1] / rates[0]:.2f}")
         raw_run(folder)
+        file_runs(folder)
 
 
 if __name__ == "__main__":

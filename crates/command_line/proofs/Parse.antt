@@ -1,5 +1,5 @@
 -- The law at the program's own commands and actions: what the parser's matches and its refusals say.
-use Rattle.std.proofs.Common.{◌≡◌, ◌∙◌, ◌⊎◌, inl, inr, Bool, true, false, cond, if◌then◌else◌, codes, List, [], ◌∷◌, Option, Some, None, refl, sym, ap, subst, fold, bytes_eq, option_and_then, option_map}
+use Rattle.std.proofs.Common.{◌≡◌, ◌∙◌, ◌⊎◌, inl, inr, ℕ, Bool, true, false, cond, if◌then◌else◌, codes, List, [], ◌∷◌, Option, Some, None, refl, sym, ap, subst, fold, bytes_eq, option_and_then, option_map}
 use Rattle.clap.specs.Walk.{Row, first_of, with_default}
 use Rattle.clap.specs.Simple.{built, subcommand_of}
 use Rattle.clap.specs.Kinds.{IsAmong, Kinds}
@@ -10,8 +10,9 @@ use Rattle.command_line.specs.Reading.{CommandRow, Request, Taken, Text, option_
 use Rattle.command_line.specs.RunArgs.{RunFiles, run_from, run_options}
 use Rattle.command_line.specs.AsmArgs.{AsmFiles, asm_from, asm_options}
 use Rattle.command_line.specs.DiskArgs.{DiskAction, action_from, action_of, actions, check_of, get_of, ls_of, mkfs_of, out_options, printing, put_of, repair_of, writing}
-use Rattle.command_line.specs.Commands.{Command, Run, Asm, asm_row, command_from, commands, run_row, simple_command_of}
-use Rattle.command_line.specs.Parser.{action_command_in, args_in, asm_in, disk_app, run_in, simple_app, simple_command_in}
+use Rattle.command_line.specs.Commands.{Command, Run, Asm, Soak, asm_row, command_from, commands, run_row, simple_command_of, soak_row}
+use Rattle.command_line.specs.Parser.{action_command_in, args_in, asm_in, disk_app, run_in, simple_app, simple_command_in, soak_in}
+use Rattle.command_line.specs.SoakArgs.{soak_from, soak_options}
 use Rattle.command_line.proofs.Table.{rules}
 use Rattle.command_line.proofs.Rows.{Holds}
 use Rattle.command_line.proofs.Law.{AllUtf8}
@@ -67,9 +68,12 @@ asm_read rows t h =
       args_read asm_options rows t h refl,
     ) refl
 
+soak_read : (rows : List Row) (t : Taken) → Holds soak_options rows t → soak_from t ≡ soak_in (fold with_default rows (rules soak_options))
+soak_read rows t h = rw (args_read soak_options rows t h refl) refl
+
 -- the command that tests on its name choose
-abbrev chosen_command : Bool → Bool → Option RunFiles → Option AsmFiles → Option Command
-chosen_command a b run asm = if a then option_map Run run else (if b then option_map Asm asm else None)
+abbrev chosen_command : Bool → Bool → Bool → Option RunFiles → Option AsmFiles → Option ℕ → Option Command
+chosen_command a b c run asm soak = if a then option_map Run run else (if b then option_map Asm asm else (if c then option_map Soak soak else None))
 
 module _ (rows : List Row) (t : Taken) where
   -- the rows that the matches hold by the options of a command
@@ -77,20 +81,24 @@ module _ (rows : List Row) (t : Taken) where
   rows_at c = fold with_default rows (rules c.options)
 
   -- the command by the tests on its name, in the order of the table
-  command_by_tests : (a b : Bool) (row : CommandRow) → cond a (Some run_row) (cond b (Some asm_row) None) ≡ Some row
+  command_by_tests : (a b c : Bool) (row : CommandRow) → cond a (Some run_row) (cond b (Some asm_row) (cond c (Some soak_row) None)) ≡ Some row
       → Holds row.options rows t
-      → chosen_command a b (run_from t) (asm_from t) ≡ chosen_command a b (run_in (rows_at row)) (asm_in (rows_at row))
-  command_by_tests true b row is h =
+      → chosen_command a b c (run_from t) (asm_from t) (soak_from t)
+      ≡ chosen_command a b c (run_in (rows_at row)) (asm_in (rows_at row)) (soak_in (rows_at row))
+  command_by_tests true b c row is h =
       at_row rows t run_row row is (λ r. option_map Run (run_from t) ≡ option_map Run (run_in (rows_at r)))
       (λ k. ap (λ (r : Option RunFiles). option_map Run r) (run_read rows t k)) h
-  command_by_tests false true row is h =
+  command_by_tests false true c row is h =
       at_row rows t asm_row row is (λ r. option_map Asm (asm_from t) ≡ option_map Asm (asm_in (rows_at r)))
       (λ k. ap (λ (a : Option AsmFiles). option_map Asm a) (asm_read rows t k)) h
-  command_by_tests false false row is h = absurd (cc)
+  command_by_tests false false true row is h =
+      at_row rows t soak_row row is (λ r. option_map Soak (soak_from t) ≡ option_map Soak (soak_in (rows_at r)))
+      (λ k. ap (λ (n : Option ℕ). option_map Soak n) (soak_read rows t k)) h
+  command_by_tests false false false row is h = absurd (cc)
 
 command_taken : (sub : Option (Text × List Row)) (r : Request) → Enters commands r sub → command_from r ≡ simple_command_in sub
 command_taken sub r h =
-    command_by_tests h.rows r.taken (bytes_eq (codes "run") r.command) (bytes_eq (codes "asm") r.command) h.row h.named h.holds
+    command_by_tests h.rows r.taken (bytes_eq (codes "run") r.command) (bytes_eq (codes "asm") r.command) (bytes_eq (codes "soak") r.command) h.row h.named h.holds
     ∙ ap simple_command_in (sym h.entered)
 
 -- matches give the command

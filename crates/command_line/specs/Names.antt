@@ -3,7 +3,7 @@ use Rattle.std.specs.Prelude.{map, option_map}
 use Rattle.command_line.specs.RunArgs.{DiskFiles as DiskNames, RunFiles as RunNames}
 use Rattle.command_line.specs.AsmArgs.{AsmFiles as AsmNames}
 use Rattle.command_line.specs.DiskArgs.{DiskAction as ActionNames, Mkfs, Ls, Get, Put, Check, Repair}
-use Rattle.command_line.specs.Commands.{Command as CommandNames, Run, Asm, Disk}
+use Rattle.command_line.specs.Commands.{Command as CommandNames, Run, Asm, Soak, Disk}
 use Rattle.command_line.specs.declared.run_args.DiskFiles.{DiskFiles}
 use Rattle.command_line.specs.declared.run_args.RunFiles.{RunFiles}
 use Rattle.command_line.specs.declared.asm_args.AsmFiles.{AsmFiles}
@@ -37,4 +37,5 @@ action_names (action.Repair image out) = Repair image.now out.now
 abbrev pub command_names : Command → CommandNames
 command_names (command.Run r) = Run (run_names r)
 command_names (command.Asm a) = Asm (asm_names a)
+command_names (command.Soak seed) = Soak seed
 command_names (command.Disk a) = Disk (action_names a)

@@ -1,5 +1,5 @@
 -- What the parser knows of the program's commands, and what is taken from its matches.
-use Rattle.std.specs.Prelude.{Bool, true, false, List, [], ◌∷◌, Option, Some, codes}
+use Rattle.std.specs.Prelude.{ℕ, Bool, true, false, List, [], ◌∷◌, Option, Some, codes}
 use Rattle.std.specs.Prelude.{if◌then◌else◌, bytes_eq, option_and_then}
 use Rattle.std.specs.Option.{option_map_or, unwrap_or}
 use Rattle.clap.specs.Walk.{Row, Rule, all_of, first_of}
@@ -9,6 +9,7 @@ use Rattle.command_line.specs.Reading.{CommandRow, OptionRow, Text}
 use Rattle.command_line.specs.RunArgs.{RunFiles, disk_files, run_of}
 use Rattle.command_line.specs.AsmArgs.{AsmFiles, asm_of}
 use Rattle.command_line.specs.DiskArgs.{DiskAction, action_named, actions}
+use Rattle.command_line.specs.SoakArgs.{soak_of}
 use Rattle.command_line.specs.Commands.{Command, command_named, commands}
 
 -- an option: it is used once
@@ -72,8 +73,11 @@ run_in rows = run_of (first_of (codes "schedule") rows) (disk_files (λ name. fi
 abbrev pub asm_in : List Row → Option AsmFiles
 asm_in rows = asm_of (first_of (codes "out") rows) (flag_in (codes "elf") rows) (args_in rows)
 
+abbrev pub soak_in : List Row → Option ℕ
+soak_in rows = soak_of (args_in rows)
+
 abbrev pub command_in : Text → List Row → Option Command
-command_in name rows = command_named name (run_in rows) (asm_in rows)
+command_in name rows = command_named name (run_in rows) (asm_in rows) (soak_in rows)
 
 -- the command without actions that the matches give
 abbrev pub simple_command_in : Option (Text × List Row) → Option Command

@@ -1,8 +1,6 @@
 //! The arguments of the command `disk`, whose first names an action.
 
 ghost use Rattle.std.specs.Prelude.{◌≡◌, IfOk, IsErrOf, Some, None, map, option_map, if◌then◌else◌};
-ghost use Rattle.std.specs.List.{list_all};
-ghost use Rattle.std.specs.Char.{is_ascii_digit};
 ghost use Rattle.std.specs.Str.Parse.{digits_value};
 ghost use Rattle.clap.specs.Walk.{rows_of};
 ghost use Rattle.clap.specs.Matches.{found_of};
@@ -11,7 +9,7 @@ ghost use Rattle.command_line.specs.Names.{action_names};
 ghost use Rattle.command_line.specs.Parser.{action_in};
 ghost use Rattle.command_line.specs.declared.refusal.ArgsFault.TheVariants as fault;
 
-use crate::matches::{args_of, option_value};
+use crate::matches::{are_digits, args_of, option_value};
 use crate::refusal::ArgsFault;
 use clap::ArgMatches;
 use lfs_layout::is_file_name;
@@ -184,11 +182,4 @@ fn block_count(digits: &str) -> Option<u32>
         }
         Err(_) => None,
     }
-}
-
-// Whether all bytes are decimal digits.
-fn are_digits(bytes: &[u8]) -> bool
-    ensures { result ≡ list_all is_ascii_digit bytes.now }
-{
-    bytes.iter().all(|b| b.is_ascii_digit())
 }

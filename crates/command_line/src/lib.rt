@@ -1,8 +1,8 @@
 //! The arguments of the command line.
 //!
 //! [`command_of`] reads them with `clap` and then by tests of its own: how many there are, which options are needed, that no name is empty, and
-//! what a number is. `specs/Reading.antt` reads the arguments from the left by a table of options; `specs/RunArgs.antt`, `specs/AsmArgs.antt` and
-//! `specs/DiskArgs.antt` have the tables, and `specs/Commands.antt` the commands.
+//! what a number is. `specs/Reading.antt` reads the arguments from the left by a table of options; `specs/RunArgs.antt`, `specs/AsmArgs.antt`,
+//! `specs/SoakArgs.antt` and `specs/DiskArgs.antt` have the tables, and `specs/Commands.antt` the commands.
 //!
 //! | Call | Promise |
 //! |---|---|
@@ -20,6 +20,7 @@ mod matches;
 mod parser;
 mod refusal;
 mod run_args;
+mod soak_args;
 
 pub use asm_args::AsmFiles;
 pub use command::{Command, command_of};

@@ -1,6 +1,7 @@
 //! What is taken from the matches of a command.
 
 ghost use Rattle.std.specs.Prelude.{◌≡◌, IfOk, map, option_map};
+ghost use Rattle.std.specs.Char.{is_ascii_digit};
 ghost use Rattle.std.specs.List.{list_all};
 ghost use Rattle.clap.specs.Walk.{first_of, rows_of};
 ghost use Rattle.clap.specs.Matches.{found_of};
@@ -45,4 +46,11 @@ pub(crate) fn are_file_names(args: &[&str]) -> bool
     ensures names { result ≡ list_all is_file_name (map (λ s. s.now) args.now) }
 {
     args.iter().all(|arg| !arg.is_empty())
+}
+
+/// Whether all bytes are decimal digits.
+pub(crate) fn are_digits(bytes: &[u8]) -> bool
+    ensures { result ≡ list_all is_ascii_digit bytes.now }
+{
+    bytes.iter().all(|b| b.is_ascii_digit())
 }

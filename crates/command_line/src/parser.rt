@@ -16,7 +16,7 @@ use clap::error::ErrorKind;
 use clap::{Arg, ArgAction, ArgMatches, Command};
 use std::alloc::{AllocError, Global};
 
-/// The matches of arguments whose first names a command without actions, `run` or `asm`, or why there are none.
+/// The matches of arguments whose first names a command without actions, `run`, `asm` or `soak`, or why there are none.
 pub(crate) fn command_matches<'a>(
     alloc: Global,
     args: &'a [String],
@@ -61,7 +61,8 @@ fn command_parser<'a>(alloc: Global) -> Result<Command<'a>, AllocError>
 {
     program(alloc, "xinu_run")
         .subcommand(run_command(alloc)?)?
-        .subcommand(asm_command(alloc)?)
+        .subcommand(asm_command(alloc)?)?
+        .subcommand(printing(alloc, "soak")?)
 }
 
 // The command `disk` with its actions.
@@ -148,7 +149,7 @@ fn writing<'a>(alloc: Global, name: &'a str) -> Result<Command<'a>, AllocError>
     with_args(command, alloc)
 }
 
-// An action that only prints.
+// An action that only prints, or a command without options.
 fn printing<'a>(alloc: Global, name: &'a str) -> Result<Command<'a>, AllocError>
     ensures told { IfOk result (λ c. app_of c ≡ command_app (disk.printing name.entry.now)) }
     ensures local { IfOk result (λ c. (fields_of c).has_globals ≡ false) }

@@ -25,3 +25,5 @@ mod real_files;
 mod run_disks;
 #[cfg(test)]
 mod schedules;
+#[cfg(test)]
+mod soak_tests;

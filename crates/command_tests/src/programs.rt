@@ -85,14 +85,15 @@ pub(crate) fn is_refused(
     Ok(found == status && is_told && host.sent(Channel::Out).is_empty())
 }
 
-/// The exit status of a command over a host. A machine is left if and only if the command is a run and was done.
+/// The exit status of a command over a host. A machine is left if and only if the command is a run or a soak test and was done.
 pub(crate) fn status_of<H: Host>(alloc: Global, args: &[&str], host: &mut H) -> Result<u8, Fail> {
     let mut all = Vec::new(alloc);
     for arg in args {
         all.push(String::from_str(alloc, arg)?)?;
     }
     let (status, leaves_machine) = called(alloc, all.as_slice(), host);
-    if leaves_machine != (status == 0 && args.first() == Some(&"run")) {
+    let runs = args.first() == Some(&"run") || args.first() == Some(&"soak");
+    if leaves_machine != (status == 0 && runs) {
         return Err("another machine")?;
     }
     Ok(status)

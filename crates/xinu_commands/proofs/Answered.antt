@@ -12,7 +12,7 @@ use Rattle.xinu_commands.specs.Refusals.{TellsRefusal, text_of}
 use Rattle.xinu_commands.specs.Stages.{Performs}
 use Rattle.xinu_commands.specs.Theorem.{Answers, Carries, IsUnsent}
 use Rattle.xinu_commands.specs.Verdict.{verdict}
-use Rattle.xinu_commands.specs.Work.{Does, Left, Outputs, Refuses, Runs, Verdict}
+use Rattle.xinu_commands.specs.Work.{Does, Left, Outputs, Refuses, Runs, Soaking, Verdict}
 use Rattle.xinu_commands.specs.declared.refusals.Refusal.{Refusal}
 use Rattle.xinu_commands.specs.declared.refusals.Refusal.TheVariants as refusal
 use Rattle.xinu_commands.proofs.Carried.{carries_nothing, carries_within, unsent_both, unsent_refl}
@@ -54,6 +54,7 @@ fetched_unsent h k calls m is = record {
 pub done_status : (v : Verdict) (left : Option Left) (h k : Outside) (c : Carries v None left h k) → 0 ≡ c.output.status
 done_status (Refuses cause) left h k c = (let work = c.deserved.1 in cc)
 done_status (Does (Runs wanted start events)) left h k c = sym (ap (λ o. o.status) c.sends.begins.output.written)
+done_status (Does (Soaking seed start)) left h k c = sym (ap (λ o. o.status) c.sends.begins.output.written)
 done_status (Does (Outputs out disk1 file)) left h k c = sym (ap (λ o. o.status) c.sends.begins)
 
 -- A command that was done answers 0.

@@ -4,10 +4,11 @@ use Rattle.host_port.specs.HostCalls.{Rose}
 use Rattle.host_port.specs.Outside.{Outside, grown}
 use Rattle.host_port.proofs.Prints.{grown-nil}
 use Rattle.host_port.specs.Printing.{Printing}
+use Rattle.soak.proofs.SomeTest.{some_test}
 use Rattle.xinu_model.specs.Text.{shown}
 use Rattle.xinu_model.proofs.Runs.{some_run}
 use Rattle.xinu_commands.specs.Theorem.{Carries, Deserved, IsPart, IsPartSent, IsSent, IsUnsent, IsWhole, Sends}
-use Rattle.xinu_commands.specs.Work.{Does, Left, Output, Outputs, Refuses, Runs, Verdict, only_printed, output_of, run_output, transcript}
+use Rattle.xinu_commands.specs.Work.{Does, Left, Output, Outputs, Refuses, Runs, Soaking, Verdict, only_printed, output_of, run_output, transcript}
 use Rattle.xinu_commands.specs.declared.refusals.Refusal.{Refusal}
 use Rattle.xinu_commands.specs.declared.refusals.Refusal.TheVariants as refusal
 
@@ -27,7 +28,8 @@ nothing_sent output h k unsent = record {
   image = part_unsent output.image h.image k.image unsent.image;
 }
 
--- A command that is refused before anything was sent is carried out whatever its verdict is, since there is a run through all events.
+-- A command that is refused before anything was sent is carried out whatever its verdict is, since there is a run through all events, and a soak
+-- test of each number.
 pub carries_nothing : (v : Verdict) (cause : Refusal) (h k : Outside) → Deserved v (Some cause) h k → IsUnsent h k
     → Carries v (Some cause) None h k
 carries_nothing (Refuses c) cause h k deserved unsent =
@@ -39,6 +41,19 @@ carries_nothing (Does (Runs wanted start events)) cause h k deserved unsent =
       deserved = deserved;
       sends = record {
         begins = record { last = run.1; disk1 = None; output = record { lines = run.0; end = run.2; runs = run.3; held = tt; written = refl } };
+        part = nothing_sent output h k unsent;
+        writes = λ none. absurd (cc);
+        whole = λ none. absurd (cc);
+      };
+      refused = λ some. refl;
+    }
+carries_nothing (Does (Soaking seed start)) cause h k deserved unsent =
+    let test = some_test seed start in
+    let output = output_of test.0 None None in record {
+      output = output;
+      deserved = deserved;
+      sends = record {
+        begins = record { last = test.1; output = record { summary_line = test.0; soaks = test.2; written = refl } };
         part = nothing_sent output h k unsent;
         writes = λ none. absurd (cc);
         whole = λ none. absurd (cc);

@@ -150,7 +150,7 @@ images_keep i (bytes ∷ files) next rest is =
     unless_fault_keeps (option_map (refusal.Image i) (image_fault bytes)) (loads bytes) (λ x. images_verdict (i + 1) files (λ images. next (x ∷ images))) (image_keeps i (image_fault bytes))
     (λ x. images_keep (i + 1) files (λ images. next (x ∷ images)) (λ images. rest (x ∷ images))) is
 
-raw_keeps : (f : Option DiskFault) → option_map raw_broken f ≢ Some refusal.Usage
+pub raw_keeps : (f : Option DiskFault) → option_map raw_broken f ≢ Some refusal.Usage
 raw_keeps None is = cc
 raw_keeps (Some x) is = cc
 

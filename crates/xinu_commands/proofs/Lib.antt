@@ -21,6 +21,8 @@ pub mod RunDisks
 pub mod RunSent
 pub mod WholeRuns
 pub mod SoFar
+pub mod SoakSent
+pub mod SoakVerdicts
 pub mod Staged
 pub mod Statuses
 pub mod WrittenFiles

@@ -8,9 +8,10 @@ use Rattle.std.proofs.lemmas.Bool.{and_parts, ltb-true, leb-true}
 use Rattle.std.proofs.lemmas.Option.{option_and_then_some}
 use Rattle.lfs_layout.specs.Files.{is_text}
 use Rattle.command_line.specs.AsmArgs.{AsmFiles, asm_from}
-use Rattle.command_line.specs.Commands.{Command, Run, Asm, Disk, command_from, command_of, commands, simple_command_of}
+use Rattle.command_line.specs.Commands.{Command, Run, Asm, Soak, Disk, command_from, command_of, commands, simple_command_of}
 use Rattle.command_line.specs.DiskArgs.{DiskAction, Mkfs, Ls, Get, Put, Check, Repair, action_from, action_of, actions, check_of, get_of, is_block_count, ls_of, mkfs_of, put_of, repair_of}
 use Rattle.command_line.specs.Reading.{Text, is_given, option_value, request_of}
+use Rattle.command_line.specs.SoakArgs.{soak_from}
 use Rattle.command_line.specs.RunArgs.{DiskFiles, RunFiles, disk_files, is_file_name, may_be_disks, run_from, run_of}
 use Rattle.xinu_commands.specs.Stages.{IsBlockCount, IsPossible}
 
@@ -30,13 +31,15 @@ run_given (first ∷ args) r is = go (bytes_eq (codes "disk") first) (action_of 
     go true None x is = absurd (cc)
     go false a x is = is
 
-run_named : (a b : Bool) (run : Option RunFiles) (asm : Option AsmFiles) (r : RunFiles)
-    → (if a then option_map Run run else (if b then option_map Asm asm else None)) ≡ Some (Run r) → run ≡ Some r
-run_named true b (Some x) asm r is = cc
-run_named true b None asm r is = absurd (cc)
-run_named false true run (Some x) r is = absurd (cc)
-run_named false true run None r is = absurd (cc)
-run_named false false run asm r is = absurd (cc)
+run_named : (a b c : Bool) (run : Option RunFiles) (asm : Option AsmFiles) (soak : Option ℕ) (r : RunFiles)
+    → (if a then option_map Run run else (if b then option_map Asm asm else (if c then option_map Soak soak else None))) ≡ Some (Run r) → run ≡ Some r
+run_named true b c (Some x) asm soak r is = cc
+run_named true b c None asm soak r is = absurd (cc)
+run_named false true c run (Some x) soak r is = absurd (cc)
+run_named false true c run None soak r is = absurd (cc)
+run_named false false true run asm (Some x) r is = absurd (cc)
+run_named false false true run asm None r is = absurd (cc)
+run_named false false false run asm soak r is = absurd (cc)
 
 -- how many images a run has
 pub record IsImageCount (images : ℕ) : Type 0 where
@@ -59,23 +62,25 @@ pub image_count : (args : List Text) (r : RunFiles) → command_of args ≡ Some
 image_count args r is =
     option_and_then_some command_from (request_of commands args) (Run r) (run_given args r is)
     (λ q calls given. count_of_run (option_value (codes "schedule") q.taken) (disk_files (λ name. option_value name q.taken)) (is_given (codes "plain") q.taken) q.taken.positional r
-    (run_named (bytes_eq (codes "run") q.command) (bytes_eq (codes "asm") q.command) (run_from q.taken) (asm_from q.taken) r given))
+    (run_named (bytes_eq (codes "run") q.command) (bytes_eq (codes "asm") q.command) (bytes_eq (codes "soak") q.command) (run_from q.taken) (asm_from q.taken) (soak_from q.taken) r given))
 
 -- ---- an action is possible
 
-not_named : (a b : Bool) (run : Option RunFiles) (asm : Option AsmFiles) (x : DiskAction)
-    → (if a then option_map Run run else (if b then option_map Asm asm else None)) ≡ Some (Disk x) → ⊥
-not_named true b (Some r) asm x is = cc
-not_named true b None asm x is = cc
-not_named false true run (Some r) x is = cc
-not_named false true run None x is = cc
-not_named false false run asm x is = cc
+not_named : (a b c : Bool) (run : Option RunFiles) (asm : Option AsmFiles) (soak : Option ℕ) (x : DiskAction)
+    → (if a then option_map Run run else (if b then option_map Asm asm else (if c then option_map Soak soak else None))) ≡ Some (Disk x) → ⊥
+not_named true b c (Some r) asm soak x is = cc
+not_named true b c None asm soak x is = cc
+not_named false true c run (Some r) soak x is = cc
+not_named false true c run None soak x is = cc
+not_named false false true run asm (Some n) x is = cc
+not_named false false true run asm None x is = cc
+not_named false false false run asm soak x is = cc
 
 not_simple : (args : List Text) (a : DiskAction) → simple_command_of args ≡ Some (Disk a) → ⊥
 not_simple args a is =
     option_and_then_some command_from (request_of commands args) (Disk a) is
-    (λ q calls given. not_named (bytes_eq (codes "run") q.command) (bytes_eq (codes "asm") q.command) (run_from q.taken)
-    (asm_from q.taken) a given)
+    (λ q calls given. not_named (bytes_eq (codes "run") q.command) (bytes_eq (codes "asm") q.command) (bytes_eq (codes "soak") q.command) (run_from q.taken)
+    (asm_from q.taken) (soak_from q.taken) a given)
 
 action_given : (args : List Text) (a : DiskAction) → command_of args ≡ Some (Disk a) → (rest : List Text) × (action_of rest ≡ Some a)
 action_given [] a is = absurd (cc)

@@ -95,7 +95,7 @@ may_keep None ended h j f = ap (λ (x : Outside). x.file) f.1
 may_keep (Some name) ended h j f = f.keeps.file
 
 -- a disk that isn't accepted
-refused_disk : (v : Verdict) (d : ℕ) (fault : Option DiskFault) (fetches : Verdict → List Text) (outputs : List HostCall) (cause : Refusal) (h : Outside) → IsDiskCause d fault cause
+pub refused_disk : (v : Verdict) (d : ℕ) (fault : Option DiskFault) (fetches : Verdict → List Text) (outputs : List HostCall) (cause : Refusal) (h : Outside) → IsDiskCause d fault cause
     → ((x : DiskFault) → fault ≡ Some x → v ≡ Refuses (refusal.Disk d x.block x.rule)) → ((b r : ℕ) → fetches (Refuses (refusal.Disk d b r)) ≡ [])
     → Stage v fetches outputs (Some cause) None h h
 refused_disk v d fault fetches outputs (refusal.Disk e b r) h cause refuses none =

@@ -4,7 +4,7 @@ use Rattle.std.specs.List.{list_any}
 use Rattle.std.proofs.Common.{◌⊎◌, inl, inr, ◌==◌, IsTrue, ◌≡◌, ◌≢◌, ◌↔◌, ℕ, Bool, true, false, nat_le, if◌then◌else◌, List, length, Option, Some, None, IsSome, refl, sym, ap, ap₂, subst, ◌∙◌}
 use Rattle.std.specs.Prelude.{option_map}
 use Rattle.std.specs.Option.{option_or}
-use Rattle.command_line.specs.Commands.{Command, Run, Asm, Disk}
+use Rattle.command_line.specs.Commands.{Command, Run, Asm, Soak, Disk}
 use Rattle.command_line.specs.Reading.{Text}
 use Rattle.command_line.specs.RunArgs.{RunFiles}
 use Rattle.given_disks.specs.Disks.{disks_of}
@@ -33,6 +33,7 @@ use Rattle.xinu_commands.proofs.Files.{run_keeps, schedule_read, schedule_refuse
 use Rattle.xinu_commands.proofs.ImageFiles.{images_read, images_refused}
 use Rattle.xinu_commands.proofs.Printed.{some_is_none}
 use Rattle.xinu_commands.proofs.RunDisks.{clean_read, clean_refused, raw_read, raw_refused}
+use Rattle.xinu_commands.proofs.SoakVerdicts.{soak_keeps}
 use Rattle.xinu_commands.proofs.Staged.{action_keeps}
 
 -- ---- which statuses there are
@@ -101,6 +102,7 @@ called_due exit command old new left a memory fault = a.calls.all (decided_by a.
 command_keeps : (c : Command) (file : Text → Option (List ℕ)) (unseen : Input → List ℕ) → verdict (Some c) file unseen ≢ Refuses refusal.Usage
 command_keeps (Run r) file unseen = run_keeps (wanted_of r) (file_bytes (file r.schedule) (unseen ScheduleInput)) _ _ _
 command_keeps (Asm a) file unseen = asm_keeps a.elf (file_bytes (file a.source) (unseen SourceInput))
+command_keeps (Soak seed) file unseen = soak_keeps seed
 command_keeps (Disk action) file unseen = action_keeps action _
 
 -- Only the verdict that there is no command calls for the status 2.

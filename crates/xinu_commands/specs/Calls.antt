@@ -1,6 +1,6 @@
 -- The calls of the host that are due: the files that a command fetches, and then those that it writes.
 use Rattle.std.specs.Prelude.{ℕ, zero, suc, List, [], ◌∷◌, ◌++◌, map, take, Option, Some, None}
-use Rattle.command_line.specs.Commands.{Command, Run, Asm, Disk}
+use Rattle.command_line.specs.Commands.{Command, Run, Asm, Soak, Disk}
 use Rattle.command_line.specs.DiskArgs.{DiskAction, Mkfs, Ls, Get, Put, Check, Repair}
 use Rattle.command_line.specs.Reading.{Text}
 use Rattle.command_line.specs.RunArgs.{DiskFiles, RunFiles}
@@ -57,6 +57,7 @@ abbrev pub fetches_of : Option Command → Verdict → List Text
 fetches_of None v = []
 fetches_of (Some (Run r)) v = run_fetches r v
 fetches_of (Some (Asm a)) v = a.source ∷ []
+fetches_of (Some (Soak seed)) v = []
 fetches_of (Some (Disk action)) v = action_fetches action v
 
 -- ---- the files that are written
@@ -84,6 +85,7 @@ abbrev pub outputs_of : Option Command → List HostCall
 outputs_of None = []
 outputs_of (Some (Run r)) = run_outputs r.disks
 outputs_of (Some (Asm a)) = naming Image a.out ∷ []
+outputs_of (Some (Soak seed)) = []
 outputs_of (Some (Disk action)) = action_outputs action
 
 -- A file is written only if there is work to do.

@@ -7,6 +7,7 @@ pub mod PlainSteps
 pub mod Refusals
 pub mod RunVerdict
 pub mod Setups
+pub mod SoakVerdict
 pub mod Stages
 pub mod Statuses
 pub mod Theorem

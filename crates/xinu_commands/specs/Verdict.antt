@@ -1,13 +1,14 @@
 -- What a command deserves by the bytes of its files. The stages of a run are in RunVerdict.antt, those of `asm` in AsmVerdict.antt, those
--- of an action on a disk in DiskVerdict.antt, and what work puts out is in Work.antt.
+-- of `soak` in SoakVerdict.antt, those of an action on a disk in DiskVerdict.antt, and what work puts out is in Work.antt.
 use Rattle.std.specs.Prelude.{◌+◌, ℕ, List, [], ◌∷◌, Option, Some, None, is_some}
-use Rattle.command_line.specs.Commands.{Command, Run, Asm, Disk}
+use Rattle.command_line.specs.Commands.{Command, Run, Asm, Soak, Disk}
 use Rattle.command_line.specs.DiskArgs.{DiskAction, Mkfs, Ls, Get, Put, Check, Repair}
 use Rattle.command_line.specs.Reading.{Text}
 use Rattle.command_line.specs.RunArgs.{RunFiles}
 use Rattle.xinu_commands.specs.AsmVerdict.{asm_verdict}
 use Rattle.xinu_commands.specs.DiskVerdict.{check_verdict, get_verdict, ls_verdict, mkfs_verdict, put_verdict, repair_verdict}
 use Rattle.xinu_commands.specs.RunVerdict.{empty_disk0, empty_disk1, run_verdict}
+use Rattle.xinu_commands.specs.SoakVerdict.{soak_verdict}
 use Rattle.xinu_commands.specs.Work.{Verdict, Wanted, Refuses}
 use Rattle.xinu_commands.specs.declared.refusals.Refusal.TheVariants as refusal
 
@@ -56,4 +57,5 @@ verdict (Some (Run r)) file unseen =
     run_verdict (wanted_of r) (file_bytes (file r.schedule) (unseen ScheduleInput)) (disk_bytes r.disks.disk0 empty_disk0 file (unseen Disk0Input))
     (disk_bytes r.disks.disk1 empty_disk1 file (unseen Disk1Input)) (image_bytes 1 r.images file (λ i. unseen (ImageInput i)))
 verdict (Some (Asm a)) file unseen = asm_verdict a.elf (file_bytes (file a.source) (unseen SourceInput))
+verdict (Some (Soak seed)) file unseen = soak_verdict seed
 verdict (Some (Disk action)) file unseen = action_verdict action (λ input name. file_bytes (file name) (unseen input))

@@ -2,6 +2,7 @@
 use Rattle.std.specs.Prelude.{◌≡◌, ℕ, Bool, List, [], ◌∷◌, ◌++◌, Option, Some, None, if◌then◌else◌}
 use Rattle.given_disks.specs.HeldFiles.{HoldsFiles}
 use Rattle.machine.specs.Disks.{raw_bytes}
+use Rattle.soak.specs.Soaks.{Soaks}
 use Rattle.xinu_base.specs.declared.events.Event.{Event}
 use Rattle.xinu_base.specs.declared.events.End.{End}
 use Rattle.xinu_base.specs.declared.lines.TranscriptLine.{TranscriptLine}
@@ -41,9 +42,11 @@ pub record Left : Type 0 where
   pub state : Xinu
   pub disk1 : List ℕ
 
--- The work that is due: a run from this start through these events; or an output, text with a disk or another file.
+-- The work that is due: a run from this start through these events; the soak test of a number from this start; or an output, text with a disk
+-- or another file.
 pub data Work : Type 0 where
   Runs : (wanted : Wanted) → (start : Xinu) → (events : List Event) → Work
+  Soaking : (seed : ℕ) → (start : Xinu) → Work
   Outputs : (out : List ℕ) → (disk1 image : Option (List ℕ)) → Work
 
 -- a refusal by its cause, or the work that is due
@@ -109,6 +112,23 @@ pub record RunWrites (wanted : Wanted) (start : Xinu) (events : List Event) (o :
   pub output : RunOutput wanted start events o last.state (Some last.disk1)
   pub leaves : left ≡ Some last
 
+-- The output is the summary of the soak test of a number from this start, which leads to this state.
+pub record SoakOutput (seed : ℕ) (start : Xinu) (output : Output) (last : Xinu) : Type 0 where
+  pub summary_line : List ℕ
+  pub soaks : Soaks seed start summary_line last
+  pub written : output ≡ output_of summary_line None None
+
+-- The output is that of a soak test.
+pub record SoakBegins (seed : ℕ) (start : Xinu) (o : Output) : Type 0 where
+  pub last : Xinu
+  pub output : SoakOutput seed start o last
+
+-- The output is that of a soak test, and its last state is left.
+pub record SoakWrites (seed : ℕ) (start : Xinu) (o : Output) (left : Option Left) : Type 0 where
+  pub last : Left
+  pub output : SoakOutput seed start o last.state
+  pub leaves : left ≡ Some last
+
 -- The output is exactly this one, and no machine is left.
 pub record OutputWrites (out : List ℕ) (disk1 image : Option (List ℕ)) (output : Output) (left : Option Left) : Type 0 where
   pub written : output ≡ output_of out disk1 image
@@ -117,9 +137,11 @@ pub record OutputWrites (out : List ℕ) (disk1 image : Option (List ℕ)) (outp
 -- What work may put out, up to where it is broken off. It is a relation, since a run may have several outcomes.
 abbrev pub Begins : Work → Output → Type 0
 Begins (Runs wanted start events) output = RunBegins wanted start events output
+Begins (Soaking seed start) output = SoakBegins seed start output
 Begins (Outputs out disk1 image) output = output ≡ output_of out disk1 image
 
 -- What work puts out, and what it leaves.
 abbrev pub Writes : Work → Output → Option Left → Type 0
 Writes (Runs wanted start events) output left = RunWrites wanted start events output left
+Writes (Soaking seed start) output left = SoakWrites seed start output left
 Writes (Outputs out disk1 image) output left = OutputWrites out disk1 image output left

@@ -9,6 +9,7 @@ use crate::asm_command::assemble_file;
 use crate::disk::act;
 use crate::refusals::Refusal;
 use crate::run_command::run;
+use crate::soak_command::soak_machine;
 use command_line::Command;
 use host_port::Host;
 use machine::Machine;
@@ -36,6 +37,10 @@ pub(crate) fn carry_out<H: Host>(
         },
         Command::Asm(files) => match assemble_file(alloc, &files, host) {
             Ok(()) => Ok(None),
+            Err(refusal) => Err(refusal),
+        },
+        Command::Soak(seed) => match soak_machine(alloc, seed, host) {
+            Ok(machine) => Ok(Some(machine)),
             Err(refusal) => Err(refusal),
         },
         Command::Disk(action) => match act(alloc, action, host) {

@@ -1,9 +1,9 @@
-//! The commands of the program: it runs images under a schedule and prints the transcript, assembles texts, and makes, checks and changes
-//! disks with files.
+//! The commands of the program: it runs images under a schedule and prints the transcript, assembles texts, makes, checks and changes
+//! disks with files, and runs the workload of a number.
 //!
 //! The commands are `run --schedule FILE IMAGE ..`, which with `--plain` prints the bytes of the console alone, and takes its disks from
-//! `--disk0` and `--disk1` and writes them to `--out0` and `--out1`; `asm SOURCE --out FILE`, which writes an ELF file with `--elf`; and `disk` with
-//! six actions: `mkfs`, `ls`, `get`, `put`, `check` and `repair`. Each goes over any host.
+//! `--disk0` and `--disk1` and writes them to `--out0` and `--out1`; `asm SOURCE --out FILE`, which writes an ELF file with `--elf`; `disk` with
+//! six actions: `mkfs`, `ls`, `get`, `put`, `check` and `repair`; and `soak N`, which prints a summary. Each goes over any host.
 //!
 //! | Call | Promise |
 //! |---|---|
@@ -22,6 +22,7 @@ mod run_command;
 mod run_disks;
 mod runs;
 mod sending;
+mod soak_command;
 mod top;
 
 pub use top::xinu;

@@ -78,6 +78,19 @@ fn send_disk<H: Host>(
     }
 }
 
+/// Sends a text on Out.
+///
+/// # Errors
+/// `HostFault` if the host failed; `NoMemory`.
+pub(crate) fn print_text<H: Host>(host: &mut H, text: &[u8]) -> Result<(), Refusal>
+    ensures sends { SendsOutput (output_of text.now None None) [] (refusal_of result) (H.view host.old) (H.view host.new) }
+{
+    match host.emit(Channel::Out, text) {
+        Ok(()) => Ok(()),
+        Err(fault) => Err(Refusal::from(fault)),
+    }
+}
+
 /// Prints a line.
 ///
 /// # Errors
