@@ -5,7 +5,7 @@ use Rattle.xinu_base.specs.declared.events.Event.{Event}
 use Rattle.xinu_base.specs.declared.events.Event.TheVariants.{Step}
 use Rattle.xinu_model.specs.Events.{effect_of, next_file_call, step_with, stepped}
 use Rattle.xinu_model.specs.Files.Work.{FileRequest}
-use Rattle.xinu_model.specs.Machine.{Xinu, nothing_happens}
+use Rattle.xinu_model.specs.Machine.{Xinu}
 use Rattle.xinu_model.specs.Runs.{end_with, is_over}
 use Rattle.xinu_model.specs.Text.{text}
 use Rattle.transcript_laws.specs.Choices.{says_done, step_told, told}

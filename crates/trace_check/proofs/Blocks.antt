@@ -19,7 +19,7 @@ use Rattle.xinu_laws.proofs.RawDisks.Kept.{disk_read_keeps, disk_write_keeps, di
 use Rattle.xinu_laws.proofs.Rows.RowByRow.{◌⨾◌}
 use Rattle.xinu_laws.proofs.Touches.Continued.{continued_touches}
 use Rattle.xinu_laws.proofs.Touches.Events.{touches_ticked}
-use Rattle.xinu_laws.proofs.Touches.Few.{IsLawOfFew, built_law_of_few}
+use Rattle.xinu_laws.proofs.Touches.Few.{IsLawOfFew, law_of_few}
 use Rattle.xinu_laws.proofs.Touches.Moves.{touches_sent}
 use Rattle.xinu_laws.specs.Ownership.GivingAway.{next}
 use Rattle.xinu_laws.specs.Touches.{at_a_tick, reach, touched_by, Touches}
@@ -118,7 +118,7 @@ left_alone (rest.Disk reply) = refl
 
 reacted_blocks : (o : Outcome) (s : Xinu) → IsSound s → KeepsBlocks s (reacted o s).state
 reacted_blocks outcome.Went s k = refl
-reacted_blocks outcome.Call s k = let call = call_of (current_hart s) in built_law_of_few blocks_law call.number call.args s k
+reacted_blocks outcome.Call s k = let call = call_of (current_hart s) in law_of_few blocks_law call.number call.args s k
 reacted_blocks outcome.Exit s k = killed_blocks s.tables.current (start s)
 reacted_blocks (outcome.Trap cause) s k = killed_blocks s.tables.current (start s)
 

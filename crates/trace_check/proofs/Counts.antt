@@ -12,7 +12,7 @@ use Rattle.xinu_model.specs.Events.{call_line, call_of, effect_of, next_file_cal
 use Rattle.xinu_model.specs.Files.Syscalls.{all_told, at_once, completed_in, completing, file_line, file_step, files_of, told, with_step}
 use Rattle.xinu_model.specs.Files.Work.{FileNote, FileRequest, calls_completed, copied, issued, least_effects}
 use Rattle.xinu_model.specs.Isa.Exec.{exec}
-use Rattle.xinu_model.specs.Machine.{CallResult, CallState, EventResult, Xinu, current_hart, end_of_event, is_off, nothing_happens, start}
+use Rattle.xinu_model.specs.Machine.{CallResult, CallState, Xinu, current_hart, end_of_event, is_off, start}
 use Rattle.xinu_model.specs.Ports.Queues.{MessagePort, port_at}
 use Rattle.xinu_model.specs.Process.Scheduling.{resched}
 use Rattle.xinu_model.specs.RawDisk.Calls.{disk_of, reply_kept, served_in, serving, with_disk}
