@@ -2,6 +2,7 @@ pub mod Added
 pub mod Along
 pub mod Joined
 pub mod Loaded
+pub mod Runs
 pub mod Sent
 pub mod SomeTest
 pub mod Whole
