@@ -13,12 +13,10 @@ follows : (o : Option End) (n : ℕ) (events : List Event) (first lines : List T
     → ((k : ℕ) (rest : List TranscriptLine) → Takes k mid events rest new end → RunsTo mid events rest new end)
     → TakesAfter o (λ k rest. Takes k mid events rest new end) n first lines mid new end
     → Follows o (λ rest. RunsTo mid events rest new end) first lines mid new end
-follows (Some with_event) n events first lines mid new end runs t = t.1
-follows None n events first lines mid new end runs t = (t.1.0, runs t.0 t.1.0 t.1.1.0, t.1.1.1.1)
+follows (Some with_event) n events first lines mid new end runs t = (t.1, t.2, t.3)
+follows None n events first lines mid new end runs t = (t.1, runs t.0 t.1 t.2, t.4)
 
 pub is_run : (n : ℕ) (old : Xinu) (events : List Event) (lines : List TranscriptLine) (new : Xinu) (end : End) → Takes n old events lines new end → RunsTo old events lines new end
-is_run n old [] lines new end t = t.1
+is_run n old [] lines new end t = (t.1, t.2, t.3)
 is_run n old (e ∷ events) lines new end t =
-    let mid = t.0 in
-    let first = t.1.0 in
-    (mid, first, t.1.1.0, follows (end_with (panics_in old e) (is_over mid)) n events first lines mid new end (λ k rest run. is_run k mid events rest new end run) t.1.1.1)
+    (t.0, t.1, t.2, follows (end_with (panics_in old e) (is_over t.0)) n events t.1 lines t.0 new end (λ k rest run. is_run k t.0 events rest new end run) t.3)
