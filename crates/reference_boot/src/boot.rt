@@ -101,7 +101,13 @@ fn with_image(m: &mut Machine, number: u8, image: &Image<'_>) -> Result<(), NoSt
         return Err(NoStart::NoRoom(number));
     };
     let size = stack_size(image.stack);
-    let x = new_process(image_name(number), image.priority, Pid::default(), top, size);
+    let x = new_process(
+        image_name(number),
+        image.priority,
+        Pid::default(),
+        top,
+        size,
+    );
     let hart = new_hart(first_entry(image.entry), top);
     let Ok(()) = make_process(m, p, x, hart) else {
         return Err(NoStart::NoMemory);

@@ -19,6 +19,7 @@ use xinu_base::NoMemory;
 
 // How many blocks the raw disk has, and how many file devices there are.
 const BLOCKS: usize = 64;
+
 const DEVICES: usize = 6;
 
 /// The machine with the images in RAM, on the disks that it has if it is given none.
@@ -129,8 +130,10 @@ pub(crate) fn no_work(alloc: Global, system: FileSystem) -> FileWork
 pub(crate) fn on_disks(m: &mut Machine, disk: RawDisk, system: FileSystem)
     requires idle { disk.requests ≡ [] }
     requires closed { system.devices ≡ replicate 6 None }
-    ensures given { m.new ≡ record m.old { state = model.on_disks
-        (record { blocks = disk.blocks; size = system.blocks; files = system.files }) m.old.state } }
+    ensures given { m.new ≡ record m.old {
+      state = model.on_disks
+          (record { blocks = disk.blocks; size = system.blocks; files = system.files }) m.old.state;
+    } }
 {
     m.files = no_work(*m.released.allocator(), system);
     m.disk = disk;

@@ -1,4 +1,4 @@
-use Rattle.std.proofs.Common.{◌≡◌, ◌∙◌, ◌∷◌, [], ◌++◌, ap, replicate, rules}
+use Rattle.std.proofs.Common.{◌≡◌, ◌∙◌, ◌∷◌, [], ◌++◌, ap, rules}
 use Rattle.std.proofs.lemmas.List.{replicate-append-replicate}
 use Rattle.xinu_model.specs.Ports.Queues.{no_port}
 use Rattle.reference_boot.proofs.first.first_ports.Goals as goal

@@ -1,0 +1,48 @@
+/* logs.c - main, logger */
+
+#include <xinu.h>
+
+#define	LINES	3			/* Lines of a log		*/
+
+/*------------------------------------------------------------------------
+ *  logger  -  Write a log of a few lines, read it back, and say what is
+ *		there
+ *------------------------------------------------------------------------
+ */
+process	logger(
+	  uint32	name,		/* The file's name		*/
+	  char		letter		/* What each line begins with	*/
+	)
+{
+	char	line[] = "?0\n";
+	char	log[64];
+	did32	file;
+	int32	i, n;
+
+	file = open(LFILESYS, (char *)name, "rw");
+	line[0] = letter;
+	for (i = 0; i < LINES; i++) {
+		line[1] = '1' + i;
+		write(file, line, 3);
+	}
+	seek(file, 0);
+	n = read(file, log, sizeof(log));
+	printf("%s, %d bytes: %c%c..%c%c\n", (char *)name, n, log[0], log[1], log[n - 3], log[n - 2]);
+	close(file);
+	return OK;
+}
+
+/*------------------------------------------------------------------------
+ *  main  -  Start two processes that write a log each, and wait for both
+ *------------------------------------------------------------------------
+ */
+process	main(void)
+{
+	resume(create(logger, 2048, 20, "logger", (uint32)"log1", 'a'));
+	resume(create(logger, 2048, 20, "logger", (uint32)"log2", 'b'));
+	receive();		/* A process that dies sends its number */
+	receive();
+	printf("both logs are written\n");
+	sleepms(1);		/* Let the console send the lines */
+	return OK;
+}
