@@ -4,6 +4,8 @@
 
 #define	LINES	3			/* Lines of a log		*/
 
+static	sid32	done;			/* Logs that are written	*/
+
 /*------------------------------------------------------------------------
  *  logger  -  Write a log of a few lines, read it back, and say what is
  *		there
@@ -29,6 +31,7 @@ process	logger(
 	n = read(file, log, sizeof(log));
 	printf("%s, %d bytes: %c%c..%c%c\n", (char *)name, n, log[0], log[1], log[n - 3], log[n - 2]);
 	close(file);
+	signal(done);
 	return OK;
 }
 
@@ -38,10 +41,11 @@ process	logger(
  */
 process	main(void)
 {
+	done = semcreate(0);
 	resume(create(logger, 2048, 20, "logger", (uint32)"log1", 'a'));
 	resume(create(logger, 2048, 20, "logger", (uint32)"log2", 'b'));
-	receive();		/* A process that dies sends its number */
-	receive();
+	wait(done);
+	wait(done);
 	printf("both logs are written\n");
 	sleepms(1);		/* Let the console send the lines */
 	return OK;
