@@ -139,7 +139,7 @@ def file_run(folder, calls):
     for k, name in enumerate("abcd"):
         source, image = os.path.join(folder, f"{name}.s"), os.path.join(folder, name)
         with open(source, "w") as file:
-            file.write(f"        .org {65536 * k}\n" + WRITER.format(name=name, at=524288 + 4096 * k, **calls))
+            file.write(f"        .place {65536 * k}\n" + WRITER.format(name=name, at=524288 + 4096 * k, **calls))
         timed(["asm", source, "--out", image])
         images.append(image)
     seconds, memory, _ = timed(["run", "--plain", "--schedule", schedule, "--disk1", disk, "--out1", out, *images])
