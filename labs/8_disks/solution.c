@@ -22,12 +22,14 @@ static	void	keep(
 }
 
 /*------------------------------------------------------------------------
- *  main  -  Keep a text in two blocks, and read it back
+ *  main  -  Keep a text in two blocks and in a file, and read it back
  *------------------------------------------------------------------------
  */
 process	main(void)
 {
 	char	block[DISK_BLKSIZ];
+	char	text[8];
+	did32	file;
 
 	printf("%d blocks\n", control(DISK0, RD_CTL_BLOCKS, 0));
 	memset(block, 0, DISK_BLKSIZ);
@@ -39,7 +41,15 @@ process	main(void)
 	if (read(DISK0, block, BLOCK) == SYSERR) {
 		read(DISK0, block, MIRROR);
 	}
-	printf("[%s]\n", block);
+	printf("block [%s]\n", block);
+
+	memset(text, 0, sizeof(text));
+	file = open(LFILESYS, "log", "rw");
+	write(file, "kept", 4);
+	seek(file, 0);
+	read(file, text, 4);
+	printf("file [%s]\n", text);
+	close(file);
 	sleepms(1);
 	return OK;
 }
