@@ -6,7 +6,7 @@ use std::process::Abort;
 use std::test::Fail;
 
 /// Arguments, with a bar between two, and the command that they give.
-const COMMANDS: [(&str, &str); 53] = [
+const COMMANDS: [(&str, &str); 55] = [
     // a run of one image
     (
         "run|--schedule|s|i",
@@ -213,10 +213,13 @@ const COMMANDS: [(&str, &str); 53] = [
         "disk|repair|d|--out|d",
         r#"Disk(Repair { image: "d", out: "d" })"#,
     ),
+    // the number of a workload
+    ("soak|0", "Soak(0)"),
+    ("soak|4294967295", "Soak(4294967295)"),
 ];
 
 /// Arguments that give no command.
-const NO_COMMANDS: [&str; 135] = [
+const NO_COMMANDS: [&str; 138] = [
     // the first argument
     "--schedule|s|i",
     "--schedule|s|run|i",
@@ -226,7 +229,6 @@ const NO_COMMANDS: [&str; 135] = [
     "xinu|run|--schedule|s|i",
     "--|run|--schedule|s|i",
     "asm|--schedule|s|i",
-    "soak|1",
     // help and the version
     "help",
     "--help",
@@ -366,6 +368,11 @@ const NO_COMMANDS: [&str; 135] = [
     "disk|mkfs|+14|--out|d",
     "disk|mkfs|14 |--out|d",
     "disk|mkfs|0x14|--out|d",
+    // a number too few, too many or too great
+    "soak",
+    "soak|1|2",
+    "soak|4294967296",
+    "soak|-1",
 ];
 
 // The arguments of a line as a program is given them.
