@@ -1,17 +1,17 @@
-use Rattle.std.proofs.Common.{arith, map}
-use Rattle.std.proofs.lemmas.List.{length-map}
-use Rattle.image_loader.specs.Images.{loaded_of}
-use Rattle.xinu_laws.proofs.Preserve.Disks.{sound_boot_on}
+use Rattle.std.proofs.Common.{◌∙◌, ◌/◌, List, ℕ, length, ap, subst, sym}
+use Rattle.file_laws.specs.StoredFiles.{stored_files}
+use Rattle.given_disks.proofs.Given.{sound_disks}
+use Rattle.xinu_laws.specs.GivenDisks.{AreSoundDisks}
 use Rattle.xinu_model.specs.Boot.{Disks}
-use Rattle.reference_check.proofs.Starts.{within_start}
+use Rattle.xinu_model.specs.Files.Systems.{FileSystem, closed_system}
 use Rattle.reference_check.proofs.checks.check_trace.Goals as goal
 
-pub check_from-requires-clause-within : goal.check_from-requires-clause-within
-check_from-requires-clause-within c =
-    let disks : Disks = record { blocks = c.args.disk.blocks; size = c.args.system.blocks; files = c.args.system.files } in
-    let images = map loaded_of c.args.images.now in
-    let n = length-map c.args.images.now loaded_of in
-    let few = c.requires.few in
-    let boots = c.in-Ok.ensures.boots in
-    within_start disks images c.in-Ok.inside.state c.requires.blocks
-    (sound_boot_on disks images c.in-Ok.inside.state (omega (arith, n, few)) c.requires.sound boots) boots
+pub check_on-requires-clause-sound : goal.check_on-requires-clause-sound
+check_on-requires-clause-sound c =
+    let disks : List (List ℕ) → FileSystem → Disks = λ b s. record { blocks = b; size = s.blocks; files = s.files } in
+    let disk0 = c.args.disk0.now in
+    let disk1 = c.args.disk1.now in
+    let system : FileSystem = closed_system (length disk1 / 512) (stored_files disk1) in
+    let blocks = ap (λ b. disks b system) (sym c.in-Ok.ensures.blocks) in
+    let files = ap (disks c.in-Ok.disk.blocks) (sym c.in-Ok-file_system_of.ensures.system) in
+    subst AreSoundDisks (blocks ∙ files) (sound_disks disk0 disk1 c.raw_disk_of.ensures.raw c.file_system_of.ensures.clean)
