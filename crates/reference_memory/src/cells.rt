@@ -15,10 +15,10 @@ pub(crate) fn cells_for(n: u32) -> usize
 pub(crate) fn begins_with(kind: bool, k: usize, cells: &[bool]) -> bool
     ensures begins { result ≡ model.begins_with kind k cells.now }
 {
+    if cells.len() < k {
+        return false;
+    }
     for i in 0..k {
-        if i >= cells.len() {
-            return false;
-        }
         if cells[i] != kind {
             return false;
         }

@@ -1,13 +1,10 @@
-use Rattle.std.proofs.Common.{◌≡◌, ◌∙◌, ◌<◌, ◌≢◌, ◌-◌, sym, length, rules, arith, false}
+use Rattle.std.proofs.Common.{◌≡◌, ◌∙◌, ◌<◌, ◌≢◌, sym, length, rules, arith, false}
 use Rattle.std.specs.Prelude.{slice_index_or}
-use Rattle.reference_memory.proofs.HeapCells.{begins_next, begins_other, begins_beyond}
+use Rattle.reference_memory.proofs.HeapCells.{begins_next, begins_other, begins_short}
 use Rattle.reference_memory.proofs.cells.begins_with.Goals as goal
 
-pub returns-then-i-cells : goal.returns-then-i-cells
-returns-then-i-cells c = record {
-  begins = sym (begins_beyond c.args.kind (c.args.k - c.loop-i.i) c.loop-i.i c.args.cells.now (omega arith) (omega arith))
-      ∙ c.loop-i.invariant;
-}
+pub returns-then-cells-k : goal.returns-then-cells-k
+returns-then-cells-k c = record { begins = sym (begins_short c.args.kind c.args.k c.args.cells.now (omega arith)) }
 
 pub returns-then-cells-i : goal.returns-then-cells-i
 returns-then-cells-i c =
