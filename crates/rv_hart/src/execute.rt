@@ -14,7 +14,7 @@ use rv_isa::{immediate_b, immediate_i, immediate_j, immediate_s, immediate_u, rd
 use xinu_base::{Cause, Hart, Outcome};
 
 /// Does what a word says.
-#[inline]
+#[inline(always)]
 pub fn execute(hart: &mut Hart, ram: &mut Ram, word: u32) -> Outcome
     ensures outcome { result ≡ (perform word hart.old ram.old).outcome }
     ensures hart { hart.new ≡ (perform word hart.old ram.old).hart }
@@ -37,7 +37,7 @@ pub fn execute(hart: &mut Hart, ram: &mut Ram, word: u32) -> Outcome
 }
 
 // An operation on two registers.
-#[inline]
+#[inline(always)]
 fn register_operation(hart: &mut Hart, word: u32) -> Outcome
     ensures outcome { (memory : List ℕ) → result ≡ (of_opcode 0x33 word hart.old memory).outcome }
     ensures hart { (memory : List ℕ) → hart.new ≡ (of_opcode 0x33 word hart.old memory).hart }
@@ -63,7 +63,7 @@ fn register_operation(hart: &mut Hart, word: u32) -> Outcome
 }
 
 // An operation on a register and an immediate.
-#[inline]
+#[inline(always)]
 fn immediate_operation(hart: &mut Hart, word: u32) -> Outcome
     ensures outcome { (memory : List ℕ) → result ≡ (of_opcode 0x13 word hart.old memory).outcome }
     ensures hart { (memory : List ℕ) → hart.new ≡ (of_opcode 0x13 word hart.old memory).hart }
@@ -88,7 +88,7 @@ fn immediate_operation(hart: &mut Hart, word: u32) -> Outcome
 }
 
 // A load from RAM into a register.
-#[inline]
+#[inline(always)]
 fn load(hart: &mut Hart, ram: &Ram, word: u32) -> Outcome
     ensures outcome { result ≡ (of_opcode 0x03 word hart.old ram.now).outcome }
     ensures hart { hart.new ≡ (of_opcode 0x03 word hart.old ram.now).hart }
@@ -113,7 +113,7 @@ fn load(hart: &mut Hart, ram: &Ram, word: u32) -> Outcome
 }
 
 // A store of a register into RAM.
-#[inline]
+#[inline(always)]
 fn store(hart: &mut Hart, ram: &mut Ram, word: u32) -> Outcome
     ensures outcome { result ≡ (of_opcode 0x23 word hart.old ram.old).outcome }
     ensures hart { hart.new ≡ (of_opcode 0x23 word hart.old ram.old).hart }
@@ -136,7 +136,7 @@ fn store(hart: &mut Hart, ram: &mut Ram, word: u32) -> Outcome
 }
 
 // A branch, taken if its condition holds.
-#[inline]
+#[inline(always)]
 fn branch(hart: &mut Hart, word: u32) -> Outcome
     ensures outcome { (memory : List ℕ) → result ≡ (of_opcode 0x63 word hart.old memory).outcome }
     ensures hart { (memory : List ℕ) → hart.new ≡ (of_opcode 0x63 word hart.old memory).hart }
@@ -163,7 +163,7 @@ fn branch(hart: &mut Hart, word: u32) -> Outcome
 }
 
 // A jump by an immediate.
-#[inline]
+#[inline(always)]
 fn jump(hart: &mut Hart, word: u32) -> Outcome
     ensures outcome { (memory : List ℕ) → result ≡ (of_opcode 0x6f word hart.old memory).outcome }
     ensures hart { (memory : List ℕ) → hart.new ≡ (of_opcode 0x6f word hart.old memory).hart }
@@ -179,7 +179,7 @@ fn jump(hart: &mut Hart, word: u32) -> Outcome
 }
 
 // A jump to a register and an immediate.
-#[inline]
+#[inline(always)]
 fn jump_register(hart: &mut Hart, word: u32) -> Outcome
     ensures outcome { (memory : List ℕ) → result ≡ (of_opcode 0x67 word hart.old memory).outcome }
     ensures hart { (memory : List ℕ) → hart.new ≡ (of_opcode 0x67 word hart.old memory).hart }
@@ -198,7 +198,7 @@ fn jump_register(hart: &mut Hart, word: u32) -> Outcome
 }
 
 // LUI: the immediate.
-#[inline]
+#[inline(always)]
 fn load_upper(hart: &mut Hart, word: u32) -> Outcome
     ensures outcome { (memory : List ℕ) → result ≡ (of_opcode 0x37 word hart.old memory).outcome }
     ensures hart { (memory : List ℕ) → hart.new ≡ (of_opcode 0x37 word hart.old memory).hart }
@@ -209,7 +209,7 @@ fn load_upper(hart: &mut Hart, word: u32) -> Outcome
 }
 
 // AUIPC: the immediate and the instruction's own address.
-#[inline]
+#[inline(always)]
 fn add_upper_to_pc(hart: &mut Hart, word: u32) -> Outcome
     ensures outcome { (memory : List ℕ) → result ≡ (of_opcode 0x17 word hart.old memory).outcome }
     ensures hart { (memory : List ℕ) → hart.new ≡ (of_opcode 0x17 word hart.old memory).hart }
@@ -220,7 +220,7 @@ fn add_upper_to_pc(hart: &mut Hart, word: u32) -> Outcome
 }
 
 // FENCE: nothing.
-#[inline]
+#[inline(always)]
 fn fence(hart: &mut Hart, word: u32) -> Outcome
     ensures outcome { (memory : List ℕ) → result ≡ (of_opcode 0x0f word hart.old memory).outcome }
     ensures hart { (memory : List ℕ) → hart.new ≡ (of_opcode 0x0f word hart.old memory).hart }
@@ -234,7 +234,7 @@ fn fence(hart: &mut Hart, word: u32) -> Outcome
 }
 
 // ECALL and EBREAK.
-#[inline]
+#[inline(always)]
 fn system(hart: &mut Hart, word: u32) -> Outcome
     ensures outcome { (memory : List ℕ) → result ≡ (of_opcode 0x73 word hart.old memory).outcome }
     ensures hart { (memory : List ℕ) → hart.new ≡ (of_opcode 0x73 word hart.old memory).hart }
@@ -251,7 +251,7 @@ fn system(hart: &mut Hart, word: u32) -> Outcome
 }
 
 // The value of a register; x0 is 0.
-#[inline]
+#[inline(always)]
 fn register(hart: &Hart, number: u32) -> u32
     requires { number < 32 }
     ensures { result ≡ register hart.now.regs number }
@@ -264,7 +264,7 @@ fn register(hart: &Hart, number: u32) -> u32
 }
 
 // The destination register takes a value, and the process goes on after the instruction.
-#[inline]
+#[inline(always)]
 fn give(hart: &mut Hart, word: u32, value: u32)
     ensures { hart.new ≡ (record { regs = with_register hart.old.regs (rd_of word) value; pc = plus hart.old.pc 4 }) }
 {
@@ -276,7 +276,7 @@ fn give(hart: &mut Hart, word: u32, value: u32)
 }
 
 // Whether one word is less than another, as signed numbers.
-#[inline]
+#[inline(always)]
 fn is_less(a: u32, b: u32) -> bool
     ensures { result ≡ less a b }
 {
@@ -284,7 +284,7 @@ fn is_less(a: u32, b: u32) -> bool
 }
 
 // A word shifted right, with its sign shifted in.
-#[inline]
+#[inline(always)]
 fn shifted_right_signed(a: u32, n: u32) -> u32
     ensures { result ≡ shift_right_signed a n }
 {
@@ -292,7 +292,7 @@ fn shifted_right_signed(a: u32, n: u32) -> u32
 }
 
 // The byte at an address, with its sign in the bits above.
-#[inline]
+#[inline(always)]
 fn signed_byte(ram: &Ram, a: u32) -> Option<u32>
     ensures { result ≡ (if may_access a 1 then Some (sign_extended 8 (number_at ram.now a 1)) else None) }
 {
@@ -301,7 +301,7 @@ fn signed_byte(ram: &Ram, a: u32) -> Option<u32>
 }
 
 // The half word at an address, with its sign in the bits above.
-#[inline]
+#[inline(always)]
 fn signed_half(ram: &Ram, a: u32) -> Option<u32>
     ensures { result ≡ (if may_access a 2 then Some (sign_extended 16 (number_at ram.now a 2)) else None) }
 {
@@ -310,7 +310,7 @@ fn signed_half(ram: &Ram, a: u32) -> Option<u32>
 }
 
 // The byte at an address, with zeros above.
-#[inline]
+#[inline(always)]
 fn unsigned_byte(ram: &Ram, a: u32) -> Option<u32>
     ensures { result ≡ (if may_access a 1 then Some (number_at ram.now a 1) else None) }
 {
@@ -319,7 +319,7 @@ fn unsigned_byte(ram: &Ram, a: u32) -> Option<u32>
 }
 
 // The half word at an address, with zeros above.
-#[inline]
+#[inline(always)]
 fn unsigned_half(ram: &Ram, a: u32) -> Option<u32>
     ensures { result ≡ (if may_access a 2 then Some (number_at ram.now a 2) else None) }
 {
@@ -328,7 +328,7 @@ fn unsigned_half(ram: &Ram, a: u32) -> Option<u32>
 }
 
 // Stores the lowest byte of a word.
-#[inline]
+#[inline(always)]
 fn store_byte(ram: &mut Ram, a: u32, word: u32) -> bool
     ensures stored { result ≡ may_access a 1 }
     ensures memory { ram.new ≡ (if may_access a 1 then with_number ram.old a 1 word else ram.old) }
@@ -337,7 +337,7 @@ fn store_byte(ram: &mut Ram, a: u32, word: u32) -> bool
 }
 
 // Stores the lower half of a word.
-#[inline]
+#[inline(always)]
 fn store_half(ram: &mut Ram, a: u32, word: u32) -> bool
     ensures stored { result ≡ may_access a 2 }
     ensures memory { ram.new ≡ (if may_access a 2 then with_number ram.old a 2 word else ram.old) }

@@ -12,7 +12,7 @@ use xinu_base::{Cause, Hart, INITRET, Outcome};
 /// `Exit` comes if the pc is 0xfffffffc, `Trap(Fetch)` if it is no multiple of 4 or RAM has no word there; both change nothing. Otherwise
 /// the word is carried out: `Trap(Illegal)` if it is no instruction, `Call` for `ECALL`, after which the pc is that of the next
 /// instruction. Register x0 stays 0.
-#[inline]
+#[inline(always)]
 #[tactic(auto, unfolding(xinu_model::specs::Isa::Exec::exec))]
 pub fn step(hart: &mut Hart, ram: &mut Ram) -> Outcome
     ensures outcome { result ≡ (exec hart.old ram.old).outcome }
