@@ -10,8 +10,9 @@ use Rattle.command_line.specs.Reading.{CommandRow, Request, Taken, Text, option_
 use Rattle.command_line.specs.RunArgs.{RunFiles, run_from, run_options}
 use Rattle.command_line.specs.AsmArgs.{AsmFiles, asm_from, asm_options}
 use Rattle.command_line.specs.DiskArgs.{DiskAction, action_from, action_of, actions, check_of, get_of, ls_of, mkfs_of, out_options, printing, put_of, repair_of, writing}
-use Rattle.command_line.specs.Commands.{Command, Run, Asm, Soak, asm_row, command_from, commands, run_row, simple_command_of, soak_row}
-use Rattle.command_line.specs.Parser.{action_command_in, args_in, asm_in, disk_app, run_in, simple_app, simple_command_in, soak_in}
+use Rattle.command_line.specs.CheckArgs.{CheckFiles, check_from, check_options}
+use Rattle.command_line.specs.Commands.{Command, Run, Asm, Soak, Check, asm_row, check_row, command_from, commands, run_row, simple_command_of, soak_row}
+use Rattle.command_line.specs.Parser.{action_command_in, args_in, asm_in, check_in, disk_app, run_in, simple_app, simple_command_in, soak_in}
 use Rattle.command_line.specs.SoakArgs.{soak_from, soak_options}
 use Rattle.command_line.proofs.Table.{rules}
 use Rattle.command_line.proofs.Rows.{Holds}
@@ -71,9 +72,23 @@ asm_read rows t h =
 soak_read : (rows : List Row) (t : Taken) → Holds soak_options rows t → soak_from t ≡ soak_in (fold with_default rows (rules soak_options))
 soak_read rows t h = rw (args_read soak_options rows t h refl) refl
 
+check_read : (rows : List Row) (t : Taken) → Holds check_options rows t → check_from t ≡ check_in (fold with_default rows (rules check_options))
+check_read rows t h =
+    rw (
+      value_read check_options rows t h (codes "schedule") _ refl refl refl refl,
+      value_read check_options rows t h (codes "trace") _ refl refl refl refl,
+      value_read check_options rows t h (codes "disk0") _ refl refl refl refl,
+      value_read check_options rows t h (codes "disk1") _ refl refl refl refl,
+      args_read check_options rows t h refl,
+    ) refl
+
 -- the command that tests on its name choose
-abbrev chosen_command : Bool → Bool → Bool → Option RunFiles → Option AsmFiles → Option ℕ → Option Command
-chosen_command a b c run asm soak = if a then option_map Run run else (if b then option_map Asm asm else (if c then option_map Soak soak else None))
+abbrev chosen_command : Bool → Bool → Bool → Bool → Option RunFiles → Option AsmFiles → Option ℕ → Option CheckFiles → Option Command
+chosen_command a b c d run asm soak check =
+    if a then option_map Run run
+    else (if b then option_map Asm asm
+    else (if c then option_map Soak soak
+    else (if d then option_map Check check else None)))
 
 module _ (rows : List Row) (t : Taken) where
   -- the rows that the matches hold by the options of a command
@@ -81,24 +96,29 @@ module _ (rows : List Row) (t : Taken) where
   rows_at c = fold with_default rows (rules c.options)
 
   -- the command by the tests on its name, in the order of the table
-  command_by_tests : (a b c : Bool) (row : CommandRow) → cond a (Some run_row) (cond b (Some asm_row) (cond c (Some soak_row) None)) ≡ Some row
+  command_by_tests : (a b c d : Bool) (row : CommandRow)
+      → cond a (Some run_row) (cond b (Some asm_row) (cond c (Some soak_row) (cond d (Some check_row) None))) ≡ Some row
       → Holds row.options rows t
-      → chosen_command a b c (run_from t) (asm_from t) (soak_from t)
-      ≡ chosen_command a b c (run_in (rows_at row)) (asm_in (rows_at row)) (soak_in (rows_at row))
-  command_by_tests true b c row is h =
+      → chosen_command a b c d (run_from t) (asm_from t) (soak_from t) (check_from t)
+      ≡ chosen_command a b c d (run_in (rows_at row)) (asm_in (rows_at row)) (soak_in (rows_at row)) (check_in (rows_at row))
+  command_by_tests true b c d row is h =
       at_row rows t run_row row is (λ r. option_map Run (run_from t) ≡ option_map Run (run_in (rows_at r)))
       (λ k. ap (λ (r : Option RunFiles). option_map Run r) (run_read rows t k)) h
-  command_by_tests false true c row is h =
+  command_by_tests false true c d row is h =
       at_row rows t asm_row row is (λ r. option_map Asm (asm_from t) ≡ option_map Asm (asm_in (rows_at r)))
       (λ k. ap (λ (a : Option AsmFiles). option_map Asm a) (asm_read rows t k)) h
-  command_by_tests false false true row is h =
+  command_by_tests false false true d row is h =
       at_row rows t soak_row row is (λ r. option_map Soak (soak_from t) ≡ option_map Soak (soak_in (rows_at r)))
       (λ k. ap (λ (n : Option ℕ). option_map Soak n) (soak_read rows t k)) h
-  command_by_tests false false false row is h = absurd (cc)
+  command_by_tests false false false true row is h =
+      at_row rows t check_row row is (λ r. option_map Check (check_from t) ≡ option_map Check (check_in (rows_at r)))
+      (λ k. ap (λ (c : Option CheckFiles). option_map Check c) (check_read rows t k)) h
+  command_by_tests false false false false row is h = absurd (cc)
 
 command_taken : (sub : Option (Text × List Row)) (r : Request) → Enters commands r sub → command_from r ≡ simple_command_in sub
 command_taken sub r h =
-    command_by_tests h.rows r.taken (bytes_eq (codes "run") r.command) (bytes_eq (codes "asm") r.command) (bytes_eq (codes "soak") r.command) h.row h.named h.holds
+    command_by_tests h.rows r.taken (bytes_eq (codes "run") r.command) (bytes_eq (codes "asm") r.command) (bytes_eq (codes "soak") r.command)
+    (bytes_eq (codes "check") r.command) h.row h.named h.holds
     ∙ ap simple_command_in (sym h.entered)
 
 -- matches give the command

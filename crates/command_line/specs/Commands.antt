@@ -5,11 +5,13 @@ use Rattle.command_line.specs.RunArgs.{RunFiles, run_from, run_options}
 use Rattle.command_line.specs.AsmArgs.{AsmFiles, asm_from, asm_options}
 use Rattle.command_line.specs.DiskArgs.{DiskAction, action_of}
 use Rattle.command_line.specs.SoakArgs.{soak_from, soak_options}
+use Rattle.command_line.specs.CheckArgs.{CheckFiles, check_from, check_options}
 
 pub data Command : Type 0 where
   Run : RunFiles → Command
   Asm : AsmFiles → Command
   Soak : (seed : ℕ) → Command
+  Check : CheckFiles → Command
   Disk : DiskAction → Command
 
 -- ---- the commands without actions
@@ -23,18 +25,22 @@ asm_row = record { name = codes "asm"; options = asm_options }
 abbrev pub soak_row : CommandRow
 soak_row = record { name = codes "soak"; options = soak_options }
 
+abbrev pub check_row : CommandRow
+check_row = record { name = codes "check"; options = check_options }
+
 abbrev pub commands : List CommandRow
-commands = run_row ∷ asm_row ∷ soak_row ∷ []
+commands = run_row ∷ asm_row ∷ soak_row ∷ check_row ∷ []
 
 -- the command of this name, by what was taken for each
-abbrev pub command_named : Text → Option RunFiles → Option AsmFiles → Option ℕ → Option Command
-command_named name run asm soak =
+abbrev pub command_named : Text → Option RunFiles → Option AsmFiles → Option ℕ → Option CheckFiles → Option Command
+command_named name run asm soak check =
     if bytes_eq (codes "run") name then option_map Run run
     else (if bytes_eq (codes "asm") name then option_map Asm asm
-    else (if bytes_eq (codes "soak") name then option_map Soak soak else None))
+    else (if bytes_eq (codes "soak") name then option_map Soak soak
+    else (if bytes_eq (codes "check") name then option_map Check check else None)))
 
 abbrev pub command_from : Request → Option Command
-command_from r = command_named r.command (run_from r.taken) (asm_from r.taken) (soak_from r.taken)
+command_from r = command_named r.command (run_from r.taken) (asm_from r.taken) (soak_from r.taken) (check_from r.taken)
 
 -- The command without actions that the arguments give.
 abbrev pub simple_command_of : List Text → Option Command

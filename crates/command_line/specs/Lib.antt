@@ -2,6 +2,7 @@ pub mod Reading
 pub mod RunArgs
 pub mod AsmArgs
 pub mod SoakArgs
+pub mod CheckArgs
 pub mod DiskArgs
 pub mod Commands
 pub mod Names

@@ -10,6 +10,7 @@ use Rattle.command_line.specs.RunArgs.{RunFiles, disk_files, run_of}
 use Rattle.command_line.specs.AsmArgs.{AsmFiles, asm_of}
 use Rattle.command_line.specs.DiskArgs.{DiskAction, action_named, actions}
 use Rattle.command_line.specs.SoakArgs.{soak_of}
+use Rattle.command_line.specs.CheckArgs.{CheckFiles, check_of, start_files}
 use Rattle.command_line.specs.Commands.{Command, command_named, commands}
 
 -- an option: it is used once
@@ -76,8 +77,12 @@ asm_in rows = asm_of (first_of (codes "out") rows) (flag_in (codes "elf") rows) 
 abbrev pub soak_in : List Row → Option ℕ
 soak_in rows = soak_of (args_in rows)
 
+abbrev pub check_in : List Row → Option CheckFiles
+check_in rows =
+    check_of (first_of (codes "schedule") rows) (first_of (codes "trace") rows) (start_files (λ name. first_of name rows)) (args_in rows)
+
 abbrev pub command_in : Text → List Row → Option Command
-command_in name rows = command_named name (run_in rows) (asm_in rows) (soak_in rows)
+command_in name rows = command_named name (run_in rows) (asm_in rows) (soak_in rows) (check_in rows)
 
 -- the command without actions that the matches give
 abbrev pub simple_command_in : Option (Text × List Row) → Option Command

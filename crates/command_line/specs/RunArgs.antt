@@ -54,12 +54,16 @@ disk_files value = record {
 abbrev pub may_be_disks : DiskFiles → Bool
 may_be_disks d = may_be_named d.disk0 && (may_be_named d.disk1 && (may_be_named d.out0 && may_be_named d.out1))
 
--- `run --schedule FILE [--disk0 FILE] [--disk1 FILE] [--out0 FILE] [--out1 FILE] [--plain] IMAGE..`: a schedule and at least one image, at
--- most as many as there may be, and each file that is named has a name.
+-- whether these can be the files of a run's schedule, disks and images: there is at least one image, there are at most as many as there
+-- may be, and each file that is named has a name
+abbrev pub are_run_files : Text → DiskFiles → List Text → Bool
+are_run_files schedule disks images = is_file_name schedule && (may_be_disks disks && (list_all is_file_name images
+    && (nat_lt 0 (length images) && nat_le (length images) most_images)))
+
+-- `run --schedule FILE [--disk0 FILE] [--disk1 FILE] [--out0 FILE] [--out1 FILE] [--plain] IMAGE..`
 abbrev pub run_of : Option Text → DiskFiles → Bool → List Text → Option RunFiles
 run_of None disks plain images = None
-run_of (Some schedule) disks plain images = if is_file_name schedule && (may_be_disks disks && (list_all is_file_name images
-    && (nat_lt 0 (length images) && nat_le (length images) most_images)))
+run_of (Some schedule) disks plain images = if are_run_files schedule disks images
     then Some (record { schedule = schedule; disks = disks; images = images; plain = plain })
     else None
 

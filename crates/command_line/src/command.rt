@@ -11,6 +11,7 @@ ghost use Rattle.command_line.specs.DiskArgs as disk;
 ghost use Rattle.command_line.specs.declared.refusal.ArgsFault.TheVariants as fault;
 
 use crate::asm_args::{self, AsmFiles};
+use crate::check_args::{self, CheckFiles};
 use crate::disk_args::{self, DiskAction};
 use crate::parser::{action_matches, command_matches};
 use crate::refusal::ArgsFault;
@@ -28,6 +29,8 @@ pub enum Command<'a> {
     Asm(AsmFiles<'a>),
     /// Run the workload of a number.
     Soak(u32),
+    /// Check a transcript against a run of images under a schedule.
+    Check(CheckFiles<'a>),
     /// Do something with a disk.
     Disk(DiskAction<'a>),
 }
@@ -37,9 +40,10 @@ pub enum Command<'a> {
 /// # Errors
 ///
 /// [`ArgsFault::NoCommand`] if and only if the arguments give none and there is memory to read them: another first argument than `run`,
-/// `asm`, `soak` or `disk`, or another second one than an action of `disk`; an argument that names no option of it; an option given twice or without its value; an
-/// option or an argument that is missing, or an argument too many; an empty name; a name of a file on a disk that can't be one; a number of blocks that a
-/// disk can't have; a number of `soak` that isn't 1 to 10 decimal digits of a value of at most 4,294,967,295.
+/// `asm`, `soak`, `check` or `disk`, or another second one than an action of `disk`; an argument that names no option of it; an option
+/// given twice or without its value; an option or an argument that is missing, or an argument too many; an empty name; a name of a file
+/// on a disk that can't be one; a number of blocks that a disk can't have; a number of `soak` that isn't 1 to 10 decimal digits of a
+/// value of at most 4,294,967,295.
 /// [`ArgsFault::NoMemory`] if memory runs out, which may come on any arguments.
 pub fn command_of<'a>(alloc: Global, args: &'a [String]) -> Result<Command<'a>, ArgsFault>
     ensures command { IfOk result (λ c. commands.command_of (map string_bytes args.entry.now) ≡ Some (command_names c)) }
@@ -92,6 +96,10 @@ fn command_named<'a>(
         },
         "soak" => match soak_args::soak_of(alloc, matches) {
             Ok(seed) => Ok(Command::Soak(seed)),
+            Err(fault) => Err(fault),
+        },
+        "check" => match check_args::check_of(alloc, matches) {
+            Ok(files) => Ok(Command::Check(files)),
             Err(fault) => Err(fault),
         },
         _ => Err(ArgsFault::NoCommand),

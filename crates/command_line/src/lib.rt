@@ -2,7 +2,7 @@
 //!
 //! [`command_of`] reads them with `clap` and then by tests of its own: how many there are, which options are needed, that no name is empty, and
 //! what a number is. `specs/Reading.antt` reads the arguments from the left by a table of options; `specs/RunArgs.antt`, `specs/AsmArgs.antt`,
-//! `specs/SoakArgs.antt` and `specs/DiskArgs.antt` have the tables, and `specs/Commands.antt` the commands.
+//! `specs/SoakArgs.antt`, `specs/CheckArgs.antt` and `specs/DiskArgs.antt` have the tables, and `specs/Commands.antt` the commands.
 //!
 //! | Call | Promise |
 //! |---|---|
@@ -14,6 +14,7 @@
 #![tactic(auto)]
 
 mod asm_args;
+mod check_args;
 mod command;
 mod disk_args;
 mod matches;
@@ -23,6 +24,7 @@ mod run_args;
 mod soak_args;
 
 pub use asm_args::AsmFiles;
+pub use check_args::CheckFiles;
 pub use command::{Command, command_of};
 pub use disk_args::DiskAction;
 pub use refusal::ArgsFault;

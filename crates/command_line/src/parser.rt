@@ -7,7 +7,7 @@ ghost use Rattle.clap.specs.Words.{app_of, fault_of, is_simple, is_simple_and_fr
 ghost use Rattle.clap.specs.declared.builder.command.Command.TheViews.{out-Command as fields_of};
 ghost use Rattle.command_line.specs.Reading.{flag_option, value_option};
 ghost use Rattle.command_line.specs.DiskArgs as disk;
-ghost use Rattle.command_line.specs.Commands.{asm_row, run_row, simple_command_of};
+ghost use Rattle.command_line.specs.Commands.{asm_row, check_row, run_row, simple_command_of};
 ghost use Rattle.command_line.specs.Parser.{action_command_in, arg_rule, command_app, disk_app, option_rule, program_app, simple_app, simple_command_in};
 ghost use Rattle.command_line.specs.declared.refusal.ArgsFault.TheVariants as fault;
 
@@ -16,7 +16,7 @@ use clap::error::ErrorKind;
 use clap::{Arg, ArgAction, ArgMatches, Command};
 use std::alloc::{AllocError, Global};
 
-/// The matches of arguments whose first names a command without actions, `run`, `asm` or `soak`, or why there are none.
+/// The matches of arguments whose first names a command without actions, `run`, `asm`, `soak` or `check`, or why there are none.
 pub(crate) fn command_matches<'a>(
     alloc: Global,
     args: &'a [String],
@@ -62,7 +62,8 @@ fn command_parser<'a>(alloc: Global) -> Result<Command<'a>, AllocError>
     program(alloc, "xinu_run")
         .subcommand(run_command(alloc)?)?
         .subcommand(asm_command(alloc)?)?
-        .subcommand(printing(alloc, "soak")?)
+        .subcommand(printing(alloc, "soak")?)?
+        .subcommand(check_command(alloc)?)
 }
 
 // The command `disk` with its actions.
@@ -137,6 +138,18 @@ fn asm_command<'a>(alloc: Global) -> Result<Command<'a>, AllocError>
 {
     let command = with_value(Command::new(alloc, "asm"), alloc, "out")?;
     let command = with_flag(command, alloc, "elf")?;
+    with_args(command, alloc)
+}
+
+// The command `check`, with its options.
+fn check_command<'a>(alloc: Global) -> Result<Command<'a>, AllocError>
+    ensures told { IfOk result (λ c. app_of c ≡ command_app check_row) }
+    ensures local { IfOk result (λ c. (fields_of c).has_globals ≡ false) }
+{
+    let command = with_value(Command::new(alloc, "check"), alloc, "schedule")?;
+    let command = with_value(command, alloc, "trace")?;
+    let command = with_value(command, alloc, "disk0")?;
+    let command = with_value(command, alloc, "disk1")?;
     with_args(command, alloc)
 }
 

@@ -1,6 +1,6 @@
 //! The arguments of the command `run`.
 
-ghost use Rattle.std.specs.Prelude.{◌≡◌, IfOk, IsErrOf, Some, None, option_map};
+ghost use Rattle.std.specs.Prelude.{◌≡◌, IfOk, IsErrOf, Some, None, map, option_map};
 ghost use Rattle.clap.specs.Walk.{first_of, rows_of};
 ghost use Rattle.clap.specs.Matches.{found_of};
 ghost use Rattle.command_line.specs.Names.{disk_names, run_names};
@@ -52,9 +52,7 @@ pub(crate) fn run_of<'a>(alloc: Global, matches: &ArgMatches<'a>) -> Result<RunF
         return Err(ArgsFault::NoCommand);
     };
     let disks = disks_of(matches);
-    let has_images = !images.is_empty() && images.len() <= MOST_IMAGES;
-    let has_names = !schedule.is_empty() && may_be_disks(&disks);
-    if has_names && are_file_names(images.as_slice()) && has_images {
+    if are_run_files(schedule, &disks, images.as_slice()) {
         let plain = is_given(matches, "plain");
         Ok(RunFiles {
             schedule,
@@ -65,6 +63,15 @@ pub(crate) fn run_of<'a>(alloc: Global, matches: &ArgMatches<'a>) -> Result<RunF
     } else {
         Err(ArgsFault::NoCommand)
     }
+}
+
+/// Whether these can be the names of a run's files: of one to eight images, and none is empty.
+pub(crate) fn are_run_files(schedule: &str, disks: &DiskFiles<'_>, images: &[&str]) -> bool
+    ensures files { result ≡ run.are_run_files schedule.now (disk_names disks.entry.now) (map (λ s. s.now) images.now) }
+{
+    let has_images = !images.is_empty() && images.len() <= MOST_IMAGES;
+    let has_names = !schedule.is_empty() && may_be_disks(disks);
+    has_names && are_file_names(images) && has_images
 }
 
 // The files of the disks.

@@ -15,8 +15,8 @@
 //! ticks so far are at most 2147483647; and at most 64 processes wait on a semaphore whose count is asked for. Out of memory is the only
 //! refusal by the code.
 //!
-//! The calls that make and end processes, and those on memory, are in `reference_memory`; those on pools, ports and devices aren't here
-//! yet.
+//! The calls that make and end processes, and those on memory, are in `reference_memory`, those on pools and ports in `reference_ports`, and
+//! those on devices in `reference_switch`, `reference_devices` and `reference_files`.
 #![tactic(auto)]
 
 pub mod clock;

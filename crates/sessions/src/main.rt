@@ -1,4 +1,5 @@
-//! Plays the sessions of the texts that its arguments name. It prints how many commands printed what is written, and where another did not.
+//! Plays the sessions of the texts that its arguments name. It prints how many commands printed what is written, how many of the transcripts that
+//! they printed `check` accepts, and where it was otherwise.
 //!
 //! A text is Markdown. Below each heading its lines that are indented by four spaces are a session at a terminal. A line of it that begins
 //! with `$` is a command, and the lines below are its own:

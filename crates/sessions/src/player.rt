@@ -42,6 +42,10 @@ pub(crate) struct Player {
     calls: u64,
     /// How many of them printed what is written.
     as_written: u64,
+    /// How many of them printed the transcript of a whole run.
+    transcripts: u64,
+    /// How many of these `check` accepts.
+    accepted: u64,
     /// Where something else came, and what.
     troubles: String,
 }
@@ -54,6 +58,8 @@ impl Player {
             session: Session::new(alloc),
             calls: 0,
             as_written: 0,
+            transcripts: 0,
+            accepted: 0,
             troubles: String::new(alloc),
         }
     }
@@ -89,7 +95,7 @@ impl Player {
         self.carry_out(place, &command)
     }
 
-    /// Prints how many commands printed what is written, and where others did not.
+    /// Prints how many commands printed what is written, how many transcripts are accepted, and where it was otherwise.
     ///
     /// # Errors
     /// A failure of the output.
@@ -98,6 +104,10 @@ impl Player {
         rt.print(" of ")?;
         rt.print(self.calls)?;
         rt.println(" commands printed what is written")?;
+        rt.print(self.accepted)?;
+        rt.print(" of ")?;
+        rt.print(self.transcripts)?;
+        rt.println(" transcripts are accepted")?;
         rt.print(self.troubles.as_str())
     }
 
@@ -148,9 +158,10 @@ impl Player {
         arguments: &str,
         lines: &str,
     ) -> io::Result<()> {
-        let printed = self.session.xinu(arguments)?;
+        let outcome = self.session.xinu(arguments)?;
         self.calls = self.calls.saturating_add(1);
-        match first_difference(lines, printed.as_str()) {
+        self.note_judgement(place, line, outcome.is_accepted)?;
+        match first_difference(lines, outcome.printed.as_str()) {
             None => {
                 self.as_written = self.as_written.saturating_add(1);
                 Ok(())
@@ -159,6 +170,27 @@ impl Player {
                 let text = difference.text(self.alloc)?;
                 let at = line.saturating_add(difference.line);
                 self.tell(place, at, text.as_str())
+            }
+        }
+    }
+
+    // Notes whether the transcript of the command on a line is accepted, if it printed one.
+    fn note_judgement(
+        &mut self,
+        place: Place<'_>,
+        line: u64,
+        is_accepted: Option<bool>,
+    ) -> io::Result<()> {
+        match is_accepted {
+            None => Ok(()),
+            Some(true) => {
+                self.transcripts = self.transcripts.saturating_add(1);
+                self.accepted = self.accepted.saturating_add(1);
+                Ok(())
+            }
+            Some(false) => {
+                self.transcripts = self.transcripts.saturating_add(1);
+                self.tell(place, line, "its transcript isn't accepted")
             }
         }
     }

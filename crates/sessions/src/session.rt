@@ -9,6 +9,18 @@ use xinu_commands::xinu;
 /// How many addresses the image of a process has.
 const IMAGE_SIZE: u32 = 4096;
 
+/// The name of the file with the transcript that is judged.
+const TRANSCRIPT: &str = "transcript";
+
+/// What came of a command.
+#[derive(Drop)]
+pub(crate) struct Outcome {
+    /// What it printed.
+    pub(crate) printed: String,
+    /// Whether `check` accepts what it printed, if that is the transcript of a whole run.
+    pub(crate) is_accepted: Option<bool>,
+}
+
 /// A file of a session.
 #[derive(Drop)]
 struct File {
@@ -68,22 +80,44 @@ impl Session {
         self.add_file(name.as_str(), bytes)
     }
 
-    /// Makes the top call with these arguments, and answers what it prints. The files that it writes are of the session afterwards.
+    /// Makes the top call with these arguments. If it prints the transcript of a whole run, `check` judges that on the same files. The files
+    /// that the call writes are of the session afterwards.
     ///
     /// # Errors
     /// Out of memory.
-    pub(crate) fn xinu(&mut self, arguments: &str) -> io::Result<String> {
+    pub(crate) fn xinu(&mut self, arguments: &str) -> io::Result<Outcome> {
         let mut args = Vec::new(self.alloc);
         for word in arguments.split_whitespace() {
             args.push(String::from_str(self.alloc, word)?)?;
         }
         let mut host = self.host()?;
         let status = status_of(self.alloc, args.as_slice(), &mut host);
+        let is_accepted = if status == 0 {
+            self.judged(arguments, host.sent(Channel::Out))?
+        } else {
+            None
+        };
         self.keep_written(arguments, "--out", Channel::Image, &host)?;
         self.keep_written(arguments, "--out", Channel::Disk1, &host)?;
         self.keep_written(arguments, "--out0", Channel::Disk0, &host)?;
         self.keep_written(arguments, "--out1", Channel::Disk1, &host)?;
-        Ok(shown(self.alloc, &host, status)?)
+        Ok(Outcome {
+            printed: shown(self.alloc, &host, status)?,
+            is_accepted,
+        })
+    }
+
+    // Whether `check` accepts what a run with these arguments printed; none if they aren't those of a run that prints its transcript.
+    fn judged(&self, arguments: &str, transcript: &[u8]) -> io::Result<Option<bool>> {
+        let Some(args) = check_arguments(self.alloc, arguments)? else {
+            return Ok(None);
+        };
+        let mut host = self.host()?;
+        if host.add_file(TRANSCRIPT, transcript).is_err() {
+            return Err(ErrorKind::OutOfMemory)?;
+        }
+        let status = status_of(self.alloc, args.as_slice(), &mut host);
+        Ok(Some(status == 0 && host.sent(Channel::Out) == b"yes\n".as_slice()))
     }
 
     // A host with the files of the session.
@@ -114,6 +148,30 @@ impl Session {
             _ => Ok(()),
         }
     }
+}
+
+// The arguments with which `check` judges what a run with these arguments prints: the same but for the files that are written; none if it
+// prints no transcript.
+fn check_arguments(alloc: Global, arguments: &str) -> io::Result<Option<Vec<String>>> {
+    let mut words = arguments.split_whitespace();
+    if words.next().unwrap_or("") != "run" {
+        return Ok(None);
+    }
+    let mut args = Vec::new(alloc);
+    for word in ["check", "--trace", TRANSCRIPT] {
+        args.push(String::from_str(alloc, word)?)?;
+    }
+    let mut is_written = false;
+    for word in words {
+        if word == "--plain" {
+            return Ok(None);
+        }
+        if !is_written && !word.starts_with("--out") {
+            args.push(String::from_str(alloc, word)?)?;
+        }
+        is_written = word == "--out0" || word == "--out1";
+    }
+    Ok(Some(args))
 }
 
 // The value of an option: the word after it, or what follows the `=` after it.

@@ -10,9 +10,9 @@ use Rattle.xinu_commands.specs.Conversions.{args_refusal}
 use Rattle.xinu_commands.specs.Calls.{calls_due}
 use Rattle.xinu_commands.specs.Refusals.{TellsRefusal, text_of}
 use Rattle.xinu_commands.specs.Stages.{Performs}
-use Rattle.xinu_commands.specs.Theorem.{Answers, Carries, IsUnsent}
+use Rattle.xinu_commands.specs.Theorem.{Answers, IsUnsent}
 use Rattle.xinu_commands.specs.Verdict.{verdict}
-use Rattle.xinu_commands.specs.Work.{Does, Left, Outputs, Refuses, Runs, Soaking, Verdict}
+use Rattle.xinu_commands.specs.Work.{Left, Refuses}
 use Rattle.xinu_commands.specs.declared.refusals.Refusal.{Refusal}
 use Rattle.xinu_commands.specs.declared.refusals.Refusal.TheVariants as refusal
 use Rattle.xinu_commands.proofs.Carried.{carries_nothing, carries_within, unsent_both, unsent_refl}
@@ -50,19 +50,12 @@ fetched_unsent h k calls m is = record {
   image = ap (λ (x : Outside). x.image) is;
 }
 
--- A command that was done has the status 0.
-pub done_status : (v : Verdict) (left : Option Left) (h k : Outside) (c : Carries v None left h k) → 0 ≡ c.output.status
-done_status (Refuses cause) left h k c = (let work = c.deserved.1 in cc)
-done_status (Does (Runs wanted start events)) left h k c = sym (ap (λ o. o.status) c.sends.begins.output.written)
-done_status (Does (Soaking seed start)) left h k c = sym (ap (λ o. o.status) c.sends.begins.output.written)
-done_status (Does (Outputs out disk1 file)) left h k c = sym (ap (λ o. o.status) c.sends.begins)
-
--- A command that was done answers 0.
-pub done_answers : (command : Option Command) (left : Option Left) (h k : Outside) → Performs command None left h k → Answers 0 command h k left
-done_answers command left h k p = record {
+-- A command that was done answers the status of its output.
+pub done_answers : (command : Option Command) (left : Option Left) (exit : ℕ) (h k : Outside) (p : Performs command None left h k) → exit ≡ p.obeys.carries.output.status → Answers exit command h k left
+done_answers command left exit h k p status = record {
   ended = None;
   obeys = p.obeys;
-  status = done_status (verdict command h.file p.obeys.unseen) left h k p.obeys.carries;
+  status = status;
   message = p.keeps.fault;
   calls = p.calls;
   files = p.keeps.file;

@@ -8,7 +8,7 @@ use Rattle.soak.proofs.SomeTest.{some_test}
 use Rattle.xinu_model.specs.Text.{shown}
 use Rattle.xinu_model.proofs.Runs.{some_run}
 use Rattle.xinu_commands.specs.Theorem.{Carries, Deserved, IsPart, IsPartSent, IsSent, IsUnsent, IsWhole, Sends}
-use Rattle.xinu_commands.specs.Work.{Does, Left, Output, Outputs, Refuses, Runs, Soaking, Verdict, only_printed, output_of, run_output, transcript}
+use Rattle.xinu_commands.specs.Work.{Does, Judges, Left, Output, Outputs, Refuses, Runs, Soaking, Verdict, judgement, only_printed, output_of, run_output, transcript}
 use Rattle.xinu_commands.specs.declared.refusals.Refusal.{Refusal}
 use Rattle.xinu_commands.specs.declared.refusals.Refusal.TheVariants as refusal
 
@@ -60,6 +60,17 @@ carries_nothing (Does (Soaking seed start)) cause h k deserved unsent =
       };
       refused = λ some. refl;
     }
+carries_nothing (Does (Judges is_transcript)) cause h k deserved unsent = record {
+  output = judgement is_transcript;
+  deserved = deserved;
+  sends = record {
+    begins = refl;
+    part = nothing_sent (judgement is_transcript) h k unsent;
+    writes = λ none. absurd (cc);
+    whole = λ none. absurd (cc);
+  };
+  refused = λ some. refl;
+}
 carries_nothing (Does (Outputs out disk1 file)) cause h k deserved unsent = record {
   output = output_of out disk1 file;
   deserved = deserved;

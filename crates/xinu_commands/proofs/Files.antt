@@ -1,5 +1,5 @@
 -- The fetched bytes of the files, and the verdict on them.
-use Rattle.std.proofs.Common.{◌≡◌, ◌≢◌, ◌≤◌, ◌+◌, ℕ, List, [], ◌∷◌, length, take, Option, Some, None, refl, sym, ap, subst, ◌∙◌, inl, inr}
+use Rattle.std.proofs.Common.{◌≡◌, ◌≢◌, ◌≤◌, ◌+◌, ℕ, Bool, true, false, nat_le, if◌then◌else◌, List, [], ◌∷◌, length, take, Option, Some, None, refl, sym, ap, subst, ◌∙◌, inl, inr}
 use Rattle.std.proofs.lemmas.List.{take_all}
 use Rattle.std.specs.Prelude.{MatchOption, ⊤, option_map}
 use Rattle.host_port.specs.Outside.{Outside}
@@ -7,18 +7,22 @@ use Rattle.elf_loader.specs.LoadedFiles.{loads}
 use Rattle.schedule_file.specs.ScheduleFiles.{Bad, Many, Names, events_in}
 use Rattle.schedule_file.specs.declared.faults.ScheduleFault.{ScheduleFault}
 use Rattle.schedule_file.specs.declared.faults.ScheduleFault.TheVariants as schedule
-use Rattle.given_disks.specs.Disks.{disks_of}
 use Rattle.lfs_check.specs.declared.faults.DiskFault.{DiskFault}
 use Rattle.lfs_layout.specs.Images.{opened}
 use Rattle.xinu_base.specs.declared.events.Event.{Event}
-use Rattle.xinu_model.specs.Boot.{Loaded, Start, Boots, Overlaps, NoRoom, boot_on}
+use Rattle.transcript_laws.specs.Transcripts.{checks}
+use Rattle.given_disks.specs.Disks.{disks_of}
+use Rattle.xinu_model.specs.Boot.{Disks, Loaded, Start, Boots, Overlaps, NoRoom, boot_on}
 use Rattle.xinu_commands.specs.Conversions.{schedule_refusal}
 use Rattle.xinu_commands.specs.DiskVerdict.{disk_fault, rule_broken}
 use Rattle.xinu_commands.specs.InputFaults.{ReadsAs, schedule_fault, image_fault}
 use Rattle.xinu_commands.specs.Stages.{HoldsFault, HoldsSchedule, IsScheduleCause}
-use Rattle.xinu_commands.specs.RunVerdict.{Setup, run_verdict, disk0_verdict, disk1_verdict, raw_broken, raw_fault, start_verdict, boot_verdict, images_verdict}
+use Rattle.xinu_commands.specs.InputVerdict.{Next, disk0_verdict, disk1_verdict, images_verdict, inputs_verdict, raw_broken, raw_fault}
+use Rattle.xinu_commands.specs.Reading.{IsLater}
+use Rattle.xinu_commands.specs.RunVerdict.{Setup, boot_verdict, run_verdict, start_verdict}
+use Rattle.xinu_commands.specs.TraceVerdict.{judged_verdict, longest_trace, trace_verdict}
 use Rattle.xinu_commands.specs.Verdict.{file_bytes}
-use Rattle.xinu_commands.specs.Work.{Verdict, Wanted, Refuses, unless_fault}
+use Rattle.xinu_commands.specs.Work.{Verdict, Wanted, Does, Refuses, unless_fault}
 use Rattle.xinu_commands.specs.declared.refusals.Refusal.{Refusal}
 use Rattle.xinu_commands.specs.declared.refusals.Refusal.TheVariants as refusal
 use Rattle.xinu_commands.proofs.InputFaults.{cases_fetched, schedule_fault-fetched, schedule_fault-short, schedule_whole, image_fault-long}
@@ -76,17 +80,17 @@ pub unless_fault_refused : {T : Type 0} (fault : Option Refusal) (read : Option 
 unless_fault_refused fault read next cause is = rw is refl
 
 -- a schedule file that was read
-pub schedule_read : (wanted : Wanted) (bytes : List ℕ) (events : List Event) (disk0 disk1 : List ℕ) (images : List (List ℕ)) → ReadsAs bytes events
-    → run_verdict wanted bytes disk0 disk1 images ≡ disk0_verdict wanted events disk0 disk1 images
-schedule_read wanted bytes events disk0 disk1 images reads =
-    unless_fault_read (option_map refusal.Schedule (schedule_fault bytes)) (events_in bytes) (λ x. disk0_verdict wanted x disk0 disk1 images) events
+pub schedule_read : (next : Next) (bytes : List ℕ) (events : List Event) (disk0 disk1 : List ℕ) (images : List (List ℕ)) → ReadsAs bytes events
+    → inputs_verdict next bytes disk0 disk1 images ≡ disk0_verdict next events disk0 disk1 images
+schedule_read next bytes events disk0 disk1 images reads =
+    unless_fault_read (option_map refusal.Schedule (schedule_fault bytes)) (events_in bytes) (λ x. disk0_verdict next x disk0 disk1 images) events
     (ap (option_map refusal.Schedule) reads.good) reads.reads
 
 -- a schedule file with a fault
-pub schedule_refused : (wanted : Wanted) (bytes : List ℕ) (l : ℕ) (disk0 disk1 : List ℕ) (images : List (List ℕ)) → schedule_fault bytes ≡ Some l
-    → run_verdict wanted bytes disk0 disk1 images ≡ Refuses (refusal.Schedule l)
-schedule_refused wanted bytes l disk0 disk1 images is =
-    unless_fault_refused (option_map refusal.Schedule (schedule_fault bytes)) (events_in bytes) (λ x. disk0_verdict wanted x disk0 disk1 images)
+pub schedule_refused : (next : Next) (bytes : List ℕ) (l : ℕ) (disk0 disk1 : List ℕ) (images : List (List ℕ)) → schedule_fault bytes ≡ Some l
+    → inputs_verdict next bytes disk0 disk1 images ≡ Refuses (refusal.Schedule l)
+schedule_refused next bytes l disk0 disk1 images is =
+    unless_fault_refused (option_map refusal.Schedule (schedule_fault bytes)) (events_in bytes) (λ x. disk0_verdict next x disk0 disk1 images)
     (refusal.Schedule l) (ap (option_map refusal.Schedule) is)
 
 -- an image file that was read
@@ -134,14 +138,37 @@ image_keeps : (i : ℕ) (fault : Option ℕ) → option_map (refusal.Image i) fa
 image_keeps i None is = cc
 image_keeps i (Some f) is = cc
 
-start_keeps : (wanted : Wanted) (events : List Event) (s : Start) → start_verdict wanted events s ≢ Refuses refusal.Usage
-start_keeps wanted events (Boots x) is = cc
-start_keeps wanted events (Overlaps i) is = cc
-start_keeps wanted events (NoRoom i) is = cc
+-- what comes after the inputs doesn't
+pub later_keeps : (v : Verdict) → IsLater v → v ≢ Refuses refusal.Usage
+later_keeps (Refuses refusal.Usage) later is = later
+later_keeps (Refuses other) later is = cc
+later_keeps (Does work) later is = cc
 
-pub boot_keeps : (setup : Setup) (events : List Event) (images : List Loaded) → boot_verdict setup events images ≢ Refuses refusal.Usage
+start_later : (wanted : Wanted) (events : List Event) (s : Start) → IsLater (start_verdict wanted events s)
+start_later wanted events (Boots x) = tt
+start_later wanted events (Overlaps i) = tt
+start_later wanted events (NoRoom i) = tt
+
+-- a run comes after its inputs
+pub run_later : (wanted : Wanted) (events : List Event) (disks : Disks) (images : List Loaded) → IsLater (run_verdict wanted events disks images)
 unfolding boot_verdict
-boot_keeps setup events images is = start_keeps setup.wanted events (boot_on setup.disks images) is
+run_later wanted events disks images = start_later wanted events (boot_on disks images)
+
+judged_later : (s : Start) (b : Bool) → IsLater (judged_verdict s b)
+judged_later (Boots x) b = tt
+judged_later (Overlaps i) b = tt
+judged_later (NoRoom i) b = tt
+
+later_if : (b : Bool) (v w : Verdict) → IsLater v → IsLater w → IsLater (if b then v else w)
+later_if true v w first second = first
+later_if false v w first second = second
+
+-- and so does the judgement of a trace
+pub trace_later : (trace : List ℕ) (events : List Event) (disks : Disks) (images : List Loaded) → IsLater (trace_verdict trace events disks images)
+unfolding trace_verdict
+trace_later trace events disks images =
+    later_if (nat_le (length trace) longest_trace) (judged_verdict (boot_on disks images) (checks disks images events trace)) (Refuses refusal.TraceTooLong)
+    (judged_later (boot_on disks images) (checks disks images events trace)) tt
 
 pub images_keep : (i : ℕ) (files : List (List ℕ)) (next : List Loaded → Verdict)
     → ((images : List Loaded) → next images ≢ Refuses refusal.Usage) → images_verdict i files next ≢ Refuses refusal.Usage
@@ -158,18 +185,18 @@ clean_keeps : (f : Option DiskFault) → option_map rule_broken f ≢ Some refus
 clean_keeps None is = cc
 clean_keeps (Some x) is = cc
 
-pub disk1_keeps : (wanted : Wanted) (events : List Event) (disk0 disk1 : List ℕ) (images : List (List ℕ)) → disk1_verdict wanted events disk0 disk1 images ≢ Refuses refusal.Usage
-disk1_keeps wanted events disk0 disk1 images is =
-    let setup : List ℕ → Setup = λ d. record { disks = disks_of disk0 d; wanted = wanted } in
-    unless_fault_keeps (option_map rule_broken (disk_fault disk1)) (Some (opened disk1)) (λ d. images_verdict 1 images (boot_verdict (setup d) events)) (clean_keeps (disk_fault disk1))
-    (λ d. images_keep 1 images (boot_verdict (setup d) events) (λ x. boot_keeps (setup d) events x)) is
+module _ (next : Next) (later : (events : List Event) (disks : Disks) (images : List Loaded) → IsLater (next events disks images)) where
+  pub disk1_keeps : (events : List Event) (disk0 disk1 : List ℕ) (images : List (List ℕ)) → disk1_verdict next events disk0 disk1 images ≢ Refuses refusal.Usage
+  disk1_keeps events disk0 disk1 images is =
+      unless_fault_keeps (option_map rule_broken (disk_fault disk1)) (Some (opened disk1)) (λ d. images_verdict 1 images (next events (disks_of disk0 d))) (clean_keeps (disk_fault disk1))
+      (λ d. images_keep 1 images (next events (disks_of disk0 d)) (λ x. later_keeps (next events (disks_of disk0 d) x) (later events (disks_of disk0 d) x))) is
 
-pub disk0_keeps : (wanted : Wanted) (events : List Event) (disk0 disk1 : List ℕ) (images : List (List ℕ)) → disk0_verdict wanted events disk0 disk1 images ≢ Refuses refusal.Usage
-disk0_keeps wanted events disk0 disk1 images is =
-    unless_fault_keeps (option_map raw_broken (raw_fault disk0)) (Some disk0) (λ d. disk1_verdict wanted events d disk1 images) (raw_keeps (raw_fault disk0))
-    (λ d. disk1_keeps wanted events d disk1 images) is
+  pub disk0_keeps : (events : List Event) (disk0 disk1 : List ℕ) (images : List (List ℕ)) → disk0_verdict next events disk0 disk1 images ≢ Refuses refusal.Usage
+  disk0_keeps events disk0 disk1 images is =
+      unless_fault_keeps (option_map raw_broken (raw_fault disk0)) (Some disk0) (λ d. disk1_verdict next events d disk1 images) (raw_keeps (raw_fault disk0))
+      (λ d. disk1_keeps events d disk1 images) is
 
-pub run_keeps : (wanted : Wanted) (schedule disk0 disk1 : List ℕ) (images : List (List ℕ)) → run_verdict wanted schedule disk0 disk1 images ≢ Refuses refusal.Usage
-run_keeps wanted schedule disk0 disk1 images is =
-    unless_fault_keeps (option_map refusal.Schedule (schedule_fault schedule)) (events_in schedule) (λ events. disk0_verdict wanted events disk0 disk1 images) (schedule_keeps (schedule_fault schedule))
-    (λ events. disk0_keeps wanted events disk0 disk1 images) is
+  pub inputs_keep : (schedule disk0 disk1 : List ℕ) (images : List (List ℕ)) → inputs_verdict next schedule disk0 disk1 images ≢ Refuses refusal.Usage
+  inputs_keep schedule disk0 disk1 images is =
+      unless_fault_keeps (option_map refusal.Schedule (schedule_fault schedule)) (events_in schedule) (λ events. disk0_verdict next events disk0 disk1 images) (schedule_keeps (schedule_fault schedule))
+      (λ events. disk0_keeps events disk0 disk1 images) is

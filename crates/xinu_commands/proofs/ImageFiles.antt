@@ -1,4 +1,4 @@
--- The files of a run's images, fetched and read one after another.
+-- The files of images, fetched and read one after another.
 use Rattle.std.proofs.Common.{◌≡◌, ◌≤◌, ◌<◌, ◌+◌, ◌-◌, ◌==◌, ◌∙◌, ◌++◌, ◌||◌, ℕ, true, false, if◌then◌else◌, List, [], ◌∷◌, length, map, take, drop, get_or, Option, Some, None, refl, sym, ap, subst, arith, append_assoc, append-nil}
 use Rattle.std.proofs.lemmas.List.{drop_more, length-append, take_all}
 use Rattle.std.specs.Prelude.{Result, Ok, Err, IsErr, IsErrAnd, is_some, option_and_then, option_map}
@@ -6,19 +6,20 @@ use Rattle.command_line.specs.Reading.{Text}
 use Rattle.elf_loader.specs.LoadedFiles.{loads}
 use Rattle.host_port.specs.Outside.{Outside, HostCall}
 use Rattle.machine.specs.Printed.{Booted}
-use Rattle.xinu_base.specs.declared.events.Event.{Event}
 use Rattle.xinu_model.specs.Boot.{Loaded}
 use Rattle.xinu_commands.specs.InputFaults.{have_fault, image_fault, images_loaded}
-use Rattle.xinu_commands.specs.RunVerdict.{Setup, boot_verdict, images_verdict}
-use Rattle.xinu_commands.specs.Stages.{Fetches, IsFetched, RunsImages, Stage, images_left, left_of, no_fetches, refusal_of}
+use Rattle.xinu_commands.specs.InputVerdict.{images_verdict}
+use Rattle.xinu_commands.specs.Reading.{IsLater, ReadsImages, images_left}
+use Rattle.xinu_commands.specs.Stages.{Fetches, IsFetched, Stage, left_of, refusal_of}
 use Rattle.xinu_commands.specs.Theorem.{Deserved, IsDecided}
 use Rattle.xinu_commands.specs.Verdict.{file_bytes, image_bytes}
 use Rattle.xinu_commands.specs.Work.{Left, Refuses, Verdict, unless_fault}
 use Rattle.xinu_commands.specs.declared.refusals.Refusal.{Refusal}
 use Rattle.xinu_commands.specs.declared.refusals.Refusal.TheVariants as refusal
-use Rattle.xinu_commands.proofs.Fetches.{left_next, left_refused, none_left, run_after}
-use Rattle.xinu_commands.proofs.Files.{boot_keeps, image_fetched, image_read, image_refused, images_keep}
+use Rattle.xinu_commands.proofs.Fetches.{left_next, left_refused, none_left, read_after}
+use Rattle.xinu_commands.proofs.Files.{image_fetched, image_read, image_refused, images_keep, later_keeps}
 use Rattle.xinu_commands.proofs.GoodImages.{good_loads, good_parts}
+use Rattle.xinu_commands.proofs.Going.{goes_leads}
 use Rattle.xinu_commands.proofs.Staged.{fetched_stage, refused_stage, stage_as, stage_due, unfetched_stage}
 
 -- ---- the verdict on image files
@@ -93,13 +94,19 @@ pub no_files : have_fault [] ≡ false
 unfolding have_fault
 no_files = refl
 
--- what is carried out with the images that files load
-pub files_carry : (setup : Setup) (files : List (List ℕ)) (events : List Event) (images : List Loaded) (outputs : List HostCall) (ended : Option Refusal) (left : Option Left) (h k : Outside) → have_fault files ≡ false
-    → images_loaded files ≡ Some images → Stage (boot_verdict setup events images) no_fetches outputs ended left h k → Stage (images_verdict 1 files (boot_verdict setup events)) no_fetches outputs ended left h k
-files_carry setup files events images outputs ended left h k good loaded stage =
-    let read = images_read 1 files (boot_verdict setup events) good in
+-- the verdict on files is that on the images that they load
+pub images_deserve : (files : List (List ℕ)) (next : List Loaded → Verdict) (images : List Loaded) → have_fault files ≡ false → images_loaded files ≡ Some images
+    → images_verdict 1 files next ≡ next images
+images_deserve files next images good loaded =
+    let read = images_read 1 files next good in
     let same : read.0 ≡ images = (let first = read.1.0 in cc) in
-    stage_as (images_verdict 1 files (boot_verdict setup events)) (boot_verdict setup events images) no_fetches outputs ended left h k (read.1.1 ∙ ap (boot_verdict setup events) same) stage
+    read.1.1 ∙ ap next same
+
+-- What is carried out with the images that files load carries out what is left of the inputs.
+pub images_carry : (files : List (List ℕ)) (next : List Loaded → Verdict) (images : List Loaded) (fetches : Verdict → List Text) (outputs : List HostCall) (ended : Option Refusal) (left : Option Left) (h k : Outside) → have_fault files ≡ false
+    → images_loaded files ≡ Some images → Stage (next images) fetches outputs ended left h k → Stage (images_verdict 1 files next) fetches outputs ended left h k
+images_carry files next images fetches outputs ended left h k good loaded stage =
+    stage_as (images_verdict 1 files next) (next images) fetches outputs ended left h k (images_deserve files next images good loaded) stage
 
 -- ---- files one after another
 
@@ -170,11 +177,15 @@ judged_good n bytes items judged same = sym (ap image_fault same) ∙ fault_none
 -- ---- one image
 
 -- what holds of a refusal holds of a result that is this refusal
+pub of_error : {T : Type 0} (r : Result T Refusal) (cause : Refusal) (P : Result T Refusal → Type 0) → IsErr r → IsErrAnd r (λ x. x ≡ cause) → P (Err cause) → P r
+of_error (Ok m) cause P err is holds = absurd (cc)
+of_error (Err x) cause P err is holds =
+    let Q : Refusal → Type 0 = λ y. P (Err y) in subst Q (sym is) holds
+
+-- the same of a machine that is left
 pub of_err : (r : Result Booted Refusal) (cause : Refusal) (P : Option Refusal → Option Left → Type 0) → IsErr r
     → IsErrAnd r (λ x. x ≡ cause) → P (Some cause) None → P (refusal_of r) (left_of r)
-of_err (Ok m) cause P err is holds = absurd (cc)
-of_err (Err x) cause P err is holds =
-    let Q : Refusal → Type 0 = λ y. P (Some y) None in subst Q (sym is) holds
+of_err r cause P err is holds = of_error r cause (λ x. P (refusal_of x) (left_of x)) err is holds
 
 -- a slice without elements
 pub empty_slice : {A : Type 0} (xs : List A) → length xs < 1 → xs ≡ []
@@ -188,110 +199,129 @@ first_and_rest (x ∷ xs) d some =
     let few : length xs ≤ length (x ∷ xs) - 1 = omega arith in
     ap (λ ys. x ∷ ys) (sym (take_all (length (x ∷ xs) - 1) xs few))
 
--- After images without a fault the next one is fetched, and then what is left is carried out.
-next_stage : (setup : Setup) (before files : List (List ℕ)) (name : Text) (names : List Text) (events : List Event) (outputs : List HostCall) (ended : Option Refusal) (left : Option Left) (h k : Outside)
-    → have_fault before ≡ false
-    → Stage (images_verdict 1 (before ++ files) (boot_verdict setup events)) (λ v. name ∷ images_left (length before + 1) names v) outputs ended left h k
-    → Stage (images_verdict 1 (before ++ files) (boot_verdict setup events)) (images_left (length before) (name ∷ names)) outputs ended left h k
-next_stage setup before files name names events outputs ended left h k good s =
-    let v = images_verdict 1 (before ++ files) (boot_verdict setup events) in
-    stage_due v (λ x. name ∷ images_left (length before + 1) names x) (images_left (length before) (name ∷ names)) outputs ended left h k
-    (left_next (length before) name names v (run_after setup events before files good)) s
+-- What comes after the inputs comes after each image.
+abbrev AreLater : (List Loaded → Verdict) → Type 0
+AreLater next = (images : List Loaded) → IsLater (next images)
 
--- the host didn't fetch it
-pub image_unfetched : (setup : Setup) (before : List (List ℕ)) (name : Text) (names : List Text) (events : List Event) (outputs : List HostCall) (r : Refusal) (h k : Outside) → have_fault before ≡ false
-    → Fetches name (Some r) h k → RunsImages setup before (name ∷ names) events outputs (Some r) None h k
-image_unfetched setup before name names events outputs r h k good f =
-    let files = image_bytes (length before + 1) (name ∷ names) h.file (λ j. []) in
-    let v = images_verdict 1 (before ++ files) (boot_verdict setup events) in record {
-      unseen = λ j. [];
-      stage = next_stage setup before files name names events outputs (Some r) None h k good
-          (unfetched_stage v name (images_left (length before + 1) names) outputs r h k (images_keep 1 (before ++ files) (boot_verdict setup events) (λ images. boot_keeps setup events images)) f);
-    }
+module _ (before : List (List ℕ)) (name : Text) (names : List Text) (good : have_fault before ≡ false) where
+  -- After images without a fault the next one is fetched, and then what is left is carried out.
+  next_stage : (next : List Loaded → Verdict) (more : List Text) (files : List (List ℕ)) (outputs : List HostCall) (ended : Option Refusal) (left : Option Left) (h k : Outside) → AreLater next
+      → Stage (images_verdict 1 (before ++ files) next) (λ v. name ∷ images_left (length before + 1) names more v) outputs ended left h k
+      → Stage (images_verdict 1 (before ++ files) next) (images_left (length before) (name ∷ names) more) outputs ended left h k
+  next_stage next more files outputs ended left h k later s =
+      let v = images_verdict 1 (before ++ files) next in
+      stage_due v (λ x. name ∷ images_left (length before + 1) names more x) (images_left (length before) (name ∷ names) more) outputs ended left h k
+      (left_next (length before) name names more v (read_after next before files later good)) s
 
--- it was fetched, and ended the run
-image_ended : (setup : Setup) (before : List (List ℕ)) (name : Text) (names : List Text) (events : List Event) (outputs : List HostCall) (items : List ℕ) (r : Refusal) (h k : Outside) → have_fault before ≡ false
-    → IsFetched 1048576 (h.file name) items → Fetches name None h k
-    → ((files : List (List ℕ)) → Deserved (images_verdict 1 (before ++ items ∷ files) (boot_verdict setup events)) (Some r) k k)
-    → ((files : List (List ℕ)) → IsDecided (Some r) → images_left (length before + 1) names (images_verdict 1 (before ++ items ∷ files) (boot_verdict setup events)) ≡ [])
-    → RunsImages setup before (name ∷ names) events outputs (Some r) None h k
-image_ended setup before name names events outputs items r h k good fetched f deserved none =
-    let files = image_bytes (length before + 1 + 1) names h.file (λ j. items) in
-    let bytes = file_bytes (h.file name) items in
-    let rest = images_left (length before + 1) names in
-    let v = images_verdict 1 (before ++ items ∷ files) (boot_verdict setup events) in record {
-      unseen = λ j. items;
-      stage = stage_as (images_verdict 1 (before ++ bytes ∷ files) (boot_verdict setup events)) v (images_left (length before) (name ∷ names)) outputs (Some r) None h k
-          (fetched_among 1 before bytes items files (boot_verdict setup events) fetched.front)
-          (next_stage setup before (items ∷ files) name names events outputs (Some r) None h k good
-          (fetched_stage v name rest outputs (Some r) None h k k f (refused_stage v rest outputs r k (deserved files) (none files))));
-    }
+  module _ {T : Type 0} (images : T → List (List ℕ)) where
+    -- the host didn't fetch it
+    pub image_unfetched : (r : Refusal) (h k : Outside) → Fetches name (Some r) h k → ReadsImages images before (name ∷ names) (Err r) h k
+    image_unfetched r h k f =
+        let files = image_bytes (length before + 1) (name ∷ names) h.file (λ j. []) in record {
+          unseen = λ j. [];
+          files = f.keeps.file;
+          leads = λ next more later outputs.
+              let v = images_verdict 1 (before ++ files) next in
+              next_stage next more files outputs (Some r) None h k later
+              (unfetched_stage v name (images_left (length before + 1) names more) outputs r h k (images_keep 1 (before ++ files) next (λ x. later_keeps (next x) (later x))) f);
+        }
 
--- a refusal of an image names its fault
-judged_by : {A : Type 0} (i : ℕ) (fault : Option ℕ) (r : Refusal) → Some r ≡ option_map (refusal.Image i) fault
-    → ((f : ℕ) → fault ≡ Some f → r ≡ refusal.Image i f → A) → A
-judged_by i None r is holds = absurd (cc)
-judged_by i (Some f) r is holds = holds f refl (cc)
+    -- it was fetched, and refused
+    image_ended : (items : List ℕ) (r : Refusal) (h k : Outside) → IsFetched 1048576 (h.file name) items → Fetches name None h k
+        → ((next : List Loaded → Verdict) (files : List (List ℕ)) → Deserved (images_verdict 1 (before ++ items ∷ files) next) (Some r) k k)
+        → ((next : List Loaded → Verdict) (more : List Text) (files : List (List ℕ)) → IsDecided (Some r) → images_left (length before + 1) names more (images_verdict 1 (before ++ items ∷ files) next) ≡ [])
+        → ReadsImages images before (name ∷ names) (Err r) h k
+    image_ended items r h k fetched f deserved none =
+        let files = image_bytes (length before + 1 + 1) names h.file (λ j. items) in
+        let bytes = file_bytes (h.file name) items in record {
+          unseen = λ j. items;
+          files = f.keeps.file;
+          leads = λ next more later outputs.
+              let rest = images_left (length before + 1) names more in
+              let v = images_verdict 1 (before ++ items ∷ files) next in
+              stage_as (images_verdict 1 (before ++ bytes ∷ files) next) v (images_left (length before) (name ∷ names) more) outputs (Some r) None h k
+              (fetched_among 1 before bytes items files next fetched.front)
+              (next_stage next more (items ∷ files) outputs (Some r) None h k later
+              (fetched_stage v name rest outputs (Some r) None h k k f (refused_stage v rest outputs r k (deserved next files) (none next more files))));
+        }
 
--- it has a fault
-pub image_bad : (setup : Setup) (before : List (List ℕ)) (name : Text) (names : List Text) (events : List Event) (outputs : List HostCall) (bytes items : List ℕ) (n : ℕ) (r : Refusal) (h k : Outside) → have_fault before ≡ false
-    → IsFetched 1048576 (h.file name) items → Fetches name None h k → Some r ≡ option_map (refusal.Image n) (image_fault bytes) → bytes ≡ items → n ≡ length before + 1
-    → RunsImages setup before (name ∷ names) events outputs (Some r) None h k
-image_bad setup before name names events outputs bytes items n r h k good fetched f judged same number =
-    let count : 1 + length before ≡ n = omega arith in
-    let is : Some r ≡ option_map (refusal.Image n) (image_fault items) = judged ∙ ap (λ (b : List ℕ). option_map (refusal.Image n) (image_fault b)) same in
-    let refuses : (files : List (List ℕ)) (fault : ℕ) → image_fault items ≡ Some fault
-    → images_verdict 1 (before ++ items ∷ files) (boot_verdict setup events) ≡ Refuses (refusal.Image n fault) =
-    λ files fault bad. refused_among 1 before items fault files (boot_verdict setup events) good bad ∙ ap (λ m. Refuses (refusal.Image m fault)) count in
-    image_ended setup before name names events outputs items r h k good fetched f
-    (λ files. judged_by n (image_fault items) r is (λ fault bad same_r.
-    (let P : Refusal → Type 0 = λ x. Deserved (images_verdict 1 (before ++ items ∷ files) (boot_verdict setup events)) (Some x) k k in
-    subst P (sym same_r) (refuses files fault bad))))
-    (λ files decided. judged_by n (image_fault items) r is (λ fault bad same_r.
-    left_refused (length before + 1) n names (images_verdict 1 (before ++ items ∷ files) (boot_verdict setup events)) fault (refuses files fault bad) number))
+    -- a refusal of an image names its fault
+    judged_by : {A : Type 0} (i : ℕ) (fault : Option ℕ) (r : Refusal) → Some r ≡ option_map (refusal.Image i) fault
+        → ((f : ℕ) → fault ≡ Some f → r ≡ refusal.Image i f → A) → A
+    judged_by i None r is holds = absurd (cc)
+    judged_by i (Some f) r is holds = holds f refl (cc)
 
--- memory ran out after it
-pub image_unkept : (setup : Setup) (before : List (List ℕ)) (name : Text) (names : List Text) (events : List Event) (outputs : List HostCall) (items : List ℕ) (h k : Outside) → have_fault before ≡ false
-    → IsFetched 1048576 (h.file name) items → Fetches name None h k → RunsImages setup before (name ∷ names) events outputs (Some refusal.NoMemory) None h k
-image_unkept setup before name names events outputs items h k good fetched f =
-    image_ended setup before name names events outputs items refusal.NoMemory h k good fetched f (λ files. tt) (λ files decided. absurd decided)
+    -- it has a fault
+    pub image_bad : (bytes items : List ℕ) (n : ℕ) (r : Refusal) (h k : Outside)
+        → IsFetched 1048576 (h.file name) items → Fetches name None h k → Some r ≡ option_map (refusal.Image n) (image_fault bytes) → bytes ≡ items → n ≡ length before + 1
+        → ReadsImages images before (name ∷ names) (Err r) h k
+    image_bad bytes items n r h k fetched f judged same number =
+        let count : 1 + length before ≡ n = omega arith in
+        let is : Some r ≡ option_map (refusal.Image n) (image_fault items) = judged ∙ ap (λ (b : List ℕ). option_map (refusal.Image n) (image_fault b)) same in
+        let refuses : (next : List Loaded → Verdict) (files : List (List ℕ)) (fault : ℕ) → image_fault items ≡ Some fault
+        → images_verdict 1 (before ++ items ∷ files) next ≡ Refuses (refusal.Image n fault) =
+        λ next files fault bad. refused_among 1 before items fault files next good bad ∙ ap (λ m. Refuses (refusal.Image m fault)) count in
+        image_ended items r h k fetched f
+        (λ next files. judged_by n (image_fault items) r is (λ fault bad same_r.
+        (let P : Refusal → Type 0 = λ x. Deserved (images_verdict 1 (before ++ items ∷ files) next) (Some x) k k in
+        subst P (sym same_r) (refuses next files fault bad))))
+        (λ next more files decided. judged_by n (image_fault items) r is (λ fault bad same_r.
+        left_refused (length before + 1) n names more (images_verdict 1 (before ++ items ∷ files) next) fault (refuses next files fault bad) number))
 
--- it was read, and then the images after it
-pub image_then : (setup : Setup) (before after : List (List ℕ)) (name : Text) (names : List Text) (events : List Event) (outputs : List HostCall) (items : List ℕ) (ended : Option Refusal) (left : Option Left) (h j k : Outside)
-    → have_fault before ≡ false → after ≡ before ++ items ∷ [] → IsFetched 1048576 (h.file name) items → Fetches name None h j → RunsImages setup after names events outputs ended left j k
-    → RunsImages setup before (name ∷ names) events outputs ended left h k
-image_then setup before after name names events outputs items ended left h j k good added fetched f rest =
-    let i = length before + 1 in
-    let unseen = with_bytes_of i items rest.unseen in
-    let next = boot_verdict setup events in
-    let bytes = file_bytes (h.file name) items in
-    let later = image_bytes (i + 1) names h.file unseen in
-    let own : file_bytes (h.file name) (unseen i) ≡ bytes = ap (file_bytes (h.file name)) (with_own i items rest.unseen) in
-    let size : length after ≡ i = ap length added ∙ length-append before (items ∷ []) in
-    let count : i + 1 ≡ length after + 1 = omega (arith, size) in
-    let same_later : later ≡ image_bytes (length after + 1) names j.file rest.unseen =
-    later_bytes i (i + 1) items rest.unseen names h.file (omega arith)
-    ∙ ap (λ (file : Text → Option (List ℕ)). image_bytes (i + 1) names file rest.unseen) (sym f.keeps.file)
-    ∙ ap (λ m. image_bytes m names j.file rest.unseen) count in
-    let v = images_verdict 1 (before ++ image_bytes i (name ∷ names) h.file unseen) next in
-    let w = images_verdict 1 (after ++ image_bytes (length after + 1) names j.file rest.unseen) next in
-    let joined : before ++ items ∷ later ≡ after ++ later = sym (append_assoc before (items ∷ []) later) ∙ ap (λ bs. bs ++ later) (sym added) in
-    let same : v ≡ w =
-    ap (λ b. images_verdict 1 (before ++ b ∷ later) next) own ∙ fetched_among 1 before bytes items later next fetched.front
-    ∙ ap (λ bs. images_verdict 1 bs next) joined ∙ ap (λ bs. images_verdict 1 (after ++ bs) next) same_later in
-    let P : ℕ → Type 0 = λ m. Stage w (images_left m names) outputs ended left j k in record {
-      unseen = unseen;
-      stage = next_stage setup before (image_bytes i (name ∷ names) h.file unseen) name names events outputs ended left h k good
-          (stage_as v w (λ x. name ∷ images_left i names x) outputs ended left h k same
-          (fetched_stage w name (images_left i names) outputs ended left h j k f (subst P size rest.stage)));
-    }
+    -- memory ran out after it
+    pub image_unkept : (items : List ℕ) (h k : Outside) → IsFetched 1048576 (h.file name) items → Fetches name None h k
+        → ReadsImages images before (name ∷ names) (Err refusal.NoMemory) h k
+    image_unkept items h k fetched f = image_ended items refusal.NoMemory h k fetched f (λ next files. tt) (λ next more files decided. absurd decided)
+
+    -- it was read, and then the images after it
+    pub image_then : (after : List (List ℕ)) (items : List ℕ) (result : Result T Refusal) (h j k : Outside)
+        → after ≡ before ++ items ∷ [] → IsFetched 1048576 (h.file name) items → Fetches name None h j → ReadsImages images after names result j k
+        → ReadsImages images before (name ∷ names) result h k
+    image_then after items result h j k added fetched f rest =
+        let i = length before + 1 in
+        let unseen = with_bytes_of i items rest.unseen in
+        let bytes = file_bytes (h.file name) items in
+        let later_files = image_bytes (i + 1) names h.file unseen in
+        let own : file_bytes (h.file name) (unseen i) ≡ bytes = ap (file_bytes (h.file name)) (with_own i items rest.unseen) in
+        let size : length after ≡ i = ap length added ∙ length-append before (items ∷ []) in
+        let count : i + 1 ≡ length after + 1 = omega (arith, size) in
+        let same_later : later_files ≡ image_bytes (length after + 1) names j.file rest.unseen =
+        later_bytes i (i + 1) items rest.unseen names h.file (omega arith)
+        ∙ ap (λ (file : Text → Option (List ℕ)). image_bytes (i + 1) names file rest.unseen) (sym f.keeps.file)
+        ∙ ap (λ m. image_bytes m names j.file rest.unseen) count in
+        let joined : before ++ items ∷ later_files ≡ after ++ later_files = sym (append_assoc before (items ∷ []) later_files) ∙ ap (λ bs. bs ++ later_files) (sym added) in record {
+          unseen = unseen;
+          files = rest.files ∙ f.keeps.file;
+          leads = λ next more later.
+              let v = images_verdict 1 (before ++ image_bytes i (name ∷ names) h.file unseen) next in
+              let w = images_verdict 1 (after ++ image_bytes (length after + 1) names j.file rest.unseen) next in
+              let same : v ≡ w =
+              ap (λ b. images_verdict 1 (before ++ b ∷ later_files) next) own ∙ fetched_among 1 before bytes items later_files next fetched.front
+              ∙ ap (λ bs. images_verdict 1 bs next) joined ∙ ap (λ bs. images_verdict 1 (after ++ bs) next) same_later in
+              goes_leads v (images_left (length before) (name ∷ names) more) w (images_left (length after) names more) (λ x. images_verdict 1 (images x) next) (λ x. more) result h j k (
+                same,
+                λ outputs ended left last s.
+                    let P : ℕ → Type 0 = λ m. Stage w (images_left m names more) outputs ended left j last in
+                    next_stage next more (image_bytes i (name ∷ names) h.file unseen) outputs ended left h last later
+                    (stage_as v w (λ x. name ∷ images_left i names more x) outputs ended left h last same
+                    (fetched_stage w name (images_left i names more) outputs ended left h j last f (subst P size s))),
+              ) (rest.leads next more later);
+        }
 
 -- no image is left
-pub images_run : (setup : Setup) (before : List (List ℕ)) (events : List Event) (outputs : List HostCall) (ended : Option Refusal) (left : Option Left) (h k : Outside)
-    → Stage (images_verdict 1 before (boot_verdict setup events)) no_fetches outputs ended left h k → RunsImages setup before [] events outputs ended left h k
-images_run setup before events outputs ended left h k s =
-    let v = images_verdict 1 (before ++ []) (boot_verdict setup events) in record {
-      unseen = λ j. [];
-      stage = stage_due v no_fetches (images_left (length before) []) outputs ended left h k (none_left (length before) v)
-          (stage_as v (images_verdict 1 before (boot_verdict setup events)) no_fetches outputs ended left h k (ap (λ bs. images_verdict 1 bs (boot_verdict setup events)) (append-nil before)) s);
-    }
+pub images_done : {T : Type 0} (images : T → List (List ℕ)) (before : List (List ℕ)) (x : T) (h : Outside) → have_fault before ≡ false → images x ≡ before
+    → ReadsImages images before [] (Ok x) h h
+images_done images before x h good is = record {
+  unseen = λ j. [];
+  files = refl;
+  leads = λ next more later.
+      let v = images_verdict 1 (before ++ []) next in
+      let same : v ≡ images_verdict 1 (images x) next = ap (λ bs. images_verdict 1 bs next) (append-nil before ∙ sym is) in
+      let read = images_read 1 before next good in
+      let after : IsLater v = subst IsLater (sym (ap (λ bs. images_verdict 1 bs next) (append-nil before) ∙ read.1.1)) (later read.0) in (
+        same,
+        λ outputs ended left last s.
+            stage_due v (λ y. more) (images_left (length before) [] more) outputs ended left h last (none_left (length before) more v after)
+            (stage_as v (images_verdict 1 (images x) next) (λ y. more) outputs ended left h last same s),
+      );
+}

@@ -15,7 +15,7 @@ use Rattle.soak.specs.Soaks.{IsRefused, SoaksOn}
 use Rattle.xinu_model.specs.Boot.{Boots, NoRoom, Overlaps}
 use Rattle.xinu_commands.specs.Conversions.{boot_refusal, host_refusal}
 use Rattle.xinu_commands.specs.DiskVerdict.{disk_fault}
-use Rattle.xinu_commands.specs.RunVerdict.{empty_disk0, empty_disk1, raw_fault}
+use Rattle.xinu_commands.specs.InputVerdict.{empty_disk0, empty_disk1, raw_fault}
 use Rattle.xinu_commands.specs.SoakVerdict.{soak_verdict}
 use Rattle.xinu_commands.specs.Stages.{IsDiskCause, Performs, SendsOutput, Stage, no_fetches}
 use Rattle.xinu_commands.specs.Work.{Left, Soaking, output_of}
@@ -23,7 +23,7 @@ use Rattle.xinu_commands.specs.declared.refusals.Refusal.{Refusal}
 use Rattle.xinu_commands.specs.declared.refusals.Refusal.TheVariants as refusal
 use Rattle.xinu_commands.proofs.Carried.{fresh}
 use Rattle.xinu_commands.proofs.Printed.{some_is_none}
-use Rattle.xinu_commands.proofs.RunDisks.{refused_disk}
+use Rattle.xinu_commands.proofs.InputDisks.{refused_disk}
 use Rattle.xinu_commands.proofs.Sent.{text_sent}
 use Rattle.xinu_commands.proofs.SoakVerdicts.{clean_refuses, raw_refuses, starts_as}
 use Rattle.xinu_commands.proofs.Staged.{refused_last, work_stage}

@@ -7,7 +7,7 @@ use Rattle.lfs_layout.specs.Images.{opened}
 use Rattle.workload.specs.Programs.{programs}
 use Rattle.xinu_model.specs.Boot.{Start, Boots, Overlaps, NoRoom, boot_on}
 use Rattle.xinu_commands.specs.DiskVerdict.{disk_fault, rule_broken, with_disk}
-use Rattle.xinu_commands.specs.RunVerdict.{empty_disk0, empty_disk1, raw_broken, raw_fault}
+use Rattle.xinu_commands.specs.InputVerdict.{empty_disk0, empty_disk1, raw_broken, raw_fault}
 use Rattle.xinu_commands.specs.SoakVerdict.{soak_on, soak_verdict, soaking_verdict}
 use Rattle.xinu_commands.specs.Work.{Refuses, Verdict}
 use Rattle.xinu_commands.specs.declared.refusals.Refusal.TheVariants as refusal

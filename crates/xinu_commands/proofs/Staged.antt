@@ -15,7 +15,7 @@ use Rattle.xinu_commands.specs.Conversions.{check_refusal}
 use Rattle.xinu_commands.specs.DiskVerdict.{check_verdict, disk_fault, disk_with, file_lines, file_on, get_verdict, ls_verdict, mkfs_verdict, put_verdict, repair_line, repair_verdict, report_line, rule_broken, set_verdict, size_fault, with_disk}
 use Rattle.xinu_commands.specs.Stages.{Fetches, IsFetched, IsHostCause, MayFetch, Performs, SendsOutput, SetsFile, Stage, no_fetches, refusal_of}
 use Rattle.xinu_commands.specs.Theorem.{Deserved, HasCalled, IsDecided}
-use Rattle.xinu_commands.specs.Verdict.{Input, ScheduleInput, Disk0Input, Disk1Input, ImageInput, DiskInput, SourceInput, action_verdict, file_bytes}
+use Rattle.xinu_commands.specs.Verdict.{Input, ScheduleInput, Disk0Input, Disk1Input, ImageInput, TraceInput, DiskInput, SourceInput, action_verdict, file_bytes}
 use Rattle.xinu_commands.specs.Work.{Begins, Does, Left, Output, Outputs, Refuses, Verdict, Work, Writes, if_some, output_of}
 use Rattle.xinu_commands.specs.declared.refusals.Refusal.{Refusal}
 use Rattle.xinu_commands.specs.declared.refusals.Refusal.TheVariants as refusal
@@ -156,6 +156,7 @@ action_files disk source ScheduleInput = []
 action_files disk source Disk0Input = []
 action_files disk source Disk1Input = []
 action_files disk source (ImageInput i) = []
+action_files disk source TraceInput = []
 action_files disk source DiskInput = disk
 action_files disk source SourceInput = source
 
@@ -248,6 +249,7 @@ source_unfetched disk name source out r h k clean f =
     by_input Disk0Input s d = []
     by_input Disk1Input s d = []
     by_input (ImageInput i) s d = []
+    by_input TraceInput s d = []
     by_input DiskInput s d = d
     by_input SourceInput s d = s
 

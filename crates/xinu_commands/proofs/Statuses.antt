@@ -4,7 +4,7 @@ use Rattle.std.specs.List.{list_any}
 use Rattle.std.proofs.Common.{◌⊎◌, inl, inr, ◌==◌, IsTrue, ◌≡◌, ◌≢◌, ◌↔◌, ℕ, Bool, true, false, nat_le, if◌then◌else◌, List, length, Option, Some, None, IsSome, refl, sym, ap, ap₂, subst, ◌∙◌}
 use Rattle.std.specs.Prelude.{option_map}
 use Rattle.std.specs.Option.{option_or}
-use Rattle.command_line.specs.Commands.{Command, Run, Asm, Soak, Disk}
+use Rattle.command_line.specs.Commands.{Command, Run, Asm, Soak, Check, Disk}
 use Rattle.command_line.specs.Reading.{Text}
 use Rattle.command_line.specs.RunArgs.{RunFiles}
 use Rattle.given_disks.specs.Disks.{disks_of}
@@ -22,17 +22,19 @@ use Rattle.xinu_commands.specs.InputFaults.{fault_line, have_fault, images_loade
 use Rattle.xinu_commands.specs.Statuses.{AreAccepted, SaysOfFiles, disks_fault, start_with, status_due, statuses}
 use Rattle.xinu_commands.specs.Theorem.{Answers, Carries, IsDecided, IsStatus}
 use Rattle.xinu_commands.specs.Refusals.{status_of}
-use Rattle.xinu_commands.specs.RunVerdict.{Setup, run_verdict, boot_verdict, disk0_verdict, disk1_verdict, empty_disk0, empty_disk1, raw_broken, raw_fault, start_verdict, images_verdict}
-use Rattle.xinu_commands.specs.Verdict.{Input, ScheduleInput, Disk0Input, Disk1Input, ImageInput, SourceInput, disk_bytes, file_bytes, image_bytes, verdict, wanted_of}
-use Rattle.xinu_commands.specs.Work.{Does, Left, Output, Refuses, Verdict, Wanted}
+use Rattle.xinu_commands.specs.InputVerdict.{Next, disk0_verdict, disk1_verdict, empty_disk0, empty_disk1, images_verdict, inputs_verdict, raw_broken, raw_fault}
+use Rattle.xinu_commands.specs.RunVerdict.{run_verdict, start_verdict}
+use Rattle.xinu_commands.specs.TraceVerdict.{trace_verdict}
+use Rattle.xinu_commands.specs.Verdict.{Input, ScheduleInput, Disk0Input, Disk1Input, ImageInput, TraceInput, SourceInput, disk_bytes, file_bytes, image_bytes, verdict, wanted_of}
+use Rattle.xinu_commands.specs.Work.{Does, Judges, Left, Output, Outputs, Refuses, Runs, Soaking, Verdict, Wanted, Work}
 use Rattle.xinu_commands.specs.declared.refusals.Refusal.{Refusal}
 use Rattle.xinu_commands.specs.declared.refusals.Refusal.TheVariants as refusal
-use Rattle.xinu_commands.proofs.Answered.{done_status}
+use Rattle.xinu_commands.proofs.Done.{done_status}
 use Rattle.xinu_commands.proofs.Assembled.{asm_keeps}
-use Rattle.xinu_commands.proofs.Files.{run_keeps, schedule_read, schedule_refused, boot_verdict_at}
+use Rattle.xinu_commands.proofs.Files.{boot_verdict_at, inputs_keep, run_later, schedule_read, schedule_refused, trace_later}
 use Rattle.xinu_commands.proofs.ImageFiles.{images_read, images_refused}
 use Rattle.xinu_commands.proofs.Printed.{some_is_none}
-use Rattle.xinu_commands.proofs.RunDisks.{clean_read, clean_refused, raw_read, raw_refused}
+use Rattle.xinu_commands.proofs.InputDisks.{clean_read, clean_refused, raw_read, raw_refused}
 use Rattle.xinu_commands.proofs.SoakVerdicts.{soak_keeps}
 use Rattle.xinu_commands.proofs.Staged.{action_keeps}
 
@@ -52,12 +54,20 @@ cause_listed refusal.NoMemory = refl
 cause_listed (refusal.Overlap i) = refl
 cause_listed (refusal.NoRoom i) = refl
 cause_listed (refusal.Asm l f) = refl
+cause_listed refusal.TraceTooLong = refl
 cause_listed refusal.NoSuchFile = refl
 cause_listed refusal.DoesNotFit = refl
 
+done_listed : (v : Verdict) → IsListed (status_due v)
+done_listed (Refuses cause) = cause_listed cause
+done_listed (Does (Judges true)) = refl
+done_listed (Does (Judges false)) = refl
+done_listed (Does (Runs wanted start events)) = refl
+done_listed (Does (Soaking seed start)) = refl
+done_listed (Does (Outputs out disk1 image)) = refl
+
 listed_by : (v : Verdict) (ended : Option Refusal) (left : Option Left) (exit : ℕ) (h k : Outside) (c : Carries v ended left h k) → IsStatus ended c.output exit → exit ≢ 7 → IsListed exit
-listed_by v None left exit h k c status memory =
-    let zero : exit ≡ 0 = status ∙ sym (done_status v left h k c) in rw zero refl
+listed_by v None left exit h k c status memory = subst IsListed (done_status v left h k c ∙ sym status) (done_listed v)
 listed_by v (Some cause) left exit h k c status memory = subst IsListed (sym (status memory)) (cause_listed cause)
 
 pub listed : (exit : ℕ) (command : Option Command) (old new : Outside) (left : Option Left) → Answers exit command old new left → IsTrue (list_any (λ n. exit == n) statuses)
@@ -69,14 +79,9 @@ listed exit command old new left a =
 
 -- ---- the status is the verdict's
 
-done_due : (v : Verdict) → (left : Option Left) (h k : Outside) (c : Carries v None left h k) → 0 ≡ status_due v
-done_due (Refuses cause) left h k c = (let work = c.deserved.1 in cc)
-done_due (Does work) left h k c = refl
-
 carried_due : (v : Verdict) (ended : Option Refusal) (left : Option Left) (exit : ℕ) (h k : Outside) (c : Carries v ended left h k)
     → IsStatus ended c.output exit → exit ≢ 7 → exit ≢ 3 → exit ≡ status_due v
-carried_due v None left exit h k c status memory fault =
-    status ∙ sym (done_status v left h k c) ∙ done_due v left h k c
+carried_due v None left exit h k c status memory fault = status ∙ sym (done_status v left h k c)
 carried_due v (Some refusal.HostFault) left exit h k c status memory fault = absurd (fault (status memory))
 carried_due v (Some refusal.NoMemory) left exit h k c status memory fault = absurd (memory (status memory))
 carried_due v (Some other) left exit h k c status memory fault = status memory ∙ sym (ap status_due c.deserved)
@@ -100,7 +105,9 @@ called_due exit command old new left a memory fault = a.calls.all (decided_by a.
 -- ---- no command
 
 command_keeps : (c : Command) (file : Text → Option (List ℕ)) (unseen : Input → List ℕ) → verdict (Some c) file unseen ≢ Refuses refusal.Usage
-command_keeps (Run r) file unseen = run_keeps (wanted_of r) (file_bytes (file r.schedule) (unseen ScheduleInput)) _ _ _
+command_keeps (Run r) file unseen = inputs_keep (run_verdict (wanted_of r)) (run_later (wanted_of r)) (file_bytes (file r.schedule) (unseen ScheduleInput)) _ _ _
+command_keeps (Check c) file unseen =
+    let trace = file_bytes (file c.trace) (unseen TraceInput) in inputs_keep (trace_verdict trace) (trace_later trace) (file_bytes (file c.schedule) (unseen ScheduleInput)) _ _ _
 command_keeps (Asm a) file unseen = asm_keeps a.elf (file_bytes (file a.source) (unseen SourceInput))
 command_keeps (Soak seed) file unseen = soak_keeps seed
 command_keeps (Disk action) file unseen = action_keeps action _
@@ -109,7 +116,11 @@ command_keeps (Disk action) file unseen = action_keeps action _
 usage_alone : (v : Verdict) → v ≢ Refuses refusal.Usage → 2 ≢ status_due v
 usage_alone (Refuses refusal.Usage) other is = other refl
 usage_alone (Refuses cause) other is = cc
-usage_alone (Does work) other is = cc
+usage_alone (Does (Judges true)) other is = cc
+usage_alone (Does (Judges false)) other is = cc
+usage_alone (Does (Runs wanted start events)) other is = cc
+usage_alone (Does (Soaking seed start)) other is = cc
+usage_alone (Does (Outputs out disk1 image)) other is = cc
 
 -- A command that is no command ends with status 2 or 7.
 refused_usage : (ended : Option Refusal) (left : Option Left) (exit : ℕ) (h k : Outside) (c : Carries (Refuses refusal.Usage) ended left h k)
@@ -132,9 +143,18 @@ usage exit (Some c) old new left a memory = (
 
 -- ---- host faults
 
+-- no work calls for the status 3
+never_3 : (work : Work) → 3 ≡ status_due (Does work) → ⊥
+never_3 (Judges true) is = cc
+never_3 (Judges false) is = cc
+never_3 (Runs wanted start events) is = cc
+never_3 (Soaking seed start) is = cc
+never_3 (Outputs out disk1 image) is = cc
+
 carried_fault : (v : Verdict) (ended : Option Refusal) (left : Option Left) (exit : ℕ) (h k : Outside) (c : Carries v ended left h k)
     → IsStatus ended c.output exit → exit ≡ 3 → (v ≢ Refuses refusal.Usage) × Rose h.faults k.faults
-carried_fault v None left exit h k c status three = (let zero = status ∙ sym (done_status v left h k c) in absurd (cc))
+carried_fault v None left exit h k c status three =
+    let work = c.deserved in absurd (never_3 work.0 (sym three ∙ status ∙ sym (done_status v left h k c) ∙ ap status_due work.1))
 carried_fault v (Some refusal.HostFault) left exit h k c status three = c.deserved
 carried_fault v (Some other) left exit h k c status three = (let is = status (λ seven. cc) in absurd (cc))
 
@@ -160,11 +180,59 @@ good_reads bytes good = reads_by (nat_le (length bytes) longest_schedule) (readi
 
 -- ---- the statuses by the files
 
-some_of : {X : Type 0} (o : Option X) (x : X) → o ≡ Some x → IsSome o
+pub some_of : {X : Type 0} (o : Option X) (x : X) → o ≡ Some x → IsSome o
 some_of o x is = rw is refl
 
-no_more : {X : Type 0} (b : Bool) → b ≡ true → b ≡ false → X
+pub no_more : {X : Type 0} (b : Bool) → b ≡ true → b ≡ false → X
 no_more b is other = (let same : true ≡ false = sym is ∙ other in absurd (cc))
+
+-- what the exit status says of inputs, by the first that isn't accepted
+module _ (exit : ℕ) (s disk0 disk1 : List ℕ) (files : List (List ℕ)) (next : Next) (Says : Type 0)
+    (schedule_says : (l : ℕ) → schedule_fault s ≡ Some l → exit ≡ 5 → Says)
+    (disk_says : (cause : Refusal) → schedule_fault s ≡ None → disks_fault disk0 disk1 ≡ Some cause → exit ≡ 6 → Says)
+    (image_says : AreAccepted s disk0 disk1 → have_fault files ≡ true → exit ≡ 4 → Says)
+    (rest_says : (events : List Event) (images : List Loaded) → AreAccepted s disk0 disk1 → have_fault files ≡ false → events_in s ≡ Some events → images_loaded files ≡ Some images
+    → exit ≡ status_due (next events (disks_of disk0 (opened disk1)) images) → Says) where
+  module _ (events : List Event) (reads : events_in s ≡ Some events) where
+    -- by whether an image file has a fault
+    by_images : (bad : Bool) → AreAccepted s disk0 disk1 → have_fault files ≡ bad
+        → exit ≡ status_due (images_verdict 1 files (next events (disks_of disk0 (opened disk1)))) → Says
+    by_images true good bad is = image_says good bad (is ∙ ap status_due (images_refused 1 files (next events (disks_of disk0 (opened disk1))) bad).2)
+    by_images false good fine is =
+        let read = images_read 1 files (next events (disks_of disk0 (opened disk1))) fine in
+        rest_says events read.0 good fine reads read.1.0 (is ∙ ap status_due read.1.1)
+
+    -- by the fault of the disk with files
+    by_disk1 : (f : Option DiskFault) → schedule_fault s ≡ None → raw_fault disk0 ≡ None → disk_fault disk1 ≡ f
+        → exit ≡ status_due (disk1_verdict next events disk0 disk1 files) → Says
+    unfolding disks_fault
+    by_disk1 (Some x) good raw bad is =
+        disk_says (rule_broken x) good (ap₂ (λ a b. option_or (option_map raw_broken a) (option_map rule_broken b)) raw bad)
+        (is ∙ ap status_due (clean_refused next events files disk0 disk1 x bad))
+    by_disk1 None good raw fine is =
+        by_images (have_fault files) (record { schedule = good; disks = ap₂ (λ a b. option_or (option_map raw_broken a) (option_map rule_broken b)) raw fine }) refl
+        (is ∙ ap status_due (clean_read next events files disk0 disk1 fine))
+
+    -- by the fault of the raw disk
+    by_disk0 : (f : Option DiskFault) → schedule_fault s ≡ None → raw_fault disk0 ≡ f → exit ≡ status_due (disk0_verdict next events disk0 disk1 files)
+        → Says
+    unfolding disks_fault
+    by_disk0 (Some x) good bad is =
+        disk_says (raw_broken x) good (ap (λ a. option_or (option_map raw_broken a) (option_map rule_broken (disk_fault disk1))) bad)
+        (is ∙ ap status_due (raw_refused next events files disk0 disk1 x bad))
+    by_disk0 None good fine is =
+        by_disk1 (disk_fault disk1) good fine refl (is ∙ ap status_due (raw_read next events files disk0 disk1 fine))
+
+  -- by the fault of the schedule
+  by_schedule : (f : Option ℕ) → schedule_fault s ≡ f → exit ≡ status_due (inputs_verdict next s disk0 disk1 files) → Says
+  by_schedule (Some l) bad is = schedule_says l bad (is ∙ ap status_due (schedule_refused next s l disk0 disk1 files bad))
+  by_schedule None good is =
+      let read = good_reads s good in
+      by_disk0 read.0 read.1 (raw_fault disk0) good refl
+      (is ∙ ap status_due (schedule_read next s read.0 disk0 disk1 files (record { good = good; reads = read.1 })))
+
+  pub says_by_inputs : exit ≡ status_due (inputs_verdict next s disk0 disk1 files) → Says
+  says_by_inputs is = by_schedule (schedule_fault s) refl is
 
 module _ (exit : ℕ) (s disk0 disk1 : List ℕ) (files : List (List ℕ)) where
   -- the disks on which the machine starts
@@ -217,59 +285,22 @@ module _ (exit : ℕ) (s disk0 disk1 : List ℕ) (files : List (List ℕ)) where
     no_start = (λ e. absurd (cc), λ p. elim p.1.start [ inl overlaps ↦ cc | inr full ↦ cc ]);
   }
 
-  module _ (wanted : Wanted) (events : List Event) where
-    -- the run on these disks
-    abbrev own_setup : Setup
-    own_setup = record { disks = own_disks; wanted = wanted }
+  -- by how the machine starts
+  says_start : (wanted : Wanted) (events : List Event) (images : List Loaded) (start : Start) → AreAccepted s disk0 disk1 → have_fault files ≡ false → images_loaded files ≡ Some images → boot_on own_disks images ≡ start
+      → exit ≡ status_due (start_verdict wanted events start) → SaysOfFiles exit s disk0 disk1 files
+  unfolding start_with
+  says_start wanted events images (Boots x) good fine loaded starts is =
+      says_done x good fine (ap (option_map (boot_on own_disks)) loaded ∙ ap Some starts) is
+  says_start wanted events images (Overlaps i) good fine loaded starts is =
+      says_no_start i good fine (inl (ap (option_map (boot_on own_disks)) loaded ∙ ap Some starts)) is
+  says_start wanted events images (NoRoom i) good fine loaded starts is =
+      says_no_start i good fine (inr (ap (option_map (boot_on own_disks)) loaded ∙ ap Some starts)) is
 
-    -- by how the machine starts
-    says_start : (images : List Loaded) (start : Start) → AreAccepted s disk0 disk1 → have_fault files ≡ false → images_loaded files ≡ Some images → boot_on own_disks images ≡ start
-        → exit ≡ status_due (start_verdict wanted events start) → SaysOfFiles exit s disk0 disk1 files
-    unfolding start_with
-    says_start images (Boots x) good fine loaded starts is =
-        says_done x good fine (ap (option_map (boot_on own_disks)) loaded ∙ ap Some starts) is
-    says_start images (Overlaps i) good fine loaded starts is =
-        says_no_start i good fine (inl (ap (option_map (boot_on own_disks)) loaded ∙ ap Some starts)) is
-    says_start images (NoRoom i) good fine loaded starts is =
-        says_no_start i good fine (inr (ap (option_map (boot_on own_disks)) loaded ∙ ap Some starts)) is
-
-    -- by whether an image file has a fault
-    says_by_images : (bad : Bool) → AreAccepted s disk0 disk1 → have_fault files ≡ bad
-        → exit ≡ status_due (images_verdict 1 files (boot_verdict own_setup events)) → SaysOfFiles exit s disk0 disk1 files
-    says_by_images true good bad is = says_image good bad (is ∙ ap status_due (images_refused 1 files (boot_verdict own_setup events) bad).2)
-    says_by_images false good fine is =
-        let read = images_read 1 files (boot_verdict own_setup events) fine in
-        says_start read.0 (boot_on own_disks read.0) good fine read.1.0 refl
-        (is ∙ ap status_due read.1.1 ∙ ap status_due (boot_verdict_at own_setup events read.0 (boot_on own_disks read.0) refl))
-
-    -- by the fault of the disk with files
-    says_by_disk1 : (f : Option DiskFault) → schedule_fault s ≡ None → raw_fault disk0 ≡ None → disk_fault disk1 ≡ f
-        → exit ≡ status_due (disk1_verdict wanted events disk0 disk1 files) → SaysOfFiles exit s disk0 disk1 files
-    unfolding disks_fault
-    says_by_disk1 (Some x) good raw bad is =
-        says_disk (rule_broken x) good (ap₂ (λ a b. option_or (option_map raw_broken a) (option_map rule_broken b)) raw bad)
-        (is ∙ ap status_due (clean_refused wanted events files disk0 disk1 x bad))
-    says_by_disk1 None good raw fine is =
-        says_by_images (have_fault files) (record { schedule = good; disks = ap₂ (λ a b. option_or (option_map raw_broken a) (option_map rule_broken b)) raw fine }) refl
-        (is ∙ ap status_due (clean_read wanted events files disk0 disk1 fine))
-
-    -- by the fault of the raw disk
-    says_by_disk0 : (f : Option DiskFault) → schedule_fault s ≡ None → raw_fault disk0 ≡ f → exit ≡ status_due (disk0_verdict wanted events disk0 disk1 files)
-        → SaysOfFiles exit s disk0 disk1 files
-    unfolding disks_fault
-    says_by_disk0 (Some x) good bad is =
-        says_disk (raw_broken x) good (ap (λ a. option_or (option_map raw_broken a) (option_map rule_broken (disk_fault disk1))) bad)
-        (is ∙ ap status_due (raw_refused wanted events files disk0 disk1 x bad))
-    says_by_disk0 None good fine is =
-        says_by_disk1 (disk_fault disk1) good fine refl (is ∙ ap status_due (raw_read wanted events files disk0 disk1 fine))
-
-  -- by the fault of the schedule
-  says_by_schedule : (wanted : Wanted) (f : Option ℕ) → schedule_fault s ≡ f → exit ≡ status_due (run_verdict wanted s disk0 disk1 files) → SaysOfFiles exit s disk0 disk1 files
-  says_by_schedule wanted (Some l) bad is = says_schedule l bad (is ∙ ap status_due (schedule_refused wanted s l disk0 disk1 files bad))
-  says_by_schedule wanted None good is =
-      let read = good_reads s good in
-      says_by_disk0 wanted read.0 (raw_fault disk0) good refl
-      (is ∙ ap status_due (schedule_read wanted s read.0 disk0 disk1 files (record { good = good; reads = read.1 })))
+  says_run : (wanted : Wanted) → exit ≡ status_due (inputs_verdict (run_verdict wanted) s disk0 disk1 files) → SaysOfFiles exit s disk0 disk1 files
+  says_run wanted =
+      says_by_inputs exit s disk0 disk1 files (run_verdict wanted) (SaysOfFiles exit s disk0 disk1 files) says_schedule says_disk says_image
+      (λ events images good fine reads loaded is. says_start wanted events images (boot_on own_disks images) good fine loaded refl
+      (is ∙ ap status_due (boot_verdict_at (record { disks = own_disks; wanted = wanted }) events images (boot_on own_disks images) refl)))
 
 pub says_of_files : (exit : ℕ) (files : RunFiles) (old new : Outside) (left : Option Left) (a : Answers exit (Some (Run files)) old new left) → exit ≢ 7 → exit ≢ 3
     → SaysOfFiles exit (file_bytes (old.file files.schedule) (a.obeys.unseen ScheduleInput)) (disk_bytes files.disks.disk0 empty_disk0 old.file (a.obeys.unseen Disk0Input))
@@ -278,5 +309,5 @@ says_of_files exit files old new left a memory fault =
     let schedule = file_bytes (old.file files.schedule) (a.obeys.unseen ScheduleInput) in
     let disk0 = disk_bytes files.disks.disk0 empty_disk0 old.file (a.obeys.unseen Disk0Input) in
     let disk1 = disk_bytes files.disks.disk1 empty_disk1 old.file (a.obeys.unseen Disk1Input) in
-    says_by_schedule exit schedule disk0 disk1 (image_bytes 1 files.images old.file (λ i. a.obeys.unseen (ImageInput i))) (wanted_of files) (schedule_fault schedule) refl
+    says_run exit schedule disk0 disk1 (image_bytes 1 files.images old.file (λ i. a.obeys.unseen (ImageInput i))) (wanted_of files)
     (due exit (Some (Run files)) old new left a memory fault)

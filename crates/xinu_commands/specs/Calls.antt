@@ -1,12 +1,14 @@
 -- The calls of the host that are due: the files that a command fetches, and then those that it writes.
 use Rattle.std.specs.Prelude.{ℕ, zero, suc, List, [], ◌∷◌, ◌++◌, map, take, Option, Some, None}
-use Rattle.command_line.specs.Commands.{Command, Run, Asm, Soak, Disk}
-use Rattle.command_line.specs.DiskArgs.{DiskAction, Mkfs, Ls, Get, Put, Check, Repair}
+use Rattle.command_line.specs.Commands.{Command, Run, Asm, Soak, Check, Disk}
+use Rattle.command_line.specs.DiskArgs.{DiskAction, Mkfs, Ls, Get, Put, Repair}
+use Rattle.command_line.specs.DiskArgs as disk
 use Rattle.command_line.specs.Reading.{Text}
-use Rattle.command_line.specs.RunArgs.{DiskFiles, RunFiles}
+use Rattle.command_line.specs.RunArgs.{DiskFiles}
 use Rattle.host_port.specs.Outside.{HostCall, fetching, naming}
 use Rattle.host_port.specs.declared.host.Channel.{Channel}
 use Rattle.host_port.specs.declared.host.Channel.TheVariants.{Disk0, Disk1, Image}
+use Rattle.xinu_commands.specs.InputFiles.{InputFiles, run_inputs, check_inputs}
 use Rattle.xinu_commands.specs.Work.{Verdict, Refuses, Does}
 use Rattle.xinu_commands.specs.declared.refusals.Refusal.TheVariants as refusal
 
@@ -27,16 +29,17 @@ if_named None = []
 if_named (Some name) = name ∷ []
 
 -- the files of the raw disk and of the disk with files, up to disk d
-abbrev pub disks_up_to : ℕ → DiskFiles → List Text
-disks_up_to zero d = if_named d.disk0
-disks_up_to (suc n) d = if_named d.disk0 ++ if_named d.disk1
+abbrev pub disks_up_to : ℕ → InputFiles → List Text
+disks_up_to zero f = if_named f.disk0
+disks_up_to (suc n) f = if_named f.disk0 ++ if_named f.disk1
 
--- A run fetches the schedule, then its disks, and then the images, which are counted from 1, up to the file that is refused.
-abbrev pub run_fetches : RunFiles → Verdict → List Text
-run_fetches r (Refuses (refusal.Schedule l)) = r.schedule ∷ []
-run_fetches r (Refuses (refusal.Disk d b rule)) = r.schedule ∷ disks_up_to d r.disks
-run_fetches r (Refuses (refusal.Image i f)) = r.schedule ∷ disks_up_to 1 r.disks ++ take i r.images
-run_fetches r _ = r.schedule ∷ disks_up_to 1 r.disks ++ r.images
+-- The inputs are fetched in order, the schedule, then the disks, and then the images, which are counted from 1: up to the file that is refused, or
+-- else all of them and the files after them.
+abbrev pub input_fetches : InputFiles → List Text → Verdict → List Text
+input_fetches f after (Refuses (refusal.Schedule l)) = f.schedule ∷ []
+input_fetches f after (Refuses (refusal.Disk d b rule)) = f.schedule ∷ disks_up_to d f
+input_fetches f after (Refuses (refusal.Image i fault)) = f.schedule ∷ disks_up_to 1 f ++ take i f.images
+input_fetches f after _ = f.schedule ∷ disks_up_to 1 f ++ f.images ++ after
 
 -- The source of a file that is set is fetched only if the disk is accepted.
 abbrev pub source_fetches : Text → Verdict → List Text
@@ -49,13 +52,14 @@ action_fetches (Mkfs blocks out) v = []
 action_fetches (Ls image) v = image ∷ []
 action_fetches (Get image name out) v = image ∷ []
 action_fetches (Put image name source out) v = image ∷ source_fetches source v
-action_fetches (Check image) v = image ∷ []
+action_fetches (disk.Check image) v = image ∷ []
 action_fetches (Repair image out) v = image ∷ []
 
 -- the files that a command with this verdict fetches
 abbrev pub fetches_of : Option Command → Verdict → List Text
 fetches_of None v = []
-fetches_of (Some (Run r)) v = run_fetches r v
+fetches_of (Some (Run r)) v = input_fetches (run_inputs r) [] v
+fetches_of (Some (Check c)) v = input_fetches (check_inputs c) (c.trace ∷ []) v
 fetches_of (Some (Asm a)) v = a.source ∷ []
 fetches_of (Some (Soak seed)) v = []
 fetches_of (Some (Disk action)) v = action_fetches action v
@@ -68,7 +72,7 @@ action_outputs (Mkfs blocks out) = naming Disk1 out ∷ []
 action_outputs (Ls image) = []
 action_outputs (Get image name out) = naming Image out ∷ []
 action_outputs (Put image name source out) = naming Disk1 out ∷ []
-action_outputs (Check image) = []
+action_outputs (disk.Check image) = []
 action_outputs (Repair image out) = naming Disk1 out ∷ []
 
 -- the file that a channel writes, if one is named
@@ -84,6 +88,7 @@ run_outputs d = if_written Disk0 d.out0 ++ if_written Disk1 d.out1
 abbrev pub outputs_of : Option Command → List HostCall
 outputs_of None = []
 outputs_of (Some (Run r)) = run_outputs r.disks
+outputs_of (Some (Check c)) = []
 outputs_of (Some (Asm a)) = naming Image a.out ∷ []
 outputs_of (Some (Soak seed)) = []
 outputs_of (Some (Disk action)) = action_outputs action

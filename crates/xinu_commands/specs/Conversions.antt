@@ -7,6 +7,8 @@ use Rattle.kernel_boot.specs.declared.initialize.BootFault.{BootFault}
 use Rattle.kernel_boot.specs.declared.initialize.BootFault.TheVariants as boot
 use Rattle.lfs_check.specs.declared.faults.CheckFault.{CheckFault}
 use Rattle.lfs_check.specs.declared.faults.CheckFault.TheVariants as check
+use Rattle.reference_boot.specs.declared.boot.NoStart.{NoStart}
+use Rattle.reference_boot.specs.declared.boot.NoStart.TheVariants as start
 use Rattle.schedule_file.specs.declared.faults.ScheduleFault.{ScheduleFault}
 use Rattle.schedule_file.specs.declared.faults.ScheduleFault.TheVariants as schedule
 use Rattle.xinu_commands.specs.DiskVerdict.{rule_broken}
@@ -34,6 +36,12 @@ abbrev pub boot_refusal : BootFault → Refusal
 boot_refusal (boot.Overlap image) = refusal.Overlap image
 boot_refusal (boot.NoRoom image) = refusal.NoRoom image
 boot_refusal boot.NoMemory = refusal.NoMemory
+
+-- the refusal that the reference machine gives if it doesn't start
+abbrev pub start_refusal : NoStart → Refusal
+start_refusal (start.Overlaps image) = refusal.Overlap image
+start_refusal (start.NoRoom image) = refusal.NoRoom image
+start_refusal start.NoMemory = refusal.NoMemory
 
 -- the refusal that a disk which isn't accepted gives
 abbrev pub check_refusal : CheckFault → Refusal

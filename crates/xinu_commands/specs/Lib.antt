@@ -2,8 +2,14 @@ pub mod AsmVerdict
 pub mod Calls
 pub mod Conversions
 pub mod DiskVerdict
+pub mod Endings
 pub mod InputFaults
+pub mod InputFiles
+pub mod InputNames
+pub mod InputVerdict
+pub mod Judging
 pub mod PlainSteps
+pub mod Reading
 pub mod Refusals
 pub mod RunVerdict
 pub mod Setups
@@ -11,6 +17,7 @@ pub mod SoakVerdict
 pub mod Stages
 pub mod Statuses
 pub mod Theorem
+pub mod TraceVerdict
 pub mod Transcripts
 pub mod Verdict
 pub mod Work

@@ -18,6 +18,7 @@ status_of refusal.NoMemory = 7
 status_of (refusal.Overlap i) = 8
 status_of (refusal.NoRoom i) = 8
 status_of (refusal.Asm l f) = 9
+status_of refusal.TraceTooLong = 11
 status_of refusal.NoSuchFile = 12
 status_of refusal.DoesNotFit = 13
 
@@ -32,6 +33,7 @@ text_of refusal.NoMemory = codes "xinu: no memory\n"
 text_of (refusal.Overlap i) = codes "xinu: image " ++ decimal i ++ codes " overlaps\n"
 text_of (refusal.NoRoom i) = codes "xinu: no room for image " ++ decimal i ++ codes "\n"
 text_of (refusal.Asm l f) = codes "xinu: asm line " ++ decimal l ++ codes " fault " ++ decimal f ++ codes "\n"
+text_of refusal.TraceTooLong = codes "xinu: trace too long\n"
 text_of refusal.NoSuchFile = codes "xinu: no such file\n"
 text_of refusal.DoesNotFit = codes "xinu: does not fit\n"
 

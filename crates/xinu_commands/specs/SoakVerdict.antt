@@ -4,7 +4,7 @@ use Rattle.given_disks.specs.Disks.{disks_of}
 use Rattle.workload.specs.Programs.{programs}
 use Rattle.xinu_model.specs.Boot.{Start, Boots, Overlaps, NoRoom, boot_on}
 use Rattle.xinu_commands.specs.DiskVerdict.{with_disk}
-use Rattle.xinu_commands.specs.RunVerdict.{empty_disk0, empty_disk1, with_raw}
+use Rattle.xinu_commands.specs.InputVerdict.{empty_disk0, empty_disk1, with_raw}
 use Rattle.xinu_commands.specs.Work.{Verdict, Refuses, Does, Soaking}
 use Rattle.xinu_commands.specs.declared.refusals.Refusal.TheVariants as refusal
 

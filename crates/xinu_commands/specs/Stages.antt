@@ -1,5 +1,5 @@
 -- What the stages of a command promise one another: its arguments, its files, its output.
-use Rattle.std.specs.Prelude.{◌≡◌, ◌≤◌, ◌+◌, ◌-◌, ℕ, zero, List, [], ◌∷◌, ◌++◌, length, take, true, Option, Some, None, Result, Ok, Err, is_some, option_map, if◌then◌else◌}
+use Rattle.std.specs.Prelude.{◌≡◌, ◌≤◌, ◌+◌, ℕ, List, [], ◌∷◌, take, true, Option, Some, None, Result, Ok, Err, is_some, if◌then◌else◌}
 use Rattle.std.specs.List.{slice_get}
 use Rattle.std.specs.Option.{option_map_or}
 use Rattle.machine.specs.Disks.{raw_bytes}
@@ -7,7 +7,7 @@ use Rattle.machine.specs.Printed.{Booted}
 use Rattle.command_line.specs.Commands.{Command}
 use Rattle.command_line.specs.DiskArgs.{DiskAction, Mkfs, Put}
 use Rattle.command_line.specs.Reading.{Text}
-use Rattle.command_line.specs.RunArgs.{DiskFiles, RunFiles}
+use Rattle.command_line.specs.RunArgs.{DiskFiles}
 use Rattle.given_disks.specs.HeldFiles.{HoldsFiles}
 use Rattle.host_port.specs.HostCalls.{Rose}
 use Rattle.host_port.specs.Outside.{Outside, HostCall, naming}
@@ -16,13 +16,12 @@ use Rattle.host_port.specs.declared.host.Channel.TheVariants.{Out, Fault, Disk0,
 use Rattle.lfs_check.specs.declared.faults.DiskFault.{DiskFault}
 use Rattle.lfs_layout.specs.Files.{files_of, is_text, listing}
 use Rattle.xinu_base.specs.declared.events.Event.{Event}
-use Rattle.xinu_commands.specs.Calls.{Due, calls_due, due_by, if_named, run_outputs, source_fetches}
+use Rattle.xinu_commands.specs.Calls.{Due, calls_due, due_by, run_outputs, source_fetches}
 use Rattle.xinu_commands.specs.DiskVerdict.{file_line, put_verdict}
 use Rattle.xinu_commands.specs.InputFaults.{ReadsAs, schedule_fault}
-use Rattle.xinu_commands.specs.RunVerdict.{Setup, boot_verdict, disk0_verdict, disk1_verdict, empty_disk0, empty_disk1, images_verdict}
 use Rattle.xinu_commands.specs.Theorem.{Carries, HasCalled, IsPartSent, IsSent, IsUnsent, Obeys}
-use Rattle.xinu_commands.specs.Verdict.{disk_bytes, file_bytes, image_bytes, verdict}
-use Rattle.xinu_commands.specs.Work.{Left, Output, Refuses, Verdict, Wanted, output_of}
+use Rattle.xinu_commands.specs.Verdict.{file_bytes, verdict}
+use Rattle.xinu_commands.specs.Work.{Left, Output, Verdict, output_of}
 use Rattle.xinu_commands.specs.declared.refusals.Refusal.{Refusal}
 use Rattle.xinu_commands.specs.declared.refusals.Refusal.TheVariants as refusal
 
@@ -62,11 +61,6 @@ left_by m = record { state = m.state; disk1 = m.image }
 abbrev pub left_of : Result Booted Refusal → Option Left
 left_of (Ok m) = Some (left_by m)
 left_of (Err cause) = None
-
--- the same, if there may be no machine
-abbrev pub last_of : Result (Option Booted) Refusal → Option Left
-last_of (Ok m) = option_map left_by m
-last_of (Err cause) = None
 
 -- ---- the stages of `asm` and of an action on a disk
 
@@ -147,7 +141,7 @@ pub record Stage (v : Verdict) (fetches : Verdict → List Text) (outputs : List
 abbrev pub no_fetches : Verdict → List Text
 no_fetches v = []
 
--- ---- the stages of a run
+-- ---- the disks of a run
 
 -- Why a disk isn't accepted: it breaks a rule, or memory ran out.
 abbrev pub IsDiskCause : ℕ → Option DiskFault → Refusal → Type 0
@@ -165,40 +159,6 @@ abbrev pub MayBeFetched : ℕ → Option Text → (Text → Option (List ℕ)) �
 MayBeFetched most None file bytes = bytes ≡ None
 MayBeFetched most (Some name) file None = ⊥
 MayBeFetched most (Some name) file (Some bytes) = IsFetched most (file name) bytes
-
--- The images that are fetched after the first n, by the names of those that are left: up to the one that is refused; none if a disk is.
-abbrev pub images_left : ℕ → List Text → Verdict → List Text
-images_left n names (Refuses (refusal.Image i f)) = take (i - n) names
-images_left n names (Refuses (refusal.Disk d b r)) = []
-images_left n names _ = names
-
--- the files that are fetched after the raw disk: the disk with files, unless the raw one is refused, and the images
-abbrev pub disk1_left : RunFiles → Verdict → List Text
-disk1_left r (Refuses (refusal.Disk zero b rule)) = []
-disk1_left r v = if_named r.disks.disk1 ++ images_left 0 r.images v
-
--- the files that are fetched after the schedule
-abbrev pub disk0_left : RunFiles → Verdict → List Text
-disk0_left r v = if_named r.disks.disk0 ++ disk1_left r v
-
--- After these image files, those of these names were fetched and read in order, and then all images ran through the events, for some bytes
--- of the files that can't be observed. These files were written.
-pub record RunsImages (setup : Setup) (before : List (List ℕ)) (names : List Text) (events : List Event) (outputs : List HostCall) (ended : Option Refusal) (left : Option Left) (old new : Outside) : Type 0 where
-  pub unseen : ℕ → List ℕ
-  pub stage : Stage (images_verdict 1 (before ++ image_bytes (length before + 1) names old.file unseen) (boot_verdict setup events)) (images_left (length before) names) outputs ended left old new
-
--- On this raw disk, the disk with files was fetched and checked, and then the images ran.
-pub record RunsOnRaw (r : RunFiles) (wanted : Wanted) (events : List Event) (disk0 : List ℕ) (ended : Option Refusal) (left : Option Left) (old new : Outside) : Type 0 where
-  pub unseen : List ℕ
-  pub images : ℕ → List ℕ
-  pub stage : Stage (disk1_verdict wanted events disk0 (disk_bytes r.disks.disk1 empty_disk1 old.file unseen) (image_bytes 1 r.images old.file images)) (disk1_left r) (run_outputs r.disks) ended left old new
-
--- The raw disk was fetched and checked, and then the images ran on it.
-pub record RunsEvents (r : RunFiles) (wanted : Wanted) (events : List Event) (ended : Option Refusal) (left : Option Left) (old new : Outside) : Type 0 where
-  pub unseen : List ℕ
-  pub disk1 : List ℕ
-  pub images : ℕ → List ℕ
-  pub stage : Stage (disk0_verdict wanted events (disk_bytes r.disks.disk0 empty_disk0 old.file unseen) (disk_bytes r.disks.disk1 empty_disk1 old.file disk1) (image_bytes 1 r.images old.file images)) (disk0_left r) (run_outputs r.disks) ended left old new
 
 -- A file was fetched and then set on a disk, for some bytes of it if it can't be observed.
 pub record SetsFile (disk name source out : List ℕ) (ended : Option Refusal) (old new : Outside) : Type 0 where

@@ -8,24 +8,29 @@ use Rattle.lfs_check.specs.declared.faults.DiskFault.{DiskFault}
 use Rattle.lfs_layout.specs.Images.{opened}
 use Rattle.rv_asm.specs.Assembly.{Makes, Fails, assembly}
 use Rattle.rv_asm.specs.declared.faults.AsmFault.{AsmFault}
-use Rattle.xinu_model.specs.Boot.{Disks, Start, Boots, Overlaps, NoRoom, boot_on}
+use Rattle.schedule_file.specs.ScheduleFiles.{events_in}
+use Rattle.transcript_laws.specs.Transcripts.{IsText}
+use Rattle.xinu_base.specs.declared.events.Event.{Event}
+use Rattle.xinu_model.specs.Boot.{Disks, Loaded, Start, Boots, Overlaps, NoRoom, boot_on}
 use Rattle.xinu_model.specs.Machine.{Xinu}
 use Rattle.xinu_commands.specs.AsmVerdict.{longest_source}
 use Rattle.xinu_commands.specs.DiskVerdict.{disk_fault, disk_with, file_on, rule_broken, size_fault}
 use Rattle.xinu_commands.specs.InputFaults.{have_fault, images_loaded, schedule_fault}
 use Rattle.xinu_commands.specs.Refusals.{status_of}
-use Rattle.xinu_commands.specs.RunVerdict.{raw_broken, raw_fault}
+use Rattle.xinu_commands.specs.InputVerdict.{raw_broken, raw_fault}
+use Rattle.xinu_commands.specs.TraceVerdict.{longest_trace}
 use Rattle.xinu_commands.specs.Verdict.{Input, DiskInput, SourceInput}
-use Rattle.xinu_commands.specs.Work.{Verdict, Refuses, Does}
+use Rattle.xinu_commands.specs.Work.{Verdict, Refuses, Does, Judges}
 use Rattle.xinu_commands.specs.declared.refusals.Refusal.{Refusal}
 
 -- the exit statuses
 abbrev pub statuses : List ℕ
-statuses = 0 ∷ 2 ∷ 3 ∷ 4 ∷ 5 ∷ 6 ∷ 7 ∷ 8 ∷ 9 ∷ 12 ∷ 13 ∷ []
+statuses = 0 ∷ 2 ∷ 3 ∷ 4 ∷ 5 ∷ 6 ∷ 7 ∷ 8 ∷ 9 ∷ 10 ∷ 11 ∷ 12 ∷ 13 ∷ []
 
 -- the exit status that a verdict calls for
 abbrev pub status_due : Verdict → ℕ
 status_due (Refuses cause) = status_of cause
+status_due (Does (Judges false)) = 10
 status_due (Does work) = 0
 
 -- why a disk of a run is refused, the raw one first
@@ -60,6 +65,33 @@ pub record SaysOfFiles (exit : ℕ) (schedule disk0 disk1 : List ℕ) (images : 
   pub bad_disk : exit ≡ 6 ↔ ((schedule_fault schedule ≡ None) × IsSome (disks_fault disk0 disk1))
   pub bad_image : exit ≡ 4 ↔ (AreAccepted schedule disk0 disk1 × (have_fault images ≡ true))
   pub no_start : exit ≡ 8 ↔ (AreAccepted schedule disk0 disk1 × CannotStart (disks_of disk0 (opened disk1)) images)
+
+-- ---- a trace
+
+-- A trace is the transcript of a run of the images in files through the events of a schedule.
+pub record IsTraceOf (disks : Disks) (schedule : List ℕ) (files : List (List ℕ)) (trace : List ℕ) : Type 0 where
+  pub events : List Event
+  pub images : List Loaded
+  pub reads : events_in schedule ≡ Some events
+  pub loads : images_loaded files ≡ Some images
+  pub text : IsText disks images events trace
+
+-- The inputs are accepted, and so is the length of the trace.
+pub record AreFetched (schedule disk0 disk1 : List ℕ) (images : List (List ℕ)) (trace : List ℕ) : Type 0 where
+  pub accepted : AreAccepted schedule disk0 disk1
+  pub good : have_fault images ≡ false
+  pub short : length trace ≤ longest_trace
+
+-- What the exit status of a check says of its inputs and of its trace, if it is neither 3 nor 7.
+pub record SaysOfTrace (exit : ℕ) (schedule disk0 disk1 : List ℕ) (images : List (List ℕ)) (trace : List ℕ) : Type 0 where
+  pub yes : exit ≡ 0 ↔ (AreFetched schedule disk0 disk1 images trace × IsTraceOf (disks_of disk0 (opened disk1)) schedule images trace)
+  pub no : exit ≡ 10 ↔ (AreFetched schedule disk0 disk1 images trace × CanStart (disks_of disk0 (opened disk1)) images
+      × (IsTraceOf (disks_of disk0 (opened disk1)) schedule images trace → ⊥))
+  pub too_long : exit ≡ 11 ↔ (AreAccepted schedule disk0 disk1 × (have_fault images ≡ false) × (longest_trace < length trace))
+  pub bad_schedule : exit ≡ 5 ↔ IsSome (schedule_fault schedule)
+  pub bad_disk : exit ≡ 6 ↔ ((schedule_fault schedule ≡ None) × IsSome (disks_fault disk0 disk1))
+  pub bad_image : exit ≡ 4 ↔ (AreAccepted schedule disk0 disk1 × (have_fault images ≡ true))
+  pub no_start : exit ≡ 8 ↔ (AreFetched schedule disk0 disk1 images trace × CannotStart (disks_of disk0 (opened disk1)) images)
 
 -- ---- a source
 

@@ -1,5 +1,5 @@
 -- What a command deserves, a refusal by its cause or work, and what the work puts out.
-use Rattle.std.specs.Prelude.{◌≡◌, ℕ, Bool, List, [], ◌∷◌, ◌++◌, Option, Some, None, if◌then◌else◌}
+use Rattle.std.specs.Prelude.{◌≡◌, ℕ, Bool, true, false, codes, List, [], ◌∷◌, ◌++◌, Option, Some, None, if◌then◌else◌}
 use Rattle.given_disks.specs.HeldFiles.{HoldsFiles}
 use Rattle.machine.specs.Disks.{raw_bytes}
 use Rattle.soak.specs.Soaks.{Soaks}
@@ -42,11 +42,12 @@ pub record Left : Type 0 where
   pub state : Xinu
   pub disk1 : List ℕ
 
--- The work that is due: a run from this start through these events; the soak test of a number from this start; or an output, text with a disk
--- or another file.
+-- The work that is due: a run from this start through these events; the soak test of a number from this start; a trace to be judged, by whether it
+-- is the transcript of a run; or an output, text with a disk or another file.
 pub data Work : Type 0 where
   Runs : (wanted : Wanted) → (start : Xinu) → (events : List Event) → Work
   Soaking : (seed : ℕ) → (start : Xinu) → Work
+  Judges : (is_transcript : Bool) → Work
   Outputs : (out : List ℕ) → (disk1 image : Option (List ℕ)) → Work
 
 -- a refusal by its cause, or the work that is due
@@ -129,6 +130,16 @@ pub record SoakWrites (seed : ℕ) (start : Xinu) (o : Output) (left : Option Le
   pub output : SoakOutput seed start o last.state
   pub leaves : left ≡ Some last
 
+-- the output on a trace: `yes` with status 0 if it is the transcript of a run, else `no` with status 10
+abbrev pub judgement : Bool → Output
+judgement true = only_printed 0 (codes "yes\n")
+judgement false = only_printed 10 (codes "no\n")
+
+-- The output is the judgement on a trace, and no machine is left.
+pub record JudgementWrites (is_transcript : Bool) (output : Output) (left : Option Left) : Type 0 where
+  pub written : output ≡ judgement is_transcript
+  pub leaves : left ≡ None
+
 -- The output is exactly this one, and no machine is left.
 pub record OutputWrites (out : List ℕ) (disk1 image : Option (List ℕ)) (output : Output) (left : Option Left) : Type 0 where
   pub written : output ≡ output_of out disk1 image
@@ -138,10 +149,12 @@ pub record OutputWrites (out : List ℕ) (disk1 image : Option (List ℕ)) (outp
 abbrev pub Begins : Work → Output → Type 0
 Begins (Runs wanted start events) output = RunBegins wanted start events output
 Begins (Soaking seed start) output = SoakBegins seed start output
+Begins (Judges is_transcript) output = output ≡ judgement is_transcript
 Begins (Outputs out disk1 image) output = output ≡ output_of out disk1 image
 
 -- What work puts out, and what it leaves.
 abbrev pub Writes : Work → Output → Option Left → Type 0
 Writes (Runs wanted start events) output left = RunWrites wanted start events output left
 Writes (Soaking seed start) output left = SoakWrites seed start output left
+Writes (Judges is_transcript) output left = JudgementWrites is_transcript output left
 Writes (Outputs out disk1 image) output left = OutputWrites out disk1 image output left

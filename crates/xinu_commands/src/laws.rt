@@ -4,7 +4,8 @@
 ghost use Rattle.std.specs.Prelude.{◌≡◌, ◌≢◌, ◌↔◌, ◌==◌, ◌∷◌, [], ℕ, Bool, IsTrue, List, Option, Some, None, IsSome};
 ghost use Rattle.std.specs.List.{list_any};
 ghost use Rattle.command_line.specs.AsmArgs.{AsmFiles};
-ghost use Rattle.command_line.specs.Commands.{Command, Run, Asm, Disk};
+ghost use Rattle.command_line.specs.CheckArgs.{CheckFiles};
+ghost use Rattle.command_line.specs.Commands.{Command, Run, Asm, Check, Disk, command_of};
 ghost use Rattle.command_line.specs.DiskArgs.{DiskAction};
 ghost use Rattle.command_line.specs.Reading.{Text};
 ghost use Rattle.command_line.specs.RunArgs.{RunFiles};
@@ -16,13 +17,13 @@ ghost use Rattle.rv_asm.specs.Assembly.{Makes, assembly};
 ghost use Rattle.xinu_model.specs.Boot.{Loaded};
 ghost use Rattle.xinu_commands.specs.AsmVerdict.{written_file};
 ghost use Rattle.xinu_commands.specs.Calls.{calls_due, calls_in};
-ghost use Rattle.xinu_commands.specs.Statuses.{SaysOfDisk, SaysOfFiles, SaysOfSource, status_due, statuses};
+ghost use Rattle.xinu_commands.specs.Statuses.{SaysOfDisk, SaysOfFiles, SaysOfSource, SaysOfTrace, status_due, statuses};
 ghost use Rattle.xinu_commands.specs.Theorem.{Answers};
-ghost use Rattle.xinu_commands.specs.RunVerdict.{empty_disk0, empty_disk1};
-ghost use Rattle.xinu_commands.specs.Verdict.{ScheduleInput, Disk0Input, Disk1Input, ImageInput, SourceInput, disk_bytes, file_bytes, image_bytes, verdict};
+ghost use Rattle.xinu_commands.specs.InputVerdict.{empty_disk0, empty_disk1};
+ghost use Rattle.xinu_commands.specs.Verdict.{ScheduleInput, Disk0Input, Disk1Input, ImageInput, TraceInput, SourceInput, disk_bytes, file_bytes, image_bytes, verdict};
 ghost use Rattle.xinu_commands.specs.Work.{Left};
 
-/// The exit status is 0, 2, 3, 4, 5, 6, 7, 8, 9, 12 or 13.
+/// The exit status is 0, 2, 3, 4, 5, 6, 7, 8, 9, 10, 11, 12 or 13.
 pub fn statuses_are_these()
     ensures { (exit : ℕ) (command : Option Command) (old new : Outside) (left : Option Left) → Answers exit command old new left → IsTrue (list_any (λ n. exit == n) statuses) }
 {}
@@ -52,6 +53,12 @@ pub fn calls_are_due()
 /// or memory ran out.
 pub fn statuses_say_of_files()
     ensures { (exit : ℕ) (files : RunFiles) (old new : Outside) (left : Option Left) (a : Answers exit (Some (Run files)) old new left) → exit ≢ 7 → exit ≢ 3 → SaysOfFiles exit (file_bytes (old.file files.schedule) (a.obeys.unseen ScheduleInput)) (disk_bytes files.disks.disk0 empty_disk0 old.file (a.obeys.unseen Disk0Input)) (disk_bytes files.disks.disk1 empty_disk1 old.file (a.obeys.unseen Disk1Input)) (image_bytes 1 files.images old.file (λ i. a.obeys.unseen (ImageInput i))) }
+{}
+
+/// The exit status of a check is 0 if and only if its trace is the transcript of a run of the images through the events of the schedule, and 10 if
+/// and only if it is none; 11 if and only if the trace is too long; 4, 5, 6 and 8 as those of a run: unless the host failed or memory ran out.
+pub fn statuses_say_of_traces()
+    ensures { (exit : ℕ) (args : List Text) (files : CheckFiles) (old new : Outside) (left : Option Left) → command_of args ≡ Some (Check files) → (a : Answers exit (Some (Check files)) old new left) → exit ≢ 7 → exit ≢ 3 → SaysOfTrace exit (file_bytes (old.file files.schedule) (a.obeys.unseen ScheduleInput)) (disk_bytes files.disks.disk0 empty_disk0 old.file (a.obeys.unseen Disk0Input)) (disk_bytes files.disks.disk1 empty_disk1 old.file (a.obeys.unseen Disk1Input)) (image_bytes 1 files.images old.file (λ i. a.obeys.unseen (ImageInput i))) (file_bytes (old.file files.trace) (a.obeys.unseen TraceInput)) }
 {}
 
 /// The exit status of `asm` is 9 if and only if the source is too long or has a fault, and else 0: unless the host failed or memory ran out.

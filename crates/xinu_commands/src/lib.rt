@@ -1,9 +1,10 @@
-//! The commands of the program: it runs images under a schedule and prints the transcript, assembles texts, makes, checks and changes
-//! disks with files, and runs the workload of a number.
+//! The commands of the program: it runs images under a schedule and prints the transcript, judges transcripts, assembles texts, makes, checks
+//! and changes disks with files, and runs the workload of a number.
 //!
 //! The commands are `run --schedule FILE IMAGE ..`, which with `--plain` prints the bytes of the console alone, and takes its disks from
-//! `--disk0` and `--disk1` and writes them to `--out0` and `--out1`; `asm SOURCE --out FILE`, which writes an ELF file with `--elf`; `disk` with
-//! six actions: `mkfs`, `ls`, `get`, `put`, `check` and `repair`; and `soak N`, which prints a summary. Each goes over any host.
+//! `--disk0` and `--disk1` and writes them to `--out0` and `--out1`; `check --schedule FILE --trace FILE IMAGE ..`, which says of a text whether it
+//! is the transcript of a run; `asm SOURCE --out FILE`, which writes an ELF file with `--elf`; `disk` with six actions: `mkfs`, `ls`, `get`,
+//! `put`, `check` and `repair`; and `soak N`, which prints a summary. Each goes over any host.
 //!
 //! | Call | Promise |
 //! |---|---|
@@ -12,14 +13,16 @@
 #![tactic(auto)]
 
 mod asm_command;
+mod check_command;
 mod commands;
 mod disk;
 mod disk_lines;
 mod fetching;
+mod input_disks;
+mod inputs;
 pub mod laws;
 mod refusals;
 mod run_command;
-mod run_disks;
 mod runs;
 mod sending;
 mod soak_command;

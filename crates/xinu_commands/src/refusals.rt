@@ -9,6 +9,7 @@ use command_line::ArgsFault;
 use host_port::{Channel, Host, HostFault, Line};
 use lfs_layout::CheckFault;
 use machine::BootFault;
+use reference_check::NoStart;
 use rv_asm::AsmFault;
 use schedule_file::ScheduleFault;
 use xinu_base::NoMemory;
@@ -34,6 +35,8 @@ pub(crate) enum Refusal {
     /// The source has a fault at this line, counted from 1: 1 if the line has no form of the language, 2 if a name isn't known, 3 if a
     /// number is out of range, 4 if a label is there twice. At line 0, 1 is too little content and 3 a source that is too long.
     Asm { line: u32, fault: u8 },
+    /// The trace is too long.
+    TraceTooLong,
     /// The disk has no file of the name.
     NoSuchFile,
     /// The disk has no room for the file.
@@ -95,6 +98,21 @@ impl From<BootFault> for Refusal {
             BootFault::Overlap(image) => Refusal::Overlap(image),
             BootFault::NoRoom(image) => Refusal::NoRoom(image),
             BootFault::NoMemory => Refusal::NoMemory,
+        }
+    }
+}
+
+impl From<NoStart> for Refusal {
+    ghost use Rattle.std.specs.Prelude.{◌≡◌};
+    ghost use Rattle.xinu_commands.specs.Conversions.{start_refusal};
+
+    ghost from_gives = { λ f r. r ≡ start_refusal f };
+
+    fn from(fault: NoStart) -> Refusal {
+        match fault {
+            NoStart::Overlaps(image) => Refusal::Overlap(image),
+            NoStart::NoRoom(image) => Refusal::NoRoom(image),
+            NoStart::NoMemory => Refusal::NoMemory,
         }
     }
 }
@@ -168,6 +186,7 @@ fn status(refusal: Refusal) -> u8
         Refusal::NoMemory => 7,
         Refusal::Overlap(_) | Refusal::NoRoom(_) => 8,
         Refusal::Asm { .. } => 9,
+        Refusal::TraceTooLong => 11,
         Refusal::NoSuchFile => 12,
         Refusal::DoesNotFit => 13,
     }
@@ -187,6 +206,7 @@ fn line_of(refusal: Refusal) -> Line
         Refusal::Overlap(image) => overlap_line(image),
         Refusal::NoRoom(image) => number_line("xinu: no room for image", image as u32),
         Refusal::Asm { line, fault } => asm_line(line, fault),
+        Refusal::TraceTooLong => text_line("xinu: trace too long"),
         Refusal::NoSuchFile => text_line("xinu: no such file"),
         Refusal::DoesNotFit => text_line("xinu: does not fit"),
     }

@@ -4,8 +4,8 @@ ghost use Rattle.std.specs.Prelude.{Some};
 ghost use Rattle.command_line.specs.Commands.{Soak};
 ghost use Rattle.xinu_commands.specs.Stages.{Performs, left_of, refusal_of};
 
+use crate::input_disks::{clean_disk, raw_disk};
 use crate::refusals::Refusal;
-use crate::run_disks::{clean_disk, raw_disk};
 use crate::sending::print_text;
 use host_port::Host;
 use machine::Machine;

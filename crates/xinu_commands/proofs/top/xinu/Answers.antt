@@ -3,9 +3,10 @@ use Rattle.xinu_commands.proofs.top.xinu.Goals as goal
 
 pub returns-in-Ok : goal.returns-in-Ok
 returns-in-Ok g c =
-    record { answers = done_answers _ _ _ _ c.in-Ok.ensures.performs }
+    let carried = c.in-Ok.ensures.carries in
+    record { answers = done_answers _ _ _ _ _ carried.performs carried.status }
 
 pub returns-in-Err : goal.returns-in-Err
 returns-in-Err g c = record {
-  answers = refused_answers _ c.in-Err.refusal c.refuse.result _ _ _ c.in-Err.ensures.performs c.refuse.ensures;
+  answers = refused_answers _ c.in-Err.refusal c.refuse.result _ _ _ c.in-Err.ensures.carries.performs c.refuse.ensures;
 }
