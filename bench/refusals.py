@@ -34,7 +34,7 @@ FILES = {
 # A disk of this many blocks, without files, is made beside them. Seven blocks of it are left for data.
 BLOCKS = "14"
 
-# the arguments, the exit status, and standard error
+# the arguments, the exit status, standard error, and standard output if something is printed there
 ROWS = [
     ([], 2, "xinu: usage\n"),
     (["run", "--schedule", "four"], 2, "xinu: usage\n"),
@@ -62,15 +62,22 @@ ROWS = [
     (["disk", "put", "disk", "name", "no file", "--out", "out"], 3, "xinu: host fault\n"),
     (["disk", "get", "disk", "name", "--out", "out"], 12, "xinu: no such file\n"),
     (["disk", "put", "disk", "name", "large", "--out", "out"], 13, "xinu: does not fit\n"),
+    (["check", "--schedule", "four", "image"], 2, "xinu: usage\n"),
+    (["check", "--schedule", "four", "--trace", "no file", "image"], 3, "xinu: host fault\n"),
+    (["check", "--schedule", "four", "--trace", "four", "short"], 4, "xinu: image 1 fault 1\n"),
+    (["check", "--schedule", "none", "--trace", "four", "image"], 5, "xinu: schedule line 2\n"),
+    (["check", "--schedule", "four", "--disk0", "short", "--trace", "four", "image"], 6, "xinu: disk 0 block 0 rule 0\n"),
+    (["check", "--schedule", "four", "--trace", "four", "whole"], 8, "xinu: no room for image 1\n"),
+    (["check", "--schedule", "four", "--trace", "four", "image"], 10, "", b"no\n"),
 ]
 
 
-def is_right(program, folder, args, status, error, out=subprocess.PIPE):
-    """Whether the program ends with this status and text, and writes nothing on standard output."""
+def is_right(program, folder, args, status, error, printed=b"", out=subprocess.PIPE):
+    """Whether the program ends with this status, and prints these texts."""
     ran = subprocess.run([program, *args], cwd=folder, stdout=out, stderr=subprocess.PIPE, check=False)
-    if (ran.returncode, ran.stdout or b"", ran.stderr) == (status, b"", error.encode()):
+    if (ran.returncode, ran.stdout or b"", ran.stderr) == (status, printed, error.encode()):
         return True
-    print(f"{args}: status {ran.returncode}, {ran.stdout!r}, {ran.stderr!r}; not {status}, b'', {error!r}")
+    print(f"{args}: status {ran.returncode}, {ran.stdout!r}, {ran.stderr!r}; not {status}, {printed!r}, {error!r}")
     return False
 
 
@@ -84,7 +91,7 @@ def main():
         subprocess.run([program, "disk", "mkfs", BLOCKS, "--out", "disk"], cwd=folder, check=True)
         right = [is_right(program, folder, *row) for row in ROWS]
         with open("/dev/full", "wb") as full:
-            right.append(is_right(program, folder, ["run", "--schedule", "four", "image"], 3, "xinu: host fault\n", full))
+            right.append(is_right(program, folder, ["run", "--schedule", "four", "image"], 3, "xinu: host fault\n", out=full))
     print(f"{sum(right)} of {len(right)} runs were as they should be")
     sys.exit(0 if all(right) else 1)
 
