@@ -68,9 +68,11 @@ MAKES = [
     ["disk", "mkfs", "256", "--out", "empty"],
     ["disk", "put", "empty", "log", "three.s", "--out", "disk"],
 ]
+STORED_RUN = ["run", "--schedule", FOUR_STEPS, TWO_CALLS]
 # the commands, each with the files that it writes
 COMMANDS = [
-    ("the stored run", ["run", "--schedule", FOUR_STEPS, TWO_CALLS], []),
+    ("the stored run", STORED_RUN, []),
+    ("check of its transcript", ["check", "--schedule", FOUR_STEPS, "--trace", "transcript", TWO_CALLS], []),
     (
         "a run with four disks",
         ["run", "--schedule", FOUR_STEPS, "--disk0", "raw", "--disk1", "disk", "--out0", "out", "--out1", "out1", TWO_CALLS],
@@ -143,6 +145,8 @@ def main():
                 file.write(text)
         for args in MAKES:
             subprocess.run([program, *args], cwd=folder, check=True)
+        with open(os.path.join(folder, "transcript"), "wb") as transcript:
+            subprocess.run([program, *STORED_RUN], cwd=folder, check=True, stdout=transcript)
         for name, args, written in COMMANDS:
             if all(word in name for word in words):
                 count, runs, ended = figures(program, folder, args, written, library, is_each)
