@@ -50,7 +50,7 @@ again:  mv a0, s0
 # the processes, the schedule, and whether there is the greatest raw disk
 SYSTEMS = {
     "getpid": ([GETPID], "step 1500000\n", False),
-    "files": ([WRITER.format(place=0, name="a"), WRITER.format(place=4096, name="b")], "round 1200\n", False),
+    "files": ([WRITER.format(place=0, name="a"), WRITER.format(place=4096, name="b")], "round 80000\n", False),
     "getpid, 32 MiB": ([GETPID], "step 1500000\n", True),
 }
 
