@@ -106,7 +106,7 @@ word_first : (line : List ℕ) → 0 < at_end line → tokens_of line ≡ Word (
 word_first [] some = absurd (omega arith)
 word_first (b ∷ line) some = word_step (ends_word b) b (at_end line) line refl refl (word_first line) some
 
--- a text's bytes in front of tokens
+-- a text's bytes before tokens
 abbrev pub prefixed : List ℕ → List Token → List Token
 prefixed [] ts = ts
 prefixed (b ∷ bytes) ts = quoted b (prefixed bytes ts)
@@ -140,7 +140,7 @@ tokens_of-last (b ∷ line) some is found =
     let behind : 0 < at_end (b ∷ line) = rw is (omega arith) in
     word_first (b ∷ line) behind ∙ rw (take_all (at_end (b ∷ line)) (b ∷ line) none, drop_all (at_end (b ∷ line)) (b ∷ line) none) refl
 
--- where a byte stands, by whether a backslash is in front of it
+-- where a byte stands, by whether a backslash is before it
 abbrev pub where_is : Bool → Quoting
 where_is true = Escaped
 where_is false = Inside

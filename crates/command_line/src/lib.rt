@@ -8,9 +8,9 @@
 //! |---|---|
 //! | [`command_of`] | `command`: an answered command is the one that the definition gives; `no_command`: the answer is no command only if the definition gives none. `NoMemory` is free |
 //!
-//! One law, by induction over the arguments, says that clap's matches are that reading, for every table whose options have other names than the
-//! positional argument (`proofs/Law.antt`, `proofs/Program.antt`). It serves the commands and the actions of `disk`. The crate depends on `clap`, and on
-//! `lfs_layout` for what can be the name of a file on a disk.
+//! One law, by induction over the arguments, says that clap's matches are that reading, for every table whose options have other names than
+//! the positional argument (`proofs/Law.antt`, `proofs/Program.antt`). It serves the commands and the actions of `disk`. The crate depends
+//! on `clap`, and on `lfs_layout` for what can be the name of a file on a disk.
 #![tactic(auto)]
 
 mod asm_args;

@@ -24,10 +24,10 @@
 //!
 //! - `QuietMemoryHost` is seen as `quiet_view`: every name is a file, empty until it is added; all parts are observable; the count is 0, so no
 //!   call fails. `add_file` is `AddsFile`, and at a refusal `Stays`.
-//! - `MemoryHost` is seen as `memory_view`, in which only the added files are observable. `fail_call` adds a number to those of the calls that are
-//!   to fail (`fails_at`). Each call has the clause `counts` (`CountsCall`): it was counted, it was refused if it was to fail, it answers
-//!   `Failed` only then, and each failure adds 1 to the count of faults. An `emit` or a `name_out` that is to fail leaves the channel
-//!   (`kept`), and such an `emit` answers `Failed` and nothing else (`certain`).
+//! - `MemoryHost` is seen as `memory_view`, in which only the added files are observable. `fail_call` adds a number to those of the calls
+//!   that are to fail (`fails_at`). Each call has the clause `counts` (`CountsCall`): it was counted, it was refused if it was to fail, it
+//!   answers `Failed` only then, and each failure adds 1 to the count of faults. An `emit` or a `name_out` that is to fail leaves the
+//!   channel (`kept`), and such an `emit` answers `Failed` and nothing else (`certain`).
 //! - `RealHost` is seen as `unobservable`: the count of faults alone. Its loops over std's `read` and `write` are proved for readers and writers
 //!   whose bytes are observable: `read_front` reads exactly the first bytes (`bytes`, `read`), `write_whole` writes all bytes, and a
 //!   prefix of them if it fails (`whole`, `part`). What the system does with them is trusted, and tested.
@@ -39,8 +39,9 @@
 //! (`whole`), always a prefix of them and nothing else (`part`), nothing after an earlier failure (`stays`); the failure turns to
 //! `Failed` only if the count rose (`cause`). `proofs/Prints.antt` composes such calls: `prints_both`, `prints_nothing`, `prints_leaves`.
 //!
-//! Tested, not proved: that calls succeed with ample memory; that `RealHost` reads back what it wrote, of more than one buffer and on each channel,
-//! makes a named file anew, and reports a missing file, a channel without a file, a missing folder and a full device.
+//! Tested, not proved: that calls succeed with ample memory; that `RealHost` reads back what it wrote, of more than one buffer and on each
+//! channel, empties a named file before it writes it, and reports a missing file, a channel without a file, a missing folder and a full
+//! device.
 #![tactic(auto)]
 
 mod front;

@@ -5,7 +5,7 @@ use Rattle.xinu_base.specs.declared.semaphores.Owner.TheVariants as owner
 use Rattle.xinu_model.specs.Machine.{reply_at_unblock}
 use Rattle.xinu_model.specs.Tables.{process_at, Tables}
 
--- this value to each of these processes of whose call nothing is left, in order
+-- this value to each of these processes whose call is complete, in order
 abbrev pub replies_to : ℤ → List ℕ → Tables → List (ℕ × ℤ)
 replies_to value [] t = []
 replies_to value (p ∷ ps) t = reply_at_unblock value p (process_at t p).rest ++ replies_to value ps t

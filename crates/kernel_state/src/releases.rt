@@ -26,7 +26,7 @@ impl KernelState {
         }
     }
 
-    /// These processes became ready: each of whose call nothing is left gets this reply, and a resched is owed if there are any.
+    /// These processes became ready: each whose call is complete gets this reply, and a resched is owed if there are any.
     pub fn release(&mut self, released: &[Pid], value: i32)
         requires none { self.old.call.released ≡ [] }
         requires few { length released.now ≤ 64 }

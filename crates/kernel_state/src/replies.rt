@@ -42,7 +42,7 @@ pub fn owes_after(owes_resched: bool, released: &[Pid]) -> bool
     owes_resched || !released.is_empty()
 }
 
-/// Keeps a reply of this value for each of these processes, which were released, of whose call nothing is left.
+/// Keeps a reply of this value for each of these processes, which were released and whose calls are complete.
 pub fn answer_released(replies: &mut Replies, tables: &KernelTables, released: &[Pid], value: i32)
     requires none { replies.old.items ≡ [] }
     requires few { length released.now ≤ 64 }

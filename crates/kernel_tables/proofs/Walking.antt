@@ -12,11 +12,11 @@ use Rattle.xinu_model.specs.Tables.{process_at, state_at, Tables}
 use Rattle.process_core.proofs.Inside.{uncounted}
 use Rattle.kernel_tables.specs.Walks.{entries_from}
 
--- each process stands in the list at most once
+-- each process is in the list at most once
 abbrev pub Once : List Entry → Type 0
 Once l = (r : ℕ) → entries_of r l ≤ 1
 
--- the first one stands in no other place
+-- the first one is in no other place
 first_alone : (e : Entry) (l : List Entry) → Once (e ∷ l) → entries_of e.0 l ≡ 0
 first_alone e l once =
     let h = once e.0 in
@@ -114,15 +114,15 @@ placed_ready Suspended h = absurd (omega (arith, h))
 placed_ready Waiting h = absurd (omega (arith, h))
 placed_ready Timed h = absurd (omega (arith, h))
 
--- each process stands in the ready list at most once
+-- each process is in the ready list at most once
 ready_once : (t : Tables) → IsInside t → Once t.ready
 ready_once t k r = let e = k.ready r in let l = places_least (state_at t r) in omega arith
 
--- who stands in it is ready
+-- who is in it is ready
 counted_ready : (t : Tables) → IsInside t → (p : ℕ) → 0 < entries_of p t.ready → state_at t p ≡ Ready
 counted_ready t k p some = placed_ready (state_at t p) (let e = k.ready p in omega arith)
 
--- who is ready stands in it
+-- who is ready is in it
 ready_listed : (t : Tables) → IsInside t → (p : ℕ) → state_at t p ≡ Ready → is_listed p t.ready ≡ true
 ready_listed t k p h = go (is_listed p t.ready) refl
   where

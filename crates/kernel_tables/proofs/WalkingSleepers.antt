@@ -122,7 +122,7 @@ unlisted_walk p (e ∷ l) h = go (λ f. unlisted_walk p l f) (nat_eq p e.0) refl
     go later true t = absurd (false≢true (sym h ∙ ap (λ b. cond b true (is_listed p l)) t))
     go later false t = rw t (later (sym (ap (λ b. cond b true (is_listed p l)) t) ∙ h))
 
--- each sleeper stands in its list at most once
+-- each sleeper is in its list at most once
 pub sleepers_once : (t : Tables) (ticks : ℕ) (l : List Entry) → IsInside t → t.sleepers ≡ sleepers_of ticks l → Once l
 unfolding delays
 sleepers_once t ticks l k e r =

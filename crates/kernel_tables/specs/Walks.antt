@@ -13,6 +13,6 @@ numbers_from None l = []
 numbers_from (Some p) [] = []
 numbers_from (Some p) (x ∷ l) = if p == x then x ∷ l else numbers_from (Some p) l
 
--- p stands in the list with this tick
+-- p is in the list with this tick
 abbrev pub StandsAt : ℕ → ℕ → List (ℕ × ℕ) → Type 0
 StandsAt p wake l = (rest : List (ℕ × ℕ)) × (entries_from (Some p) l ≡ (p, wake) ∷ rest)

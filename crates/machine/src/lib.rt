@@ -1,8 +1,8 @@
 //! The machine: it is booted with images and disks, takes one event after another, and prints what happens.
 //!
-//! A [`Machine`] is seen as `Booted`: the `state` of the abstract machine for which it stands, the bytes of the disk with files (`image`), the
-//! number of `events` that it took, and whether one of them ended the run (`over`). Between any two events, also after the run has ended, the state is sound: that is part of what a
-//! `Machine` stands for (`specs/Machines.antt`).
+//! A [`Machine`] is seen as `Booted`: the `state` of the abstract machine for which it stands, the bytes of the disk with files (`image`),
+//! the number of `events` that it took, and whether one of them ended the run (`over`). Between any two events, also after the run has
+//! ended, the state is sound: that is part of what a `Machine` stands for (`specs/Machines.antt`).
 //!
 //! | Call | Condition | Promise |
 //! |---|---|---|
@@ -13,9 +13,9 @@
 //! | [`Machine::dump`] | | prints the tables of the state |
 //! | [`Machine::disk`] | disk 0 or 1 | `bytes`: of disk 0 the blocks of the raw disk, of disk 1 the disk with files; `holds`: that holds the files of the state at rest, and is clean for exactly them if no file is open and no call on files is under way |
 //!
-//! Printing is `Prints` of `host_port`: all bytes unless the printer fails, else a prefix of them; if the output is plain, of the bytes that
-//! the console sent (`shown`). No call but `boot` takes memory, and no
-//! list of lines is collected. The kernel is `kernel`, and a line as its bytes `transcript`.
+//! Printing is `Prints` of `host_port`: all bytes unless the printer fails, else a prefix of them; if the output is plain, of the bytes
+//! that the console sent (`shown`). No call but `boot` takes memory, and no list of lines is collected. The kernel is `kernel`, and a line
+//! as its bytes `transcript`.
 #![tactic(auto)]
 
 mod boot;

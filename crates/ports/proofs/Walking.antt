@@ -37,7 +37,7 @@ not_first p e l h = go (nat_eq p e.0) refl
     go true t = absurd (false≢true (sym h ∙ ap (λ b. cond b true (is_listed p l)) t))
     go false t = (λ s. false≢true (sym t ∙ eq-eqb p e.0 s), sym (ap (λ b. cond b true (is_listed p l)) t) ∙ h)
 
--- what is after a node that stands in one place
+-- what is after a node that is in one place
 after_middle : (before : List Entry) (p : ℕ) (k : ℤ) (behind : List Entry) → is_listed p before ≡ false
     → after_in p (before ++ (p, k) ∷ behind) ≡ first_process behind
 after_middle [] p k behind h = ap (λ b. cond b (first_process behind) (after_in p behind)) (eq-eqb p p refl)
@@ -46,7 +46,7 @@ after_middle (e ∷ before) p k behind h =
     ap (λ b. cond b (first_process (before ++ (p, k) ∷ behind)) (after_in p (before ++ (p, k) ∷ behind))) (ne_eqb p e.0 n.0)
     ∙ after_middle before p k behind n.1
 
--- a node that stands in one place of a list splits it in one way
+-- a node that is in one place of a list splits it in one way
 one_split : (before c : List Entry) (p : ℕ) (k j : ℤ) (behind d : List Entry) → before ++ (p, k) ∷ behind ≡ c ++ (p, j) ∷ d
     → is_listed p c ≡ false → is_listed p d ≡ false
     → before ≡ c

@@ -1,6 +1,6 @@
 //! The reference machine's calls: on processes, semaphores, messages and the clock, what is left of those that waited, and a tick.
 //!
-//! A call is a function over the state inside an event, named as its definition and standing in the definition's order; its promise is that
+//! A call is a function over the state inside an event, named as its definition and in the definition's order; its promise is that
 //! what it came to is the definition's result: `came_to m.new answer`. A call that the book says is refused answers -1 and changes
 //! nothing. The words of a call are as the process gave them, signed or not as the definition reads them.
 //!

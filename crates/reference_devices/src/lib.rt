@@ -1,6 +1,6 @@
 //! The reference machine's devices: the console, the raw disk and the name space, as processes call them, and their interrupts.
 //!
-//! A call is a function over the state inside an event, named as its definition and standing in the definition's order; its promise is that
+//! A call is a function over the state inside an event, named as its definition and in the definition's order; its promise is that
 //! what it came to is the definition's result: `came_to m.new answer`. An event is a function that answers what is printed, and its promise
 //! is the definition's `EventResult`. A call that the book says is refused answers -1 and changes nothing.
 //!

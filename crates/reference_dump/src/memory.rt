@@ -35,7 +35,7 @@ fn push_block(lines: &mut Vec<TranscriptLine>, block: (u32, u32)) -> Result<(), 
     push(lines, TranscriptLine::Free(block.0, block.1))
 }
 
-// The free blocks of the heap, by address: each free cell joins the blocks behind it.
+// The free blocks of the heap, by address: each free cell joins the blocks after it.
 fn free_blocks(heap: &Heap) -> Result<Vec<(u32, u32)>, NoMemory>
     ensures blocks { IfOk result (λ l. l.items ≡ cells.free_blocks heap.now) }
 {

@@ -53,7 +53,7 @@ fn continuing_step(m: &mut Machine) -> Result<Happened, NoMemory>
     m.end_of_event(was, first, answer)
 }
 
-// The step of a process of whose call nothing is left.
+// The step of a process whose call is complete.
 fn instruction_step(m: &mut Machine, choice: usize) -> Result<Happened, NoMemory>
     requires start { IsStart m.old }
     requires within { IsWithin 1000000000 m.old.state }

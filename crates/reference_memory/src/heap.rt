@@ -92,7 +92,7 @@ fn highest(h: &Heap, k: usize) -> Option<usize>
     highest_free(k, &h.cells)
 }
 
-// The address of a cell, or the one behind the last.
+// The address of a cell, or the one after the last.
 fn address_of(h: &Heap, cell: usize) -> u32
     requires within { cell ≤ length h.now.cells }
     ensures address { result ≡ h.now.low + 8 * cell }

@@ -1,6 +1,6 @@
 //! The reference machine's calls on buffer pools and ports, and what is left of those that waited.
 //!
-//! A call is a function over the state inside an event, named as its definition and standing in the definition's order; its promise is that
+//! A call is a function over the state inside an event, named as its definition and in the definition's order; its promise is that
 //! what it came to is the definition's result: `came_to m.new answer`. A call that the book says is refused answers -1 and changes nothing.
 //!
 //! | File | What it has |

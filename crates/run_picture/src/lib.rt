@@ -11,7 +11,7 @@
 //! | [`Recording::pass`] | an event before the picture is noted, whose call may still be waited for |
 //! | [`Recording::picture`] | the document |
 //!
-//! No call has a contract: each is safe and returns, and refuses only for want of memory. What is drawn is tested.
+//! No call has a contract: each is safe and returns, and refuses only if memory runs out. What is drawn is tested.
 #![tactic(auto)]
 
 mod bands;

@@ -1,5 +1,5 @@
-//! Plays the sessions of the texts that its arguments name. It prints how many commands printed what is written, how many of the transcripts that
-//! they printed `check` accepts, and where it was otherwise.
+//! Plays the sessions of the texts that its arguments name. It prints how many commands printed what is written, how many of the
+//! transcripts that they printed `check` accepts, and where it was otherwise.
 //!
 //! A text is Markdown. Below each heading its lines that are indented by four spaces are a session at a terminal. A line of it that begins
 //! with `$` is a command, and the lines below are its own:
@@ -12,8 +12,8 @@
 //! | `$ xinu ARGUMENTS` | what the top call prints with these arguments: what it sends on Out and on Fault, and its status if it isn't 0 |
 //!
 //! The first process of a session is the image file `1`, the next is `2`, and so on. Image k begins at 4096 * (k - 1) and has 4096 bytes of
-//! content, with zeros after those of its text. What a command writes into the files of `--out`, `--out0` and `--out1` is there for the next one. A session ends
-//! at the next heading, and its files are forgotten.
+//! content, with zeros after those of its text. What a command writes into the files of `--out`, `--out0` and `--out1` is there for the
+//! next one. A session ends at the next heading, and its files are forgotten.
 //!
 //! A byte that isn't a printable character is shown as `\x` and two digits. Output whose last line doesn't end has a `\` there.
 //!

@@ -2,7 +2,7 @@
 //!
 //! | Call | Promise |
 //! |---|---|
-//! | [`soak`] | `soaks`: the summary is that of a run of the abstract machine over the programs and the events of the number, and the machine is in that run's last state; or `Overlap` or `NoRoom` exactly as boot says; or `NoMemory` |
+//! | [`soak`] | `soaks`: the summary is that of a run of the abstract machine over the programs and the events of the number, and the machine is in that run's last state; or `Overlap` or `NoRoom` as boot says; or `NoMemory` |
 //! | [`laws`] | a run whose events are counted is a run of the abstract machine (`RunsTo`) |
 //!
 //! What a run prints is counted event by event, and no transcript is kept (`specs/Soaks.antt`). The crate depends on `workload`, which says what

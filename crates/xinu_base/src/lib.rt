@@ -9,7 +9,7 @@
 //! | all other types | plain data: a contract sees their fields |
 //!
 //! `specs/Insert.antt` has the two insertions of the kernel's lists, `specs/Constants.antt` the constants by the book's names,
-//! `specs/Hexadecimal.antt` bytes as digits, `specs/Events.antt` the events that the machine has so far. The crate depends on nothing.
+//! `specs/Hexadecimal.antt` bytes as digits, `specs/Events.antt` the events. The crate depends on nothing.
 #![tactic(auto)]
 
 mod console;

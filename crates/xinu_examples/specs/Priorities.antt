@@ -55,7 +55,7 @@ lowered_below_null_transcript =
     End Schedule ∷
     []
 
--- The null process stands in the ready list by the priority that it gets.
+-- The null process is in the ready list by the priority that it gets.
 abbrev pub raised_null : Example
 raised_null = record {
   start = system (20 ∷ []) 4096 8;

@@ -36,7 +36,7 @@ pub fn events_keep_sound()
     ensures { (old : Xinu) (e : Event) (lines : List TranscriptLine) (new : Xinu) → IsSound old → Happens old e lines new → IsSound new }
 {}
 
-/// So does each event that is defined, whether the machine has it yet or not. A call that isn't served is refused in it too.
+/// The same under any choice, whether it is allowed or not.
 pub fn all_events_keep_sound()
     ensures { (s : Xinu) (e : Event) (choice : ℕ) → IsSound s → IsSound (effect_of s e choice).state }
 {}

@@ -77,7 +77,7 @@ receivers_go_on q seq p m t i =
 tokens_go_on : (sem p : ℕ) (m : Option ℕ) (t : Tables) → (semaphore_at (gone_on p m t) sem).tokens ≡ (semaphore_at t sem).tokens
 tokens_go_on sem p m t = ap (λ (x : Semaphore). x.tokens) (left_for_nowhere t p (record (process_at t p) { rest = Nothing }) m sem)
 
--- A process goes on of whose call nothing is left.
+-- A process goes on whose call is complete.
 pub ports_go_on : (p : ℕ) (m : Option ℕ) (t : Tables) (ports : List MessagePort) → p < length t.processes → ArePorts t ports
     → ArePorts (gone_on p m t) ports
 ports_go_on p m t ports i a =

@@ -30,7 +30,7 @@ done_after t q ps h =
     all_weaker (λ p. (process_at t p).rest ≡ Nothing) (λ p. (process_at (ready q t) p).rest ≡ Nothing)
     (λ p e. same_written (λ (x : Process). x.rest) t.processes q p (in_state Ready (process_at t q)) no_process refl ∙ e) ps h
 
--- Those of whose calls nothing is left answer in their order.
+-- Those whose calls are complete answer in their order.
 pub released_all : (value : ℤ) (ps : List ℕ) (d : CallState) → AreDone d.state.tables ps
     → (unblock_all_with value ps d).released ≡ d.released ++ map (λ p. (p, value)) ps
 released_all value [] d h = sym (append-nil d.released)

@@ -1,4 +1,4 @@
--- The bytes so far stand in front of what is left.
+-- The bytes so far come before what is left.
 use Rattle.std.proofs.Common.{◌≡◌, take, drop}
 use Rattle.asm_syntax.specs.Tokens.{tokens_from, Inside}
 use Rattle.asm_syntax.proofs.TokenLemmas.{prefixed, where_is}
