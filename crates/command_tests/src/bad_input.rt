@@ -46,15 +46,27 @@ fn images_with_a_bad_word_are_refused(rt: HostRuntime) -> Result<(), Fail> {
     Ok(())
 }
 
-// The image of two calls, cut off or with zeros after it.
 #[test]
-fn images_of_another_length_are_refused(rt: HostRuntime) -> Result<(), Fail> {
+fn an_image_cut_short_is_refused(rt: HostRuntime) -> Result<(), Fail> {
+    for length in 0..44usize {
+        let image = &GETPID_AND_EXIT[..length];
+        let text = if length < 28 {
+            "xinu: image 1 fault 1\n"
+        } else {
+            "xinu: image 1 fault 4\n"
+        };
+        assert!(rt;
+            is_refused(rt.alloc(), &RUN, b"step 4", image, 4, text)?,
+            "{length}"
+        );
+    }
+    Ok(())
+}
+
+// The image of two calls, with zeros after it.
+#[test]
+fn an_image_with_more_bytes_is_refused(rt: HostRuntime) -> Result<(), Fail> {
     for (length, text) in [
-        (0, "xinu: image 1 fault 1\n"),
-        (4, "xinu: image 1 fault 1\n"),
-        (27, "xinu: image 1 fault 1\n"),
-        (28, "xinu: image 1 fault 4\n"),
-        (43, "xinu: image 1 fault 4\n"),
         (45, "xinu: image 1 fault 4\n"),
         (1_048_576, "xinu: image 1 fault 4\n"),
         (1_048_577, "xinu: image 1 fault 0\n"),

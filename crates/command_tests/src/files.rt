@@ -1,6 +1,6 @@
 //! A file that a run writes while a thousand completions of its disk fail, and one that it reads off a disk of version 1.
 
-use super::programs::{repeated, status_of};
+use super::programs::{assembled, repeated, status_of};
 use host_port::{Channel, QuietMemoryHost};
 use std::alloc::Global;
 use std::test::Fail;
@@ -36,9 +36,7 @@ li a2, 2
 sys read
 end: j end
 ";
-/// The arguments that assemble a process.
-const ASM: [&str; 4] = ["asm", "w", "--out", "i"];
-/// Those that run the writer, and write the disk.
+/// The arguments that run the writer, and write the disk.
 const RUN_WRITER: [&str; 6] = ["run", "--schedule", "s", "--out1", "d", "i"];
 /// Those that run the reader on a disk.
 const RUN_READER: [&str; 6] = ["run", "--schedule", "s", "--disk1", "d", "i"];
@@ -51,12 +49,7 @@ fn after(
     schedule: &[u8],
     disk: &[u8],
 ) -> Result<QuietMemoryHost, Fail> {
-    let mut host = QuietMemoryHost::new(alloc);
-    host.add_file("w", process)?;
-    if status_of(alloc, &ASM, &mut host)? != 0 {
-        return Err("another text")?;
-    }
-    let image = Vec::from_slice(alloc, host.sent(Channel::Image))?;
+    let image = assembled(alloc, process)?;
     let mut host = QuietMemoryHost::new(alloc);
     host.add_file("i", image.as_slice())?;
     host.add_file("s", schedule)?;

@@ -58,12 +58,15 @@ fn prints(
     Ok(found == status && is_sent && host.sent(Channel::Fault) == text)
 }
 
-// How many lines a run sends during which a call failed, if they are those of the whole run.
+// How many lines a run sends during which a call failed, if they are those of the whole run and the fault is told.
 fn lines_before(alloc: Global, call: u64) -> Result<u64, Fail> {
     let (status, host) = after(alloc, &RUN, call, 0)?;
     let out = host.sent(Channel::Out);
     if status != 3 || !EXITED.as_bytes().starts_with(out) {
         return Err("another run")?;
+    }
+    if host.sent(Channel::Fault) != b"xinu: host fault\n".as_slice() {
+        return Err("another text")?;
     }
     Ok(out.iter().filter(|b| **b == b'\n').count() as u64)
 }
@@ -84,6 +87,9 @@ fn a_fault_is_told_if_the_host_takes_it(rt: HostRuntime) -> Result<(), Fail> {
     assert!(rt; prints(rt.alloc(), &RUN, (4, 0), 3, "run 1\n", true)?);
     // The text fails too.
     assert!(rt; prints(rt.alloc(), &RUN, (4, 5), 3, "run 1\n", false)?);
+    let lines = "run 1\ncall 1 getpid\n";
+    assert!(rt; prints(rt.alloc(), &RUN, (5, 0), 3, lines, true)?);
+    assert!(rt; prints(rt.alloc(), &RUN, (5, 6), 3, lines, false)?);
     // The run ends at the next event.
     assert!(rt; prints(rt.alloc(), &LONG_RUN, (4, 0), 3, "run 1\n", true)?);
     Ok(())

@@ -2,9 +2,13 @@
 #![tactic(auto)]
 
 #[cfg(test)]
+mod after_faults;
+#[cfg(test)]
 mod assembler;
 #[cfg(test)]
 mod bad_input;
+#[cfg(test)]
+mod checking;
 #[cfg(test)]
 mod disks;
 #[cfg(test)]
@@ -18,7 +22,11 @@ mod host_faults;
 #[cfg(test)]
 mod out_of_memory;
 #[cfg(test)]
+mod places;
+#[cfg(test)]
 mod programs;
+#[cfg(test)]
+mod raw_writers;
 #[cfg(test)]
 mod real_files;
 #[cfg(test)]

@@ -58,6 +58,16 @@ pub(crate) fn version_1() -> [u8; 4096] {
     disk
 }
 
+/// The image of a text of assembler.
+pub(crate) fn assembled(alloc: Global, text: &[u8]) -> Result<Vec<u8>, Fail> {
+    let mut host = QuietMemoryHost::new(alloc);
+    host.add_file("t", text)?;
+    if status_of(alloc, &["asm", "t", "--out", "i"], &mut host)? != 0 {
+        return Err("another text")?;
+    }
+    Ok(Vec::from_slice(alloc, host.sent(Channel::Image))?)
+}
+
 /// A host that never fails and holds a schedule and an image.
 pub(crate) fn quiet_host(
     alloc: Global,

@@ -125,6 +125,19 @@ fn disks_of_a_bad_size_are_refused(rt: HostRuntime) -> Result<(), Fail> {
     Ok(())
 }
 
+#[test]
+fn a_disk_cut_short_is_refused(rt: HostRuntime) -> Result<(), Fail> {
+    let disk = version_1();
+    let text = "xinu: disk 1 block 0 rule 0\n";
+    for length in 0..4096usize {
+        assert!(rt;
+            is_refused(rt.alloc(), "--disk1", &disk[..length], text)?,
+            "{length}"
+        );
+    }
+    Ok(())
+}
+
 // One of version 2 of 13 blocks, and one of version 1 of eight, on which block 7 names block 2.
 #[test]
 fn disks_that_break_a_rule_are_refused(rt: HostRuntime) -> Result<(), Fail> {
