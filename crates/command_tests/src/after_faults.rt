@@ -1,18 +1,19 @@
 //! What a command leaves if a call of its host fails: a part of what it would have sent, and the text of the fault.
 
 use super::assembler::TWO_CALLS;
-use super::programs::{GETPID_AND_EXIT, repeated, status_of, version_1};
+use super::programs::{EXITED, GETPID_AND_EXIT, repeated, status_of, version_1};
 use host_port::{Channel, MemoryHost};
 use std::alloc::Global;
 use std::test::Fail;
 
 /// Commands, and how many calls of the host each makes.
-const COMMANDS: [(&str, u64); 9] = [
+const COMMANDS: [(&str, u64); 10] = [
     // Four files, twelve lines, and each disk is named and sent.
     (
         "run --schedule s --disk0 r --disk1 d --out0 f --out1 g i",
         20,
     ),
+    ("check --schedule s --trace e i", 4),
     ("asm t --out f", 3),
     ("asm t --out f --elf", 3),
     ("soak 0", 1),
@@ -33,6 +34,7 @@ fn after(
     let mut host = MemoryHost::new(alloc);
     host.add_file("s", b"step 4")?;
     host.add_file("i", &GETPID_AND_EXIT)?;
+    host.add_file("e", EXITED.as_bytes())?;
     host.add_file("t", TWO_CALLS)?;
     let raw = repeated(alloc, 7, 4096)?;
     host.add_file("r", raw.as_slice())?;
