@@ -53,18 +53,23 @@ none_if_same s u same e = inl (ap (λ w. w.calls) same ∙ e)
 none_touched : (f : Footprint) {s u : Xinu} → f.files ≡ false → Touches (reach f) s u → NoneMade s u
 none_touched f {s} {u} e t = none_if_same s u (t.parts.devices.files e)
 
--- a death makes none
-killed_none : (p : ℕ) (d : CallState) → NoneMade d.state (killed p d).state
+-- A process that dies makes no call on files.
+pub killed_none : (p : ℕ) (d : CallState) → (files_of d.state).calls ≡ [] → (files_of (killed p d).state).calls ≡ []
 killed_none p d e =
     let parent = (process_at d.state.tables p).parent in
     let t : Touches (reach on_tables) d.state (sent parent p d).state = touches_sent parent p d in
-    inl (ap (λ l. callers.given_up (λ (a : FileRequest). a.caller) orphaned_call p l) (ap (λ w. w.calls) (t.parts.devices.files refl) ∙ e))
+    ap (λ l. callers.given_up (λ (a : FileRequest). a.caller) orphaned_call p l) (ap (λ w. w.calls) (t.parts.devices.files refl) ∙ e)
 
-kill_none : (p : ℕ) (s : Xinu) → NoneMade s (kill p s).call.state
+-- A process that exits makes no call on files.
+pub exit_none : (s : Xinu) → (files_of s).calls ≡ [] → (files_of (exit s).call.state).calls ≡ []
+exit_none s = killed_none s.tables.current (start s)
+
+-- A process that kills another, or itself, makes no call on files.
+pub kill_none : (p : ℕ) (s : Xinu) → (files_of s).calls ≡ [] → (files_of (kill p s).call.state).calls ≡ []
 kill_none p s =
-    let P : CallResult → Type 0 = λ h. NoneMade s h.call.state in
-    cond_both ((p == 0) || is_free (state_at s.tables p)) (refused s) _ P (λ _. none_if_same s s refl)
-    (λ _. cond_both (p == s.tables.current) (exit s) _ P (λ _. killed_none s.tables.current (start s)) (λ _. killed_none p (start s)))
+    let P : CallResult → Type 0 = λ h. (files_of s).calls ≡ [] → (files_of h.call.state).calls ≡ [] in
+    cond_both ((p == 0) || is_free (state_at s.tables p)) (refused s) _ P (λ _ e. e)
+    (λ _. cond_both (p == s.tables.current) (exit s) _ P (λ _. exit_none s) (λ _. killed_none p (start s)))
 
 -- a call on files is made by one who waits
 asks_none : (s : Xinu) → IsSound s → OfFiles (λ (h : CallResult). NoneMade s h.call.state) s
@@ -82,8 +87,8 @@ none_law = record {
   same = λ number s. none_if_same s s refl;
   others = λ number f s u e t. none_if_same s u (t.parts.devices.files e);
   few =
-      (λ a s k. kill_none (a 0) s) ⨾
-      (λ a s k. killed_none s.tables.current (start s)) ⨾
+      (λ a s k e. inl (kill_none (a 0) s e)) ⨾
+      (λ a s k e. inl (exit_none s e)) ⨾
       (λ a s k. device_open_holds (λ (h : CallResult). NoneMade s h.call.state) (a 0) (a 1) (a 2) s (none_if_same s s refl)
       (none_if_same s s refl) (none_if_same s s refl) (asks_none s k)) ⨾
       (λ a s k. device_close_holds (λ (h : CallResult). NoneMade s h.call.state) (a 0) s (none_if_same s s refl) (none_if_same s s refl)
@@ -106,8 +111,8 @@ none_law = record {
       tt;
 }
 
--- what is left of a call changes no files
-touched_files : (left : Rest) → (touched_by left).files ≡ false
+-- What is left of a call that waited changes no files.
+pub touched_files : (left : Rest) → (touched_by left).files ≡ false
 touched_files (rest.GetBuf i) = refl
 touched_files (rest.PtSend ticket message) = refl
 touched_files (rest.PtRecv ticket) = refl
@@ -146,10 +151,10 @@ calm_reacted outcome.Call s c before some =
     (law_of_few none_law call.number call.args s (sound_where_called s c)) before some
 calm_reacted outcome.Exit s c before some =
     calm s s.tables.current (call_line s (exit_call (current_hart s)) ∷ []) (exit s) (exit_keeps s c)
-    (killed_none s.tables.current (start s)) before some
+    (λ e. inl (exit_none s e)) before some
 calm_reacted (outcome.Trap cause) s c before some =
     calm s s.tables.current (line.Trap s.tables.current cause ∷ []) (exit s) (exit_keeps s c)
-    (killed_none s.tables.current (start s)) before some
+    (λ e. inl (exit_none s e)) before some
 
 calm_stepped : (s : Xinu) → IsSound s → (files_of s).calls ≡ [] → IsCalm (stepped s)
 calm_stepped s k before =
