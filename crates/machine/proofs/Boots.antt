@@ -6,15 +6,13 @@ use Rattle.std.proofs.lemmas.List.{get_or_past}
 use Rattle.xinu_base.specs.declared.processes.Process.{Process}
 use Rattle.xinu_base.specs.declared.processes.State.{State}
 use Rattle.xinu_base.specs.declared.processes.State.TheVariants.{Current, Free, Ready, Suspended}
-use Rattle.table_laws.proofs.Tables.Starts.{all_are_made, boots_from, none_made, same_everywhere}
+use Rattle.table_laws.proofs.Tables.Starts.{all_are_made, boots_from, none_made}
 use Rattle.xinu_laws.proofs.Ownership.Boot.{apart_boot}
-use Rattle.xinu_laws.proofs.Touches.ClockEvents.{resched_ticks}
+use Rattle.xinu_laws.proofs.Touches.Boot.{boot_numbers, boot_ticks}
 use Rattle.xinu_laws.specs.Ownership.Apart.{IsApart}
-use Rattle.xinu_model.specs.Boot.{all_made, all_ready, all_started, boot, boot_on, Boots, Disks, first_overlap, Loaded, on_disks, loaded_machine, unless_overlap, where_stack, with_image}
-use Rattle.xinu_model.specs.Heap.Cells.{Stack, take_stack}
+use Rattle.xinu_model.specs.Boot.{all_made, all_ready, all_started, boot, boot_on, Boots, Disks, first_overlap, Loaded, on_disks, loaded_machine, unless_overlap}
 use Rattle.xinu_model.specs.Machine.{Xinu}
-use Rattle.xinu_model.specs.Ports.Queues.{first_ports, MessagePort, no_port, port_at}
-use Rattle.xinu_model.specs.Process.Creation.{stack_size}
+use Rattle.xinu_model.specs.Ports.Queues.{port_at}
 use Rattle.xinu_model.specs.Process.Scheduling.{dispatch_first, in_state, is_current, keeps_cpu, preempt, ready, resched}
 use Rattle.xinu_model.specs.Runs.{is_over}
 use Rattle.xinu_model.specs.Tables.{InReady, is_free, message_at, move_to, no_process, Nowhere, Place, process_at, state_at, Tables}
@@ -76,62 +74,6 @@ unless_overlap_lives None images start some few e =
 -- A process lives besides the null process.
 pub boot_lives : (images : List Loaded) (start : Xinu) → 1 ≤ length images → length images < 64 → boot images ≡ Boots start → is_over start ≡ false
 boot_lives images start some few e = unless_overlap_lives (first_overlap 1 [] images) images start some few e
-
--- a stack that is found moves no clock
-stacked_ticks : (found : Option Stack) (i : ℕ) (image : Loaded) (s x : Xinu) → where_stack found i image s ≡ Boots x → x.tables.ticks ≡ s.tables.ticks
-stacked_ticks None i image s x e = absurd (cc)
-stacked_ticks (Some stack) i image s x e = (let h : with_image i image stack s ≡ x = cc in ap (λ (y : Xinu). y.tables.ticks) (sym h))
-
-made_ticks : (images : List Loaded) (i : ℕ) (s x : Xinu) → all_made i images s ≡ Boots x → x.tables.ticks ≡ s.tables.ticks
-made_ticks [] i s x e = (let h : s ≡ x = cc in ap (λ (y : Xinu). y.tables.ticks) (sym h))
-made_ticks (image ∷ images) i s x e =
-    let found = take_stack (stack_size image.stack) s.parts.heap in
-    let b = boots_from (where_stack found i image s) (λ y. all_made (i + 1) images y) x e in
-    made_ticks images (i + 1) b.0 x b.2 ∙ stacked_ticks found i image s b.0 b.1
-
-ready_ticks : (images : List Loaded) (i : ℕ) (t : Tables) → (all_ready i images t).ticks ≡ t.ticks
-ready_ticks [] i t = refl
-ready_ticks (image ∷ images) i t = ready_ticks images (i + 1) (ready i t)
-
-unless_overlap_ticks : (o : Option ℕ) (images : List Loaded) (start : Xinu) → unless_overlap o images ≡ Boots start → start.tables.ticks ≡ 0
-unless_overlap_ticks (Some i) images start e = absurd (cc)
-unless_overlap_ticks None images start e =
-    let b = boots_from (all_made 1 images (loaded_machine images)) (λ s. Boots (all_started images s)) start e in
-    let same : all_started images b.0 ≡ start = cc in
-    sym (ap (λ (s : Xinu). s.tables.ticks) same) ∙ resched_ticks (all_ready 1 images b.0.tables) ∙ ready_ticks images 1 b.0.tables ∙ made_ticks images 1 (loaded_machine images) b.0 b.1
-
--- The clock begins at 0.
-pub boot_ticks : (images : List Loaded) (start : Xinu) → boot images ≡ Boots start → start.tables.ticks ≡ 0
-boot_ticks images start e = unless_overlap_ticks (first_overlap 1 [] images) images start e
-
--- a stack that is found makes no port
-stacked_ports : (found : Option Stack) (i : ℕ) (image : Loaded) (s x : Xinu) → where_stack found i image s ≡ Boots x → x.parts.ports ≡ s.parts.ports
-stacked_ports None i image s x e = absurd (cc)
-stacked_ports (Some stack) i image s x e = (let h : with_image i image stack s ≡ x = cc in ap (λ (y : Xinu). y.parts.ports) (sym h))
-
-made_ports : (images : List Loaded) (i : ℕ) (s x : Xinu) → all_made i images s ≡ Boots x → x.parts.ports ≡ s.parts.ports
-made_ports [] i s x e = (let h : s ≡ x = cc in ap (λ (y : Xinu). y.parts.ports) (sym h))
-made_ports (image ∷ images) i s x e =
-    let found = take_stack (stack_size image.stack) s.parts.heap in
-    let b = boots_from (where_stack found i image s) (λ y. all_made (i + 1) images y) x e in
-    made_ports images (i + 1) b.0 x b.2 ∙ stacked_ports found i image s b.0 b.1
-
-unless_overlap_ports : (o : Option ℕ) (images : List Loaded) (start : Xinu) → unless_overlap o images ≡ Boots start → start.parts.ports ≡ first_ports
-unless_overlap_ports (Some i) images start e = absurd (cc)
-unless_overlap_ports None images start e =
-    let b = boots_from (all_made 1 images (loaded_machine images)) (λ s. Boots (all_started images s)) start e in
-    let same : all_started images b.0 ≡ start = cc in
-    sym (ap (λ (s : Xinu). s.parts.ports) same) ∙ made_ports images 1 (loaded_machine images) b.0 b.1
-
--- the number of a port that was never made is 0
-first_number : (q : ℕ) → (port_at first_ports q).seq ≡ 0
-unfolding first_ports
-first_number q = ap (λ (p : MessagePort). p.seq) (same_everywhere 30 q no_port)
-
--- The numbers of the ports begin at 0.
-pub boot_numbers : (images : List Loaded) (start : Xinu) → boot images ≡ Boots start → (q : ℕ) → (port_at start.parts.ports q).seq ≡ 0
-boot_numbers images start e q =
-    ap (λ (ports : List MessagePort). (port_at ports q).seq) (unless_overlap_ports (first_overlap 1 [] images) images start e) ∙ first_number q
 
 -- ---- on disks
 

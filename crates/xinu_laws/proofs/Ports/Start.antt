@@ -4,21 +4,16 @@ use Rattle.std.specs.Prelude.{replicate}
 use Rattle.std.proofs.lemmas.Bool.{both_ways}
 use Rattle.xinu_model.specs.Boot.{Loaded, Boots, boot}
 use Rattle.xinu_model.specs.Machine.{Xinu}
-use Rattle.xinu_model.specs.Ports.Queues.{MessagePort, no_port, first_ports, most_ports, port_at, nodes}
+use Rattle.xinu_model.specs.Ports.Queues.{MessagePort, no_port, first_ports, most_ports, nodes}
 use Rattle.xinu_model.specs.Sound.Ports.{ArePorts}
 use Rattle.xinu_model.specs.Tables.{Tables, process_at, semaphore_at}
 use Rattle.xinu_model.specs.Footprints.{on_deaths}
+use Rattle.table_laws.proofs.Tables.Starts.{same_everywhere}
 use Rattle.xinu_laws.specs.Touches.{Reach}
 use Rattle.xinu_laws.proofs.Touches.Boot.{HasStart, OwnsNone, touches_start, start_other, start_unasked}
 use Rattle.xinu_laws.proofs.Ports.Kept.{is_ports, asks_port}
 
--- if no port is in use none is
-unused_at : (n q : ℕ) → port_at (replicate n no_port) q ≡ no_port
-unused_at zero q = refl
-unused_at (suc n) zero = refl
-unused_at (suc n) (suc q) = unused_at n q
-
--- and none holds a message
+-- ports that were never made hold no message
 no_nodes : (n : ℕ) → nodes (replicate n no_port) ≡ 0
 no_nodes zero = refl
 no_nodes (suc n) = let e = no_nodes n in omega arith
@@ -30,7 +25,7 @@ unfolding first_ports
 no_ports t semaphores rests = record {
   many = refl;
   few = (let e = no_nodes most_ports in omega arith);
-  each = λ q queue e. (let f = ap (λ (x : MessagePort). x.queue) (unused_at most_ports q) in cc);
+  each = λ q queue e. (let f = ap (λ (x : MessagePort). x.queue) (same_everywhere most_ports q no_port) in cc);
   owned = λ sem q e. absurd (both_ways (is_ports sem (semaphore_at t sem).owner) (semaphores sem) (ap (is_ports sem) e));
   sent = λ p ticket message e. absurd (both_ways (asks_port (process_at t p).rest) (rests p) (ap asks_port e));
   received = λ p ticket e. absurd (both_ways (asks_port (process_at t p).rest) (rests p) (ap asks_port e));

@@ -1,4 +1,4 @@
--- The start of the machine touches processes, their stacks and the heap alone.
+-- The start of the machine touches processes, their stacks and the heap alone, so the clock and the numbers of the ports begin at 0.
 use Rattle.std.proofs.Common.{◌≡◌, ℕ, zero, suc, ◌+◌, true, false, List, [], ◌∷◌, Option, Some, None, get_or, refl, sym, ap, subst, ◌∙◌}
 use Rattle.std.proofs.lemmas.Bool.{both_ways, false_from_ne_true}
 use Rattle.xinu_base.specs.declared.processes.Process.{Process}
@@ -6,12 +6,14 @@ use Rattle.xinu_base.specs.declared.processes.Rest.TheVariants.{Nothing}
 use Rattle.xinu_base.specs.declared.processes.State.TheVariants.{Ready}
 use Rattle.xinu_base.specs.declared.semaphores.Owner.TheVariants.{Device}
 use Rattle.xinu_model.specs.Boot.{Loaded, first_overlap, first_semaphores, null_tables, loaded_machine, image_process, with_image, all_ready, Boots, and_then, where_stack, all_made, all_started, unless_overlap, boot}
+use Rattle.xinu_model.specs.Footprints.{on_deaths}
 use Rattle.xinu_model.specs.Heap.Cells.{Stack, take_stack}
 use Rattle.xinu_model.specs.Machine.{Xinu}
+use Rattle.xinu_model.specs.Ports.Queues.{MessagePort, first_ports, most_ports, no_port, port_at}
 use Rattle.xinu_model.specs.Process.Scheduling.{ready}
 use Rattle.xinu_model.specs.Process.Creation.{stack_size}
 use Rattle.xinu_model.specs.Tables.{no_process, Semaphore, no_semaphore, process_at, message_at, semaphore_at, Nowhere, InReady, move_to}
-use Rattle.xinu_laws.specs.Touches.{Reach, Touches}
+use Rattle.xinu_laws.specs.Touches.{Reach, Touches, reach}
 use Rattle.xinu_laws.proofs.HeapCells.Taken.{getstk_finds}
 use Rattle.xinu_laws.proofs.HeapCells.Extent.{extent_marked}
 use Rattle.table_laws.proofs.Frame.{frame_same, frame_trans}
@@ -132,3 +134,19 @@ module _ {f : Reach} (g : HasStart f) where
       false_from_ne_true (f.asks (process_at start.tables p).rest)
       (λ h. both_ways (f.asks (process_at null_tables p).rest) (first_unasked p)
       (ap f.asks (sym ((touches_start images start e).frame.rests p h).0) ∙ h))
+
+-- the start reaches no further than a death
+start_reached : HasStart (reach on_deaths)
+start_reached = record { nothing = refl; heap = refl; stacks = refl; disk = refl }
+
+-- The clock begins at 0.
+pub boot_ticks : (images : List Loaded) (start : Xinu) → boot images ≡ Boots start → start.tables.ticks ≡ 0
+boot_ticks images start e = (touches_start start_reached images start e).clock refl
+
+-- The number of each port begins at 0.
+pub boot_numbers : (images : List Loaded) (start : Xinu) → boot images ≡ Boots start → (q : ℕ)
+    → (port_at start.parts.ports q).seq ≡ 0
+unfolding first_ports
+boot_numbers images start e q =
+    ap (λ (ports : List MessagePort). (port_at ports q).seq) ((touches_start start_reached images start e).parts.ports refl).0
+    ∙ ap (λ (port : MessagePort). port.seq) (same_everywhere most_ports q no_port)
