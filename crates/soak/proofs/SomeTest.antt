@@ -1,6 +1,7 @@
 -- There is a soak test of each number.
 use Rattle.std.proofs.Common.{◌≡◌, ℕ, suc, List, [], ◌∷◌, ◌++◌, Option, Some, None, refl, sym, subst}
-use Rattle.soak.specs.Soaks.{Soaks, Takes, TakesAfter, transcript}
+use Rattle.soak.specs.Soaks.{Soaks, Takes, TakesAfter}
+use Rattle.transcript_laws.specs.Transcripts.{transcript}
 use Rattle.workload.specs.Schedules.{events}
 use Rattle.workload.specs.Summaries.{counts_of, summary}
 use Rattle.xinu_base.specs.declared.events.End.{End}

@@ -2,7 +2,8 @@
 use Rattle.std.proofs.Common.{◌≡◌, ◌∙◌, ℕ, zero, suc, List, [], ◌∷◌, ◌++◌, length, refl, ap, append-nil}
 use Rattle.soak.proofs.Added.{added_to_none, counted_on}
 use Rattle.soak.specs.Counting.{CountsEvents}
-use Rattle.soak.specs.Soaks.{Soaks, transcript}
+use Rattle.soak.specs.Soaks.{Soaks}
+use Rattle.transcript_laws.specs.Transcripts.{transcript}
 use Rattle.workload.specs.Schedules.{after_event, events, events_in}
 use Rattle.workload.specs.Summaries.{Counts, added, counts_of, summary}
 use Rattle.xinu_base.specs.declared.events.End.{End}

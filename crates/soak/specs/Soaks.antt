@@ -2,6 +2,7 @@
 use Rattle.std.specs.Prelude.{◌≡◌, ℕ, suc, List, [], ◌∷◌, ◌++◌, Option, Some, None}
 use Rattle.kernel_boot.specs.declared.initialize.BootFault.{BootFault}
 use Rattle.kernel_boot.specs.declared.initialize.BootFault.TheVariants as fault
+use Rattle.transcript_laws.specs.Transcripts.{transcript}
 use Rattle.workload.specs.Programs.{programs}
 use Rattle.workload.specs.Schedules.{events}
 use Rattle.workload.specs.Summaries.{counts_of, summary}
@@ -9,12 +10,11 @@ use Rattle.xinu_base.specs.declared.events.Event.{Event}
 use Rattle.xinu_base.specs.declared.events.End.{End}
 use Rattle.xinu_base.specs.declared.events.End.TheVariants.{Schedule}
 use Rattle.xinu_base.specs.declared.lines.TranscriptLine.{TranscriptLine}
-use Rattle.xinu_base.specs.declared.lines.TranscriptLine.TheVariants as line
 use Rattle.xinu_model.specs.Boot.{Boots, Disks, NoRoom, Overlaps, boot_on}
 use Rattle.xinu_model.specs.Events.{Happens, panics_in}
 use Rattle.xinu_model.specs.Machine.{Xinu}
 use Rattle.xinu_model.specs.Runs.{end_with, is_over}
-use Rattle.xinu_model.specs.Text.{tables_of, text}
+use Rattle.xinu_model.specs.Text.{text}
 
 -- What follows an event that printed the first lines and left mid: the run ends with it, or as many events more as the rest of the run takes.
 abbrev pub TakesAfter : Option End → (ℕ → List TranscriptLine → Type 0) → ℕ → List TranscriptLine → List TranscriptLine → Xinu → Xinu → End → Type 0
@@ -28,10 +28,6 @@ Takes n old [] lines new end = (n ≡ 0) × (lines ≡ []) × (new ≡ old) × (
 Takes n old (e ∷ events) lines new end =
     (mid : Xinu) × (first : List TranscriptLine) × Happens old e first mid
     × TakesAfter (end_with (panics_in old e) (is_over mid)) (λ more rest. Takes more mid events rest new end) n first lines mid new end
-
--- The transcript of a run from a start: the line of its first process, the lines of its events, the tables of its last state, its end.
-abbrev pub transcript : Xinu → List TranscriptLine → Xinu → End → List TranscriptLine
-transcript start lines last end = line.Switch start.tables.current ∷ lines ++ tables_of last ++ line.End end ∷ []
 
 -- From this start the events of a number were run, and led to this state. The summary has how many were taken, and what is counted of the
 -- text of the run.

@@ -1,14 +1,19 @@
 -- Which texts are transcripts, and whether a text is one.
-use Rattle.std.specs.Prelude.{◌≡◌, ℕ, Bool, false, ◌&&◌, List, length, drop}
+use Rattle.std.specs.Prelude.{◌≡◌, ℕ, Bool, false, ◌&&◌, List, [], ◌∷◌, ◌++◌, length, drop}
+use Rattle.xinu_base.specs.declared.events.End.{End}
 use Rattle.xinu_base.specs.declared.events.Event.{Event}
 use Rattle.xinu_base.specs.declared.lines.TranscriptLine.{TranscriptLine}
 use Rattle.xinu_base.specs.declared.lines.TranscriptLine.TheVariants as line
 use Rattle.xinu_model.specs.Boot.{Boots, Disks, Loaded, Start, boot_on}
 use Rattle.xinu_model.specs.Machine.{Xinu}
 use Rattle.xinu_model.specs.Runs.{IsTranscript}
-use Rattle.xinu_model.specs.Text.{line_text, text}
+use Rattle.xinu_model.specs.Text.{line_text, tables_of, text}
 use Rattle.transcript_laws.specs.Reading.{accepts, starts_with}
 use Rattle.transcript_laws.specs.Choices.{told}
+
+-- The transcript of a run from a start: the line of its first process, the lines of its events, the tables of its last state, its end.
+abbrev pub transcript : Xinu → List TranscriptLine → Xinu → End → List TranscriptLine
+transcript start lines last end = line.Switch start.tables.current ∷ lines ++ tables_of last ++ line.End end ∷ []
 
 -- A text is the transcript of a run: it is what the machine prints that starts with these images on these disks, and runs through these
 -- events.

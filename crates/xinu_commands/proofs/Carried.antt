@@ -5,10 +5,11 @@ use Rattle.host_port.specs.Outside.{Outside, grown}
 use Rattle.host_port.proofs.Prints.{grown-nil}
 use Rattle.host_port.specs.Printing.{Printing}
 use Rattle.soak.proofs.SomeTest.{some_test}
+use Rattle.transcript_laws.specs.Transcripts.{transcript}
 use Rattle.xinu_model.specs.Text.{shown}
 use Rattle.xinu_model.proofs.Runs.{some_run}
 use Rattle.xinu_commands.specs.Theorem.{Carries, Deserved, IsPart, IsPartSent, IsSent, IsUnsent, IsWhole, Sends}
-use Rattle.xinu_commands.specs.Work.{Does, Judges, Left, Output, Outputs, Refuses, Runs, Soaking, Verdict, judgement, only_printed, output_of, run_output, transcript}
+use Rattle.xinu_commands.specs.Work.{Does, Judges, Left, Output, Outputs, Refuses, Runs, Soaking, Verdict, judgement, only_printed, output_of, run_output}
 use Rattle.xinu_commands.specs.declared.refusals.Refusal.{Refusal}
 use Rattle.xinu_commands.specs.declared.refusals.Refusal.TheVariants as refusal
 

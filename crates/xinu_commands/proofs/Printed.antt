@@ -5,6 +5,7 @@ use Rattle.host_port.specs.Outside.{Outside}
 use Rattle.host_port.proofs.Prints.{emitted_nothing}
 use Rattle.host_port.specs.Printing.{Printing, Prints}
 use Rattle.machine.proofs.ShownLines.{shown_both}
+use Rattle.transcript_laws.specs.Transcripts.{transcript}
 use Rattle.xinu_base.specs.declared.events.Event.{Event}
 use Rattle.xinu_base.specs.declared.events.End.{End}
 use Rattle.xinu_base.specs.declared.lines.TranscriptLine.{TranscriptLine}
@@ -13,7 +14,6 @@ use Rattle.xinu_model.specs.Machine.{Xinu}
 use Rattle.xinu_model.specs.Runs.{RunsTo}
 use Rattle.xinu_model.specs.Text.{shown, tables_of}
 use Rattle.xinu_commands.specs.Transcripts.{RunPrints}
-use Rattle.xinu_commands.specs.Work.{transcript}
 
 -- nothing is both there and not
 pub some_is_none : {X : Type 0} (x : Option X) → IsSome x → x ≡ None → ⊥

@@ -13,6 +13,7 @@ use Rattle.kernel_boot.specs.declared.initialize.BootFault.{BootFault}
 use Rattle.kernel_boot.specs.declared.initialize.BootFault.TheVariants as boot_fault
 use Rattle.machine.specs.Disks.{raw_bytes}
 use Rattle.machine.specs.Starts.{Starts}
+use Rattle.transcript_laws.specs.Transcripts.{transcript}
 use Rattle.xinu_base.specs.declared.events.Event.{Event}
 use Rattle.xinu_model.specs.Boot.{Loaded, Overlaps, NoRoom}
 use Rattle.xinu_model.specs.Machine.{Xinu}
@@ -22,7 +23,7 @@ use Rattle.xinu_commands.specs.Conversions.{boot_refusal, host_refusal}
 use Rattle.xinu_commands.specs.RunVerdict.{Setup, boot_verdict}
 use Rattle.xinu_commands.specs.Stages.{SendsDisks, SendsOutput, Stage, disks_output, no_fetches, output_on}
 use Rattle.xinu_commands.specs.Transcripts.{SendsTranscript}
-use Rattle.xinu_commands.specs.Work.{Does, Left, Output, RunOutput, Runs, Verdict, Wanted, output_of, transcript}
+use Rattle.xinu_commands.specs.Work.{Does, Left, Output, RunOutput, Runs, Verdict, Wanted, output_of}
 use Rattle.xinu_commands.specs.declared.refusals.Refusal.{Refusal}
 use Rattle.xinu_commands.specs.declared.refusals.Refusal.TheVariants as refusal
 use Rattle.xinu_commands.proofs.Called.{keeps_refl}

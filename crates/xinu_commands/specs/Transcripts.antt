@@ -2,6 +2,7 @@
 use Rattle.std.specs.Prelude.{◌≡◌, Bool, List, [], Option, None}
 use Rattle.host_port.specs.Outside.{Outside}
 use Rattle.host_port.specs.Printing.{Printing, Prints}
+use Rattle.transcript_laws.specs.Transcripts.{transcript}
 use Rattle.xinu_base.specs.declared.events.Event.{Event}
 use Rattle.xinu_base.specs.declared.events.End.{End}
 use Rattle.xinu_base.specs.declared.lines.TranscriptLine.{TranscriptLine}
@@ -9,7 +10,7 @@ use Rattle.xinu_model.specs.Machine.{Xinu}
 use Rattle.xinu_model.specs.Runs.{RunsTo}
 use Rattle.xinu_model.specs.Text.{shown}
 use Rattle.xinu_commands.specs.Stages.{SendsOutput}
-use Rattle.xinu_commands.specs.Work.{output_of, transcript}
+use Rattle.xinu_commands.specs.Work.{output_of}
 use Rattle.xinu_commands.specs.declared.refusals.Refusal.{Refusal}
 
 -- The lines of a run through the events were printed, as far as the host took them; if it took them all, the machine is in the run's

@@ -1,15 +1,15 @@
 -- What a command deserves, a refusal by its cause or work, and what the work puts out.
-use Rattle.std.specs.Prelude.{◌≡◌, ℕ, Bool, true, false, codes, List, [], ◌∷◌, ◌++◌, Option, Some, None, if◌then◌else◌}
+use Rattle.std.specs.Prelude.{◌≡◌, ℕ, Bool, true, false, codes, List, Option, Some, None, if◌then◌else◌}
 use Rattle.given_disks.specs.HeldFiles.{HoldsFiles}
 use Rattle.machine.specs.Disks.{raw_bytes}
 use Rattle.soak.specs.Soaks.{Soaks}
+use Rattle.transcript_laws.specs.Transcripts.{transcript}
 use Rattle.xinu_base.specs.declared.events.Event.{Event}
 use Rattle.xinu_base.specs.declared.events.End.{End}
 use Rattle.xinu_base.specs.declared.lines.TranscriptLine.{TranscriptLine}
-use Rattle.xinu_base.specs.declared.lines.TranscriptLine.TheVariants as line
 use Rattle.xinu_model.specs.Machine.{Xinu}
 use Rattle.xinu_model.specs.Runs.{RunsTo}
-use Rattle.xinu_model.specs.Text.{shown, tables_of}
+use Rattle.xinu_model.specs.Text.{shown}
 use Rattle.xinu_commands.specs.declared.refusals.Refusal.{Refusal}
 use Rattle.xinu_commands.specs.declared.refusals.Refusal.TheVariants as refusal
 
@@ -70,11 +70,6 @@ if_some cause None next = Refuses cause
 if_some cause (Some x) next = next x
 
 -- ---- what work puts out
-
--- the lines of a whole run
-abbrev pub transcript : Xinu → List TranscriptLine → Xinu → End → List TranscriptLine
-transcript start lines last end =
-    line.Switch start.tables.current ∷ lines ++ tables_of last ++ line.End end ∷ []
 
 -- The output of a run: what is shown of it; if it is asked for, its raw disk in its last state; and if that is asked for, its disk with files,
 -- once the run has come to it.
