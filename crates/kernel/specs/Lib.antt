@@ -1,3 +1,4 @@
 pub mod Booted
 pub mod Kernels
+pub mod Taken
 pub mod Values

@@ -13,7 +13,7 @@
 //! | `holds_files` | | `holds`: a law, the disk with files holds the files of the state at rest |
 //! | `current`, `is_done`, `call_of` | | the current process, whether nothing is left of its call, the call in its registers |
 //! | `instruction` | `idle`; `not_null`: the null process isn't current | `outcome`, `state`: those of `exec` |
-//! | `steps` | `idle`; `lives`: a process besides the null process is left | `steps`, `plain`: the state after so many steps that print nothing |
+//! | `steps` | `idle`; `lives`: a process besides the null process is left | `steps`, `plain`: the state after so many steps that print nothing; `taken`: how many |
 //! | `begin_core` | `idle`, `not_null`; `numbers`: the number of each port can rise | `called`: what the row of the call's number gives, or a call on files took effect as it was made; a number that has no call is refused; `answer`: how the call goes |
 //! | `go_on_core` | `idle`, `not_null`; `waits`: something is left of the call | `continued`: what the abstract machine's continuation gives; `answer` |
 //! | `die` | `idle`, `not_null` | `dies`: the caller's death, as `exit` |

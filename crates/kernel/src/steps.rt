@@ -4,6 +4,7 @@
 //! to the first that calls, traps or ends the process: an event takes that.
 
 ghost use Rattle.std.specs.Prelude.{◌≡◌, ◌≤◌, false};
+ghost use Rattle.kernel.specs.Taken.{taken_at_once};
 ghost use Rattle.kernel_state.specs.Results.{idle, IsIdle};
 ghost use Rattle.xinu_model.specs.Isa.Ran.{ran};
 ghost use Rattle.xinu_model.specs.Machine.{current_hart};
@@ -16,7 +17,8 @@ use rv_hart::plain_steps;
 use xinu_base::Pid;
 
 impl Kernel {
-    /// Takes machine steps that print nothing, at most so many, and answers how many. The step after them, if there were fewer, may print.
+    /// Takes machine steps that print nothing, at most so many, and answers how many. If there were fewer, the current process has something
+    /// left of a call, or its next instruction calls, traps or returns from its first function.
     pub fn steps(&mut self, most: u32) -> u32
         requires idle { IsIdle self.old.came }
         requires lives { is_over self.old.came.call.state ≡ false }
@@ -24,6 +26,7 @@ impl Kernel {
         ensures plain { ArePlain result self.old.came.call.state }
         ensures tables { self.new.came.call.state.tables ≡ self.old.came.call.state.tables }
         ensures parts { self.new.came.call.state.parts ≡ self.old.came.call.state.parts }
+        ensures taken { result ≡ taken_at_once most self.old.came.call.state }
         ensures most { result ≤ most }
         ensures image { self.new.image ≡ self.old.image }
     {

@@ -1,6 +1,7 @@
 //! Steps of the machine that print nothing, many in one call.
 
 ghost use Rattle.std.specs.Prelude.{◌≡◌, ◌+◌, ◌≤◌, false};
+ghost use Rattle.kernel.specs.Taken.{taken_at_once};
 ghost use Rattle.xinu_model.specs.Sound.State.{IsSound};
 ghost use Rattle.xinu_model.specs.Steps.{ArePlain, stepped_times};
 
@@ -9,7 +10,8 @@ use crate::machine::Machine;
 impl Machine {
     /// Takes steps that print nothing, at most so many, and answers how many. None of them ends the run.
     ///
-    /// They change registers and RAM alone. The next step, if there were fewer, is one that may print: [`Machine::event`] takes it.
+    /// They change registers and RAM alone. If there were fewer, the next step is one that may print, which [`Machine::event`] takes: the
+    /// current process has something left of a call, or its next instruction calls, traps or returns from its first function.
     pub fn steps(&mut self, most: u32) -> u32
         requires goes_on { self.old.over ≡ false }
         requires few { self.old.events + most ≤ 1000000000 }
@@ -21,6 +23,7 @@ impl Machine {
         ensures sound { IsSound self.new.state }
         ensures counted { self.new.events ≡ self.old.events + result }
         ensures over { self.new.over ≡ false }
+        ensures taken { result ≡ taken_at_once most self.old.state }
         ensures most { result ≤ most }
     {
         let taken = self.kernel.steps(most);
