@@ -2,7 +2,7 @@
 
 ghost use Rattle.arrayvec.specs.ArrayVec.{array_vec_len};
 ghost use Rattle.file_server.specs.Requests.{AreRequests, IsRequest, kept_after, request_of};
-ghost use Rattle.std.specs.Prelude.{◌≡◌, ◌<◌, ◌≤◌, ◌+◌, [], ◌∷◌, map};
+ghost use Rattle.std.specs.Prelude.{◌≡◌, ◌<◌, ◌≤◌, ◌+◌, [], ◌∷◌, None, map};
 
 use arrayvec::ArrayVec;
 use local_files::FileCall;
@@ -33,6 +33,8 @@ pub struct FileNote {
 }
 
 impl Default for FileRequest {
+    ghost is_default = { λ r. (r.caller ≡ None) × (r.count ≡ 0) };
+
     fn default() -> Self {
         FileRequest {
             caller: None,
@@ -44,6 +46,8 @@ impl Default for FileRequest {
 }
 
 impl Default for FileNote {
+    ghost is_default = { λ n. (n.caller ≡ None) × (n.reply ≡ None) };
+
     fn default() -> Self {
         FileNote {
             caller: None,

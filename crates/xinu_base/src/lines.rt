@@ -127,6 +127,10 @@ pub enum TranscriptLine {
 }
 
 impl Default for TranscriptLine {
+    ghost use Rattle.xinu_base.specs.declared.lines.TranscriptLine.TheVariants as line;
+
+    ghost is_default = { λ l. l ≡ line.Disk0 0 };
+
     fn default() -> Self {
         TranscriptLine::Disk0(0)
     }
