@@ -2,7 +2,7 @@
 
 ghost use Rattle.arrayvec.specs.ArrayVec.{array_vec_len};
 ghost use Rattle.file_server.specs.Requests.{AreRequests, IsRequest, kept_after, request_of};
-ghost use Rattle.std.specs.Prelude.{◌≡◌, ◌<◌, ◌≤◌, ◌+◌, [], ◌∷◌, None, map};
+ghost use Rattle.std.specs.Prelude.{◌≡◌, ◌<◌, ◌≤◌, ◌+◌, [], ◌∷◌, None, map, replicate};
 
 use arrayvec::ArrayVec;
 use local_files::FileCall;
@@ -33,7 +33,9 @@ pub struct FileNote {
 }
 
 impl Default for FileRequest {
-    ghost is_default = { λ r. (r.caller ≡ None) × (r.count ≡ 0) };
+    ghost use Rattle.local_files.specs.declared.FileCall.TheVariants as call;
+
+    ghost is_default = { λ r. (r.caller ≡ None) × (r.call ≡ call.Delete (replicate 28 0)) × (r.count ≡ 0) × (r.at ≡ 0) };
 
     fn default() -> Self {
         FileRequest {
@@ -46,7 +48,9 @@ impl Default for FileRequest {
 }
 
 impl Default for FileNote {
-    ghost is_default = { λ n. (n.caller ≡ None) × (n.reply ≡ None) };
+    ghost use Rattle.xinu_base.specs.declared.lines.FileMoment.TheVariants as moment;
+
+    ghost is_default = { λ n. (n.caller ≡ None) × (n.moment ≡ moment.Turn) × (n.reply ≡ None) };
 
     fn default() -> Self {
         FileNote {
