@@ -5,7 +5,7 @@ ghost use Rattle.kernel_state.specs.Calling.{IsCalling};
 ghost use Rattle.kernel_state.specs.Results.{came_to, IsStart};
 ghost use Rattle.kernel_state.specs.Families.{is_on_device};
 ghost use Rattle.xinu_base.specs.Syscalls.{is_call};
-ghost use Rattle.xinu_laws.specs.Preserve.{ticking};
+ghost use Rattle.part_laws.specs.Preserve.{ticking};
 ghost use Rattle.xinu_model.specs.Calls.{called, continued};
 ghost use Rattle.xinu_model.specs.Machine.{Silent};
 ghost use Rattle.xinu_model.specs.Ports.Queues.{port_at};

@@ -9,8 +9,8 @@ use Rattle.file_server.specs.declared.requests.FileRequest as declared_request
 use Rattle.local_files.specs.Standing.{call_of, given_bytes}
 use Rattle.local_files.specs.declared.FileCall.{FileCall}
 use Rattle.local_files.specs.declared.FileCall.TheVariants.{Open, Delete, Close, Read, Write, Getc, Putc, Seek, Truncate, Size}
-use Rattle.xinu_laws.proofs.FileWork.Sizes.{brings}
-use Rattle.xinu_laws.proofs.FileWork.Sound.{bytes_from_size}
+use Rattle.part_laws.proofs.FileWork.Sizes.{brings}
+use Rattle.part_laws.proofs.FileWork.Sound.{bytes_from_size}
 use Rattle.xinu_model.specs.Files.Calls as model
 use Rattle.xinu_model.specs.Files.Sound.{InRam}
 use Rattle.xinu_model.specs.Files.Systems.{FileSystem}

@@ -13,7 +13,7 @@ use Rattle.file_server.specs.declared.requests.FileRequest as declared_request
 use Rattle.file_server.proofs.Calls.{handed_over}
 use Rattle.file_server.proofs.Starts.{about_calls}
 use Rattle.xinu_base.specs.declared.lines.FileMoment.TheVariants.{Finished}
-use Rattle.xinu_laws.proofs.FileWork.Sizes.{brings, effect_brings}
+use Rattle.part_laws.proofs.FileWork.Sizes.{brings, effect_brings}
 use Rattle.xinu_model.specs.Files.Calls.{file_effect}
 use Rattle.xinu_model.specs.Files.Rest.{are_calls}
 use Rattle.xinu_model.specs.Files.Systems.{FileSystem, FileEffect}

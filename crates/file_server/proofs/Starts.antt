@@ -11,7 +11,7 @@ use Rattle.file_server.proofs.Calls.{begun_bytes, begun_call, handed_over}
 use Rattle.local_files.specs.Standing.{call_of, given_bytes}
 use Rattle.xinu_base.specs.declared.lines.FileMoment.{FileMoment}
 use Rattle.xinu_base.specs.declared.lines.FileMoment.TheVariants.{Next}
-use Rattle.xinu_laws.proofs.FileWork.Sizes.{brings, effect_brings}
+use Rattle.part_laws.proofs.FileWork.Sizes.{brings, effect_brings}
 use Rattle.xinu_model.specs.Files.Calls.{file_effect}
 use Rattle.xinu_model.specs.Files.Systems.{FileSystem, FileEffect}
 use Rattle.xinu_model.specs.Files.Work.{FileRequest, FileWork, FileNote, FileStep, bytes_written, copied, first_effect, most_turns, next_effects, took_effect, with_first}

@@ -19,7 +19,7 @@
 //! the disk, and the disk as it was when the call in hand began, and knows one call at a time; `starting` begins the first of the calls, and
 //! each after it, until one waits for a block. The files of a clause are those of the disk as it was when the call in hand began, so a call
 //! takes effect as its reply comes. The crate depends on `local_files`, the engine, on `given_disks`, which says what a disk has of the
-//! files, on `rv_hart` for RAM, and on `xinu_laws` for lemmas.
+//! files, on `rv_hart` for RAM, and on `part_laws` for lemmas.
 #![tactic(auto)]
 
 mod file_disk;

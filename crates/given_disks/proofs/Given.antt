@@ -7,7 +7,7 @@ use Rattle.given_disks.specs.HeldFiles.{HoldsFiles}
 use Rattle.given_disks.proofs.SoundFiles.{sound_files}
 use Rattle.given_disks.proofs.WholeBlocks.{whole_blocks}
 use Rattle.lfs_layout.specs.Images.{IsCleanImage, is_raw}
-use Rattle.xinu_laws.specs.GivenDisks.{AreSoundDisks}
+use Rattle.part_laws.specs.GivenDisks.{AreSoundDisks}
 use Rattle.xinu_model.specs.Files.Rest.{is_at_rest}
 use Rattle.xinu_model.specs.Files.Systems.{closed_system}
 use Rattle.xinu_model.specs.Files.Work.{FileWork}

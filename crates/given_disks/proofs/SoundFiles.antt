@@ -11,8 +11,8 @@ use Rattle.lfs_layout.proofs.CleanOpens.{placed_names, placed_room}
 use Rattle.file_laws.specs.StoredFiles.{stored, stored_files}
 use Rattle.file_laws.proofs.Named.{AreApartFiles, AreNames, IsName, by_sorted, named_stored, names_apart, names_names}
 use Rattle.file_laws.proofs.Sorting.{stored_with}
-use Rattle.xinu_laws.proofs.FileSystems.Started.{sound_start}
-use Rattle.xinu_laws.proofs.FileSystems.Stored.{all_stored, count_stored, order_stored}
+use Rattle.part_laws.proofs.FileSystems.Started.{sound_start}
+use Rattle.part_laws.proofs.FileSystems.Stored.{all_stored, count_stored, order_stored}
 use Rattle.xinu_model.specs.Files.Room.{data_blocks, data_needed, data_room, index_blocks, index_needed, index_room}
 use Rattle.xinu_model.specs.Files.Sound.{IsSoundFiles}
 use Rattle.xinu_model.specs.Files.Stored.{StoredFile, file_named, file_names, is_file_name, precedes, with_stored}

@@ -5,7 +5,7 @@ ghost use Rattle.file_laws.specs.StoredFiles.{stored_files};
 ghost use Rattle.given_disks.specs.Disks.{disks_of};
 ghost use Rattle.given_disks.specs.HeldFiles.{HoldsFiles};
 ghost use Rattle.lfs_layout.specs.Images.{IsCleanImage, is_raw};
-ghost use Rattle.xinu_laws.specs.GivenDisks.{AreSoundDisks};
+ghost use Rattle.part_laws.specs.GivenDisks.{AreSoundDisks};
 ghost use Rattle.xinu_model.specs.Files.Systems.{closed_system};
 ghost use Rattle.xinu_model.specs.RawDisk.Constants.{RD_BLKSIZ};
 

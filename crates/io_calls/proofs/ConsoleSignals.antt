@@ -7,7 +7,7 @@ use Rattle.kernel_tables.proofs.Rests.{SameRests}
 use Rattle.kernel_tables.proofs.Waiters.{rests_written}
 use Rattle.tty_driver.specs.Transmitting.{count_by}
 use Rattle.xinu_base.specs.Constants.{OK, SYSERR}
-use Rattle.xinu_laws.proofs.Consoles.Characters.{received_goes, controlled_goes}
+use Rattle.part_laws.proofs.Consoles.Characters.{received_goes, controlled_goes}
 use Rattle.xinu_model.specs.Process.Scheduling.{ready_all}
 use Rattle.xinu_model.specs.Console.Controls.{after_control, controlled}
 use Rattle.xinu_model.specs.Console.Receiving.{received}

@@ -2,7 +2,7 @@
 use Rattle.std.proofs.Common.{◌≡◌, ◌∙◌, ℕ, ◌++◌, Bool, Option, Some, ap, arith, sym}
 use Rattle.xinu_base.specs.declared.processes.State.TheVariants.{Waiting}
 use Rattle.xinu_laws.proofs.RawDisks.Moves.{first_waits}
-use Rattle.xinu_laws.proofs.RawDisks.Served.{serves_first}
+use Rattle.part_laws.proofs.RawDisks.Served.{serves_first}
 use Rattle.xinu_model.specs.RawDisk.Callers.{living}
 use Rattle.xinu_model.specs.RawDisk.Completions.{raw_completed, Served}
 use Rattle.xinu_model.specs.RawDisk.Requests.{RawDisk, requesters}

@@ -8,7 +8,7 @@ use Rattle.lfs_check.specs.Rules.{block_in}
 use Rattle.local_files.specs.Resting.{ChangesOneBlock}
 use Rattle.xinu_laws.proofs.FileSyscalls.Completed.{told_and_left, told_living}
 use Rattle.xinu_laws.proofs.RawDisks.Moves.{first_replied, first_waits}
-use Rattle.xinu_laws.specs.FileWork.{caller_first, callers_told}
+use Rattle.part_laws.specs.FileWork.{caller_first, callers_told}
 use Rattle.xinu_model.specs.Files.Syscalls.{told}
 use Rattle.xinu_model.specs.Files.Work.{callers_waiting, calls_completed, FileNote, FileStep, FileWork}
 use Rattle.xinu_model.specs.Machine.{CallState}

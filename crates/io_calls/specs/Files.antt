@@ -3,7 +3,7 @@ use Rattle.std.specs.Prelude.{◌≡◌, ◌≤◌, ◌++◌, if◌then◌else�
 use Rattle.kernel_state.specs.Results.{IsStart}
 use Rattle.table_laws.specs.Preserve.{MayCall}
 use Rattle.xinu_base.specs.declared.processes.State.TheVariants.{Waiting}
-use Rattle.xinu_laws.specs.FileWork.{callers_told}
+use Rattle.part_laws.specs.FileWork.{callers_told}
 use Rattle.xinu_model.specs.Files.Syscalls.{completing, file_step, files_of, LF_SEM}
 use Rattle.xinu_model.specs.Files.Work.{calls_completed, FileNote, least_effects, most_effects}
 use Rattle.xinu_model.specs.Machine.{CallResult, CallState, Xinu}

@@ -24,7 +24,7 @@ use Rattle.kernel_state.specs.Beginnings.{BeginsAs}
 use Rattle.kernel_state.specs.Results.{idle, IsIdle, IsStart}
 use Rattle.kernel_state.specs.declared.begun.Begun.{Begun}
 use Rattle.kernel_state.specs.declared.begun.Begun.TheVariants.{ByRow, AtOnce}
-use Rattle.xinu_laws.specs.Preserve.{KeepsAll, MayCallAny}
+use Rattle.part_laws.specs.Preserve.{KeepsAll, MayCallAny}
 use Rattle.xinu_model.specs.Events.{with_executed}
 use Rattle.xinu_model.specs.Isa.Exec.{exec}
 use Rattle.xinu_model.specs.Sound.State.{IsSound}

@@ -7,7 +7,7 @@ use Rattle.kernel_state.specs.Results.{answer_so_far, idle, IsIdle}
 use Rattle.kernel_state.specs.Values.{KernelValue}
 use Rattle.xinu_base.specs.declared.processes.Rest.TheVariants.{Nothing}
 use Rattle.xinu_laws.proofs.PlainSteps.{IsRunning, plain_of, steps_of, steps_sound}
-use Rattle.xinu_laws.specs.Preserve.{KeepsAll}
+use Rattle.part_laws.specs.Preserve.{KeepsAll}
 use Rattle.xinu_model.specs.Isa.Ran.{ran}
 use Rattle.xinu_model.specs.Machine.{CallResult, CallState, current_hart, Xinu}
 use Rattle.xinu_model.specs.Runs.{is_over}

@@ -2,7 +2,7 @@
 use Rattle.kernel.specs.declared.kernel.Kernel.TheInside.{Inside}
 use Rattle.kernel.specs.Values.{KernelValue}
 use Rattle.kernel_state.specs.Results.{answer_so_far}
-use Rattle.xinu_laws.specs.Preserve.{KeepsAll}
+use Rattle.part_laws.specs.Preserve.{KeepsAll}
 use Rattle.xinu_model.specs.Machine.{CallResult}
 
 -- the state inside an event, and how its call goes

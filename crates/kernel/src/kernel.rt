@@ -15,7 +15,7 @@ ghost use Rattle.kernel_state.specs.Beginnings.{BeginsAs, next_of};
 ghost use Rattle.kernel_state.specs.Calling.{IsCalling};
 ghost use Rattle.kernel_state.specs.Results.{answer_of, answer_so_far, came_to, idle, IsIdle};
 ghost use Rattle.local_files.specs.Resting.{ChangesOneBlock};
-ghost use Rattle.xinu_laws.specs.Preserve.{ticking};
+ghost use Rattle.part_laws.specs.Preserve.{ticking};
 ghost use Rattle.xinu_model.specs.Calls.{called, continued};
 ghost use Rattle.xinu_model.specs.Console.Signals.{receiving};
 ghost use Rattle.xinu_model.specs.Console.Taking.{console_of};

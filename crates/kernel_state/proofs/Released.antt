@@ -3,7 +3,7 @@ use Rattle.std.proofs.Common.{◌≡◌, ◌∙◌, ℕ, ◌+◌, ℤ, pos, Bool
 use Rattle.std.proofs.lemmas.Bool.Decides.{nat_tests}
 use Rattle.std.proofs.lemmas.List.{append-nil, append_assoc}
 use Rattle.xinu_base.specs.declared.processes.Rest.{Rest}
-use Rattle.xinu_laws.specs.Preserve.{ticking}
+use Rattle.part_laws.specs.Preserve.{ticking}
 use Rattle.xinu_model.specs.Clock.{a_tick_later, due, quantum_falls, wakeup}
 use Rattle.xinu_model.specs.Machine.{CallResult, CallState, reply_at_unblock, Silent, start, unblock_all, unblock_all_with, unblock_with, Xinu}
 use Rattle.xinu_model.specs.Process.Scheduling.{ready, ready_all}

@@ -2,9 +2,9 @@
 use Rattle.std.proofs.Common.{List}
 use Rattle.xinu_base.specs.declared.events.Event.{Event}
 use Rattle.xinu_base.specs.declared.lines.TranscriptLine.{TranscriptLine}
-use Rattle.xinu_laws.proofs.Ownership.Events.{apart_happens}
-use Rattle.xinu_laws.proofs.Ownership.Giving.{given_away_is_shared}
-use Rattle.xinu_laws.proofs.Ownership.GrantEvents.{event_gives}
+use Rattle.event_laws.proofs.Ownership.Events.{apart_happens}
+use Rattle.event_laws.proofs.Ownership.Giving.{given_away_is_shared}
+use Rattle.event_laws.proofs.Ownership.GrantEvents.{event_gives}
 use Rattle.xinu_model.specs.Events.{Happens}
 use Rattle.xinu_model.specs.Machine.{Xinu}
 use Rattle.xinu_model.specs.Sound.State.{IsSound}

@@ -7,9 +7,9 @@ use Rattle.xinu_base.specs.declared.processes.Process.{Process}
 use Rattle.xinu_base.specs.declared.processes.State.{State}
 use Rattle.xinu_base.specs.declared.processes.State.TheVariants.{Current, Free, Ready, Suspended}
 use Rattle.table_laws.proofs.Tables.Starts.{all_are_made, boots_from, none_made}
-use Rattle.xinu_laws.proofs.Ownership.Boot.{apart_boot}
+use Rattle.event_laws.proofs.Ownership.Boot.{apart_boot}
 use Rattle.xinu_laws.proofs.Touches.Boot.{boot_numbers, boot_ticks}
-use Rattle.xinu_laws.specs.Ownership.Apart.{IsApart}
+use Rattle.event_laws.specs.Ownership.Apart.{IsApart}
 use Rattle.xinu_model.specs.Boot.{all_made, all_ready, all_started, boot, boot_on, Boots, Disks, first_overlap, Loaded, on_disks, loaded_machine, unless_overlap}
 use Rattle.xinu_model.specs.Machine.{Xinu}
 use Rattle.xinu_model.specs.Ports.Queues.{port_at}

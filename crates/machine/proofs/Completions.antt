@@ -4,8 +4,8 @@ use Rattle.std.proofs.lemmas.Bool.{cond_both}
 use Rattle.io_calls.specs.Disks.{after_completing}
 use Rattle.xinu_base.specs.declared.lines.TranscriptLine.{TranscriptLine}
 use Rattle.xinu_base.specs.declared.lines.TranscriptLine.TheVariants.{Switch}
-use Rattle.xinu_laws.proofs.Touches.ClockEvents.{resched_ticks}
-use Rattle.xinu_laws.proofs.Touches.PortEvents.{RisesOnce}
+use Rattle.event_laws.proofs.Rises.ClockEvents.{resched_ticks}
+use Rattle.event_laws.proofs.Rises.PortEvents.{RisesOnce}
 use Rattle.xinu_model.specs.Machine.{CallState, EventResult, Silent, Xinu, end_of_event, is_off, nothing_happens, switched}
 use Rattle.xinu_model.specs.Ports.Queues.{MessagePort, port_at}
 use Rattle.xinu_model.specs.Process.Scheduling.{resched}

@@ -7,8 +7,8 @@ use Rattle.machine.specs.FileEffects.{ChosenPrints}
 use Rattle.xinu_base.specs.declared.events.Event.{Event}
 use Rattle.xinu_base.specs.declared.events.Event.TheVariants.{Step, Tick, Key, Tx, Disk0, Disk1, Fail0, Fail1, Dump}
 use Rattle.xinu_laws.proofs.FileSyscalls.AtOnce.{step_holds}
-use Rattle.xinu_laws.proofs.Touches.ClockEvents.{resched_ticks, ticks_keyed, ticks_stepped, ticks_ticked, ticks_transmits}
-use Rattle.xinu_laws.proofs.Touches.PortEvents.{RisesOnce, keyed_once, stepped_once, ticked_once, transmits_once}
+use Rattle.event_laws.proofs.Rises.ClockEvents.{resched_ticks, ticks_keyed, ticks_stepped, ticks_ticked, ticks_transmits}
+use Rattle.event_laws.proofs.Rises.PortEvents.{RisesOnce, keyed_once, stepped_once, ticked_once, transmits_once}
 use Rattle.xinu_model.specs.Events.{effect_of, next_file_call, step_at_once, with_executed}
 use Rattle.xinu_model.specs.Files.Syscalls.{at_once, completed_in, completing, files_of, file_step, with_step}
 use Rattle.xinu_model.specs.Files.Work.{calls_completed, FileRequest, least_effects}

@@ -1,8 +1,8 @@
 -- Who has which memory after an event.
 use Rattle.xinu_base.specs.declared.events.Event.{Event}
-use Rattle.xinu_laws.specs.Ownership.Apart.{IsApart}
-use Rattle.xinu_laws.specs.Ownership.GivingAway.{GivesAway}
-use Rattle.xinu_laws.specs.Ownership.Grants.{GivesOnlyFree}
+use Rattle.event_laws.specs.Ownership.Apart.{IsApart}
+use Rattle.event_laws.specs.Ownership.GivingAway.{GivesAway}
+use Rattle.event_laws.specs.Ownership.Grants.{GivesOnlyFree}
 use Rattle.xinu_model.specs.Machine.{Xinu}
 
 -- If no address had two owners before the event none has them after it, unless a `freemem` or `freestk` gave back what a pool or a stack

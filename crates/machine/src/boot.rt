@@ -4,8 +4,8 @@ ghost use Rattle.std.specs.Prelude.{◌≡◌, ◌≤◌, IfOk, length, map};
 ghost use Rattle.given_disks.specs.Disks.{disks_of};
 ghost use Rattle.image_loader.specs.Images.{loaded_of};
 ghost use Rattle.machine.specs.Starts.{Starts};
-ghost use Rattle.xinu_laws.specs.GivenDisks.{AreSoundDisks};
-ghost use Rattle.xinu_laws.specs.Ownership.Apart.{IsApart};
+ghost use Rattle.part_laws.specs.GivenDisks.{AreSoundDisks};
+ghost use Rattle.event_laws.specs.Ownership.Apart.{IsApart};
 ghost use Rattle.xinu_model.specs.Sound.State.{IsSound};
 
 use crate::machine::Machine;

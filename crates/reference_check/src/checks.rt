@@ -6,7 +6,7 @@ ghost use Rattle.image_loader.specs.Images.{loaded_of};
 ghost use Rattle.reference_boot.specs.Starts.{RefusesAs};
 ghost use Rattle.reference_check.specs.Starting.{has_started};
 ghost use Rattle.transcript_laws.specs.Transcripts as transcripts;
-ghost use Rattle.xinu_laws.specs.GivenDisks.{AreSoundDisks};
+ghost use Rattle.part_laws.specs.GivenDisks.{AreSoundDisks};
 ghost use Rattle.xinu_model.specs.Boot as model;
 
 use image_loader::Image;

@@ -2,7 +2,7 @@
 use Rattle.std.proofs.Common.{◌≡◌, ◌≤◌, ℕ, Bool, true, false, pos, ◌+ℤ◌, int_lt, ◌++◌, length, Some, refl, ap, arith}
 use Rattle.std.proofs.lemmas.Int.{ints}
 use Rattle.std.proofs.lemmas.List.{length-append}
-use Rattle.xinu_laws.proofs.Consoles.Characters.{received_goes, controlled_goes}
+use Rattle.part_laws.proofs.Consoles.Characters.{received_goes, controlled_goes}
 use Rattle.xinu_model.specs.Console.Controls.{controlled}
 use Rattle.xinu_model.specs.Console.Receiving.{received}
 use Rattle.xinu_model.specs.Console.Rows.{Committed}

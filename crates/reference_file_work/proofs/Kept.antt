@@ -7,8 +7,8 @@ use Rattle.xinu_base.specs.declared.lines.FileMoment.{FileMoment}
 use Rattle.xinu_base.specs.declared.lines.FileMoment.TheVariants.{Finished, Next}
 use Rattle.reference_files.proofs.Small.{sound_is_small}
 use Rattle.reference_files.specs.Sizes.{IsSmall, most_bytes}
-use Rattle.xinu_laws.proofs.FileSystems.Refusals.{effect_spares}
-use Rattle.xinu_laws.proofs.FileWork.Sound.{works_completed}
+use Rattle.part_laws.proofs.FileSystems.Refusals.{effect_spares}
+use Rattle.part_laws.proofs.FileWork.Sound.{works_completed}
 use Rattle.xinu_model.specs.Files.Calls.{FileCall, Open, Delete, Close, Read, Write, Getc, Putc, Seek, Truncate, Size}
 use Rattle.xinu_model.specs.Files.Sound.{HasBytes, InRam, IsFileRequest, IsFirst, IsSoundWork}
 use Rattle.xinu_model.specs.Files.Systems.{FileSystem, OpenFile, open_at}

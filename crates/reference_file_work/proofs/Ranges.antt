@@ -2,7 +2,7 @@
 use Rattle.std.proofs.Common.{◌≡◌, ◌∙◌, ◌+◌, ◌≤◌, ◌<◌, ℕ, zero, suc, List, [], ◌∷◌, ◌++◌, append-nil, drop, drop-cons, length, take, refl, sym, ap, arith}
 use Rattle.std.proofs.lemmas.List.{length-drop, length-take}
 use Rattle.std.specs.Prelude.{slice_index}
-use Rattle.xinu_laws.proofs.FileWork.Sizes.{effect_brings}
+use Rattle.part_laws.proofs.FileWork.Sizes.{effect_brings}
 use Rattle.xinu_model.specs.Files.Calls.{FileCall, Open, Delete, Close, Read, Write, Getc, Putc, Seek, Truncate, Size, file_effect}
 use Rattle.xinu_model.specs.Files.Sound.{InRam}
 use Rattle.xinu_model.specs.Files.Systems.{FileSystem}

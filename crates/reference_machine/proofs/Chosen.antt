@@ -12,7 +12,7 @@ use Rattle.xinu_base.specs.declared.processes.Rest.{Rest}
 use Rattle.xinu_base.specs.declared.processes.Rest.TheVariants.{Nothing}
 use Rattle.xinu_base.specs.declared.registers.Outcome.{Outcome}
 use Rattle.xinu_base.specs.declared.registers.Outcome.TheVariants as outcome
-use Rattle.xinu_laws.specs.Preserve.{MayCallAny}
+use Rattle.part_laws.specs.Preserve.{MayCallAny}
 use Rattle.xinu_laws.proofs.FileSyscalls.Chosen.{exit_none}
 use Rattle.xinu_laws.proofs.Preserve.Calls.{called_keeps, sound_where_called}
 use Rattle.xinu_laws.proofs.Preserve.Events.{may_call, may_call_after}

@@ -1,7 +1,7 @@
 -- Memory of a heap in RAM is in RAM.
 use Rattle.std.proofs.Common.{◌≡◌, ℕ, ◌+◌, ◌*◌, ◌≤◌, length, Option, Some, None, arith}
 use Rattle.std.specs.Prelude.{IfSome}
-use Rattle.xinu_laws.proofs.HeapCells.Taken.{getmem_grants, room_in_cells}
+use Rattle.part_laws.proofs.HeapCells.Taken.{getmem_grants, room_in_cells}
 use Rattle.xinu_model.specs.Heap.Cells.{Grant, Heap, take_memory}
 
 pub granted_within : (n : ℕ) (h : Heap) (grant : Grant) → take_memory n h ≡ Some grant → h.low + 8 * length h.cells ≤ 1048576

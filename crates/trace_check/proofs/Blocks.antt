@@ -12,7 +12,7 @@ use Rattle.xinu_laws.proofs.Consoles.Put.{putc_keeps, write_keeps}
 use Rattle.xinu_laws.proofs.Consoles.Signalled.{console_control_keeps, receiving_signals, sending_signals}
 use Rattle.xinu_laws.proofs.Consoles.Taken.{getc_keeps, read_keeps}
 use Rattle.xinu_laws.proofs.Devices.Kept.{OfFiles, device_open_holds, device_close_holds, device_read_holds, device_write_holds, device_getc_holds, device_putc_holds, device_seek_holds, device_control_holds}
-use Rattle.xinu_laws.proofs.FileSystems.Refusals.{effect_spares}
+use Rattle.part_laws.proofs.FileSystems.Refusals.{effect_spares}
 use Rattle.xinu_laws.proofs.Preserve.Calls.{sound_where_called}
 use Rattle.xinu_laws.proofs.Preserve.Events.{may_call, may_call_after}
 use Rattle.xinu_laws.proofs.RawDisks.Kept.{disk_read_keeps, disk_write_keeps, disk_control_keeps}
@@ -21,7 +21,7 @@ use Rattle.xinu_laws.proofs.Touches.Continued.{continued_touches}
 use Rattle.xinu_laws.proofs.Touches.Events.{touches_ticked}
 use Rattle.xinu_laws.proofs.Touches.Few.{IsLawOfFew, law_of_few}
 use Rattle.xinu_laws.proofs.Touches.Moves.{touches_sent}
-use Rattle.xinu_laws.specs.Ownership.GivingAway.{next}
+use Rattle.event_laws.specs.Ownership.GivingAway.{next}
 use Rattle.xinu_laws.specs.Touches.{at_a_tick, reach, touched_by, Touches}
 use Rattle.xinu_model.specs.Calls.{calls, continued}
 use Rattle.xinu_model.specs.Clock.{ticked}

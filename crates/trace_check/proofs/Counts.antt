@@ -6,8 +6,8 @@ use Rattle.xinu_base.specs.declared.events.Event.{Event}
 use Rattle.xinu_base.specs.declared.events.Event.TheVariants.{Step, Tick, Key, Tx, Disk0, Disk1, Fail0, Fail1, Dump}
 use Rattle.xinu_base.specs.declared.lines.TranscriptLine.{TranscriptLine}
 use Rattle.xinu_laws.proofs.Preserve.Events.{state_event}
-use Rattle.xinu_laws.proofs.Touches.ClockEvents.{resched_ticks, ticks_keyed, ticks_stepped, ticks_ticked, ticks_transmits}
-use Rattle.xinu_laws.proofs.Touches.PortEvents.{RisesOnce, keyed_once, stepped_once, ticked_once, transmits_once}
+use Rattle.event_laws.proofs.Rises.ClockEvents.{resched_ticks, ticks_keyed, ticks_stepped, ticks_ticked, ticks_transmits}
+use Rattle.event_laws.proofs.Rises.PortEvents.{RisesOnce, keyed_once, stepped_once, ticked_once, transmits_once}
 use Rattle.xinu_model.specs.Events.{call_line, call_of, effect_of, next_file_call, step_at_once, step_with, with_executed}
 use Rattle.xinu_model.specs.Files.Syscalls.{all_told, at_once, completed_in, completing, file_line, file_step, files_of, told, with_step}
 use Rattle.xinu_model.specs.Files.Work.{FileNote, FileRequest, calls_completed, copied, issued, least_effects}

@@ -16,7 +16,7 @@ use Rattle.xinu_model.specs.Text.{text}
 use Rattle.xinu_model.proofs.Outcomes.{agree}
 use Rattle.xinu_laws.proofs.FileSyscalls.Chosen.{choice_happens, effect_panics}
 use Rattle.xinu_laws.proofs.Preserve.Events.{sound_happens}
-use Rattle.xinu_laws.proofs.FileSystems.Orders.{own_bytes, same_bytes}
+use Rattle.part_laws.proofs.FileSystems.Orders.{own_bytes, same_bytes}
 use Rattle.transcript_laws.proofs.Texts.{and_true, begun, rest_of, starts, text_append}
 use Rattle.transcript_laws.specs.Reading.{starts_with, last_lines, Prints, accepts_after, accepts, Tells}
 

@@ -13,7 +13,7 @@ use Rattle.xinu_model.specs.Sound.State.{IsSound}
 use Rattle.xinu_model.specs.Text.{text}
 use Rattle.xinu_laws.proofs.Preserve.Disks.{sound_boot_on}
 use Rattle.xinu_laws.proofs.Preserve.Events.{sound_happens}
-use Rattle.xinu_laws.specs.GivenDisks.{AreSoundDisks}
+use Rattle.part_laws.specs.GivenDisks.{AreSoundDisks}
 use Rattle.transcript_laws.specs.Choices.{told}
 use Rattle.transcript_laws.specs.Reading.{last_lines}
 use Rattle.transcript_laws.specs.Transcripts.{IsText, first_text}

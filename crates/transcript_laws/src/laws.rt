@@ -3,7 +3,7 @@
 ghost use Rattle.std.specs.Prelude.{◌≡◌, ◌↔◌, ◌<◌, ℕ, List, length, true};
 ghost use Rattle.xinu_base.specs.Constants.{NPROC};
 ghost use Rattle.xinu_base.specs.declared.events.Event.{Event};
-ghost use Rattle.xinu_laws.specs.GivenDisks.{AreSoundDisks};
+ghost use Rattle.part_laws.specs.GivenDisks.{AreSoundDisks};
 ghost use Rattle.xinu_model.specs.Boot.{Disks, Loaded};
 ghost use Rattle.xinu_model.specs.Machine.{Xinu};
 ghost use Rattle.xinu_model.specs.Sound.State.{IsSound};

@@ -19,7 +19,7 @@ use Rattle.transcript_laws.proofs.Checked.{checks_exactly}
 use Rattle.transcript_laws.specs.Transcripts.{IsText, checks, checks_from}
 use Rattle.xinu_base.specs.declared.events.Event.{Event}
 use Rattle.xinu_model.specs.Boot.{Disks, Loaded, Start, Boots, Overlaps, NoRoom, boot_on}
-use Rattle.xinu_laws.specs.GivenDisks.{AreSoundDisks}
+use Rattle.part_laws.specs.GivenDisks.{AreSoundDisks}
 use Rattle.xinu_model.specs.Machine.{Xinu}
 use Rattle.xinu_commands.specs.InputFaults.{have_fault, images_loaded, schedule_fault}
 use Rattle.xinu_commands.specs.DiskVerdict.{disk_fault, rule_broken}

@@ -1,4 +1,2 @@
--- The name space by itself: mounts, and mappings.
+-- The call that mounts a prefix: what it touches, and what it keeps.
 pub mod Calls
-pub mod Mappings
-pub mod Mounts

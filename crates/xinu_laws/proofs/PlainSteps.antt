@@ -16,7 +16,7 @@ use Rattle.table_laws.proofs.Lists.Maps.{set_twice}
 use Rattle.table_laws.proofs.Preserve.{current_within}
 use Rattle.xinu_laws.proofs.Preserve.Events.{may_call_after, state_stepped}
 use Rattle.xinu_model.specs.Sound.State.{IsSound}
-use Rattle.xinu_laws.specs.Preserve.{MayCallAny}
+use Rattle.part_laws.specs.Preserve.{MayCallAny}
 use Rattle.xinu_model.specs.Events.{instruction_step, is_done, reacted, stepped, with_executed}
 use Rattle.xinu_model.specs.Isa.Exec.{exec}
 use Rattle.xinu_model.specs.Machine.{current_hart, end_of_event, EventResult, no_hart, nothing_happens, Xinu}

@@ -12,5 +12,4 @@ pub mod Renewed
 pub mod Sends
 pub mod Signals
 pub mod Start
-pub mod Tickets
 pub mod Waits

@@ -9,7 +9,7 @@ use Rattle.xinu_base.specs.declared.lines.TranscriptLine.TheVariants as line
 use Rattle.xinu_laws.proofs.FileSyscalls.Texts.{texts_agree}
 use Rattle.xinu_laws.proofs.Preserve.Disks.{sound_boot_on}
 use Rattle.xinu_laws.proofs.Preserve.Events.{sound_happens}
-use Rattle.xinu_laws.specs.GivenDisks.{AreSoundDisks}
+use Rattle.part_laws.specs.GivenDisks.{AreSoundDisks}
 use Rattle.xinu_laws.specs.Outcomes.{ChoosesNothing}
 use Rattle.xinu_model.proofs.Outcomes.{agree}
 use Rattle.xinu_model.specs.Agree.{begins_next}

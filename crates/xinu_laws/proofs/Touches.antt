@@ -2,7 +2,6 @@
 -- The folder has a lemma for each move and each call, the list of all calls, and what follows for the parts that a footprint doesn't name.
 pub mod Boot
 pub mod Clock
-pub mod ClockEvents
 pub mod Consoles
 pub mod Continued
 pub mod Disks
@@ -13,7 +12,6 @@ pub mod Memory
 pub mod Messages
 pub mod Moves
 pub mod Pools
-pub mod PortEvents
 pub mod Ports
 pub mod Processes
 pub mod Semaphores
@@ -37,7 +35,8 @@ use Rattle.xinu_model.specs.Ports.Queues.{MessagePort}
 use Rattle.xinu_model.specs.Sound.Tables.{IsInside}
 use Rattle.xinu_model.specs.Sound.State.{IsSound}
 use Rattle.xinu_model.specs.Tables.{Tables, state_at, is_free}
-use Rattle.xinu_laws.specs.Touches.{Reach, reach, stacks_of, range_of, HasSameExtent, KeepsDevices, KeepsFree, KeepsParts, Touches}
+use Rattle.xinu_laws.specs.Touches.{Reach, reach, stacks_of, range_of, KeepsDevices, KeepsFree, KeepsParts, Touches}
+use Rattle.part_laws.specs.FreeCells.{HasSameExtent}
 use Rattle.table_laws.proofs.Frame.{frame_same, frame_refl, frame_trans, frame_weaker}
 
 -- Nobody dies if tables and registers stay,

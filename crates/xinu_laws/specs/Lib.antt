@@ -1,10 +1,2 @@
-pub mod Consoles
-pub mod FileEffects
-pub mod FileWork
-pub mod FreeCells
-pub mod GivenDisks
 pub mod Outcomes
-pub mod Ownership
-pub mod Preserve
-pub mod Replies
 pub mod Touches

@@ -1,5 +1,5 @@
 -- What it means that a call touches no more than its footprint allows.
-use Rattle.std.specs.Prelude.{◌≡◌, ℕ, zero, suc, Bool, true, false, not, ◌&&◌, List, length, map, Option, Some, None, slice_index_or}
+use Rattle.std.specs.Prelude.{◌≡◌, ℕ, zero, suc, Bool, true, false, not, ◌&&◌, List, map, Option, Some, None, slice_index_or}
 use Rattle.xinu_base.specs.declared.processes.Process.{Process}
 use Rattle.xinu_base.specs.declared.processes.Rest.{Rest}
 use Rattle.xinu_base.specs.declared.processes.Rest.TheVariants.{Nothing, Receive, Timed, SelfSuspend, GetBuf, PtSend, PtRecv, TtyGet, TtyPut, TtyRead, TtyWrite, Disk}
@@ -7,8 +7,8 @@ use Rattle.xinu_base.specs.declared.semaphores.Owner.{Owner}
 use Rattle.xinu_base.specs.declared.semaphores.Owner.TheVariants as owner
 use Rattle.xinu_model.specs.Devices.State.{Devices}
 use Rattle.xinu_model.specs.Footprints.{Footprint, on_tables, on_pools, on_ports, on_console}
+use Rattle.part_laws.specs.FreeCells.{HasSameExtent}
 use Rattle.table_laws.specs.Frame.{Frame, StillWait}
-use Rattle.xinu_model.specs.Heap.Cells.{Heap}
 use Rattle.xinu_model.specs.Machine.{Parts, Xinu, no_hart}
 use Rattle.xinu_model.specs.Pools.Buffers.{BufferPool, pool_bytes}
 use Rattle.xinu_model.specs.Tables.{Tables, state_at, is_free}
@@ -69,11 +69,6 @@ stacks_of t = map stack_of t.processes
 -- where a pool lies: its first address and its bytes
 abbrev pub range_of : BufferPool → ℕ × ℕ
 range_of pool = (pool.base, pool_bytes pool.size pool.number)
-
--- Two heaps begin at one address and have the same number of cells.
-pub record HasSameExtent (h u : Heap) : Type 0 where
-  pub low : u.low ≡ h.low
-  pub many : length u.cells ≡ length h.cells
 
 -- From d to e only the devices that the footprint names change.
 pub record KeepsDevices (f : Footprint) (d e : Devices) : Type 0 where

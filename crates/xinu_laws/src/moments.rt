@@ -1,18 +1,17 @@
 //! What holds at each moment of an event: the laws that the kernel's code cites.
 
-ghost use Rattle.std.specs.Prelude.{◌≡◌, ◌≢◌, ◌+◌, ◌≤◌, ℕ, false, [], List, Some, slice_index};
+ghost use Rattle.std.specs.Prelude.{◌≡◌, ◌≢◌, ℕ, false, [], List, Some, slice_index};
 ghost use Rattle.xinu_base.specs.Syscalls.{is_call};
 ghost use Rattle.xinu_base.specs.declared.lines.TranscriptLine.{TranscriptLine};
 ghost use Rattle.xinu_model.specs.Calls.{calls, called, continued};
 ghost use Rattle.xinu_model.specs.Clock.{ticked};
-ghost use Rattle.xinu_model.specs.Console.Signals.{keyed, receiving, sending, transmits};
+ghost use Rattle.xinu_model.specs.Console.Signals.{receiving, sending};
 ghost use Rattle.xinu_model.specs.Console.Taking.{console_of};
 ghost use Rattle.xinu_model.specs.Console.Transmitting.{Sent, transmitted};
-ghost use Rattle.xinu_model.specs.Events.{stepped, with_executed};
+ghost use Rattle.xinu_model.specs.Events.{with_executed};
 ghost use Rattle.xinu_model.specs.Isa.Exec.{exec};
 ghost use Rattle.xinu_model.specs.Machine.{Xinu, CallResult, current_hart, refused, replies_of, end_of_event};
-ghost use Rattle.xinu_model.specs.Ports.Queues.{port_at};
-ghost use Rattle.xinu_laws.specs.Preserve.{KeepsAll, MayCallAny, ticking};
+ghost use Rattle.part_laws.specs.Preserve.{KeepsAll, MayCallAny, ticking};
 ghost use Rattle.table_laws.specs.Preserve.{AreAlive};
 ghost use Rattle.xinu_model.specs.Process.Death.{exit};
 ghost use Rattle.xinu_model.specs.Rows.{CallRow, found_in};
@@ -59,27 +58,10 @@ pub fn ticks_keep_all()
     ensures ends { (s : Xinu) → end_of_event s.tables.current [] (ticking s) ≡ ticked s }
 {}
 
-/// The clock goes on in ticks alone, and by one in each.
-pub fn ticks_move_the_clock()
-    ensures step { (s : Xinu) → IsSound s → (stepped s).state.tables.ticks ≡ s.tables.ticks }
-    ensures tick { (s : Xinu) → (ticked s).state.tables.ticks ≡ s.tables.ticks + 1 }
-    ensures key { (b : ℕ) (s : Xinu) → IsSound s → (keyed b s).state.tables.ticks ≡ s.tables.ticks }
-    ensures sent { (s : Xinu) → IsSound s → (transmits s).state.tables.ticks ≡ s.tables.ticks }
-{}
-
 /// A received character keeps what a call keeps, and so does a byte that is sent.
 pub fn interrupts_keep_all()
     ensures received { (b : ℕ) (s : Xinu) → IsSound s → KeepsAll (receiving b s) }
     ensures sent { (sent : Sent) (s : Xinu) → transmitted (console_of s) ≡ Some sent → IsSound s → KeepsAll (sending sent s) }
-{}
-
-/// The number of a port rises by at most one in an event.
-pub fn ports_are_renewed_once()
-    ensures step { (s : Xinu) → IsSound s → (q : ℕ) → (port_at (stepped s).state.parts.ports q).seq ≤ (port_at s.parts.ports q).seq + 1 }
-    ensures tick { (s : Xinu) → IsSound s → (q : ℕ) → (port_at (ticked s).state.parts.ports q).seq ≤ (port_at s.parts.ports q).seq + 1 }
-    ensures key { (b : ℕ) (s : Xinu) → IsSound s → (q : ℕ) →
-        (port_at (keyed b s).state.parts.ports q).seq ≤ (port_at s.parts.ports q).seq + 1 }
-    ensures sent { (s : Xinu) → IsSound s → (q : ℕ) → (port_at (transmits s).state.parts.ports q).seq ≤ (port_at s.parts.ports q).seq + 1 }
 {}
 
 /// The end of an event leaves a sound state.

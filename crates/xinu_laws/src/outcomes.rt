@@ -5,7 +5,7 @@ ghost use Rattle.xinu_base.specs.Constants.{NPROC};
 ghost use Rattle.xinu_base.specs.declared.events.End.{End};
 ghost use Rattle.xinu_base.specs.declared.events.Event.{Event};
 ghost use Rattle.xinu_base.specs.declared.lines.TranscriptLine.{TranscriptLine};
-ghost use Rattle.xinu_laws.specs.GivenDisks.{AreSoundDisks};
+ghost use Rattle.part_laws.specs.GivenDisks.{AreSoundDisks};
 ghost use Rattle.xinu_laws.specs.Outcomes.{ChoosesNothing};
 ghost use Rattle.xinu_model.specs.Agree.{begins_next};
 ghost use Rattle.xinu_model.specs.Boot.{Disks, Loaded};

@@ -5,7 +5,7 @@ ghost use Rattle.xinu_base.specs.Constants.{NPROC};
 ghost use Rattle.xinu_base.specs.declared.events.End.{End};
 ghost use Rattle.xinu_base.specs.declared.events.Event.{Event};
 ghost use Rattle.xinu_base.specs.declared.lines.TranscriptLine.{TranscriptLine};
-ghost use Rattle.xinu_laws.specs.GivenDisks.{AreSoundDisks};
+ghost use Rattle.part_laws.specs.GivenDisks.{AreSoundDisks};
 ghost use Rattle.xinu_model.specs.Boot.{Loaded, Boots, Disks, first_disks, boot, boot_on};
 ghost use Rattle.xinu_base.specs.declared.processes.Rest.TheVariants.{Disk};
 ghost use Rattle.xinu_model.specs.Console.Constants.{TY_OBUFLEN};

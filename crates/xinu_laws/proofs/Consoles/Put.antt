@@ -25,7 +25,7 @@ use Rattle.xinu_model.specs.Tables.{process_at, semaphore_at}
 use Rattle.xinu_laws.proofs.Consoles.Framed.{output_asks}
 use Rattle.xinu_laws.proofs.Consoles.Kept.{Holds, HasConsole, KeepsConsole, keeps_after, answers_keeps, refused_keeps, device_within, caller_within, blocked_keeps, token_holds, token_touches, token_console, goes_on_holds, goes_on_touches, goes_on_console, console_touches}
 use Rattle.xinu_laws.proofs.Consoles.Promised.{promised_token, promised_goes_on}
-use Rattle.xinu_laws.proofs.Consoles.Transmissions.{sound_put}
+use Rattle.part_laws.proofs.Consoles.Transmissions.{sound_put}
 
 -- Room isn't promised to anybody but the caller, who has its token.
 pub record HasPlace (s : Xinu) : Type 0 where

@@ -4,7 +4,7 @@ use Rattle.std.proofs.lemmas.Bool.{cond_both}
 use Rattle.std.proofs.lemmas.List.{length-append}
 use Rattle.xinu_base.specs.declared.processes.Rest.{Rest}
 use Rattle.xinu_base.specs.declared.processes.Rest.TheVariants.{TtyGet, TtyPut, TtyRead, TtyWrite}
-use Rattle.xinu_laws.specs.Consoles.{Appends, SendsFirst}
+use Rattle.part_laws.specs.Consoles.{Appends, SendsFirst}
 use Rattle.table_laws.specs.Preserve.{AreAlive}
 use Rattle.xinu_laws.specs.Touches.{reach, Touches}
 use Rattle.xinu_model.specs.Console.Controls.{controlled}
@@ -24,11 +24,11 @@ use Rattle.xinu_model.specs.Sound.Console.{IsConsole}
 use Rattle.xinu_model.specs.Sound.State.{AreHarts}
 use Rattle.xinu_model.specs.Sound.Tables.{FitsDevice, FitsOwner, asks_input, asks_output, IsInside, IsSoundTables}
 use Rattle.xinu_model.specs.Tables.{Tables, process_at, semaphore_at}
-use Rattle.xinu_laws.proofs.Consoles.Characters.{received_goes, controlled_goes}
+use Rattle.part_laws.proofs.Consoles.Characters.{received_goes, controlled_goes}
 use Rattle.xinu_laws.proofs.Consoles.Framed.{input_asks, output_asks}
 use Rattle.xinu_laws.proofs.Consoles.Kept.{Holds, HasConsole, KeepsConsole, answers_keeps, refused_keeps, touched_calls, touched_console, console_touches}
 use Rattle.xinu_laws.proofs.Consoles.Promised.{promised_signals, promised_signals_other, spans_unblock_all}
-use Rattle.xinu_laws.proofs.Consoles.Transmissions.{sent_is_first, sound_transmitted}
+use Rattle.part_laws.proofs.Consoles.Transmissions.{sent_is_first, sound_transmitted}
 use Rattle.table_laws.proofs.Tables.Signals.{signals_are_repeated}
 use Rattle.table_laws.proofs.Tables.Alive.{alive_signalled_times}
 use Rattle.table_laws.proofs.Tables.Harts.{harts_same}

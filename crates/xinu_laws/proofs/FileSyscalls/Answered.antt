@@ -6,7 +6,7 @@ use Rattle.xinu_base.specs.declared.lines.FileMoment.{FileMoment}
 use Rattle.xinu_base.specs.declared.processes.Process.{Process}
 use Rattle.xinu_base.specs.declared.processes.Rest.TheVariants.{Disk}
 use Rattle.xinu_base.specs.declared.processes.State.TheVariants.{Ready}
-use Rattle.xinu_laws.specs.FileWork.{caller_first, callers_told}
+use Rattle.part_laws.specs.FileWork.{caller_first, callers_told}
 use Rattle.xinu_model.specs.Files.Calls.{file_effect}
 use Rattle.xinu_model.specs.Files.Sound.{IsFirst, IsSoundWork}
 use Rattle.xinu_model.specs.Files.Syscalls.{files_of, file_step, with_step, told, all_told, after_step, at_once}
@@ -19,8 +19,8 @@ use Rattle.xinu_model.specs.Sound.State.{IsSound}
 use Rattle.xinu_model.specs.Sound.Tables.{count_in, IsSoundTables}
 use Rattle.xinu_model.specs.Tables.{process_at, state_at, message_at, semaphore_at, InReady}
 use Rattle.xinu_laws.proofs.FileSyscalls.Completed.{told_living, all_tells, told_and_left}
-use Rattle.xinu_laws.proofs.FileSystems.Refusals.{effect_spares}
-use Rattle.xinu_laws.proofs.FileWork.Order.{told_append}
+use Rattle.part_laws.proofs.FileSystems.Refusals.{effect_spares}
+use Rattle.part_laws.proofs.FileWork.Order.{told_append}
 use Rattle.table_laws.proofs.Lists.Counts.{times-append}
 use Rattle.xinu_laws.proofs.RawDisks.Moves.{first_once, first_within}
 use Rattle.table_laws.proofs.Tables.MoveTo.{by_number, process_move_same, process_move_other}

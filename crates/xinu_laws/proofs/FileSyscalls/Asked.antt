@@ -22,10 +22,10 @@ use Rattle.xinu_model.specs.Sound.Pools.{is_waiting}
 use Rattle.xinu_model.specs.Sound.Tables.{FitsOwner}
 use Rattle.xinu_model.specs.Tables.{process_at, state_at, message_at, semaphore_at, InSemaphore}
 use Rattle.xinu_laws.proofs.Consoles.Kept.{Holds}
-use Rattle.xinu_laws.proofs.FileWork.Sound.{works_queued}
+use Rattle.part_laws.proofs.FileWork.Sound.{works_queued}
 use Rattle.table_laws.proofs.Frame.MoveTo.{tokens_move}
 use Rattle.table_laws.proofs.Preserve.{current_within, blocked_preserves}
-use Rattle.xinu_laws.proofs.RawDisks.Callers.{callers_last}
+use Rattle.part_laws.proofs.RawDisks.Callers.{callers_last}
 use Rattle.xinu_laws.proofs.RawDisks.Kept.{KeepsDisks, refused_keeps}
 use Rattle.xinu_laws.proofs.RawDisks.Moves.{replies_move, waiter_added, waiters_elsewhere}
 use Rattle.xinu_laws.proofs.Touches.{parts_files, touches_parts, touches_refl, touches_trans}

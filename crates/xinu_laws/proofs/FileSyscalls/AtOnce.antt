@@ -3,7 +3,7 @@ use Rattle.std.proofs.Common.{◌≡◌, ◌≢◌, ℕ, zero, suc, ◌≤◌, �
 use Rattle.std.specs.Prelude.{if◌then◌else◌, IsSome}
 use Rattle.std.specs.List.{AllByRecursion}
 use Rattle.std.proofs.lemmas.Bool.{cond_both, cond-true, eqb-true, eq-eqb}
-use Rattle.xinu_laws.specs.Preserve.{MayCallAny, KeepsAll}
+use Rattle.part_laws.specs.Preserve.{MayCallAny, KeepsAll}
 use Rattle.xinu_model.specs.Events.{made_first, next_file_call, step_at_once, step_with, stepped, is_done, instruction_step}
 use Rattle.xinu_model.specs.Calls.{continued}
 use Rattle.xinu_model.specs.Files.Sound.{IsFileRequest, IsSoundWork}
@@ -12,7 +12,7 @@ use Rattle.xinu_model.specs.Files.Work.{FileRequest, most_at_issue, callers_wait
 use Rattle.xinu_model.specs.Machine.{Xinu, EventResult, nothing_happens, end_of_event}
 use Rattle.xinu_model.specs.RawDisk.Callers.{is_caller}
 use Rattle.xinu_model.specs.Tables.{process_at}
-use Rattle.xinu_laws.proofs.FileWork.Sound.{works_issued}
+use Rattle.part_laws.proofs.FileWork.Sound.{works_issued}
 
 -- What is known of a call that p made as the first.
 pub record MadeFirst (p : ℕ) (before after : List FileRequest) (a : FileRequest) : Type 0 where

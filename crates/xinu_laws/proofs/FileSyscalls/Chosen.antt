@@ -10,7 +10,7 @@ use Rattle.xinu_base.specs.declared.processes.Rest.TheVariants as rest
 use Rattle.xinu_base.specs.declared.processes.State.TheVariants.{Current, Waiting}
 use Rattle.xinu_base.specs.declared.registers.Outcome.{Outcome}
 use Rattle.xinu_base.specs.declared.registers.Outcome.TheVariants as outcome
-use Rattle.xinu_laws.specs.Preserve.{MayCallAny, KeepsAll}
+use Rattle.part_laws.specs.Preserve.{MayCallAny, KeepsAll}
 use Rattle.table_laws.specs.Preserve.{FitsAnswer}
 use Rattle.xinu_laws.specs.Touches.{reach, touched_by, Touches}
 use Rattle.xinu_model.specs.Calls.{calls, called, continued}

@@ -1,6 +1,6 @@
 -- A good completion of the files' disk keeps what holds of files and of those who wait for them, and touches nothing else.
 use Rattle.std.proofs.Common.{◌≡◌, ℕ, zero, suc, ◌≤◌, List, [], ◌∷◌, ◌++◌, map, take, drop, Option, Some, None, refl, sym, ap, subst, ◌∙◌, arith, append_assoc, ℤ}
-use Rattle.xinu_laws.specs.FileWork.{caller_first, callers_told}
+use Rattle.part_laws.specs.FileWork.{caller_first, callers_told}
 use Rattle.table_laws.specs.Preserve.{AreAlive}
 use Rattle.xinu_laws.specs.Touches.{reach, Touches}
 use Rattle.xinu_model.specs.Files.Syscalls.{files_of, file_step, with_step, told, all_told, after_step}
@@ -14,8 +14,8 @@ use Rattle.xinu_model.specs.Sound.Tables.{IsSoundTables}
 use Rattle.xinu_model.specs.Tables.{semaphore_at}
 use Rattle.xinu_laws.proofs.Consoles.Kept.{Holds}
 use Rattle.xinu_laws.proofs.FileSyscalls.Asked.{files_touches}
-use Rattle.xinu_laws.proofs.FileWork.Order.{calls_left, calls_told}
-use Rattle.xinu_laws.proofs.FileWork.Sound.{works_completed}
+use Rattle.part_laws.proofs.FileWork.Order.{calls_left, calls_told}
+use Rattle.part_laws.proofs.FileWork.Sound.{works_completed}
 use Rattle.xinu_laws.proofs.RawDisks.Framed.{AreDisks}
 use Rattle.xinu_laws.proofs.RawDisks.Moves.{HasDisks, HaveReplies, first_replied, replied_touches}
 use Rattle.table_laws.proofs.Tables.Harts.{harts_same}

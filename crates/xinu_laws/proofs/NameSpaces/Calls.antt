@@ -11,9 +11,9 @@ use Rattle.xinu_model.specs.Machine.{Xinu, CallResult, refused}
 use Rattle.xinu_model.specs.Names.Calls.{names_of, with_names, mount_rows, mount_texts, mount}
 use Rattle.xinu_model.specs.Names.Mounting.{NameRow, mounted}
 use Rattle.xinu_model.specs.Names.Sound.{AreSoundNames}
-use Rattle.xinu_laws.proofs.NameSpaces.Mounts.{mounted_sound}
+use Rattle.part_laws.proofs.NameSpaces.Mounts.{mounted_sound}
 use Rattle.table_laws.proofs.Preserve.{Preserves, refused_preserves}
-use Rattle.xinu_laws.proofs.Reply.Refusals.{TellsRefusal}
+use Rattle.xinu_laws.proofs.Refusals.{TellsRefusal}
 use Rattle.xinu_laws.proofs.Touches.{StaysIn, parts_names, touches_parts, touches_refl}
 
 -- the number of a device is below 10

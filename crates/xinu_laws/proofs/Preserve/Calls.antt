@@ -13,7 +13,7 @@ use Rattle.xinu_model.specs.Names.Calls.{names_of}
 use Rattle.xinu_model.specs.Names.Sound.{AreSoundNames}
 use Rattle.xinu_model.specs.Pools.Calls.{go_on_getbuf}
 use Rattle.xinu_model.specs.Ports.Calls.{go_on_ptsend, go_on_ptrecv}
-use Rattle.xinu_laws.specs.Preserve.{KeepsAll, MayCallAny}
+use Rattle.part_laws.specs.Preserve.{KeepsAll, MayCallAny}
 use Rattle.table_laws.specs.Preserve.{AreAlive, FitsAnswer, IsPreserved, MayCall}
 use Rattle.xinu_model.specs.Process.Death.{exit}
 use Rattle.xinu_model.specs.RawDisk.Calls.{go_on_disk}

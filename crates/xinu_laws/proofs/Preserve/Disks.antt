@@ -7,7 +7,7 @@ use Rattle.xinu_model.specs.Files.Work.{callers_waiting}
 use Rattle.xinu_model.specs.Machine.{Xinu}
 use Rattle.xinu_model.specs.RawDisk.Requests.{requesters}
 use Rattle.xinu_model.specs.Sound.State.{IsSound}
-use Rattle.xinu_laws.specs.GivenDisks.{AreSoundDisks}
+use Rattle.part_laws.specs.GivenDisks.{AreSoundDisks}
 use Rattle.xinu_laws.proofs.Preserve.Events.{sound_boot}
 use Rattle.xinu_laws.proofs.RawDisks.Started.{start_devices}
 use Rattle.table_laws.proofs.Tables.Starts.{boots_from}

@@ -42,7 +42,7 @@ use Rattle.table_laws.proofs.Tables.Ends.{sound_end_of_event, harts_end_of_event
 use Rattle.xinu_laws.proofs.Ports.Start.{ports_start}
 use Rattle.table_laws.proofs.Tables.Unblock.{unblock_all_ready}
 use Rattle.xinu_laws.proofs.Preserve.Runs.{IsKept, runs_keep}
-use Rattle.xinu_laws.specs.Preserve.{MayCallAny, KeepsAll, ticking}
+use Rattle.part_laws.specs.Preserve.{MayCallAny, KeepsAll, ticking}
 use Rattle.xinu_laws.proofs.Preserve.Calls.{inside_preserved, replies_alive, called_keeps, exit_keeps, continued_keeps}
 use Rattle.xinu_laws.proofs.Preserve.Unused.{unused_start}
 use Rattle.table_laws.proofs.Tables.Starts.{sound_start}

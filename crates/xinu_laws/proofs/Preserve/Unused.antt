@@ -2,7 +2,7 @@
 use Rattle.std.proofs.Common.{◌≡◌, ℕ, ◌<◌, ◌==◌, false, not, ◌||◌, List, [], length, drop, take, Option, Some, None, refl, subst, arith, ℤ, pos}
 use Rattle.std.specs.Prelude.{int_lt}
 use Rattle.std.proofs.lemmas.Bool.{cond_both}
-use Rattle.xinu_laws.specs.Preserve.{MayCallAny}
+use Rattle.part_laws.specs.Preserve.{MayCallAny}
 use Rattle.xinu_laws.specs.Touches.{Reach, reach, Touches}
 use Rattle.xinu_model.specs.Boot.{Loaded, first_overlap, loaded_machine, Boots, all_made, all_started, unless_overlap, boot}
 use Rattle.xinu_model.specs.Footprints.{on_tables}

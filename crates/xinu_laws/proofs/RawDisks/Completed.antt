@@ -15,7 +15,7 @@ use Rattle.xinu_model.specs.Tables.{semaphore_at}
 use Rattle.xinu_laws.proofs.Consoles.Kept.{Holds}
 use Rattle.xinu_laws.proofs.RawDisks.Kept.{disk_touches}
 use Rattle.xinu_laws.proofs.RawDisks.Moves.{HasDisks, first_replied, replied_touches}
-use Rattle.xinu_laws.proofs.RawDisks.Served.{ServesFirst, serves_first}
+use Rattle.part_laws.proofs.RawDisks.Served.{ServesFirst, serves_first}
 use Rattle.xinu_laws.proofs.Touches.{touches_trans}
 
 -- What holds inside an event after a completion: it touches the raw disk alone, and keeps what holds of both disks.

@@ -12,12 +12,12 @@ use Rattle.xinu_model.specs.RawDisk.Calls.{disk_of}
 use Rattle.xinu_model.specs.Sound.Tables.{IsInside}
 use Rattle.xinu_model.specs.Tables.{Semaphore, no_process, process_at, state_at, is_free, numbers_without, Nowhere}
 use Rattle.xinu_model.specs.Files.Syscalls.{files_of}
-use Rattle.xinu_laws.proofs.FileWork.Sound.{sound_given_up, callers_stay}
+use Rattle.part_laws.proofs.FileWork.Sound.{sound_given_up, callers_stay}
 use Rattle.table_laws.proofs.Frame.MoveTo.{tokens_move}
 use Rattle.table_laws.proofs.Preserve.{current_within}
 use Rattle.table_laws.proofs.Tables.MoveTo.{within_table}
 use Rattle.xinu_laws.proofs.RawDisks.Moves.{HasDisks, replies_move}
-use Rattle.xinu_laws.proofs.RawDisks.Killed.{callers_left, sound_left}
+use Rattle.part_laws.proofs.RawDisks.Killed.{callers_left, sound_left}
 use Rattle.table_laws.proofs.Tables.Deaths.{inside_sent}
 use Rattle.table_laws.proofs.Tables.Places.{semaphore_at_without}
 use Rattle.xinu_laws.proofs.Touches.Kept.{keeps_disks}

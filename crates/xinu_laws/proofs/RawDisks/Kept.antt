@@ -18,10 +18,10 @@ use Rattle.xinu_model.specs.Sound.Tables.{FitsOwner}
 use Rattle.xinu_model.specs.Tables.{process_at, state_at, message_at, semaphore_at, InSemaphore}
 use Rattle.xinu_laws.proofs.Consoles.Kept.{Holds}
 use Rattle.table_laws.proofs.Frame.MoveTo.{tokens_move}
-use Rattle.xinu_laws.proofs.FileWork.Sound.{bytes_from_size}
+use Rattle.part_laws.proofs.FileWork.Sound.{bytes_from_size}
 use Rattle.table_laws.proofs.Preserve.{current_within, blocked_preserves}
 use Rattle.xinu_laws.proofs.RawDisks.Moves.{HasDisks, replies_move, waiter_added, waiters_elsewhere}
-use Rattle.xinu_laws.proofs.RawDisks.Requested.{requesters_more, sound_requested}
+use Rattle.part_laws.proofs.RawDisks.Requested.{requesters_more, sound_requested}
 use Rattle.xinu_laws.proofs.Touches.{parts_disk, touches_parts, touches_refl, touches_trans}
 use Rattle.xinu_laws.proofs.Touches.Moves.{touches_blocked}
 

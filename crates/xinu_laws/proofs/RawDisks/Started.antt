@@ -18,7 +18,7 @@ use Rattle.xinu_model.specs.Sound.Tables.{count_in}
 use Rattle.xinu_model.specs.Tables.{Semaphore, Tables, process_at, state_at, semaphore_at}
 use Rattle.table_laws.specs.Frame.{Frame}
 use Rattle.xinu_laws.specs.Touches.{Reach}
-use Rattle.xinu_laws.proofs.FileSystems.Started.{sound_start}
+use Rattle.part_laws.proofs.FileSystems.Started.{sound_start}
 use Rattle.table_laws.proofs.Lists.Counts.{none_counted}
 use Rattle.xinu_laws.proofs.RawDisks.Framed.{AreDisks, is_disks, asks_disk}
 use Rattle.table_laws.proofs.Tables.Starts.{boots_from}

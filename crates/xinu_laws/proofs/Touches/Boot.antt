@@ -14,8 +14,8 @@ use Rattle.xinu_model.specs.Process.Scheduling.{ready}
 use Rattle.xinu_model.specs.Process.Creation.{stack_size}
 use Rattle.xinu_model.specs.Tables.{no_process, Semaphore, no_semaphore, process_at, message_at, semaphore_at, Nowhere, InReady, move_to}
 use Rattle.xinu_laws.specs.Touches.{Reach, Touches, reach}
-use Rattle.xinu_laws.proofs.HeapCells.Taken.{getstk_finds}
-use Rattle.xinu_laws.proofs.HeapCells.Extent.{extent_marked}
+use Rattle.part_laws.proofs.HeapCells.Taken.{getstk_finds}
+use Rattle.part_laws.proofs.HeapCells.Extent.{extent_marked}
 use Rattle.table_laws.proofs.Frame.{frame_same, frame_trans}
 use Rattle.table_laws.proofs.Frame.MoveTo.{frame_move}
 use Rattle.table_laws.proofs.Tables.Starts.{boots_from, same_everywhere}

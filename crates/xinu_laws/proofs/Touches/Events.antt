@@ -14,7 +14,7 @@ use Rattle.xinu_model.specs.Sound.Pools.{is_waiting}
 use Rattle.xinu_model.specs.Tables.{Tables, process_at, state_at, message_at, is_free, entries_without, Nowhere, InReady}
 use Rattle.xinu_base.specs.Constants.{OK}
 use Rattle.xinu_model.specs.Footprints.{on_tables}
-use Rattle.xinu_laws.specs.Preserve.{ticking}
+use Rattle.part_laws.specs.Preserve.{ticking}
 use Rattle.table_laws.specs.Preserve.{AreAlive}
 use Rattle.table_laws.proofs.Lists.Orders.{all_weaker}
 use Rattle.table_laws.proofs.Tables.Alive.{alive_kept, alive_unblock_all, replies_spare_free}

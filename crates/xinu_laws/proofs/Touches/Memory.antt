@@ -5,9 +5,10 @@ use Rattle.xinu_model.specs.Heap.Cells as heap
 use Rattle.xinu_model.specs.Heap.Cells.{Heap, Grant, Stack}
 use Rattle.xinu_model.specs.Machine.{Xinu}
 use Rattle.xinu_model.specs.Heap.Calls.{granted, stacked, given_back, getmem, freemem, getstk, freestk}
-use Rattle.xinu_laws.specs.Touches.{HasSameExtent, reach, Touches}
-use Rattle.xinu_laws.proofs.HeapCells.Taken.{getmem_grants, getstk_finds}
-use Rattle.xinu_laws.proofs.HeapCells.Extent.{extent_marked, extent_freemem, extent_freestk}
+use Rattle.xinu_laws.specs.Touches.{reach, Touches}
+use Rattle.part_laws.specs.FreeCells.{HasSameExtent}
+use Rattle.part_laws.proofs.HeapCells.Taken.{getmem_grants, getstk_finds}
+use Rattle.part_laws.proofs.HeapCells.Extent.{extent_marked, extent_freemem, extent_freestk}
 use Rattle.xinu_laws.proofs.Touches.{StaysIn, parts_heap, touches_refl, touches_parts}
 
 -- another heap of the same extent

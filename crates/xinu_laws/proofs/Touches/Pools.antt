@@ -20,8 +20,8 @@ use Rattle.xinu_model.specs.Sound.State.{IsSound}
 use Rattle.xinu_model.specs.Tables.{Tables, semaphore_at}
 use Rattle.xinu_laws.specs.Touches.{Reach, reach, range_of, Touches}
 use Rattle.table_laws.proofs.Lists.Maps.{map_set_same}
-use Rattle.xinu_laws.proofs.HeapCells.Taken.{getmem_grants}
-use Rattle.xinu_laws.proofs.HeapCells.Extent.{extent_marked}
+use Rattle.part_laws.proofs.HeapCells.Taken.{getmem_grants}
+use Rattle.part_laws.proofs.HeapCells.Extent.{extent_marked}
 use Rattle.table_laws.proofs.Frame.MoveTo.{same_written}
 use Rattle.table_laws.proofs.Tables.Found.{free_semaphore_free}
 use Rattle.xinu_laws.proofs.Pools.Holders.{holder_finds, by_holder}

@@ -23,8 +23,8 @@ use Rattle.xinu_model.specs.Sound.Pools.{is_waiting}
 use Rattle.xinu_laws.specs.Touches.{stack_of, reach, Touches}
 use Rattle.xinu_model.specs.Tables.{Tables, no_process, process_at, state_at, message_at, is_free, Nowhere, InReady, move_to}
 use Rattle.table_laws.proofs.Lists.Maps.{map_set_same}
-use Rattle.xinu_laws.proofs.HeapCells.Taken.{getstk_finds}
-use Rattle.xinu_laws.proofs.HeapCells.Extent.{extent_marked, extent_freestk, extent_unless}
+use Rattle.part_laws.proofs.HeapCells.Taken.{getstk_finds}
+use Rattle.part_laws.proofs.HeapCells.Extent.{extent_marked, extent_freestk, extent_unless}
 use Rattle.table_laws.proofs.Frame.{frame_same, frame_trans}
 use Rattle.table_laws.proofs.Frame.MoveTo.{frame_move, frame_process, same_written}
 use Rattle.table_laws.proofs.Lists.Searches.{search_passes}

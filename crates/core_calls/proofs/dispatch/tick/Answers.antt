@@ -1,5 +1,5 @@
 use Rattle.std.proofs.Common.{◌∙◌, pos, ap}
-use Rattle.xinu_laws.specs.Preserve.{ticking}
+use Rattle.part_laws.specs.Preserve.{ticking}
 use Rattle.xinu_model.specs.Machine.{CallState}
 use Rattle.kernel_state.specs.Released.{replies_to}
 use Rattle.kernel_state.specs.States.{kernel_state}

@@ -1,7 +1,7 @@
 use Rattle.std.proofs.Common.{◌∙◌, ◌/◌, List, ℕ, length, ap, subst, sym}
 use Rattle.file_laws.specs.StoredFiles.{stored_files}
 use Rattle.given_disks.proofs.Given.{sound_disks}
-use Rattle.xinu_laws.specs.GivenDisks.{AreSoundDisks}
+use Rattle.part_laws.specs.GivenDisks.{AreSoundDisks}
 use Rattle.xinu_model.specs.Boot.{Disks}
 use Rattle.xinu_model.specs.Files.Systems.{FileSystem, closed_system}
 use Rattle.reference_check.proofs.checks.check_trace.Goals as goal

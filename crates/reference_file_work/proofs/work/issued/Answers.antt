@@ -1,5 +1,5 @@
 use Rattle.std.proofs.Common.{refl, subst, sym}
-use Rattle.xinu_laws.proofs.FileWork.Sound.{works_queued}
+use Rattle.part_laws.proofs.FileWork.Sound.{works_queued}
 use Rattle.xinu_model.specs.Files.Sound.{IsSoundWork}
 use Rattle.reference_file_work.proofs.work.issued.Goals as goal
 

@@ -2,7 +2,7 @@ use Rattle.std.proofs.Common.{◌≡◌, Some, ap, sym, subst}
 use Rattle.kernel.specs.Kernels.{kernel_result}
 use Rattle.kernel_state.specs.Beginnings.{BeginsAs, next_of}
 use Rattle.kernel_state.specs.Results.{came_to}
-use Rattle.xinu_laws.specs.Preserve.{KeepsAll}
+use Rattle.part_laws.specs.Preserve.{KeepsAll}
 use Rattle.xinu_model.specs.Machine.{CallResult}
 use Rattle.kernel.proofs.Kept.{begun_keeps, idle_may_call}
 use Rattle.xinu_laws.proofs.Preserve.Calls.{called_keeps}

@@ -3,7 +3,7 @@ use Rattle.kernel.specs.Kernels.{kernel_result}
 use Rattle.kernel_state.specs.Results.{idle}
 use Rattle.kernel.proofs.Kept.{closed_kept}
 use Rattle.xinu_laws.proofs.Preserve.Events.{state_end_of_event}
-use Rattle.xinu_laws.specs.Preserve.{KeepsAll}
+use Rattle.part_laws.specs.Preserve.{KeepsAll}
 use Rattle.xinu_model.specs.Machine.{CallState, end_of_event, Silent}
 use Rattle.xinu_model.specs.Sound.State.{IsSound}
 use Rattle.kernel.proofs.kernel.Kernel.close_event.Goals as goal

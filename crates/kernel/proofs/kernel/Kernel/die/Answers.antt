@@ -1,6 +1,6 @@
 use Rattle.std.proofs.Common.{◌≡◌, ◌∙◌, Some, ap, sym, subst}
 use Rattle.kernel.specs.Kernels.{kernel_result}
-use Rattle.xinu_laws.specs.Preserve.{KeepsAll}
+use Rattle.part_laws.specs.Preserve.{KeepsAll}
 use Rattle.xinu_model.specs.Machine.{CallResult}
 use Rattle.kernel.proofs.Kept.{idle_may_call}
 use Rattle.xinu_laws.proofs.Preserve.Calls.{exit_keeps}

@@ -1,6 +1,6 @@
 use Rattle.std.proofs.Common.{◌≡◌, ◌≢◌, ap, rules, sym, subst}
 use Rattle.kernel.specs.Kernels.{kernel_result}
-use Rattle.xinu_laws.specs.Preserve.{KeepsAll}
+use Rattle.part_laws.specs.Preserve.{KeepsAll}
 use Rattle.kernel_state.specs.Results.{idle, IsIdle}
 use Rattle.kernel.proofs.Kept.{executed_sound, idle_may_call, kept_idle}
 use Rattle.xinu_model.specs.Events.{with_executed}

@@ -3,7 +3,7 @@ use Rattle.kernel.proofs.Kept.{kept_idle}
 use Rattle.kernel.proofs.kernel.Kernel.new.Goals as goal
 use Rattle.kernel.specs.Kernels.{kernel_result}
 use Rattle.kernel_state.specs.Results.{idle}
-use Rattle.xinu_laws.specs.Preserve.{KeepsAll}
+use Rattle.part_laws.specs.Preserve.{KeepsAll}
 use Rattle.xinu_model.specs.Machine.{CallState, Silent}
 
 pub invariant_of-result : goal.invariant_of-result

@@ -1,7 +1,7 @@
 use Rattle.std.proofs.Common.{map, subst}
 use Rattle.file_server.specs.Requests.{note_of}
 use Rattle.io_calls.specs.Files.{CompletesFiles}
-use Rattle.xinu_laws.specs.Preserve.{KeepsAll}
+use Rattle.part_laws.specs.Preserve.{KeepsAll}
 use Rattle.xinu_model.specs.Machine.{CallResult, Silent}
 use Rattle.kernel.proofs.Kept.{completed_keeps, idle_sound}
 use Rattle.kernel.proofs.Values.{came_is}

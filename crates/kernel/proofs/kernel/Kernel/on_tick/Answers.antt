@@ -1,10 +1,9 @@
 use Rattle.std.proofs.Common.{◌≡◌, ◌∙◌, None, ap, sym, subst}
 use Rattle.kernel.specs.Kernels.{kernel_result}
-use Rattle.xinu_laws.specs.Preserve.{KeepsAll}
+use Rattle.part_laws.specs.Preserve.{KeepsAll, ticking}
 use Rattle.xinu_model.specs.Machine.{CallResult}
 use Rattle.kernel.proofs.Kept.{idle_sound}
 use Rattle.xinu_laws.proofs.Preserve.Events.{ticking_keeps}
-use Rattle.xinu_laws.specs.Preserve.{ticking}
 use Rattle.kernel.proofs.Values.{came_is}
 use Rattle.kernel.proofs.kernel.Kernel.on_tick.Goals as goal
 

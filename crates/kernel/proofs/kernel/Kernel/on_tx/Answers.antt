@@ -1,7 +1,7 @@
 use Rattle.std.proofs.Common.{◌≡◌, ◌∙◌, None, refl, ap, sym, subst}
 use Rattle.io_calls.specs.Consoles.{after_sending}
 use Rattle.kernel.specs.Kernels.{kernel_result}
-use Rattle.xinu_laws.specs.Preserve.{KeepsAll}
+use Rattle.part_laws.specs.Preserve.{KeepsAll}
 use Rattle.xinu_model.specs.Console.Taking.{console_of}
 use Rattle.xinu_model.specs.Console.Transmitting.{transmitted}
 use Rattle.xinu_model.specs.Machine.{CallResult, Silent, Xinu}

@@ -1,0 +1,6 @@
+pub mod Consoles
+pub mod FileSystems
+pub mod FileWork
+pub mod HeapCells
+pub mod NameSpaces
+pub mod RawDisks

@@ -1,9 +1,0 @@
--- What calls answer: refusals, values, and those who are released.
-pub mod Calm
-pub mod Ecall
-pub mod Panics
-pub mod RefusedEvents
-pub mod Refusals
-pub mod Released
-pub mod Timeouts
-pub mod Values

@@ -1,5 +1,0 @@
-use Rattle.xinu_laws.proofs.NameSpaces.Mappings.{later_rows}
-use Rattle.xinu_laws.proofs.names.later_mounts_change_no_mapping.Goals as goal
-
-pub returns : goal.returns
-returns c = record { same = later_rows }

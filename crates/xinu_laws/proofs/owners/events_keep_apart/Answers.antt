@@ -1,5 +1,0 @@
-use Rattle.xinu_laws.proofs.Ownership.Events.{apart_happens}
-use Rattle.xinu_laws.proofs.owners.events_keep_apart.Goals as goal
-
-pub returns : goal.returns
-returns c = apart_happens

@@ -1,9 +1,0 @@
-use Rattle.xinu_laws.proofs.Reply.Panics.{call_panics, continued_panics, event_panics}
-use Rattle.xinu_laws.proofs.replies.full_ports_panic.Goals as goal
-
-pub returns : goal.returns
-returns c = record {
-  calls = call_panics;
-  continued = continued_panics;
-  events = event_panics;
-}
