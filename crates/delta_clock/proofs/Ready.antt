@@ -29,11 +29,6 @@ ready-awake : (ps : List ℕ) (t : Tables) → (ready_all ps t).sleepers ≡ wit
 ready-awake [] t = refl
 ready-awake (p ∷ ps) t = ready-awake ps (ready p t)
 
--- nobody is left of no sleepers
-without-none : (ps : List ℕ) → without_all ps [] ≡ []
-without-none [] = refl
-without-none (p ∷ ps) = without-none ps
-
 -- whether the first sleeper is left
 without-first : (ps : List ℕ) (e : ℕ × ℕ) (l : List (ℕ × ℕ))
     → without_all ps (e ∷ l) ≡ cond (among e.0 ps) (without_all ps l) (e ∷ without_all ps l)

@@ -23,11 +23,6 @@ pub blocks_lower : (from mid : ℕ) (bs : List FreeBlock) (to : ℕ) → from �
 blocks_lower from mid [] to w h = omega arith
 blocks_lower from mid (b ∷ bs) to w h = (let v = h.0 in omega arith, h.1, h.2)
 
--- and the last may end higher
-pub blocks_higher : (from : ℕ) (bs : List FreeBlock) (to top : ℕ) → to ≤ top → AreBlocks from bs to → AreBlocks from bs top
-blocks_higher from [] to top w h = omega arith
-blocks_higher from (b ∷ bs) to top w h = (h.0, h.1, blocks_higher (b.first + b.count + 1) bs to top w h.2)
-
 -- Blocks with cells between are in order.
 pub within_blocks : (at from : ℕ) (bs : List FreeBlock) (to last : ℕ) → at ≤ from → at ≤ last → to ≤ last + 1 → AreBlocks from bs to
     → AreWithin at bs last

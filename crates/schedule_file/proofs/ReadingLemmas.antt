@@ -1,7 +1,7 @@
 -- What a text reads as, one line after another.
 use Rattle.std.proofs.Common.{◌≡◌, ℕ, ◌+◌, ◌<◌, ◌≤◌, nat_lt, Bool, true, false, cond, List, [], ◌∷◌, ◌++◌, length, Option, Some, None, refl}
 use Rattle.std.proofs.Common.{sym, ap, ◌∙◌, arith, append-nil, append_assoc, length-append}
-use Rattle.std.specs.Prelude.{is_none, unwrap_or, IfSome}
+use Rattle.std.specs.Prelude.{IfSome}
 use Rattle.std.specs.List.{flat_map}
 use Rattle.std.proofs.lemmas.Bool.{lt-ltb, le-ltb, le-leb, lt-leb}
 use Rattle.xinu_base.specs.declared.events.Event.{Event}
@@ -36,11 +36,6 @@ least_of false k (Some n) least = omega arith
 first_from-least : {X : Type 0} (p : X → Bool) (k : ℕ) (xs : List X) → IfSome (first_from k p xs) (λ n. k ≤ n)
 first_from-least p k [] = tt
 first_from-least p k (x ∷ xs) = least_of (p x) k (first_from (k + 1) p xs) (first_from-least p (k + 1) xs)
-
--- a bad line has no events
-bad_line : (o : Option (List Event)) → is_none o ≡ true → unwrap_or o [] ≡ []
-bad_line None bad = refl
-bad_line (Some events) bad = cc
 
 -- a bad line that comes first or beside another is named
 judged-bad : (k : ℕ) (many : Option ℕ) (events : List Event) → IfSome many (λ n. k ≤ n) → judged (Some k) many events ≡ Bad k

@@ -1,10 +1,9 @@
 -- The search for a free number, by the entries and by the tables.
-use Rattle.std.proofs.Common.{◌≡◌, ◌≢◌, ◌<◌, ◌≤◌, ◌-◌, inl, inr, false, ◌∙◌, ℕ, ◌+◌, Bool, true, not, cond, List, [], ◌∷◌, Option, Some, None, refl, sym, ap, ℤ, pos, negsuc, ◌≤ℤ◌, ◌<ℤ◌, arith}
+use Rattle.std.proofs.Common.{◌≡◌, ◌≢◌, ◌<◌, ◌≤◌, ◌-◌, inl, inr, false, ◌∙◌, ℕ, ◌+◌, Bool, true, not, cond, List, [], ◌∷◌, Option, Some, None, refl, sym, ap, ℤ, arith}
 use Rattle.std.specs.List.{find}
 use Rattle.std.specs.Option.{is_some}
 use Rattle.std.specs.Prelude.{IfNone, IfSome}
 use Rattle.std.proofs.lemmas.Bool.{cases_lt}
-use Rattle.std.proofs.lemmas.Int.{ints}
 use Rattle.queue_table.specs.Lists.{Entry}
 use Rattle.xinu_base.specs.declared.semaphores.Owner.{Owner}
 use Rattle.xinu_model.specs.Searches.{going_round, numbers_from, search}
@@ -43,16 +42,6 @@ pub found_free : (es : List SemaphoreEntry) (n k : ℕ) (o : Option ℕ) → o �
     → IfSome o (λ sem. (entry_at es sem).owner ≡ None)
 found_free es n k None e = tt
 found_free es n k (Some p) e = free_by_test (entry_at es p).owner (find_passes (is_free_in es) n k p (sym e))
-
--- no number is found for a count below 0
-pub number_negative : (z : ℤ) (t : Tables) → z <ℤ pos 0 → None ≡ number_for z t
-number_negative (pos n) t h = absurd (omega (arith, ints, h))
-number_negative (negsuc n) t h = refl
-
--- any other count gets the first free number
-pub number_positive : (z : ℤ) (t : Tables) → pos 0 ≤ℤ z → free_semaphore t ≡ number_for z t
-number_positive (pos n) t h = refl
-number_positive (negsuc n) t h = absurd (omega (arith, ints, h))
 
 -- if no number is found none is free
 pub none_free : (es : List SemaphoreEntry) (first : ℕ) (o : Option ℕ) → first ≤ 128
@@ -99,8 +88,3 @@ are_found first second by z t e = by_first (number_for z t) refl e
         → AreFound first second by z t
     by_first None f h = absurd (cc)
     by_first (Some a) f h = by_second a (free_semaphore (make_semaphore a by (tokens_of z) t)) f refl h
-
--- whoever gets a number has a count that isn't negative
-pub found_count : (z : ℤ) (t : Tables) (first : ℕ) → Some first ≡ number_for z t → pos 0 ≤ℤ z
-found_count (pos n) t first e = omega (arith, ints)
-found_count (negsuc n) t first e = absurd (cc)
