@@ -1,14 +1,13 @@
 -- The moves of the kernel's tables keep what holds of them at each moment of an event.
-use Rattle.std.proofs.Common.{◌≡◌, ◌≢◌, ◌<◌, ◌∙◌, ◌-◌, nat_lt, ℕ, ℤ, false, set, refl, sym, ap, subst, Option, None, Some, inl, inr}
+use Rattle.std.proofs.Common.{◌≡◌, ◌≢◌, ◌<◌, ◌∙◌, ℕ, ℤ, false, set, refl, sym, ap, subst, Option, None, Some, inl, inr}
 use Rattle.std.proofs.lemmas.Bool.{cond_both}
 use Rattle.xinu_base.specs.declared.processes.Process.{Process}
 use Rattle.xinu_base.specs.declared.processes.Rest.{Rest}
 use Rattle.xinu_base.specs.declared.processes.Rest.TheVariants.{Disk, Nothing, SelfSuspend}
 use Rattle.xinu_base.specs.declared.processes.State.{State}
 use Rattle.xinu_base.specs.declared.processes.State.TheVariants.{Free, Current, Ready, Suspended, Waiting}
-use Rattle.xinu_model.specs.Clock.{quantum_falls}
 use Rattle.xinu_model.specs.Process.Calls.{is_ready, with_priority}
-use Rattle.xinu_model.specs.Process.Scheduling.{in_state, ready, resched}
+use Rattle.xinu_model.specs.Process.Scheduling.{in_state, ready}
 use Rattle.xinu_model.specs.Sound.Tables.{CanRun, FitsMessage, HoldsFor, IsInside, IsSoundTables}
 use Rattle.xinu_model.specs.Tables.{InReady, message_at, move_to, Nowhere, Place, process_at, state_at, Tables}
 use Rattle.table_laws.specs.Moves.{FitsPlace, IsPlaceOf}
@@ -16,7 +15,7 @@ use Rattle.table_laws.proofs.Preserve.{current_within}
 use Rattle.table_laws.proofs.Tables.States.{is_ready_of}
 use Rattle.table_laws.proofs.Tables.Changes.{inside_process}
 use Rattle.table_laws.proofs.Tables.MoveTo.{inside_move, within_table}
-use Rattle.table_laws.proofs.Tables.Scheduling.{holds_at, inside_last_process, inside_quantum, inside_ready, null_rest_at, sound_resched}
+use Rattle.table_laws.proofs.Tables.Scheduling.{holds_at, inside_last_process, inside_ready, null_rest_at}
 
 -- who can run doesn't wait
 null_waits : (s : State) → CanRun s → s ≡ Waiting → ⊥
@@ -140,12 +139,6 @@ inside_goes_on t m o e =
       slot = subst (λ y. FitsMessage y Nothing m) (sym e) tt;
       if_free = λ f. absurd (cc);
     })
-
--- the quantum falls, with a resched if it is over
-pub inside_quantum_falls : (t : Tables) → IsInside t → IsInside (quantum_falls t)
-inside_quantum_falls t o =
-    cond_both (nat_lt 1 t.quantum) (record t { quantum = t.quantum - 1 }) (resched (record t { quantum = 2 })) IsInside
-    (λ _. inside_quantum t (t.quantum - 1) o) (λ _. (sound_resched (record t { quantum = 2 }) (inside_quantum t 2 o)).inside)
 
 -- the caller goes to a place that fits its new state and what is left of its call
 pub inside_blocked : (t : Tables) (state : State) (rest : Rest) (place : Place) → IsSoundTables t → t.current ≢ 0 → state ≢ Free

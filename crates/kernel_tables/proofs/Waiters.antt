@@ -54,16 +54,6 @@ inside_two (Some (first, second)) by z t o e n =
     let f = are_found first second by z t e in
     inside_made (Some second) by (pos 0) (make_semaphore first by (tokens_of z) t) (inside_made (Some first) by z t o f.one n) f.other n
 
--- no call changes then
-pub rests_two : (found : Option (ℕ × ℕ)) (by : Owner) (z : ℤ) (t : Tables) → SameRests t (with_two found by z t)
-rests_two None by z t = record { same = λ p. refl }
-rests_two (Some (first, second)) by z t = record { same = λ p. refl }
-
--- and none if one is
-pub rests_made : (found : Option ℕ) (by : Owner) (z : ℤ) (t : Tables) → SameRests t (with_made found by z t)
-rests_made None by z t = record { same = λ p. refl }
-rests_made (Some sem) by z t = record { same = λ p. refl }
-
 -- a process that moved has another rest
 pub moved_with_rest : (ls : List (List Entry)) (s : ProcessTable) (b : Beside) (t : Tables) (x : Process) (m : Option ℕ) (place : Place)
     (rest : Rest) → t.current < length t.processes
