@@ -1,5 +1,5 @@
 -- The text of a line while it grows.
-use Rattle.std.proofs.Common.{◌≡◌, ℕ, ◌+◌, ◌*◌, ◌<◌, List, [], ◌∷◌, ◌++◌, length, map, take, get_or, refl, sym, ap, ◌∙◌, append_assoc, append-nil, arith}
+use Rattle.std.proofs.Common.{◌≡◌, ℕ, ◌+◌, ◌<◌, List, [], ◌∷◌, ◌++◌, length, map, take, get_or, refl, sym, ap, ◌∙◌, append_assoc, append-nil, arith}
 use Rattle.std.proofs.lemmas.List.{map-append, take_more}
 use Rattle.host_port.specs.LineText.{blanked}
 use Rattle.xinu_base.specs.Hexadecimal.{hex_of}
@@ -31,8 +31,3 @@ one_more {A} shown text line numbers k n d within is so_far =
 pub named : (line name : List ℕ) → 0 < length name → (blanked line ++ []) ++ hex_of name ≡ blanked line ++ or_hyphen (hex_of name)
 named line [] some = absurd (omega arith)
 named line (b ∷ name) some = ap (λ (l : List ℕ). l ++ hex_of (b ∷ name)) (append-nil (blanked line))
-
--- two digits a byte
-pub length-hex_of : (bytes : List ℕ) → length (hex_of bytes) ≡ 2 * length bytes
-length-hex_of [] = refl
-length-hex_of (b ∷ bytes) = let rest = length-hex_of bytes in omega arith
