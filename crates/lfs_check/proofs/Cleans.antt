@@ -33,8 +33,8 @@ pub record FileFacts (g : Geometry) (ix : List Index) (e : Entry) : Type 0 where
   pub rows : (j : ℕ) → j < length (met_of g ix e) → row_fits g (need_data e - 16 * j) (data_row ix (slice_index (met_of g ix e) j)) ≡ true
   pub offsets : (j : ℕ) → j < length (met_of g ix e) → (row_index ix (slice_index (met_of g ix e) j)).offset ≡ 0 + 8192 * j
 
--- one list of several
-times-flat : (n : ℕ) (f : Entry → List ℕ) (es : List Entry) (j : ℕ) → j < length es → times_met n (f (get_or es j void_entry)) ≤ times_met n (flat_map f es)
+-- a number is in one of several lists no more often than in all of them together
+pub times-flat : (n : ℕ) (f : Entry → List ℕ) (es : List Entry) (j : ℕ) → j < length es → times_met n (f (get_or es j void_entry)) ≤ times_met n (flat_map f es)
 times-flat n f [] j h = absurd (omega (arith, h))
 times-flat n f (e ∷ es) zero h = (let t = times-append n (f e) (flat_map f es) in omega (arith, t))
 times-flat n f (e ∷ es) (suc j) h = (let t = times-append n (f e) (flat_map f es) in let i = times-flat n f es j (omega arith) in omega (arith, t, i))

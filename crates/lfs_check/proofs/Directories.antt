@@ -13,7 +13,7 @@ use Rattle.lfs_check.specs.Fields.{is_version_2, geometry_of, directory_entries,
 use Rattle.lfs_check.specs.Disks.{disk_geometry, entries, entry_at}
 
 -- lists that are joined at numbers, each as long as the others
-length_joined : {A : Type 0} → (f : ℕ → List A) (w n : ℕ) → ((k : ℕ) → k < n → length (f k) ≡ w) → length (joined f n) ≡ w * n
+pub length_joined : {A : Type 0} → (f : ℕ → List A) (w n : ℕ) → ((k : ℕ) → k < n → length (f k) ≡ w) → length (joined f n) ≡ w * n
 unfolding joined
 length_joined f w zero all = let e : 0 ≡ w * 0 = omega arith in e
 length_joined f w (suc n) all =
@@ -21,7 +21,7 @@ length_joined f w (suc n) all =
     let e : w * suc n ≡ w * n + w = grind arith in omega (arith, i, l, a, e)
 
 -- the list at a number is read again
-joined_at : {A : Type 0} → (f : ℕ → List A) (w n k : ℕ) (rest : List A) → ((k : ℕ) → k < n → length (f k) ≡ w) → k < n
+pub joined_at : {A : Type 0} → (f : ℕ → List A) (w n k : ℕ) (rest : List A) → ((k : ℕ) → k < n → length (f k) ≡ w) → k < n
     → take w (drop (w * k) (joined f n ++ rest)) ≡ f k
 unfolding joined
 joined_at f w zero k rest all h = absurd (omega (arith, h))
@@ -56,13 +56,13 @@ word_in_block xs = ap (λ ws. slice_index ws 0) (words_of-take 1 512 xs (omega a
 -- Entries.
 
 -- as many values are read as there are pieces
-length_pieces : {A : Type 0} → (read : List ℕ → A) (w n : ℕ) (bytes : List ℕ) → length (pieces_of read w n bytes) ≡ n
+pub length_pieces : {A : Type 0} → (read : List ℕ → A) (w n : ℕ) (bytes : List ℕ) → length (pieces_of read w n bytes) ≡ n
 unfolding pieces_of
 length_pieces read w zero bytes = refl
 length_pieces read w (suc n) bytes = let i = length_pieces read w n (drop w bytes) in omega (arith, i)
 
 -- each is read from its piece
-pieces_at : {A : Type 0} → (read : List ℕ → A) (w n : ℕ) (bytes : List ℕ) (k : ℕ) (d : A) → k < n
+pub pieces_at : {A : Type 0} → (read : List ℕ → A) (w n : ℕ) (bytes : List ℕ) (k : ℕ) (d : A) → k < n
     → get_or (pieces_of read w n bytes) k d ≡ read (drop (w * k) bytes)
 unfolding pieces_of
 pieces_at read w zero bytes k d h = absurd (omega (arith, h))
@@ -72,7 +72,7 @@ pieces_at read w (suc n) bytes (suc k) d h =
     ∙ ap (λ j. drop j bytes) (let e : w + w * k ≡ w * suc k = grind arith in e))
 
 -- a name has its whole width in the block
-name_length : (size at : ℕ) (block : List ℕ) → length block ≡ 512 → 20 + at + size ≤ 512
+pub name_length : (size at : ℕ) (block : List ℕ) → length block ≡ 512 → 20 + at + size ≤ 512
     → length (take size (drop 8 (drop at (drop 12 block)))) ≡ size
 name_length size at block l h =
     let a = length-drop 12 block in let b = length-drop at (drop 12 block) in let c = length-drop 8 (drop at (drop 12 block)) in
@@ -84,7 +84,7 @@ length_block image n b l h = let t = length-take 512 (drop (512 * b) image) in l
     omega (arith, t, d, l, h)
 
 -- what holds of each element of two lists holds of each of both
-each_append : {A : Type 0} → (P : A → Type 0) (xs ys : List A) (d : A) → ((k : ℕ) → k < length xs → P (get_or xs k d))
+pub each_append : {A : Type 0} → (P : A → Type 0) (xs ys : List A) (d : A) → ((k : ℕ) → k < length xs → P (get_or xs k d))
     → ((k : ℕ) → k < length ys → P (get_or ys k d))
     → (k : ℕ) → k < length (xs ++ ys) → P (get_or (xs ++ ys) k d)
 each_append P [] ys d p q k h = q k h

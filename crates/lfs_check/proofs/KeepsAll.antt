@@ -20,7 +20,7 @@ use Rattle.lfs_check.specs.Fields.{geometry_of, fields_of, directory_entries}
 use Rattle.lfs_check.specs.Kept.{is_none, stand_once, has_sound_fields, has_sound_walk, is_whole, whole_chains, whole_datas, is_hidden, is_kept, kept_from, kept_entries}
 use Rattle.lfs_check.proofs.Nones.{rows-none, offsets-none}
 use Rattle.lfs_check.proofs.Steps.{times-at, times-append, times_in-part, at_most_one}
-use Rattle.lfs_check.proofs.Cleans.{FileFacts, file_facts}
+use Rattle.lfs_check.proofs.Cleans.{FileFacts, file_facts, times-flat}
 use Rattle.lfs_check.proofs.Images.{image_passes, image_lies, image_names, image_sizes}
 
 -- a proof by the two values of a test
@@ -36,7 +36,7 @@ none-failing g None e = refl
 none-failing g (Some k) e = absurd (cc (e))
 
 -- a search that found none passed its first entry and found none after it
-passed : (b : Bool) (k : ℕ) (o : Option ℕ) → cond b (Some k) o ≡ None → (b ≡ false) × (o ≡ None)
+pub passed : (b : Bool) (k : ℕ) (o : Option ℕ) → cond b (Some k) o ≡ None → (b ≡ false) × (o ≡ None)
 passed true k o e = absurd (cc (e))
 passed false k o e = (refl, e)
 
@@ -61,12 +61,6 @@ once-all [] all h = refl
 once-all (x ∷ xs) all h =
     let o = h 0 (omega arith) in let t : nat_eq (times_met x all) 1 ≡ true = grind (arith, nat_tests) in
     and_from (nat_eq (times_met x all) 1) (stand_once xs all) t (once-all xs all (λ j m. h (suc j) (omega (arith, m))))
-
--- a list is met no more often than all lists together
-times-part : (n : ℕ) (f : Entry → List ℕ) (es : List Entry) (j : ℕ) → j < length es → times_met n (f (get_or es j void_entry)) ≤ times_met n (flat_map f es)
-times-part n f [] j h = absurd (omega (arith, h))
-times-part n f (e ∷ es) zero h = (let t = times-append n (f e) (flat_map f es) in omega (arith, t))
-times-part n f (e ∷ es) (suc j) h = (let t = times-append n (f e) (flat_map f es) in let i = times-part n f es j (omega arith) in omega (arith, t, i))
 
 -- those of whole entries are no more than those of all
 part-most : (g : Geometry) (ix : List Index) (n : ℕ) (f : Entry → List ℕ) (es : List Entry) → times_met n (flat_map (λ e. cond (is_whole g ix e) (f e) []) es) ≤ times_in n (map f es)
@@ -127,7 +121,7 @@ module _ (g : Geometry) (d : Shape) (c : Clear g d) where
       let all = flat_map (λ e. cond (is_whole g ix e) (f e) []) d.entries in
       once-all (f e) all (λ j m. (let n = slice_index (f e) j in let low = times-at (f e) j n m refl in
       let mine : times_met n (cond (is_whole g ix e) (f e) []) ≡ times_met n (f e) = ap (λ v. times_met n (cond v (f e) [])) (used_whole k h u) in
-      let part = times-part n (λ e. cond (is_whole g ix e) (f e) []) d.entries k h in
+      let part = times-flat n (λ e. cond (is_whole g ix e) (f e) []) d.entries k h in
       let most = part-most g ix n f d.entries in let o = one n in omega (arith, low, mine, part, most, o)))
 
   whole_used : (e : Entry) → is_whole g d.indexes e ≡ true → entry_is_used e ≡ true

@@ -23,6 +23,7 @@ use Rattle.lfs_check.proofs.Chains.{chain-Goes, chain-walk}
 use Rattle.lfs_check.proofs.Counting.{in_range, length-most}
 use Rattle.lfs_check.proofs.Cleans.{chain-times, data-times}
 use Rattle.lfs_check.proofs.RowsRead.{rows-read}
+use Rattle.lfs_check.proofs.Moved.{in_range as in-data}
 
 -- what a walk along a list of distinct numbers in range meets
 along : (links : List ℕ) (low high steps n : ℕ) (xs : List ℕ) → high ≤ null → length xs ≤ steps → IsChain (λ b. slice_index links b) n xs → ((j : ℕ) → j < length xs → (low ≤ slice_index xs j) × (slice_index xs j < high)) → ((b : ℕ) → times_met b xs ≤ 1)
@@ -32,19 +33,6 @@ along links low high steps n xs top room c range once = chain-walk links low hig
 -- a number that a partition gives to some list is in range
 in-index : (g : Geometry) (i : ℕ) → 1 ≤ cond (nat_lt i (index_count g)) 1 0 → i < index_count g
 in-index g i h = ⊎_elim (λ lt. lt) (λ ge. (let e : nat_lt i (index_count g) ≡ false = grind (arith, nat_tests) in let z : ◌≡◌ {A = ℕ} (cond (nat_lt i (index_count g)) 1 0) 0 = ap (λ c. cond c 1 0) e in absurd (omega (arith, h, z)))) (cases_lt i (index_count g))
-
--- a number that a range counts is in it
-in-data : (low high b : ℕ) → 1 ≤ cond (nat_lt b high && not (nat_lt b low)) 1 0 → (low ≤ b) × (b < high)
-in-data low high b h = (
-  ⊎_elim (λ lt. (let a : nat_lt b low ≡ true = grind (arith, nat_tests) in
-      let none : ◌≡◌ {A = ℕ} (cond (nat_lt b high && not (nat_lt b low)) 1 0) 0 = rw a (both_ways (nat_lt b high)) in absurd (omega (arith, h, none)))) (λ ge. ge) (cases_lt b low),
-  ⊎_elim (λ lt. lt) (λ ge. (let e : nat_lt b high ≡ false = grind (arith, nat_tests) in
-      let none : ◌≡◌ {A = ℕ} (cond (nat_lt b high && not (nat_lt b low)) 1 0) 0 = rw e refl in absurd (omega (arith, h, none)))) (cases_lt b high),
-)
-  where
-    both_ways : (c : Bool) → ◌≡◌ {A = ℕ} (cond (c && not true) 1 0) 0
-    both_ways true = refl
-    both_ways false = refl
 
 -- a chain by the index blocks is one by the list of their nexts
 nexts-chain : (d : Shape) (n : ℕ) (xs : List ℕ) → IsChain (λ i. (index_in d i).next) n xs → IsChain (λ i. slice_index (nexts_of d.indexes) i) n xs

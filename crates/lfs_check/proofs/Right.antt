@@ -23,11 +23,7 @@ use Rattle.lfs_check.proofs.Images.{fields_shape}
 use Rattle.lfs_check.proofs.Lies.{lies_passes}
 use Rattle.lfs_check.specs.Disks.{disk_geometry, entries, entry_at, header_on, is_this, IsRight}
 use Rattle.lfs_check.proofs.Directories.{geometry_is, entries_wide}
-
--- by cases on a test
-either-way : (b : Bool) (P : Bool → Type 0) → (b ≡ true → P true) → (b ≡ false → P false) → P b
-either-way true P t f = t refl
-either-way false P t f = f refl
+use Rattle.lfs_check.proofs.KeepsAll.{either-way}
 
 -- no entry fails a test that sees the entries before it
 failing_none : (f : List Entry → Entry → Bool) (before es : List Entry)
@@ -68,7 +64,7 @@ version_is disk n long least ends =
     ∙ ap (λ w. nat_eq w 2) (version_read disk ends)
 
 -- two tests that find nothing
-first-none : (a b : Option DiskFault) → a ≡ None → b ≡ None → either_fault a b ≡ None
+pub first-none : (a b : Option DiskFault) → a ≡ None → b ≡ None → either_fault a b ≡ None
 first-none a b p q = ap (λ x. either_fault x b) p ∙ q
 
 -- a disk that is right has version 2 and no fault

@@ -76,10 +76,6 @@ pub numbers-more : (f : Entry → List ℕ) (es : List Entry) (k : ℕ) (void_en
     → met ++ flat_map f (drop k es) ≡ (met ++ f (get_or es k void_entry)) ++ flat_map f (drop (k + 1) es)
 numbers-more f es k void_entry met h = ap (λ m. met ++ flat_map f m) (drop_more es k void_entry h) ∙ sym (append_assoc met (f (get_or es k void_entry)) (flat_map f (drop (k + 1) es)))
 
--- after all entries no number is added
-pub numbers-all : (f : Entry → List ℕ) (es : List Entry) (k : ℕ) (met : List ℕ) → length es ≤ k → met ++ flat_map f (drop k es) ≡ met
-numbers-all f es k met h = ap (λ m. met ++ flat_map f m) (drop_all k es h) ∙ append-nil met
-
 -- nothing more at the end of a list
 pub append_none : (xs : List ℕ) → xs ++ [] ≡ xs
 append_none xs = append-nil xs

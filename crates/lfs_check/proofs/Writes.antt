@@ -9,9 +9,9 @@ use Rattle.lfs_format.specs.Directory.{dir_of}
 use Rattle.lfs_format.proofs.Words.{words_of-take}
 use Rattle.lfs_check.specs.Geometries.{index_count, first_data}
 use Rattle.lfs_check.specs.Rules.{block_in}
-use Rattle.lfs_check.specs.Fields.{numbered_values, header_2, index_in_bytes, link_in_bytes}
+use Rattle.lfs_check.specs.Fields.{numbered_values, index_in_bytes, link_in_bytes}
 use Rattle.lfs_check.proofs.Numbered.{numbered-at, length_numbered}
-use Rattle.lfs_check.specs.Disks.{disk_geometry, block_put, entries, header_on}
+use Rattle.lfs_check.specs.Disks.{disk_geometry, block_put, entries}
 use Rattle.lfs_check.proofs.BlockPuts.{put_same, put_other}
 use Rattle.lfs_check.proofs.Directories.{joined_same, numbered_same, word_in_block}
 
@@ -60,12 +60,6 @@ unfolding entries
 entries_kept disk n b block l h w low =
     joined_same (λ d. (dir_of (block_in (block_put disk b block) d)).entries) (λ d. (dir_of (block_in disk d)).entries) 6
     (λ d k. ap (λ x. (dir_of x).entries) (put_other disk b n block d l h w (λ e. omega (arith, e, k, low))))
-
--- the counts stay if a later block is written
-pub header_kept : (disk : List ℕ) (n b : ℕ) (block : List ℕ) → length disk ≡ 512 * n → b < n → length block ≡ 512 → 6 ≤ b
-    → header_on (block_put disk b block) ≡ header_on disk
-unfolding header_on
-header_kept disk n b block l h w low = ap (λ x. header_2 (dir_of x)) (put_other disk b n block 0 l h w (λ e. omega (arith, e, low)))
 
 -- the links: one of them changes
 pub links_put : (disk : List ℕ) (n b : ℕ) (block : List ℕ) → length disk ≡ 512 * n → b < n → length block ≡ 512
