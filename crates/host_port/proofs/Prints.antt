@@ -1,5 +1,5 @@
 -- What several calls of a printer do to the outside, one after another.
-use Rattle.std.specs.Prelude.{ℕ, Bool, ◌≡◌, ◌+◌, ◌≤◌, ◌⊎◌, min, take, length, List, [], ◌++◌, Option, Some, None, IsSome, refl}
+use Rattle.std.specs.Prelude.{ℕ, Bool, ◌≡◌, ◌+◌, ◌≤◌, ◌⊎◌, min, take, length, List, [], ◌∷◌, ◌++◌, Option, Some, None, IsSome, refl}
 use Rattle.std.proofs.Common.{sym, ◌∙◌, ap, arith, inl, inr, append_assoc}
 use Rattle.std.proofs.lemmas.Grind.{common_steps}
 use Rattle.std.proofs.Math.Seq.{take-append-add}
@@ -50,6 +50,11 @@ either_cause a b c x y z le le' first second is =
       | inr rose ↦ inr (omega arith)
     ]
 
+-- two texts that are empty together are empty each
+both_empty : (s t : List ℕ) → s ++ t ≡ [] → (s ≡ []) × (t ≡ [])
+both_empty [] t none = (refl, none)
+both_empty (b ∷ s) t none = cc
+
 -- what is printed by two calls, one after another
 pub prints_both : (a b c : Printing) (h i j : Outside) (s t : List ℕ) → Prints a b h i s → Prints b c i j t → Prints a c h j (s ++ t)
 prints_both a b c h i j s t first second = record {
@@ -58,6 +63,10 @@ prints_both a b c h i j s t first second = record {
   part = part_of_both b h i j s t b.failure refl (λ none. (first.whole none).1) first.part second.part (λ some. (second.stays some).1);
   stays = λ some. let before = first.stays some in
       let after = second.stays (let e : b ≡ a = before.0 in rw e some) in
+      (after.0 ∙ before.0, after.1 ∙ before.1);
+  nothing = λ none. let empty = both_empty s t none in
+      let before = first.nothing empty.0 in
+      let after = second.nothing empty.1 in
       (after.0 ∙ before.0, after.1 ∙ before.1);
   later = omega (arith, first.later, second.later);
   cause = either_cause a.failure b.failure c.failure h.faults i.faults j.faults first.later second.later first.cause second.cause;
@@ -75,6 +84,7 @@ prints_nothing a h = record {
   whole = λ none. (none, emitted_nothing h);
   part = (0, emitted_nothing h);
   stays = λ some. (refl, refl);
+  nothing = λ none. (refl, refl);
   later = omega arith;
   cause = λ is. inl is;
 }

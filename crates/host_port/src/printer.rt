@@ -65,11 +65,11 @@ impl Printer {
         self.refused
     }
 
-    // Sends bytes, unless a call was refused before.
+    // Sends bytes, if there are any, unless a call was refused before.
     fn send<H: Host>(&mut self, host: &mut H, bytes: &[u8])
         ensures prints { Prints self.old self.new (H.view host.old) (H.view host.new) bytes.now }
     {
-        if self.refused.is_none() {
+        if self.refused.is_none() && !bytes.is_empty() {
             if let Err(fault) = host.emit(Channel::Out, bytes) {
                 self.refused = Some(fault);
             }

@@ -1,5 +1,5 @@
 -- A command that is carried out: refused before anything was sent, stage by stage, and by a printed run.
-use Rattle.std.proofs.Common.{◌≡◌, ◌≤◌, Bool, false, ℕ, List, [], take, Option, Some, None, refl, sym, ap, subst, ◌∙◌, arith, inl}
+use Rattle.std.proofs.Common.{◌≡◌, ◌≤◌, Bool, false, ℕ, List, [], take, Option, Some, None, refl, sym, ap, subst, ◌∙◌, arith, inl, inr}
 use Rattle.host_port.specs.HostCalls.{Rose}
 use Rattle.host_port.specs.Outside.{Outside, grown}
 use Rattle.host_port.proofs.Prints.{grown-nil}
@@ -8,7 +8,7 @@ use Rattle.soak.proofs.SomeTest.{some_test}
 use Rattle.transcript_laws.specs.Transcripts.{transcript}
 use Rattle.xinu_model.specs.Text.{shown}
 use Rattle.xinu_model.proofs.Runs.{some_run}
-use Rattle.xinu_commands.specs.Theorem.{Carries, Deserved, IsPart, IsPartSent, IsSent, IsUnsent, IsWhole, Sends}
+use Rattle.xinu_commands.specs.Theorem.{Carries, Deserved, HasNoFile, IsPart, IsPartSent, IsSent, IsUnsent, IsWhole, Sends}
 use Rattle.xinu_commands.specs.Work.{Does, Judges, Left, Output, Outputs, Refuses, Runs, Soaking, Verdict, judgement, only_printed, output_of, run_output}
 use Rattle.xinu_commands.specs.declared.refusals.Refusal.{Refusal}
 use Rattle.xinu_commands.specs.declared.refusals.Refusal.TheVariants as refusal
@@ -24,9 +24,11 @@ part_unsent (Some bytes) old new same = inl same
 pub nothing_sent : (output : Output) (h k : Outside) → IsUnsent h k → IsPartSent output h k
 nothing_sent output h k unsent = record {
   out = (0, unsent.out ∙ sym (grown-nil h.out));
-  disk0 = part_unsent output.disk0 h.disk0 k.disk0 unsent.disk0;
-  disk1 = part_unsent output.disk1 h.disk1 k.disk1 unsent.disk1;
-  image = part_unsent output.image h.image k.image unsent.image;
+  disk0 = part_unsent output.disk0 h.disk0 k.disk0 unsent.files.disk0;
+  disk1 = part_unsent output.disk1 h.disk1 k.disk1 unsent.files.disk1;
+  image = part_unsent output.image h.image k.image unsent.files.image;
+  text_first = inr unsent.files;
+  raw_first = inr unsent.files.disk1;
 }
 
 -- A command that is refused before anything was sent is carried out whatever its verdict is, since there is a run through all events, and a soak
@@ -86,15 +88,18 @@ carries_nothing (Does (Outputs out disk1 file)) cause h k deserved unsent = reco
 
 -- nothing changed on a channel
 pub unsent_refl : (h : Outside) → IsUnsent h h
-unsent_refl h = record { out = refl; disk0 = refl; disk1 = refl; image = refl }
+unsent_refl h = record { out = refl; files = record { disk0 = refl; disk1 = refl; image = refl; names = refl } }
 
-pub unsent_both : (h i k : Outside) → IsUnsent h i → IsUnsent i k → IsUnsent h k
-unsent_both h i k first second = record {
-  out = second.out ∙ first.out;
+no_file_both : (h i k : Outside) → HasNoFile h i → HasNoFile i k → HasNoFile h k
+no_file_both h i k first second = record {
   disk0 = second.disk0 ∙ first.disk0;
   disk1 = second.disk1 ∙ first.disk1;
   image = second.image ∙ first.image;
+  names = second.names ∙ first.names;
 }
+
+pub unsent_both : (h i k : Outside) → IsUnsent h i → IsUnsent i k → IsUnsent h k
+unsent_both h i k first second = record { out = second.out ∙ first.out; files = no_file_both h i k first.files second.files }
 
 -- ---- from one stage to the next
 
@@ -127,17 +132,25 @@ part_within bytes h i j k before after part =
 sent_within : (output : Output) (h i j k : Outside) → IsUnsent h i → IsUnsent j k → IsSent output i j → IsSent output h k
 sent_within output h i j k before after sent = record {
   out = after.out ∙ sent.out ∙ ap (λ (o : Option (List ℕ)). grown o output.out) before.out;
-  disk0 = whole_within output.disk0 h.disk0 i.disk0 j.disk0 k.disk0 before.disk0 after.disk0 sent.disk0;
-  disk1 = whole_within output.disk1 h.disk1 i.disk1 j.disk1 k.disk1 before.disk1 after.disk1 sent.disk1;
-  image = whole_within output.image h.image i.image j.image k.image before.image after.image sent.image;
+  disk0 = whole_within output.disk0 h.disk0 i.disk0 j.disk0 k.disk0 before.files.disk0 after.files.disk0 sent.disk0;
+  disk1 = whole_within output.disk1 h.disk1 i.disk1 j.disk1 k.disk1 before.files.disk1 after.files.disk1 sent.disk1;
+  image = whole_within output.image h.image i.image j.image k.image before.files.image after.files.image sent.image;
 }
 
 part_sent_within : (output : Output) (h i j k : Outside) → IsUnsent h i → IsUnsent j k → IsPartSent output i j → IsPartSent output h k
 part_sent_within output h i j k before after sent = record {
   out = (sent.out.0, after.out ∙ sent.out.1 ∙ ap (λ (o : Option (List ℕ)). grown o (take sent.out.0 output.out)) before.out);
-  disk0 = part_within output.disk0 h.disk0 i.disk0 j.disk0 k.disk0 before.disk0 after.disk0 sent.disk0;
-  disk1 = part_within output.disk1 h.disk1 i.disk1 j.disk1 k.disk1 before.disk1 after.disk1 sent.disk1;
-  image = part_within output.image h.image i.image j.image k.image before.image after.image sent.image;
+  disk0 = part_within output.disk0 h.disk0 i.disk0 j.disk0 k.disk0 before.files.disk0 after.files.disk0 sent.disk0;
+  disk1 = part_within output.disk1 h.disk1 i.disk1 j.disk1 k.disk1 before.files.disk1 after.files.disk1 sent.disk1;
+  image = part_within output.image h.image i.image j.image k.image before.files.image after.files.image sent.image;
+  text_first = elim sent.text_first [
+    | inl whole ↦ inl (after.out ∙ whole ∙ ap (λ (o : Option (List ℕ)). grown o output.out) before.out)
+    | inr none ↦ inr (no_file_both h i k before.files (no_file_both i j k none after.files))
+  ];
+  raw_first = elim sent.raw_first [
+    | inl whole ↦ inl (whole_within output.disk0 h.disk0 i.disk0 j.disk0 k.disk0 before.files.disk0 after.files.disk0 whole)
+    | inr none ↦ inr (after.files.disk1 ∙ none ∙ before.files.disk1)
+  ];
 }
 
 sends_within : (v : Verdict) (output : Output) (ended : Option Refusal) (left : Option Left) (h i j k : Outside) → IsUnsent h i

@@ -22,13 +22,13 @@ keeps h k calls is later = record { file = ap (λ (x : Outside). x.file) is; fau
 -- a file that was fetched
 pub fetched : (name : List ℕ) (h k : Outside) → k ≡ counted (with_calls h (fetching name ∷ [])) k.faults → h.faults ≤ k.faults → Fetches name None h k
 fetched name h k is later = record {
-  unsent = fetched_unsent h k (fetching name ∷ []) k.faults is;
+  unsent = fetched_unsent h k name 1 k.faults is;
   cause = tt;
   calls = record {
     count = 1;
     first = ap (λ (x : Outside). x.calls) is;
     all = λ decided. ap (λ (x : Outside). x.calls) is;
-    unsent = λ few. fetched_unsent h k (fetching name ∷ []) k.faults is;
+    unsent = λ few. fetched_unsent h k name 1 k.faults is;
   };
   keeps = keeps h k (fetching name ∷ []) is later;
 }
@@ -38,7 +38,7 @@ pub unfetched : (name : List ℕ) (f : HostFault) (r : Refusal) (n : ℕ) (h k :
     → (f ≡ host.Failed → Rose h.faults k.faults) → h.faults ≤ k.faults → Fetches name (Some r) h k
 unfetched name f r n h k is_r is rose later =
     let P : Refusal → Type 0 = λ x. Fetches name (Some x) h k in
-    let unsent = fetched_unsent h k (take n (fetching name ∷ [])) k.faults is in
+    let unsent = fetched_unsent h k name n k.faults is in
     let cause = host_cause (Some f) h k (λ same. rose (cc)) in
     subst P (sym is_r) (record {
       unsent = unsent;

@@ -27,6 +27,7 @@ prints_failed b h t failed = record {
   whole = λ none. absurd (some_is_none b.failure failed none);
   part = (0, emitted_nothing h);
   stays = λ some. (refl, refl);
+  nothing = λ none. (refl, refl);
   later = omega arith;
   cause = λ is. inl is;
 }

@@ -57,7 +57,7 @@ disks_of_run wanted last disk1 =
     disks_output (if wanted.out0 then Some (raw_bytes last) else None) (if wanted.out1 then disk1 else None)
 
 run_apart : (text : List ℕ) (wanted : Wanted) (last : Xinu) (disk1 : Option (List ℕ)) → AreApart (text_of_run text) (disks_of_run wanted last disk1)
-run_apart text wanted last disk1 = record { no_text = refl; disk0 = tt; disk1 = tt; image = tt }
+run_apart text wanted last disk1 = record { no_text = refl; no_disk = refl; disk0 = tt; disk1 = tt; image = tt }
 
 -- A transcript that wasn't sent whole ends the run before its disks.
 pub transcript_ended : (d : DiskFiles) (plain : Bool) (v : Verdict) (start : Xinu) (events : List Event) (new : Xinu) (r : Refusal) (h k : Outside)
@@ -115,10 +115,10 @@ abbrev one_disk : Channel → Option Text → List ℕ → Output
 one_disk c name bytes = if is_some name then output_on c bytes else disks_output None None
 
 raw_apart : (raw clean : Option Text) (disk0 disk1 : List ℕ) → AreApart (one_disk Disk0 raw disk0) (one_disk Disk1 clean disk1)
-raw_apart None None disk0 disk1 = record { no_text = refl; disk0 = tt; disk1 = tt; image = tt }
-raw_apart None (Some d) disk0 disk1 = record { no_text = refl; disk0 = tt; disk1 = tt; image = tt }
-raw_apart (Some c) None disk0 disk1 = record { no_text = refl; disk0 = tt; disk1 = tt; image = tt }
-raw_apart (Some c) (Some d) disk0 disk1 = record { no_text = refl; disk0 = tt; disk1 = tt; image = tt }
+raw_apart None None disk0 disk1 = record { no_text = refl; no_disk = refl; disk0 = tt; disk1 = tt; image = tt }
+raw_apart None (Some d) disk0 disk1 = record { no_text = refl; no_disk = refl; disk0 = tt; disk1 = tt; image = tt }
+raw_apart (Some c) None disk0 disk1 = record { no_text = refl; no_disk = refl; disk0 = tt; disk1 = tt; image = tt }
+raw_apart (Some c) (Some d) disk0 disk1 = record { no_text = refl; no_disk = refl; disk0 = tt; disk1 = tt; image = tt }
 
 -- both disks together
 both_are : (raw clean : Option Text) (disk0 disk1 : List ℕ) → joined (one_disk Disk0 raw disk0) (one_disk Disk1 clean disk1)

@@ -13,12 +13,12 @@ use Rattle.host_port.specs.Printing.{Printing, Prints}
 use Rattle.host_port.proofs.Prints.{grown-grown, grown-nil}
 use Rattle.xinu_commands.specs.Conversions.{host_refusal}
 use Rattle.xinu_commands.specs.Stages.{IsHostCause, SendsOutput, output_on, outputs_due}
-use Rattle.xinu_commands.specs.Theorem.{HasCalled, IsDecided, IsPart, IsPartSent, IsSent, IsWhole}
+use Rattle.xinu_commands.specs.Theorem.{HasCalled, IsDecided, IsPart, IsPartSent, IsSent, IsWhole, namings}
 use Rattle.xinu_commands.specs.Work.{Output, output_of}
 use Rattle.xinu_commands.specs.declared.refusals.Refusal.{Refusal}
 use Rattle.xinu_commands.specs.declared.refusals.Refusal.TheVariants as refusal
 use Rattle.xinu_commands.proofs.Called.{keeps_both, undecided}
-use Rattle.xinu_commands.proofs.Carried.{fresh, nothing_sent, part_within, whole_within}
+use Rattle.xinu_commands.proofs.Carried.{fresh, part_within, whole_within}
 
 -- why a host ended an action
 pub host_cause : (f : Option HostFault) (h k : Outside) → (f ≡ Some host.Failed → Rose h.faults k.faults) → IsHostCause (option_map host_refusal f) h k
@@ -54,37 +54,52 @@ no_failure None is = refl
 no_failure (Some host.Failed) is = absurd (cc)
 no_failure (Some host.NoMemory) is = absurd (cc)
 
+-- text that was sent up to a failure, if there was one
+pub text_sent_by : (text : List ℕ) (failure : Option HostFault) (ended : Option Refusal) (h k : Outside)
+    → (failure ≡ None → k ≡ counted (appended h Out text) k.faults) → ((n : ℕ) × (k ≡ counted (appended h Out (take n text)) k.faults))
+    → (failure ≡ Some host.Failed → Rose h.faults k.faults) → h.faults ≤ k.faults → ended ≡ option_map host_refusal failure
+    → SendsOutput (output_of text None None) [] ended h k
+text_sent_by text failure ended h k whole part rose later is =
+    let P : Option Refusal → Type 0 = λ x. SendsOutput (output_of text None None) [] x h k in
+    subst P (sym is) (record {
+      part = record {
+        out = (part.0, ap (λ (x : Outside). x.out) part.1);
+        disk0 = ap (λ (x : Outside). x.disk0) part.1;
+        disk1 = ap (λ (x : Outside). x.disk1) part.1;
+        image = ap (λ (x : Outside). x.image) part.1;
+        text_first = inr (record {
+          disk0 = ap (λ (x : Outside). x.disk0) part.1;
+          disk1 = ap (λ (x : Outside). x.disk1) part.1;
+          image = ap (λ (x : Outside). x.image) part.1;
+          names = ap namings part.1;
+        });
+        raw_first = inr (ap (λ (x : Outside). x.disk1) part.1);
+      };
+      whole = λ none. record {
+        out = ap (λ (x : Outside). x.out) (whole (no_failure failure none));
+        disk0 = ap (λ (x : Outside). x.disk0) part.1;
+        disk1 = ap (λ (x : Outside). x.disk1) part.1;
+        image = ap (λ (x : Outside). x.image) part.1;
+      };
+      cause = cause;
+      calls = outputs_called 0 [] (option_map host_refusal failure) h k cause same_calls (λ none. same_calls);
+      keeps = record { file = ap (λ (x : Outside). x.file) part.1; fault = ap (λ (x : Outside). x.fault) part.1; later = later };
+    })
+  where
+    same_calls : k.calls ≡ grown h.calls []
+    same_calls = ap (λ (x : Outside). x.calls) part.1 ∙ sym (grown-nil h.calls)
+
+    cause : IsHostCause (option_map host_refusal failure) h k
+    cause = host_cause failure h k rose
+
 -- text that was printed
 pub text_sent : (text : List ℕ) (a e : Printing) (ended : Option Refusal) (h k : Outside) → a.failure ≡ None → Prints a e h k text → ended ≡ option_map host_refusal e.failure
     → SendsOutput (output_of text None None) [] ended h k
 text_sent text a e ended h k is_fresh p is =
-    let P : Option Refusal → Type 0 = λ x. SendsOutput (output_of text None None) [] x h k in
-    subst P (sym is) (record {
-      part = record {
-        out = (p.part.0, ap (λ (x : Outside). x.out) p.part.1);
-        disk0 = ap (λ (x : Outside). x.disk0) p.part.1;
-        disk1 = ap (λ (x : Outside). x.disk1) p.part.1;
-        image = ap (λ (x : Outside). x.image) p.part.1;
-      };
-      whole = λ none. record {
-        out = ap (λ (x : Outside). x.out) (p.whole (no_failure e.failure none)).1;
-        disk0 = ap (λ (x : Outside). x.disk0) p.part.1;
-        disk1 = ap (λ (x : Outside). x.disk1) p.part.1;
-        image = ap (λ (x : Outside). x.image) p.part.1;
-      };
-      cause = cause;
-      calls = outputs_called 0 [] (option_map host_refusal e.failure) h k cause same_calls (λ none. same_calls);
-      keeps = record { file = ap (λ (x : Outside). x.file) p.part.1; fault = ap (λ (x : Outside). x.fault) p.part.1; later = p.later };
-    })
-  where
-    same_calls : k.calls ≡ grown h.calls []
-    same_calls = ap (λ (x : Outside). x.calls) p.part.1 ∙ sym (grown-nil h.calls)
-
-    cause : IsHostCause (option_map host_refusal e.failure) h k
-    cause = host_cause e.failure h k (λ failed. elim (p.cause failed) [
+    text_sent_by text e.failure ended h k (λ none. (p.whole none).1) p.part (λ failed. elim (p.cause failed) [
       | inl had ↦ absurd (cc)
       | inr rose ↦ rose
-    ])
+    ]) p.later is
 
 -- a printer that isn't plain prints the whole line
 pub line_printed : (a e : Printing) (h k : Outside) (text : List ℕ) → a ≡ fresh → Prints a e h k (if a.plain then [] else text) → Prints a e h k text
@@ -123,19 +138,33 @@ module _ (calls : List HostCall) (bytes : List ℕ) (h k : Outside) (m : ℕ) wh
     disk0 = inr (n, ap (λ (x : Outside). x.disk0) is);
     disk1 = ap (λ (x : Outside). x.disk1) is;
     image = ap (λ (x : Outside). x.image) is;
+    text_first = inl (out_whole (ap (λ (x : Outside). x.out) is));
+    raw_first = inr (ap (λ (x : Outside). x.disk1) is);
   }
   part_of c on_disk1 n is = record {
     out = out_part (ap (λ (x : Outside). x.out) is);
     disk0 = ap (λ (x : Outside). x.disk0) is;
     disk1 = inr (n, ap (λ (x : Outside). x.disk1) is);
     image = ap (λ (x : Outside). x.image) is;
+    text_first = inl (out_whole (ap (λ (x : Outside). x.out) is));
+    raw_first = inl (ap (λ (x : Outside). x.disk0) is);
   }
   part_of c on_image n is = record {
     out = out_part (ap (λ (x : Outside). x.out) is);
     disk0 = ap (λ (x : Outside). x.disk0) is;
     disk1 = ap (λ (x : Outside). x.disk1) is;
     image = inr (n, ap (λ (x : Outside). x.image) is);
+    text_first = inl (out_whole (ap (λ (x : Outside). x.out) is));
+    raw_first = inl (ap (λ (x : Outside). x.disk0) is);
   }
+
+  none_of : (c : Channel) → HasFile c → k.out ≡ h.out → k.disk0 ≡ h.disk0 → k.disk1 ≡ h.disk1 → k.image ≡ h.image → IsPartSent (output_on c bytes) h k
+  none_of c on_disk0 out disk0 disk1 image =
+      record { out = out_part out; disk0 = inl disk0; disk1 = disk1; image = image; text_first = inl (out_whole out); raw_first = inr disk1 }
+  none_of c on_disk1 out disk0 disk1 image =
+      record { out = out_part out; disk0 = disk0; disk1 = inl disk1; image = image; text_first = inl (out_whole out); raw_first = inr disk1 }
+  none_of c on_image out disk0 disk1 image =
+      record { out = out_part out; disk0 = disk0; disk1 = disk1; image = inl image; text_first = inl (out_whole out); raw_first = inr disk1 }
 
   whole_of : (c : Channel) → HasFile c → k ≡ written h c calls bytes m → IsSent (output_on c bytes) h k
   whole_of c on_disk0 is = record {
@@ -220,12 +249,8 @@ module _ (c : Channel) (f : HasFile c) (call : HostCall) (bytes : List ℕ) wher
         };
       }
   unnamed_by false r n h k is cause later = record {
-    part = nothing_sent (output_on c bytes) h k (record {
-      out = ap (λ (x : Outside). x.out) is;
-      disk0 = ap (λ (x : Outside). x.disk0) is;
-      disk1 = ap (λ (x : Outside). x.disk1) is;
-      image = ap (λ (x : Outside). x.image) is;
-    });
+    part = none_of (take n (call ∷ [])) bytes h k k.faults c f (ap (λ (x : Outside). x.out) is) (ap (λ (x : Outside). x.disk0) is)
+        (ap (λ (x : Outside). x.disk1) is) (ap (λ (x : Outside). x.image) is);
     whole = λ none. absurd (cc);
     cause = cause;
     calls = outputs_called n (call ∷ []) (Some r) h k cause (ap (λ (x : Outside). x.calls) is) (λ none. absurd (cc));
@@ -276,9 +301,10 @@ HasOne None y = Unit {0}
 HasOne (Some x) None = Unit {0}
 HasOne (Some x) (Some y) = ⊥
 
--- two outputs without a file for the same channel, of which the second has no text
+-- two outputs without a file for the same channel, of which the second has no text and the first no disk with files
 pub record AreApart (x y : Output) : Type 0 where
   pub no_text : y.out ≡ []
+  pub no_disk : x.disk1 ≡ None
   pub disk0 : HasOne x.disk0 y.disk0
   pub disk1 : HasOne x.disk1 y.disk1
   pub image : HasOne x.image y.image
@@ -312,6 +338,13 @@ part_before None None h i one part = part
 part_before None (Some y) h i one part = inl part
 part_before (Some x) y h i one part = part
 
+-- a channel without a file stayed as it was
+none_whole : (bytes h i : Option (List ℕ)) → bytes ≡ None → IsWhole bytes h i → i ≡ h
+none_whole bytes h i none whole = (let P : Option (List ℕ) → Type 0 = λ b. IsWhole b h i in subst P none whole)
+
+none_part : (bytes h i : Option (List ℕ)) → bytes ≡ None → IsPart bytes h i → i ≡ h
+none_part bytes h i none part = (let P : Option (List ℕ) → Type 0 = λ b. IsPart b h i in subst P none part)
+
 module _ (x y : Output) (first_calls second_calls : List HostCall) (apart : AreApart x y) where
   -- the first was sent, and then the second up to its end
   pub both_sent : (ended : Option Refusal) (h i k : Outside) → SendsOutput x first_calls None h i → SendsOutput y second_calls ended i k
@@ -319,16 +352,19 @@ module _ (x y : Output) (first_calls second_calls : List HostCall) (apart : AreA
   both_sent ended h i k first second =
       let before = first.whole refl in
       let made = first.calls.all tt in
-      let cause = cause_within ended h i k first.keeps.later second.cause in record {
+      let cause = cause_within ended h i k first.keeps.later second.cause in
+      let text : k.out ≡ grown h.out x.out =
+      second.part.out.1 ∙ ap (λ t. grown i.out (take second.part.out.0 t)) apart.no_text ∙ nothing_more second.part.out.0 i.out ∙ before.out in record {
         part = record {
-          out = (
-            length x.out,
-            second.part.out.1 ∙ ap (λ t. grown i.out (take second.part.out.0 t)) apart.no_text ∙ nothing_more second.part.out.0 i.out
-                ∙ before.out ∙ ap (grown h.out) (sym (take_all (length x.out) x.out (omega arith))),
-          );
+          out = (length x.out, text ∙ ap (grown h.out) (sym (take_all (length x.out) x.out (omega arith))));
           disk0 = part_after x.disk0 y.disk0 h.disk0 i.disk0 k.disk0 apart.disk0 before.disk0 second.part.disk0;
           disk1 = part_after x.disk1 y.disk1 h.disk1 i.disk1 k.disk1 apart.disk1 before.disk1 second.part.disk1;
           image = part_after x.image y.image h.image i.image k.image apart.image before.image second.part.image;
+          text_first = inl text;
+          raw_first = elim second.part.raw_first [
+            | inl whole ↦ inl (whole_after x.disk0 y.disk0 h.disk0 i.disk0 k.disk0 apart.disk0 before.disk0 whole)
+            | inr none ↦ inr (none ∙ none_whole x.disk1 h.disk1 i.disk1 apart.no_disk before.disk1)
+          ];
         };
         whole = λ none. let after = second.whole none in record {
           out = after.out ∙ ap (grown i.out) apart.no_text ∙ grown-nil i.out ∙ before.out;
@@ -358,6 +394,8 @@ module _ (x y : Output) (first_calls second_calls : List HostCall) (apart : AreA
           disk0 = part_before x.disk0 y.disk0 h.disk0 i.disk0 apart.disk0 first.part.disk0;
           disk1 = part_before x.disk1 y.disk1 h.disk1 i.disk1 apart.disk1 first.part.disk1;
           image = part_before x.image y.image h.image i.image apart.image first.part.image;
+          text_first = first.part.text_first;
+          raw_first = inr (none_part x.disk1 h.disk1 i.disk1 apart.no_disk first.part.disk1);
         };
         whole = λ none. absurd (cc);
         cause = first.cause;

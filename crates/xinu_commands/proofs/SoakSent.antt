@@ -7,7 +7,6 @@ use Rattle.host_port.specs.declared.host.HostFault.{HostFault}
 use Rattle.host_port.specs.declared.host.HostFault.TheVariants.{Failed}
 use Rattle.host_port.specs.HostCalls.{Rose}
 use Rattle.host_port.specs.Outside.{Outside, appended, counted}
-use Rattle.host_port.specs.Printing.{Printing}
 use Rattle.kernel_boot.specs.declared.initialize.BootFault.{BootFault}
 use Rattle.kernel_boot.specs.declared.initialize.BootFault.TheVariants as boot_fault
 use Rattle.lfs_layout.specs.Images.{opened}
@@ -21,10 +20,8 @@ use Rattle.xinu_commands.specs.Stages.{IsDiskCause, Performs, SendsOutput, Stage
 use Rattle.xinu_commands.specs.Work.{Left, Soaking, output_of}
 use Rattle.xinu_commands.specs.declared.refusals.Refusal.{Refusal}
 use Rattle.xinu_commands.specs.declared.refusals.Refusal.TheVariants as refusal
-use Rattle.xinu_commands.proofs.Carried.{fresh}
-use Rattle.xinu_commands.proofs.Printed.{some_is_none}
 use Rattle.xinu_commands.proofs.InputDisks.{refused_disk}
-use Rattle.xinu_commands.proofs.Sent.{text_sent}
+use Rattle.xinu_commands.proofs.Sent.{text_sent_by}
 use Rattle.xinu_commands.proofs.SoakVerdicts.{clean_refuses, raw_refuses, starts_as}
 use Rattle.xinu_commands.proofs.Staged.{refused_last, work_stage}
 
@@ -33,29 +30,13 @@ use Rattle.xinu_commands.proofs.Staged.{refused_last, work_stage}
 -- all of it
 pub text_emitted : (text : List ℕ) (n : ℕ) (h k : Outside) → k ≡ counted (appended h Out text) k.faults → k ≡ counted (appended h Out (take n text)) k.faults
     → h.faults ≤ k.faults → SendsOutput (output_of text None None) [] None h k
-text_emitted text n h k whole part later =
-    text_sent text fresh fresh None h k refl (record {
-      mode = refl;
-      whole = λ none. (refl, whole);
-      part = (n, part);
-      stays = λ some. absurd (some_is_none fresh.failure some refl);
-      later = later;
-      cause = λ is. absurd (cc);
-    }) refl
+text_emitted text n h k whole part later = text_sent_by text None None h k (λ none. whole) (n, part) (λ is. absurd (cc)) later refl
 
 -- a part of it
 pub text_refused : (text : List ℕ) (n : ℕ) (f : HostFault) (r : Refusal) (h k : Outside) → r ≡ host_refusal f → k ≡ counted (appended h Out (take n text)) k.faults
     → (f ≡ Failed → Rose h.faults k.faults) → h.faults ≤ k.faults → SendsOutput (output_of text None None) [] (Some r) h k
 text_refused text n f r h k is part cause later =
-    let e : Printing = record { plain = false; failure = Some f } in
-    text_sent text fresh e (Some r) h k refl (record {
-      mode = refl;
-      whole = λ none. absurd (cc);
-      part = (n, part);
-      stays = λ some. absurd (some_is_none fresh.failure some refl);
-      later = later;
-      cause = λ failed. inr (cause (cc));
-    }) (ap Some is)
+    text_sent_by text (Some f) (Some r) h k (λ none. absurd (cc)) (n, part) (λ failed. cause (cc)) later (ap Some is)
 
 -- ---- the stages
 

@@ -1,7 +1,7 @@
 -- Why the exit statuses mean what they do.
 use Rattle.std.proofs.lemmas.Bool.{cases_eq}
 use Rattle.std.specs.List.{list_any}
-use Rattle.std.proofs.Common.{◌⊎◌, inl, inr, ◌==◌, IsTrue, ◌≡◌, ◌≢◌, ◌↔◌, ℕ, Bool, true, false, nat_le, if◌then◌else◌, List, length, Option, Some, None, IsSome, refl, sym, ap, ap₂, subst, ◌∙◌}
+use Rattle.std.proofs.Common.{◌⊎◌, inl, inr, ◌==◌, IsTrue, ◌≡◌, ◌≢◌, ◌≤◌, ◌↔◌, ℕ, Bool, true, false, nat_le, if◌then◌else◌, List, length, Option, Some, None, IsSome, refl, sym, ap, ap₂, subst, ◌∙◌, arith}
 use Rattle.std.specs.Prelude.{option_map}
 use Rattle.std.specs.Option.{option_or}
 use Rattle.command_line.specs.Commands.{Command, Run, Asm, Soak, Check, Disk}
@@ -20,7 +20,7 @@ use Rattle.xinu_commands.specs.Calls.{calls_due, calls_in}
 use Rattle.xinu_commands.specs.DiskVerdict.{disk_fault, rule_broken}
 use Rattle.xinu_commands.specs.InputFaults.{fault_line, have_fault, images_loaded, longest_schedule, schedule_fault}
 use Rattle.xinu_commands.specs.Statuses.{AreAccepted, SaysOfFiles, disks_fault, start_with, status_due, statuses}
-use Rattle.xinu_commands.specs.Theorem.{Answers, Carries, IsDecided, IsStatus}
+use Rattle.xinu_commands.specs.Theorem.{Answers, Carries, IsDecided, Tells}
 use Rattle.xinu_commands.specs.Refusals.{status_of}
 use Rattle.xinu_commands.specs.InputVerdict.{Next, disk0_verdict, disk1_verdict, empty_disk0, empty_disk1, images_verdict, inputs_verdict, raw_broken, raw_fault}
 use Rattle.xinu_commands.specs.RunVerdict.{run_verdict, start_verdict}
@@ -37,6 +37,29 @@ use Rattle.xinu_commands.proofs.Printed.{some_is_none}
 use Rattle.xinu_commands.proofs.InputDisks.{clean_read, clean_refused, raw_read, raw_refused}
 use Rattle.xinu_commands.proofs.SoakVerdicts.{soak_keeps}
 use Rattle.xinu_commands.proofs.Staged.{action_keeps}
+
+-- ---- what the top call tells
+
+-- the status that is told, unless memory runs out while the text of a refusal is sent
+abbrev IsStatus : Option Refusal → Output → ℕ → Type 0
+IsStatus None output exit = exit ≡ output.status
+IsStatus (Some cause) output exit = exit ≢ 7 → exit ≡ status_of cause
+
+status_told : (ended : Option Refusal) (output : Output) (exit : ℕ) (mid new : Outside) → Tells ended output exit mid new → IsStatus ended output exit
+status_told None output exit mid new tells = tells.0
+status_told (Some cause) output exit mid new tells = tells.answer
+
+-- the count of faults doesn't fall meanwhile
+later_told : (ended : Option Refusal) (output : Output) (exit : ℕ) (mid new : Outside) → Tells ended output exit mid new → mid.faults ≤ new.faults
+later_told None output exit mid new tells = (let same : new.faults ≡ mid.faults = ap (λ (x : Outside). x.faults) tells.1 in omega arith)
+later_told (Some cause) output exit mid new tells = tells.later
+
+module _ (exit : ℕ) (command : Option Command) (old new : Outside) (left : Option Left) (a : Answers exit command old new left) where
+  status_of_answer : IsStatus a.ended a.obeys.carries.output exit
+  status_of_answer = status_told a.ended a.obeys.carries.output exit a.mid new a.tells
+
+  rose_later : Rose old.faults a.mid.faults → Rose old.faults new.faults
+  rose_later rose = (let later = later_told a.ended a.obeys.carries.output exit a.mid new a.tells in omega arith)
 
 -- ---- which statuses there are
 
@@ -74,7 +97,7 @@ pub listed : (exit : ℕ) (command : Option Command) (old new : Outside) (left :
 listed exit command old new left a =
     elim (cases_eq exit 7) [
       | inl seven ↦ rw seven refl
-      | inr other ↦ listed_by (verdict command old.file a.obeys.unseen) a.ended left exit old new a.obeys.carries a.status other
+      | inr other ↦ listed_by (verdict command old.file a.obeys.unseen) a.ended left exit old a.mid a.obeys.carries (status_of_answer exit command old new left a) other
     ]
 
 -- ---- the status is the verdict's
@@ -88,7 +111,7 @@ carried_due v (Some other) left exit h k c status memory fault = status memory �
 
 pub due : (exit : ℕ) (command : Option Command) (old new : Outside) (left : Option Left) (a : Answers exit command old new left)
     → exit ≢ 7 → exit ≢ 3 → exit ≡ status_due (verdict command old.file a.obeys.unseen)
-due exit command old new left a = carried_due (verdict command old.file a.obeys.unseen) a.ended left exit old new a.obeys.carries a.status
+due exit command old new left a = carried_due (verdict command old.file a.obeys.unseen) a.ended left exit old a.mid a.obeys.carries (status_of_answer exit command old new left a)
 
 -- an end with another status than 3 and 7 was decided by the verdict
 decided_by : (ended : Option Refusal) (output : Output) (exit : ℕ) → IsStatus ended output exit → exit ≢ 7 → exit ≢ 3 → IsDecided ended
@@ -100,7 +123,8 @@ decided_by (Some other) output exit status memory fault = tt
 -- with such a status all calls that are due were made
 pub called_due : (exit : ℕ) (command : Option Command) (old new : Outside) (left : Option Left) (a : Answers exit command old new left)
     → exit ≢ 7 → exit ≢ 3 → new.calls ≡ grown old.calls (calls_in (calls_due command (verdict command old.file a.obeys.unseen)))
-called_due exit command old new left a memory fault = a.calls.all (decided_by a.ended a.obeys.carries.output exit a.status memory fault)
+called_due exit command old new left a memory fault =
+    a.calls.all (decided_by a.ended a.obeys.carries.output exit (status_of_answer exit command old new left a) memory fault)
 
 -- ---- no command
 
@@ -134,7 +158,7 @@ refused_usage (Some other) left exit h k c status memory = (let same = c.deserve
 pub usage : (exit : ℕ) (command : Option Command) (old new : Outside) (left : Option Left) → Answers exit command old new left → exit ≢ 7
     → exit ≡ 2 ↔ (command ≡ None)
 usage exit None old new left a memory =
-    (λ is. refl, λ none. refused_usage a.ended left exit old new a.obeys.carries a.status memory)
+    (λ is. refl, λ none. refused_usage a.ended left exit old a.mid a.obeys.carries (status_of_answer exit None old new left a) memory)
 usage exit (Some c) old new left a memory = (
   λ is. absurd (usage_alone (verdict (Some c) old.file a.obeys.unseen) (command_keeps c old.file a.obeys.unseen)
       (sym is ∙ due exit (Some c) old new left a memory (λ three. cc))),
@@ -161,9 +185,11 @@ carried_fault v (Some other) left exit h k c status three = (let is = status (λ
 pub faults_counted : (exit : ℕ) (command : Option Command) (old new : Outside) (left : Option Left) → Answers exit command old new left
     → exit ≡ 3 → IsSome command × Rose old.faults new.faults
 faults_counted exit None old new left a three =
-    absurd ((carried_fault (Refuses refusal.Usage) a.ended left exit old new a.obeys.carries a.status three).0 refl)
+    absurd ((carried_fault (Refuses refusal.Usage) a.ended left exit old a.mid a.obeys.carries (status_of_answer exit None old new left a) three).0 refl)
 faults_counted exit (Some c) old new left a three =
-    (refl, (carried_fault (verdict (Some c) old.file a.obeys.unseen) a.ended left exit old new a.obeys.carries a.status three).1)
+    let v = verdict (Some c) old.file a.obeys.unseen in
+    let caused = carried_fault v a.ended left exit old a.mid a.obeys.carries (status_of_answer exit (Some c) old new left a) three in
+    (refl, rose_later exit (Some c) old new left a caused.1)
 
 -- ---- files without a fault are read
 

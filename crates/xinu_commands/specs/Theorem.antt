@@ -1,10 +1,11 @@
 -- The main theorem's statement: what the top call does. Read `Answers`, at the end, first; `verdict` is in Verdict.antt, `Writes` in Work.antt.
-use Rattle.std.specs.Prelude.{◌≡◌, ◌≢◌, ◌≤◌, ◌<◌, ◌⊎◌, ℕ, List, length, take, Option, Some, None, IsSome}
+use Rattle.std.specs.Prelude.{◌≡◌, ◌≢◌, ◌≤◌, ◌<◌, ◌⊎◌, ℕ, List, length, take, Option, Some, None, IsSome, is_some, option_map}
+use Rattle.std.specs.List.{filter}
 use Rattle.command_line.specs.Commands.{Command}
 use Rattle.host_port.specs.HostCalls.{Rose}
-use Rattle.host_port.specs.Outside.{Outside, emptied_channel, grown}
+use Rattle.host_port.specs.Outside.{Outside, HostCall, emptied_channel, grown}
 use Rattle.xinu_commands.specs.Calls.{Due, calls_due, calls_in}
-use Rattle.xinu_commands.specs.Refusals.{status_of, text_of}
+use Rattle.xinu_commands.specs.Refusals.{TellsRefusal}
 use Rattle.xinu_commands.specs.Verdict.{Input, verdict}
 use Rattle.xinu_commands.specs.Work.{Begins, Does, Left, Output, Refuses, Verdict, Work, Writes}
 use Rattle.xinu_commands.specs.declared.refusals.Refusal.{Refusal}
@@ -35,19 +36,31 @@ pub record IsSent (output : Output) (old new : Outside) : Type 0 where
   pub disk1 : IsWhole output.disk1 old.disk1 new.disk1
   pub image : IsWhole output.image old.image new.image
 
--- Of the output on each channel a prefix was sent.
+-- the calls that named a file for a channel, if calls are observable
+abbrev pub namings : Outside → Option (List HostCall)
+namings h = option_map (filter (λ (call : HostCall). is_some call.channel)) h.calls
+
+-- No file was named for a channel, and no channel that may have a file changed.
+pub record HasNoFile (old new : Outside) : Type 0 where
+  pub disk0 : new.disk0 ≡ old.disk0
+  pub disk1 : new.disk1 ≡ old.disk1
+  pub image : new.image ≡ old.image
+  pub names : namings new ≡ namings old
+
+-- Of the output on each channel a prefix was sent. No file is begun before the whole text was sent, and no disk 1 before the whole of disk 0:
+-- what the host refuses ends the output.
 pub record IsPartSent (output : Output) (old new : Outside) : Type 0 where
   pub out : (n : ℕ) × (new.out ≡ grown old.out (take n output.out))
   pub disk0 : IsPart output.disk0 old.disk0 new.disk0
   pub disk1 : IsPart output.disk1 old.disk1 new.disk1
   pub image : IsPart output.image old.image new.image
+  pub text_first : (new.out ≡ grown old.out output.out) ⊎ HasNoFile old new
+  pub raw_first : IsWhole output.disk0 old.disk0 new.disk0 ⊎ (new.disk1 ≡ old.disk1)
 
--- No channel changed but perhaps Fault.
+-- No channel changed but perhaps Fault, and no file was named for one.
 pub record IsUnsent (old new : Outside) : Type 0 where
   pub out : new.out ≡ old.out
-  pub disk0 : new.disk0 ≡ old.disk0
-  pub disk1 : new.disk1 ≡ old.disk1
-  pub image : new.image ≡ old.image
+  pub files : HasNoFile old new
 
 -- Of an output that the work may have a prefix was sent; if the command was done all of the work's output, and what the work leaves is left.
 pub record WorkSends (work : Work) (output : Output) (ended : Option Refusal) (left : Option Left) (old new : Outside) : Type 0 where
@@ -73,20 +86,11 @@ pub record Obeys (command : Option Command) (ended : Option Refusal) (left : Opt
   pub unseen : Input → List ℕ
   pub carries : Carries (verdict command old.file unseen) ended left old new
 
--- The exit status is that of the output, or that of the refusal unless memory runs out while the text of the refusal is sent.
-abbrev pub IsStatus : Option Refusal → Output → ℕ → Type 0
-IsStatus None output exit = exit ≡ output.status
-IsStatus (Some cause) output exit = exit ≢ 7 → exit ≡ status_of cause
-
--- Fault has grown by a prefix of the refusal's text; by all of it unless a fault came or memory ran out.
-pub record SendsText (cause : Refusal) (exit : ℕ) (old new : Outside) : Type 0 where
-  pub part : (n : ℕ) × (new.fault ≡ grown old.fault (take n (text_of cause)))
-  pub whole : exit ≢ 7 → (Rose old.faults new.faults → ⊥) → new.fault ≡ grown old.fault (text_of cause)
-
--- Fault stays as it was if the command was done; else it has the text of the refusal.
-abbrev pub IsMessage : Option Refusal → ℕ → Outside → Outside → Type 0
-IsMessage None exit old new = new.fault ≡ old.fault
-IsMessage (Some cause) exit old new = SendsText cause exit old new
+-- What the top call does once the command has ended: nothing, and its status is that of the output, if the command was done; else it tells the
+-- refusal.
+abbrev pub Tells : Option Refusal → Output → ℕ → Outside → Outside → Type 0
+Tells None output exit mid new = (exit ≡ output.status) × (new ≡ mid)
+Tells (Some cause) output exit mid new = TellsRefusal cause exit mid new
 
 -- A command was done or refused by its verdict: neither did the host fail nor memory run out.
 abbrev pub IsDecided : Option Refusal → Type 0
@@ -102,14 +106,15 @@ pub record HasCalled (due : Due) (ended : Option Refusal) (old new : Outside) : 
   pub all : IsDecided ended → new.calls ≡ grown old.calls (calls_in due)
   pub unsent : count < length due.fetches → IsUnsent old new
 
--- The theorem. The command was done, or refused for a cause, as it deserves by the bytes of its files (`obeys`). Its status and its
--- message say which. It asked the host for the files that are due by its verdict, in order; no file that can be observed changed, and the
--- count of faults never falls.
+-- The theorem. The command was done, or refused for a cause, as it deserves by the bytes of its files (`obeys`), and sent nothing on Fault.
+-- Then, in the world that it left, its end was told by a status, and a refusal by its text too. It asked the host for the files that are due by
+-- its verdict, in order; no file that can be observed changed, and the count of faults never falls.
 pub record Answers (exit : ℕ) (command : Option Command) (old new : Outside) (left : Option Left) : Type 0 where
   pub ended : Option Refusal
-  pub obeys : Obeys command ended left old new
-  pub status : IsStatus ended obeys.carries.output exit
-  pub message : IsMessage ended exit old new
+  pub mid : Outside
+  pub obeys : Obeys command ended left old mid
+  pub silent : mid.fault ≡ old.fault
+  pub tells : Tells ended obeys.carries.output exit mid new
   pub calls : HasCalled (calls_due command (verdict command old.file obeys.unseen)) ended old new
   pub files : new.file ≡ old.file
-  pub faults : old.faults ≤ new.faults
+  pub faults : old.faults ≤ mid.faults

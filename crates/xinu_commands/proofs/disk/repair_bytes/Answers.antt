@@ -31,7 +31,7 @@ returns-in_err-print_line g c =
     let k = g.H.Host.view c.print_line.new.host in
     let bytes = c.args.bytes.now in
     let calls = naming Disk1 c.args.out.now ∷ [] in
-    let apart : AreApart (output_of (repair_line bytes) None None) (output_of [] (Some (repaired bytes)) None) = record { no_text = refl; disk0 = tt; disk1 = tt; image = tt } in
+    let apart : AreApart (output_of (repair_line bytes) None None) (output_of [] (Some (repaired bytes)) None) = record { no_text = refl; no_disk = refl; disk0 = tt; disk1 = tt; image = tt } in
     let r = c.in_err-print_line.field-0.0 in
     let text = c.repair_line.ensures ∙ repair_counts bytes c.in_ok-repaired.repaired.kept c.in_ok-repaired.repaired.dropped c.in_ok-repaired.ensures.kept c.in_ok-repaired.ensures.dropped in
     let P : List ℕ → Type 0 = λ t. SendsOutput (output_of t None None) [] (Some r) h k in
@@ -48,7 +48,7 @@ returns g c =
     let k = g.H.Host.view c.send_file.new.host in
     let bytes = c.args.bytes.now in
     let calls = naming Disk1 c.args.out.now ∷ [] in
-    let apart : AreApart (output_of (repair_line bytes) None None) (output_of [] (Some (repaired bytes)) None) = record { no_text = refl; disk0 = tt; disk1 = tt; image = tt } in
+    let apart : AreApart (output_of (repair_line bytes) None None) (output_of [] (Some (repaired bytes)) None) = record { no_text = refl; no_disk = refl; disk0 = tt; disk1 = tt; image = tt } in
     let ended = refusal_of c.send_file.result in
     let text = c.repair_line.ensures ∙ repair_counts bytes c.in_ok-repaired.repaired.kept c.in_ok-repaired.repaired.dropped c.in_ok-repaired.ensures.kept c.in_ok-repaired.ensures.dropped in
     let P : List ℕ → Type 0 = λ t. SendsOutput (output_of t None None) [] None h i in
