@@ -9,9 +9,11 @@ use Rattle.lfs_format.specs.Directory.{void_entry}
 use Rattle.lfs_check.specs.Rules.{entry_is_used, is_name}
 use Rattle.lfs_check.specs.Meets.{times_met}
 use Rattle.lfs_check.specs.Checks.{met_of, need_data, data_row}
-use Rattle.lfs_check.specs.Laid.{Places}
+use Rattle.lfs_check.specs.declared.geometry.Geometry.{Geometry}
+use Rattle.lfs_check.specs.Laid.{FileLies, Places, numbers_at}
 use Rattle.lfs_check.specs.Fields.{geometry_of, fields_of}
-use Rattle.lfs_check.specs.Disks.{entries, entry_at, is_this}
+use Rattle.lfs_check.specs.Disks.{disk_geometry, entries, entry_at, is_this}
+use Rattle.lfs_check.proofs.Right.{version_is}
 use Rattle.lfs_check.proofs.Steps.{times_in-two, times_in-part}
 use Rattle.lfs_layout.specs.Files.{bare_name}
 use Rattle.lfs_layout.specs.Images.{IsCleanImage}
@@ -19,8 +21,8 @@ use Rattle.xinu_model.specs.Files.Stored.{StoredFile, file_named}
 use Rattle.file_laws.specs.StoredFiles.{stored, stored_files, entry_chain, entry_data}
 use Rattle.file_laws.specs.Holds.{HasStored, Holds}
 use Rattle.file_laws.proofs.Names.{either-way, and-true, name_padded}
-use Rattle.file_laws.proofs.Named.{IsName, length_entries, names_differ, named_by, file_in}
-use Rattle.file_laws.proofs.Kept.{IsKept}
+use Rattle.file_laws.proofs.Named.{IsName, bytes_sized, length_entries, names_differ, named_by, file_in}
+use Rattle.file_laws.proofs.Kept.{IsKept, ended_geometry}
 
 -- a test passes in a place of a list, and not before it
 record IsFound (test : Entry → Bool) (es : List Entry) : Type 0 where
@@ -62,6 +64,7 @@ pub kept_holds : (n : ℕ) (base disk : List ℕ) (slot : ℕ) (p : Places) (res
     → (slot < 78 → entry_is_used (entry_at disk slot) ≡ true → rests (bare_name (entry_at disk slot).name) ≡ false)
     → Holds disk (stored_files base) rests
 kept_holds n base disk slot p rests c kept busy now = record {
+  version = version_is disk n kept.long kept.low kept.ends;
   each = each;
   chains = λ i j k hj hk ne rj rk. ⊎_elim
       (λ zj. (let one = most_chain i k hk rk in let z = no_chain i j hj rj zj in omega (arith, one, z)))
@@ -116,6 +119,17 @@ kept_holds n base disk slot p rests c kept busy now = record {
     count : length (entries base) ≡ 78
     count = (length_entries base c).0
 
+    -- a file of the base lies in its blocks
+    lies : (k : ℕ) → k < 78 → k ≢ slot → entry_is_used (entry_at base k) ≡ true
+        → FileLies (fields_of (geometry_of disk) disk) (entry_at disk k) (entry_chain disk (entry_at disk k)) (entry_data disk (entry_at disk k))
+    lies k h ne u =
+        let x = entry_at disk k in
+        let P : List ℕ → Type 0 = λ chain. FileLies (fields_of (disk_geometry n) disk) x chain (numbers_at p.datas k) in
+        let Q : List ℕ → Type 0 = λ blocks. FileLies (fields_of (disk_geometry n) disk) x (entry_chain disk x) blocks in
+        let R : Geometry → Type 0 = λ g. FileLies (fields_of g disk) x (entry_chain disk x) (entry_data disk x) in
+        subst R (sym (ended_geometry n disk kept.long kept.low kept.ends))
+        (subst Q (sym (kept.data_is k h ne)) (subst P (sym (kept.chain k h ne)) (kept.lies k h ne u)))
+
     -- a used entry of a name
     is_so : (name : List ℕ) (e : Entry) → is_this name e ≡ true → (entry_is_used e ≡ true) × (e.name ≡ name)
     is_so name e t = let two = and-true (entry_is_used e) (bytes_eq e.name name) t in (two.0, (bytes_eq-Decides e.name name).0 two.1)
@@ -146,6 +160,8 @@ kept_holds n base disk slot p rests c kept busy now = record {
           below = lt;
           this = ap (is_this name) (kept.entry k lt ne) ∙ f.passes;
           read = kept.bytes k lt ne two.0;
+          size = ap (λ (e : Entry). e.size) (kept.entry k lt ne) ∙ sym (bytes_sized base c k lt two.0);
+          lies = lies k lt ne two.0;
           only = λ j l other. ⊎_elim (λ q. not_slot name j l r q) (λ q. ap (is_this name) (kept.entry j l q)
               ∙ alone name k j lt l other two.0 two.1) (cases_eq j slot);
         })))

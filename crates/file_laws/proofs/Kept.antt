@@ -11,7 +11,7 @@ use Rattle.lfs_check.specs.declared.geometry.Geometry.{Geometry}
 use Rattle.lfs_check.specs.declared.fields.Header.{Header}
 use Rattle.lfs_check.specs.Geometries.{index_count, first_data, IsGeometry}
 use Rattle.lfs_check.specs.Rules.{entry_is_used, block_in}
-use Rattle.lfs_check.specs.Laid.{Shape, Places, numbers_at, entry_in, times_in}
+use Rattle.lfs_check.specs.Laid.{FileLies, Shape, Places, no_index, numbers_at, entry_in, times_in}
 use Rattle.lfs_check.specs.Clean.{chain_in, data_in, places_of, LaidIn}
 use Rattle.lfs_check.specs.Fields.{is_version_2, geometry_of, fields_of, numbered_values, index_in_bytes, index_place}
 use Rattle.lfs_check.specs.Disks.{disk_geometry, block_put, entries, entry_at, dir_with_entry}
@@ -41,15 +41,28 @@ pub record IsKept (n : ℕ) (base disk : List ℕ) (slot : ℕ) (p : Places) : T
   pub data_is : (k : ℕ) → k < 78 → k ≢ slot → entry_data disk (entry_at disk k) ≡ numbers_at p.datas k
   pub bytes : (k : ℕ) → k < 78 → k ≢ slot → entry_is_used (entry_at base k) ≡ true
       → entry_bytes disk (entry_at disk k) ≡ entry_bytes base (entry_at base k)
+  pub lies : (k : ℕ) → k < 78 → k ≢ slot → entry_is_used (entry_at base k) ≡ true
+      → FileLies (fields_of (disk_geometry n) disk) (entry_at disk k) (numbers_at p.chains k) (numbers_at p.datas k)
   pub after : (k j : ℕ) → k < 78 → k ≢ slot → j < length (numbers_at p.datas k) → 6 ≤ slice_index (numbers_at p.datas k) j
   pub one_index : (i : ℕ) → times_in i p.chains ≤ 1
   pub one_data : (b : ℕ) → times_in b p.datas ≤ 1
 
 -- the geometry of a disk that ends its first block as one of version 2
-ended_geometry : (n : ℕ) (disk : List ℕ) → length disk ≡ 512 * n → 14 ≤ n → drop 480 (block_in disk 0) ≡ dir_ending
+pub ended_geometry : (n : ℕ) (disk : List ℕ) → length disk ≡ 512 * n → 14 ≤ n → drop 480 (block_in disk 0) ≡ dir_ending
     → geometry_of disk ≡ disk_geometry n
 ended_geometry n disk long least ends = geometry_is disk (version_is disk n long least ends)
     ∙ ap disk_geometry (let e : length disk / 512 ≡ n = omega (arith, long) in e)
+
+-- a file lies as it lay where entry and index blocks are the same
+lies_alike : (d x : Shape) (e y : Entry) (chain blocks : List ℕ) → x.indexes ≡ d.indexes → e ≡ y → FileLies d e chain blocks → FileLies x y chain blocks
+lies_alike d x e y chain blocks same is lies =
+    let P : Entry → Type 0 = λ entry. FileLies x entry chain blocks in
+    subst P is (record {
+      indexes = lies.indexes;
+      datas = lies.datas;
+      first = lies.first;
+      each = λ j h. ap (λ xs. slice_index_or xs (slice_index chain j) no_index) same ∙ lies.each j h;
+    })
 
 -- in the middle of a call all files but that in hand are kept
 pub middle_kept : (n : ℕ) (base disk : List ℕ) (header : Header) (slot : ℕ) (entry : Entry) (p : Places) (bytes : List ℕ)
@@ -64,6 +77,9 @@ middle_kept n base disk header slot entry p bytes m = record {
   data_is = data_is;
   bytes = λ k h ne u. ap (λ bs. take (entry_at disk k).size (flat_map (block_in disk) bs)) (data_is k h ne)
       ∙ ap (λ (x : Entry). content_at disk p k x.size) (same k) ∙ m.others k h ne u;
+  lies = λ k h ne u. (let used = ap entry_is_used (here k ne ∙ same k) ∙ u in
+      lies_alike d (fields_of g disk) (entry_in d k) (entry_at disk k) (numbers_at p.chains k) (numbers_at p.datas k) refl (here k ne)
+      (m.laid.file k (inside k h) used));
   after = λ k j h ne l. (let low = (data_range (index_count g) (first_data g) n d p k j m.laid l).0 in omega (arith, low));
   one_index = λ i. (let one = m.laid.one_index i in let most = at_most_one (nat_lt i (index_count g)) in omega (arith, one, most));
   one_data = λ b. (let one = m.laid.one_data b in let most = at_most_one (nat_lt b n && not (nat_lt b (first_data g))) in
@@ -118,6 +134,7 @@ clean_kept base slot c = record {
   data_is = λ k h ne. ap (λ x. data_in x (fields_of x base).indexes (entry_at base k)) is
       ∙ sym (get_or-map (data_in g d.indexes) (entries base) k void_entry [] (inside k h));
   bytes = λ k h ne u. refl;
+  lies = λ k h ne u. lies.file k (inside k h) u;
   after = λ k j h ne l. (let low = (data_range (index_count g) (first_data g) n d p k j lies l).0 in omega (arith, low));
   one_index = λ i. (let one = lies.one_index i in let most = at_most_one (nat_lt i (index_count g)) in omega (arith, one, most));
   one_data = λ b. (let one = lies.one_data b in let most = at_most_one (nat_lt b n && not (nat_lt b (first_data g))) in
@@ -166,6 +183,9 @@ kept_written n base disk slot entry p block kept in_dir put = record {
       (let low = kept.after k j h ne l in other (slice_index (numbers_at p.datas k) j) (λ e. omega (arith, e, low, in_dir)))))
       ∙ ap (λ bs. take (entry_at made k).size (flat_map (block_in disk) bs)) (sym (kept.data_is k h ne))
       ∙ ap (λ (x : Entry). take x.size (flat_map (block_in disk) (entry_data disk (entry_at disk k)))) (same k h ne) ∙ kept.bytes k h ne u;
+  lies = λ k h ne u.
+      lies_alike (fields_of g disk) (fields_of g made) (entry_at disk k) (entry_at made k) (numbers_at p.chains k) (numbers_at p.datas k) indexes
+      (sym (same k h ne)) (kept.lies k h ne u);
   after = kept.after;
   one_index = kept.one_index;
   one_data = kept.one_data;

@@ -1,7 +1,5 @@
--- The disk holds the files at rest, and is clean for its files if nothing is open and no call is under way.
+-- The disk holds the files at rest, and is clean for its files if no call is under way.
 use Rattle.std.proofs.Common.{◌≡◌, ℕ, ◌/◌, Bool, true, false, List, [], ◌∷◌, length, refl, ap, sym, subst, ◌∙◌, arith, Option, Some, None}
-use Rattle.std.specs.Prelude.{◌||◌, is_some}
-use Rattle.std.specs.List.{list_any}
 use Rattle.std.proofs.lemmas.Bool.{false≢true}
 use Rattle.file_laws.specs.Holds.{Holds}
 use Rattle.file_laws.specs.StoredFiles.{stored_files}
@@ -16,12 +14,7 @@ use Rattle.local_files.specs.Standing.{Stands, wanted, call_of, call_bytes, repl
 use Rattle.local_files.specs.declared.BlockWork.{BlockWork}
 use Rattle.local_files.specs.declared.Files.{Files}
 use Rattle.xinu_model.specs.Files.Rest.{are_calls, is_at_rest}
-use Rattle.xinu_model.specs.Files.Systems.{OpenFile}
 use Rattle.xinu_model.specs.Files.Work.{FileRequest, FileWork}
-
-or_right : (a b : Bool) → (a || b) ≡ false → b ≡ false
-or_right true b h = absurd (false≢true (sym h))
-or_right false b h = h
 
 first_call : (o : Option BlockWork) (e : Files) (base : List ℕ) (calls : List FileRequest) → IsFirstHeld (held_for o e base) calls
     → IsFirstCall o (call_of e.call (call_bytes e)) calls
@@ -42,8 +35,7 @@ pub held_files : (e : Files) (base disk : List ℕ) → Stands e base disk → r
 held_files e base disk s taken law w is first = record {
   blocks = (let long = s.whole in let blocks = s.blocks in let z : length disk / 512 ≡ e.blocks = omega (arith, long, blocks) in z) ∙ sym (ap (λ x. x.blocks) is);
   at_rest = law base disk w s is (first_call (wanted e) e base w.calls first);
-  clean = λ calm. (
-      let none : are_calls w.calls ≡ false = or_right (list_any (λ (x : Option OpenFile). is_some x) w.system.devices) (are_calls w.calls) calm in
+  clean = λ none. (
       let q = quiet e base disk s taken (none_held (wanted e) e base w.calls none first) in
       let P : List ℕ → Type 0 = λ d. IsCleanImage d in
       let c : IsCleanFor disk w.system.files = record { clean = subst P (sym q.same) s.clean; read = ap stored_files q.same ∙ sym (ap (λ x. x.files) is) } in c);

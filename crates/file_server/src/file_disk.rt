@@ -132,8 +132,8 @@ impl FileDisk {
         self.files.open_count() > 0
     }
 
-    // The disk holds the files that are at rest, and is clean for its files if nothing is open and no call is under way. So few are they
-    // that a call has fewer turns than a word counts.
+    // The disk holds the files that are at rest, and is clean for its files if no call is under way. So few are they that a call has fewer
+    // turns than a word counts.
     pub(crate) fn holds_files(&self)
         ensures holds { (w : FileWork) → w.system ≡ self.now.system → IsFirstHeld self.now.hand w.calls → HoldsFiles self.now.image w }
         ensures few { HasFewTurns self.now.system }

@@ -13,7 +13,7 @@
 //! | `are_calls`, `pending` | | whether calls are under way, and how many, which are at most 64 |
 //! | `open_file`, `is_busy` | | the position and the size of an open file; whether a file is open or a call is under way |
 //! | `bytes` | | the bytes of the disk |
-//! | `holds` | | a law: the disk holds the files at rest, and if no file is open and no call is under way it is clean for exactly its files |
+//! | `holds` | | a law: the disk holds the files at rest, and if no call is under way it is clean for exactly its files |
 //!
 //! Three layers stand below: `settled` remembers which blocks a call writes, and copies them as it takes effect; `file_disk` has the engine,
 //! the disk, and the disk as it was when the call in hand began, and knows one call at a time; `starting` begins the first of the calls, and

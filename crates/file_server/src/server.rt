@@ -166,7 +166,7 @@ impl FileServer {
         self.requests = kept;
     }
 
-    /// A law: the disk holds the files at rest, and if no file is open and no call is under way it is clean for exactly its files.
+    /// A law: the disk holds the files at rest, and if no call is under way it is clean for exactly its files.
     pub fn holds(&self)
         ensures holds { HoldsFiles self.now.image self.now.work }
     {

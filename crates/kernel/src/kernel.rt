@@ -98,7 +98,7 @@ impl Kernel {
         &self.state
     }
 
-    /// A law: the disk with files holds the files at rest, and if no file is open and no call on files is under way it is clean for exactly
+    /// A law: the disk with files holds the files at rest, and if no call on files is under way it is clean for exactly
     /// its files.
     pub fn holds_files(&self)
         ensures holds { HoldsFiles self.now.image (files_of self.now.came.call.state) }

@@ -68,7 +68,7 @@ impl Machine {
     /// `Panic` comes if and only if the kernel panicked in this event, else `Done` if and only if the last process beside the null process
     /// died in it. The lines say which calls on files took effect. No address comes to have two owners in it, unless a process gives back what
     /// a pool or a stack has. What always holds between two events holds after it: the disk with files holds the files of the state at rest,
-    /// and is clean for exactly them if no file is open and no call on files is under way. Only a good completion of that disk changes it,
+    /// and is clean for exactly them if no call on files is under way. Only a good completion of that disk changes it,
     /// and at most one block of it.
     pub fn event<H: Host>(&mut self, event: Event, out: &mut Printer, host: &mut H) -> Go
         requires goes_on { self.old.over ≡ false }
