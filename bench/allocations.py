@@ -3,22 +3,22 @@
 
 usage: bench/allocations.py [--each] [WORD]        (only the commands whose name has the word)
 
-It builds `xinu_run` as a proved program, and bench/refuse.c as a library that is loaded before the C library. It counts the allocations of
-each command, and then runs the command once for each of them, which is refused. A run has to end with status 7, a part of what the command
-prints and a part of each file that it writes, or as the command does. Of a command with thousands of allocations the first thousand are
-refused, and of the others one in fifty, or each one with --each. Printed is how many allocations were refused, of how many, and how many of
-these runs ended with status 7. No part of the gate."""
+It takes the program that bench/program.py finds, and builds bench/refuse.c as a library that is loaded before the C library. It counts the
+allocations of each command, and then runs the command once for each of them, which is refused. A run has to end with status 7, a part of
+what the command prints and a part of each file that it writes, or as the command does. Of a command with thousands of allocations the first
+thousand are refused, and of the others one in fifty, or each one with --each. Printed is how many allocations were refused, of how many, and
+how many of these runs ended with status 7. No part of the gate."""
 import os
 import struct
 import subprocess
 import sys
 import tempfile
 
+from program import built, crate
+
 BENCH = os.path.dirname(os.path.abspath(__file__))
-CRATE = os.path.join(BENCH, "..", "crates", "xinu_run")
-GOOD_RUN = ["run", "--schedule", "data/four_steps.txt", "data/getpid_and_exit.xim"]
-FOUR_STEPS = os.path.abspath(os.path.join(CRATE, "data", "four_steps.txt"))
-TWO_CALLS = os.path.abspath(os.path.join(CRATE, "data", "getpid_and_exit.xim"))
+FOUR_STEPS = os.path.join(crate("xinu_run"), "data", "four_steps.txt")
+TWO_CALLS = os.path.join(crate("xinu_run"), "data", "getpid_and_exit.xim")
 # how many allocations of a command are refused in any case, and which of the others
 FIRST, STRIDE = 1000, 50
 
@@ -135,8 +135,7 @@ def figures(program, folder, args, written, library, is_each):
 def main():
     is_each = "--each" in sys.argv
     words = [word for word in sys.argv[1:] if word != "--each"]
-    subprocess.run(["rt", "run", "--", *GOOD_RUN], cwd=CRATE, check=True, stdout=subprocess.DEVNULL)
-    program = os.path.abspath(os.path.join(CRATE, "out", "xinu_run"))
+    program = built("xinu_run")
     with tempfile.TemporaryDirectory() as folder:
         library = os.path.join(folder, "refuse.so")
         subprocess.run(["cc", "-shared", "-fPIC", "-O2", "-o", library, os.path.join(BENCH, "refuse.c")], check=True)

@@ -3,17 +3,16 @@
 
 usage: bench/asm.py
 
-It builds the program, assembles each source, once to an image file and once to an ELF file, and prints the seconds of processor time
-and the greatest memory. It ends with status 1 if one takes two seconds or more. No part of the gate."""
+It takes the program that bench/program.py finds, assembles each source, once to an image file and once to an ELF file, and prints the
+seconds of processor time and the greatest memory. It ends with status 1 if one takes two seconds or more. No part of the gate."""
 import os
 import subprocess
 import sys
 import tempfile
 import time
 
-CRATE = os.path.join(os.path.dirname(os.path.abspath(__file__)), "..", "crates", "xinu_run")
-PROGRAM = os.path.join(CRATE, "out", "xinu_run")
-DATA = ["run", "--schedule", "data/four_steps.txt", "data/getpid_and_exit.xim"]
+from program import built
+
 MOST = 1_048_576
 LIMIT = 2.0
 
@@ -44,7 +43,7 @@ SOURCES = {
 
 def timed(arguments, source):
     """The processor seconds of `asm`, its greatest memory in bytes and its status."""
-    process = subprocess.Popen([PROGRAM, "asm", *arguments], stderr=subprocess.DEVNULL)
+    process = subprocess.Popen([built("xinu_run"), "asm", *arguments], stderr=subprocess.DEVNULL)
     memory, ended = 0, 0
     while not ended:
         time.sleep(0.002)
@@ -64,7 +63,6 @@ def greatest_memory(pid):
 
 
 def main():
-    subprocess.run(["rt", "run", "--", *DATA], cwd=CRATE, check=True, stdout=subprocess.DEVNULL)
     slowest = 0.0
     with tempfile.TemporaryDirectory() as folder:
         path, out = os.path.join(folder, "source"), os.path.join(folder, "out")

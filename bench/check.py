@@ -4,18 +4,18 @@ and read files, and of the first beside the greatest raw disk.
 
 usage: bench/check.py
 
-It builds the program, runs each system with `xinu_run run`, and hands the transcript to `check`. For each it prints how many lines and bytes the
-transcript has, the seconds of processor time of the run and of the check, the greatest memory of the check in bytes and as a multiple of text,
-RAM and disks, and what `check` says; then what it says of the same text with the last `ret` line changed. No part of the gate."""
+It takes the program that bench/program.py finds, runs each system with `xinu_run run`, and hands the transcript to `check`. For each it
+prints how many lines and bytes the transcript has, the seconds of processor time of the run and of the check, the greatest memory of the
+check in bytes and as a multiple of text, RAM and disks, and what `check` says; then what it says of the same text with the last `ret` line
+changed. No part of the gate."""
 import os
 import subprocess
 import sys
 import tempfile
 import time
 
-CRATE = os.path.join(os.path.dirname(os.path.abspath(__file__)), "..", "crates", "xinu_run")
-PROGRAM = os.path.join(CRATE, "out", "xinu_run")
-DATA = ["run", "--schedule", "data/four_steps.txt", "data/getpid_and_exit.xim"]
+from program import built
+
 RAM = 1 << 20
 RAW_BLOCKS = 65536
 FILE_BLOCKS = 256
@@ -55,15 +55,10 @@ SYSTEMS = {
 }
 
 
-def build():
-    """Builds the program."""
-    subprocess.run(["rt", "run", "--", *DATA], cwd=CRATE, check=True, stdout=subprocess.DEVNULL)
-
-
 def timed(words, out):
     """The exit status of a program, its processor seconds and its greatest memory in bytes."""
     with open(out, "wb") as sink:
-        process = subprocess.Popen([PROGRAM, *words], stdout=sink)
+        process = subprocess.Popen([built("xinu_run"), *words], stdout=sink)
         memory, ended = 0, 0
         while not ended:
             time.sleep(0.002)
@@ -84,7 +79,7 @@ def assembled(folder, number, text):
     source, image = os.path.join(folder, "source"), os.path.join(folder, f"{number}.xim")
     with open(source, "w", encoding="ascii") as file:
         file.write(text)
-    subprocess.run([PROGRAM, "asm", source, "--out", image], check=True)
+    subprocess.run([built("xinu_run"), "asm", source, "--out", image], check=True)
     return image
 
 
@@ -134,7 +129,6 @@ def report(folder, name, processes, schedule, has_raw_disk):
 
 
 def main():
-    build()
     for name, (processes, schedule, has_raw_disk) in SYSTEMS.items():
         with tempfile.TemporaryDirectory() as folder:
             report(folder, name, processes, schedule, has_raw_disk)

@@ -4,11 +4,11 @@ four processes that write and read files.
 
 usage: bench/disk.py
 
-It builds the program, makes each image with `disk mkfs`, fills all of its data blocks with eight files by `disk put`, and prints for
-each the seconds of processor time of the slowest `disk put` and of `disk check`, and the greatest memory of the check in bytes and as
-a multiple of the image. Then it prints how much longer the check of the largest image takes than that of the smallest, for each byte.
-Then it runs an image that reads each block of a raw disk of 65,536 blocks and writes it back to the block 32,768 further on, compares the
-disk that comes out, and prints the seconds and the greatest memory, also as a multiple of RAM and the two disks.
+It takes the program that bench/program.py finds, makes each image with `disk mkfs`, fills all of its data blocks with eight files by `disk
+put`, and prints for each the seconds of processor time of the slowest `disk put` and of `disk check`, and the greatest memory of the check
+in bytes and as a multiple of the image. Then it prints how much longer the check of the largest image takes than that of the smallest, for
+each byte. Then it runs an image that reads each block of a raw disk of 65,536 blocks and writes it back to the block 32,768 further on,
+compares the disk that comes out, and prints the seconds and the greatest memory, also as a multiple of RAM and the two disks.
 
 Last it runs four images, each of which writes and reads a file of its own over and over on a disk of 65,542 blocks, and the same four with
 `getpid` in the place of each call on files. It prints the completions and the events per second of processor time, the greatest memory, and
@@ -20,9 +20,8 @@ import sys
 import tempfile
 import time
 
-CRATE = os.path.join(os.path.dirname(os.path.abspath(__file__)), "..", "crates", "xinu_run")
-PROGRAM = os.path.join(CRATE, "out", "xinu_run")
-DATA = ["run", "--schedule", "data/four_steps.txt", "data/getpid_and_exit.xim"]
+from program import built
+
 BLOCKS = (2054, 16390, 65542)
 RAW_BLOCKS = 65536
 RAM = 1 << 20
@@ -80,7 +79,7 @@ FILES = 8
 
 def timed(words):
     """The processor seconds of a command, its greatest memory in bytes and what it printed."""
-    process = subprocess.Popen([PROGRAM, *words], stdout=subprocess.PIPE)
+    process = subprocess.Popen([built("xinu_run"), *words], stdout=subprocess.PIPE)
     memory, ended = 0, 0
     while not ended:
         time.sleep(0.002)
@@ -157,7 +156,6 @@ def file_runs(folder):
 
 
 def main():
-    subprocess.run(["rt", "run", "--", *DATA], cwd=CRATE, check=True, stdout=subprocess.DEVNULL)
     rates = []
     with tempfile.TemporaryDirectory() as folder:
         for blocks in BLOCKS:

@@ -3,11 +3,12 @@
 
 usage: bench/files.py
 
-It builds the program `file_bench`. The scripts come first: each call is made on the engine with its disk and on a plain list of files, and
-the program stops at the first reply, byte or file that differs. The files are read back off the disk after each completion and after each
-call, and at the end. The last script has calls of up to a mebibyte on the largest disk; there the files are read back at one completion of
-a thousand and at one call of a hundred. For each script it prints how many calls were refused, how many completions there were, and the
-seconds of processor time. The memory of a disk that is read back is kept for the next one, else most of the time goes into fresh pages.
+It takes the program `file_bench` that bench/program.py finds. The scripts come first: each call is made on the engine with its disk and on a
+plain list of files, and the program stops at the first reply, byte or file that differs. The files are read back off the disk after each
+completion and after each call, and at the end. The last script has calls of up to a mebibyte on the largest disk; there the files are read
+back at one completion of a thousand and at one call of a hundred. For each script it prints how many calls were refused, how many
+completions there were, and the seconds of processor time. The memory of a disk that is read back is kept for the next one, else most of the
+time goes into fresh pages.
 
 Then come the completions and the microseconds of processor time of single calls on a file at its end, the least of five runs, first for
 several sizes of the file on the largest disk, and then for one size on several disks. It ends with status 1 if a script went wrong. No part
@@ -16,8 +17,8 @@ import os
 import subprocess
 import sys
 
-CRATE = os.path.join(os.path.dirname(os.path.abspath(__file__)), "..", "crates", "file_bench")
-PROGRAM = os.path.join(CRATE, "out", "file_bench")
+from program import built
+
 # blocks, calls, seed, names, the most bytes at once, and how often the files are read back, by completions and by calls
 SCRIPTS = (
     (14, 10000, 1, 9, 1600, 1, 1),
@@ -37,7 +38,7 @@ SIZE = 65536
 def output(words):
     """What the program prints with these words, and the seconds of its processor time."""
     kept = {"MALLOC_MMAP_THRESHOLD_": str(1 << 30), "MALLOC_TRIM_THRESHOLD_": str((1 << 32) - 1)}
-    process = subprocess.Popen([PROGRAM, *map(str, words)], stdout=subprocess.PIPE, env={**os.environ, **kept})
+    process = subprocess.Popen([built("file_bench"), *map(str, words)], stdout=subprocess.PIPE, env={**os.environ, **kept})
     printed = process.stdout.read().decode()
     _, status, usage = os.wait4(process.pid, 0)
     if status != 0:
@@ -70,7 +71,6 @@ def table(first, columns):
 
 
 def main():
-    subprocess.run(["rt", "run", "--", "script", "14", "100", "1", "9", "1600", "1", "1"], cwd=CRATE, check=True, stdout=subprocess.DEVNULL)
     wrong = 0
     for script in SCRIPTS:
         counts, _ = output(["counts", *script[:5], 0, 0])

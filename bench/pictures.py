@@ -3,11 +3,13 @@
 
 usage: bench/pictures.py
 
-It takes the programs that `rt run` built in crates/xinu_run and crates/timeline. No part of the gate."""
+It takes the programs `xinu_run` and `timeline` that bench/program.py finds. No part of the gate."""
 import os
 import shutil
 import subprocess
 import tempfile
+
+from program import built
 
 ROOT = os.path.join(os.path.dirname(os.path.abspath(__file__)), "..")
 DATA = os.path.join(ROOT, "crates", "picture_tests", "data")
@@ -27,21 +29,17 @@ PARTS = {
 COMPARED = ["semaphore_with_a_kill", "three_sleepers_and_a_kill"]
 
 
-def program(name):
-    return os.path.join(ROOT, "crates", name, "out", name)
-
-
 def draw(name, part, folder):
     """Assembles the images of a run and draws its picture."""
     images = []
     for text in sorted(os.listdir(DATA)):
         if text.startswith(name + "_") and text.endswith(".s"):
             image = os.path.join(folder, text[:-2] + ".xim")
-            subprocess.run([program("xinu_run"), "asm", os.path.join(DATA, text), "--out", image], check=True)
+            subprocess.run([built("xinu_run"), "asm", os.path.join(DATA, text), "--out", image], check=True)
             images.append(image)
     schedule = os.path.join(DATA, name + ".txt")
     with open(os.path.join(PICTURES, name + ".svg"), "wb") as picture:
-        subprocess.run([program("timeline"), "--schedule", schedule, *part, *images], check=True, stdout=picture)
+        subprocess.run([built("timeline"), "--schedule", schedule, *part, *images], check=True, stdout=picture)
 
 
 with tempfile.TemporaryDirectory() as folder:

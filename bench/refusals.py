@@ -3,16 +3,16 @@
 
 usage: bench/refusals.py
 
-It builds `xinu_run` as a proved program and writes its files into a folder of its own. The last line says how many runs were as they
-should be. The gate compares neither standard error nor more than one run of a program, so this is run by hand."""
+It takes the program that bench/program.py finds, and writes its files into a folder of its own. The last line says how many runs were as
+they should be. The gate compares neither standard error nor more than one run of a program, so this is run by hand."""
 import os
 import struct
 import subprocess
 import sys
 import tempfile
 
-CRATE = os.path.join(os.path.dirname(os.path.abspath(__file__)), "..", "crates", "xinu_run")
-GOOD_RUN = ["run", "--schedule", "data/four_steps.txt", "data/getpid_and_exit.xim"]
+from program import built
+
 
 
 def image(stack):
@@ -82,8 +82,7 @@ def is_right(program, folder, args, status, error, printed=b"", out=subprocess.P
 
 
 def main():
-    subprocess.run(["rt", "run", "--", *GOOD_RUN], cwd=CRATE, check=True, stdout=subprocess.DEVNULL)
-    program = os.path.abspath(os.path.join(CRATE, "out", "xinu_run"))
+    program = built("xinu_run")
     with tempfile.TemporaryDirectory() as folder:
         for name, content in FILES.items():
             with open(os.path.join(folder, name), "wb") as file:

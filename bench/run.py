@@ -3,22 +3,21 @@
 
 usage: bench/run.py [STEPS]        (200000000 steps if none are given)
 
-It builds both programs, writes the images of bench/images.py and prints for each loop and program the seconds of processor time, the
-steps per second and the greatest memory in use. The last line of each loop is the ratio of their speeds. A loop of calls is assembled
-by `xinu_run asm` and takes a hundredth of the steps; beside its events per second are the bytes of its transcript. Then come ticks
-beside one sleeper and beside sixty, and last the eight texts of bench/system, which together use calls 1 to 35, with the greatest memory
-of the program once it had begun to print and at the end. No part of the gate."""
+It builds both programs (`xinu_run` as bench/program.py says), writes the images of bench/images.py and prints for each loop and program the
+seconds of processor time, the steps per second and the greatest memory in use. The last line of each loop is the ratio of their speeds. A
+loop of calls is assembled by `xinu_run asm` and takes a hundredth of the steps; beside its events per second are the bytes of its
+transcript. Then come ticks beside one sleeper and beside sixty, and last the eight texts of bench/system, which together use calls 1 to 35,
+with the greatest memory of the program once it had begun to print and at the end. No part of the gate."""
 import os
 import subprocess
 import sys
 import tempfile
 import time
 
+from program import built
+
 BENCH = os.path.dirname(os.path.abspath(__file__))
-CRATE = os.path.join(BENCH, "..", "crates", "xinu_run")
-PROGRAM = os.path.join(CRATE, "out", "xinu_run")
 SYSTEM = os.path.join(BENCH, "system")
-DATA = ["run", "--schedule", "data/four_steps.txt", "data/getpid_and_exit.xim"]
 
 YIELD = "loop: sys yield\n j loop\n"
 # the images of each loop of calls, as texts
@@ -78,7 +77,7 @@ def assembled(folder, name, text):
     source, image = os.path.join(folder, name + ".s"), os.path.join(folder, name + ".xim")
     with open(source, "w", encoding="ascii") as file:
         file.write(text)
-    subprocess.run([PROGRAM, "asm", source, "--out", image], check=True)
+    subprocess.run([built("xinu_run"), "asm", source, "--out", image], check=True)
     return image
 
 
@@ -89,7 +88,7 @@ def time_calls(folder, steps):
         with open(schedule, "w", encoding="ascii") as file:
             file.write("step 6\ntick 1\n" * (steps // 7) if name == "sleep" else f"step {steps}\n")
         images = [assembled(folder, f"{name}{k}", text) for k, text in enumerate(texts)]
-        seconds, memory, _ = timed([PROGRAM, "run", "--schedule", schedule, *images], schedule, transcript)
+        seconds, memory, _ = timed([built("xinu_run"), "run", "--schedule", schedule, *images], schedule, transcript)
         written = os.path.getsize(transcript)
         print(f"{name:6} {seconds:17.2f} s {steps / seconds / 1e6:7.2f} million events/s {written:10} bytes {memory:7} KB")
 
@@ -101,7 +100,7 @@ def time_ticks(folder, ticks):
         file.write(f"step 4000\ntick {ticks}\n")
     for count in (1, 60):
         image = assembled(folder, f"sleepers{count}", SLEEPERS.format(count=count))
-        seconds, memory, _ = timed([PROGRAM, "run", "--schedule", schedule, image], schedule, transcript)
+        seconds, memory, _ = timed([built("xinu_run"), "run", "--schedule", schedule, image], schedule, transcript)
         print(f"tick   {count:2} asleep {seconds:7.2f} s {ticks / seconds / 1e6:7.2f} million ticks/s {memory:7} KB")
 
 
@@ -114,14 +113,13 @@ def time_system(folder, rounds):
     for name in sorted(os.listdir(SYSTEM)):
         with open(os.path.join(SYSTEM, name), encoding="ascii") as text:
             images.append(assembled(folder, name, text.read()))
-    seconds, memory, first = timed([PROGRAM, "run", "--schedule", schedule, *images], schedule, transcript)
+    seconds, memory, first = timed([built("xinu_run"), "run", "--schedule", schedule, *images], schedule, transcript)
     written = os.path.getsize(transcript)
     print(f"system {seconds:17.2f} s {rounds / seconds / 1e4:7.2f} million events/s {written:10} bytes {first:7} KB, {memory:7} KB at the end")
 
 
 def main():
     steps = int(sys.argv[1]) if len(sys.argv) > 1 else 200_000_000
-    subprocess.run(["rt", "run", "--", *DATA], cwd=CRATE, check=True, stdout=subprocess.DEVNULL)
     with tempfile.TemporaryDirectory() as folder:
         plain = os.path.join(folder, "interpreter")
         subprocess.run(["cc", "-O2", "-o", plain, os.path.join(BENCH, "interpreter.c")], check=True)
@@ -131,9 +129,9 @@ def main():
             file.write(f"step {steps}\n")
         for loop in ("jal", "mixed"):
             image = os.path.join(folder, loop + ".img")
-            proved = [PROGRAM, "run", "--schedule", schedule, image]
+            ours = [built("xinu_run"), "run", "--schedule", schedule, image]
             speeds = []
-            for name, words in (("xinu_run", proved), ("plain C", [plain, str(steps)])):
+            for name, words in (("xinu_run", ours), ("plain C", [plain, str(steps)])):
                 seconds, memory, _ = timed(words, image)
                 speeds.append(steps / seconds)
                 print(f"{loop:6} {name:9} {seconds:7.2f} s {steps / seconds / 1e6:7.1f} million steps/s {memory:7} KB")
