@@ -30,7 +30,7 @@ def stamp(name):
 
 def is_proved(name):
     """Whether the program that lies there is one that `rt run` proved."""
-    if not os.path.exists(stamp(name)):
+    if not (os.path.exists(stamp(name)) and os.path.exists(place(name))):
         return False
     with open(place(name), "rb") as program, open(stamp(name), encoding="utf-8") as text:
         return text.read().endswith(hashlib.sha256(program.read()).hexdigest())
