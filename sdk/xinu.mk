@@ -7,6 +7,10 @@
 #	include ../../sdk/xinu.mk
 #
 # PLACE is where a program lies in RAM, 0 if it isn't said. Two programs of one run may not overlap.
+# What a program has beside NAME.c, sources, objects or libraries, is named as what it is made from:
+#
+#	sender.elf: queue.c table.o libqueue.a
+#	sender.elf: LDLIBS = -L../lib -ltable
 
 SDK := $(dir $(lastword $(MAKEFILE_LIST)))
 CROSS ?= riscv64-unknown-elf-
@@ -25,7 +29,10 @@ XLINK = -T $(SDK)xinu.ld -Wl,--defsym=PLACE=$(PLACE) -Wl,--build-id=none -Wl,-z,
 all: $(PROGRAMS:=.elf)
 
 %.elf: %.c $(SDK)start.S $(SDK)xinu.c $(SDK)xinu.h $(SDK)xinu.ld $(SDK)xinu.mk
-	$(CROSS)gcc $(XFLAGS) $(XLINK) -o $@ $(SDK)start.S $< $(SDK)xinu.c -lgcc
+	$(CROSS)gcc $(XFLAGS) $(XLINK) -o $@ $(filter %.c %.s %.S %.o %.a,$^) $(LDLIBS) -lgcc
+
+%.o: %.c $(SDK)xinu.h
+	$(CROSS)gcc $(XFLAGS) -c -o $@ $<
 
 clean:
-	rm -f $(PROGRAMS:=.elf) *.xim
+	rm -f $(PROGRAMS:=.elf) *.xim *.o

@@ -70,6 +70,6 @@ process	main(void)
 	}
 	printf("bye\n");
 	close(CONSOLE);
-	sleepms(1);
+	sleepms(2);		/* Let the console send echo and output */
 	return OK;
 }
