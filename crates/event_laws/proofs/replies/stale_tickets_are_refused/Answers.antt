@@ -1,4 +1,4 @@
-use Rattle.event_laws.proofs.Rises.Tickets.{later_is_stale, stale_sender_refused, stale_receiver_refused, fresh_sender_answers, fresh_receiver_answers}
+use Rattle.event_laws.proofs.Reply.Tickets.{later_is_stale, stale_sender_refused, stale_receiver_refused, fresh_sender_answers, fresh_receiver_answers}
 use Rattle.event_laws.proofs.replies.stale_tickets_are_refused.Goals as goal
 
 pub returns : goal.returns
