@@ -53,6 +53,13 @@ pub fn refusals_are_told()
         (called number args s ≡ refused s) ⊎ (value_told number (slice_index args) s ≡ Some SYSERR) }
 {}
 
+/// A call that waited and answers -1 as it goes on is refused, which changes nothing but its message and what is left of it; or -1 is the
+/// value that it answers: a message, a priority, or the reply of a completion.
+pub fn continued_refusals_change_nothing()
+    ensures { (left : Rest) (s : Xinu) → (continued left s).answer ≡ Returns SYSERR →
+        (continued left s ≡ refused (goes_on (held s) s)) ⊎ (value_kept left s ≡ Some SYSERR) }
+{}
+
 /// Who waits on a semaphore that a process made answers -1 if it is deleted, which changes nothing but who waits and the semaphore itself.
 /// However else a waiter is released, it answers 0. Those who are released answer in the order in which they came.
 pub fn waiters_are_answered()

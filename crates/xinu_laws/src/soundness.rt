@@ -7,11 +7,12 @@ ghost use Rattle.xinu_base.specs.declared.events.Event.{Event};
 ghost use Rattle.xinu_base.specs.declared.lines.TranscriptLine.{TranscriptLine};
 ghost use Rattle.part_laws.specs.GivenDisks.{AreSoundDisks};
 ghost use Rattle.xinu_model.specs.Boot.{Loaded, Boots, Disks, first_disks, boot, boot_on};
-ghost use Rattle.xinu_base.specs.declared.processes.Rest.TheVariants.{Disk};
+ghost use Rattle.xinu_base.specs.declared.processes.Rest.TheVariants.{Disk, GetBuf};
 ghost use Rattle.xinu_model.specs.Console.Constants.{TY_OBUFLEN};
 ghost use Rattle.xinu_model.specs.Console.Taking.{console_of};
 ghost use Rattle.xinu_model.specs.Events.{Happens, effect_of};
 ghost use Rattle.xinu_model.specs.Machine.{Xinu, no_hart};
+ghost use Rattle.xinu_model.specs.Pools.Buffers.{pool_at};
 ghost use Rattle.xinu_model.specs.Runs.{RunsTo};
 ghost use Rattle.xinu_base.specs.declared.processes.State.TheVariants.{Free};
 ghost use Rattle.xinu_model.specs.Sound.State.{IsSound};
@@ -56,11 +57,14 @@ pub fn free_places_are_fixed()
         semaphore_at s.tables sem ≡ no_semaphore }
 {}
 
-/// Who goes on with a call on a device finds what it waited for: an item of the console, room for a byte, or the reply of its request.
+/// Who goes on with a call on a device finds what it waited for: an item of the console, room for a byte, or the reply of its request. So does
+/// who waited for a buffer of a pool.
 pub fn what_was_waited_for_is_there()
     ensures item { (s : Xinu) → IsSound s → asks_input (process_at s.tables s.tables.current).rest ≡ true →
         0 < length (console_of s).committed }
     ensures room { (s : Xinu) → IsSound s → asks_output (process_at s.tables s.tables.current).rest ≡ true →
         length (console_of s).output < TY_OBUFLEN }
     ensures reply { (reply : Option ℤ) (s : Xinu) → IsSound s → (process_at s.tables s.tables.current).rest ≡ Disk reply → IsSome reply }
+    ensures buffer { (i : ℕ) (s : Xinu) → IsSound s → (process_at s.tables s.tables.current).rest ≡ GetBuf i →
+        0 < length (pool_at s.parts.pools i).free }
 {}

@@ -13,6 +13,7 @@ use Rattle.xinu_base.specs.declared.processes.Rest.{Rest}
 use Rattle.xinu_base.specs.declared.processes.Rest.TheVariants as rest
 use Rattle.xinu_base.specs.declared.processes.State.TheVariants.{Current, Receiving}
 use Rattle.event_laws.specs.Replies.{first_of, value_kept}
+use Rattle.event_laws.proofs.Reply.Continued.{Never, either_never, put_byte_never, read_item_never, reads_never, take_char_never, writes_never}
 use Rattle.xinu_model.specs.Calls.{continued}
 use Rattle.xinu_model.specs.Clock.{due, wakeup}
 use Rattle.xinu_model.specs.Console.Constants.{TY_NEWLINE, TY_RETURN}
@@ -43,28 +44,15 @@ use Rattle.xinu_model.specs.Words.{signed}
 
 -- a call that doesn't answer -3
 abbrev InTime : CallResult → Type 0
-InTime result = result.answer ≡ Returns TIMEOUT → ⊥
+InTime result = Never 2 result
 
 -- a refusal
 refused_in_time : (s : Xinu) → InTime (refused s)
 refused_in_time s e = absurd (cc)
 
--- an answer that isn't negative
-answers_in_time : (d : CallState) (n : ℕ) → InTime (returns d (pos n))
-answers_in_time d n e = absurd (cc)
-
--- either of two ways to go on
-either_in_time : (b : Bool) (x y : CallResult) → InTime x → InTime y → InTime (cond b x y)
-either_in_time b x y k l = cond_both b x y InTime (λ _. k) (λ _. l)
-
--- one who waits for a token, or goes on with it
-await_in_time : (sem : ℕ) (left : Rest) (then_ : Xinu → CallResult) (s : Xinu) → ((u : Xinu) → InTime (then_ u))
-    → InTime (await sem left then_ s)
-await_in_time sem left then_ s go = by_tokens (semaphore_at s.tables sem).tokens
-  where
-    by_tokens : (tokens : ℕ) → InTime (take_token tokens sem left then_ s)
-    by_tokens zero = λ e. absurd (cc)
-    by_tokens (suc n) = go _
+-- the answer -3 isn't that of the end of the input
+not_end : suc (suc zero) ≢ suc zero
+not_end e = absurd (cc)
 
 -- a buffer that is taken
 take_first_in_time : (free : List ℕ) (i : ℕ) (s : Xinu) → InTime (take_first free i s)
@@ -75,62 +63,13 @@ take_first_in_time (a ∷ free) i s e = absurd (cc)
 put_message_in_time : (found : Option PortQueue) (q message : ℕ) (s : Xinu) → InTime (put_message found q message s)
 put_message_in_time None q message s = refused_in_time s
 put_message_in_time (Some queue) q message s =
-    either_in_time (nat_le most_nodes (nodes s.parts.ports)) _ _ (λ e. absurd (cc)) (λ e. absurd (cc))
+    either_never 2 (nat_le most_nodes (nodes s.parts.ports)) _ _ (λ e. absurd (cc)) (λ e. absurd (cc))
 
 -- a sender goes on
 finish_send_in_time : (ticket : PortTicket) (message : ℕ) (s : Xinu) → InTime (finish_send ticket message s)
 finish_send_in_time ticket message s =
-    either_in_time (is_stale ticket s.parts.ports) (refused s) _ (refused_in_time s)
+    either_never 2 (is_stale ticket s.parts.ports) (refused s) _ (refused_in_time s)
     (put_message_in_time (port_at s.parts.ports ticket.port).queue ticket.port message s)
-
--- a character, or the end mark
-char_in_time : (b : Bool) (n : ℕ) (s : Xinu) → InTime (answers (cond b EOF (pos n)) s)
-char_in_time true n s e = absurd (cc)
-char_in_time false n s e = absurd (cc)
-
--- the character is taken
-take_char_in_time : (items : List Item) (s : Xinu) → InTime (take_char items s)
-take_char_in_time [] s = λ e. absurd (cc)
-take_char_in_time (x ∷ items) s = char_in_time (is_cooked (console_of s).mode && is_end x) (byte_of x) (with_committed items s)
-
--- what a read answers at the end mark
-count_in_time : (done : ℕ) (s : Xinu) → InTime (answers (count_at_end done) s)
-count_in_time zero s e = absurd (cc)
-count_in_time (suc done) s e = absurd (cc)
-
--- an item is read, and then the rest
-read_item_in_time : (items : List Item) (at done : ℕ) (then_ : Xinu → CallResult) (s : Xinu) → ((u : Xinu) → InTime (then_ u))
-    → InTime (read_item items at done then_ s)
-read_item_in_time [] at done then_ s go = λ e. absurd (cc)
-read_item_in_time (x ∷ items) at done then_ s go =
-    either_in_time _ _ _ (count_in_time done (with_committed items s))
-    (either_in_time (ends_line (console_of s).mode x) _ _ (answers_in_time (start (stored x at done (with_committed items s))) (suc done))
-    (go (stored x at done (with_committed items s))))
-
--- a read goes on to its end
-reads_in_time : (left at done : ℕ) (s : Xinu) → InTime (reads left at done s)
-reads_in_time zero at done s = λ e. absurd (cc)
-reads_in_time (suc left) at done s =
-    await_in_time TY_ISEM (rest.TtyRead (span at done (done + suc left))) (read_next at done (reads left at (suc done))) s
-    (λ u. read_item_in_time (console_of u).committed at done (reads left at (suc done)) u (reads_in_time left at (suc done)))
-
--- a byte is put, and then the rest
-put_byte_in_time : (b : ℕ) (left : Rest) (then_ : Xinu → CallResult) (s : Xinu) → ((u : Xinu) → InTime (then_ u))
-    → InTime (put_byte b left then_ s)
-put_byte_in_time b left then_ s go =
-    either_in_time (needs_return b (console_of s).mode) (await TY_OSEM left (λ x. then_ (put TY_NEWLINE x)) (put TY_RETURN s))
-    (then_ (put b s))
-    (await_in_time TY_OSEM left (λ x. then_ (put TY_NEWLINE x)) (put TY_RETURN s) (λ u. go (put TY_NEWLINE u))) (go (put b s))
-
--- a write goes on to its end
-writes_in_time : (left at done : ℕ) (s : Xinu) → InTime (writes left at done s)
-writes_in_time zero at done s = λ e. absurd (cc)
-writes_in_time (suc left) at done s =
-    let part = span at done (done + suc left) in
-    await_in_time TY_OSEM (rest.TtyWrite part false)
-    (λ x. put_byte (slice_index x.memory (at + done)) (rest.TtyWrite part true) (writes left at (suc done)) x) s
-    (λ u. put_byte_in_time (slice_index u.memory (at + done)) (rest.TtyWrite part true) (writes left at (suc done)) u
-    (writes_in_time left at (suc done)))
 
 -- a message that is taken from a port answers it
 take_message_told : (messages : List ℕ) (queue : PortQueue) (q : ℕ) (s : Xinu) → (take_message messages queue q s).answer ≡ Returns TIMEOUT
@@ -179,19 +118,19 @@ continued_told rest.SelfSuspend s holds e = inl (cc)
 continued_told (rest.GetBuf i) s holds e = absurd (take_first_in_time (pool_at s.parts.pools i).free i (goes_on (held s) s) e)
 continued_told (rest.PtSend ticket message) s holds e = absurd (finish_send_in_time ticket message (goes_on (held s) s) e)
 continued_told (rest.PtRecv ticket) s holds e = inl (finish_receive_told ticket (goes_on (held s) s) e)
-continued_told rest.TtyGet s holds e = absurd (take_char_in_time (console_of s).committed (goes_on (held s) s) e)
+continued_told rest.TtyGet s holds e = absurd (take_char_never 2 not_end (console_of s).committed (goes_on (held s) s) e)
 continued_told (rest.TtyRead part) s holds e =
-    absurd (read_item_in_time (console_of s).committed part.at part.done (reads (part.want - suc part.done) part.at (suc part.done))
-    (goes_on (held s) s) (reads_in_time (part.want - suc part.done) part.at (suc part.done)) e)
+    absurd (read_item_never 2 not_end (console_of s).committed part.at part.done (reads (part.want - suc part.done) part.at (suc part.done))
+    (goes_on (held s) s) (reads_never 2 not_end (part.want - suc part.done) part.at (suc part.done)) e)
 continued_told (rest.TtyPut b true) s holds e = absurd (cc)
 continued_told (rest.TtyPut b false) s holds e =
-    absurd (put_byte_in_time b (rest.TtyPut b true) (answers OK) (goes_on (held s) s) (λ v f. absurd (cc)) e)
+    absurd (put_byte_never 2 b (rest.TtyPut b true) (answers OK) (goes_on (held s) s) (λ v f. absurd (cc)) e)
 continued_told (rest.TtyWrite part true) s holds e =
-    absurd (writes_in_time (part.want - suc part.done) part.at (suc part.done) (put TY_NEWLINE (goes_on (held s) s)) e)
+    absurd (writes_never 2 (part.want - suc part.done) part.at (suc part.done) (put TY_NEWLINE (goes_on (held s) s)) e)
 continued_told (rest.TtyWrite part false) s holds e =
-    absurd (put_byte_in_time (slice_index s.memory (part.at + part.done)) (rest.TtyWrite part true)
+    absurd (put_byte_never 2 (slice_index s.memory (part.at + part.done)) (rest.TtyWrite part true)
     (writes (part.want - suc part.done) part.at (suc part.done)) (goes_on (held s) s)
-    (writes_in_time (part.want - suc part.done) part.at (suc part.done)) e)
+    (writes_never 2 (part.want - suc part.done) part.at (suc part.done)) e)
 continued_told (rest.Disk None) s holds e = absurd (cc)
 continued_told (rest.Disk (Some reply)) s holds e = inl (cc)
 continued_told rest.Nothing s holds e = absurd (cc)
