@@ -78,6 +78,8 @@ int	kill(
 	)
 {
 	if (number != 0 && pid == xgetpid()) {
+		fflush(stderr);
+		sleepms(2);
 		__asm__ volatile ("ebreak");
 	}
 	if ((number == 0 ? getprio(pid) : xkill(pid)) == SYSERR) {
