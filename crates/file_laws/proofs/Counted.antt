@@ -2,7 +2,7 @@
 use Rattle.std.proofs.Common.{◌≡◌, ℕ, zero, suc, ◌+◌, ◌/◌, ◌<◌, ◌≤◌, Bool, true, false, cond, not, ◌&&◌, nat_lt, List, [], ◌∷◌, ◌++◌, length, refl, sym, ap, ◌∙◌, subst, arith, slice_index_or, slice_set, count_by, None}
 use Rattle.std.proofs.lemmas.List.{length-map}
 use Rattle.std.proofs.lemmas.List.Sums.{sum_by-cons}
-use Rattle.std.proofs.lemmas.Bool.{false≢true}
+use Rattle.std.proofs.lemmas.Bool.{and_parts, not-false}
 use Rattle.std.proofs.lemmas.Bool.Decides.{nat_tests}
 use Rattle.lfs_format.specs.declared.Entry.{Entry}
 use Rattle.lfs_format.specs.Directory.{dir_of, void_entry}
@@ -14,13 +14,12 @@ use Rattle.lfs_check.specs.Disks.{disk_geometry, entries, entry_at, header_on}
 use Rattle.lfs_check.proofs.Nones.{first_from-each}
 use Rattle.lfs_check.proofs.Images.{image_sizes, image_blocks, image_counts}
 use Rattle.lfs_check.proofs.Directories.{geometry_is, entries_are}
+use Rattle.lfs_check.proofs.KeepsAll.{passed, either-way, none-failing}
 use Rattle.lfs_layout.specs.Files.{files_of}
 use Rattle.lfs_layout.specs.Images.{IsCleanImage}
-use Rattle.lfs_layout.proofs.CleanRoom.{cond_none}
 use Rattle.lfs_layout.proofs.ImageLaws.{used_files}
 use Rattle.file_laws.specs.StoredFiles.{stored, stored_files}
-use Rattle.file_laws.proofs.Names.{either-way, and-true}
-use Rattle.file_laws.proofs.Named.{length_entries, block_none}
+use Rattle.file_laws.proofs.Named.{length_entries}
 
 -- There are as many files as used entries.
 pub files_counted : (base : List ℕ) → IsCleanImage base → length (stored_files base) ≡ count_by entry_is_used (entries base)
@@ -56,11 +55,6 @@ count_less test (e ∷ es) (suc k) h f =
     let b : cond (test e) 1 0 ≤ 1 = either-way (test e) (λ v. cond v 1 0 ≤ 1) (λ _. omega arith) (λ _. omega arith) in
     omega (arith, i, c, b)
 
--- a test passes if its negation fails
-not-false : (a : Bool) → not a ≡ false → a ≡ true
-not-false true e = refl
-not-false false e = absurd (false≢true (sym e))
-
 -- the number of files of a clean disk is that in its directory
 pub base_counted : (base : List ℕ) → IsCleanImage base → count_by entry_is_used (entries base) ≡ (header_on base).files
 unfolding entries header_on
@@ -73,7 +67,7 @@ base_counted base c =
     (omega arith) (let six : g.dirs ≡ 6 = ap (λ (x : Geometry). x.dirs) (geometry_is base c.version) in omega (arith, six))) in
     let six : P (disk_geometry (length base / 512)) = subst P (geometry_is base c.version) all in
     let h = header_2 (dir_of (block_in base 0)) in
-    let two = and-true (begins_right h (entries_2 base) (block_in base 0) 0)
+    let two = and_parts (begins_right h (entries_2 base) (block_in base 0) 0)
     (ends_right (disk_geometry (length base / 512)) (block_in base 0)) six in
     let t = two.0 in grind (arith, nat_tests)
 
@@ -97,10 +91,10 @@ sizes_at : (most : ℕ) (before es : List Entry) → first_failing (λ before e.
 unfolding first_failing
 sizes_at most before [] e k h u = absurd (omega (arith, h))
 sizes_at most before (x ∷ es) e zero h u =
-    let parts = cond_none (is_larger most x) (length before) (first_failing (λ before e. is_larger most e) (before ++ x ∷ []) es) e in
+    let parts = passed (is_larger most x) (length before) (first_failing (λ before e. is_larger most e) (before ++ x ∷ []) es) e in
     let t : nat_lt most x.size ≡ false = sym (ap (λ v. v && nat_lt most x.size) u) ∙ parts.0 in grind (arith, nat_tests)
 sizes_at most before (x ∷ es) e (suc k) h u =
-    let parts = cond_none (is_larger most x) (length before) (first_failing (λ before e. is_larger most e) (before ++ x ∷ []) es) e in
+    let parts = passed (is_larger most x) (length before) (first_failing (λ before e. is_larger most e) (before ++ x ∷ []) es) e in
     sizes_at most (before ++ x ∷ []) es parts.1 k (omega (arith, h)) u
 
 -- the file of an entry has room on the disk
@@ -112,7 +106,7 @@ entry_fits base c k h u =
     let none : first_failing (λ before e. is_larger (room (disk_geometry (length base / 512))) e) [] (entries base) ≡ None =
     ap (first_failing (λ before e. is_larger (room (disk_geometry (length base / 512))) e) []) (sym (entries_are base c.version))
     ∙ ap (λ x. first_failing (λ before e. is_larger (room x) e) [] (directory_entries g base)) (sym (geometry_is base c.version))
-    ∙ block_none g (first_failing (λ before e. is_larger (room g) e) [] (directory_entries g base)) (image_sizes base c.faultless) in
+    ∙ none-failing g (first_failing (λ before e. is_larger (room g) e) [] (directory_entries g base)) (image_sizes base c.faultless) in
     sizes_at (room (disk_geometry (length base / 512))) [] (entries base) none k (omega (arith, h, len)) u
 
 -- it is below 2^25 bytes

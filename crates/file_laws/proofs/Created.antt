@@ -21,9 +21,11 @@ use Rattle.lfs_check.proofs.Directories.{geometry_is}
 use Rattle.lfs_check.proofs.Moved.{IsMoved, Laid-moved, data_range}
 use Rattle.lfs_layout.specs.Files.{File, bare_name, content_of, files_in, sorted, with_file, files_of}
 use Rattle.lfs_layout.specs.Images.{IsCleanImage}
+use Rattle.lfs_layout.proofs.MadeRules.{name_used}
+use Rattle.lfs_layout.proofs.Ordered.{bytes-swap}
 use Rattle.xinu_model.specs.Files.Stored.{StoredFile, with_stored, empty_file}
 use Rattle.file_laws.specs.StoredFiles.{stored, stored_files, empty_entry, one_more}
-use Rattle.file_laws.proofs.Names.{name_padded, name_used, bytes-swap}
+use Rattle.file_laws.proofs.Names.{name_padded}
 use Rattle.file_laws.proofs.Named.{length_entries, entry_right, clean_names, file_in}
 use Rattle.file_laws.specs.Rewriting.{IsRewriting, rewritten, IsCreated}
 use Rattle.file_laws.proofs.Counted.{count_put, count_most, base_counted, entry_fits}

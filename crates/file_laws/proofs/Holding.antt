@@ -2,7 +2,7 @@
 use Rattle.std.proofs.Common.{◌≡◌, ◌≢◌, ℕ, zero, suc, ◌<◌, ◌≤◌, Bool, true, false, cond, List, [], ◌∷◌, length, take, refl, sym, ap, ◌∙◌, subst, arith, slice_index_or, ⊎_elim, ◌⊎◌, inl, inr, Option, Some, None, bytes_eq}
 use Rattle.std.specs.Option.{option_map}
 use Rattle.std.specs.List.{flat_map, find}
-use Rattle.std.proofs.lemmas.Bool.{cases_eq, false≢true}
+use Rattle.std.proofs.lemmas.Bool.{cases_eq, false≢true, and_parts}
 use Rattle.std.proofs.lemmas.Slice.Eq.{bytes_eq-Decides}
 use Rattle.lfs_format.specs.declared.Entry.{Entry}
 use Rattle.lfs_format.specs.Directory.{void_entry}
@@ -15,12 +15,13 @@ use Rattle.lfs_check.specs.Fields.{geometry_of, fields_of}
 use Rattle.lfs_check.specs.Disks.{disk_geometry, entries, entry_at, is_this}
 use Rattle.lfs_check.proofs.Right.{version_is}
 use Rattle.lfs_check.proofs.Steps.{times_in-two, times_in-part}
+use Rattle.lfs_check.proofs.KeepsAll.{either-way}
 use Rattle.lfs_layout.specs.Files.{bare_name}
 use Rattle.lfs_layout.specs.Images.{IsCleanImage}
 use Rattle.xinu_model.specs.Files.Stored.{StoredFile, file_named}
 use Rattle.file_laws.specs.StoredFiles.{stored, stored_files, entry_chain, entry_data}
 use Rattle.file_laws.specs.Holds.{HasStored, Holds}
-use Rattle.file_laws.proofs.Names.{either-way, and-true, name_padded}
+use Rattle.file_laws.proofs.Names.{name_padded}
 use Rattle.file_laws.proofs.Named.{IsName, bytes_sized, length_entries, names_differ, named_by, file_in}
 use Rattle.file_laws.proofs.Kept.{IsKept, ended_geometry}
 
@@ -132,7 +133,7 @@ kept_holds n base disk slot p rests c kept busy now = record {
 
     -- a used entry of a name
     is_so : (name : List ℕ) (e : Entry) → is_this name e ≡ true → (entry_is_used e ≡ true) × (e.name ≡ name)
-    is_so name e t = let two = and-true (entry_is_used e) (bytes_eq e.name name) t in (two.0, (bytes_eq-Decides e.name name).0 two.1)
+    is_so name e t = let two = and_parts (entry_is_used e) (bytes_eq e.name name) t in (two.0, (bytes_eq-Decides e.name name).0 two.1)
 
     -- the entry of the slot hasn't a name at rest
     not_slot : (name : List ℕ) (k : ℕ) → k < 78 → rests (bare_name name) ≡ true → k ≡ slot → is_this name (entry_at disk k) ≡ false
@@ -173,6 +174,6 @@ kept_holds n base disk slot p rests c kept busy now = record {
         alone : (name : List ℕ) (k j : ℕ) → k < 78 → j < 78 → j ≢ k → entry_is_used (entry_at base k) ≡ true → (entry_at base k).name ≡ name
             → is_this name (entry_at base j) ≡ false
         alone name k j hk hj ne u e = either-way (is_this name (entry_at base j)) (λ v. is_this name (entry_at base j) ≡ v → v ≡ false)
-            (λ _ t. (let two = and-true (entry_is_used (entry_at base j)) (bytes_eq (entry_at base j).name name) t in
+            (λ _ t. (let two = and_parts (entry_is_used (entry_at base j)) (bytes_eq (entry_at base j).name name) t in
             absurd (false≢true (sym (names_differ base c k j hk hj ne u two.0) ∙ ap (bytes_eq (entry_at base j).name) e ∙ two.1)))) (λ _ t.
             refl) refl

@@ -2,27 +2,30 @@
 use Rattle.std.proofs.Common.{◌≡◌, ◌≢◌, ⊎_elim, ℕ, zero, suc, ◌/◌, ◌<◌, ◌≤◌, Bool, true, false, cond, not, ◌&&◌, ◌||◌, List, [], ◌∷◌, ◌++◌, length, map, refl, sym, ap, ◌∙◌, subst, arith, slice_index_or, bytes_eq, Option, Some, None}
 use Rattle.std.specs.Option.{option_map}
 use Rattle.std.specs.List.{find}
-use Rattle.std.proofs.lemmas.Bool.{false≢true, cases_lt}
+use Rattle.std.proofs.lemmas.Bool.{false≢true, cases_lt, and_parts, or_parts, not-true, not-false}
 use Rattle.std.proofs.lemmas.List.Folds.{list_any-append}
 use Rattle.std.proofs.lemmas.Slice.Eq.{bytes_eq-Decides}
+use Rattle.std.proofs.Math.Bool.{or-true}
 use Rattle.lfs_format.specs.declared.Entry.{Entry}
 use Rattle.lfs_format.specs.declared.Index.{Index}
 use Rattle.lfs_format.specs.Directory.{void_entry}
 use Rattle.lfs_check.specs.declared.geometry.Geometry.{Geometry}
 use Rattle.lfs_check.specs.Geometries.{longest_name}
-use Rattle.lfs_check.specs.Rules.{entry_is_used, is_name, has_name, first_failing, has_bad_name, in_entry_block}
+use Rattle.lfs_check.specs.Rules.{entry_is_used, is_name, has_name, first_failing, has_bad_name}
 use Rattle.lfs_check.specs.Fields.{geometry_of, fields_of, directory_entries}
 use Rattle.lfs_check.proofs.Images.{image_names, whole_blocks, image_blocks}
 use Rattle.lfs_check.specs.Disks.{entries, entry_at, is_this}
 use Rattle.lfs_check.proofs.Directories.{entries_wide, entries_are, geometry_is}
+use Rattle.lfs_check.proofs.KeepsAll.{passed, either-way, none-failing}
 use Rattle.lfs_layout.specs.Files.{File, bare_name, content_of, files_in, placed_files, is_before, with_file, sorted, files_of, names_right, names_of, is_among}
 use Rattle.lfs_layout.specs.Images.{IsCleanImage}
-use Rattle.lfs_layout.proofs.CleanRoom.{cond_none, files_wide, length_bytes}
+use Rattle.lfs_layout.proofs.CleanRoom.{files_wide, length_bytes}
 use Rattle.lfs_layout.specs.Made.{no_file}
 use Rattle.lfs_layout.proofs.CleanOpens.{all_whole, placed_names}
+use Rattle.lfs_layout.proofs.Ordered.{bytes-swap}
 use Rattle.xinu_model.specs.Files.Stored.{file_named, precedes}
 use Rattle.file_laws.specs.StoredFiles.{stored, stored_files, entry_bytes}
-use Rattle.file_laws.proofs.Names.{either-way, and-true, IsPadded, name_padded, bare_same, bare_order, bytes-swap}
+use Rattle.file_laws.proofs.Names.{IsPadded, name_padded, bare_same, bare_order}
 
 -- the first file of a name with zeros after it
 abbrev pub file_by : List ℕ → List File → Option File
@@ -105,33 +108,18 @@ by_entries g ix image n (e ∷ es) =
     (cond v (Some e) (entry_by n es))) (λ _. refl) (λ _. refl))
     (λ _. i)
 
--- neither of two tests passes
-or-false : (a b : Bool) → a || b ≡ false → (a ≡ false) × (b ≡ false)
-or-false true b e = absurd (false≢true (sym e))
-or-false false b e = (refl, e)
-
--- a test fails if its negation passes
-not-true : (a : Bool) → not a ≡ true → a ≡ false
-not-true true e = absurd (false≢true e)
-not-true false e = refl
-
 -- no file has a name that is among those before
 among-absent : (before : List (List ℕ)) (n : List ℕ) (files : List File) → names_right 27 before (names_of files) ≡ true
     → is_among before n ≡ true → file_by n files ≡ None
 among-absent before n [] e h = refl
 among-absent before n (f ∷ files) e h =
-    let parts = and-true (is_name 27 f.name && not (is_among before f.name)) (names_right 27 (before ++ f.name ∷ []) (names_of files)) e in
-    let fresh = not-true (is_among before f.name) (and-true (is_name 27 f.name) (not (is_among before f.name)) parts.0).1 in
+    let parts = and_parts (is_name 27 f.name && not (is_among before f.name)) (names_right 27 (before ++ f.name ∷ []) (names_of files)) e in
+    let fresh = not-true (is_among before f.name) (and_parts (is_name 27 f.name) (not (is_among before f.name)) parts.0).1 in
     let other : bytes_eq f.name n ≡ false = either-way (bytes_eq f.name n) (λ v. bytes_eq f.name n ≡ v → v ≡ false)
     (λ _ t. absurd (false≢true (sym fresh ∙ ap (is_among before) ((bytes_eq-Decides f.name n).0 t) ∙ h))) (λ _ t. refl) refl in
     let more : is_among (before ++ f.name ∷ []) n ≡ true = list_any-append (λ m. bytes_eq m n) before (f.name ∷ [])
     ∙ ap (λ v. v || (bytes_eq f.name n || false)) h in
     ap (λ v. cond v (Some f) (file_by n files)) other ∙ among-absent (before ++ f.name ∷ []) n files parts.1 more
-
--- one of two tests passes
-or-true : (a : Bool) → a || true ≡ true
-or-true true = refl
-or-true false = refl
 
 -- bytes are the same as themselves
 bytes-self : (xs : List ℕ) → bytes_eq xs xs ≡ true
@@ -141,7 +129,7 @@ bytes-self xs = (bytes_eq-Decides xs xs).1 refl
 pub names_apart : (before : List (List ℕ)) (files : List File) → names_right 27 before (names_of files) ≡ true → AreApartFiles files
 names_apart before [] e = tt
 names_apart before (f ∷ files) e =
-    let parts = and-true (is_name 27 f.name && not (is_among before f.name)) (names_right 27 (before ++ f.name ∷ []) (names_of files)) e in
+    let parts = and_parts (is_name 27 f.name && not (is_among before f.name)) (names_right 27 (before ++ f.name ∷ []) (names_of files)) e in
     let here : is_among (before ++ f.name ∷ []) f.name ≡ true = list_any-append (λ m. bytes_eq m f.name) before (f.name ∷ [])
     ∙ ap (λ v. is_among before f.name || (v || false)) (bytes-self f.name) ∙ or-true (is_among before f.name) in
     (among-absent (before ++ f.name ∷ []) f.name files parts.1 here, names_apart (before ++ f.name ∷ []) files parts.1)
@@ -151,9 +139,9 @@ pub names_names : (before : List (List ℕ)) (files : List File) → names_right
     → ((k : ℕ) → k < length files → length (slice_index_or files k no_file).name ≡ 28) → AreNames files
 names_names before [] e w = tt
 names_names before (f ∷ files) e w =
-    let parts = and-true (is_name 27 f.name && not (is_among before f.name)) (names_right 27 (before ++ f.name ∷ []) (names_of files)) e in (
+    let parts = and_parts (is_name 27 f.name && not (is_among before f.name)) (names_right 27 (before ++ f.name ∷ []) (names_of files)) e in (
       record {
-        padded = name_padded 27 f.name (and-true (is_name 27 f.name) (not (is_among before f.name)) parts.0).0;
+        padded = name_padded 27 f.name (and_parts (is_name 27 f.name) (not (is_among before f.name)) parts.0).0;
         long = w 0 (omega arith);
       },
       names_names (before ++ f.name ∷ []) files parts.1 (λ k h. w (suc k) (omega (arith, h))),
@@ -188,21 +176,17 @@ pub right_at : (g : Geometry) (before es : List Entry) → first_failing (has_ba
 unfolding first_failing has_name
 right_at g before [] e k h u = absurd (omega (arith, h))
 right_at g before (x ∷ es) e zero h u =
-    let parts = cond_none (has_bad_name g before x) (length before) (first_failing (has_bad_name g) (before ++ x ∷ []) es) e in
+    let parts = passed (has_bad_name g before x) (length before) (first_failing (has_bad_name g) (before ++ x ∷ []) es) e in
     let bad : not (is_name (longest_name g) x.name) || has_name before x.name ≡ false =
     sym (ap (λ v. v && (not (is_name (longest_name g) x.name) || has_name before x.name)) u) ∙ parts.0 in
-    let two = or-false (not (is_name (longest_name g) x.name)) (has_name before x.name) bad in
+    let two = or_parts (not (is_name (longest_name g) x.name)) (has_name before x.name) bad in
     record { name = not-false (is_name (longest_name g) x.name) two.0; fresh = two.1; first = λ j l. absurd (omega (arith, l)) }
-  where
-    not-false : (a : Bool) → not a ≡ false → a ≡ true
-    not-false true e = refl
-    not-false false e = absurd (false≢true (sym e))
 right_at g before (x ∷ es) e (suc k) h u =
-    let parts = cond_none (has_bad_name g before x) (length before) (first_failing (has_bad_name g) (before ++ x ∷ []) es) e in
+    let parts = passed (has_bad_name g before x) (length before) (first_failing (has_bad_name g) (before ++ x ∷ []) es) e in
     let i = right_at g (before ++ x ∷ []) es parts.1 k (omega (arith, h)) u in
     let n = (slice_index_or es k void_entry).name in
-    let both = or-false (has_name before n) (is_this n x || false) (sym (list_any-append (is_this n) before (x ∷ [])) ∙ i.fresh) in
-    let here = or-false (is_this n x) false both.1 in
+    let both = or_parts (has_name before n) (is_this n x || false) (sym (list_any-append (is_this n) before (x ∷ [])) ∙ i.fresh) in
+    let here = or_parts (is_this n x) false both.1 in
     record { name = i.name; fresh = both.0; first = λ j l. earlier g x es k (λ m q. i.first m q) here.0 j l }
   where
     earlier : (g : Geometry) (x : Entry) (es : List Entry) (k : ℕ)
@@ -226,11 +210,6 @@ length_entries base c =
     let len = w.0 in
     (len, λ k h. w.1 k (omega (arith, len, h)))
 
--- no entry is named by a rule that nothing breaks
-pub block_none : (g : Geometry) (o : Option ℕ) → in_entry_block g o ≡ None → o ≡ None
-block_none g None e = refl
-block_none g (Some k) e = absurd (cc (e))
-
 -- a used entry of a clean disk has a name that no earlier entry has
 pub entry_right : (base : List ℕ) → IsCleanImage base → (k : ℕ) → k < 78 → entry_is_used (entry_at base k) ≡ true
     → HasRightName 27 [] (entries base) k
@@ -239,7 +218,7 @@ entry_right base c k h u =
     let len = (length_entries base c).0 in
     let r : first_failing (has_bad_name g) [] (entries base) ≡ None =
     ap (first_failing (has_bad_name g) []) (sym (entries_are base c.version))
-    ∙ block_none g (first_failing (has_bad_name g) [] (directory_entries g base)) (image_names base c.faultless) in
+    ∙ none-failing g (first_failing (has_bad_name g) [] (directory_entries g base)) (image_names base c.faultless) in
     let P : Geometry → Type 0 = λ x. HasRightName (longest_name x) [] (entries base) k in
     subst P (geometry_is base c.version) (right_at g [] (entries base) r k (omega (arith, h, len)) u)
 
@@ -271,7 +250,7 @@ with_names f (g ∷ files) h a = either-way (is_before f.name g.name) (λ v. Are
     (h, a)) (λ _. (a.0, with_names f files h a.1))
 
 -- files with names in their order
-sorted_names : (files : List File) → AreNames files → AreNames (sorted files)
+pub sorted_names : (files : List File) → AreNames files → AreNames (sorted files)
 sorted_names [] a = tt
 sorted_names (f ∷ files) a = with_names f (sorted files) a.0 (sorted_names files a.1)
 

@@ -1,21 +1,11 @@
 -- Names with zeros after them, and the same names without.
-use Rattle.std.proofs.Common.{◌≡◌, ℕ, zero, suc, ◌+◌, Bool, true, false, cond, not, ◌&&◌, nat_eq, nat_lt, nat_le, List, [], ◌∷◌, length, slice_index, take, drop, refl, sym, ap, ◌∙◌, arith, bytes_eq}
+use Rattle.std.proofs.Common.{◌≡◌, ℕ, zero, suc, ◌+◌, true, false, cond, not, ◌&&◌, nat_eq, nat_lt, nat_le, List, [], ◌∷◌, length, take, drop, refl, sym, ap, ◌∙◌, arith, bytes_eq}
 use Rattle.std.specs.List.{prefix_len}
-use Rattle.std.proofs.lemmas.Bool.{false≢true}
+use Rattle.std.proofs.lemmas.Bool.{and_parts}
 use Rattle.std.proofs.lemmas.Bool.Decides.{nat_tests}
 use Rattle.lfs_check.specs.Rules.{text_length, are_zeros, is_name}
 use Rattle.lfs_layout.specs.Files.{bare_name, is_before}
 use Rattle.xinu_model.specs.Files.Stored.{precedes}
-
--- by cases on a test
-pub either-way : (b : Bool) (P : Bool → Type 0) → (b ≡ true → P true) → (b ≡ false → P false) → P b
-either-way true P t f = t refl
-either-way false P t f = f refl
-
--- both tests pass
-pub and-true : (a b : Bool) → a && b ≡ true → (a ≡ true) × (b ≡ true)
-and-true true b e = (refl, e)
-and-true false b e = absurd (false≢true e)
 
 -- a name has zeros after its text
 abbrev pub IsPadded : List ℕ → Type 0
@@ -24,7 +14,7 @@ IsPadded name = are_zeros (drop (text_length name) name) ≡ true
 -- what can be a name has zeros after its text
 pub name_padded : (longest : ℕ) (name : List ℕ) → is_name longest name ≡ true → IsPadded name
 unfolding is_name
-name_padded longest name e = (and-true (nat_lt 0 (text_length name) && nat_le (text_length name) longest)
+name_padded longest name e = (and_parts (nat_lt 0 (text_length name) && nat_le (text_length name) longest)
     (are_zeros (drop (text_length name) name)) e).1
 
 -- a zero byte ends the text
@@ -69,7 +59,7 @@ zeros-same [] [] l a b = refl
 zeros-same [] (y ∷ ys) l a b = absurd (omega (arith, l))
 zeros-same (x ∷ xs) [] l a b = absurd (omega (arith, l))
 zeros-same (x ∷ xs) (y ∷ ys) l a b =
-    let p = and-true (nat_eq x 0) (are_zeros xs) a in let q = and-true (nat_eq y 0) (are_zeros ys) b in
+    let p = and_parts (nat_eq x 0) (are_zeros xs) a in let q = and_parts (nat_eq y 0) (are_zeros ys) b in
     let t = p.0 in let u = q.0 in
     let e : nat_eq x y ≡ true = grind (arith, nat_tests) in
     ap (λ v. v && bytes_eq xs ys) e ∙ zeros-same xs ys (omega (arith, l)) p.1 q.1
@@ -80,7 +70,7 @@ zeros-not-before [] [] l a b = refl
 zeros-not-before [] (y ∷ ys) l a b = absurd (omega (arith, l))
 zeros-not-before (x ∷ xs) [] l a b = absurd (omega (arith, l))
 zeros-not-before (x ∷ xs) (y ∷ ys) l a b =
-    let p = and-true (nat_eq x 0) (are_zeros xs) a in let q = and-true (nat_eq y 0) (are_zeros ys) b in
+    let p = and_parts (nat_eq x 0) (are_zeros xs) a in let q = and_parts (nat_eq y 0) (are_zeros ys) b in
     let t = p.0 in let u = q.0 in
     let e : nat_eq x y ≡ true = grind (arith, nat_tests) in
     ap (λ v. cond v (is_before xs ys) (nat_lt x y)) e ∙ zeros-not-before xs ys (omega (arith, l)) p.1 q.1
@@ -144,23 +134,3 @@ bare_order (suc x ∷ xs) (suc y ∷ ys) l a b =
     let p = begins (suc x) xs (nonzero x) in let q = begins (suc y) ys (nonzero y) in
     ap (λ t. precedes t (bare_name (suc y ∷ ys))) p.bare ∙ ap (precedes (suc x ∷ bare_name xs)) q.bare
     ∙ ap (λ v. cond (nat_eq (suc x) (suc y)) v (nat_lt (suc x) (suc y))) (bare_order xs ys (omega (arith, l)) (p.rest a) (q.rest b))
-
--- what can be a name begins with a byte that is not zero
-pub name_used : (longest : ℕ) (name : List ℕ) → is_name longest name ≡ true → not (nat_eq (slice_index name 0) 0) ≡ true
-unfolding is_name text_length
-name_used longest [] e = absurd (false≢true e)
-name_used longest (x ∷ name) e =
-    let P : Bool → Type 0 = λ b. nat_lt 0 (cond b (1 + prefix_len (λ c. not (nat_eq c 0)) name) 0) && nat_le (cond b (1 + prefix_len (λ c.
-    not (nat_eq c 0)) name) 0) longest && are_zeros (drop (cond b (1 + prefix_len (λ c. not (nat_eq c 0)) name) 0) (x ∷ name)) ≡ true
-    → b ≡ true in
-    let all : (b : Bool) → P b = λ b. elim b as (λ b. P b) [ true ↦ (λ t. refl) | false ↦ (λ t. absurd (false≢true t)) ] in
-    all (not (nat_eq x 0)) e
-
--- a test for the same bytes does not depend on their order
-pub bytes-swap : (xs ys : List ℕ) → bytes_eq xs ys ≡ bytes_eq ys xs
-bytes-swap [] [] = refl
-bytes-swap [] (y ∷ ys) = refl
-bytes-swap (x ∷ xs) [] = refl
-bytes-swap (x ∷ xs) (y ∷ ys) =
-    let e : nat_eq x y ≡ nat_eq y x = grind (arith, nat_tests) in ap (λ v. v && bytes_eq xs ys) e
-    ∙ ap (λ v. nat_eq y x && v) (bytes-swap xs ys)

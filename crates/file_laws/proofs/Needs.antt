@@ -20,12 +20,12 @@ use Rattle.xinu_model.specs.Files.Stored.{StoredFile, with_contents}
 use Rattle.xinu_model.specs.Sound.Tables.{total}
 use Rattle.file_laws.specs.StoredFiles.{stored, stored_files}
 use Rattle.file_laws.specs.Middle.{shape_with, IsMiddle}
-use Rattle.file_laws.proofs.Names.{either-way}
 use Rattle.file_laws.proofs.Created.{placed}
 use Rattle.file_laws.proofs.Finished.{with_bytes, sorted_rewritten, stored_rewritten}
 use Rattle.lfs_check.specs.Checks.{need_data, need_index}
 use Rattle.lfs_check.proofs.Steps.{times-append}
 use Rattle.lfs_check.proofs.Counting.{joined, data_filled, length-once, times-joined, in_range}
+use Rattle.lfs_check.proofs.KeepsAll.{either-way}
 use Rattle.xinu_model.specs.Files.Room.{data_blocks, data_room, data_needed, they_fit, index_blocks, index_needed, index_room}
 use Rattle.file_laws.proofs.Named.{names_differ, length_entries, entry_name, clean_names, bytes_sized, file_in}
 

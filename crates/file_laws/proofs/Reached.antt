@@ -22,9 +22,9 @@ use Rattle.lfs_check.proofs.Steps.{times-at, times_in-part}
 use Rattle.lfs_check.proofs.Changed.{Changes, Laid-changed}
 use Rattle.lfs_check.proofs.Moved.{data_range, in_range}
 use Rattle.lfs_check.proofs.Writes.{index_read, link_read}
+use Rattle.lfs_check.proofs.KeepsAll.{either-way}
 use Rattle.file_laws.specs.Middle.{shape_with, content_at, IsMiddle}
 use Rattle.file_laws.specs.Changing.{IsReadBy}
-use Rattle.file_laws.proofs.Names.{either-way}
 use Rattle.file_laws.proofs.Rewritten.{entry_count}
 use Rattle.file_laws.proofs.Middles.{middle_taken}
 use Rattle.file_laws.proofs.Freed.{middle_index_taken}

@@ -22,11 +22,12 @@ use Rattle.lfs_check.proofs.Instances.{dropped}
 use Rattle.lfs_check.specs.Disks.{is_this, entries, entry_at, header_on, disk_geometry, IsDirectory, IsRight}
 use Rattle.lfs_check.proofs.Directories.{geometry_is, joined_same}
 use Rattle.lfs_check.proofs.Moved.{IsMoved, Laid-moved, data_range}
+use Rattle.lfs_check.proofs.KeepsAll.{either-way}
 use Rattle.lfs_layout.specs.Files.{File, bare_name, content_of, files_in, sorted, with_file, files_of, is_before}
 use Rattle.xinu_model.specs.Files.Stored.{without_file, is_named}
 use Rattle.file_laws.specs.StoredFiles.{stored, stored_files, entry_bytes}
 use Rattle.file_laws.specs.Middle.{shape_with, content_at, IsMiddle}
-use Rattle.file_laws.proofs.Names.{either-way, bare_same}
+use Rattle.file_laws.proofs.Names.{bare_same}
 use Rattle.file_laws.proofs.Named.{names_differ, IsName, AreNames, length_entries, entry_right, entry_name, clean_names, file_in}
 use Rattle.file_laws.proofs.Counted.{entry_fits, base_counted}
 use Rattle.file_laws.specs.Rewriting.{IsRemoved, IsCleared, IsRewriting, rewritten}

@@ -1,6 +1,6 @@
 -- The bytes of the directory outside its entries stay when it is written.
 use Rattle.std.proofs.Common.{◌≡◌, ◌≢◌, ℕ, ◌*◌, ◌/◌, ◌<◌, Bool, true, false, cond, not, nat_eq, List, [], ◌∷◌, length, take, drop, replicate, refl, sym, ap, ◌∙◌, subst, arith, slice_index, length-take, length-drop, ⊎_elim, None, count_by}
-use Rattle.std.proofs.lemmas.Bool.{cases_eq, false≢true}
+use Rattle.std.proofs.lemmas.Bool.{cases_eq, and_parts, not-false}
 use Rattle.std.proofs.lemmas.Bool.Decides.{nat_tests}
 use Rattle.std.proofs.lemmas.Slice.Eq.{bytes_eq-Decides}
 use Rattle.lfs_format.specs.declared.Entry.{Entry}
@@ -19,14 +19,8 @@ use Rattle.lfs_check.proofs.Directories.{geometry_is}
 use Rattle.lfs_check.proofs.BlockPuts.{put_same, put_other}
 use Rattle.lfs_check.proofs.Right.{right_clean as right_no_fault}
 use Rattle.lfs_layout.specs.Images.{IsCleanImage}
-use Rattle.file_laws.proofs.Names.{and-true}
 use Rattle.file_laws.specs.Rewriting.{IsRewriting, rewritten}
 use Rattle.file_laws.proofs.Rewritten.{rewritten_long}
-
--- a test passes if its negation fails
-not-false : (a : Bool) → not a ≡ false → a ≡ true
-not-false true e = refl
-not-false false e = absurd (false≢true (sym e))
 
 -- the directory of a clean disk
 pub base_directory : (base : List ℕ) → IsCleanImage base → IsDirectory base
@@ -40,7 +34,7 @@ base_directory base c =
     not (is_dir_block (disk_geometry (length base / 512)) h es base d)) 0 6 none d (omega arith) (omega (arith, l))) in
     let two : (d : ℕ) → d < 6 → (begins_right h es (block_in base d) d ≡ true)
     × (ends_right (disk_geometry (length base / 512)) (block_in base d) ≡ true) = λ d l.
-    and-true (begins_right h es (block_in base d) d) (ends_right (disk_geometry (length base / 512)) (block_in base d)) (each d l) in
+    and_parts (begins_right h es (block_in base d) d) (ends_right (disk_geometry (length base / 512)) (block_in base d)) (each d l) in
     record {
       begins = λ d p l. (let t : nat_eq d 0 ≡ false = grind (arith, nat_tests) in
           sym (ap (λ v. cond v (nat_eq (count_by entry_is_used es) h.files) (are_zeros (take 12 (block_in base d)))) t) ∙ (two d l).0);
@@ -51,7 +45,7 @@ base_directory base c =
 zeros_are : (xs : List ℕ) → are_zeros xs ≡ true → xs ≡ replicate (length xs) 0
 zeros_are [] e = refl
 zeros_are (x ∷ xs) e =
-    let p = and-true (nat_eq x 0) (are_zeros xs) e in let t = p.0 in
+    let p = and_parts (nat_eq x 0) (are_zeros xs) e in let t = p.0 in
     let z : x ≡ 0 = grind (arith, nat_tests) in
     ap (λ k. k ∷ xs) z ∙ ap (λ l. 0 ∷ l) (zeros_are xs p.1)
 

@@ -6,11 +6,12 @@ use Rattle.lfs_format.specs.declared.Index.{Index}
 use Rattle.lfs_format.specs.Directory.{void_entry}
 use Rattle.lfs_check.specs.declared.geometry.Geometry.{Geometry}
 use Rattle.lfs_check.specs.Rules.{entry_is_used}
+use Rattle.lfs_check.proofs.KeepsAll.{either-way}
 use Rattle.lfs_layout.specs.Files.{File, content_of, files_in, is_before, with_file, sorted}
 use Rattle.lfs_layout.proofs.Ordered.{before-not, before-total, before-trans}
 use Rattle.xinu_model.specs.Files.Stored.{with_stored}
 use Rattle.file_laws.specs.StoredFiles.{stored}
-use Rattle.file_laws.proofs.Names.{either-way, bare_order}
+use Rattle.file_laws.proofs.Names.{bare_order}
 use Rattle.file_laws.proofs.Named.{IsName, AreNames, file_in}
 
 -- where both come first

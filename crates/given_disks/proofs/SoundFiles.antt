@@ -4,12 +4,12 @@ use Rattle.std.specs.List.{AllByRecursion, list_all, prefix_len}
 use Rattle.std.proofs.lemmas.Bool.{and_from, and_parts, cond_both, le-leb}
 use Rattle.std.proofs.lemmas.List.Folds.{length-prefix_len}
 use Rattle.lfs_check.specs.Rules.{is_name, text_length}
-use Rattle.lfs_layout.specs.Files.{File, bare_name, is_before, names_of, names_right, placed_files, sorted, total_for, blocks_for, with_file, is_among}
+use Rattle.lfs_layout.specs.Files.{File, bare_name, names_of, names_right, placed_files, sorted, total_for, blocks_for, is_among}
 use Rattle.lfs_layout.specs.Images.{IsCleanImage}
 use Rattle.lfs_layout.specs.Made.{Room}
 use Rattle.lfs_layout.proofs.CleanOpens.{placed_names, placed_room}
 use Rattle.file_laws.specs.StoredFiles.{stored, stored_files}
-use Rattle.file_laws.proofs.Named.{AreApartFiles, AreNames, IsName, by_sorted, named_stored, names_apart, names_names}
+use Rattle.file_laws.proofs.Named.{AreApartFiles, AreNames, by_sorted, named_stored, names_apart, names_names, sorted_names}
 use Rattle.file_laws.proofs.Sorting.{stored_with}
 use Rattle.part_laws.proofs.FileSystems.Started.{sound_start}
 use Rattle.part_laws.proofs.FileSystems.Stored.{all_stored, count_stored, order_stored}
@@ -51,16 +51,6 @@ all_named before [] right = tt
 all_named before (f ∷ files) right =
     let parts = and_parts (is_name 27 f.name && not (is_among before f.name)) _ right in
     ((and_parts (is_name 27 f.name) _ parts.0).0, all_named _ files parts.1)
-
-with_names : (f : File) (files : List File) → IsName f.name → AreNames files → AreNames (with_file f files)
-with_names f [] h a = (h, tt)
-with_names f (g ∷ files) h a =
-    cond_both (is_before f.name g.name) (f ∷ g ∷ files) (g ∷ with_file f files) (λ l. AreNames l)
-    (λ _. (h, a)) (λ _. (a.0, with_names f files h a.1))
-
-sorted_names : (files : List File) → AreNames files → AreNames (sorted files)
-sorted_names [] a = tt
-sorted_names (f ∷ files) a = with_names f (sorted files) a.0 (sorted_names files a.1)
 
 -- files in their order, one more in its place
 stored_sorted : (f : File) (files : List File) → AreNames (f ∷ files)

@@ -1,32 +1,33 @@
 -- The files of a clean image have room on it, and on the image of version 2 that is six blocks larger.
-use Rattle.std.proofs.Common.{◌≡◌, ℕ, zero, suc, ◌+◌, ◌-◌, ◌*◌, ◌/◌, ◌<◌, ◌≤◌, Bool, true, false, cond, not, ◌&&◌, nat_eq, nat_lt, List, [], ◌∷◌, length, get_or, slice_index, take, drop, map, replicate, refl, sym, ap, ◌∙◌, subst, arith, length-append, length-take, length-drop, None, ⊎_elim}
+use Rattle.std.proofs.Common.{◌≡◌, ℕ, ◌+◌, ◌-◌, ◌*◌, ◌/◌, ◌<◌, ◌≤◌, Bool, true, false, cond, not, ◌&&◌, nat_eq, nat_lt, List, [], ◌∷◌, length, get_or, slice_index, take, drop, map, replicate, refl, sym, ap, ◌∙◌, subst, arith, length-append, None, ⊎_elim}
 use Rattle.lfs_check.proofs.KeepsAll.{none-failing}
 use Rattle.std.proofs.Math.Bool.{and-true}
 use Rattle.std.specs.List.{flat_map}
-use Rattle.std.proofs.lemmas.List.{get_or-map, length-map, length-replicate, drop-drop}
+use Rattle.std.proofs.lemmas.List.{get_or-map, length-map, length-replicate}
 use Rattle.std.proofs.lemmas.Bool.{cases_lt}
 use Rattle.std.proofs.lemmas.Bool.Decides.{nat_tests}
 use Rattle.lfs_format.specs.declared.Entry.{Entry}
 use Rattle.lfs_format.specs.declared.Entry1.{Entry1}
 use Rattle.lfs_format.specs.Pieces.{pieces_of}
-use Rattle.lfs_format.specs.Directory.{entry_of, entry_1_of, dir_of, dir_1_of, void_entry}
+use Rattle.lfs_format.specs.Directory.{entry_1_of, dir_1_of, void_entry}
 use Rattle.lfs_check.specs.declared.geometry.Geometry.{Geometry}
 use Rattle.lfs_check.specs.Geometries.{index_count, first_data, longest_name}
 use Rattle.lfs_check.specs.Meets.{times_met}
-use Rattle.lfs_check.specs.Rules.{has_name, block_in, first_failing, has_bad_name}
+use Rattle.lfs_check.specs.Rules.{block_in, first_failing, has_bad_name}
 use Rattle.lfs_check.specs.Laid.{Shape, numbers_at, times_in}
 use Rattle.lfs_check.specs.Clean.{chain_in, data_in, places_of}
-use Rattle.lfs_check.specs.Fields.{is_version_2, geometry_of, fields_of, directory_entries, entries_1, entries_2, joined, widened}
+use Rattle.lfs_check.specs.Fields.{is_version_2, geometry_of, fields_of, directory_entries, entries_1, entries_2, widened}
 use Rattle.lfs_check.specs.Faults.{fault}
 use Rattle.lfs_check.proofs.Steps.{times-append, times-at, times_in-part}
 use Rattle.lfs_check.proofs.Counting.{in_range, length-most}
 use Rattle.lfs_check.proofs.Theorems.{migration_room}
 use Rattle.lfs_check.proofs.Images.{image_lies, image_names, whole_blocks, image_blocks}
-use Rattle.lfs_layout.specs.Files.{placed_files, total_for, is_among, names_right, names_of}
+use Rattle.lfs_check.proofs.Directories.{length_pieces, pieces_at, name_length, length_block, entries_wide}
+use Rattle.lfs_check.specs.Disks.{entries}
+use Rattle.lfs_layout.specs.Files.{placed_files, total_for, names_right, names_of}
 use Rattle.lfs_layout.specs.Made.{geometry_2, Room}
-use Rattle.lfs_layout.proofs.Joins.{length_joined}
-use Rattle.lfs_layout.proofs.Regions.{each_append}
-use Rattle.lfs_layout.proofs.CleanRoom.{AllWhole, totals, names_from, names_longer, files_few, files_wide, length_block}
+use Rattle.lfs_layout.proofs.CleanRoom.{AllWhole, totals, names_from, names_longer, files_few, files_wide}
+use Rattle.lfs_layout.proofs.MadeRules.{no_names}
 
 -- the fields of an image
 abbrev shape_of : List ℕ → Shape
@@ -78,11 +79,6 @@ clean_totals image e =
     low_range : (many i : ℕ) → in_range 0 many i ≡ cond (nat_lt i many) 1 0
     low_range many i = let f : nat_lt i 0 ≡ false = grind (arith, nat_tests) in ap (λ v. cond (nat_lt i many && not v) 1 0) f ∙ ap (λ v. cond v 1 0) (and-true (nat_lt i many))
 
--- names
-no_names : (x : List ℕ) → has_name [] x ≡ is_among [] x
-unfolding has_name
-no_names x = refl
-
 -- no version has names of more than 27 bytes
 pub longest_most : (g : Geometry) → longest_name g ≤ 27
 longest_most g =
@@ -96,26 +92,6 @@ placed_names image e =
     let g = geometry_of image in let d = shape_of image in
     let r = none-failing g (first_failing (has_bad_name g) [] d.entries) (image_names image e) in
     names_longer (longest_name g) 27 [] (names_of (placed_files image)) (longest_most g) (names_from g d.indexes image [] [] d.entries no_names r)
-
--- entries
-length_pieces : {A : Type 0} → (read : List ℕ → A) (w n : ℕ) (bytes : List ℕ) → length (pieces_of read w n bytes) ≡ n
-unfolding pieces_of
-length_pieces read w zero bytes = refl
-length_pieces read w (suc n) bytes = let i = length_pieces read w n (drop w bytes) in omega (arith, i)
-
--- piece k is what is read at its place
-pieces_at : {A : Type 0} → (read : List ℕ → A) (w n : ℕ) (bytes : List ℕ) (k : ℕ) (d : A) → k < n → get_or (pieces_of read w n bytes) k d ≡ read (drop (w * k) bytes)
-unfolding pieces_of
-pieces_at read w zero bytes k d h = absurd (omega (arith, h))
-pieces_at read w (suc n) bytes zero d h = ap (λ j. read (drop j bytes)) (let e : 0 ≡ w * 0 = omega arith in e)
-pieces_at read w (suc n) bytes (suc k) d h =
-    pieces_at read w n (drop w bytes) k d (omega arith) ∙ ap read (drop-drop (w * k) w bytes ∙ ap (λ j. drop j bytes) (let e : w + w * k ≡ w * suc k = grind arith in e))
-
--- a name in a directory block has as many bytes as its field
-name_length : (size at : ℕ) (block : List ℕ) → length block ≡ 512 → 20 + at + size ≤ 512 → length (take size (drop 8 (drop at (drop 12 block)))) ≡ size
-name_length size at block l h =
-    let a = length-drop 12 block in let b = length-drop at (drop 12 block) in let c = length-drop 8 (drop at (drop 12 block)) in
-    let t = length-take size (drop 8 (drop at (drop 12 block))) in omega (arith, a, b, c, t, l, h)
 
 -- an entry of version 1 that stands for one that isn't there
 abbrev no_entry_1 : Entry1
@@ -137,26 +113,10 @@ wide_1 image n l h =
           ap (λ (e : Entry). length e.name) at ∙ (omega (arith, nm, a, r))),
     )
 
--- a directory block of version 2 has 13 entries, each with a name of 28 bytes
-block_wide : (image : List ℕ) (n d : ℕ) → length image ≡ 512 * n → d < n → (length (dir_of (block_in image d)).entries ≡ 13) × ((k : ℕ) → k < length (dir_of (block_in image d)).entries → length (get_or (dir_of (block_in image d)).entries k void_entry).name ≡ 28)
-unfolding dir_of
-block_wide image n d l h =
-    let b = block_in image d in let bl = length_block image n d l h in
-    let len = length_pieces entry_of 36 13 (drop 12 b) in
-    (len, λ k lt. ap (λ (e : Entry). length e.name) (pieces_at entry_of 36 13 (drop 12 b) k void_entry (omega (arith, lt, len))) ∙ name_length 28 (36 * k) b bl (omega (arith, lt, len)))
-
--- what is true of each element of lists is true of those of the joined list
-joined_each : (P : Entry → Type 0) (f : ℕ → List Entry) (n : ℕ) → ((d : ℕ) → d < n → (k : ℕ) → k < length (f d) → P (get_or (f d) k void_entry)) → (k : ℕ) → k < length (joined f n) → P (get_or (joined f n) k void_entry)
-unfolding joined
-joined_each P f zero all k h = absurd (omega (arith, h))
-joined_each P f (suc n) all k h = each_append P (joined f n) (f n) void_entry (joined_each P f n (λ d m. all d (omega (arith, m)))) (all n (omega arith)) k h
-
 -- version 2 has 78 entries, each with a name of 28 bytes
 pub wide_2 : (image : List ℕ) (n : ℕ) → length image ≡ 512 * n → 6 ≤ n → (length (entries_2 image) ≡ 78) × ((k : ℕ) → k < length (entries_2 image) → length (get_or (entries_2 image) k void_entry).name ≡ 28)
-wide_2 image n l h =
-    let f : ℕ → List Entry = λ d. (dir_of (block_in image d)).entries in
-    let P : Entry → Type 0 = λ e. length e.name ≡ 28 in
-    (length_joined f 13 6 (λ d m. (block_wide image n d l (omega (arith, m, h))).0), joined_each P f 6 (λ d m. (block_wide image n d l (omega (arith, m, h))).1))
+unfolding entries
+wide_2 image n l h = entries_wide image n l h
 
 -- the files of an image of version 1 have room on a disk of six blocks more, and those of version 2 on one of as many
 pub migrated_room : (image : List ℕ) → fault image ≡ None → is_version_2 image ≡ false → Room (length image / 512 + 6) (placed_files image)

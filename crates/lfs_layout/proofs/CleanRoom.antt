@@ -1,5 +1,5 @@
 -- The files of an image need no more room than it has, and have names.
-use Rattle.std.proofs.Common.{◌≡◌, ℕ, zero, suc, ◌*◌, ◌<◌, ◌≤◌, Bool, true, false, cond, not, ◌&&◌, ◌||◌, nat_lt, nat_le, List, [], ◌∷◌, ◌++◌, length, get_or, slice_index, take, drop, refl, sym, ap, ◌∙◌, arith, length-append, length-take, length-drop, Option, Some, None, bytes_eq}
+use Rattle.std.proofs.Common.{◌≡◌, ℕ, zero, suc, ◌*◌, ◌<◌, ◌≤◌, Bool, true, false, cond, not, ◌&&◌, ◌||◌, nat_lt, nat_le, List, [], ◌∷◌, ◌++◌, length, get_or, slice_index, take, drop, refl, sym, ap, ◌∙◌, arith, length-append, length-take, None, bytes_eq}
 use Rattle.lfs_check.proofs.KeptRead.{or_or_false}
 use Rattle.std.proofs.Math.Bool.{or-false}
 use Rattle.std.specs.List.{flat_map}
@@ -14,6 +14,8 @@ use Rattle.lfs_check.specs.Geometries.{longest_name}
 use Rattle.lfs_check.specs.Rules.{entry_is_used, is_name, has_name, text_length, are_zeros, first_failing, has_bad_name, block_in}
 use Rattle.lfs_check.specs.Checks.{need_index, need_data, met_of, data_row}
 use Rattle.lfs_check.specs.Clean.{chain_in, data_in}
+use Rattle.lfs_check.proofs.Directories.{length_block}
+use Rattle.lfs_check.proofs.KeepsAll.{passed}
 use Rattle.lfs_layout.specs.Files.{File, content_of, files_in, total_for, is_among, names_right, names_of}
 use Rattle.lfs_layout.specs.Made.{no_file}
 
@@ -26,10 +28,6 @@ pub record Whole (g : Geometry) (ix : List Index) (n : ℕ) (e : Entry) : Type 0
 -- each used entry is whole
 abbrev pub AllWhole : Geometry → List Index → ℕ → List Entry → Type 0
 AllWhole g ix n es = (k : ℕ) → k < length es → entry_is_used (get_or es k void_entry) ≡ true → Whole g ix n (get_or es k void_entry)
-
--- a block of an image has 512 bytes
-pub length_block : (image : List ℕ) (n b : ℕ) → length image ≡ 512 * n → b < n → length (block_in image b) ≡ 512
-length_block image n b l h = let t = length-take 512 (drop (512 * b) image) in let d = length-drop (512 * b) image in omega (arith, t, d, l, h)
 
 -- blocks of an image have 512 bytes each
 length_blocks : (image : List ℕ) (n : ℕ) (bs : List ℕ) → length image ≡ 512 * n → ((j : ℕ) → j < length bs → slice_index bs j < n) → length (flat_map (block_in image) bs) ≡ 512 * length bs
@@ -71,11 +69,6 @@ totals g ix image n (e ∷ es) l all =
 
 -- names
 
--- a test that names a block if it holds, and then others, held for none
-pub cond_none : (b : Bool) (x : ℕ) (r : Option ℕ) → cond b (Some x) r ≡ None → (b ≡ false) × (r ≡ None)
-cond_none true x r e = absurd (cc (e))
-cond_none false x r e = (refl, e)
-
 -- the parts of a refuted implication
 not_or_parts : (a b : Bool) → not a || b ≡ false → (a ≡ true) × (b ≡ false)
 not_or_parts true b e = (refl, e)
@@ -87,7 +80,7 @@ pub names_from : (g : Geometry) (ix : List Index) (image : List ℕ) (before : L
 unfolding first_failing has_name
 names_from g ix image before names [] same e = refl
 names_from g ix image before names (x ∷ es) same e =
-    let parts = cond_none (has_bad_name g before x) (length before) (first_failing (has_bad_name g) (before ++ x ∷ []) es) e in
+    let parts = passed (has_bad_name g before x) (length before) (first_failing (has_bad_name g) (before ++ x ∷ []) es) e in
     let rest = files_in g ix image es in
     let f : File = record { name = x.name; bytes = content_of g ix image x } in
     let P : Bool → Type 0 = λ b. entry_is_used x ≡ b → b && (not (is_name (longest_name g) x.name) || has_name before x.name) ≡ false

@@ -8,11 +8,12 @@ use Rattle.std.proofs.lemmas.List.{take_more, take_at, drop-replicate, flat_map_
 use Rattle.std.proofs.lemmas.List.Concat.{flat_map-append}
 use Rattle.lfs_format.specs.declared.Index.{Index}
 use Rattle.lfs_format.specs.Indexes.{index_bytes}
+use Rattle.lfs_format.proofs.Joins.{drop_past}
 use Rattle.lfs_check.specs.Laid.{no_index}
 use Rattle.lfs_check.specs.Empty.{upwards}
 use Rattle.lfs_check.specs.Meets.{null}
 use Rattle.lfs_layout.specs.declared.files.NamedFile.{NamedFile}
-use Rattle.lfs_layout.proofs.Joins.{upwards_more, drop_past}
+use Rattle.lfs_layout.proofs.Joins.{upwards_more}
 use Rattle.lfs_layout.specs.Made.{file_of, all_files}
 
 -- one file more

@@ -12,9 +12,9 @@ use Rattle.lfs_format.specs.declared.Index.{Index}
 use Rattle.lfs_check.specs.declared.geometry.Geometry.{Geometry}
 use Rattle.lfs_check.specs.Geometries.{index_count, first_data}
 use Rattle.lfs_check.specs.Rules.{entry_is_used, is_name, text_length, are_zeros}
+use Rattle.lfs_check.proofs.Directories.{each_append}
 use Rattle.lfs_layout.specs.Files.{File, content_of, files_in, total_for, have_room, is_among, names_right, names_of, without_name, with_set, is_text, padded_name, other_entries, content_named, entry_named}
 use Rattle.lfs_layout.specs.Made.{geometry_2, no_file, Room}
-use Rattle.lfs_layout.proofs.Regions.{each_append}
 
 -- the files of the entries without those of a name
 pub files_without : (g : Geometry) (ix : List Index) (image name : List ℕ) (es : List Entry) → files_in g ix image (other_entries name es) ≡ without_name name (files_in g ix image es)

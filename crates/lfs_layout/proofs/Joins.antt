@@ -1,42 +1,10 @@
 -- Lemmas on lists that are joined at numbers, and on numbers that go upwards.
-use Rattle.std.proofs.Common.{◌≡◌, ℕ, zero, suc, ◌+◌, ◌*◌, ◌<◌, List, [], ◌∷◌, ◌++◌, length, take, drop, refl, sym, ap, ◌∙◌, arith, append_assoc, length-append, ⊎_elim}
-use Rattle.std.proofs.lemmas.List.{drop_at, take_at, drop-drop}
-use Rattle.std.proofs.lemmas.Bool.{cases_lt}
+use Rattle.std.proofs.Common.{◌≡◌, ℕ, zero, suc, ◌+◌, ◌*◌, ◌<◌, List, [], ◌∷◌, ◌++◌, length, take, drop, refl, sym, ap, ◌∙◌, arith, length-append}
+use Rattle.std.proofs.lemmas.List.{take_at, drop-drop}
 use Rattle.std.specs.List.{flat_map}
 use Rattle.lfs_check.specs.Fields.{joined}
 use Rattle.lfs_check.specs.Empty.{upwards}
-
--- a list after one of a known length
-pub drop_past : {A : Type 0} → (xs ys : List A) (m n k : ℕ) → length xs ≡ m → n ≡ m + k → drop n (xs ++ ys) ≡ drop k ys
-drop_past xs ys m n k l e =
-    ap (λ j. drop j (xs ++ ys)) (let q : n ≡ m + k = e in q) ∙ sym (drop-drop k m (xs ++ ys)) ∙ ap (drop k) (drop_at xs ys m l)
-
--- lists of one length, joined
-pub length_joined : {A : Type 0} → (f : ℕ → List A) (w n : ℕ) → ((k : ℕ) → k < n → length (f k) ≡ w) → length (joined f n) ≡ w * n
-unfolding joined
-length_joined f w zero all = let e : 0 ≡ w * 0 = omega arith in e
-length_joined f w (suc n) all =
-    let i = length_joined f w n (λ k h. all k (omega arith)) in let l = all n (omega arith) in let a = length-append (joined f n) (f n) in
-    let e : w * suc n ≡ w * n + w = grind arith in omega (arith, i, l, a, e)
-
--- the list at a number is read again
-pub joined_at : {A : Type 0} → (f : ℕ → List A) (w n k : ℕ) (rest : List A) → ((k : ℕ) → k < n → length (f k) ≡ w) → k < n
-    → take w (drop (w * k) (joined f n ++ rest)) ≡ f k
-unfolding joined
-joined_at f w zero k rest all h = absurd (omega (arith, h))
-joined_at f w (suc n) k rest all h =
-    ap (λ x. take w (drop (w * k) x)) (append_assoc (joined f n) (f n) rest) ∙
-    ⊎_elim (λ lt. joined_at f w n k (f n ++ rest) (λ j m. all j (omega (arith, m))) lt)
-    (λ ge. (let e : k ≡ n = omega (arith, ge, h) in
-    let l = length_joined f w n (λ j m. all j (omega (arith, m))) in
-    ap (take w) (drop_at (joined f n) (f n ++ rest) (w * k) (l ∙ ap (λ j. w * j) (sym e))) ∙ take_at (f n) rest w (all n (omega arith)) ∙ ap f (sym e)))
-    (cases_lt k n)
-
--- lists that agree at each number are joined alike
-pub joined_same : {A : Type 0} → (f g : ℕ → List A) (n : ℕ) → ((k : ℕ) → k < n → f k ≡ g k) → joined f n ≡ joined g n
-unfolding joined
-joined_same f g zero all = refl
-joined_same f g (suc n) all = ap (λ x. x ++ f n) (joined_same f g n (λ k h. all k (omega arith))) ∙ ap (λ x. joined g n ++ x) (all n (omega arith))
+use Rattle.lfs_format.proofs.Joins.{drop_past}
 
 -- nothing is taken from nothing
 take-none : {A : Type 0} → (n : ℕ) → take {A = A} n [] ≡ []

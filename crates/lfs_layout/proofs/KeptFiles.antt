@@ -1,7 +1,7 @@
 -- The files of the entries that are kept have room, and names that are apart.
 use Rattle.std.proofs.Common.{◌≡◌, ℕ, zero, suc, ◌+◌, ◌-◌, ◌*◌, ◌<◌, ◌≤◌, Bool, true, false, cond, not, ◌&&◌, ◌||◌, nat_eq, nat_lt, nat_le, List, [], ◌∷◌, ◌++◌, length, get_or, slice_index, take, refl, sym, ap, ◌∙◌, arith, length-take, None, ⊎_elim, bytes_eq}
 use Rattle.std.proofs.Math.Bool.{and-true}
-use Rattle.lfs_check.proofs.KeptRead.{none-is, or_or_false}
+use Rattle.lfs_check.proofs.KeptRead.{none-is, or_or_false, Rows}
 use Rattle.std.specs.List.{flat_map, list_any}
 use Rattle.std.proofs.lemmas.List.Folds.{list_any-append}
 use Rattle.std.proofs.lemmas.Bool.{cases_lt, and_parts, not-true, or_parts}
@@ -24,6 +24,7 @@ use Rattle.lfs_check.proofs.Counting.{in_range, length-most}
 use Rattle.lfs_check.proofs.Keeping.{kept_apart}
 use Rattle.lfs_layout.specs.Files.{File, content_of, files_in, total_for, is_among, names_right, names_of}
 use Rattle.lfs_layout.proofs.CleanRoom.{Whole, totals}
+use Rattle.lfs_layout.proofs.FilesSet.{among_push}
 
 -- what is known of a whole entry
 record WholeFacts (g : Geometry) (ix : List Index) (e : Entry) : Type 0 where
@@ -50,10 +51,6 @@ whole_facts g ix e w =
       as_needed = (let t = o.0 in grind (arith, nat_tests));
       rows = none-is (rows_fault g ix (need_data e) (met_of g ix e)) p.1;
     }
-
--- rows of sixteen numbers
-abbrev pub Rows : Geometry → List Index → Type 0
-Rows g ix = (i : ℕ) → i < index_count g → length (data_row ix i) ≡ 16
 
 -- each index block of a file has 16 numbers
 rows_of : (g : Geometry) (ix : List Index) (e : Entry) → Rows g ix → (j : ℕ) → j < length (met_of g ix e) → length (data_row ix (slice_index (met_of g ix e) j)) ≡ 16
@@ -168,10 +165,6 @@ kept_totals g ix image es r l =
         (cases_lt b low)
 
 -- names
-
--- one name more at the end
-among_push : (names : List (List ℕ)) (n x : List ℕ) → is_among (names ++ n ∷ []) x ≡ is_among names x || bytes_eq n x
-among_push names n x = list_any-append (λ y. bytes_eq y x) names (n ∷ []) ∙ or_or_false (is_among names x) (bytes_eq n x)
 
 -- whether a whole entry among some has a name
 abbrev whole_named : Geometry → List Index → List Entry → List ℕ → Bool

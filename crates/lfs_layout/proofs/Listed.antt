@@ -16,7 +16,7 @@ use Rattle.lfs_check.proofs.Images.{whole_blocks}
 use Rattle.lfs_layout.specs.Files.{File, bare_name, content_of, files_in, placed_files, files_of, listing, is_before, names_before, is_among, names_right, names_of}
 use Rattle.lfs_layout.specs.Images.{IsCleanImage}
 use Rattle.lfs_layout.proofs.CleanRoom.{AllWhole, length_bytes}
-use Rattle.lfs_layout.proofs.CleanOpens.{all_whole, placed_names, placed_room}
+use Rattle.lfs_layout.proofs.CleanOpens.{all_whole, placed_names}
 use Rattle.lfs_layout.proofs.Ordered.{sorted_at}
 
 -- what a listing shows of an entry
@@ -86,10 +86,6 @@ name_short longest name e =
 -- a clean image has the entries of version 2
 pub clean_entries : (image : List ℕ) → IsCleanImage image → directory_entries (geometry_of image) image ≡ entries_2 image
 clean_entries image c = ap (λ b. let g : Geometry = record { dirs = cond b 6 1; blocks = length image / 512 } in directory_entries g image) c.version
-
--- it has at least fourteen blocks
-pub clean_size : (image : List ℕ) → IsCleanImage image → 3072 ≤ length image
-clean_size image c = (let r = (placed_room image c.faultless c.version).low in omega (arith, r))
 
 -- the entry that has exactly so many used names before it
 abbrev pub nth : List Entry → ℕ → Option Entry

@@ -1,11 +1,10 @@
 -- Images that are made are clean for their files, and so is an image that is opened.
-use Rattle.std.proofs.Common.{◌≡◌, ℕ, ◌+◌, ◌*◌, ◌/◌, ◌≤◌, Bool, true, false, cond, List, [], length, refl, ap, arith, None}
+use Rattle.std.proofs.Common.{◌≡◌, ℕ, ◌+◌, ◌/◌, ◌≤◌, Bool, true, false, cond, List, [], length, refl, ap, arith, None}
 use Rattle.lfs_check.specs.Fields.{is_version_2}
 use Rattle.lfs_check.specs.Faults.{fault}
 use Rattle.lfs_layout.specs.Files.{File, placed_files, files_of, sorted, names_right, names_of}
 use Rattle.lfs_layout.specs.Made.{image_with, Room}
 use Rattle.lfs_layout.specs.Images.{IsCleanImage, opened}
-use Rattle.lfs_layout.proofs.MadeFields.{length_image}
 use Rattle.lfs_layout.proofs.MadeRules.{version_is_2, made_faultless}
 use Rattle.lfs_layout.proofs.MadeFiles.{made_files}
 use Rattle.lfs_layout.proofs.CleanOpens.{migrated_room, placed_names}
@@ -37,15 +36,5 @@ opened_files image e =
     let P : Bool → Type 0 = λ v. is_version_2 image ≡ v → files_of (cond v image (image_with (length image / 512 + 6) (placed_files image))) ≡ files_of image in
     let yes : P true = λ v. refl in
     let no : P false = λ v. made_sorted (length image / 512 + 6) (placed_files image) (migrated_room image e v) (placed_names image e) in
-    let all : (v : Bool) → P v = λ v. elim v as (λ v. P v) [ true ↦ yes | false ↦ no ] in
-    all (is_version_2 image) refl
-
--- it has as many blocks, or six more if it had version 1
-pub opened_length : (image : List ℕ) → fault image ≡ None → length (opened image) ≡ cond (is_version_2 image) (length image) (512 * (length image / 512 + 6))
-opened_length image e =
-    let n = length image / 512 + 6 in
-    let P : Bool → Type 0 = λ v. is_version_2 image ≡ v → length (cond v image (image_with n (placed_files image))) ≡ cond v (length image) (512 * n) in
-    let yes : P true = λ v. refl in
-    let no : P false = λ v. length_image n (placed_files image) (migrated_room image e v) in
     let all : (v : Bool) → P v = λ v. elim v as (λ v. P v) [ true ↦ yes | false ↦ no ] in
     all (is_version_2 image) refl

@@ -12,6 +12,8 @@ use Rattle.lfs_format.specs.Indexes.{index_of, index_of_words, index_bytes}
 use Rattle.lfs_format.specs.Directory.{dir_of, dir_bytes, dir_ending, EntryFits, void_entry}
 use Rattle.lfs_format.proofs.Words.{words_of-take, length-little, word_of-bytes}
 use Rattle.lfs_format.proofs.Entries.{dir_of-bytes}
+use Rattle.lfs_format.proofs.Joins.{drop_past}
+use Rattle.lfs_format.proofs.DirBlocks.{length_dir_bytes, dir_bytes_end}
 use Rattle.lfs_check.specs.declared.geometry.Geometry.{Geometry}
 use Rattle.lfs_check.specs.Geometries.{index_count, index_disks, first_data}
 use Rattle.lfs_check.specs.Rules.{block_in}
@@ -20,10 +22,11 @@ use Rattle.lfs_check.specs.Fields.{numbered_values, directory_header, header_2, 
 use Rattle.lfs_check.specs.Empty.{upwards, next_upwards}
 use Rattle.lfs_check.specs.Built.{chain_head}
 use Rattle.lfs_check.proofs.Numbered.{length_numbered, numbered-at}
+use Rattle.lfs_check.proofs.Directories.{length_joined, joined_at, joined_same, word_in_block}
 use Rattle.lfs_layout.specs.Files.{File, total_for}
 use Rattle.lfs_layout.specs.Made.{all_entries, index_end, data_end, header_for, dir_for, all_indexes, index_disk, free_data, padded, all_data, dirs_bytes, indexes_bytes, image_with, geometry_2, Room}
-use Rattle.lfs_layout.proofs.Joins.{drop_past, length_joined, joined_at, joined_same, joined_pieces, flat_upwards_at, length_flat_upwards}
-use Rattle.lfs_layout.proofs.Regions.{IndexFits, index_read, length_indexes, length_dir_bytes, dir_bytes_end, word_in_block}
+use Rattle.lfs_layout.proofs.Joins.{joined_pieces, flat_upwards_at, length_flat_upwards}
+use Rattle.lfs_layout.proofs.Regions.{IndexFits, index_read, length_indexes}
 use Rattle.lfs_layout.proofs.MadeParts.{head_fits, next_fits, length_all_entries, all_entries_fit, length_all_indexes, all_indexes_fit, length_files_data}
 
 -- a count fits a word in the first directory block, and is zero in the others

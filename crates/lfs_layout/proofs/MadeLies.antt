@@ -29,10 +29,6 @@ use Rattle.lfs_layout.proofs.MadeFields.{header_read, entries_read, indexes_read
 abbrev pub AreUsed : List File → Type 0
 AreUsed files = (k : ℕ) → k < length files → entry_is_used (entry_for 0 (get_or files k no_file)) ≡ true
 
--- an entry without a file isn't used
-used_none : entry_is_used no_entry ≡ false
-used_none = refl
-
 -- the needs of entries are those of their files
 run_end-none : (need : Entry → ℕ) (a m : ℕ) → need no_entry ≡ 0 → run_end need a (replicate m no_entry) ≡ a
 run_end-none need a zero z = refl

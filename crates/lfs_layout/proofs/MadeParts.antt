@@ -16,9 +16,10 @@ use Rattle.lfs_check.specs.Fields.{numbered_values}
 use Rattle.lfs_check.specs.Empty.{upwards, next_upwards}
 use Rattle.lfs_check.specs.Built.{chain_head}
 use Rattle.lfs_check.proofs.Numbered.{length_numbered, numbered-at}
+use Rattle.lfs_check.proofs.Directories.{each_append}
 use Rattle.lfs_layout.specs.Files.{File, total_for}
 use Rattle.lfs_layout.specs.Made.{indexes_needed, data_needed, entries_for, no_entry, all_entries, index_end, file_index, indexes_for, free_index, all_indexes, padded, no_file}
-use Rattle.lfs_layout.proofs.Regions.{AllFit, fit_append, fit_take, fit_drop, fit_replicate, each_append, IndexFits}
+use Rattle.lfs_layout.proofs.Regions.{AllFit, fit_append, fit_take, fit_drop, fit_replicate, IndexFits}
 
 -- numbers that fit in a word
 pub head_fits : (low high : ℕ) → high < 2 ^ 32 → chain_head low high < 2 ^ 32

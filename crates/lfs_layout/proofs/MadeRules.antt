@@ -1,5 +1,5 @@
 -- An image that is made breaks no rule.
-use Rattle.std.proofs.Common.{◌≡◌, ℕ, zero, suc, ◌+◌, ◌-◌, ◌*◌, ◌/◌, ◌%◌, ◌<◌, ◌≤◌, Bool, true, false, cond, not, ◌&&◌, ◌||◌, nat_eq, nat_lt, nat_le, List, [], ◌∷◌, ◌++◌, length, slice_index, take, drop, replicate, refl, sym, ap, ◌∙◌, arith, Option, Some, None, ⊎_elim, bytes_eq, count_by}
+use Rattle.std.proofs.Common.{◌≡◌, ℕ, zero, suc, ◌+◌, ◌-◌, ◌*◌, ◌/◌, ◌%◌, ◌<◌, ◌≤◌, Bool, true, false, cond, not, ◌&&◌, ◌||◌, nat_eq, nat_lt, nat_le, List, [], ◌∷◌, ◌++◌, length, slice_index, take, drop, replicate, refl, sym, ap, ◌∙◌, arith, Some, None, ⊎_elim, bytes_eq, count_by}
 use Rattle.lfs_check.proofs.KeptRead.{or_or_false}
 use Rattle.std.specs.List.{prefix_len}
 use Rattle.std.proofs.lemmas.List.{drop-take, drop-drop}
@@ -12,18 +12,18 @@ use Rattle.lfs_format.specs.declared.Entry.{Entry}
 use Rattle.lfs_format.specs.Words.{word_of, words_of, word_bytes}
 use Rattle.lfs_format.specs.Directory.{dir_bytes, dir_ending}
 use Rattle.lfs_format.proofs.Words.{words_of-take}
+use Rattle.lfs_format.proofs.DirBlocks.{dir_bytes_begin}
 use Rattle.lfs_check.specs.declared.geometry.Geometry.{Geometry}
 use Rattle.lfs_check.specs.declared.fields.Header.{Header}
-use Rattle.lfs_check.specs.declared.faults.DiskFault.{DiskFault}
 use Rattle.lfs_check.specs.Geometries.{room}
 use Rattle.lfs_check.specs.Rules.{entry_is_used, is_name, has_name, text_length, are_zeros, first_failing, in_entry_block, has_bad_name, is_larger, rule_0, rule_1, rule_2, rule_3, block_in, begins_right, ends_right, is_dir_block}
 use Rattle.lfs_check.specs.Checks.{rule_4, rule_5, rule_6, rule_7}
 use Rattle.lfs_check.specs.Fields.{is_version_2, geometry_of, fields_of, directory_header, directory_entries}
 use Rattle.lfs_check.specs.Faults.{named, either_fault, dir_fault, walks_fault, shape_fault, fault}
 use Rattle.lfs_check.proofs.Nones.{first_from-nothing}
+use Rattle.lfs_check.proofs.Right.{first-none}
 use Rattle.lfs_layout.specs.Files.{File, total_for, is_among, names_right, names_of}
 use Rattle.lfs_layout.specs.Made.{indexes_needed, entry_for, entries_for, no_entry, all_entries, header_for, dir_for, image_with, geometry_2, Room}
-use Rattle.lfs_layout.proofs.Regions.{dir_bytes_begin}
 use Rattle.lfs_layout.proofs.MadeFields.{dir_block, dir_block_end, header_read, entries_read, length_image}
 use Rattle.lfs_layout.proofs.MadeLies.{AreUsed, shape_made, made_passes}
 
@@ -106,7 +106,7 @@ names_pass n before names a (f ∷ files) m same e =
     ∙ names_pass n (before ++ entry_for a f ∷ []) (names ++ f.name ∷ []) (a + indexes_needed f) files m more both.1
 
 -- no name is among none
-no_names : (x : List ℕ) → has_name [] x ≡ is_among [] x
+pub no_names : (x : List ℕ) → has_name [] x ≡ is_among [] x
 unfolding has_name
 no_names x = refl
 
@@ -116,7 +116,7 @@ made_rule_1 n files r e =
     ap (rule_1 (geometry_2 n)) (entries_read n files r) ∙ ap (in_entry_block (geometry_2 n)) (names_pass n [] [] 0 files (78 - length files) no_names e)
 
 -- counts
-abbrev used_in : List Entry → ℕ
+abbrev pub used_in : List Entry → ℕ
 used_in [] = 0
 used_in (e ∷ es) = cond (entry_is_used e) (1 + used_in es) (used_in es)
 
@@ -191,10 +191,6 @@ made_rule_3 : (n : ℕ) (files : List File) → Room n files → AreUsed files �
 made_rule_3 n files r used =
     let d = r.data_room in
     ap (rule_3 (geometry_2 n)) (entries_read n files r) ∙ ap (in_entry_block (geometry_2 n)) (sizes_pass (room (geometry_2 n)) [] 0 files (78 - length files) used (omega (arith, d)))
-
--- the first of two faults isn't there if neither is
-first-none : (a b : Option DiskFault) → a ≡ None → b ≡ None → either_fault a b ≡ None
-first-none a b p q = ap (λ x. either_fault x b) p ∙ q
 
 -- an image that is made has no fault
 pub made_faultless : (n : ℕ) (files : List File) → Room n files → names_right 27 [] (names_of files) ≡ true → fault (image_with n files) ≡ None

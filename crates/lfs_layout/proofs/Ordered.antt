@@ -6,6 +6,7 @@ use Rattle.std.proofs.lemmas.Bool.{cases_lt, false≢true, and_parts, and_from, 
 use Rattle.std.proofs.lemmas.Bool.Decides.{nat_tests}
 use Rattle.std.proofs.lemmas.List.Folds.{list_any-append}
 use Rattle.std.proofs.lemmas.List.Sums.{sum_by-cons}
+use Rattle.std.proofs.lemmas.Slice.Eq.{bytes_eq-Decides}
 use Rattle.lfs_check.specs.Rules.{is_name}
 use Rattle.lfs_layout.specs.Files.{File, is_before, with_file, sorted, is_among, names_right, names_of}
 
@@ -69,20 +70,11 @@ before-total (x ∷ a) (y ∷ b) p e =
     (cases_lt y x)
 
 -- the test for equal bytes is symmetric
-bytes-swap : (a b : List ℕ) → bytes_eq a b ≡ bytes_eq b a
+pub bytes-swap : (a b : List ℕ) → bytes_eq a b ≡ bytes_eq b a
 bytes-swap [] [] = refl
 bytes-swap [] (y ∷ b) = refl
 bytes-swap (x ∷ a) [] = refl
 bytes-swap (x ∷ a) (y ∷ b) = let e : nat_eq x y ≡ nat_eq y x = grind (arith, nat_tests) in ap (λ v. v && bytes_eq a b) e ∙ ap (λ v. nat_eq y x && v) (bytes-swap a b)
-
--- bytes that pass the test for equal ones are equal
-bytes-same : (a b : List ℕ) → bytes_eq a b ≡ true → a ≡ b
-bytes-same [] [] e = refl
-bytes-same [] (y ∷ b) e = absurd (false≢true e)
-bytes-same (x ∷ a) [] e = absurd (false≢true e)
-bytes-same (x ∷ a) (y ∷ b) e =
-    let p = and_parts (nat_eq x y) (bytes_eq a b) e in let t = p.0 in let s : x ≡ y = grind (arith, nat_tests) in
-    ap (λ v. v ∷ a) s ∙ ap (λ r. y ∷ r) (bytes-same a b p.1)
 
 -- Counts.
 
@@ -178,13 +170,8 @@ right_apart longest before (n ∷ names) x a e =
     let one = and_parts (is_name longest n && not (is_among before n)) (names_right longest (before ++ n ∷ []) names) e in
     let new = not-true (is_among before n) (and_parts (is_name longest n) (not (is_among before n)) one.0).1 in
     either-way (bytes_eq n x) (λ v. v || is_among names x ≡ false)
-    (λ s. absurd (false≢true (sym new ∙ ap (is_among before) (bytes-same n x s) ∙ a)))
+    (λ s. absurd (false≢true (sym new ∙ ap (is_among before) ((bytes_eq-Decides n x).0 s) ∙ a)))
     (λ s. right_apart longest (before ++ n ∷ []) names x (list_any-append (λ m. bytes_eq m x) before (n ∷ []) ∙ or_left (is_among before x) (bytes_eq n x || false) a) one.1)
-
--- bytes equal themselves
-bytes-self : (a : List ℕ) → bytes_eq a a ≡ true
-bytes-self [] = refl
-bytes-self (x ∷ a) = let e : nat_eq x x ≡ true = grind (arith, nat_tests) in and_from (nat_eq x x) (bytes_eq a a) e (bytes-self a)
 
 -- files in order ascend if no two have the same name
 sorted_ascends : (longest : ℕ) (before : List (List ℕ)) (files : List File) → names_right longest before (names_of files) ≡ true → ascends (sorted files) ≡ true
@@ -192,7 +179,7 @@ sorted_ascends longest before [] e = refl
 sorted_ascends longest before (f ∷ files) e =
     let n = f.name in
     let rest = (and_parts (is_name longest n && not (is_among before n)) (names_right longest (before ++ n ∷ []) (names_of files)) e).1 in
-    let here : is_among (before ++ n ∷ []) n ≡ true = list_any-append (λ m. bytes_eq m n) before (n ∷ []) ∙ or_right (is_among before n) (bytes_eq n n || false) (or_left (bytes_eq n n) false (bytes-self n)) in
+    let here : is_among (before ++ n ∷ []) n ≡ true = list_any-append (λ m. bytes_eq m n) before (n ∷ []) ∙ or_right (is_among before n) (bytes_eq n n || false) (or_left (bytes_eq n n) false ((bytes_eq-Decides n n).1 refl)) in
     ascends_with f (sorted files) (sorted_ascends longest (before ++ n ∷ []) files rest) (among_sorted files n ∙ right_apart longest (before ++ n ∷ []) (names_of files) n here rest)
 
 -- The k-th.

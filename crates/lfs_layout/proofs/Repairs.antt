@@ -17,6 +17,7 @@ use Rattle.lfs_layout.specs.Images.{kept_files, repaired_blocks}
 use Rattle.lfs_layout.proofs.CleanRoom.{names_longer, files_few, files_wide}
 use Rattle.lfs_layout.proofs.CleanOpens.{wide_1, wide_2, longest_most}
 use Rattle.lfs_layout.proofs.KeptFiles.{kept_totals, kept_names, kept_few, kept_wide, kept_is_used}
+use Rattle.lfs_layout.proofs.MadeRules.{used_in}
 
 -- each index block of an image has 16 data numbers
 rows_16 : (image : List ℕ) → (i : ℕ) → i < index_count (geometry_of image) → length (get_or (fields_of (geometry_of image) image).indexes i (record { next = 0; offset = 0; blocks = [] })).blocks ≡ 16
@@ -72,11 +73,6 @@ repaired_room image r0 =
     few_and_wide image q.0 q.1 (n + 6) (omega (arith, low)) (omega (arith, high)) (omega (arith, one, m)) (omega (arith, two))) in
     let all : (v : Bool) → P v = λ v. elim v as (λ v. P v) [ true ↦ yes | false ↦ no ] in
     all (is_version_2 image) refl
-
--- no more entries are kept than are used
-abbrev used_in : List Entry → ℕ
-used_in [] = 0
-used_in (e ∷ es) = cond (entry_is_used e) (1 + used_in es) (used_in es)
 
 -- no more entries are kept than are used among those left
 kept_used : (g : Geometry) (ix : List Index) (es before rest : List Entry) → length (kept_from g ix es before rest) ≤ used_in rest

@@ -1,8 +1,9 @@
 -- The disk holds the files at rest, whatever the engine waits for.
 use Rattle.std.proofs.Common.{not, ◌*◌, ◌+◌, ◌-◌, ◌≡◌, ℕ, zero, suc, Bool, true, false, ◌||◌, List, [], ◌∷◌, map, refl, sym, ap, ◌∙◌, subst, Option, Some, None, slice_index_or, is_some, bytes_eq, if◌then◌else◌, take}
 use Rattle.std.specs.List.{list_any}
-use Rattle.std.proofs.lemmas.Bool.{false≢true}
+use Rattle.std.proofs.lemmas.Bool.{false≢true, and_parts, or_parts}
 use Rattle.std.proofs.lemmas.Slice.Eq.{bytes_eq-Decides}
+use Rattle.std.proofs.Math.Bool.{or-true}
 use Rattle.lfs_format.specs.declared.Entry.{Entry}
 use Rattle.lfs_check.specs.Rules.{entry_is_used}
 use Rattle.lfs_check.specs.Laid.{Places}
@@ -14,7 +15,6 @@ use Rattle.xinu_model.specs.Files.Work.{FileRequest, FileWork}
 use Rattle.xinu_model.specs.Files.Writing.{overwritten}
 use Rattle.file_laws.specs.StoredFiles.{stored_files, entry_bytes}
 use Rattle.file_laws.specs.Holds.{Holds}
-use Rattle.file_laws.proofs.Names.{and-true}
 use Rattle.file_laws.proofs.Resting.{clean_holds, middle_holds}
 use Rattle.local_files.specs.declared.OpenFile.{OpenFile}
 use Rattle.local_files.specs.declared.BlockWork.{BlockWork}
@@ -28,7 +28,7 @@ use Rattle.local_files.specs.Putting.{IsPutting}
 use Rattle.local_files.specs.Steps.{shown, device_at, device_of}
 use Rattle.local_files.specs.Standing.{Stands, InHand, call_of, wanted, wanted_in, call_bytes}
 use Rattle.local_files.specs.Resting.{AreAtRest, IsFirstCall}
-use Rattle.local_files.proofs.Devices.{device_some, or-false}
+use Rattle.local_files.proofs.Devices.{device_some}
 
 -- a name that isn't at rest
 not_resting : (b : Bool) → (b ≡ true → ⊥) → b ≡ false
@@ -39,11 +39,6 @@ not_resting false h = refl
 same_name : (a b : List ℕ) → a ≡ b → bytes_eq a b ≡ true
 same_name a b e = (bytes_eq-Decides a b).1 e
 
--- what a device has open is open
-or_true : (b : Bool) → b || true ≡ true
-or_true true = refl
-or_true false = refl
-
 -- the file of a device is open
 open_there : (xs : List (Option OpenFile)) (d : ℕ) (f : OpenFile) → slice_index_or xs d None ≡ Some f
     → list_any (has_open (bare_name f.entry.name)) (map shown xs) ≡ true
@@ -53,7 +48,7 @@ open_there (x ∷ xs) zero f e =
     ap (λ o. has_open n (shown o) || list_any (has_open n) (map shown xs)) e
     ∙ ap (λ v. v || list_any (has_open n) (map shown xs)) (same_name n n refl)
 open_there (x ∷ xs) (suc d) f e =
-    let n = bare_name f.entry.name in ap (λ v. has_open n (shown x) || v) (open_there xs d f e) ∙ or_true (has_open n (shown x))
+    let n = bare_name f.entry.name in ap (λ v. has_open n (shown x) || v) (open_there xs d f e) ∙ or-true (has_open n (shown x))
 
 -- it isn't at rest
 open_busy : (e : Files) (base : List ℕ) (rests : List ℕ → Bool) (d : ℕ) (f : OpenFile) → AreAtRest e base rests → device_at e d ≡ Some f
@@ -215,7 +210,7 @@ work_held e base disk w s same first =
     both : (name : List ℕ) → is_at_rest name w ≡ true
         → (is_open name w.system ≡ false) × (list_any (λ (a : FileRequest). names_file name a.call) w.calls ≡ false)
     both name r =
-        let two = and-true (not (is_open name w.system)) (not (list_any (λ (a : FileRequest). names_file name a.call) w.calls)) r in
+        let two = and_parts (not (is_open name w.system)) (not (list_any (λ (a : FileRequest). names_file name a.call) w.calls)) r in
         (not_true (is_open name w.system) two.0, not_true (list_any (λ (a : FileRequest). names_file name a.call) w.calls) two.1)
       where
         not_true : (b : Bool) → not b ≡ true → b ≡ false
@@ -232,7 +227,7 @@ work_held e base disk w s same first =
     in_hand name (Some x) [] some f none = absurd f
     in_hand name (Some x) (a ∷ calls) some f none =
         names_same name e.call [] (call_bytes e) ∙ ap (names_file name) (sym f)
-        ∙ (or-false (names_file name a.call) (list_any (λ (b : FileRequest). names_file name b.call) calls) none).0
+        ∙ (or_parts (names_file name a.call) (list_any (λ (b : FileRequest). names_file name b.call) calls) none).0
 
     unnamed : (name : List ℕ) → is_at_rest name w ≡ true → is_some (wanted e) ≡ true → names_file name (call_of e.call []) ≡ false
     unnamed name r some = in_hand name (wanted e) w.calls some first (both name r).1

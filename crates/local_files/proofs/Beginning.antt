@@ -3,13 +3,14 @@ use Rattle.std.proofs.Common.{◌≡◌, ℕ, ◌≤◌, Bool, true, false, ◌|
 use Rattle.std.proofs.lemmas.Bool.Decides.{nat_tests}
 use Rattle.lfs_format.specs.declared.Entry.{Entry}
 use Rattle.lfs_check.specs.Rules.{entry_is_used, is_name}
+use Rattle.lfs_check.proofs.KeepsAll.{either-way}
 use Rattle.lfs_layout.specs.Files.{bare_name}
 use Rattle.xinu_base.specs.declared.files.OpenMode.{OpenMode}
 use Rattle.xinu_model.specs.Files.Stored.{file_named, without_file}
 use Rattle.xinu_model.specs.Files.Systems.{FileSystem, FileEffect, on_open, open_at, is_open, refused_effect, replies}
 use Rattle.xinu_model.specs.Files.Opening.{close_file, open_stored}
 use Rattle.xinu_model.specs.Files.Reading.{seek_file, size_of_file}
-use Rattle.file_laws.proofs.Names.{either-way, name_padded}
+use Rattle.file_laws.proofs.Names.{name_padded}
 use Rattle.file_laws.proofs.Named.{IsName}
 use Rattle.local_files.specs.declared.OpenFile.{OpenFile}
 use Rattle.local_files.specs.declared.Files.{Files}

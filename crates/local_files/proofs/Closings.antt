@@ -7,13 +7,14 @@ use Rattle.lfs_check.proofs.Images.{image_blocks}
 use Rattle.lfs_check.specs.Disks.{is_this, block_put, entry_at, entries, dir_with_entry, dir_with_header}
 use Rattle.lfs_check.proofs.BlockPuts.{length_put}
 use Rattle.lfs_layout.specs.Files.{bare_name}
+use Rattle.lfs_layout.proofs.MadeRules.{name_used}
 use Rattle.xinu_base.specs.declared.files.OpenMode.{OpenMode}
 use Rattle.xinu_model.specs.Files.Modes.{reads, writes}
 use Rattle.xinu_model.specs.Files.Stored.{StoredFile, file_named}
 use Rattle.xinu_model.specs.Files.Systems.{FileSystem, FileEffect, is_open, free_device, refused_effect}
 use Rattle.xinu_model.specs.Files.Opening.{open_stored, with_created, opening}
 use Rattle.file_laws.specs.StoredFiles.{stored_files}
-use Rattle.file_laws.proofs.Names.{name_padded, name_used}
+use Rattle.file_laws.proofs.Names.{name_padded}
 use Rattle.file_laws.proofs.Named.{IsName, named_none, length_entries}
 use Rattle.file_laws.proofs.Counted.{files_counted, count_less}
 use Rattle.local_files.specs.declared.OpenFile.{OpenFile}

@@ -1,6 +1,6 @@
 -- Each completion leaves fewer than there were.
 use Rattle.std.proofs.Common.{◌≡◌, ℕ, zero, suc, ◌+◌, ◌-◌, ◌*◌, ◌/◌, ◌%◌, ◌<◌, ◌≤◌, Bool, true, nat_le, nat_lt, ◌==◌, ◌||◌, if◌then◌else◌, List, [], length, refl, sym, ap, ◌∙◌, subst, arith, slice_index_or, ⊎_elim, Option, Some, None, negsuc, bytes_eq}
-use Rattle.std.proofs.lemmas.Bool.{cases_lt}
+use Rattle.std.proofs.lemmas.Bool.{cases_lt, and_parts}
 use Rattle.std.proofs.lemmas.Bool.Decides.{nat_tests}
 use Rattle.std.proofs.lemmas.Slice.Eq.{bytes_eq-Decides}
 use Rattle.lfs_format.specs.declared.Entry.{Entry}
@@ -15,7 +15,6 @@ use Rattle.lfs_layout.specs.Files.{bare_name}
 use Rattle.xinu_model.specs.Files.Stored.{file_named, bytes_in}
 use Rattle.xinu_model.specs.Files.Work.{size_for}
 use Rattle.file_laws.specs.StoredFiles.{stored_files}
-use Rattle.file_laws.proofs.Names.{and-true}
 use Rattle.file_laws.proofs.Named.{named_at, bytes_sized}
 use Rattle.file_laws.proofs.Counted.{entry_small}
 use Rattle.local_files.specs.declared.Files.{Files}
@@ -92,7 +91,7 @@ found_falls e e' d k header entry name base disk read phase new named below this
         let slot = 13 * d + k in let block = h.block in
         let in_range : slot < 78 = omega (arith, block, below) in
         let at = entry_found e d k entry base disk read h s honest below is in
-        let two = and-true (entry_is_used entry) (bytes_eq entry.name name) this in
+        let two = and_parts (entry_is_used entry) (bytes_eq entry.name name) this in
         let same : entry.name ≡ name = (bytes_eq-Decides entry.name name).0 two.1 in
         let used : entry_is_used (entry_at base slot) ≡ true = ap entry_is_used at ∙ two.0 in
         let L : FileCall → Type 0 = λ q. IsLook q → name ≡ name_of q in

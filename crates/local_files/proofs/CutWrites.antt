@@ -6,7 +6,6 @@ use Rattle.lfs_format.specs.declared.Entry.{Entry}
 use Rattle.lfs_check.specs.Rules.{entry_is_used, block_in}
 use Rattle.lfs_check.specs.Disks.{block_put, entry_at}
 use Rattle.file_laws.specs.StoredFiles.{entry_bytes}
-use Rattle.file_laws.proofs.Names.{either-way}
 use Rattle.file_laws.proofs.Counted.{entry_small}
 use Rattle.local_files.specs.declared.Files.{Files}
 use Rattle.local_files.specs.declared.Phase.{Phase}
@@ -22,6 +21,7 @@ use Rattle.lfs_check.specs.Laid.{Places, numbers_at, index_for}
 use Rattle.lfs_check.specs.Clean.{places_of}
 use Rattle.lfs_check.specs.Fields.{fields_of}
 use Rattle.lfs_check.specs.Disks.{disk_geometry, header_on}
+use Rattle.lfs_check.proofs.KeepsAll.{either-way}
 use Rattle.file_laws.specs.Middle.{IsMiddle}
 use Rattle.file_laws.specs.Changing.{IsCut, IsReadBy}
 use Rattle.file_laws.proofs.Middles.{middle_begins}

@@ -1,7 +1,7 @@
 -- The devices, as the abstract machine sees them.
-use Rattle.std.proofs.Common.{◌≡◌, ◌≢◌, ℕ, zero, suc, ◌<◌, Bool, true, false, ◌||◌, List, [], ◌∷◌, length, map, refl, sym, ap, ◌∙◌, subst, arith, slice_index_or, slice_set, bytes_eq, Option, Some, None, get_or-set_same, get_or-set_other, length-set, ⊎_elim, ℤ}
+use Rattle.std.proofs.Common.{◌≡◌, ◌≢◌, ℕ, zero, suc, ◌<◌, false, ◌||◌, List, [], ◌∷◌, length, map, refl, sym, ap, ◌∙◌, subst, arith, slice_index_or, slice_set, bytes_eq, Option, Some, None, get_or-set_same, get_or-set_other, length-set, ⊎_elim, ℤ}
 use Rattle.std.specs.List.{list_any}
-use Rattle.std.proofs.lemmas.Bool.{false≢true, cases_eq}
+use Rattle.std.proofs.lemmas.Bool.{cases_eq, or_parts}
 use Rattle.lfs_format.specs.declared.Entry.{Entry}
 use Rattle.lfs_check.specs.Rules.{entry_is_used}
 use Rattle.lfs_layout.specs.Files.{bare_name}
@@ -78,17 +78,12 @@ is_open_same base n (Some f ∷ xs) c h all =
     ap (λ v. v || list_any (has_open (bare_name n)) (map shown xs)) (bare_same f.entry.name n (m.long ∙ sym h.long) m.padded h.padded)
     ∙ ap (λ v. bytes_eq f.entry.name n || v) i
 
--- if no device has a name open, none has its entry
-pub or-false : (a b : Bool) → a || b ≡ false → (a ≡ false) × (b ≡ false)
-or-false true b e = absurd (false≢true (sym e))
-or-false false b e = (refl, e)
-
 -- a name that is not open is that of no device
 pub not_open : (n : List ℕ) (xs : List (Option OpenFile)) (d : ℕ) (f : OpenFile) → is_this_open n xs ≡ false
     → slice_index_or xs d None ≡ Some f → bytes_eq f.entry.name n ≡ false
 not_open n [] d f z e = absurd (cc (e))
-not_open n (x ∷ xs) (suc d) f z e = not_open n xs d f (or-false (has_this_open n x) (is_this_open n xs) z).1 e
-not_open n (x ∷ xs) zero f z e = ap (has_this_open n) (sym e) ∙ (or-false (has_this_open n x) (is_this_open n xs) z).0
+not_open n (x ∷ xs) (suc d) f z e = not_open n xs d f (or_parts (has_this_open n x) (is_this_open n xs) z).1 e
+not_open n (x ∷ xs) zero f z e = ap (has_this_open n) (sym e) ∙ (or_parts (has_this_open n x) (is_this_open n xs) z).0
 
 -- The engine answers.
 

@@ -1,6 +1,6 @@
 -- The counts are written: the call has its effect.
 use Rattle.std.proofs.Common.{◌≡◌, ◌≢◌, ℕ, zero, suc, ◌+◌, ◌<◌, ◌≤◌, Bool, true, false, List, [], ◌∷◌, length, map, refl, sym, ap, ◌∙◌, subst, arith, slice_index_or, slice_set, Option, Some, None, ℤ, pos, negsuc, if◌then◌else◌, not, nat_eq, slice_index, get_or-set_same, get_or-set_other, length-set, ⊎_elim, take, nat_lt, length-take}
-use Rattle.std.proofs.lemmas.Bool.{false≢true, cases_eq}
+use Rattle.std.proofs.lemmas.Bool.{false≢true, cases_eq, or_parts}
 use Rattle.std.proofs.lemmas.Bool.Decides.{nat_tests}
 use Rattle.std.proofs.lemmas.Slice.Eq.{bytes_eq-Decides}
 use Rattle.lfs_format.specs.declared.Entry.{Entry}
@@ -23,7 +23,7 @@ use Rattle.local_files.specs.Hands.{system, IsEnding, IsMade, IsHeaderWrite, IsD
 use Rattle.local_files.specs.Steps.{device_at, answered, with_device, lowest_free, shown, kept_at, counted, at_byte, device_of, is_write, is_truncate, has_this_open, is_this_open}
 use Rattle.local_files.specs.Standing.{Stands, InHand, GoesTo, call_bytes, given_bytes}
 use Rattle.local_files.specs.Opens.{opened, ended}
-use Rattle.local_files.proofs.Devices.{apart_moved, device_some, shown_set, is_open_same, shown_at, some_below, apart_set, or-false}
+use Rattle.local_files.proofs.Devices.{apart_moved, device_some, shown_set, is_open_same, shown_at, some_below, apart_set}
 use Rattle.xinu_model.specs.Files.Systems as systems
 use Rattle.xinu_model.specs.Files.Calls as model
 use Rattle.local_files.proofs.Closings.{made_open}
@@ -277,8 +277,8 @@ deleted_goes e name base disk made is s w m =
     closed_at : (name : List ℕ) (xs : List (Option OpenFile)) (c : ℕ) → is_this_open name xs ≡ false
         → has_this_open name (slice_index_or xs c None) ≡ false
     closed_at name [] c z = refl
-    closed_at name (x ∷ xs) zero z = (or-false (has_this_open name x) (is_this_open name xs) z).0
-    closed_at name (x ∷ xs) (suc c) z = closed_at name xs c (or-false (has_this_open name x) (is_this_open name xs) z).1
+    closed_at name (x ∷ xs) zero z = (or_parts (has_this_open name x) (is_this_open name xs) z).0
+    closed_at name (x ∷ xs) (suc c) z = closed_at name xs c (or_parts (has_this_open name x) (is_this_open name xs) z).1
 
 -- what the code leaves
 pub header_written_goes : (e e' : Files) (base disk : List ℕ) → e.phase ≡ HeaderWrite → e' ≡ ended e.call e → Stands e base disk

@@ -1,6 +1,6 @@
 -- Each step of a read, a write and a cut leaves fewer completions.
 use Rattle.std.proofs.Common.{replicate, ◌≡◌, ◌≢◌, ℕ, zero, suc, ◌+◌, ◌-◌, ◌*◌, ◌/◌, ◌%◌, ◌<◌, ◌≤◌, Bool, true, false, not, nat_le, nat_lt, nat_eq, ◌==◌, ◌||◌, ◌&&◌, if◌then◌else◌, min, List, refl, sym, ◌∙◌, arith, slice_index, Option, Some, None, pos, negsuc}
-use Rattle.std.proofs.lemmas.Bool.{false≢true}
+use Rattle.std.proofs.lemmas.Bool.{false≢true, or_parts}
 use Rattle.std.proofs.lemmas.Bool.Decides.{nat_tests}
 use Rattle.lfs_format.specs.declared.Index.{Index}
 use Rattle.lfs_format.specs.declared.Entry.{Entry}
@@ -13,7 +13,6 @@ use Rattle.local_files.specs.Takes.{walking, fetching, walked, fetched, with_tak
 use Rattle.local_files.specs.Puts.{end_put, at_end, target, reaching, reach_to, taking, appending, patching, in_place, next_put}
 use Rattle.local_files.specs.Cuts.{cut_at, end_cut, freeing, free_next, word_block, cutting}
 use Rattle.local_files.specs.Bounds.{left, read_left, put_left, cut_left}
-use Rattle.local_files.proofs.Devices.{or-false}
 
 -- either way fewer are left
 pub below_if : (b : Bool) (x y : Files) (base : List ℕ) (m : ℕ) → (b ≡ true → left x base < m) → (b ≡ false → left y base < m)
@@ -123,7 +122,7 @@ next_put_less e base m four put reach =
         (λ _. below_if ((at_byte e == 0) || at_it) (taking e) (reach_to e) base m
         (λ _. below_if (nat_lt e.header.free_data e.blocks) (record e { phase = TakeRead e.header.free_data }) (answered (negsuc 0) e) base m
         (λ _. room) (λ _. omega (arith, four)))
-        (λ t. reach l (other e.reached (target e + 1) (or-false (at_byte e == 0) at_it t).1))))
+        (λ t. reach l (other e.reached (target e + 1) (or_parts (at_byte e == 0) at_it t).1))))
         (λ _. below_if at_it (patching (slice_index e.index.blocks (at_byte e / 512 % 16)) e) (reach_to e) base m
         (λ _. below_if (nat_lt (slice_index e.index.blocks (at_byte e / 512 % 16)) e.blocks)
         (record e { phase = PatchRead (slice_index e.index.blocks (at_byte e / 512 % 16)) }) (answered (negsuc 0) e) base m

@@ -8,7 +8,6 @@ use Rattle.lfs_check.specs.Disks.{entry_at}
 use Rattle.lfs_layout.specs.Files.{bare_name}
 use Rattle.xinu_model.specs.Files.Systems.{FileSystem, FileEffect, is_open, free_device, refused_effect, replies}
 use Rattle.file_laws.specs.StoredFiles.{entry_bytes, entry_chain, entry_data}
-use Rattle.file_laws.proofs.Names.{either-way}
 use Rattle.file_laws.proofs.Named.{bytes_sized}
 use Rattle.file_laws.proofs.Counted.{entry_small}
 use Rattle.local_files.specs.declared.OpenFile.{OpenFile}
@@ -28,6 +27,7 @@ use Rattle.std.proofs.Common.{◌-◌, drop, length-drop, min}
 use Rattle.lfs_format.specs.declared.Index.{Index}
 use Rattle.lfs_check.specs.Meets.{null}
 use Rattle.lfs_check.specs.Laid.{index_for}
+use Rattle.lfs_check.proofs.KeepsAll.{either-way}
 use Rattle.file_laws.specs.Changing.{IsReadBy}
 use Rattle.local_files.proofs.Freeing.{IsStanding, some_at, goes_from}
 use Rattle.std.proofs.lemmas.List.{take_at, drop_at, drop-drop}

@@ -6,7 +6,6 @@ use Rattle.lfs_check.specs.Rules.{block_in}
 use Rattle.lfs_check.specs.Disks.{block_put, entry_at}
 use Rattle.lfs_check.proofs.BlockPuts.{put_same}
 use Rattle.file_laws.specs.StoredFiles.{entry_bytes}
-use Rattle.file_laws.proofs.Names.{either-way}
 use Rattle.local_files.specs.declared.Files.{Files}
 use Rattle.local_files.specs.declared.Phase.{Phase}
 use Rattle.local_files.specs.declared.Phase.TheVariants.{TakeRead, TakeWrite, AddRead, AddWrite, NewRead}
@@ -23,6 +22,7 @@ use Rattle.lfs_check.specs.declared.fields.Header.{Header}
 use Rattle.lfs_check.specs.Geometries.{first_data}
 use Rattle.lfs_check.specs.Laid.{Places}
 use Rattle.lfs_check.specs.Disks.{disk_geometry}
+use Rattle.lfs_check.proofs.KeepsAll.{either-way}
 use Rattle.file_laws.specs.Middle.{IsMiddle}
 use Rattle.file_laws.proofs.Middles.{middle_held}
 use Rattle.file_laws.proofs.Reached.{free_data_some, middle_data_taken, free_index_some, free_index_first}

@@ -5,7 +5,6 @@ use Rattle.lfs_check.specs.Rules.{block_in}
 use Rattle.lfs_check.specs.Disks.{block_put, entry_at}
 use Rattle.lfs_check.proofs.BlockPuts.{put_same, put_other}
 use Rattle.file_laws.specs.StoredFiles.{entry_bytes}
-use Rattle.file_laws.proofs.Names.{either-way}
 use Rattle.local_files.specs.declared.Files.{Files}
 use Rattle.local_files.specs.declared.Phase.{Phase}
 use Rattle.local_files.specs.declared.Phase.TheVariants.{NewRead}
@@ -41,6 +40,7 @@ use Rattle.file_laws.proofs.Reached.{middle_index_got}
 use Rattle.file_laws.proofs.Freed.{middle_index_held}
 use Rattle.file_laws.proofs.Patched.{middle_started}
 use Rattle.lfs_check.proofs.Steps.{index_for-more}
+use Rattle.lfs_check.proofs.KeepsAll.{either-way}
 
 -- The free index block was read: it is to be written with the number.
 pub new_read_goes : (e e' : Files) (b i : ℕ) (base disk read : List ℕ) → e.phase ≡ NewRead b i

@@ -5,6 +5,7 @@ use Rattle.lfs_check.specs.Geometries.{index_count}
 use Rattle.lfs_check.specs.Laid.{Places, numbers_at}
 use Rattle.lfs_check.specs.Disks.{disk_geometry, entry_at}
 use Rattle.lfs_check.proofs.BlockPuts.{length_put, put_other}
+use Rattle.lfs_check.proofs.KeepsAll.{either-way}
 use Rattle.xinu_model.specs.Files.Writing.{overwritten}
 use Rattle.file_laws.specs.StoredFiles.{entry_bytes, entry_chain, entry_data}
 use Rattle.file_laws.specs.Changing.{IsReadBy}
@@ -21,7 +22,6 @@ use Rattle.local_files.specs.Puts.{target}
 use Rattle.local_files.specs.Steps.{at_byte, is_truncate}
 use Rattle.local_files.specs.Standing.{Stands, InHand, wanted, wanted_in, served, served_by}
 use Rattle.local_files.specs.Bounds.{left, left_in, cut_left, put_left}
-use Rattle.file_laws.proofs.Names.{either-way}
 use Rattle.std.proofs.Common.{if◌then◌else◌}
 use Rattle.local_files.specs.Resting.{IsOnDisk, ChangesOneBlock}
 use Rattle.local_files.proofs.Closings.{blocks_many}

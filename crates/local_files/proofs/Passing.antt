@@ -9,13 +9,14 @@ use Rattle.lfs_check.specs.Rules.{entry_is_used, block_in}
 use Rattle.lfs_check.specs.Fields.{header_2}
 use Rattle.lfs_check.specs.Disks.{is_this, entry_at, entries, header_on, block_put, dir_with_entry, dir_with_header}
 use Rattle.lfs_check.proofs.Directories.{entry_of_block}
+use Rattle.lfs_check.proofs.KeepsAll.{either-way}
 use Rattle.lfs_layout.specs.Files.{bare_name}
 use Rattle.xinu_base.specs.declared.files.OpenMode.{OpenMode}
 use Rattle.xinu_model.specs.Files.Stored.{file_named}
 use Rattle.xinu_model.specs.Files.Systems.{FileEffect, refused_effect}
 use Rattle.xinu_model.specs.Files.Opening.{open_stored, with_created}
 use Rattle.file_laws.specs.StoredFiles.{stored_files, empty_entry, one_more}
-use Rattle.file_laws.proofs.Names.{either-way, name_padded}
+use Rattle.file_laws.proofs.Names.{name_padded}
 use Rattle.file_laws.proofs.Named.{IsName, named_none, length_entries}
 use Rattle.file_laws.proofs.Counted.{files_counted, count_all}
 use Rattle.file_laws.proofs.Created.{created}

@@ -5,7 +5,6 @@ use Rattle.lfs_format.specs.declared.Entry.{Entry}
 use Rattle.lfs_check.specs.Rules.{block_in}
 use Rattle.lfs_check.specs.Disks.{block_put, entry_at}
 use Rattle.file_laws.specs.StoredFiles.{entry_bytes}
-use Rattle.file_laws.proofs.Names.{either-way, and-true}
 use Rattle.file_laws.proofs.Named.{bytes_sized}
 use Rattle.local_files.specs.declared.Files.{Files}
 use Rattle.local_files.specs.declared.Phase.{Phase}
@@ -21,12 +20,14 @@ use Rattle.lfs_format.specs.declared.Index.{Index}
 use Rattle.lfs_format.specs.Indexes.{index_at}
 use Rattle.lfs_check.specs.Meets.{null}
 use Rattle.lfs_check.specs.Laid.{Places, numbers_at, index_for}
+use Rattle.lfs_check.proofs.KeepsAll.{either-way}
 use Rattle.file_laws.specs.Middle.{IsMiddle}
 use Rattle.file_laws.specs.Changing.{IsReadBy}
 use Rattle.file_laws.proofs.Reached.{middle_read}
 use Rattle.local_files.proofs.Closings.{put_whole}
 use Rattle.local_files.proofs.Freeing.{IsStanding, standing, some_at, goes_from}
 use Rattle.std.proofs.lemmas.List.{take-take}
+use Rattle.std.proofs.lemmas.Bool.{and_parts}
 use Rattle.local_files.proofs.CutSteps.{index_on_disk}
 use Rattle.file_laws.proofs.Patched.{middle_sized, middle_patched}
 use Rattle.file_laws.proofs.Fitting.{length_overwritten}
@@ -43,7 +44,7 @@ target_either e = either-way (at_end e && nat_lt 0 (at_byte e))
     (λ v. (at_end e && nat_lt 0 (at_byte e)) ≡ v
     → ((if v then (at_byte e - 1) / 8192 else at_byte e / 8192) ≡ at_byte e / 8192) ⊎ ((0 < at_byte e)
     × ((if v then (at_byte e - 1) / 8192 else at_byte e / 8192) ≡ (at_byte e - 1) / 8192)))
-    (λ _ t. (let two = and-true (at_end e) (nat_lt 0 (at_byte e)) t in let a = two.1 in inr ((grind (arith, nat_tests)), refl)))
+    (λ _ t. (let two = and_parts (at_end e) (nat_lt 0 (at_byte e)) t in let a = two.1 in inr ((grind (arith, nat_tests)), refl)))
     (λ _ t. inl refl) refl
 
 -- the bytes of a piece

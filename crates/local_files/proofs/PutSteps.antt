@@ -1,10 +1,9 @@
 -- The steps of a call that puts bytes: which block it goes on to.
 use Rattle.std.proofs.Common.{◌≡◌, ◌≢◌, ℕ, suc, ◌+◌, ◌/◌, ◌<◌, ◌≤◌, Bool, true, false, ◌||◌, nat_le, List, length, refl, sym, ap, ◌∙◌, subst, arith, negsuc, if◌then◌else◌, nat_eq, slice_index, ◌&&◌, ◌%◌, ⊎_elim, take, nat_lt, ◌==◌, inl, inr}
-use Rattle.std.proofs.lemmas.Bool.{false≢true, cases_lt}
+use Rattle.std.proofs.lemmas.Bool.{false≢true, cases_lt, and_parts}
 use Rattle.std.proofs.lemmas.Bool.Decides.{nat_tests}
 use Rattle.lfs_check.specs.Disks.{entry_at}
 use Rattle.file_laws.specs.StoredFiles.{entry_bytes}
-use Rattle.file_laws.proofs.Names.{either-way, and-true}
 use Rattle.local_files.specs.declared.Files.{Files}
 use Rattle.local_files.specs.declared.Phase.{Phase}
 use Rattle.local_files.specs.declared.Phase.TheVariants.{Reach, PatchRead, TakeRead}
@@ -18,6 +17,7 @@ use Rattle.lfs_format.specs.declared.Index.{Index}
 use Rattle.lfs_check.specs.Meets.{null}
 use Rattle.lfs_check.specs.Laid.{Places, numbers_at, index_for}
 use Rattle.lfs_check.specs.declared.fields.Header.{Header}
+use Rattle.lfs_check.proofs.KeepsAll.{either-way}
 use Rattle.file_laws.specs.Middle.{IsMiddle}
 use Rattle.file_laws.specs.Changing.{IsReadBy}
 use Rattle.file_laws.proofs.Reached.{middle_read, free_data_first, free_data_some, free_data_none, free_index_none}
@@ -73,7 +73,7 @@ ready_kept e ph b base disk r = record {
 
 -- the tests of the next bytes
 pub ends_is : (e : Files) → at_end e ≡ true → (at_byte e ≡ e.entry.size) × (at_byte e % 512 ≡ 0)
-ends_is e t = let two = and-true (nat_eq (at_byte e) e.entry.size) (at_byte e % 512 == 0) t in let a = two.0 in let b = two.1 in
+ends_is e t = let two = and_parts (nat_eq (at_byte e) e.entry.size) (at_byte e % 512 == 0) t in let a = two.0 in let b = two.1 in
     ((grind (arith, nat_tests)), (grind (arith, nat_tests)))
 
 -- at the size, but within a block

@@ -7,7 +7,6 @@ use Rattle.lfs_check.specs.Disks.{block_put, entry_at}
 use Rattle.lfs_layout.specs.Files.{bare_name}
 use Rattle.xinu_model.specs.Files.Systems.{FileSystem, FileEffect, is_open, free_device, refused_effect, replies}
 use Rattle.file_laws.specs.StoredFiles.{entry_bytes}
-use Rattle.file_laws.proofs.Names.{either-way}
 use Rattle.file_laws.proofs.Named.{bytes_sized}
 use Rattle.file_laws.proofs.Counted.{entry_small}
 use Rattle.local_files.specs.declared.Files.{Files}
@@ -40,6 +39,7 @@ use Rattle.local_files.specs.Puts.{end_put}
 use Rattle.file_laws.specs.Fitting.{IsFull}
 use Rattle.lfs_check.proofs.Counting.{length-most}
 use Rattle.lfs_check.proofs.Steps.{times_in-part}
+use Rattle.lfs_check.proofs.KeepsAll.{either-way}
 
 -- the file that is written is on the disk
 pub put_open : (e : Files) (base disk : List ℕ) (p : Places) → IsStanding e base disk → (u : IsPutting e base disk p) → IsOpenOn base u.file

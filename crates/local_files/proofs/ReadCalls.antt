@@ -3,7 +3,6 @@ use Rattle.std.proofs.Common.{◌≡◌, ℕ, ◌+◌, ◌/◌, ◌<◌, ◌≤�
 use Rattle.std.proofs.lemmas.Bool.Decides.{nat_tests}
 use Rattle.xinu_model.specs.Files.Systems.{FileSystem, FileEffect, is_open, free_device, refused_effect, replies}
 use Rattle.file_laws.specs.StoredFiles.{entry_chain}
-use Rattle.file_laws.proofs.Names.{either-way}
 use Rattle.local_files.specs.declared.OpenFile.{OpenFile}
 use Rattle.local_files.specs.declared.Files.{Files}
 use Rattle.local_files.specs.declared.FileCall.{FileCall}
@@ -17,6 +16,7 @@ use Rattle.local_files.specs.Standing as engine
 use Rattle.xinu_model.specs.Files.Calls as model
 use Rattle.std.proofs.Common.{◌-◌, min}
 use Rattle.lfs_check.specs.Meets.{null}
+use Rattle.lfs_check.proofs.KeepsAll.{either-way}
 use Rattle.local_files.proofs.Freeing.{IsStanding, some_at, goes_from}
 use Rattle.std.proofs.lemmas.List.{drop_all}
 use Rattle.local_files.specs.Takes.{walking, reading_at}

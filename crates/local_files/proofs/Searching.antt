@@ -1,6 +1,6 @@
 -- A name is looked for: it is in a block.
 use Rattle.std.proofs.Common.{◌≡◌, ◌≢◌, ℕ, ◌+◌, ◌*◌, ◌<◌, ◌≤◌, Bool, true, false, ◌||◌, nat_lt, nat_le, nat_eq, ◌==◌, if◌then◌else◌, List, [], refl, sym, ap, ◌∙◌, subst, arith, slice_index_or, slice_set, Option, Some, None, pos, negsuc, bytes_eq, ⊎_elim}
-use Rattle.std.proofs.lemmas.Bool.{false≢true, cases_lt}
+use Rattle.std.proofs.lemmas.Bool.{false≢true, cases_lt, and_parts}
 use Rattle.std.proofs.lemmas.Bool.Decides.{nat_tests}
 use Rattle.std.proofs.lemmas.Slice.Eq.{bytes_eq-Decides}
 use Rattle.lfs_format.specs.declared.Entry.{Entry}
@@ -10,6 +10,7 @@ use Rattle.lfs_check.specs.Rules.{entry_is_used, block_in}
 use Rattle.lfs_check.specs.Fields.{header_2}
 use Rattle.lfs_check.specs.Disks.{is_this, entry_at, header_on}
 use Rattle.lfs_check.proofs.Directories.{entry_of_block}
+use Rattle.lfs_check.proofs.KeepsAll.{either-way}
 use Rattle.lfs_layout.specs.Files.{bare_name}
 use Rattle.xinu_base.specs.declared.files.OpenMode.{OpenMode}
 use Rattle.xinu_model.specs.Files.Modes.{reads, writes}
@@ -17,7 +18,7 @@ use Rattle.xinu_model.specs.Files.Stored.{StoredFile, file_named}
 use Rattle.xinu_model.specs.Files.Systems.{FileSystem, FileEffect, is_open, free_device, refused_effect}
 use Rattle.xinu_model.specs.Files.Opening.{open_stored, with_created}
 use Rattle.file_laws.specs.StoredFiles.{stored_files, entry_bytes}
-use Rattle.file_laws.proofs.Names.{either-way, and-true, name_padded}
+use Rattle.file_laws.proofs.Names.{name_padded}
 use Rattle.file_laws.proofs.Named.{IsName, named_at}
 use Rattle.local_files.specs.declared.OpenFile.{OpenFile}
 use Rattle.local_files.specs.declared.Files.{Files}
@@ -67,7 +68,7 @@ pub found_open : (e : Files) (name : List ℕ) (mode : OpenMode) (slot : ℕ) (e
     → GoesTo (finding (Open name mode) slot entry e).phase (Open name mode) [] e (finding (Open name mode) slot entry e) base base
 found_open e name mode slot entry base right look s h at this =
     let sys = system e base in
-    let two = and-true (entry_is_used entry) (bytes_eq entry.name name) this in
+    let two = and_parts (entry_is_used entry) (bytes_eq entry.name name) this in
     let same : entry.name ≡ name = (bytes_eq-Decides entry.name name).0 two.1 in
     let n : IsName name = record { padded = name_padded 27 name right.0; long = right.1 } in
     let used : entry_is_used (entry_at base slot) ≡ true = ap entry_is_used at ∙ two.0 in
@@ -188,7 +189,7 @@ found_goes e e' d k header entry name base disk read phase counts new named belo
     by_call (Delete n) c h =
         let L : FileCall → Type 0 = λ q. IsLook q → name ≡ name_of q in
         let name_is : name ≡ n = (subst L c named) tt in
-        let two = and-true (entry_is_used entry) (bytes_eq entry.name name) this in
+        let two = and_parts (entry_is_used entry) (bytes_eq entry.name name) this in
         let same : entry.name ≡ name = (bytes_eq-Decides entry.name name).0 two.1 in
         let block = h.block in
         let slot : 13 * d + k < 78 = omega (arith, block, below) in

@@ -4,12 +4,12 @@ use Rattle.std.proofs.lemmas.Bool.Decides.{nat_tests}
 use Rattle.lfs_format.specs.declared.Entry.{Entry}
 use Rattle.lfs_check.specs.Rules.{entry_is_used}
 use Rattle.lfs_check.specs.Disks.{entry_at}
+use Rattle.lfs_check.proofs.KeepsAll.{either-way}
 use Rattle.lfs_layout.specs.Files.{bare_name}
 use Rattle.lfs_layout.specs.Images.{IsCleanImage}
 use Rattle.xinu_model.specs.Files.Stored.{with_contents}
 use Rattle.xinu_model.specs.Files.Systems.{FileSystem, FileEffect, is_open, free_device, refused_effect, replies}
 use Rattle.file_laws.specs.StoredFiles.{stored_files, entry_bytes}
-use Rattle.file_laws.proofs.Names.{either-way}
 use Rattle.file_laws.proofs.Named.{bytes_sized}
 use Rattle.local_files.specs.declared.OpenFile.{OpenFile}
 use Rattle.local_files.specs.declared.Files.{Files}
@@ -26,7 +26,7 @@ use Rattle.xinu_model.specs.Files.Calls as model
 use Rattle.file_laws.proofs.Effects.{truncate_effect}
 use Rattle.xinu_model.specs.Files.Writing.{overwritten, fitting}
 use Rattle.std.proofs.Common.{drop}
-use Rattle.std.proofs.lemmas.List.{take_at}
+use Rattle.std.proofs.lemmas.List.{take_at, nil_from_length}
 use Rattle.file_laws.proofs.Fitting.{length_overwritten}
 use Rattle.local_files.specs.Buffers.{put_at}
 use Rattle.local_files.specs.Cuts.{truncating, truncating_at, held_file}
@@ -195,11 +195,6 @@ begin_putc_goes e e' call d b disk is new s =
     subst P (sym is) (begin_put_goes e e' (Putc d b) d (b ∷ []) disk (putc_call d b (system e disk)) (omega arith) (λ f at r z.
     absurd (omega (arith, z))) new s)
 
--- a list of no elements
-no_bytes : (xs : List ℕ) → length xs ≡ 0 → xs ≡ []
-no_bytes [] h = refl
-no_bytes (x ∷ xs) h = absurd (omega (arith, h))
-
 -- `truncate`
 truncate_goes : (e : Files) (d : ℕ) (disk : List ℕ) → Stands e disk disk
     → GoesTo (truncating_at (device_at e d) d (Truncate d) e).phase (Truncate d) [] e
@@ -217,7 +212,7 @@ truncate_goes e d disk s = by_device (device_at e d) refl
         let u = ap entry_is_used o.entry ∙ o.used in
         let sized = bytes_sized disk s.clean f.slot o.slot u in
         let size = ap (λ (x : Entry). x.size) o.entry in
-        let none = no_bytes (entry_bytes disk (entry_at disk f.slot)) (omega (arith, sized, size, z)) in
+        let none = nil_from_length (entry_bytes disk (entry_at disk f.slot)) (omega (arith, sized, size, z)) in
         let name = (entry_at disk f.slot).name in
         let kept = ap (λ b. with_contents (bare_name name) b (stored_files disk)) (sym none) ∙ kept_contents disk f.slot s.clean o.slot u in
         let b = some_below e.devices d f at in let six = s.six in (

@@ -1,5 +1,5 @@
-use Rattle.std.proofs.Common.{◌≡◌, ◌≢◌, ℕ, ◌+◌, ◌<◌, ◌≤◌, true, false, cond, not, nat_eq, List, [], ◌∷◌, ◌++◌, length, get_or, take, drop, sym, ap, ◌∙◌, arith, length-take}
-use Rattle.std.proofs.lemmas.List.{drop_more, drop_all, take_more}
+use Rattle.std.proofs.Common.{◌≡◌, ◌≢◌, ℕ, ◌+◌, ◌<◌, true, false, cond, not, nat_eq, List, [], ◌∷◌, ◌++◌, length, get_or, take, drop, sym, ap, ◌∙◌, arith, length-take}
+use Rattle.std.proofs.lemmas.List.{drop_more, take_more}
 use Rattle.std.proofs.lemmas.Bool.Decides.{nat_tests}
 use Rattle.lfs_check.specs.Rules.{text_length}
 use Rattle.lfs_layout.proofs.listing.text_of.Goals as goal
@@ -17,11 +17,6 @@ unfolding text_length
 text_goes_on name i h n =
     let t : not (nat_eq (get_or name i 0) 0) ≡ true = grind (arith, nat_tests) in
     ap text_length (drop_more name i 0 h) ∙ ap (λ v. cond v (1 + text_length (drop (i + 1) name)) 0) t
-
--- nothing is left after the end of a name
-text_out : (name : List ℕ) (i : ℕ) → length name ≤ i → text_length (drop i name) ≡ 0
-unfolding text_length
-text_out name i h = ap text_length (drop_all i name h)
 
 pub returns-then-byte-eq0 : goal.returns-then-byte-eq0
 returns-then-byte-eq0 c =
