@@ -1,5 +1,5 @@
 -- What the calls on the sleepers' queue leave of the delays, and of how lists and processes fit.
-use Rattle.std.proofs.Common.{◌≡◌, ◌≢◌, ◌∙◌, ℕ, ◌+◌, ◌<◌, ℤ, pos, negsuc, ◌≤ℤ◌, ◌<ℤ◌, Bool, true, false, cond, None, Some, List, [], ◌∷◌, ◌++◌, length, replicate, refl, sym, ap, subst, arith}
+use Rattle.std.proofs.Common.{◌≡◌, ◌≢◌, ◌∙◌, ℕ, ◌+◌, ◌<◌, ℤ, pos, negsuc, ◌≤ℤ◌, ◌<ℤ◌, Bool, true, false, cond, None, Some, List, [], ◌∷◌, length, replicate, refl, sym, ap, subst, arith}
 use Rattle.std.specs.List.{filter}
 use Rattle.std.specs.Option.{IsSomeAnd}
 use Rattle.std.proofs.lemmas.Int.{ints}
@@ -19,6 +19,7 @@ use Rattle.process_core.proofs.Removals.{left}
 use Rattle.process_core.proofs.Steps.{fits_left_sleepers}
 use Rattle.process_core.proofs.Sleepers.{delays_least_due, sleepers_sooner}
 use Rattle.queue_table.proofs.Laws.{all_without_none, place-none}
+use Rattle.queue_table.proofs.Deltas.{KeysAtLeast-append}
 use Rattle.delta_clock.specs.Wakeups.{WakesLater, not_due}
 
 -- nobody sleeps in empty lists
@@ -41,11 +42,6 @@ least-filter k test (e ∷ l) h = go (least-filter k test l h.1) (test e)
     go i true = (h.0, i)
     go i false = i
 
--- two lists of such keys
-least-append : (k : ℤ) (l m : List Entry) → KeysAtLeast k l → KeysAtLeast k m → KeysAtLeast k (l ++ m)
-least-append k [] m h i = i
-least-append k (e ∷ l) m h i = (h.0, least-append k l m h.1 i)
-
 -- the queue with one sleeper more
 pub later-insert : (ls : List (List Entry)) (p : ℕ) (d : ℤ) → length ls ≡ 130 → WakesLater ls → pos 1 ≤ℤ d → d ≤ℤ pos 2147483647
     → WakesLater (with_list ls 129 (delta_insert p d (list_at ls 129)))
@@ -57,7 +53,7 @@ later-insert ls p d n w le max =
     record {
       delta = subst F (sym at) (IsDelta-insert l p d w.delta (omega (arith, ints, le)) max);
       later = subst G (sym (ap delays at ∙ delays-insert p d l))
-          (least-append (pos 1) _ _ (least-filter (pos 1) _ (delays l) w.later) (le, least-filter (pos 1) _ (delays l) w.later));
+          (KeysAtLeast-append (pos 1) _ _ (least-filter (pos 1) _ (delays l) w.later) (le, least-filter (pos 1) _ (delays l) w.later));
     }
 
 -- the queue with one sleeper less

@@ -17,12 +17,9 @@ use Rattle.process_core.specs.Tables.{sleepers_of, wake_tick}
 use Rattle.process_core.proofs.Lengths.{short}
 use Rattle.process_core.proofs.Removals.{rest_is_without}
 use Rattle.process_core.proofs.Steps.{fits_left}
+use Rattle.process_core.proofs.Sleepers.{at_tick}
 use Rattle.delta_clock.specs.Wakeups.{AreOut, not_due}
 use Rattle.delta_clock.proofs.Delays.{sleeping_not_ready}
-
--- an entry with its tick
-abbrev at_tick : ℕ → Entry → ℕ × ℕ
-at_tick t e = (e.0, wake_tick t e.1)
 
 -- a later tick is another
 later_tick : (t : ℕ) (z : ℤ) → pos 1 ≤ℤ z → eqb (wake_tick t z) t ≡ false

@@ -10,6 +10,7 @@ use Rattle.xinu_base.specs.declared.processes.State.TheVariants.{Free, Current, 
 use Rattle.xinu_model.specs.Sound.Tables.{entries_of, HaveKeys, IsInside, ready_places}
 use Rattle.xinu_model.specs.Tables.{process_at, state_at, Tables}
 use Rattle.process_core.proofs.Inside.{uncounted}
+use Rattle.table_laws.proofs.Tables.Scheduling.{ready_of}
 use Rattle.kernel_tables.specs.Walks.{entries_from}
 
 -- each process is in the list at most once
@@ -103,24 +104,13 @@ places_least Suspended = omega arith
 places_least Waiting = omega arith
 places_least Timed = omega arith
 
--- who has a place there is ready
-placed_ready : (s : State) → 0 < ready_places s → s ≡ Ready
-placed_ready Ready h = refl
-placed_ready Free h = absurd (omega (arith, h))
-placed_ready Current h = absurd (omega (arith, h))
-placed_ready Receiving h = absurd (omega (arith, h))
-placed_ready Sleeping h = absurd (omega (arith, h))
-placed_ready Suspended h = absurd (omega (arith, h))
-placed_ready Waiting h = absurd (omega (arith, h))
-placed_ready Timed h = absurd (omega (arith, h))
-
 -- each process is in the ready list at most once
 ready_once : (t : Tables) → IsInside t → Once t.ready
 ready_once t k r = let e = k.ready r in let l = places_least (state_at t r) in omega arith
 
 -- who is in it is ready
 counted_ready : (t : Tables) → IsInside t → (p : ℕ) → 0 < entries_of p t.ready → state_at t p ≡ Ready
-counted_ready t k p some = placed_ready (state_at t p) (let e = k.ready p in omega arith)
+counted_ready t k p some = ready_of (state_at t p) (let e = k.ready p in omega arith)
 
 -- who is ready is in it
 ready_listed : (t : Tables) → IsInside t → (p : ℕ) → state_at t p ≡ Ready → is_listed p t.ready ≡ true

@@ -5,6 +5,7 @@ use Rattle.std.proofs.lemmas.Int.{ints}
 use Rattle.process_core.proofs.Inside.{sleepers_counted}
 use Rattle.process_core.specs.Tables.{sleepers_of, wake_tick}
 use Rattle.queue_table.specs.Lists.{after_in, delays, delays_from, Entry, first_process, is_listed, IsDelta, key_in, key_sum, KeysAtLeast}
+use Rattle.queue_table.proofs.Deltas.{key_sum-least}
 use Rattle.xinu_model.specs.Sound.Tables.{entries_of, IsInside}
 use Rattle.xinu_model.specs.Tables.{state_at, Tables}
 use Rattle.kernel_tables.specs.Walks.{entries_from, StandsAt}
@@ -88,11 +89,6 @@ key_least k n (e ∷ l) least h = go (λ f. key_least k n l least.1 f) (nat_eq n
     go later true t = rw t least.0
     go later false t = rw t (later (sym (ap (λ b. cond b true (is_listed n l)) t) ∙ h))
 
--- the sum isn't negative
-sum_least : (l : List Entry) → KeysAtLeast (pos 0) l → pos 0 ≤ℤ key_sum l
-sum_least [] least = omega (arith, ints)
-sum_least (e ∷ l) least = let a = least.0 in let b = sum_least l least.1 in omega (arith, ints)
-
 -- no delay is above the sum
 delay_most : (s : ℤ) (n : ℕ) (l : List Entry) → KeysAtLeast (pos 0) l → is_listed n l ≡ true → (s ≤ℤ key_in n (delays_from s l)) × (key_in n (delays_from s l) ≤ℤ (s +ℤ key_sum l))
 delay_most s n [] least h = absurd (cc)
@@ -100,7 +96,7 @@ delay_most s n (e ∷ l) least h = go (λ f. delay_most (s +ℤ e.1) n l least.1
   where
     go : (is_listed n l ≡ true → ((s +ℤ e.1) ≤ℤ key_in n (delays_from (s +ℤ e.1) l)) × (key_in n (delays_from (s +ℤ e.1) l) ≤ℤ ((s +ℤ e.1) +ℤ key_sum l))) → (b : Bool) → nat_eq n e.0 ≡ b
         → (s ≤ℤ key_in n (delays_from s (e ∷ l))) × (key_in n (delays_from s (e ∷ l)) ≤ℤ (s +ℤ key_sum (e ∷ l)))
-    go later true t = rw t (let a = least.0 in let b = sum_least l least.1 in (omega (arith, ints), omega (arith, ints)))
+    go later true t = rw t (let a = least.0 in let b = key_sum-least l least.1 in (omega (arith, ints), omega (arith, ints)))
     go later false t = rw t (let a = least.0 in let b = later (sym (ap (λ b. cond b true (is_listed n l)) t) ∙ h) in let c = b.0 in let d = b.1 in (omega (arith, ints), omega (arith, ints)))
 
 -- the tick at which one wakes after a delay

@@ -11,7 +11,6 @@ use Rattle.queue_table.specs.Lists.{Entry, IsByKey, all_delta_without, all_witho
 use Rattle.queue_table.proofs.Laws.{IsByKey-filter, IsByKey-insert, list_at-same, list_at-other, list_at_delta_without, list_at_without, place_delayed, place_delta_without_other, place_delta_without_same, place_inserted, place_pushed, place_without_other, place_without_same}
 use Rattle.queue_table.proofs.Deltas.{delta_without-absent}
 use Rattle.xinu_model.specs.Process.Calls.{is_ready}
-use Rattle.xinu_model.specs.Process.Scheduling.{is_current}
 use Rattle.xinu_model.specs.Tables.{no_process}
 use Rattle.process_core.specs.Tables.{process_in}
 use Rattle.process_core.specs.Fits.{Fits, IsBlocked, MayBeIn}
@@ -153,11 +152,6 @@ pub suspended_nowhere : (ls : List (List Entry)) (ps : List Process) (p : ℕ) �
     → place ls p ≡ None
 suspended_nowhere ls ps p f e = nowhere ls ps p f (λ q m. may_be_in q (process_in ps p).state Suspended e m)
 
--- a process that waits for a message without end is in no list
-pub receiving_nowhere : (ls : List (List Entry)) (ps : List Process) (p : ℕ) → Fits ls ps → (process_in ps p).state ≡ Receiving
-    → place ls p ≡ None
-receiving_nowhere ls ps p f e = nowhere ls ps p f (λ q m. may_be_in q (process_in ps p).state Receiving e m)
-
 -- whoever is blocked isn't ready
 pub blocked_not_ready : (s : State) → IsBlocked s → s ≢ Ready
 blocked_not_ready s b e = let F : State → Type 0 = λ s. IsBlocked s in subst F e b
@@ -179,14 +173,3 @@ ready_by_test Sleeping h = absurd (cc)
 ready_by_test Suspended h = absurd (cc)
 ready_by_test Waiting h = absurd (cc)
 ready_by_test Timed h = absurd (cc)
-
--- whoever runs does so by the test
-pub current_by_test : (s : State) → is_current s ≡ true → s ≡ Current
-current_by_test Free h = absurd (cc)
-current_by_test Current h = refl
-current_by_test Ready h = absurd (cc)
-current_by_test Receiving h = absurd (cc)
-current_by_test Sleeping h = absurd (cc)
-current_by_test Suspended h = absurd (cc)
-current_by_test Waiting h = absurd (cc)
-current_by_test Timed h = absurd (cc)

@@ -29,15 +29,6 @@ get_or-take (suc n) q [] d h = refl
 get_or-take (suc n) zero (y ∷ xs) d h = refl
 get_or-take (suc n) (suc q) (y ∷ xs) d h = get_or-take n q xs d (omega arith)
 
--- the semaphores if a list and its mark change
-pub semaphores-set : (sem : ℕ) (ls : List (List Entry)) (ms : List Mark) (l : List Entry) (m : Mark) → sem < length ls
-    → semaphores_of (set ls sem l) (set ms sem m) ≡ set (semaphores_of ls ms) sem (semaphore_of l m)
-semaphores-set sem [] ms l m h = absurd (omega arith)
-semaphores-set zero (k ∷ ls) [] l m h = refl
-semaphores-set (suc sem) (k ∷ ls) [] l m h = refl
-semaphores-set zero (k ∷ ls) (n ∷ ms) l m h = refl
-semaphores-set (suc sem) (k ∷ ls) (n ∷ ms) l m h = ap (λ x. semaphore_of k n ∷ x) (semaphores-set sem ls ms l m (omega arith))
-
 -- the semaphores if a list alone changes
 pub semaphores-list : (sem : ℕ) (ls : List (List Entry)) (ms : List Mark) (l : List Entry) → sem < length ls
     → semaphores_of (set ls sem l) ms ≡ set (semaphores_of ls ms) sem (semaphore_of l (get_or ms sem no_mark))

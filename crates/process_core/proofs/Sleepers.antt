@@ -13,7 +13,7 @@ use Rattle.process_core.specs.Tables.{sleepers_of, wake_tick}
 use Rattle.process_core.proofs.Without.{swapped}
 
 -- an entry with its tick
-abbrev at_tick : ℕ → Entry → ℕ × ℕ
+abbrev pub at_tick : ℕ → Entry → ℕ × ℕ
 at_tick t e = (e.0, wake_tick t e.1)
 
 -- no delay of a delta list is less than the ones ahead of it

@@ -1,7 +1,5 @@
 -- The process table at the start, and what a new process is.
-use Rattle.std.specs.Prelude.{ℕ, List, ◌++◌, take, map, replicate, Bool, true, false}
-use Rattle.xinu_base.specs.declared.processes.Rest.{Rest}
-use Rattle.xinu_base.specs.declared.processes.Rest.TheVariants.{Nothing}
+use Rattle.std.specs.Prelude.{ℕ, List, ◌++◌, take, map, replicate}
 use Rattle.xinu_model.specs.Boot.{null_tables}
 use Rattle.xinu_model.specs.Tables.{Semaphore}
 use Rattle.process_core.specs.Tables.{ProcessTable, Mark, Beside}
@@ -31,8 +29,3 @@ first_beside = record {
 -- a name with zeros after its end, fifteen bytes in all
 abbrev pub padded : List ℕ → List ℕ
 padded name = take 15 (name ++ replicate 15 0)
-
--- whether nothing is left of a call
-abbrev pub is_nothing : Rest → Bool
-is_nothing Nothing = true
-is_nothing _ = false

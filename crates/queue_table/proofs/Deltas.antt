@@ -139,11 +139,6 @@ delays-without p l = delays-differences (without p (delays l))
 pub delays-sooner : (l : List Entry) → delays (delta_sooner l) ≡ sooner (delays l)
 delays-sooner l = delays-differences (sooner (delays l))
 
--- if the first delay is 0 the others are those of the rest
-pub delays-rest : (p : ℕ) (l : List Entry) → delays ((p, pos 0) ∷ l) ≡ (p, pos 0) ∷ delays l
-unfolding delays
-delays-rest p l = refl
-
 -- a delta list without p is left alone by taking p out
 pub delta_without-absent : (p : ℕ) (l : List Entry) → is_listed p l ≡ false → delta_without p l ≡ l
 delta_without-absent p l h = ap differences (without-absent p (delays l) (is_listed-delays p l ∙ h)) ∙ differences-delays l
@@ -206,7 +201,7 @@ walked (e ∷ l) d h le = elim (cases_ℤ d e.1) [
 ]
 
 -- no key of two lists put together is less than k, if none of either is
-KeysAtLeast-append : (k : ℤ) (l m : List Entry) → KeysAtLeast k l → KeysAtLeast k m → KeysAtLeast k (l ++ m)
+pub KeysAtLeast-append : (k : ℤ) (l m : List Entry) → KeysAtLeast k l → KeysAtLeast k m → KeysAtLeast k (l ++ m)
 KeysAtLeast-append k [] m a b = b
 KeysAtLeast-append k (e ∷ l) m a b = (a.0, KeysAtLeast-append k l m a.1 b)
 

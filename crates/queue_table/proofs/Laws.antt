@@ -14,8 +14,8 @@ use Rattle.queue_table.proofs.Deltas.{IsDelta-cut, delta_without-absent, is_list
 use Rattle.queue_table.proofs.Paths.{Path-below, is_listed-cons}
 use Rattle.queue_table.proofs.Chains.{alone_rest}
 use Rattle.queue_table.proofs.Tables.{chained_of, front_of, placed, rest_of_placed}
-pub use Rattle.queue_table.proofs.Orders.{IsByKey-insert, IsByKey-filter, IsByKey-rest}
-pub use Rattle.queue_table.proofs.Deltas.{IsDelta-insert, IsDelta-sooner, IsDelta-rest, delays-differences, differences-delays, delays-insert, delays-without, delays-sooner, delays-rest}
+pub use Rattle.queue_table.proofs.Orders.{IsByKey-insert, IsByKey-filter}
+pub use Rattle.queue_table.proofs.Deltas.{IsDelta-insert, IsDelta-sooner, IsDelta-rest, delays-differences, differences-delays, delays-insert, delays-without, delays-sooner}
 pub use Rattle.queue_table.proofs.Places.{place-none, none-place, place-some, some-place, place-with, list_of-placed}
 pub use Rattle.queue_table.proofs.Changes.{list_at-same, list_at-other}
 pub use Rattle.queue_table.proofs.Insertions.{is_listed-append, is_listed-insert}
@@ -179,11 +179,6 @@ place_delta_without_same ls p = none-place (all_delta_without p ls) p (λ i. ap 
 pub place_delta_without_other : (ls : List (List Entry)) (p r : ℕ) → r ≢ p → place (all_delta_without p ls) r ≡ place ls r
 unfolding all_delta_without place
 place_delta_without_other ls p r n = place_mapped (delta_without p) r 0 ls (λ l. is_listed-delta_without p r l ∙ is_listed-without_other p r (delays l) n ∙ is_listed-delays r l)
-
--- the lists stay as they are if p, which is nowhere, is taken out as out of a delta list
-pub all_delta_without_none : (ls : List (List Entry)) (p : ℕ) → place ls p ≡ None → all_delta_without p ls ≡ ls
-unfolding all_delta_without
-all_delta_without_none ls p h = map-same (delta_without p) ls (λ i. delta_without-absent p (list_at ls i) (place-none ls p h i))
 
 -- a delta list of a table stays one when a process is taken out
 pub IsDelta-without : {P Q : ℕ} → (t : QueueTable P Q) (p q r : ℕ) → place (lists t) p ≡ Some q → IsDelta (list_at (lists t) r) → IsDelta (delta_without p (list_at (lists t) r))

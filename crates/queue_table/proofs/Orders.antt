@@ -4,7 +4,7 @@ use Rattle.std.specs.List.{filter}
 use Rattle.std.proofs.lemmas.Int.{ints, by_lt_z}
 use Rattle.std.proofs.lemmas.Bool.{cases_Bool}
 use Rattle.xinu_base.specs.Insert.{ready_insert}
-use Rattle.queue_table.specs.Lists.{Entry, IsByKey, KeysAtLeast, KeysAtMost, KeysBelow, rest_of}
+use Rattle.queue_table.specs.Lists.{Entry, IsByKey, KeysAtLeast, KeysAtMost, KeysBelow}
 use Rattle.queue_table.proofs.Insertions.{AllAre, filter-drops, filter-keeps, insert-split}
 
 -- the test at most holds if it is so
@@ -117,8 +117,3 @@ IsByKey-filter test (e ∷ l) h = let F : List Entry → Type 0 = λ l. IsByKey 
   | inl t ↦ subst F (sym (filter-keeps test e l (filter test l) t refl)) (KeysAtMost-filter e.1 test l h.0, IsByKey-filter test l h.1)
   | inr f ↦ subst F (sym (filter-drops test e l (filter test l) f refl)) (IsByKey-filter test l h.1)
 ]
-
--- the rest of a list that is kept by key is kept by key
-pub IsByKey-rest : (l : List Entry) → IsByKey l → IsByKey (rest_of l)
-IsByKey-rest [] h = tt
-IsByKey-rest (e ∷ l) h = h.1
