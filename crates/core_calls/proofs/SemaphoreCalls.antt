@@ -1,5 +1,5 @@
 -- The calls on semaphores by which processes are released.
-use Rattle.std.proofs.Common.{◌≡◌, ◌∙◌, ◌+◌, ◌-◌, ℕ, true, false, cond, ◌&&◌, not, ℤ, pos, negsuc, ◌+ℤ◌, int_lt, List, [], ◌∷◌, length, take, refl, sym, ap, subst, arith, ◌≤ℤ◌, nat_abs}
+use Rattle.std.proofs.Common.{◌≡◌, ◌∙◌, ◌+◌, ◌-◌, ℕ, true, false, cond, ◌&&◌, not, ℤ, pos, negsuc, ◌+ℤ◌, int_lt, List, [], ◌∷◌, length, take, refl, sym, ap, subst, arith, ◌≤ℤ◌}
 use Rattle.std.proofs.lemmas.Int.{ints}
 use Rattle.semaphores.specs.Counts.{tokens_of}
 use Rattle.semaphores.specs.Signals.{signal_answer}
@@ -9,7 +9,7 @@ use Rattle.xinu_model.specs.Machine.{CallState, refused, returns, start, with_ta
 use Rattle.xinu_model.specs.Process.Scheduling.{ready, ready_all}
 use Rattle.xinu_model.specs.Semaphores.Calls.{semdelete, semreset, signal, signaln}
 use Rattle.xinu_model.specs.Semaphores.Counts.{count_of, is_good, most_tokens, with_semaphore, with_tokens}
-use Rattle.xinu_model.specs.Semaphores.Waiting.{emptied_with, signal_first, signalled, signalled_times}
+use Rattle.xinu_model.specs.Semaphores.Waiting.{emptied_with, signal_first, signalled_times}
 use Rattle.xinu_model.specs.Tables.{no_semaphore, semaphore_at, Tables}
 use Rattle.kernel_state.proofs.Together.{released_first, released_then, releasing}
 use Rattle.kernel_tables.proofs.Rests.{rests_ready, SameRests}
@@ -78,15 +78,6 @@ signal_releases s sem word p u named good answer is =
     ∙ ap (λ b. cond b (returns (signal_first sem x.waiters (start s)) OK) (refused s)) f.below)
     ∙ ap (λ k. signal k s) named
 
--- a signal that releases a process
-pub token_releases : (s : Xinu) (sem p : ℕ) (u : Tables) → Released p ≡ signal_answer (semaphore_at s.tables sem) → u ≡ ready p s.tables
-    → releasing OK (p ∷ []) u s ≡ signalled sem (start s)
-token_releases s sem p u answer is =
-    let t = s.tables in
-    let f = released_first (semaphore_at t sem) p answer in
-    released_then OK (p ∷ []) (p ∷ []) s (λ v. v) u refl is (same_as t u _ is (rests_ready t p))
-    ∙ sym (ap (λ l. signal_first sem l (start s)) f.first)
-
 -- call 16 with a count that isn't negative
 pub semreset_counts : (s : Xinu) (sem word : ℕ) (count : ℤ) (released : List ℕ) (u : Tables) → pos 0 ≤ℤ count → sem ≡ word
     → is_good sem s.tables ≡ true → released ≡ (semaphore_at s.tables sem).waiters
@@ -94,11 +85,6 @@ pub semreset_counts : (s : Xinu) (sem word : ℕ) (count : ℤ) (released : List
     → returns (releasing OK released u s) OK ≡ semreset word count s
 semreset_counts s sem word (pos n) released u le named good these is = semreset_is s sem word n released u named good these is
 semreset_counts s sem word (negsuc n) released u le named good these is = absurd (omega (arith, ints, le))
-
--- a number that isn't negative
-pub not_negative : (z : ℤ) → pos 0 ≤ℤ z → z ≡ pos (nat_abs z)
-not_negative (pos n) le = refl
-not_negative (negsuc n) le = absurd (omega (arith, ints, le))
 
 -- a number that passes the test isn't negative
 pub at_least_zero : (z : ℤ) → int_lt z (pos 0) ≡ false → pos 0 ≤ℤ z

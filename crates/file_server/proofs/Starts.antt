@@ -1,5 +1,5 @@
 -- A call becomes the first: the abstract machine's step.
-use Rattle.std.proofs.Common.{◌≡◌, ℕ, zero, suc, ◌+◌, ◌<◌, ◌≤◌, drop, get_or, if◌then◌else◌, List, [], ◌∷◌, ◌++◌, length, map, refl, ap, sym, subst, ◌∙◌, arith, Option, ℤ}
+use Rattle.std.proofs.Common.{◌≡◌, ℕ, zero, suc, ◌+◌, ◌<◌, ◌≤◌, drop, get_or, if◌then◌else◌, List, [], ◌∷◌, ◌++◌, length, map, ap, sym, subst, ◌∙◌, arith, Option, ℤ}
 use Rattle.std.proofs.lemmas.List.{length-map}
 use Rattle.file_server.specs.DiskStates.{HeldCall, DiskState, Waits, IsDone, bytes_held}
 use Rattle.file_server.specs.Requests.{IsRequest, call_with, note_of, request_of}
@@ -16,6 +16,7 @@ use Rattle.xinu_model.specs.Files.Calls.{file_effect}
 use Rattle.xinu_model.specs.Files.Systems.{FileSystem, FileEffect}
 use Rattle.xinu_model.specs.Files.Work.{FileRequest, FileWork, FileNote, FileStep, bytes_written, copied, first_effect, most_turns, next_effects, took_effect, with_first}
 use Rattle.xinu_model.specs.Memory.{in_ram}
+use Rattle.xinu_model.proofs.FileOutcomes.{first_calls}
 
 -- the effect as the engine has it is that of the call which was made
 pub effect_made : (r : declared_request.FileRequest) (memory b : List ℕ) (reply : ℤ) (d d' : DiskState)
@@ -92,10 +93,6 @@ listed (x ∷ xs) seen r e some is = ap (λ y. y ∷ xs) (sym (is ∙ ap (λ l. 
 next_more : (k : ℕ) (x y : FileStep) → next_effects k x ≡ y → next_effects (suc k) x ≡ first_effect y.work.calls Next y
 next_more zero x y e = ap (λ (z : FileStep). first_effect z.work.calls Next z) e
 next_more (suc k) x y e = next_more k (first_effect x.work.calls Next x) y e
-
-first_calls : (calls : List FileRequest) (memory : List ℕ) (s : FileSystem) → (with_first calls memory s).calls ≡ calls
-first_calls [] memory s = refl
-first_calls (a ∷ calls) memory s = refl
 
 pub one_more : (x y z : FileStep) → WentOn x y → TookEffect Next y z → length z.work.calls + 1 ≡ length y.work.calls → WentOn x z
 one_more x y z went took shorter =

@@ -1,5 +1,5 @@
 -- What holds of a kernel between two events and inside one.
-use Rattle.std.proofs.Common.{◌≡◌, ◌≢◌, ℕ, Bool, Option, None, Some, List, [], refl, ap, sym, subst}
+use Rattle.std.proofs.Common.{◌≡◌, ◌≢◌, ℕ, Bool, Option, None, Some, List, [], refl, sym, subst}
 use Rattle.std.specs.List.{AllByRecursion}
 use Rattle.io_calls.specs.Consoles.{after_sending}
 use Rattle.io_calls.specs.Disks.{after_completing}
@@ -21,7 +21,7 @@ use Rattle.xinu_model.specs.RawDisk.Calls.{after_served, disk_of}
 use Rattle.xinu_model.specs.RawDisk.Completions.{raw_completed, Served}
 use Rattle.xinu_model.specs.Machine.{CallResult, current_hart, end_of_event, Silent, Xinu}
 use Rattle.kernel_state.specs.Beginnings.{BeginsAs}
-use Rattle.kernel_state.specs.Results.{idle, IsIdle, IsStart}
+use Rattle.kernel_state.specs.Results.{idle, IsIdle}
 use Rattle.kernel_state.specs.declared.begun.Begun.{Begun}
 use Rattle.kernel_state.specs.declared.begun.Begun.TheVariants.{ByRow, AtOnce}
 use Rattle.part_laws.specs.Preserve.{KeepsAll, MayCallAny}
@@ -42,10 +42,6 @@ idle_sound h i k =
 -- a process that isn't the null process may call
 pub idle_may_call : (h : CallResult) → IsIdle h → KeepsAll h → h.call.state.tables.current ≢ 0 → MayCallAny h.call.state
 idle_may_call h i k n = may_call h.call.state (idle_sound h i k) n
-
--- in an idle kernel nothing was done
-pub idle_start : (h : CallResult) → IsIdle h → IsStart h.call
-idle_start h i = record { is = ap (λ (h : CallResult). h.call) i.is }
 
 -- after an instruction the state is sound
 pub executed_sound : (s : Xinu) → MayCallAny s → IsSound (with_executed (exec (current_hart s) s.memory) s)

@@ -1,27 +1,14 @@
 -- The images' processes are made one after another, and become ready.
-use Rattle.std.proofs.Common.{◌≡◌, ◌∙◌, refl, ◌∷◌, ℕ, zero, suc, ◌+◌, ◌<◌, ◌≤◌, List, [], length, map, drop, get_or, None, Option, Some, sym, ap, subst, arith}
-use Rattle.image_loader.specs.Images.{loaded_of}
-use Rattle.image_loader.specs.declared.images.Image.{Image}
+use Rattle.std.proofs.Common.{◌≡◌, ◌∙◌, refl, ◌∷◌, ℕ, zero, suc, ◌+◌, ◌<◌, ◌≤◌, List, [], length, None, Option, Some, sym, ap, subst, arith}
 use Rattle.xinu_base.specs.declared.processes.Process.{Process}
-use Rattle.xinu_base.specs.declared.processes.State.TheVariants.{Free, Ready, Suspended}
-use Rattle.xinu_model.specs.Boot.{all_made, all_ready, all_started, and_then, boot_on, Boots, Disks, first_overlap, image_process, Loaded, loaded_machine, NoRoom, on_disks, Overlaps, Start, unless_overlap, where_stack, with_image}
+use Rattle.xinu_base.specs.declared.processes.State.TheVariants.{Free, Suspended}
+use Rattle.xinu_model.specs.Boot.{all_made, all_started, and_then, boot_on, Boots, Disks, first_overlap, image_process, Loaded, loaded_machine, NoRoom, on_disks, Overlaps, Start, unless_overlap, where_stack, with_image}
 use Rattle.xinu_model.specs.Heap.Cells.{Stack, take_stack}
 use Rattle.xinu_model.specs.Machine.{Xinu}
 use Rattle.xinu_model.specs.Process.Creation.{stack_size}
-use Rattle.xinu_model.specs.Process.Scheduling.{in_state, ready}
-use Rattle.xinu_model.specs.Tables.{InReady, message_at, no_process, Nowhere, process_at, state_at, Tables}
+use Rattle.xinu_model.specs.Tables.{no_process, Nowhere, state_at}
 use Rattle.table_laws.proofs.Tables.MoveTo.{state_move_other}
 use Rattle.table_laws.proofs.Tables.Starts.{all_are_made, boots_from, none_made, same_everywhere}
-use Rattle.kernel_boot.proofs.Images.{next_image}
-
--- the image at k is made, and then those after it
-pub made_next : (images : List Image) (k : ℕ) (image : Image) (s : Xinu) (all made : Start) → k < length images → image ≡ get_or images k image
-    → all_made (k + 1) (map loaded_of (drop k images)) s ≡ all
-    → where_stack (take_stack (stack_size (loaded_of image).stack) s.parts.heap) (k + 1) (loaded_of image) s ≡ made
-    → and_then made (λ x. all_made (k + 1 + 1) (map loaded_of (drop (k + 1) images)) x) ≡ all
-made_next images k image s all made within is so_far e =
-    sym (ap (λ m. and_then m (λ x. all_made (k + 1 + 1) (map loaded_of (drop (k + 1) images)) x)) e)
-    ∙ sym (ap (λ (l : List Image). all_made (k + 1) (map loaded_of l) s) (next_image images k image within is)) ∙ so_far
 
 -- if it is made a stack was found
 made_on : (found : Option Stack) (i : ℕ) (image : Loaded) (s y : Xinu) → where_stack found i image s ≡ Boots y → (stack : Stack) × (with_image i image stack s ≡ y)
@@ -40,16 +27,6 @@ free_next k image s y found e free j le =
 pub none_made_free : (images : List Loaded) (j : ℕ) → 1 ≤ j → state_at (loaded_machine images).tables j ≡ Free
 none_made_free images (suc j) le = ap (λ (x : Process). x.state) (same_everywhere 63 j no_process)
 none_made_free images zero le = absurd (omega (arith, le))
-
--- the process of the image at k becomes ready, and then those after it
-pub ready_next : (images : List Image) (k : ℕ) (image : Image) (t all : Tables) → k < length images → image ≡ get_or images k image
-    → all_ready (k + 1) (map loaded_of (drop k images)) t ≡ all → all_ready (k + 1 + 1) (map loaded_of (drop (k + 1) images)) (ready (k + 1) t) ≡ all
-ready_next images k image t all within is so_far = sym (ap (λ (l : List Image). all_ready (k + 1) (map loaded_of l) t) (next_image images k image within is)) ∙ so_far
-
--- the others stay suspended
-pub suspended_next : (k n : ℕ) (t : Tables) → ((j : ℕ) → k + 1 ≤ j → j < n → state_at t j ≡ Suspended) → (j : ℕ) → k + 1 + 1 ≤ j → j < n → state_at (ready (k + 1) t) j ≡ Suspended
-suspended_next k n t all j le lt =
-    state_move_other t j (k + 1) (in_state Ready (process_at t (k + 1))) (message_at t (k + 1)) InReady (λ f. omega (arith, f, le)) ∙ all j (omega (arith, le)) lt
 
 -- One image's process is made on whatever disks.
 one_on_disks : (d : Disks) (found : Option Stack) (i : ℕ) (image : Loaded) (s : Xinu) (next next_on : Xinu → Start)
@@ -92,10 +69,6 @@ pub refuses_made : (d : Disks) (images : List Loaded) (i : ℕ) → None ≡ fir
 refuses_made d images i none made =
     ap (λ o. and_then (unless_overlap o images) (λ s. Boots (on_disks d s))) (sym none)
     ∙ refused_on d images (all_made 1 images (loaded_machine images)) i (sym (made_on_disks d 1 images (loaded_machine images)) ∙ made)
-
--- and not if two overlap.
-pub overlaps_found : (d : Disks) (images : List Loaded) (i : ℕ) → Some i ≡ first_overlap 1 [] images → boot_on d images ≡ Overlaps i
-overlaps_found d images i found = ap (λ o. and_then (unless_overlap o images) (λ s. Boots (on_disks d s))) (sym found)
 
 -- The processes of the images are suspended before they become ready.
 pub suspended_made : (d : Disks) (images : List Loaded) (x : Xinu) → length images < 64

@@ -1,6 +1,5 @@
 -- Those who are released become ready, and each whose call is complete is answered.
-use Rattle.std.proofs.Common.{◌≡◌, ◌∙◌, ℕ, ◌+◌, ℤ, pos, Bool, true, false, cond, List, [], ◌∷◌, ◌++◌, length, nat_lt, arith, refl, sym, ap}
-use Rattle.std.proofs.lemmas.Bool.Decides.{nat_tests}
+use Rattle.std.proofs.Common.{◌≡◌, ◌∙◌, ℕ, ◌+◌, ℤ, pos, Bool, true, false, cond, List, [], ◌∷◌, ◌++◌, refl, sym, ap}
 use Rattle.std.proofs.lemmas.List.{append-nil, append_assoc}
 use Rattle.xinu_base.specs.declared.processes.Rest.{Rest}
 use Rattle.part_laws.specs.Preserve.{ticking}
@@ -44,11 +43,6 @@ unblocked value (p ∷ ps) d u same =
       owes_resched = b;
     }) (owed (are_any ps))
     ∙ ap (λ x. record { state = record d.state { tables = ready_all ps (ready p t) }; released = x; owes_resched = true }) first
-
--- whether there are any, by their number
-pub any_by_length : (ps : List ℕ) → nat_lt 0 (length ps) ≡ are_any ps
-any_by_length [] = refl
-any_by_length (p ∷ ps) = grind (arith, nat_tests)
 
 -- whether a resched is owed for these
 pub owed_for : (ps : List ℕ) → cond (are_any ps) true false ≡ are_any ps

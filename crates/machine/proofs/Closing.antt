@@ -1,5 +1,5 @@
 -- The end of an event is printed.
-use Rattle.std.proofs.Common.{◌≡◌, ◌∙◌, ℕ, Bool, List, [], ◌∷◌, ◌++◌, map, Option, Some, None, ℤ, refl, sym, ap, subst, append_assoc}
+use Rattle.std.proofs.Common.{◌≡◌, ◌∙◌, ℕ, Bool, List, [], ◌∷◌, ◌++◌, map, Option, Some, ℤ, sym, ap, subst, append_assoc}
 use Rattle.std.proofs.lemmas.List.{map-append}
 use Rattle.kernel_state.specs.Results.{answer_so_far, idle}
 use Rattle.host_port.specs.Outside.{Outside}
@@ -12,24 +12,7 @@ use Rattle.xinu_model.specs.Machine.{and_callers, CallResult, closed, end_of_eve
 use Rattle.xinu_model.specs.Text.{shown}
 use Rattle.machine.proofs.ShownLines.{shown_both}
 
--- nobody but those who were released is answered
-pub only_released : (o : Option Next) (caller : ℕ) (replies : List (ℕ × ℤ)) → ((v : ℤ) → o ≡ Some (next.Returns v) → ⊥) → and_callers (answer_so_far o) caller replies ≡ replies
-only_released None caller replies none = refl
-only_released (Some (next.Returns v)) caller replies none = absurd (none v refl)
-only_released (Some next.Waits) caller replies none = refl
-only_released (Some next.Gone) caller replies none = refl
-only_released (Some next.Panics) caller replies none = refl
-
--- The replies to released processes were printed, and nobody else is answered.
-pub released_printed : (result : CallResult) (o : Option Next) (replies : List (ℕ × ℤ)) (a b : Printing) (h i : Outside) → result.answer ≡ answer_so_far o → replies ≡ result.call.released
-    → ((v : ℤ) → o ≡ Some (next.Returns v) → ⊥) → Prints a b h i (shown a.plain (map return_line replies)) → Prints a b h i (shown a.plain (map return_line (replies_of result)))
-released_printed result o replies a b h i answer are none prints =
-    let caller = result.call.state.tables.current in
-    let same : replies ≡ replies_of result =
-    are ∙ sym (only_released o caller result.call.released none) ∙ sym (ap (λ x. and_callers x caller result.call.released) answer) in
-    subst (λ l. Prints a b h i (shown a.plain (map return_line l))) same prints
-
--- They were printed, and after them the caller's reply.
+-- The replies to released processes were printed, and after them the caller's reply.
 pub answers_printed : (result : CallResult) (o : Option Next) (value : ℤ) (caller : ℕ) (replies : List (ℕ × ℤ)) (a b c : Printing) (h i j : Outside)
     → result.answer ≡ answer_so_far o → o ≡ Some (next.Returns value) → replies ≡ result.call.released → caller ≡ result.call.state.tables.current
     → Prints a b h i (shown a.plain (map return_line replies)) → Prints b c i j (shown b.plain (return_line (caller, value) ∷ []))

@@ -1,10 +1,8 @@
 -- Lists that are printed element by element.
 use Rattle.std.proofs.Common.{◌≡◌, ◌∙◌, ℕ, zero, suc, ◌+◌, ◌-◌, ◌<◌, ◌≤◌, Bool, true, false, cond, List, [], ◌∷◌, ◌++◌, append_assoc, append-nil, get_or, length, map, take, Option, Some, None, ℤ, refl, sym, ap, subst, arith}
 use Rattle.ports.specs.Table.{head_of}
-use Rattle.std.specs.Prelude.{find, is_some, not, nat_le, nat_lt, option_map, slice_index_or, IfSome}
-use Rattle.kernel_tables.specs.Walks.{numbers_from}
-use Rattle.xinu_model.specs.Sound.Tables.{count_in}
-use Rattle.std.proofs.lemmas.Bool.{cond_both, leb-true, lt-ltb}
+use Rattle.std.specs.Prelude.{find, is_some, not, nat_le, option_map, slice_index_or, IfSome}
+use Rattle.std.proofs.lemmas.Bool.{cond_both, leb-true}
 use Rattle.std.proofs.lemmas.List.{map-append, take_more}
 use Rattle.host_port.specs.Outside.{Outside}
 use Rattle.host_port.specs.Printing.{Printing, Prints}
@@ -209,13 +207,6 @@ used_by_head (Some queue) = refl
 pub not_false : (b : Bool) → not b ≡ false → b ≡ true
 not_false true h = refl
 not_false false h = absurd (cc)
-
--- whether there is a first one says whether there are any
-pub shown_by : (o : Option ℕ) (l : List ℕ) → numbers_from o l ≡ l → IfSome o (λ p. 0 < count_in p l) → is_some o ≡ nat_lt 0 (length l)
-shown_by None [] all some = refl
-shown_by None (x ∷ l) all some = absurd (cc)
-shown_by (Some p) [] all some = absurd (omega (arith, some))
-shown_by (Some p) (x ∷ l) all some = sym (lt-ltb 0 (length (x ∷ l)) (omega arith))
 
 -- A semaphore that is shown was printed, and those who wait on it.
 pub shown_printed : (sem : ℕ) (x : Semaphore) (count : ℤ) (a b c : Printing) (h i j : Outside) → is_shown x ≡ true → count ≡ count_of x

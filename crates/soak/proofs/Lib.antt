@@ -3,6 +3,5 @@ pub mod Along
 pub mod Joined
 pub mod Loaded
 pub mod Runs
-pub mod Sent
 pub mod SomeTest
 pub mod Whole

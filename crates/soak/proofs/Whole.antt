@@ -1,5 +1,5 @@
 -- What is counted of a whole run, and how many events it has.
-use Rattle.std.proofs.Common.{◌≡◌, ◌∙◌, ℕ, zero, suc, List, [], ◌∷◌, ◌++◌, length, refl, ap, append-nil}
+use Rattle.std.proofs.Common.{◌≡◌, ◌∙◌, ℕ, zero, suc, List, [], ◌∷◌, ◌++◌, length, refl, ap}
 use Rattle.soak.proofs.Added.{added_to_none, counted_on}
 use Rattle.soak.specs.Counting.{CountsEvents}
 use Rattle.soak.specs.Soaks.{Soaks}
@@ -7,20 +7,15 @@ use Rattle.transcript_laws.specs.Transcripts.{transcript}
 use Rattle.workload.specs.Schedules.{after_event, events, events_in}
 use Rattle.workload.specs.Summaries.{Counts, added, counts_of, summary}
 use Rattle.xinu_base.specs.declared.events.End.{End}
-use Rattle.xinu_base.specs.declared.lines.TranscriptLine.{TranscriptLine}
 use Rattle.xinu_base.specs.declared.lines.TranscriptLine.TheVariants as line
 use Rattle.xinu_model.specs.Machine.{Xinu}
-use Rattle.xinu_model.specs.Text.{line_text, tables_of, text}
+use Rattle.xinu_model.specs.Text.{tables_of, text}
 
 -- so many events are drawn
 pub count_of_events : (n x : ℕ) → length (events_in n x) ≡ n
 unfolding events_in
 count_of_events zero x = refl
 count_of_events (suc n) x = ap suc (count_of_events n (after_event x))
-
--- the text of one line
-pub text_of_one : (l : TranscriptLine) → text (l ∷ []) ≡ line_text l
-text_of_one l = append-nil (line_text l)
 
 -- the counts before anything was counted
 abbrev pub nothing : Counts

@@ -30,11 +30,6 @@ pub nothing_due : (fetches : Verdict → List Text) (outputs : List HostCall) (v
 nothing_due fetches outputs v r is none =
     ap₂ (λ (xs : List Text) (ys : List HostCall). map fetching xs ++ ys) none (ap (λ x. unless_refused x outputs) is)
 
--- without files to be written none is named
-pub nothing_named : (v : Verdict) → unless_refused v [] ≡ []
-nothing_named (Refuses r) = refl
-nothing_named (Does work) = refl
-
 -- ---- a run
 
 -- The verdict comes after the schedule, the disks and the first n images.

@@ -49,24 +49,10 @@ schedule_fault-fetched bytes items fetched =
       | inr long ↦ schedule_fault-long bytes long.0 ∙ sym (schedule_fault-long items long.1)
     ]
 
-pub image_fault-fetched : (bytes items : List ℕ) → items ≡ take 1048577 bytes → image_fault bytes ≡ image_fault items
-image_fault-fetched bytes items fetched =
-    elim (cases_fetched bytes items 1048576 fetched) [
-      | inl same ↦ ap image_fault same
-      | inr long ↦ image_fault-long bytes long.0 ∙ sym (image_fault-long items long.1)
-    ]
-
 -- What was fetched of a file is the whole file if it has no fault.
 pub schedule_whole : (bytes items : List ℕ) → items ≡ take 4194305 bytes → schedule_fault items ≡ None → bytes ≡ items
 schedule_whole bytes items fetched good =
     elim (cases_fetched bytes items 4194304 fetched) [
       | inl same ↦ same
       | inr long ↦ (let faulty : schedule_fault items ≡ Some 0 = schedule_fault-long items long.1 in cc)
-    ]
-
-pub image_whole : (bytes items : List ℕ) → items ≡ take 1048577 bytes → image_fault items ≡ None → bytes ≡ items
-image_whole bytes items fetched good =
-    elim (cases_fetched bytes items 1048576 fetched) [
-      | inl same ↦ same
-      | inr long ↦ (let faulty : image_fault items ≡ Some 0 = image_fault-long items long.1 in cc)
     ]

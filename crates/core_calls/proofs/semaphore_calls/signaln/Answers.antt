@@ -5,7 +5,8 @@ use Rattle.xinu_model.specs.Semaphores.Calls.{signaln}
 use Rattle.kernel_state.specs.Results.{came_to}
 use Rattle.kernel_state.specs.States.{kernel_state}
 use Rattle.kernel_state.proofs.Together.{releasing}
-use Rattle.core_calls.proofs.SemaphoreCalls.{at_least_zero, not_negative, signaln_is}
+use Rattle.ports.proofs.Entries.{pos_abs}
+use Rattle.core_calls.proofs.SemaphoreCalls.{at_least_zero, signaln_is}
 use Rattle.std.proofs.lemmas.Int.{to_z-of_z}
 use mir.Val.{SFits, of_z, to_z}
 use Rattle.kernel_state.proofs.Values.{call_is}
@@ -18,7 +19,7 @@ returns-clause-signaln c =
     let f : SFits w32 c.args.n = search rules in
     let z = to_z w32 (of_z w32 c.args.n) in
     let n = nat_abs z in
-    let is : c.args.n ≡ pos n = sym (to_z-of_z w32 c.args.n f) ∙ not_negative z (at_least_zero z c.if-n-lt0.false) in
+    let is : c.args.n ≡ pos n = sym (to_z-of_z w32 c.args.n f) ∙ pos_abs z (at_least_zero z c.if-n-lt0.false) in
     ap (λ d. came_to d (Returns (pos 0)))
     (c.release.ensures.released ∙ ap (λ l. releasing (pos 0) l u s) c.as_slice.ensures.value)
     ∙ signaln_is s c.in-Some.sem c.args.word n c.signaln-released.result.items u c.in-Some.ensures.named c.in-Some.ensures.good
