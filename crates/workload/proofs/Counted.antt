@@ -1,14 +1,9 @@
 -- The lines with a word, one line after another.
-use Rattle.std.proofs.Common.{◌≡◌, ◌∙◌, ℕ, ◌+◌, Bool, cond, List, [], ◌∷◌, length, refl, ap, arith}
+use Rattle.std.proofs.Common.{◌≡◌, ◌∙◌, ℕ, ◌+◌, Bool, cond, List, [], ◌∷◌, refl, ap}
 use Rattle.std.specs.List.{sum_by}
 use Rattle.std.proofs.lemmas.List.Sums.{sum_by-cons}
 use Rattle.text_lines.specs.Lines.{lines_of, tokens_of}
 use Rattle.workload.specs.Summaries.{begin_with, lines_with}
-
--- a list of no elements
-pub empty : (xs : List ℕ) → length xs ≡ 0 → xs ≡ []
-empty [] none = refl
-empty (x ∷ xs) none = absurd (omega arith)
 
 pub lines_with-none : (word : List ℕ) → lines_with word [] ≡ 0
 unfolding lines_with

@@ -1,4 +1,3 @@
 pub mod Counted
-pub mod ImageFiles
 pub mod Reading
 pub mod Turns

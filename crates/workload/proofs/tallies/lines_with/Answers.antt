@@ -1,8 +1,9 @@
 -- Each line is counted after those before it.
 use Rattle.std.proofs.Common.{◌≡◌, ◌∙◌, true, false, length, sym, ap, arith}
 use Rattle.std.proofs.lemmas.Bool.Decides.{nat_tests}
+use Rattle.std.proofs.lemmas.List.{nil_from_length}
 use Rattle.workload.specs.Summaries.{lines_with}
-use Rattle.workload.proofs.Counted.{empty, lines_with-more, lines_with-none}
+use Rattle.workload.proofs.Counted.{lines_with-more, lines_with-none}
 use Rattle.workload.proofs.tallies.lines_with.Goals as goal
 
 pub loop-rest-preserved-then-begins_with : goal.loop-rest-preserved-then-begins_with
@@ -21,5 +22,5 @@ pub returns : goal.returns
 returns c =
     let l = c.loop-rest in
     let zero : length l.rest.now ≡ 0 = grind (arith, nat_tests) in
-    let nothing = ap (lines_with c.args.word.now) (empty l.rest.now zero) ∙ lines_with-none c.args.word.now in
+    let nothing = ap (lines_with c.args.word.now) (nil_from_length l.rest.now zero) ∙ lines_with-none c.args.word.now in
     record { lines = omega (arith, nothing, l.invariant.lines) }
