@@ -1,11 +1,9 @@
 -- The law at the program's own commands and actions: what the parser's matches and its refusals say.
-use Rattle.std.proofs.Common.{◌≡◌, ◌∙◌, ◌⊎◌, inl, inr, ℕ, Bool, true, false, cond, if◌then◌else◌, codes, List, [], ◌∷◌, Option, Some, None, refl, sym, ap, subst, fold, bytes_eq, option_and_then, option_map}
+use Rattle.std.proofs.Common.{◌≡◌, ◌∙◌, ℕ, Bool, true, false, cond, if◌then◌else◌, codes, List, [], Option, Some, None, refl, sym, ap, subst, fold, bytes_eq, option_and_then, option_map}
 use Rattle.clap.specs.Walk.{Row, first_of, with_default}
-use Rattle.clap.specs.Simple.{built, subcommand_of}
-use Rattle.clap.specs.Kinds.{IsAmong, Kinds}
+use Rattle.clap.specs.Simple.{subcommand_of}
+use Rattle.clap.specs.Kinds.{Kinds}
 use Rattle.clap.specs.Faults.{fault_of}
-use Rattle.clap.specs.declared.error.kind.ErrorKind.{ErrorKind}
-use Rattle.clap.specs.declared.error.kind.ErrorKind.TheVariants.{OutOfMemory}
 use Rattle.command_line.specs.Reading.{CommandRow, Request, Taken, Text, option_value, request_of}
 use Rattle.command_line.specs.RunArgs.{RunFiles, run_from, run_options}
 use Rattle.command_line.specs.AsmArgs.{AsmFiles, asm_from, asm_options}
@@ -18,13 +16,7 @@ use Rattle.command_line.proofs.Table.{rules}
 use Rattle.command_line.proofs.Rows.{Holds}
 use Rattle.command_line.proofs.Law.{AllUtf8}
 use Rattle.command_line.proofs.Values.{value_read, flag_read, args_read}
-use Rattle.command_line.proofs.Program.{Enters, ProgramVerdict, app, program_law}
-
-simple_is_built : built simple_app ≡ app (codes "xinu_run") commands
-simple_is_built = refl
-
-disk_is_built : built disk_app ≡ app (codes "disk") actions
-disk_is_built = refl
+use Rattle.command_line.proofs.Program.{Enters, ProgramVerdict, program_law}
 
 -- ---- what matches and refusals say, for every table of commands
 
@@ -200,9 +192,3 @@ action_matched args u none sub is =
 pub action_unmatched : (args : List Text) → AllUtf8 args → (fault_of disk_app args ≡ [] → ⊥) → action_of args ≡ None
 action_unmatched args u bad =
     unmatched actions action_from action_command_in (fault_of disk_app args) (subcommand_of disk_app args) (request_of actions args) bad (program_law (codes "disk") actions refl args u)
-
--- an error other than out of memory has a kind
-pub has_kind : (k : ErrorKind) (kinds : Kinds) → (k ≡ OutOfMemory → ⊥) → (k ≡ OutOfMemory) ⊎ IsAmong k kinds → kinds ≡ [] → ⊥
-has_kind k [] other (inl h) e = other h
-has_kind k [] other (inr h) e = h
-has_kind k (x ∷ xs) other h e = absurd (cc)

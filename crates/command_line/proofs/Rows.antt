@@ -1,5 +1,5 @@
 -- The rows of the parser's matches, and what they hold of what the definition took.
-use Rattle.std.proofs.Common.{◌≡◌, ◌∙◌, Bool, true, false, cond, if◌then◌else◌, ◌||◌, List, [], ◌∷◌, ◌++◌, Option, Some, None, refl, sym, ap, codes, find, bytes_eq, is_some, option_map, true≢false, not, append-nil}
+use Rattle.std.proofs.Common.{◌≡◌, ◌∙◌, Bool, true, false, cond, if◌then◌else◌, ◌||◌, List, [], ◌∷◌, ◌++◌, Option, Some, None, refl, sym, ap, codes, find, bytes_eq, is_some, option_map, true≢false, append-nil}
 use Rattle.std.specs.Option.{option_or}
 use Rattle.std.specs.Bool.{Decides}
 use Rattle.std.proofs.lemmas.List.Folds.{find-append}
@@ -66,10 +66,6 @@ pub record Holds (os : List OptionRow) (rows : List Row) (t : Taken) : Type 0 wh
   pub args : find_row arg_id rows ≡ args_row t.positional
 
 -- ---- small facts of tests and options
-
-pub not_true : (b : Bool) → not b ≡ true → b ≡ false
-not_true true e = absurd (cc)
-not_true false e = refl
 
 pub or_none : {X : Type 0} (x : Option X) → option_or x None ≡ x
 or_none None = refl

@@ -4,6 +4,7 @@
 -- passes and makes the rows hold what was taken; and if the definition refuses, what is pending fails.
 use Rattle.std.proofs.Common.{◌≡◌, ◌∙◌, ◌⊎◌, inl, inr, Bool, true, false, not, ◌&&◌, ◌||◌, if◌then◌else◌, List, [], ◌∷◌, ◌++◌, Option, Some, None, refl, sym, ap, subst, bytes_eq, is_some, option_map, IsUtf8, length}
 use Rattle.std.proofs.lemmas.Slice.Eq.{bytes_eq-Decides}
+use Rattle.std.proofs.lemmas.Bool.{not-true}
 use Rattle.clap.specs.Walk.{Held, Row, Rule, Step, Waiting, Walk, after_flag, after_step, arg_by_long, flag_met, idle, is_pending, long_met, most_values, next, option, option_met, plain_word, positional, positional_held, pushed, reacted, settled, settled_rows, subcommand_met, takes_values, used, value, walked}
 use Rattle.clap.specs.Kinds.{Kinds, or_else}
 use Rattle.clap.specs.declared.error.kind.ErrorKind.TheVariants.{TooManyValues}
@@ -11,7 +12,7 @@ use Rattle.clap.specs.Faults.{long_fault, react_fault, settle_fault, step_fault,
 use Rattle.command_line.specs.Reading.{OptionRow, State, Taken, Text, after_name, after_arg, choosing, given, listing, refused, row_named, wanting, with_option, with_positional}
 use Rattle.command_line.proofs.Table.{by_id, by_index, by_long, by_own_name, by_short, by_arg_id, is_apart, leaf, ready, ready_arg, row_apart, rules, arg_id}
 use Rattle.command_line.proofs.Views.{View, sees_bare, sees_dashed, sees_end, sees_name, view}
-use Rattle.command_line.proofs.Rows.{Holds, find_row, not_true, one_more_option, one_more_arg, row_made}
+use Rattle.command_line.proofs.Rows.{Holds, find_row, one_more_option, one_more_arg, row_made}
 use Rattle.command_line.proofs.Uses.{dashed_fails, empty_use, first_fails, first_use, long_fails, positional_is, raw, rows_used, second_fails, second_use}
 
 -- the argument that is used next, with its values so far
@@ -280,7 +281,7 @@ module _ (name : Text) (os : List OptionRow) (apart : is_apart os ≡ true) wher
   refused_goes rows pending waiting false idles bad arg (sees_dashed x xs c w l f first d) =
       rw (no_command waiting arg, d, l, f) (inr (first_fails _ _ (dashed_fails (rules os) (x ∷ xs) c (length xs) (held_at rows pending) first (by_short os c)), refl))
   refused_goes rows pending waiting false idles bad arg (sees_bare w l f d) =
-      rw (no_command waiting arg, d, l, f, bare_is (rules os) waiting arg (held_at rows pending) (not_true (wants_value waiting) idles), by_index os, positional_is (rules os) (held_at rows pending)) (inr (bad, refl))
+      rw (no_command waiting arg, d, l, f, bare_is (rules os) waiting arg (held_at rows pending) (not-true (wants_value waiting) idles), by_index os, positional_is (rules os) (held_at rows pending)) (inr (bad, refl))
 
   -- each argument is one step of both
   pub goes : (s : State) (w : Walk) → Fits s w → (arg : Text) → IsUtf8 arg → Goes s w arg

@@ -1,16 +1,17 @@
 -- What the parser's matches of a command give, by what the definition took.
-use Rattle.std.proofs.Common.{◌≡◌, ◌∙◌, Bool, true, false, cond, not, ◌&&◌, ◌||◌, codes, List, [], ◌∷◌, Option, Some, None, refl, sym, ap, fold, option_map, option_and_then, bytes_eq, slice_get, is_some, subst, unwrap_or}
+use Rattle.std.proofs.Common.{◌≡◌, ◌∙◌, Bool, true, false, cond, not, ◌||◌, codes, List, [], ◌∷◌, Option, Some, None, refl, sym, ap, fold, option_map, option_and_then, bytes_eq, slice_get, is_some, subst, unwrap_or}
 use Rattle.std.specs.List.{list_all}
 use Rattle.std.specs.Option.{option_map_or}
 use Rattle.std.specs.Bool.{Decides}
 use Rattle.std.proofs.lemmas.List.Folds.{find-append}
 use Rattle.std.proofs.lemmas.Slice.Eq.{bytes_eq-Decides}
+use Rattle.std.proofs.lemmas.Bool.{not-true, and_parts}
 use Rattle.clap.specs.Walk.{Row, at_row, first_of, has_row, more_values, reading_by, with_default}
 use Rattle.clap.specs.declared.parser.matches.ValueSource.TheVariants.{DefaultValue}
 use Rattle.command_line.specs.Reading.{OptionRow, Taken, Text, given, is_given, option_value, row_named}
 use Rattle.command_line.specs.Parser.{args_in, flag_in}
 use Rattle.command_line.proofs.Table.{ready, rules, arg_id}
-use Rattle.command_line.proofs.Rows.{Holds, at_row_none, find_row, has_found, not_true, or_none, row_made, args_row}
+use Rattle.command_line.proofs.Rows.{Holds, at_row_none, find_row, has_found, or_none, row_made, args_row}
 
 -- no flag has this name, so that no default is in for it
 abbrev pub has_no_default : List OptionRow → Text → Bool
@@ -25,10 +26,6 @@ false_row name = record {
   source = Some DefaultValue;
   reading = reading_by (ready (record { name = name; takes_value = false }));
 }
-
-both_true : (a b : Bool) → (a && b) ≡ true → (a ≡ true) × (b ≡ true)
-both_true true b e = (refl, e)
-both_true false b e = absurd (cc)
 
 no_row : (name : Text) (rows : List Row) → has_row name rows ≡ false → find_row name rows ≡ None
 no_row name rows e = go (find_row name rows) (sym (has_found name rows) ∙ e)
@@ -49,7 +46,7 @@ one_default name id false rows e = go (has_row name rows) refl
     go : (h : Bool) → has_row name rows ≡ h → find_row id (cond h rows (at_row name (more_values DefaultValue (codes "false" ∷ [])) (false_row name ∷ []) rows)) ≡ find_row id rows
     go true is = refl
     go false is = ap (find_row id) (at_row_none name (more_values DefaultValue (codes "false" ∷ [])) (false_row name ∷ []) rows (no_row name rows is))
-        ∙ find-append (λ (r : Row). bytes_eq r.id id) rows (false_row name ∷ []) ∙ rw (not_true (bytes_eq name id) e) (or_none (find_row id rows))
+        ∙ find-append (λ (r : Row). bytes_eq r.id id) rows (false_row name ∷ []) ∙ rw (not-true (bytes_eq name id) e) (or_none (find_row id rows))
 
 -- the defaults leave the row of an option that takes a value
 pub defaults_leave : (os : List OptionRow) (rows : List Row) (id : Text) → has_no_default os id ≡ true → find_row id (fold with_default rows (rules os)) ≡ find_row id rows
@@ -59,7 +56,7 @@ defaults_leave [] rows id e = go (has_row arg_id rows)
     go true = refl
     go false = refl
 defaults_leave (o ∷ os) rows id e =
-    let here = both_true (o.takes_value || not (bytes_eq o.name id)) (has_no_default os id) e in
+    let here = and_parts (o.takes_value || not (bytes_eq o.name id)) (has_no_default os id) e in
     defaults_leave os (with_default rows (ready o)) id here.1 ∙ one_default o.name id o.takes_value rows here.0
 
 -- the defaults leave the row of an option that was given
