@@ -3,7 +3,7 @@ use Rattle.std.proofs.Common.{◌≡◌, ℕ, ◌+◌, ◌-◌, ◌*◌, ◌%◌
 use Rattle.std.proofs.Common.{arith, length-append}
 use Rattle.std.specs.Prelude.{min, ◌==◌, nat_le, unwrap_or, is_some}
 use Rattle.std.proofs.lemmas.Bool.Decides.{nat_tests}
-use Rattle.std.proofs.lemmas.Bool.{eqb-true, leb-true}
+use Rattle.std.proofs.lemmas.Bool.{eqb-true, leb-true, not-false}
 use Rattle.std.specs.List.{flat_map}
 use Rattle.std.proofs.lemmas.List.{length-replicate}
 use Rattle.asm_syntax.specs.Statements.{Statement, Empty, Malformed, Unresolved, Excessive, NameFor, NegativeFor, Code, Branch, JumpTo, AddressOf}
@@ -55,12 +55,8 @@ pub neither : (a b : Bool) → (a || b) ≡ false → (a ≡ false) × (b ≡ fa
 neither true b is = cc
 neither false b is = (refl, is)
 
-not_false : (b : Bool) → not b ≡ false → b ≡ true
-not_false true is = refl
-not_false false is = cc
-
 pub both_true : (a b : Bool) → not (a && b) ≡ false → (a ≡ true) × (b ≡ true)
-both_true true b is = (refl, not_false b is)
+both_true true b is = (refl, not-false b is)
 both_true false b is = cc
 
 keeps-content : (s : Layout) (size more : ℕ) (b : Bool) → s.at + more ≤ 1048576 → (b ≡ false → more ≡ 0) → Keeps s size
