@@ -1,6 +1,7 @@
 -- A text is accepted from a sound state on if and only if a run prints it.
 use Rattle.std.proofs.Common.{◌≡◌, ◌↔◌, ℕ, Bool, true, false, List, [], ◌∷◌, ◌++◌, length, drop, Option, Some, None, refl, sym, ap, ◌∙◌, subst, append_assoc}
 use Rattle.std.specs.Prelude.{◌&&◌, bytes_eq}
+use Rattle.std.proofs.lemmas.Bool.{and_parts}
 use Rattle.xinu_base.specs.declared.events.End.{End}
 use Rattle.xinu_base.specs.declared.events.End.TheVariants.{Schedule}
 use Rattle.xinu_base.specs.declared.events.Event.{Event}
@@ -17,7 +18,7 @@ use Rattle.xinu_model.proofs.Outcomes.{agree}
 use Rattle.xinu_laws.proofs.FileSyscalls.Chosen.{choice_happens, effect_panics}
 use Rattle.xinu_laws.proofs.Preserve.Events.{sound_happens}
 use Rattle.part_laws.proofs.FileSystems.Orders.{own_bytes, same_bytes}
-use Rattle.transcript_laws.proofs.Texts.{and_true, begun, rest_of, starts, text_append}
+use Rattle.transcript_laws.proofs.Texts.{begun, rest_of, starts, text_append}
 use Rattle.transcript_laws.specs.Reading.{starts_with, last_lines, Prints, accepts_after, accepts, Tells}
 
 -- what a run prints doesn't begin with a call that took effect as the next one
@@ -89,7 +90,7 @@ accepted_prints told t (e ∷ events) s rest k holds =
     let c = told s e rest in
     let x = effect_of s e c in
     let h = choice_happens s e c k (t.allowed s e rest) in
-    let both = and_true (starts_with (text x.lines) rest) _ holds in
+    let both = and_parts (starts_with (text x.lines) rest) _ holds in
     let split = begun (text x.lines) rest both.0 in
     let same = effect_panics s e c k in
     let after = accepted_after told events x.lines x.state rest (end_with x.panics (is_over x.state))

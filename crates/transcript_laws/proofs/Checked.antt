@@ -1,6 +1,7 @@
 -- A text is accepted of the machine that starts with images on disks if and only if it is the transcript of a run of it.
 use Rattle.std.proofs.Common.{◌≡◌, ◌↔◌, ◌<◌, ℕ, true, List, [], ◌∷◌, ◌++◌, length, drop, refl, sym, ap, ◌∙◌, append_assoc}
 use Rattle.std.specs.Prelude.{◌&&◌}
+use Rattle.std.proofs.lemmas.Bool.{and_parts}
 use Rattle.xinu_base.specs.Constants.{NPROC}
 use Rattle.xinu_base.specs.declared.events.Event.{Event}
 use Rattle.xinu_base.specs.declared.lines.TranscriptLine.{TranscriptLine}
@@ -15,7 +16,7 @@ use Rattle.transcript_laws.specs.Choices.{told}
 use Rattle.transcript_laws.specs.Reading.{Prints, accepts, last_lines, starts_with}
 use Rattle.transcript_laws.specs.Transcripts.{IsText, checks, checks_from, first_text}
 use Rattle.transcript_laws.proofs.Accepted.{accepts_exactly}
-use Rattle.transcript_laws.proofs.Texts.{and_true, begun, rest_of, starts}
+use Rattle.transcript_laws.proofs.Texts.{begun, rest_of, starts}
 use Rattle.transcript_laws.proofs.Told.{tells}
 
 -- the lines of a whole transcript, however they are grouped
@@ -35,7 +36,7 @@ checked_text : (disks : Disks) (images : List Loaded) (events : List Event) (byt
     → ((s : Xinu) → boot_on disks images ≡ Boots s → IsSound s)
     → (how : Start) → boot_on disks images ≡ how → checks_from how events bytes ≡ true → IsText disks images events bytes
 checked_text disks images events bytes sound (Boots s) b e =
-    let both = and_true (starts_with (first_text s) bytes) _ e in
+    let both = and_parts (starts_with (first_text s) bytes) _ e in
     let p = (accepts_exactly told tells s events (drop (length (first_text s)) bytes) (sound s b)).0 both.1 in
     record {
       last = p.last;

@@ -1,14 +1,14 @@
 -- No other line looks like that of a call on files that took effect as the next one.
-use Rattle.std.proofs.Common.{◌≡◌, ◌==◌, ℕ, zero, suc, ◌+◌, ◌%◌, ◌/◌, Bool, true, false, if◌then◌else◌, List, [], ◌∷◌, ◌++◌, map, take, drop, ℤ, pos, negsuc, refl, sym, ap, ◌∙◌, append_assoc, append-nil, arith}
+use Rattle.std.proofs.Common.{◌≡◌, ◌==◌, ℕ, zero, suc, ◌+◌, ◌%◌, ◌/◌, true, false, if◌then◌else◌, List, [], ◌∷◌, ◌++◌, map, take, drop, ℤ, pos, negsuc, refl, sym, ap, ◌∙◌, append_assoc, append-nil, arith}
 use Rattle.std.specs.Prelude.{nat_lt, codes}
 use Rattle.std.specs.List.{AllByRecursion, list_all}
 use Rattle.std.specs.Prelude.{not, ◌&&◌}
-use Rattle.transcript_laws.proofs.Texts.{starts, and_true}
+use Rattle.transcript_laws.proofs.Texts.{starts}
 use Rattle.std.specs.Fmt.{decimal, digits, digits_onto, digit_glyph, signed_decimal}
 use Rattle.xinu_base.specs.Syscalls.{Syscall, args_of, is_call, name_of, syscall_in, syscalls}
 use Rattle.xinu_model.specs.Words.{signed}
 use Rattle.transcript_laws.specs.Choices.{after_blank, after_line, begins_done, says_done}
-use Rattle.std.proofs.lemmas.Bool.{cond_both}
+use Rattle.std.proofs.lemmas.Bool.{cond_both, not-true, and_parts}
 use Rattle.std.proofs.lemmas.Bool.Decides.{nat_tests}
 use Rattle.xinu_base.specs.declared.lines.FileMoment.{FileMoment}
 use Rattle.xinu_base.specs.declared.lines.FileMoment.TheVariants.{Turn, Finished, Next}
@@ -116,15 +116,10 @@ signed_feed : (z : ℤ) → NoFeed (signed_decimal z)
 signed_feed (pos n) = decimal_feed n
 signed_feed (negsuc n) = (refl, decimal_feed (suc n))
 
--- the names of calls have none
-not_true : (b : Bool) → not b ≡ true → b ≡ false
-not_true true e = absurd (cc)
-not_true false e = refl
-
 -- a test finds none
 tested_feed : (l : List ℕ) → list_all (λ d. not (d == 10)) l ≡ true → NoFeed l
 tested_feed [] e = tt
-tested_feed (d ∷ l) e = let h = and_true (not (d == 10)) (list_all (λ d. not (d == 10)) l) e in (not_true (d == 10) h.0, tested_feed l h.1)
+tested_feed (d ∷ l) e = let h = and_parts (not (d == 10)) (list_all (λ d. not (d == 10)) l) e in (not-true (d == 10) h.0, tested_feed l h.1)
 
 unknown_feed : NoFeed (codes "unknown")
 unknown_feed = tested_feed (codes "unknown") refl
@@ -139,7 +134,7 @@ rows_feed : (rows : List Syscall) → list_all (λ (r : Syscall). list_all (λ d
     → AllByRecursion (λ (r : Syscall). NoFeed r.name) rows
 rows_feed [] e = tt
 rows_feed (r ∷ rows) e =
-    let h = and_true (list_all (λ d. not (d == 10)) r.name) (list_all (λ (r : Syscall). list_all (λ d. not (d == 10)) r.name) rows) e in
+    let h = and_parts (list_all (λ d. not (d == 10)) r.name) (list_all (λ (r : Syscall). list_all (λ d. not (d == 10)) r.name) rows) e in
     (tested_feed r.name h.0, rows_feed rows h.1)
 
 -- nor do the arguments of a call, nor its fields

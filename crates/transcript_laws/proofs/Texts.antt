@@ -1,6 +1,5 @@
 -- Texts that begin with the text of some lines.
-use Rattle.std.proofs.Common.{◌≡◌, ◌==◌, ℕ, Bool, true, false, if◌then◌else◌, List, [], ◌∷◌, ◌++◌, length, drop, refl, sym, ap, ◌∙◌, append_assoc, arith}
-use Rattle.std.specs.Prelude.{◌&&◌}
+use Rattle.std.proofs.Common.{◌≡◌, ◌==◌, ℕ, true, false, if◌then◌else◌, List, [], ◌∷◌, ◌++◌, length, drop, refl, sym, ap, ◌∙◌, append_assoc, arith}
 use Rattle.std.proofs.lemmas.Bool.{cond_both, eqb-true}
 use Rattle.std.proofs.lemmas.Bool.Decides.{nat_tests}
 use Rattle.xinu_base.specs.declared.lines.TranscriptLine.{TranscriptLine}
@@ -38,8 +37,3 @@ begun (b ∷ bytes) (c ∷ rest) e =
 -- texts with one front have one rest
 pub same_rest : (bytes more rest : List ℕ) → bytes ++ more ≡ bytes ++ rest → more ≡ rest
 same_rest bytes more rest e = sym (rest_of bytes more) ∙ ap (λ l. drop (length bytes) l) e ∙ rest_of bytes rest
-
--- both of two tests hold if they hold together
-pub and_true : (a b : Bool) → (a && b) ≡ true → (a ≡ true) × (b ≡ true)
-and_true true b e = (refl, e)
-and_true false b e = absurd (cc)
