@@ -2,7 +2,7 @@
 //!
 //! | Arguments | What is done |
 //! |---|---|
-//! | `script BLOCKS CALLS SEED NAMES LONGEST COMPLETIONS EVERY` | so many drawn calls, beside the plain list of files; the files are read back as often as the two last numbers say |
+//! | `script BLOCKS CALLS SEED NAMES LONGEST COMPLETIONS EVERY` | so many drawn calls, beside the plain list of files; the files are read back as often as the two last numbers say. The numbers of more scripts may follow |
 //! | `counts` and the same | the same, and how many calls were refused and how many completions there were |
 //! | `time BLOCKS SIZE` | calls on the only file of a disk: of each kind its name, how often it was made, its completions and its nanoseconds |
 #![tactic(auto)]

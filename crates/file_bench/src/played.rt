@@ -1,14 +1,22 @@
-//! A script of calls, and how it went.
+//! Scripts of calls, and how they went.
 
 use file_trials::{Readings, Script, Sizes, Trial, Trouble};
 use std::alloc::{AllocError, Global};
 
-/// Plays the script that the numbers say, and adds to a text how it went.
+/// Plays the scripts that the numbers say, seven each, and adds to a text how each went.
 ///
 /// # Errors
 ///
 /// Out of memory.
 pub(crate) fn play(alloc: Global, numbers: &[u32], text: &mut String) -> Result<(), AllocError> {
+    for script in numbers.chunks(7) {
+        play_script(alloc, script, text)?;
+    }
+    Ok(())
+}
+
+// Plays a script, and adds to a text how it went.
+fn play_script(alloc: Global, numbers: &[u32], text: &mut String) -> Result<(), AllocError> {
     match played(alloc, numbers) {
         Ok(trial) => {
             let line = format!(in alloc; "{} calls: as the plain list\n", trial.calls)?;

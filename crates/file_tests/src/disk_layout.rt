@@ -33,7 +33,12 @@ fn word_at(image: &[u8], at: usize) -> u32 {
 }
 
 // Whether an image is clean, with this many files, free data blocks and free index blocks.
-fn reports(rt: &impl Abort, alloc: Global, image: &[u8], counts: (u32, u32, u32)) -> bool {
+pub(crate) fn reports(
+    rt: &impl Abort,
+    alloc: Global,
+    image: &[u8],
+    counts: (u32, u32, u32),
+) -> bool {
     match check(alloc, image) {
         Ok(report) => report.files == counts.0
             && report.free_data == counts.1
@@ -66,7 +71,12 @@ fn puts(rt: &impl Abort, alloc: Global, image: &mut CleanImage, name: &[u8], byt
 }
 
 // An empty image of a number of blocks, and then these files in it.
-fn with_files(rt: &impl Abort, alloc: Global, blocks: u32, files: &[(&[u8], &[u8])]) -> CleanImage {
+pub(crate) fn with_files(
+    rt: &impl Abort,
+    alloc: Global,
+    blocks: u32,
+    files: &[(&[u8], &[u8])],
+) -> CleanImage {
     let mut image = empty(rt, alloc, blocks);
     for (name, bytes) in files {
         assert!(rt; puts(rt, alloc, &mut image, name, bytes));

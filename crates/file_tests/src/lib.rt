@@ -1,4 +1,4 @@
-//! Tests of the readers and writers of files, and of the command line, over the public calls of their crates.
+//! Tests of the readers and writers of files, of the file engine, and of the command line, over the public calls of their crates.
 #![tactic(auto)]
 
 #[cfg(test)]
@@ -11,6 +11,8 @@ mod disk_format;
 mod disk_layout;
 #[cfg(test)]
 mod elf_files;
+#[cfg(test)]
+mod file_engine;
 #[cfg(test)]
 mod image_files;
 #[cfg(test)]

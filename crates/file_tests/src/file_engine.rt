@@ -1,11 +1,9 @@
-//! Worked rows: calls with their replies and the bytes that they read, on an engine with its disk beside the plain list.
+//! The file engine: calls with their replies and the bytes that they read, on an engine with its disk beside the plain list.
 //!
 //! The devices are numbered as the kernel numbers them: 3 is the file system, and 4 to 9 are the file devices.
 
-use crate::names::padded;
-use crate::play::{Readings, Trial, Trouble};
-use crate::{FileDisk, PlainFiles};
-use lfs_layout::{CleanImage, check, is_file_name};
+use crate::disk_layout::{reports, with_files};
+use file_trials::{FileDisk, Readings, Trial, padded};
 use local_files::{FileCall, FileDev, Files};
 use std::alloc::Global;
 use std::process::Abort;
@@ -19,53 +17,13 @@ enum Row<'a> {
     Close(u32),
     Read(u32, u32),
     Write(u32, u32),
-    Getc(u32),
     Putc(u32, u8),
     Seek(u32, i32),
     Truncate(u32),
     Size(u32),
 }
 
-use Row::{Close, Delete, Getc, Open, Putc, Read, Seek, Size, Truncate, Write};
-
-/// One file from its making to its end.
-const ONE_FILE: [(Row, i32, &[u8]); 14] = [
-    (Open(b"a", b"rw"), 4, b""),
-    (Putc(4, 65), 0, b""),
-    (Size(4), 1, b""),
-    (Seek(4, 2), -1, b""),
-    (Seek(4, 0), 0, b""),
-    (Getc(4), 65, b""),
-    (Getc(4), -2, b""),
-    (Truncate(4), 0, b""),
-    (Size(4), 0, b""),
-    // it is open
-    (Delete(b"a"), -1, b""),
-    (Close(4), 0, b""),
-    (Delete(b"a"), 0, b""),
-    (Delete(b"a"), -1, b""),
-    (Close(4), -1, b""),
-];
-
-/// A file that needs a second index block: its last bytes are 8191 and 8192, which are 159 and 160 modulo 251.
-const BIG_FILE: [(Row, i32, &[u8]); 7] = [
-    (Open(b"big", b"rw"), 4, b""),
-    (Write(4, 8193), 8193, b""),
-    (Close(4), 0, b""),
-    (Open(b"big", b"rw"), 4, b""),
-    (Seek(4, 8191), 0, b""),
-    (Read(4, 2), 2, &[159, 160]),
-    (Close(4), 0, b""),
-];
-
-/// Two files on a disk of 14 blocks, which has seven data blocks.
-const FULL_DISK: [(Row, i32, &[u8]); 5] = [
-    (Open(b"a", b"rw"), 4, b""),
-    (Write(4, 2048), 2048, b""),
-    (Open(b"b", b"rw"), 5, b""),
-    (Write(5, 2000), 1536, b""),
-    (Write(5, 1), -1, b""),
-];
+use Row::{Close, Delete, Open, Putc, Read, Seek, Size, Truncate, Write};
 
 /// The longest names, of which all bytes tell, and modes that refuse.
 const LONG_NAMES: [(Row, i32, &[u8]); 9] = [
@@ -147,7 +105,6 @@ fn call_of(rt: &impl Abort, row: &Row<'_>) -> FileCall {
         Close(d) => FileCall::Close(device(rt, d)),
         Read(d, n) => FileCall::Read(device(rt, d), n),
         Write(d, _) => FileCall::Write(device(rt, d)),
-        Getc(d) => FileCall::Getc(device(rt, d)),
         Putc(d, b) => FileCall::Putc(device(rt, d), b),
         Seek(d, n) => FileCall::Seek(device(rt, d), n),
         Truncate(d) => FileCall::Truncate(device(rt, d)),
@@ -202,34 +159,6 @@ fn play(rt: &impl Abort, alloc: Global, blocks: u32, rows: &[(Row<'_>, i32, &[u8
     trial
 }
 
-// Whether a disk is clean, with this many files, free data blocks and free index blocks.
-fn reports(rt: &impl Abort, alloc: Global, disk: &[u8], counts: (u32, u32, u32)) -> bool {
-    match check(alloc, disk) {
-        Ok(report) => report.files == counts.0
-            && report.free_data == counts.1
-            && report.free_index == counts.2,
-        Err(_) => rt.abort(),
-    }
-}
-
-#[test]
-fn one_file(rt: HostRuntime) {
-    let trial = play(&rt, rt.alloc(), 256, &ONE_FILE);
-    assert!(rt; reports(&rt, rt.alloc(), trial.served.disk(), (0, 246, 28)));
-}
-
-#[test]
-fn a_big_file(rt: HostRuntime) {
-    let trial = play(&rt, rt.alloc(), 256, &BIG_FILE);
-    assert!(rt; reports(&rt, rt.alloc(), trial.served.disk(), (1, 229, 26)));
-}
-
-#[test]
-fn a_full_disk(rt: HostRuntime) {
-    let trial = play(&rt, rt.alloc(), 14, &FULL_DISK);
-    assert!(rt; reports(&rt, rt.alloc(), trial.served.disk(), (2, 0, 5)));
-}
-
 #[test]
 fn names_of_27_bytes(rt: HostRuntime) {
     let trial = play(&rt, rt.alloc(), 14, &LONG_NAMES);
@@ -274,16 +203,7 @@ fn a_79th_file_is_refused(rt: HostRuntime) {
 
 // A clean disk of 256 blocks with a file `a` of one byte.
 fn disk_with(rt: &impl Abort, alloc: Global, byte: u8) -> Vec<u8> {
-    if !is_file_name(b"a") {
-        rt.abort();
-    }
-    match CleanImage::empty(alloc, 256) {
-        Err(_) => rt.abort(),
-        Ok(mut image) => match image.put_file(alloc, b"a", &[byte]) {
-            Ok(true) => image.into_bytes(),
-            _ => rt.abort(),
-        },
-    }
+    with_files(rt, alloc, 256, &[(b"a", &[byte])]).into_bytes()
 }
 
 // Makes the call of a row without the plain list, in at most 40 completions.
