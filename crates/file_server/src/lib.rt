@@ -24,8 +24,6 @@
 
 mod file_disk;
 mod requests;
-#[cfg(test)]
-mod rows;
 mod server;
 mod settled;
 mod starting;

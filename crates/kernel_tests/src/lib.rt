@@ -10,6 +10,8 @@ mod counts;
 #[cfg(test)]
 mod devices;
 #[cfg(test)]
+mod file_calls;
+#[cfg(test)]
 mod heap;
 #[cfg(test)]
 mod lists;

@@ -1,11 +1,11 @@
-//! Worked rows: calls on one file as they are made, completions and deaths, and what happens at each.
+//! Calls on one file as they are made, completions and deaths, and what happens at each.
 //!
 //! How many completions a call has is the table of `docs/DISK.md`, by the file's first blocks: it is made with 10, its first bytes are
 //! written with 9, bytes of a block that it has are written with 8 and read with 2.
 
 ghost use Rattle.file_server.specs.Requests.{IsRequest};
 
-use crate::{FileNote, FileRequest, FileServer};
+use file_server::{FileNote, FileRequest, FileServer};
 use lfs_layout::CleanImage;
 use local_files::{FileCall, FileDev};
 use rv_hart::Ram;
@@ -34,10 +34,6 @@ enum Row<'a> {
     Turns(u32, Option<usize>),
     /// A completion, at which these take effect; their callers and replies.
     Takes(&'a [(Option<usize>, i32)]),
-    /// Processes 1 to 63 ask for the size, and wait.
-    AllAsk,
-    /// A completion, at which process 0 has opened the file, and then all of them have the size.
-    AllTake,
     /// A process is killed.
     Dies(u8),
     /// A byte of RAM becomes another one.
@@ -47,7 +43,7 @@ enum Row<'a> {
 }
 
 use Ask::{Open, Read, Seek, Size, Write};
-use Row::{AllAsk, AllTake, Asks, Dies, Has, Put, Takes, Turns};
+use Row::{Asks, Dies, Has, Put, Takes, Turns};
 
 // The name of the file.
 const NAME: [u8; 28] = [
@@ -167,44 +163,12 @@ fn takes(server: &mut FileServer, ram: &mut Ram, effects: &[(Option<usize>, i32)
     server.are_calls() && are_effects(server.complete(ram).as_slice(), effects)
 }
 
-// Whether 63 more calls wait, and then 64 are under way.
-fn all_ask(server: &mut FileServer, ram: &mut Ram) -> bool {
-    for p in 1..64 {
-        if !asks(server, ram, p, Size, None) {
-            return false;
-        }
-    }
-    server.pending() == 64
-}
-
-// Whether these are the effects of 64 calls.
-fn are_all(notes: &[FileNote]) -> bool {
-    for at in 0..notes.len() {
-        let wanted = if at == 0 {
-            (Some(0), FileMoment::Finished, Some(4))
-        } else {
-            (Some(at), FileMoment::Next, Some(0))
-        };
-        if told(&notes[at]) != wanted {
-            return false;
-        }
-    }
-    notes.len() == 64
-}
-
-// Whether all calls take effect at one completion.
-fn all_take(server: &mut FileServer, ram: &mut Ram) -> bool {
-    server.are_calls() && are_all(server.complete(ram).as_slice()) && !server.are_calls()
-}
-
 // Whether a row goes as wanted.
 fn goes(server: &mut FileServer, ram: &mut Ram, row: &Row<'_>) -> bool {
     match *row {
         Asks(caller, ask, reply) => asks(server, ram, caller, ask, reply),
         Turns(many, caller) => turns(server, ram, many, caller),
         Takes(effects) => takes(server, ram, effects),
-        AllAsk => all_ask(server, ram),
-        AllTake => all_take(server, ram),
         Dies(caller) => {
             server.forget(process(caller));
             true
@@ -276,36 +240,6 @@ fn a_write_puts_the_bytes_of_the_time_when_it_became_the_first(
 }
 
 #[test]
-fn a_write_puts_what_the_call_before_it_read(rt: HostRuntime) -> Result<(), Fail> {
-    let rows = [
-        Put(100, 5),
-        Put(101, 6),
-        Asks(1, Open, None),
-        Asks(1, Write(2, 100), None),
-        Turns(9, Some(1)),
-        Takes(&[(Some(1), 4)]),
-        Turns(8, Some(1)),
-        Takes(&[(Some(1), 2)]),
-        Asks(1, Seek(0), Some(0)),
-        Asks(1, Read(1, 300), None),
-        Asks(2, Write(1, 300), None),
-        Asks(3, Size, None),
-        Turns(1, Some(1)),
-        Takes(&[(Some(1), 1)]),
-        Turns(7, Some(2)),
-        Takes(&[(Some(2), 1), (Some(3), 2)]),
-        Asks(1, Seek(1), Some(0)),
-        Asks(1, Read(9, 400), None),
-        Turns(1, Some(1)),
-        Takes(&[(Some(1), 1)]),
-        Has(400, 5),
-        Has(401, 0),
-    ];
-    assert_eq!(rt; first_wrong(rt.alloc(), &rows)?, None);
-    Ok(())
-}
-
-#[test]
 fn the_first_call_of_the_dead_goes_on_and_their_later_ones_go(rt: HostRuntime) -> Result<(), Fail> {
     let rows = [
         Put(100, 5),
@@ -326,19 +260,6 @@ fn the_first_call_of_the_dead_goes_on_and_their_later_ones_go(rt: HostRuntime) -
         Takes(&[(None, 1), (Some(3), 1)]),
         // what the dead read goes nowhere
         Has(300, 0),
-    ];
-    assert_eq!(rt; first_wrong(rt.alloc(), &rows)?, None);
-    Ok(())
-}
-
-#[test]
-fn sixty_four_are_under_way(rt: HostRuntime) -> Result<(), Fail> {
-    let rows = [
-        Asks(0, Open, None),
-        AllAsk,
-        Turns(9, Some(0)),
-        AllTake,
-        Asks(1, Size, Some(0)),
     ];
     assert_eq!(rt; first_wrong(rt.alloc(), &rows)?, None);
     Ok(())
