@@ -1,1 +1,2 @@
+pub mod EarlierImages
 pub mod ImageFiles

@@ -14,12 +14,11 @@ ghost use Rattle.xinu_model.specs.Process.Creation.{stack_size};
 ghost use Rattle.xinu_model.specs.Sound.State.{IsSound};
 ghost use Rattle.xinu_model.specs.Tables.{state_at};
 
-use crate::memory_map::{end_of_all, first_overlap, load_all};
 use buffer_pools::Pools;
 use disk_driver::Disk;
 use file_server::FileServer;
 use freelist_memory::Heap;
-use image_loader::Image;
+use image_loader::{Image, end_of_all, first_overlap, load_all};
 use kernel_state::{Creation, KernelState, Replies, make_on_stack};
 use kernel_tables::KernelTables;
 use lfs_layout::{CleanImage, RawImage};

@@ -10,6 +10,5 @@
 #![tactic(auto)]
 
 mod initialize;
-mod memory_map;
 
 pub use initialize::{BootFault, boot};

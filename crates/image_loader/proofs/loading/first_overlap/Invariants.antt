@@ -2,8 +2,8 @@
 use Rattle.std.proofs.Common.{◌≡◌, ◌+◌, [], drop, map, take}
 use Rattle.image_loader.specs.Images.{loaded_of}
 use Rattle.xinu_model.specs.Boot as boot
-use Rattle.kernel_boot.proofs.Images.{onto}
-use Rattle.kernel_boot.proofs.memory_map.first_overlap.Given as goal
+use Rattle.image_loader.proofs.EarlierImages.{onto}
+use Rattle.image_loader.proofs.loading.first_overlap.Given as goal
 
 abbrev pub invariant-loop-image : goal.invariant-loop-image
 invariant-loop-image l =

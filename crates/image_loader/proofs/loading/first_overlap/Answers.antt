@@ -2,8 +2,8 @@ use Rattle.std.proofs.Common.{◌∙◌, ◌+◌, Some, [], cond, drop, map, tak
 use Rattle.std.specs.List.{list_any}
 use Rattle.image_loader.specs.Images.{loaded_of}
 use Rattle.xinu_model.specs.Boot as boot
-use Rattle.kernel_boot.proofs.Images.{decided, onto}
-use Rattle.kernel_boot.proofs.memory_map.first_overlap.Goals as goal
+use Rattle.image_loader.proofs.EarlierImages.{decided, onto}
+use Rattle.image_loader.proofs.loading.first_overlap.Goals as goal
 
 pub returns-then-overlaps_any : goal.returns-then-overlaps_any
 returns-then-overlaps_any c =

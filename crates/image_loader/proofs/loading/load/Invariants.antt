@@ -3,7 +3,7 @@ use Rattle.std.proofs.Common.{◌≡◌, true, drop, map}
 use Rattle.std.specs.List.{list_all}
 use Rattle.image_loader.specs.Parts.{lies_in_ram, part_of}
 use Rattle.xinu_model.specs.Boot.{with_parts}
-use Rattle.kernel_boot.proofs.memory_map.load.Given as goal
+use Rattle.image_loader.proofs.loading.load.Given as goal
 
 abbrev pub invariant-loop-part : goal.invariant-loop-part
 invariant-loop-part l =

@@ -1,6 +1,4 @@
-//! Where the images lie in RAM: the first that overlaps an earlier one, where the last one ends, and how they are loaded.
-//!
-//! It depends on images and RAM.
+//! Images one after another in RAM: the first that overlaps an earlier one, where the last one ends, and how they are loaded.
 
 ghost use Rattle.std.specs.Prelude.{◌≡◌, ◌≤◌, [], length, map, true};
 ghost use Rattle.std.specs.List.{list_all, list_any};
@@ -8,11 +6,12 @@ ghost use Rattle.image_loader.specs.Images.{loaded_of};
 ghost use Rattle.image_loader.specs.Parts.{lies_in_ram, part_of};
 ghost use Rattle.xinu_model.specs.Boot as boot;
 
-use image_loader::{Image, Part};
+use crate::images::Image;
+use crate::parts::Part;
 use rv_hart::Ram;
 
 /// The number, from 1 on, of the first image that overlaps an earlier one. `None` if and only if no two overlap.
-pub(crate) fn first_overlap(images: &[Image<'_>]) -> Option<u8>
+pub fn first_overlap(images: &[Image<'_>]) -> Option<u8>
     requires few { length images.now ≤ 8 }
     ensures first { result ≡ boot.first_overlap 1 [] (map loaded_of images.now) }
 {
@@ -27,7 +26,7 @@ pub(crate) fn first_overlap(images: &[Image<'_>]) -> Option<u8>
 }
 
 /// The greatest address after one of the images.
-pub(crate) fn end_of_all(images: &[Image<'_>]) -> u32
+pub fn end_of_all(images: &[Image<'_>]) -> u32
     ensures end { result ≡ boot.end_of_all (map loaded_of images.now) }
     ensures in_ram { result ≤ 1048576 }
 {
@@ -39,7 +38,7 @@ pub(crate) fn end_of_all(images: &[Image<'_>]) -> u32
 }
 
 /// Puts the bytes of the images in their places, one after another.
-pub(crate) fn load_all(ram: &mut Ram, images: &[Image<'_>])
+pub fn load_all(ram: &mut Ram, images: &[Image<'_>])
     ensures loaded { ram.new ≡ boot.with_images (map loaded_of images.now) ram.old }
 {
     for image in images {
