@@ -19,3 +19,5 @@ mod image_files;
 mod lines;
 #[cfg(test)]
 mod schedules;
+#[cfg(test)]
+mod workloads;

@@ -21,8 +21,6 @@ mod programs;
 mod schedules;
 mod shapes;
 mod tallies;
-#[cfg(test)]
-mod tests;
 
 pub use draws::Draws;
 pub use programs::program_file;

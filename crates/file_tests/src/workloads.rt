@@ -1,8 +1,7 @@
-//! The first words of a program, the events of a schedule, and the counts of a text.
+//! What the number of a soak test gives: the first words of a program; and the counts of a text.
 
-use crate::{Draws, Tally, program_file, schedule_text};
-use schedule_file::Schedule;
 use std::test::Fail;
+use workload::{Draws, Tally, program_file};
 use xinu_base::End;
 
 /// The first instructions of the first program that the number 0 gives: `getpid`, `getmem 20` and `chprio 3 12`.
@@ -34,17 +33,6 @@ fn the_number_0_gives_getpid_first(rt: HostRuntime) -> Result<(), Fail> {
             Some(word.to_le_bytes().as_slice())
         );
     }
-    Ok(())
-}
-
-#[test]
-fn a_schedule_has_200_000_events(rt: HostRuntime) -> Result<(), Fail> {
-    let text = schedule_text(rt.alloc(), &mut Draws::new(0))?;
-    let mut schedule = Schedule::read(rt.alloc(), text.as_slice())?;
-    for _ in 0..200_000u32 {
-        assert!(rt; schedule.next_event().is_some());
-    }
-    assert!(rt; schedule.next_event().is_none());
     Ok(())
 }
 
