@@ -6,14 +6,18 @@ usage: bench/run.py [STEPS]        (200000000 steps if none are given)
 It builds both programs (`xinu_run` as bench/program.py says), writes the images of bench/images.py and prints for each loop and program the
 seconds of processor time, the steps per second and the greatest memory in use. The last line of each loop is the ratio of their speeds. A
 loop of calls is assembled by `xinu_run asm` and takes a hundredth of the steps; beside its events per second are the bytes of its
-transcript. Then come ticks beside one sleeper and beside sixty, and last the eight texts of bench/system, which together use calls 1 to 35,
-with the greatest memory of the program once it had begun to print and at the end. No part of the gate."""
+transcript. Then come ticks beside one sleeper and beside sixty, then the eight texts of bench/system, which together use calls 1 to 35,
+with the greatest memory of the program once it had begun to print and at the end, and last real code: the self tests of mbedTLS's SHA-256,
+AES and SHA-512, in qemu-riscv32 too, if the source was fetched (bench/real.py) and there is a compiler for it. No part of the gate."""
 import os
+import shutil
 import subprocess
 import sys
 import tempfile
 import time
 
+import foreign
+import real
 from program import built
 
 BENCH = os.path.dirname(os.path.abspath(__file__))
@@ -118,6 +122,24 @@ def time_system(folder, rounds):
     print(f"system {seconds:17.2f} s {rounds / seconds / 1e4:7.2f} million events/s {written:10} bytes {first:7} KB, {memory:7} KB at the end")
 
 
+def time_real(folder, plain):
+    """Prints the times of real code on the machine, in the plain C interpreter and in qemu, if what it needs is here."""
+    if not all(map(shutil.which, (foreign.COMPILER, foreign.QEMU))) or not os.path.isdir(real.folder_of("mbedtls")):
+        print(f"real   skipped: it needs {foreign.COMPILER}, {foreign.QEMU} and the source that `bench/real.py --fetch mbedtls` gets")
+        return
+    schedule, printed = os.path.join(folder, "schedule"), os.path.join(folder, "printed")
+    with open(schedule, "w", encoding="ascii") as file:
+        file.write("step 1000000000\n")
+    ours, theirs, image = real.self_tests(folder)
+    rows = [("xinu_run", [real.built("xinu_run"), "run", "--schedule", schedule, ours]), ("plain C", [plain, "1000000000"]), ("qemu", [foreign.QEMU, theirs])]
+    taken = {name: timed(words, image, printed + name)[:2] for name, words in rows}
+    with open(printed + "plain C", encoding="ascii") as file:
+        steps = int(file.read().split()[1])
+    for name, (seconds, memory) in taken.items():
+        print(f"real   {name:9} {seconds:7.2f} s {steps / seconds / 1e6:7.1f} million steps/s {memory:7} KB, {steps} steps")
+    print(f"real   ratio     {taken['plain C'][0] / taken['xinu_run'][0]:7.2f}")
+
+
 def main():
     steps = int(sys.argv[1]) if len(sys.argv) > 1 else 200_000_000
     with tempfile.TemporaryDirectory() as folder:
@@ -139,6 +161,7 @@ def main():
         time_calls(folder, max(steps // 100, 1))
         time_ticks(folder, 1_900_000)
         time_system(folder, 100_000)
+        time_real(folder, plain)
 
 
 if __name__ == "__main__":

@@ -6,7 +6,7 @@ usage: bench/torture.py [--level O2] [--first N] [--jobs N] [ARCHIVE]
 The archive is gcc's source, which Debian's package gcc-12-source has in /usr/src. Each program is compiled at -O2, or the level that is
 given, with the options that it asks for, and linked twice (foreign.py). A program that prints nothing runs beside up to seven others, each at
 its own place in RAM; one that prints, or hasn't ended, or hasn't ended as in qemu, runs alone with more stack and steps, and then what it
-prints is compared too. A line says of each program that isn't counted as agreeing why; the last line counts. No part of the gate."""
+prints is compared too, but for addresses (0x..). A line says of each program that isn't counted as agreeing why; the last line counts. No part of the gate."""
 import argparse
 import concurrent.futures
 import glob
@@ -26,6 +26,8 @@ ROUND = "step 20000\ntx 300\ndisk1 50\ntick 1\n"
 STACK, STACK_ALONE = 40960, 400000
 HEAP, HEAP_ALONE = 16384, 131072
 ROUNDS, ROUNDS_ALONE = 40, 20000
+LARGE = (4, 8)  # statuses of `run` for a program that isn't in RAM, or leaves no room for its stack
+ADDRESS = re.compile(rb"0x[0-9a-f]+")
 OPTION = re.compile(r"\{\s*dg-(?:additional-)?options\s+[\"{]\s*\"?([^\"}]*)\"?\s*[\"}]([^}]*)\}")
 
 
@@ -79,13 +81,15 @@ class Trial:
         foreign.linked([*large, self.object], self.path + ".alone", 0, HEAP_ALONE)
         words = [program, "run", "--schedule", os.path.join(os.path.dirname(self.path), "alone"), self.path + ".alone"]
         ran = foreign.run(words)
-        end = foreign.ends(ran.stdout.decode()).get("1") if ran.returncode == 0 else f"status {ran.returncode}"
+        end = foreign.ends(ran.stdout.decode()).get("1")
         printed = foreign.run([*words[:2], "--plain", *words[2:]]).stdout.replace(b"\r\n", b"\n")
-        if end is None:
+        if ran.returncode in LARGE:
+            self.reason = "doesn't fit into RAM"
+        elif end is None:
             self.reason = "doesn't end in its steps"
         elif end != self.wanted:
             self.reason = f"DIFFERS: {end}, in qemu {self.wanted}"
-        elif printed != self.printed:
+        elif ADDRESS.sub(b"", printed) != ADDRESS.sub(b"", self.printed):
             self.reason = "DIFFERS in what it prints"
 
 
