@@ -48,10 +48,3 @@ input_room t c n k less =
     let items = k.items in
     let input = k.itself.input in
     room_for (semaphore_at t 0) n (omega (arith, items, input)) less
-
--- The output can be signalled.
-pub output_room : (t : Tables) (c : Console) → IsConsole t c → int_lt (count_of (semaphore_at t 1)) most_tokens ≡ true
-output_room t c k =
-    let room = k.room in
-    let few : (semaphore_at t 1).tokens ≤ 64 = omega (arith, room) in
-    grind (arith, ints, few)

@@ -1,5 +1,5 @@
 -- A text is read byte by byte: what was read, and the text of what is left.
-use Rattle.std.proofs.Common.{◌≡◌, ◌∙◌, ℕ, zero, suc, ◌+◌, ◌<◌, ◌==◌, false, List, [], ◌∷◌, ◌++◌, length, drop, get_or, Option, Some, None, refl, sym, ap, add-one, append_assoc, drop-cons}
+use Rattle.std.proofs.Common.{◌≡◌, ℕ, zero, suc, ◌+◌, ◌==◌, false, List, [], ◌∷◌, ◌++◌, Option, Some, None, refl, sym, ap, append_assoc}
 use Rattle.std.specs.Prelude.{option_map}
 use Rattle.xinu_model.specs.Devices.Texts.{text_in}
 
@@ -15,11 +15,3 @@ more_read read b (Some text) = ap Some (sym (append_assoc read (b ∷ []) text))
 text_more : (read : List ℕ) (b : ℕ) (rest : List ℕ) → (b == 0) ≡ false → after_bytes read (text_in (b ∷ rest)) ≡ after_bytes (read ++ b ∷ []) (text_in rest)
 text_more read zero rest h = absurd (cc)
 text_more read (suc b) rest h = more_read read (suc b) (text_in rest)
-
--- a byte that isn't zero goes to what was read
-pub text_step : (bytes read : List ℕ) (i d : ℕ) → i < length bytes → (get_or bytes i d == 0) ≡ false
-    → after_bytes (read ++ get_or bytes i d ∷ []) (text_in (drop (i + 1) bytes)) ≡ after_bytes read (text_in (drop i bytes))
-text_step bytes read i d lt h =
-    let b = get_or bytes i d in
-    let next : drop i bytes ≡ b ∷ drop (i + 1) bytes = drop-cons bytes i d lt ∙ ap (λ n. b ∷ drop n bytes) (sym (add-one i)) in
-    sym (ap (λ l. after_bytes read (text_in l)) next ∙ text_more read b (drop (i + 1) bytes) h)

@@ -1,5 +1,5 @@
 -- What a call that takes effect keeps.
-use Rattle.std.proofs.Common.{◌≡◌, ◌+◌, ◌-◌, ◌≤◌, ◌<◌, ℕ, suc, if◌then◌else◌, List, [], ◌∷◌, drop, length, Option, Some, None, refl, ap, subst, sym, arith}
+use Rattle.std.proofs.Common.{◌≡◌, ◌+◌, ◌-◌, ◌≤◌, ◌<◌, ℕ, suc, List, [], ◌∷◌, length, Option, Some, None, refl, ap, subst, sym, arith}
 use Rattle.std.proofs.lemmas.Bool.{cond_both}
 use Rattle.std.specs.Prelude.{nat_lt, slice_index_or}
 use Rattle.std.specs.List.{AllByRecursion}
@@ -12,9 +12,8 @@ use Rattle.part_laws.proofs.FileWork.Sound.{works_completed}
 use Rattle.xinu_model.specs.Files.Calls.{FileCall, Open, Delete, Close, Read, Write, Getc, Putc, Seek, Truncate, Size}
 use Rattle.xinu_model.specs.Files.Sound.{HasBytes, InRam, IsFileRequest, IsFirst, IsSoundWork}
 use Rattle.xinu_model.specs.Files.Systems.{FileSystem, OpenFile, open_at}
-use Rattle.xinu_model.specs.Files.Work.{FileRequest, FileStep, FileWork, byte_count, first_effect, least_effects, most_turns, next_effects, orphaned_call, size_at, size_for}
+use Rattle.xinu_model.specs.Files.Work.{FileRequest, FileStep, FileWork, byte_count, first_effect, least_effects, most_turns, next_effects, size_at, size_for}
 use Rattle.xinu_model.specs.Memory.{ram_size}
-use Rattle.xinu_model.specs.RawDisk.Callers as callers
 
 -- at most one has to take effect
 one_at_most : (calls : List FileRequest) (w : FileWork) → least_effects calls w ≤ 1
@@ -112,12 +111,3 @@ few_bytes w k = first_bytes w.calls w k.first k.calls
 -- One further call that takes effect is one less to come.
 pub next_one : (k n : ℕ) (x : FileStep) → n < k → next_effects (k - n) x ≡ next_effects (k - (n + 1)) (first_effect x.work.calls Next x)
 next_one k n x h = (let same : k - n ≡ suc (k - (n + 1)) = omega (arith, h) in ap (λ m. next_effects m x) same)
-
--- What is left of calls when a process is killed, by the first and the others.
-pub given_up_is : (p : ℕ) (calls : List FileRequest) (a : FileRequest) → 0 < length calls → a ≡ slice_index_or calls 0 a
-    → callers.given_up (λ (b : FileRequest). b.caller) orphaned_call p calls
-    ≡ (if callers.is_caller p a.caller then orphaned_call a else a) ∷ callers.others (λ (b : FileRequest). b.caller) p (drop 1 calls)
-given_up_is p [] a h e = absurd (omega (arith, h))
-given_up_is p (b ∷ calls) a h e =
-    ap (λ (x : FileRequest). (if callers.is_caller p x.caller then orphaned_call x else x)
-    ∷ callers.others (λ (y : FileRequest). y.caller) p calls) (sym e)

@@ -8,7 +8,7 @@
 //! |---|---|
 //! | `bounds` | the bound: after how many good completions a call takes effect at the latest ([`most_turns`], [`least_effects`]) |
 //! | `first` | who becomes the first, with the bytes of its write, and what happens as the first takes effect |
-//! | `work` | a call is made ([`issued`]), the disk completes ([`calls_completed`]), a process is killed ([`calls_given_up`]) |
+//! | `work` | a call is made ([`issued`]), the disk completes ([`calls_completed`]) |
 //!
 //! A clause sees the calls, RAM and what has happened in the event as the record `FileStep` of the definitions (`step_of`). Out of memory is
 //! the only refusal (`NoMemory`). What counts has a condition that holds in each run: `sound`, that the calls are sound, and `disk`, that
@@ -21,4 +21,4 @@ mod work;
 
 pub use bounds::{least_effects, most_turns};
 pub use first::FileNote;
-pub use work::{calls_completed, calls_given_up, issued};
+pub use work::{calls_completed, issued};

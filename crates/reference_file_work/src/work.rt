@@ -1,10 +1,9 @@
 //! Calls on files under way, one at a time in the order in which they were made.
 
-ghost use Rattle.std.specs.Prelude.{◌≡◌, ◌≤◌, ◌∷◌, [], IfOk, IsSome, List, ℕ, if◌then◌else◌};
+ghost use Rattle.std.specs.Prelude.{◌≡◌, ◌≤◌, [], IfOk, IsSome, List, ℕ};
 ghost use Rattle.reference_file_work.specs.Steps.{step_of};
 ghost use Rattle.xinu_model.specs.Files.Sound.{IsFileRequest, IsSoundWork};
 ghost use Rattle.xinu_model.specs.Files.Work as model;
-ghost use Rattle.xinu_model.specs.RawDisk.Callers as callers;
 
 use crate::first::{FileNote, first_effect, with_first};
 use reference_state::{FileRequest, FileWork};
@@ -99,51 +98,4 @@ fn enqueued(w: &mut FileWork, memory: &Ram, a: FileRequest) -> Result<(), NoMemo
         with_first(w, memory)?;
     }
     Ok(())
-}
-
-/// A process was killed: its calls are taken out, but for the first, which goes on without a caller.
-pub fn calls_given_up(w: &mut FileWork, p: Pid) -> Result<(), NoMemory>
-    ensures given_up { IfOk result (λ _. w.new ≡ model.calls_given_up p w.old) }
-{
-    if w.calls.is_empty() {
-        return Ok(());
-    }
-    let first = w.calls.remove(0);
-    leave_calls(&mut w.calls, p);
-    put_first(&mut w.calls, orphaned(first, p))?;
-    Ok(())
-}
-
-// The calls that aren't a process's.
-fn leave_calls(calls: &mut Vec<FileRequest>, p: Pid)
-    ensures others { calls.new.items ≡ callers.others (λ a. a.caller) p calls.old.items }
-{
-    calls.retain(|a| !is_callers(a, p));
-}
-
-// One call more, the first.
-fn put_first(calls: &mut Vec<FileRequest>, a: FileRequest) -> Result<(), NoMemory>
-    ensures put { IfOk result (λ _. calls.new.items ≡ a ∷ calls.old.items) }
-{
-    calls.insert(0, a).map_err(|_| NoMemory)
-}
-
-// Whether a call is a process's.
-fn is_callers(a: &FileRequest, p: Pid) -> bool
-    ensures callers { result ≡ callers.is_caller p a.now.caller }
-{
-    match a.caller {
-        None => false,
-        Some(q) => q == p,
-    }
-}
-
-// A call without its caller, if that is the process.
-fn orphaned(a: FileRequest, p: Pid) -> FileRequest
-    ensures orphaned { result ≡ (if callers.is_caller p a.caller then model.orphaned_call a else a) }
-{
-    if is_callers(&a, p) {
-        return FileRequest { caller: None, ..a };
-    }
-    a
 }

@@ -1,19 +1,14 @@
 -- The event in which the disk with files completes well, by what the code has of it.
-use Rattle.std.proofs.Common.{◌≡◌, ◌∙◌, ◌+◌, ◌++◌, ℕ, true, false, List, [], ◌∷◌, map, Result, refl, sym, ap, subst}
+use Rattle.std.proofs.Common.{◌≡◌, ◌∙◌, ◌+◌, ◌++◌, ℕ, true, List, [], map, Result, sym, ap, subst}
 use Rattle.std.specs.Prelude.{IfOk}
 use Rattle.reference_state.specs.Happened.{happened}
 use Rattle.reference_state.specs.declared.ending.Happened.{Happened}
 use Rattle.reference_machine.proofs.Chosen.{completed_is}
 use Rattle.xinu_base.specs.declared.lines.TranscriptLine.{TranscriptLine}
 use Rattle.xinu_model.specs.Files.Rest.{are_calls}
-use Rattle.xinu_model.specs.Files.Syscalls.{after_step, all_told, completed_in, file_line, file_step, files_complete, files_of, with_step}
-use Rattle.xinu_model.specs.Files.Work.{FileNote, FileRequest, FileStep, calls_completed, least_effects}
-use Rattle.xinu_model.specs.Machine.{CallResult, CallState, Silent, Xinu, end_of_event, nothing_happens, start}
-
--- Nothing happens if no call is under way.
-pub completed_none : (choice : ℕ) (s : Xinu) (l : List FileRequest) → are_calls l ≡ false → completed_in l choice s ≡ nothing_happens s
-completed_none choice s [] none = refl
-completed_none choice s (a ∷ l) none = absurd (cc)
+use Rattle.xinu_model.specs.Files.Syscalls.{after_step, all_told, file_line, file_step, files_complete, files_of, with_step}
+use Rattle.xinu_model.specs.Files.Work.{FileNote, FileStep, calls_completed, least_effects}
+use Rattle.xinu_model.specs.Machine.{CallResult, CallState, Silent, Xinu, end_of_event, start}
 
 -- what came of calls is answered to nobody
 abbrev silent : CallState → CallResult

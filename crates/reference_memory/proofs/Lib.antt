@@ -1,4 +1,3 @@
 pub mod HeapCells
-pub mod LeavingCallers
 pub mod Made
 pub mod NameFields

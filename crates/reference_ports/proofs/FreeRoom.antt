@@ -7,7 +7,7 @@ use Rattle.reference_ports.specs.FreeBuffers.{HasOwnFree}
 use Rattle.xinu_model.specs.Pools.Buffers.{BufferPool, no_pool, pool_at}
 use Rattle.xinu_model.specs.Semaphores.Counts.{count_of, most_tokens}
 use Rattle.xinu_model.specs.Sound.Pools.{ArePools}
-use Rattle.xinu_model.specs.Tables.{Semaphore, semaphore_at, Tables}
+use Rattle.xinu_model.specs.Tables.{Semaphore, Tables}
 
 -- what isn't there reads as no pool, which has no buffers
 pub own_free : (t : Tables) (pools : List BufferPool) (i : ℕ) → ArePools t pools → HasOwnFree (pool_at pools i)
@@ -19,12 +19,3 @@ own_free t pools i a = ⊎_elim
 -- a semaphore with few tokens can be signalled
 pub few_tokens : (x : Semaphore) (n : ℕ) → x.tokens < n → n ≤ 2147483647 → int_lt (count_of x) most_tokens ≡ true
 few_tokens x n h g = grind (arith, ints)
-
--- A pool that is made can be signalled: it has at most a token for each of its buffers.
-pub pool_room : (t : Tables) (pools : List BufferPool) (i : ℕ) → ArePools t pools → i < length pools → (pool_at pools i).number ≤ 1048576
-    → int_lt (count_of (semaphore_at t (pool_at pools i).semaphore)) most_tokens ≡ true
-pool_room t pools i a made few =
-    let k = a.each i made in
-    let n = k.number in
-    let e = k.enough in
-    few_tokens (semaphore_at t (pool_at pools i).semaphore) 1048577 (omega (arith, n, e, few)) (omega arith)

@@ -56,10 +56,6 @@ buffer_within a pool within h =
     let m = mul-le (suc r.0) (pool.size + 4) pool.number (pool.size + 4) (omega arith) (omega arith) in
     omega arith
 
--- A pool in RAM has no more buffers than RAM has bytes.
-pub number_few : (base size number : ℕ) → base + number * (size + 4) ≤ 1048576 → number ≤ 1048576
-number_few base size number within = let m = mul-le number 1 number (size + 4) (omega arith) (omega arith) in omega arith
-
 -- So is the first of its free buffers, which are its own.
 pub first_within : (a : ℕ) (pool : BufferPool) → pool.base + pool.number * (pool.size + 4) ≤ 1048576
     → AllByRecursion (λ b. is_in b (buffers pool) ≡ true) pool.free → 0 < length pool.free → a ≡ get_or pool.free 0 a → a ≤ 1048576

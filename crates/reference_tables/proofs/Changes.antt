@@ -18,10 +18,6 @@ one_more f [] i d h = absurd (omega arith)
 one_more f (x ∷ l) zero d h = refl
 one_more f (x ∷ l) (suc i) d h = ap (λ y. f x ∷ y) (one_more f l i d (omega arith))
 
-pub all_changed : {A : Type 0} (f : A → A) (l : List A) → changed_below f (length l) l ≡ map f l
-all_changed f [] = refl
-all_changed f (x ∷ l) = ap (λ y. f x ∷ y) (all_changed f l)
-
 pub one_more_at : {A : Type 0} (f : A → A) (l : List A) (i : ℕ) (d : A) → i < length l
     → slice_set (changed_below f i l) i (f (slice_index_or l i d)) ≡ changed_below f (i + 1) l
 one_more_at f l i d h = one_more f l i d h ∙ ap (λ k. changed_below f k l) (let z : suc i ≡ i + 1 = omega arith in z)
