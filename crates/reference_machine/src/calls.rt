@@ -13,7 +13,7 @@ use reference_devices::console_reads::{go_on_getc, go_on_read};
 use reference_devices::console_writes::{go_on_putc, go_on_write};
 use reference_devices::disk::go_on_disk;
 use reference_devices::names::mount;
-use reference_events::dispatch::{core_call, core_continued};
+use reference_calls::dispatch::{core_call, core_continued};
 use reference_ports::new_pools::mkbufpool;
 use reference_ports::pools::{freebuf, getbuf, go_on_getbuf};
 use reference_ports::ports::{

@@ -15,7 +15,7 @@ ghost use Rattle.xinu_model.specs.Tables.{process_at};
 use crate::calls::{called, continued};
 use crate::file_calls::make_call;
 use crate::file_notes::nothing;
-use reference_events::steps::{call_of, instruction, returned, trapped};
+use reference_calls::steps::{call_of, instruction, returned, trapped};
 use reference_state::{Happened, Machine};
 use reference_switch::DeviceOutcome;
 use rv_hart::Outcome;

@@ -1,7 +1,7 @@
 //! New buffer pools (book, chapter 10).
 
 ghost use Rattle.std.specs.Prelude.{◌≡◌, ◌≤◌, ◌+◌, ◌*◌, ◌++◌, ◌∷◌, [], IfOk, IfSome, IfNone, Some, None, nat_lt, if◌then◌else◌, length};
-ghost use Rattle.reference_memory.specs.Heaps.{with_heap};
+ghost use Rattle.reference_calls.specs.Heaps.{with_heap};
 ghost use Rattle.reference_state.specs.Answers.{came_to, IsStart};
 ghost use Rattle.xinu_base.specs.declared.semaphores.Owner.TheVariants as owner;
 ghost use Rattle.xinu_model.specs.Heap.Cells.{take_memory};
@@ -11,7 +11,7 @@ ghost use Rattle.xinu_model.specs.Pools.Calls as model;
 ghost use Rattle.xinu_model.specs.Semaphores.Counts.{free_semaphore, make_semaphore};
 
 use crate::buffers::{addresses, meets_pool};
-use reference_memory::memory_calls::memory_taken;
+use reference_calls::memory_calls::memory_taken;
 use reference_state::{Answer, BufferPool, Heap, Machine};
 use reference_tables::{copied, push};
 use xinu_base::{NoMemory, Owner, PoolId, SYSERR, Sem};

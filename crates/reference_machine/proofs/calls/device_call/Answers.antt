@@ -1,6 +1,6 @@
 use Rattle.std.proofs.Common.{◌≡◌, ◌∙◌, ◌<◌, ap, arith, inr, rules, w32}
 use Rattle.std.proofs.lemmas.Int.{to_z-of_z}
-use Rattle.reference_events.proofs.Rows.{row_is}
+use Rattle.reference_calls.proofs.Rows.{row_is}
 use Rattle.reference_machine.proofs.Rows.{device_row, files_leave_ok, plain_leaves, refused_above, unchanged_leaves, unchanged_leaves_ok}
 use Rattle.std.specs.Prelude.{slice_index}
 use Rattle.xinu_base.specs.Constants.{SYSERR}

@@ -1,6 +1,6 @@
 use Rattle.std.proofs.Common.{◌≡◌, ◌∙◌, ap, arith, rules, w32}
 use Rattle.std.proofs.lemmas.Int.{to_z-of_z}
-use Rattle.reference_events.proofs.Rows.{ok_row, row_is}
+use Rattle.reference_calls.proofs.Rows.{ok_row, row_is}
 use Rattle.xinu_model.specs.Calls.{calls}
 use Rattle.xinu_model.specs.Ports.Calls.{ptcreate}
 use Rattle.reference_machine.proofs.calls.port_call.Goals as goal

@@ -1,0 +1,3 @@
+pub mod GivenUp
+pub mod Heaps
+pub mod Rests

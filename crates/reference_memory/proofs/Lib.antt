@@ -1,3 +1,0 @@
-pub mod HeapCells
-pub mod Made
-pub mod NameFields

@@ -1,6 +1,0 @@
-use Rattle.std.proofs.Common.{arith}
-use Rattle.reference_memory.proofs.NameFields.{written_over}
-use Rattle.reference_memory.proofs.creation.padded.Goals as goal
-
-pub returns : goal.returns
-returns c = record { padded = rw c.copy_from_slice.ensures.after (written_over c.args.name.now 15 15 c.requires.short (omega arith)) }

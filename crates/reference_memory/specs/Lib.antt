@@ -1,2 +1,0 @@
-pub mod GivenUp
-pub mod Heaps
