@@ -1,2 +1,4 @@
+pub mod Kept
+pub mod Ranges
 pub mod RoomBySize
 pub mod Small

@@ -11,7 +11,7 @@ ghost use Rattle.xinu_model.specs.Files.Work as work;
 ghost use Rattle.xinu_model.specs.Machine.{end_of_event};
 
 use crate::file_notes::{has_calls, push_notes};
-use reference_file_work::{FileNote, issued};
+use reference_files::{FileNote, issued};
 use reference_state::{Answer, FileCall, FileRequest, Happened, Machine};
 use reference_tables::Place;
 use xinu_base::{NoMemory, Rest, State, TranscriptLine};

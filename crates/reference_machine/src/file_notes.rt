@@ -10,7 +10,7 @@ ghost use Rattle.xinu_model.specs.Files.Work as work;
 ghost use Rattle.xinu_model.specs.Machine.{nothing_happens};
 
 use reference_devices::disk::keep_reply;
-use reference_file_work::{FileNote, calls_completed, least_effects};
+use reference_files::{FileNote, calls_completed, least_effects};
 use reference_state::{Answer, Happened, Machine};
 use reference_tables::push;
 use xinu_base::{NoMemory, Pid, TranscriptLine};

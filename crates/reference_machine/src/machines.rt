@@ -9,7 +9,7 @@ ghost use Rattle.xinu_model.specs.Runs as runs;
 ghost use Rattle.xinu_model.specs.Tables as tables;
 
 use crate::events::{lines_of, take};
-use reference_file_work::least_effects;
+use reference_files::least_effects;
 use reference_state::{FileRequest, Happened, Machine};
 use trace_check::EventMachine;
 use xinu_base::{Event, NoMemory, Pid, Process, State, TranscriptLine};

@@ -1,10 +1,10 @@
 use Rattle.std.proofs.Common.{◌<◌, ◌+◌, ◌-◌, ◌∙◌, ap, arith, subst, sym}
 use Rattle.xinu_base.specs.declared.lines.FileMoment.TheVariants.{Next}
-use Rattle.reference_file_work.specs.Steps.{step_of}
-use Rattle.reference_file_work.proofs.Kept.{blocks_after, next_one, sound_after}
+use Rattle.reference_files.specs.Steps.{step_of}
+use Rattle.reference_files.proofs.Kept.{blocks_after, next_one, sound_after}
 use Rattle.xinu_model.specs.Files.Sound.{IsSoundWork}
 use Rattle.xinu_model.specs.Files.Work.{FileStep, next_effects}
-use Rattle.reference_file_work.proofs.work.next_effects.Goals as goal
+use Rattle.reference_files.proofs.work.next_effects.Goals as goal
 
 pub loop-preserved : goal.loop-preserved
 loop-preserved c =

@@ -1,15 +1,15 @@
 use Rattle.std.proofs.Common.{◌<◌, ◌∙◌, ap, length, rules, subst, sym, List, ℕ}
 use Rattle.std.specs.List.{AllByRecursion}
-use Rattle.reference_file_work.proofs.Kept.{first_right}
-use Rattle.reference_file_work.proofs.Ranges.{effect_put}
-use Rattle.reference_file_work.specs.Steps.{IsPut}
+use Rattle.reference_files.proofs.Kept.{first_right}
+use Rattle.reference_files.proofs.Ranges.{effect_put}
+use Rattle.reference_files.specs.Steps.{IsPut}
 use Rattle.reference_files.proofs.Small.{sound_is_small}
 use Rattle.reference_files.specs.Sizes.{IsSmall}
 use Rattle.reference_state.specs.FileCalls.{file_call_of}
 use Rattle.xinu_model.specs.Files.Sound.{IsFileRequest}
 use Rattle.xinu_model.specs.Files.Systems.{FileEffect}
 use Rattle.xinu_model.specs.Files.Work.{FileWork}
-use Rattle.reference_file_work.proofs.first.first_effect.Goals as goal
+use Rattle.reference_files.proofs.first.first_effect.Goals as goal
 
 pub file_effect-requires-clause-small : goal.file_effect-requires-clause-small
 file_effect-requires-clause-small c =

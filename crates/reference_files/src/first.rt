@@ -1,14 +1,14 @@
 //! The first of the calls: who becomes it, and what happens as it takes effect.
 
 ghost use Rattle.std.specs.Prelude.{◌≡◌, ◌≤◌, ◌+◌, IfOk};
-ghost use Rattle.reference_file_work.specs.Steps.{IsPut, step_of};
+ghost use Rattle.reference_files.specs.Steps.{IsPut, step_of};
 ghost use Rattle.reference_state.specs.FileCalls.{file_call_of};
 ghost use Rattle.std.specs.List.{AllByRecursion};
 ghost use Rattle.xinu_model.specs.Files.Sound.{InRam, IsFileRequest, IsSoundWork};
 ghost use Rattle.xinu_model.specs.Files.Work as model;
 ghost use Rattle.xinu_model.specs.Memory.{bytes_from, ram_size};
 
-use reference_files::file_effect;
+use crate::calls::file_effect;
 use reference_state::{FileCall, FileRequest, FileWork};
 use reference_tables::{append, push};
 use rv_hart::Ram;

@@ -1,7 +1,7 @@
 use Rattle.std.proofs.Common.{refl, subst, sym}
 use Rattle.part_laws.proofs.FileWork.Sound.{works_queued}
 use Rattle.xinu_model.specs.Files.Sound.{IsSoundWork}
-use Rattle.reference_file_work.proofs.work.issued.Goals as goal
+use Rattle.reference_files.proofs.work.issued.Goals as goal
 
 pub first_effect-requires-clause-sound : goal.first_effect-requires-clause-sound
 first_effect-requires-clause-sound c =

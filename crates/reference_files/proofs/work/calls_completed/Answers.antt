@@ -1,10 +1,10 @@
 use Rattle.std.proofs.Common.{ap, subst, sym}
 use Rattle.xinu_base.specs.declared.lines.FileMoment.TheVariants.{Finished}
-use Rattle.reference_file_work.specs.Steps.{step_of}
-use Rattle.reference_file_work.proofs.Kept.{sound_after}
+use Rattle.reference_files.specs.Steps.{step_of}
+use Rattle.reference_files.proofs.Kept.{sound_after}
 use Rattle.xinu_model.specs.Files.Sound.{IsSoundWork}
 use Rattle.xinu_model.specs.Files.Work.{FileStep}
-use Rattle.reference_file_work.proofs.work.calls_completed.Goals as goal
+use Rattle.reference_files.proofs.work.calls_completed.Goals as goal
 
 pub next_effects-requires-clause-sound : goal.next_effects-requires-clause-sound
 next_effects-requires-clause-sound c =

@@ -6,7 +6,9 @@ ghost use Rattle.xinu_model.specs.Files.Stored as stored;
 ghost use Rattle.xinu_model.specs.Files.Systems as systems;
 ghost use Rattle.xinu_model.specs.Files.Work as model;
 
-use reference_files::{data_blocks, file_named, index_blocks, open_at, open_bytes};
+use crate::room::{data_blocks, index_blocks};
+use crate::stored::file_named;
+use crate::systems::{open_at, open_bytes};
 use reference_state::{FileCall, FileSystem, FileWork};
 
 // How many bytes a call takes or puts.

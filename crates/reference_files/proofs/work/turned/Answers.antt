@@ -1,7 +1,7 @@
 use Rattle.std.proofs.Common.{◌<◌, ap, arith, length, rules}
-use Rattle.reference_file_work.proofs.Kept.{few_turns}
+use Rattle.reference_files.proofs.Kept.{few_turns}
 use Rattle.xinu_model.specs.Files.Work.{FileWork}
-use Rattle.reference_file_work.proofs.work.turned.Goals as goal
+use Rattle.reference_files.proofs.work.turned.Goals as goal
 
 pub overflow_add-w : goal.overflow_add-w
 overflow_add-w c =

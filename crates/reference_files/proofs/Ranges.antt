@@ -7,7 +7,7 @@ use Rattle.xinu_model.specs.Files.Calls.{FileCall, Open, Delete, Close, Read, Wr
 use Rattle.xinu_model.specs.Files.Sound.{InRam}
 use Rattle.xinu_model.specs.Files.Systems.{FileSystem}
 use Rattle.xinu_model.specs.Memory.{bytes_from, ram_size, with_bytes}
-use Rattle.reference_file_work.specs.Steps.{IsPut}
+use Rattle.reference_files.specs.Steps.{IsPut}
 
 -- the bytes from an address on are a part of RAM
 pub range_is : (memory : List ℕ) (at n : ℕ) → at + n ≤ length memory → bytes_from memory at n ≡ take n (drop at memory)

@@ -1,7 +1,7 @@
 //! Calls on files under way, one at a time in the order in which they were made.
 
 ghost use Rattle.std.specs.Prelude.{◌≡◌, ◌≤◌, [], IfOk, IsSome, List, ℕ};
-ghost use Rattle.reference_file_work.specs.Steps.{step_of};
+ghost use Rattle.reference_files.specs.Steps.{step_of};
 ghost use Rattle.xinu_model.specs.Files.Sound.{IsFileRequest, IsSoundWork};
 ghost use Rattle.xinu_model.specs.Files.Work as model;
 

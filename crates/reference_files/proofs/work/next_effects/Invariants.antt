@@ -1,8 +1,8 @@
 use Rattle.std.proofs.Common.{◌≡◌, ◌≤◌, ◌-◌}
-use Rattle.reference_file_work.specs.Steps.{step_of}
+use Rattle.reference_files.specs.Steps.{step_of}
 use Rattle.xinu_model.specs.Files.Sound.{IsSoundWork}
 use Rattle.xinu_model.specs.Files.Work as model
-use Rattle.reference_file_work.proofs.work.next_effects.Given as goal
+use Rattle.reference_files.proofs.work.next_effects.Given as goal
 
 abbrev pub invariant-loop : goal.invariant-loop
 invariant-loop l =
