@@ -11,8 +11,7 @@ ghost use Rattle.xinu_model.specs.Process.Scheduling.{resched};
 ghost use Rattle.xinu_model.specs.Machine.{with_tables};
 
 use crate::machine::{loaded_machine, on_disks};
-use crate::memory_map::first_overlap;
-use image_loader::Image;
+use image_loader::{Image, first_overlap};
 use reference_calls::creation::{Entry, make_process, new_hart, new_process, stack_size};
 use reference_calls::memory_calls::stack_taken;
 use reference_state::{FileSystem, Machine, RawDisk};

@@ -8,11 +8,9 @@
 //! |---|---|
 //! | [`boot`] | the start: the processes of the images are made in order, and become ready with one resched |
 //! | `machine` | the machine with the images in RAM, before their processes are made, and the disks that it is given |
-//! | `memory_map` | where the images lie in RAM: the first that overlaps an earlier one, and how they are loaded |
 //! | `first` | the tables, ports, console and heap that the machine begins with |
 #![tactic(auto)]
 
 pub mod boot;
 mod first;
 mod machine;
-mod memory_map;

@@ -9,8 +9,7 @@ ghost use Rattle.xinu_model.specs.Machine.{start};
 ghost use Rattle.xinu_model.specs.Memory.{zeros};
 
 use crate::first::{first_console, first_ports, heap_behind, null_tables};
-use crate::memory_map::{end_of_all, load_all};
-use image_loader::Image;
+use image_loader::{Image, end_of_all, load_all};
 use reference_state::{Bytes, FileSystem, FileWork, Machine, OpenFile, RawDisk};
 use reference_tables::push;
 use rv_hart::{Hart, Ram};
