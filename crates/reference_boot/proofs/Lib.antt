@@ -1,0 +1,3 @@
+pub mod BufferCounts
+pub mod Chunks
+pub mod Listed

@@ -12,7 +12,7 @@ ghost use Rattle.xinu_model.specs.Boot as model;
 use image_loader::Image;
 use lfs_layout::{CleanImage, RawImage};
 use reference_boot::boot::{NoStart, boot_on};
-use reference_disks::{file_system_of, raw_disk_of};
+use reference_boot::{file_system_of, raw_disk_of};
 use reference_machine::ReferenceMachine;
 use reference_state::{FileSystem, RawDisk};
 use schedule_file::Schedule;

@@ -4,7 +4,7 @@ use Rattle.std.proofs.lemmas.Bool.{cases_eq, cases_lt, cond_both}
 use Rattle.std.proofs.lemmas.List.{get_or_past}
 use Rattle.std.specs.List.{AllByRecursion}
 use Rattle.std.specs.Prelude.{IfSome, IsSome, nat_lt}
-use Rattle.reference_dump.specs.Few.{AreFew}
+use Rattle.reference_boot.specs.Few.{AreFew}
 use Rattle.reference_files.proofs.Small.{sound_is_small}
 use Rattle.reference_files.specs.Sizes.{IsSmall}
 use Rattle.trace_check.specs.Bounds.{IsWithin}

@@ -12,7 +12,7 @@ use crate::steps::step;
 use reference_calls::clock::ticked;
 use reference_devices::console_signals::{keyed, transmits};
 use reference_devices::disk::disk_completes;
-use reference_dump::tables_of;
+use reference_boot::tables_of;
 use reference_state::{Happened, Machine};
 use xinu_base::{Event, NoMemory, TranscriptLine};
 

@@ -1,0 +1,9 @@
+-- What was pushed and what is left are the lines of all.
+use Rattle.std.proofs.Common.{◌≡◌, ◌++◌, drop}
+use Rattle.xinu_model.specs.Text as model
+use Rattle.reference_boot.proofs.dump.tables.push_processes.Given as goal
+
+abbrev pub invariant-loop-number : goal.invariant-loop-number
+invariant-loop-number l =
+    l.lines.items ++ model.process_lines l.number (drop l.number l.processes) l.messages
+    ≡ l.fn.lines.items ++ model.process_lines 0 l.processes l.messages
