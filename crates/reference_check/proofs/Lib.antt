@@ -1,1 +1,11 @@
+pub mod Along
+pub mod Blocks
+pub mod Called
+pub mod Chosen
+pub mod Counts
+pub mod Fewness
+pub mod FileSteps
+pub mod Made
+pub mod ReadOn
+pub mod Rows
 pub mod Starts

@@ -1,7 +1,7 @@
 -- At the start the clock and the numbers of the ports are at 0, and the disk has the blocks that it is given.
 use Rattle.std.proofs.Common.{◌≡◌, ◌∙◌, ◌≤◌, List, sym, ap, arith}
 use Rattle.table_laws.proofs.Tables.Starts.{boots_from}
-use Rattle.trace_check.specs.Bounds.{IsWithin}
+use Rattle.reference_check.specs.Bounds.{IsWithin}
 use Rattle.xinu_laws.proofs.Touches.Boot.{boot_numbers, boot_ticks}
 use Rattle.xinu_model.specs.Boot.{Boots, Disks, Loaded, boot, boot_on, on_disks}
 use Rattle.xinu_model.specs.Files.Syscalls.{files_of}

@@ -1,1 +1,6 @@
+pub mod Bounds
+pub mod Leaving
+pub mod Places
 pub mod Starting
+pub mod Steps
+pub mod Taking

@@ -9,15 +9,14 @@ ghost use Rattle.transcript_laws.specs.Transcripts as transcripts;
 ghost use Rattle.part_laws.specs.GivenDisks.{AreSoundDisks};
 ghost use Rattle.xinu_model.specs.Boot as model;
 
+use crate::driver::check_from;
 use image_loader::Image;
 use lfs_layout::{CleanImage, RawImage};
 use reference_boot::boot::{NoStart, boot_on};
 use reference_boot::{file_system_of, raw_disk_of};
-use reference_machine::ReferenceMachine;
 use reference_state::{FileSystem, RawDisk};
 use schedule_file::Schedule;
 use std::alloc::Global;
-use trace_check::check_from;
 use xinu_base::NoMemory;
 
 /// Whether a text is the transcript of a run that starts with these images on the disks of these images, and goes through these events.
@@ -72,7 +71,7 @@ fn check_on(
         (map loaded_of images.now)) e) }
 {
     match boot_on(alloc, images, disk, system) {
-        Ok(inside) => match check_from(&mut ReferenceMachine { inside }, schedule, text) {
+        Ok(mut machine) => match check_from(&mut machine, schedule, text) {
             Ok(is_transcript) => Ok(is_transcript),
             Err(NoMemory) => Err(NoStart::NoMemory),
         },

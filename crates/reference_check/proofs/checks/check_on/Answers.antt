@@ -13,5 +13,5 @@ check_from-requires-clause-within c =
     let n = length-map c.args.images.now loaded_of in
     let few = c.requires.few in
     let boots = c.in-Ok.ensures.boots in
-    within_start disks images c.in-Ok.inside.state c.requires.blocks
-    (sound_boot_on disks images c.in-Ok.inside.state (omega (arith, n, few)) c.requires.sound boots) boots
+    within_start disks images c.in-Ok.machine.state c.requires.blocks
+    (sound_boot_on disks images c.in-Ok.machine.state (omega (arith, n, few)) c.requires.sound boots) boots

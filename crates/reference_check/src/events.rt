@@ -1,0 +1,58 @@
+//! An event of any kind.
+
+ghost use Rattle.std.specs.Prelude.{◌≡◌, ◌≤◌, IfOk, false};
+ghost use Rattle.reference_state.specs.Answers.{IsStart};
+ghost use Rattle.reference_state.specs.Happened.{happened};
+ghost use Rattle.reference_check.specs.Bounds.{IsWithin, most_told};
+ghost use Rattle.xinu_model.specs.Events as model;
+ghost use Rattle.xinu_model.specs.Text as text;
+
+use crate::file_notes::{files_complete, nothing};
+use crate::steps::step;
+use reference_boot::tables_of;
+use reference_calls::clock::ticked;
+use reference_devices::console_signals::{keyed, transmits};
+use reference_devices::disk::disk_completes;
+use reference_state::{Happened, Machine};
+use xinu_base::{Event, NoMemory, TranscriptLine};
+
+/// Takes an event in which so many calls on files more take effect than have to.
+pub(crate) fn take(m: &mut Machine, e: Event, choice: usize) -> Result<Happened, NoMemory>
+    requires start { IsStart m.old }
+    requires within { IsWithin 1000000000 m.old.state }
+    requires most { choice ≤ most_told m.old.state e }
+    ensures happens { IfOk result (λ h. happened h m.new.state ≡ model.effect_of m.old.state e choice) }
+    ensures start { IfOk result (λ _. IsStart m.new) }
+{
+    match e {
+        Event::Step => step(m, choice),
+        Event::Tick => ticked(m),
+        Event::Key(b) => keyed(m, b),
+        Event::Tx => transmits(m),
+        Event::Disk0 => disk_completes(m, true),
+        Event::Fail0 => disk_completes(m, false),
+        Event::Disk1 => files_complete(m, choice),
+        Event::Fail1 => Ok(nothing(m)),
+        Event::Dump => dump(m),
+    }
+}
+
+// The event in which the tables are printed.
+fn dump(m: &Machine) -> Result<Happened, NoMemory>
+    requires within { IsWithin 1000000000 m.now.state }
+    ensures dumps { IfOk result (λ h. happened h m.now.state ≡
+        record { lines = text.tables_of m.now.state; state = m.now.state; panics = false }) }
+{
+    Ok(Happened {
+        lines: lines_of(m)?,
+        panics: false,
+    })
+}
+
+/// The lines of the tables.
+pub(crate) fn lines_of(m: &Machine) -> Result<Vec<TranscriptLine>, NoMemory>
+    requires within { IsWithin 1000000001 m.now.state }
+    ensures tables { IfOk result (λ l. l.items ≡ text.tables_of m.now.state) }
+{
+    tables_of(m)
+}

@@ -1,4 +1,0 @@
-pub mod ReadOn
-pub mod Blocks
-pub mod Counts
-pub mod Along
