@@ -36,16 +36,19 @@ def extracted(archive, folder, first):
     inside = re.compile(r".*/gcc\.c-torture/execute/(?:ieee/)?[^/]*\.c$")
     with tarfile.open(archive) as file:
         for member in file:
-            if inside.match(member.name) or member.name.endswith(".h") and "c-torture/execute" in member.name:
+            if inside.match(member.name) or "c-torture/execute" in member.name and member.name.endswith((".h", ".x")):
                 file.extract(member, folder, filter="data")
     found = glob.glob(os.path.join(folder, "*", "gcc", "testsuite", "gcc.c-torture", "execute", "**", "*.c"), recursive=True)
     return sorted(path for path in found if inside.match(path))[:first]
 
 
 def options_of(source):
-    """The options that a program asks for, wherever it is compiled."""
+    """The options that a program asks for, wherever it is compiled, in its text or in the file NAME.x beside it."""
     with open(source, encoding="latin-1") as file:
         asked = [option for option, where in OPTION.findall(file.read()) if "target" not in where]
+    if os.path.exists(source[:-1] + "x"):
+        with open(source[:-1] + "x", encoding="latin-1") as file:
+            asked += re.findall(r'^lappend additional_flags "([^"]*)"', file.read(), re.M)
     ieee = ["-fno-inline"] if os.path.basename(os.path.dirname(source)) == "ieee" else []
     return ieee + [word for option in asked for word in option.split() if not word.startswith("-O")]
 
