@@ -42,7 +42,9 @@ void	__xinu_main(void)
 
 	_init_tls(__tls_main);
 	__libc_init_array();
-	control(CONSOLE, ECHO ? TC_ECHO : TC_NOECHO, 0);
+	if (!ECHO) {
+		control(CONSOLE, TC_NOECHO, 0);
+	}
 	exit(main(sizeof(args) / sizeof(*args) - 1, args, environment));
 }
 
