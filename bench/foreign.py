@@ -10,13 +10,14 @@ LIBC = os.path.join(SDK, "libc")
 COMPILER = os.environ.get("CROSS", "riscv64-unknown-elf-") + "gcc"
 BASE = [COMPILER, "--specs=picolibc.specs", "--picolibc-buildtype=release", "-march=rv32i", "-mabi=ilp32", "-msmall-data-limit=0",
         "-fno-asynchronous-unwind-tables", "-ffunction-sections", "-fdata-sections"]
+PARTS = ["start.S", "main.c", "files.c", "spawn.c"]
 QEMU = "qemu-riscv32"
 QEMU_PLACE = 0x100000  # Linux gives a program no address near 0
 
 
 def run(words, **more):
     """Runs a command; what it printed and its status are kept."""
-    return subprocess.run(words, check=False, stdin=more.pop("stdin", subprocess.DEVNULL), stdout=subprocess.PIPE, stderr=subprocess.PIPE, **more)
+    return subprocess.run(words, check=False, stdin=subprocess.DEVNULL, stdout=subprocess.PIPE, stderr=subprocess.PIPE, **more)
 
 
 def make(words):
@@ -37,7 +38,7 @@ def glue(folder, stack, arguments=("program",), echo=0):
     words = ", ".join(f'"{word}"' for word in arguments)
     options = ["-I" + LIBC, "-I" + SDK, f"-DSTACK={stack}", "-DPRIORITY=20", f"-DECHO={echo}", f"-DARGS={words}"]
     os.makedirs(folder, exist_ok=True)
-    return [compiled(os.path.join(LIBC, name), os.path.join(folder, name + ".o"), options) for name in ("start.S", "main.c", "files.c", "spawn.c")]
+    return [compiled(os.path.join(LIBC, name), os.path.join(folder, name + ".o"), options) for name in PARTS]
 
 
 def linked(objects, path, place, heap, page=4, script=os.path.join(LIBC, "libc.ld")):

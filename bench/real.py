@@ -75,13 +75,14 @@ class Program:
 
 
 PROGRAMS = {
-    "lua": Program("lua5.4", "src/*.c !src/luac.c", "test.lua", heap=300000, stack=65536, files={"test.lua": f"{EXAMPLES}/lua/test.lua"}, writes="notes"),
+    "lua": Program("lua5.4", "src/*.c !src/luac.c", "test.lua", heap=300000, stack=65536, files={"test.lua": f"{EXAMPLES}/lua/test.lua"},
+                   writes="notes"),
     "scheme": Program("tinyscheme", "scheme.c", "test.scm", "-D_POSIX_C_SOURCE=200809L", heap=600000,
                       files={"init.scm": "init.scm", "test.scm": f"{EXAMPLES}/scheme/test.scm"}, writes="note"),
     "mujs": Program("mujs", "main.c one.c", "test.js", heap=400000, stack=65536, files={"test.js": SCRIPT.encode()}),
     "zlib": Program("zlib", "*.c test/example.c", "foo.gz", "-DHAVE_UNISTD_H -I{}", heap=400000, writes="foo.gz"),
-    "bzip2": Program("bzip2", "blocksort.c bzlib.c compress.c crctable.c decompress.c huffman.c randtable.c dlltest.c", "-d sample1.bz2 out",
-                     heap=600000, files={"sample1.bz2": "sample1.bz2"}, writes="out"),
+    "bzip2": Program("bzip2", "blocksort.c bzlib.c compress.c crctable.c decompress.c huffman.c randtable.c dlltest.c",
+                     "-d sample1.bz2 out", heap=600000, files={"sample1.bz2": "sample1.bz2"}, writes="out"),
     "lz4": Program("lz4", "lib/lz4.c lib/lz4hc.c lib/xxhash.c tests/roundTripTest.c", "text", "-I{}/lib", heap=500000, stack=65536,
                    files={"text": b"".join(b"line %d of a text\n" % (k * k) for k in range(400))}),
     "cjson": Program("cjson", "cJSON.c test.c"),
@@ -122,8 +123,8 @@ def self_tests(place):
     options = [*options_of(it, place, ["SHA256", "SHA512", "AES"]), "-fno-builtin-printf"]
     sources = [os.path.join(folder_of("mbedtls"), "library", name + ".c") for name in ("sha256", "sha512", "aes", "platform_util")]
     objects = [foreign.compiled(path, os.path.join(place, f"{k}.o"), options) for k, path in enumerate(sources)]
-    ours, theirs = (foreign.compiled(os.path.join(BENCH, "real.c"), os.path.join(place, f"real{number}.o"), [*options, f'-DEXIT="{number}"'])
-                    for number in (9, 93))
+    source, endings = os.path.join(BENCH, "real.c"), {"real9.o": 9, "real93.o": 93}
+    ours, theirs = (foreign.compiled(source, os.path.join(place, name), [*options, f'-DEXIT="{n}"']) for name, n in endings.items())
     program = foreign.linked([ours, *objects], os.path.join(place, "real.elf"), 0, it.heap)
     raw, image = os.path.join(place, "real.raw"), os.path.join(place, "real.xim")
     foreign.make([foreign.COMPILER[:-3] + "objcopy", "-O", "binary", program, raw])
@@ -221,8 +222,8 @@ def main():
             got, seconds, steps = on_the_machine(ours, it, os.path.join(place, "machine"))
         what = [kind for kind, a, b in zip(("what it prints", "how it ends", "what it writes"), got, wanted) if a != b]
         same += not what
-        print(f"{name:8} {steps / 1e6:7.1f} million steps {seconds:7.2f} s, qemu {theirs_seconds:5.2f} s, {len(wanted[0])} bytes, {wanted[1]}: "
-              + ("DIFFERS in " + ", ".join(what) if what else "the same"))
+        verdict = f"{wanted[1]}, {len(wanted[0])} bytes: " + ("DIFFERS in " + ", ".join(what) if what else "the same")
+        print(f"{name:8} {steps / 1e6:7.1f} million steps {seconds:7.2f} s, qemu {theirs_seconds:5.2f} s; {verdict}")
     print(f"{same} of {len(words.name)} programs are the same as in {foreign.QEMU}, {len(words.name) - same - missing} differ")
     sys.exit(1 if same < len(words.name) else 0)
 

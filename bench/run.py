@@ -131,8 +131,12 @@ def time_real(folder, plain):
     with open(schedule, "w", encoding="ascii") as file:
         file.write("step 1000000000\n")
     ours, theirs, image = real.self_tests(folder)
-    rows = [("xinu_run", [real.built("xinu_run"), "run", "--schedule", schedule, ours]), ("plain C", [plain, "1000000000"]), ("qemu", [foreign.QEMU, theirs])]
-    taken = {name: timed(words, image, printed + name)[:2] for name, words in rows}
+    rows = {
+        "xinu_run": [real.built("xinu_run"), "run", "--schedule", schedule, ours],
+        "plain C": [plain, "1000000000"],
+        "qemu": [foreign.QEMU, theirs],
+    }
+    taken = {name: timed(words, image, printed + name)[:2] for name, words in rows.items()}
     with open(printed + "plain C", encoding="ascii") as file:
         steps = int(file.read().split()[1])
     for name, (seconds, memory) in taken.items():

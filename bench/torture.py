@@ -4,9 +4,10 @@
 usage: bench/torture.py [--level O2] [--first N] [--jobs N] [ARCHIVE]
 
 The archive is gcc's source, which Debian's package gcc-12-source has in /usr/src. Each program is compiled at -O2, or the level that is
-given, with the options that it asks for, and linked twice (foreign.py). A program that prints nothing runs beside up to seven others, each at
-its own place in RAM; one that prints, or hasn't ended, or hasn't ended as in qemu, runs alone with more stack and steps, and then what it
-prints is compared too, but for addresses (0x..). A line says of each program that isn't counted as agreeing why; the last line counts. No part of the gate."""
+given, with the options that it asks for, and linked twice (foreign.py). A program that prints nothing runs beside up to seven others, each
+at its own place in RAM; one that prints, or hasn't ended, or hasn't ended as in qemu, runs alone with more stack and steps, and then what
+it prints is compared too, but for addresses (0x..). A line says of each program that isn't counted as agreeing why; the last line counts.
+No part of the gate."""
 import argparse
 import concurrent.futures
 import glob
