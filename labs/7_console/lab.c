@@ -39,6 +39,6 @@ process	main(void)
 	printf("any key: ");
 	getc(CONSOLE);
 	printf("bye\n");
-	sleepms(1);
+	sleepms(2);
 	return OK;
 }

@@ -44,6 +44,6 @@ process	main(void)
 	getc(CONSOLE);
 	control(CONSOLE, TC_MODEC, 0);
 	printf("bye\n");
-	sleepms(1);
+	sleepms(2);
 	return OK;
 }
