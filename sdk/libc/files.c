@@ -143,6 +143,15 @@ int	close(int fd)
 }
 
 /*------------------------------------------------------------------------
+ *  is_in_ram  -  Tell whether all of some bytes are addresses of RAM
+ *------------------------------------------------------------------------
+ */
+static	int	is_in_ram(const void *bytes, size_t count)
+{
+	return (uint32)bytes < RAMSIZE && count <= RAMSIZE - (uint32)bytes;
+}
+
+/*------------------------------------------------------------------------
  *  read  -  Read from a file, or a line from the console: what has been
  *		printed is put first
  *------------------------------------------------------------------------
@@ -170,7 +179,7 @@ ssize_t	read(
 		return 0;
 	}
 	if (n == SYSERR) {
-		return fail(EFAULT);
+		return fail(is_in_ram(bytes, count) ? EIO : EFAULT);
 	}
 	if (is_file(fd)) {
 		files[fd].position += n;
@@ -198,7 +207,7 @@ ssize_t	write(
 	}
 	n = xwrite(is_console(fd) ? CONSOLE : fd, bytes, count);
 	if (n == SYSERR) {
-		return fail((unsigned)bytes < RAMSIZE && count <= RAMSIZE - (unsigned)bytes ? ENOSPC : EFAULT);
+		return fail(is_in_ram(bytes, count) ? ENOSPC : EFAULT);
 	}
 	if (is_file(fd)) {
 		files[fd].position += n;
