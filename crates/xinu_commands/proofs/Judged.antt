@@ -163,4 +163,10 @@ judgement_sent b line ended h k is sends =
   where
     by : (b : Bool) → SendsOutput (output_of (judgement b).out None None) [] ended h k → SendsOutput (judgement b) [] ended h k
     by true s = s
-    by false s = record { part = record { out = s.part.out; disk0 = s.part.disk0; disk1 = s.part.disk1; image = s.part.image }; whole = λ none. (let w = s.whole none in record { out = w.out; disk0 = w.disk0; disk1 = w.disk1; image = w.image }); cause = s.cause; calls = s.calls; keeps = s.keeps }
+    by false s = record {
+      part = (let p = s.part in record { out = p.out; disk0 = p.disk0; disk1 = p.disk1; image = p.image; text_first = p.text_first; raw_first = p.raw_first });
+      whole = λ none. (let w = s.whole none in record { out = w.out; disk0 = w.disk0; disk1 = w.disk1; image = w.image });
+      cause = s.cause;
+      calls = s.calls;
+      keeps = s.keeps;
+    }
