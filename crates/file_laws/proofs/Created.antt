@@ -10,7 +10,7 @@ use Rattle.lfs_check.specs.declared.geometry.Geometry.{Geometry}
 use Rattle.lfs_check.specs.declared.fields.Header.{Header}
 use Rattle.lfs_check.specs.Geometries.{index_count, first_data}
 use Rattle.lfs_check.specs.Rules.{entry_is_used, is_name, block_in}
-use Rattle.lfs_check.specs.Laid.{Shape, Places, Laid, with_header, numbers_at}
+use Rattle.lfs_check.specs.Laid.{Shape, Places, with_header, numbers_at}
 use Rattle.lfs_check.specs.Clean.{places_of, LaidIn, data_in}
 use Rattle.lfs_check.specs.Fields.{geometry_of, fields_of, directory_entries, link_in_bytes}
 use Rattle.lfs_check.proofs.Images.{image_lies, image_blocks, whole_blocks}

@@ -12,7 +12,7 @@ use Rattle.lfs_check.specs.declared.fields.Header.{Header}
 use Rattle.lfs_check.specs.Geometries.{index_count, first_data}
 use Rattle.lfs_check.specs.Rules.{entry_is_used, block_in}
 use Rattle.lfs_check.specs.Meets.{null, times_met}
-use Rattle.lfs_check.specs.Laid.{Shape, Places, Laid, IsChain, FileLies, no_index, numbers_at, times_in, index_in, entry_in, index_for}
+use Rattle.lfs_check.specs.Laid.{Shape, Places, FileLies, no_index, numbers_at, index_in, entry_in}
 use Rattle.lfs_check.specs.Laid as laid
 use Rattle.lfs_check.specs.Clean.{LaidIn}
 use Rattle.lfs_check.specs.Fields.{numbered_values, index_in_bytes, link_in_bytes}

@@ -7,7 +7,7 @@ use Rattle.lfs_check.proofs.KeepsAll.{either-way}
 use Rattle.lfs_layout.specs.Files.{bare_name}
 use Rattle.xinu_base.specs.declared.files.OpenMode.{OpenMode}
 use Rattle.xinu_model.specs.Files.Stored.{file_named, without_file}
-use Rattle.xinu_model.specs.Files.Systems.{FileSystem, FileEffect, on_open, open_at, is_open, refused_effect, replies}
+use Rattle.xinu_model.specs.Files.Systems.{FileEffect, on_open, is_open, refused_effect, replies}
 use Rattle.xinu_model.specs.Files.Opening.{close_file, open_stored}
 use Rattle.xinu_model.specs.Files.Reading.{seek_file, size_of_file}
 use Rattle.file_laws.proofs.Names.{name_padded}

@@ -11,8 +11,8 @@ use Rattle.lfs_layout.proofs.MadeRules.{name_used}
 use Rattle.xinu_base.specs.declared.files.OpenMode.{OpenMode}
 use Rattle.xinu_model.specs.Files.Modes.{reads, writes}
 use Rattle.xinu_model.specs.Files.Stored.{StoredFile, file_named}
-use Rattle.xinu_model.specs.Files.Systems.{FileSystem, FileEffect, is_open, free_device, refused_effect}
-use Rattle.xinu_model.specs.Files.Opening.{open_stored, with_created, opening}
+use Rattle.xinu_model.specs.Files.Systems.{FileSystem, FileEffect, free_device, refused_effect}
+use Rattle.xinu_model.specs.Files.Opening.{open_stored, with_created}
 use Rattle.file_laws.specs.StoredFiles.{stored_files}
 use Rattle.file_laws.proofs.Names.{name_padded}
 use Rattle.file_laws.proofs.Named.{IsName, named_none, length_entries}
@@ -25,7 +25,7 @@ use Rattle.local_files.specs.declared.Phase.{Phase}
 use Rattle.local_files.specs.declared.Phase.TheVariants.{EntryWrite, HeaderRead, HeaderWrite, EntryRead}
 use Rattle.local_files.specs.Hands.{system, IsEnding, IsMade, IsDevice, IsOpenOn, AreApart, IsCall, IsWritten, IsCreating, IsClosing, IsEntryWrite, IsHeaderRead, IsEntryBlock, IsHeaderBlock, files_after, MayLook, name_of}
 use Rattle.local_files.specs.Steps.{device_at, answered, lowest_free, shown}
-use Rattle.local_files.specs.Standing.{Stands, InHand, served, GoesTo, call_bytes}
+use Rattle.local_files.specs.Standing.{Stands, InHand, GoesTo, call_bytes}
 use Rattle.local_files.specs.Opens.{opened}
 use Rattle.local_files.proofs.Devices.{set_stands, shown_set}
 use Rattle.xinu_model.specs.Files.Systems as systems

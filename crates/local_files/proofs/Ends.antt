@@ -8,7 +8,7 @@ use Rattle.lfs_check.specs.Rules.{entry_is_used}
 use Rattle.lfs_check.specs.Disks.{block_put, entry_at}
 use Rattle.lfs_layout.specs.Files.{bare_name}
 use Rattle.xinu_model.specs.Files.Stored.{with_contents, without_file}
-use Rattle.xinu_model.specs.Files.Systems.{FileSystem, FileEffect, is_open, free_device, refused_effect}
+use Rattle.xinu_model.specs.Files.Systems.{FileSystem, FileEffect, is_open}
 use Rattle.file_laws.specs.StoredFiles.{stored_files, entry_bytes}
 use Rattle.file_laws.proofs.Names.{name_padded}
 use Rattle.file_laws.proofs.Named.{IsName}

@@ -6,7 +6,7 @@ use Rattle.lfs_format.specs.declared.Entry.{Entry}
 use Rattle.lfs_check.specs.Rules.{entry_is_used, block_in}
 use Rattle.lfs_check.specs.Disks.{entry_at}
 use Rattle.lfs_layout.specs.Files.{bare_name}
-use Rattle.xinu_model.specs.Files.Systems.{FileSystem, FileEffect, is_open, free_device, refused_effect, replies}
+use Rattle.xinu_model.specs.Files.Systems.{FileEffect}
 use Rattle.file_laws.specs.StoredFiles.{entry_bytes, entry_chain, entry_data}
 use Rattle.file_laws.proofs.Named.{bytes_sized}
 use Rattle.file_laws.proofs.Counted.{entry_small}

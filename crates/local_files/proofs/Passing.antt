@@ -14,7 +14,7 @@ use Rattle.lfs_layout.specs.Files.{bare_name}
 use Rattle.xinu_base.specs.declared.files.OpenMode.{OpenMode}
 use Rattle.xinu_model.specs.Files.Stored.{file_named}
 use Rattle.xinu_model.specs.Files.Systems.{FileEffect, refused_effect}
-use Rattle.xinu_model.specs.Files.Opening.{open_stored, with_created}
+use Rattle.xinu_model.specs.Files.Opening.{with_created}
 use Rattle.file_laws.specs.StoredFiles.{stored_files, empty_entry, one_more}
 use Rattle.file_laws.proofs.Names.{name_padded}
 use Rattle.file_laws.proofs.Named.{IsName, named_none, length_entries}

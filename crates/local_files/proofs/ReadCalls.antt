@@ -1,7 +1,7 @@
 -- `read` and `getc` begin.
 use Rattle.std.proofs.Common.{◌≡◌, ℕ, ◌+◌, ◌/◌, ◌<◌, ◌≤◌, Bool, true, false, nat_le, List, [], length, refl, sym, ap, ◌∙◌, subst, arith, Option, Some, None, pos, negsuc, if◌then◌else◌, not, slice_index, take, ◌==◌}
 use Rattle.std.proofs.lemmas.Bool.Decides.{nat_tests}
-use Rattle.xinu_model.specs.Files.Systems.{FileSystem, FileEffect, is_open, free_device, refused_effect, replies}
+use Rattle.xinu_model.specs.Files.Systems.{FileSystem, FileEffect, refused_effect, replies}
 use Rattle.file_laws.specs.StoredFiles.{entry_chain}
 use Rattle.local_files.specs.declared.OpenFile.{OpenFile}
 use Rattle.local_files.specs.declared.Files.{Files}
@@ -9,7 +9,7 @@ use Rattle.local_files.specs.declared.FileCall.{FileCall}
 use Rattle.local_files.specs.declared.FileCall.TheVariants.{Read, Getc}
 use Rattle.local_files.specs.Hands.{system, IsOpenOn, IsCall, seen, put_bytes, IsReading, read_count}
 use Rattle.local_files.specs.Steps.{device_at, answered, shown, or_none, named_device}
-use Rattle.local_files.specs.Standing.{Stands, InHand, served, GoesTo, call_bytes, given_bytes}
+use Rattle.local_files.specs.Standing.{Stands, GoesTo, given_bytes}
 use Rattle.local_files.proofs.Devices.{device_some, answered_stands, shown_at, open_size}
 use Rattle.xinu_model.specs.Files.Systems as systems
 use Rattle.local_files.specs.Standing as engine

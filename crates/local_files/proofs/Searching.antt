@@ -15,8 +15,8 @@ use Rattle.lfs_layout.specs.Files.{bare_name}
 use Rattle.xinu_base.specs.declared.files.OpenMode.{OpenMode}
 use Rattle.xinu_model.specs.Files.Modes.{reads, writes}
 use Rattle.xinu_model.specs.Files.Stored.{StoredFile, file_named}
-use Rattle.xinu_model.specs.Files.Systems.{FileSystem, FileEffect, is_open, free_device, refused_effect}
-use Rattle.xinu_model.specs.Files.Opening.{open_stored, with_created}
+use Rattle.xinu_model.specs.Files.Systems.{FileEffect, free_device, refused_effect}
+use Rattle.xinu_model.specs.Files.Opening.{open_stored}
 use Rattle.file_laws.specs.StoredFiles.{stored_files, entry_bytes}
 use Rattle.file_laws.proofs.Names.{name_padded}
 use Rattle.file_laws.proofs.Named.{IsName, named_at}

@@ -8,7 +8,7 @@ use Rattle.lfs_check.proofs.KeepsAll.{either-way}
 use Rattle.lfs_layout.specs.Files.{bare_name}
 use Rattle.lfs_layout.specs.Images.{IsCleanImage}
 use Rattle.xinu_model.specs.Files.Stored.{with_contents}
-use Rattle.xinu_model.specs.Files.Systems.{FileSystem, FileEffect, is_open, free_device, refused_effect, replies}
+use Rattle.xinu_model.specs.Files.Systems.{FileSystem, FileEffect, refused_effect, replies}
 use Rattle.file_laws.specs.StoredFiles.{stored_files, entry_bytes}
 use Rattle.file_laws.proofs.Named.{bytes_sized}
 use Rattle.local_files.specs.declared.OpenFile.{OpenFile}
@@ -18,7 +18,7 @@ use Rattle.local_files.specs.declared.FileCall.TheVariants.{Write, Putc, Truncat
 use Rattle.local_files.specs.Hands.{system, IsOpenOn, AreApart, seen, put_bytes}
 use Rattle.local_files.specs.Putting.{IsPut}
 use Rattle.local_files.specs.Steps.{device_at, answered, with_device, shown, or_none, named_device, moved_to}
-use Rattle.local_files.specs.Standing.{Stands, InHand, served, GoesTo, call_bytes, given_bytes}
+use Rattle.local_files.specs.Standing.{Stands, GoesTo, given_bytes}
 use Rattle.local_files.proofs.Devices.{apart_moved, device_some, set_stands, shown_set, answered_stands, shown_at, some_below}
 use Rattle.xinu_model.specs.Files.Systems as systems
 use Rattle.local_files.specs.Standing as engine
