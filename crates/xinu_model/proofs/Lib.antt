@@ -1,4 +1,3 @@
-pub mod Boot
 pub mod FileOutcomes
 pub mod Heap
 pub mod Outcomes
