@@ -1,5 +1,5 @@
 -- What is behind equal cells, and how many cells some bytes need.
-use Rattle.std.proofs.Common.{◌≡◌, ℕ, zero, suc, ◌+◌, ◌<◌, List, ◌++◌, drop, refl, arith}
+use Rattle.std.proofs.Common.{◌≡◌, ℕ, zero, suc, ◌<◌, List, ◌++◌, drop, refl, arith}
 use Rattle.std.specs.Prelude.{replicate}
 use Rattle.xinu_model.specs.Heap.Cells.{cells_for}
 

@@ -1,5 +1,5 @@
 -- The block after is there, and both have few cells.
-use Rattle.std.proofs.Common.{◌≡◌, ◌+◌, ◌<◌, length, sym, ◌∙◌, arith}
+use Rattle.std.proofs.Common.{sym, ◌∙◌, arith}
 use Rattle.freelist_memory.proofs.Puts.{after_in, put_below, read_within}
 use Rattle.freelist_memory.proofs.list.join_after.Goals as goal
 

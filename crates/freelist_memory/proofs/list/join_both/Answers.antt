@@ -1,5 +1,5 @@
 -- Both blocks are there, and all three have few cells.
-use Rattle.std.proofs.Common.{◌≡◌, ◌+◌, ◌-◌, ◌<◌, length, List, sym, ◌∙◌, subst, arith}
+use Rattle.std.proofs.Common.{◌+◌, ◌-◌, List, sym, ◌∙◌, subst, arith}
 use Rattle.std.specs.Prelude.{slice_set}
 use Rattle.freelist_memory.specs.Gaps.{IsGiven}
 use Rattle.freelist_memory.specs.declared.blocks.FreeBlock.{FreeBlock}
