@@ -34,7 +34,7 @@ impl MemoryHost {
         }
     }
 
-    /// Adds a file, in place of what the name added_view before.
+    /// Adds a file, in place of what the name held before.
     ///
     /// # Errors
     /// `NoMemory`, and the host is as it was.

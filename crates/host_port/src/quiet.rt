@@ -42,7 +42,7 @@ impl QuietMemoryHost {
         }
     }
 
-    /// Adds a file, in place of what the name added_view before.
+    /// Adds a file, in place of what the name held before.
     ///
     /// # Errors
     /// `NoMemory`, and the host is as it was.

@@ -9,7 +9,7 @@
 //! | all other types | plain data: a contract sees their fields |
 //!
 //! `specs/Insert.antt` has the two insertions of the kernel's lists, `specs/Constants.antt` the constants by the book's names,
-//! `specs/Hexadecimal.antt` bytes as digits, `specs/Events.antt` the events. The crate depends on nothing.
+//! `specs/Names.antt` the words of a transcript, `specs/Hexadecimal.antt` bytes as digits. The crate depends on nothing.
 #![tactic(auto)]
 
 mod console;
