@@ -1,0 +1,6 @@
+pub mod Eligible
+pub mod Highest
+pub mod Moves
+pub mod Passes
+pub mod Quantum
+pub mod Resched

@@ -1,0 +1,61 @@
+-- A resched makes a process of the highest priority run.
+use Rattle.std.proofs.Common.{◌≡◌, ◌≢◌, ℕ, ◌<◌, true, false, List, [], ◌∷◌, refl, sym, ap, subst, ◌∙◌, arith, ℤ, ◌≤ℤ◌}
+use Rattle.std.specs.Prelude.{int_lt}
+use Rattle.std.specs.List.{AllByRecursion}
+use Rattle.std.proofs.lemmas.Bool.{cond_both, and_parts}
+use Rattle.std.proofs.lemmas.Int.{ints}
+use Rattle.xinu_base.specs.declared.processes.State.TheVariants.{Free, Current, Ready}
+use Rattle.xinu_model.specs.Process.Scheduling.{is_current, in_state, dispatch_first, preempt, keeps_cpu, resched}
+use Rattle.xinu_model.specs.Sound.Tables.{entries_of, IsFalling, HaveKeys, IsInside}
+use Rattle.xinu_model.specs.Tables.{Tables, process_at, state_at, message_at, entries_without, Nowhere}
+use Rattle.table_laws.proofs.Lists.Counts.{first_has_entry}
+use Rattle.table_laws.proofs.Lists.Orders.{all_filter, all_weaker}
+use Rattle.table_laws.proofs.Tables.MoveTo.{within_table, process_move_same}
+use Rattle.table_laws.proofs.Tables.Scheduling.{ready_of, room_made}
+use Rattle.scheduling_laws.specs.Policy.{IsHighest}
+
+-- a key that is less isn't above
+below : (a k : ℤ) → int_lt a k ≡ true → a ≤ℤ k
+below a k h = grind (arith, ints)
+
+-- a key isn't above itself
+itself : (a : ℤ) → a ≤ℤ a
+itself a = grind (arith, ints)
+
+-- a key that isn't above one that isn't above a third
+through : (a b c : ℤ) → a ≤ℤ b → b ≤ℤ c → a ≤ℤ c
+through a b c h k = grind (arith, ints)
+
+-- who stays has the highest priority
+keeper_highest : (l : List (ℕ × ℤ)) (t : Tables) → IsFalling l → keeps_cpu l t ≡ true
+    → AllByRecursion (λ e. e.1 ≤ℤ (process_at t t.current).priority) l
+keeper_highest [] t falls h = tt
+keeper_highest (x ∷ xs) t falls h =
+    let top = (process_at t t.current).priority in
+    let less = below x.1 top (and_parts (is_current (state_at t t.current)) (int_lt x.1 top) h).1 in
+    (less, all_weaker (λ e. e.1 ≤ℤ x.1) (λ e. e.1 ≤ℤ top) (λ e k. through e.1 x.1 top k less) xs falls.0)
+
+-- so has the first of the ready list, once it is run
+first_highest : (l : List (ℕ × ℤ)) (t : Tables) → IsInside t → l ≡ t.ready → IsHighest (dispatch_first l t)
+first_highest [] t o e = subst (AllByRecursion (λ x. x.1 ≤ℤ (process_at t t.current).priority)) e tt
+first_highest (x ∷ xs) t o e =
+    let falls : IsFalling (x ∷ xs) = subst IsFalling (sym e) o.falling in
+    let keys : HaveKeys t.processes (x ∷ xs) = subst (HaveKeys t.processes) (sym e) o.keys in
+    let all : AllByRecursion (λ b. b.1 ≤ℤ x.1) t.ready = subst (AllByRecursion (λ b. b.1 ≤ℤ x.1)) e (itself x.1, falls.0) in
+    let here : 0 < entries_of x.0 t.ready = subst (λ l. 0 < entries_of x.0 l) e (first_has_entry x xs) in
+    let places = o.ready x.0 in
+    let runs = ready_of (state_at t x.0) (omega arith) in
+    let w = within_table t x.0 o.processes (λ f. let g = sym runs ∙ f in cc) in
+    let u = record t { current = x.0; quantum = 2 } in
+    let y = in_state Current (process_at t x.0) in
+    subst (λ z. AllByRecursion (λ b. b.1 ≤ℤ z.priority) (entries_without x.0 t.ready))
+    (sym (process_move_same u x.0 y (message_at t x.0) Nowhere o.processes w))
+    (subst (λ k. AllByRecursion (λ b. b.1 ≤ℤ k) (entries_without x.0 t.ready)) keys.0
+    (all_filter (λ b. b.1 ≤ℤ x.1) _ t.ready all))
+
+-- After a resched a process of the highest priority runs.
+pub highest_resched : (t : Tables) → IsInside t → IsHighest (resched t)
+highest_resched t o =
+    cond_both (keeps_cpu t.ready t) t (dispatch_first (preempt t).ready (preempt t)) IsHighest
+    (λ h. keeper_highest t.ready t o.falling h)
+    (λ _. first_highest (preempt t).ready (preempt t) (room_made t o).0 refl)

@@ -1,0 +1,17 @@
+use Rattle.xinu_laws.proofs.Preserve.Disks.{sound_boot_on}
+use Rattle.scheduling_laws.proofs.Highest.{highest_carried, highest_boot_on}
+use Rattle.scheduling_laws.proofs.Passes.Events.{carried_happens, carried_run}
+use Rattle.scheduling_laws.proofs.policy.the_highest_runs.Goals as goal
+
+pub returns-clause-start : goal.returns-clause-start
+returns-clause-start c = highest_boot_on
+
+pub returns-clause-event : goal.returns-clause-event
+returns-clause-event c = carried_happens highest_carried
+
+pub returns-clause-run : goal.returns-clause-run
+returns-clause-run c = λ events old lines new end k h runs. (carried_run highest_carried events old lines new end (k, h) runs).1
+
+pub returns-clause-transcript : goal.returns-clause-transcript
+returns-clause-transcript c = λ disks images events last all few disks_sound is.
+    (carried_run highest_carried events is.start is.lines last is.end (sound_boot_on disks images is.start few disks_sound is.boots, highest_boot_on disks images is.start few is.boots) is.runs).1
