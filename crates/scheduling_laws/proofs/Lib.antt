@@ -1,6 +1,9 @@
+pub mod Asleep
 pub mod Eligible
 pub mod Highest
 pub mod Moves
 pub mod Passes
 pub mod Quantum
 pub mod Resched
+pub mod Waiters
+pub mod Waking

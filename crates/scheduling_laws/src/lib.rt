@@ -1,4 +1,15 @@
-//! The scheduling policy: between two events the process of the highest priority runs.
+//! The scheduling policy of the book as laws of the abstract machine: who runs, and when a sleeper wakes.
+//!
+//! Nothing of it runs: each law is the contract of a function that does nothing, proved for all images, states and lists of events.
+//!
+//! | Module | Its laws |
+//! |---|---|
+//! | [`policy`] | the process of the highest priority runs; no ready process is above it; a tick or two are left of its quantum |
+//! | [`sleepers`] | who sleeps wakes on time |
+//!
+//! A predicate on tables that is closed under the moves of calls is kept by each event: `proofs/Moves` says which moves there are, and `Passes`
+//! has the one pass over the calls and the events that all laws share.
 #![tactic(auto)]
 
 pub mod policy;
+pub mod sleepers;

@@ -1,0 +1,93 @@
+-- Who sleeps goes on sleeping as others move; a caller of `sleepms` sleeps until its tick.
+use Rattle.std.proofs.Common.{◌≡◌, ◌≢◌, ℕ, suc, ◌+◌, ◌<◌, ◌==◌, ◌&&◌, Bool, true, false, cond, not, List, [], ◌∷◌, ◌++◌, filter, refl, sym, ap, subst, ◌∙◌, arith, ℤ, pos, Option}
+use Rattle.std.specs.Prelude.{nat_le}
+use Rattle.std.proofs.lemmas.Bool.{cond_both, and_parts, eqb-true, eq-eqb}
+use Rattle.xinu_base.specs.Insert.{sleeper_insert}
+use Rattle.xinu_base.specs.declared.processes.Process.{Process}
+use Rattle.xinu_base.specs.declared.processes.Rest.TheVariants.{Nothing}
+use Rattle.xinu_base.specs.declared.processes.State.TheVariants.{Current, Ready, Sleeping}
+use Rattle.xinu_model.specs.Clock.{sleepms}
+use Rattle.xinu_model.specs.Machine.{Xinu, closed}
+use Rattle.xinu_model.specs.Process.Scheduling.{is_current, in_state, dispatch_first, keeps_cpu, preempt, ready, resched}
+use Rattle.xinu_model.specs.Sound.State.{IsSound}
+use Rattle.xinu_model.specs.Sound.Tables.{entries_of, times, IsInside}
+use Rattle.xinu_model.specs.Tables.{Tables, process_at, state_at, message_at, entries_without, sleepers_in, Place, Nowhere, InReady, InSemaphore, InSleepers, move_to}
+use Rattle.table_laws.proofs.Lists.Counts.{first_has_entry, times-append, times-filter_keeps, times-insert}
+use Rattle.table_laws.proofs.Preserve.{current_within}
+use Rattle.table_laws.proofs.Tables.MoveTo.{state_move_same, state_move_other}
+use Rattle.table_laws.proofs.Tables.Scheduling.{current_of, ready_of, room_made}
+use Rattle.xinu_laws.proofs.Preserve.Messages.{sleepms_preserves}
+use Rattle.scheduling_laws.specs.Sleeping.{SleepsUntil}
+
+-- whether an entry is p's for tick w
+abbrev pub is_entry : ℕ → ℕ → ℕ × ℕ → Bool
+is_entry p w e = (e.0 == p) && (e.1 == w)
+
+-- an entry stays as another process leaves
+entry_stays : (p q w : ℕ) (l : List (ℕ × ℕ)) → p ≢ q → 0 < times (is_entry p w) l → 0 < times (is_entry p w) (entries_without q l)
+entry_stays p q w l n h =
+    subst (λ k. 0 < k) (sym (times-filter_keeps (is_entry p w) (λ e. not (e.0 == q))
+    (λ x b. other x (eqb-true x.0 p (and_parts (x.0 == p) (x.1 == w) b).0)) l)) h
+  where
+    other : (x : ℕ × ℕ) → x.0 ≡ p → not (x.0 == q) ≡ true
+    other x e = cond_both (x.0 == q) true false (λ b. not (x.0 == q) ≡ true) (λ b. absurd (n (sym e ∙ eqb-true x.0 q b))) (λ b. ap not b)
+
+-- and as another comes
+entry_in : (place : Place) (p q w : ℕ) (l : List (ℕ × ℕ)) → 0 < times (is_entry p w) l → 0 < times (is_entry p w) (sleepers_in place q l)
+entry_in (InSleepers wake) p q w l h =
+    let n = times (is_entry p w) l in
+    subst (λ k. 0 < k) (sym (times-insert (is_entry p w) (λ x. nat_le x.1 wake) (q, wake) l))
+    (cond_both (is_entry p w (q, wake)) (suc n) n (λ k. 0 < k) (λ _. omega arith) (λ _. h))
+entry_in Nowhere p q w l h = h
+entry_in InReady p q w l h = h
+entry_in (InSemaphore sem) p q w l h = h
+
+-- Who sleeps still does as another process moves,
+pub sleeps_moved : (t : Tables) (p q w : ℕ) (x : Process) (m : Option ℕ) (place : Place) → p ≢ q → SleepsUntil p w t
+    → SleepsUntil p w (move_to q x m place t)
+sleeps_moved t p q w x m place n z =
+    (state_move_other t p q x m place n ∙ z.0, entry_in place p q w (entries_without q t.sleepers) (entry_stays p q w t.sleepers n z.1))
+
+-- and after a resched.
+pub sleeps_resched : (t : Tables) (p w : ℕ) → IsInside t → SleepsUntil p w t → SleepsUntil p w (resched t)
+sleeps_resched t p w o z =
+    let c = t.current in
+    let room : SleepsUntil p w (preempt t) = cond_both (is_current (state_at t c)) (ready c t) t (SleepsUntil p w)
+    (λ b. sleeps_moved t p c w (in_state Ready (process_at t c)) (message_at t c) InReady
+    (λ e. let f = sym z.0 ∙ ap (state_at t) e ∙ current_of (state_at t c) b in cc) z)
+    (λ _. z) in
+    cond_both (keeps_cpu t.ready t) t (dispatch_first (preempt t).ready (preempt t)) (SleepsUntil p w) (λ _. z)
+    (λ _. dispatched (preempt t).ready (preempt t) (room_made t o).0 refl room)
+  where
+    dispatched : (l : List (ℕ × ℤ)) (u : Tables) → IsInside u → l ≡ u.ready → SleepsUntil p w u → SleepsUntil p w (dispatch_first l u)
+    dispatched [] u i e y = y
+    dispatched (x ∷ xs) u i e y =
+        let here : 0 < entries_of x.0 u.ready = subst (λ l. 0 < entries_of x.0 l) e (first_has_entry x xs) in
+        let places = i.ready x.0 in
+        let is = ready_of (state_at u x.0) (omega arith) in
+        sleeps_moved (record u { current = x.0; quantum = 2 }) p x.0 w (in_state Current (process_at u x.0)) (message_at u x.0) Nowhere
+        (λ f. let g = sym y.0 ∙ ap (state_at u) f ∙ is in cc) y
+
+-- an entry is in a list into which it came
+entry_comes : (p w : ℕ) (before after : List (ℕ × ℕ)) → 0 < times (is_entry p w) (before ++ (p, w) ∷ after)
+entry_comes p w before after =
+    let both : (p == p) && (w == w) ≡ true = ap (λ b. b && (w == w)) (eq-eqb p p refl) ∙ eq-eqb w w refl in
+    let more = times (is_entry p w) after in
+    let first : 0 < times (is_entry p w) ((p, w) ∷ after) = subst (λ b. 0 < cond b (suc more) more) (sym both) (omega arith) in
+    let sum = times-append (is_entry p w) before ((p, w) ∷ after) in
+    omega arith
+
+-- Call 26.
+pub falls_asleep : (n : ℕ) (s : Xinu) → IsSound s → s.tables.current ≢ 0
+    → SleepsUntil s.tables.current (s.tables.ticks + suc n) (closed (sleepms (pos (suc n)) s))
+falls_asleep n s k not_null =
+    let t = s.tables in
+    let c = t.current in
+    let wake = t.ticks + suc n in
+    let x = record (process_at t c) { state = Sleeping; rest = Nothing } in
+    let u = move_to c x (message_at t c) (InSleepers wake) t in
+    let o : IsInside u = (sleepms_preserves (pos (suc n)) s (record { tables = k.tables; harts = k.harts; not_null = not_null })).tables in
+    sleeps_resched u c wake o (
+      state_move_same t c x (message_at t c) (InSleepers wake) k.tables.inside.processes (current_within t k.tables),
+      entry_comes c wake (filter (λ e. nat_le e.1 wake) (entries_without c t.sleepers)) _,
+    )

@@ -1,0 +1,29 @@
+//! When a sleeper wakes.
+
+ghost use Rattle.std.specs.Prelude.{◌≡◌, ◌≢◌, ◌⊎◌, ◌+◌, ◌<◌, ℕ, suc, List, false, pos};
+ghost use Rattle.xinu_base.specs.declared.events.Event.{Event};
+ghost use Rattle.xinu_base.specs.declared.lines.TranscriptLine.{TranscriptLine};
+ghost use Rattle.xinu_model.specs.Clock.{sleepms, ticked};
+ghost use Rattle.xinu_model.specs.Events.{Happens};
+ghost use Rattle.xinu_model.specs.Machine.{Xinu, closed};
+ghost use Rattle.xinu_model.specs.Sound.State.{IsSound};
+ghost use Rattle.xinu_model.specs.Sound.Tables.{CanRun, IsInside};
+ghost use Rattle.xinu_model.specs.Tables.{Tables, is_free, state_at};
+ghost use Rattle.scheduling_laws.specs.Sleeping.{SleepsUntil};
+
+/// Who calls `sleepms n` at tick t sleeps until tick t + n.
+pub fn callers_fall_asleep()
+    ensures { (n : ℕ) (s : Xinu) → IsSound s → s.tables.current ≢ 0 →
+        SleepsUntil s.tables.current (s.tables.ticks + suc n) (closed (sleepms (pos (suc n)) s)) }
+{}
+
+/// A sleeper's tick is still to come.
+pub fn sleepers_wake_later()
+    ensures { (p w : ℕ) (t : Tables) → IsInside t → SleepsUntil p w t → t.ticks < w }
+{}
+
+/// In its tick a sleeper becomes able to run.
+pub fn ticks_wake_sleepers()
+    ensures { (p w : ℕ) (s : Xinu) → IsSound s → SleepsUntil p w s.tables → w ≡ s.tables.ticks + 1 →
+        ((ticked s).state.tables.ticks ≡ w) × CanRun (state_at (ticked s).state.tables p) }
+{}
