@@ -17,6 +17,7 @@ use Rattle.table_laws.proofs.Preserve.{current_within}
 use Rattle.table_laws.proofs.Tables.MoveTo.{state_move_same, state_move_other}
 use Rattle.table_laws.proofs.Tables.Scheduling.{current_of, ready_of, room_made}
 use Rattle.xinu_laws.proofs.Preserve.Messages.{sleepms_preserves}
+use Rattle.scheduling_laws.proofs.Resched.{by_resched}
 use Rattle.scheduling_laws.specs.Sleeping.{SleepsUntil}
 
 -- whether an entry is p's for tick w
@@ -51,22 +52,11 @@ sleeps_moved t p q w x m place n z =
 -- and after a resched.
 pub sleeps_resched : (t : Tables) (p w : ℕ) → IsInside t → SleepsUntil p w t → SleepsUntil p w (resched t)
 sleeps_resched t p w o z =
-    let c = t.current in
-    let room : SleepsUntil p w (preempt t) = cond_both (is_current (state_at t c)) (ready c t) t (SleepsUntil p w)
-    (λ b. sleeps_moved t p c w (in_state Ready (process_at t c)) (message_at t c) InReady
-    (λ e. let f = sym z.0 ∙ ap (state_at t) e ∙ current_of (state_at t c) b in cc) z)
-    (λ _. z) in
-    cond_both (keeps_cpu t.ready t) t (dispatch_first (preempt t).ready (preempt t)) (SleepsUntil p w) (λ _. z)
-    (λ _. dispatched (preempt t).ready (preempt t) (room_made t o).0 refl room)
-  where
-    dispatched : (l : List (ℕ × ℤ)) (u : Tables) → IsInside u → l ≡ u.ready → SleepsUntil p w u → SleepsUntil p w (dispatch_first l u)
-    dispatched [] u i e y = y
-    dispatched (x ∷ xs) u i e y =
-        let here : 0 < entries_of x.0 u.ready = subst (λ l. 0 < entries_of x.0 l) e (first_has_entry x xs) in
-        let places = i.ready x.0 in
-        let is = ready_of (state_at u x.0) (omega arith) in
-        sleeps_moved (record u { current = x.0; quantum = 2 }) p x.0 w (in_state Current (process_at u x.0)) (message_at u x.0) Nowhere
-        (λ f. let g = sym y.0 ∙ ap (state_at u) f ∙ is in cc) y
+    by_resched (SleepsUntil p w) t o z
+    (λ e. sleeps_moved t p t.current w (in_state Ready (process_at t t.current)) (message_at t t.current) InReady
+    (λ f. let g = sym z.0 ∙ ap (state_at t) f ∙ e in cc) z)
+    (λ u q i e y. sleeps_moved (record u { current = q; quantum = 2 }) p q w (in_state Current (process_at u q)) (message_at u q) Nowhere
+    (λ f. let g = sym y.0 ∙ ap (state_at u) f ∙ e in cc) y)
 
 -- an entry is in a list into which it came
 entry_comes : (p w : ℕ) (before after : List (ℕ × ℕ)) → 0 < times (is_entry p w) (before ++ (p, w) ∷ after)

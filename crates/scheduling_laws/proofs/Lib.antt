@@ -6,4 +6,5 @@ pub mod Passes
 pub mod Quantum
 pub mod Resched
 pub mod Waiters
+pub mod Wakes
 pub mod Waking

@@ -5,13 +5,13 @@ use Rattle.std.specs.List.{AllByRecursion}
 use Rattle.std.proofs.lemmas.Bool.{cond_both, and_parts}
 use Rattle.std.proofs.lemmas.Int.{ints}
 use Rattle.xinu_base.specs.declared.processes.State.TheVariants.{Free, Current, Ready}
-use Rattle.xinu_model.specs.Process.Scheduling.{is_current, in_state, dispatch_first, preempt, keeps_cpu, resched}
+use Rattle.xinu_model.specs.Process.Scheduling.{is_current, in_state, dispatch, dispatch_first, preempt, keeps_cpu, ready, resched}
 use Rattle.xinu_model.specs.Sound.Tables.{entries_of, IsFalling, HaveKeys, IsInside}
 use Rattle.xinu_model.specs.Tables.{Tables, process_at, state_at, message_at, entries_without, Nowhere}
 use Rattle.table_laws.proofs.Lists.Counts.{first_has_entry}
 use Rattle.table_laws.proofs.Lists.Orders.{all_filter, all_weaker}
 use Rattle.table_laws.proofs.Tables.MoveTo.{within_table, process_move_same}
-use Rattle.table_laws.proofs.Tables.Scheduling.{ready_of, room_made}
+use Rattle.table_laws.proofs.Tables.Scheduling.{current_of, ready_of, room_made}
 use Rattle.scheduling_laws.specs.Policy.{IsHighest}
 
 -- a key that is less isn't above
@@ -59,3 +59,18 @@ highest_resched t o =
     cond_both (keeps_cpu t.ready t) t (dispatch_first (preempt t).ready (preempt t)) IsHighest
     (λ h. keeper_highest t.ready t o.falling h)
     (λ _. first_highest (preempt t).ready (preempt t) (room_made t o).0 refl)
+
+-- A resched is these moves: the current process becomes ready if it still runs, and one that is ready is run.
+pub by_resched : (P : Tables → Type 0) (t : Tables) → IsInside t → P t → (state_at t t.current ≡ Current → P (ready t.current t))
+    → ((u : Tables) (q : ℕ) → IsInside u → state_at u q ≡ Ready → P u → P (dispatch q u)) → P (resched t)
+by_resched P t o h makes_room runs =
+    cond_both (keeps_cpu t.ready t) t (dispatch_first (preempt t).ready (preempt t)) P (λ _. h)
+    (λ _. dispatched (preempt t).ready (preempt t) (room_made t o).0 refl
+    (cond_both (is_current (state_at t t.current)) (ready t.current t) t P (λ b. makes_room (current_of (state_at t t.current) b)) (λ _. h)))
+  where
+    dispatched : (l : List (ℕ × ℤ)) (u : Tables) → IsInside u → l ≡ u.ready → P u → P (dispatch_first l u)
+    dispatched [] u i e k = k
+    dispatched (x ∷ xs) u i e k =
+        let here : 0 < entries_of x.0 u.ready = subst (λ l. 0 < entries_of x.0 l) e (first_has_entry x xs) in
+        let places = i.ready x.0 in
+        runs u x.0 i (ready_of (state_at u x.0) (omega arith)) k

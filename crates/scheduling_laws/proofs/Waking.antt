@@ -1,16 +1,15 @@
 -- A sleeper can run once its tick has come, and sleeps no longer than that.
-use Rattle.std.proofs.Common.{◌≡◌, ◌≢◌, ◌⊎◌, inl, inr, ⊎_elim, ℕ, suc, ◌+◌, ◌-◌, ◌<◌, ◌==◌, ◌&&◌, Bool, true, false, cond, not, List, [], ◌∷◌, filter, length, map, set, refl, sym, ap, subst, ◌∙◌, arith, ℤ}
+use Rattle.std.proofs.Common.{◌≡◌, ◌≢◌, ◌⊎◌, inl, inr, ⊎_elim, ℕ, suc, ◌+◌, ◌-◌, ◌<◌, ◌≤◌, ◌==◌, ◌&&◌, Bool, true, false, cond, not, List, [], ◌∷◌, filter, length, map, set, refl, sym, ap, subst, ◌∙◌, arith, ℤ}
 use Rattle.std.specs.Prelude.{nat_lt}
 use Rattle.std.specs.List.{AllByRecursion}
 use Rattle.std.proofs.Math.ListN.{length-set}
-use Rattle.std.proofs.lemmas.Bool.{cond_both, and_parts, both_ways, eqb-true}
+use Rattle.std.proofs.lemmas.Bool.{cond_both, and_parts, both_ways, eqb-true, eq-eqb}
 use Rattle.xinu_base.specs.declared.processes.Process.{Process}
 use Rattle.xinu_base.specs.declared.processes.State.TheVariants.{Free, Current, Ready, Sleeping}
 use Rattle.xinu_model.specs.Clock.{a_tick_later, due, quantum_falls, ticked, wakeup}
 use Rattle.xinu_model.specs.Machine.{Xinu, start}
 use Rattle.xinu_model.specs.Process.Scheduling.{is_current, in_state, dispatch_first, keeps_cpu, preempt, ready, ready_all, resched}
-use Rattle.xinu_model.specs.Sound.State.{IsSound}
-use Rattle.xinu_model.specs.Sound.Tables.{entries_of, times, CanRun, IsInside, IsSoundTables}
+use Rattle.xinu_model.specs.Sound.Tables.{entries_of, sleeping_places, times, CanRun, IsInside, IsSoundTables}
 use Rattle.xinu_model.specs.Tables.{Tables, process_at, state_at, message_at, Place, Nowhere, InReady, move_to}
 use Rattle.std.proofs.Common.{Option}
 use Rattle.table_laws.proofs.Lists.Counts.{first_has_entry}
@@ -18,6 +17,8 @@ use Rattle.table_laws.proofs.Tables.MoveTo.{by_number, within_table, state_move_
 use Rattle.table_laws.proofs.Tables.Scheduling.{current_of, ready_of, room_made, inside_quantum}
 use Rattle.table_laws.proofs.Tables.Ticks.{sound_later, ticks_ready}
 use Rattle.table_laws.proofs.Tables.Unblock.{IsOneOf, unblock_all_ready}
+use Rattle.scheduling_laws.proofs.Resched.{by_resched}
+use Rattle.scheduling_laws.proofs.Asleep.{is_entry, sleeps_moved, sleeps_resched}
 use Rattle.scheduling_laws.specs.Sleeping.{SleepsUntil}
 
 -- a process that can run still can after one went to a state in which it can
@@ -30,22 +31,11 @@ can_run_moved t p q x m place e w new h =
 -- or after a resched
 can_run_resched : (t : Tables) (p : ℕ) → IsInside t → CanRun (state_at t p) → CanRun (state_at (resched t) p)
 can_run_resched t p o h =
-    let c = t.current in
-    let room : CanRun (state_at (preempt t) p) = cond_both (is_current (state_at t c)) (ready c t) t (λ u. CanRun (state_at u p))
-    (λ b. let e = current_of (state_at t c) b in
-    can_run_moved t p c (in_state Ready (process_at t c)) (message_at t c) InReady o.processes (within_table t c o.processes (λ f. let g = sym e ∙ f in cc)) (inr refl) h)
-    (λ _. h) in
-    cond_both (keeps_cpu t.ready t) t (dispatch_first (preempt t).ready (preempt t)) (λ u. CanRun (state_at u p)) (λ _. h)
-    (λ _. dispatched (preempt t).ready (preempt t) (room_made t o).0 refl room)
-  where
-    dispatched : (l : List (ℕ × ℤ)) (u : Tables) → IsInside u → l ≡ u.ready → CanRun (state_at u p) → CanRun (state_at (dispatch_first l u) p)
-    dispatched [] u i e k = k
-    dispatched (x ∷ xs) u i e k =
-        let here : 0 < entries_of x.0 u.ready = subst (λ l. 0 < entries_of x.0 l) e (first_has_entry x xs) in
-        let places = i.ready x.0 in
-        let is = ready_of (state_at u x.0) (omega arith) in
-        can_run_moved (record u { current = x.0; quantum = 2 }) p x.0 (in_state Current (process_at u x.0)) (message_at u x.0) Nowhere i.processes
-        (within_table u x.0 i.processes (λ f. let g = sym is ∙ f in cc)) (inl refl) k
+    by_resched (λ u. CanRun (state_at u p)) t o h
+    (λ e. can_run_moved t p t.current (in_state Ready (process_at t t.current)) (message_at t t.current) InReady o.processes
+    (within_table t t.current o.processes (λ f. let g = sym e ∙ f in cc)) (inr refl) h)
+    (λ u q i e k. can_run_moved (record u { current = q; quantum = 2 }) p q (in_state Current (process_at u q)) (message_at u q) Nowhere i.processes
+    (within_table u q i.processes (λ f. let g = sym e ∙ f in cc)) (inl refl) k)
 
 -- who is ready stays ready as others become ready
 stays_ready : (ps : List ℕ) (t : Tables) (p : ℕ) → length t.processes ≡ 64 → p < 64 → state_at t p ≡ Ready → state_at (ready_all ps t) p ≡ Ready
@@ -84,34 +74,28 @@ can_run_falls t p o h =
     (λ _. h) (λ _. can_run_resched (record t { quantum = 2 }) p (inside_quantum t 2 o) h)
 
 -- a resched keeps the ticks
-ticks_resched : (t : Tables) → (resched t).ticks ≡ t.ticks
-ticks_resched t =
-    let room = preempt t in
-    cond_both (keeps_cpu t.ready t) t (dispatch_first room.ready room) (λ u. u.ticks ≡ t.ticks) (λ _. refl)
-    (λ _. dispatched room.ready room
-    ∙ cond_both (is_current (state_at t t.current)) (ready t.current t) t (λ u. u.ticks ≡ t.ticks) (λ _. refl) (λ _. refl))
-  where
-    dispatched : (l : List (ℕ × ℤ)) (u : Tables) → (dispatch_first l u).ticks ≡ u.ticks
-    dispatched [] u = refl
-    dispatched (e ∷ es) u = refl
+ticks_resched : (t : Tables) → IsInside t → (resched t).ticks ≡ t.ticks
+ticks_resched t o = by_resched (λ u. u.ticks ≡ t.ticks) t o refl (λ e. refl) (λ u q i e k. k)
 
 -- and a tick moves them on by one
-ticks_ticked : (s : Xinu) → (ticked s).state.tables.ticks ≡ s.tables.ticks + 1
-ticks_ticked s =
+ticks_ticked : (s : Xinu) → IsSoundTables s.tables → (ticked s).state.tables.ticks ≡ s.tables.ticks + 1
+ticks_ticked s k =
+    let ps = due (s.tables.ticks + 1) s.tables.sleepers in
     let d = wakeup s in
     let t = d.state.tables in
     let later = record t { ticks = t.ticks + 1 } in
     let u = a_tick_later d.owes_resched t in
     let same : t.ticks ≡ s.tables.ticks =
-    ap (λ (x : Xinu). x.tables.ticks) (unblock_all_ready (due (s.tables.ticks + 1) s.tables.sleepers) (start s))
-    ∙ ticks_ready (due (s.tables.ticks + 1) s.tables.sleepers) s.tables in
+    ap (λ (x : Xinu). x.tables.ticks) (unblock_all_ready ps (start s)) ∙ ticks_ready ps s.tables in
+    let after : (owes : Bool) → IsInside (a_tick_later owes t) =
+    λ owes. subst (λ (x : Xinu). IsInside (a_tick_later owes x.tables)) (sym (unblock_all_ready ps (start s))) (sound_later owes s.tables k).inside in
     cond_both (nat_lt 1 u.quantum) (record u { quantum = u.quantum - 1 }) (resched (record u { quantum = 2 })) (λ v. v.ticks ≡ u.ticks)
-    (λ _. refl) (λ _. ticks_resched (record u { quantum = 2 }))
-    ∙ cond_both d.owes_resched (resched later) later (λ v. v.ticks ≡ t.ticks + 1) (λ _. ticks_resched later) (λ _. refl)
+    (λ _. refl) (λ _. ticks_resched (record u { quantum = 2 }) (inside_quantum u 2 (after d.owes_resched)))
+    ∙ cond_both d.owes_resched (resched later) later (λ v. v.ticks ≡ t.ticks + 1) (λ _. ticks_resched later (after false)) (λ _. refl)
     ∙ ap (λ n. n + 1) same
 
 -- A sleeper can run after its tick.
-pub wakes_in_time : (p w : ℕ) (s : Xinu) → IsSound s → SleepsUntil p w s.tables → w ≡ s.tables.ticks + 1
+pub wakes_in_time : (p w : ℕ) (s : Xinu) → IsSoundTables s.tables → SleepsUntil p w s.tables → w ≡ s.tables.ticks + 1
     → ((ticked s).state.tables.ticks ≡ w) × CanRun (state_at (ticked s).state.tables p)
 wakes_in_time p w s k z e =
     let t = s.tables in
@@ -119,15 +103,15 @@ wakes_in_time p w s k z e =
     let d = wakeup s in
     let u = ready_all ps t in
     let same = unblock_all_ready ps (start s) in
-    let within = within_table t p k.tables.inside.processes (λ f. let g = sym z.0 ∙ f in cc) in
+    let within = within_table t p k.inside.processes (λ f. let g = sym z.0 ∙ f in cc) in
     let one = subst (λ n. IsOneOf p (due n t.sleepers)) e (is_due p w t.sleepers z.1) in
-    let is : CanRun (state_at u p) = inr (becomes_ready ps t p k.tables.inside.processes within one) in
+    let is : CanRun (state_at u p) = inr (becomes_ready ps t p k.inside.processes within one) in
     let v = record u { ticks = u.ticks + 1 } in
     let all : (owes : Bool) → CanRun (state_at (a_tick_later owes u) p) = λ owes. cond_both owes (resched v) v (λ x. CanRun (state_at x p))
-    (λ _. can_run_resched v p (sound_later false t k.tables).inside is) (λ _. is) in (
-      ticks_ticked s ∙ sym e,
+    (λ _. can_run_resched v p (sound_later false t k).inside is) (λ _. is) in (
+      ticks_ticked s k ∙ sym e,
       can_run_falls (a_tick_later d.owes_resched d.state.tables) p
-          (subst (λ (x : Xinu). IsInside (a_tick_later d.owes_resched x.tables)) (sym same) (sound_later d.owes_resched t k.tables).inside)
+          (subst (λ (x : Xinu). IsInside (a_tick_later d.owes_resched x.tables)) (sym same) (sound_later d.owes_resched t k).inside)
           (subst (λ (x : Xinu). CanRun (state_at (a_tick_later d.owes_resched x.tables) p)) (sym same) (all d.owes_resched)),
     )
 
@@ -143,3 +127,73 @@ of_entry P p w (x ∷ xs) all =
 -- Who sleeps wakes later.
 pub sleeps_no_longer : (p w : ℕ) (t : Tables) → IsInside t → SleepsUntil p w t → t.ticks < w
 sleeps_no_longer p w t o z = let f = of_entry (λ e. t.ticks < e.1) p w t.sleepers o.later z.1 in subst (λ n. t.ticks < n) f.1 f.2
+
+-- an entry of p with a tick is one of its entries, and one with another tick another
+two_entries : (p v w : ℕ) (l : List (ℕ × ℕ)) → v ≢ w → times (is_entry p v) l + times (is_entry p w) l ≤ entries_of p l
+two_entries p v w [] n = omega arith
+two_entries p v w (x ∷ xs) n =
+    let a = times (is_entry p v) xs in
+    let b = times (is_entry p w) xs in
+    let c = entries_of p xs in
+    let rest : a + b ≤ c = two_entries p v w xs n in
+    cond_both (x.0 == p) (suc c) c (λ k. cond ((x.0 == p) && (x.1 == v)) (suc a) a + cond ((x.0 == p) && (x.1 == w)) (suc b) b ≤ k)
+    (λ e. one (x.1 == v) (x.1 == w) (x.0 == p) a b c e (λ f g. n (sym (eqb-true x.1 v f) ∙ eqb-true x.1 w g)) rest)
+    (λ e. none (x.1 == v) (x.1 == w) (x.0 == p) a b c e rest)
+  where
+    one : (f g h : Bool) (a b c : ℕ) → h ≡ true → (f ≡ true → g ≡ true → ⊥) → a + b ≤ c
+        → cond (h && f) (suc a) a + cond (h && g) (suc b) b ≤ suc c
+    one true true h a b c e apart r = absurd (apart refl refl)
+    one true false true a b c e apart r = omega arith
+    one false g true a b c e apart r = cond_both g (suc b) b (λ k. a + k ≤ suc c) (λ _. omega arith) (λ _. omega arith)
+    one f g false a b c e apart r = cc
+
+    none : (f g h : Bool) (a b c : ℕ) → h ≡ false → a + b ≤ c → cond (h && f) (suc a) a + cond (h && g) (suc b) b ≤ c
+    none f g false a b c e r = r
+    none f g true a b c e r = cc
+
+-- who is due has an entry with that tick
+has_due : (p w : ℕ) (l : List (ℕ × ℕ)) → IsOneOf p (due w l) → 0 < times (is_entry p w) l
+has_due p w [] = λ i. absurd i
+has_due p w (x ∷ xs) =
+    let more = times (is_entry p w) xs in
+    let others = filter (λ e. e.1 == w) xs in
+    cond_both (x.1 == w) (x ∷ others) others (λ l. IsOneOf p (map (λ e. e.0) l) → 0 < cond ((x.0 == p) && (x.1 == w)) (suc more) more)
+    (λ b i. ⊎_elim
+    (λ (f : p ≡ x.0). subst (λ c. 0 < cond (c && (x.1 == w)) (suc more) more) (sym (eq-eqb x.0 p (sym f)))
+    (subst (λ c. 0 < cond c (suc more) more) (sym b) (omega arith)))
+    (λ (j : IsOneOf p (map (λ e. e.0) others)). one_more ((x.0 == p) && (x.1 == w)) more (has_due p w xs j)) i)
+    (λ b i. one_more ((x.0 == p) && (x.1 == w)) more (has_due p w xs i))
+  where
+    one_more : (c : Bool) (n : ℕ) → 0 < n → 0 < cond c (suc n) n
+    one_more true n h = omega arith
+    one_more false n h = h
+
+-- who isn't among those who become ready sleeps on
+sleeps_on : (ps : List ℕ) (t : Tables) (p w : ℕ) → (IsOneOf p ps → ⊥) → SleepsUntil p w t → SleepsUntil p w (ready_all ps t)
+sleeps_on [] t p w n z = z
+sleeps_on (q ∷ ps) t p w n z =
+    sleeps_on ps (ready q t) p w (λ i. n (inr i))
+    (sleeps_moved t p q w (in_state Ready (process_at t q)) (message_at t q) InReady (λ e. n (inl e)) z)
+
+-- A sleeper whose tick is another sleeps on.
+pub sleeps_through : (p w : ℕ) (s : Xinu) → IsSoundTables s.tables → SleepsUntil p w s.tables → w ≢ s.tables.ticks + 1
+    → SleepsUntil p w (ticked s).state.tables
+sleeps_through p w s k z n =
+    let t = s.tables in
+    let ps = due (t.ticks + 1) t.sleepers in
+    let d = wakeup s in
+    let u = ready_all ps t in
+    let same = unblock_all_ready ps (start s) in
+    let once : entries_of p t.sleepers ≡ 1 = k.inside.sleeping p ∙ ap sleeping_places z.0 in
+    let both = two_entries p (t.ticks + 1) w t.sleepers (λ e. n (sym e)) in
+    let here = z.1 in
+    let still : SleepsUntil p w u = sleeps_on ps t p w (λ i. let there = has_due p (t.ticks + 1) t.sleepers i in absurd (omega arith)) z in
+    let v = record u { ticks = u.ticks + 1 } in
+    let all : (owes : Bool) → SleepsUntil p w (a_tick_later owes u) =
+    λ owes. cond_both owes (resched v) v (SleepsUntil p w) (λ _. sleeps_resched v p w (sound_later false t k).inside still) (λ _. still) in
+    let x = a_tick_later d.owes_resched d.state.tables in
+    let o : IsInside x =
+    subst (λ (y : Xinu). IsInside (a_tick_later d.owes_resched y.tables)) (sym same) (sound_later d.owes_resched t k).inside in
+    let y : SleepsUntil p w x = subst (λ (y : Xinu). SleepsUntil p w (a_tick_later d.owes_resched y.tables)) (sym same) (all d.owes_resched) in
+    cond_both (nat_lt 1 x.quantum) (record x { quantum = x.quantum - 1 }) (resched (record x { quantum = 2 })) (SleepsUntil p w)
+    (λ _. y) (λ _. sleeps_resched (record x { quantum = 2 }) p w (inside_quantum x 2 o) y)

@@ -3,7 +3,7 @@
 ghost use Rattle.std.specs.Prelude.{◌≡◌, ◌≢◌, ◌⊎◌, ◌+◌, ◌<◌, ℕ, suc, List, false, pos};
 ghost use Rattle.xinu_base.specs.declared.events.Event.{Event};
 ghost use Rattle.xinu_base.specs.declared.lines.TranscriptLine.{TranscriptLine};
-ghost use Rattle.xinu_model.specs.Clock.{sleepms, ticked};
+ghost use Rattle.xinu_model.specs.Clock.{sleepms};
 ghost use Rattle.xinu_model.specs.Events.{Happens};
 ghost use Rattle.xinu_model.specs.Machine.{Xinu, closed};
 ghost use Rattle.xinu_model.specs.Sound.State.{IsSound};
@@ -22,8 +22,9 @@ pub fn sleepers_wake_later()
     ensures { (p w : ℕ) (t : Tables) → IsInside t → SleepsUntil p w t → t.ticks < w }
 {}
 
-/// In its tick a sleeper becomes able to run.
-pub fn ticks_wake_sleepers()
-    ensures { (p w : ℕ) (s : Xinu) → IsSound s → SleepsUntil p w s.tables → w ≡ s.tables.ticks + 1 →
-        ((ticked s).state.tables.ticks ≡ w) × CanRun (state_at (ticked s).state.tables p) }
+/// Through each event a sleeper sleeps on until its tick, in which it becomes able to run: not before and not later, unless it is killed.
+pub fn sleepers_wake_on_time()
+    ensures { (p w : ℕ) (old : Xinu) (e : Event) (lines : List TranscriptLine) (new : Xinu) → IsSound old → Happens old e lines new →
+        SleepsUntil p w old.tables → is_free (state_at new.tables p) ≡ false →
+        ((new.tables.ticks ≡ w) × CanRun (state_at new.tables p)) ⊎ ((new.tables.ticks < w) × SleepsUntil p w new.tables) }
 {}
