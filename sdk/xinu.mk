@@ -7,6 +7,7 @@
 #	include ../../sdk/xinu.mk
 #
 # PLACE is where a program lies in RAM, 0 if it isn't said. Two programs of one run may not overlap.
+# `make check` runs the program of a lab and says how far it is done.
 # What a program has beside NAME.c, sources, objects or libraries, is named as what it is made from:
 #
 #	sender.elf: queue.c table.o libqueue.a
@@ -23,7 +24,7 @@ XFLAGS = -march=rv32i -mabi=ilp32 -msmall-data-limit=0 -O2 -Wall -Wextra -std=gn
 XLINK = -T $(SDK)xinu.ld -Wl,--defsym=PLACE=$(PLACE) -Wl,--build-id=none -Wl,-z,max-page-size=4
 
 .SUFFIXES:
-.PHONY: all clean
+.PHONY: all check clean
 
 .DEFAULT_GOAL := all
 all: $(PROGRAMS:=.elf)
@@ -33,6 +34,10 @@ all: $(PROGRAMS:=.elf)
 
 %.o: %.c $(SDK)xinu.h
 	$(CROSS)gcc $(XFLAGS) -c -o $@ $<
+
+# A lab has a schedule and a table: what the console showed, how the run ended, and what is wrong.
+check: all
+	@$(SDK)lab schedule.txt lines.txt $(PROGRAMS:=.elf)
 
 clean:
 	rm -f $(PROGRAMS:=.elf) *.xim *.o
