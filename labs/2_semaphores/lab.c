@@ -8,9 +8,10 @@ XINU_IMAGE(30, 1024);
 #define	PHASES	2
 
 sid32	arrived, go;			/* For you: nothing uses them yet	*/
+sid32	ended;				/* Who has ended both phases		*/
 
 /*------------------------------------------------------------------------
- *  worker  -  Work n ticks in each phase, and put the phase's digit
+ *  worker  -  Work 2n - 1 ticks in each phase, and put the phase's digit
  *------------------------------------------------------------------------
  */
 process	worker(
@@ -20,9 +21,10 @@ process	worker(
 	int32	phase;
 
 	for (phase = 1; phase <= PHASES; phase++) {
-		sleepms(n);
+		sleepms(2 * n - 1);
 		putc(CONSOLE, '0' + phase);
 	}
+	signal(ended);
 	return OK;
 }
 
@@ -46,10 +48,13 @@ process	main(void)
 
 	arrived = semcreate(0);
 	go = semcreate(0);
+	ended = semcreate(0);
 	for (i = 1; i <= WORKERS; i++) {
 		resume(create(worker, 1024, 20, "worker", i, 0));
 	}
-	sleepms(2 * WORKERS + 2);
+	for (i = 1; i <= WORKERS; i++) {
+		wait(ended);
+	}
 
 	resume(create(late, 1024, 40, "late", 0, 0));
 	printf(" %d", semcount(go));
@@ -57,6 +62,7 @@ process	main(void)
 	resume(create(late, 1024, 40, "late", 0, 0));
 	semdelete(go);
 	semdelete(arrived);
+	semdelete(ended);
 	sleepms(1);
 	return OK;
 }
