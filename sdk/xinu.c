@@ -1,4 +1,4 @@
-/* xinu.c - memcpy, memmove, memset, memcmp, strlen, fprintf */
+/* xinu.c - memcpy, memmove, memset, memcmp, strlen, strcmp, strncpy, atoi, fprintf, sprintf, puts */
 
 #include "xinu.h"
 #include <stdarg.h>
@@ -99,11 +99,77 @@ uint32	strlen(
 	return n;
 }
 
-/* What fprintf has ready for a device: it is written when it is full, and at the end */
+/*------------------------------------------------------------------------
+ *  strcmp  -  Compare two texts: negative, 0 or positive as a is below,
+ *		  equal to or above b at the first difference
+ *------------------------------------------------------------------------
+ */
+int32	strcmp(
+	  const char	*a,		/* The first text		*/
+	  const char	*b		/* The second			*/
+	)
+{
+	while (*a != '\0' && *a == *b) {
+		a++;
+		b++;
+	}
+	return (byte)*a - (byte)*b;
+}
+
+/*------------------------------------------------------------------------
+ *  strncpy  -  Copy a text's first n bytes, with zeros after a shorter one;
+ *		  a text of n bytes or more has no zero in its copy
+ *------------------------------------------------------------------------
+ */
+char	*strncpy(
+	  char		*to,		/* Room for n bytes		*/
+	  const char	*from,		/* The text			*/
+	  uint32	n		/* How many bytes are set	*/
+	)
+{
+	uint32	i;
+
+	for (i = 0; i < n; i++) {
+		to[i] = *from;
+		if (*from != '\0') {
+			from++;
+		}
+	}
+	return to;
+}
+
+/*------------------------------------------------------------------------
+ *  atoi  -  Read a decimal number after blanks and a sign: 0 if there is
+ *		  no digit; what follows the digits isn't read
+ *------------------------------------------------------------------------
+ */
+int32	atoi(
+	  const char	*s		/* The text			*/
+	)
+{
+	uint32	n = 0;
+	char	sign;
+
+	while (*s == ' ' || (*s >= '\t' && *s <= '\r')) {
+		s++;
+	}
+	sign = *s;
+	if (sign == '-' || sign == '+') {
+		s++;
+	}
+	for (; *s >= '0' && *s <= '9'; s++) {
+		n = 10 * n + (*s - '0');
+	}
+	return sign == '-' ? -n : n;
+}
+
+/* Where fprintf and sprintf put characters: they are ready for a device, which gets them when the */
+/*   room is full, and at the end; or they go to memory					*/
 
 struct	outbuf {
 	did32	dev;
-	uint32	count;
+	char	*to;			/* Where in memory, or NULL	*/
+	uint32	count;			/* How many are ready, or there	*/
 	char	bytes[64];
 };
 
@@ -130,6 +196,10 @@ static	void	put(
 	  char		c
 	)
 {
+	if (out->to != NULL) {
+		out->to[out->count++] = c;
+		return;
+	}
 	if (out->count == sizeof(out->bytes)) {
 		flush(out);
 	}
@@ -204,8 +274,81 @@ static	void	putnum(
 }
 
 /*------------------------------------------------------------------------
- *  fprintf  -  Write a text to a device, with %d, %u, %x, %c, %s and %%;
- *		  a width may stand before d, u and x, and a 0 before it
+ *  putarg  -  Put what stands for a % of a text
+ *------------------------------------------------------------------------
+ */
+static	void	putarg(
+	  struct outbuf	*out,
+	  char		kind,		/* The letter after the %	*/
+	  int32		width,		/* The width before it		*/
+	  char		pad,		/* 0 if that begins with one	*/
+	  va_list	*args
+	)
+{
+	const char *s;
+	char	digits[10];
+	int32	n;
+
+	switch (kind) {
+	case 'd':
+		n = va_arg(*args, int32);
+		if (n < 0) {
+			put(out, '-');
+			width--;
+		}
+		putnum(out, digits, decimal(n < 0 ? -(uint32)n : (uint32)n, digits), width, pad);
+		break;
+	case 'u':
+		putnum(out, digits, decimal(va_arg(*args, uint32), digits), width, pad);
+		break;
+	case 'x':
+		putnum(out, digits, hexadecimal(va_arg(*args, uint32), digits), width, pad);
+		break;
+	case 'c':
+		put(out, va_arg(*args, int32));
+		break;
+	case 's':
+		for (s = va_arg(*args, const char *); *s != '\0'; s++) {
+			put(out, *s);
+		}
+		break;
+	default:
+		put(out, kind);
+	}
+}
+
+/*------------------------------------------------------------------------
+ *  puttext  -  Put a text with %d, %u, %x, %c, %s and %%; a width may
+ *		  stand before d, u and x, and a 0 before it
+ *------------------------------------------------------------------------
+ */
+static	void	puttext(
+	  struct outbuf	*out,
+	  const char	*fmt,		/* The text			*/
+	  va_list	*args		/* What its % stand for		*/
+	)
+{
+	char	pad;
+	int32	width;
+
+	for (; *fmt != '\0'; fmt++) {
+		if (*fmt != '%') {
+			put(out, *fmt);
+			continue;
+		}
+		pad = *++fmt == '0' ? '0' : ' ';
+		for (width = 0; *fmt >= '0' && *fmt <= '9'; fmt++) {
+			width = 10 * width + *fmt - '0';
+		}
+		if (*fmt == '\0') {
+			return;
+		}
+		putarg(out, *fmt, width, pad, args);
+	}
+}
+
+/*------------------------------------------------------------------------
+ *  fprintf  -  Write a text to a device
  *------------------------------------------------------------------------
  */
 status	fprintf(
@@ -216,51 +359,42 @@ status	fprintf(
 {
 	struct	outbuf	out = { .dev = dev };
 	va_list	args;
-	const char *s;
-	char	digits[10], pad;
-	int32	n, width;
 
 	va_start(args, fmt);
-	for (; *fmt != '\0'; fmt++) {
-		if (*fmt != '%') {
-			put(&out, *fmt);
-			continue;
-		}
-		pad = *++fmt == '0' ? '0' : ' ';
-		for (width = 0; *fmt >= '0' && *fmt <= '9'; fmt++) {
-			width = 10 * width + *fmt - '0';
-		}
-		switch (*fmt) {
-		case 'd':
-			n = va_arg(args, int32);
-			if (n < 0) {
-				put(&out, '-');
-				width--;
-			}
-			putnum(&out, digits, decimal(n < 0 ? -(uint32)n : (uint32)n, digits), width, pad);
-			break;
-		case 'u':
-			putnum(&out, digits, decimal(va_arg(args, uint32), digits), width, pad);
-			break;
-		case 'x':
-			putnum(&out, digits, hexadecimal(va_arg(args, uint32), digits), width, pad);
-			break;
-		case 'c':
-			put(&out, va_arg(args, int32));
-			break;
-		case 's':
-			for (s = va_arg(args, const char *); *s != '\0'; s++) {
-				put(&out, *s);
-			}
-			break;
-		case '\0':
-			fmt--;
-			break;
-		default:
-			put(&out, *fmt);
-		}
-	}
+	puttext(&out, fmt, &args);
 	va_end(args);
 	flush(&out);
 	return OK;
+}
+
+/*------------------------------------------------------------------------
+ *  sprintf  -  Put a text into memory, with a zero behind it, and tell how
+ *		  many bytes are ahead of that
+ *------------------------------------------------------------------------
+ */
+int32	sprintf(
+	  char		*to,		/* Room for all of them		*/
+	  const char	*fmt,		/* The text			*/
+	  ...				/* What its % stand for		*/
+	)
+{
+	struct	outbuf	out = { .to = to };
+	va_list	args;
+
+	va_start(args, fmt);
+	puttext(&out, fmt, &args);
+	va_end(args);
+	to[out.count] = '\0';
+	return out.count;
+}
+
+/*------------------------------------------------------------------------
+ *  puts  -  Put a text and a newline on the console
+ *------------------------------------------------------------------------
+ */
+status	puts(
+	  const char	*s		/* The text			*/
+	)
+{
+	return fprintf(CONSOLE, "%s\n", s);
 }

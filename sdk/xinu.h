@@ -401,6 +401,11 @@ extern	void	*memmove(void *, const void *, uint32);
 extern	void	*memset(void *, int32, uint32);
 extern	int32	memcmp(const void *, const void *, uint32);
 extern	uint32	strlen(const char *);
+extern	int32	strcmp(const char *, const char *);
+extern	char	*strncpy(char *, const char *, uint32);
+extern	int32	atoi(const char *);
+extern	int32	sprintf(char *, const char *, ...) __attribute__((format(printf, 2, 3)));
+extern	status	puts(const char *);
 extern	status	fprintf(did32, const char *, ...) __attribute__((format(printf, 2, 3)));
 
 #define	printf(...)	fprintf(CONSOLE, __VA_ARGS__)

@@ -24,7 +24,7 @@ process	main(void)
 	send(RECEIVER, port);
 	for (i = 0; lines[i] != NULL; i++) {
 		buf = getbuf(pool);		/* Waits until one is free	*/
-		memcpy(buf, lines[i], strlen(lines[i]) + 1);
+		strncpy(buf, lines[i], SIZE);
 		ptsend(port, (umsg32)buf);
 	}
 	ptsend(port, NULL);

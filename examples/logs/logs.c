@@ -16,16 +16,15 @@ process	logger(
 	  char		letter		/* What each line begins with	*/
 	)
 {
-	char	line[] = "?0\n";
+	char	line[8];
 	char	log[64];
 	did32	file;
 	int32	i, n;
 
 	file = open(LFILESYS, (char *)name, "rw");
-	line[0] = letter;
-	for (i = 0; i < LINES; i++) {
-		line[1] = '1' + i;
-		write(file, line, 3);
+	for (i = 1; i <= LINES; i++) {
+		n = sprintf(line, "%c%d\n", letter, i);
+		write(file, line, n);
 	}
 	seek(file, 0);
 	n = read(file, log, sizeof(log));

@@ -1,4 +1,4 @@
-/* shell.c - main, echo, keys */
+/* shell.c - main, keys, split */
 
 #include <xinu.h>
 
@@ -25,17 +25,21 @@ static	void	keys(void)
 }
 
 /*------------------------------------------------------------------------
- *  is  -  Tell whether a line is this command, or begins with it and a blank
+ *  split  -  End a line's command with a zero, and tell where its argument
+ *		is, which is empty if there is none
  *------------------------------------------------------------------------
  */
-static	int32	is(
-	  const char	*line,		/* What was typed		*/
-	  const char	*name		/* The command			*/
+static	char	*split(
+	  char		*line		/* What was typed		*/
 	)
 {
-	uint32	n = strlen(name);
-
-	return memcmp(line, name, n) == 0 && (line[n] == ' ' || line[n] == '\0');
+	while (*line != '\0' && *line != ' ') {
+		line++;
+	}
+	if (*line == ' ') {
+		*line++ = '\0';
+	}
+	return line;
 }
 
 /*------------------------------------------------------------------------
@@ -44,7 +48,7 @@ static	int32	is(
  */
 process	main(void)
 {
-	char	line[LINELEN + 1];
+	char	line[LINELEN + 1], *argument;
 	int32	n;
 
 	open(CONSOLE, "", "");
@@ -57,18 +61,21 @@ process	main(void)
 		if (n > 0 && line[n - 1] == '\n') {
 			n--;
 		}
-		memset(line + n, '\0', sizeof(line) - n);
-		if (is(line, "echo")) {
-			printf("%s\n", n > 5 ? line + 5 : "");
-		} else if (is(line, "keys")) {
+		line[n] = '\0';
+		argument = split(line);
+		if (strcmp(line, "echo") == 0) {
+			puts(argument);
+		} else if (strcmp(line, "keys") == 0) {
 			keys();
-		} else if (is(line, "time")) {
+		} else if (strcmp(line, "sleep") == 0) {
+			sleepms(atoi(argument));
+		} else if (strcmp(line, "time") == 0) {
 			printf("%u s\n", clktime());
 		} else if (n > 0) {
-			printf("%s: echo, keys, time, or control-D\n", line);
+			printf("%s: echo, keys, sleep, time, or control-D\n", line);
 		}
 	}
-	printf("bye\n");
+	puts("bye");
 	close(CONSOLE);
 	sleepms(2);		/* Let the console send echo and output */
 	return OK;

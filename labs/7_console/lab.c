@@ -35,7 +35,7 @@ process	main(void)
 
 	ask("name", name);
 	ask("password", password);
-	printf("hello, %s\n", memcmp(password, "secret", 7) == 0 ? name : "stranger");
+	printf("hello, %s\n", strcmp(password, "secret") == 0 ? name : "stranger");
 	printf("any key: ");
 	getc(CONSOLE);
 	printf("bye\n");

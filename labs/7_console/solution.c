@@ -38,7 +38,7 @@ process	main(void)
 	ask("password", password);
 	control(CONSOLE, TC_ECHO, 0);
 	printf("\n");
-	printf("hello, %s\n", memcmp(password, "secret", 7) == 0 ? name : "stranger");
+	printf("hello, %s\n", strcmp(password, "secret") == 0 ? name : "stranger");
 	printf("any key: ");
 	control(CONSOLE, TC_MODEK, 0);
 	getc(CONSOLE);
