@@ -1,7 +1,9 @@
 pub mod Asleep
 pub mod Eligible
+pub mod Fifo
 pub mod Highest
 pub mod Moves
+pub mod Orders
 pub mod Passes
 pub mod Quantum
 pub mod Resched

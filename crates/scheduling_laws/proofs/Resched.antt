@@ -1,17 +1,21 @@
--- A resched makes a process of the highest priority run.
-use Rattle.std.proofs.Common.{◌≡◌, ◌≢◌, ℕ, ◌<◌, true, false, List, [], ◌∷◌, refl, sym, ap, subst, ◌∙◌, arith, ℤ, ◌≤ℤ◌}
-use Rattle.std.specs.Prelude.{int_lt}
+-- What a resched does: it makes a process of the highest priority run. What a resched and a tick keep.
+use Rattle.std.proofs.Common.{◌≡◌, ◌≢◌, ℕ, ◌+◌, ◌-◌, ◌<◌, Bool, true, false, List, [], ◌∷◌, refl, sym, ap, subst, ◌∙◌, arith, ℤ, ◌≤ℤ◌}
+use Rattle.std.specs.Prelude.{int_lt, nat_lt}
 use Rattle.std.specs.List.{AllByRecursion}
 use Rattle.std.proofs.lemmas.Bool.{cond_both, and_parts}
 use Rattle.std.proofs.lemmas.Int.{ints}
 use Rattle.xinu_base.specs.declared.processes.State.TheVariants.{Free, Current, Ready}
-use Rattle.xinu_model.specs.Process.Scheduling.{is_current, in_state, dispatch, dispatch_first, preempt, keeps_cpu, ready, resched}
-use Rattle.xinu_model.specs.Sound.Tables.{entries_of, IsFalling, HaveKeys, IsInside}
+use Rattle.xinu_model.specs.Clock.{a_tick_later, due, ticked, wakeup}
+use Rattle.xinu_model.specs.Machine.{Xinu, start}
+use Rattle.xinu_model.specs.Process.Scheduling.{is_current, in_state, dispatch, dispatch_first, preempt, keeps_cpu, ready, ready_all, resched}
+use Rattle.xinu_model.specs.Sound.Tables.{entries_of, IsFalling, HaveKeys, IsInside, IsSoundTables}
 use Rattle.xinu_model.specs.Tables.{Tables, process_at, state_at, message_at, entries_without, Nowhere}
 use Rattle.table_laws.proofs.Lists.Counts.{first_has_entry}
 use Rattle.table_laws.proofs.Lists.Orders.{all_filter, all_weaker}
 use Rattle.table_laws.proofs.Tables.MoveTo.{within_table, process_move_same}
-use Rattle.table_laws.proofs.Tables.Scheduling.{current_of, ready_of, room_made}
+use Rattle.table_laws.proofs.Tables.Scheduling.{current_of, inside_quantum, ready_of, room_made}
+use Rattle.table_laws.proofs.Tables.Ticks.{sound_later}
+use Rattle.table_laws.proofs.Tables.Unblock.{unblock_all_ready}
 use Rattle.scheduling_laws.specs.Policy.{IsHighest}
 
 -- a key that is less isn't above
@@ -74,3 +78,25 @@ by_resched P t o h makes_room runs =
         let here : 0 < entries_of x.0 u.ready = subst (λ l. 0 < entries_of x.0 l) e (first_has_entry x xs) in
         let places = i.ready x.0 in
         runs u x.0 i (ready_of (state_at u x.0) (omega arith)) k
+
+-- A tick is these moves: those who are due become ready, the ticks and the quantum change, and there may be reschedules.
+pub by_tick : (P : Tables → Type 0) (s : Xinu) → IsSoundTables s.tables
+    → ((t : Tables) (quantum ticks : ℕ) → P t → P (record t { quantum = quantum; ticks = ticks }))
+    → ((t : Tables) → IsInside t → P t → P (resched t)) → P (ready_all (due (s.tables.ticks + 1) s.tables.sleepers) s.tables)
+    → P (ticked s).state.tables
+by_tick P s k numbers rescheds h =
+    let t = s.tables in
+    let ps = due (t.ticks + 1) t.sleepers in
+    let d = wakeup s in
+    let u = ready_all ps t in
+    let same = unblock_all_ready ps (start s) in
+    let v = record u { ticks = u.ticks + 1 } in
+    let i : P v = numbers u u.quantum (u.ticks + 1) h in
+    let later : (owes : Bool) → P (a_tick_later owes u) =
+    λ owes. cond_both owes (resched v) v P (λ _. rescheds v (sound_later false t k).inside i) (λ _. i) in
+    let x = a_tick_later d.owes_resched d.state.tables in
+    let o : IsInside x =
+    subst (λ (y : Xinu). IsInside (a_tick_later d.owes_resched y.tables)) (sym same) (sound_later d.owes_resched t k).inside in
+    let z : P x = subst (λ (y : Xinu). P (a_tick_later d.owes_resched y.tables)) (sym same) (later d.owes_resched) in
+    cond_both (nat_lt 1 x.quantum) (record x { quantum = x.quantum - 1 }) (resched (record x { quantum = 2 })) P
+    (λ _. numbers x (x.quantum - 1) x.ticks z) (λ _. rescheds (record x { quantum = 2 }) (inside_quantum x 2 o) (numbers x 2 x.ticks z))

@@ -1,23 +1,25 @@
 -- Who waits on a semaphore after a process moved.
-use Rattle.std.proofs.Common.{◌≡◌, ◌≢◌, ◌⊎◌, ⊎_elim, ℕ, zero, suc, ◌<◌, ◌==◌, cond, List, [], ◌∷◌, ◌++◌, get_or, set, Option, sym, subst, ap, arith}
+use Rattle.std.proofs.Common.{◌≡◌, ◌≢◌, ◌⊎◌, ⊎_elim, ℕ, zero, suc, ◌<◌, ◌==◌, cond, List, [], ◌∷◌, ◌++◌, get_or, set, Option, refl, sym, subst, ap, arith}
 use Rattle.std.specs.List.{AllByRecursion}
 use Rattle.std.proofs.lemmas.Bool.{cond_both, eqb-false}
 use Rattle.xinu_base.specs.declared.processes.Process.{Process}
 use Rattle.xinu_model.specs.Semaphores.Counts.{with_semaphore}
 use Rattle.xinu_model.specs.Sound.Tables.{count_in}
 use Rattle.xinu_model.specs.Tables.{Semaphore, no_semaphore, Tables, semaphore_at, numbers_without, waits_without, with_waiter, Place, Nowhere, InReady, InSemaphore, InSleepers, move_to}
+use Rattle.table_laws.proofs.Lists.Counts.{count_behind, first_is_counted}
+use Rattle.table_laws.proofs.Tables.Unblock.{IsOneOf}
 use Rattle.table_laws.proofs.Tables.Places.{semaphore_at_without}
 
--- what is at a place after a write is what was written, or what was there
-set_either : {A : Type 0} (P : A → Type 0) (l : List A) (i r : ℕ) (x d : A) → P x → P (get_or l r d) → P (get_or (set l i x) r d)
+-- what is at a place after a write is what was written there, or what was there
+set_either : {A : Type 0} (P : A → Type 0) (l : List A) (i r : ℕ) (x d : A) → (i ≡ r → P x) → P (get_or l r d) → P (get_or (set l i x) r d)
 set_either P [] i r x d new old = old
-set_either P (y ∷ ys) zero zero x d new old = new
+set_either P (y ∷ ys) zero zero x d new old = new refl
 set_either P (y ∷ ys) zero (suc r) x d new old = old
 set_either P (y ∷ ys) (suc i) zero x d new old = old
-set_either P (y ∷ ys) (suc i) (suc r) x d new old = set_either P ys i r x d new old
+set_either P (y ∷ ys) (suc i) (suc r) x d new old = set_either P ys i r x d (λ e. new (ap suc e)) old
 
--- Those who wait on a semaphore that was given other waiters, or none.
-pub waiters_given : (P : List ℕ → Type 0) (t : Tables) (sem r : ℕ) (x : Semaphore) → P x.waiters → P (semaphore_at t r).waiters
+-- Those who wait on a semaphore after one was given other waiters, or none.
+pub waiters_given : (P : List ℕ → Type 0) (t : Tables) (sem r : ℕ) (x : Semaphore) → (sem ≡ r → P x.waiters) → P (semaphore_at t r).waiters
     → P (semaphore_at (with_semaphore sem x t) r).waiters
 waiters_given P t sem r x new old = set_either (λ (y : Semaphore). P y.waiters) t.semaphores sem r x no_semaphore new old
 
@@ -28,15 +30,27 @@ waiters_left P q r l h = subst (λ (y : Semaphore). P y.waiters) (sym (semaphore
 
 -- After q moved it isn't among them, or it is the last.
 pub waiters_moved : (P : List ℕ → Type 0) (t : Tables) (q r : ℕ) (x : Process) (m : Option ℕ) (place : Place)
-    → P (numbers_without q (semaphore_at t r).waiters)
-    → ((sem : ℕ) → P (numbers_without q (semaphore_at t sem).waiters ++ q ∷ [])) → P (semaphore_at (move_to q x m place t) r).waiters
+    → P (numbers_without q (semaphore_at t r).waiters) → P (numbers_without q (semaphore_at t r).waiters ++ q ∷ [])
+    → P (semaphore_at (move_to q x m place t) r).waiters
 waiters_moved P t q r x m Nowhere left came = waiters_left P q r t.semaphores left
 waiters_moved P t q r x m InReady left came = waiters_left P q r t.semaphores left
 waiters_moved P t q r x m (InSleepers wake) left came = waiters_left P q r t.semaphores left
 waiters_moved P t q r x m (InSemaphore sem) left came =
     let l = waits_without q t.semaphores in
     set_either (λ (y : Semaphore). P y.waiters) l sem r (with_waiter q (get_or l sem no_semaphore)) no_semaphore
-    (waiters_left (λ ws. P (ws ++ q ∷ [])) q sem t.semaphores (came sem)) (waiters_left P q r t.semaphores left)
+    (λ e. subst (λ k. P ((get_or l k no_semaphore).waiters ++ q ∷ [])) (sym e) (waiters_left (λ ws. P (ws ++ q ∷ [])) q r t.semaphores came))
+    (waiters_left P q r t.semaphores left)
+
+-- one of a list is counted in it
+one_counted : (p : ℕ) (l : List ℕ) → IsOneOf p l → 0 < count_in p l
+one_counted p [] i = absurd i
+one_counted p (x ∷ xs) i =
+    ⊎_elim (λ (e : p ≡ x). subst (λ q. 0 < count_in q (x ∷ xs)) (sym e) (first_is_counted x xs))
+    (λ (j : IsOneOf p xs). count_behind p x xs (one_counted p xs j)) i
+
+-- If p isn't counted in a list it is none of its elements.
+pub none_counted_of : (p : ℕ) (l : List ℕ) → count_in p l ≡ 0 → IsOneOf p l → ⊥
+none_counted_of p l e i = let n = one_counted p l i in absurd (omega arith)
 
 -- If p isn't counted in a list none of its elements is p.
 pub all_others : (p : ℕ) (l : List ℕ) → count_in p l ≡ 0 → AllByRecursion (λ q. p ≢ q) l

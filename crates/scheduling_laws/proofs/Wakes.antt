@@ -81,7 +81,7 @@ module _ (p w : ℕ) where
     h.1,
     ⊎_elim (λ (z : SleepsUntil p w t). inl (sleeps_moved t p q w x m place n z))
         (λ (e : state_at t p ≡ Free). inr (state_move_other t p q x m place n ∙ e)) h.2,
-    (λ sem. waiters_moved (λ l. count_in p l ≡ 0) t q sem x m place (left sem) (λ r. count_last_other p q _ n ∙ left r)),
+    (λ sem. waiters_moved (λ l. count_in p l ≡ 0) t q sem x m place (left sem) (count_last_other p q (numbers_without q (semaphore_at t sem).waiters) n ∙ left sem)),
     h.4,
   )
     where
@@ -157,8 +157,7 @@ module _ (p w : ℕ) where
       h.0,
       h.1,
       h.2,
-      (λ r. waiters_given (λ l. count_in p l ≡ 0) t sem r x
-          (⊎_elim (λ (e : x.waiters ≡ []). subst (λ l. count_in p l ≡ 0) (sym e) refl)
+      (λ r. waiters_given (λ l. count_in p l ≡ 0) t sem r x (λ _. ⊎_elim (λ (e : x.waiters ≡ []). subst (λ l. count_in p l ≡ 0) (sym e) refl)
           (λ (e : x.waiters ≡ (semaphore_at t sem).waiters). subst (λ l. count_in p l ≡ 0) (sym e) (h.3 sem)) f) (h.3 r)),
       h.4,
     );

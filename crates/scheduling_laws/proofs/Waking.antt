@@ -17,7 +17,7 @@ use Rattle.table_laws.proofs.Tables.MoveTo.{by_number, within_table, state_move_
 use Rattle.table_laws.proofs.Tables.Scheduling.{current_of, ready_of, room_made, inside_quantum}
 use Rattle.table_laws.proofs.Tables.Ticks.{sound_later, ticks_ready}
 use Rattle.table_laws.proofs.Tables.Unblock.{IsOneOf, unblock_all_ready}
-use Rattle.scheduling_laws.proofs.Resched.{by_resched}
+use Rattle.scheduling_laws.proofs.Resched.{by_resched, by_tick}
 use Rattle.scheduling_laws.proofs.Asleep.{is_entry, sleeps_moved, sleeps_resched}
 use Rattle.scheduling_laws.specs.Sleeping.{SleepsUntil}
 
@@ -67,12 +67,6 @@ is_due p w (x ∷ xs) =
     (λ f. absurd (both_ways (x.1 == w) f both.1)))
     (λ _ h. cond_both (x.1 == w) (x ∷ others) others (λ l. IsOneOf p (map (λ e. e.0) l)) (λ _. inr (is_due p w xs h)) (λ _. is_due p w xs h))
 
--- who can run still can as the quantum falls
-can_run_falls : (t : Tables) (p : ℕ) → IsInside t → CanRun (state_at t p) → CanRun (state_at (quantum_falls t) p)
-can_run_falls t p o h =
-    cond_both (nat_lt 1 t.quantum) (record t { quantum = t.quantum - 1 }) (resched (record t { quantum = 2 })) (λ u. CanRun (state_at u p))
-    (λ _. h) (λ _. can_run_resched (record t { quantum = 2 }) p (inside_quantum t 2 o) h)
-
 -- a resched keeps the ticks
 ticks_resched : (t : Tables) → IsInside t → (resched t).ticks ≡ t.ticks
 ticks_resched t o = by_resched (λ u. u.ticks ≡ t.ticks) t o refl (λ e. refl) (λ u q i e k. k)
@@ -100,20 +94,10 @@ pub wakes_in_time : (p w : ℕ) (s : Xinu) → IsSoundTables s.tables → Sleeps
 wakes_in_time p w s k z e =
     let t = s.tables in
     let ps = due (t.ticks + 1) t.sleepers in
-    let d = wakeup s in
-    let u = ready_all ps t in
-    let same = unblock_all_ready ps (start s) in
     let within = within_table t p k.inside.processes (λ f. let g = sym z.0 ∙ f in cc) in
     let one = subst (λ n. IsOneOf p (due n t.sleepers)) e (is_due p w t.sleepers z.1) in
-    let is : CanRun (state_at u p) = inr (becomes_ready ps t p k.inside.processes within one) in
-    let v = record u { ticks = u.ticks + 1 } in
-    let all : (owes : Bool) → CanRun (state_at (a_tick_later owes u) p) = λ owes. cond_both owes (resched v) v (λ x. CanRun (state_at x p))
-    (λ _. can_run_resched v p (sound_later false t k).inside is) (λ _. is) in (
-      ticks_ticked s k ∙ sym e,
-      can_run_falls (a_tick_later d.owes_resched d.state.tables) p
-          (subst (λ (x : Xinu). IsInside (a_tick_later d.owes_resched x.tables)) (sym same) (sound_later d.owes_resched t k).inside)
-          (subst (λ (x : Xinu). CanRun (state_at (a_tick_later d.owes_resched x.tables) p)) (sym same) (all d.owes_resched)),
-    )
+    let is : CanRun (state_at (ready_all ps t) p) = inr (becomes_ready ps t p k.inside.processes within one) in
+    (ticks_ticked s k ∙ sym e, by_tick (λ u. CanRun (state_at u p)) s k (λ u quantum ticks h. h) (λ u o h. can_run_resched u p o h) is)
 
 -- what holds of all entries holds of one that is there
 of_entry : (P : ℕ × ℕ → Type 0) (p w : ℕ) (l : List (ℕ × ℕ)) → AllByRecursion P l → 0 < times (λ e. (e.0 == p) && (e.1 == w)) l
@@ -129,7 +113,7 @@ pub sleeps_no_longer : (p w : ℕ) (t : Tables) → IsInside t → SleepsUntil p
 sleeps_no_longer p w t o z = let f = of_entry (λ e. t.ticks < e.1) p w t.sleepers o.later z.1 in subst (λ n. t.ticks < n) f.1 f.2
 
 -- an entry of p with a tick is one of its entries, and one with another tick another
-two_entries : (p v w : ℕ) (l : List (ℕ × ℕ)) → v ≢ w → times (is_entry p v) l + times (is_entry p w) l ≤ entries_of p l
+pub two_entries : (p v w : ℕ) (l : List (ℕ × ℕ)) → v ≢ w → times (is_entry p v) l + times (is_entry p w) l ≤ entries_of p l
 two_entries p v w [] n = omega arith
 two_entries p v w (x ∷ xs) n =
     let a = times (is_entry p v) xs in
@@ -152,7 +136,7 @@ two_entries p v w (x ∷ xs) n =
     none f g true a b c e r = cc
 
 -- who is due has an entry with that tick
-has_due : (p w : ℕ) (l : List (ℕ × ℕ)) → IsOneOf p (due w l) → 0 < times (is_entry p w) l
+pub has_due : (p w : ℕ) (l : List (ℕ × ℕ)) → IsOneOf p (due w l) → 0 < times (is_entry p w) l
 has_due p w [] = λ i. absurd i
 has_due p w (x ∷ xs) =
     let more = times (is_entry p w) xs in
@@ -181,19 +165,8 @@ pub sleeps_through : (p w : ℕ) (s : Xinu) → IsSoundTables s.tables → Sleep
 sleeps_through p w s k z n =
     let t = s.tables in
     let ps = due (t.ticks + 1) t.sleepers in
-    let d = wakeup s in
-    let u = ready_all ps t in
-    let same = unblock_all_ready ps (start s) in
     let once : entries_of p t.sleepers ≡ 1 = k.inside.sleeping p ∙ ap sleeping_places z.0 in
     let both = two_entries p (t.ticks + 1) w t.sleepers (λ e. n (sym e)) in
     let here = z.1 in
-    let still : SleepsUntil p w u = sleeps_on ps t p w (λ i. let there = has_due p (t.ticks + 1) t.sleepers i in absurd (omega arith)) z in
-    let v = record u { ticks = u.ticks + 1 } in
-    let all : (owes : Bool) → SleepsUntil p w (a_tick_later owes u) =
-    λ owes. cond_both owes (resched v) v (SleepsUntil p w) (λ _. sleeps_resched v p w (sound_later false t k).inside still) (λ _. still) in
-    let x = a_tick_later d.owes_resched d.state.tables in
-    let o : IsInside x =
-    subst (λ (y : Xinu). IsInside (a_tick_later d.owes_resched y.tables)) (sym same) (sound_later d.owes_resched t k).inside in
-    let y : SleepsUntil p w x = subst (λ (y : Xinu). SleepsUntil p w (a_tick_later d.owes_resched y.tables)) (sym same) (all d.owes_resched) in
-    cond_both (nat_lt 1 x.quantum) (record x { quantum = x.quantum - 1 }) (resched (record x { quantum = 2 })) (SleepsUntil p w)
-    (λ _. y) (λ _. sleeps_resched (record x { quantum = 2 }) p w (inside_quantum x 2 o) y)
+    by_tick (SleepsUntil p w) s k (λ u quantum ticks y. y) (λ u o y. sleeps_resched u p w o y)
+    (sleeps_on ps t p w (λ i. let there = has_due p (t.ticks + 1) t.sleepers i in absurd (omega arith)) z)

@@ -1,2 +1,3 @@
+pub mod Fairness
 pub mod Policy
 pub mod Sleeping

@@ -5,6 +5,7 @@
 //! | Module | Its laws |
 //! |---|---|
 //! | [`policy`] | the process of the highest priority runs; no ready process is above it; a tick or two are left of its quantum |
+//! | [`semaphores`] | those who wait on a semaphore go on in the order in which they came |
 //! | [`sleepers`] | who sleeps wakes on time |
 //!
 //! A predicate on tables that is closed under the moves of calls is kept by each event: `proofs/Moves` says which moves there are, and `Passes`
@@ -12,4 +13,5 @@
 #![tactic(auto)]
 
 pub mod policy;
+pub mod semaphores;
 pub mod sleepers;

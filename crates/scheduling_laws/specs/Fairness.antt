@@ -1,0 +1,18 @@
+-- In which order those who wait on a semaphore go on (book, chapter 7).
+use Rattle.std.specs.Prelude.{◌≡◌, ◌≢◌, ◌⊎◌, ℕ, ◌<◌, List, [], ◌∷◌}
+use Rattle.xinu_base.specs.declared.processes.State.TheVariants.{Free}
+use Rattle.xinu_model.specs.Sound.Tables.{count_in}
+use Rattle.xinu_model.specs.Tables.{Tables, state_at, semaphore_at}
+
+-- Process p is in a list before q.
+abbrev pub IsBefore : ℕ → ℕ → List ℕ → Type 0
+IsBefore p q [] = ⊥
+IsBefore p q (x ∷ xs) = ((x ≡ p) × (0 < count_in q xs)) ⊎ ((x ≢ q) × IsBefore p q xs)
+
+-- Process p waits on a semaphore before q.
+abbrev pub WaitsBefore : ℕ → ℕ → ℕ → Tables → Type 0
+WaitsBefore sem p q t = IsBefore p q (semaphore_at t sem).waiters
+
+-- Process p doesn't wait on a semaphore.
+abbrev pub IsReleased : ℕ → ℕ → Tables → Type 0
+IsReleased sem p t = count_in p (semaphore_at t sem).waiters ≡ 0
