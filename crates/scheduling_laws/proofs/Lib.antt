@@ -1,4 +1,5 @@
 pub mod Asleep
+pub mod Counts
 pub mod Eligible
 pub mod Fifo
 pub mod Highest

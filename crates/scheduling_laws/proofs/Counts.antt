@@ -1,0 +1,136 @@
+-- An accepted wait lowers the count of its semaphore by one, and an accepted signal raises it by one.
+use Rattle.std.proofs.Common.{◌≡◌, ◌≢◌, ℕ, zero, suc, ◌+◌, ◌<◌, ◌==◌, ◌&&◌, not, true, false, cond, List, [], ◌∷◌, ◌++◌, length, length-append, refl, sym, ap, subst, ◌∙◌, arith, ℤ, pos, Option, Some, get_or-set_same}
+use Rattle.std.specs.Prelude.{◌+ℤ◌, neg_ℤ, int_lt}
+use Rattle.std.proofs.lemmas.Bool.{and_from, cond_both, both_ways, eq-eqb}
+use Rattle.std.proofs.lemmas.Int.{ints}
+use Rattle.xinu_base.specs.Constants.{OK}
+use Rattle.xinu_base.specs.declared.processes.Process.{Process}
+use Rattle.xinu_base.specs.declared.processes.Rest.TheVariants.{Nothing}
+use Rattle.xinu_base.specs.declared.processes.State.TheVariants.{Free, Current, Ready, Waiting}
+use Rattle.xinu_model.specs.Machine.{Xinu, CallResult, closed, start, refused, returns}
+use Rattle.xinu_model.specs.Process.Scheduling.{in_state, ready, resched}
+use Rattle.xinu_model.specs.Semaphores.Calls.{answers, signal, wait}
+use Rattle.xinu_model.specs.Semaphores.Counts.{count_of, is_good, most_tokens, with_tokens}
+use Rattle.xinu_model.specs.Semaphores.Waiting.{await, signal_first, signalled, take_token}
+use Rattle.xinu_model.specs.Sound.Pools.{is_waiting}
+use Rattle.xinu_model.specs.Sound.State.{IsSound}
+use Rattle.xinu_model.specs.Sound.Tables.{count_in, waiting_places, FitsOwner, IsInside, IsSoundTables}
+use Rattle.xinu_model.specs.Tables.{Semaphore, no_semaphore, Tables, process_at, state_at, message_at, semaphore_at, numbers_without, semaphore_without, Place, Nowhere, InReady, InSemaphore, move_to}
+use Rattle.table_laws.proofs.Lists.Counts.{filter_absent, first_is_counted, get_or-le-total}
+use Rattle.table_laws.proofs.Preserve.{blocked_preserves}
+use Rattle.table_laws.proofs.Tables.Places.{semaphore_at_without}
+use Rattle.table_laws.proofs.Tables.Scheduling.{inside_ready}
+use Rattle.table_laws.proofs.Tables.Unblock.{can_be_ready_waiting, waiter_waits}
+use Rattle.table_laws.specs.Preserve.{MayCall}
+use Rattle.xinu_laws.proofs.Preserve.Semaphores.{good_semaphore}
+use Rattle.table_laws.proofs.Frame.MoveTo.{tokens_move}
+use Rattle.xinu_laws.proofs.RawDisks.Moves.{waiter_added}
+use Rattle.scheduling_laws.proofs.Resched.{by_resched}
+
+-- one token less, or one waiter more
+count_falls : (a b c d : ℕ) → c + b + 1 ≡ a + d → pos c +ℤ neg_ℤ (pos d) ≡ (pos a +ℤ neg_ℤ (pos b)) +ℤ neg_ℤ (pos 1)
+count_falls a b c d e = omega (arith, ints)
+
+-- one token more, or one waiter less
+count_rises : (a b c d : ℕ) → c + b ≡ a + d + 1 → pos c +ℤ neg_ℤ (pos d) ≡ (pos a +ℤ neg_ℤ (pos b)) +ℤ pos 1
+count_rises a b c d e = omega (arith, ints)
+
+-- A process that doesn't wait leaves each semaphore as it is as it becomes ready or runs,
+semaphore_left : (t : Tables) (sem q : ℕ) → IsInside t → waiting_places (state_at t q) ≡ 0
+    → semaphore_without q (semaphore_at t sem) ≡ semaphore_at t sem
+semaphore_left t sem q o idle =
+    let x = semaphore_at t sem in
+    let few = get_or-le-total (λ (y : Semaphore). count_in q y.waiters) t.semaphores sem no_semaphore refl in
+    let all = o.waiting q in
+    let none : count_in q x.waiters ≡ 0 = omega arith in
+    ap (λ ws. record { owner = x.owner; tokens = x.tokens; waiters = ws }) (filter_absent (λ w. w == q) x.waiters none)
+
+-- and so does a resched.
+semaphore_resched : (t : Tables) (sem : ℕ) → IsInside t → semaphore_at (resched t) sem ≡ semaphore_at t sem
+semaphore_resched t sem o =
+    by_resched (λ u. semaphore_at u sem ≡ semaphore_at t sem) t o refl
+    (λ e. semaphore_at_without t.current sem t.semaphores ∙ semaphore_left t sem t.current o (ap waiting_places e))
+    (λ u q i e k. semaphore_at_without q sem u.semaphores ∙ semaphore_left u sem q i (ap waiting_places e) ∙ k)
+
+-- the count after a wait, if these are the tokens
+waited : (n sem : ℕ) (s : Xinu) → (semaphore_at s.tables sem).tokens ≡ n → IsSound s → s.tables.current ≢ 0 → is_good sem s.tables ≡ true
+    → count_of (semaphore_at (closed (take_token n sem Nothing (answers OK) s)) sem)
+    ≡ count_of (semaphore_at s.tables sem) +ℤ neg_ℤ (pos 1)
+waited zero sem s e k not_null good =
+    let t = s.tables in
+    let c = t.current in
+    let g = good_semaphore t sem k.tables.inside good in
+    let x = record (process_at t c) { state = Waiting; rest = Nothing } in
+    let u = move_to c x (message_at t c) (InSemaphore sem) t in
+    let may : MayCall s = record { tables = k.tables; harts = k.harts; not_null = not_null } in
+    let o : IsInside u = (blocked_preserves Waiting Nothing (InSemaphore sem) s may (λ f. cc) (refl, refl, refl)
+    (g.within, e, subst (λ by. FitsOwner sem by Nothing) (sym g.owner) refl) tt).tables in
+    let more = waiter_added t c x (message_at t c) sem g.within k.tables.inside (ap is_waiting k.tables.runs) in
+    let tokens = tokens_move t c x (message_at t c) (InSemaphore sem) sem in
+    let many = ap length more ∙ length-append (semaphore_at t sem).waiters (c ∷ []) in
+    ap count_of (semaphore_resched u sem o)
+    ∙ count_falls (semaphore_at t sem).tokens (length (semaphore_at t sem).waiters) (semaphore_at u sem).tokens
+    (length (semaphore_at u sem).waiters) (omega arith)
+waited (suc n) sem s e k not_null good =
+    let t = s.tables in
+    let x = semaphore_at t sem in
+    let g = good_semaphore t sem k.tables.inside good in
+    let many = k.tables.inside.semaphores in
+    let within = g.within in
+    ap count_of (get_or-set_same t.semaphores sem (record x { tokens = n }) no_semaphore (omega arith))
+    ∙ count_falls x.tokens (length x.waiters) n (length x.waiters) (omega arith)
+
+-- Call 18.
+pub wait_lowers : (sem : ℕ) (s : Xinu) → IsSound s → s.tables.current ≢ 0 → is_good sem s.tables ≡ true
+    → count_of (semaphore_at (closed (wait sem s)) sem) ≡ count_of (semaphore_at s.tables sem) +ℤ neg_ℤ (pos 1)
+wait_lowers sem s k not_null good =
+    cond_both (is_good sem s.tables) (await sem Nothing (answers OK) s) (refused s)
+    (λ (h : CallResult). count_of (semaphore_at (closed h) sem) ≡ count_of (semaphore_at s.tables sem) +ℤ neg_ℤ (pos 1))
+    (λ b. waited (semaphore_at s.tables sem).tokens sem s refl k not_null good) (λ b. absurd (both_ways (is_good sem s.tables) b good))
+
+-- the count after a signal, if these wait
+signalled_count : (l : List ℕ) (sem : ℕ) (s : Xinu) → (semaphore_at s.tables sem).waiters ≡ l → IsSound s → is_good sem s.tables ≡ true
+    → count_of (semaphore_at (closed (returns (signal_first sem l (start s)) OK)) sem) ≡ count_of (semaphore_at s.tables sem) +ℤ pos 1
+signalled_count [] sem s e k good =
+    let t = s.tables in
+    let x = semaphore_at t sem in
+    let g = good_semaphore t sem k.tables.inside good in
+    let many = k.tables.inside.semaphores in
+    let within = g.within in
+    ap count_of (get_or-set_same t.semaphores sem (record x { tokens = x.tokens + 1 }) no_semaphore (omega arith))
+    ∙ count_rises x.tokens (length x.waiters) (x.tokens + 1) (length x.waiters) (omega arith)
+signalled_count (p ∷ ps) sem s e k good =
+    let t = s.tables in
+    let o = k.tables.inside in
+    let x = semaphore_at t sem in
+    let u = ready p t in
+    let here : 0 < count_in p x.waiters = subst (λ l. 0 < count_in p l) (sym e) (first_is_counted p ps) in
+    let waits = waiter_waits t sem p o here in
+    let i : IsInside u = inside_ready t p o (can_be_ready_waiting t p o waits) in
+    let once : count_in p ps ≡ 0 =
+    (let a = o.waiting p in
+    let b : waiting_places (state_at t p) ≡ 1 = ap waiting_places waits in
+    let c = get_or-le-total (λ (y : Semaphore). count_in p y.waiters) t.semaphores sem no_semaphore refl in
+    let f : count_in p x.waiters ≡ suc (count_in p ps) =
+    ap (count_in p) e ∙ ap (λ b. cond b (suc (count_in p ps)) (count_in p ps)) (eq-eqb p p refl) in
+    omega arith) in
+    let after : semaphore_at u sem ≡ semaphore_without p x = semaphore_at_without p sem t.semaphores in
+    let left : numbers_without p x.waiters ≡ ps =
+    ap (numbers_without p) e
+    ∙ ap (λ b. cond (not b) (p ∷ numbers_without p ps) (numbers_without p ps)) (eq-eqb p p refl)
+    ∙ filter_absent (λ w. w == p) ps once in
+    let less : length (numbers_without p x.waiters) ≡ length ps = ap length left in
+    let more : length x.waiters ≡ suc (length ps) = ap length e in
+    ap count_of (semaphore_resched u sem i ∙ after)
+    ∙ count_rises x.tokens (length x.waiters) x.tokens (length (numbers_without p x.waiters)) (omega arith)
+
+-- Call 19.
+pub signal_raises : (sem : ℕ) (s : Xinu) → IsSound s → is_good sem s.tables ≡ true
+    → int_lt (count_of (semaphore_at s.tables sem)) most_tokens ≡ true
+    → count_of (semaphore_at (closed (signal sem s)) sem) ≡ count_of (semaphore_at s.tables sem) +ℤ pos 1
+signal_raises sem s k good less =
+    let may = is_good sem s.tables && int_lt (count_of (semaphore_at s.tables sem)) most_tokens in
+    cond_both may (returns (signalled sem (start s)) OK) (refused s)
+    (λ (h : CallResult). count_of (semaphore_at (closed h) sem) ≡ count_of (semaphore_at s.tables sem) +ℤ pos 1)
+    (λ b. signalled_count (semaphore_at s.tables sem).waiters sem s refl k good)
+    (λ b. absurd (both_ways may b (and_from (is_good sem s.tables) (int_lt (count_of (semaphore_at s.tables sem)) most_tokens) good less)))
