@@ -10,7 +10,7 @@ use Rattle.table_laws.proofs.Lists.Orders.{all_both}
 use Rattle.scheduling_laws.specs.Policy.{IsHighest}
 
 -- what holds of all entries holds of one of each process that has one
-entry_of : (P : ℕ × ℤ → Type 0) (p : ℕ) (l : List (ℕ × ℤ)) → AllByRecursion P l → 0 < entries_of p l → (e : ℕ × ℤ) × (e.0 ≡ p) × P e
+pub entry_of : (P : ℕ × ℤ → Type 0) (p : ℕ) (l : List (ℕ × ℤ)) → AllByRecursion P l → 0 < entries_of p l → (e : ℕ × ℤ) × (e.0 ≡ p) × P e
 entry_of P p [] all = λ h. absurd (omega arith)
 entry_of P p (x ∷ xs) all =
     cond_both (x.0 == p) (suc (entries_of p xs)) (entries_of p xs) (λ n. 0 < n → (e : ℕ × ℤ) × (e.0 ≡ p) × P e)

@@ -26,7 +26,7 @@ use Rattle.table_laws.proofs.Tables.States.{is_ready_of}
 use Rattle.table_laws.proofs.Tables.Unblock.{IsOneOf, unblock_all_with_ready, waiter_waits}
 use Rattle.xinu_laws.proofs.Preserve.Events.{sound_happens}
 use Rattle.scheduling_laws.specs.Fairness.{IsBefore, IsReleased, WaitsBefore}
-use Rattle.scheduling_laws.proofs.Moves.{IsClosed}
+use Rattle.scheduling_laws.proofs.Moves.{Anyone, IsClosed}
 use Rattle.scheduling_laws.proofs.Orders.{before_counts, before_last, before_without, first_of_before, none_before, one_of_all, one_or_none}
 use Rattle.scheduling_laws.proofs.Passes.Events.{IsCarried, carried_happens}
 use Rattle.scheduling_laws.proofs.Resched.{by_resched, by_tick}
@@ -261,7 +261,7 @@ module _ (sem p q : ℕ) where
       (λ r. holds_first t x y (message_at t x) InReady b (idle_ready (state_at t x) r)) (λ _. fair_set t x y refl b)
 
   -- Each move of a call is fair.
-  fair_closed : IsClosed Begins Holds
+  fair_closed : IsClosed Anyone Begins Holds
   fair_closed = record {
     begins = holds_begins;
     owes = λ t h. h;
@@ -289,7 +289,7 @@ module _ (sem p q : ℕ) where
     makes = λ t x y k free b. holds_first t x y None Nowhere b (ap is_waiting free);
     resumes = λ t x k e b. holds_first t x (in_state Ready (process_at t x)) (message_at t x) InReady b (ap is_waiting e);
     suspends = λ t x k e b. holds_first t x (in_state Suspended (process_at t x)) (message_at t x) Nowhere b (ap is_waiting e);
-    places = λ t x priority k b. fair_placed t x priority b;
+    places = λ t x priority may k b. fair_placed t x priority b;
   }
 
   -- a resched
@@ -317,7 +317,7 @@ module _ (sem p q : ℕ) where
       (fair_all ps s.tables (not_due s.tables (s.tables.ticks + 1) b) (inl (behind_begins s.tables b)))
 
   -- Each event is fair.
-  fair_carried : IsCarried Begins Holds Fair
+  fair_carried : IsCarried Anyone Begins Holds Fair
   fair_carried = record {
     moves = fair_closed;
     stays = λ t b. inl (behind_begins t b);

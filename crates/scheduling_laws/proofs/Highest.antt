@@ -22,7 +22,7 @@ use Rattle.table_laws.proofs.Tables.Starts.{all_are_made, boots_from, none_made,
 use Rattle.table_laws.proofs.Tables.Ticks.{sound_later}
 use Rattle.table_laws.proofs.Tables.Unblock.{unblock_all_ready}
 use Rattle.scheduling_laws.specs.Policy.{IsHighest}
-use Rattle.scheduling_laws.proofs.Moves.{IsClosed, inside_unblocked}
+use Rattle.scheduling_laws.proofs.Moves.{Anyone, IsClosed, inside_unblocked}
 use Rattle.scheduling_laws.proofs.Passes.Events.{IsCarried}
 use Rattle.scheduling_laws.proofs.Resched.{highest_resched}
 
@@ -66,7 +66,7 @@ highest_placed t p priority k h e =
     (λ f. let g = sym (ap is_current (subst (λ q. state_at t q ≡ Current) f k.runs)) ∙ none.1 in cc) h)
 
 -- Each move of a call owes a resched, or a process of the highest priority goes on running.
-highest_closed : IsClosed IsHighest IsHighestYet
+highest_closed : IsClosed Anyone IsHighest IsHighestYet
 highest_closed = record {
   begins = λ t h _. h;
   owes = λ t h e. absurd (cc);
@@ -84,7 +84,7 @@ highest_closed = record {
   resumes = λ t q k f h e. absurd (cc);
   suspends = λ t q k f h _. highest_move t q (in_state Suspended (process_at t q)) (message_at t q)
       (λ g. idle_differs t q t.current (λ c. let i = sym f ∙ c in cc) k.runs (sym g)) h;
-  places = λ t q priority k h. highest_placed t q priority k h;
+  places = λ t q priority may k h. highest_placed t q priority k h;
 }
 
 -- the quantum falls
@@ -111,7 +111,7 @@ highest_ticked s k h =
     (inside_unblocked {Holds = IsHighestYet} (λ t b q g e. absurd (cc)) OK ps (start s) (λ _. h)))
 
 -- Each event keeps it.
-pub highest_carried : IsCarried IsHighest IsHighestYet IsHighest
+pub highest_carried : IsCarried Anyone IsHighest IsHighestYet IsHighest
 highest_carried = record {
   moves = highest_closed;
   stays = λ t h. h;

@@ -3,11 +3,14 @@ pub mod Counts
 pub mod Eligible
 pub mod Fifo
 pub mod Highest
+pub mod Lows
 pub mod Moves
 pub mod Orders
 pub mod Passes
 pub mod Quantum
 pub mod Resched
+pub mod Rounds
+pub mod Turns
 pub mod Waiters
 pub mod Wakes
 pub mod Waking

@@ -27,10 +27,14 @@ Inside Holds d = Holds d.state.tables d.owes_resched
 abbrev pub Settled : (Tables → Bool → Type 0) → CallResult → Type 0
 Settled Holds h = Holds h.call.state.tables (is_off h.answer || h.call.owes_resched)
 
+-- Any process may be given a priority.
+abbrev pub Anyone : ℕ → Type 0
+Anyone q = Unit {0}
+
 -- What begins a call leads to what holds inside an event, and each move keeps that: nothing is done, or a resched is owed; waiters are
 -- released, messages come, replies are kept; counts and messages change; the caller goes on, or stops; a process dies, and in the first move
--- of a call one is made, resumed, suspended or given a priority.
-pub record IsClosed (Begins : Tables → Type 0) (Holds : Tables → Bool → Type 0) : Type 0 where
+-- of a call one is made, resumed, suspended or given a priority, if it may be.
+pub record IsClosed (May : ℕ → Type 0) (Begins : Tables → Type 0) (Holds : Tables → Bool → Type 0) : Type 0 where
   pub begins : (t : Tables) → Begins t → Holds t false
   pub owes : (t : Tables) → Holds t false → Holds t true
   pub releases : (value : ℤ) (sem n : ℕ) (d : CallState) → Inside Holds d
@@ -54,7 +58,7 @@ pub record IsClosed (Begins : Tables → Type 0) (Holds : Tables → Bool → Ty
   pub resumes : (t : Tables) (q : ℕ) → IsSoundTables t → state_at t q ≡ Suspended → Begins t → Holds (ready q t) true
   pub suspends : (t : Tables) (q : ℕ) → IsSoundTables t → state_at t q ≡ Ready → Begins t
       → Holds (move_to q (in_state Suspended (process_at t q)) (message_at t q) Nowhere t) false
-  pub places : (t : Tables) (q : ℕ) (priority : ℤ) → IsSoundTables t → Begins t
+  pub places : (t : Tables) (q : ℕ) (priority : ℤ) → May q → IsSoundTables t → Begins t
       → Holds (with_priority q priority t) (is_ready (state_at t q) || is_current (state_at t q))
 
 -- Those who become ready one after another keep what each of them keeps.

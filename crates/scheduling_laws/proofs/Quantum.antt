@@ -13,7 +13,7 @@ use Rattle.xinu_model.specs.Process.Scheduling.{dispatch_first, is_current, keep
 use Rattle.xinu_model.specs.Tables.{Tables, process_at, state_at, message_at, semaphore_at, InReady, move_to}
 use Rattle.table_laws.proofs.Tables.Starts.{boots_from}
 use Rattle.scheduling_laws.specs.Policy.{HasQuantum}
-use Rattle.scheduling_laws.proofs.Moves.{IsClosed, inside_unblocked}
+use Rattle.scheduling_laws.proofs.Moves.{Anyone, IsClosed, inside_unblocked}
 use Rattle.scheduling_laws.proofs.Passes.Events.{IsCarried}
 
 -- A resched leaves the quantum, or renews it.
@@ -36,7 +36,7 @@ few_placed t p priority h =
     (λ _. h) (λ _. h)
 
 -- No move of a call changes the quantum.
-few_closed : IsClosed HasQuantum (λ t owes. HasQuantum t)
+few_closed : IsClosed Anyone HasQuantum (λ t owes. HasQuantum t)
 few_closed = record {
   begins = λ t h. h;
   owes = λ t h. h;
@@ -53,7 +53,7 @@ few_closed = record {
   makes = λ t q x k free h. h;
   resumes = λ t q k f h. h;
   suspends = λ t q k f h. h;
-  places = λ t q priority k h. few_placed t q priority h;
+  places = λ t q priority may k h. few_placed t q priority h;
 }
 
 -- the quantum falls
@@ -74,7 +74,7 @@ few_ticked s h =
     (cond_both d.owes_resched (resched later) later HasQuantum (λ _. few_resched later k) (λ _. k))
 
 -- Each event keeps it.
-pub few_carried : IsCarried HasQuantum (λ t owes. HasQuantum t) HasQuantum
+pub few_carried : IsCarried Anyone HasQuantum (λ t owes. HasQuantum t) HasQuantum
 few_carried = record {
   moves = few_closed;
   stays = λ t h. h;

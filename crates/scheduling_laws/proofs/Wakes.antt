@@ -26,7 +26,7 @@ use Rattle.table_laws.proofs.Tables.Ticks.{sound_ticked}
 use Rattle.table_laws.proofs.Tables.Unblock.{all_take}
 use Rattle.scheduling_laws.specs.Sleeping.{SleepsUntil}
 use Rattle.scheduling_laws.proofs.Asleep.{sleeps_moved, sleeps_resched}
-use Rattle.scheduling_laws.proofs.Moves.{IsClosed}
+use Rattle.scheduling_laws.proofs.Moves.{Anyone, IsClosed}
 use Rattle.scheduling_laws.proofs.Passes.Events.{IsCarried, carried_happens}
 use Rattle.scheduling_laws.proofs.Resched.{by_resched}
 use Rattle.scheduling_laws.proofs.Waiters.{all_others, waiters_given, waiters_left, waiters_moved}
@@ -144,7 +144,7 @@ module _ (p w : ℕ) where
       (λ _. still_set t q y refl h)
 
   -- Each move of a call leaves p asleep, or kills it.
-  still_closed : IsClosed Sleeps (λ t owes. StillSleeps t)
+  still_closed : IsClosed Anyone Sleeps (λ t owes. StillSleeps t)
   still_closed = record {
     begins = still_begins;
     owes = λ t h. h;
@@ -174,7 +174,7 @@ module _ (p w : ℕ) where
         (λ e. let f = sym b.0.0 ∙ ap (state_at t) e ∙ s in cc) (still_begins t b);
     suspends = λ t q k s b. still_moved t q (in_state Suspended (process_at t q)) (message_at t q) Nowhere
         (λ e. let f = sym b.0.0 ∙ ap (state_at t) e ∙ s in cc) (still_begins t b);
-    places = λ t q priority k b. still_placed t q priority b;
+    places = λ t q priority may k b. still_placed t q priority b;
   }
 
   -- After an event p can run, in its tick, or sleeps, before it; unless it was killed.
@@ -203,7 +203,7 @@ module _ (p w : ℕ) where
       (λ (n : w ≢ s.tables.ticks + 1). in_time_asleep (ticked s).state.tables (sound_ticked s k).inside (sleeps_through p w s k b.0 n))
       (cases_eq w (s.tables.ticks + 1))
 
-  in_time_carried : IsCarried Sleeps (λ t owes. StillSleeps t) IsInTime
+  in_time_carried : IsCarried Anyone Sleeps (λ t owes. StillSleeps t) IsInTime
   in_time_carried = record {
     moves = still_closed;
     stays = λ t b. in_time_asleep t b.1.inside b.0;

@@ -1,3 +1,4 @@
 pub mod Fairness
 pub mod Policy
+pub mod RoundRobin
 pub mod Sleeping

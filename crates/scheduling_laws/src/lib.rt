@@ -1,10 +1,12 @@
-//! The scheduling policy of the book as laws of the abstract machine: who runs, and when a sleeper wakes.
+//! The scheduling policy of the book as laws of the abstract machine: who runs, when a sleeper
+//! wakes, and in which order waiters go on.
 //!
 //! Nothing of it runs: each law is the contract of a function that does nothing, proved for all images, states and lists of events.
 //!
 //! | Module | Its laws |
 //! |---|---|
 //! | [`policy`] | the process of the highest priority runs; no ready process is above it; a tick or two are left of its quantum |
+//! | [`round_robin`] | the turn of a ready process comes |
 //! | [`semaphores`] | those who wait on a semaphore go on in the order in which they came |
 //! | [`sleepers`] | who sleeps wakes on time |
 //!
@@ -13,5 +15,6 @@
 #![tactic(auto)]
 
 pub mod policy;
+pub mod round_robin;
 pub mod semaphores;
 pub mod sleepers;

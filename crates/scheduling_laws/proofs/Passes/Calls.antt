@@ -1,5 +1,5 @@
 -- Each call keeps a predicate that is closed under the moves, and so does what is left of each that waited.
-use Rattle.std.proofs.Common.{◌≡◌, ℕ, suc, ◌+◌, ◌-◌, ◌%◌, Bool, true, false, List, Option, Some, None, refl}
+use Rattle.std.proofs.Common.{◌≡◌, ℕ, suc, ◌+◌, ◌-◌, ◌%◌, Bool, true, false, List, Option, Some, None, refl, sym, ◌∙◌}
 use Rattle.std.specs.Prelude.{slice_index}
 use Rattle.std.specs.List.{AllByRecursion}
 use Rattle.xinu_base.specs.Constants.{OK}
@@ -22,7 +22,7 @@ use Rattle.xinu_model.specs.Sound.Tables.{IsSoundTables}
 use Rattle.xinu_model.specs.Tables.{Tables, process_at, state_at, semaphore_at, is_free, Nowhere}
 use Rattle.xinu_model.specs.Words.{signed, half}
 use Rattle.xinu_laws.proofs.Devices.Kept.{device_open_holds, device_close_holds, device_read_holds, device_write_holds, device_getc_holds, device_putc_holds, device_seek_holds, device_control_holds}
-use Rattle.xinu_laws.proofs.Rows.CallRows.{of_row}
+use Rattle.xinu_laws.proofs.Rows.CallRows.{number_of_row, of_row}
 use Rattle.xinu_laws.proofs.Rows.RowByRow.{◌⨾◌}
 use Rattle.scheduling_laws.proofs.Moves.{Goes, Settled, IsClosed}
 use Rattle.scheduling_laws.proofs.Passes.Steps.{either_settles, blocked_settles}
@@ -30,72 +30,72 @@ use Rattle.scheduling_laws.proofs.Passes.TableCalls.{begun, create_settles, resu
 use Rattle.scheduling_laws.proofs.Passes.PortCalls.{mkbufpool_settles, take_first_settles, getbuf_settles, freed_by_settles, ptcreate_settles, deleted_settles, reset_settles, finish_receive_settles, received_from_settles, finish_send_settles, sent_to_settles}
 use Rattle.scheduling_laws.proofs.Passes.DeviceCalls.{take_char_settles, getc_settles, read_item_settles, reads_settles, read_settles, put_byte_settles, putc_settles, writes_settles, write_settles, console_control_settles, disk_read_settles, disk_write_settles, disk_control_settles, files_settle, mount_settles}
 
-module _ {Begins : Tables → Type 0} {Holds : Tables → Bool → Type 0} (k : IsClosed Begins Holds) where
+module _ {May : ℕ → Type 0} {Begins : Tables → Type 0} {Holds : Tables → Bool → Type 0} (k : IsClosed May Begins Holds) where
   -- a row settles
   abbrev SettlesRow : CallRow → Type 0
-  SettlesRow r = (a : ℕ → ℕ) (s : Xinu) → IsSoundTables s.tables → Begins s.tables → Settled Holds (r.effect a s)
+  SettlesRow r = (a : ℕ → ℕ) (s : Xinu) → IsSoundTables s.tables → Begins s.tables → (r.syscall.number ≡ 7 → May (a 0)) → Settled Holds (r.effect a s)
 
   -- Row by row.
   rows_settle : AllByRecursion SettlesRow calls
   unfolding calls
   rows_settle =
-      (λ a s c b. begun k s b) ⨾
-      (λ a s c b. create_settles k (a 0) (a 1) (half (a 2)) (a 3) (a 4) (a 5) s c b) ⨾
-      (λ a s c b. resume_settles k (a 0) s c b) ⨾
-      (λ a s c b. suspend_settles k (a 0) s c b) ⨾
-      (λ a s c b. kill_settles k (a 0) s (begun k s b)) ⨾
-      (λ a s c b. k.owes s.tables (begun k s b)) ⨾
-      (λ a s c b. chprio_settles k (a 0) (half (a 1)) s c b) ⨾
-      (λ a s c b. either_settles k (is_free (state_at s.tables (a 0))) (refused s) (answers (process_at s.tables (a 0)).priority s) (λ _. begun k s b) (λ _. begun k s b)) ⨾
-      (λ a s c b. exit_settles k s (begun k s b)) ⨾
-      (λ a s c b. granted_settles k (heap.take_memory (a 0) s.parts.heap) s (begun k s b)) ⨾
-      (λ a s c b. given_back_settles k (heap.free_memory (a 0) (a 1) s.parts.heap) s (begun k s b)) ⨾
-      (λ a s c b. stacked_settles k (heap.take_stack (a 0) s.parts.heap) s (begun k s b)) ⨾
-      (λ a s c b. given_back_settles k (heap.free_stack (a 0) (a 1) s.parts.heap) s (begun k s b)) ⨾
-      (λ a s c b. semcreate_settles k (signed (a 0)) s (begun k s b)) ⨾
-      (λ a s c b. semdelete_settles k (a 0) s (begun k s b)) ⨾
-      (λ a s c b. semreset_settles k (a 0) (signed (a 1)) s (begun k s b)) ⨾
-      (λ a s c b. either_settles k (is_good (a 0) s.tables) (answers (count_of (semaphore_at s.tables (a 0))) s) (refused s) (λ _. begun k s b) (λ _. begun k s b)) ⨾
-      (λ a s c b. wait_settles k (a 0) s (begun k s b)) ⨾
-      (λ a s c b. signal_settles k (a 0) s (begun k s b)) ⨾
-      (λ a s c b. signaln_settles k (a 0) (signed (a 1)) s (begun k s b)) ⨾
-      (λ a s c b. send_settles k (a 0) (a 1) s (begun k s b)) ⨾
-      (λ a s c b. received_settles k (held s) _ s c b (blocked_settles k Receiving rest.Receive Nowhere s (begun k s b))) ⨾
-      (λ a s c b. received_settles k (held s) _ s c b (begun k s b)) ⨾
-      (λ a s c b. recvtime_settles k (signed (a 0)) s c b) ⨾
-      (λ a s c b. sleep_settles k (signed (a 0)) s (begun k s b)) ⨾
-      (λ a s c b. sleepms_settles k (signed (a 0)) s (begun k s b)) ⨾
-      (λ a s c b. begun k s b) ⨾
-      (λ a s c b. mkbufpool_settles k (a 0) (a 1) s (begun k s b)) ⨾
-      (λ a s c b. getbuf_settles k (a 0) s (begun k s b)) ⨾
-      (λ a s c b. freed_by_settles k (holder (a 0) s.parts.pools) (a 0) s (begun k s b)) ⨾
-      (λ a s c b. ptcreate_settles k (signed (a 0)) s (begun k s b)) ⨾
-      (λ a s c b. deleted_settles k (port_at s.parts.ports (a 0)).queue (a 0) (a 1) s (begun k s b)) ⨾
-      (λ a s c b. reset_settles k (port_at s.parts.ports (a 0)).queue (a 0) (a 1) s (begun k s b)) ⨾
-      (λ a s c b. sent_to_settles k (port_at s.parts.ports (a 0)).queue (a 0) (a 1) s (begun k s b)) ⨾
-      (λ a s c b. received_from_settles k (port_at s.parts.ports (a 0)).queue (a 0) s (begun k s b)) ⨾
-      (λ a s c b. device_open_holds (Settled Holds) (a 0) (a 1) (a 2) s (begun k s b) (begun k s b) (begun k s b) (files_settle k s (begun k s b))) ⨾
-      (λ a s c b. device_close_holds (Settled Holds) (a 0) s (begun k s b) (begun k s b) (files_settle k s (begun k s b))) ⨾
-      (λ a s c b. device_read_holds (Settled Holds) (a 0) (a 1) (a 2) s (begun k s b) (read_settles k (a 1) (signed (a 2)) s (begun k s b))
+      (λ a s c b m. begun k s b) ⨾
+      (λ a s c b m. create_settles k (a 0) (a 1) (half (a 2)) (a 3) (a 4) (a 5) s c b) ⨾
+      (λ a s c b m. resume_settles k (a 0) s c b) ⨾
+      (λ a s c b m. suspend_settles k (a 0) s c b) ⨾
+      (λ a s c b m. kill_settles k (a 0) s (begun k s b)) ⨾
+      (λ a s c b m. k.owes s.tables (begun k s b)) ⨾
+      (λ a s c b m. chprio_settles k (a 0) (half (a 1)) s (m refl) c b) ⨾
+      (λ a s c b m. either_settles k (is_free (state_at s.tables (a 0))) (refused s) (answers (process_at s.tables (a 0)).priority s) (λ _. begun k s b) (λ _. begun k s b)) ⨾
+      (λ a s c b m. exit_settles k s (begun k s b)) ⨾
+      (λ a s c b m. granted_settles k (heap.take_memory (a 0) s.parts.heap) s (begun k s b)) ⨾
+      (λ a s c b m. given_back_settles k (heap.free_memory (a 0) (a 1) s.parts.heap) s (begun k s b)) ⨾
+      (λ a s c b m. stacked_settles k (heap.take_stack (a 0) s.parts.heap) s (begun k s b)) ⨾
+      (λ a s c b m. given_back_settles k (heap.free_stack (a 0) (a 1) s.parts.heap) s (begun k s b)) ⨾
+      (λ a s c b m. semcreate_settles k (signed (a 0)) s (begun k s b)) ⨾
+      (λ a s c b m. semdelete_settles k (a 0) s (begun k s b)) ⨾
+      (λ a s c b m. semreset_settles k (a 0) (signed (a 1)) s (begun k s b)) ⨾
+      (λ a s c b m. either_settles k (is_good (a 0) s.tables) (answers (count_of (semaphore_at s.tables (a 0))) s) (refused s) (λ _. begun k s b) (λ _. begun k s b)) ⨾
+      (λ a s c b m. wait_settles k (a 0) s (begun k s b)) ⨾
+      (λ a s c b m. signal_settles k (a 0) s (begun k s b)) ⨾
+      (λ a s c b m. signaln_settles k (a 0) (signed (a 1)) s (begun k s b)) ⨾
+      (λ a s c b m. send_settles k (a 0) (a 1) s (begun k s b)) ⨾
+      (λ a s c b m. received_settles k (held s) _ s c b (blocked_settles k Receiving rest.Receive Nowhere s (begun k s b))) ⨾
+      (λ a s c b m. received_settles k (held s) _ s c b (begun k s b)) ⨾
+      (λ a s c b m. recvtime_settles k (signed (a 0)) s c b) ⨾
+      (λ a s c b m. sleep_settles k (signed (a 0)) s (begun k s b)) ⨾
+      (λ a s c b m. sleepms_settles k (signed (a 0)) s (begun k s b)) ⨾
+      (λ a s c b m. begun k s b) ⨾
+      (λ a s c b m. mkbufpool_settles k (a 0) (a 1) s (begun k s b)) ⨾
+      (λ a s c b m. getbuf_settles k (a 0) s (begun k s b)) ⨾
+      (λ a s c b m. freed_by_settles k (holder (a 0) s.parts.pools) (a 0) s (begun k s b)) ⨾
+      (λ a s c b m. ptcreate_settles k (signed (a 0)) s (begun k s b)) ⨾
+      (λ a s c b m. deleted_settles k (port_at s.parts.ports (a 0)).queue (a 0) (a 1) s (begun k s b)) ⨾
+      (λ a s c b m. reset_settles k (port_at s.parts.ports (a 0)).queue (a 0) (a 1) s (begun k s b)) ⨾
+      (λ a s c b m. sent_to_settles k (port_at s.parts.ports (a 0)).queue (a 0) (a 1) s (begun k s b)) ⨾
+      (λ a s c b m. received_from_settles k (port_at s.parts.ports (a 0)).queue (a 0) s (begun k s b)) ⨾
+      (λ a s c b m. device_open_holds (Settled Holds) (a 0) (a 1) (a 2) s (begun k s b) (begun k s b) (begun k s b) (files_settle k s (begun k s b))) ⨾
+      (λ a s c b m. device_close_holds (Settled Holds) (a 0) s (begun k s b) (begun k s b) (files_settle k s (begun k s b))) ⨾
+      (λ a s c b m. device_read_holds (Settled Holds) (a 0) (a 1) (a 2) s (begun k s b) (read_settles k (a 1) (signed (a 2)) s (begun k s b))
       (disk_read_settles k (a 1) (a 2) s (begun k s b)) (files_settle k s (begun k s b))) ⨾
-      (λ a s c b. device_write_holds (Settled Holds) (a 0) (a 1) (a 2) s (begun k s b) (write_settles k (a 1) (signed (a 2)) s (begun k s b))
+      (λ a s c b m. device_write_holds (Settled Holds) (a 0) (a 1) (a 2) s (begun k s b) (write_settles k (a 1) (signed (a 2)) s (begun k s b))
       (disk_write_settles k (a 1) (a 2) s (begun k s b)) (files_settle k s (begun k s b))) ⨾
-      (λ a s c b. device_getc_holds (Settled Holds) (a 0) s (begun k s b) (getc_settles k s (begun k s b)) (files_settle k s (begun k s b))) ⨾
-      (λ a s c b. device_putc_holds (Settled Holds) (a 0) (a 1 % 256) s (begun k s b) (putc_settles k (a 1 % 256) s (begun k s b)) (files_settle k s (begun k s b))) ⨾
-      (λ a s c b. device_seek_holds (Settled Holds) (a 0) (signed (a 1)) s (begun k s b) (files_settle k s (begun k s b))) ⨾
-      (λ a s c b. device_control_holds (Settled Holds) (a 0) (a 1) (a 2) s (begun k s b) (console_control_settles k (a 1) s (begun k s b))
+      (λ a s c b m. device_getc_holds (Settled Holds) (a 0) s (begun k s b) (getc_settles k s (begun k s b)) (files_settle k s (begun k s b))) ⨾
+      (λ a s c b m. device_putc_holds (Settled Holds) (a 0) (a 1 % 256) s (begun k s b) (putc_settles k (a 1 % 256) s (begun k s b)) (files_settle k s (begun k s b))) ⨾
+      (λ a s c b m. device_seek_holds (Settled Holds) (a 0) (signed (a 1)) s (begun k s b) (files_settle k s (begun k s b))) ⨾
+      (λ a s c b m. device_control_holds (Settled Holds) (a 0) (a 1) (a 2) s (begun k s b) (console_control_settles k (a 1) s (begun k s b))
       (disk_control_settles k (a 1) s (begun k s b)) (files_settle k s (begun k s b))) ⨾
-      (λ a s c b. mount_settles k (a 0) (a 1) (a 2) s (begun k s b)) ⨾
+      (λ a s c b m. mount_settles k (a 0) (a 1) (a 2) s (begun k s b)) ⨾
       tt
 
   -- So does the call of any number,
   pub called_settles : (number : ℕ) (args : List ℕ) (s : Xinu) → IsSoundTables s.tables → Begins s.tables
-      → Settled Holds (called number args s)
-  called_settles number args s c b = by_row (found_in calls number) refl
+      → (number ≡ 7 → May (slice_index args 0)) → Settled Holds (called number args s)
+  called_settles number args s c b may = by_row (found_in calls number) refl
     where
       by_row : (found : Option CallRow) → found_in calls number ≡ found → Settled Holds (done_by found args s)
       by_row None e = begun k s b
-      by_row (Some r) e = of_row SettlesRow calls rows_settle number r e (slice_index args) s c b
+      by_row (Some r) e = of_row SettlesRow calls rows_settle number r e (slice_index args) s c b (λ f. may (sym (number_of_row calls number r e) ∙ f))
 
   -- and what is left of a call that waited.
   pub continued_settles : (left : Rest) (s : Xinu) → IsSoundTables s.tables → Begins s.tables → Settled Holds (continued left s)

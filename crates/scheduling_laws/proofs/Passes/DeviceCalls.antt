@@ -26,7 +26,7 @@ use Rattle.xinu_laws.proofs.NameSpaces.Calls.{mount_holds}
 use Rattle.scheduling_laws.proofs.Moves.{Goes, Settled, IsClosed}
 use Rattle.scheduling_laws.proofs.Passes.Steps.{refused_settles, either_settles, await_settles, inside_signalled_times}
 
-module _ {Begins : Tables → Type 0} {Holds : Tables → Bool → Type 0} (k : IsClosed Begins Holds) where
+module _ {May : ℕ → Type 0} {Begins : Tables → Type 0} {Holds : Tables → Bool → Type 0} (k : IsClosed May Begins Holds) where
   -- `getc` of the console
   pub take_char_settles : (items : List Item) (s : Xinu) → Goes Holds s → Settled Holds (take_char items s)
   take_char_settles [] s h = h

@@ -1,5 +1,5 @@
 -- Each event keeps a predicate that is closed under the moves of calls, if a resched at its end and a tick do.
-use Rattle.std.proofs.Common.{◌≡◌, ℕ, zero, suc, ◌+◌, ◌-◌, ◌==◌, Bool, true, false, cond, ◌||◌, List, [], ◌∷◌, ◌++◌, Option, Some, None, refl, ap, subst, ◌∙◌, arith, ℤ}
+use Rattle.std.proofs.Common.{◌≡◌, ℕ, zero, suc, ◌+◌, ◌-◌, ◌==◌, Bool, true, false, cond, ◌||◌, List, [], ◌∷◌, ◌++◌, Option, Some, None, refl, sym, ap, subst, ◌∙◌, arith, ℤ}
 use Rattle.std.proofs.lemmas.Bool.{cond_both, eqb-false}
 use Rattle.xinu_model.specs.Calls.{called, continued}
 use Rattle.xinu_model.specs.Console.Taking.{console_of, with_console}
@@ -9,12 +9,14 @@ use Rattle.xinu_model.specs.RawDisk.Calls.{with_disk}
 use Rattle.xinu_model.specs.Semaphores.Waiting.{signalled}
 use Rattle.xinu_model.specs.Sound.Tables.{IsInside, IsSoundTables}
 use Rattle.xinu_model.specs.Tables.{Tables, process_at, semaphore_at}
-use Rattle.scheduling_laws.proofs.Moves.{Goes, Inside, Settled, IsClosed}
-use Rattle.std.specs.Prelude.{is_some}
+use Rattle.scheduling_laws.proofs.Moves.{Anyone, Goes, Inside, Settled, IsClosed}
+use Rattle.std.specs.Prelude.{is_some, slice_index}
+use Rattle.std.specs.List.{AllByRecursion}
 use Rattle.xinu_base.specs.declared.events.End.{End}
 use Rattle.xinu_base.specs.declared.events.Event.{Event}
 use Rattle.xinu_base.specs.declared.events.Event.TheVariants.{Step, Tick, Key, Tx, Disk0, Disk1, Fail0}
 use Rattle.xinu_base.specs.declared.lines.TranscriptLine.{TranscriptLine}
+use Rattle.xinu_base.specs.declared.lines.TranscriptLine.TheVariants as line
 use Rattle.xinu_base.specs.declared.registers.Outcome.{Outcome}
 use Rattle.xinu_base.specs.declared.registers.Outcome.TheVariants as outcome
 use Rattle.xinu_model.specs.Clock.{ticked}
@@ -50,8 +52,8 @@ use Rattle.scheduling_laws.proofs.Passes.Steps.{inside_signalled, inside_signall
 use Rattle.scheduling_laws.proofs.Passes.TableCalls.{exit_settles}
 
 -- What a predicate on tables that is closed under the moves comes to as an event ends, if nothing happens in it, and in a tick.
-pub record IsCarried (Begins : Tables → Type 0) (Holds : Tables → Bool → Type 0) (Ends : Tables → Type 0) : Type 0 where
-  pub moves : IsClosed Begins Holds
+pub record IsCarried (May : ℕ → Type 0) (Begins : Tables → Type 0) (Holds : Tables → Bool → Type 0) (Ends : Tables → Type 0) : Type 0 where
+  pub moves : IsClosed May Begins Holds
   pub stays : (t : Tables) → Begins t → Ends t
   pub ends : (t : Tables) → IsInside t → Holds t false → Ends t
   pub rescheds : (t : Tables) → IsInside t → Holds t true → Ends (resched t)
@@ -64,7 +66,26 @@ either_order true false = refl
 either_order false true = refl
 either_order false false = refl
 
-module _ {Begins : Tables → Type 0} {Holds : Tables → Bool → Type 0} {Ends : Tables → Type 0} (k : IsCarried Begins Holds Ends) where
+-- if a line tells of a call 7, its process may be given a priority
+abbrev pub MayPlace : (ℕ → Type 0) → TranscriptLine → Type 0
+MayPlace May (line.Call q call) = call.number ≡ 7 → May (slice_index call.args 0)
+MayPlace May _ = Unit {0}
+
+-- the same of each line
+abbrev pub MayPlaceAll : (ℕ → Type 0) → List TranscriptLine → Type 0
+MayPlaceAll May lines = AllByRecursion (MayPlace May) lines
+
+-- anyone may
+anyone_may : (l : TranscriptLine) → MayPlace Anyone l
+anyone_may (line.Call q call) = λ e. tt
+anyone_may _ = tt
+
+all_may : (lines : List TranscriptLine) → MayPlaceAll Anyone lines
+all_may [] = tt
+all_may (l ∷ lines) = (anyone_may l, all_may lines)
+
+module _ {May : ℕ → Type 0} {Begins : Tables → Type 0} {Holds : Tables → Bool → Type 0} {Ends : Tables → Type 0}
+    (k : IsCarried May Begins Holds Ends) where
   -- the end of an event
   carried_end : (h : CallResult) → KeepsAll h → Settled Holds h → (was : ℕ) (first : List TranscriptLine)
       → Ends (end_of_event was first h).state.tables
@@ -76,29 +97,30 @@ module _ {Begins : Tables → Type 0} {Holds : Tables → Bool → Type 0} {Ends
       cond_both due (resched t) t Ends (λ e. k.rescheds t o (subst (Holds t) e held)) (λ e. k.ends t o (subst (Holds t) e held))
 
   -- what comes of an instruction
-  carried_reacted : (o : Outcome) (s : Xinu) → MayCallAny s → Begins s.tables → Ends (reacted o s).state.tables
-  carried_reacted outcome.Went s c b = k.stays s.tables b
-  carried_reacted outcome.Call s c b =
+  carried_reacted : (o : Outcome) (s : Xinu) → MayCallAny s → Begins s.tables → MayPlaceAll May (reacted o s).lines
+      → Ends (reacted o s).state.tables
+  carried_reacted outcome.Went s c b may = k.stays s.tables b
+  carried_reacted outcome.Call s c b may =
       let call = call_of (current_hart s) in
       carried_end (called call.number call.args s) (called_keeps call.number call.args s c)
-      (called_settles k.moves call.number call.args s c.may.tables b) s.tables.current []
-  carried_reacted outcome.Exit s c b =
+      (called_settles k.moves call.number call.args s c.may.tables b may.0) s.tables.current []
+  carried_reacted outcome.Exit s c b may =
       carried_end (exit s) (exit_keeps s c) (exit_settles k.moves s (k.moves.begins s.tables b)) s.tables.current []
-  carried_reacted (outcome.Trap cause) s c b =
+  carried_reacted (outcome.Trap cause) s c b may =
       carried_end (exit s) (exit_keeps s c) (exit_settles k.moves s (k.moves.begins s.tables b)) s.tables.current []
 
   -- a machine step
-  carried_stepped : (s : Xinu) → IsSound s → Begins s.tables → Ends (stepped s).state.tables
+  carried_stepped : (s : Xinu) → IsSound s → Begins s.tables → MayPlaceAll May (stepped s).lines → Ends (stepped s).state.tables
   carried_stepped s c b =
       let left = (process_at s.tables s.tables.current).rest in
       let did = exec (current_hart s) s.memory in
       let goes_on = end_of_event s.tables.current [] (continued left s) in
       cond_both (s.tables.current == 0) (nothing_happens s) (cond (is_done left) (instruction_step s) goes_on)
-      (λ (e : EventResult). Ends e.state.tables) (λ _. k.stays s.tables b)
+      (λ (e : EventResult). MayPlaceAll May e.lines → Ends e.state.tables) (λ _ _. k.stays s.tables b)
       (λ e. let may = may_call s c (eqb-false s.tables.current 0 e) in
-      cond_both (is_done left) (instruction_step s) goes_on (λ (e : EventResult). Ends e.state.tables)
+      cond_both (is_done left) (instruction_step s) goes_on (λ (e : EventResult). MayPlaceAll May e.lines → Ends e.state.tables)
       (λ _. carried_reacted did.outcome (with_executed did s) (may_call_after s may) b)
-      (λ _. carried_end (continued left s) (continued_keeps s may) (continued_settles k.moves left s c.tables b) s.tables.current []))
+      (λ _ _. carried_end (continued left s) (continued_keeps s may) (continued_settles k.moves left s c.tables b) s.tables.current []))
 
   -- a received character
   carried_keyed : (c : ℕ) (s : Xinu) → IsSound s → Begins s.tables → Ends (keyed c s).state.tables
@@ -186,33 +208,41 @@ module _ {Begins : Tables → Type 0} {Holds : Tables → Bool → Type 0} {Ends
       (next_can s a made after.devices.files.itself)) (answered_at_once x.notes s (k.moves.begins s.tables b)) u.tables.current []
 
   carried_step_with : (choice : ℕ) (found : Option FileRequest) (s : Xinu) → next_file_call s ≡ found → IsSound s → Begins s.tables
-      → Ends (step_with choice found s).state.tables
+      → MayPlaceAll May (step_with choice found s).lines → Ends (step_with choice found s).state.tables
   carried_step_with zero found s e sound b = carried_stepped s sound b
   carried_step_with (suc choice) None s e sound b = carried_stepped s sound b
-  carried_step_with (suc choice) (Some a) s e sound b = carried_at_once a s e sound b
+  carried_step_with (suc choice) (Some a) s e sound b = λ _. carried_at_once a s e sound b
 
   -- What holds before an event comes to what holds after it, whatever is chosen in it.
-  pub carried_event : (s : Xinu) (e : Event) (choice : ℕ) → IsSound s → Begins s.tables → Ends (effect_of s e choice).state.tables
-  carried_event s Step choice sound b = carried_step_with choice (next_file_call s) s refl sound b
-  carried_event s Tick choice sound b = k.ticks s sound.tables b
-  carried_event s (Key c) choice sound b = carried_keyed c s sound b
-  carried_event s Tx choice sound b = carried_sent (transmitted (console_of s)) s refl sound b
-  carried_event s Disk0 choice sound b = carried_served true (raw_completed true (disk_of s)) s refl sound b
-  carried_event s Fail0 choice sound b = carried_served false (raw_completed false (disk_of s)) s refl sound b
-  carried_event s Disk1 choice sound b = carried_completed (files_of s).calls choice s refl sound b
-  carried_event s _ choice sound b = k.stays s.tables b
+  carried_event : (s : Xinu) (e : Event) (choice : ℕ) → IsSound s → Begins s.tables → MayPlaceAll May (effect_of s e choice).lines
+      → Ends (effect_of s e choice).state.tables
+  carried_event s Step choice sound b may = carried_step_with choice (next_file_call s) s refl sound b may
+  carried_event s Tick choice sound b may = k.ticks s sound.tables b
+  carried_event s (Key c) choice sound b may = carried_keyed c s sound b
+  carried_event s Tx choice sound b may = carried_sent (transmitted (console_of s)) s refl sound b
+  carried_event s Disk0 choice sound b may = carried_served true (raw_completed true (disk_of s)) s refl sound b
+  carried_event s Fail0 choice sound b may = carried_served false (raw_completed false (disk_of s)) s refl sound b
+  carried_event s Disk1 choice sound b may = carried_completed (files_of s).calls choice s refl sound b
+  carried_event s _ choice sound b may = k.stays s.tables b
 
-  pub carried_happens : (old : Xinu) (e : Event) (lines : List TranscriptLine) (new : Xinu) → IsSound old → Begins old.tables
-      → Happens old e lines new → Ends new.tables
-  carried_happens old e lines new sound b h =
-      subst (λ (x : Xinu). Ends x.tables) (ap (λ (x : EventResult). x.state) h.effect) (carried_event old e h.choice sound b)
+  pub carried_where : (old : Xinu) (e : Event) (lines : List TranscriptLine) (new : Xinu) → IsSound old → Begins old.tables
+      → Happens old e lines new → MayPlaceAll May lines → Ends new.tables
+  carried_where old e lines new sound b h may =
+      subst (λ (x : Xinu). Ends x.tables) (ap (λ (x : EventResult). x.state) h.effect)
+      (carried_event old e h.choice sound b (subst (MayPlaceAll May) (sym (ap (λ (x : EventResult). x.lines) h.effect)) may))
+
+-- So it does in any event if anyone may be given a priority.
+pub carried_happens : {Begins : Tables → Type 0} {Holds : Tables → Bool → Type 0} {Ends : Tables → Type 0} → IsCarried Anyone Begins Holds Ends
+    → (old : Xinu) (e : Event) (lines : List TranscriptLine) (new : Xinu) → IsSound old → Begins old.tables → Happens old e lines new
+    → Ends new.tables
+carried_happens k old e lines new sound b h = carried_where k old e lines new sound b h (all_may lines)
 
 -- A sound state in which something holds of the tables.
 abbrev pub IsSoundAnd : (Tables → Type 0) → Xinu → Type 0
 IsSoundAnd Holds s = IsSound s × Holds s.tables
 
 -- What each event keeps is kept by each run.
-pub carried_run : {Always : Tables → Type 0} {Holds : Tables → Bool → Type 0} → IsCarried Always Holds Always
+pub carried_run : {Always : Tables → Type 0} {Holds : Tables → Bool → Type 0} → IsCarried Anyone Always Holds Always
     → (events : List Event) (old : Xinu) (lines : List TranscriptLine) (new : Xinu) (end : End) → IsSoundAnd Always old
     → RunsTo old events lines new end → IsSoundAnd Always new
 carried_run {Always} k =

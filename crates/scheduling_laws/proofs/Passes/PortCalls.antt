@@ -18,7 +18,7 @@ use Rattle.xinu_model.specs.Tables.{no_semaphore, Tables}
 use Rattle.scheduling_laws.proofs.Moves.{Goes, Settled, IsClosed}
 use Rattle.scheduling_laws.proofs.Passes.Steps.{refused_settles, either_settles, await_settles, inside_tokens, inside_signalled, inside_put_back, inside_cleared, holds_made}
 
-module _ {Begins : Tables → Type 0} {Holds : Tables → Bool → Type 0} (k : IsClosed Begins Holds) where
+module _ {May : ℕ → Type 0} {Begins : Tables → Type 0} {Holds : Tables → Bool → Type 0} (k : IsClosed May Begins Holds) where
   -- call 28
   made_pool_settles : (found : Option Grant) (sem : Option ℕ) (size n : ℕ) (s : Xinu) → Goes Holds s
       → Settled Holds (made_pool found sem size n s)

@@ -21,7 +21,7 @@ use Rattle.xinu_model.specs.Semaphores.Waiting.{signal_first, signalled, signall
 use Rattle.xinu_model.specs.Tables.{Semaphore, Tables, process_at, state_at, semaphore_at, Place, InReady, InSemaphore, move_to}
 use Rattle.scheduling_laws.proofs.Moves.{Goes, Inside, Settled, IsClosed}
 
-module _ {Begins : Tables → Type 0} {Holds : Tables → Bool → Type 0} (k : IsClosed Begins Holds) where
+module _ {May : ℕ → Type 0} {Begins : Tables → Type 0} {Holds : Tables → Bool → Type 0} (k : IsClosed May Begins Holds) where
   -- a refused call
   pub refused_settles : (s : Xinu) → Goes Holds s → Settled Holds (refused s)
   refused_settles s h = h

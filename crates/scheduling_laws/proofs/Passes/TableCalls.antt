@@ -29,7 +29,7 @@ use Rattle.xinu_model.specs.Semaphores.Calls.{semdelete, signal}
 use Rattle.xinu_model.specs.Messages.{send}
 use Rattle.scheduling_laws.proofs.Passes.Steps.{refused_settles, either_settles, blocked_settles, await_settles, inside_tokens, inside_signalled, inside_signalled_times, inside_emptied, inside_delivered, inside_sent, holds_made, sent_current}
 
-module _ {Begins : Tables → Type 0} {Holds : Tables → Bool → Type 0} (k : IsClosed Begins Holds) where
+module _ {May : ℕ → Type 0} {Begins : Tables → Type 0} {Holds : Tables → Bool → Type 0} (k : IsClosed May Begins Holds) where
   -- what begins a call lets its caller go on
   pub begun : (s : Xinu) → Begins s.tables → Goes Holds s
   begun s b = k.begins s.tables b
@@ -84,10 +84,11 @@ module _ {Begins : Tables → Type 0} {Holds : Tables → Bool → Type 0} (k : 
       (inside_sent k parent p (start s) h)))
 
   -- call 7
-  pub chprio_settles : (p : ℕ) (priority : ℤ) (s : Xinu) → IsSoundTables s.tables → Begins s.tables → Settled Holds (chprio p priority s)
-  chprio_settles p priority s sound b =
+  pub chprio_settles : (p : ℕ) (priority : ℤ) (s : Xinu) → May p → IsSoundTables s.tables → Begins s.tables
+      → Settled Holds (chprio p priority s)
+  chprio_settles p priority s may sound b =
       either_settles k (is_free (state_at s.tables p)) (refused s) _ (λ _. refused_settles k s (begun s b))
-      (λ _. k.places s.tables p priority sound b)
+      (λ _. k.places s.tables p priority may sound b)
 
   -- memory is granted
   pub granted_settles : (found : Option Grant) (s : Xinu) → Goes Holds s → Settled Holds (granted found s)
