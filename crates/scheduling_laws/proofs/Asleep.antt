@@ -1,21 +1,19 @@
 -- Who sleeps goes on sleeping as others move; a caller of `sleepms` sleeps until its tick.
-use Rattle.std.proofs.Common.{◌≡◌, ◌≢◌, ℕ, suc, ◌+◌, ◌<◌, ◌==◌, ◌&&◌, Bool, true, false, cond, not, List, [], ◌∷◌, ◌++◌, filter, refl, sym, ap, subst, ◌∙◌, arith, ℤ, pos, Option}
+use Rattle.std.proofs.Common.{◌≡◌, ◌≢◌, ℕ, suc, ◌+◌, ◌<◌, ◌==◌, ◌&&◌, Bool, true, false, cond, not, List, ◌∷◌, ◌++◌, filter, refl, sym, ap, subst, ◌∙◌, arith, pos, Option}
 use Rattle.std.specs.Prelude.{nat_le}
 use Rattle.std.proofs.lemmas.Bool.{cond_both, and_parts, eqb-true, eq-eqb}
-use Rattle.xinu_base.specs.Insert.{sleeper_insert}
 use Rattle.xinu_base.specs.declared.processes.Process.{Process}
 use Rattle.xinu_base.specs.declared.processes.Rest.TheVariants.{Nothing}
 use Rattle.xinu_base.specs.declared.processes.State.TheVariants.{Current, Ready, Sleeping}
 use Rattle.xinu_model.specs.Clock.{sleepms}
 use Rattle.xinu_model.specs.Machine.{Xinu, closed}
-use Rattle.xinu_model.specs.Process.Scheduling.{is_current, in_state, dispatch_first, keeps_cpu, preempt, ready, resched}
+use Rattle.xinu_model.specs.Process.Scheduling.{in_state, resched}
 use Rattle.xinu_model.specs.Sound.State.{IsSound}
-use Rattle.xinu_model.specs.Sound.Tables.{entries_of, times, IsInside}
+use Rattle.xinu_model.specs.Sound.Tables.{times, IsInside}
 use Rattle.xinu_model.specs.Tables.{Tables, process_at, state_at, message_at, entries_without, sleepers_in, Place, Nowhere, InReady, InSemaphore, InSleepers, move_to}
-use Rattle.table_laws.proofs.Lists.Counts.{first_has_entry, times-append, times-filter_keeps, times-insert}
+use Rattle.table_laws.proofs.Lists.Counts.{times-append, times-filter_keeps, times-insert}
 use Rattle.table_laws.proofs.Preserve.{current_within}
 use Rattle.table_laws.proofs.Tables.MoveTo.{state_move_same, state_move_other}
-use Rattle.table_laws.proofs.Tables.Scheduling.{current_of, ready_of, room_made}
 use Rattle.xinu_laws.proofs.Preserve.Messages.{sleepms_preserves}
 use Rattle.scheduling_laws.proofs.Resched.{by_resched}
 use Rattle.scheduling_laws.specs.Sleeping.{SleepsUntil}

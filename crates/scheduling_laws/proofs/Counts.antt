@@ -1,21 +1,20 @@
 -- An accepted wait lowers the count of its semaphore by one, and an accepted signal raises it by one.
-use Rattle.std.proofs.Common.{◌≡◌, ◌≢◌, ℕ, zero, suc, ◌+◌, ◌<◌, ◌==◌, ◌&&◌, not, true, false, cond, List, [], ◌∷◌, ◌++◌, length, length-append, refl, sym, ap, subst, ◌∙◌, arith, ℤ, pos, Option, Some, get_or-set_same}
+use Rattle.std.proofs.Common.{◌≡◌, ◌≢◌, ℕ, zero, suc, ◌+◌, ◌<◌, ◌==◌, ◌&&◌, not, true, cond, List, [], ◌∷◌, length, length-append, refl, sym, ap, subst, ◌∙◌, arith, pos, get_or-set_same}
 use Rattle.std.specs.Prelude.{◌+ℤ◌, neg_ℤ, int_lt}
 use Rattle.std.proofs.lemmas.Bool.{and_from, cond_both, both_ways, eq-eqb}
 use Rattle.std.proofs.lemmas.Int.{ints}
 use Rattle.xinu_base.specs.Constants.{OK}
-use Rattle.xinu_base.specs.declared.processes.Process.{Process}
 use Rattle.xinu_base.specs.declared.processes.Rest.TheVariants.{Nothing}
-use Rattle.xinu_base.specs.declared.processes.State.TheVariants.{Free, Current, Ready, Waiting}
+use Rattle.xinu_base.specs.declared.processes.State.TheVariants.{Waiting}
 use Rattle.xinu_model.specs.Machine.{Xinu, CallResult, closed, start, refused, returns}
-use Rattle.xinu_model.specs.Process.Scheduling.{in_state, ready, resched}
+use Rattle.xinu_model.specs.Process.Scheduling.{ready, resched}
 use Rattle.xinu_model.specs.Semaphores.Calls.{answers, signal, wait}
-use Rattle.xinu_model.specs.Semaphores.Counts.{count_of, is_good, most_tokens, with_tokens}
+use Rattle.xinu_model.specs.Semaphores.Counts.{count_of, is_good, most_tokens}
 use Rattle.xinu_model.specs.Semaphores.Waiting.{await, signal_first, signalled, take_token}
 use Rattle.xinu_model.specs.Sound.Pools.{is_waiting}
 use Rattle.xinu_model.specs.Sound.State.{IsSound}
-use Rattle.xinu_model.specs.Sound.Tables.{count_in, waiting_places, FitsOwner, IsInside, IsSoundTables}
-use Rattle.xinu_model.specs.Tables.{Semaphore, no_semaphore, Tables, process_at, state_at, message_at, semaphore_at, numbers_without, semaphore_without, Place, Nowhere, InReady, InSemaphore, move_to}
+use Rattle.xinu_model.specs.Sound.Tables.{count_in, waiting_places, FitsOwner, IsInside}
+use Rattle.xinu_model.specs.Tables.{Semaphore, no_semaphore, Tables, process_at, state_at, message_at, semaphore_at, numbers_without, semaphore_without, InSemaphore, move_to}
 use Rattle.table_laws.proofs.Lists.Counts.{filter_absent, first_is_counted, get_or-le-total}
 use Rattle.table_laws.proofs.Preserve.{blocked_preserves}
 use Rattle.table_laws.proofs.Tables.Places.{semaphore_at_without}

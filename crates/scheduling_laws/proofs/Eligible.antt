@@ -1,8 +1,7 @@
 -- No ready process has a priority above that of the current one.
-use Rattle.std.proofs.Common.{◌≡◌, ℕ, suc, ◌<◌, ◌==◌, true, false, cond, List, [], ◌∷◌, sym, ap, subst, ◌∙◌, arith, ℤ, ◌≤ℤ◌, refl}
+use Rattle.std.proofs.Common.{◌≡◌, ℕ, suc, ◌<◌, ◌==◌, List, [], ◌∷◌, ap, subst, ◌∙◌, arith, ℤ, ◌≤ℤ◌}
 use Rattle.std.specs.List.{AllByRecursion}
 use Rattle.std.proofs.lemmas.Bool.{cond_both, eqb-true}
-use Rattle.xinu_base.specs.declared.processes.Process.{Process}
 use Rattle.xinu_base.specs.declared.processes.State.TheVariants.{Ready}
 use Rattle.xinu_model.specs.Sound.Tables.{entries_of, ready_places, IsSoundTables}
 use Rattle.xinu_model.specs.Tables.{Tables, process_at, state_at}

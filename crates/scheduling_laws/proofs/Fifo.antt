@@ -1,8 +1,8 @@
 -- Those who wait on a semaphore go on in the order in which they came, over each event.
-use Rattle.std.proofs.Common.{◌≡◌, ◌≢◌, ◌⊎◌, inl, inr, ⊎_elim, ℕ, zero, suc, ◌+◌, ◌<◌, ◌==◌, ◌||◌, not, Bool, true, false, cond, List, [], ◌∷◌, ◌++◌, length, take, refl, sym, ap, subst, ◌∙◌, arith, ℤ, Option, Some, None, get_or, get_or-set_same, get_or-set_other}
+use Rattle.std.proofs.Common.{◌≡◌, ◌≢◌, ◌⊎◌, inl, inr, ⊎_elim, ℕ, suc, ◌+◌, ◌<◌, Bool, true, false, List, [], ◌∷◌, length, take, refl, sym, ap, subst, ◌∙◌, arith, ℤ, Option, Some, None, get_or, get_or-set_same, get_or-set_other}
 use Rattle.std.specs.Prelude.{slice_set}
 use Rattle.std.proofs.Math.ListN.{length-set}
-use Rattle.std.proofs.lemmas.Bool.{cases_eq, cond_both, eqb-false, true≢false, eqb-true}
+use Rattle.std.proofs.lemmas.Bool.{cases_eq, cond_both, true≢false}
 use Rattle.xinu_base.specs.declared.events.Event.{Event}
 use Rattle.xinu_base.specs.declared.lines.TranscriptLine.{TranscriptLine}
 use Rattle.xinu_base.specs.declared.processes.Process.{Process}
@@ -11,16 +11,16 @@ use Rattle.xinu_base.specs.declared.processes.State.{State}
 use Rattle.xinu_base.specs.declared.processes.State.TheVariants.{Free, Current, Ready, Suspended, Waiting}
 use Rattle.xinu_model.specs.Clock.{due, ticked}
 use Rattle.xinu_model.specs.Events.{Happens}
-use Rattle.xinu_model.specs.Machine.{Xinu, CallState, unblock_all_with}
+use Rattle.xinu_model.specs.Machine.{Xinu}
 use Rattle.xinu_model.specs.Messages.{listens}
 use Rattle.xinu_model.specs.Process.Calls.{is_ready, with_priority}
 use Rattle.xinu_model.specs.Process.Scheduling.{in_state, ready, ready_all, resched}
 use Rattle.xinu_model.specs.Semaphores.Counts.{with_semaphore}
 use Rattle.xinu_model.specs.Sound.Pools.{is_waiting}
 use Rattle.xinu_model.specs.Sound.State.{IsSound}
-use Rattle.xinu_model.specs.Sound.Tables.{count_in, entries_of, waiting_places, sleeping_places, times, CanRun, IsInside, IsSoundTables}
+use Rattle.xinu_model.specs.Sound.Tables.{count_in, entries_of, waiting_places, sleeping_places, CanRun, IsInside, IsSoundTables}
 use Rattle.xinu_model.specs.Tables.{no_process, Semaphore, no_semaphore, Tables, process_at, state_at, message_at, semaphore_at, numbers_without, semaphores_in, waits_without, Place, Nowhere, InReady, move_to}
-use Rattle.table_laws.proofs.Lists.Counts.{count_last_other, first_is_counted, get_or-le-total, numbers_without_other, numbers_without_same, two-le-total}
+use Rattle.table_laws.proofs.Lists.Counts.{count_last_other, numbers_without_other, numbers_without_same, two-le-total}
 use Rattle.table_laws.proofs.Tables.MoveTo.{by_number, within_table, state_move_same, state_move_other}
 use Rattle.table_laws.proofs.Tables.States.{is_ready_of}
 use Rattle.table_laws.proofs.Tables.Unblock.{IsOneOf, unblock_all_with_ready, waiter_waits}

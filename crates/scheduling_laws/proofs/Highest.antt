@@ -1,12 +1,12 @@
 -- Between two events a process of the highest priority runs: each event keeps it so, and the machine starts so.
-use Rattle.std.proofs.Common.{◌≡◌, ◌≢◌, ℕ, ◌+◌, ◌-◌, ◌<◌, ◌||◌, Bool, true, false, List, [], take, length, Option, Some, None, refl, sym, ap, subst, ◌∙◌, arith, ℤ, ◌≤ℤ◌, get_or-set_other}
+use Rattle.std.proofs.Common.{◌≡◌, ◌≢◌, ℕ, ◌+◌, ◌-◌, ◌<◌, ◌||◌, Bool, false, List, [], take, length, Option, Some, None, refl, sym, ap, subst, ◌∙◌, arith, ℤ, ◌≤ℤ◌, get_or-set_other}
 use Rattle.std.specs.Prelude.{slice_set, nat_lt}
 use Rattle.std.specs.List.{AllByRecursion}
 use Rattle.std.proofs.lemmas.Bool.{cond_both, or_parts}
 use Rattle.xinu_base.specs.Constants.{OK}
 use Rattle.xinu_base.specs.declared.processes.Process.{Process}
 use Rattle.xinu_base.specs.declared.processes.Rest.TheVariants as rest
-use Rattle.xinu_base.specs.declared.processes.State.TheVariants.{Free, Current, Ready, Suspended}
+use Rattle.xinu_base.specs.declared.processes.State.TheVariants.{Current, Suspended}
 use Rattle.xinu_model.specs.Boot.{Loaded, Disks, Boots, boot, boot_on, all_made, all_ready, all_started, first_overlap, loaded_machine, on_disks, unless_overlap}
 use Rattle.xinu_model.specs.Clock.{a_tick_later, due, quantum_falls, ticked, wakeup}
 use Rattle.xinu_model.specs.Machine.{Xinu, start}

@@ -1,6 +1,5 @@
 -- What a call does to the tables, move by move, and when a predicate on tables is closed under these moves.
 use Rattle.std.proofs.Common.{◌≡◌, ◌≢◌, ◌⊎◌, ℕ, Bool, true, false, ◌||◌, List, [], ◌∷◌, take, Option, Some, None, ℤ}
-use Rattle.std.specs.Prelude.{slice_set}
 use Rattle.xinu_base.specs.declared.processes.Process.{Process}
 use Rattle.xinu_base.specs.declared.processes.Rest.{Rest}
 use Rattle.xinu_base.specs.declared.processes.Rest.TheVariants as rest

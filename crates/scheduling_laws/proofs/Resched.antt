@@ -1,10 +1,10 @@
 -- What a resched does: it makes a process of the highest priority run. What a resched and a tick keep.
-use Rattle.std.proofs.Common.{◌≡◌, ◌≢◌, ℕ, ◌+◌, ◌-◌, ◌<◌, Bool, true, false, List, [], ◌∷◌, refl, sym, ap, subst, ◌∙◌, arith, ℤ, ◌≤ℤ◌}
+use Rattle.std.proofs.Common.{◌≡◌, ℕ, ◌+◌, ◌-◌, ◌<◌, Bool, true, false, List, [], ◌∷◌, refl, sym, subst, ◌∙◌, arith, ℤ, ◌≤ℤ◌}
 use Rattle.std.specs.Prelude.{int_lt, nat_lt}
 use Rattle.std.specs.List.{AllByRecursion}
 use Rattle.std.proofs.lemmas.Bool.{cond_both, and_parts}
 use Rattle.std.proofs.lemmas.Int.{ints}
-use Rattle.xinu_base.specs.declared.processes.State.TheVariants.{Free, Current, Ready}
+use Rattle.xinu_base.specs.declared.processes.State.TheVariants.{Current, Ready}
 use Rattle.xinu_model.specs.Clock.{a_tick_later, due, ticked, wakeup}
 use Rattle.xinu_model.specs.Machine.{Xinu, start}
 use Rattle.xinu_model.specs.Process.Scheduling.{is_current, in_state, dispatch, dispatch_first, preempt, keeps_cpu, ready, ready_all, resched}

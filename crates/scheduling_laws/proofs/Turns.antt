@@ -23,7 +23,7 @@ use Rattle.table_laws.proofs.Tables.Places.{ready_in_other}
 use Rattle.table_laws.proofs.Tables.Scheduling.{inside_quantum, ready_of, room_made}
 use Rattle.table_laws.proofs.Tables.Ticks.{sound_later}
 use Rattle.table_laws.proofs.Tables.Unblock.{all_take, IsOneOf, unblock_all_ready}
-use Rattle.scheduling_laws.specs.RoundRobin.{before, turn, WaitsItsTurn}
+use Rattle.scheduling_laws.specs.RoundRobin.{WaitsItsTurn}
 use Rattle.scheduling_laws.proofs.Eligible.{entry_of}
 use Rattle.scheduling_laws.proofs.Lows.{HasKey, key_without, low, low_counted, low_moved, low_without}
 use Rattle.scheduling_laws.proofs.Moves.{IsClosed}

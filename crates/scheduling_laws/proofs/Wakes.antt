@@ -1,5 +1,5 @@
 -- A sleeper sleeps through each event before its tick, unless it is killed, and wakes in that tick.
-use Rattle.std.proofs.Common.{◌≡◌, ◌≢◌, ◌⊎◌, inl, inr, ⊎_elim, ℕ, suc, ◌+◌, ◌<◌, ◌≤◌, ◌||◌, Bool, true, false, List, [], ◌∷◌, length, set, take, refl, sym, ap, subst, ◌∙◌, arith, ℤ, Option, Some, None, get_or-set_same, get_or-set_other}
+use Rattle.std.proofs.Common.{◌≡◌, ◌≢◌, ◌⊎◌, inl, inr, ⊎_elim, ℕ, ◌+◌, ◌<◌, true, false, List, [], ◌∷◌, length, take, refl, sym, ap, subst, ◌∙◌, arith, ℤ, Option, Some, None, get_or-set_same, get_or-set_other}
 use Rattle.std.specs.Prelude.{slice_set}
 use Rattle.std.specs.List.{AllByRecursion}
 use Rattle.std.proofs.Math.ListN.{length-set}
@@ -8,14 +8,13 @@ use Rattle.xinu_base.specs.declared.events.Event.{Event}
 use Rattle.xinu_base.specs.declared.lines.TranscriptLine.{TranscriptLine}
 use Rattle.xinu_base.specs.declared.processes.Process.{Process}
 use Rattle.xinu_base.specs.declared.processes.Rest.TheVariants as rest
-use Rattle.xinu_base.specs.declared.processes.State.TheVariants.{Free, Current, Ready, Sleeping, Suspended}
+use Rattle.xinu_base.specs.declared.processes.State.TheVariants.{Free, Current, Ready, Suspended}
 use Rattle.xinu_model.specs.Clock.{ticked}
 use Rattle.xinu_model.specs.Events.{Happens}
 use Rattle.xinu_model.specs.Machine.{Xinu, CallState, unblock_with, unblock_all_with}
 use Rattle.xinu_model.specs.Messages.{listens}
 use Rattle.xinu_model.specs.Process.Calls.{is_ready, with_priority}
-use Rattle.xinu_model.specs.Process.Scheduling.{in_state, ready, resched}
-use Rattle.xinu_model.specs.RawDisk.Calls.{keep_reply}
+use Rattle.xinu_model.specs.Process.Scheduling.{in_state, resched}
 use Rattle.xinu_model.specs.Sound.State.{IsSound}
 use Rattle.xinu_model.specs.Sound.Tables.{count_in, waiting_places, CanRun, IsInside, IsSoundTables}
 use Rattle.xinu_model.specs.Tables.{no_process, Semaphore, no_semaphore, Tables, process_at, state_at, message_at, semaphore_at, is_free, numbers_without, Place, Nowhere, InReady, move_to}

@@ -1,20 +1,19 @@
 -- A sleeper can run once its tick has come, and sleeps no longer than that.
-use Rattle.std.proofs.Common.{◌≡◌, ◌≢◌, ◌⊎◌, inl, inr, ⊎_elim, ℕ, suc, ◌+◌, ◌-◌, ◌<◌, ◌≤◌, ◌==◌, ◌&&◌, Bool, true, false, cond, not, List, [], ◌∷◌, filter, length, map, set, refl, sym, ap, subst, ◌∙◌, arith, ℤ}
+use Rattle.std.proofs.Common.{◌≡◌, ◌≢◌, inl, inr, ⊎_elim, ℕ, suc, ◌+◌, ◌-◌, ◌<◌, ◌≤◌, ◌==◌, ◌&&◌, Bool, true, false, cond, List, [], ◌∷◌, filter, length, map, refl, sym, ap, subst, ◌∙◌, arith}
 use Rattle.std.specs.Prelude.{nat_lt}
 use Rattle.std.specs.List.{AllByRecursion}
 use Rattle.std.proofs.Math.ListN.{length-set}
 use Rattle.std.proofs.lemmas.Bool.{cond_both, and_parts, both_ways, eqb-true, eq-eqb}
 use Rattle.xinu_base.specs.declared.processes.Process.{Process}
-use Rattle.xinu_base.specs.declared.processes.State.TheVariants.{Free, Current, Ready, Sleeping}
-use Rattle.xinu_model.specs.Clock.{a_tick_later, due, quantum_falls, ticked, wakeup}
+use Rattle.xinu_base.specs.declared.processes.State.TheVariants.{Current, Ready}
+use Rattle.xinu_model.specs.Clock.{a_tick_later, due, ticked, wakeup}
 use Rattle.xinu_model.specs.Machine.{Xinu, start}
-use Rattle.xinu_model.specs.Process.Scheduling.{is_current, in_state, dispatch_first, keeps_cpu, preempt, ready, ready_all, resched}
+use Rattle.xinu_model.specs.Process.Scheduling.{in_state, ready, ready_all, resched}
 use Rattle.xinu_model.specs.Sound.Tables.{entries_of, sleeping_places, times, CanRun, IsInside, IsSoundTables}
 use Rattle.xinu_model.specs.Tables.{Tables, process_at, state_at, message_at, Place, Nowhere, InReady, move_to}
 use Rattle.std.proofs.Common.{Option}
-use Rattle.table_laws.proofs.Lists.Counts.{first_has_entry}
 use Rattle.table_laws.proofs.Tables.MoveTo.{by_number, within_table, state_move_same, state_move_other}
-use Rattle.table_laws.proofs.Tables.Scheduling.{current_of, ready_of, room_made, inside_quantum}
+use Rattle.table_laws.proofs.Tables.Scheduling.{inside_quantum}
 use Rattle.table_laws.proofs.Tables.Ticks.{sound_later, ticks_ready}
 use Rattle.table_laws.proofs.Tables.Unblock.{IsOneOf, unblock_all_ready}
 use Rattle.scheduling_laws.proofs.Resched.{by_resched, by_tick}

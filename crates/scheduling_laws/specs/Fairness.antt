@@ -1,8 +1,7 @@
 -- In which order those who wait on a semaphore go on (book, chapter 7).
 use Rattle.std.specs.Prelude.{◌≡◌, ◌≢◌, ◌⊎◌, ℕ, ◌<◌, List, [], ◌∷◌}
-use Rattle.xinu_base.specs.declared.processes.State.TheVariants.{Free}
 use Rattle.xinu_model.specs.Sound.Tables.{count_in}
-use Rattle.xinu_model.specs.Tables.{Tables, state_at, semaphore_at}
+use Rattle.xinu_model.specs.Tables.{Tables, semaphore_at}
 
 -- Process p is in a list before q.
 abbrev pub IsBefore : ℕ → ℕ → List ℕ → Type 0

@@ -1,5 +1,5 @@
 -- The calls on devices, 36 to 44, keep a predicate that is closed under their moves.
-use Rattle.std.proofs.Common.{ℕ, zero, suc, ◌+◌, ◌-◌, ◌==◌, Bool, true, false, cond, ◌&&◌, List, [], ◌∷◌, Option, Some, None, ℤ, pos, negsuc}
+use Rattle.std.proofs.Common.{ℕ, zero, suc, ◌+◌, ◌==◌, Bool, true, false, cond, ◌&&◌, List, [], ◌∷◌, Option, Some, None, ℤ, pos, negsuc}
 use Rattle.std.specs.Prelude.{slice_index}
 use Rattle.xinu_base.specs.Constants.{OK}
 use Rattle.xinu_base.specs.declared.console.Item.{Item}

@@ -1,5 +1,5 @@
 -- Calls 28 to 35, on buffer pools and ports, keep a predicate that is closed under their moves.
-use Rattle.std.proofs.Common.{inl, ℕ, ◌+◌, ◌-◌, Bool, ◌&&◌, List, [], ◌∷◌, ◌++◌, length, Option, Some, None, refl, ℤ, pos, negsuc}
+use Rattle.std.proofs.Common.{inl, ℕ, Bool, ◌&&◌, List, [], ◌∷◌, ◌++◌, length, Option, Some, None, refl, ℤ, pos, negsuc}
 use Rattle.std.specs.Prelude.{nat_le, nat_lt}
 use Rattle.xinu_base.specs.Constants.{OK}
 use Rattle.xinu_base.specs.declared.processes.PortTicket.{PortTicket}

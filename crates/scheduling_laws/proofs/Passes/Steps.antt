@@ -15,7 +15,6 @@ use Rattle.xinu_model.specs.Pools.Calls.{put_back, given_to, freed_buffer}
 use Rattle.xinu_model.specs.Ports.Calls.{freed_buffers, disposed, cleared}
 use Rattle.xinu_model.specs.Ports.Queues.{PortQueue}
 use Rattle.xinu_model.specs.Process.Scheduling.{in_state}
-use Rattle.xinu_model.specs.Semaphores.Calls.{answers, wait}
 use Rattle.xinu_model.specs.Semaphores.Counts.{with_semaphore, with_tokens, make_semaphore}
 use Rattle.xinu_model.specs.Semaphores.Waiting.{signal_first, signalled, signalled_times, emptied_with, take_token, await}
 use Rattle.xinu_model.specs.Tables.{Semaphore, Tables, process_at, state_at, semaphore_at, Place, InReady, InSemaphore, move_to}

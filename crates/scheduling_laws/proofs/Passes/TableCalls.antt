@@ -1,5 +1,5 @@
 -- Calls 1 to 27, on processes, memory, semaphores, messages and the clock, keep a predicate that is closed under their moves.
-use Rattle.std.proofs.Common.{◌≡◌, inl, ℕ, zero, suc, ◌+◌, ◌-◌, ◌*◌, ◌==◌, Bool, not, ◌||◌, List, Option, Some, None, refl, ◌∙◌, ℤ, pos, negsuc}
+use Rattle.std.proofs.Common.{◌≡◌, inl, ℕ, zero, suc, ◌+◌, ◌*◌, ◌==◌, Bool, not, ◌||◌, List, Option, Some, None, refl, ◌∙◌, ℤ, pos, negsuc}
 use Rattle.std.specs.Prelude.{nat_lt, int_lt}
 use Rattle.std.proofs.lemmas.Bool.{eqb-false}
 use Rattle.xinu_base.specs.Constants.{OK, SYSERR}
