@@ -26,6 +26,8 @@ ENDS = {"end done": "no process is left", "end schedule": "the schedule is over,
         "end panic": "a panic: the ports together had room for no more messages"}
 STATES = {"current": "is running", "ready": "is ready", "receive": "waits for a message", "timed": "waits for a message, or for a tick",
           "wait": "waits on semaphore", "sleep": "sleeps", "suspend": "is suspended"}
+OF_KERNEL = {"0": "waits for console input", "1": "waits for room in the console's output", "2": "waits for the raw disk",
+             "3": "waits for the disk with files"}  # on the kernel's own semaphores
 
 
 class Row:
@@ -122,7 +124,8 @@ def left_over(lines):
     for words in table:
         if words[0] == "proc" and words[1] != "0":
             name = bytes.fromhex(words[6]).decode("latin-1") if words[6:] and words[6] != "-" else ""
-            doing = STATES.get(words[2], words[2]) + (f" {semaphores[words[1]]}" if words[1] in semaphores else "")
+            semaphore, doing = semaphores.get(words[1]), STATES.get(words[2], words[2])
+            doing = doing if semaphore is None else OF_KERNEL.get(semaphore, f"{doing} {semaphore}")
             yield f"process {words[1]}, {json.dumps(name)}, {doing}"
 
 
@@ -145,9 +148,10 @@ def limits(seconds):
 
 def limited(words, folder, seconds):
     """Runs a command under limits: its status, none if the time was over, what it printed, and what it said on standard error."""
+    places = dict(os.environ, TMPDIR=os.path.abspath(folder))
     with tempfile.TemporaryFile() as out, tempfile.TemporaryFile() as err:
-        process = subprocess.Popen(words, cwd=folder, stdin=subprocess.DEVNULL, stdout=out, stderr=err, start_new_session=True,
-                                   preexec_fn=lambda: limits(seconds))
+        process = subprocess.Popen(words, cwd=folder, env=places, stdin=subprocess.DEVNULL, stdout=out, stderr=err,
+                                   start_new_session=True, preexec_fn=lambda: limits(seconds))
         try:
             status = process.wait(timeout=3 * seconds)
         except subprocess.TimeoutExpired:
