@@ -1,20 +1,26 @@
 -- An accepted wait lowers the count of its semaphore by one, and an accepted signal raises it by one.
-use Rattle.std.proofs.Common.{◌≡◌, ◌≢◌, ℕ, zero, suc, ◌+◌, ◌<◌, ◌==◌, ◌&&◌, not, true, cond, List, [], ◌∷◌, length, length-append, refl, sym, ap, subst, ◌∙◌, arith, pos, get_or-set_same}
-use Rattle.std.specs.Prelude.{◌+ℤ◌, neg_ℤ, int_lt}
-use Rattle.std.proofs.lemmas.Bool.{and_from, cond_both, both_ways, eq-eqb}
+use Rattle.std.proofs.Common.{◌≡◌, ◌≢◌, ℕ, zero, suc, ◌+◌, ◌<◌, ◌==◌, ◌&&◌, not, true, cond, List, [], ◌∷◌, length, length-append, refl, sym, ap, subst, ◌∙◌, arith, pos, get_or-set_same, ◌||◌, false, ⊎_elim, Some}
+use Rattle.std.specs.Prelude.{◌+ℤ◌, neg_ℤ, int_lt, slice_set}
+use Rattle.std.proofs.lemmas.Bool.{and_from, cond_both, both_ways, eq-eqb, ne_eqb, or_from}
 use Rattle.std.proofs.lemmas.Int.{ints}
 use Rattle.xinu_base.specs.Constants.{OK}
 use Rattle.xinu_base.specs.declared.processes.Rest.TheVariants.{Nothing}
-use Rattle.xinu_base.specs.declared.processes.State.TheVariants.{Waiting}
-use Rattle.xinu_model.specs.Machine.{Xinu, CallResult, closed, start, refused, returns}
-use Rattle.xinu_model.specs.Process.Scheduling.{ready, resched}
+use Rattle.xinu_base.specs.declared.processes.State.{State}
+use Rattle.xinu_base.specs.declared.processes.State.TheVariants.{Waiting, Receiving, Timed, Sleeping, Suspended, Free, Current, Ready}
+use Rattle.xinu_model.specs.Process.Death.{exit, killed}
+use Rattle.xinu_model.specs.Process.Calls.{kill}
+use Rattle.xinu_model.specs.Messages.{can_get, delivered, listens, sent}
+use Rattle.xinu_model.specs.Machine.{Xinu, CallResult, closed, start, refused, returns, CallState, with_tables}
+use Rattle.xinu_model.specs.Process.Scheduling.{in_state, ready, resched}
 use Rattle.xinu_model.specs.Semaphores.Calls.{answers, signal, wait}
 use Rattle.xinu_model.specs.Semaphores.Counts.{count_of, is_good, most_tokens}
 use Rattle.xinu_model.specs.Semaphores.Waiting.{await, signal_first, signalled, take_token}
 use Rattle.xinu_model.specs.Sound.Pools.{is_waiting}
 use Rattle.xinu_model.specs.Sound.State.{IsSound}
 use Rattle.xinu_model.specs.Sound.Tables.{count_in, waiting_places, FitsOwner, IsInside}
-use Rattle.xinu_model.specs.Tables.{Semaphore, no_semaphore, Tables, process_at, state_at, message_at, semaphore_at, numbers_without, semaphore_without, InSemaphore, move_to}
+use Rattle.xinu_model.specs.Tables.{Semaphore, no_semaphore, Tables, process_at, state_at, message_at, semaphore_at, numbers_without, semaphore_without, InReady, InSemaphore, move_to, is_free}
+use Rattle.table_laws.proofs.Tables.MoveTo.{within_table}
+use Rattle.table_laws.proofs.Tables.Deaths.{inside_killed}
 use Rattle.table_laws.proofs.Lists.Counts.{filter_absent, first_is_counted, get_or-le-total}
 use Rattle.table_laws.proofs.Preserve.{blocked_preserves}
 use Rattle.table_laws.proofs.Tables.Places.{semaphore_at_without}
@@ -133,3 +139,80 @@ signal_raises sem s k good less =
     (λ (h : CallResult). count_of (semaphore_at (closed h) sem) ≡ count_of (semaphore_at s.tables sem) +ℤ pos 1)
     (λ b. signalled_count (semaphore_at s.tables sem).waiters sem s refl k good)
     (λ b. absurd (both_ways may b (and_from (is_good sem s.tables) (int_lt (count_of (semaphore_at s.tables sem)) most_tokens) good less)))
+
+-- a list is as long as what it has of p and what it has besides
+length_without : (p : ℕ) (l : List ℕ) → length l ≡ count_in p l + length (numbers_without p l)
+length_without p [] = refl
+length_without p (x ∷ xs) =
+    let n = count_in p xs in
+    let others = numbers_without p xs in
+    let e = length_without p xs in
+    cond_both (x == p) (suc n) n (λ c. suc (length xs) ≡ c + length (numbers_without p (x ∷ xs)))
+    (λ b. subst (λ a. suc (length xs) ≡ suc n + length (cond (not a) (x ∷ others) others)) (sym b) (omega arith))
+    (λ b. subst (λ a. suc (length xs) ≡ n + length (cond (not a) (x ∷ others) others)) (sym b) (omega arith))
+
+-- a message leaves each semaphore as it is
+semaphore_sent : (q m sem : ℕ) (d : CallState) → IsInside d.state.tables
+    → semaphore_at (sent q m d).state.tables sem ≡ semaphore_at d.state.tables sem
+semaphore_sent q m sem d o =
+    let t = d.state.tables in
+    cond_both (can_get q t) (delivered q m d) d (λ e. semaphore_at e.state.tables sem ≡ semaphore_at t sem)
+    (λ _. cond_both (listens (state_at t q))
+    (record (with_tables (move_to q (in_state Ready (process_at t q)) (Some m) InReady t) d) { owes_resched = true })
+    (with_tables (record t { messages = slice_set t.messages q (Some m) }) d) (λ e. semaphore_at e.state.tables sem ≡ semaphore_at t sem)
+    (λ b. semaphore_at_without q sem t.semaphores ∙ semaphore_left t sem q o (no_place (state_at t q) b)) (λ _. refl))
+    (λ _. refl)
+  where
+    no_place : (s : State) → listens s ≡ true → waiting_places s ≡ 0
+    no_place Receiving b = refl
+    no_place Timed b = refl
+    no_place Free b = cc
+    no_place Current b = cc
+    no_place Ready b = cc
+    no_place Sleeping b = cc
+    no_place Suspended b = cc
+    no_place Waiting b = cc
+
+-- the null process doesn't wait
+waiter_not_null : (t : Tables) (p : ℕ) → IsInside t → state_at t p ≡ Waiting → p ≢ 0
+waiter_not_null t p o w e =
+    let f : state_at t 0 ≡ Waiting = sym (ap (state_at t) e) ∙ w in
+    ⊎_elim (λ (g : state_at t 0 ≡ Current). let h = sym f ∙ g in cc) (λ (g : state_at t 0 ≡ Ready). let h = sym f ∙ g in cc) o.null
+
+-- A waiter is killed.
+killed_count : (sem p : ℕ) (s : Xinu) → IsSound s → 0 < count_in p (semaphore_at s.tables sem).waiters
+    → count_of (semaphore_at (closed (returns (killed p (start s)) OK)) sem) ≡ count_of (semaphore_at s.tables sem) +ℤ pos 1
+killed_count sem p s k here =
+    let t = s.tables in
+    let o = k.tables.inside in
+    let x = semaphore_at t sem in
+    let d = killed p (start s) in
+    let u = d.state.tables in
+    let told = (sent (process_at t p).parent p (start s)).state.tables in
+    let waits = waiter_waits t sem p o here in
+    let within = within_table t p o.processes (λ f. let g = sym waits ∙ f in cc) in
+    let i : IsInside u = inside_killed p (start s) o within (waiter_not_null t p o waits) in
+    let after : semaphore_at u sem ≡ semaphore_without p x =
+    semaphore_at_without p sem told.semaphores ∙ ap (semaphore_without p) (semaphore_sent (process_at t p).parent p sem (start s) o) in
+    let all = o.waiting p in
+    let one : waiting_places (state_at t p) ≡ 1 = ap waiting_places waits in
+    let few = get_or-le-total (λ (y : Semaphore). count_in p y.waiters) t.semaphores sem no_semaphore refl in
+    let sum = length_without p x.waiters in
+    let same : semaphore_at (closed (returns d OK)) sem ≡ semaphore_at u sem =
+    cond_both (d.owes_resched || false) (resched u) u (λ v. semaphore_at v sem ≡ semaphore_at u sem) (λ _. semaphore_resched u sem i) (λ _. refl) in
+    ap count_of (same ∙ after) ∙ count_rises x.tokens (length x.waiters) x.tokens (length (numbers_without p x.waiters)) (omega arith)
+
+-- Call 5.
+pub kill_raises : (sem p : ℕ) (s : Xinu) → IsSound s → 0 < count_in p (semaphore_at s.tables sem).waiters
+    → count_of (semaphore_at (closed (kill p s)) sem) ≡ count_of (semaphore_at s.tables sem) +ℤ pos 1
+kill_raises sem p s k here =
+    let t = s.tables in
+    let waits = waiter_waits t sem p k.tables.inside here in
+    let no_one = (p == 0) || is_free (state_at t p) in
+    let dies = returns (killed p (start s)) OK in
+    let P : CallResult → Type 0 = λ h. count_of (semaphore_at (closed h) sem) ≡ count_of (semaphore_at t sem) +ℤ pos 1 in
+    let alive : no_one ≡ false =
+    or_from (p == 0) (is_free (state_at t p)) (ne_eqb p 0 (waiter_not_null t p k.tables.inside waits)) (ap is_free waits) in
+    let other : (p == t.current) ≡ false = ne_eqb p t.current (λ e. let g = sym waits ∙ ap (state_at t) e ∙ k.tables.runs in cc) in
+    cond_both no_one (refused s) (cond (p == t.current) (exit s) dies) P (λ b. absurd (both_ways no_one alive b))
+    (λ _. cond_both (p == t.current) (exit s) dies P (λ b. absurd (both_ways (p == t.current) other b)) (λ _. killed_count sem p s k here))

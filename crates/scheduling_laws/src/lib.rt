@@ -7,7 +7,7 @@
 //! |---|---|
 //! | [`policy`] | the process of the highest priority runs; no ready process is above it; a tick or two are left of its quantum |
 //! | [`round_robin`] | the turn of a ready process comes |
-//! | [`semaphores`] | those who wait on a semaphore go on in the order in which they came |
+//! | [`semaphores`] | those who wait on a semaphore go on in the order in which they came; its count follows the calls |
 //! | [`sleepers`] | who sleeps wakes on time |
 //!
 //! A predicate on tables that is closed under the moves of calls is kept by each event: `proofs/Moves` says which moves there are, and `Passes`

@@ -1,15 +1,16 @@
 //! In which order those who wait on a semaphore go on, and what its count is.
 
-ghost use Rattle.std.specs.Prelude.{◌≡◌, ◌≢◌, ◌⊎◌, ◌+ℤ◌, ℕ, List, int_lt, neg_ℤ, pos, true};
+ghost use Rattle.std.specs.Prelude.{◌≡◌, ◌≢◌, ◌⊎◌, ◌+ℤ◌, ◌<◌, ℕ, List, int_lt, neg_ℤ, pos, true};
 ghost use Rattle.xinu_base.specs.declared.events.Event.{Event};
 ghost use Rattle.xinu_base.specs.declared.lines.TranscriptLine.{TranscriptLine};
 ghost use Rattle.xinu_base.specs.declared.processes.State.TheVariants.{Free};
 ghost use Rattle.xinu_model.specs.Events.{Happens};
 ghost use Rattle.xinu_model.specs.Machine.{Xinu, closed};
+ghost use Rattle.xinu_model.specs.Process.Calls.{kill};
 ghost use Rattle.xinu_model.specs.Semaphores.Calls.{signal, wait};
 ghost use Rattle.xinu_model.specs.Semaphores.Counts.{count_of, is_good, most_tokens};
 ghost use Rattle.xinu_model.specs.Sound.State.{IsSound};
-ghost use Rattle.xinu_model.specs.Sound.Tables.{CanRun};
+ghost use Rattle.xinu_model.specs.Sound.Tables.{CanRun, count_in};
 ghost use Rattle.xinu_model.specs.Tables.{Tables, semaphore_at, state_at};
 ghost use Rattle.scheduling_laws.specs.Fairness.{IsReleased, WaitsBefore};
 
@@ -23,12 +24,14 @@ pub fn waiters_go_on_in_order()
         Happens old e lines new → WaitsBefore sem p q old.tables → CanRun (state_at new.tables q) → IsReleased sem p new.tables }
 {}
 
-/// An accepted `wait` lowers the count of its semaphore by one, whether its caller waits or not, and an accepted `signal` raises it by one: tokens
-/// are neither lost nor made.
+/// An accepted `wait` lowers the count of its semaphore by one, whether its caller waits or not. An accepted `signal` raises it by one, and so does
+/// the `kill` of a process that waits on it: tokens are neither lost nor made.
 pub fn counts_follow_the_calls()
     ensures wait { (sem : ℕ) (s : Xinu) → IsSound s → s.tables.current ≢ 0 → is_good sem s.tables ≡ true →
         count_of (semaphore_at (closed (wait sem s)) sem) ≡ count_of (semaphore_at s.tables sem) +ℤ neg_ℤ (pos 1) }
     ensures signal { (sem : ℕ) (s : Xinu) → IsSound s → is_good sem s.tables ≡ true →
         int_lt (count_of (semaphore_at s.tables sem)) most_tokens ≡ true →
         count_of (semaphore_at (closed (signal sem s)) sem) ≡ count_of (semaphore_at s.tables sem) +ℤ pos 1 }
+    ensures kill { (sem p : ℕ) (s : Xinu) → IsSound s → 0 < count_in p (semaphore_at s.tables sem).waiters →
+        count_of (semaphore_at (closed (kill p s)) sem) ≡ count_of (semaphore_at s.tables sem) +ℤ pos 1 }
 {}

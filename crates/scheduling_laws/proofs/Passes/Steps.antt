@@ -114,14 +114,3 @@ module _ {May : ℕ → Type 0} {Begins : Tables → Type 0} {Holds : Tables →
   holds_made sem n by t h =
       let x : Semaphore = record { owner = Some by; tokens = n; waiters = [] } in
       k.numbers (with_semaphore sem x t) false sem (k.counts t false sem x (inl refl) h)
-
--- a message changes nothing of who runs
-pub sent_current : (p message : ℕ) (d : CallState) → (sent p message d).state.tables.current ≡ d.state.tables.current
-sent_current p message d =
-    let t = d.state.tables in
-    cond_both (can_get p t) (delivered p message d) d (λ e. e.state.tables.current ≡ t.current)
-    (λ _. cond_both (listens (state_at t p))
-    (record (with_tables (move_to p (in_state Ready (process_at t p)) (Some message) InReady t) d) { owes_resched = true })
-    (with_tables (record t { messages = slice_set t.messages p (Some message) }) d) (λ e. e.state.tables.current ≡ t.current) (λ _. refl)
-    (λ _. refl))
-    (λ _. refl)

@@ -20,6 +20,7 @@ use Rattle.xinu_model.specs.Semaphores.Counts.{is_good, free_semaphore}
 use Rattle.xinu_model.specs.Semaphores.Waiting.{emptied_with}
 use Rattle.xinu_model.specs.Sound.Tables.{IsSoundTables}
 use Rattle.xinu_model.specs.Tables.{no_semaphore, Tables, process_at, state_at, is_free, Nowhere, InSleepers}
+use Rattle.table_laws.proofs.Tables.Deaths.{sent_changes}
 use Rattle.table_laws.proofs.Tables.Found.{free_process_free}
 use Rattle.table_laws.proofs.Tables.States.{is_ready_of, suspended_of}
 use Rattle.scheduling_laws.proofs.Moves.{Goes, Settled, IsClosed}
@@ -27,7 +28,7 @@ use Rattle.std.specs.Prelude.{max}
 use Rattle.xinu_model.specs.Process.Calls.{resume}
 use Rattle.xinu_model.specs.Semaphores.Calls.{semdelete, signal}
 use Rattle.xinu_model.specs.Messages.{send}
-use Rattle.scheduling_laws.proofs.Passes.Steps.{refused_settles, either_settles, blocked_settles, await_settles, inside_tokens, inside_signalled, inside_signalled_times, inside_emptied, inside_delivered, inside_sent, holds_made, sent_current}
+use Rattle.scheduling_laws.proofs.Passes.Steps.{refused_settles, either_settles, blocked_settles, await_settles, inside_tokens, inside_signalled, inside_signalled_times, inside_emptied, inside_delivered, inside_sent, holds_made}
 
 module _ {May : ℕ → Type 0} {Begins : Tables → Type 0} {Holds : Tables → Bool → Type 0} (k : IsClosed May Begins Holds) where
   -- what begins a call lets its caller go on
@@ -80,7 +81,7 @@ module _ {May : ℕ → Type 0} {Begins : Tables → Type 0} {Holds : Tables →
       let d = sent parent p (start s) in
       either_settles k ((p == 0) || is_free (state_at s.tables p)) (refused s) _ (λ _. refused_settles k s h)
       (λ _. either_settles k (p == s.tables.current) (exit s) _ (λ _. exit_settles s h)
-      (λ e. k.dies d.state.tables d.owes_resched p (λ f. eqb-false p s.tables.current e (f ∙ sent_current parent p (start s)))
+      (λ e. k.dies d.state.tables d.owes_resched p (λ f. eqb-false p s.tables.current e (f ∙ (sent_changes parent p (start s)).current))
       (inside_sent k parent p (start s) h)))
 
   -- call 7
