@@ -30,6 +30,7 @@ use Rattle.table_laws.specs.Preserve.{MayCall}
 use Rattle.xinu_laws.proofs.Preserve.Semaphores.{good_semaphore}
 use Rattle.table_laws.proofs.Frame.MoveTo.{tokens_move}
 use Rattle.xinu_laws.proofs.RawDisks.Moves.{waiter_added}
+use Rattle.scheduling_laws.proofs.Waiters.{not_waiting}
 use Rattle.scheduling_laws.proofs.Resched.{by_resched}
 
 -- one token less, or one waiter more
@@ -45,10 +46,8 @@ semaphore_left : (t : Tables) (sem q : ℕ) → IsInside t → waiting_places (s
     → semaphore_without q (semaphore_at t sem) ≡ semaphore_at t sem
 semaphore_left t sem q o idle =
     let x = semaphore_at t sem in
-    let few = get_or-le-total (λ (y : Semaphore). count_in q y.waiters) t.semaphores sem no_semaphore refl in
-    let all = o.waiting q in
-    let none : count_in q x.waiters ≡ 0 = omega arith in
-    ap (λ ws. record { owner = x.owner; tokens = x.tokens; waiters = ws }) (filter_absent (λ w. w == q) x.waiters none)
+    ap (λ ws. record { owner = x.owner; tokens = x.tokens; waiters = ws })
+    (filter_absent (λ w. w == q) x.waiters (not_waiting t q sem o idle))
 
 -- and so does a resched.
 semaphore_resched : (t : Tables) (sem : ℕ) → IsInside t → semaphore_at (resched t) sem ≡ semaphore_at t sem

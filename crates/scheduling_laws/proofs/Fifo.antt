@@ -1,5 +1,5 @@
 -- Those who wait on a semaphore go on in the order in which they came, over each event.
-use Rattle.std.proofs.Common.{◌≡◌, ◌≢◌, ◌⊎◌, inl, inr, ⊎_elim, ℕ, suc, ◌+◌, ◌<◌, Bool, true, false, List, [], ◌∷◌, length, take, refl, sym, ap, subst, ◌∙◌, arith, ℤ, Option, Some, None, get_or, get_or-set_same, get_or-set_other}
+use Rattle.std.proofs.Common.{◌≡◌, ◌≢◌, ◌⊎◌, inl, inr, ⊎_elim, ℕ, ◌+◌, ◌<◌, Bool, true, false, List, [], ◌∷◌, length, take, refl, sym, ap, subst, ◌∙◌, arith, ℤ, Option, Some, None, get_or, get_or-set_same, get_or-set_other}
 use Rattle.std.specs.Prelude.{slice_set}
 use Rattle.std.proofs.Math.ListN.{length-set}
 use Rattle.std.proofs.lemmas.Bool.{cases_eq, cond_both, true≢false}
@@ -18,7 +18,7 @@ use Rattle.xinu_model.specs.Process.Scheduling.{in_state, ready, ready_all, resc
 use Rattle.xinu_model.specs.Semaphores.Counts.{with_semaphore}
 use Rattle.xinu_model.specs.Sound.Pools.{is_waiting}
 use Rattle.xinu_model.specs.Sound.State.{IsSound}
-use Rattle.xinu_model.specs.Sound.Tables.{count_in, entries_of, waiting_places, sleeping_places, CanRun, IsInside, IsSoundTables}
+use Rattle.xinu_model.specs.Sound.Tables.{count_in, waiting_places, sleeping_places, CanRun, IsInside, IsSoundTables}
 use Rattle.xinu_model.specs.Tables.{no_process, Semaphore, no_semaphore, Tables, process_at, state_at, message_at, semaphore_at, numbers_without, semaphores_in, waits_without, Place, Nowhere, InReady, move_to}
 use Rattle.table_laws.proofs.Lists.Counts.{count_last_other, numbers_without_other, numbers_without_same, two-le-total}
 use Rattle.table_laws.proofs.Tables.MoveTo.{by_number, within_table, state_move_same, state_move_other}
@@ -31,7 +31,7 @@ use Rattle.scheduling_laws.proofs.Orders.{before_counts, before_last, before_wit
 use Rattle.scheduling_laws.proofs.Passes.Events.{IsCarried, carried_happens}
 use Rattle.scheduling_laws.proofs.Resched.{by_resched, by_tick}
 use Rattle.scheduling_laws.proofs.Waiters.{none_counted_of, waiters_given, waiters_left, waiters_moved}
-use Rattle.scheduling_laws.proofs.Waking.{has_due, two_entries}
+use Rattle.scheduling_laws.proofs.Waking.{never_due}
 
 -- who is ready doesn't wait
 idle_ready : (s : State) → is_ready s ≡ true → is_waiting s ≡ false
@@ -301,20 +301,12 @@ module _ (sem p q : ℕ) where
       (λ u x i e k. fair_left (record u { current = x; quantum = 2 }) x (in_state Current (process_at u x)) (message_at u x) Nowhere refl
       (λ b f. let g = sym b.1 ∙ ap (state_at u) f ∙ e in cc) (λ d f. let g = sym d.0 ∙ ap (state_at u) f ∙ e in cc) k)
 
-  -- who waits isn't due
-  not_due : (t : Tables) (w : ℕ) → Begins t → IsOneOf q (due w t.sleepers) → ⊥
-  not_due t w b i =
-      let there = has_due q w t.sleepers i in
-      let few = two_entries q w (suc w) t.sleepers (λ e. absurd (omega arith)) in
-      let all : entries_of q t.sleepers ≡ 0 = b.1.inside.sleeping q ∙ ap sleeping_places (waits_at_first t b).1 in
-      absurd (omega arith)
-
   -- a tick
   fair_ticked : (s : Xinu) → IsSoundTables s.tables → Begins s.tables → Fair (ticked s).state.tables
   fair_ticked s k b =
       let ps = due (s.tables.ticks + 1) s.tables.sleepers in
       by_tick Fair s k (λ t quantum ticks h. h) fair_resched
-      (fair_all ps s.tables (not_due s.tables (s.tables.ticks + 1) b) (inl (behind_begins s.tables b)))
+      (fair_all ps s.tables (never_due s.tables q (s.tables.ticks + 1) k.inside (ap sleeping_places (waits_at_first s.tables b).1)) (inl (behind_begins s.tables b)))
 
   -- Each event is fair.
   fair_carried : IsCarried Anyone Begins Holds Fair

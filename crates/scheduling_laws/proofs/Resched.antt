@@ -23,11 +23,11 @@ below : (a k : ℤ) → int_lt a k ≡ true → a ≤ℤ k
 below a k h = grind (arith, ints)
 
 -- a key isn't above itself
-itself : (a : ℤ) → a ≤ℤ a
+pub itself : (a : ℤ) → a ≤ℤ a
 itself a = grind (arith, ints)
 
 -- a key that isn't above one that isn't above a third
-through : (a b c : ℤ) → a ≤ℤ b → b ≤ℤ c → a ≤ℤ c
+pub through : (a b c : ℤ) → a ≤ℤ b → b ≤ℤ c → a ≤ℤ c
 through a b c h k = grind (arith, ints)
 
 -- who stays has the highest priority

@@ -10,11 +10,12 @@ use Rattle.xinu_base.specs.declared.lines.TranscriptLine.TheVariants as line
 use Rattle.xinu_model.specs.Events.{Happens}
 use Rattle.xinu_model.specs.Machine.{Xinu, EventResult}
 use Rattle.xinu_model.specs.Sound.State.{IsSound}
-use Rattle.xinu_model.specs.Sound.Tables.{count_in, entries_of, ready_places, waiting_places, IsSoundTables}
-use Rattle.xinu_model.specs.Tables.{Semaphore, no_semaphore, Tables, process_at, state_at, semaphore_at}
-use Rattle.table_laws.proofs.Lists.Counts.{get_or-le-total}
+use Rattle.xinu_model.specs.Sound.Tables.{entries_of, ready_places, waiting_places, IsSoundTables}
+use Rattle.xinu_model.specs.Tables.{Tables, process_at, state_at}
 use Rattle.table_laws.proofs.Lists.Orders.{all_weaker}
 use Rattle.table_laws.proofs.Tables.MoveTo.{within_table}
+use Rattle.scheduling_laws.proofs.Waiters.{not_waiting}
+use Rattle.scheduling_laws.proofs.Resched.{through}
 use Rattle.scheduling_laws.specs.Policy.{HasQuantum, IsHighest}
 use Rattle.scheduling_laws.specs.RoundRobin.{before, turn, is_placed, tick_of, ticks_of, WaitsItsTurn, WaitsThrough}
 use Rattle.xinu_laws.proofs.Preserve.Events.{sound_happens}
@@ -22,7 +23,7 @@ use Rattle.scheduling_laws.proofs.Highest.{highest_carried}
 use Rattle.scheduling_laws.proofs.Lows.{low, low_all, low_before}
 use Rattle.scheduling_laws.proofs.Passes.Events.{MayPlace, MayPlaceAll, carried_happens, carried_where}
 use Rattle.scheduling_laws.proofs.Quantum.{few_carried}
-use Rattle.scheduling_laws.proofs.Turns.{Begins, Nearer, nearer_ticked, through, turned_carried}
+use Rattle.scheduling_laws.proofs.Turns.{Begins, Nearer, nearer_ticked, turned_carried}
 
 -- a line that isn't a call of `chprio` on p
 spared : (p : ℕ) (l : TranscriptLine) → is_placed p l ≡ false → MayPlace (λ x. p ≢ x) l
@@ -49,19 +50,12 @@ waits_begins p k t c w = (
   (
     c.inside.processes,
     within_table t p c.inside.processes (λ f. let g = sym w.0 ∙ f in cc),
-    none,
+    (λ sem. not_waiting t p sem c.inside (ap waiting_places w.0)),
     (λ f. let g = sym c.runs ∙ ap (state_at t) f ∙ w.0 in cc),
     refl,
   ),
   c,
 )
-  where
-    none : (sem : ℕ) → count_in p (semaphore_at t sem).waiters ≡ 0
-    none sem =
-        let l = get_or-le-total (λ (x : Semaphore). count_in p x.waiters) t.semaphores sem no_semaphore refl in
-        let e = c.inside.waiting p in
-        let f : waiting_places (state_at t p) ≡ 0 = ap waiting_places w.0 in
-        omega arith
 
 -- From low entries to all that come before p.
 low_turn : (p : ℕ) (k : ℤ) (old new : Tables) (n : ℕ) → IsHighest new → WaitsItsTurn p k new

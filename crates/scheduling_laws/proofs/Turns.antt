@@ -28,17 +28,9 @@ use Rattle.scheduling_laws.proofs.Eligible.{entry_of}
 use Rattle.scheduling_laws.proofs.Lows.{HasKey, key_without, low, low_counted, low_moved, low_without}
 use Rattle.scheduling_laws.proofs.Moves.{IsClosed}
 use Rattle.scheduling_laws.proofs.Passes.Events.{IsCarried}
-use Rattle.scheduling_laws.proofs.Resched.{by_resched}
+use Rattle.scheduling_laws.proofs.Resched.{by_resched, itself}
 use Rattle.scheduling_laws.proofs.Waiters.{all_others, waiters_given, waiters_left, waiters_moved}
-use Rattle.scheduling_laws.proofs.Waking.{has_due, two_entries}
-
--- a key isn't above itself
-own_key : (a : ℤ) → a ≤ℤ a
-own_key a = grind (arith, ints)
-
--- a key that isn't above one that isn't above a third
-pub through : (a b c : ℤ) → a ≤ℤ b → b ≤ℤ c → a ≤ℤ c
-through a b c h i = grind (arith, ints)
+use Rattle.scheduling_laws.proofs.Waking.{never_due}
 
 -- a key of at least k isn't below one of at most k
 not_both : (a k top : ℤ) → k ≤ℤ a → int_lt a top ≡ true → top ≤ℤ k → ⊥
@@ -285,7 +277,7 @@ module _ (p : ℕ) (k : ℤ) (q most : ℕ) where
   keeps_not (x ∷ xs) t e falls here keys b less =
       let top = (process_at t t.current).priority in
       let found = entry_of (λ y. (y.0 ≡ p → y.1 ≡ k) × (y.1 ≤ℤ x.1)) p (x ∷ xs)
-      (all_both (λ y. y.0 ≡ p → y.1 ≡ k) (λ y. y.1 ≤ℤ x.1) (x ∷ xs) keys (own_key x.1, falls.0)) here in
+      (all_both (λ y. y.0 ≡ p → y.1 ≡ k) (λ y. y.1 ≤ℤ x.1) (x ∷ xs) keys (itself x.1, falls.0)) here in
       not_both x.1 k top (subst (λ a. a ≤ℤ x.1) (found.2.0 found.1) found.2.1)
       (and_parts (is_current (state_at t t.current)) (int_lt x.1 top) b).1 less
 
@@ -332,14 +324,6 @@ module _ (p : ℕ) (k : ℤ) (q most : ℕ) where
       let a = f.0 in let d = f.1 in omega arith)
       (λ (r : (t.quantum ≡ 2) × (WaitsItsTurn p k t → suc (low p k t.ready) ≤ most)). let e = r.0 in absurd (omega arith)) i) m)
 
-  -- who is ready isn't due
-  not_due : (t : Tables) (w : ℕ) → Begins t → IsOneOf p (due w t.sleepers) → ⊥
-  not_due t w b i =
-      let there = has_due p w t.sleepers i in
-      let few = two_entries p w (suc w) t.sleepers (λ e. absurd (omega arith)) in
-      let all : entries_of p t.sleepers ≡ 0 = b.2.inside.sleeping p ∙ ap sleeping_places b.0.0 in
-      absurd (omega arith)
-
   -- a tick
   pub nearer_ticked : (s : Xinu) → IsSoundTables s.tables → 1 ≤ q → Begins s.tables → Nearer (ticked s).state.tables
   nearer_ticked s c some b =
@@ -347,7 +331,7 @@ module _ (p : ℕ) (k : ℤ) (q most : ℕ) where
       let d = wakeup s in
       let t = d.state.tables in
       let later = record t { ticks = t.ticks + 1 } in
-      let h : Turned t = turned_unblocked OK ps (start s) (all_differ p ps (not_due s.tables (s.tables.ticks + 1) b)) (turned_begins s.tables b) in
+      let h : Turned t = turned_unblocked OK ps (start s) (all_differ p ps (never_due s.tables p (s.tables.ticks + 1) c.inside (ap sleeping_places b.0.0))) (turned_begins s.tables b) in
       let after : (owes : Bool) → IsSoundTables (a_tick_later owes t) =
       λ owes. subst (λ (x : Xinu). IsSoundTables (a_tick_later owes x.tables)) (sym (unblock_all_ready ps (start s))) (sound_later owes s.tables c) in
       mid_falls (a_tick_later d.owes_resched t) (after d.owes_resched) b.1.1 some

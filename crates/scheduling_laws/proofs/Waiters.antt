@@ -4,9 +4,9 @@ use Rattle.std.specs.List.{AllByRecursion}
 use Rattle.std.proofs.lemmas.Bool.{cond_both, eqb-false}
 use Rattle.xinu_base.specs.declared.processes.Process.{Process}
 use Rattle.xinu_model.specs.Semaphores.Counts.{with_semaphore}
-use Rattle.xinu_model.specs.Sound.Tables.{count_in}
-use Rattle.xinu_model.specs.Tables.{Semaphore, no_semaphore, Tables, semaphore_at, numbers_without, waits_without, with_waiter, Place, Nowhere, InReady, InSemaphore, InSleepers, move_to}
-use Rattle.table_laws.proofs.Lists.Counts.{count_behind, first_is_counted}
+use Rattle.xinu_model.specs.Sound.Tables.{count_in, waiting_places, IsInside}
+use Rattle.xinu_model.specs.Tables.{Semaphore, no_semaphore, Tables, semaphore_at, numbers_without, waits_without, with_waiter, Place, Nowhere, InReady, InSemaphore, InSleepers, move_to, state_at}
+use Rattle.table_laws.proofs.Lists.Counts.{count_behind, first_is_counted, get_or-le-total}
 use Rattle.table_laws.proofs.Tables.Unblock.{IsOneOf}
 use Rattle.table_laws.proofs.Tables.Places.{semaphore_at_without}
 
@@ -58,3 +58,10 @@ all_others p [] = λ e. tt
 all_others p (q ∷ qs) =
     cond_both (q == p) (suc (count_in p qs)) (count_in p qs) (λ n. n ≡ 0 → AllByRecursion (λ r. p ≢ r) (q ∷ qs))
     (λ b e. absurd (omega arith)) (λ b e. ((λ f. eqb-false q p b (sym f)), all_others p qs e))
+
+-- Who has no place among waiters waits on no semaphore.
+pub not_waiting : (t : Tables) (p sem : ℕ) → IsInside t → waiting_places (state_at t p) ≡ 0 → count_in p (semaphore_at t sem).waiters ≡ 0
+not_waiting t p sem o idle =
+    let few = get_or-le-total (λ (x : Semaphore). count_in p x.waiters) t.semaphores sem no_semaphore refl in
+    let all = o.waiting p in
+    omega arith

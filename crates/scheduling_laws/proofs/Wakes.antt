@@ -17,8 +17,8 @@ use Rattle.xinu_model.specs.Process.Calls.{is_ready, with_priority}
 use Rattle.xinu_model.specs.Process.Scheduling.{in_state, resched}
 use Rattle.xinu_model.specs.Sound.State.{IsSound}
 use Rattle.xinu_model.specs.Sound.Tables.{count_in, waiting_places, CanRun, IsInside, IsSoundTables}
-use Rattle.xinu_model.specs.Tables.{no_process, Semaphore, no_semaphore, Tables, process_at, state_at, message_at, semaphore_at, is_free, numbers_without, Place, Nowhere, InReady, move_to}
-use Rattle.table_laws.proofs.Lists.Counts.{count_last_other, get_or-le-total, numbers_without_other, numbers_without_same}
+use Rattle.xinu_model.specs.Tables.{no_process, Tables, process_at, state_at, message_at, semaphore_at, is_free, numbers_without, Place, Nowhere, InReady, move_to}
+use Rattle.table_laws.proofs.Lists.Counts.{count_last_other, numbers_without_other, numbers_without_same}
 use Rattle.table_laws.proofs.Tables.MoveTo.{by_number, within_table, state_move_same, state_move_other}
 use Rattle.table_laws.proofs.Tables.Scheduling.{sound_resched}
 use Rattle.table_laws.proofs.Tables.Ticks.{sound_ticked}
@@ -28,7 +28,7 @@ use Rattle.scheduling_laws.proofs.Asleep.{sleeps_moved, sleeps_resched}
 use Rattle.scheduling_laws.proofs.Moves.{Anyone, IsClosed}
 use Rattle.scheduling_laws.proofs.Passes.Events.{IsCarried, carried_happens}
 use Rattle.scheduling_laws.proofs.Resched.{by_resched}
-use Rattle.scheduling_laws.proofs.Waiters.{all_others, waiters_given, waiters_left, waiters_moved}
+use Rattle.scheduling_laws.proofs.Waiters.{all_others, waiters_given, waiters_left, waiters_moved, not_waiting}
 use Rattle.scheduling_laws.proofs.Waking.{sleeps_no_longer, sleeps_through, wakes_in_time}
 
 -- who is free stays free in a resched
@@ -58,19 +58,12 @@ module _ (p w : ℕ) where
     many,
     within_table t p many (λ f. let g = sym b.0.0 ∙ f in cc),
     inl b.0,
-    none,
+    (λ sem. not_waiting t p sem b.1.inside (ap waiting_places b.0.0)),
     (λ f. let g = sym b.1.runs ∙ ap (state_at t) f ∙ b.0.0 in cc),
   )
     where
       many : length t.processes ≡ 64
       many = b.1.inside.processes
-
-      none : (sem : ℕ) → count_in p (semaphore_at t sem).waiters ≡ 0
-      none sem =
-          let l = get_or-le-total (λ (x : Semaphore). count_in p x.waiters) t.semaphores sem no_semaphore refl in
-          let e = b.1.inside.waiting p in
-          let f : waiting_places (state_at t p) ≡ 0 = ap waiting_places b.0.0 in
-          omega arith
 
   -- another process moves
   still_moved : (t : Tables) (q : ℕ) (x : Process) (m : Option ℕ) (place : Place) → p ≢ q → StillSleeps t

@@ -112,7 +112,7 @@ pub sleeps_no_longer : (p w : ℕ) (t : Tables) → IsInside t → SleepsUntil p
 sleeps_no_longer p w t o z = let f = of_entry (λ e. t.ticks < e.1) p w t.sleepers o.later z.1 in subst (λ n. t.ticks < n) f.1 f.2
 
 -- an entry of p with a tick is one of its entries, and one with another tick another
-pub two_entries : (p v w : ℕ) (l : List (ℕ × ℕ)) → v ≢ w → times (is_entry p v) l + times (is_entry p w) l ≤ entries_of p l
+two_entries : (p v w : ℕ) (l : List (ℕ × ℕ)) → v ≢ w → times (is_entry p v) l + times (is_entry p w) l ≤ entries_of p l
 two_entries p v w [] n = omega arith
 two_entries p v w (x ∷ xs) n =
     let a = times (is_entry p v) xs in
@@ -135,7 +135,7 @@ two_entries p v w (x ∷ xs) n =
     none f g true a b c e r = cc
 
 -- who is due has an entry with that tick
-pub has_due : (p w : ℕ) (l : List (ℕ × ℕ)) → IsOneOf p (due w l) → 0 < times (is_entry p w) l
+has_due : (p w : ℕ) (l : List (ℕ × ℕ)) → IsOneOf p (due w l) → 0 < times (is_entry p w) l
 has_due p w [] = λ i. absurd i
 has_due p w (x ∷ xs) =
     let more = times (is_entry p w) xs in
@@ -150,6 +150,14 @@ has_due p w (x ∷ xs) =
     one_more : (c : Bool) (n : ℕ) → 0 < n → 0 < cond c (suc n) n
     one_more true n h = omega arith
     one_more false n h = h
+
+-- Who has no place among the sleepers isn't due.
+pub never_due : (t : Tables) (p w : ℕ) → IsInside t → sleeping_places (state_at t p) ≡ 0 → IsOneOf p (due w t.sleepers) → ⊥
+never_due t p w o awake i =
+    let there = has_due p w t.sleepers i in
+    let few = two_entries p w (suc w) t.sleepers (λ e. absurd (omega arith)) in
+    let all = o.sleeping p in
+    absurd (omega arith)
 
 -- who isn't among those who become ready sleeps on
 sleeps_on : (ps : List ℕ) (t : Tables) (p w : ℕ) → (IsOneOf p ps → ⊥) → SleepsUntil p w t → SleepsUntil p w (ready_all ps t)
