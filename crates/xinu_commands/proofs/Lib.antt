@@ -14,6 +14,7 @@ pub mod Files
 pub mod Going
 pub mod GoodImages
 pub mod ImageFiles
+pub mod InOrder
 pub mod InputDisks
 pub mod InputFaults
 pub mod InputsRead

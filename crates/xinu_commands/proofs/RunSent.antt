@@ -30,7 +30,8 @@ use Rattle.xinu_commands.proofs.Called.{keeps_refl}
 use Rattle.xinu_commands.proofs.Carried.{new_printer, nothing_sent, unsent_refl}
 use Rattle.xinu_commands.proofs.Files.{boot_verdict_at}
 use Rattle.xinu_commands.proofs.Printed.{PrintsTranscript}
-use Rattle.xinu_commands.proofs.Sent.{AreApart, both_sent, first_sent, joined, no_failure, text_sent}
+use Rattle.xinu_commands.proofs.InOrder.{AreApart, both_sent, first_sent, joined}
+use Rattle.xinu_commands.proofs.Sent.{no_failure, text_sent}
 use Rattle.xinu_commands.proofs.Staged.{refused_last, work_stage}
 
 -- what was printed by a new printer was sent

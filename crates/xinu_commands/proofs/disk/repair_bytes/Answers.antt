@@ -10,7 +10,7 @@ use Rattle.xinu_commands.specs.DiskVerdict.{repair_line, repair_verdict}
 use Rattle.xinu_commands.specs.Stages.{SendsOutput, Stage, no_fetches, refusal_of}
 use Rattle.xinu_commands.specs.Work.{output_of}
 use Rattle.xinu_commands.proofs.DiskVerdicts.{repair_broken, repair_counts, repair_does, sized, unsized}
-use Rattle.xinu_commands.proofs.Sent.{AreApart, both_sent, first_sent}
+use Rattle.xinu_commands.proofs.InOrder.{AreApart, both_sent, first_sent}
 use Rattle.xinu_commands.proofs.Staged.{broken_stage, of_refused, sent_stage}
 use Rattle.xinu_commands.proofs.disk.repair_bytes.Goals as goal
 
