@@ -11,12 +11,14 @@
 //! | [`schedule_text`] | `reads`: the text reads as the 200,000 events of the definition; `size`: it has at most 2,000,000 bytes |
 //! | [`Tally::add`] | `counts`: the lines of one more text are counted |
 //! | [`Tally::summary`] | `line`: the line is `summary` of the definition |
+//! | [`laws`] | the programs of every number boot |
 //!
-//! All but `add` take memory, and `NoMemory` is free.
+//! All but `add` and the law take memory, and `NoMemory` is free.
 #![tactic(auto)]
 
 mod draws;
 mod groups;
+pub mod laws;
 mod programs;
 mod schedules;
 mod shapes;
