@@ -5,8 +5,7 @@ use Rattle.std.proofs.lemmas.List.{drop-drop, length-take-le, take_all}
 use Rattle.std.specs.List.{concat}
 use Rattle.std.specs.Simd.{first_chunks}
 use Rattle.disk_driver.proofs.Chunks.{length_chunks, chunk_at, chunks_changed, chunks_joined}
-use Rattle.disk_driver.specs.Blocks.{blocks_of}
-use Rattle.lfs_layout.specs.Images.{is_raw}
+use Rattle.lfs_layout.specs.Images.{blocks_of, is_raw}
 
 -- the bytes of a disk are whole blocks
 whole : (bytes : List ℕ) → is_raw bytes ≡ true → length bytes % 512 ≡ 0

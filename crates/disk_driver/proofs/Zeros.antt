@@ -4,7 +4,7 @@ use Rattle.std.proofs.lemmas.List.{length-replicate}
 use Rattle.std.proofs.Math.Nat.{mul-suc}
 use Rattle.std.proofs.lemmas.List.{drop-replicate, take-replicate}
 use Rattle.std.specs.Simd.{first_chunks}
-use Rattle.disk_driver.specs.Blocks.{blocks_of}
+use Rattle.lfs_layout.specs.Images.{blocks_of}
 use Rattle.xinu_model.specs.Devices.State.{empty_blocks}
 
 -- the chunks of equal elements have equal elements

@@ -2,7 +2,7 @@
 
 ghost use Rattle.std.specs.Prelude.{◌≡◌, ◌<◌, ◌≤◌, [], ◌∷◌, IfNone, IfSome, length, option_map, pos, slice_set, true};
 ghost use Rattle.std.specs.List.{concat};
-ghost use Rattle.disk_driver.specs.Blocks.{blocks_of};
+ghost use Rattle.lfs_layout.specs.Images.{blocks_of};
 ghost use Rattle.disk_driver.specs.Served.{bytes_read, request_of, served_of};
 ghost use Rattle.xinu_model.specs.Memory.{in_ram};
 ghost use Rattle.xinu_model.specs.RawDisk.Completions.{after_completion, raw_completed, transferred};

@@ -1,7 +1,7 @@
 //! What a disk on which nothing was written has.
 
 ghost use Rattle.std.specs.Prelude.{ℕ, ◌≡◌, ◌*◌, replicate};
-ghost use Rattle.disk_driver.specs.Blocks.{blocks_of};
+ghost use Rattle.lfs_layout.specs.Images.{blocks_of};
 ghost use Rattle.xinu_model.specs.Devices.State.{empty_blocks};
 
 /// The blocks of zero bytes are empty blocks, and 32,768 zero bytes are the disk that the machine has if it is given none.

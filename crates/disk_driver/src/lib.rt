@@ -5,7 +5,7 @@
 //!
 //! | Call | Condition | Promise |
 //! |---|---|---|
-//! | `new` | | `starts`: the blocks of the image (`blocks_of`), and no request |
+//! | `new` | | `starts`: the blocks of the image (`blocks_of` of `lfs_layout`), and no request |
 //! | `submit` | `room`: fewer than 64 requests wait; `within`: there is the block; `range`: the bytes are in RAM | `submits`: `requested` |
 //! | `complete` | | `served`, `disk`: `raw_completed`, the request that was served, its reply, the bytes that were read, and the disk after it; `None`, and nothing changes, if and only if no request waits; `range`: the bytes of the request are in RAM |
 //! | `forget` | | `forgets`: `requests_given_up` |

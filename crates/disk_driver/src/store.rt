@@ -2,8 +2,7 @@
 
 ghost use Rattle.std.specs.Prelude.{◌≡◌, ◌<◌, ◌≤◌, [], length, slice_index_or, slice_set, true};
 ghost use Rattle.std.specs.List.{concat};
-ghost use Rattle.disk_driver.specs.Blocks.{blocks_of};
-ghost use Rattle.lfs_layout.specs.Images.{is_raw};
+ghost use Rattle.lfs_layout.specs.Images.{blocks_of, is_raw};
 
 use lfs_layout::RawImage;
 use std::marker::Model;
@@ -16,8 +15,7 @@ pub(crate) struct Blocks {
 
 impl Model for Blocks {
     ghost use Rattle.std.specs.Prelude.{◌≡◌, ℕ, List, true};
-    ghost use Rattle.disk_driver.specs.Blocks.{blocks_of};
-    ghost use Rattle.lfs_layout.specs.Images.{is_raw};
+    ghost use Rattle.lfs_layout.specs.Images.{blocks_of, is_raw};
 
     ghost Value = { List (List ℕ) };
 

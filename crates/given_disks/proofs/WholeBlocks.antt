@@ -4,7 +4,7 @@ use Rattle.std.specs.List.{AllByRecursion}
 use Rattle.std.specs.Simd.{first_chunks}
 use Rattle.std.proofs.Math.Nat.{mul-suc}
 use Rattle.std.proofs.lemmas.List.{length-take-le}
-use Rattle.disk_driver.specs.Blocks.{blocks_of}
+use Rattle.lfs_layout.specs.Images.{blocks_of}
 
 -- chunks of n elements have n elements
 whole_chunks : (n k : ℕ) (xs : List ℕ) → n * k ≤ length xs → AllByRecursion (λ (b : List ℕ). length b ≡ n) (first_chunks n k xs)

@@ -1,6 +1,6 @@
 -- The disks that a machine is given, by their bytes.
 use Rattle.std.specs.Prelude.{ℕ, ◌/◌, List, length}
-use Rattle.disk_driver.specs.Blocks.{blocks_of}
+use Rattle.lfs_layout.specs.Images.{blocks_of}
 use Rattle.file_laws.specs.StoredFiles.{stored_files}
 use Rattle.xinu_model.specs.Boot.{Disks}
 use Rattle.xinu_model.specs.RawDisk.Constants.{RD_BLKSIZ}

@@ -1,4 +1,5 @@
 -- Raw images and clean images.
+use Rattle.std.specs.Simd.{first_chunks}
 use Rattle.std.specs.Prelude.{ℕ, ◌≡◌, ◌+◌, ◌/◌, ◌%◌, ◌&&◌, Bool, true, false, cond, nat_eq, nat_le, List, length, None, Result, Ok, Err}
 use Rattle.xinu_base.specs.declared.NoMemory.{NoMemory}
 use Rattle.lfs_check.specs.Fields.{is_version_2, geometry_of, fields_of, directory_entries}
@@ -10,6 +11,10 @@ use Rattle.lfs_layout.specs.Made.{image_with, geometry_2}
 -- a disk without files: 8 to 65,536 whole blocks
 abbrev pub is_raw : List ℕ → Bool
 is_raw image = nat_eq (length image % 512) 0 && nat_le 4096 (length image) && nat_le (length image) 33554432
+
+-- the blocks of an image, one after another
+abbrev pub blocks_of : List ℕ → List (List ℕ)
+blocks_of image = first_chunks 512 (length image / 512) image
 
 -- an image that can be worked on: of version 2, and without a fault
 pub record IsCleanImage (image : List ℕ) : Type 0 where

@@ -1,7 +1,7 @@
 use Rattle.std.proofs.Common.{◌+◌, ◌*◌, ◌-◌, length, ap, set, ◌∙◌, arith}
 use Rattle.disk_driver.proofs.Cuts.{block_set}
 use Rattle.disk_driver.proofs.store.put_block.Goals as goal
-use Rattle.disk_driver.specs.Blocks.{blocks_of}
+use Rattle.lfs_layout.specs.Images.{blocks_of}
 
 pub returns-clause-set : goal.returns-clause-set
 returns-clause-set c =

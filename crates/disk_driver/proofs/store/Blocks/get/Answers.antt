@@ -1,7 +1,7 @@
 use Rattle.std.proofs.Common.{◌≡◌, ◌+◌, ◌*◌, ◌-◌, [], ap, ◌∙◌, arith, rules}
 use Rattle.disk_driver.proofs.Cuts.{block_is}
 use Rattle.disk_driver.proofs.store.Blocks.get.Goals as goal
-use Rattle.disk_driver.specs.Blocks.{blocks_of}
+use Rattle.lfs_layout.specs.Images.{blocks_of}
 
 pub returns-clause-block : goal.returns-clause-block
 returns-clause-block c =
