@@ -23,7 +23,7 @@ PATH = re.compile(r"[\w.-]+(?:/[\w.*-]+)+/?|[\w-]+\.(?:rt|antt|md|py|txt|s|c|h|l
 # Names and files of the book's Xinu, names that DECISIONS says are other elsewhere, and what is built or is written by the reader.
 BOOK = re.compile(r"\w+\.[ch]|PR_\w+|resched_cntl")
 ELSEWHERE = {"send_begin", "recv_begin", "send_end", "recv_end", "Sent", "OutOfNodes", "sems_of", "begin_io", "go_on_io", "device_wait",
-             "device_signal", "0X1"}
+             "device_signal", "FileName", "0X1"}
 MADE = {"out/xinu_run", "sum.s", "steps.txt"}
 
 
