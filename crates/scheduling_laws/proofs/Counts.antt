@@ -1,5 +1,5 @@
 -- An accepted wait lowers the count of its semaphore by one, and an accepted signal raises it by one.
-use Rattle.std.proofs.Common.{◌≡◌, ◌≢◌, ℕ, zero, suc, ◌+◌, ◌<◌, ◌==◌, ◌&&◌, not, true, cond, List, [], ◌∷◌, length, length-append, refl, sym, ap, subst, ◌∙◌, arith, pos, get_or-set_same, ◌||◌, false, ⊎_elim, Some}
+use Rattle.std.proofs.Common.{◌≡◌, ◌≢◌, ℕ, zero, suc, ◌+◌, ◌<◌, ◌==◌, ◌&&◌, not, true, cond, List, [], ◌∷◌, ◌++◌, length, length-append, refl, sym, ap, subst, ◌∙◌, arith, pos, get_or-set_same, ◌||◌, false, ⊎_elim, Some}
 use Rattle.std.specs.Prelude.{◌+ℤ◌, neg_ℤ, int_lt, slice_set}
 use Rattle.std.proofs.lemmas.Bool.{and_from, cond_both, both_ways, eq-eqb, ne_eqb, or_from}
 use Rattle.std.proofs.lemmas.Int.{ints}
@@ -28,7 +28,8 @@ use Rattle.table_laws.proofs.Tables.Scheduling.{inside_ready}
 use Rattle.table_laws.proofs.Tables.Unblock.{can_be_ready_waiting, waiter_waits}
 use Rattle.table_laws.specs.Preserve.{MayCall}
 use Rattle.xinu_laws.proofs.Preserve.Semaphores.{good_semaphore}
-use Rattle.table_laws.proofs.Frame.MoveTo.{tokens_move}
+use Rattle.table_laws.proofs.Frame.MoveTo.{owner_move, tokens_move}
+use Rattle.table_laws.proofs.Tables.Signals.{others_wait}
 use Rattle.xinu_laws.proofs.RawDisks.Moves.{waiter_added}
 use Rattle.scheduling_laws.proofs.Waiters.{not_waiting}
 use Rattle.scheduling_laws.proofs.Resched.{by_resched}
@@ -50,16 +51,34 @@ semaphore_left t sem q o idle =
     (filter_absent (λ w. w == q) x.waiters (not_waiting t q sem o idle))
 
 -- and so does a resched.
-semaphore_resched : (t : Tables) (sem : ℕ) → IsInside t → semaphore_at (resched t) sem ≡ semaphore_at t sem
+pub semaphore_resched : (t : Tables) (sem : ℕ) → IsInside t → semaphore_at (resched t) sem ≡ semaphore_at t sem
 semaphore_resched t sem o =
     by_resched (λ u. semaphore_at u sem ≡ semaphore_at t sem) t o refl
     (λ e. semaphore_at_without t.current sem t.semaphores ∙ semaphore_left t sem t.current o (ap waiting_places e))
     (λ u q i e k. semaphore_at_without q sem u.semaphores ∙ semaphore_left u sem q i (ap waiting_places e) ∙ k)
 
--- the count after a wait, if these are the tokens
+-- two semaphores with the same owner, tokens and waiters
+semaphores_agree : (x y : Semaphore) → x.owner ≡ y.owner → x.tokens ≡ y.tokens → x.waiters ≡ y.waiters → x ≡ y
+semaphores_agree x y owner tokens waiters =
+    ap (λ o. record { owner = o; tokens = x.tokens; waiters = x.waiters }) owner
+    ∙ ap (λ n. record { owner = y.owner; tokens = n; waiters = x.waiters }) tokens
+    ∙ ap (λ l. record { owner = y.owner; tokens = y.tokens; waiters = l }) waiters
+
+-- A semaphore after process p took one of these tokens, or waits for one.
+abbrev pub taken : ℕ → ℕ → Semaphore → Semaphore
+taken zero p x = record { owner = x.owner; tokens = x.tokens; waiters = x.waiters ++ p ∷ [] }
+taken (suc n) p x = record { owner = x.owner; tokens = n; waiters = x.waiters }
+
+-- its count
+count_taken : (n p : ℕ) (x : Semaphore) → x.tokens ≡ n → count_of (taken n p x) ≡ count_of x +ℤ neg_ℤ (pos 1)
+count_taken zero p x e =
+    let many = length-append x.waiters (p ∷ []) in
+    count_falls x.tokens (length x.waiters) x.tokens (length (x.waiters ++ p ∷ [])) (omega arith)
+count_taken (suc n) p x e = count_falls x.tokens (length x.waiters) n (length x.waiters) (omega arith)
+
+-- the semaphore after a wait, if these are the tokens
 waited : (n sem : ℕ) (s : Xinu) → (semaphore_at s.tables sem).tokens ≡ n → IsSound s → s.tables.current ≢ 0 → is_good sem s.tables ≡ true
-    → count_of (semaphore_at (closed (take_token n sem Nothing (answers OK) s)) sem)
-    ≡ count_of (semaphore_at s.tables sem) +ℤ neg_ℤ (pos 1)
+    → semaphore_at (closed (take_token n sem Nothing (answers OK) s)) sem ≡ taken n s.tables.current (semaphore_at s.tables sem)
 waited zero sem s e k not_null good =
     let t = s.tables in
     let c = t.current in
@@ -69,41 +88,53 @@ waited zero sem s e k not_null good =
     let may : MayCall s = record { tables = k.tables; harts = k.harts; not_null = not_null } in
     let o : IsInside u = (blocked_preserves Waiting Nothing (InSemaphore sem) s may (λ f. cc) (refl, refl, refl)
     (g.within, e, subst (λ by. FitsOwner sem by Nothing) (sym g.owner) refl) tt).tables in
-    let more = waiter_added t c x (message_at t c) sem g.within k.tables.inside (ap is_waiting k.tables.runs) in
-    let tokens = tokens_move t c x (message_at t c) (InSemaphore sem) sem in
-    let many = ap length more ∙ length-append (semaphore_at t sem).waiters (c ∷ []) in
-    ap count_of (semaphore_resched u sem o)
-    ∙ count_falls (semaphore_at t sem).tokens (length (semaphore_at t sem).waiters) (semaphore_at u sem).tokens
-    (length (semaphore_at u sem).waiters) (omega arith)
+    semaphore_resched u sem o
+    ∙ semaphores_agree (semaphore_at u sem) (taken 0 c (semaphore_at t sem)) (owner_move t c x (message_at t c) (InSemaphore sem) sem)
+    (tokens_move t c x (message_at t c) (InSemaphore sem) sem)
+    (waiter_added t c x (message_at t c) sem g.within k.tables.inside (ap is_waiting k.tables.runs))
 waited (suc n) sem s e k not_null good =
     let t = s.tables in
-    let x = semaphore_at t sem in
     let g = good_semaphore t sem k.tables.inside good in
     let many = k.tables.inside.semaphores in
     let within = g.within in
-    ap count_of (get_or-set_same t.semaphores sem (record x { tokens = n }) no_semaphore (omega arith))
-    ∙ count_falls x.tokens (length x.waiters) n (length x.waiters) (omega arith)
+    get_or-set_same t.semaphores sem (record (semaphore_at t sem) { tokens = n }) no_semaphore (omega arith)
 
--- Call 18.
+-- Call 18: the caller takes a token, or is the last of the waiters.
+pub semaphore_waited : (sem : ℕ) (s : Xinu) → IsSound s → s.tables.current ≢ 0 → is_good sem s.tables ≡ true
+    → semaphore_at (closed (wait sem s)) sem ≡ taken (semaphore_at s.tables sem).tokens s.tables.current (semaphore_at s.tables sem)
+semaphore_waited sem s k not_null good =
+    let x = semaphore_at s.tables sem in
+    cond_both (is_good sem s.tables) (await sem Nothing (answers OK) s) (refused s)
+    (λ (h : CallResult). semaphore_at (closed h) sem ≡ taken x.tokens s.tables.current x)
+    (λ b. waited x.tokens sem s refl k not_null good) (λ b. absurd (both_ways (is_good sem s.tables) b good))
+
 pub wait_lowers : (sem : ℕ) (s : Xinu) → IsSound s → s.tables.current ≢ 0 → is_good sem s.tables ≡ true
     → count_of (semaphore_at (closed (wait sem s)) sem) ≡ count_of (semaphore_at s.tables sem) +ℤ neg_ℤ (pos 1)
 wait_lowers sem s k not_null good =
-    cond_both (is_good sem s.tables) (await sem Nothing (answers OK) s) (refused s)
-    (λ (h : CallResult). count_of (semaphore_at (closed h) sem) ≡ count_of (semaphore_at s.tables sem) +ℤ neg_ℤ (pos 1))
-    (λ b. waited (semaphore_at s.tables sem).tokens sem s refl k not_null good) (λ b. absurd (both_ways (is_good sem s.tables) b good))
+    let x = semaphore_at s.tables sem in
+    ap count_of (semaphore_waited sem s k not_null good) ∙ count_taken x.tokens s.tables.current x refl
 
--- the count after a signal, if these wait
-signalled_count : (l : List ℕ) (sem : ℕ) (s : Xinu) → (semaphore_at s.tables sem).waiters ≡ l → IsSound s → is_good sem s.tables ≡ true
-    → count_of (semaphore_at (closed (returns (signal_first sem l (start s)) OK)) sem) ≡ count_of (semaphore_at s.tables sem) +ℤ pos 1
-signalled_count [] sem s e k good =
+-- A semaphore of these waiters after a signal: the first is released, or there is a token more.
+abbrev pub signalled_to : List ℕ → Semaphore → Semaphore
+signalled_to [] x = record { owner = x.owner; tokens = x.tokens + 1; waiters = x.waiters }
+signalled_to (p ∷ ps) x = record { owner = x.owner; tokens = x.tokens; waiters = ps }
+
+-- its count
+count_signalled : (l : List ℕ) (x : Semaphore) → x.waiters ≡ l → count_of (signalled_to l x) ≡ count_of x +ℤ pos 1
+count_signalled [] x e = count_rises x.tokens (length x.waiters) (x.tokens + 1) (length x.waiters) (omega arith)
+count_signalled (p ∷ ps) x e = let many = ap length e in count_rises x.tokens (length x.waiters) x.tokens (length ps) (omega arith)
+
+-- the semaphore after a signal, if these wait
+signalled_first : (l : List ℕ) (sem : ℕ) (s : Xinu) → (semaphore_at s.tables sem).waiters ≡ l → IsSound s → is_good sem s.tables ≡ true
+    → semaphore_at (closed (returns (signal_first sem l (start s)) OK)) sem ≡ signalled_to l (semaphore_at s.tables sem)
+signalled_first [] sem s e k good =
     let t = s.tables in
     let x = semaphore_at t sem in
     let g = good_semaphore t sem k.tables.inside good in
     let many = k.tables.inside.semaphores in
     let within = g.within in
-    ap count_of (get_or-set_same t.semaphores sem (record x { tokens = x.tokens + 1 }) no_semaphore (omega arith))
-    ∙ count_rises x.tokens (length x.waiters) (x.tokens + 1) (length x.waiters) (omega arith)
-signalled_count (p ∷ ps) sem s e k good =
+    get_or-set_same t.semaphores sem (record x { tokens = x.tokens + 1 }) no_semaphore (omega arith)
+signalled_first (p ∷ ps) sem s e k good =
     let t = s.tables in
     let o = k.tables.inside in
     let x = semaphore_at t sem in
@@ -118,26 +149,26 @@ signalled_count (p ∷ ps) sem s e k good =
     let f : count_in p x.waiters ≡ suc (count_in p ps) =
     ap (count_in p) e ∙ ap (λ b. cond b (suc (count_in p ps)) (count_in p ps)) (eq-eqb p p refl) in
     omega arith) in
-    let after : semaphore_at u sem ≡ semaphore_without p x = semaphore_at_without p sem t.semaphores in
-    let left : numbers_without p x.waiters ≡ ps =
-    ap (numbers_without p) e
-    ∙ ap (λ b. cond (not b) (p ∷ numbers_without p ps) (numbers_without p ps)) (eq-eqb p p refl)
-    ∙ filter_absent (λ w. w == p) ps once in
-    let less : length (numbers_without p x.waiters) ≡ length ps = ap length left in
-    let more : length x.waiters ≡ suc (length ps) = ap length e in
-    ap count_of (semaphore_resched u sem i ∙ after)
-    ∙ count_rises x.tokens (length x.waiters) x.tokens (length (numbers_without p x.waiters)) (omega arith)
+    semaphore_resched u sem i ∙ semaphore_at_without p sem t.semaphores
+    ∙ ap (λ l. record { owner = x.owner; tokens = x.tokens; waiters = l }) (ap (numbers_without p) e ∙ others_wait p ps once)
 
--- Call 19.
+-- Call 19: an accepted one releases the first waiter, or adds a token.
+pub semaphore_signalled : (sem : ℕ) (s : Xinu) → IsSound s → is_good sem s.tables ≡ true
+    → int_lt (count_of (semaphore_at s.tables sem)) most_tokens ≡ true
+    → semaphore_at (closed (signal sem s)) sem ≡ signalled_to (semaphore_at s.tables sem).waiters (semaphore_at s.tables sem)
+semaphore_signalled sem s k good less =
+    let x = semaphore_at s.tables sem in
+    let may = is_good sem s.tables && int_lt (count_of x) most_tokens in
+    cond_both may (returns (signalled sem (start s)) OK) (refused s)
+    (λ (h : CallResult). semaphore_at (closed h) sem ≡ signalled_to x.waiters x)
+    (λ b. signalled_first x.waiters sem s refl k good)
+    (λ b. absurd (both_ways may b (and_from (is_good sem s.tables) (int_lt (count_of x) most_tokens) good less)))
+
 pub signal_raises : (sem : ℕ) (s : Xinu) → IsSound s → is_good sem s.tables ≡ true
     → int_lt (count_of (semaphore_at s.tables sem)) most_tokens ≡ true
     → count_of (semaphore_at (closed (signal sem s)) sem) ≡ count_of (semaphore_at s.tables sem) +ℤ pos 1
 signal_raises sem s k good less =
-    let may = is_good sem s.tables && int_lt (count_of (semaphore_at s.tables sem)) most_tokens in
-    cond_both may (returns (signalled sem (start s)) OK) (refused s)
-    (λ (h : CallResult). count_of (semaphore_at (closed h) sem) ≡ count_of (semaphore_at s.tables sem) +ℤ pos 1)
-    (λ b. signalled_count (semaphore_at s.tables sem).waiters sem s refl k good)
-    (λ b. absurd (both_ways may b (and_from (is_good sem s.tables) (int_lt (count_of (semaphore_at s.tables sem)) most_tokens) good less)))
+    let x = semaphore_at s.tables sem in ap count_of (semaphore_signalled sem s k good less) ∙ count_signalled x.waiters x refl
 
 -- a list is as long as what it has of p and what it has besides
 length_without : (p : ℕ) (l : List ℕ) → length l ≡ count_in p l + length (numbers_without p l)

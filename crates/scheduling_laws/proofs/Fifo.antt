@@ -261,11 +261,11 @@ module _ (sem p q : ℕ) where
       (λ r. holds_first t x y (message_at t x) InReady b (idle_ready (state_at t x) r)) (λ _. fair_set t x y refl b)
 
   -- Each move of a call is fair.
-  fair_closed : IsClosed Anyone Begins Holds
+  fair_closed : IsClosed Anyone Anyone Begins Holds
   fair_closed = record {
     begins = holds_begins;
     owes = λ t h. h;
-    releases = λ value r n d h. let ps = take n (semaphore_at d.state.tables r).waiters in
+    releases = λ value r n d touch h. let ps = take n (semaphore_at d.state.tables r).waiters in
         subst (λ (x : Xinu). Still x.tables × Fair x.tables) (sym (unblock_all_with_ready value ps d))
         (still_all ps d.state.tables h.0, fair_releases r n d.state.tables h.1);
     hears = λ t b x m l h. let y = in_state Ready (process_at t x) in
@@ -274,13 +274,13 @@ module _ (sem p q : ℕ) where
           fair_left t x y (Some m) InReady refl
               (λ k e. true≢false (sym (f e) ∙ ap listens k.1)) (λ d e. true≢false (sym (f e) ∙ ap listens d.0)) h.1,
         );
-    replies = λ t b r x xs reply k f h. let y = record (process_at t x) { state = Ready; rest = rest.Disk (Some reply) } in
+    replies = λ t b r x xs reply touch k f h. let y = record (process_at t x) { state = Ready; rest = rest.Disk (Some reply) } in
         (still_moved t x y (message_at t x) InReady h.0, fair_replied t r x xs y (message_at t x) f h.1);
-    counts = λ t b r x f h. (h.0, fair_given t r x f h.1);
+    counts = λ t b r x touch f h. (h.0, fair_given t r x f h.1);
     numbers = λ t b n h. h;
     messages = λ t b l h. h;
     goes_on = λ t m k b. holds_first t t.current (record (process_at t t.current) { rest = rest.Nothing }) m Nowhere b (ap is_waiting k.runs);
-    stops = λ t state left place h. let y = record (process_at t t.current) { state = state; rest = left } in (
+    stops = λ t state left place touch h. let y = record (process_at t t.current) { state = state; rest = left } in (
       still_moved t t.current y (message_at t t.current) place h.0,
       fair_came t t.current y (message_at t t.current) place (λ e. h.0.2 (sym e)) (λ e. h.0.3 (sym e)) h.1,
     );
@@ -309,7 +309,7 @@ module _ (sem p q : ℕ) where
       (fair_all ps s.tables (never_due s.tables q (s.tables.ticks + 1) k.inside (ap sleeping_places (waits_at_first s.tables b).1)) (inl (behind_begins s.tables b)))
 
   -- Each event is fair.
-  fair_carried : IsCarried Anyone Begins Holds Fair
+  fair_carried : IsCarried Anyone Anyone Begins Holds Fair
   fair_carried = record {
     moves = fair_closed;
     stays = λ t b. inl (behind_begins t b);

@@ -66,18 +66,18 @@ highest_placed t p priority k h e =
     (λ f. let g = sym (ap is_current (subst (λ q. state_at t q ≡ Current) f k.runs)) ∙ none.1 in cc) h)
 
 -- Each move of a call owes a resched, or a process of the highest priority goes on running.
-highest_closed : IsClosed Anyone IsHighest IsHighestYet
+highest_closed : IsClosed Anyone Anyone IsHighest IsHighestYet
 highest_closed = record {
   begins = λ t h _. h;
   owes = λ t h e. absurd (cc);
-  releases = λ value sem n d h. inside_unblocked {Holds = IsHighestYet} (λ t b q g e. absurd (cc)) value (take n (semaphore_at d.state.tables sem).waiters) d h;
+  releases = λ value sem n d touch h. inside_unblocked {Holds = IsHighestYet} (λ t b q g e. absurd (cc)) value (take n (semaphore_at d.state.tables sem).waiters) d h;
   hears = λ t b q m l h e. absurd (cc);
-  replies = λ t b sem q qs reply k f h e. absurd (cc);
-  counts = λ t b sem x f h. h;
+  replies = λ t b sem q qs reply touch k f h e. absurd (cc);
+  counts = λ t b sem x touch f h. h;
   numbers = λ t b n h. h;
   messages = λ t b l h. h;
   goes_on = λ t m k h _. highest_goes_on t m k h;
-  stops = λ t state left place h e. absurd (cc);
+  stops = λ t state left place touch h e. absurd (cc);
   dies = λ t b q n h e. highest_move t q no_process None (λ f. n (sym f)) (h e);
   exits = λ t b q h e. absurd (cc);
   makes = λ t q x k free h _. highest_move t q x None (λ f. let g = sym (subst (λ r. state_at t r ≡ Current) f k.runs) ∙ free in cc) h;
@@ -111,7 +111,7 @@ highest_ticked s k h =
     (inside_unblocked {Holds = IsHighestYet} (λ t b q g e. absurd (cc)) OK ps (start s) (λ _. h)))
 
 -- Each event keeps it.
-pub highest_carried : IsCarried Anyone IsHighest IsHighestYet IsHighest
+pub highest_carried : IsCarried Anyone Anyone IsHighest IsHighestYet IsHighest
 highest_carried = record {
   moves = highest_closed;
   stays = λ t h. h;

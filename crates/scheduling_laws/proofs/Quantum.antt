@@ -36,18 +36,18 @@ few_placed t p priority h =
     (λ _. h) (λ _. h)
 
 -- No move of a call changes the quantum.
-few_closed : IsClosed Anyone HasQuantum (λ t owes. HasQuantum t)
+few_closed : IsClosed Anyone Anyone HasQuantum (λ t owes. HasQuantum t)
 few_closed = record {
   begins = λ t h. h;
   owes = λ t h. h;
-  releases = λ value sem n d h. inside_unblocked {Holds = λ t owes. HasQuantum t} (λ t b q g. g) value (take n (semaphore_at d.state.tables sem).waiters) d h;
+  releases = λ value sem n d touch h. inside_unblocked {Holds = λ t owes. HasQuantum t} (λ t b q g. g) value (take n (semaphore_at d.state.tables sem).waiters) d h;
   hears = λ t b q m l h. h;
-  replies = λ t b sem q qs reply k f h. h;
-  counts = λ t b sem x f h. h;
+  replies = λ t b sem q qs reply touch k f h. h;
+  counts = λ t b sem x touch f h. h;
   numbers = λ t b n h. h;
   messages = λ t b l h. h;
   goes_on = λ t m k h. h;
-  stops = λ t state left place h. h;
+  stops = λ t state left place touch h. h;
   dies = λ t b q n h. h;
   exits = λ t b q h. h;
   makes = λ t q x k free h. h;
@@ -74,7 +74,7 @@ few_ticked s h =
     (cond_both d.owes_resched (resched later) later HasQuantum (λ _. few_resched later k) (λ _. k))
 
 -- Each event keeps it.
-pub few_carried : IsCarried Anyone HasQuantum (λ t owes. HasQuantum t) HasQuantum
+pub few_carried : IsCarried Anyone Anyone HasQuantum (λ t owes. HasQuantum t) HasQuantum
 few_carried = record {
   moves = few_closed;
   stays = λ t h. h;

@@ -21,20 +21,28 @@ use Rattle.scheduling_laws.specs.RoundRobin.{before, turn, is_placed, tick_of, t
 use Rattle.xinu_laws.proofs.Preserve.Events.{sound_happens}
 use Rattle.scheduling_laws.proofs.Highest.{highest_carried}
 use Rattle.scheduling_laws.proofs.Lows.{low, low_all, low_before}
-use Rattle.scheduling_laws.proofs.Passes.Events.{MayPlace, MayPlaceAll, carried_happens, carried_where}
+use Rattle.scheduling_laws.proofs.Kernels.{all_kernels}
+use Rattle.scheduling_laws.proofs.Moves.{Anyone, MayDo}
+use Rattle.scheduling_laws.specs.Moments.{call_in, first_call}
+use Rattle.scheduling_laws.proofs.Passes.Events.{carried_happens, carried_where}
 use Rattle.scheduling_laws.proofs.Quantum.{few_carried}
 use Rattle.scheduling_laws.proofs.Turns.{Begins, Nearer, nearer_ticked, turned_carried}
 
--- a line that isn't a call of `chprio` on p
-spared : (p : ℕ) (l : TranscriptLine) → is_placed p l ≡ false → MayPlace (λ x. p ≢ x) l
-spared p (line.Call q call) = λ e f g.
-    true≢false (sym (and_from (call.number == 7) (slice_index call.args 0 == p) (eq-eqb call.number 7 f) (eq-eqb (slice_index call.args 0) p (sym g))) ∙ e)
-spared p _ = λ e. tt
+-- a call that the first line doesn't tell to be of `chprio` on p
+first_spared : (p : ℕ) (l : TranscriptLine) (lines : List TranscriptLine) → is_placed p l ≡ false → MayDo (λ x. p ≢ x) Anyone (first_call (l ∷ lines))
+first_spared p (line.Call q call) lines = λ e. (
+  (λ f g. true≢false (sym (and_from (call.number == 7) (slice_index call.args 0 == p) (eq-eqb call.number 7 f) (eq-eqb (slice_index call.args 0) p (sym g))) ∙ e)),
+  (λ f. tt),
+)
+first_spared p _ lines = λ e. tt
 
-all_spared : (p : ℕ) (lines : List TranscriptLine) → list_any (is_placed p) lines ≡ false → MayPlaceAll (λ x. p ≢ x) lines
-all_spared p [] e = tt
-all_spared p (l ∷ lines) e =
-    let both = or_parts (is_placed p l) (list_any (is_placed p) lines) e in (spared p l both.0, all_spared p lines both.1)
+step_spared : (p : ℕ) (lines : List TranscriptLine) → list_any (is_placed p) lines ≡ false → MayDo (λ x. p ≢ x) Anyone (first_call lines)
+step_spared p [] e = tt
+step_spared p (l ∷ lines) e = first_spared p l lines (or_parts (is_placed p l) (list_any (is_placed p) lines) e).0
+
+spared : (p : ℕ) (e : Event) (lines : List TranscriptLine) → list_any (is_placed p) lines ≡ false → MayDo (λ x. p ≢ x) Anyone (call_in e lines)
+spared p Step lines none = step_spared p lines none
+spared p _ lines none = tt
 
 -- what waits its turn in sound tables
 waits_begins : (p : ℕ) (k : ℤ) (t : Tables) → IsSoundTables t → WaitsItsTurn p k t → Begins p k t.quantum (low p k t.ready) t
@@ -79,8 +87,8 @@ round_robin p k old e lines new sound highest few h none w v = by_event e h
 
     others : (e : Event) → Happens old e lines new → turn p new.tables + 0 ≤ turn p old.tables
     others e h =
-        let f = carried_where (turned_carried p k t.quantum (low p k t.ready) few.0) old e lines new sound (waits_begins p k t sound.tables w) h
-        (all_spared p lines none) v in
+        let f = carried_where (turned_carried p k t.quantum (low p k t.ready) few.0) old e lines new sound (all_kernels old.parts) (waits_begins p k t sound.tables w) h
+        (spared p e lines none) v in
         low_turn p k t new.tables 0 (carried_happens highest_carried old e lines new sound highest h) v (omega arith)
 
     by_event : (e : Event) → Happens old e lines new → turn p new.tables + tick_of e ≤ turn p old.tables

@@ -26,7 +26,7 @@ use Rattle.table_laws.proofs.Tables.Unblock.{all_take, IsOneOf, unblock_all_read
 use Rattle.scheduling_laws.specs.RoundRobin.{WaitsItsTurn}
 use Rattle.scheduling_laws.proofs.Eligible.{entry_of}
 use Rattle.scheduling_laws.proofs.Lows.{HasKey, key_without, low, low_counted, low_moved, low_without}
-use Rattle.scheduling_laws.proofs.Moves.{IsClosed}
+use Rattle.scheduling_laws.proofs.Moves.{Anyone, IsClosed}
 use Rattle.scheduling_laws.proofs.Passes.Events.{IsCarried}
 use Rattle.scheduling_laws.proofs.Resched.{by_resched, itself}
 use Rattle.scheduling_laws.proofs.Waiters.{all_others, waiters_given, waiters_left, waiters_moved}
@@ -159,16 +159,16 @@ module _ (p : ℕ) (k : ℤ) (q most : ℕ) where
       ))
 
   -- Each move of a call leaves p no later, kills it or suspends it, if nobody gives p a priority.
-  turned_closed : IsClosed (λ x. p ≢ x) Begins (λ t owes. Turned t)
+  turned_closed : IsClosed (λ x. p ≢ x) Anyone Begins (λ t owes. Turned t)
   turned_closed = record {
     begins = turned_begins;
     owes = λ t h. h;
-    releases = λ value sem n d h. let l = (semaphore_at d.state.tables sem).waiters in
+    releases = λ value sem n d touch h. let l = (semaphore_at d.state.tables sem).waiters in
         turned_unblocked value (take n l) d (all_take (λ x. p ≢ x) n l (all_others p l (h.0.2 sem))) h;
     hears = λ t b x m l h. turned_moved t x (in_state Ready (process_at t x)) (Some m) InReady (hearer_differs t x l h) h;
-    replies = λ t b sem x xs reply c f h. turned_moved t x (record (process_at t x) { state = Ready; rest = rest.Disk (Some reply) }) (message_at t x) InReady
+    replies = λ t b sem x xs reply touch c f h. turned_moved t x (record (process_at t x) { state = Ready; rest = rest.Disk (Some reply) }) (message_at t x) InReady
         (subst (AllByRecursion (λ r. p ≢ r)) f (all_others p (semaphore_at t sem).waiters (h.0.2 sem))).0 h;
-    counts = λ t b sem x f h. (
+    counts = λ t b sem x touch f h. (
       (
         h.0.0,
         h.0.1,
@@ -183,7 +183,7 @@ module _ (p : ℕ) (k : ℤ) (q most : ℕ) where
     numbers = λ t b n h. h;
     messages = λ t b l h. h;
     goes_on = λ t m c b. turned_moved t t.current (record (process_at t t.current) { rest = rest.Nothing }) m Nowhere (λ e. b.1.3 (sym e)) (turned_begins t b);
-    stops = λ t state left place h.
+    stops = λ t state left place touch h.
         turned_moved t t.current (record (process_at t t.current) { state = state; rest = left }) (message_at t t.current) place (λ e. h.0.3 (sym e)) h;
     dies = λ t b x n h. turned_dies t x h;
     exits = λ t b x h. turned_dies t x h;
@@ -338,7 +338,7 @@ module _ (p : ℕ) (k : ℤ) (q most : ℕ) where
       (cond_both d.owes_resched (resched later) later Mid (λ _. mid_resched later (after false).inside h) (λ _. mid_turned later h))
 
   -- Each event.
-  pub turned_carried : 1 ≤ q → IsCarried (λ x. p ≢ x) Begins (λ t owes. Turned t) NoLater
+  pub turned_carried : 1 ≤ q → IsCarried (λ x. p ≢ x) Anyone Begins (λ t owes. Turned t) NoLater
   turned_carried some = record {
     moves = turned_closed;
     stays = λ t b. mid_no_later t (mid_turned t (turned_begins t b));

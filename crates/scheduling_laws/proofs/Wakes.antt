@@ -136,16 +136,16 @@ module _ (p w : ℕ) where
       (λ _. still_set t q y refl h)
 
   -- Each move of a call leaves p asleep, or kills it.
-  still_closed : IsClosed Anyone Sleeps (λ t owes. StillSleeps t)
+  still_closed : IsClosed Anyone Anyone Sleeps (λ t owes. StillSleeps t)
   still_closed = record {
     begins = still_begins;
     owes = λ t h. h;
-    releases = λ value sem n d h. still_unblocked value (take n (semaphore_at d.state.tables sem).waiters) d
+    releases = λ value sem n d touch h. still_unblocked value (take n (semaphore_at d.state.tables sem).waiters) d
         (all_take (λ q. p ≢ q) n (semaphore_at d.state.tables sem).waiters (all_others p (semaphore_at d.state.tables sem).waiters (h.3 sem))) h;
     hears = λ t b q m l h. still_moved t q (in_state Ready (process_at t q)) (Some m) InReady (hearer_differs t q l h) h;
-    replies = λ t b sem q qs reply k f h. still_moved t q (record (process_at t q) { state = Ready; rest = rest.Disk (Some reply) }) (message_at t q) InReady
+    replies = λ t b sem q qs reply touch k f h. still_moved t q (record (process_at t q) { state = Ready; rest = rest.Disk (Some reply) }) (message_at t q) InReady
         (subst (AllByRecursion (λ r. p ≢ r)) f (all_others p (semaphore_at t sem).waiters (h.3 sem))).0 h;
-    counts = λ t b sem x f h. (
+    counts = λ t b sem x touch f h. (
       h.0,
       h.1,
       h.2,
@@ -157,7 +157,7 @@ module _ (p w : ℕ) where
     messages = λ t b l h. h;
     goes_on = λ t m k b. let h = still_begins t b in
         still_moved t t.current (record (process_at t t.current) { rest = rest.Nothing }) m Nowhere (λ e. h.4 (sym e)) h;
-    stops = λ t state left place h.
+    stops = λ t state left place touch h.
         still_moved t t.current (record (process_at t t.current) { state = state; rest = left }) (message_at t t.current) place (λ e. h.4 (sym e)) h;
     dies = λ t b q n h. still_dies t q h;
     exits = λ t b q h. still_dies t q h;
@@ -195,7 +195,7 @@ module _ (p w : ℕ) where
       (λ (n : w ≢ s.tables.ticks + 1). in_time_asleep (ticked s).state.tables (sound_ticked s k).inside (sleeps_through p w s k b.0 n))
       (cases_eq w (s.tables.ticks + 1))
 
-  in_time_carried : IsCarried Anyone Sleeps (λ t owes. StillSleeps t) IsInTime
+  in_time_carried : IsCarried Anyone Anyone Sleeps (λ t owes. StillSleeps t) IsInTime
   in_time_carried = record {
     moves = still_closed;
     stays = λ t b. in_time_asleep t b.1.inside b.0;

@@ -1,4 +1,7 @@
+pub mod Exclusion
 pub mod Fairness
+pub mod Moments
 pub mod Policy
 pub mod RoundRobin
 pub mod Sleeping
+pub mod Tokens

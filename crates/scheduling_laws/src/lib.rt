@@ -1,5 +1,5 @@
 //! The scheduling policy of the book as laws of the abstract machine: who runs, when a sleeper
-//! wakes, and in which order waiters go on.
+//! wakes, in which order waiters go on, and how many a semaphore lets in.
 //!
 //! Nothing of it runs: each law is the contract of a function that does nothing, proved for all images, states and lists of events.
 //!
@@ -7,7 +7,7 @@
 //! |---|---|
 //! | [`policy`] | the process of the highest priority runs; no ready process is above it; a tick or two are left of its quantum |
 //! | [`round_robin`] | the turn of a ready process comes |
-//! | [`semaphores`] | those who wait on a semaphore go on in the order in which they came; its count follows the calls |
+//! | [`semaphores`] | those who wait on a semaphore go on in the order in which they came; its count is signals less waits; with a count of one it lets in one at a time |
 //! | [`sleepers`] | who sleeps wakes on time |
 //!
 //! A predicate on tables that is closed under the moves of calls is kept by each event: `proofs/Moves` says which moves there are, and `Passes`

@@ -1,6 +1,7 @@
-//! In which order those who wait on a semaphore go on, and what its count is.
+//! In which order those who wait on a semaphore go on, what its count is, and that it excludes.
 
-ghost use Rattle.std.specs.Prelude.{◌≡◌, ◌≢◌, ◌⊎◌, ◌+ℤ◌, ◌<◌, ℕ, List, int_lt, neg_ℤ, pos, true};
+ghost use Rattle.std.specs.Prelude.{◌≡◌, ◌≢◌, ◌⊎◌, ◌+◌, ◌+ℤ◌, ◌<◌, ℕ, List, false, int_lt, neg_ℤ, pos, true};
+ghost use Rattle.xinu_base.specs.declared.events.End.{End};
 ghost use Rattle.xinu_base.specs.declared.events.Event.{Event};
 ghost use Rattle.xinu_base.specs.declared.lines.TranscriptLine.{TranscriptLine};
 ghost use Rattle.xinu_base.specs.declared.processes.State.TheVariants.{Free};
@@ -9,10 +10,14 @@ ghost use Rattle.xinu_model.specs.Machine.{Xinu, closed};
 ghost use Rattle.xinu_model.specs.Process.Calls.{kill};
 ghost use Rattle.xinu_model.specs.Semaphores.Calls.{signal, wait};
 ghost use Rattle.xinu_model.specs.Semaphores.Counts.{count_of, is_good, most_tokens};
+ghost use Rattle.xinu_model.specs.Runs.{RunsTo};
 ghost use Rattle.xinu_model.specs.Sound.State.{IsSound};
 ghost use Rattle.xinu_model.specs.Sound.Tables.{CanRun, count_in};
 ghost use Rattle.xinu_model.specs.Tables.{Tables, semaphore_at, state_at};
+ghost use Rattle.scheduling_laws.specs.Exclusion.{IsUsedInPairs, all_entered, is_inside, nobody};
 ghost use Rattle.scheduling_laws.specs.Fairness.{IsReleased, WaitsBefore};
+ghost use Rattle.scheduling_laws.specs.Moments.{LeadTo, Moment};
+ghost use Rattle.scheduling_laws.specs.Tokens.{is_renewed, killed_waiters, signals, waits};
 
 /// Semaphores are fair. If p waits on a semaphore before q, then after each event it still does, or it waits there no longer, or q was killed;
 /// so if q can run, p waits there no longer.
@@ -34,4 +39,28 @@ pub fn counts_follow_the_calls()
         count_of (semaphore_at (closed (signal sem s)) sem) ≡ count_of (semaphore_at s.tables sem) +ℤ pos 1 }
     ensures kill { (sem p : ℕ) (s : Xinu) → IsSound s → 0 < count_in p (semaphore_at s.tables sem).waiters →
         count_of (semaphore_at (closed (kill p s)) sem) ≡ count_of (semaphore_at s.tables sem) +ℤ pos 1 }
+{}
+
+/// A run is a stretch of moments, one for each of its events.
+pub fn runs_are_stretches()
+    ensures { (events : List Event) (old : Xinu) (lines : List TranscriptLine) (new : Xinu) (end : End) →
+        RunsTo old events lines new end → (ms : List Moment) × LeadTo old ms new }
+{}
+
+/// Over a stretch in which nobody gives up a process's semaphore or resets it, its count and the `wait`s that were called are what the count was,
+/// the signals that were given, and the waiters that were killed.
+pub fn counts_add_up()
+    ensures { (sem : ℕ) (ms : List Moment) (old : Xinu) (new : Xinu) → IsSound old → is_good sem old.tables ≡ true → LeadTo old ms new →
+        is_renewed sem ms ≡ false →
+        count_of (semaphore_at new.tables sem) +ℤ pos (waits sem ms)
+        ≡ count_of (semaphore_at old.tables sem) +ℤ pos (signals sem ms + killed_waiters sem ms) }
+{}
+
+/// Mutual exclusion: over a stretch that begins with a count of one, and in which who calls `signal` is inside, at most one process is inside at
+/// each moment: between its completed `wait` and its `signal`.
+pub fn at_most_one_is_inside()
+    ensures { (sem p q : ℕ) (ms : List Moment) (old : Xinu) (new : Xinu) → IsSound old → is_good sem old.tables ≡ true →
+        count_of (semaphore_at old.tables sem) ≡ pos 1 → LeadTo old ms new → IsUsedInPairs sem nobody ms →
+        is_inside sem (all_entered sem ms nobody) new.tables p ≡ true → is_inside sem (all_entered sem ms nobody) new.tables q ≡ true →
+        p ≡ q }
 {}

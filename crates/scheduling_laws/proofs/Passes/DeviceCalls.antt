@@ -1,5 +1,5 @@
 -- The calls on devices, 36 to 44, keep a predicate that is closed under their moves.
-use Rattle.std.proofs.Common.{ℕ, zero, suc, ◌+◌, ◌==◌, Bool, true, false, cond, ◌&&◌, List, [], ◌∷◌, Option, Some, None, ℤ, pos, negsuc}
+use Rattle.std.proofs.Common.{ℕ, zero, suc, ◌+◌, ◌<◌, ◌==◌, arith, Bool, true, false, cond, ◌&&◌, List, [], ◌∷◌, Option, Some, None, ℤ, pos, negsuc}
 use Rattle.std.specs.Prelude.{slice_index}
 use Rattle.xinu_base.specs.Constants.{OK}
 use Rattle.xinu_base.specs.declared.console.Item.{Item}
@@ -26,14 +26,15 @@ use Rattle.xinu_laws.proofs.NameSpaces.Calls.{mount_holds}
 use Rattle.scheduling_laws.proofs.Moves.{Goes, Settled, IsClosed}
 use Rattle.scheduling_laws.proofs.Passes.Steps.{refused_settles, either_settles, await_settles, inside_signalled_times}
 
-module _ {May : ℕ → Type 0} {Begins : Tables → Type 0} {Holds : Tables → Bool → Type 0} (k : IsClosed May Begins Holds) where
+module _ {May Touch : ℕ → Type 0} {Begins : Tables → Type 0} {Holds : Tables → Bool → Type 0} (k : IsClosed May Touch Begins Holds)
+    (devices : (sem : ℕ) → sem < 4 → Touch sem) where
   -- `getc` of the console
   pub take_char_settles : (items : List Item) (s : Xinu) → Goes Holds s → Settled Holds (take_char items s)
   take_char_settles [] s h = h
   take_char_settles (x ∷ items) s h = h
 
   pub getc_settles : (s : Xinu) → Goes Holds s → Settled Holds (console_getc s)
-  getc_settles s h = await_settles k TY_ISEM rest.TtyGet take_next s h (λ u. take_char_settles (console_of u).committed u)
+  getc_settles s h = await_settles k TY_ISEM rest.TtyGet take_next s (devices 0 (omega arith)) h (λ u. take_char_settles (console_of u).committed u)
 
   -- `read` of the console
   pub read_item_settles : (items : List Item) (at done : ℕ) (then_ : Xinu → CallResult) (s : Xinu) → Goes Holds s
@@ -50,7 +51,8 @@ module _ {May : ℕ → Type 0} {Begins : Tables → Type 0} {Holds : Tables →
   pub reads_settles : (left at done : ℕ) (s : Xinu) → Goes Holds s → Settled Holds (reads left at done s)
   reads_settles zero at done s h = h
   reads_settles (suc left) at done s h =
-      await_settles k TY_ISEM (rest.TtyRead (span at done (done + suc left))) (read_next at done (reads left at (suc done))) s h
+      await_settles k TY_ISEM (rest.TtyRead (span at done (done + suc left))) (read_next at done (reads left at (suc done))) s
+      (devices 0 (omega arith)) h
       (λ u g. read_item_settles (console_of u).committed at done (reads left at (suc done)) u g (reads_settles left at (suc done)))
 
   read_range_settles : (at n : ℕ) (s : Xinu) → Goes Holds s → Settled Holds (read_range at n s)
@@ -70,12 +72,12 @@ module _ {May : ℕ → Type 0} {Begins : Tables → Type 0} {Holds : Tables →
   put_byte_settles b left then_ s h go =
       either_settles k (needs_return b (console_of s).mode) (await TY_OSEM left (λ x. then_ (put TY_NEWLINE x)) (put TY_RETURN s))
       (then_ (put b s))
-      (λ _. await_settles k TY_OSEM left (λ x. then_ (put TY_NEWLINE x)) (put TY_RETURN s) h (λ u g. go (put TY_NEWLINE u) g))
+      (λ _. await_settles k TY_OSEM left (λ x. then_ (put TY_NEWLINE x)) (put TY_RETURN s) (devices 1 (omega arith)) h (λ u g. go (put TY_NEWLINE u) g))
       (λ _. go (put b s) h)
 
   pub putc_settles : (b : ℕ) (s : Xinu) → Goes Holds s → Settled Holds (console_putc b s)
   putc_settles b s h =
-      await_settles k TY_OSEM (rest.TtyPut b false) (put_byte b (rest.TtyPut b true) (answers OK)) s h
+      await_settles k TY_OSEM (rest.TtyPut b false) (put_byte b (rest.TtyPut b true) (answers OK)) s (devices 1 (omega arith)) h
       (λ u g. put_byte_settles b (rest.TtyPut b true) (answers OK) u g (λ v f. f))
 
   pub writes_settles : (left at done : ℕ) (s : Xinu) → Goes Holds s → Settled Holds (writes left at done s)
@@ -83,7 +85,8 @@ module _ {May : ℕ → Type 0} {Begins : Tables → Type 0} {Holds : Tables →
   writes_settles (suc left) at done s h =
       let part = span at done (done + suc left) in
       await_settles k TY_OSEM (rest.TtyWrite part false)
-      (λ x. put_byte (slice_index x.memory (at + done)) (rest.TtyWrite part true) (writes left at (suc done)) x) s h
+      (λ x. put_byte (slice_index x.memory (at + done)) (rest.TtyWrite part true) (writes left at (suc done)) x) s
+      (devices 1 (omega arith)) h
       (λ u g. put_byte_settles (slice_index u.memory (at + done)) (rest.TtyWrite part true) (writes left at (suc done)) u g
       (writes_settles left at (suc done)))
 
@@ -95,7 +98,8 @@ module _ {May : ℕ → Type 0} {Begins : Tables → Type 0} {Holds : Tables →
   -- `control` of the console
   control_settles : (found : Option Committed) (s : Xinu) → Goes Holds s → Settled Holds (control_with found s)
   control_settles None s h = refused_settles k s h
-  control_settles (Some m) s h = inside_signalled_times k TY_ISEM m.count (record (start s) { state = with_console m.console s }) h
+  control_settles (Some m) s h = inside_signalled_times k TY_ISEM m.count (record (start s) { state = with_console m.console s })
+      (devices 0 (omega arith)) h
 
   pub console_control_settles : (f : ℕ) (s : Xinu) → Goes Holds s → Settled Holds (console_control f s)
   console_control_settles f s h =
@@ -105,12 +109,12 @@ module _ {May : ℕ → Type 0} {Begins : Tables → Type 0} {Holds : Tables →
   -- the raw disk
   pub disk_read_settles : (at block : ℕ) (s : Xinu) → Goes Holds s → Settled Holds (disk_read at block s)
   disk_read_settles at block s h =
-      either_settles k (may_request at block s) _ (refused s) (λ _. k.stops s.tables Waiting (rest.Disk None) (InSemaphore 2) h)
+      either_settles k (may_request at block s) _ (refused s) (λ _. k.stops s.tables Waiting (rest.Disk None) (InSemaphore 2) (devices 2 (omega arith)) h)
       (λ _. refused_settles k s h)
 
   pub disk_write_settles : (at block : ℕ) (s : Xinu) → Goes Holds s → Settled Holds (disk_write at block s)
   disk_write_settles at block s h =
-      either_settles k (may_request at block s) _ (refused s) (λ _. k.stops s.tables Waiting (rest.Disk None) (InSemaphore 2) h)
+      either_settles k (may_request at block s) _ (refused s) (λ _. k.stops s.tables Waiting (rest.Disk None) (InSemaphore 2) (devices 2 (omega arith)) h)
       (λ _. refused_settles k s h)
 
   pub disk_control_settles : (f : ℕ) (s : Xinu) → Goes Holds s → Settled Holds (disk_control f s)
@@ -119,7 +123,7 @@ module _ {May : ℕ → Type 0} {Begins : Tables → Type 0} {Holds : Tables →
   -- a call on files
   pub files_settle : (s : Xinu) → Goes Holds s → OfFiles (Settled Holds) s
   files_settle s h None at asked = refused_settles k s h
-  files_settle s h (Some call) at asked = k.stops s.tables Waiting (rest.Disk None) (InSemaphore 3) h
+  files_settle s h (Some call) at asked = k.stops s.tables Waiting (rest.Disk None) (InSemaphore 3) (devices 3 (omega arith)) h
 
   -- call 44
   pub mount_settles : (prefix replacement dev : ℕ) (s : Xinu) → Goes Holds s → Settled Holds (mount prefix replacement dev s)

@@ -21,7 +21,7 @@ use Rattle.xinu_model.specs.Semaphores.Waiting.{emptied_with}
 use Rattle.xinu_model.specs.Sound.Tables.{IsSoundTables}
 use Rattle.xinu_model.specs.Tables.{no_semaphore, Tables, process_at, state_at, is_free, Nowhere, InSleepers}
 use Rattle.table_laws.proofs.Tables.Deaths.{sent_changes}
-use Rattle.table_laws.proofs.Tables.Found.{free_process_free}
+use Rattle.table_laws.proofs.Tables.Found.{free_process_free, free_semaphore_free}
 use Rattle.table_laws.proofs.Tables.States.{is_ready_of, suspended_of}
 use Rattle.scheduling_laws.proofs.Moves.{Goes, Settled, IsClosed}
 use Rattle.std.specs.Prelude.{max}
@@ -30,7 +30,7 @@ use Rattle.xinu_model.specs.Semaphores.Calls.{semdelete, signal}
 use Rattle.xinu_model.specs.Messages.{send}
 use Rattle.scheduling_laws.proofs.Passes.Steps.{refused_settles, either_settles, blocked_settles, await_settles, inside_tokens, inside_signalled, inside_signalled_times, inside_emptied, inside_delivered, inside_sent, holds_made}
 
-module _ {May : ℕ → Type 0} {Begins : Tables → Type 0} {Holds : Tables → Bool → Type 0} (k : IsClosed May Begins Holds) where
+module _ {May Touch : ℕ → Type 0} {Begins : Tables → Type 0} {Holds : Tables → Bool → Type 0} (k : IsClosed May Touch Begins Holds) where
   -- what begins a call lets its caller go on
   pub begun : (s : Xinu) → Begins s.tables → Goes Holds s
   begun s b = k.begins s.tables b
@@ -65,7 +65,7 @@ module _ {May : ℕ → Type 0} {Begins : Tables → Type 0} {Holds : Tables →
       (λ _. either_settles k (is_ready (process_at t p).state) _ _
       (λ e. k.suspends t p sound (is_ready_of (state_at t p) e) b)
       (λ _. either_settles k (p == t.current) _ (refused s)
-      (λ _. blocked_settles k Suspended rest.SelfSuspend Nowhere s (begun s b)) (λ _. no)))
+      (λ _. blocked_settles k Suspended rest.SelfSuspend Nowhere s tt (begun s b)) (λ _. no)))
 
   -- call 9
   pub exit_settles : (s : Xinu) → Goes Holds s → Settled Holds (exit s)
@@ -107,41 +107,42 @@ module _ {May : ℕ → Type 0} {Begins : Tables → Type 0} {Holds : Tables →
   -- call 14
   pub semcreate_settles : (count : ℤ) (s : Xinu) → Goes Holds s → Settled Holds (semcreate count s)
   semcreate_settles (negsuc n) s h = refused_settles k s h
-  semcreate_settles (pos n) s h = made (free_semaphore s.tables)
+  semcreate_settles (pos n) s h = made (free_semaphore s.tables) refl
     where
-      made : (found : Option ℕ) → Settled Holds (made_semaphore n found s)
-      made None = h
-      made (Some sem) = holds_made k sem n owner.Image s.tables h
+      made : (found : Option ℕ) → free_semaphore s.tables ≡ found → Settled Holds (made_semaphore n found s)
+      made None e = h
+      made (Some sem) e = holds_made k sem n owner.Image s.tables (free_semaphore_free s.tables sem e) h
 
   -- call 15
-  pub semdelete_settles : (sem : ℕ) (s : Xinu) → Goes Holds s → Settled Holds (semdelete sem s)
-  semdelete_settles sem s h =
+  pub semdelete_settles : (sem : ℕ) (s : Xinu) → Touch sem → Goes Holds s → Settled Holds (semdelete sem s)
+  semdelete_settles sem s may h =
       let d = emptied_with SYSERR sem (start s) in
       either_settles k (is_good sem s.tables) _ (refused s)
-      (λ _. k.counts d.state.tables d.owes_resched sem no_semaphore (inl refl) (inside_emptied k SYSERR sem (start s) h))
+      (λ _. k.counts d.state.tables d.owes_resched sem no_semaphore (inl may) (inl refl) (inside_emptied k SYSERR sem (start s) may h))
       (λ _. refused_settles k s h)
 
   -- call 16
-  pub semreset_settles : (sem : ℕ) (count : ℤ) (s : Xinu) → Goes Holds s → Settled Holds (semreset sem count s)
-  semreset_settles sem (negsuc n) s h = refused_settles k s h
-  semreset_settles sem (pos n) s h =
+  pub semreset_settles : (sem : ℕ) (count : ℤ) (s : Xinu) → Touch sem → Goes Holds s → Settled Holds (semreset sem count s)
+  semreset_settles sem (negsuc n) s may h = refused_settles k s h
+  semreset_settles sem (pos n) s may h =
       either_settles k (is_good sem s.tables) _ (refused s)
-      (λ _. inside_tokens k sem n (emptied_with OK sem (start s)) (inside_emptied k OK sem (start s) h)) (λ _. refused_settles k s h)
+      (λ _. inside_tokens k sem n (emptied_with OK sem (start s)) may (inside_emptied k OK sem (start s) may h)) (λ _. refused_settles k s h)
 
   -- call 18
-  pub wait_settles : (sem : ℕ) (s : Xinu) → Goes Holds s → Settled Holds (wait sem s)
-  wait_settles sem s h =
-      either_settles k (is_good sem s.tables) _ (refused s) (λ _. await_settles k sem rest.Nothing (answers OK) s h (λ u g. g))
+  pub wait_settles : (sem : ℕ) (s : Xinu) → Touch sem → Goes Holds s → Settled Holds (wait sem s)
+  wait_settles sem s may h =
+      either_settles k (is_good sem s.tables) _ (refused s) (λ _. await_settles k sem rest.Nothing (answers OK) s may h (λ u g. g))
       (λ _. refused_settles k s h)
 
   -- call 19
-  pub signal_settles : (sem : ℕ) (s : Xinu) → Goes Holds s → Settled Holds (signal sem s)
-  signal_settles sem s h = either_settles k _ _ (refused s) (λ _. inside_signalled k sem (start s) h) (λ _. refused_settles k s h)
+  pub signal_settles : (sem : ℕ) (s : Xinu) → Touch sem → Goes Holds s → Settled Holds (signal sem s)
+  signal_settles sem s may h = either_settles k _ _ (refused s) (λ _. inside_signalled k sem (start s) may h) (λ _. refused_settles k s h)
 
   -- call 20
-  pub signaln_settles : (sem : ℕ) (n : ℤ) (s : Xinu) → Goes Holds s → Settled Holds (signaln sem n s)
-  signaln_settles sem (negsuc n) s h = refused_settles k s h
-  signaln_settles sem (pos n) s h = either_settles k _ _ (refused s) (λ _. inside_signalled_times k sem n (start s) h) (λ _. refused_settles k s h)
+  pub signaln_settles : (sem : ℕ) (n : ℤ) (s : Xinu) → Touch sem → Goes Holds s → Settled Holds (signaln sem n s)
+  signaln_settles sem (negsuc n) s may h = refused_settles k s h
+  signaln_settles sem (pos n) s may h =
+      either_settles k _ _ (refused s) (λ _. inside_signalled_times k sem n (start s) may h) (λ _. refused_settles k s h)
 
   -- call 21
   pub send_settles : (p message : ℕ) (s : Xinu) → Goes Holds s → Settled Holds (send p message s)
@@ -158,13 +159,13 @@ module _ {May : ℕ → Type 0} {Begins : Tables → Type 0} {Holds : Tables →
   pub recvtime_settles : (ticks : ℤ) (s : Xinu) → IsSoundTables s.tables → Begins s.tables → Settled Holds (recvtime ticks s)
   recvtime_settles (negsuc n) s sound b = refused_settles k s (begun s b)
   recvtime_settles (pos n) s sound b =
-      received_settles (held s) _ s sound b (blocked_settles k Timed rest.Timed (InSleepers (s.tables.ticks + max 1 n)) s (begun s b))
+      received_settles (held s) _ s sound b (blocked_settles k Timed rest.Timed (InSleepers (s.tables.ticks + max 1 n)) s tt (begun s b))
 
   -- call 26
   pub sleepms_settles : (ticks : ℤ) (s : Xinu) → Goes Holds s → Settled Holds (sleepms ticks s)
   sleepms_settles (negsuc n) s h = h
   sleepms_settles (pos zero) s h = k.owes s.tables h
-  sleepms_settles (pos (suc n)) s h = blocked_settles k Sleeping rest.Nothing (InSleepers (s.tables.ticks + suc n)) s h
+  sleepms_settles (pos (suc n)) s h = blocked_settles k Sleeping rest.Nothing (InSleepers (s.tables.ticks + suc n)) s tt h
 
   -- call 25
   pub sleep_settles : (seconds : ℤ) (s : Xinu) → Goes Holds s → Settled Holds (sleep seconds s)
