@@ -5,3 +5,4 @@ pub mod Disks
 pub mod Files
 pub mod Ports
 pub mod Priorities
+pub mod Promises

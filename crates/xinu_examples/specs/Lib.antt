@@ -14,6 +14,7 @@ pub mod Pools
 pub mod Ports
 pub mod Priorities
 pub mod Processes
+pub mod Promises
 pub mod RawDisks
 pub mod Semaphores
 pub mod Typing

@@ -16,6 +16,7 @@ ghost use Rattle.xinu_examples.specs.DiskCalls as disk_examples;
 ghost use Rattle.xinu_examples.specs.FileSyscalls as file_examples;
 ghost use Rattle.xinu_examples.specs.Pools as pool_examples;
 ghost use Rattle.xinu_examples.specs.Ports as port_examples;
+ghost use Rattle.xinu_examples.specs.Promises as promise_examples;
 ghost use Rattle.xinu_examples.specs.Played.{outcome_of, last_tables, printed, played_transcript};
 ghost use Rattle.xinu_model.specs.Memory.{number_at};
 ghost use Rattle.xinu_model.specs.Text.{console_line, device_lines, pool_lines, port_lines, semaphore_lines, sleeper_line};
@@ -51,6 +52,19 @@ pub fn semaphores()
     ensures reset_releases { printed semaphore_examples.reset_releases ≡ semaphore_examples.reset_releases_lines }
     ensures all_semaphores { printed semaphore_examples.all_semaphores ≡ semaphore_examples.all_semaphores_lines }
     ensures deleted_semaphore { played_transcript semaphore_examples.deleted_semaphore ≡ semaphore_examples.deleted_semaphore_transcript }
+{}
+
+/// The book's promises: the highest priority runs, equals have their turns, a sleeper wakes in its tick, waiters go on in their order, a count
+/// follows the calls, one process at a time is between its `wait` and its `signal`.
+pub fn promises()
+    ensures message_preempts { printed promise_examples.message_preempts ≡ promise_examples.message_preempts_lines }
+    ensures third_waits { printed promise_examples.third_waits ≡ promise_examples.third_waits_lines }
+    ensures third_runs { printed promise_examples.third_runs ≡ promise_examples.third_runs_lines }
+    ensures sleeper_sleeps { printed promise_examples.sleeper_sleeps ≡ promise_examples.sleeper_sleeps_lines }
+    ensures sleeper_wakes { printed promise_examples.sleeper_wakes ≡ promise_examples.sleeper_wakes_lines }
+    ensures first_come { printed promise_examples.first_come ≡ promise_examples.first_come_lines }
+    ensures count_adds_up { printed promise_examples.count_adds_up ≡ promise_examples.count_adds_up_lines }
+    ensures one_at_a_time { printed promise_examples.one_at_a_time ≡ promise_examples.one_at_a_time_lines }
 {}
 
 /// Messages: a slot that is full, a slot that is taken back.
