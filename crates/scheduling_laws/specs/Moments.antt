@@ -1,5 +1,5 @@
 -- A stretch of a run, event by event, and the call that is made in each.
-use Rattle.std.specs.Prelude.{◌≡◌, List, [], ◌∷◌, Option, Some, None}
+use Rattle.std.specs.Prelude.{◌≡◌, List, [], ◌∷◌, ◌++◌, Option, Some, None}
 use Rattle.xinu_base.specs.declared.events.Event.{Event}
 use Rattle.xinu_base.specs.declared.events.Event.TheVariants.{Step}
 use Rattle.xinu_base.specs.declared.lines.TranscriptLine.{TranscriptLine}
@@ -19,6 +19,11 @@ pub record Moment : Type 0 where
 abbrev pub LeadTo : Xinu → List Moment → Xinu → Type 0
 LeadTo old [] new = new ≡ old
 LeadTo old (m ∷ ms) new = (m.before ≡ old) × Happens m.before m.event m.lines m.after × LeadTo m.after ms new
+
+-- what they print
+abbrev pub printed : List Moment → List TranscriptLine
+printed [] = []
+printed (m ∷ ms) = m.lines ++ printed ms
 
 -- the call that a first line tells of, and so the call that is made in an event: a step prints it first
 abbrev pub first_call : List TranscriptLine → Option Call

@@ -16,7 +16,7 @@ ghost use Rattle.xinu_model.specs.Sound.Tables.{CanRun, count_in};
 ghost use Rattle.xinu_model.specs.Tables.{Tables, semaphore_at, state_at};
 ghost use Rattle.scheduling_laws.specs.Exclusion.{IsUsedInPairs, all_entered, is_inside, nobody};
 ghost use Rattle.scheduling_laws.specs.Fairness.{IsReleased, WaitsBefore};
-ghost use Rattle.scheduling_laws.specs.Moments.{LeadTo, Moment};
+ghost use Rattle.scheduling_laws.specs.Moments.{LeadTo, Moment, printed};
 ghost use Rattle.scheduling_laws.specs.Tokens.{is_renewed, killed_waiters, signals, waits};
 
 /// Semaphores are fair. If p waits on a semaphore before q, then after each event it still does, or it waits there no longer, or q was killed;
@@ -41,10 +41,10 @@ pub fn counts_follow_the_calls()
         count_of (semaphore_at (closed (kill p s)) sem) ≡ count_of (semaphore_at s.tables sem) +ℤ pos 1 }
 {}
 
-/// A run is a stretch of moments, one for each of its events.
+/// A run is a stretch of moments, one for each event up to its end, that print its lines.
 pub fn runs_are_stretches()
     ensures { (events : List Event) (old : Xinu) (lines : List TranscriptLine) (new : Xinu) (end : End) →
-        RunsTo old events lines new end → (ms : List Moment) × LeadTo old ms new }
+        RunsTo old events lines new end → (ms : List Moment) × (LeadTo old ms new × (lines ≡ printed ms)) }
 {}
 
 /// Over a stretch in which nobody gives up a process's semaphore or resets it, its count and the `wait`s that were called are what the count was,
