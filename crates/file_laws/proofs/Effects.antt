@@ -1,5 +1,5 @@
 -- The effects of calls on the files of a clean disk.
-use Rattle.std.proofs.Common.{◌≡◌, ℕ, ◌+◌, ◌<◌, ◌≤◌, ◌==◌, Bool, true, false, cond, not, ◌&&◌, ◌||◌, nat_lt, nat_le, if◌then◌else◌, List, [], ◌∷◌, ◌++◌, length, map, take, drop, refl, sym, ap, ◌∙◌, arith, slice_set, bytes_eq, length-take, Option, Some, None, is_some, pos, negsuc}
+use Rattle.std.proofs.Common.{◌≡◌, ◌≢◌, ℕ, ◌+◌, ◌<◌, ◌≤◌, ◌==◌, Bool, true, false, cond, not, ◌&&◌, ◌||◌, nat_lt, nat_le, if◌then◌else◌, List, [], ◌∷◌, ◌++◌, length, map, take, drop, refl, sym, ap, ◌∙◌, arith, slice_set, bytes_eq, length-take, Option, Some, None, is_some, pos, negsuc}
 use Rattle.std.proofs.lemmas.List.{set-get_or, take-append-drop}
 use Rattle.std.specs.Option.{option_map}
 use Rattle.std.proofs.lemmas.Bool.Decides.{nat_tests}
@@ -15,7 +15,7 @@ use Rattle.xinu_model.specs.Files.Calls as model
 use Rattle.xinu_model.specs.Files.Calls.{file_effect}
 use Rattle.xinu_model.specs.Files.Stored.{StoredFile, file_named, bytes_in, with_contents, without_file}
 use Rattle.xinu_model.specs.Files.Systems.{OpenFile, FileSystem, FileEffect, open_at, open_bytes, on_open, is_open, replies, refused_effect}
-use Rattle.xinu_model.specs.Files.Writing.{overwritten, files_with, fitting, write_file, truncate_file, have_room, putc_file}
+use Rattle.xinu_model.specs.Files.Writing.{overwritten, files_with, fitting, write_file, truncate_file, have_room, putc_file, put_bytes}
 use Rattle.xinu_model.specs.Files.Reading.{read_file, getc_file, first_byte, taken}
 use Rattle.file_laws.specs.StoredFiles.{stored, stored_files, entry_bytes}
 use Rattle.file_laws.proofs.Named.{AreApartFiles, file_by, entry_by, file_in, find_at, by_entries, named_at, bytes_sized, names_apart, clean_names, entry_name, entry_right, length_entries}
@@ -72,6 +72,24 @@ write_effect base made new d slot k f s c h u at may files name fit some few is 
     ∙ ap (λ fs. from fs (length (take k new))) put ∙ ap (from (stored_files made)) taken
   where
     never : (v : Bool) (a b : FileEffect) → (if v && false then a else b) ≡ b
+    never true a b = refl
+    never false a b = refl
+
+-- A write of bytes for some of which there is room isn't refused.
+pub write_granted : (new : List ℕ) (d : ℕ) (f : OpenFile) (s : FileSystem) → open_at s d ≡ Some f → f.may_write ≡ true
+    → 0 < fitting f new s → (file_effect (model.Write d (length new)) new s).reply ≢ negsuc 0
+write_granted new d f s at may some refused =
+    let k = fitting f new s in
+    let none : (k == 0) ≡ false = grind (arith, nat_tests) in
+    let done : FileEffect = replies (pos k) (put_bytes (take k new) d f s) in
+    let is : (file_effect (model.Write d (length new)) new s).reply ≡ pos k =
+    ap (λ o. (on_open o (λ g. write_file d new g s) s).reply) at
+    ∙ ap (λ v. (if not v || (nat_lt 0 (length new) && (k == 0)) then refused_effect s else done).reply) may
+    ∙ ap (λ v. (if nat_lt 0 (length new) && v then refused_effect s else done).reply) none
+    ∙ never (nat_lt 0 (length new)) (refused_effect s) done in
+    absurd (cc (sym is ∙ refused))
+  where
+    never : (v : Bool) (a b : FileEffect) → (if v && false then a else b).reply ≡ b.reply
     never true a b = refl
     never false a b = refl
 
@@ -167,6 +185,18 @@ empty_write base d slot f s c h u at may files name =
     ∙ ap (λ o. replies (pos 0) (record s { devices = slice_set s.devices d o })) (sym at)
     ∙ ap (λ ds. replies (pos 0) (record s { devices = ds })) (set-get_or s.devices d None)
 
+-- A truncation of a file that may be written isn't refused.
+pub truncate_granted : (bytes : List ℕ) (d : ℕ) (f : OpenFile) (s : FileSystem) → open_at s d ≡ Some f → f.may_write ≡ true
+    → (file_effect (model.Truncate d) bytes s).reply ≢ negsuc 0
+truncate_granted bytes d f s at may refused =
+    let done : FileEffect = replies (pos 0) (record s {
+      files = with_contents f.name [] s.files;
+      devices = slice_set s.devices d (Some (record f { position = 0 }));
+    }) in
+    let is : (file_effect (model.Truncate d) bytes s).reply ≡ pos 0 = ap (λ o. (on_open o (λ g. truncate_file d g s) s).reply) at
+    ∙ ap (λ v. (if not v then refused_effect s else done).reply) may in
+    absurd (cc (sym is ∙ refused))
+
 -- A truncation leaves the file empty, and the device at its begin.
 pub truncate_effect : (base made bytes : List ℕ) (d slot : ℕ) (f : OpenFile) (s : FileSystem) → open_at s d ≡ Some f → f.may_write ≡ true
     → s.files ≡ stored_files base → f.name ≡ bare_name (entry_at base slot).name
@@ -206,6 +236,21 @@ delete_effect base made bytes slot s c h u closed files is =
     ap (λ v. if v || not (is_some (file_named name s.files)) then refused_effect s else to (without_file name s.files)) closed
     ∙ ap (λ v. if false || not v then refused_effect s else to (without_file name s.files)) some
     ∙ ap (λ fs. to (without_file name fs)) files ∙ ap to (sym is)
+
+-- A deletion of a file that is there and isn't open isn't refused.
+pub delete_granted : (base bytes : List ℕ) (slot : ℕ) (s : FileSystem) → IsCleanImage base → slot < 78
+    → entry_is_used (entry_at base slot) ≡ true
+    → is_open (bare_name (entry_at base slot).name) s ≡ false → s.files ≡ stored_files base
+    → (file_effect (model.Delete (bare_name (entry_at base slot).name)) bytes s).reply ≢ negsuc 0
+delete_granted base bytes slot s c h u closed files refused =
+    let name = bare_name (entry_at base slot).name in
+    let some : is_some (file_named name s.files) ≡ true = ap (λ fs. is_some (file_named name fs)) files
+    ∙ ap is_some (named_at base c slot h u) in
+    let done : FileEffect = replies (pos 0) (record s { files = without_file name s.files }) in
+    let is : (file_effect (model.Delete name) bytes s).reply ≡ pos 0 =
+    ap (λ v. (if v || not (is_some (file_named name s.files)) then refused_effect s else done).reply) closed
+    ∙ ap (λ v. (if false || not v then refused_effect s else done).reply) some in
+    absurd (cc (sym is ∙ refused))
 
 -- It is refused if there is no such file.
 pub delete_refused : (name bytes : List ℕ) (s : FileSystem) → file_named name s.files ≡ None
@@ -310,6 +355,21 @@ putc_effect base made bytes d slot b f s c h u at may files name fit is =
     ∙ ap (λ v. if not v then refused_effect s else to (files_with f (b ∷ []) s)) room ∙ ap to put
   where
     one : (v : Bool) → ◌≡◌ {A = ℕ} (if v then 1 else 0) 1 → v ≡ true
+    one true e = refl
+    one false e = absurd (omega (arith, e))
+
+-- It isn't refused if there is room.
+pub putc_granted : (bytes : List ℕ) (d b : ℕ) (f : OpenFile) (s : FileSystem) → open_at s d ≡ Some f → f.may_write ≡ true
+    → 0 < fitting f (b ∷ []) s → (file_effect (model.Putc d b) bytes s).reply ≢ negsuc 0
+putc_granted bytes d b f s at may some refused =
+    let room : have_room f (b ∷ []) s ≡ true = one (have_room f (b ∷ []) s) some in
+    let done : FileEffect = replies (pos 0) (put_bytes (b ∷ []) d f s) in
+    let is : (file_effect (model.Putc d b) bytes s).reply ≡ pos 0 = ap (λ o. (on_open o (λ g. putc_file d b g s) s).reply) at
+    ∙ ap (λ v. (if not v || not (have_room f (b ∷ []) s) then refused_effect s else done).reply) may
+    ∙ ap (λ v. (if not v then refused_effect s else done).reply) room in
+    absurd (cc (sym is ∙ refused))
+  where
+    one : (v : Bool) → 0 < (if v then 1 else 0) → v ≡ true
     one true e = refl
     one false e = absurd (omega (arith, e))
 

@@ -243,24 +243,36 @@ middle_index_full n base disk header slot entry p bytes more m free held larger 
     never true = refl
     never false = refl
 
--- What lies on the disk in the middle of a call fits on it, with the file in hand as large as its entry in memory says.
-pub middle_fits : (n : ℕ) (base disk : List ℕ) (header : Header) (slot : ℕ) (entry : Entry) (p : Places) (bytes more : List ℕ)
+-- With the blocks that are free and those that are held the file in hand has room for bytes that need no more than that.
+pub middle_has_room : (n : ℕ) (base disk : List ℕ) (header : Header) (slot : ℕ) (entry : Entry) (p : Places) (bytes more : List ℕ)
     → IsMiddle n base disk header slot entry p bytes
-    → length more ≡ entry.size → they_fit n (with_contents (bare_name (entry_at base slot).name) more (stored_files base)) ≡ true
-middle_fits n base disk header slot entry p bytes more m size =
+    → data_blocks (length more) ≤ data_blocks entry.size + (length p.free_data + length p.held_data)
+    → index_blocks (length more) ≤ index_blocks entry.size + (length p.free_index + length p.held_index)
+    → they_fit n (with_contents (bare_name (entry_at base slot).name) more (stored_files base)) ≡ true
+middle_has_room n base disk header slot entry p bytes more m datas indexes =
     let g = disk_geometry n in let d = shape_with n disk header slot entry in
     let files = with_contents (bare_name (entry_at base slot).name) more (stored_files base) in
     let data_all = data_filled (index_count g) (first_data g) n d p m.laid in
     let index_all = index_filled (index_count g) (first_data g) n d p m.laid in
     let data_rows = length-append (joined p.datas) (p.free_data ++ p.held_data) in
     let index_rows = length-append (joined p.chains) (p.free_index ++ p.held_index) in
+    let data_left = length-append p.free_data p.held_data in let index_left = length-append p.free_index p.held_index in
     let data_is = data_laid g d p m.laid in let index_is = index_laid g d p m.laid in
     let data_now = middle_needs data_blocks n base disk header slot entry p bytes m in
     let index_now = middle_needs index_blocks n base disk header slot entry p bytes m in
     let data_then = contents_need data_blocks base more slot m.clean m.slot_is m.was_used in
     let index_then = contents_need index_blocks base more slot m.clean m.slot_is m.was_used in
-    let data_low : data_needed files ≤ data_room n = omega (arith, data_all, data_rows, data_is, data_now, data_then, size) in
-    let index_low : index_needed files ≤ index_room n = omega (arith, index_all, index_rows, index_is, index_now, index_then, size) in
+    let data_low : data_needed files ≤ data_room n =
+    omega (arith, data_all, data_rows, data_left, data_is, data_now, data_then, datas) in
+    let index_low : index_needed files ≤ index_room n =
+    omega (arith, index_all, index_rows, index_left, index_is, index_now, index_then, indexes) in
     let a : nat_le (data_needed files) (data_room n) ≡ true = grind (arith, nat_tests) in
     let b : nat_le (index_needed files) (index_room n) ≡ true = grind (arith, nat_tests) in
     ap (λ v. v && nat_le (index_needed files) (index_room n)) a ∙ b
+
+-- What lies on the disk in the middle of a call fits on it, with the file in hand as large as its entry in memory says.
+pub middle_fits : (n : ℕ) (base disk : List ℕ) (header : Header) (slot : ℕ) (entry : Entry) (p : Places) (bytes more : List ℕ)
+    → IsMiddle n base disk header slot entry p bytes
+    → length more ≡ entry.size → they_fit n (with_contents (bare_name (entry_at base slot).name) more (stored_files base)) ≡ true
+middle_fits n base disk header slot entry p bytes more m size =
+    middle_has_room n base disk header slot entry p bytes more m (omega (arith, size)) (omega (arith, size))

@@ -1,6 +1,6 @@
 //! The effects of calls on a clean disk, by the disks that they leave.
 
-ghost use Rattle.std.specs.Prelude.{ℕ, ◌≡◌, ◌+◌, ◌<◌, ◌≤◌, true, false, List, [], ◌∷◌, length, take, drop, slice_set, Some, None, pos};
+ghost use Rattle.std.specs.Prelude.{ℕ, ◌≡◌, ◌≢◌, ◌+◌, ◌<◌, ◌≤◌, true, false, List, [], ◌∷◌, length, take, drop, slice_set, Some, None, pos, negsuc};
 ghost use Rattle.lfs_check.specs.Rules.{entry_is_used};
 ghost use Rattle.lfs_check.specs.Disks.{entry_at};
 ghost use Rattle.lfs_layout.specs.Files.{bare_name};
@@ -31,7 +31,7 @@ pub fn reads_give_bytes()
         (record { system = record s { devices = slice_set s.devices d (Some (record f { position = f.position + 1 })) }; reply = pos b; bytes = [] }) }
 {}
 
-/// `write` puts as many bytes as fit, and is refused if it is to put some and none fits; with no bytes it changes nothing.
+/// `write` puts as many bytes as fit, and is refused if it is to put some and none fits, and not if some fit; with no bytes it changes nothing.
 pub fn writes_put_bytes()
     ensures some { (base made new : List ℕ) (d slot k : ℕ) (f : OpenFile) (s : FileSystem) → IsCleanImage base → slot < 78
         → entry_is_used (entry_at base slot) ≡ true → open_at s d ≡ Some f → f.may_write ≡ true → s.files ≡ stored_files base
@@ -46,6 +46,8 @@ pub fn writes_put_bytes()
         }) }
     ensures refused { (new : List ℕ) (d : ℕ) (f : OpenFile) (s : FileSystem) → open_at s d ≡ Some f → fitting f new s ≡ 0 → 0 < length new
         → file_effect (model.Write d (length new)) new s ≡ refused_effect s }
+    ensures granted { (new : List ℕ) (d : ℕ) (f : OpenFile) (s : FileSystem) → open_at s d ≡ Some f → f.may_write ≡ true
+        → 0 < fitting f new s → (file_effect (model.Write d (length new)) new s).reply ≢ negsuc 0 }
     ensures none { (base : List ℕ) (d slot : ℕ) (f : OpenFile) (s : FileSystem) → IsCleanImage base → slot < 78
         → entry_is_used (entry_at base slot) ≡ true → open_at s d ≡ Some f → f.may_write ≡ true → s.files ≡ stored_files base
         → f.name ≡ bare_name (entry_at base slot).name → file_effect (model.Write d 0) [] s ≡ replies (pos 0) s }
@@ -66,9 +68,11 @@ pub fn putc_puts_its_byte()
         }) }
     ensures refused { (bytes : List ℕ) (d b : ℕ) (f : OpenFile) (s : FileSystem) → open_at s d ≡ Some f → fitting f (b ∷ []) s ≡ 0
         → file_effect (model.Putc d b) bytes s ≡ refused_effect s }
+    ensures granted { (bytes : List ℕ) (d b : ℕ) (f : OpenFile) (s : FileSystem) → open_at s d ≡ Some f → f.may_write ≡ true
+        → 0 < fitting f (b ∷ []) s → (file_effect (model.Putc d b) bytes s).reply ≢ negsuc 0 }
 {}
 
-/// A truncation leaves its file empty, and a deletion takes its file away; it is refused if there is none.
+/// A truncation leaves its file empty, and a deletion takes its file away; it is refused if there is none. Neither is refused else.
 pub fn files_are_emptied_and_deleted()
     ensures empty { (base made bytes : List ℕ) (d slot : ℕ) (f : OpenFile) (s : FileSystem) → open_at s d ≡ Some f → f.may_write ≡ true
         → s.files ≡ stored_files base → f.name ≡ bare_name (entry_at base slot).name
@@ -86,6 +90,11 @@ pub fn files_are_emptied_and_deleted()
         (record { system = record s { files = stored_files made }; reply = pos 0; bytes = [] }) }
     ensures refused { (name bytes : List ℕ) (s : FileSystem) → file_named name s.files ≡ None
         → file_effect (model.Delete name) bytes s ≡ refused_effect s }
+    ensures emptied { (bytes : List ℕ) (d : ℕ) (f : OpenFile) (s : FileSystem) → open_at s d ≡ Some f → f.may_write ≡ true
+        → (file_effect (model.Truncate d) bytes s).reply ≢ negsuc 0 }
+    ensures granted { (base bytes : List ℕ) (slot : ℕ) (s : FileSystem) → IsCleanImage base → slot < 78
+        → entry_is_used (entry_at base slot) ≡ true → is_open (bare_name (entry_at base slot).name) s ≡ false → s.files ≡ stored_files base
+        → (file_effect (model.Delete (bare_name (entry_at base slot).name)) bytes s).reply ≢ negsuc 0 }
     ensures kept { (base : List ℕ) (slot : ℕ) → IsCleanImage base → slot < 78 → entry_is_used (entry_at base slot) ≡ true
         → with_contents (bare_name (entry_at base slot).name) (entry_bytes base (entry_at base slot)) (stored_files base) ≡ stored_files base }
 {}

@@ -13,6 +13,8 @@ use Rattle.xinu_model.specs.Files.Calls as model
 use Rattle.xinu_model.specs.Files.Work.{most_turns}
 use Rattle.local_files.specs.Bounds.{left}
 use Rattle.local_files.specs.Hands.{system}
+use Rattle.local_files.specs.Resting.{WillBeRefused}
+use Rattle.xinu_base.specs.Constants.{SYSERR}
 use Rattle.local_files.specs.Standing.{Stands, InHand, GoesTo, HasEffect, wanted_in, wanted, call_of, call_bytes, gathered, reply_in, taken_in}
 
 -- what is seen of an engine over a disk
@@ -250,6 +252,14 @@ held_is (Some w) e base h is =
   where
     some_same : (a b : HeldCall) → ◌≡◌ {A = Option HeldCall} (Some a) (Some b) → a ≡ b
     some_same a b e = cc e
+
+-- if that will be refused, so will the call of the engine
+pub held_refused : (e : Files) (base : List ℕ) (h : HeldCall) → held_for (wanted e) e base ≡ Some h
+    → (model.file_effect h.call h.bytes (system e base)).reply ≡ SYSERR → WillBeRefused e base
+held_refused e base h is refused =
+    let held = held_is (wanted e) e base h is in
+    ap (λ k. (model.file_effect k (call_bytes e) (system e base)).reply) held.call
+    ∙ ap (λ b. (model.file_effect h.call b (system e base)).reply) held.bytes ∙ refused
 
 -- It waits: with its bytes, and with a completion left.
 waits : (call : FileCall) (bytes : List ℕ) (most : ℕ) (e f g : Files) (base disk disk' : List ℕ) → g ≡ f

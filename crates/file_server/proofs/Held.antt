@@ -1,5 +1,5 @@
 -- The disk holds the files at rest, and is clean for its files if no call is under way.
-use Rattle.std.proofs.Common.{◌≡◌, ℕ, ◌/◌, Bool, true, false, List, [], ◌∷◌, length, refl, ap, sym, subst, ◌∙◌, arith, Option, Some, None}
+use Rattle.std.proofs.Common.{◌≡◌, ℕ, ◌/◌, false, List, [], ◌∷◌, length, refl, ap, sym, subst, ◌∙◌, arith, Option, Some, None}
 use Rattle.std.proofs.lemmas.Bool.{false≢true}
 use Rattle.file_laws.specs.Holds.{Holds}
 use Rattle.file_laws.specs.StoredFiles.{stored_files}

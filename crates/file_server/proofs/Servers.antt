@@ -19,6 +19,8 @@ use Rattle.xinu_model.specs.Files.Rest.{are_calls}
 use Rattle.xinu_model.specs.Files.Systems.{FileSystem, FileEffect}
 use Rattle.xinu_model.specs.Files.Work.{FileRequest, FileWork, FileNote, FileStep, copied, first_effect, had_turn, least_effects, most_turns, next_effects, took_effect, with_first}
 use Rattle.xinu_model.specs.Memory.{in_ram}
+use Rattle.local_files.specs.Resting.{ChangesOneBlock, ServesDisk}
+use Rattle.xinu_base.specs.Constants.{SYSERR}
 
 -- the call that waits is the first
 pub first_is_held : (hand : Option HeldCall) (calls : List FileRequest) (turns : ℕ) (s : FileSystem) → FirstIsHeld hand calls turns s
@@ -135,3 +137,15 @@ first_of d a calls turns f = by_hand d.hand refl f
 pub some_listed : (items : List declared_request.FileRequest) → are_calls (map request_of items) ≡ true → 0 < length items
 some_listed [] busy = absurd (false≢true busy)
 some_listed (x ∷ items) busy = omega arith
+
+-- what the disk does at a completion of the first call is what it does for the calls under way
+pub serves : (d : DiskState) (r : declared_request.FileRequest) (rest : List declared_request.FileRequest) (turns : ℕ) (new : List ℕ)
+    → IsFirstOf d (request_of r) turns → ChangesOneBlock d.image new
+    → ((h : HeldCall) → d.hand ≡ Some h → (file_effect h.call h.bytes d.system).reply ≡ SYSERR → new ≡ d.image)
+    → ServesDisk (work_of d (r ∷ rest) turns) d.image new
+serves d r rest turns new first one still = record {
+  one = one;
+  still = λ refused. (let h = first.held in still h first.is
+      (ap (λ k. (file_effect k h.bytes d.system).reply) (sym first.under.call)
+      ∙ ap (λ o. (file_effect (request_of r).call (bytes_held o) d.system).reply) (sym first.is) ∙ refused));
+}

@@ -14,7 +14,7 @@ use Rattle.xinu_base.specs.declared.lines.FileMoment.TheVariants.{Next}
 use Rattle.part_laws.proofs.FileWork.Sizes.{brings, effect_brings}
 use Rattle.xinu_model.specs.Files.Calls.{file_effect}
 use Rattle.xinu_model.specs.Files.Systems.{FileSystem, FileEffect}
-use Rattle.xinu_model.specs.Files.Work.{FileRequest, FileWork, FileNote, FileStep, bytes_written, copied, first_effect, most_turns, next_effects, took_effect, with_first}
+use Rattle.xinu_model.specs.Files.Work.{FileWork, FileNote, FileStep, bytes_written, copied, first_effect, most_turns, next_effects, took_effect, with_first}
 use Rattle.xinu_model.specs.Memory.{in_ram}
 use Rattle.xinu_model.proofs.FileOutcomes.{first_calls}
 

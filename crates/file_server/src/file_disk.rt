@@ -12,6 +12,8 @@ ghost use Rattle.local_files.specs.Bounds.{left};
 ghost use Rattle.local_files.specs.Hands.{IsCall};
 ghost use Rattle.local_files.specs.Resting.{ChangesOneBlock, IsOnDisk};
 ghost use Rattle.local_files.specs.Standing.{Stands, GoesTo, wanted, served, call_of, call_bytes, given_bytes};
+ghost use Rattle.xinu_base.specs.Constants.{SYSERR};
+ghost use Rattle.xinu_model.specs.Files.Calls.{file_effect};
 ghost use Rattle.xinu_model.specs.Files.Systems.{OpenFile, closed_system, open_at};
 ghost use Rattle.xinu_model.specs.Files.Work.{FileWork, most_turns};
 
@@ -79,15 +81,18 @@ impl FileDisk {
         self.files.answer()
     }
 
-    // One good completion of the call that waits: it has its reply, or it waits on, with fewer completions left.
+    // One good completion of the call that waits: it has its reply, or it waits on, with fewer completions left. One that will be refused leaves
+    // the disk as it is.
     pub(crate) fn complete(&mut self) -> Option<i32>
         requires busy { IsSome self.old.hand }
         ensures goes { (h : HeldCall) → self.old.hand ≡ Some h → MatchOption result
             (Waits h.call h.bytes (h.left - 1) self.old self.new) (λ reply. IsDone h.call h.bytes reply self.old self.new) }
         ensures image { ChangesOneBlock self.old.image self.new.image }
+        ensures still { (h : HeldCall) → self.old.hand ≡ Some h → (file_effect h.call h.bytes self.old.system).reply ≡ SYSERR → self.new.image ≡ self.old.image }
     {
         self.files.wants_a_block_of_the_disk();
         self.files.changes_one_block();
+        self.files.leaves_the_disk_if_refused();
         note_write(&mut self.written, &self.files);
         serve(&mut self.files, &mut self.disk);
         self.files.has_a_completion_left();

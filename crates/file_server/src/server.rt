@@ -5,7 +5,7 @@ ghost use Rattle.file_server.specs.OpenFiles.{place_of};
 ghost use Rattle.file_server.specs.Requests.{IsRequest, note_of, request_of};
 ghost use Rattle.file_server.specs.ServerStates.{IsCompleted, IsIssued};
 ghost use Rattle.given_disks.specs.HeldFiles.{HoldsFiles};
-ghost use Rattle.local_files.specs.Resting.{ChangesOneBlock};
+ghost use Rattle.local_files.specs.Resting.{ServesDisk};
 ghost use Rattle.std.specs.Prelude.{◌≡◌, ◌<◌, ◌≤◌, ◌/◌, [], ◌∷◌, IfOk, MatchOption, false, true, length, map};
 ghost use Rattle.xinu_base.specs.declared.lines.FileMoment.TheVariants.{Finished};
 ghost use Rattle.xinu_model.specs.Files.Rest.{are_calls, is_busy};
@@ -126,7 +126,7 @@ impl FileServer {
         requires busy { are_calls self.old.work.calls ≡ true }
         ensures completed { (let after : FileStep = record { work = self.new.work; memory = ram.new; notes = map note_of result.items } in
             IsCompleted self.old.work ram.old after) }
-        ensures image { ChangesOneBlock self.old.image self.new.image }
+        ensures image { ServesDisk self.old.work self.old.image self.new.image }
     {
         let mut notes = FileNotes::new();
         let first = self.requests.as_slice()[0];

@@ -5,7 +5,7 @@ use Rattle.file_server.specs.ServerStates.{IsCompleted}
 use Rattle.file_server.specs.declared.requests.FileNote as note
 use Rattle.io_calls.specs.Files.{AreTold, WaitsFor}
 use Rattle.lfs_check.specs.Rules.{block_in}
-use Rattle.local_files.specs.Resting.{ChangesOneBlock}
+use Rattle.local_files.specs.Resting.{ServesDisk}
 use Rattle.xinu_laws.proofs.FileSyscalls.Completed.{told_and_left, told_living}
 use Rattle.xinu_laws.proofs.RawDisks.Moves.{first_replied, first_waits}
 use Rattle.part_laws.specs.FileWork.{caller_first, callers_told}
@@ -59,10 +59,6 @@ completed_told t w memory after sound files c =
       waiters = files.waiters ∙ told_and_left c.effects before refl;
     })
 
--- No block changes of a disk that stays as it is,
-pub stays : {old new : List ℕ} → new ≡ old → ChangesOneBlock old new
-stays e = record { block = 0; long = ap length e; others = λ m other. ap (λ image. block_in image m) e }
-
--- and what changes of a disk changes of one with the same bytes.
-pub changed : {old before after new : List ℕ} → before ≡ old → new ≡ after → ChangesOneBlock before after → ChangesOneBlock old new
-changed {old} {before} {after} e f h = subst (ChangesOneBlock old) (sym f) (subst (λ image. ChangesOneBlock image after) e h)
+-- No block changes of a disk that stays as it is.
+pub stays : (w : FileWork) {old new : List ℕ} → new ≡ old → ServesDisk w old new
+stays w e = record { one = record { block = 0; long = ap length e; others = λ m other. ap (λ image. block_in image m) e }; still = λ _. e }

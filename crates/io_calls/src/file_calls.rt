@@ -10,7 +10,7 @@ ghost use Rattle.io_calls.specs.Files.{AreTold, AsksFiles, bytes_asked, Complete
 ghost use Rattle.kernel_state.specs.Beginnings.{BeginsAs, next_of};
 ghost use Rattle.kernel_state.specs.Results.{came_to, IsStart};
 ghost use Rattle.local_files.specs.Hands.{IsCall};
-ghost use Rattle.local_files.specs.Resting.{ChangesOneBlock};
+ghost use Rattle.local_files.specs.Resting.{ServesDisk};
 ghost use Rattle.xinu_model.specs.Devices.Calls.{named_control};
 ghost use Rattle.xinu_model.specs.Devices.Texts.{text_at};
 ghost use Rattle.xinu_model.specs.Files.Issue.{file_control_call, read_call, write_call};
@@ -142,13 +142,14 @@ fn bytes_asked(at: u32, n: i32) -> Option<u32>
 }
 
 /// The files' disk completes well: the first call takes effect and some after it, or it has a turn. The living callers of those that took
-/// effect become ready with their replies. Tells what happened, in order; nothing happens if no call is under way.
+/// effect become ready with their replies. Tells what happened, in order; nothing happens if no call is under way. At most one block of the disk
+/// changes, and none if no call is under way or the first will be refused.
 pub fn on_files(k: &mut KernelState) -> FileNotes
     requires start { IsStart k.old.call }
     requires sound { IsSoundTables k.old.call.state.tables }
     requires files { IsFileDisk k.old.call.state.tables (files_of k.old.call.state) }
     ensures completes { CompletesFiles k.old.call.state (map note_of result.items) (record { call = k.new.call; answer = Silent }) }
-    ensures image { ChangesOneBlock k.old.image k.new.image }
+    ensures image { ServesDisk (files_of k.old.call.state) k.old.image k.new.image }
 {
     if !k.files.are_calls() {
         return FileNotes::new();

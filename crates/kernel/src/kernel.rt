@@ -14,7 +14,7 @@ ghost use Rattle.kernel.specs.Booted.{Booted};
 ghost use Rattle.kernel_state.specs.Beginnings.{BeginsAs, next_of};
 ghost use Rattle.kernel_state.specs.Calling.{IsCalling};
 ghost use Rattle.kernel_state.specs.Results.{answer_of, answer_so_far, came_to, idle, IsIdle};
-ghost use Rattle.local_files.specs.Resting.{ChangesOneBlock};
+ghost use Rattle.local_files.specs.Resting.{ServesDisk};
 ghost use Rattle.part_laws.specs.Preserve.{ticking};
 ghost use Rattle.xinu_model.specs.Calls.{called, continued};
 ghost use Rattle.xinu_model.specs.Console.Signals.{receiving};
@@ -222,11 +222,12 @@ impl Kernel {
 
     /// The disk with files completes well: the first call on files has its reply, or a turn. Once it has its reply the next becomes the first,
     /// and so on as long as one needs no block. Whoever has a reply becomes ready with it, and what was read is in RAM. At most one block of the
-    /// disk changes. Tells what happened, in order; nothing does if no call is under way.
+    /// disk changes, and none if the first call will be refused. Tells what happened, in order; nothing does if no call is under way, nor does
+    /// the disk change then.
     pub fn on_files(&mut self) -> FileNotes
         requires idle { IsIdle self.old.came }
         ensures completes { CompletesFiles self.old.came.call.state (map note_of result.items) self.new.came }
-        ensures image { ChangesOneBlock self.old.image self.new.image }
+        ensures image { ServesDisk (files_of self.old.came.call.state) self.old.image self.new.image }
     {
         let notes = io_calls::on_files(&mut self.state);
         self.answer = None;

@@ -29,6 +29,7 @@ use Rattle.local_files.specs.Standing.{Stands, InHand, GoesTo, call_bytes}
 use Rattle.local_files.specs.Opens.{opened}
 use Rattle.local_files.proofs.Devices.{set_stands, shown_set}
 use Rattle.xinu_model.specs.Files.Systems as systems
+use Rattle.xinu_model.specs.Files.Calls as model
 use Rattle.xinu_model.specs.Files.Opening as model_opening
 use Rattle.local_files.specs.Standing as engine
 use Rattle.local_files.specs.Opens.{opening as opening_file}
@@ -240,6 +241,32 @@ away_from : (e : Files) (base made : List ℕ) (o : Option OpenFile) (f : OpenFi
 away_from e base made None f q m free h = (tt, tt)
 away_from e base made (Some g) f q m free h = let ne = (others_open e base made g m free h).1 in (λ z. ne (z ∙ q), λ z. ne (sym z ∙ q))
 
+-- an open that makes its file has its effect
+pub creates : (e : Files) (name : List ℕ) (mode : OpenMode) (base disk : List ℕ) → e.call ≡ Open name mode → Stands e base disk
+    → IsCreating e base
+    → model.file_effect (model.Open (bare_name name) mode) [] (system e base) ≡ model_opening.opened (bare_name name) mode
+    (with_created (bare_name name) (system e base))
+creates e name mode base disk is s h =
+    let sys : FileSystem = system e base in
+    let right : IsCall (Open name mode) = subst IsCall is h.call in
+    let look : MayLook (Open name mode) sys = (let P : FileCall → Type 0 = λ k. MayLook k sys in subst P is h.look) in
+    let n : IsName name = record { padded = name_padded 27 name right.0; long = right.1 } in
+    let none : (k : ℕ) → k < 78 → is_this name (entry_at base k) ≡ false =
+    (let P : FileCall → Type 0 = λ c. (k : ℕ) → k < 78 → is_this (name_of c) (entry_at base k) ≡ false in subst P is h.none) in
+    let absent : file_named (bare_name name) (stored_files base) ≡ None = named_none base name s.clean n none in
+    let len = (length_entries base s.clean).0 in
+    let few : nat_le 78 (length (stored_files base)) ≡ false =
+    (let c = files_counted base s.clean in let hs = h.slot in
+    let l = count_less entry_is_used (entries base) e.slot (omega (arith, hs, len)) h.free in
+    let q : length (stored_files base) < 78 = omega (arith, c, l, len) in grind (arith, nat_tests)) in
+    let to : Bool → Bool → FileEffect = λ u v.
+    if u || v then refused_effect sys else open_stored (file_named (bare_name name) sys.files) (bare_name name) mode sys in
+    let from : Bool → Bool → FileEffect = λ u v.
+    if u || v then refused_effect sys else model_opening.opened (bare_name name) mode (with_created (bare_name name) sys) in
+    ap (λ u. to u (nat_le 6 (free_device sys.devices))) look.0 ∙ ap (to false) look.1
+    ∙ ap (λ o. open_stored o (bare_name name) mode sys) absent ∙ ap (λ u. from u (nat_le 78 (length sys.files))) (h.may name mode is)
+    ∙ ap (from false) few
+
 -- the counts are written: the file is made, and open
 pub made_open : (e : Files) (name : List ℕ) (mode : OpenMode) (base disk made : List ℕ) → e.call ≡ Open name mode → Stands e base disk
     → IsCreating e base → IsMade e base made
@@ -248,31 +275,16 @@ made_open e name mode base disk made is s h m =
     let sys : FileSystem = system e base in
     let right : IsCall (Open name mode) = subst IsCall is h.call in
     let look : MayLook (Open name mode) sys = (let P : FileCall → Type 0 = λ k. MayLook k sys in subst P is h.look) in
-    let n : IsName name = record { padded = name_padded 27 name right.0; long = right.1 } in
     let free : lowest_free e < 6 = (let t = look.1 in grind (arith, nat_tests)) in
-    let none : (k : ℕ) → k < 78 → is_this name (entry_at base k) ≡ false =
-    (let P : FileCall → Type 0 = λ c. (k : ℕ) → k < 78 → is_this (name_of c) (entry_at base k) ≡ false in subst P is h.none) in
-    let absent : file_named (bare_name name) (stored_files base) ≡ None = named_none base name s.clean n none in
     let f : OpenFile = opening_file e.slot e.entry mode in
     let named : e.entry.name ≡ name = h.named ∙ ap name_of is in
     let files : stored_files made ≡ files_after (Open name mode) e base = m.files ∙ ap (λ k. files_after k e base) is in
-    let len = (length_entries base s.clean).0 in
-    let few : nat_le 78 (length (stored_files base)) ≡ false =
-    (let c = files_counted base s.clean in let hs = h.slot in
-    let l = count_less entry_is_used (entries base) e.slot (omega (arith, hs, len)) h.free in
-    let q : length (stored_files base) < 78 = omega (arith, c, l, len) in grind (arith, nat_tests)) in
     let d = lowest_free e in
-    let to : Bool → Bool → FileEffect = λ u v.
-    if u || v then refused_effect sys else open_stored (file_named (bare_name name) sys.files) (bare_name name) mode sys in
-    let from : Bool → Bool → FileEffect = λ u v.
-    if u || v then refused_effect sys else model_opening.opened (bare_name name) mode (with_created (bare_name name) sys) in
     let result : List StoredFile → List (Option systems.OpenFile)
     → FileEffect = λ fs ds. record { system = record { blocks = e.blocks; files = fs; devices = ds }; reply = pos (4 + d); bytes = [] } in
     let at : List ℕ → systems.OpenFile = λ b. record { name = b; position = 0; may_read = reads mode; may_write = writes mode } in
     let effect : engine.HasEffect (Open name mode) [] sys (pos (4 + d)) [] (system (opened e.slot e.entry mode e) made) =
-    ap (λ u. to u (nat_le 6 (free_device sys.devices))) look.0 ∙ ap (to false) look.1
-    ∙ ap (λ o. open_stored o (bare_name name) mode sys) absent ∙ ap (λ u. from u (nat_le 78 (length sys.files))) (h.may name mode is)
-    ∙ ap (from false) few
+    creates e name mode base disk is s h
     ∙ ap (λ b. result (files_after (Open name mode) e base) (slice_set sys.devices d (Some (at b)))) (ap bare_name (sym named))
     ∙ ap (result (files_after (Open name mode) e base)) (sym (shown_set e.devices d (Some f)))
     ∙ ap (λ fs. result fs (map shown (slice_set e.devices d (Some f)))) (sym files) in

@@ -25,3 +25,4 @@ pub mod Completions
 pub mod Bounds
 pub mod AtRest
 pub mod OneBlock
+pub mod Refused

@@ -77,7 +77,7 @@ ends_is e t = let two = and_parts (nat_eq (at_byte e) e.entry.size) (at_byte e %
     ((grind (arith, nat_tests)), (grind (arith, nat_tests)))
 
 -- at the size, but within a block
-not_ends : (e : Files) → at_end e ≡ false → at_byte e ≡ e.entry.size → at_byte e % 512 ≢ 0
+pub not_ends : (e : Files) → at_end e ≡ false → at_byte e ≡ e.entry.size → at_byte e % 512 ≢ 0
 not_ends e t same z =
     let a : nat_eq (at_byte e) e.entry.size ≡ true = grind (arith, nat_tests) in
     false≢true (sym t ∙ ap (λ v. v && (at_byte e % 512 == 0)) a ∙ ap (λ k. k == 0) z)

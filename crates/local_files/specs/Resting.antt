@@ -1,12 +1,13 @@
 -- The files at rest, and the blocks that a completion touches.
 use Rattle.std.specs.Prelude.{ℕ, ◌≡◌, ◌≢◌, ◌<◌, Bool, true, false, List, [], ◌∷◌, length, Option, Some, None, is_some}
 use Rattle.lfs_check.specs.Rules.{block_in}
-use Rattle.xinu_model.specs.Files.Calls.{FileCall}
+use Rattle.xinu_base.specs.Constants.{SYSERR}
+use Rattle.xinu_model.specs.Files.Calls.{FileCall, file_effect}
 use Rattle.xinu_model.specs.Files.Systems.{is_open}
-use Rattle.xinu_model.specs.Files.Work.{FileRequest}
+use Rattle.xinu_model.specs.Files.Work.{FileRequest, FileWork}
 use Rattle.xinu_model.specs.Files.Rest.{names_file}
 use Rattle.local_files.specs.Hands.{system}
-use Rattle.local_files.specs.Standing.{wanted, call_of}
+use Rattle.local_files.specs.Standing.{wanted, call_of, call_bytes}
 use Rattle.local_files.specs.declared.BlockWork.{BlockWork}
 use Rattle.local_files.specs.declared.BlockWork.TheVariants.{Read, Write}
 use Rattle.local_files.specs.declared.Files.{Files}
@@ -37,3 +38,17 @@ pub record ChangesOneBlock (old new : List ℕ) : Type 0 where
   pub block : ℕ
   pub long : length new ≡ length old
   pub others : (m : ℕ) → m ≢ block → block_in new m ≡ block_in old m
+
+-- The call in hand will be refused, as the files are on the disk on which it began.
+abbrev pub WillBeRefused : Files → List ℕ → Type 0
+WillBeRefused e base = (file_effect (call_of e.call (call_bytes e)) (call_bytes e) (system e base)).reply ≡ SYSERR
+
+-- no call is under way, or the first of these will be refused
+abbrev pub NothingToDo : List FileRequest → FileWork → Type 0
+NothingToDo [] w = Unit {0}
+NothingToDo (a ∷ calls) w = (file_effect a.call w.bytes w.system).reply ≡ SYSERR
+
+-- A good completion of the disk changes at most one block, and none if no call is under way or the first will be refused.
+pub record ServesDisk (w : FileWork) (old new : List ℕ) : Type 0 where
+  pub one : ChangesOneBlock old new
+  pub still : NothingToDo w.calls w → new ≡ old

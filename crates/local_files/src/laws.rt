@@ -1,4 +1,4 @@
-//! Laws of an engine that waits: what its disk holds, and which block it wants.
+//! Laws of an engine that waits: what its disk holds, which block it wants, and what a call that is refused leaves.
 
 ghost use Rattle.std.specs.Prelude.{◌≡◌, ◌≤◌, ◌<◌, ℕ, List, Bool, IsSome};
 ghost use Rattle.file_laws.specs.StoredFiles.{stored_files};
@@ -8,7 +8,7 @@ ghost use Rattle.xinu_model.specs.Files.Rest.{is_at_rest};
 ghost use Rattle.local_files.specs.Hands.{system};
 ghost use Rattle.local_files.specs.Standing.{Stands, wanted, served, call_of, call_bytes};
 ghost use Rattle.local_files.specs.Bounds.{left};
-ghost use Rattle.local_files.specs.Resting.{AreAtRest, IsFirstCall, IsOnDisk, ChangesOneBlock};
+ghost use Rattle.local_files.specs.Resting.{AreAtRest, IsFirstCall, IsOnDisk, ChangesOneBlock, WillBeRefused};
 
 use crate::Files;
 
@@ -32,6 +32,12 @@ impl Files {
     /// A completion changes at most one block.
     pub fn changes_one_block(&self)
         ensures one { (base disk : List ℕ) → Stands self.now base disk → ChangesOneBlock disk (served self.now disk) }
+    {}
+
+    /// A call that will be refused leaves the disk as it was when the call began, before each of its completions and after it.
+    pub fn leaves_the_disk_if_refused(&self)
+        ensures before { (base disk : List ℕ) → Stands self.now base disk → WillBeRefused self.now base → disk ≡ base }
+        ensures after { (base disk : List ℕ) → Stands self.now base disk → WillBeRefused self.now base → served self.now disk ≡ base }
     {}
 
     /// While a block is wanted, a completion is left.

@@ -13,6 +13,7 @@ use Rattle.xinu_base.specs.declared.processes.Rest.{Rest}
 use Rattle.xinu_base.specs.declared.processes.Rest.TheVariants.{Nothing}
 use Rattle.xinu_model.specs.Calls.{continued}
 use Rattle.xinu_model.specs.Events.{effect_of, instruction_step, is_done, stepped}
+use Rattle.xinu_model.specs.Files.Work.{FileWork}
 use Rattle.xinu_model.specs.Machine.{Xinu, end_of_event, EventResult, nothing_happens}
 use Rattle.xinu_model.specs.Tables.{process_at}
 
@@ -89,10 +90,10 @@ other_does old Disk1 a b k t d f g c = absurd (g refl)
 other_does old Fail1 a b k t d f g c = refl
 
 -- what an event changes of the disk with files, if it is another event by its kind
-pub changes_as : (e f : Event) (old new : List ℕ) → e ≡ f → ChangesDisk f old new → ChangesDisk e old new
-changes_as e f old new same k = subst (λ x. ChangesDisk x old new) (sym same) k
+pub changes_as : (e f : Event) (w : FileWork) (old new : List ℕ) → e ≡ f → ChangesDisk f w old new → ChangesDisk e w old new
+changes_as e f w old new same k = subst (λ x. ChangesDisk x w old new) (sym same) k
 
 -- any event but a good completion of that disk may leave it
-pub unchanged : (e : Event) (bytes : List ℕ) → e ≢ Disk1 → ChangesDisk e bytes bytes
-unchanged Disk1 bytes n = absurd (n refl)
-unchanged _ bytes n = refl
+pub unchanged : (e : Event) (w : FileWork) (bytes : List ℕ) → e ≢ Disk1 → ChangesDisk e w bytes bytes
+unchanged Disk1 w bytes n = absurd (n refl)
+unchanged _ w bytes n = refl

@@ -1,10 +1,11 @@
 -- The bytes of a machine's disks.
 use Rattle.std.specs.Prelude.{◌≡◌, ℕ, zero, suc, List}
 use Rattle.std.specs.List.{concat}
-use Rattle.local_files.specs.Resting.{ChangesOneBlock}
+use Rattle.local_files.specs.Resting.{ServesDisk}
 use Rattle.machine.specs.Printed.{Booted}
 use Rattle.xinu_base.specs.declared.events.Event.{Event}
 use Rattle.xinu_base.specs.declared.events.Event.TheVariants as event
+use Rattle.xinu_model.specs.Files.Work.{FileWork}
 use Rattle.xinu_model.specs.Machine.{Xinu}
 
 -- the bytes of the raw disk of a state: its blocks, one after another
@@ -19,7 +20,8 @@ disk_bytes (suc n) s image = image
 abbrev pub bytes_of : ℕ → Booted → List ℕ
 bytes_of n m = disk_bytes n m.state m.image
 
--- A good completion of the disk with files changes at most one block of it, and any other event none.
-abbrev pub ChangesDisk : Event → List ℕ → List ℕ → Type 0
-ChangesDisk event.Disk1 old new = ChangesOneBlock old new
-ChangesDisk _ old new = new ≡ old
+-- Any event but a good completion leaves the disk with files as it is. That changes at most one block of it, and none if no call on files is
+-- under way or the first will be refused.
+abbrev pub ChangesDisk : Event → FileWork → List ℕ → List ℕ → Type 0
+ChangesDisk event.Disk1 w old new = ServesDisk w old new
+ChangesDisk _ w old new = new ≡ old

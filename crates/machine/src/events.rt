@@ -9,6 +9,7 @@ ghost use Rattle.machine.specs.FileEffects.{ChosenPrints, ReactPrints};
 ghost use Rattle.machine.specs.Printed.{EffectPrints, EventPrints};
 ghost use Rattle.xinu_base.specs.declared.events.Event.TheVariants as events;
 ghost use Rattle.xinu_base.specs.declared.registers.Outcome.TheVariants as outcomes;
+ghost use Rattle.xinu_model.specs.Files.Syscalls.{files_of};
 ghost use Rattle.xinu_model.specs.Clock.{ticked};
 ghost use Rattle.xinu_model.specs.Console.Signals.{keyed, transmits};
 ghost use Rattle.xinu_model.specs.Events.{panics_in};
@@ -45,7 +46,7 @@ pub(crate) fn happen<H: Host>(
     ensures sound { IsSound kernel.new.came.call.state }
     ensures ticks { kernel.new.came.call.state.tables.ticks ≤ kernel.old.came.call.state.tables.ticks + 1 }
     ensures numbers { (q : ℕ) → (port_at kernel.new.came.call.state.parts.ports q).seq ≤ (port_at kernel.old.came.call.state.parts.ports q).seq + 1 }
-    ensures image { ChangesDisk event kernel.old.image kernel.new.image }
+    ensures image { ChangesDisk event (files_of kernel.old.came.call.state) kernel.old.image kernel.new.image }
 {
     match event {
         Event::Step => step(kernel, out, host),
@@ -64,7 +65,7 @@ fn other_event<H: Host>(kernel: &mut Kernel, event: Event, out: &mut Printer, ho
     ensures effect { ChosenPrints kernel.old.came.call.state event kernel.new.came.call.state result out.old out.new (H.view host.old) (H.view host.new) }
     ensures idle { IsIdle kernel.new.came }
     ensures sound { IsSound kernel.new.came.call.state }
-    ensures image { ChangesDisk event kernel.old.image kernel.new.image }
+    ensures image { ChangesDisk event (files_of kernel.old.came.call.state) kernel.old.image kernel.new.image }
 {
     match event {
         Event::Tick => tick(kernel, out, host),
@@ -228,7 +229,7 @@ fn complete_files<H: Host>(kernel: &mut Kernel, out: &mut Printer, host: &mut H)
     ensures effect { ChosenPrints kernel.old.came.call.state events.Disk1 kernel.new.came.call.state result out.old out.new (H.view host.old) (H.view host.new) }
     ensures idle { IsIdle kernel.new.came }
     ensures sound { IsSound kernel.new.came.call.state }
-    ensures image { ChangesDisk events.Disk1 kernel.old.image kernel.new.image }
+    ensures image { ChangesDisk events.Disk1 (files_of kernel.old.came.call.state) kernel.old.image kernel.new.image }
 {
     let current = kernel.current();
     let notes = kernel.on_files();

@@ -8,6 +8,7 @@ ghost use Rattle.machine.specs.Disks.{bytes_of, ChangesDisk, disk_bytes};
 ghost use Rattle.machine.specs.RunEnds.{end_of_go};
 ghost use Rattle.machine.specs.Printed.{EventPrints};
 ghost use Rattle.xinu_base.specs.declared.lines.TranscriptLine.TheVariants as line;
+ghost use Rattle.xinu_model.specs.Files.Syscalls.{files_of};
 ghost use Rattle.xinu_model.specs.Events.{panics_in};
 ghost use Rattle.xinu_model.specs.Runs as runs;
 ghost use Rattle.xinu_model.specs.Runs.{end_with};
@@ -68,8 +69,8 @@ impl Machine {
     /// `Panic` comes if and only if the kernel panicked in this event, else `Done` if and only if the last process beside the null process
     /// died in it. The lines say which calls on files took effect. No address comes to have two owners in it, unless a process gives back what
     /// a pool or a stack has. What always holds between two events holds after it: the disk with files holds the files of the state at rest,
-    /// and is clean for exactly them if no call on files is under way. Only a good completion of that disk changes it,
-    /// and at most one block of it.
+    /// and is clean for exactly them if no call on files is under way. Only a good completion of that disk changes it, and at most one block of
+    /// it; and it changes nothing if no call on files is under way, or the first will be refused.
     pub fn event<H: Host>(&mut self, event: Event, out: &mut Printer, host: &mut H) -> Go
         requires goes_on { self.old.over ≡ false }
         requires few { self.old.events < 1000000000 }
@@ -79,7 +80,7 @@ impl Machine {
         ensures apart { KeepsApart self.old.state event self.new.state }
         ensures sound { IsSound self.new.state }
         ensures holds { HoldsFiles self.new.image self.new.state.parts.devices.files }
-        ensures one_block { ChangesDisk event self.old.image self.new.image }
+        ensures one_block { ChangesDisk event (files_of self.old.state) self.old.image self.new.image }
         ensures counted { self.new.events ≡ self.old.events + 1 }
         ensures over { self.new.over ≡ is_some (end_of_go result) }
     {

@@ -1,4 +1,4 @@
-use Rattle.file_laws.proofs.Effects.{write_effect, write_refused, empty_write}
+use Rattle.file_laws.proofs.Effects.{write_effect, write_refused, write_granted, empty_write}
 use Rattle.file_laws.proofs.calls.writes_put_bytes.Goals as goal
 
 pub returns-clause-some : goal.returns-clause-some
@@ -9,3 +9,6 @@ returns-clause-refused c = write_refused
 
 pub returns-clause-none : goal.returns-clause-none
 returns-clause-none c = empty_write
+
+pub returns-clause-granted : goal.returns-clause-granted
+returns-clause-granted c = write_granted

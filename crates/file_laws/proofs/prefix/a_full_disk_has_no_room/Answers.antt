@@ -1,8 +1,8 @@
-use Rattle.file_laws.proofs.Needs.{middle_fits, middle_full, middle_index_full}
+use Rattle.file_laws.proofs.Needs.{middle_has_room, middle_full, middle_index_full}
 use Rattle.file_laws.proofs.prefix.a_full_disk_has_no_room.Goals as goal
 
 pub returns-clause-fits : goal.returns-clause-fits
-returns-clause-fits c = middle_fits
+returns-clause-fits c = middle_has_room
 
 pub returns-clause-data : goal.returns-clause-data
 returns-clause-data c = middle_full

@@ -1,6 +1,7 @@
-use Rattle.std.proofs.Common.{ap, map, refl, subst, sym}
+use Rattle.std.proofs.Common.{ℕ, List, map, refl, subst, sym}
 use Rattle.file_server.specs.Requests.{note_of}
-use Rattle.io_calls.proofs.FileCalls.{changed, completed_told, stays}
+use Rattle.io_calls.proofs.FileCalls.{completed_told, stays}
+use Rattle.local_files.specs.Resting.{ServesDisk}
 use Rattle.kernel_state.proofs.Values.{call_is}
 use Rattle.io_calls.proofs.file_calls.on_files.Goals as goal
 use Rattle.io_calls.specs.Files.{AreTold}
@@ -23,7 +24,10 @@ tell_all-requires c =
     }
 
 pub returns-then-not-are_calls-clause-image : goal.returns-then-not-are_calls-clause-image
-returns-then-not-are_calls-clause-image c = stays refl
+returns-then-not-are_calls-clause-image c = stays _ refl
 
 pub returns-clause-image : goal.returns-clause-image
-returns-clause-image c = changed (ap (λ (v : KernelValue). v.image) c.k.view_is) c.tell_all.ensures.image c.complete-notes.ensures.image
+returns-clause-image c =
+    let P : List ℕ → Type 0 = λ x. ServesDisk c.k.inside.files.work c.k.inside.files.image x in
+    let Q : KernelValue → Type 0 = λ v. ServesDisk (files_of v.call.state) v.image c.tell_all.new.k.image in
+    subst Q c.k.view_is (subst P (sym c.tell_all.ensures.image) c.complete-notes.ensures.image)

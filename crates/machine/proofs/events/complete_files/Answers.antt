@@ -2,8 +2,8 @@ use Rattle.std.proofs.Common.{ℕ, List, [], ap, map, subst, sym}
 use Rattle.file_server.specs.Requests.{note_of}
 use Rattle.file_server.specs.declared.requests.FileNote.{FileNote}
 use Rattle.host_port.specs.Printing.{Prints}
-use Rattle.local_files.specs.Resting.{ChangesOneBlock}
-use Rattle.xinu_model.specs.Files.Syscalls.{file_line}
+use Rattle.local_files.specs.Resting.{ServesDisk}
+use Rattle.xinu_model.specs.Files.Syscalls.{file_line, files_of}
 use Rattle.xinu_model.specs.Machine.{end_of_event}
 use Rattle.xinu_model.specs.Text.{shown}
 use Rattle.machine.proofs.Closing.{effect_as, lines_printed}
@@ -24,5 +24,5 @@ returns g c =
           (effect_as _ _ _ _ _ _ _ _ e c.end_event.ensures.effect));
       idle = c.end_event.ensures.idle;
       sound = c.end_event.ensures.sound;
-      image = subst (ChangesOneBlock c.args.kernel.now.image) (sym c.end_event.ensures.image) c.on_files-notes.ensures.image;
+      image = subst (ServesDisk (files_of s) c.args.kernel.now.image) (sym c.end_event.ensures.image) c.on_files-notes.ensures.image;
     }

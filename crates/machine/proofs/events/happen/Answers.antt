@@ -16,7 +16,7 @@ returns-in-Step g c =
       sound = c.step.ensures.sound;
       ticks = chosen_ticks s new c.args.event c.step.result _ _ _ _ c.requires.sound k;
       numbers = chosen_once s new c.args.event c.step.result _ _ _ _ c.requires.sound k;
-      image = changes_as c.args.event Step _ _ c.in-Step.is c.step.ensures.image;
+      image = changes_as c.args.event Step _ _ _ c.in-Step.is c.step.ensures.image;
     }
 
 pub returns-in_default : goal.returns-in_default

@@ -13,7 +13,7 @@ returns-in-Tick g c =
       effect = event_did s c.tick.new.kernel.came.call.state c.args.event Tick c.tick.result _ _ _ _ c.in-Tick.is c.tick.ensures.effect;
       idle = c.tick.ensures.idle;
       sound = c.tick.ensures.sound;
-      image = changes_as c.args.event Tick _ _ c.in-Tick.is c.tick.ensures.image;
+      image = changes_as c.args.event Tick _ _ _ c.in-Tick.is c.tick.ensures.image;
     }
 
 pub returns-in-Key : goal.returns-in-Key
@@ -23,7 +23,7 @@ returns-in-Key g c =
       effect = event_did s c.receive.new.kernel.came.call.state c.args.event (Key c.in-Key.b) c.receive.result _ _ _ _ c.in-Key.is c.receive.ensures.effect;
       idle = c.receive.ensures.idle;
       sound = c.receive.ensures.sound;
-      image = changes_as c.args.event (Key c.in-Key.b) _ _ c.in-Key.is c.receive.ensures.image;
+      image = changes_as c.args.event (Key c.in-Key.b) _ _ _ c.in-Key.is c.receive.ensures.image;
     }
 
 pub returns-in-Tx : goal.returns-in-Tx
@@ -33,7 +33,7 @@ returns-in-Tx g c =
       effect = event_did s c.transmit.new.kernel.came.call.state c.args.event Tx c.transmit.result _ _ _ _ c.in-Tx.is c.transmit.ensures.effect;
       idle = c.transmit.ensures.idle;
       sound = c.transmit.ensures.sound;
-      image = changes_as c.args.event Tx _ _ c.in-Tx.is c.transmit.ensures.image;
+      image = changes_as c.args.event Tx _ _ _ c.in-Tx.is c.transmit.ensures.image;
     }
 
 pub returns-in-Disk0 : goal.returns-in-Disk0
@@ -43,7 +43,7 @@ returns-in-Disk0 g c =
       effect = event_did s c.complete.new.kernel.came.call.state c.args.event Disk0 c.complete.result _ _ _ _ c.in-Disk0.is c.complete.ensures.effect;
       idle = c.complete.ensures.idle;
       sound = c.complete.ensures.sound;
-      image = changes_as c.args.event Disk0 _ _ c.in-Disk0.is c.complete.ensures.image;
+      image = changes_as c.args.event Disk0 _ _ _ c.in-Disk0.is c.complete.ensures.image;
     }
 
 pub returns-in-Fail0 : goal.returns-in-Fail0
@@ -53,7 +53,7 @@ returns-in-Fail0 g c =
       effect = event_did s c.complete-in-Fail0.new.kernel.came.call.state c.args.event Fail0 c.complete-in-Fail0.result _ _ _ _ c.in-Fail0.is c.complete-in-Fail0.ensures.effect;
       idle = c.complete-in-Fail0.ensures.idle;
       sound = c.complete-in-Fail0.ensures.sound;
-      image = changes_as c.args.event Fail0 _ _ c.in-Fail0.is c.complete-in-Fail0.ensures.image;
+      image = changes_as c.args.event Fail0 _ _ _ c.in-Fail0.is c.complete-in-Fail0.ensures.image;
     }
 
 pub returns-in-Disk1 : goal.returns-in-Disk1
@@ -63,7 +63,7 @@ returns-in-Disk1 g c =
       effect = chosen_as s c.complete_files.new.kernel.came.call.state c.args.event Disk1 c.complete_files.result _ _ _ _ c.in-Disk1.is c.complete_files.ensures.effect;
       idle = c.complete_files.ensures.idle;
       sound = c.complete_files.ensures.sound;
-      image = changes_as c.args.event Disk1 _ _ c.in-Disk1.is c.complete_files.ensures.image;
+      image = changes_as c.args.event Disk1 _ _ _ c.in-Disk1.is c.complete_files.ensures.image;
     }
 
 pub returns-in-Dump : goal.returns-in-Dump
@@ -77,7 +77,7 @@ returns-in-Dump g c =
           (record { state = refl; panics = refl; prints = subst P e c.print_tables.ensures.prints });
       idle = c.requires.idle;
       sound = c.requires.sound;
-      image = changes_as c.args.event Dump _ _ c.in-Dump.is refl;
+      image = changes_as c.args.event Dump _ _ _ c.in-Dump.is refl;
     }
 
 pub returns-in_default : goal.returns-in_default
@@ -90,5 +90,5 @@ returns-in_default g c =
       effect = none_chosen s s c.args.event _ _ _ _ _ _ does (nothing_printed s c.args.out.now (g.H.Host.view c.args.host.now));
       idle = c.requires.idle;
       sound = c.requires.sound;
-      image = unchanged c.args.event c.args.kernel.now.image c.in_default.not-Disk1;
+      image = unchanged c.args.event _ c.args.kernel.now.image c.in_default.not-Disk1;
     }

@@ -4,14 +4,16 @@ use Rattle.std.proofs.lemmas.Int.{to_z-of_z}
 use mir.Val.{SFits}
 use Rattle.std.specs.Vec.{with_items}
 use Rattle.std.proofs.lemmas.List.{with_items_is}
-use Rattle.file_server.specs.DiskStates.{DiskState, Waits, IsDone}
+use Rattle.file_server.specs.DiskStates.{DiskState, HeldCall, Waits, IsDone}
 use Rattle.file_server.specs.FileDisks.{held_for}
 use Rattle.file_server.specs.Settled.{Follows}
 use Rattle.file_server.proofs.Settling.{no_difference}
-use Rattle.file_server.proofs.Engines.{done_with, kept_in, over_stands, some_held, state_of, still_stands, waits_on}
+use Rattle.file_server.proofs.Engines.{done_with, held_refused, kept_in, over_stands, some_held, state_of, still_stands, waits_on}
 use Rattle.local_files.specs.Resting.{ChangesOneBlock}
 use Rattle.local_files.specs.Standing.{Stands, call_bytes, reply_in, served, wanted}
 use Rattle.local_files.specs.declared.Files.{Files}
+use Rattle.xinu_base.specs.Constants.{SYSERR}
+use Rattle.xinu_model.specs.Files.Calls.{file_effect}
 use Rattle.file_server.proofs.file_disk.FileDisk.complete.Goals as goal
 
 pub serve-requires-clause-wants : goal.serve-requires-clause-wants
@@ -127,3 +129,27 @@ returns-in-Some-clause-image c =
     let P : List ℕ → Type 0 = λ x. ChangesOneBlock disk x in
     let Q : DiskState → Type 0 = λ v. ChangesOneBlock v.image (with_items c.self.inside.disk c.serve.new.disk).items in
     subst Q c.self.view_is (subst P (sym new) (c.changes_one_block.ensures.one c.self.inside.settled.items disk c.self.invariant.stands))
+
+pub returns-in-None-clause-still : goal.returns-in-None-clause-still
+returns-in-None-clause-still c =
+    let e = c.self.inside.files in let base = c.self.inside.settled.items in let disk = c.self.inside.disk.items in
+    let here = c.self.invariant.stands in let law = c.leaves_the_disk_if_refused.ensures in
+    let items : (with_items c.self.inside.disk c.serve.new.disk).items ≡ c.serve.new.disk =
+    with_items_is c.self.inside.disk c.serve.new.disk (c.serve.ensures.len ∙ ap length c.deref_mut.ensures.value ∙ sym c.self.inside.disk.ok.0) in
+    let new : (with_items c.self.inside.disk c.serve.new.disk).items ≡ served e disk = items ∙ c.serve.ensures.disk ∙ ap (served e) c.deref_mut.ensures.value in
+    let Q : DiskState → Type 0 = λ v. (h : HeldCall) → v.hand ≡ Some h → (file_effect h.call h.bytes v.system).reply ≡ SYSERR
+    → (with_items c.self.inside.disk c.serve.new.disk).items ≡ v.image in
+    subst Q c.self.view_is (λ h is refused. (let will = held_refused e base h is refused in
+    new ∙ law.after base disk here will ∙ sym (law.before base disk here will)))
+
+pub returns-in-Some-clause-still : goal.returns-in-Some-clause-still
+returns-in-Some-clause-still c =
+    let e = c.self.inside.files in let base = c.self.inside.settled.items in let disk = c.self.inside.disk.items in
+    let here = c.self.invariant.stands in let law = c.leaves_the_disk_if_refused.ensures in
+    let items : (with_items c.self.inside.disk c.serve.new.disk).items ≡ c.serve.new.disk =
+    with_items_is c.self.inside.disk c.serve.new.disk (c.serve.ensures.len ∙ ap length c.deref_mut.ensures.value ∙ sym c.self.inside.disk.ok.0) in
+    let new : (with_items c.self.inside.disk c.serve.new.disk).items ≡ served e disk = items ∙ c.serve.ensures.disk ∙ ap (served e) c.deref_mut.ensures.value in
+    let Q : DiskState → Type 0 = λ v. (h : HeldCall) → v.hand ≡ Some h → (file_effect h.call h.bytes v.system).reply ≡ SYSERR
+    → (with_items c.self.inside.disk c.serve.new.disk).items ≡ v.image in
+    subst Q c.self.view_is (λ h is refused. (let will = held_refused e base h is refused in
+    new ∙ law.after base disk here will ∙ sym (law.before base disk here will)))

@@ -1,4 +1,4 @@
-use Rattle.std.proofs.Common.{rules, w32, to_z, of_z, true, ◌≡◌, ◌+◌, List, [], ◌∷◌, ◌++◌, drop, map, ap, sym, ◌∙◌, subst, None}
+use Rattle.std.proofs.Common.{rules, w32, to_z, of_z, true, ◌≡◌, ◌+◌, ℕ, List, [], ◌∷◌, ◌++◌, drop, map, ap, sym, ◌∙◌, subst, None}
 use Rattle.std.proofs.lemmas.Int.{to_z-of_z}
 use mir.Val.{SFits}
 use Rattle.file_server.specs.Requests.{AreRequests, note_of, request_of}
@@ -7,8 +7,9 @@ use Rattle.file_server.specs.Servers.{FirstIsHeld, work_of}
 use Rattle.file_server.specs.Starts.{WentOn, about_to}
 use Rattle.file_server.specs.declared.requests.FileNote as declared_note
 use Rattle.file_server.specs.declared.requests.FileRequest as declared_request
-use Rattle.file_server.proofs.Servers.{effect_completes, first_of, had_a_turn, some_listed, turn_completes}
+use Rattle.file_server.proofs.Servers.{effect_completes, first_of, had_a_turn, serves, some_listed, turn_completes}
 use Rattle.file_server.proofs.Starts.{listed}
+use Rattle.local_files.specs.Resting.{ServesDisk}
 use Rattle.xinu_base.specs.declared.lines.FileMoment.TheVariants.{Finished, Turn}
 use Rattle.xinu_model.specs.Files.Rest.{are_calls}
 use Rattle.xinu_model.specs.Files.Work.{FileNote, FileStep, had_turn, took_effect}
@@ -82,3 +83,31 @@ returns-clause-completed c =
     subst V c.self.view_is (subst L (sym whole)
     (effect_completes first.held d new r rest turns ram c.take_effect.new.ram c.take_effect.new.notes.items reply after right first.is first.under.call
     (c.in-Some.ensures.goes first.held first.is) c.take_effect.ensures.memory notes (subst W popped c.begin_next.ensures.went)))
+
+pub returns-in_default-clause-image : goal.returns-in_default-clause-image
+returns-in_default-clause-image c =
+    let d = c.self.inside.disk in let new = c.complete.new.self in let items = c.self.inside.requests.items in let turns = c.self.inside.turns in
+    let r = c.index-as_slice-0.result in let rest = drop 1 items in
+    let B : ServerState → Type 0 = λ v. are_calls v.work.calls ≡ true in
+    let some = some_listed items (subst B (sym c.self.view_is) c.requires.busy) in
+    let whole = listed items c.as_slice.result.now r c.as_slice.ensures.value some c.index-as_slice-0.is in
+    let F : List declared_request.FileRequest → Type 0 = λ l. FirstIsHeld d.hand (map request_of l) turns d.system in
+    let first = first_of d (request_of r) (map request_of rest) turns (subst F whole c.self.invariant.first) in
+    let L : List declared_request.FileRequest → Type 0 = λ l. ServesDisk (work_of d l turns) d.image new.image in
+    let V : ServerState → Type 0 = λ v. ServesDisk v.work v.image new.image in
+    subst V c.self.view_is (subst L (sym whole) (serves d r rest turns new.image first c.complete.ensures.image c.complete.ensures.still))
+
+pub returns-clause-image : goal.returns-clause-image
+returns-clause-image c =
+    let d = c.self.inside.disk in let new = c.complete.new.self in let items = c.self.inside.requests.items in let turns = c.self.inside.turns in
+    let r = c.index-as_slice-0.result in let rest = drop 1 items in
+    let B : ServerState → Type 0 = λ v. are_calls v.work.calls ≡ true in
+    let some = some_listed items (subst B (sym c.self.view_is) c.requires.busy) in
+    let whole = listed items c.as_slice.result.now r c.as_slice.ensures.value some c.index-as_slice-0.is in
+    let F : List declared_request.FileRequest → Type 0 = λ l. FirstIsHeld d.hand (map request_of l) turns d.system in
+    let first = first_of d (request_of r) (map request_of rest) turns (subst F whole c.self.invariant.first) in
+    let L : List declared_request.FileRequest → Type 0 = λ l. ServesDisk (work_of d l turns) d.image new.image in
+    let V : ServerState → Type 0 = λ v. ServesDisk v.work v.image c.begin_next.new.disk.image in
+    let I : List ℕ → Type 0 = λ x. ServesDisk (work_of d items turns) d.image x in
+    subst V c.self.view_is (subst I (sym c.begin_next.ensures.image)
+    (subst L (sym whole) (serves d r rest turns new.image first c.complete.ensures.image c.complete.ensures.still)))
