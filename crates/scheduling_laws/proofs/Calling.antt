@@ -1,7 +1,7 @@
 -- A step that prints a call on a semaphore is that call, in a sound state with the same tables.
-use Rattle.std.proofs.Common.{◌≡◌, ◌≢◌, ◌⊎◌, inl, inr, ⊎_elim, ℕ, zero, suc, ◌==◌, Bool, true, false, cond, ◌||◌, List, [], ◌∷◌, ◌++◌, map, Option, Some, None, refl, sym, ap, subst, ◌∙◌, ℤ}
+use Rattle.std.proofs.Common.{◌≡◌, ◌≢◌, ◌⊎◌, inl, inr, ⊎_elim, ℕ, zero, suc, ◌==◌, true, false, cond, ◌||◌, List, [], ◌∷◌, ◌++◌, map, Option, Some, None, refl, sym, ap, subst, ◌∙◌, ℤ}
 use Rattle.std.specs.Prelude.{slice_index}
-use Rattle.std.proofs.lemmas.Bool.{cond_both, eqb-false, eqb-true}
+use Rattle.std.proofs.lemmas.Bool.{cond_both, or_cases, eqb-false, eqb-true}
 use Rattle.xinu_base.specs.declared.events.Event.{Event}
 use Rattle.xinu_base.specs.declared.events.Event.TheVariants.{Step, Tick, Key, Tx, Disk0, Disk1, Fail0, Fail1, Dump}
 use Rattle.xinu_base.specs.declared.lines.TranscriptLine.{TranscriptLine}
@@ -71,19 +71,11 @@ one_of_five number e =
     ⊎_elim (λ f. inl (eqb-true number 15 f)) (λ r. inr
     (⊎_elim (λ f. inl (eqb-true number 16 f)) (λ r. inr
     (⊎_elim (λ f. inl (eqb-true number 18 f)) (λ r. inr
-    (⊎_elim (λ f. inl (eqb-true number 19 f)) (λ r. inr (eqb-true number 20 (or_last (number == 20) r)))
-    (either (number == 19) (number == 20 || false) r)))
-    (either (number == 18) (number == 19 || (number == 20 || false)) r)))
-    (either (number == 16) (number == 18 || (number == 19 || (number == 20 || false))) r)))
-    (either (number == 15) (number == 16 || (number == 18 || (number == 19 || (number == 20 || false)))) e)
-  where
-    either : (a b : Bool) → a || b ≡ true → (a ≡ true) ⊎ (b ≡ true)
-    either true b e = inl refl
-    either false b e = inr e
-
-    or_last : (a : Bool) → a || false ≡ true → a ≡ true
-    or_last true e = refl
-    or_last false e = e
+    (⊎_elim (λ f. inl (eqb-true number 19 f)) (λ r. inr (eqb-true number 20 (⊎_elim (λ (f : (number == 20) ≡ true). f) (λ (f : false ≡ true). cc) (or_cases (number == 20) false r))))
+    (or_cases (number == 19) (number == 20 || false) r)))
+    (or_cases (number == 18) (number == 19 || (number == 20 || false)) r)))
+    (or_cases (number == 16) (number == 18 || (number == 19 || (number == 20 || false))) r)))
+    (or_cases (number == 15) (number == 16 || (number == 18 || (number == 19 || (number == 20 || false)))) e)
 
 -- none of them changes files
 files_stay : (number : ℕ) (args : List ℕ) (s : Xinu) → IsSound s → changes_semaphore number ≡ true

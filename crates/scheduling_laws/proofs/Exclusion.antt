@@ -1,7 +1,7 @@
 -- A semaphore that begins with one token, and is signalled only by who is inside, lets in one process at a time.
 use Rattle.std.proofs.Common.{◌≡◌, ◌≢◌, ◌⊎◌, inl, inr, ⊎_elim, ℕ, suc, ◌+◌, ◌<◌, ◌≤◌, ◌==◌, ◌&&◌, ◌||◌, Bool, true, false, not, cond, List, [], ◌∷◌, ◌++◌, length, Option, Some, None, refl, sym, ap, subst, ◌∙◌, arith, pos}
 use Rattle.std.specs.Prelude.{◌+ℤ◌, neg_ℤ, int_lt, slice_index}
-use Rattle.std.proofs.lemmas.Bool.{and_from, and_parts, cases_eq, cond_both, eq-eqb, eqb-true, ne_eqb, or_parts, true≢false}
+use Rattle.std.proofs.lemmas.Bool.{and_from, and_parts, and_right, false_from_ne_true, cases_eq, cond_both, eq-eqb, eqb-true, ne_eqb, or_parts, true≢false}
 use Rattle.std.proofs.lemmas.Int.{ints}
 use Rattle.xinu_base.specs.declared.syscalls.Call.{Call}
 use Rattle.xinu_model.specs.Calls.{called}
@@ -21,7 +21,7 @@ use Rattle.scheduling_laws.specs.Moments.{LeadTo, Moment, call_in}
 use Rattle.scheduling_laws.specs.Tokens.{changes, changes_semaphore, is_made, living, renews}
 use Rattle.scheduling_laws.proofs.Calling.{IsCalled, event_tells, one_of_five, signalled_by, waited_by}
 use Rattle.scheduling_laws.proofs.Counts.{semaphore_signalled, semaphore_waited, signalled_to, taken}
-use Rattle.scheduling_laws.proofs.Quiet.{quiet_happens}
+use Rattle.scheduling_laws.proofs.Quiet.{and_true, quiet_happens}
 use Rattle.scheduling_laws.proofs.Stretches.{event_counted, made_by}
 use Rattle.scheduling_laws.proofs.Waiters.{not_waiting}
 
@@ -36,11 +36,6 @@ inside_from : (sem : ℕ) (w : ℕ → Bool) (t : Tables) (p : ℕ) → w p ≡ 
     → is_inside sem w t p ≡ true
 inside_from sem w t p a b =
     and_from (w p) (count_in p (semaphore_at t sem).waiters == 0) a (eq-eqb (count_in p (semaphore_at t sem).waiters) 0 b)
-
--- What isn't true is false.
-false_unless : (b : Bool) → (b ≡ true → ⊥) → b ≡ false
-false_unless true h = absurd (h refl)
-false_unless false h = refl
 
 -- Either the token is there and nobody is inside, or it is taken and at most one is. Each waiter has called `wait`.
 pub record IsExclusive (sem : ℕ) (w : ℕ → Bool) (t : Tables) : Type 0 where
@@ -80,14 +75,6 @@ entered_from sem m w p a b e f lives h =
     by_case true b g = refl
     by_case false b g = ⊎_elim (λ (i : false ≡ true). cc) (λ (i : (b ≡ false) × (w p ≡ true)). ap (λ c. cond c false (w p)) i.0 ∙ i.1) g
 
-and_none : (b : Bool) → b && false ≡ false
-and_none true = refl
-and_none false = refl
-
-and_all : (b : Bool) → b && true ≡ b
-and_all true = refl
-and_all false = refl
-
 -- without a token the count is less than the greatest
 few_tokens : (n l : ℕ) → n ≡ 0 → int_lt (pos n +ℤ neg_ℤ (pos l)) most_tokens ≡ true
 few_tokens n l e = grind (arith, ints)
@@ -117,7 +104,7 @@ module _ (sem : ℕ) (w : ℕ → Bool) (m : Moment) (k : IsSound m.before) (h :
       → IsExclusive sem (entered sem m w) Is
   exclusive_quiet good kept no_wait no_signal =
       let none : (number p : ℕ) → is_made number sem (call_in m.event m.lines) ≡ false → Calls number p ≡ false =
-      λ number p e. ap (λ c. (Was.current == p) && c) e ∙ and_none (Was.current == p) in
+      λ number p e. ap (λ c. (Was.current == p) && c) e ∙ and_right (Was.current == p) false refl in
       let before : (p : ℕ) → is_inside sem (entered sem m w) Is p ≡ true → is_inside sem w Was p ≡ true =
       λ p i. let both = inside_parts sem (entered sem m w) Is p i in
       let parts = entered_parts sem m w p false false (none 18 p no_wait) (none 19 p no_signal) both.0 in
@@ -163,10 +150,10 @@ module _ (sem : ℕ) (w : ℕ → Bool) (m : Moment) (k : IsSound m.before) (h :
       y = semaphore_at Was sem
 
       wait_of : (p : ℕ) → Calls 18 p ≡ (Was.current == p)
-      wait_of p = ap (λ c. (Was.current == p) && c) waits ∙ and_all (Was.current == p)
+      wait_of p = ap (λ c. (Was.current == p) && c) waits ∙ and_true (Was.current == p)
 
       signal_of : (p : ℕ) → Calls 19 p ≡ false
-      signal_of p = ap (λ c. (Was.current == p) && c) no_signal ∙ and_none (Was.current == p)
+      signal_of p = ap (λ c. (Was.current == p) && c) no_signal ∙ and_right (Was.current == p) false refl
 
       enters : (p : ℕ) → is_free (state_at Is p) ≡ false → (p ≡ Was.current) ⊎ (w p ≡ true) → entered sem m w p ≡ true
       enters p alive f =
@@ -212,10 +199,10 @@ module _ (sem : ℕ) (w : ℕ → Bool) (m : Moment) (k : IsSound m.before) (h :
       y = semaphore_at Was sem
 
       wait_of : (p : ℕ) → Calls 18 p ≡ false
-      wait_of p = ap (λ c. (Was.current == p) && c) no_wait ∙ and_none (Was.current == p)
+      wait_of p = ap (λ c. (Was.current == p) && c) no_wait ∙ and_right (Was.current == p) false refl
 
       signal_of : (p : ℕ) → Calls 19 p ≡ (Was.current == p)
-      signal_of p = ap (λ c. (Was.current == p) && c) signals ∙ and_all (Was.current == p)
+      signal_of p = ap (λ c. (Was.current == p) && c) signals ∙ and_true (Was.current == p)
 
       -- who is inside isn't the caller, and had entered
       other : (p : ℕ) → is_inside sem (entered sem m w) Is p ≡ true → (p ≢ Was.current) × (w p ≡ true)
@@ -346,7 +333,7 @@ module _ (sem : ℕ) (w : ℕ → Bool) (m : Moment) (k : IsSound m.before) (h :
           no_call : (number : ℕ) (call : Call) → (changes_semaphore call.number && (slice_index call.args 0 == sem)) ≡ false
               → changes_semaphore number ≡ true → is_made number sem (Some call) ≡ false
           no_call number call b f =
-              false_unless (is_made number sem (Some call))
+              false_from_ne_true (is_made number sem (Some call))
               (λ g. let both = and_parts (call.number == number) (slice_index call.args 0 == sem) g in
               let n = eqb-true call.number number both.0 in
               true≢false (sym (and_from (changes_semaphore call.number) (slice_index call.args 0 == sem)

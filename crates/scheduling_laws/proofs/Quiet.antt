@@ -3,7 +3,7 @@ use Rattle.std.proofs.Common.{◌≡◌, ◌≢◌, ◌⊎◌, inl, inr, ⊎_eli
 use Rattle.std.specs.Prelude.{slice_index, slice_set}
 use Rattle.std.specs.List.{AllByRecursion}
 use Rattle.std.proofs.Math.ListN.{length-set}
-use Rattle.std.proofs.lemmas.Bool.{cond_both, eq-eqb, ne_eqb, and_from, true≢false}
+use Rattle.std.proofs.lemmas.Bool.{cond_both, eq-eqb, ne_eqb, and_from, and_right, true≢false}
 use Rattle.xinu_base.specs.declared.events.Event.{Event}
 use Rattle.xinu_base.specs.declared.lines.TranscriptLine.{TranscriptLine}
 use Rattle.xinu_base.specs.declared.processes.Process.{Process}
@@ -20,6 +20,7 @@ use Rattle.xinu_model.specs.Semaphores.Counts.{is_good, with_semaphore}
 use Rattle.xinu_model.specs.Sound.State.{IsSound}
 use Rattle.xinu_model.specs.Sound.Tables.{count_in, sleeping_places, waiting_places, IsInside, IsSoundTables}
 use Rattle.xinu_model.specs.Tables.{no_process, Semaphore, no_semaphore, Tables, process_at, state_at, message_at, semaphore_at, is_free, numbers_without, semaphore_without, waits_without, Place, Nowhere, InReady, InSemaphore, InSleepers, move_to}
+use Rattle.table_laws.proofs.Frame.Order.{filter_all}
 use Rattle.table_laws.proofs.Lists.Counts.{count_behind, count_last_other, first_is_counted, numbers_without_other, numbers_without_same, two-le-total}
 use Rattle.table_laws.proofs.Lists.Orders.{all_weaker}
 use Rattle.table_laws.proofs.Tables.MoveTo.{by_number, within_table, state_move_same, state_move_other}
@@ -54,12 +55,10 @@ filter_twice f g (x ∷ xs) =
     (ap (λ l. cond (f x) (x ∷ l) l) rest))
     (λ b. subst (λ c. filter f (filter g xs) ≡ cond (c && f x) (x ∷ filter (λ p. g p && f p) xs) (filter (λ p. g p && f p) xs)) (sym b) rest)
 
--- a filter that all pass
-filter_all : (f : ℕ → Bool) (l : List ℕ) → ((p : ℕ) → 0 < count_in p l → f p ≡ true) → filter f l ≡ l
-filter_all f [] all = refl
-filter_all f (x ∷ xs) all =
-    ap (λ b. cond b (x ∷ filter f xs) (filter f xs)) (all x (first_is_counted x xs))
-    ∙ ap (λ l. x ∷ l) (filter_all f xs (λ p h. all p (count_behind p x xs h)))
+-- what is also asked of nothing
+pub and_true : (b : Bool) → b && true ≡ b
+and_true true = refl
+and_true false = refl
 
 -- what holds of each element of a list, as it is in the list
 all_of : (P : ℕ → Type 0) (l : List ℕ) → ((p : ℕ) → IsOneOf p l → P p) → AllByRecursion P l
@@ -166,10 +165,6 @@ module _ (sem : ℕ) (x : Semaphore) (image : x.owner ≡ Some owner.Image) wher
             (count_last_other p q (numbers_without q (semaphore_at t r).waiters) (differs p q h o) ∙ was));
         few = k.few;
       }
-    where
-      and_true : (b : Bool) → b && true ≡ b
-      and_true true = refl
-      and_true false = refl
 
   -- Any process dies.
   left_dies : (t : Tables) (q : ℕ) → IsLeft t → IsLeft (move_to q no_process None Nowhere t)
@@ -180,7 +175,7 @@ module _ (sem : ℕ) (x : Semaphore) (image : x.owner ≡ Some owner.Image) wher
         many = length-set t.processes q no_process ∙ k.many;
         kept = semaphore_at_without q sem t.semaphores ∙ ap (semaphore_without q) k.kept
             ∙ living_without t u q (λ p. by_number p q (λ r. Waited r → not (is_free (state_at t r)) && not (r == q) ≡ not (is_free (state_at u r)))
-            (λ h. ap (λ b. not (is_free (state_at t q)) && not b) (eq-eqb q q refl) ∙ and_false (not (is_free (state_at t q)))
+            (λ h. ap (λ b. not (is_free (state_at t q)) && not b) (eq-eqb q q refl) ∙ and_right (not (is_free (state_at t q))) false refl
             ∙ ap (λ s. not (is_free s)) (sym (gone (k.few q h))))
             (λ n h. ap (λ b. not (is_free (state_at t p)) && not b) (ne_eqb p q n) ∙ and_true (not (is_free (state_at t p)))
             ∙ ap (λ s. not (is_free s)) (sym (state_move_other t p q no_process None Nowhere n))));
@@ -192,14 +187,6 @@ module _ (sem : ℕ) (x : Semaphore) (image : x.owner ≡ Some owner.Image) wher
             (k.apart r p n h));
         few = k.few;
       }
-    where
-      and_true : (b : Bool) → b && true ≡ b
-      and_true true = refl
-      and_true false = refl
-
-      and_false : (b : Bool) → b && false ≡ false
-      and_false true = refl
-      and_false false = refl
 
   -- Others become ready, one after another.
   left_all : (ps : List ℕ) (t : Tables) → AllByRecursion Other ps → IsLeft t → IsLeft (ready_all ps t)

@@ -1,7 +1,7 @@
 -- What `wait`, `signal` and `signaln` do to the count of a process's semaphore.
 use Rattle.std.proofs.Common.{◌≡◌, ◌≢◌, ℕ, zero, suc, ◌+◌, ◌-◌, ◌≤◌, ◌==◌, ◌&&◌, ◌||◌, Bool, true, false, not, cond, List, [], ◌∷◌, ◌++◌, length, drop, take, Option, Some, refl, sym, ap, subst, ◌∙◌, arith, ℤ, pos, negsuc, get_or-set_same}
 use Rattle.std.specs.Prelude.{◌+ℤ◌, neg_ℤ, int_lt, slice_index}
-use Rattle.std.proofs.lemmas.Bool.{cond_both, eq-eqb, true≢false}
+use Rattle.std.proofs.lemmas.Bool.{and_right, cond_both, eq-eqb, true≢false}
 use Rattle.std.proofs.lemmas.Int.{ints}
 use Rattle.std.proofs.lemmas.List.{length-drop, take-append-drop}
 use Rattle.xinu_base.specs.Constants.{OK}
@@ -135,12 +135,8 @@ signal_counted sem args s k n good f =
           (nobody_dies sem s (signal sem s) k (call_inside 19 args s (signal sem s) same k n) (signal_touches sem s k));
     })
     (λ most. cond_both (is_good sem s.tables && least) (returns (signalled sem (start s)) OK) (refused s) P
-    (λ both. let g = ap (λ c. is_good sem s.tables && c) (sym most) in absurd (true≢false (sym both ∙ sym g ∙ and_false (is_good sem s.tables))))
+    (λ both. let g = ap (λ c. is_good sem s.tables && c) (sym most) in absurd (true≢false (sym both ∙ sym g ∙ and_right (is_good sem s.tables) false refl)))
     (λ _. refused_counted sem s made k good refl (asked ∙ ap (λ c. cond c 0 1) (no_room (count_of x) most_tokens most)))))
-  where
-    and_false : (c : Bool) → c && false ≡ false
-    and_false true = refl
-    and_false false = refl
 
 -- The first of those who wait are released: the others wait on.
 waiters_after : (sem : ℕ) (ps others : List ℕ) (t : Tables) → (semaphore_at t sem).waiters ≡ ps ++ others
