@@ -10,7 +10,7 @@ use Rattle.xinu_laws.proofs.RawDisks.Completed.{served_completes}
 use Rattle.xinu_laws.proofs.RawDisks.Framed.{disks_in, with_disks}
 use Rattle.xinu_laws.proofs.FileSyscalls.AtOnce.{at_once_keeps}
 use Rattle.xinu_laws.proofs.FileSyscalls.Completed.{step_completes}
-use Rattle.xinu_laws.proofs.Touches.Kept.{keeps_console, keeps_names, keeps_pools, keeps_ports, keeps_unused}
+use Rattle.xinu_laws.proofs.Touches.Kept.{keeps_console, keeps_names, keeps_pools, keeps_ports, keeps_unused, keeps_heap}
 use Rattle.xinu_model.specs.Files.Calls.{FileCall}
 use Rattle.xinu_model.specs.Files.Sound.{IsFileRequest}
 use Rattle.xinu_model.specs.Files.Syscalls.{awaits_files, files_of, request_for}
@@ -31,13 +31,13 @@ use Rattle.xinu_model.specs.Sound.State.{IsSound}
 
 -- a sound state is kept while no event is under way
 pub kept_idle : (s : Xinu) → IsSound s → KeepsAll (idle s)
-kept_idle s k = record { preserved = record { tables = k.tables; harts = k.harts; released = tt }; unused = k.unused; pools = k.pools; ports = k.ports; devices = k.devices }
+kept_idle s k = record { preserved = record { tables = k.tables; harts = k.harts; released = tt }; unused = k.unused; pools = k.pools; ports = k.ports; devices = k.devices; ram = k.ram }
 
 -- and it is sound then
 pub idle_sound : (h : CallResult) → IsIdle h → KeepsAll h → IsSound h.call.state
 idle_sound h i k =
     let j : KeepsAll (idle h.call.state) = subst KeepsAll i.is k in
-    record { tables = j.preserved.tables; harts = j.preserved.harts; unused = j.unused; pools = j.pools; ports = j.ports; devices = j.devices }
+    record { tables = j.preserved.tables; harts = j.preserved.harts; unused = j.unused; pools = j.pools; ports = j.ports; devices = j.devices; ram = j.ram }
 
 -- a process that isn't the null process may call
 pub idle_may_call : (h : CallResult) → IsIdle h → KeepsAll h → h.call.state.tables.current ≢ 0 → MayCallAny h.call.state
@@ -45,7 +45,7 @@ idle_may_call h i k n = may_call h.call.state (idle_sound h i k) n
 
 -- after an instruction the state is sound
 pub executed_sound : (s : Xinu) → MayCallAny s → IsSound (with_executed (exec (current_hart s) s.memory) s)
-executed_sound s m = let c = may_call_after s m in record { tables = c.may.tables; harts = c.may.harts; unused = c.unused; pools = c.pools; ports = c.ports; devices = c.devices }
+executed_sound s m = let c = may_call_after s m in record { tables = c.may.tables; harts = c.may.harts; unused = c.unused; pools = c.pools; ports = c.ports; devices = c.devices; ram = c.ram }
 
 -- and so is it after an event
 pub closed_kept : (h : CallResult) → KeepsAll h → KeepsAll (idle (end_of_event 0 [] h).state)
@@ -89,4 +89,5 @@ completed_keeps s notes result c k =
       pools = keeps_pools refl r.touches k.pools;
       ports = keeps_ports refl r.touches r.tables.inside k.ports;
       devices = with_disks (keeps_console refl r.touches r.tables.inside k.devices.console) (keeps_names refl r.touches k.devices.names) r.disks;
+      ram = record { bytes = r.ram k.ram.bytes; heap = keeps_heap r.touches.parts.extent k.ram.heap };
     })

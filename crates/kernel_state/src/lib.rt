@@ -8,6 +8,7 @@
 //! |---|---|
 //! | `current`, `is_done`, `is_on_device`, `call_of`, `released` | the current process; whether nothing is left of its call, and whether what is left is of a call on a device; the call in its registers; the replies so far |
 //! | `holds_files` | a law: the disk with files holds the files at rest |
+//! | `ram_is_whole` | a law: RAM has its size |
 //! | `instruction` | `exec` of the current process |
 //! | `release`, `give_token` | who waited on a semaphore is ready, and is answered if nothing is left of its call: `replies_to`, `signalled` |
 //! | `end` | a process dies: `killed` |

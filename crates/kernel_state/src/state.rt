@@ -134,6 +134,13 @@ impl KernelState {
         self.files.holds();
     }
 
+    /// A law: RAM has its 1,048,576 bytes at each moment of an event.
+    pub fn ram_is_whole(&self)
+        ensures whole { length self.now.call.state.memory ≡ 1048576 }
+    {
+        let _bytes = self.ram.bytes_from(0);
+    }
+
     /// Ends the event of a call that went so: its one resched, and the replies.
     pub fn close(&mut self, answer: Option<Next>)
         ensures closed { self.new.call ≡ start (end_of_event 0 [] (record { call = self.old.call; answer = answer_so_far answer })).state }

@@ -9,7 +9,7 @@
 //! | [`Ram::read8`], `read16`, `read32` | the number in the 1, 2 or 4 bytes, the lowest first, if and only if `may_access`; else `None` |
 //! | [`Ram::write8`], `write16`, `write32` | the answer is `may_access`; if it is true, those bytes are the number's and all others stay; else nothing changes |
 //! | [`Ram::copy_in`] | `Ok` if and only if the range is in RAM; then it holds the bytes and all others stay; else nothing changes |
-//! | [`Ram::bytes_from`] | the bytes from an address to the end of RAM |
+//! | [`Ram::bytes_from`] | `bytes`: the bytes from an address to the end of RAM; `whole`: RAM has its size |
 //! | [`Ram::copy_out`] | `Ok` if and only if the range is in RAM; then the answer is its bytes |
 //! | [`step`] | `outcome`, `hart`, `memory`: those of `exec`, for all registers, pc and RAM; `zero`: x0 stays 0 |
 //! | [`plain_steps`] | `count`, `hart`, `memory`: those of `ran`, which is at most so many plain instructions, one after another |

@@ -133,9 +133,10 @@ impl Ram {
         Ok(())
     }
 
-    /// The bytes from an address to the end of RAM.
+    /// The bytes from an address to the end of RAM, which has 1,048,576 bytes.
     pub fn bytes_from(&self, a: u32) -> &[u8]
         ensures bytes { result.now ≡ drop a self.now }
+        ensures whole { length self.now ≡ 1048576 }
     {
         let at = a as usize;
         if at < SIZE { &self.bytes[at..] } else { &[] }

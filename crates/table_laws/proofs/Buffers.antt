@@ -1,8 +1,8 @@
 -- The addresses of a pool's buffers, and how many of them are held as one is taken or put back.
-use Rattle.std.proofs.Common.{◌≡◌, ◌≢◌, ℕ, zero, suc, ◌+◌, ◌<◌, ◌≤◌, ◌==◌, Bool, true, false, not, cond, ◌||◌, List, [], ◌∷◌, length, filter, refl, sym, ap, subst, ◌∙◌, ⊎_elim, arith}
+use Rattle.std.proofs.Common.{◌≡◌, ◌≢◌, ℕ, zero, suc, ◌+◌, ◌*◌, ◌<◌, ◌≤◌, ◌==◌, Bool, true, false, not, cond, ◌||◌, List, [], ◌∷◌, length, filter, refl, sym, ap, subst, ◌∙◌, ⊎_elim, arith}
 use Rattle.std.specs.List.{AllByRecursion}
 use Rattle.std.proofs.lemmas.Bool.{and_parts, not-true, both_ways, cases_eq, cond_both, eq-eqb, eqb-true, false_from_ne_true, ne_eqb, or_cases, or_left, or_right}
-use Rattle.xinu_model.specs.Pools.Buffers.{BufferPool, addresses, buffers, is_in, is_held, held_in, with_free, new_pool}
+use Rattle.xinu_model.specs.Pools.Buffers.{BufferPool, addresses, buffers, pool_bytes, is_in, is_held, held_in, with_free, new_pool}
 use Rattle.xinu_model.specs.Sound.Tables.{count_in}
 use Rattle.table_laws.proofs.Lists.Counts.{first_is_counted, count_behind}
 use Rattle.table_laws.proofs.Lists.Orders.{all_weaker}
@@ -53,6 +53,24 @@ addresses_distinct x a step (suc n) h =
 pub length-addresses : (a step n : ℕ) → length (addresses a step n) ≡ n
 length-addresses a step zero = refl
 length-addresses a step (suc n) = ap suc (length-addresses (a + step) step n)
+
+-- each lies among them
+addresses_between : (x a step n : ℕ) → is_in x (addresses a step n) ≡ true → (a ≤ x) × (x + step ≤ a + n * step)
+addresses_between x a step zero h = absurd (cc)
+addresses_between x a step (suc n) h =
+    ⊎_elim
+    (λ (e : (x == a) ≡ true). let same = eqb-true x a e in (omega (arith, same), omega (arith, same)))
+    (λ (e : is_in x (addresses (a + step) step n) ≡ true). let f = addresses_between x (a + step) step n e in (let low = f.0 in omega (arith, low), let high = f.1 in omega (arith, high)))
+    (or_cases (x == a) (is_in x (addresses (a + step) step n)) h)
+
+-- A buffer lies in its pool's range, after a word.
+pub buffer_between : (a : ℕ) (pool : BufferPool) → is_in a (buffers pool) ≡ true
+    → (4 ≤ a) × (a ≤ pool.base + pool_bytes pool.size pool.number)
+buffer_between a pool h =
+    let f = addresses_between a (pool.base + 4) (pool.size + 4) pool.number h in
+    let low = f.0 in
+    let high = f.1 in
+    (omega (arith, low), omega (arith, high))
 
 -- one element more, if it passes, on both sides
 both_longer : (b : Bool) (x : ℕ) (xs ys : List ℕ) (k : ℕ) → length xs ≡ length ys + k

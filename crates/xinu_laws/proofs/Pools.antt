@@ -7,3 +7,4 @@ pub mod Made
 pub mod Preserve
 pub mod Start
 pub mod Steps
+pub mod Written

@@ -9,3 +9,5 @@ pub mod Processes
 pub mod Runs
 pub mod Semaphores
 pub mod Unused
+pub mod Whole
+pub mod Within

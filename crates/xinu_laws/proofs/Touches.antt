@@ -165,15 +165,16 @@ module _ {f : Reach} where
   pub touches_tables : (s : Xinu) (t : Tables) → Frame f.mine f.asks s.tables t → stacks_of t ≡ stacks_of s.tables
       → ((p : ℕ) → is_free (state_at t p) ≡ true → is_free (state_at s.tables p) ≡ true) → (f.clock ≡ false → t.ticks ≡ s.tables.ticks)
       → StillWait f.asks s.tables t → Touches f s (record s { tables = t })
-  touches_tables s t c e was clock stay = record { frame = c; stacks = λ _. e; parts = parts_same s.parts; free = λ _. record { was = was; harts = λ p _. refl }; clock = clock; stay = λ _. stay }
+  touches_tables s t c e was clock stay = record { frame = c; stacks = λ _. e; parts = parts_same s.parts; free = λ _. record { was = was; harts = λ p _. refl }; clock = clock; stay = λ _. stay; ram = λ _. refl }
 
   -- Nothing is touched.
   pub touches_refl : (s : Xinu) → Touches f s s
   touches_refl s = touches_tables s s.tables (frame_refl s.tables) refl (λ p h. h) (λ _. refl) (record { stay = λ p h. h })
 
-  -- Other parts of the state, and any memory.
-  pub touches_parts : (s u : Xinu) → u.tables ≡ s.tables → u.harts ≡ s.harts → KeepsParts f.parts s.parts u.parts → Touches f s u
-  touches_parts s u e same k = record { frame = frame_same s.tables u.tables (ap (λ (t : Tables). t.processes) e) (ap (λ (t : Tables). t.semaphores) e); stacks = λ _. ap stacks_of e; parts = k; free = λ _. keeps_free_same s u e same; clock = λ _. ap (λ (t : Tables). t.ticks) e; stay = λ _. record { stay = λ p h. subst (λ (t : Tables). waits_at f.asks t p ≡ true) (sym e) h } }
+  -- Other parts of the state, and other bytes in RAM if the reach allows it.
+  pub touches_parts : (s u : Xinu) → u.tables ≡ s.tables → u.harts ≡ s.harts → (f.parts.ram ≡ false → u.memory ≡ s.memory)
+      → KeepsParts f.parts s.parts u.parts → Touches f s u
+  touches_parts s u e same ram k = record { frame = frame_same s.tables u.tables (ap (λ (t : Tables). t.processes) e) (ap (λ (t : Tables). t.semaphores) e); stacks = λ _. ap stacks_of e; parts = k; free = λ _. keeps_free_same s u e same; clock = λ _. ap (λ (t : Tables). t.ticks) e; stay = λ _. record { stay = λ p h. subst (λ (t : Tables). waits_at f.asks t p ≡ true) (sym e) h }; ram = ram }
 
   -- One step after another.
   pub touches_trans : {s u v : Xinu} → Touches f s u → Touches f u v → Touches f s v
@@ -184,6 +185,7 @@ module _ {f : Reach} where
     free = λ e. keeps_free_trans (a.free e) (b.free e);
     clock = λ e. b.clock e ∙ a.clock e;
     stay = λ e. record { stay = λ p h. (b.stay e).stay p ((a.stay e).stay p h) };
+    ram = λ e. b.ram e ∙ a.ram e;
   }
 
   -- One of two ways is gone.

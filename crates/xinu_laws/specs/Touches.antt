@@ -6,7 +6,7 @@ use Rattle.xinu_base.specs.declared.processes.Rest.TheVariants.{Nothing, Receive
 use Rattle.xinu_base.specs.declared.semaphores.Owner.{Owner}
 use Rattle.xinu_base.specs.declared.semaphores.Owner.TheVariants as owner
 use Rattle.xinu_model.specs.Devices.State.{Devices}
-use Rattle.xinu_model.specs.Footprints.{Footprint, on_tables, on_pools, on_ports, on_console}
+use Rattle.xinu_model.specs.Footprints.{Footprint, on_tables, on_buffers, on_ports, on_console}
 use Rattle.part_laws.specs.FreeCells.{HasSameExtent}
 use Rattle.table_laws.specs.Frame.{Frame, StillWait}
 use Rattle.xinu_model.specs.Machine.{Parts, Xinu, no_hart}
@@ -92,7 +92,7 @@ pub record KeepsFree (s u : Xinu) : Type 0 where
   pub harts : (p : ℕ) → is_free (state_at u.tables p) ≡ true → slice_index_or u.harts p no_hart ≡ slice_index_or s.harts p no_hart
 
 -- From s to u nothing is touched beyond this reach. If it leaves stacks alone nobody dies; if it leaves the raw disk alone, all who wait in the
--- calls that it leaves alone still do; and if it has no clock the ticks stay.
+-- calls that it leaves alone still do; if it has no clock the ticks stay; and if it leaves RAM alone that stays as it is.
 pub record Touches (f : Reach) (s u : Xinu) : Type 0 where
   pub frame : Frame f.mine f.asks s.tables u.tables
   pub stacks : f.parts.stacks ≡ false → stacks_of u.tables ≡ stacks_of s.tables
@@ -100,6 +100,7 @@ pub record Touches (f : Reach) (s u : Xinu) : Type 0 where
   pub free : f.parts.stacks ≡ false → KeepsFree s u
   pub clock : f.clock ≡ false → u.tables.ticks ≡ s.tables.ticks
   pub stay : f.parts.disk ≡ false → StillWait f.asks s.tables u.tables
+  pub ram : f.parts.ram ≡ false → u.memory ≡ s.memory
 
 -- From s to u the heap, the ranges of the pools and the stacks stay as they are.
 pub record KeepsPlaces (s u : Xinu) : Type 0 where
@@ -109,7 +110,7 @@ pub record KeepsPlaces (s u : Xinu) : Type 0 where
 
 -- the footprint of what is left of a call that waited
 abbrev pub touched_by : Rest → Footprint
-touched_by (GetBuf i) = on_pools
+touched_by (GetBuf i) = on_buffers
 touched_by (PtSend ticket message) = on_ports
 touched_by (PtRecv ticket) = on_ports
 touched_by TtyGet = on_console

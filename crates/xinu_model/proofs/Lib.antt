@@ -3,4 +3,5 @@ pub mod Heap
 pub mod Outcomes
 pub mod Runs
 pub mod Stops
+pub mod WholeRam
 pub mod ZeroRegister

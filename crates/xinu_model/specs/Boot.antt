@@ -1,5 +1,5 @@
 -- What is loaded, and the state in which the machine starts (book, chapter 22).
-use Rattle.std.specs.Prelude.{ℕ, ◌+◌, ◌-◌, ◌*◌, ◌/◌, max, Bool, true, if◌then◌else◌, List, [], ◌∷◌, ◌++◌, length, replicate, Option, None, Some, codes, ℤ}
+use Rattle.std.specs.Prelude.{ℕ, ◌+◌, ◌-◌, ◌*◌, ◌/◌, max, Bool, true, if◌then◌else◌, List, [], ◌∷◌, ◌++◌, length, replicate, take, Option, None, Some, codes, ℤ}
 use Rattle.std.specs.List.{list_any}
 use Rattle.xinu_base.specs.Constants.{NPROC, NSEM, QUANTUM}
 use Rattle.xinu_base.specs.declared.processes.Process.{Process}
@@ -28,10 +28,14 @@ pub record Loaded : Type 0 where
   pub priority : ℤ
   pub stack : ℕ
 
+-- a part put in its place: as many of its bytes as it takes addresses
+abbrev pub with_part : LoadedPart → List ℕ → List ℕ
+with_part part memory = let bytes = take part.size part.bytes in with_bytes memory part.place (length bytes) bytes
+
 -- the parts put in their places, one after another
 abbrev pub with_parts : List LoadedPart → List ℕ → List ℕ
 with_parts [] memory = memory
-with_parts (part ∷ parts) memory = with_parts parts (with_bytes memory part.place (length part.bytes) part.bytes)
+with_parts (part ∷ parts) memory = with_parts parts (with_part part memory)
 
 -- the images put in their places, one after another
 abbrev pub with_images : List Loaded → List ℕ → List ℕ

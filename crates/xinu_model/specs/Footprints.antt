@@ -2,7 +2,7 @@
 use Rattle.std.specs.Prelude.{Bool, true, false}
 
 -- Besides the processes, their messages and semaphores, and the sleepers, which any call may change: whether it may change the heap, the
--- stacks of processes, where pools lie, the pools, the ports, the console, the name space, the raw disk, and files with their calls.
+-- stacks of processes, where pools lie, the pools, the ports, the console, the name space, the raw disk, files with their calls, and RAM.
 pub record Footprint : Type 0 where
   pub heap : Bool
   pub stacks : Bool
@@ -13,6 +13,7 @@ pub record Footprint : Type 0 where
   pub names : Bool
   pub disk : Bool
   pub files : Bool
+  pub ram : Bool
 
 -- processes, messages, semaphores of processes and the sleepers
 abbrev pub on_tables : Footprint
@@ -26,6 +27,7 @@ on_tables = record {
   names = false;
   disk = false;
   files = false;
+  ram = false;
 }
 
 -- the heap too
@@ -44,6 +46,10 @@ on_deaths = record on_processes { disk = true; files = true }
 abbrev pub on_pools : Footprint
 on_pools = record on_tables { pools = true }
 
+-- the pools, and RAM, where a buffer's pool is written
+abbrev pub on_buffers : Footprint
+on_buffers = record on_pools { ram = true }
+
 -- a pool more, from the heap
 abbrev pub on_new_pool : Footprint
 on_new_pool = record on_pools { heap = true; ranges = true }
@@ -56,17 +62,25 @@ on_ports = record on_tables { ports = true }
 abbrev pub on_ports_and_pools : Footprint
 on_ports_and_pools = record on_ports { pools = true }
 
--- the console
+-- the console, and RAM, where a read puts its bytes
 abbrev pub on_console : Footprint
-on_console = record on_tables { console = true }
+on_console = record on_tables { console = true; ram = true }
 
 -- the raw disk
 abbrev pub on_disk : Footprint
 on_disk = record on_tables { disk = true }
 
+-- the raw disk as it completes a request, whose bytes it brings to RAM
+abbrev pub on_completion : Footprint
+on_completion = record on_disk { ram = true }
+
 -- files
 abbrev pub on_files : Footprint
 on_files = record on_tables { files = true }
+
+-- files as a call on them takes effect, whose bytes it brings to RAM
+abbrev pub on_effects : Footprint
+on_effects = record on_files { ram = true }
 
 -- the console or files
 abbrev pub on_console_or_files : Footprint

@@ -16,7 +16,7 @@ requests_left : (n p : ℕ) (l : List Request) → AllByRecursion (IsRequest n) 
     → AllByRecursion (IsRequest n) (callers.given_up (λ (r : Request). r.caller) orphaned_request p l)
 requests_left n p [] h = tt
 requests_left n p (r ∷ rest) h = (
-  cond_both (is_caller p r.caller) (orphaned_request r) r (IsRequest n) (λ _. record { block = h.0.block; written = h.0.written }) (λ _. h.0),
+  cond_both (is_caller p r.caller) (orphaned_request r) r (IsRequest n) (λ _. record { block = h.0.block; range = h.0.range; written = h.0.written }) (λ _. h.0),
   all_filter (IsRequest n) (λ (b : Request). not (is_caller p b.caller)) rest h.1,
 )
 

@@ -1,8 +1,9 @@
 -- The raw disk by itself after its first request was served.
-use Rattle.std.proofs.Common.{◌≡◌, ℕ, zero, suc, Bool, true, false, List, [], ◌∷◌, length, set, Option, Some, None, refl, sym, subst}
+use Rattle.std.proofs.Common.{◌≡◌, ℕ, zero, suc, ◌+◌, ◌≤◌, Bool, true, false, List, [], ◌∷◌, length, set, Option, Some, None, refl, sym, ap, subst, slice_index_or, arith}
 use Rattle.std.proofs.Math.ListN.{length-set}
 use Rattle.std.specs.Prelude.{IsSome}
 use Rattle.std.specs.List.{AllByRecursion}
+use Rattle.xinu_model.specs.Memory.{ram_size}
 use Rattle.xinu_model.specs.RawDisk.Callers.{HaveCallers}
 use Rattle.xinu_model.specs.RawDisk.Completions.{Served, transferred, served, first_served, raw_completed}
 use Rattle.xinu_model.specs.RawDisk.Constants.{RD_BLKSIZ}
@@ -43,10 +44,29 @@ served_sound : (good : Bool) (r : Request) (d : RawDisk) → IsWritten r.written
 served_sound true r d w k = transferred_sound r.written r d w k
 served_sound false r d w k = k
 
--- What a completion serves: the first request, and the others are left on a sound disk.
+-- no block that is read has more bytes than a block
+block_few : (blocks : List (List ℕ)) (n : ℕ) → AllByRecursion (λ (b : List ℕ). length b ≡ RD_BLKSIZ) blocks
+    → length (slice_index_or blocks n []) ≤ RD_BLKSIZ
+block_few [] n h = omega arith
+block_few (b ∷ blocks) zero h = omega (arith, h.0)
+block_few (b ∷ blocks) (suc n) h = block_few blocks n h.1
+
+-- a completion brings no more bytes than a block has
+brings_few : (good : Bool) (r : Request) (d : RawDisk) → IsSoundRawDisk d → length (served good r d).bytes ≤ RD_BLKSIZ
+brings_few false r d k = omega arith
+brings_few true r d k = by_kind r.written
+  where
+    by_kind : (written : Option (List ℕ)) → length (transferred written r d).bytes ≤ RD_BLKSIZ
+    by_kind None = block_few d.blocks r.block k.blocks
+    by_kind (Some bytes) = omega arith
+
+-- What a completion serves: the first request, and the others are left on a sound disk. The bytes that it brings are no more than a block, and
+-- their place is in RAM.
 pub record ServesFirst (d : RawDisk) (x : Served) : Type 0 where
   pub first : d.requests ≡ x.request ∷ x.disk.requests
   pub sound : IsSoundRawDisk d → IsSoundRawDisk x.disk
+  pub few : IsSoundRawDisk d → length x.bytes ≤ RD_BLKSIZ
+  pub range : IsSoundRawDisk d → x.request.at + RD_BLKSIZ ≤ ram_size
 
 pub serves_first : (good : Bool) (d : RawDisk) (x : Served) → raw_completed good d ≡ Some x → ServesFirst d x
 serves_first good d x e = by_requests d.requests refl e
@@ -60,4 +80,8 @@ serves_first good d x e = by_requests d.requests refl e
         subst (ServesFirst d) is (record {
           first = (let a = stay.0 in let b = stay.1 in cc);
           sound = λ k. served_sound good r (record d { requests = l }) (subst (AllByRecursion (IsRequest (length d.blocks))) same k.requests).0.written (left_sound r l d same k);
+          few = λ k. brings_few good r (record d { requests = l }) (left_sound r l d same k);
+          range = λ k. (let at : y.request.at ≡ r.at = ap (λ (q : Request). q.at) stay.0 in
+              let range = (subst (AllByRecursion (IsRequest (length d.blocks))) same k.requests).0.range in
+              omega (arith, at, range));
         })

@@ -9,6 +9,7 @@ use Rattle.xinu_model.specs.Console.State.{Console}
 use Rattle.xinu_model.specs.Console.Taking.{console_of}
 use Rattle.xinu_model.specs.Footprints.{on_console}
 use Rattle.xinu_model.specs.Machine.{Xinu, CallResult, Silent, start, refused, goes_on, blocked}
+use Rattle.xinu_model.specs.Memory.{ram_size}
 use Rattle.xinu_model.specs.Messages.{held}
 use Rattle.xinu_model.specs.Semaphores.Calls.{answers}
 use Rattle.xinu_model.specs.Semaphores.Counts.{with_tokens}
@@ -21,7 +22,7 @@ use Rattle.xinu_laws.proofs.Consoles.Promised.{promised_token, promised_token_ot
 use Rattle.table_laws.proofs.Preserve.{current_within, blocked_preserves, sound_goes_on, waits_hold}
 use Rattle.table_laws.proofs.Tables.Changes.{sound_token_taken}
 use Rattle.table_laws.proofs.Tables.MoveTo.{by_number}
-use Rattle.xinu_laws.proofs.Touches.{parts_console, touches_parts, touches_refl, touches_trans}
+use Rattle.xinu_laws.proofs.Touches.{named, parts_console, touches_parts, touches_refl, touches_trans}
 use Rattle.xinu_laws.proofs.Touches.Moves.{touches_blocked, touches_goes_on, touches_tokens}
 
 -- What holds of tables and registers when a process calls, whichever process it is.
@@ -36,21 +37,32 @@ sound_holds s k = record { tables = k.tables; harts = k.harts }
 abbrev pub HasConsole : Xinu → Type 0
 HasConsole s = IsConsole s.tables (console_of s)
 
--- What a step on the console keeps. It touches the console alone; if the null process doesn't make it, tables and registers are as they should
--- be; and what holds of the console goes on holding under a premise.
+-- RAM of a state has its size
+abbrev pub HasSize : Xinu → Type 0
+HasSize s = length s.memory ≡ ram_size
+
+-- What a step on the console keeps. It touches the console and RAM alone; if the null process doesn't make it, tables and registers are as they
+-- should be; and under a premise what holds of the console goes on holding, and RAM keeps its size.
 pub record KeepsConsole (Premise : Type 0) (s : Xinu) (h : CallResult) : Type 0 where
   pub preserved : s.tables.current ≢ 0 → IsPreserved h
   pub touches : Touches (reach on_console) s h.call.state
   pub console : Premise → HasConsole h.call.state
+  pub ram : Premise → HasSize s → HasSize h.call.state
 
 -- what is kept from a state that was come to without touching more
 pub keeps_after : {P Q : Type 0} (s u : Xinu) (h : CallResult) → (P → Q) → u.tables.current ≡ s.tables.current
-    → Touches (reach on_console) s u → KeepsConsole Q u h → KeepsConsole P s h
-keeps_after s u h premise same t k = record {
+    → Touches (reach on_console) s u → (P → HasSize s → HasSize u) → KeepsConsole Q u h → KeepsConsole P s h
+keeps_after s u h premise same t size k = record {
   preserved = λ n. k.preserved (λ e. n (subst (λ c. c ≡ 0) same e));
   touches = touches_trans t k.touches;
   console = λ p. k.console (premise p);
+  ram = λ p z. k.ram (premise p) (size p z);
 }
+
+-- what is kept under a premise is kept under one from which that follows
+pub keeps_under : {P Q : Type 0} (s : Xinu) (h : CallResult) → (P → Q) → KeepsConsole Q s h → KeepsConsole P s h
+keeps_under s h premise k =
+    record { preserved = k.preserved; touches = k.touches; console = λ p. k.console (premise p); ram = λ p. k.ram (premise p) }
 
 -- the caller may call, unless it is the null process
 pub holds_may_call : (s : Xinu) → Holds s → s.tables.current ≢ 0 → MayCall s
@@ -59,17 +71,17 @@ holds_may_call s c n = record { tables = c.tables; harts = c.harts; not_null = n
 -- An answer,
 pub answers_keeps : (value : ℤ) (s : Xinu) → Holds s → KeepsConsole (HasConsole s) s (answers value s)
 answers_keeps value s c =
-    record { preserved = λ _. record { tables = c.tables; harts = c.harts; released = tt }; touches = touches_refl s; console = λ k. k }
+    record { preserved = λ _. record { tables = c.tables; harts = c.harts; released = tt }; touches = touches_refl s; console = λ k. k; ram = λ _ z. z }
 
 -- a refusal,
 pub refused_keeps : (s : Xinu) → Holds s → KeepsConsole (HasConsole s) s (refused s)
 refused_keeps s c =
-    record { preserved = λ _. record { tables = c.tables; harts = c.harts; released = tt }; touches = touches_refl s; console = λ k. k }
+    record { preserved = λ _. record { tables = c.tables; harts = c.harts; released = tt }; touches = touches_refl s; console = λ k. k; ram = λ _ z. z }
 
 -- and no answer.
 pub silent_keeps : (s : Xinu) → Holds s → KeepsConsole (HasConsole s) s (record { call = start s; answer = Silent })
 silent_keeps s c =
-    record { preserved = λ _. record { tables = c.tables; harts = c.harts; released = tt }; touches = touches_refl s; console = λ k. k }
+    record { preserved = λ _. record { tables = c.tables; harts = c.harts; released = tt }; touches = touches_refl s; console = λ k. k; ram = λ _ z. z }
 
 -- a semaphore of the kernel's is in the table
 pub device_within : (t : Tables) (sem : ℕ) → IsInside t → sem < 4 → sem < length t.semaphores
@@ -111,6 +123,7 @@ blocked_keeps sem left s c w empty fits asked =
       touches = touches_blocked Waiting left (InSemaphore sem) s c.tables.runs (touched_console t sem o w) (touched_calls left asked) refl;
       console = λ p. let k = p.1 in let items = k.items in let room = k.room in
           record { itself = k.itself; items = omega arith; room = omega arith; spans = spans_move t t.current x m (InSemaphore sem) p.0 k.spans };
+      ram = λ _ z. z;
     }
 
 -- A token of the console's is taken.
@@ -163,4 +176,4 @@ goes_on_console s c k =
 pub console_touches : (s u : Xinu) (c : Console) → u.tables ≡ s.tables → u.harts ≡ s.harts
     → u.parts ≡ record s.parts { devices = record s.parts.devices { console = c } } → Touches (reach on_console) s u
 console_touches s u c tables harts parts =
-    touches_parts s u tables harts (subst (λ p. KeepsParts on_console s.parts p) (sym parts) (parts_console refl s.parts c))
+    touches_parts s u tables harts (named refl) (subst (λ p. KeepsParts on_console s.parts p) (sym parts) (parts_console refl s.parts c))

@@ -1,5 +1,5 @@
 -- Items that are committed and bytes that are sent: their signals keep what holds of tables and console, and touch nothing else.
-use Rattle.std.proofs.Common.{◌≡◌, ℕ, zero, suc, ◌<◌, ◌==◌, true, false, ◌++◌, length, take, Option, Some, None, refl, sym, ap, subst, arith, pos}
+use Rattle.std.proofs.Common.{◌≡◌, ℕ, zero, suc, ◌<◌, ◌==◌, true, false, ◌++◌, List, length, take, Option, Some, None, refl, sym, ap, subst, ◌∙◌, arith, pos}
 use Rattle.std.proofs.lemmas.Bool.{cond_both}
 use Rattle.std.proofs.lemmas.List.{length-append}
 use Rattle.xinu_base.specs.declared.processes.Rest.{Rest}
@@ -36,13 +36,14 @@ use Rattle.table_laws.proofs.Tables.Unblock.{unblock_all_ready, sound_signalled_
 use Rattle.xinu_laws.proofs.Touches.{touches_trans}
 use Rattle.xinu_laws.proofs.Touches.Moves.{MayTouch, touches_signalled_times}
 
--- What holds inside an event after signals: they touch the console alone, and keep what holds of it.
+-- What holds inside an event after signals: they touch the console alone, keep what holds of it, and leave RAM as it is.
 pub record Signals (s : Xinu) (d : CallState) : Type 0 where
   pub tables : IsSoundTables d.state.tables
   pub harts : AreHarts d.state.harts
   pub released : AreAlive d.state.tables d.released
   pub touches : Touches (reach on_console) s d.state
   pub console : HasConsole s → HasConsole d.state
+  pub ram : d.state.memory ≡ s.memory
 
 -- who takes an item puts no byte, and the other way round
 input_no_output : (left : Rest) → asks_input left ≡ true → asks_output left ≡ false
@@ -85,6 +86,7 @@ signals_keep sem n c s k w console =
       released = alive_signalled_times sem n d o tt;
       touches = touches_trans (console_touches s (with_console c s) c refl refl refl) (touches_signalled_times sem n d o (may_touch s.tables sem o w));
       console = λ p. subst (IsConsole (signalled_times sem n d).state.tables) (sym (ap (λ (x : Xinu). console_of x) same)) (console p);
+      ram = ap (λ (x : Xinu). x.memory) same;
     }
 
 -- Items are committed.
@@ -135,6 +137,7 @@ echo_signals c s k itself same output = record {
   released = tt;
   touches = console_touches s (with_console c s) c refl refl refl;
   console = λ b. let items = b.items in let room = b.room in record { itself = itself b.itself; items = omega arith; room = omega arith; spans = b.spans };
+  ram = refl;
 }
 
 -- A byte is sent.
@@ -159,7 +162,7 @@ control_keeps None f s e k = refused_keeps s k
 control_keeps (Some m) f s e k =
     let g = controlled_goes f (console_of s) m e in
     let r = committed_signals m s k g.appends g.sound in
-    record { preserved = λ _. record { tables = r.tables; harts = r.harts; released = r.released }; touches = r.touches; console = r.console }
+    record { preserved = λ _. record { tables = r.tables; harts = r.harts; released = r.released }; touches = r.touches; console = r.console; ram = λ _ z. ap (λ (l : List ℕ). length l) r.ram ∙ z }
 
 pub console_control_keeps : (f : ℕ) (s : Xinu) → Holds s → KeepsConsole (HasConsole s) s (console_control f s)
 console_control_keeps f s k =

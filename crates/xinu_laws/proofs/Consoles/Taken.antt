@@ -1,5 +1,5 @@
 -- The calls that take items from the console keep what holds of it, and touch nothing else.
-use Rattle.std.proofs.Common.{◌≡◌, ℕ, zero, suc, ◌+◌, ◌-◌, ◌≤◌, true, List, [], ◌∷◌, length, refl, sym, ap, subst, arith, ℤ, pos, negsuc}
+use Rattle.std.proofs.Common.{◌≡◌, ℕ, zero, suc, ◌+◌, ◌-◌, ◌<◌, ◌≤◌, true, List, [], ◌∷◌, length, refl, sym, ap, subst, ◌∙◌, arith, ℤ, pos, negsuc}
 use Rattle.std.proofs.lemmas.Bool.{cond_both, leb-true}
 use Rattle.xinu_base.specs.Constants.{OK}
 use Rattle.xinu_base.specs.declared.console.Item.{Item}
@@ -9,6 +9,7 @@ use Rattle.xinu_base.specs.declared.processes.Span.{Span}
 use Rattle.xinu_laws.specs.Touches.{reach, Touches}
 use Rattle.xinu_model.specs.Console.Sound.{IsSoundConsole}
 use Rattle.xinu_model.specs.Console.Taking.{TY_ISEM, console_of, is_cooked, with_committed, char_of, take_char, take_next, console_getc, go_on_getc, span, stored, ends_line, count_at_end, read_item, read_next, reads, go_on_read, read_range, console_read}
+use Rattle.xinu_model.specs.Console.State.{byte_of}
 use Rattle.xinu_model.specs.Footprints.{on_console}
 use Rattle.xinu_model.specs.Machine.{Xinu, CallResult, refused, goes_on}
 use Rattle.xinu_model.specs.Memory.{ram_size, in_ram}
@@ -20,9 +21,10 @@ use Rattle.xinu_model.specs.Sound.Console.{promised, IsSpan, HasSpan}
 use Rattle.xinu_model.specs.Sound.Tables.{asks_input}
 use Rattle.xinu_model.specs.Tables.{process_at, semaphore_at}
 use Rattle.xinu_laws.proofs.Consoles.Framed.{input_asks}
-use Rattle.xinu_laws.proofs.Consoles.Kept.{Holds, HasConsole, KeepsConsole, keeps_after, answers_keeps, refused_keeps, silent_keeps, device_within, caller_within, blocked_keeps, token_holds, token_touches, token_console, goes_on_holds, goes_on_touches, goes_on_console, console_touches}
+use Rattle.xinu_laws.proofs.Consoles.Kept.{Holds, HasConsole, KeepsConsole, HasSize, keeps_after, keeps_under, answers_keeps, refused_keeps, silent_keeps, device_within, caller_within, blocked_keeps, token_holds, token_touches, token_console, goes_on_holds, goes_on_touches, goes_on_console, console_touches}
 use Rattle.xinu_laws.proofs.Consoles.Promised.{promised_token, promised_goes_on}
 use Rattle.part_laws.proofs.Consoles.Transmissions.{sound_taken}
+use Rattle.xinu_model.proofs.WholeRam.{length-with_bytes}
 
 -- An item isn't promised to anybody but the caller, who has its token.
 pub record HasItem (s : Xinu) : Type 0 where
@@ -38,14 +40,13 @@ await_item Fact left then_ s c asked range go = by_tokens (semaphore_at s.tables
     by_tokens : (tokens : ℕ) → tokens ≡ (semaphore_at s.tables 0).tokens
         → KeepsConsole (Fact × HasConsole s) s (take_token tokens 0 left then_ s)
     by_tokens zero e =
-        let b = blocked_keeps 0 left s c (omega arith) (sym e) asked (input_asks left asked) in
-        record { preserved = b.preserved; touches = b.touches; console = λ p. b.console (range p.0, p.1) }
+        keeps_under s _ (λ p. (range p.0, p.1)) (blocked_keeps 0 left s c (omega arith) (sym e) asked (input_asks left asked))
     by_tokens (suc n) e =
         let u = record s { tables = with_tokens 0 n s.tables } in
         let f = promised_token asks_input s.tables 0 n (device_within s.tables 0 c.tables.inside (omega arith)) (sym e) in
         keeps_after s u (then_ u)
         (λ p. (p.0, record { console = token_console 0 n s c (omega arith) (sym e) p.1; item = (let items = p.1.items in omega arith) }))
-        refl (token_touches 0 n s c (omega arith)) (go u (token_holds 0 n s c (omega arith) (sym e)))
+        refl (token_touches 0 n s c (omega arith)) (λ _ z. z) (go u (token_holds 0 n s c (omega arith) (sym e)))
 
 -- A caller that was released has its token.
 goes_on_item : (s : Xinu) → Holds s → asks_input (process_at s.tables s.tables.current).rest ≡ true → HasConsole s
@@ -82,34 +83,34 @@ taken_console x items s memory e h =
 -- a character is taken
 take_char_keeps : (items : List Item) (s : Xinu) → (console_of s).committed ≡ items → Holds s
     → KeepsConsole (HasItem s) s (take_char items s)
-take_char_keeps [] s e c = let k = silent_keeps s c in record { preserved = k.preserved; touches = k.touches; console = λ h. no_item s e h }
+take_char_keeps [] s e c = keeps_under s _ (λ h. no_item s e h) (silent_keeps s c)
 take_char_keeps (x ∷ items) s e c =
     let u = with_committed items s in
     keeps_after s u (answers (char_of (console_of s).mode x) u) (taken_console x items s s.memory e) refl (taken_touches items s s.memory)
-    (answers_keeps (char_of (console_of s).mode x) u (record { tables = c.tables; harts = c.harts }))
+    (λ _ z. z) (answers_keeps (char_of (console_of s).mode x) u (record { tables = c.tables; harts = c.harts }))
 
 -- `getc`,
 pub getc_keeps : (s : Xinu) → Holds s → KeepsConsole (HasConsole s) s (console_getc s)
 getc_keeps s c =
-    let k = await_item (Unit {0}) TtyGet take_next s c refl (λ _. tt)
-    (λ u d. let m = take_char_keeps (console_of u).committed u refl d in record { preserved = m.preserved; touches = m.touches; console = λ p. m.console p.1 }) in
-    record { preserved = k.preserved; touches = k.touches; console = λ p. k.console (tt, p) }
+    keeps_under s _ (λ p. (tt, p))
+    (await_item (Unit {0}) TtyGet take_next s c refl (λ _. tt)
+    (λ u d. keeps_under u _ (λ p. p.1) (take_char_keeps (console_of u).committed u refl d)))
 
 -- which goes on.
 pub go_on_getc_keeps : (s : Xinu) → Holds s
     → KeepsConsole (((process_at s.tables s.tables.current).rest ≡ TtyGet) × HasConsole s) s (go_on_getc s)
 go_on_getc_keeps s c =
     let u = goes_on (held s) s in
-    keeps_after s u (take_next u) (λ p. goes_on_item s c (ap asks_input p.0) p.1) refl (goes_on_touches s c)
+    keeps_after s u (take_next u) (λ p. goes_on_item s c (ap asks_input p.0) p.1) refl (goes_on_touches s c) (λ _ z. z)
     (take_char_keeps (console_of u).committed u refl (goes_on_holds s c))
 
--- an item is taken and stored, and the rest of the read is done
+-- an item is taken and stored in RAM, and the rest of the read is done
 read_item_keeps : (Fact : Type 0) (items : List Item) (at done : ℕ) (then_ : Xinu → CallResult) (s : Xinu)
-    → (console_of s).committed ≡ items → Holds s → ((u : Xinu) → Holds u → KeepsConsole (Fact × HasConsole u) u (then_ u))
+    → (console_of s).committed ≡ items → Holds s → (Fact → at + done < ram_size)
+    → ((u : Xinu) → Holds u → KeepsConsole (Fact × HasConsole u) u (then_ u))
     → KeepsConsole (Fact × HasItem s) s (read_item items at done then_ s)
-read_item_keeps Fact [] at done then_ s e c go =
-    let k = silent_keeps s c in record { preserved = k.preserved; touches = k.touches; console = λ p. no_item s e p.1 }
-read_item_keeps Fact (x ∷ items) at done then_ s e c go =
+read_item_keeps Fact [] at done then_ s e c within go = keeps_under s _ (λ p. no_item s e p.1) (silent_keeps s c)
+read_item_keeps Fact (x ∷ items) at done then_ s e c within go =
     let mode = (console_of s).mode in
     let u = with_committed items s in
     let v = stored x at done u in
@@ -119,20 +120,22 @@ read_item_keeps Fact (x ∷ items) at done then_ s e c go =
     let kv : Fact × HasItem s → HasConsole v = λ p. taken_console x items s v.memory e p.1 in
     let tu : Touches (reach on_console) s u = taken_touches items s s.memory in
     let tv : Touches (reach on_console) s v = taken_touches items s v.memory in
+    let size : Fact × HasItem s → HasSize s → HasSize v = λ p z. (let w = within p.0 in
+    length-with_bytes s.memory (at + done) 1 (byte_of x ∷ []) refl (omega (arith, w, z)) ∙ z) in
     cond_both _ _ _ (KeepsConsole (Fact × HasItem s) s)
-    (λ _. keeps_after s u (answers (count_at_end done) u) ku refl tu (answers_keeps (count_at_end done) u cu))
+    (λ _. keeps_after s u (answers (count_at_end done) u) ku refl tu (λ _ z. z) (answers_keeps (count_at_end done) u cu))
     (λ _. cond_both (ends_line mode x) (answers (pos (suc done)) v) (then_ v) (KeepsConsole (Fact × HasItem s) s)
-    (λ _. keeps_after s v (answers (pos (suc done)) v) kv refl tv (answers_keeps (pos (suc done)) v cv))
-    (λ _. keeps_after s v (then_ v) (λ p. (p.0, kv p)) refl tv (go v cv)))
+    (λ _. keeps_after s v (answers (pos (suc done)) v) kv refl tv size (answers_keeps (pos (suc done)) v cv))
+    (λ _. keeps_after s v (then_ v) (λ p. (p.0, kv p)) refl tv size (go v cv)))
 
 -- this many bytes more are read
 reads_keeps : (left at done : ℕ) (s : Xinu) → Holds s
     → KeepsConsole ((at + (done + left) ≤ ram_size) × HasConsole s) s (reads left at done s)
-reads_keeps zero at done s c = let k = answers_keeps (pos done) s c in record { preserved = k.preserved; touches = k.touches; console = λ p. k.console p.1 }
+reads_keeps zero at done s c = keeps_under s _ (λ p. p.1) (answers_keeps (pos done) s c)
 reads_keeps (suc left) at done s c =
     await_item (at + (done + suc left) ≤ ram_size) (TtyRead (span at done (done + suc left))) (read_next at done (reads left at (suc done))) s c refl (λ w. record { left = omega arith; within = w })
     (λ u d. read_item_keeps (at + (done + suc left) ≤ ram_size) (console_of u).committed at done (reads left at (suc done)) u refl d
-    (λ v m. let k = reads_keeps left at (suc done) v m in record { preserved = k.preserved; touches = k.touches; console = λ p. k.console (let w = p.0 in omega arith, p.1) }))
+    (λ w. omega (arith, w)) (λ v m. keeps_under v _ (λ p. (let w = p.0 in omega arith, p.1)) (reads_keeps left at (suc done) v m)))
 
 -- A read goes on.
 pub go_on_read_keeps : (part : Span) (s : Xinu) → Holds s
@@ -141,17 +144,17 @@ go_on_read_keeps part s c =
     let u = goes_on (held s) s in
     let then_ = reads (part.want - suc part.done) part.at (suc part.done) in
     keeps_after s u (read_next part.at part.done then_ u)
-    (λ p. (subst HasSpan p.0 (p.1.spans s.tables.current), goes_on_item s c (ap asks_input p.0) p.1)) refl (goes_on_touches s c)
+    (λ p. (subst HasSpan p.0 (p.1.spans s.tables.current), goes_on_item s c (ap asks_input p.0) p.1)) refl (goes_on_touches s c) (λ _ z. z)
     (read_item_keeps (IsSpan part) (console_of u).committed part.at part.done then_ u refl (goes_on_holds s c)
-    (λ v d. let k = reads_keeps (part.want - suc part.done) part.at (suc part.done) v d in
-    record { preserved = k.preserved; touches = k.touches; console = λ p. k.console (let left = p.0.left in let within = p.0.within in omega arith, p.1) }))
+    (λ w. let left = w.left in let within = w.within in omega arith)
+    (λ v d. keeps_under v _ (λ p. (let left = p.0.left in let within = p.0.within in omega arith, p.1))
+    (reads_keeps (part.want - suc part.done) part.at (suc part.done) v d)))
 
 -- a read to a range
 read_range_keeps : (at n : ℕ) (s : Xinu) → Holds s → KeepsConsole (HasConsole s) s (read_range at n s)
 read_range_keeps at n s c =
     cond_both (in_ram at n) (reads n at 0 s) (refused s) (KeepsConsole (HasConsole s) s)
-    (λ b. let f = leb-true (at + n) ram_size b in let k = reads_keeps n at 0 s c in
-    record { preserved = k.preserved; touches = k.touches; console = λ p. k.console (omega arith, p) })
+    (λ b. let f = leb-true (at + n) ram_size b in keeps_under s _ (λ p. (omega arith, p)) (reads_keeps n at 0 s c))
     (λ _. refused_keeps s c)
 
 -- `read`.

@@ -1,5 +1,5 @@
 -- A call on a device keeps what the call on its kind keeps.
-use Rattle.std.proofs.Common.{◌≡◌, ◌≢◌, ℕ, ◌==◌, Bool, true, false, cond, List, length, Option, Some, None, refl, ℤ, pos}
+use Rattle.std.proofs.Common.{◌≡◌, ◌≢◌, ℕ, ◌==◌, Bool, true, false, cond, List, length, Option, Some, None, refl, ap, ◌∙◌, ℤ, pos}
 use Rattle.std.proofs.lemmas.Bool.{cond_both}
 use Rattle.xinu_base.specs.Constants.{OK}
 use Rattle.xinu_base.specs.declared.devices.Kind.{Kind}
@@ -33,7 +33,7 @@ use Rattle.xinu_laws.proofs.RawDisks.Kept.{KeepsDisks, disk_read_keeps, disk_wri
 use Rattle.xinu_laws.proofs.RawDisks.Moves.{HasDisks}
 use Rattle.xinu_laws.proofs.FileSyscalls.Asked.{IsAsked, open_asked, control_asked, file_control_asked, read_asked, write_asked, asks_touches, asks_keeps}
 use Rattle.xinu_laws.proofs.Touches.Kept.{keeps_console, keeps_disks, touches_below}
-use Rattle.xinu_laws.proofs.Consoles.Kept.{Holds, HasConsole, KeepsConsole, sound_holds, answers_keeps, refused_keeps}
+use Rattle.xinu_laws.proofs.Consoles.Kept.{Holds, HasConsole, HasSize, KeepsConsole, sound_holds, answers_keeps, refused_keeps}
 use Rattle.xinu_laws.proofs.Consoles.Put.{putc_keeps, write_keeps}
 use Rattle.xinu_laws.proofs.Consoles.Signalled.{console_control_keeps}
 use Rattle.xinu_laws.proofs.Consoles.Taken.{getc_keeps, read_keeps}
@@ -161,28 +161,32 @@ device_control_holds P dev f x s none console disk files = on_device_holds P op.
     each kind.FileSystem = files (named_control f (text_at x s.memory)) 0 (control_asked f (text_at x s.memory))
     each kind.File = files (file_control_call (file_number dev) f) 0 (file_control_asked (file_number dev) f)
 
--- What a call on a device keeps: it touches the console, the raw disk and files alone, and keeps what holds of them.
+-- What a call on a device keeps: it touches the console, the raw disk, files and RAM alone, keeps what holds of the devices, and leaves RAM its
+-- size.
 pub record KeepsDevice (s : Xinu) (h : CallResult) : Type 0 where
   pub preserved : HasDisks s → s.tables.current ≢ 0 → IsPreserved h
   pub touches : Touches (reach on_devices) s h.call.state
   pub console : IsInside h.call.state.tables → HasConsole s → HasConsole h.call.state
   pub disks : IsInside s.tables → IsInside h.call.state.tables → HasDisks s → HasDisks h.call.state
+  pub ram : HasConsole s → HasSize s → HasSize h.call.state
 
 -- a call on the console is such a call, and so is one on a disk
 of_console : (s : Xinu) (h : CallResult) → KeepsConsole (HasConsole s) s h → KeepsDevice s h
 of_console s h k = record {
   preserved = λ _ n. k.preserved n;
-  touches = touches_below (record { heap = λ e. e; stacks = λ e. e; ranges = λ e. e; pools = λ e. e; ports = λ e. e; console = λ e. e; names = λ e. e; disk = λ e. refl; files = λ e. refl }) k.touches;
+  touches = touches_below (record { heap = λ e. e; stacks = λ e. e; ranges = λ e. e; pools = λ e. e; ports = λ e. e; console = λ e. e; names = λ e. e; disk = λ e. refl; files = λ e. refl; ram = λ e. e }) k.touches;
   console = λ _ c. k.console c;
   disks = λ was o d. keeps_disks refl refl k.touches was o d;
+  ram = k.ram;
 }
 
 of_disk : (s : Xinu) (h : CallResult) → KeepsDisks on_disk s h → KeepsDevice s h
 of_disk s h k = record {
   preserved = k.preserved;
-  touches = touches_below (record { heap = λ e. e; stacks = λ e. e; ranges = λ e. e; pools = λ e. e; ports = λ e. e; console = λ e. refl; names = λ e. e; disk = λ e. e; files = λ e. refl }) k.touches;
+  touches = touches_below (record { heap = λ e. e; stacks = λ e. e; ranges = λ e. e; pools = λ e. e; ports = λ e. e; console = λ e. refl; names = λ e. e; disk = λ e. e; files = λ e. refl; ram = λ e. refl }) k.touches;
   console = λ o c. keeps_console refl k.touches o c;
   disks = λ _ _ d. k.disks d;
+  ram = λ _ z. ap (λ (l : List ℕ). length l) (k.touches.ram refl) ∙ z;
 }
 
 of_files : (s : Xinu) → Holds s → OfFiles (KeepsDevice s) s
@@ -190,9 +194,10 @@ of_files s c found at asked =
     let k = asks_keeps found at s c asked in
     record {
       preserved = k.preserved;
-      touches = touches_below (record { heap = λ e. e; stacks = λ e. e; ranges = λ e. e; pools = λ e. e; ports = λ e. e; console = λ e. refl; names = λ e. e; disk = λ e. refl; files = λ e. e }) k.touches;
+      touches = touches_below (record { heap = λ e. e; stacks = λ e. e; ranges = λ e. e; pools = λ e. e; ports = λ e. e; console = λ e. refl; names = λ e. e; disk = λ e. refl; files = λ e. e; ram = λ e. refl }) k.touches;
       console = λ o h. keeps_console refl k.touches o h;
       disks = λ _ _ d. k.disks d;
+      ram = λ _ z. ap (λ (l : List ℕ). length l) (k.touches.ram refl) ∙ z;
     }
 
 -- a call that keeps what holds of all
@@ -260,7 +265,7 @@ device_seek_touches dev n s k = device_seek_holds (Within on_files s) dev n s (t
 wider : {s u : Xinu} → Touches (reach on_console) s u → Touches (reach on_console_or_files) s u
 wider t =
     touches_below
-    (record { heap = λ e. e; stacks = λ e. e; ranges = λ e. e; pools = λ e. e; ports = λ e. e; console = λ e. e; names = λ e. e; disk = λ e. e; files = λ e. refl }) t
+    (record { heap = λ e. e; stacks = λ e. e; ranges = λ e. e; pools = λ e. e; ports = λ e. e; console = λ e. e; names = λ e. e; disk = λ e. e; files = λ e. refl; ram = λ e. e }) t
 
 pub device_getc_touches : (dev : ℕ) → StaysIn on_console_or_files (device_getc dev)
 device_getc_touches dev s k =

@@ -72,11 +72,11 @@ write_asked d at (negsuc n) = tt
 write_asked d at (pos n) =
     cond_both (in_ram at n) (Some (Write d n)) None (λ c. IsAsked c at) (λ e. record { call_of = tt; range = leb-true (at + n) ram_size e }) (λ _. tt)
 
--- other files, and any memory
+-- other files, and other bytes in RAM if the footprint allows it
 pub files_touches : {f : Footprint} → f.files ≡ true → (s u : Xinu) (w : FileWork) → u.tables ≡ s.tables → u.harts ≡ s.harts
-    → u.parts ≡ record s.parts { devices = record s.parts.devices { files = w } } → Touches (reach f) s u
-files_touches {f} may s u w tables harts parts =
-    touches_parts s u tables harts (subst (λ p. KeepsParts f s.parts p) (sym parts) (parts_files may s.parts w))
+    → (f.ram ≡ false → u.memory ≡ s.memory) → u.parts ≡ record s.parts { devices = record s.parts.devices { files = w } } → Touches (reach f) s u
+files_touches {f} may s u w tables harts ram parts =
+    touches_parts s u tables harts ram (subst (λ p. KeepsParts f s.parts p) (sym parts) (parts_files may s.parts w))
 
 -- a caller waits, whatever the files are
 awaits_touches : {f : Footprint} → f.files ≡ true → (call : FileCall) (at : ℕ) (s : Xinu) → Holds s
@@ -85,7 +85,7 @@ awaits_touches {f} may call at s c =
     let t = s.tables in
     let w = enqueued (request_for call at s) s.memory (files_of s) in
     let u = with_files w s in
-    touches_trans (files_touches may s u w refl refl refl)
+    touches_trans (files_touches may s u w refl refl (λ _. refl) refl)
     (touches_blocked Waiting (Disk None) (InSemaphore 3) u c.tables.runs
     (ap ((reach f).mine 3) (c.tables.inside.devices 3 (omega arith)) ∙ ap not may)
     (and_right (not f.disk) (not f.files) (ap not may)) refl)

@@ -12,7 +12,7 @@ use Rattle.xinu_model.specs.Files.Work.{FileRequest, most_at_issue, callers_wait
 use Rattle.xinu_model.specs.Machine.{Xinu, EventResult, nothing_happens, end_of_event}
 use Rattle.xinu_model.specs.RawDisk.Callers.{is_caller}
 use Rattle.xinu_model.specs.Tables.{process_at}
-use Rattle.part_laws.proofs.FileWork.Sound.{works_issued}
+use Rattle.part_laws.proofs.FileWork.Sound.{sound_issued}
 
 -- What is known of a call that p made as the first.
 pub record MadeFirst (p : ℕ) (before after : List FileRequest) (a : FileRequest) : Type 0 where
@@ -65,6 +65,7 @@ pub at_once_keeps : (a : FileRequest) (s : Xinu) → MayCallAny s → (files_of 
 at_once_keeps a s c none caller is =
     let files = c.devices.files in
     let first : 1 ≤ most_at_issue (files_of s).calls = subst (λ l. 1 ≤ most_at_issue l) (sym none) (omega arith) in
+    let after = sound_issued 1 a s.memory (files_of s) first caller is c.ram.bytes files.itself in
     record {
       preserved = record { tables = c.may.tables; harts = c.may.harts; released = tt };
       unused = c.unused;
@@ -75,11 +76,12 @@ at_once_keeps a s c none caller is =
         names = c.devices.names;
         disk = c.devices.disk;
         files = record {
-          itself = works_issued 1 a s.memory (files_of s) first caller is files.itself;
+          itself = after.work;
           waiters = files.waiters ∙ ap callers_waiting none;
           tokens = files.tokens;
         };
       };
+      ram = record { bytes = after.memory; heap = c.ram.heap };
     }
 
 -- A call that the next step makes can be carried out, if that leaves sound files.

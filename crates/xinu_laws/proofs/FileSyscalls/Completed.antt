@@ -1,25 +1,26 @@
 -- A good completion of the files' disk keeps what holds of files and of those who wait for them, and touches nothing else.
-use Rattle.std.proofs.Common.{◌≡◌, ℕ, zero, suc, ◌≤◌, List, [], ◌∷◌, ◌++◌, map, take, drop, Option, Some, None, refl, sym, ap, subst, ◌∙◌, arith, append_assoc, ℤ}
+use Rattle.std.proofs.Common.{◌≡◌, ℕ, zero, suc, ◌≤◌, List, [], ◌∷◌, ◌++◌, length, map, take, drop, Option, Some, None, refl, sym, ap, subst, ◌∙◌, arith, append_assoc, ℤ}
 use Rattle.part_laws.specs.FileWork.{caller_first, callers_told}
 use Rattle.table_laws.specs.Preserve.{AreAlive}
 use Rattle.xinu_laws.specs.Touches.{reach, Touches}
 use Rattle.xinu_model.specs.Files.Syscalls.{files_of, file_step, with_step, told, all_told, after_step}
 use Rattle.xinu_model.specs.Files.Work.{FileRequest, FileNote, FileStep, calls_completed, least_effects, callers_waiting}
-use Rattle.xinu_model.specs.Footprints.{on_files}
+use Rattle.xinu_model.specs.Footprints.{on_effects, on_files}
 use Rattle.xinu_model.specs.Machine.{Xinu, Parts, CallState, start}
 use Rattle.xinu_model.specs.RawDisk.Callers.{living, callers}
 use Rattle.xinu_model.specs.RawDisk.Calls.{keep_reply}
 use Rattle.xinu_model.specs.Sound.State.{AreHarts}
 use Rattle.xinu_model.specs.Sound.Tables.{IsSoundTables}
 use Rattle.xinu_model.specs.Tables.{semaphore_at}
-use Rattle.xinu_laws.proofs.Consoles.Kept.{Holds}
+use Rattle.xinu_laws.proofs.Consoles.Kept.{Holds, HasSize}
 use Rattle.xinu_laws.proofs.FileSyscalls.Asked.{files_touches}
 use Rattle.part_laws.proofs.FileWork.Order.{calls_left, calls_told}
-use Rattle.part_laws.proofs.FileWork.Sound.{works_completed}
+use Rattle.part_laws.proofs.FileWork.Sound.{sound_completed, works_completed}
 use Rattle.xinu_laws.proofs.RawDisks.Framed.{AreDisks}
 use Rattle.xinu_laws.proofs.RawDisks.Moves.{HasDisks, HaveReplies, first_replied, replied_touches}
 use Rattle.table_laws.proofs.Tables.Harts.{harts_same}
-use Rattle.xinu_laws.proofs.Touches.{touches_refl, touches_trans}
+use Rattle.xinu_laws.proofs.Touches.{named, touches_refl, touches_trans}
+use Rattle.xinu_laws.proofs.Touches.Kept.{touches_below}
 
 -- the living callers of the calls that took effect
 abbrev pub told_living : List FileNote → List ℕ
@@ -102,13 +103,14 @@ told_and_left k x none =
     (calls_left k x)
     ∙ split_callers k x.work.calls)
 
--- What holds inside an event after a completion: it touches files alone, and keeps what holds of both disks.
+-- What holds inside an event after a completion: it touches files and RAM alone, keeps what holds of both disks, and leaves RAM its size.
 pub record FilesComplete (s : Xinu) (d : CallState) : Type 0 where
   pub tables : IsSoundTables d.state.tables
   pub harts : AreHarts d.state.harts
   pub released : AreAlive d.state.tables d.released
-  pub touches : Touches (reach on_files) s d.state
+  pub touches : Touches (reach on_effects) s d.state
   pub disks : HasDisks d.state
+  pub ram : HasSize s → HasSize d.state
 
 -- So many calls take effect, as have to.
 pub step_completes : (k : ℕ) (s : Xinu) → least_effects (files_of s).calls (files_of s) ≤ k → Holds s → HasDisks s
@@ -122,7 +124,9 @@ step_completes k s may c h =
       tables = t.tables;
       harts = harts_same s.harts after.state.harts t.harts c.harts;
       released = subst (AreAlive after.state.tables) (sym t.released) tt;
-      touches = touches_trans (files_touches refl s u x.work refl refl refl) t.touches;
+      touches = touches_trans (files_touches refl s u x.work refl refl (named refl) refl)
+          (touches_below (record { heap = λ e. e; stacks = λ e. e; ranges = λ e. e; pools = λ e. e; ports = λ e. e; console = λ e. e; names = λ e. e; disk = λ e. e; files = λ e. e; ram = λ e. refl }) t.touches);
+      ram = λ z. ap (λ (l : List ℕ). length l) (t.touches.ram refl) ∙ (sound_completed k (file_step s) may (record { work = h.files.itself; memory = z })).memory;
       disks = subst (λ (p : Parts). AreDisks after.state.tables p.devices) (sym t.parts) (record {
         raw = record {
           itself = h.raw.itself;

@@ -52,7 +52,7 @@ mount_touches prefix replacement dev s k =
   where
     by_found : (found : Option (List NameRow)) → Touches (reach on_names) s (mount_rows found s).call.state
     by_found None = touches_refl s
-    by_found (Some rows) = touches_parts s (with_names rows s) refl refl (parts_names refl s.parts rows)
+    by_found (Some rows) = touches_parts s (with_names rows s) refl refl (λ _. refl) (parts_names refl s.parts rows)
 
 pub mount_preserves : (prefix replacement dev : ℕ) → Preserves (mount prefix replacement dev)
 mount_preserves prefix replacement dev s c =

@@ -24,7 +24,7 @@ promised i s t = (semaphore_at t s).tokens + times (is_released_to_pool i) t.pro
 pub pool_kept : (t u : Tables) (i : ℕ) (pool : BufferPool) → IsSoundPool t i pool
     → (semaphore_at u pool.semaphore).owner ≡ (semaphore_at t pool.semaphore).owner
     → promised i pool.semaphore u ≤ promised i pool.semaphore t → IsSoundPool u i pool
-pool_kept t u i pool k e h = record { owner = e ∙ k.owner; buffers = k.buffers; distinct = k.distinct; number = k.number; enough = (let f = k.enough in omega arith) }
+pool_kept t u i pool k e h = record { owner = e ∙ k.owner; within = k.within; buffers = k.buffers; distinct = k.distinct; number = k.number; enough = (let f = k.enough in omega arith) }
 
 -- one in front can only add
 count_in_front : (x a : ℕ) (l : List ℕ) → count_in x l ≤ count_in x (a ∷ l)
@@ -40,6 +40,7 @@ pool_taken t u i pool a free k e o h =
     let len : length pool.free ≡ suc (length free) = ap length e in
     record {
       owner = o ∙ k.owner;
+      within = k.within;
       buffers = all.1;
       distinct = λ x. (let f = count_in_front x a free in let g : count_in x (a ∷ free) ≤ 1 = subst (λ l. count_in x l ≤ 1) e (k.distinct x) in omega arith);
       number = (let f = held_taken a pool free e all.0 (k.distinct a) in let g = k.number in omega arith);
@@ -59,6 +60,7 @@ pool_put_back t u i pool a k held o h =
     let parts = and_parts (is_in a (buffers pool)) (not (is_in a pool.free)) held in
     record {
       owner = o ∙ k.owner;
+      within = k.within;
       buffers = (parts.0, k.buffers);
       distinct = λ x. distinct_with x a pool.free (is_out_uncounted a pool.free (not-true (is_in a pool.free) parts.1)) (k.distinct x);
       number = (let f = held_put_back a pool held in let g = k.number in omega arith);

@@ -62,6 +62,7 @@ sound_pool_framed mine asks t u i pool c m a k =
     let kept = c.kept pool.semaphore (ap (mine pool.semaphore) k.owner ∙ m pool.semaphore) in
     record {
       owner = kept.0 ∙ k.owner;
+      within = k.within;
       buffers = k.buffers;
       distinct = k.distinct;
       number = k.number;

@@ -1,5 +1,5 @@
 -- A pool that is made keeps what holds of the pools.
-use Rattle.std.proofs.Common.{◌≡◌, ℕ, suc, ◌+◌, ◌<◌, ◌≤◌, Bool, false, not, ◌&&◌, List, [], ◌∷◌, ◌++◌, length, Option, None, Some, get_or, refl, sym, ap, subst, ◌∙◌, ⊎_elim, arith, length-append, get_or-set_same, get_or-set_other}
+use Rattle.std.proofs.Common.{◌≡◌, ℕ, suc, ◌+◌, ◌*◌, ◌<◌, ◌≤◌, Bool, false, not, ◌&&◌, List, [], ◌∷◌, ◌++◌, length, Option, None, Some, get_or, refl, sym, ap, subst, ◌∙◌, ⊎_elim, arith, length-append, get_or-set_same, get_or-set_other}
 use Rattle.std.specs.Prelude.{is_some, nat_lt}
 use Rattle.std.proofs.Math.Bool.{and_comm}
 use Rattle.std.proofs.Math.ListN.{get_or-append}
@@ -7,18 +7,20 @@ use Rattle.std.proofs.Math.Seq.{get_or-append_seam}
 use Rattle.std.proofs.lemmas.Bool.{and_parts, both_ways, cases_lt, cond_both, eq-eqb, false_from_ne_true, ltb-true, ne_eqb}
 use Rattle.std.proofs.lemmas.List.Folds.{list_any_at}
 use Rattle.xinu_base.specs.declared.semaphores.Owner.TheVariants as owner
-use Rattle.xinu_model.specs.Heap.Cells.{Grant, take_memory}
+use Rattle.xinu_model.specs.Heap.Cells.{Heap, Grant, take_memory}
 use Rattle.xinu_model.specs.Machine.{Xinu, CallResult, refused}
-use Rattle.xinu_model.specs.Memory.{ranges_meet}
+use Rattle.xinu_model.specs.Memory.{ram_size, ranges_meet}
 use Rattle.xinu_model.specs.Pools.Calls.{with_pool, made_pool, is_pool_size, mkbufpool}
 use Rattle.xinu_model.specs.Pools.Buffers.{BufferPool, no_pool, most_pools, pool_at, pool_bytes, whole_words, new_pool, meets_pool}
 use Rattle.xinu_model.specs.Semaphores.Counts.{free_semaphore, make_semaphore}
 use Rattle.xinu_model.specs.Sound.Tables.{times, IsInside}
 use Rattle.xinu_model.specs.Sound.Pools.{is_waiting, asks_pool, is_released_to_pool, IsSoundPool, ArePools}
+use Rattle.xinu_model.specs.Sound.State.{IsWhole}
 use Rattle.xinu_model.specs.Tables.{no_process, Semaphore, no_semaphore, Tables, process_at, semaphore_at}
 use Rattle.table_laws.proofs.Frame.Semaphores.{frame_make_semaphore}
 use Rattle.table_laws.proofs.Tables.Found.{free_semaphore_free}
 use Rattle.table_laws.proofs.Buffers.{length-addresses, buffers_distinct, new_pool_buffers, new_pool_number}
+use Rattle.part_laws.proofs.HeapCells.Taken.{getmem_grants, room_in_cells}
 use Rattle.xinu_laws.proofs.Pools.Calls.{HavePools}
 use Rattle.xinu_laws.proofs.Pools.Frame.{is_pool, asks_pool_of, sound_pool_framed}
 use Rattle.table_laws.proofs.Tables.MoveTo.{by_number}
@@ -75,23 +77,24 @@ module _ (t : Tables) (pools : List BufferPool) (pool : BufferPool) where
 
 -- what holds of the new pool
 new_pool_sound : (t : Tables) (pools : List BufferPool) (sem base size n : ℕ) → ArePools t pools → sem < length t.semaphores
-    → IsSoundPool (make_semaphore sem (owner.Pool (length pools)) n t) (length pools) (new_pool base size n sem)
-new_pool_sound t pools sem base size n k h =
+    → base + pool_bytes size n ≤ ram_size → IsSoundPool (make_semaphore sem (owner.Pool (length pools)) n t) (length pools) (new_pool base size n sem)
+new_pool_sound t pools sem base size n k h within =
     let x : Semaphore = record { owner = Some (owner.Pool (length pools)); tokens = n; waiters = [] } in
     let e : semaphore_at (make_semaphore sem (owner.Pool (length pools)) n t) sem ≡ x = get_or-set_same t.semaphores sem x no_semaphore h in
     record {
       owner = ap (λ (y : Semaphore). y.owner) e;
+      within = within;
       buffers = new_pool_buffers base size n sem;
       distinct = λ a. buffers_distinct a (new_pool base size n sem);
       number = new_pool_number base size n sem;
       enough = (let f = ap (λ (y : Semaphore). y.tokens) e in let g = none_released t pools (length pools) k (omega arith) in let l = length-addresses (base + 4) (size + 4) n in omega arith);
     }
 
--- A pool is made, whose semaphore was free and whose memory meets no other pool.
+-- A pool is made, whose semaphore was free and whose memory is in RAM and meets no other pool.
 pub are_pools_made : (t : Tables) (pools : List BufferPool) (sem base size n : ℕ) → ArePools t pools → length pools < most_pools
-    → sem < length t.semaphores → (semaphore_at t sem).owner ≡ None → meets_pool base (pool_bytes size n) pools ≡ false
+    → base + pool_bytes size n ≤ ram_size → sem < length t.semaphores → (semaphore_at t sem).owner ≡ None → meets_pool base (pool_bytes size n) pools ≡ false
     → ArePools (make_semaphore sem (owner.Pool (length pools)) n t) (pools ++ new_pool base size n sem ∷ [])
-are_pools_made t pools sem base size n k few h free apart =
+are_pools_made t pools sem base size n k few within_ram h free apart =
     let i = length pools in
     let pool = new_pool base size n sem in
     let u = make_semaphore sem (owner.Pool i) n t in
@@ -104,7 +107,7 @@ are_pools_made t pools sem base size n k few h free apart =
           (λ j l. sound_pool_framed (is_pool j) (asks_pool j) t u j (pool_at pools j)
           (frame_make_semaphore t sem (owner.Pool i) n (ap (is_pool j sem) free) (ne_eqb i j (λ e. absurd (omega arith))))
           (λ sem. eq-eqb j j refl) (eq-eqb j j refl) (k.each j l))
-          (new_pool_sound t pools sem base size n k h);
+          (new_pool_sound t pools sem base size n k h within_ram);
       owned = λ r j. by_number r sem (λ s. (semaphore_at u s).owner ≡ Some (owner.Pool j) → (j < length all) × ((pool_at all j).semaphore ≡ s))
           (λ e. let f : i ≡ j = (let g : (semaphore_at u sem).owner ≡ Some
           (owner.Pool i) = ap (λ (y : Semaphore). y.owner) (get_or-set_same t.semaphores sem x no_semaphore h) in cc) in
@@ -120,26 +123,38 @@ are_pools_made t pools sem base size n k few h free apart =
           (λ ah. subst (λ (y : BufferPool). ranges_meet y.base (pool_bytes y.size y.number) base (pool_bytes size n) ≡ false) (sym (old_at t pools pool a ah)) (meets_none base (pool_bytes size n) pools a apart ah)) b within l;
     }
 
+-- what is granted of a heap that is in RAM is in RAM
+grant_within : (n : ℕ) (h : Heap) (grant : Grant) → take_memory n h ≡ Some grant → h.low + 8 * length h.cells ≤ ram_size
+    → grant.address + n ≤ ram_size
+grant_within n h grant e within =
+    let g = getmem_grants n h grant e in
+    let at = g.address in
+    let there = g.taken.before.within in
+    let room = room_in_cells n in
+    omega (arith, at, there, room, within)
+
 -- a pool is made, if memory and a semaphore are found
-pools_made_pool : (found : Option Grant) (sem : Option ℕ) (size n : ℕ) (s : Xinu) → free_semaphore s.tables ≡ sem → IsInside s.tables
+pools_made_pool : (found : Option Grant) (sem : Option ℕ) (size n : ℕ) (s : Xinu) → free_semaphore s.tables ≡ sem
+    → take_memory (pool_bytes size n) s.parts.heap ≡ found → IsWhole s.memory s.parts.heap → IsInside s.tables
     → HavePools s → length s.parts.pools < most_pools → HavePools (made_pool found sem size n s).call.state
-pools_made_pool (Some grant) (Some sem) size n s e o k few =
+pools_made_pool (Some grant) (Some sem) size n s e g w o k few =
     cond_both (meets_pool grant.address (pool_bytes size n) s.parts.pools) (refused s) (with_pool grant sem size n s)
     (λ (h : CallResult). HavePools h.call.state) (λ _. k)
-    (λ b. are_pools_made s.tables s.parts.pools sem grant.address size n k few
+    (λ b. are_pools_made s.tables s.parts.pools sem grant.address size n k few (grant_within (pool_bytes size n) s.parts.heap grant g w.heap)
     (let h = search_within (λ r. not (is_some (semaphore_at s.tables r).owner)) 128
     (s.tables.last_semaphore + 1) sem e in let f = o.semaphores in omega arith) (free_semaphore_free s.tables sem e) b)
-pools_made_pool (Some grant) None size n s e o k few = k
-pools_made_pool None sem size n s e o k few = k
+pools_made_pool (Some grant) None size n s e g w o k few = k
+pools_made_pool None sem size n s e g w o k few = k
 
 -- Call 28.
-pub pools_mkbufpool : (size n : ℕ) (s : Xinu) → IsInside s.tables → HavePools s → HavePools (mkbufpool size n s).call.state
-pools_mkbufpool size n s o k =
+pub pools_mkbufpool : (size n : ℕ) (s : Xinu) → IsWhole s.memory s.parts.heap → IsInside s.tables → HavePools s
+    → HavePools (mkbufpool size n s).call.state
+pools_mkbufpool size n s w o k =
     let fits = is_pool_size size n in
     let few = nat_lt (length s.parts.pools) most_pools in
     cond_both (fits && few)
     (made_pool (take_memory (pool_bytes (whole_words size) n) s.parts.heap) (free_semaphore s.tables) (whole_words size) n s) (refused s)
     (λ (h : CallResult). HavePools h.call.state)
     (λ b. pools_made_pool (take_memory (pool_bytes (whole_words size) n) s.parts.heap) (free_semaphore s.tables)
-    (whole_words size) n s refl o k (ltb-true (length s.parts.pools) most_pools (and_parts fits few b).1))
+    (whole_words size) n s refl refl w o k (ltb-true (length s.parts.pools) most_pools (and_parts fits few b).1))
     (λ _. k)

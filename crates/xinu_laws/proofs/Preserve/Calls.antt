@@ -2,31 +2,28 @@
 use Rattle.std.proofs.Common.{◌≡◌, ℕ, ◌%◌, Bool, true, false, not, ◌&&◌, ◌||◌, List, Option, Some, None, refl}
 use Rattle.std.specs.Prelude.{slice_index}
 use Rattle.std.specs.List.{AllByRecursion}
-use Rattle.std.proofs.lemmas.Bool.{and_parts, or_parts}
+use Rattle.std.proofs.lemmas.Bool.{and_parts}
 use Rattle.xinu_model.specs.Calls.{calls, called, continued}
 use Rattle.xinu_model.specs.Console.Putting.{go_on_putc, go_on_write}
 use Rattle.xinu_model.specs.Console.Taking.{go_on_getc, go_on_read}
-use Rattle.xinu_model.specs.Footprints.{Footprint, on_tables, on_deaths, on_pools, on_ports, on_console}
-use Rattle.xinu_model.specs.Machine.{Xinu, Answer, Returns, Waits, Gone, Panics, Silent, CallResult, replies_of, refused}
+use Rattle.xinu_model.specs.Footprints.{Footprint, on_tables, on_deaths, on_buffers, on_ports, on_console}
+use Rattle.xinu_model.specs.Machine.{Xinu, CallResult, refused}
 use Rattle.xinu_model.specs.Messages.{go_on_receive}
 use Rattle.xinu_model.specs.Names.Calls.{names_of}
 use Rattle.xinu_model.specs.Names.Sound.{AreSoundNames}
 use Rattle.xinu_model.specs.Pools.Calls.{go_on_getbuf}
 use Rattle.xinu_model.specs.Ports.Calls.{go_on_ptsend, go_on_ptrecv}
 use Rattle.part_laws.specs.Preserve.{KeepsAll, MayCallAny}
-use Rattle.table_laws.specs.Preserve.{AreAlive, FitsAnswer, IsPreserved, MayCall}
+use Rattle.table_laws.specs.Preserve.{IsPreserved, MayCall}
 use Rattle.xinu_model.specs.Process.Death.{exit}
 use Rattle.xinu_model.specs.RawDisk.Calls.{go_on_disk}
 use Rattle.xinu_model.specs.Process.Calls.{go_on_suspend}
 use Rattle.xinu_model.specs.Rows.{CallRow, found_in, done_by}
-use Rattle.xinu_model.specs.Sound.Tables.{IsInside}
 use Rattle.xinu_model.specs.Sound.Pools.{ArePools}
 use Rattle.xinu_model.specs.Sound.Ports.{ArePorts}
-use Rattle.xinu_model.specs.Sound.State.{IsSound}
-use Rattle.xinu_model.specs.Tables.{Tables, process_at}
-use Rattle.xinu_laws.specs.Touches.{reach, Touches}
+use Rattle.xinu_model.specs.Tables.{process_at}
 use Rattle.xinu_model.specs.Words.{signed, half}
-use Rattle.xinu_laws.proofs.Consoles.Kept.{Holds, HasConsole, KeepsConsole}
+use Rattle.xinu_laws.proofs.Consoles.Kept.{Holds, HasConsole, HasSize, KeepsConsole}
 use Rattle.xinu_laws.proofs.Consoles.Put.{go_on_putc_keeps, go_on_write_keeps}
 use Rattle.xinu_laws.proofs.Consoles.Taken.{go_on_getc_keeps, go_on_read_keeps}
 use Rattle.xinu_laws.proofs.Devices.Kept.{Keeps, device_open_keeps, device_close_keeps, device_read_keeps, device_write_keeps, device_getc_keeps, device_putc_keeps, device_seek_keeps, device_control_keeps}
@@ -39,82 +36,24 @@ use Rattle.xinu_laws.proofs.Preserve.Semaphores.{semcreate_preserves, semdelete_
 use Rattle.xinu_laws.proofs.Pools.Calls.{pools_getbuf, pools_go_on_getbuf, pools_freebuf}
 use Rattle.xinu_laws.proofs.Pools.Preserve.{mkbufpool_preserves, getbuf_preserves, go_on_getbuf_preserves, freebuf_preserves}
 use Rattle.xinu_laws.proofs.Pools.Made.{pools_mkbufpool}
+use Rattle.xinu_laws.proofs.Pools.Written.{getbuf_size, go_on_getbuf_size}
 use Rattle.xinu_laws.proofs.Ports.Deletions.{PreservesAll, ptdelete_keeps, ptreset_keeps}
 use Rattle.xinu_laws.proofs.Ports.Made.{PreservesPorts, ptcreate_on_ports}
 use Rattle.xinu_laws.proofs.Ports.Sends.{ptsend_on_ports, ptrecv_on_ports, go_on_ptsend_on_ports, go_on_ptrecv_on_ports}
 use Rattle.xinu_laws.proofs.Rows.RowByRow.{◌⨾◌}
 use Rattle.xinu_laws.proofs.Rows.CallRows.{of_row}
-use Rattle.xinu_laws.proofs.RawDisks.Framed.{disks_in, with_disks}
+use Rattle.xinu_laws.proofs.RawDisks.Framed.{disks_in}
 use Rattle.xinu_laws.proofs.RawDisks.Moves.{HasDisks}
 use Rattle.xinu_laws.proofs.RawDisks.Deaths.{kill_keeps_disk, exit_keeps_disk}
 use Rattle.xinu_laws.proofs.Touches.Disks.{go_on_disk_touches, go_on_disk_preserves}
-use Rattle.xinu_laws.proofs.Touches.Kept.{keeps_pools, keeps_ports, keeps_console, keeps_disks, keeps_names, keeps_unused}
+pub use Rattle.xinu_laws.proofs.Preserve.Within.{sound_where_called, inside_preserved, replies_alive}
+use Rattle.xinu_laws.proofs.Preserve.Within.{keeps_within}
 use Rattle.xinu_laws.proofs.Preserve.Unused.{AreUnusedAfter, exit_unused, kill_unused, create_unused}
-use Rattle.table_laws.proofs.Tables.Alive.{alive_callers}
 use Rattle.xinu_laws.proofs.Touches.Messages.{go_on_receive_touches}
 use Rattle.xinu_laws.proofs.Touches.Pools.{go_on_getbuf_touches}
 use Rattle.xinu_laws.proofs.Touches.Ports.{go_on_ptsend_touches, go_on_ptrecv_touches}
 use Rattle.xinu_laws.proofs.Touches.Processes.{exit_touches, go_on_suspend_touches}
 use Rattle.xinu_laws.proofs.Touches.Table.{Stays, calls_touch}
-
--- a state in which a process calls is sound
-pub sound_where_called : (s : Xinu) → MayCallAny s → IsSound s
-sound_where_called s c = record { tables = c.may.tables; harts = c.may.harts; unused = c.unused; pools = c.pools; ports = c.ports; devices = c.devices }
-
--- however a call is answered its tables are as at each moment
-inside_by_answer : (answer : Answer) (t : Tables) → FitsAnswer answer t → IsInside t
-inside_by_answer (Returns value) t k = k.inside
-inside_by_answer Panics t k = k.inside
-inside_by_answer Silent t k = k.inside
-inside_by_answer Waits t k = k
-inside_by_answer Gone t k = k
-
-pub inside_preserved : (h : CallResult) → IsPreserved h → IsInside h.call.state.tables
-inside_preserved h k = inside_by_answer h.answer h.call.state.tables k.tables
-
--- the replies of a call go to processes that are alive
-pub replies_alive : (h : CallResult) → IsPreserved h → AreAlive h.call.state.tables (replies_of h)
-replies_alive h k = alive_callers h.answer h.call.state.tables h.call.released k.tables k.released
-
--- A call that stays within a footprint keeps all, if it keeps what holds of the tables and of the parts that the footprint names.
-pub keeps_within : (f : Footprint) (s : Xinu) (h : CallResult) → MayCallAny s → Touches (reach f) s h.call.state → IsPreserved h
-    → (f.pools ≡ true → ArePools h.call.state.tables h.call.state.parts.pools)
-    → (f.ports ≡ true → ArePorts h.call.state.tables h.call.state.parts.ports) → (f.stacks ≡ true → AreUnusedAfter h)
-    → (f.console ≡ true → HasConsole h.call.state) → (f.names ≡ true → AreSoundNames (names_of h.call.state))
-    → (f.disk || f.files ≡ true → HasDisks h.call.state) → KeepsAll h
-keeps_within f s h c t preserved pools ports unused console names disk = record {
-  preserved = preserved;
-  unused = by_stacks f.stacks refl;
-  pools = by_pools f.pools refl;
-  ports = by_ports f.ports refl;
-  devices = with_disks (by_console f.console refl) (by_names f.names refl) (by_disk (f.disk || f.files) refl);
-}
-  where
-    by_pools : (b : Bool) → f.pools ≡ b → ArePools h.call.state.tables h.call.state.parts.pools
-    by_pools true e = pools e
-    by_pools false e = keeps_pools e t c.pools
-
-    by_stacks : (b : Bool) → f.stacks ≡ b → AreUnusedAfter h
-    by_stacks true e = unused e
-    by_stacks false e = keeps_unused (t.free e) c.unused
-
-    by_ports : (b : Bool) → f.ports ≡ b → ArePorts h.call.state.tables h.call.state.parts.ports
-    by_ports true e = ports e
-    by_ports false e = keeps_ports e t (inside_preserved h preserved) c.ports
-
-    by_console : (b : Bool) → f.console ≡ b → HasConsole h.call.state
-    by_console true e = console e
-    by_console false e = keeps_console e t (inside_preserved h preserved) c.devices.console
-
-    by_names : (b : Bool) → f.names ≡ b → AreSoundNames (names_of h.call.state)
-    by_names true e = names e
-    by_names false e = keeps_names e t c.devices.names
-
-    by_disk : (b : Bool) → f.disk || f.files ≡ b → HasDisks h.call.state
-    by_disk true e = disk e
-    by_disk false e =
-        let parts = or_parts f.disk f.files e in
-        keeps_disks parts.0 parts.1 t c.may.tables.inside (inside_preserved h preserved) (disks_in c.devices)
 
 -- what holds when a process calls
 may_hold : (s : Xinu) → MayCallAny s → Holds s
@@ -131,6 +70,7 @@ pub record PreservesRow (r : CallRow) : Type 0 where
   pub console : r.touches.console ≡ true → (a : ℕ → ℕ) (s : Xinu) → MayCallAny s → HasConsole (r.effect a s).call.state
   pub names : r.touches.names ≡ true → (a : ℕ → ℕ) (s : Xinu) → MayCallAny s → AreSoundNames (names_of (r.effect a s).call.state)
   pub disk : r.touches.disk || r.touches.files ≡ true → (a : ℕ → ℕ) (s : Xinu) → MayCallAny s → HasDisks (r.effect a s).call.state
+  pub ram : r.touches.ram ≡ true → (a : ℕ → ℕ) (s : Xinu) → MayCallAny s → HasSize (r.effect a s).call.state
 
 -- whether a footprint names no disk, and no device
 abbrev names_no_disk : Footprint → Bool
@@ -139,9 +79,13 @@ names_no_disk f = not (f.disk || f.files)
 abbrev names_no_device : Footprint → Bool
 names_no_device f = not f.console && (not f.names && names_no_disk f)
 
+-- nor RAM
+abbrev names_no_byte : Footprint → Bool
+names_no_byte f = not f.ram && names_no_device f
+
 -- and neither pools nor ports
 abbrev names_no_part : Footprint → Bool
-names_no_part f = not f.pools && (not f.ports && names_no_device f)
+names_no_part f = not f.pools && (not f.ports && names_no_byte f)
 
 -- what a footprint doesn't name it doesn't name
 unnamed : (b : Bool) {P : Type 0} → not b ≡ true → b ≡ true → P
@@ -166,16 +110,18 @@ module _ {r : CallRow} where
   of_processes : names_no_part r.touches ≡ true → ((a : ℕ → ℕ) (s : Xinu) → MayCall s → IsPreserved (r.effect a s))
       → ((a : ℕ → ℕ) (s : Xinu) → MayCallAny s → r.touches.stacks ≡ true → AreUnusedAfter (r.effect a s)) → PreservesRow r
   of_processes e preserved unused =
-      let h = and_parts (not r.touches.pools) (not r.touches.ports && names_no_device r.touches) e in
-      let k = and_parts (not r.touches.ports) (names_no_device r.touches) h.1 in
+      let h = and_parts (not r.touches.pools) (not r.touches.ports && names_no_byte r.touches) e in
+      let k = and_parts (not r.touches.ports) (names_no_byte r.touches) h.1 in
+      let m = and_parts (not r.touches.ram) (names_no_device r.touches) k.1 in
       record {
         preserved = λ a s c. preserved a s c.may;
         pools = unnamed r.touches.pools h.0;
         ports = unnamed r.touches.ports k.0;
         unused = λ g a s c. unused a s c g;
-        console = no_console r.touches k.1;
-        names = no_names r.touches k.1;
-        disk = no_disk r.touches k.1;
+        console = no_console r.touches m.1;
+        names = no_names r.touches m.1;
+        disk = no_disk r.touches m.1;
+        ram = unnamed r.touches.ram m.0;
       }
 
   -- A call that touches no pool, no port, no device and no stack.
@@ -185,12 +131,13 @@ module _ {r : CallRow} where
       let h = and_parts (names_no_part r.touches) (not r.touches.stacks) e in
       of_processes h.0 preserved (λ a s c g. unnamed r.touches.stacks h.1 g)
 
-  -- A call that touches pools alone.
+  -- A call that touches pools alone, and may write to RAM.
   of_pools : not r.touches.ports && (not r.touches.stacks && names_no_device r.touches) ≡ true
       → ((a : ℕ → ℕ) (s : Xinu) → MayCallAny s → IsPreserved (r.effect a s))
       → ((a : ℕ → ℕ) (s : Xinu) → MayCallAny s → ArePools (r.effect a s).call.state.tables (r.effect a s).call.state.parts.pools)
+      → ((a : ℕ → ℕ) (s : Xinu) → MayCallAny s → r.touches.ram ≡ true → HasSize (r.effect a s).call.state)
       → PreservesRow r
-  of_pools e preserved pools =
+  of_pools e preserved pools ram =
       let h = and_parts (not r.touches.ports) (not r.touches.stacks && names_no_device r.touches) e in
       let k = and_parts (not r.touches.stacks) (names_no_device r.touches) h.1 in
       record {
@@ -201,59 +148,66 @@ module _ {r : CallRow} where
         console = no_console r.touches k.1;
         names = no_names r.touches k.1;
         disk = no_disk r.touches k.1;
+        ram = λ g a s c. ram a s c g;
       }
 
   -- A call that touches ports alone.
-  of_ports : not r.touches.pools && (not r.touches.stacks && names_no_device r.touches) ≡ true
+  of_ports : not r.touches.pools && (not r.touches.stacks && names_no_byte r.touches) ≡ true
       → ((a : ℕ → ℕ) (s : Xinu) → MayCallAny s → PreservesPorts (r.effect a s)) → PreservesRow r
   of_ports e k =
-      let h = and_parts (not r.touches.pools) (not r.touches.stacks && names_no_device r.touches) e in
-      let l = and_parts (not r.touches.stacks) (names_no_device r.touches) h.1 in
+      let h = and_parts (not r.touches.pools) (not r.touches.stacks && names_no_byte r.touches) e in
+      let l = and_parts (not r.touches.stacks) (names_no_byte r.touches) h.1 in
+      let m = and_parts (not r.touches.ram) (names_no_device r.touches) l.1 in
       record {
         preserved = λ a s c. (k a s c).preserved;
         pools = unnamed r.touches.pools h.0;
         ports = λ _ a s c. (k a s c).ports;
         unused = unnamed r.touches.stacks l.0;
-        console = no_console r.touches l.1;
-        names = no_names r.touches l.1;
-        disk = no_disk r.touches l.1;
+        console = no_console r.touches m.1;
+        names = no_names r.touches m.1;
+        disk = no_disk r.touches m.1;
+        ram = unnamed r.touches.ram m.0;
       }
 
   -- A call that touches both.
-  of_all : not r.touches.stacks && names_no_device r.touches ≡ true → ((a : ℕ → ℕ) (s : Xinu) → MayCallAny s → PreservesAll (r.effect a s))
+  of_all : not r.touches.stacks && names_no_byte r.touches ≡ true → ((a : ℕ → ℕ) (s : Xinu) → MayCallAny s → PreservesAll (r.effect a s))
       → PreservesRow r
   of_all e k =
-      let h = and_parts (not r.touches.stacks) (names_no_device r.touches) e in
+      let h = and_parts (not r.touches.stacks) (names_no_byte r.touches) e in
+      let m = and_parts (not r.touches.ram) (names_no_device r.touches) h.1 in
       record {
         preserved = λ a s c. (k a s c).preserved;
         pools = λ e a s c. (k a s c).pools;
         ports = λ e a s c. (k a s c).ports;
         unused = unnamed r.touches.stacks h.0;
-        console = no_console r.touches h.1;
-        names = no_names r.touches h.1;
-        disk = no_disk r.touches h.1;
+        console = no_console r.touches m.1;
+        names = no_names r.touches m.1;
+        disk = no_disk r.touches m.1;
+        ram = unnamed r.touches.ram m.0;
       }
 
   -- A death.
-  of_deaths : not r.touches.pools && (not r.touches.ports && (not r.touches.console && not r.touches.names)) ≡ true
+  of_deaths : not r.touches.pools && (not r.touches.ports && (not r.touches.console && (not r.touches.names && not r.touches.ram))) ≡ true
       → ((a : ℕ → ℕ) (s : Xinu) → MayCall s → IsPreserved (r.effect a s))
       → ((a : ℕ → ℕ) (s : Xinu) → MayCallAny s → AreUnusedAfter (r.effect a s))
       → ((a : ℕ → ℕ) (s : Xinu) → MayCall s → HasDisks s → HasDisks (r.effect a s).call.state) → PreservesRow r
   of_deaths e preserved unused disk =
-      let h = and_parts (not r.touches.pools) (not r.touches.ports && (not r.touches.console && not r.touches.names)) e in
-      let l = and_parts (not r.touches.ports) (not r.touches.console && not r.touches.names) h.1 in
-      let m = and_parts (not r.touches.console) (not r.touches.names) l.1 in
+      let h = and_parts (not r.touches.pools) (not r.touches.ports && (not r.touches.console && (not r.touches.names && not r.touches.ram))) e in
+      let l = and_parts (not r.touches.ports) (not r.touches.console && (not r.touches.names && not r.touches.ram)) h.1 in
+      let m = and_parts (not r.touches.console) (not r.touches.names && not r.touches.ram) l.1 in
+      let n = and_parts (not r.touches.names) (not r.touches.ram) m.1 in
       record {
         preserved = λ a s c. preserved a s c.may;
         pools = unnamed r.touches.pools h.0;
         ports = unnamed r.touches.ports l.0;
         unused = λ _ a s c. unused a s c;
         console = unnamed r.touches.console m.0;
-        names = unnamed r.touches.names m.1;
+        names = unnamed r.touches.names n.0;
         disk = λ _ a s c. disk a s c.may (disks_in c.devices);
+        ram = unnamed r.touches.ram n.1;
       }
 
-  -- A call on a device, which touches the console, the raw disk and files at most.
+  -- A call on a device, which touches the console, the raw disk, files and RAM at most.
   of_device : not r.touches.pools && (not r.touches.ports && (not r.touches.stacks && not r.touches.names)) ≡ true
       → ((a : ℕ → ℕ) → Keeps (r.effect a)) → PreservesRow r
   of_device e k =
@@ -269,17 +223,19 @@ module _ {r : CallRow} where
         names = unnamed r.touches.names m.1;
         disk = λ _ a s c. let b = k a s (may_hold s c) in
             b.disks c.may.tables.inside (inside_preserved (r.effect a s) (b.preserved (disks_in c.devices) c.may.not_null)) (disks_in c.devices);
+        ram = λ _ a s c. (k a s (may_hold s c)).ram c.devices.console c.ram.bytes;
       }
 
   -- A call that touches the mounted prefixes alone.
-  of_names : not r.touches.pools && (not r.touches.ports && (not r.touches.stacks && (not r.touches.console && names_no_disk r.touches))) ≡ true
+  of_names : not r.touches.pools && (not r.touches.ports && (not r.touches.stacks && (not r.touches.console && (not r.touches.ram && names_no_disk r.touches)))) ≡ true
       → ((a : ℕ → ℕ) (s : Xinu) → MayCall s → IsPreserved (r.effect a s))
       → ((a : ℕ → ℕ) (s : Xinu) → AreSoundNames (names_of s) → AreSoundNames (names_of (r.effect a s).call.state)) → PreservesRow r
   of_names e preserved names =
-      let h = and_parts (not r.touches.pools) (not r.touches.ports && (not r.touches.stacks && (not r.touches.console && names_no_disk r.touches))) e in
-      let l = and_parts (not r.touches.ports) (not r.touches.stacks && (not r.touches.console && names_no_disk r.touches)) h.1 in
-      let m = and_parts (not r.touches.stacks) (not r.touches.console && names_no_disk r.touches) l.1 in
-      let n = and_parts (not r.touches.console) (names_no_disk r.touches) m.1 in
+      let h = and_parts (not r.touches.pools) (not r.touches.ports && (not r.touches.stacks && (not r.touches.console && (not r.touches.ram && names_no_disk r.touches)))) e in
+      let l = and_parts (not r.touches.ports) (not r.touches.stacks && (not r.touches.console && (not r.touches.ram && names_no_disk r.touches))) h.1 in
+      let m = and_parts (not r.touches.stacks) (not r.touches.console && (not r.touches.ram && names_no_disk r.touches)) l.1 in
+      let n = and_parts (not r.touches.console) (not r.touches.ram && names_no_disk r.touches) m.1 in
+      let o = and_parts (not r.touches.ram) (names_no_disk r.touches) n.1 in
       record {
         preserved = λ a s c. preserved a s c.may;
         pools = unnamed r.touches.pools h.0;
@@ -287,7 +243,8 @@ module _ {r : CallRow} where
         unused = unnamed r.touches.stacks m.0;
         console = unnamed r.touches.console n.0;
         names = λ _ a s c. names a s c.devices.names;
-        disk = unnamed (r.touches.disk || r.touches.files) n.1;
+        disk = unnamed (r.touches.disk || r.touches.files) o.1;
+        ram = unnamed r.touches.ram o.0;
       }
 
 -- Each call of the table.
@@ -321,9 +278,9 @@ calls_preserve =
     of_tables refl (λ a. sleep_preserves (signed (a 0))) ⨾
     of_tables refl (λ a. sleepms_preserves (signed (a 0))) ⨾
     of_tables refl (λ a. clktime_preserves) ⨾
-    of_pools refl (λ a s c. mkbufpool_preserves (a 0) (a 1) s c.may) (λ a s c. pools_mkbufpool (a 0) (a 1) s c.may.tables.inside c.pools) ⨾
-    of_pools refl (λ a s c. getbuf_preserves (a 0) s c.may c.pools) (λ a s c. pools_getbuf (a 0) s c.may.tables c.pools) ⨾
-    of_pools refl (λ a s c. freebuf_preserves (a 0) s c.may c.pools) (λ a s c. pools_freebuf (a 0) s c.may.tables.inside c.pools) ⨾
+    of_pools refl (λ a s c. mkbufpool_preserves (a 0) (a 1) s c.may) (λ a s c. pools_mkbufpool (a 0) (a 1) s c.ram c.may.tables.inside c.pools) (λ a s c g. absurd (cc)) ⨾
+    of_pools refl (λ a s c. getbuf_preserves (a 0) s c.may c.pools) (λ a s c. pools_getbuf (a 0) s c.may.tables c.pools) (λ a s c _. getbuf_size (a 0) s c.pools c.ram.bytes) ⨾
+    of_pools refl (λ a s c. freebuf_preserves (a 0) s c.may c.pools) (λ a s c. pools_freebuf (a 0) s c.may.tables.inside c.pools) (λ a s c g. absurd (cc)) ⨾
     of_ports refl (λ a s c. ptcreate_on_ports (signed (a 0)) s c.may c.ports) ⨾
     of_all refl (λ a s c. ptdelete_keeps (a 0) (a 1) s c.may c.pools c.ports) ⨾
     of_all refl (λ a s c. ptreset_keeps (a 0) (a 1) s c.may c.pools c.ports) ⨾
@@ -346,11 +303,11 @@ pub row_keeps : (number : ℕ) (r : CallRow) → found_in calls number ≡ Some 
 row_keeps number r e a s c =
     let t = of_row Stays calls calls_touch number r e in
     let k = of_row PreservesRow calls calls_preserve number r e in
-    keeps_within r.touches s (r.effect a s) c (t a s (sound_where_called s c)) (k.preserved a s c) (λ h. k.pools h a s c) (λ h. k.ports h a s c) (λ h. k.unused h a s c) (λ h. k.console h a s c) (λ h. k.names h a s c) (λ h. k.disk h a s c)
+    keeps_within r.touches s (r.effect a s) c (t a s (sound_where_called s c)) (k.preserved a s c) (λ h. k.pools h a s c) (λ h. k.ports h a s c) (λ h. k.unused h a s c) (λ h. k.console h a s c) (λ h. k.names h a s c) (λ h. k.disk h a s c) (λ h. k.ram h a s c)
 
 -- a refusal,
 pub refused_keeps_all : (s : Xinu) → MayCallAny s → KeepsAll (refused s)
-refused_keeps_all s c = record { preserved = record { tables = c.may.tables; harts = c.may.harts; released = tt }; unused = c.unused; pools = c.pools; ports = c.ports; devices = c.devices }
+refused_keeps_all s c = record { preserved = record { tables = c.may.tables; harts = c.may.harts; released = tt }; unused = c.unused; pools = c.pools; ports = c.ports; devices = c.devices; ram = c.ram }
 
 -- the call of any number,
 pub called_keeps : (number : ℕ) (args : List ℕ) (s : Xinu) → MayCallAny s → KeepsAll (called number args s)
@@ -364,12 +321,13 @@ called_keeps number args s c = by_row (found_in calls number) refl
 pub exit_keeps : (s : Xinu) → MayCallAny s → KeepsAll (exit s)
 exit_keeps s c =
     keeps_within on_deaths s (exit s) c (exit_touches s (sound_where_called s c)) (exit_preserves s c.may) (λ e. absurd (cc))
-    (λ e. absurd (cc)) (λ _. exit_unused s c) (λ e. absurd (cc)) (λ e. absurd (cc)) (λ _. exit_keeps_disk s c.may (disks_in c.devices))
+    (λ e. absurd (cc)) (λ _. exit_unused s c) (λ e. absurd (cc)) (λ e. absurd (cc)) (λ _. exit_keeps_disk s c.may (disks_in c.devices)) (λ e. absurd (cc))
 
 -- what is left of a call on the console,
 console_continues : (s : Xinu) (h : CallResult) {Left : Type 0} → MayCallAny s → Left → KeepsConsole (Left × HasConsole s) s h → KeepsAll h
 console_continues s h c left k =
     keeps_within on_console s h c k.touches (k.preserved c.may.not_null) (λ e. absurd (cc)) (λ e. absurd (cc)) (λ e. absurd (cc)) (λ _. k.console (left, c.devices.console)) (λ e. absurd (cc)) (λ e. absurd (cc))
+    (λ _. k.ram (left, c.devices.console) c.ram.bytes)
 
 -- and what is left of any call that waited.
 pub continued_keeps : (s : Xinu) → MayCallAny s → KeepsAll (continued (process_at s.tables s.tables.current).rest s)
@@ -377,17 +335,17 @@ continued_keeps s c =
     let k = sound_where_called s c in
     let m = may_hold s c in
     continued_holds KeepsAll (process_at s.tables s.tables.current).rest s
-    (keeps_within on_tables s (go_on_receive s) c (go_on_receive_touches s k) (go_on_receive_preserves s c.may) (λ e. absurd (cc)) (λ e. absurd (cc)) (λ e. absurd (cc)) (λ e. absurd (cc)) (λ e. absurd (cc)) (λ e. absurd (cc)))
-    (keeps_within on_tables s (go_on_suspend s) c (go_on_suspend_touches s k) (go_on_suspend_preserves s c.may) (λ e. absurd (cc)) (λ e. absurd (cc)) (λ e. absurd (cc)) (λ e. absurd (cc)) (λ e. absurd (cc)) (λ e. absurd (cc)))
-    (λ i e. keeps_within on_pools s (go_on_getbuf i s) c (go_on_getbuf_touches i s k) (go_on_getbuf_preserves i s c.may) (λ _. pools_go_on_getbuf i s c.may.tables c.pools e) (λ g. absurd (cc)) (λ g. absurd (cc)) (λ g. absurd (cc)) (λ g. absurd (cc)) (λ g. absurd (cc)))
+    (keeps_within on_tables s (go_on_receive s) c (go_on_receive_touches s k) (go_on_receive_preserves s c.may) (λ e. absurd (cc)) (λ e. absurd (cc)) (λ e. absurd (cc)) (λ e. absurd (cc)) (λ e. absurd (cc)) (λ e. absurd (cc)) (λ e. absurd (cc)))
+    (keeps_within on_tables s (go_on_suspend s) c (go_on_suspend_touches s k) (go_on_suspend_preserves s c.may) (λ e. absurd (cc)) (λ e. absurd (cc)) (λ e. absurd (cc)) (λ e. absurd (cc)) (λ e. absurd (cc)) (λ e. absurd (cc)) (λ e. absurd (cc)))
+    (λ i e. keeps_within on_buffers s (go_on_getbuf i s) c (go_on_getbuf_touches i s k) (go_on_getbuf_preserves i s c.may) (λ _. pools_go_on_getbuf i s c.may.tables c.pools e) (λ g. absurd (cc)) (λ g. absurd (cc)) (λ g. absurd (cc)) (λ g. absurd (cc)) (λ g. absurd (cc)) (λ _. go_on_getbuf_size i s c.pools e c.ram.bytes))
     (λ ticket message e. let p = go_on_ptsend_on_ports ticket message s c.may c.ports e in
-    keeps_within on_ports s (go_on_ptsend ticket message s) c (go_on_ptsend_touches ticket message s k) p.preserved (λ g. absurd (cc)) (λ _. p.ports) (λ g. absurd (cc)) (λ g. absurd (cc)) (λ g. absurd (cc)) (λ g. absurd (cc)))
+    keeps_within on_ports s (go_on_ptsend ticket message s) c (go_on_ptsend_touches ticket message s k) p.preserved (λ g. absurd (cc)) (λ _. p.ports) (λ g. absurd (cc)) (λ g. absurd (cc)) (λ g. absurd (cc)) (λ g. absurd (cc)) (λ g. absurd (cc)))
     (λ ticket e. let p = go_on_ptrecv_on_ports ticket s c.may c.ports e in
-    keeps_within on_ports s (go_on_ptrecv ticket s) c (go_on_ptrecv_touches ticket s k) p.preserved (λ g. absurd (cc)) (λ _. p.ports) (λ g. absurd (cc)) (λ g. absurd (cc)) (λ g. absurd (cc)) (λ g. absurd (cc)))
+    keeps_within on_ports s (go_on_ptrecv ticket s) c (go_on_ptrecv_touches ticket s k) p.preserved (λ g. absurd (cc)) (λ _. p.ports) (λ g. absurd (cc)) (λ g. absurd (cc)) (λ g. absurd (cc)) (λ g. absurd (cc)) (λ g. absurd (cc)))
     (λ e. console_continues s (go_on_getc s) c e (go_on_getc_keeps s m))
     (λ part e. console_continues s (go_on_read part s) c e (go_on_read_keeps part s m))
     (λ b returned e. console_continues s (go_on_putc b returned s) c e (go_on_putc_keeps b returned s m))
     (λ part returned e. console_continues s (go_on_write part returned s) c e (go_on_write_keeps part returned s m))
     (λ reply e. keeps_within on_tables s (go_on_disk reply s) c (go_on_disk_touches reply s k) (go_on_disk_preserves reply s c.may)
-    (λ g. absurd (cc)) (λ g. absurd (cc)) (λ g. absurd (cc)) (λ g. absurd (cc)) (λ g. absurd (cc)) (λ g. absurd (cc)))
-    (record { preserved = record { tables = c.may.tables; harts = c.may.harts; released = tt }; unused = c.unused; pools = c.pools; ports = c.ports; devices = c.devices })
+    (λ g. absurd (cc)) (λ g. absurd (cc)) (λ g. absurd (cc)) (λ g. absurd (cc)) (λ g. absurd (cc)) (λ g. absurd (cc)) (λ g. absurd (cc)))
+    (record { preserved = record { tables = c.may.tables; harts = c.may.harts; released = tt }; unused = c.unused; pools = c.pools; ports = c.ports; devices = c.devices; ram = c.ram })

@@ -36,6 +36,7 @@ sound_on d s good requests calls k = record {
       tokens = k.devices.files.tokens;
     };
   };
+  ram = k.ram;
 }
 
 -- The machine starts in a sound state.

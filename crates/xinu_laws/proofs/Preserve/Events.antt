@@ -1,5 +1,5 @@
 -- Each event keeps the whole state sound, and so does each run; the machine starts in a sound state.
-use Rattle.std.proofs.Common.{◌≡◌, ◌≢◌, ◌<◌, ◌≤◌, ◌==◌, ◌+◌, ℕ, zero, suc, map, sym, arith, Bool, true, false, Option, Some, None, List, [], ◌∷◌, cond, length, refl, ap, subst}
+use Rattle.std.proofs.Common.{◌≡◌, ◌≢◌, ◌<◌, ◌≤◌, ◌==◌, ◌+◌, ℕ, zero, suc, map, sym, arith, Bool, true, false, Option, Some, None, List, [], ◌∷◌, cond, length, refl, ap, subst, ◌∙◌}
 use Rattle.std.specs.Prelude.{is_some}
 use Rattle.std.proofs.lemmas.Bool.{cond_both, eqb-false}
 use Rattle.xinu_base.specs.declared.events.End.{End}
@@ -35,7 +35,7 @@ use Rattle.xinu_laws.proofs.FileSyscalls.AtOnce.{next_is, next_can, not_null_mak
 use Rattle.xinu_laws.proofs.FileSyscalls.Completed.{step_completes}
 use Rattle.xinu_laws.proofs.RawDisks.Framed.{disks_in, with_disks}
 use Rattle.xinu_laws.proofs.RawDisks.Completed.{Completes, served_completes}
-use Rattle.xinu_laws.proofs.Touches.Kept.{keeps_pools, keeps_ports, keeps_console, keeps_disks, keeps_names, keeps_unused}
+use Rattle.xinu_laws.proofs.Touches.Kept.{keeps_pools, keeps_ports, keeps_console, keeps_disks, keeps_names, keeps_unused, keeps_heap, keeps_whole}
 use Rattle.xinu_model.specs.Footprints.{on_tables}
 use Rattle.xinu_laws.specs.Touches.{reach, at_a_tick, Touches}
 use Rattle.table_laws.proofs.Tables.Ends.{sound_end_of_event, harts_end_of_event, harts_ticked, executed_may_call}
@@ -47,6 +47,8 @@ use Rattle.xinu_laws.proofs.Preserve.Calls.{inside_preserved, replies_alive, cal
 use Rattle.xinu_laws.proofs.Preserve.Unused.{unused_start}
 use Rattle.table_laws.proofs.Tables.Starts.{sound_start}
 use Rattle.table_laws.proofs.Tables.Unused.{unused_executed}
+use Rattle.xinu_laws.proofs.Preserve.Whole.{whole_start}
+use Rattle.xinu_model.proofs.WholeRam.{size_after_step}
 use Rattle.xinu_model.proofs.ZeroRegister.{zero_register_of_step}
 use Rattle.table_laws.proofs.Tables.Ticks.{sound_ticked}
 use Rattle.table_laws.proofs.Tables.Harts.{harts_same}
@@ -65,21 +67,22 @@ state_end_of_event was first result k =
       pools = keeps_pools refl touches k.pools;
       ports = keeps_ports refl touches tables.inside k.ports;
       devices = with_disks (keeps_console refl touches tables.inside k.devices.console) (keeps_names refl touches k.devices.names) (keeps_disks refl refl touches (inside_preserved result k.preserved) tables.inside (disks_in k.devices));
+      ram = keeps_whole touches refl k.ram;
     }
 
 -- a process that isn't the null process may call in a sound state
 pub may_call : (s : Xinu) → IsSound s → s.tables.current ≢ 0 → MayCallAny s
-may_call s k n = record { may = record { tables = k.tables; harts = k.harts; not_null = n }; unused = k.unused; pools = k.pools; ports = k.ports; devices = k.devices }
+may_call s k n = record { may = record { tables = k.tables; harts = k.harts; not_null = n }; unused = k.unused; pools = k.pools; ports = k.ports; devices = k.devices; ram = k.ram }
 
 -- and after an instruction of it
 pub may_call_after : (s : Xinu) → MayCallAny s → MayCallAny (with_executed (exec (current_hart s) s.memory) s)
 may_call_after s c =
     let zero = (zero_register_of_step (current_hart s) s.memory).zero (c.may.harts.zero s.tables.current) in
-    record { may = executed_may_call (exec (current_hart s) s.memory) s zero c.may; unused = unused_executed s.tables s.harts (exec (current_hart s) s.memory).hart c.may.tables c.unused; pools = c.pools; ports = c.ports; devices = c.devices }
+    record { may = executed_may_call (exec (current_hart s) s.memory) s zero c.may; unused = unused_executed s.tables s.harts (exec (current_hart s) s.memory).hart c.may.tables c.unused; pools = c.pools; ports = c.ports; devices = c.devices; ram = record { bytes = (size_after_step (current_hart s) s.memory).size c.ram.bytes; heap = c.ram.heap } }
 
 -- What comes of an instruction keeps the state sound.
 state_reacted : (o : Outcome) (s : Xinu) → MayCallAny s → IsSound (reacted o s).state
-state_reacted outcome.Went s c = record { tables = c.may.tables; harts = c.may.harts; unused = c.unused; pools = c.pools; ports = c.ports; devices = c.devices }
+state_reacted outcome.Went s c = record { tables = c.may.tables; harts = c.may.harts; unused = c.unused; pools = c.pools; ports = c.ports; devices = c.devices; ram = c.ram }
 state_reacted outcome.Call s c =
     let call = call_of (current_hart s) in
     state_end_of_event s.tables.current (call_line s call ∷ []) (called call.number call.args s) (called_keeps call.number call.args s c)
@@ -114,6 +117,7 @@ state_ticked s k =
       pools = keeps_pools {f = on_tables} refl touches k.pools;
       ports = keeps_ports {f = on_tables} refl touches tables.inside k.ports;
       devices = with_disks (keeps_console {f = on_tables} refl touches tables.inside k.devices.console) (keeps_names {f = on_tables} refl touches k.devices.names) (keeps_disks {f = on_tables} refl refl touches k.tables.inside tables.inside (disks_in k.devices));
+      ram = keeps_whole touches refl k.ram;
     }
 
 -- And so does what is under way at its end.
@@ -127,6 +131,7 @@ ticking_keeps s k =
       pools = t.pools;
       ports = t.ports;
       devices = t.devices;
+      ram = keeps_whole touches refl k.ram;
     }
 
 -- What does no more than signal those who wait for the console keeps all.
@@ -137,6 +142,7 @@ signals_keep_all s d k r = record {
   pools = keeps_pools refl r.touches k.pools;
   ports = keeps_ports refl r.touches r.tables.inside k.ports;
   devices = with_disks (r.console k.devices.console) (keeps_names refl r.touches k.devices.names) (keeps_disks refl refl r.touches k.tables.inside r.tables.inside (disks_in k.devices));
+  ram = record { bytes = ap (λ (l : List ℕ). length l) r.ram ∙ k.ram.bytes; heap = keeps_heap r.touches.parts.extent k.ram.heap };
 }
 
 -- A received character keeps all, and so does a byte that is sent.
@@ -164,6 +170,7 @@ served_keeps_all s d k r = record {
   pools = keeps_pools refl r.touches k.pools;
   ports = keeps_ports refl r.touches r.tables.inside k.ports;
   devices = with_disks (keeps_console refl r.touches r.tables.inside k.devices.console) (keeps_names refl r.touches k.devices.names) r.disks;
+  ram = record { bytes = r.ram k.ram.bytes; heap = keeps_heap r.touches.parts.extent k.ram.heap };
 }
 
 -- and so a completion keeps the state sound
@@ -191,6 +198,7 @@ completing_keeps n s may k =
       pools = keeps_pools refl r.touches k.pools;
       ports = keeps_ports refl r.touches r.tables.inside k.ports;
       devices = with_disks (keeps_console refl r.touches r.tables.inside k.devices.console) (keeps_names refl r.touches k.devices.names) r.disks;
+      ram = record { bytes = r.ram k.ram.bytes; heap = keeps_heap r.touches.parts.extent k.ram.heap };
     }
 
 -- and so does a good completion of the files' disk, whatever is chosen in it
@@ -244,4 +252,4 @@ sound_run = runs_keep IsSound sound_happens
 pub sound_boot : (images : List Loaded) (start : Xinu) → length images < 64 → boot images ≡ Boots start → IsSound start
 sound_boot images start few e =
     let tables = sound_start images start few e in
-    record { tables = tables.tables; harts = tables.harts; unused = unused_start images start few e; pools = pools_start images start e; ports = ports_start images start e; devices = devices_start images start e tables.tables.inside }
+    record { tables = tables.tables; harts = tables.harts; unused = unused_start images start few e; pools = pools_start images start e; ports = ports_start images start e; devices = devices_start images start e tables.tables.inside; ram = whole_start images start e }

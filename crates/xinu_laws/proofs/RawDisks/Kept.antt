@@ -1,13 +1,13 @@
 -- The calls on the raw disk keep what holds of it, and touch nothing else.
-use Rattle.std.proofs.Common.{◌≡◌, ◌≢◌, ℕ, ◌==◌, true, false, cond, List, [], ◌∷◌, ◌++◌, length, Option, Some, None, refl, sym, ap, subst, ◌∙◌, arith, ℤ, pos}
-use Rattle.std.proofs.lemmas.Bool.{cond_both, and_parts, ltb-true}
+use Rattle.std.proofs.Common.{◌≡◌, ◌≢◌, ℕ, ◌+◌, ◌==◌, true, false, cond, List, [], ◌∷◌, ◌++◌, length, Option, Some, None, refl, sym, ap, subst, ◌∙◌, arith, ℤ, pos}
+use Rattle.std.proofs.lemmas.Bool.{cond_both, and_parts, leb-true, ltb-true}
 use Rattle.xinu_base.specs.declared.processes.Rest.TheVariants.{Disk}
 use Rattle.xinu_base.specs.declared.processes.State.TheVariants.{Waiting}
 use Rattle.table_laws.specs.Preserve.{IsPreserved}
 use Rattle.xinu_laws.specs.Touches.{reach, KeepsParts, Touches}
 use Rattle.xinu_model.specs.Footprints.{Footprint, on_disk}
 use Rattle.xinu_model.specs.Machine.{Xinu, CallResult, refused}
-use Rattle.xinu_model.specs.Memory.{in_ram, bytes_from}
+use Rattle.xinu_model.specs.Memory.{ram_size, in_ram, bytes_from}
 use Rattle.xinu_model.specs.RawDisk.Calls.{disk_of, with_disk, request_of, awaits_disk, may_request, disk_read, disk_write, disk_control}
 use Rattle.xinu_model.specs.RawDisk.Constants.{RD_BLKSIZ, RD_CTL_SIZE}
 use Rattle.xinu_model.specs.RawDisk.Requests.{RawDisk, has_block, requested}
@@ -32,11 +32,12 @@ pub record KeepsDisks (f : Footprint) (s : Xinu) (h : CallResult) : Type 0 where
   pub touches : Touches (reach f) s h.call.state
   pub disks : HasDisks s → HasDisks h.call.state
 
--- another raw disk, and any memory
-pub disk_touches : (s u : Xinu) (d : RawDisk) → u.tables ≡ s.tables → u.harts ≡ s.harts
-    → u.parts ≡ record s.parts { devices = record s.parts.devices { disk = d } } → Touches (reach on_disk) s u
-disk_touches s u d tables harts parts =
-    touches_parts s u tables harts (subst (λ p. KeepsParts on_disk s.parts p) (sym parts) (parts_disk refl s.parts d))
+-- another raw disk, and other bytes in RAM if the footprint allows it
+pub disk_touches : {f : Footprint} → f.disk ≡ true → (s u : Xinu) (d : RawDisk) → u.tables ≡ s.tables → u.harts ≡ s.harts
+    → (f.ram ≡ false → u.memory ≡ s.memory) → u.parts ≡ record s.parts { devices = record s.parts.devices { disk = d } }
+    → Touches (reach f) s u
+disk_touches {f} may s u d tables harts ram parts =
+    touches_parts s u tables harts ram (subst (λ p. KeepsParts f s.parts p) (sym parts) (parts_disk may s.parts d))
 
 pub answers_keeps : {f : Footprint} (value : ℤ) (s : Xinu) → Holds s → KeepsDisks f s (answers value s)
 answers_keeps value s c =
@@ -62,7 +63,7 @@ awaits_keeps written at block s c is =
     (sym (o.devices 2 (omega arith))) refl in
     record {
       preserved = λ k n. blocked_preserves Waiting (Disk None) (InSemaphore 2) u (record { tables = c.tables; harts = c.harts; not_null = n }) (λ h. cc) (refl, refl, refl) (omega arith, k.raw.tokens, fits) tt;
-      touches = touches_trans (disk_touches s u d refl refl refl)
+      touches = touches_trans (disk_touches refl s u d refl refl (λ _. refl) refl)
           (touches_blocked Waiting (Disk None) (InSemaphore 2) u c.tables.runs (ap ((reach on_disk).mine 2) (o.devices 2 (omega arith))) refl refl);
       disks = λ k. record {
         raw = record {
@@ -85,7 +86,7 @@ requests_keep : (written : Option (List ℕ)) (at block : ℕ) (s : Xinu) → Ho
 requests_keep written at block s c w =
     cond_both (may_request at block s) (awaits_disk written at block s) (refused s) (KeepsDisks on_disk s)
     (λ e. let parts = and_parts (in_ram at RD_BLKSIZ) (has_block block (disk_of s)) e in
-    awaits_keeps written at block s c (record { block = ltb-true block (length (disk_of s).blocks) parts.1; written = w e }))
+    awaits_keeps written at block s c (record { block = ltb-true block (length (disk_of s).blocks) parts.1; range = leb-true (at + RD_BLKSIZ) ram_size parts.0; written = w e }))
     (λ _. refused_keeps s c)
 
 -- `read`,

@@ -84,6 +84,7 @@ module _ {f : Reach} (g : HasStart f) where
         free = named g.stacks;
         clock = λ _. refl;
         stay = named g.disk;
+        ram = λ _. refl;
         parts = parts_heap g.heap s.parts stack.heap (extent_marked found.taken);
       }
 

@@ -115,6 +115,7 @@ module _ {f : Reach} where
     free = λ e. record { was = (k.free e).was; harts = λ p h. replies_spare_free u.tables p h replies u.harts alive ∙ (k.free e).harts p h };
     clock = k.clock;
     stay = k.stay;
+    ram = k.ram;
   }
 
   -- those whose tick has come go on

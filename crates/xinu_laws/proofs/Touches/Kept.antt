@@ -1,19 +1,22 @@
 -- What a step keeps of the parts that its footprint doesn't name.
-use Rattle.std.proofs.Common.{◌≡◌, Bool, ℕ, zero, suc, true, false, not, ◌&&◌, Option, Some, None, refl, sym, ap, subst, ◌∙◌}
+use Rattle.std.proofs.Common.{◌≡◌, ◌+◌, ◌*◌, ◌≤◌, Bool, ℕ, zero, suc, List, length, arith, true, false, not, ◌&&◌, Option, Some, None, refl, sym, ap, subst, ◌∙◌}
 use Rattle.std.proofs.lemmas.Bool.{false≢true, and_from, and_parts}
 use Rattle.xinu_base.specs.declared.processes.Rest.{Rest}
 use Rattle.xinu_base.specs.declared.processes.Rest.TheVariants.{Nothing, Receive, Timed, SelfSuspend, GetBuf, PtSend, PtRecv, TtyGet, TtyPut, TtyRead, TtyWrite, Disk}
 use Rattle.xinu_base.specs.declared.semaphores.Owner.{Owner}
 use Rattle.xinu_base.specs.declared.semaphores.Owner.TheVariants as owner
 use Rattle.xinu_model.specs.Footprints.{Footprint}
+use Rattle.part_laws.specs.FreeCells.{HasSameExtent}
+use Rattle.xinu_model.specs.Heap.Cells.{Heap}
 use Rattle.xinu_model.specs.Machine.{Xinu}
+use Rattle.xinu_model.specs.Memory.{ram_size}
 use Rattle.xinu_model.specs.Sound.Tables.{IsInside}
 use Rattle.xinu_model.specs.Sound.Pools.{ArePools}
 use Rattle.xinu_model.specs.Names.Sound.{AreSoundNames}
 use Rattle.xinu_model.specs.Sound.Ports.{ArePorts}
 use Rattle.xinu_model.specs.Sound.Console.{IsConsole}
 use Rattle.xinu_model.specs.Sound.Disks.{IsRawDisk, IsFileDisk}
-use Rattle.xinu_model.specs.Sound.State.{AreUnused}
+use Rattle.xinu_model.specs.Sound.State.{AreUnused, IsWhole}
 use Rattle.xinu_laws.specs.Touches.{Reach, reach, spares, spares_device, spares_rest, KeepsFree, KeepsPlaces, Touches}
 use Rattle.table_laws.proofs.Frame.{frame_weaker, still_weaker}
 use Rattle.xinu_laws.proofs.Consoles.Framed.{is_consoles, asks_console, console_framed}
@@ -113,6 +116,16 @@ pub keeps_places : {f : Reach} {s u : Xinu} → Touches f s u → f.parts.heap �
     → KeepsPlaces s u
 keeps_places t h k r = record { heap = t.parts.heap h; ranges = t.parts.ranges r; stacks = t.stacks k }
 
+-- A heap that lies in RAM still does if it keeps its extent,
+pub keeps_heap : {h u : Heap} → HasSameExtent h u → h.low + 8 * length h.cells ≤ ram_size → u.low + 8 * length u.cells ≤ ram_size
+keeps_heap e within = let low = e.low in let many = e.many in omega (arith, low, many, within)
+
+-- and RAM stays whole in a step that may not change it.
+pub keeps_whole : {f : Reach} {s u : Xinu} → Touches f s u → f.parts.ram ≡ false → IsWhole s.memory s.parts.heap
+    → IsWhole u.memory u.parts.heap
+keeps_whole t e k =
+    record { bytes = ap (λ (l : List ℕ). length l) (t.ram e) ∙ k.bytes; heap = keeps_heap t.parts.extent k.heap }
+
 -- What a footprint names a wider one names.
 pub record Below (f g : Footprint) : Type 0 where
   pub heap : g.heap ≡ false → f.heap ≡ false
@@ -124,6 +137,7 @@ pub record Below (f g : Footprint) : Type 0 where
   pub names : g.names ≡ false → f.names ≡ false
   pub disk : g.disk ≡ false → f.disk ≡ false
   pub files : g.files ≡ false → f.files ≡ false
+  pub ram : g.ram ≡ false → f.ram ≡ false
 
 -- what isn't named isn't named
 spared_below : (b c : Bool) → (b ≡ false → c ≡ false) → not b ≡ true → not c ≡ true
@@ -181,4 +195,5 @@ module _ {f g : Footprint} (w : Below f g) where
     free = λ e. t.free (w.stacks e);
     clock = t.clock;
     stay = λ e. still_weaker s.tables u.tables below_rest t.frame (t.stay (w.disk e));
+    ram = λ e. t.ram (w.ram e);
   }

@@ -14,7 +14,7 @@ use Rattle.xinu_laws.proofs.Touches.{StaysIn, parts_heap, touches_refl, touches_
 -- another heap of the same extent
 heap_touches : (s : Xinu) (h : Heap) → HasSameExtent s.parts.heap h
     → Touches (reach on_heap) s (record s { parts = record s.parts { heap = h } })
-heap_touches s h e = touches_parts s (record s { parts = record s.parts { heap = h } }) refl refl (parts_heap refl s.parts h e)
+heap_touches s h e = touches_parts s (record s { parts = record s.parts { heap = h } }) refl refl (λ _. refl) (parts_heap refl s.parts h e)
 
 -- what is granted, found or given back
 granted_touches : (n : ℕ) (found : Option Grant) (s : Xinu) → heap.take_memory n s.parts.heap ≡ found

@@ -5,7 +5,7 @@ use Rattle.std.specs.Prelude.{nat_lt}
 use Rattle.std.proofs.lemmas.Bool.{ltb-true}
 use Rattle.xinu_base.specs.declared.processes.Rest.TheVariants.{GetBuf}
 use Rattle.xinu_base.specs.declared.semaphores.Owner.TheVariants as owner
-use Rattle.xinu_model.specs.Footprints.{on_pools, on_new_pool}
+use Rattle.xinu_model.specs.Footprints.{on_buffers, on_pools, on_new_pool}
 use Rattle.xinu_model.specs.Heap.Cells.{Grant, take_memory}
 use Rattle.xinu_model.specs.Machine.{Xinu, CallState, start, refused, goes_on}
 use Rattle.xinu_model.specs.Messages.{held}
@@ -28,7 +28,7 @@ use Rattle.xinu_laws.proofs.Pools.Holders.{holder_finds, by_holder}
 use Rattle.table_laws.proofs.Tables.Owners.{owner_signalled}
 use Rattle.table_laws.proofs.Tables.MoveTo.{semaphore_within}
 use Rattle.table_laws.proofs.Tables.Unblock.{sound_signalled}
-use Rattle.xinu_laws.proofs.Touches.{StaysIn, parts_new_pool, parts_pools, touches_parts, touches_refl, touches_trans, touches_either, touches_if}
+use Rattle.xinu_laws.proofs.Touches.{StaysIn, named, parts_new_pool, parts_pools, touches_parts, touches_refl, touches_trans, touches_either, touches_if}
 use Rattle.xinu_laws.proofs.Touches.Moves.{MayTouch, touches_tokens, touches_make_semaphore, parts_signalled, touches_signalled, touches_take_token, touches_goes_on}
 
 -- A reach that allows all pools to change.
@@ -37,9 +37,12 @@ pub record HasPools (f : Reach) : Type 0 where
   pub waits : (i : ℕ) → f.asks (GetBuf i) ≡ false
   pub parts : f.parts.pools ≡ true
 
--- that of the calls on pools does
+-- that of the calls on pools does, and that of a call that takes a buffer
 pub pools_reached : HasPools (reach on_pools)
 pools_reached = record { owner = λ sem i. refl; waits = λ i. refl; parts = refl }
+
+buffers_reached : HasPools (reach on_buffers)
+buffers_reached = record { owner = λ sem i. refl; waits = λ i. refl; parts = refl }
 
 -- Each pool names a semaphore of its own.
 pub record OwnSemaphores (t : Tables) (pools : List BufferPool) : Type 0 where
@@ -77,11 +80,12 @@ module _ {f : Reach} (a : HasPools f) where
     rests = λ left g. ap f.asks (subst (λ o. FitsOwner sem o left) e g) ∙ a.waits i;
   }
 
-  -- the free buffers of a pool change, and perhaps memory
-  touches_free : (s : Xinu) (memory : List ℕ) (i : ℕ) (pool : BufferPool) → range_of pool ≡ range_of (pool_at s.parts.pools i)
+  -- the free buffers of a pool change, and bytes in RAM if the reach allows it
+  touches_free : (s : Xinu) (memory : List ℕ) (i : ℕ) (pool : BufferPool) → (f.parts.ram ≡ false → memory ≡ s.memory)
+      → range_of pool ≡ range_of (pool_at s.parts.pools i)
       → Touches f s (record s { memory = memory; parts = record s.parts { pools = set s.parts.pools i pool } })
-  touches_free s memory i pool e =
-      touches_parts s _ refl refl
+  touches_free s memory i pool ram e =
+      touches_parts s _ refl refl ram
       (parts_pools a.parts s.parts (set s.parts.pools i pool) (map_set_same range_of s.parts.pools i pool no_pool e))
 
   -- A held buffer is put back.
@@ -90,7 +94,7 @@ module _ {f : Reach} (a : HasPools f) where
   put_back_touches b i d o k h =
       let pool = pool_at d.state.parts.pools i in
       let e : CallState = record d { state = record d.state { parts = record d.state.parts { pools = set d.state.parts.pools i (with_free b pool) } } } in
-      let first : Touches f d.state e.state = touches_free d.state d.state.memory i (with_free b pool) refl in
+      let first : Touches f d.state e.state = touches_free d.state d.state.memory i (with_free b pool) (λ _. refl) refl in
       touches_trans first (touches_signalled pool.semaphore e o (pool_may_be_touched d.state.tables pool.semaphore i (k.owner i h)))
 
   -- What is held at an address is given back.
@@ -141,22 +145,22 @@ pub freebuf_touches : (b : ℕ) → StaysIn on_pools (freebuf b)
 freebuf_touches b s k = freed_by_touches (holder b s.parts.pools) b s refl k
 
 -- a buffer is taken
-take_first_touches : (free : List ℕ) (i : ℕ) (s : Xinu) → Touches (reach on_pools) s (take_first free i s).call.state
+take_first_touches : (free : List ℕ) (i : ℕ) (s : Xinu) → Touches (reach on_buffers) s (take_first free i s).call.state
 take_first_touches [] i s = touches_refl s
-take_first_touches (a ∷ free) i s = touches_free pools_reached s _ i (record (pool_at s.parts.pools i) { free = free }) refl
+take_first_touches (a ∷ free) i s = touches_free buffers_reached s _ i (record (pool_at s.parts.pools i) { free = free }) (named refl) refl
 
 -- Call 29.
-pub getbuf_touches : (i : ℕ) → StaysIn on_pools (getbuf i)
+pub getbuf_touches : (i : ℕ) → StaysIn on_buffers (getbuf i)
 getbuf_touches i s k =
     let pool = pool_at s.parts.pools i in
     let sem = pool.semaphore in
     touches_if s (nat_lt i (length s.parts.pools)) (await sem (GetBuf i) (take_buffer i) s)
-    (λ b. let e = (pool_may_be_touched pools_reached s.tables sem i (k.pools.each i (ltb-true i (length s.parts.pools) b)).owner).owner in
+    (λ b. let e = (pool_may_be_touched buffers_reached s.tables sem i (k.pools.each i (ltb-true i (length s.parts.pools) b)).owner).owner in
     touches_take_token (semaphore_at s.tables sem).tokens sem (GetBuf i) (take_buffer i) s k.tables.runs e refl
     (λ n _. touches_trans (touches_tokens s sem n e) (take_first_touches pool.free i (record s { tables = with_tokens sem n s.tables }))))
 
 -- The call goes on.
-pub go_on_getbuf_touches : (i : ℕ) → StaysIn on_pools (go_on_getbuf i)
+pub go_on_getbuf_touches : (i : ℕ) → StaysIn on_buffers (go_on_getbuf i)
 go_on_getbuf_touches i s k =
     touches_trans (touches_goes_on refl (held s) s k.tables.runs) (take_first_touches (pool_at s.parts.pools i).free i (goes_on (held s) s))
 
@@ -171,7 +175,7 @@ made_pool_touches (Some grant) (Some sem) size n s e g =
     let t : Touches (reach on_new_pool) s (record s { tables = make_semaphore sem (owner.Pool i) n s.tables }) =
     touches_make_semaphore s sem (owner.Pool i) n (ap ((reach on_new_pool).mine sem) (free_semaphore_free s.tables sem e)) refl in
     let m = getmem_grants (pool_bytes size n) s.parts.heap grant g in
-    record { frame = t.frame; stacks = t.stacks; free = λ e. record { was = (t.free e).was; harts = (t.free e).harts }; clock = t.clock; stay = t.stay; parts = parts_new_pool refl refl refl s.parts grant.heap _ (extent_marked m.taken) })
+    record { frame = t.frame; stacks = t.stacks; free = λ e. record { was = (t.free e).was; harts = (t.free e).harts }; clock = t.clock; stay = t.stay; ram = t.ram; parts = parts_new_pool refl refl refl s.parts grant.heap _ (extent_marked m.taken) })
 made_pool_touches (Some grant) None size n s e g = touches_refl s
 made_pool_touches None sem size n s e g = touches_refl s
 

@@ -91,7 +91,7 @@ module _ {f : Reach} (q : ℕ) (a : HasPort f q) where
       let first : Touches f s u = touches_make_semaphore s send (owner.Port q) n (ap (f.mine send) g ∙ a.none send) (a.owner send) in
       let then_ : Touches f u v = touches_make_semaphore u receive (owner.Port q) 0 (ap (f.mine receive) (h) ∙ a.none receive)
       (a.owner receive) in
-      touches_trans (touches_trans first then_) (touches_parts v _ refl refl (parts_ports a.parts s.parts _ _))
+      touches_trans (touches_trans first then_) (touches_parts v _ refl refl (λ _. refl) (parts_ports a.parts s.parts _ _))
 
   -- a port is made, if the second semaphore is found
   made_port_touches : (found : Option ℕ) (n send : ℕ) (s : Xinu) → (semaphore_at s.tables send).owner ≡ None
@@ -109,7 +109,7 @@ module _ {f : Reach} (q : ℕ) (a : HasPort f q) where
   put_message_touches (Some queue) message s e o k =
       let d = with_messages q queue (queue.messages ++ message ∷ []) (start s) in
       touches_either s (nat_le most_nodes (nodes s.parts.ports)) (record { call = start s; answer = Panics }) (returns (signalled queue.receive d) (pos 0)) (λ _. touches_refl s)
-      (λ _. touches_trans (touches_parts s d.state refl refl (parts_ports a.parts s.parts _ _))
+      (λ _. touches_trans (touches_parts s d.state refl refl (λ _. refl) (parts_ports a.parts s.parts _ _))
       (touches_signalled queue.receive d o (port_may_be_touched s.tables queue.receive (k.receive q queue e))))
 
   -- A message is taken from the port.
@@ -119,7 +119,7 @@ module _ {f : Reach} (q : ℕ) (a : HasPort f q) where
   take_message_touches [] queue s e o k = touches_refl s
   take_message_touches (message ∷ messages) queue s e o k =
       let d = with_messages q queue messages (start s) in
-      touches_trans (touches_parts s d.state refl refl (parts_ports a.parts s.parts _ _))
+      touches_trans (touches_parts s d.state refl refl (λ _. refl) (parts_ports a.parts s.parts _ _))
       (touches_signalled queue.send d o (port_may_be_touched s.tables queue.send (k.send q queue e)))
 
   -- All who wait on the two semaphores of the port go on.
@@ -145,7 +145,7 @@ module _ {f : Reach} (q : ℕ) (a : HasPort f q) where
       (a.none queue.send) in
       let then_ : Touches f u v = touches_semaphore u queue.receive no_semaphore
       (still_touched queue.receive first (port_may_be_touched t queue.receive receive)) (a.none queue.receive) in
-      touches_trans (touches_trans first then_) (touches_parts v _ refl refl (parts_ports a.parts d.state.parts _ _))
+      touches_trans (touches_trans first then_) (touches_parts v _ refl refl (λ _. refl) (parts_ports a.parts d.state.parts _ _))
 
   -- or is as it was when it was made
   pub emptied_port_touches : (queue : PortQueue) (d : CallState) → (semaphore_at d.state.tables queue.send).owner ≡ Some (owner.Port q)
@@ -158,7 +158,7 @@ module _ {f : Reach} (q : ℕ) (a : HasPort f q) where
       let first : Touches f d.state u = touches_tokens d.state queue.send queue.first_count (port_may_be_touched t queue.send send).owner in
       let then_ : Touches f u v = touches_tokens u queue.receive 0
       (still_touched queue.receive first (port_may_be_touched t queue.receive receive)) in
-      touches_trans (touches_trans first then_) (touches_parts v _ refl refl (parts_ports a.parts d.state.parts _ _))
+      touches_trans (touches_trans first then_) (touches_parts v _ refl refl (λ _. refl) (parts_ports a.parts d.state.parts _ _))
 
 -- a call on a port ends, unless its ticket is stale
 finish_send_touches : (ticket : PortTicket) (message : ℕ) (s : Xinu) → IsInside s.tables → OwnPorts s.tables s.parts.ports

@@ -100,6 +100,7 @@ killed_touches p d =
       free = named refl;
       clock = λ _. refl;
       stay = named refl;
+      ram = λ _. refl;
       parts = parts_death refl refl refl told.state.parts _ (given_up p told.state.parts.devices)
           (extent_unless (heap.free_stack x.stack x.stack_size told.state.parts.heap) told.state.parts.heap (extent_freestk x.stack x.stack_size told.state.parts.heap)) refl refl;
     })
@@ -138,6 +139,7 @@ created_touches (Some p) (Some stack) entry size priority name x y s number e =
       free = named refl;
       clock = λ _. refl;
       stay = λ _. record { stay = (still_move (reach on_processes).asks t p made None Nowhere (free_idle (reach on_processes).asks t p number)).stay };
+      ram = λ _. refl;
       parts = parts_heap refl s.parts stack.heap (extent_marked g.taken);
     }
 created_touches (Some p) None entry size priority name x y s number e = touches_refl s

@@ -11,7 +11,7 @@ use Rattle.xinu_model.specs.Pools.Buffers.{most_pools, pool_at, pool_bytes, whol
 use Rattle.xinu_model.specs.Semaphores.Counts.{free_semaphore, make_semaphore}
 use Rattle.xinu_model.specs.Semaphores.Waiting.{signalled, await}
 use Rattle.xinu_base.specs.Syscalls.{syscall}
-use Rattle.xinu_model.specs.Footprints.{on_pools, on_new_pool}
+use Rattle.xinu_model.specs.Footprints.{on_buffers, on_pools, on_new_pool}
 use Rattle.xinu_model.specs.Rows.{Status, Address, CallRow, row}
 
 -- a pool with this memory and this semaphore
@@ -91,6 +91,6 @@ freebuf a s = freed_by (holder a s.parts.pools) a s
 abbrev pub pool_calls : List CallRow
 pool_calls =
     row (syscall 28 (codes "mkbufpool") 2) on_new_pool Status (λ a s. mkbufpool (a 0) (a 1) s) ∷
-    row (syscall 29 (codes "getbuf") 1) on_pools Address (λ a s. getbuf (a 0) s) ∷
+    row (syscall 29 (codes "getbuf") 1) on_buffers Address (λ a s. getbuf (a 0) s) ∷
     row (syscall 30 (codes "freebuf") 1) on_pools Status (λ a s. freebuf (a 0) s) ∷
     []

@@ -7,7 +7,7 @@ use Rattle.xinu_base.specs.declared.processes.Rest.TheVariants.{GetBuf}
 use Rattle.xinu_base.specs.declared.processes.State.{State}
 use Rattle.xinu_base.specs.declared.processes.State.TheVariants.{Waiting}
 use Rattle.xinu_base.specs.declared.semaphores.Owner.TheVariants as owner
-use Rattle.xinu_model.specs.Memory.{ranges_meet}
+use Rattle.xinu_model.specs.Memory.{ram_size, ranges_meet}
 use Rattle.xinu_model.specs.Pools.Buffers.{BufferPool, most_pools, pool_at, pool_bytes, buffers, is_in, held_in}
 use Rattle.xinu_model.specs.Sound.Tables.{times, count_in}
 use Rattle.xinu_model.specs.Tables.{Tables, process_at, semaphore_at}
@@ -26,10 +26,11 @@ asks_pool i _ = false
 abbrev pub is_released_to_pool : ℕ → Process → Bool
 is_released_to_pool i x = not (is_waiting x.state) && asks_pool i x.rest
 
--- What holds of pool i: its semaphore is its own; its free buffers are distinct buffers of it, and with the held ones they are all;
--- there is one for each token and for each process that was released to take one.
+-- What holds of pool i: its semaphore is its own; it lies in RAM; its free buffers are distinct buffers of it, and with the held ones they
+-- are all; there is one for each token and for each process that was released to take one.
 pub record IsSoundPool (t : Tables) (i : ℕ) (pool : BufferPool) : Type 0 where
   pub owner : (semaphore_at t pool.semaphore).owner ≡ Some (owner.Pool i)
+  pub within : pool.base + pool_bytes pool.size pool.number ≤ ram_size
   pub buffers : AllByRecursion (λ a. is_in a (buffers pool) ≡ true) pool.free
   pub distinct : (a : ℕ) → count_in a pool.free ≤ 1
   pub number : length pool.free + held_in pool ≡ pool.number
