@@ -1,2 +1,5 @@
+pub mod FirstOverlap
 pub mod Ownership
 pub mod Replies
+pub mod WholeReads
+pub mod WholeWrites
