@@ -2,8 +2,10 @@
 //!
 //! It depends on the tables.
 
-ghost use Rattle.std.specs.Prelude.{◌≡◌, ◌∷◌, ◌<◌, ◌≤◌, Some, IfSome, nat_abs, option_map};
+ghost use Rattle.std.specs.Prelude.{ℕ, ◌≡◌, ◌∷◌, ◌<◌, ◌≤◌, Some, IfSome, nat_abs, option_map};
 ghost use Rattle.kernel_tables.specs.Walks.{entries_from, numbers_from, StandsAt};
+ghost use Rattle.process_core.specs.Tables.{numbers, sleepers_of};
+ghost use Rattle.queue_table.specs.Entries.{Linked};
 ghost use Rattle.queue_table.specs.Lists.{after_in, first_process, key_in, list_at, place};
 ghost use Rattle.queue_table.specs.Table as table;
 ghost use Rattle.xinu_model.specs.Sound.Tables.{count_in};
@@ -20,6 +22,18 @@ const READY: usize = 128;
 const SLEEPERS: usize = 129;
 
 impl KernelTables {
+    /// The one table of linked entries that holds all lists of processes: queue 128 is the ready list, queue 129 the sleepers, and the
+    /// queue of a semaphore's number its waiters.
+    #[tactic(auto, unfolding(process_core::specs::Tables::tables_of))]
+    pub fn lists(&self) -> &Lists
+        ensures linked { Linked 64 130 result.now.entries.items (table.lists result.now) }
+        ensures ready { self.now.ready ≡ list_at (table.lists result.now) 128 }
+        ensures sleepers { self.now.sleepers ≡ sleepers_of self.now.ticks (list_at (table.lists result.now) 129) }
+        ensures waiters { (sem : ℕ) → sem < 128 → (semaphore_at self.now sem).waiters ≡ numbers (list_at (table.lists result.now) sem) }
+    {
+        &self.lists
+    }
+
     /// The first process of the ready list. `None` if and only if the list is empty.
     pub fn first_ready(&self) -> Option<Pid>
         ensures all { entries_from result self.now.ready ≡ self.now.ready }

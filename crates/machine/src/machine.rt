@@ -1,18 +1,23 @@
 //! The machine: its kernel, and how many events it took.
 
-ghost use Rattle.std.specs.Prelude.{◌≡◌, ◌+◌, ◌∷◌, [], ◌<◌, false, is_some};
+ghost use Rattle.std.specs.Prelude.{ℕ, ◌≡◌, ◌+◌, ◌∷◌, [], ◌<◌, false, is_some};
 ghost use Rattle.given_disks.specs.HeldFiles.{HoldsFiles};
 ghost use Rattle.host_port.specs.Printing.{Prints};
 ghost use Rattle.machine.specs.Apart.{KeepsApart};
 ghost use Rattle.machine.specs.Disks.{bytes_of, ChangesDisk, disk_bytes};
 ghost use Rattle.machine.specs.RunEnds.{end_of_go};
 ghost use Rattle.machine.specs.Printed.{EventPrints};
+ghost use Rattle.process_core.specs.Tables.{numbers, sleepers_of};
+ghost use Rattle.queue_table.specs.Entries.{Linked};
+ghost use Rattle.queue_table.specs.Lists.{list_at};
+ghost use Rattle.queue_table.specs.Table as table;
 ghost use Rattle.xinu_base.specs.declared.lines.TranscriptLine.TheVariants as line;
 ghost use Rattle.xinu_model.specs.Files.Syscalls.{files_of};
 ghost use Rattle.xinu_model.specs.Events.{panics_in};
 ghost use Rattle.xinu_model.specs.Runs as runs;
 ghost use Rattle.xinu_model.specs.Runs.{end_with};
 ghost use Rattle.xinu_model.specs.Sound.State.{IsSound};
+ghost use Rattle.xinu_model.specs.Tables.{semaphore_at};
 ghost use Rattle.xinu_model.specs.Text.{shown, tables_of};
 
 use crate::events::happen;
@@ -21,6 +26,7 @@ use crate::tables::print_tables;
 use host_port::{Host, Printer};
 use kernel::Kernel;
 use kernel_state::KernelState;
+use queue_table::Lists;
 use std::marker::Model;
 use xinu_base::{Event, Pid, TranscriptLine};
 
@@ -101,6 +107,17 @@ impl Machine {
         print_tables(self.kernel.state(), out, host);
     }
 
+    /// The one table of linked entries that holds all lists of processes: queue 128 is the ready list, queue 129 the sleepers, and the
+    /// queue of a semaphore's number its waiters.
+    pub fn lists(&self) -> &Lists
+        ensures linked { Linked 64 130 result.now.entries.items (table.lists result.now) }
+        ensures ready { self.now.state.tables.ready ≡ list_at (table.lists result.now) 128 }
+        ensures sleepers { self.now.state.tables.sleepers ≡ sleepers_of self.now.state.tables.ticks (list_at (table.lists result.now) 129) }
+        ensures waiters { (sem : ℕ) → sem < 128 → (semaphore_at self.now.state.tables sem).waiters ≡ numbers (list_at (table.lists result.now) sem) }
+    {
+        lists_of(self.kernel.state())
+    }
+
     /// The bytes of a disk: of the raw disk for 0, of the disk with files for 1. That holds the files of the state at rest.
     pub fn disk(&self, n: u8) -> &[u8]
         requires which { n < 2 }
@@ -109,6 +126,16 @@ impl Machine {
     {
         disk_of(self.kernel.state(), n)
     }
+}
+
+// The table that holds all lists of processes.
+fn lists_of(k: &KernelState) -> &Lists
+    ensures linked { Linked 64 130 result.now.entries.items (table.lists result.now) }
+    ensures ready { k.now.call.state.tables.ready ≡ list_at (table.lists result.now) 128 }
+    ensures sleepers { k.now.call.state.tables.sleepers ≡ sleepers_of k.now.call.state.tables.ticks (list_at (table.lists result.now) 129) }
+    ensures waiters { (sem : ℕ) → sem < 128 → (semaphore_at k.now.call.state.tables sem).waiters ≡ numbers (list_at (table.lists result.now) sem) }
+{
+    k.tables.lists()
 }
 
 // The bytes of a disk.
