@@ -1,4 +1,5 @@
-//! Cells of eight bytes, each free or taken: the searches for free ones, and how they are marked (book, chapter 9).
+//! Cells of eight bytes, each free or taken: the searches for free ones, and how they are marked (book, chapter 9). A search reads each
+//! cell once, however many cells it looks for, and none if it looks for more than there are.
 
 ghost use Rattle.std.specs.Prelude.{◌≡◌, ◌+◌, ◌≤◌, IfSome, length, drop, true, false};
 ghost use Rattle.xinu_model.specs.Heap.Cells as model;
@@ -11,30 +12,21 @@ pub(crate) fn cells_for(n: u32) -> usize
     n.div_ceil(8) as usize
 }
 
-/// Whether a list of cells begins with k cells of this kind.
-pub(crate) fn begins_with(kind: bool, k: usize, cells: &[bool]) -> bool
-    ensures begins { result ≡ model.begins_with kind k cells.now }
-{
-    if cells.len() < k {
-        return false;
-    }
-    for i in 0..k {
-        if cells[i] != kind {
-            return false;
-        }
-    }
-    true
-}
-
-/// The least start of k free cells in a row.
+/// The least start of k free cells in a row, for a k that isn't 0.
 pub(crate) fn lowest_free(k: usize, cells: &[bool]) -> Option<usize>
+    requires some { 1 ≤ k }
     ensures lowest { result ≡ model.lowest_free k cells.now }
     ensures within { IfSome result (λ i. i + k ≤ length cells.now) }
 {
+    if k > cells.len() {
+        return None;
+    }
+    let mut start = 0usize;
     for i in 0..cells.len() {
-        let (_, rest) = cells.split_at(i);
-        if begins_with(true, k, rest) {
-            return Some(i);
+        if !cells[i] {
+            start = i + 1;
+        } else if i + 1 - start == k {
+            return Some(start);
         }
     }
     None
@@ -45,9 +37,17 @@ pub(crate) fn highest_free(k: usize, cells: &[bool]) -> Option<usize>
     ensures highest { result ≡ model.highest_free k cells.now }
     ensures within { IfSome result (λ i. i + k ≤ length cells.now) }
 {
+    if k > cells.len() {
+        return None;
+    }
+    let mut free = 0usize;
     for i in (0..cells.len()).rev() {
-        let (_, rest) = cells.split_at(i);
-        if begins_with(true, k, rest) {
+        if cells[i] {
+            free += 1;
+        } else {
+            free = 0;
+        }
+        if free >= k {
             return Some(i);
         }
     }
@@ -69,5 +69,10 @@ pub(crate) fn are_taken(start: usize, k: usize, cells: &[bool]) -> bool
     ensures taken { result ≡ model.begins_with false k (drop start cells.now) }
 {
     let (_, rest) = cells.split_at(start);
-    begins_with(false, k, rest)
+    for i in 0..k {
+        if rest[i] {
+            return false;
+        }
+    }
+    true
 }

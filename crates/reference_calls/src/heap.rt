@@ -75,8 +75,9 @@ pub fn free_stack(h: &mut Heap, a: u32, n: u32) -> bool
     free_memory(h, first, n)
 }
 
-// The least start of k free cells in a row.
+// The least start of k free cells in a row, for a k that isn't 0.
 fn lowest(h: &Heap, k: usize) -> Option<usize>
+    requires some { 1 ≤ k }
     ensures lowest { result ≡ model.lowest_free k h.now.cells }
     ensures within { IfSome result (λ i. i + k ≤ length h.now.cells) }
 {

@@ -1,7 +1,0 @@
--- What is left to be looked at begins so as the whole does.
-use Rattle.std.proofs.Common.{◌≡◌, ◌-◌, drop}
-use Rattle.xinu_model.specs.Heap.Cells as model
-use Rattle.reference_calls.proofs.cells.begins_with.Given as goal
-
-abbrev pub invariant-loop-i : goal.invariant-loop-i
-invariant-loop-i l = model.begins_with l.kind (l.k - l.i) (drop l.i l.cells) ≡ model.begins_with l.kind l.k l.cells
