@@ -107,7 +107,8 @@ pub fn have_room(s: &FileSystem, f: &OpenFile, new: &[u8], size: usize) -> bool
     is_room(s, &f.name, after)
 }
 
-/// How many of these bytes there is room for at the position of an open file, whose size this is.
+/// How many of these bytes there is room for at the position of an open file, whose size this is. Where there is room for some there is room
+/// for fewer, so each test halves what is in question.
 pub fn fitting(s: &FileSystem, f: &OpenFile, bytes: &[u8], size: usize) -> usize
     requires few { length s.now.files ≤ 78 }
     requires bytes { length bytes.now ≤ 1048576 }
@@ -116,13 +117,16 @@ pub fn fitting(s: &FileSystem, f: &OpenFile, bytes: &[u8], size: usize) -> usize
     ensures fitting { result ≡ writing.fitting f.now bytes.now s.now }
     ensures within { result ≤ length bytes.now }
 {
-    let mut k = bytes.len();
-    while k > 0 {
+    let mut least = 0usize;
+    let mut most = bytes.len();
+    while least < most {
+        let k = least + (most - least).div_ceil(2);
         let (front, _) = bytes.split_at(k);
         if have_room(s, f, front, size) {
-            return k;
+            least = k;
+        } else {
+            most = k - 1;
         }
-        k -= 1;
     }
-    0
+    least
 }

@@ -62,10 +62,7 @@ fn open_as(m: &Machine, kind: Kind, name: Bytes, mode: &[u8]) -> Result<DeviceOu
 {
     match kind {
         Kind::NameSpace => open_mapped(m, name, mode),
-        Kind::Console => Ok(open_direct(m, Kind::Console, name, mode)),
-        Kind::RawDisk => Ok(open_direct(m, Kind::RawDisk, name, mode)),
-        Kind::FileSystem => Ok(open_direct(m, Kind::FileSystem, name, mode)),
-        Kind::File => Ok(open_direct(m, Kind::File, name, mode)),
+        _ => Ok(open_direct(m, kind, name, mode)),
     }
 }
 

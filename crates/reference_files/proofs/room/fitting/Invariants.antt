@@ -1,11 +1,15 @@
-use Rattle.std.proofs.Common.{◌≡◌, ◌≤◌, take, length}
+-- So many bytes fit, if they are any; and the greatest number is at most the other.
+use Rattle.std.proofs.Common.{◌≡◌, ◌≤◌, ◌<◌, ◌-◌, take, length, true}
 use Rattle.xinu_model.specs.Files.Writing.{greatest, have_room}
 use Rattle.reference_files.proofs.room.fitting.Given as goal
 
-abbrev pub invariant-loop-k : goal.invariant-loop-k
-invariant-loop-k l =
-    (greatest (λ k. have_room l.f (take k l.bytes) l.s) l.k ≡ greatest (λ k. have_room l.f (take k l.bytes) l.s) (length l.bytes))
-    × (l.k ≤ length l.bytes)
+abbrev pub invariant-loop-least : goal.invariant-loop-least
+invariant-loop-least l = record {
+  order : l.least ≤ l.most;
+  within : l.most ≤ length l.bytes;
+  fits : (0 < l.least) → have_room l.f (take l.least l.bytes) l.s ≡ true;
+  found : greatest (λ k. have_room l.f (take k l.bytes) l.s) l.most ≡ greatest (λ k. have_room l.f (take k l.bytes) l.s) (length l.bytes);
+}
 
-abbrev pub decreases-loop-k : goal.decreases-loop-k
-decreases-loop-k l = l.k
+abbrev pub decreases-loop-least : goal.decreases-loop-least
+decreases-loop-least l = l.most - l.least
