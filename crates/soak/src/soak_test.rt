@@ -13,7 +13,7 @@ use crate::events::{count_end, count_start, count_tables, take_events};
 use image_loader::{Image, read_image};
 use lfs_layout::{CleanImage, RawImage};
 use machine::{BootFault, Machine};
-use schedule_file::Schedule;
+use schedule_file::{Schedule, ScheduleFault};
 use std::alloc::Global;
 use workload::{Draws, Tally, program_file, schedule_text};
 use xinu_base::NoMemory;
@@ -95,14 +95,16 @@ fn drawn_workload(alloc: Global, seed: u32) -> Result<Workload, NoMemory>
     })
 }
 
-// The schedule that is drawn next.
+// The schedule that is drawn next. Its text has no fault, so it isn't read only if there is no memory for it.
 fn schedule(alloc: Global, draws: &mut Draws) -> Result<Schedule, NoMemory>
     ensures schedule { IfOk result (λ s. s ≡ schedules.events_in schedules.event_count draws.old) }
 {
     let text = schedule_text(alloc, draws)?;
     match Schedule::read(alloc, text.as_slice()) {
         Ok(schedule) => Ok(schedule),
-        Err(_) => Err(NoMemory),
+        Err(ScheduleFault::NoMemory) => Err(NoMemory),
+        Err(ScheduleFault::BadLine(_)) => unreachable!(),
+        Err(ScheduleFault::TooMany(_)) => unreachable!(),
     }
 }
 
