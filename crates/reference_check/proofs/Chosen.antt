@@ -4,9 +4,10 @@ use Rattle.std.specs.List.{AllByRecursion}
 use Rattle.std.specs.Prelude.{if◌then◌else◌}
 use Rattle.std.proofs.lemmas.Bool.{cond-true, eq-eqb, ne_eqb}
 use Rattle.reference_check.specs.Leaving.{NoneMade}
-use Rattle.reference_check.specs.Steps.{asked_with, call_made, call_result, called_with, reacted_with}
+use Rattle.reference_check.specs.Steps.{asked_with, call_made, call_result, called_with, done_told, ends_at_once, reacted_with}
 use Rattle.reference_check.proofs.Made.{continued_none, none_if_same}
 use Rattle.reference_check.specs.Bounds.{IsWithin}
+use Rattle.transcript_laws.specs.Choices.{says_done, step_told}
 use Rattle.xinu_base.specs.declared.lines.TranscriptLine.{TranscriptLine}
 use Rattle.xinu_base.specs.declared.processes.Rest.{Rest}
 use Rattle.xinu_base.specs.declared.processes.Rest.TheVariants.{Nothing}
@@ -41,6 +42,11 @@ next_none s none = made_none s.tables.current (files_of s).calls (files_of (step
 waits_only : (choice : ℕ) (s : Xinu) → step_with choice None s ≡ stepped s
 waits_only zero s = refl
 waits_only (suc choice) s = refl
+
+-- A text tells of the call on files that a step makes whether it takes effect, if the step makes one.
+pub step_along : (text : List ℕ) (found : Option FileRequest) (s : Xinu) → step_with (done_told text) found s ≡ step_with (step_told found text) found s
+step_along text None s = waits_only (done_told text) s
+step_along text (Some a) s = refl
 
 only_step : (choice : ℕ) (s : Xinu) (x : EventResult) → stepped s ≡ x → NoneMade s x.state → step_with choice (next_file_call s) s ≡ x
 only_step choice s x is none =
@@ -165,6 +171,12 @@ pub asked_waits : (choice : ℕ) (before : List FileRequest) (a : FileRequest) (
 asked_waits choice [] a first s some = absurd (cc)
 asked_waits zero (b ∷ before) a first s some = refl
 asked_waits (suc choice) (b ∷ before) a first s some = refl
+
+-- It takes effect at once if none is before it and the text tells so.
+pub asked_at_once : (text : List ℕ) (calls : List FileRequest) (a : FileRequest) (first : List TranscriptLine) (s : Xinu)
+    → are_calls calls ≡ false → says_done text ≡ true → asked_with (done_told text) calls a first s ≡ ends_at_once a first s
+asked_at_once text [] a first s none says = ap (λ (b : Bool). asked_with (if b then 1 else 0) [] a first s) says
+asked_at_once text (b ∷ calls) a first s none says = absurd (cc)
 
 -- A good completion of the disk, with a call under way.
 pub completed_is : (choice : ℕ) (s : Xinu) (l : List FileRequest) → are_calls l ≡ true

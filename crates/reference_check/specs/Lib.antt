@@ -1,5 +1,6 @@
 pub mod Bounds
 pub mod Leaving
+pub mod Making
 pub mod Places
 pub mod Starting
 pub mod Steps

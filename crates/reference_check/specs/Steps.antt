@@ -1,5 +1,6 @@
 -- A machine step by what the current process's instruction came to.
-use Rattle.std.specs.Prelude.{ℕ, suc, List, [], ◌∷◌, ◌++◌, map, Option, Some}
+use Rattle.std.specs.Prelude.{ℕ, suc, if◌then◌else◌, List, [], ◌∷◌, ◌++◌, map, Option, Some}
+use Rattle.transcript_laws.specs.Choices.{says_done}
 use Rattle.xinu_base.specs.declared.lines.TranscriptLine.{TranscriptLine}
 use Rattle.xinu_base.specs.declared.registers.Outcome.{Outcome}
 use Rattle.xinu_base.specs.declared.registers.Outcome.TheVariants as outcome
@@ -16,6 +17,10 @@ call_result s = let call = call_of (current_hart s) in called call.number call.a
 -- the call on files that it makes, if none is before it
 abbrev pub call_made : Xinu → Option FileRequest
 call_made s = made_first s.tables.current (files_of s).calls (files_of (call_result s).call.state).calls
+
+-- how many calls on files a text tells to take effect as they are made: the one that a step makes, or none
+abbrev pub done_told : List ℕ → ℕ
+done_told rest = if says_done rest then 1 else 0
 
 -- the end of an event in which a call on files takes effect as it is made, after the first lines
 abbrev pub ends_at_once : FileRequest → List TranscriptLine → Xinu → EventResult

@@ -1,31 +1,26 @@
-//! What a text tells of the choice in the event with which it begins.
+//! What a text tells of the choice in the event with which it begins. A text is asked only in an event that leaves a choice: one in which
+//! a call on files is made and no other is under way, or in which the disk with files completes well. So whatever the text is, an event
+//! that prints nothing reads nothing of it.
 
-ghost use Rattle.std.specs.Prelude.{◌≡◌, ◌≤◌, ◌-◌, Some, None, MatchOption, length, if◌then◌else◌};
-ghost use Rattle.reference_check.specs.Bounds.{most_told};
+ghost use Rattle.std.specs.Prelude.{◌≡◌, ◌≤◌, Some, None, MatchOption, length};
 ghost use Rattle.reference_check.specs.Places as places;
 ghost use Rattle.transcript_laws.specs.Choices as choices;
 ghost use Rattle.transcript_laws.specs.Reading as reading;
-ghost use Rattle.xinu_model.specs.Events.{effect_of};
+ghost use Rattle.xinu_base.specs.declared.events.Event.TheVariants.{Disk1};
+ghost use Rattle.xinu_model.specs.Files.Syscalls.{files_of};
 
 use crate::machines::{calls_of, least_of};
 use crate::reading::{after_bytes, after_line};
 use reference_state::{FileRequest, Machine};
-use xinu_base::{Event, FileMoment, Pid, TranscriptLine};
+use xinu_base::{FileMoment, Pid, TranscriptLine};
 
-/// How many calls on files more than have to take effect in an event, by the text that begins with what the event prints. The event has the
-/// same effect under it as under `told` of `transcript_laws`.
-pub(crate) fn choice_told(machine: &Machine, e: Event, text: &[u8]) -> usize
-    ensures effect { effect_of machine.now.state e result ≡ effect_of machine.now.state e (choices.told machine.now.state e text.now) }
-    ensures most { result ≤ most_told machine.now.state e }
+/// How many calls on files more than have to take effect at a good completion of the disk, by the text that begins with what that prints.
+pub(crate) fn more_told(machine: &Machine, text: &[u8]) -> usize
+    ensures told { result ≡ choices.told machine.now.state Disk1 text.now }
+    ensures most { result ≤ length (files_of machine.now.state).calls }
 {
-    match e {
-        Event::Step => usize::from(says_done(text)),
-        Event::Disk1 => {
-            let told = effects_told(calls_of(machine), text);
-            told.saturating_sub(least_of(machine))
-        }
-        _ => 0,
-    }
+    let told = effects_told(calls_of(machine), text);
+    told.saturating_sub(least_of(machine))
 }
 
 // How many of these calls a text says took effect at a good completion of the disk.
@@ -68,8 +63,8 @@ fn after_moment<'a>(moment: FileMoment, call: &FileRequest, text: &'a [u8]) -> O
     after_line(&TranscriptLine::File(caller, moment), text)
 }
 
-// Whether a text begins with the line of a call and then that of a call on files that took effect.
-fn says_done(text: &[u8]) -> bool
+/// Whether a text begins with the line of a call and then that of a call on files that took effect.
+pub(crate) fn says_done(text: &[u8]) -> bool
     ensures says { result ≡ choices.says_done text.now }
 {
     begins(b"call ", text) && begins_done(without_line(text))

@@ -12,7 +12,6 @@ ghost use Rattle.xinu_model.specs.Events.{effect_of};
 ghost use Rattle.xinu_model.specs.Runs as runs;
 ghost use Rattle.xinu_model.specs.Text as model;
 
-use crate::choices::choice_told;
 use crate::events::{lines_of, take};
 use crate::machines;
 use crate::reading::{after_line, after_lines};
@@ -86,8 +85,7 @@ fn take_event<'a>(
         (λ t. Took (effect_of machine.old.state e (told machine.old.state e rest.now)) rest.now t machine.new.state)) }
     ensures idle { IfOk result (λ _. IsStart machine.new) }
 {
-    let choice = choice_told(machine, e, rest);
-    let happened = take(machine, e, choice)?;
+    let happened = take(machine, e, rest)?;
     let Some(left) = after_lines(&happened.lines, rest) else {
         return Ok(None);
     };

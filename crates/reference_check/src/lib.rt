@@ -14,9 +14,9 @@
 //! |---|---|
 //! | `checks` | [`check_trace`]: the machine starts with the images, and the text is read along its run |
 //! | `driver` | one machine, one place in the text, event by event |
-//! | `choices` | how many calls on files more than have to take effect in an event, by the text that begins with it |
+//! | `choices` | what a text tells of the calls on files that take effect in the event with which it begins |
 //! | `reading` | bytes and lines are taken off the front of a text |
-//! | `events` | an event of any kind, and the lines of the tables |
+//! | `events` | an event of any kind, along a text, and the lines of the tables |
 //! | `steps` | a machine step: an instruction, or what is left of a call |
 //! | `calls` | the 44 calls by their numbers, and what is left of those that waited |
 //! | `file_calls`, `file_notes` | calls on files inside an event: how they are made, and how they take effect |

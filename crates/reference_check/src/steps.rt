@@ -1,7 +1,7 @@
 //! A machine step: an instruction of the current process, or what is left of the call in which it waited (book, chapters 4 and 5).
 
 ghost use Rattle.std.specs.Prelude.{◌≡◌, ◌≢◌, [], IfOk};
-ghost use Rattle.reference_check.specs.Steps.{call_made, called_with, reacted_with};
+ghost use Rattle.reference_check.specs.Steps.{call_made, called_with, done_told, reacted_with};
 ghost use Rattle.reference_state.specs.Answers.{IsStart};
 ghost use Rattle.reference_state.specs.Happened.{happened};
 ghost use Rattle.reference_check.specs.Bounds.{IsWithin};
@@ -21,20 +21,20 @@ use reference_switch::DeviceOutcome;
 use rv_hart::Outcome;
 use xinu_base::{NoMemory, Rest, TranscriptLine};
 
-/// A machine step, in which a call on files takes effect as it is made, if one is chosen to and there is one that may. Nothing happens if
+/// A machine step, in which a call on files takes effect as it is made, if there is one that may and the text tells it. Nothing happens if
 /// the null process is current.
-pub(crate) fn step(m: &mut Machine, choice: usize) -> Result<Happened, NoMemory>
+pub(crate) fn step(m: &mut Machine, text: &[u8]) -> Result<Happened, NoMemory>
     requires start { IsStart m.old }
     requires within { IsWithin 1000000000 m.old.state }
     ensures steps { IfOk result (λ h. happened h m.new.state ≡
-        model.step_with choice (model.next_file_call m.old.state) m.old.state) }
+        model.step_with (done_told text.now) (model.next_file_call m.old.state) m.old.state) }
     ensures start { IfOk result (λ _. IsStart m.new) }
 {
     if m.current().index() == 0 {
         return Ok(nothing(m));
     }
     match m.process_at(m.current()).rest {
-        Rest::Nothing => instruction_step(m, choice),
+        Rest::Nothing => instruction_step(m, text),
         _ => continuing_step(m),
     }
 }
@@ -54,29 +54,29 @@ fn continuing_step(m: &mut Machine) -> Result<Happened, NoMemory>
 }
 
 // The step of a process whose call is complete.
-fn instruction_step(m: &mut Machine, choice: usize) -> Result<Happened, NoMemory>
+fn instruction_step(m: &mut Machine, text: &[u8]) -> Result<Happened, NoMemory>
     requires start { IsStart m.old }
     requires within { IsWithin 1000000000 m.old.state }
     requires process { m.old.state.tables.current ≢ 0 }
     ensures reacted { IfOk result (λ h. happened h m.new.state ≡
-        reacted_with choice (exec (current_hart m.old.state) m.old.state.memory).outcome
+        reacted_with (done_told text.now) (exec (current_hart m.old.state) m.old.state.memory).outcome
         (model.with_executed (exec (current_hart m.old.state) m.old.state.memory) m.old.state)) }
     ensures start { IfOk result (λ _. IsStart m.new) }
 {
     match instruction(m) {
         Outcome::Went => Ok(nothing(m)),
-        Outcome::Call => call_step(m, choice),
+        Outcome::Call => call_step(m, text),
         Outcome::Exit => returned(m),
         Outcome::Trap(cause) => trapped(m, cause),
     }
 }
 
 // The step in which the current process makes a call.
-fn call_step(m: &mut Machine, choice: usize) -> Result<Happened, NoMemory>
+fn call_step(m: &mut Machine, text: &[u8]) -> Result<Happened, NoMemory>
     requires start { IsStart m.old }
     requires within { IsWithin 1000000000 m.old.state }
     requires process { m.old.state.tables.current ≢ 0 }
-    ensures called { IfOk result (λ h. happened h m.new.state ≡ called_with choice (call_made m.old.state) m.old.state) }
+    ensures called { IfOk result (λ h. happened h m.new.state ≡ called_with (done_told text.now) (call_made m.old.state) m.old.state) }
     ensures start { IfOk result (λ _. IsStart m.new) }
 {
     let caller = m.current();
@@ -84,6 +84,6 @@ fn call_step(m: &mut Machine, choice: usize) -> Result<Happened, NoMemory>
     let first = m.one_line(TranscriptLine::Call(caller, call))?;
     match called(m, call)? {
         DeviceOutcome::Done(answer) => m.end_of_event(caller, first, answer),
-        DeviceOutcome::Asks(call, at) => make_call(m, first, call, at, choice),
+        DeviceOutcome::Asks(call, at) => make_call(m, first, call, at, text),
     }
 }
