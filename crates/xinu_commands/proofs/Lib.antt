@@ -31,4 +31,5 @@ pub mod SoakVerdicts
 pub mod Staged
 pub mod Statuses
 pub mod TraceStatuses
+pub mod UnnamedDisks
 pub mod WrittenFiles

@@ -1,5 +1,5 @@
 -- A soak test that was run and whose summary was sent carries out its work, up to where the host refused something.
-use Rattle.std.proofs.Common.{◌≡◌, ◌≤◌, inr, ℕ, false, List, [], take, Option, Some, None, IsSome, refl, sym, ap, subst}
+use Rattle.std.proofs.Common.{◌≡◌, ◌≤◌, ℕ, List, [], take, Option, Some, None, IsSome, refl, sym, ap, subst}
 use Rattle.command_line.specs.Commands.{Soak}
 use Rattle.given_disks.specs.Disks.{disks_of}
 use Rattle.host_port.specs.declared.host.Channel.TheVariants.{Out}

@@ -5,23 +5,28 @@ ghost use Rattle.std.specs.Prelude.{◌≡◌, ◌≢◌, ◌↔◌, ◌==◌, �
 ghost use Rattle.std.specs.List.{list_any};
 ghost use Rattle.command_line.specs.AsmArgs.{AsmFiles};
 ghost use Rattle.command_line.specs.CheckArgs.{CheckFiles};
-ghost use Rattle.command_line.specs.Commands.{Command, Run, Asm, Check, Disk, command_of};
+ghost use Rattle.command_line.specs.Commands.{Command, Run, Asm, Soak, Check, Disk, command_of};
 ghost use Rattle.command_line.specs.DiskArgs.{DiskAction};
 ghost use Rattle.command_line.specs.Reading.{Text};
 ghost use Rattle.command_line.specs.RunArgs.{RunFiles};
 ghost use Rattle.elf_loader.specs.LoadedFiles.{loads};
+ghost use Rattle.given_disks.specs.Disks.{disks_of};
 ghost use Rattle.host_port.specs.HostCalls.{Rose};
 ghost use Rattle.host_port.specs.Outside.{Outside, grown};
 ghost use Rattle.image_loader.specs.ImageFiles.{image_in};
+ghost use Rattle.lfs_layout.specs.Images.{opened};
 ghost use Rattle.rv_asm.specs.Assembly.{Makes, assembly};
-ghost use Rattle.xinu_model.specs.Boot.{Loaded};
+ghost use Rattle.xinu_model.specs.Boot.{Loaded, first_disks};
+ghost use Rattle.xinu_model.specs.Machine.{Xinu};
 ghost use Rattle.xinu_commands.specs.AsmVerdict.{written_file};
 ghost use Rattle.xinu_commands.specs.Calls.{calls_due, calls_in};
 ghost use Rattle.xinu_commands.specs.Statuses.{SaysOfDisk, SaysOfFiles, SaysOfSource, SaysOfTrace, status_due, statuses};
 ghost use Rattle.xinu_commands.specs.Theorem.{Answers};
-ghost use Rattle.xinu_commands.specs.InputVerdict.{empty_disk0, empty_disk1};
+ghost use Rattle.xinu_commands.specs.DiskVerdict.{disk_fault};
+ghost use Rattle.xinu_commands.specs.InputVerdict.{empty_disk0, empty_disk1, raw_fault};
+ghost use Rattle.xinu_commands.specs.SoakVerdict.{soak_verdict};
 ghost use Rattle.xinu_commands.specs.Verdict.{ScheduleInput, Disk0Input, Disk1Input, ImageInput, TraceInput, SourceInput, disk_bytes, file_bytes, image_bytes, verdict};
-ghost use Rattle.xinu_commands.specs.Work.{Left};
+ghost use Rattle.xinu_commands.specs.Work.{Does, Left, Soaking};
 
 /// The exit status is 0, 2, 3, 4, 5, 6, 7, 8, 9, 10, 11, 12 or 13.
 pub fn statuses_are_these()
@@ -76,4 +81,22 @@ pub fn written_files_load()
 /// unless the host failed or memory ran out.
 pub fn statuses_say_of_disks()
     ensures { (exit : ℕ) (action : DiskAction) (old new : Outside) (left : Option Left) (a : Answers exit (Some (Disk action)) old new left) → exit ≢ 7 → exit ≢ 3 → SaysOfDisk exit action (λ input name. file_bytes (old.file name) (a.obeys.unseen input)) }
+{}
+
+/// The disks of a run that names none break no rule.
+pub fn unnamed_disks_are_accepted()
+    ensures raw { raw_fault empty_disk0 ≡ None }
+    ensures files { disk_fault empty_disk1 ≡ None }
+{}
+
+/// They are the disks that the abstract machine has if it is given none.
+pub fn unnamed_disks_are_the_first()
+    ensures { disks_of empty_disk0 (opened empty_disk1) ≡ first_disks }
+{}
+
+/// A soak test is carried out whatever its number is: its disks are accepted and its programs boot. So its exit status is 0, unless the host
+/// failed or memory ran out.
+pub fn soak_tests_are_carried_out()
+    ensures does { (seed : ℕ) → (start : Xinu) × (soak_verdict seed ≡ Does (Soaking seed start)) }
+    ensures status { (exit seed : ℕ) (old new : Outside) (left : Option Left) → Answers exit (Some (Soak seed)) old new left → exit ≢ 7 → exit ≢ 3 → exit ≡ 0 }
 {}
