@@ -21,6 +21,36 @@
 //! and the files of the abstract machine are those of `base` until the call is done. How many completions the call in hand has left at
 //! most is `left` in `specs/Bounds`. Each number that is read off a disk is tested before it is used. The crate depends on `file_laws`,
 //! and on the crates below that.
+//!
+//! # Where it rubs
+//!
+//! - `Open` answers the number that the abstract machine has for the device, from 4 to 9, where a [`FileDev`] counts the six from 0: of the
+//!   reply 4 it is `FileDev::from_word(0)`.
+//! - `completed` takes a block after a write too. It doesn't read that one: the block that was written will do.
+//! - The engine has no disk, so its caller keeps the bytes. `block_at` of `lfs_check` gives a block of them.
+//!
+//! # Example
+//!
+//! The engine is asked what it wants, and the caller serves it from the bytes of a disk, until the call has its reply.
+//!
+//!     use lfs_check::block_at;
+//!     use local_files::{BlockWork, FileCall, Files};
+//!
+//!     fn reply(files: &mut Files, disk: &mut [u8], call: FileCall, bytes: &[u8]) -> i32 {
+//!         files.begin(call, bytes);
+//!         while let Some(work) = files.wants() {
+//!             match work {
+//!                 BlockWork::Read(n) => files.completed(&block_at(disk, n)),
+//!                 BlockWork::Write(n) => {
+//!                     let at = 512 * n as usize;
+//!                     let block = *files.outgoing();
+//!                     disk[at..at + 512].copy_from_slice(&block);
+//!                     files.completed(&block);
+//!                 }
+//!             }
+//!         }
+//!         files.answer().unwrap_or(-1)
+//!     }
 #![tactic(auto)]
 
 mod buffer;

@@ -22,6 +22,26 @@
 //! followed back from its tail the same list reversed, and no process is met in two lists. The table keeps this as a ghost fact.
 //! `proofs/Laws.antt` has the laws for callers; none names an entry. It holds for every P and Q with P + 2Q at most 65535. The test
 //! `a_removal_makes_no_search` shows that a removal makes no search. The crate depends on `xinu_base`.
+//!
+//! # Example
+//!
+//! Four processes and one queue, which is a delta list: process 2 has 5 ticks left and process 0 has 3, so process 0 is first, with key 3,
+//! and the key of process 2 is what it has left after that, 2. After a tick the first key is 2. Each process is in at most one list.
+//!
+//!     use queue_table::QueueTable;
+//!     use std::io;
+//!
+//!     fn main(rt: HostRuntime) -> io::Result<()> {
+//!         let Ok(mut timers) = QueueTable::<4, 1>::new(rt.alloc()) else {
+//!             return println!(rt; "no memory");
+//!         };
+//!         timers.insert_delta(2, 0, 5);
+//!         timers.insert_delta(0, 0, 3);
+//!         timers.lower_first(0);
+//!         let first = timers.first(0);
+//!         let left = timers.first_key(0);
+//!         println!(rt; "{first:?} {left:?}")
+//!     }
 #![tactic(auto)]
 
 mod delays;
