@@ -22,7 +22,7 @@
 //! most is `left` in `specs/Bounds`. Each number that is read off a disk is tested before it is used. The crate depends on `file_laws`,
 //! and on the crates below that.
 //!
-//! # Where it rubs
+//! # Notes for callers
 //!
 //! - `Open` answers the number that the abstract machine has for the device, from 4 to 9, where a [`FileDev`] counts the six from 0: of the
 //!   reply 4 it is `FileDev::from_word(0)`.
