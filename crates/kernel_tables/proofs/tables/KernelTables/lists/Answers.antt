@@ -1,4 +1,4 @@
-use Rattle.std.proofs.Common.{◌≡◌, ◌∙◌, ℕ, ap, sym}
+use Rattle.std.proofs.Common.{◌∙◌, ap, sym}
 use Rattle.queue_table.proofs.Linked.{linked_of}
 use Rattle.queue_table.specs.Table.{lists}
 use Rattle.semaphores.proofs.Counting.{waiters_at}
