@@ -1,13 +1,14 @@
 #!/usr/bin/env python3
-"""Times `xinu_run check` on transcripts of about a million lines: of a process that makes one call over and over, of two processes that write
-and read files, and of the first beside the greatest raw disk.
+"""Times `xinu_run check` on transcripts of up to a million lines: of a process that makes one call over and over, of two processes that write
+and read files, of the first beside the greatest raw disk, and of a process that takes stacks and gives them back; and on a text of one line
+of 60 MiB, beside which a process makes a million steps without a call.
 
 usage: bench/check.py
 
 It takes the program that bench/program.py finds, runs each system with `xinu_run run`, and hands the transcript to `check`. For each it
 prints how many lines and bytes the transcript has, the seconds of processor time of the run and of the check, the greatest memory of the
 check in bytes and as a multiple of text, RAM and disks, and what `check` says; then what it says of the same text with the last `ret` line
-changed. No part of the gate."""
+changed. Of the long line it prints how long `check` takes to say `no`. No part of the gate."""
 import os
 import subprocess
 import sys
@@ -20,6 +21,10 @@ RAM = 1 << 20
 RAW_BLOCKS = 65536
 FILE_BLOCKS = 256
 GETPID = "again: sys getpid\n j again\n"
+STACKS = "again: li a0, 64\n sys getstk\n li a1, 64\n sys freestk\n j again\n"
+# The first stack has nearly all of the heap, so that each search goes over its cells.
+STACKS_BELOW = "li a0, 1000000\n sys getstk\n" + STACKS
+LINE = 60 << 20
 # Opens a file of its own, and then writes 64 bytes at its start and reads them back, over and over.
 WRITER = """
         .place {place}
@@ -52,6 +57,8 @@ SYSTEMS = {
     "getpid": ([GETPID], "step 1500000\n", False),
     "files": ([WRITER.format(place=0, name="a"), WRITER.format(place=4096, name="b")], "round 80000\n", False),
     "getpid, 32 MiB": ([GETPID], "step 1500000\n", True),
+    "getstk and freestk": ([STACKS], "step 700000\n", False),
+    "the same below a stack of 1000000 bytes": ([STACKS_BELOW], "step 70000\n", False),
 }
 
 
@@ -128,10 +135,21 @@ def report(folder, name, processes, schedule, has_raw_disk):
           f"{memory} bytes, {memory / least:.2f} times text, RAM and disks: {answer}; with another reply: {other}")
 
 
+def report_long_line(folder):
+    """Times a process that makes a million steps without a call, beside a line of which no end is near."""
+    image, events = assembled(folder, 0, "again: j again\n"), os.path.join(folder, "schedule")
+    with open(events, "w", encoding="ascii") as file:
+        file.write("step 1000000\n")
+    answer, seconds, memory = judged(folder, ["--schedule", events, image], b"run 1\ncall " + bytes(LINE))
+    print(f"a line of {LINE} bytes: 1000000 steps, check {seconds:.2f} s, {memory} bytes: {answer}")
+
+
 def main():
     for name, (processes, schedule, has_raw_disk) in SYSTEMS.items():
         with tempfile.TemporaryDirectory() as folder:
             report(folder, name, processes, schedule, has_raw_disk)
+    with tempfile.TemporaryDirectory() as folder:
+        report_long_line(folder)
 
 
 if __name__ == "__main__":
