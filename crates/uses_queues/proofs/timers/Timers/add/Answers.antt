@@ -1,0 +1,26 @@
+use mir.Val.{SFits}
+use Rattle.std.proofs.Common.{rules, w32, ℤ, ◌∙◌, List, pos, ◌≤ℤ◌, ap, arith}
+use Rattle.std.proofs.lemmas.Int.{ints, to_z-of_z}
+use Rattle.queue_table.proofs.Laws.{queues_of}
+use Rattle.queue_table.specs.Lists.{Entry, delay_insert, delays, delta_insert, list_at, with_list}
+use Rattle.queue_table.specs.Table.{lists}
+use Rattle.uses_queues.proofs.Delays.{HasDelays, inserted}
+use Rattle.uses_queues.proofs.timers.Timers.add.Goals as goal
+
+-- the queue with the timer
+after : (c : goal.After-insert_delta)
+    → HasDelays (lists c.insert_delta.new.self) (delay_insert c.args.timer c.args.ticks (delays (list_at (lists c.self.inside.table) 0)))
+after c =
+    let low : pos 1 ≤ℤ c.args.ticks = grind (arith, ints) in
+    let fits : SFits w32 c.args.ticks = search rules in
+    let same = to_z-of_z w32 c.args.ticks fits in
+    let is = c.insert_delta.ensures.lists
+    ∙ ap (λ (d : ℤ). with_list (lists c.self.inside.table) 0 (delta_insert c.args.timer d (list_at (lists c.self.inside.table) 0))) same in
+    inserted (lists c.self.inside.table) (lists c.insert_delta.new.self) c.args.timer c.args.ticks (queues_of c.self.inside.table) c.self.invariant low
+    (omega (arith, ints, c.ranges.ticks.sfits)) is
+
+pub invariant_of-self : goal.invariant_of-self
+invariant_of-self c = (after c).delta
+
+pub returns : goal.returns
+returns c = record { added = (after c).delays_are ∙ ap (λ (l : List Entry). delay_insert c.args.timer c.args.ticks l) c.self.view_is }
