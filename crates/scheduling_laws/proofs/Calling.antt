@@ -103,7 +103,7 @@ rest_spares_files _ = refl
 
 -- who may call does so in a sound state
 caller_sound : (s : Xinu) → MayCallAny s → IsSound s
-caller_sound s c = record { tables = c.may.tables; harts = c.may.harts; unused = c.unused; pools = c.pools; ports = c.ports; devices = c.devices }
+caller_sound s c = record { tables = c.may.tables; harts = c.may.harts; unused = c.unused; pools = c.pools; ports = c.ports; devices = c.devices; ram = c.ram }
 
 -- what begins with answers or a switch doesn't begin with a call
 none_first : (replies : List (ℕ × ℤ)) (was is : ℕ) → first_call (map return_line replies ++ switched was is) ≡ None
