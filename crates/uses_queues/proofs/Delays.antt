@@ -1,8 +1,10 @@
 -- What the calls on the queue leave of the delays.
-use Rattle.std.proofs.Common.{◌≡◌, ◌≢◌, ◌∙◌, ℕ, ℤ, pos, ◌≤ℤ◌, ◌+ℤ◌, Some, None, List, [], ◌∷◌, length, replicate, refl, sym, ap, subst, arith}
+use Rattle.std.proofs.Common.{◌≡◌, ◌≢◌, ◌∙◌, ℕ, ℤ, pos, ◌≤ℤ◌, ◌+ℤ◌, Some, None, List, [], ◌∷◌, length, replicate, refl, sym, ap, subst, arith, Option, true, is_some}
+use Rattle.std.proofs.lemmas.Bool.{false≢true}
 use Rattle.std.proofs.lemmas.Int.{ints}
-use Rattle.queue_table.specs.Lists.{Entry, IsDelta, KeysAtLeast, delay_insert, delays, delays_from, delta_insert, delta_sooner, first_key_of, first_process, list_at, rest_of, sooner, with_list}
-use Rattle.queue_table.proofs.Laws.{IsDelta-insert, IsDelta-rest, IsDelta-sooner, delays-insert, delays-sooner, list_at-same}
+use Rattle.queue_table.specs.Lists.{Entry, IsDelta, KeysAtLeast, delay_insert, delays, delays_from, delta_insert, delta_sooner, first_key_of, first_process, list_at, rest_of, sooner, with_list, is_listed, place}
+use Rattle.queue_table.proofs.Deltas.{is_listed-delays}
+use Rattle.queue_table.proofs.Laws.{IsDelta-insert, IsDelta-rest, IsDelta-sooner, delays-insert, delays-sooner, list_at-same, place-some}
 
 -- What a queue became: a delta list with these delays.
 pub record HasDelays (ls : List (List Entry)) (to : List Entry) : Type 0 where
@@ -103,3 +105,13 @@ later (e ∷ l) d some =
 pub first_there : (l : List Entry) (k : ℤ) → first_key_of l ≡ Some k → (p : ℕ) × (first_process l ≡ Some p)
 first_there [] k at = absurd (cc)
 first_there (e ∷ l) k at = (e.0, refl)
+
+-- a timer that has a place runs
+pub runs : (ls : List (List Entry)) (p : ℕ) (o : Option ℕ) → length ls ≡ 1 → o ≡ place ls p → is_some o ≡ true
+    → is_listed p (delays (list_at ls 0)) ≡ true
+runs ls p None one is some = absurd (false≢true some)
+runs ls p (Some q) one is some =
+    let at = place-some ls p q (sym is) in
+    let low = at.0 in
+    let first : q ≡ 0 = omega (arith, one, low) in
+    is_listed-delays p (list_at ls 0) ∙ subst (λ (i : ℕ). is_listed p (list_at ls i) ≡ true) first at.1

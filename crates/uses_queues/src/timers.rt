@@ -1,7 +1,7 @@
 //! Timers in one delta list.
 
-ghost use Rattle.std.specs.Prelude.{◌≡◌, ◌∷◌, [], true, false, Some, pos, if◌then◌else◌, IfNone, IfSome};
-ghost use Rattle.queue_table.specs.Lists.{KeysAtLeast, delay_insert, first_key_of, sooner};
+ghost use Rattle.std.specs.Prelude.{◌≡◌, ◌<◌, ◌≤ℤ◌, ◌∷◌, [], true, false, Some, pos, if◌then◌else◌, IfNone, IfSome};
+ghost use Rattle.queue_table.specs.Lists.{KeysAtLeast, delay_insert, first_key_of, is_listed, sooner};
 
 use queue_table::QueueTable;
 use std::alloc::Global;
@@ -42,6 +42,7 @@ impl Timers {
     /// such timer, if it runs, or if the ticks aren't at least 1.
     pub(crate) fn add(&mut self, timer: usize, ticks: i32) -> bool
         ensures added { self.new ≡ (if result then delay_insert timer ticks self.old else self.old) }
+        ensures accepts { timer < 8 → pos 1 ≤ℤ ticks → is_listed timer self.old ≡ false → result ≡ true }
     {
         if timer >= 8 || ticks < 1 {
             return false;
