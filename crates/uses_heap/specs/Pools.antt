@@ -17,3 +17,8 @@ pub record AreRecords (h : Heap) (addresses : List ℕ) : Type 0 where
   pub low : h.low ≡ 0
   pub taken : All (IsTaken h) addresses
   pub apart : AllPairs AreApart addresses
+
+-- A heap, and the addresses of the records that are taken from it, the oldest first.
+pub record Records : Type 0 where
+  pub heap : Heap
+  pub addresses : List ℕ

@@ -1,6 +1,6 @@
 use Rattle.std.proofs.Common.{ℕ, List, sym, subst}
 use Rattle.std.specs.List.{All}
-use Rattle.uses_heap.specs.Pools.{AreApart, AreRecords}
+use Rattle.uses_heap.specs.Pools.{AreApart, AreRecords, Records}
 use Rattle.uses_heap.proofs.Records.{records_take}
 use Rattle.uses_heap.proofs.pool.Pool.take.Goals as goal
 
@@ -14,4 +14,4 @@ invariant_of-self-2 c =
 pub returns-clause-apart : goal.returns-clause-apart
 returns-clause-apart c =
     let after = records_take c.self.inside.heap c.getmem.new.self c.in_ok-address.address c.self.inside.taken.items c.self.invariant c.in_ok-address.ensures.grants in
-    subst (λ (xs : List ℕ). All (AreApart c.in_ok-address.address) xs) c.self.view_is after.0
+    subst (λ (p : Records). All (AreApart c.in_ok-address.address) p.addresses) c.self.view_is after.0
