@@ -1,6 +1,6 @@
 //! The machine: its kernel, and how many events it took.
 
-ghost use Rattle.std.specs.Prelude.{ℕ, ◌≡◌, ◌+◌, ◌∷◌, [], ◌<◌, false, is_some};
+ghost use Rattle.std.specs.Prelude.{ℕ, ◌≡◌, ◌+◌, ◌∷◌, [], ◌<◌, ◌≤◌, false, is_some};
 ghost use Rattle.given_disks.specs.HeldFiles.{HoldsFiles};
 ghost use Rattle.host_port.specs.Printing.{Prints};
 ghost use Rattle.machine.specs.Apart.{KeepsApart};
@@ -98,6 +98,16 @@ impl Machine {
             self.has_ended = true;
         }
         go
+    }
+
+    /// The state: registers, RAM and tables, to be read part by part.
+    pub fn state(&self) -> &KernelState
+        ensures state { result.now.call.state ≡ self.now.state }
+        ensures image { result.now.image ≡ self.now.image }
+        ensures sound { IsSound self.now.state }
+        ensures few { self.now.state.tables.ticks ≤ 1000000000 }
+    {
+        self.kernel.state()
     }
 
     /// Prints the tables.

@@ -8,7 +8,9 @@
 //! | Call | Promise |
 //! |---|---|
 //! | [`Schedule::read`] | `read`, `events`: the text reads as these events, or its first fault is at this line; `most`: there are at most 1000000000. `NoMemory` is free |
+//! | [`Schedule::copy`] | `copy`: a schedule of the same events. `AllocError` is free |
 //! | [`Schedule::next_event`] | `next`: the first event that is still to come; `None` if and only if there is none. It takes no memory |
+//! | [`Schedule::peek`] | `next`: the same event, which stays; `None` if and only if there is none |
 //! | [`Schedule::steps_ahead`] | `ahead`: the schedule begins with so many steps |
 //! | [`Schedule::skip`] | `skips`: so many events are taken off |
 //!

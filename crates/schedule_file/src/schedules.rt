@@ -1,6 +1,6 @@
 //! Schedules: the reading of a text, and the events one by one.
 
-ghost use Rattle.std.specs.Prelude.{ℕ, ◌≡◌, ◌+◌, ◌≤◌, ◌<◌, ◌++◌, true, false, List, [], ◌∷◌, length, drop, replicate, Some, None, MatchOption, IfSome, IfOk, IfErr, MatchResult, OnOk};
+ghost use Rattle.std.specs.Prelude.{ℕ, ◌≡◌, ◌+◌, ◌≤◌, ◌<◌, ◌++◌, true, false, List, [], ◌∷◌, length, drop, replicate, slice_get, Some, None, MatchOption, IfSome, IfOk, IfErr, MatchResult, OnOk};
 ghost use Rattle.std.specs.List.{All};
 ghost use Rattle.schedule_file.specs.ScheduleFiles.{reading, events_in, Names, is_bad, events_at};
 ghost use Rattle.schedule_file.specs.ScheduleFiles as files;
@@ -10,7 +10,7 @@ use crate::faults::ScheduleFault;
 use crate::line_events::line_events_of;
 use crate::numbers::MOST_EVENTS;
 use crate::repeats::Repeat;
-use std::alloc::Global;
+use std::alloc::{AllocError, Global};
 use std::marker::Model;
 use text_lines::first_line;
 use xinu_base::Event;
@@ -70,6 +70,23 @@ impl Schedule {
         })
     }
 
+    /// A schedule of the same events.
+    ///
+    /// # Errors
+    /// Out of memory.
+    pub fn copy(&self, alloc: Global) -> Result<Schedule, AllocError>
+        ensures copy { IfOk result (λ events. events ≡ self.now) }
+    {
+        let repeats = Vec::from_slice(alloc, self.repeats.as_slice())?;
+        Ok(Schedule {
+            event: self.event,
+            left: self.left,
+            repeats,
+            at: self.at,
+            taken: self.taken,
+        })
+    }
+
     /// Takes the next event off the schedule; `None` if it is at its end.
     pub fn next_event(&mut self) -> Option<Event>
         ensures next { MatchOption result ((self.old ≡ []) × (self.new ≡ [])) (λ event. self.old ≡ event ∷ self.new) }
@@ -91,6 +108,19 @@ impl Schedule {
             self.taken = 0;
         }
         Some(event)
+    }
+
+    /// The event that [`Schedule::next_event`] would take; `None` if the schedule is at its end.
+    pub fn peek(&self) -> Option<Event>
+        ensures next { result ≡ slice_get self.now 0 }
+    {
+        if self.left > 0 {
+            return Some(self.event);
+        }
+        if self.at == self.repeats.len() {
+            return None;
+        }
+        Some(self.repeats[self.at].stretch_at(self.taken).0)
     }
 
     /// How many steps come next at least. What is at hand is counted, nothing is looked for.
