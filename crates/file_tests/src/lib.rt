@@ -14,6 +14,8 @@ mod elf_files;
 #[cfg(test)]
 mod file_engine;
 #[cfg(test)]
+mod function_names;
+#[cfg(test)]
 mod image_files;
 #[cfg(test)]
 mod lines;

@@ -1,9 +1,11 @@
-//! Tests of what the kernel runs on, over the public calls of the crates: instructions and memory, the assembler, the table of devices,
-//! the console, the host.
+//! Tests of what the kernel runs on, over the public calls of the crates: instructions and memory, the assembler and the
+//! disassembler, the table of devices, the console, the host.
 #![tactic(auto)]
 
 #[cfg(test)]
 mod assembler;
+#[cfg(test)]
+mod disassembly;
 #[cfg(test)]
 mod hart;
 #[cfg(test)]

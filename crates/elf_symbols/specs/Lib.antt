@@ -1,0 +1,5 @@
+pub mod Sections
+pub mod Symbols
+pub mod Functions
+pub mod CodePlaces
+pub mod SoFar

@@ -1,0 +1,14 @@
+pub mod Words
+pub mod RegisterNames
+pub mod Numbers
+pub mod Offsets
+pub mod Listings
+pub mod Encoded
+pub mod RowSearch
+pub mod Labels
+pub mod RowFacts
+pub mod Forms
+pub mod Ways
+pub mod Says
+pub mod ReadBack
+pub mod Written

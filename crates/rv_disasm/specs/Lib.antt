@@ -1,0 +1,4 @@
+pub mod OperandTexts
+pub mod Disassembly
+pub mod Readings
+pub mod CodeRows
