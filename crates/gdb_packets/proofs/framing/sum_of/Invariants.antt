@@ -1,0 +1,7 @@
+-- The sum so far.
+use Rattle.std.proofs.Common.{◌≡◌, ◌%◌, take}
+use Rattle.std.specs.List.{sum}
+use Rattle.gdb_packets.proofs.framing.sum_of.Given as goal
+
+abbrev pub invariant-loop-byte : goal.invariant-loop-byte
+invariant-loop-byte l = l.total ≡ sum (take l.byte-index l.bytes) % 256

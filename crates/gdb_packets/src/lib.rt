@@ -1,0 +1,34 @@
+//! The packets of gdb's remote protocol: their frames, the commands in them, and hexadecimal texts.
+//!
+//! A packet is `$`, its bytes, `#` and two digits of their sum (`specs/Frames.antt`). `specs/Units.antt` says what an input begins with,
+//! however much of it is at hand; `specs/Commands.antt` is the table of what packets ask for, by the names with which they begin.
+//!
+//! | Call | Promise |
+//! |---|---|
+//! | [`frame`] | `framed`: the packet that says these bytes |
+//! | [`first_unit`] | `unit`: the packet, the answer, the interrupt or the noise with which the input begins, and what comes after it. A packet's bytes are as they were sent |
+//! | [`unescaped`] | `said`: the bytes that a packet says |
+//! | [`command_of`] | `command`: what those bytes ask for |
+//! | [`monitor_words`] | `words`: the words after gdb's `monitor`; `None` if and only if no digits write them |
+//! | [`push_hex`], [`push_word`] | `appended`: two digits for each byte; the eight digits of a word, its lowest byte first |
+//! | [`laws`] | what was framed is read back, whatever comes after it |
+//!
+//! Of a packet that isn't whole nothing is lost: the input stays as it is until more of it comes, and a `$` in the midst of a packet begins
+//! another. The crate depends on `xinu_base` for the hexadecimal text of bytes alone.
+#![tactic(auto)]
+
+mod actions;
+mod commands;
+mod digits;
+mod framing;
+mod hex;
+pub mod laws;
+mod operands;
+mod table;
+mod units;
+
+pub use commands::{Command, Object, Point, PointKind, Threads};
+pub use framing::frame;
+pub use hex::{push_hex, push_word};
+pub use table::{command_of, monitor_words};
+pub use units::{InputUnit, first_unit, unescaped};

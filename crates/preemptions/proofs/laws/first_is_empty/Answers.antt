@@ -1,0 +1,8 @@
+use Rattle.std.proofs.Common.{◌∙◌, ℕ, List, [], ◌∷◌, drop, sym, ap, refl}
+use Rattle.preemptions.proofs.Order.{starts}
+use Rattle.preemptions.proofs.laws.first_is_empty.Goals as goal
+
+pub returns : goal.returns
+returns c = λ most within.
+    let is = starts most within [] refl in
+    sym is ∙ ap (λ (xs : List (List ℕ)). [] ∷ drop 1 xs) is

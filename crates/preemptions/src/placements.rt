@@ -1,0 +1,77 @@
+//! All placements, one after another.
+
+ghost use Rattle.std.specs.Prelude.{◌≡◌, ◌+◌, ◌≤◌, ◌<◌, [], ◌∷◌, drop, MatchOption, MatchResult, IfOk};
+ghost use Rattle.preemptions.specs.Placements as spec;
+
+use crate::next::next_places;
+use std::alloc::Global;
+use std::marker::Model;
+use xinu_base::NoMemory;
+
+/// The placements that are still to come. A clause sees their list.
+#[derive(Drop)]
+pub struct Placements {
+    /// The one that comes first, unless none is left.
+    places: Vec<u32>,
+    /// Whether none is left.
+    has_ended: bool,
+    /// How many places a placement has at most.
+    most: u32,
+    /// The last place.
+    within: u32,
+}
+
+impl Model for Placements {
+    ghost use Rattle.std.specs.Prelude.{ℕ, ◌≤◌, ◌<◌, List, [], ◌∷◌, length, if◌then◌else◌};
+    ghost use Rattle.preemptions.specs.Placements.{placements_after};
+
+    ghost Value = { List (List ℕ) };
+
+    ghost view = { λ p. if p.has_ended then [] else (p.places.items ∷ placements_after p.most p.within p.places.items) };
+
+    ghost invariant = { λ p. length p.places.items ≤ p.most };
+}
+
+impl Placements {
+    /// All placements with at most so many places within so many steps.
+    pub fn new(alloc: Global, most: u32, within: u32) -> Placements
+        ensures all { result ≡ spec.placements most within }
+    {
+        Placements {
+            places: Vec::new(alloc),
+            has_ended: false,
+            most,
+            within,
+        }
+    }
+
+    /// The first one that is still to come; `None` if there is none.
+    pub fn first(&self) -> Option<&[u32]>
+        ensures first { MatchOption result (self.now ≡ []) (λ places. self.now ≡ places.now ∷ drop 1 self.now) }
+    {
+        if self.has_ended {
+            None
+        } else {
+            Some(self.places.as_slice())
+        }
+    }
+
+    /// Takes the first one off.
+    ///
+    /// # Errors
+    /// `NoMemory`: all are still to come.
+    pub fn advance(&mut self) -> Result<(), NoMemory>
+        ensures next { MatchResult result (λ _. self.new ≡ drop 1 self.old) (λ _. self.new ≡ self.old) }
+    {
+        if self.has_ended {
+            return Ok(());
+        }
+        match next_places(&mut self.places, self.most, self.within) {
+            Ok(is_more) => {
+                self.has_ended = !is_more;
+                Ok(())
+            }
+            Err(_) => Err(NoMemory),
+        }
+    }
+}

@@ -1,0 +1,61 @@
+-- One event after another.
+use Rattle.std.proofs.Common.{rules, ◌≡◌, ◌+◌, ◌∷◌, [], length, drop, get_or, sym, arith, refl, add-one, drop-cons, length-drop}
+use Rattle.std.proofs.lemmas.List.{drop_all}
+use Rattle.xinu_base.specs.declared.events.Event.TheVariants.{Step}
+use Rattle.race_runs.proofs.Underway.{so_far_start, so_far_event, so_far_ended, so_far_end}
+use Rattle.race_runs.proofs.runs.take_events.Goals as goal
+
+pub loop-event-init : goal.loop-event-init
+loop-event-init g c = record {
+  running = c.requires.over;
+  few = c.requires.few;
+  so_far = so_far_start c.args.machine.now.state c.args.events.now c.args.out.now (g.H.Host.view c.args.host.now);
+}
+
+pub loop-event-preserved : goal.loop-event-preserved
+loop-event-preserved g c =
+    let l = c.loop-event in
+    let all = c.args.events.now in
+    let event = get_or all l.event-index Step in
+    let left = drop (l.event-index + 1) all in
+    let ahead : drop l.event-index all ≡ event ∷ left = rw (add-one, drop-cons all l.event-index Step c.loop-event-test.true) refl in
+    let few = l.invariant.few in
+    let counted = c.event.ensures.counted in
+    record {
+      running = c.in-Goes.ensures.over;
+      few = omega (arith, few, counted, length-drop l.event-index all, length-drop (l.event-index + 1) all, c.loop-event-test.true);
+      so_far = so_far_event c.args.machine.now.state all l.machine.state event left (drop l.event-index all) c.event.new.self.state _ _ _ _ _ _
+          ahead l.invariant.so_far c.event.ensures.happens (sym c.in-Goes.ensures.goes);
+    }
+
+pub returns-in-Done : goal.returns-in-Done
+returns-in-Done g c =
+    let l = c.loop-event in
+    let all = c.args.events.now in
+    let event = get_or all l.event-index Step in
+    let left = drop (l.event-index + 1) all in
+    let ahead : drop l.event-index all ≡ event ∷ left = rw (add-one, drop-cons all l.event-index Step c.loop-event-test.true) refl in
+    record {
+      prints = so_far_ended c.args.machine.now.state all l.machine.state event left (drop l.event-index all) c.event.new.self.state _ _ _ _ _ _ _
+          ahead l.invariant.so_far c.event.ensures.happens (sym c.in-Done.ensures.goes);
+    }
+
+pub returns-in-Panic : goal.returns-in-Panic
+returns-in-Panic g c =
+    let l = c.loop-event in
+    let all = c.args.events.now in
+    let event = get_or all l.event-index Step in
+    let left = drop (l.event-index + 1) all in
+    let ahead : drop l.event-index all ≡ event ∷ left = rw (add-one, drop-cons all l.event-index Step c.loop-event-test.true) refl in
+    record {
+      prints = so_far_ended c.args.machine.now.state all l.machine.state event left (drop l.event-index all) c.event.new.self.state _ _ _ _ _ _ _
+          ahead l.invariant.so_far c.event.ensures.happens (sym c.in-Panic.ensures.goes);
+    }
+
+pub returns : goal.returns
+returns g c =
+    let l = c.loop-event in
+    let all = c.args.events.now in
+    record {
+      prints = so_far_end c.args.machine.now.state all l.machine.state (drop l.event-index all) _ _ _ _ (drop_all l.event-index all (omega arith)) l.invariant.so_far;
+    }

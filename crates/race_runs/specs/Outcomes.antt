@@ -1,0 +1,52 @@
+-- What one sees of a run.
+use Rattle.std.specs.Prelude.{◌≡◌, ℕ, Bool, false, List, [], ◌∷◌, ◌++◌, codes, bytes_eq}
+use Rattle.std.specs.List.{filter, flat_map}
+use Rattle.text_lines.specs.Lines.{lines_of, tokens_of}
+use Rattle.xinu_base.specs.declared.events.Event.{Event}
+use Rattle.xinu_base.specs.declared.events.End.{End}
+use Rattle.xinu_base.specs.declared.lines.TranscriptLine.{TranscriptLine}
+use Rattle.xinu_model.specs.Machine.{Xinu}
+use Rattle.xinu_model.specs.Runs.{RunsTo}
+use Rattle.xinu_model.specs.Text.{tables_of, text}
+
+-- whether these tokens begin with a word
+abbrev pub begin_with : List ℕ → List (List ℕ) → Bool
+begin_with word [] = false
+begin_with word (token ∷ tokens) = bytes_eq token word
+
+-- a line with its line feed
+abbrev pub fed : List ℕ → List ℕ
+fed line = line ++ 10 ∷ []
+
+-- the lines of a text that begin with a word
+unfoldable pub kept : List ℕ → List ℕ → List ℕ
+kept word text = flat_map fed (filter (λ line. begin_with word (tokens_of line)) (lines_of text))
+
+-- an outcome: the lines of the bytes that the console sent, those of the traps, those of the processes that are left and of what they wait
+-- for, and how the run ended
+pub record Outcome : Type 0 where
+  pub console : List ℕ
+  pub traps : List ℕ
+  pub left : List ℕ
+  pub end : End
+
+-- the outcome of a run that printed this text, left these tables and ended so
+abbrev pub outcome_in : List ℕ → List ℕ → End → Outcome
+outcome_in printed tables end = record {
+  console = kept (codes "con") printed;
+  traps = kept (codes "trap") printed;
+  left = kept (codes "proc") tables ++ kept (codes "wait") tables;
+  end = end;
+}
+
+-- the outcome of a run with these lines, this last state and this end
+abbrev pub outcome_of : List TranscriptLine → Xinu → End → Outcome
+outcome_of lines last end = outcome_in (text lines) (text (tables_of last)) end
+
+-- A run from the start through these events has this outcome.
+pub record ComesTo (start : Xinu) (events : List Event) (outcome : Outcome) : Type 0 where
+  pub lines : List TranscriptLine
+  pub last : Xinu
+  pub end : End
+  pub runs : RunsTo start events lines last end
+  pub is : outcome_of lines last end ≡ outcome

@@ -1,0 +1,38 @@
+-- A run of images from their boot on.
+use Rattle.std.specs.Prelude.{◌≡◌, ℕ, List}
+use Rattle.host_port.specs.Outside.{Outside}
+use Rattle.host_port.specs.Printing.{Printing, Prints}
+use Rattle.kernel_boot.specs.declared.initialize.BootFault.{BootFault}
+use Rattle.kernel_boot.specs.declared.initialize.BootFault.TheVariants as fault
+use Rattle.race_runs.specs.Outcomes.{ComesTo, Outcome}
+use Rattle.xinu_base.specs.declared.events.Event.{Event}
+use Rattle.xinu_base.specs.declared.events.End.{End}
+use Rattle.xinu_base.specs.declared.lines.TranscriptLine.{TranscriptLine}
+use Rattle.xinu_model.specs.Boot.{Boots, Disks, Loaded, NoRoom, Overlaps, boot_on}
+use Rattle.xinu_model.specs.Machine.{Xinu}
+use Rattle.xinu_model.specs.Runs.{RunsTo}
+use Rattle.xinu_model.specs.Text.{shown, text}
+
+-- The images boot on these disks, and a run from there through these events has this outcome.
+pub record ComesToOn (disks : Disks) (images : List Loaded) (events : List Event) (outcome : Outcome) : Type 0 where
+  pub start : Xinu
+  pub boots : boot_on disks images ≡ Boots start
+  pub comes : ComesTo start events outcome
+
+-- The images don't boot on these disks; or memory ran out.
+abbrev pub IsRefused : Disks → List Loaded → BootFault → Type 0
+IsRefused disks images (fault.Overlap i) = boot_on disks images ≡ Overlaps i
+IsRefused disks images (fault.NoRoom i) = boot_on disks images ≡ NoRoom i
+IsRefused disks images fault.NoMemory = Unit {0}
+
+-- A run through the events led from one state to the other and ended so, and its lines were printed.
+pub record RunPrinted (old : Xinu) (events : List Event) (new : Xinu) (end : End) (before after : Printing) (was is : Outside) : Type 0 where
+  pub lines : List TranscriptLine
+  pub runs : RunsTo old events lines new end
+  pub prints : Prints before after was is (shown before.plain lines)
+
+-- A run through the events led from one state to the other and ended so, and its lines are this text.
+pub record HasText (old : Xinu) (events : List Event) (new : Xinu) (end : End) (printed : List ℕ) : Type 0 where
+  pub lines : List TranscriptLine
+  pub runs : RunsTo old events lines new end
+  pub is : printed ≡ text lines

@@ -1,0 +1,134 @@
+//! The outcome of a run, which is taken from what the run printed.
+
+ghost use Rattle.std.specs.Prelude.{◌≡◌, ◌++◌, IfOk, OnOk};
+ghost use Rattle.race_runs.specs.Outcomes as spec;
+ghost use Rattle.text_lines.specs.Lines.{tokens_of};
+
+use std::alloc::{AllocError, Global};
+use std::marker::Model;
+use text_lines::{first_line, first_token};
+use xinu_base::{End, NoMemory};
+
+/// What one sees of a run. A clause sees the bytes.
+#[derive(Drop)]
+pub struct Outcome {
+    console: Vec<u8>,
+    traps: Vec<u8>,
+    left: Vec<u8>,
+    end: End,
+}
+
+impl Model for Outcome {
+    ghost use Rattle.race_runs.specs.Outcomes as seen;
+
+    ghost Value = { seen.Outcome };
+
+    ghost view = { λ o. record { console = o.console.items; traps = o.traps.items; left = o.left.items; end = o.end } };
+}
+
+impl Outcome {
+    /// The outcome of a run that printed this text, left these tables and ended so.
+    ///
+    /// # Errors
+    /// `NoMemory`.
+    pub(crate) fn new(
+        alloc: Global,
+        printed: &[u8],
+        tables: &[u8],
+        end: End,
+    ) -> Result<Outcome, NoMemory>
+        ensures outcome { IfOk result (λ o. o ≡ spec.outcome_in printed.now tables.now end) }
+    {
+        match outcome_of(alloc, printed, tables, end) {
+            Ok(outcome) => Ok(outcome),
+            Err(_) => Err(NoMemory),
+        }
+    }
+
+    /// The lines of the bytes that the console sent.
+    pub fn console(&self) -> &[u8]
+        ensures console { result.now ≡ self.now.console }
+    {
+        &self.console
+    }
+
+    /// The lines of the traps.
+    pub fn traps(&self) -> &[u8]
+        ensures traps { result.now ≡ self.now.traps }
+    {
+        &self.traps
+    }
+
+    /// The lines of the processes that are left, and of those that wait for a semaphore.
+    pub fn left(&self) -> &[u8]
+        ensures left { result.now ≡ self.now.left }
+    {
+        &self.left
+    }
+
+    /// How the run ended.
+    pub fn end(&self) -> End
+        ensures end { result ≡ self.now.end }
+    {
+        self.end
+    }
+}
+
+// The outcome of a run that printed this text, left these tables and ended so.
+fn outcome_of(alloc: Global, printed: &[u8], tables: &[u8], end: End) -> Result<Outcome, AllocError>
+    ensures outcome { IfOk result (λ o. o ≡ spec.outcome_in printed.now tables.now end) }
+{
+    let console = kept(alloc, printed, b"con")?;
+    let traps = kept(alloc, printed, b"trap")?;
+    let mut left = kept(alloc, tables, b"proc")?;
+    push_kept(&mut left, tables, b"wait")?;
+    Ok(Outcome {
+        console,
+        traps,
+        left,
+        end,
+    })
+}
+
+// The lines of a text that begin with this word.
+fn kept(alloc: Global, text: &[u8], word: &[u8]) -> Result<Vec<u8>, AllocError>
+    ensures kept { IfOk result (λ lines. lines.items ≡ spec.kept word.now text.now) }
+{
+    let mut lines = Vec::new(alloc);
+    push_kept(&mut lines, text, word)?;
+    Ok(lines)
+}
+
+// Appends the lines of a text that begin with this word.
+fn push_kept(lines: &mut Vec<u8>, text: &[u8], word: &[u8]) -> Result<(), AllocError>
+    ensures kept { OnOk result (lines.new.items ≡ lines.old.items ++ spec.kept word.now text.now) }
+{
+    let mut rest = text;
+    while !rest.is_empty() {
+        let (line, next) = first_line(rest);
+        if begins_with(line, word) {
+            push_line(lines, line)?;
+        }
+        rest = next;
+    }
+    Ok(())
+}
+
+// Appends a line.
+fn push_line(lines: &mut Vec<u8>, line: &[u8]) -> Result<(), AllocError>
+    ensures line { OnOk result (lines.new.items ≡ lines.old.items ++ spec.fed line.now) }
+{
+    lines.extend_from_slice(line)?;
+    lines.push(b'\n')?;
+    Ok(())
+}
+
+// Whether the first word of a line is this one.
+fn begins_with(line: &[u8], word: &[u8]) -> bool
+    ensures begins { result ≡ spec.begin_with word.now (tokens_of line.now) }
+{
+    match first_token(line) {
+        Some((token, _)) => token == word,
+        None => false,
+    }
+}
