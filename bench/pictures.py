@@ -24,6 +24,7 @@ PARTS = {
     "ports": [],
     "panic": ["--from", "690"],
     "console_session": [],
+    "deadlock": [],
 }
 # those that picture_tests compares
 COMPARED = ["semaphore_with_a_kill", "three_sleepers_and_a_kill"]

@@ -8,12 +8,13 @@ use std::io;
 use timeline_command::timeline;
 
 /// Arguments that are refused: of files `s`, a schedule, `bad`, one whose second line is none, `1`, an image, and `short`, which is none.
-const REFUSED: [&str; 9] = [
+const REFUSED: [&str; 10] = [
     "--schedule s",
     "--schedule s --plain 1",
     "--schedule s --from 0 1",
     "--schedule s --from 2 --from=2 1",
     "--schedule s --events 2001 1",
+    "--schedule s --title a --title=b 1",
     "--schedule none 1",
     "--schedule s short",
     "--schedule bad 1",

@@ -1,5 +1,6 @@
-//! The picture of a stored run.
+//! The picture of a stored run, and the text that tells one.
 
+use explain_command::explain;
 use host_port::{Channel, MemoryHost};
 use rv_asm::assemble;
 use std::alloc::Global;
@@ -18,26 +19,55 @@ pub(crate) fn picture_of<R: Files + AllocGlobal>(
     name: &str,
 ) -> io::Result<String> {
     let mut host = MemoryHost::new(alloc);
+    let args = words_of(rt, alloc, name, &mut host)?;
+    let _ = timeline(alloc, args.as_slice(), &mut host);
+    text_of(alloc, &host)
+}
+
+/// The text that tells the run of a name, or the text of the refusal. Before the name there may be a colon, and before that the events
+/// that are listed.
+pub(crate) fn story_of<R: Files + AllocGlobal>(
+    rt: &R,
+    alloc: Global,
+    name: &str,
+) -> io::Result<String> {
+    let mut host = MemoryHost::new(alloc);
+    let (steps, name) = match name.split_once(":") {
+        Some((steps, name)) => (Some(steps), name),
+        None => (None, name),
+    };
+    let mut args = words_of(rt, alloc, name, &mut host)?;
+    if let Some(steps) = steps {
+        args.push(String::from_str(alloc, "--steps")?)?;
+        args.push(String::from_str(alloc, steps)?)?;
+    }
+    let _ = explain(alloc, args.as_slice(), &mut host);
+    text_of(alloc, &host)
+}
+
+// The arguments of the run of a name, whose files are added to a host.
+fn words_of<R: Files + AllocGlobal>(
+    rt: &R,
+    alloc: Global,
+    name: &str,
+    host: &mut MemoryHost,
+) -> io::Result<Vec<String>> {
     let mut args = Vec::new(alloc);
     args.push(String::from_str(alloc, "--schedule")?)?;
     let schedule = format!(in alloc; "{name}.txt")?;
-    add_file(
-        &mut host,
-        schedule.as_str(),
-        fs::read(rt, schedule.as_str())?.as_slice(),
-    )?;
+    let text = fs::read(rt, schedule.as_str())?;
+    add_file(host, schedule.as_str(), text.as_slice())?;
     args.push(schedule)?;
     for k in 1u32..9 {
         let path = format!(in alloc; "{name}_{k}.s")?;
         if let Ok(text) = fs::read(rt, path.as_str()) {
             if let Some(image) = image_of(alloc, text.as_slice()) {
-                add_file(&mut host, path.as_str(), image.as_slice())?;
+                add_file(host, path.as_str(), image.as_slice())?;
                 args.push(path)?;
             }
         }
     }
-    let _ = timeline(alloc, args.as_slice(), &mut host);
-    text_of(alloc, &host)
+    Ok(args)
 }
 
 // The image file of a text of assembler, if it has no fault.

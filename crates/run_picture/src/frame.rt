@@ -27,8 +27,7 @@ const DEVICES: [Lane; 5] = [
     Lane::Clock,
 ];
 
-/// The rows of a strip: the processes that live in it, and below them the devices at which something happens in it. In the first strip all
-/// devices have rows.
+/// The rows of a strip: the processes that live in it, and below them the lanes of devices in which something happens in it.
 #[derive(Drop)]
 pub(crate) struct Frame {
     pub(crate) rows: Vec<usize>,
@@ -51,7 +50,7 @@ impl Frame {
         }
         let mut devices = Vec::new(alloc);
         for lane in DEVICES {
-            if strip.from == 0 || is_used(lane, labels, strip) {
+            if is_used(lane, labels, strip) {
                 devices.push(lane)?;
             }
         }
@@ -88,16 +87,10 @@ impl Frame {
     }
 }
 
-// Whether something is drawn in the lane of a device in a strip; the console's two lanes are drawn together.
+// Whether something is drawn in the lane of a device in a strip.
 fn is_used(lane: Lane, labels: &[Label], strip: Strip) -> bool {
-    let other = match lane {
-        Lane::Typed => Lane::Sent,
-        Lane::Sent => Lane::Typed,
-        lane => lane,
-    };
     for label in labels {
-        let is_in = strip.from <= label.column && label.column < strip.to;
-        if is_in && (label.lane == lane || label.lane == other) {
+        if strip.from <= label.column && label.column < strip.to && label.lane == lane {
             return true;
         }
     }

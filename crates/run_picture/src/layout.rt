@@ -1,8 +1,8 @@
 //! Where the columns of the picture are: from left to right, in strips as a text has lines.
 
+use crate::columns::Column;
 use crate::ink::width_of;
 use crate::labels::Label;
-use crate::recording::Column;
 use std::alloc::{AllocError, Global};
 
 /// How wide the picture is.
@@ -114,7 +114,7 @@ fn widths_of(alloc: Global, columns: &[Column], labels: &[Label]) -> Result<Vec<
         widths.push(head.max(18))?;
     }
     for label in labels {
-        let width = width_of(label.text.len(), LABEL).saturating_add(AFTER_MARK + 10);
+        let width = width_of(label.text.chars().count(), LABEL).saturating_add(AFTER_MARK + 10);
         if let Some(place) = widths.get_mut(label.column) {
             *place = (*place).max(width);
         }

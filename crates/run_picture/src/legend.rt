@@ -1,8 +1,9 @@
 //! The legend: what the bands and the marks stand for.
 
-use crate::doings::{state_letter, state_name};
+use crate::bands::IDLE;
 use crate::ink::{Ink, width_of};
 use crate::layout::MARGIN;
+use crate::states::{state_letter, state_name};
 use std::alloc::AllocError;
 use xinu_base::State;
 
@@ -21,17 +22,28 @@ pub(crate) fn draw_legend(ink: &mut Ink, y: u32) -> Result<(), AllocError> {
         State::Waiting,
         State::Suspended,
     ] {
-        let letter = state_letter(state);
         let class = if matches!(state, State::Current) {
             "v"
         } else {
             "w"
         };
-        ink.bar(letter, (x, y), (20, 13))?;
-        ink.words(class, x.saturating_add(7), y.saturating_add(10), letter)?;
-        x = entry(ink, x.saturating_add(26), y, state_name(state))?;
+        x = draw_state(ink, (x, y), class, state_letter(state), state_name(state))?;
     }
+    draw_state(ink, (x, y), "w", IDLE, "null process, idle")?;
     draw_marks(ink, y.saturating_add(22))
+}
+
+// Draws a piece of a band with its letter and what it stands for, and answers where the next entry begins.
+fn draw_state(
+    ink: &mut Ink,
+    (x, y): (u32, u32),
+    class: &str,
+    letter: &str,
+    name: &str,
+) -> Result<u32, AllocError> {
+    ink.bar(letter, (x, y), (20, 13))?;
+    ink.words(class, x.saturating_add(7), y.saturating_add(10), letter)?;
+    entry(ink, x.saturating_add(26), y, name)
 }
 
 // Draws the marks and what they stand for.

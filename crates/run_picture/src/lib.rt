@@ -15,7 +15,8 @@
 #![tactic(auto)]
 
 mod bands;
-mod doings;
+mod changes;
+mod columns;
 mod frame;
 mod ink;
 mod labels;
@@ -25,8 +26,8 @@ mod lines;
 mod pictures;
 mod recording;
 mod rows;
+mod states;
 mod strips;
 mod style;
-mod tables;
 
 pub use recording::{Ending, Recording};

@@ -1,10 +1,9 @@
 //! The lines of an event, read for the marks that they make.
 
-use crate::doings::{Awaited, Doing};
 use crate::labels::{Lane, Mark};
-use crate::tables::number_of;
+use printed_runs::number_of;
 use std::alloc::{AllocError, Global};
-use xinu_base::{Event, State};
+use xinu_base::Event;
 
 /// How long a text in the lane of a device may be before nothing more is added.
 const LONGEST_LANE: usize = 60;
@@ -15,26 +14,6 @@ pub(crate) struct Note {
     pub(crate) lane: Lane,
     pub(crate) mark: Mark,
     pub(crate) text: String,
-}
-
-/// What a call asks for that its caller may have to wait for: a buffer, a message or the room for one. Its caller is the first part.
-pub(crate) fn asked_by(line: &str) -> Option<(u32, Doing)> {
-    let mut words = line.split_whitespace();
-    if words.next().unwrap_or("") != "call" {
-        return None;
-    }
-    let caller = number_of(words.next());
-    let awaited = match words.next().unwrap_or("") {
-        "getbuf" => Awaited::Pool,
-        "ptsend" | "ptrecv" => Awaited::Port,
-        _ => Awaited::Nothing,
-    };
-    let doing = Doing {
-        state: State::Waiting,
-        awaited,
-        number: number_of(words.next()),
-    };
-    Some((caller, doing))
 }
 
 /// The notes of an event: a call with its reply is one, and so are all lines of the files' disk.
@@ -72,10 +51,11 @@ fn note_of_event(alloc: Global, event: Event, ticks: u32) -> Result<Option<Note>
     Ok(Some(Note { lane, mark, text }))
 }
 
-// A byte as it is shown: a printable character as it is, a control character by its name or after a `^`, others in hexadecimal.
+// A byte as it is shown: a printable character as it is, a blank as an open box, a control character by its name or after a `^`, others in
+// hexadecimal.
 fn character(alloc: Global, byte: u8) -> Result<String, AllocError> {
     match byte {
-        b' ' => String::from_str(alloc, "blank"),
+        b' ' => String::from_str(alloc, "\u{2423}"),
         b'!'..=b'~' => format!(in alloc; "{}", char::from(byte)),
         b'\n' => String::from_str(alloc, "\\n"),
         b'\r' => String::from_str(alloc, "\\r"),
@@ -171,6 +151,16 @@ fn add_to_lane(lane: &mut String, text: &str) -> Result<(), AllocError> {
     } else {
         lane.push_str(" ..")
     }
+}
+
+/// Whether these lines say nothing but that the console sent bytes.
+pub(crate) fn are_sent(lines: &str) -> bool {
+    for line in lines.lines() {
+        if !line.starts_with("con ") {
+            return false;
+        }
+    }
+    true
 }
 
 // The byte of a line `con`, as it is shown.

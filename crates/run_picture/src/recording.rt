@@ -1,13 +1,16 @@
 //! What is kept of a run while its events are taken: what the picture shows.
 
 use crate::bands::Band;
-use crate::doings::{ABSENT, Doing};
+use crate::columns::Column;
 use crate::labels::{Label, Lane, Link, Mark};
-use crate::lines::{Note, asked_by, notes_of};
+use crate::lines::{Note, are_sent, notes_of};
 use crate::rows::Row;
-use crate::tables::{Shown, made_as, read_tables};
+use printed_runs::{ABSENT, Doing, Reader, Shown};
 use std::alloc::{AllocError, Global};
-use xinu_base::Event;
+use xinu_base::{Event, State};
+
+/// From how many characters of a text on the bytes that follow it have a column of their own.
+const LONG: usize = 40;
 
 /// How the picture ends.
 #[derive(Clone, Copy, Debug, PartialEq, Eq)]
@@ -22,21 +25,6 @@ pub enum Ending {
     Panic,
 }
 
-/// An event that is drawn, or the start or the end of the picture.
-#[derive(Drop)]
-pub(crate) struct Column {
-    /// What stands above it.
-    pub(crate) head: String,
-    /// What its title begins with.
-    pub(crate) title: String,
-    /// How many events before it changed and printed nothing.
-    pub(crate) quiet: u64,
-    /// Whether all of those were steps.
-    pub(crate) are_steps: bool,
-    /// Its lines.
-    pub(crate) lines: String,
-}
-
 /// What the picture shows of a run.
 #[derive(Drop)]
 pub struct Recording {
@@ -47,13 +35,14 @@ pub struct Recording {
     pub(crate) labels: Vec<Label>,
     pub(crate) links: Vec<Link>,
     /// What each process is doing, by its number, and its row and its last band.
-    shown: [Doing; 64],
-    row_of: [usize; 64],
-    band_of: [usize; 64],
-    /// What each process asked for in its last call.
-    asked: [Doing; 64],
+    pub(crate) shown: [Doing; 64],
+    pub(crate) row_of: [usize; 64],
+    pub(crate) band_of: [usize; 64],
+    pub(crate) reader: Reader,
+    /// How many events were drawn.
+    drawn: u64,
     /// The tables after the last event that was looked at.
-    tables: String,
+    pub(crate) tables: String,
     /// How many events since the last column changed and printed nothing, and whether all were steps.
     quiet: u64,
     are_steps: bool,
@@ -72,27 +61,27 @@ impl Recording {
             shown: [ABSENT; 64],
             row_of: [0; 64],
             band_of: [0; 64],
-            asked: [ABSENT; 64],
+            reader: Reader::new(),
+            drawn: 0,
             tables: String::new(alloc),
             quiet: 0,
             are_steps: true,
         }
     }
 
-    /// How many columns there are: the start, and each event that is drawn.
-    pub fn columns(&self) -> usize {
-        self.columns.len()
+    /// Whether the picture has begun.
+    pub fn has_begun(&self) -> bool {
+        !self.columns.is_empty()
+    }
+
+    /// How many events are drawn.
+    pub fn drawn(&self) -> u64 {
+        self.drawn
     }
 
     /// Notes the lines of an event before the picture.
     pub fn pass(&mut self, lines: &str) {
-        for line in lines.lines() {
-            if let Some((caller, doing)) = asked_by(line) {
-                if let Some(place) = self.asked.get_mut(caller as usize) {
-                    *place = doing;
-                }
-            }
-        }
+        self.reader.note(lines);
     }
 
     /// Begins the picture after the event of this number, which printed these lines, with these tables.
@@ -100,14 +89,13 @@ impl Recording {
     /// # Errors
     /// Out of memory.
     pub fn begin(&mut self, number: u64, lines: &str, tables: &str) -> Result<(), AllocError> {
-        let (head, title) = if number == 0 {
-            let start = String::from_str(self.alloc, "start")?;
-            (start, String::from_str(self.alloc, "start")?)
+        let column = if number == 0 {
+            Column::new(self.alloc, "start", lines)?
         } else {
-            self.heads(number)?
+            Column::of_event(self.alloc, number, lines)?
         };
-        self.add_column(head, title, lines)?;
-        let shown = read_tables(tables, &self.asked);
+        self.add_column(column)?;
+        let shown = self.reader.read(tables);
         self.change(&shown, tables, None)
     }
 
@@ -123,7 +111,7 @@ impl Recording {
     }
 
     /// Draws the event of this number, which printed these lines and left these tables. An event of a disk that changed and printed nothing
-    /// isn't drawn.
+    /// isn't drawn. One that only moved a byte of the console goes into the column before it, if the events of that did the same.
     ///
     /// # Errors
     /// Out of memory.
@@ -139,10 +127,13 @@ impl Recording {
             self.quiet(event);
             return Ok(());
         }
+        self.drawn = self.drawn.saturating_add(1);
         self.pass(lines);
-        let (head, title) = self.heads(number)?;
-        self.add_column(head, title, lines)?;
-        let shown = read_tables(tables, &self.asked);
+        let shown = self.reader.read(tables);
+        let is_burst = matches!(event, Event::Key(_) | Event::Tx)
+            && are_sent(lines)
+            && self.shows(&shown);
+        self.place(number, lines, is_burst)?;
         let source = self.source_of(event);
         let notes = notes_of(self.alloc, event, lines, shown.ticks)?;
         for note in notes {
@@ -156,38 +147,86 @@ impl Recording {
     /// # Errors
     /// Out of memory.
     pub fn end(&mut self, ending: Ending) -> Result<(), AllocError> {
-        let word = match ending {
-            Ending::GoesOn => "and so on",
-            Ending::Schedule => "end schedule",
-            Ending::Done => "end done",
-            Ending::Panic => "end panic",
+        let waiting = self.waiting();
+        let head = match ending {
+            Ending::GoesOn => String::from_str(self.alloc, "and so on")?,
+            Ending::Done => String::from_str(self.alloc, "done: no process is left")?,
+            Ending::Panic => String::from_str(self.alloc, "panic")?,
+            Ending::Schedule => match waiting {
+                0 => String::from_str(self.alloc, "end of the schedule")?,
+                1 => String::from_str(self.alloc, "end of the schedule: 1 process waits")?,
+                _ => { format!(in self.alloc; "end of the schedule: {waiting} processes wait")? }
+            },
         };
-        let head = String::from_str(self.alloc, word)?;
-        let title = String::from_str(self.alloc, word)?;
-        self.add_column(head, title, "")
+        let mut column = Column::new(self.alloc, head.as_str(), "")?;
+        column.is_alarm = match ending {
+            Ending::Panic => true,
+            Ending::Schedule => waiting > 0,
+            Ending::Done | Ending::GoesOn => false,
+        };
+        self.add_column(column)
+    }
+
+    // How many processes wait for something that no tick of the clock brings.
+    fn waiting(&self) -> usize {
+        let waits = |doing: &&Doing| {
+            matches!(
+                doing.state,
+                State::Receiving | State::Waiting | State::Suspended
+            )
+        };
+        self.shown.iter().filter(waits).count()
+    }
+
+    // Whether each process does what these tables show.
+    fn shows(&self, shown: &Shown) -> bool {
+        for (was, is) in self.shown.iter().zip(shown.doings.iter()) {
+            if was != is {
+                return false;
+            }
+        }
+        true
+    }
+
+    // Places the event of this number in a column: in the last one if both only move bytes of the console, and else in a new one.
+    fn place(&mut self, number: u64, lines: &str, is_burst: bool) -> Result<(), AllocError> {
+        let has_room = self.has_room();
+        if let Some(column) = self.columns.last_mut() {
+            if let (Some(first), true) = (column.burst, is_burst && has_room) {
+                self.quiet = 0;
+                self.are_steps = true;
+                return column.join(self.alloc, first, number, lines);
+            }
+        }
+        let mut column = Column::of_event(self.alloc, number, lines)?;
+        if is_burst {
+            column.burst = Some(number);
+        }
+        self.add_column(column)
+    }
+
+    // Whether no text of the last column is long.
+    fn has_room(&self) -> bool {
+        let last = self.column();
+        for label in self.labels.as_slice() {
+            if label.column == last && label.text.chars().count() >= LONG {
+                return false;
+            }
+        }
+        true
     }
 
     // The column that is drawn now.
-    fn column(&self) -> usize {
+    pub(crate) fn column(&self) -> usize {
         self.columns.len().saturating_sub(1)
     }
 
-    // What stands above the column of an event, and what its title begins with.
-    fn heads(&self, number: u64) -> Result<(String, String), AllocError> {
-        let head = format!(in self.alloc; "{number}")?;
-        let title = format!(in self.alloc; "event {number}")?;
-        Ok((head, title))
-    }
-
-    // Adds a column.
-    fn add_column(&mut self, head: String, title: String, lines: &str) -> Result<(), AllocError> {
-        self.columns.push(Column {
-            head,
-            title,
-            quiet: self.quiet,
-            are_steps: self.are_steps,
-            lines: String::from_str(self.alloc, lines)?,
-        })?;
+    // Adds a column after the events that changed and printed nothing.
+    fn add_column(&mut self, column: Column) -> Result<(), AllocError> {
+        let mut column = column;
+        column.quiet = self.quiet;
+        column.are_steps = self.are_steps;
+        self.columns.push(column)?;
         self.quiet = 0;
         self.are_steps = true;
         Ok(())
@@ -208,7 +247,7 @@ impl Recording {
     // The row of the current process.
     fn current_row(&self) -> usize {
         for (doing, row) in self.shown.iter().zip(self.row_of.iter()) {
-            if matches!(doing.state, xinu_base::State::Current) {
+            if matches!(doing.state, State::Current) {
                 return *row;
             }
         }
@@ -227,9 +266,21 @@ impl Recording {
         self.add_label(lane, note.mark, note.text)
     }
 
-    // Adds a label in the column that is drawn now.
-    fn add_label(&mut self, lane: Lane, mark: Mark, text: String) -> Result<(), AllocError> {
+    // Adds a label in the column that is drawn now. A byte of the console goes after those that came before it in the column.
+    pub(crate) fn add_label(
+        &mut self,
+        lane: Lane,
+        mark: Mark,
+        text: String,
+    ) -> Result<(), AllocError> {
         let column = self.column();
+        if self.is_burst() {
+            for label in self.labels.iter_mut() {
+                if label.column == column && label.lane == lane {
+                    return label.text.push_str(text.as_str());
+                }
+            }
+        }
         self.labels.push(Label {
             column,
             lane,
@@ -239,115 +290,11 @@ impl Recording {
         Ok(())
     }
 
-    // Notes what each process does now, and that the event is of this lane, unless this is the start.
-    fn change(
-        &mut self,
-        shown: &Shown,
-        tables: &str,
-        source: Option<Lane>,
-    ) -> Result<(), AllocError> {
-        for (p, now) in shown.doings.iter().enumerate() {
-            self.change_one(p, *now, tables, source)?;
+    // Whether the column that is drawn now only moves bytes of the console.
+    fn is_burst(&self) -> bool {
+        match self.columns.last() {
+            Some(column) => column.burst.is_some(),
+            None => false,
         }
-        self.tables = String::from_str(self.alloc, tables)?;
-        Ok(())
-    }
-
-    // Notes what the process of a number does now.
-    fn change_one(
-        &mut self,
-        p: usize,
-        now: Doing,
-        tables: &str,
-        source: Option<Lane>,
-    ) -> Result<(), AllocError> {
-        let was = self.shown.get(p).copied().unwrap_or(ABSENT);
-        if was == now {
-            return Ok(());
-        }
-        if was.lives() {
-            self.end_band(p);
-        } else {
-            self.add_row(p, tables)?;
-        }
-        if now.lives() {
-            self.add_band(p, now)?;
-        } else {
-            self.end_row(p)?;
-        }
-        if let Some(lane) = source {
-            self.add_link(p, was, now, lane)?;
-        }
-        if let Some(place) = self.shown.get_mut(p) {
-            *place = now;
-        }
-        Ok(())
-    }
-
-    // The row of the process of a number.
-    fn row(&self, p: usize) -> usize {
-        self.row_of.get(p).copied().unwrap_or(0)
-    }
-
-    // Adds a row for the new process of a number.
-    fn add_row(&mut self, p: usize, tables: &str) -> Result<(), AllocError> {
-        let made = made_as(self.alloc, tables, u32::try_from(p).unwrap_or(0))?;
-        if let Some(place) = self.row_of.get_mut(p) {
-            *place = self.rows.len();
-        }
-        let first = self.column();
-        self.rows.push(Row {
-            number: p,
-            name: made.name,
-            priority: made.priority,
-            first,
-            last: usize::MAX,
-        })?;
-        Ok(())
-    }
-
-    // Ends the row of a process that died.
-    fn end_row(&mut self, p: usize) -> Result<(), AllocError> {
-        let column = self.column();
-        let row = self.row(p);
-        if let Some(place) = self.rows.get_mut(row) {
-            place.last = column;
-        }
-        self.add_label(Lane::Process(row), Mark::Death, String::new(self.alloc))
-    }
-
-    // Begins a band.
-    fn add_band(&mut self, p: usize, doing: Doing) -> Result<(), AllocError> {
-        if let Some(place) = self.band_of.get_mut(p) {
-            *place = self.bands.len();
-        }
-        let row = self.row(p);
-        let from = self.column();
-        self.bands.push(Band {
-            row,
-            from,
-            to: usize::MAX,
-            doing,
-        })?;
-        Ok(())
-    }
-
-    // Ends the last band of a process.
-    fn end_band(&mut self, p: usize) {
-        let column = self.column();
-        let band = self.band_of.get(p).copied().unwrap_or(0);
-        if let Some(place) = self.bands.get_mut(band) {
-            place.to = column;
-        }
-    }
-
-    // Links the event to a process that it made ready.
-    fn add_link(&mut self, p: usize, was: Doing, now: Doing, from: Lane) -> Result<(), AllocError> {
-        let row = self.row(p);
-        if was.lives() && !was.is_ready() && now.is_ready() && from != Lane::Process(row) {
-            let column = self.column();
-            self.links.push(Link { column, from, row })?;
-        }
-        Ok(())
     }
 }

@@ -1,20 +1,19 @@
 //! A strip of the picture: its rows, and what happens in its columns.
 
 use crate::bands::Band;
-use crate::doings::state_letter;
+use crate::columns::Column;
 use crate::frame::{BAND, BAND_HEIGHT, DEVICE, Frame, HEADS, PROCESS};
 use crate::ink::{Ink, width_of};
 use crate::labels::{Label, Lane, Link, Mark};
 use crate::layout::{AFTER_MARK, LEFT, Layout, MARGIN, Strip, WORD, gap_text};
-use crate::recording::{Column, Recording};
+use crate::recording::Recording;
 use crate::rows::Row;
 use std::alloc::AllocError;
-use xinu_base::State;
 
 /// The lanes of the devices, with the name of each device, and of a part of it.
 const DEVICE_NAMES: [(Lane, &str, &str); 5] = [
     (Lane::Typed, "console", "typed"),
-    (Lane::Sent, "", "sent"),
+    (Lane::Sent, "console", "sent"),
     (Lane::Disk0, "disk 0", ""),
     (Lane::Disk1, "disk 1", ""),
     (Lane::Clock, "clock", ""),
@@ -30,9 +29,6 @@ pub(crate) fn draw_strip(
 ) -> Result<(), AllocError> {
     draw_grid(ink, recording.columns.as_slice(), layout, strip, frame)?;
     draw_rows(ink, recording.rows.as_slice(), strip, frame)?;
-    for link in recording.links.as_slice() {
-        draw_link(ink, *link, layout, strip, frame)?;
-    }
     for band in recording.bands.as_slice() {
         if band.from < strip.from && band.is_in(strip.from, strip.to) {
             draw_kept(ink, recording, *band, layout, strip, frame)?;
@@ -40,6 +36,9 @@ pub(crate) fn draw_strip(
     }
     for column in strip.from..strip.to {
         draw_column(ink, recording, column, layout, strip, frame)?;
+    }
+    for link in recording.links.as_slice() {
+        draw_link(ink, *link, layout, strip, frame)?;
     }
     Ok(())
 }
@@ -60,7 +59,8 @@ fn draw_grid(
         if let (Some(column), Some(place)) = (columns.get(k), layout.places.get(k)) {
             let line = format!(in ink.alloc; "M{} {HEADS}V{bottom}", place.x)?;
             lines.push_str(line.as_str())?;
-            ink.words("", place.x.saturating_add(3), 12, column.head.as_str())?;
+            let class = if column.is_alarm { "z" } else { "" };
+            ink.words(class, place.x.saturating_add(3), 12, column.head.as_str())?;
         }
     }
     ink.put("</g>\n")?;
@@ -109,7 +109,7 @@ fn draw_rows(ink: &mut Ink, rows: &[Row], strip: Strip, frame: &Frame) -> Result
     }
     for (lane, name, part) in DEVICE_NAMES {
         if let Some(top) = frame.top_of(lane) {
-            if !name.is_empty() {
+            if lane != Lane::Sent || frame.top_of(Lane::Typed).is_none() {
                 ink.words("n", MARGIN, top.saturating_add(12), name)?;
             }
             if !part.is_empty() {
@@ -226,22 +226,32 @@ fn draw_band(
     };
     let y = top.saturating_add(BAND);
     let width = layout.x_of(band.to, strip).saturating_sub(x);
-    let letter = state_letter(band.doing.state);
-    ink.bar(letter, (x, y), (width, BAND_HEIGHT))?;
-    let class = if matches!(band.doing.state, State::Current) {
-        "v"
-    } else {
-        "w"
-    };
-    let word = band.doing.word(ink.alloc)?;
-    let at = x.saturating_add(5);
-    if width_of(word.len(), WORD).saturating_add(8) <= width {
-        ink.words(class, at, y.saturating_add(10), word.as_str())
-    } else if width >= 14 {
-        ink.words(class, at, y.saturating_add(10), letter)
-    } else {
-        Ok(())
+    ink.bar(band.letter(), (x, y), (width, BAND_HEIGHT))?;
+    let class = if band.is_dark() { "v" } else { "w" };
+    let text = band_text(ink, band, width)?;
+    if text.is_empty() {
+        return Ok(());
     }
+    ink.words(
+        class,
+        x.saturating_add(5),
+        y.saturating_add(10),
+        text.as_str(),
+    )
+}
+
+// The longest text for a band that it has room for: its word with more, its word, its letter, or none.
+fn band_text(ink: &Ink, band: Band, width: u32) -> Result<String, AllocError> {
+    let long = band.long_word(ink.alloc)?;
+    if !long.is_empty() && width_of(long.len(), WORD).saturating_add(8) <= width {
+        return Ok(long);
+    }
+    let word = band.word(ink.alloc)?;
+    if width_of(word.len(), WORD).saturating_add(8) <= width {
+        return Ok(word);
+    }
+    let letter = if width >= 14 { band.letter() } else { "" };
+    String::from_str(ink.alloc, letter)
 }
 
 // Draws the mark of a label, and its text.

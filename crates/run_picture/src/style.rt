@@ -11,6 +11,7 @@ text{font:11px ui-monospace,SFMono-Regular,Menlo,Consolas,"DejaVu Sans Mono",mon
 .n{font-weight:600}
 .q,.q text,.e,.a text{font-size:9.5px;fill:#7b8794}
 .a text{fill:#3e4c59}
+.a .z{fill:#b42318;font-weight:600}
 .e{text-anchor:end}
 .w,.v{font-size:10px}
 .w{paint-order:stroke;stroke:#fff;stroke-width:3px;stroke-linejoin:round}
@@ -25,6 +26,7 @@ text{font:11px ui-monospace,SFMono-Regular,Menlo,Consolas,"DejaVu Sans Mono",mon
 .d{fill:none;stroke:#b42318;stroke-width:2}
 .m{fill:none;stroke:#52606d;stroke-width:1.5}
 .C{fill:#1d4ed8}
+.I{fill:#f1f5f9}
 .R{fill:#bfdbfe}
 .M{fill:url(#M)}
 .T{fill:url(#T)}

@@ -1,9 +1,8 @@
 //! The command of the program `timeline`: the picture of a run is drawn.
 //!
-//! The arguments are those of `run` without what concerns its output, and two options that choose a part: `--from N` and `--events M`.
-//! The top call of the program reads them, and the files, over a host that keeps what was fetched and takes no line ([`Inputs`] in
-//! `inputs.rt`). So what `run` refuses is refused with the same status and text. Else the machine is booted with the files that were kept,
-//! and takes the same events by the same calls; what it prints of each goes into the picture (`run_picture`).
+//! The arguments are those of `run` without what concerns its output, and three of the picture: `--from N`, `--events M` and `--title TEXT`.
+//! The files are fetched and judged by the same call (`run_inputs`). So what `run` refuses is refused with the same status and text. Else
+//! the machine is booted, and takes the same events by the same calls; what it prints of each goes into the picture (`run_picture`).
 //!
 //! | Call | What it does |
 //! |---|---|
@@ -11,10 +10,7 @@
 #![tactic(auto)]
 
 mod command;
-mod disks;
 mod drawing;
-mod events;
-mod inputs;
 mod parts;
 mod words;
 

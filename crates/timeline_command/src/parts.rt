@@ -36,7 +36,7 @@ impl Drawing {
 
     /// Whether as many events are drawn as are to be.
     pub(crate) fn is_full(&self) -> bool {
-        self.recording.columns() as u64 > self.part.most
+        self.recording.drawn() >= self.part.most
     }
 
     /// Whether an event with these lines is told with the tables after it: the last one before the part, and those in it that may be drawn.
@@ -77,16 +77,17 @@ impl Drawing {
 
     /// The run ended so, with these tables, or goes on after the part.
     pub(crate) fn finish(&mut self, tables: &str, ending: Ending) -> Result<(), AllocError> {
-        if self.recording.columns() == 0 {
+        if !self.recording.has_begun() {
             self.recording.begin(self.taken, "", tables)?;
         }
         self.recording.end(ending)
     }
 
-    /// The picture.
-    pub(crate) fn picture(&self) -> Result<String, AllocError> {
+    /// The picture, with this title, or *Who ran when*.
+    pub(crate) fn picture(&self, title: Option<&str>) -> Result<String, AllocError> {
         let from = self.part.from.min(self.taken);
-        let heading = format!(in self.alloc; "Who ran when: events {from} to {}", self.taken)?;
+        let title = title.unwrap_or("Who ran when");
+        let heading = format!(in self.alloc; "{title}: events {from} to {}", self.taken)?;
         self.recording.picture(heading.as_str())
     }
 }

@@ -1,4 +1,4 @@
-//! The arguments of the command: those of the run, and which part of it is drawn.
+//! The arguments of the command: those of the run, which part of it is drawn, and the picture's title.
 
 use std::alloc::{AllocError, Global};
 
@@ -6,6 +6,8 @@ use std::alloc::{AllocError, Global};
 const MOST_DRAWN: u64 = 2000;
 /// The most events of a run.
 const MOST_EVENTS: u64 = 1_000_000_000;
+/// The most bytes of a title.
+const LONGEST_TITLE: usize = 90;
 
 /// Which part of a run is drawn.
 #[derive(Clone, Copy)]
@@ -16,18 +18,20 @@ pub(crate) struct Part {
     pub(crate) most: u64,
 }
 
-/// The arguments: those of the command `run`, with its name before them, and the part that is drawn.
+/// The arguments: those of the command `run`, with its name before them, the part that is drawn, and the title if one is given.
 #[derive(Drop)]
 pub(crate) struct Words {
     pub(crate) run: Vec<String>,
     pub(crate) part: Part,
+    pub(crate) title: Option<String>,
 }
 
-/// An option that chooses the part.
+/// An option of the picture.
 #[derive(Clone, Copy)]
 enum Choice {
     From,
     Events,
+    Title,
 }
 
 /// What was read so far.
@@ -36,19 +40,21 @@ struct Reader {
     run: Vec<String>,
     from: Option<u64>,
     most: Option<u64>,
+    title: Option<String>,
     /// The option whose value comes next.
     due: Option<Choice>,
     /// Whether `--` was read, after which no argument is an option.
     is_past: bool,
 }
 
-/// The arguments after the program's name. There are none if an option that chooses the part is given twice, or without a number in its
-/// range: 1 to 1000000000 for `--from`, 1 to 2000 for `--events`.
+/// The arguments after the program's name. There are none if an option of the picture is given twice, or without a value in its range: a
+/// number from 1 to 1000000000 for `--from`, from 1 to 2000 for `--events`, and 1 to 90 bytes for `--title`.
 pub(crate) fn words_of(alloc: Global, args: &[String]) -> Result<Option<Words>, AllocError> {
     let mut reader = Reader {
         run: Vec::new(alloc),
         from: None,
         most: None,
+        title: None,
         due: None,
         is_past: false,
     };
@@ -68,6 +74,7 @@ pub(crate) fn words_of(alloc: Global, args: &[String]) -> Result<Option<Words>, 
     Ok(Some(Words {
         run: reader.run,
         part,
+        title: reader.title,
     }))
 }
 
@@ -76,11 +83,15 @@ impl Reader {
     fn read(&mut self, alloc: Global, arg: &str) -> Result<bool, AllocError> {
         if let Some(choice) = self.due {
             self.due = None;
-            return Ok(self.choose(choice, arg));
+            return self.choose(alloc, choice, arg);
         }
         if !self.is_past {
-            if let Some(is_good) = self.read_option(arg) {
-                return Ok(is_good);
+            if let Some(choice) = option_in(arg) {
+                self.due = Some(choice);
+                return Ok(true);
+            }
+            if let Some((choice, value)) = option_with_value(arg) {
+                return self.choose(alloc, choice, value);
             }
             self.is_past = arg == "--";
         }
@@ -88,38 +99,43 @@ impl Reader {
         Ok(true)
     }
 
-    // Reads an argument that is an option that chooses the part, if it is one. Whether it is a good one.
-    fn read_option(&mut self, arg: &str) -> Option<bool> {
-        if arg == "--from" {
-            self.due = Some(Choice::From);
-            return Some(true);
-        }
-        if arg == "--events" {
-            self.due = Some(Choice::Events);
-            return Some(true);
-        }
-        if let Some(value) = arg.strip_prefix("--from=") {
-            return Some(self.choose(Choice::From, value));
-        }
-        let value = arg.strip_prefix("--events=")?;
-        Some(self.choose(Choice::Events, value))
-    }
-
     // Takes the value of an option. Whether it is a good one, and the first.
-    fn choose(&mut self, choice: Choice, value: &str) -> bool {
+    fn choose(&mut self, alloc: Global, choice: Choice, value: &str) -> Result<bool, AllocError> {
         match choice {
             Choice::From => {
                 let is_first = self.from.is_none();
                 self.from = number(value, MOST_EVENTS);
-                is_first && self.from.is_some()
+                Ok(is_first && self.from.is_some())
             }
             Choice::Events => {
                 let is_first = self.most.is_none();
                 self.most = number(value, MOST_DRAWN);
-                is_first && self.most.is_some()
+                Ok(is_first && self.most.is_some())
+            }
+            Choice::Title => {
+                let is_first = self.title.is_none();
+                self.title = Some(String::from_str(alloc, value)?);
+                Ok(is_first && !value.is_empty() && value.len() <= LONGEST_TITLE)
             }
         }
     }
+}
+
+// The option of the picture that an argument names, whose value is the next argument.
+fn option_in(arg: &str) -> Option<Choice> {
+    match arg {
+        "--from" => Some(Choice::From),
+        "--events" => Some(Choice::Events),
+        "--title" => Some(Choice::Title),
+        _ => None,
+    }
+}
+
+// The option of the picture that an argument names, with its value after `=`.
+fn option_with_value(arg: &str) -> Option<(Choice, &str)> {
+    let (name, value) = arg.split_once("=")?;
+    let choice = option_in(name)?;
+    Some((choice, value))
 }
 
 // The number that one to ten decimal digits are, if it is from 1 to `most`.

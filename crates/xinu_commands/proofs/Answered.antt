@@ -1,23 +1,24 @@
 -- What is left of a command: refused arguments, a host that failed, and the text of a refusal.
-use Rattle.std.proofs.Common.{◌≡◌, ℕ, zero, suc, List, [], ◌∷◌, ◌++◌, take, Option, Some, None, is_some, refl, sym, ap, subst, ◌∙◌, arith}
+use Rattle.std.proofs.Common.{◌≡◌, ℕ, zero, suc, List, [], ◌∷◌, ◌++◌, map, take, Option, Some, None, is_some, refl, sym, ap, subst, ◌∙◌, arith}
 use Rattle.std.specs.List.{filter}
 use Rattle.std.specs.Prelude.{option_map}
 use Rattle.std.proofs.lemmas.List.{append-nil, take_all}
 use Rattle.std.proofs.lemmas.List.Elements.{filter-append}
 use Rattle.command_line.specs.Commands.{Command}
+use Rattle.command_line.specs.Reading.{Text}
 use Rattle.command_line.specs.declared.refusal.ArgsFault.{ArgsFault}
 use Rattle.command_line.specs.declared.refusal.ArgsFault.TheVariants as args
 use Rattle.host_port.specs.declared.host.Channel.TheVariants.{Fault}
 use Rattle.host_port.specs.Outside.{Outside, HostCall, appended, counted, fetching, grown, with_calls}
-use Rattle.xinu_commands.specs.Conversions.{args_refusal}
+use Rattle.run_inputs.specs.Conversions.{args_refusal}
 use Rattle.xinu_commands.specs.Calls.{calls_due}
-use Rattle.xinu_commands.specs.Refusals.{TellsRefusal, text_of}
+use Rattle.run_inputs.specs.Refusals.{TellsRefusal, text_of}
 use Rattle.xinu_commands.specs.Stages.{Performs}
 use Rattle.xinu_commands.specs.Theorem.{Answers, IsUnsent, namings}
 use Rattle.xinu_commands.specs.Verdict.{verdict}
 use Rattle.xinu_commands.specs.Work.{Left, Refuses}
-use Rattle.xinu_commands.specs.declared.refusals.Refusal.{Refusal}
-use Rattle.xinu_commands.specs.declared.refusals.Refusal.TheVariants as refusal
+use Rattle.run_inputs.specs.declared.refusals.Refusal.{Refusal}
+use Rattle.run_inputs.specs.declared.refusals.Refusal.TheVariants as refusal
 use Rattle.xinu_commands.proofs.Carried.{carries_nothing, unsent_both, unsent_refl}
 use Rattle.xinu_commands.proofs.Called.{keeps_refl, nothing_called}
 
@@ -45,9 +46,9 @@ args_refuse f r command h is cause =
     let P : Refusal → Type 0 = λ x. Performs command (Some x) None h h in subst P (sym is) (args_refuse_of f command h cause)
 
 -- Fetches name no file for a channel.
-fetches_name_nothing : (n : ℕ) (name : List ℕ) → filter (λ (call : HostCall). is_some call.channel) (take n (fetching name ∷ [])) ≡ []
-fetches_name_nothing zero name = refl
-fetches_name_nothing (suc n) name = ap (filter (λ (call : HostCall). is_some call.channel)) (take_all n [] (omega arith))
+fetches_name_nothing : (names : List Text) → filter (λ (call : HostCall). is_some call.channel) (map fetching names) ≡ []
+fetches_name_nothing [] = refl
+fetches_name_nothing (name ∷ names) = fetches_name_nothing names
 
 no_more_named : (calls more : List HostCall) → filter (λ (call : HostCall). is_some call.channel) more ≡ []
     → filter (λ (call : HostCall). is_some call.channel) (calls ++ more) ≡ filter (λ (call : HostCall). is_some call.channel) calls
@@ -60,17 +61,24 @@ still_named : (calls : Option (List HostCall)) (more : List HostCall) → filter
 still_named None more none = refl
 still_named (Some calls) more none = ap Some (no_more_named calls more none)
 
--- A fetch sends nothing.
-pub fetched_unsent : (h k : Outside) (name : List ℕ) (n m : ℕ) → k ≡ counted (with_calls h (take n (fetching name ∷ []))) m → IsUnsent h k
-fetched_unsent h k name n m is = record {
+-- Fetches send nothing.
+pub fetches_unsent : (h k : Outside) (names : List Text) (m : ℕ) → k ≡ counted (with_calls h (map fetching names)) m → IsUnsent h k
+fetches_unsent h k names m is = record {
   out = ap (λ (x : Outside). x.out) is;
   files = record {
     disk0 = ap (λ (x : Outside). x.disk0) is;
     disk1 = ap (λ (x : Outside). x.disk1) is;
     image = ap (λ (x : Outside). x.image) is;
-    names = ap namings is ∙ still_named h.calls (take n (fetching name ∷ [])) (fetches_name_nothing n name);
+    names = ap namings is ∙ still_named h.calls (map fetching names) (fetches_name_nothing names);
   };
 }
+
+-- One does so, whether it was noted or not.
+pub fetched_unsent : (h k : Outside) (name : Text) (n m : ℕ) → k ≡ counted (with_calls h (take n (fetching name ∷ []))) m → IsUnsent h k
+fetched_unsent h k name zero m is = fetches_unsent h k [] m is
+fetched_unsent h k name (suc n) m is =
+    let few : take n [] ≡ [] = take_all n [] (omega arith) in
+    fetches_unsent h k (name ∷ []) m (is ∙ ap (λ (more : List HostCall). counted (with_calls h (fetching name ∷ more)) m) few)
 
 -- A command that was done answers the status of its output.
 pub done_answers : (command : Option Command) (left : Option Left) (exit : ℕ) (h k : Outside) (p : Performs command None left h k) → exit ≡ p.obeys.carries.output.status → Answers exit command h k left

@@ -8,10 +8,11 @@ use Rattle.rv_asm.specs.Assembly.{Assembly, Makes, Fails, assembly}
 use Rattle.rv_asm.specs.declared.faults.AsmFault.{AsmFault}
 use Rattle.rv_asm.specs.declared.faults.AsmFault.TheVariants as asm
 use Rattle.xinu_commands.specs.AsmVerdict.{asm_refusal, asm_verdict}
-use Rattle.xinu_commands.specs.Refusals.{status_of}
+use Rattle.run_inputs.specs.Refusals.{status_of}
 use Rattle.xinu_commands.specs.Statuses.{HasFault, IsAssembled, SaysOfSource, status_due}
 use Rattle.xinu_commands.specs.Theorem.{Answers}
-use Rattle.xinu_commands.specs.Verdict.{SourceInput, file_bytes}
+use Rattle.run_inputs.specs.InputFiles.{file_bytes}
+use Rattle.xinu_commands.specs.Verdict.{SourceInput}
 use Rattle.xinu_commands.specs.Work.{Left}
 use Rattle.xinu_commands.proofs.Assembled.{asm_long, asm_short}
 use Rattle.xinu_commands.proofs.Statuses.{due}

@@ -17,14 +17,15 @@ use Rattle.rv_asm.specs.declared.faults.AsmFault.{AsmFault}
 use Rattle.rv_asm.specs.declared.faults.AsmFault.TheVariants as asm
 use Rattle.xinu_model.specs.Boot.{Loaded}
 use Rattle.xinu_commands.specs.AsmVerdict.{as_elf, asm_refusal, asm_verdict, assembly_verdict, longest_source, written_file}
-use Rattle.xinu_commands.specs.Stages.{Fetches, IsFetched, Performs, SendsOutput, Stage, no_fetches, output_on, outputs_due}
-use Rattle.xinu_commands.specs.Verdict.{file_bytes}
+use Rattle.run_inputs.specs.Fetching.{IsFetched}
+use Rattle.xinu_commands.specs.Stages.{Fetches, Performs, SendsOutput, Stage, no_fetches, output_on, outputs_due}
+use Rattle.run_inputs.specs.InputFiles.{file_bytes}
 use Rattle.xinu_commands.specs.Work.{Output, Refuses}
-use Rattle.xinu_commands.specs.declared.refusals.Refusal.{Refusal}
-use Rattle.xinu_commands.specs.declared.refusals.Refusal.TheVariants as refusal
+use Rattle.run_inputs.specs.declared.refusals.Refusal.{Refusal}
+use Rattle.run_inputs.specs.declared.refusals.Refusal.TheVariants as refusal
 use Rattle.xinu_commands.proofs.Called.{keeps_refl, nothing_called}
 use Rattle.xinu_commands.proofs.Carried.{nothing_sent, unsent_refl}
-use Rattle.xinu_commands.proofs.InputFaults.{cases_fetched}
+use Rattle.run_inputs.proofs.InputFaults.{cases_fetched}
 use Rattle.xinu_commands.proofs.Staged.{action_files, fetched_stage, memory_stage, refused_last, sent_stage, stage_as, unfetched_stage}
 
 -- ---- the verdict

@@ -7,9 +7,10 @@ use Rattle.host_port.specs.Outside.{Outside, HostCall, fetching, grown}
 use Rattle.host_port.proofs.Prints.{grown-grown, grown-nil}
 use Rattle.xinu_commands.specs.Calls.{Due, calls_in}
 use Rattle.xinu_commands.specs.Stages.{IsHostCause, KeepsFiles, fetch_due}
-use Rattle.xinu_commands.specs.Theorem.{HasCalled, IsDecided, IsUnsent}
-use Rattle.xinu_commands.specs.declared.refusals.Refusal.{Refusal}
-use Rattle.xinu_commands.specs.declared.refusals.Refusal.TheVariants as refusal
+use Rattle.run_inputs.specs.Fetching.{IsDecided}
+use Rattle.xinu_commands.specs.Theorem.{HasCalled, IsUnsent}
+use Rattle.run_inputs.specs.declared.refusals.Refusal.{Refusal}
+use Rattle.run_inputs.specs.declared.refusals.Refusal.TheVariants as refusal
 use Rattle.xinu_commands.proofs.Carried.{unsent_both, unsent_refl}
 
 -- an end that the host caused isn't decided by the verdict

@@ -10,8 +10,8 @@ use Rattle.xinu_model.specs.Text.{shown}
 use Rattle.xinu_model.proofs.Runs.{some_run}
 use Rattle.xinu_commands.specs.Theorem.{Carries, Deserved, HasNoFile, IsPart, IsPartSent, IsSent, IsUnsent, IsWhole, Sends}
 use Rattle.xinu_commands.specs.Work.{Does, Judges, Left, Output, Outputs, Refuses, Runs, Soaking, Verdict, judgement, only_printed, output_of, run_output}
-use Rattle.xinu_commands.specs.declared.refusals.Refusal.{Refusal}
-use Rattle.xinu_commands.specs.declared.refusals.Refusal.TheVariants as refusal
+use Rattle.run_inputs.specs.declared.refusals.Refusal.{Refusal}
+use Rattle.run_inputs.specs.declared.refusals.Refusal.TheVariants as refusal
 
 -- ---- nothing was sent
 

@@ -11,38 +11,19 @@ use Rattle.lfs_layout.specs.Images.{opened}
 use Rattle.lfs_layout.specs.Made.{geometry_2}
 use Rattle.lfs_layout.proofs.CleanOpens.{placed_room}
 use Rattle.lfs_layout.proofs.MadeClean.{opened_clean}
-use Rattle.xinu_commands.specs.DiskVerdict.{check_verdict, disk_fault, get_verdict, ls_verdict, put_verdict, repair_verdict, rule_broken, size_fault}
+use Rattle.run_inputs.specs.InputDisks.{disk_fault, rule_broken}
+use Rattle.xinu_commands.specs.DiskVerdict.{check_verdict, get_verdict, ls_verdict, put_verdict, repair_verdict, size_fault}
 use Rattle.xinu_commands.specs.Work.{Verdict, Refuses}
-use Rattle.xinu_commands.specs.declared.refusals.Refusal.TheVariants as refusal
+use Rattle.run_inputs.specs.declared.refusals.Refusal.TheVariants as refusal
 use Rattle.xinu_commands.proofs.DiskVerdicts.{check_broken, get_broken, ls_broken, put_broken, put_sets, repair_broken, set_refused}
-use Rattle.xinu_commands.proofs.InputFaults.{cases_fetched}
+use Rattle.run_inputs.proofs.InputFaults.{cases_fetched}
+use Rattle.run_inputs.proofs.LongDisks.{disk_fault-long, rule_0-long, too_long}
 
 -- ---- a disk that is too long breaks rule 0
-
-abbrev pub too_long : DiskFault
-too_long = record { block = 0; rule = 0 }
-
-last_false : (a b c : Bool) → c ≡ false → cond {A = Option ℕ} (a && b && c) None (Some 0) ≡ Some 0
-last_false true true c is = ap (λ x. cond {A = Option ℕ} x None (Some 0)) is
-last_false true false c is = refl
-last_false false b c is = refl
-
-most_of : (v : Bool) → most_blocks (record { dirs = cond v 6 1; blocks = 0 }) ≤ 65542
-most_of true = omega arith
-most_of false = omega arith
-
-rule_0-long : (bytes : List ℕ) → 33557504 < length bytes → rule_0 (geometry_of bytes) bytes ≡ Some 0
-rule_0-long bytes long =
-    let most : most_blocks (geometry_of bytes) ≤ 65542 = most_of (is_version_2 bytes) in
-    last_false (nat_eq (length bytes % 512) 0) (nat_le (512 * fewest_blocks (geometry_of bytes)) (length bytes)) (nat_le (length bytes) (512 * most_blocks (geometry_of bytes))) (lt-leb (length bytes) (512 * most_blocks (geometry_of bytes)) (omega arith))
 
 size_fault-long : (bytes : List ℕ) → 33557504 < length bytes → size_fault bytes ≡ Some too_long
 unfolding size_fault
 size_fault-long bytes long = ap (named 0) (rule_0-long bytes long)
-
-pub disk_fault-long : (bytes : List ℕ) → 33557504 < length bytes → disk_fault bytes ≡ Some too_long
-unfolding disk_fault
-disk_fault-long bytes long = ap (λ (r : Option ℕ). either_fault (named 0 r) (shape_fault (geometry_of bytes) (fields_of (geometry_of bytes) bytes) bytes)) (rule_0-long bytes long)
 
 -- ---- what was fetched of a disk has its verdict
 

@@ -6,10 +6,12 @@ use Rattle.command_line.specs.Reading.{Text}
 use Rattle.host_port.specs.Outside.{Outside}
 use Rattle.lfs_check.specs.declared.faults.DiskFault.{DiskFault}
 use Rattle.lfs_layout.specs.Images.{opened}
-use Rattle.xinu_commands.specs.DiskVerdict.{disk_fault, disk_with, file_on, size_fault}
+use Rattle.run_inputs.specs.InputDisks.{disk_fault}
+use Rattle.xinu_commands.specs.DiskVerdict.{disk_with, file_on, size_fault}
 use Rattle.xinu_commands.specs.Statuses.{LacksFile, LacksRoom, SaysOfDisk, action_fault, status_due}
 use Rattle.xinu_commands.specs.Theorem.{Answers}
-use Rattle.xinu_commands.specs.Verdict.{Input, DiskInput, SourceInput, action_verdict, file_bytes}
+use Rattle.run_inputs.specs.InputFiles.{file_bytes}
+use Rattle.xinu_commands.specs.Verdict.{Input, DiskInput, SourceInput, action_verdict}
 use Rattle.xinu_commands.specs.Work.{Left}
 use Rattle.xinu_commands.proofs.DiskVerdicts.{check_broken, check_does, get_broken, get_does, get_missing, ls_broken, ls_does, mkfs_does, put_broken, put_sets, repair_broken, repair_does, set_done, set_full}
 use Rattle.xinu_commands.proofs.Printed.{some_is_none}

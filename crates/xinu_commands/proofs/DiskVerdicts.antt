@@ -11,10 +11,11 @@ use Rattle.lfs_check.specs.declared.faults.DiskFault.{DiskFault}
 use Rattle.lfs_layout.specs.Files.{File, found, have_room, padded_name, placed_files, with_set}
 use Rattle.lfs_layout.specs.Images.{Puts, opened, repaired}
 use Rattle.lfs_layout.specs.Made.{geometry_2, image_with}
-use Rattle.xinu_commands.specs.DiskVerdict.{check_verdict, disk_fault, disk_with, dropped_count, file_lines, file_on, get_verdict, kept_count, ls_verdict, mkfs_verdict, put_verdict, repair_line, repair_verdict, report_line, rule_broken, set_verdict, size_fault, with_disk}
+use Rattle.run_inputs.specs.InputDisks.{disk_fault, rule_broken}
+use Rattle.xinu_commands.specs.DiskVerdict.{check_verdict, disk_with, dropped_count, file_lines, file_on, get_verdict, kept_count, ls_verdict, mkfs_verdict, put_verdict, repair_line, repair_verdict, report_line, set_verdict, size_fault, with_disk}
 use Rattle.xinu_commands.specs.Work.{Verdict, Refuses, Does, Outputs, if_some, unless_fault}
-use Rattle.xinu_commands.specs.declared.refusals.Refusal.{Refusal}
-use Rattle.xinu_commands.specs.declared.refusals.Refusal.TheVariants as refusal
+use Rattle.run_inputs.specs.declared.refusals.Refusal.{Refusal}
+use Rattle.run_inputs.specs.declared.refusals.Refusal.TheVariants as refusal
 
 -- ---- the stages
 

@@ -12,7 +12,8 @@ use Rattle.lfs_layout.specs.Images.{opened, repaired}
 use Rattle.machine.specs.Printed.{Booted}
 use Rattle.rv_asm.specs.Assembly.{Assembly, Makes, Fails, assembly}
 use Rattle.xinu_commands.specs.AsmVerdict.{asm_verdict, assembly_verdict, longest_source}
-use Rattle.xinu_commands.specs.DiskVerdict.{check_verdict, disk_fault, disk_with, file_lines, file_on, get_verdict, ls_verdict, mkfs_verdict, put_verdict, repair_line, repair_verdict, report_line, rule_broken, set_verdict, size_fault, with_disk}
+use Rattle.run_inputs.specs.InputDisks.{disk_fault, rule_broken}
+use Rattle.xinu_commands.specs.DiskVerdict.{check_verdict, disk_with, file_lines, file_on, get_verdict, ls_verdict, mkfs_verdict, put_verdict, repair_line, repair_verdict, report_line, set_verdict, size_fault, with_disk}
 use Rattle.xinu_commands.specs.Endings.{CarriesOut}
 use Rattle.xinu_commands.specs.Stages.{Performs, left_by}
 use Rattle.xinu_commands.specs.Statuses.{status_due}
@@ -20,8 +21,8 @@ use Rattle.xinu_commands.specs.Theorem.{Carries}
 use Rattle.xinu_commands.specs.Verdict.{Input, DiskInput, SourceInput, action_verdict, verdict}
 use Rattle.xinu_commands.specs.Work.{Does, Judges, Left, Output, Outputs, Refuses, Runs, Soaking, Verdict, if_some, judgement}
 use Rattle.xinu_commands.specs.declared.commands.Done.{Done}
-use Rattle.xinu_commands.specs.declared.refusals.Refusal.{Refusal}
-use Rattle.xinu_commands.specs.declared.refusals.Refusal.TheVariants as refusal
+use Rattle.run_inputs.specs.declared.refusals.Refusal.{Refusal}
+use Rattle.run_inputs.specs.declared.refusals.Refusal.TheVariants as refusal
 use Rattle.xinu_commands.proofs.Fetches.{unless_fault_is}
 
 -- It is that of the verdict.

@@ -1,22 +1,18 @@
 -- What a fetch of a host is for `asm` and for an action on a disk.
-use Rattle.std.proofs.Common.{◌≡◌, ◌≤◌, ◌+◌, ℕ, List, [], ◌∷◌, length, take, Option, Some, None, sym, ap, subst}
-use Rattle.std.specs.Prelude.{MatchOption, ⊤}
+use Rattle.std.proofs.Common.{◌≡◌, ◌≤◌, ℕ, List, [], ◌∷◌, take, Some, None, sym, ap, subst}
 use Rattle.host_port.specs.declared.host.HostFault.{HostFault}
 use Rattle.host_port.specs.declared.host.HostFault.TheVariants as host
 use Rattle.host_port.specs.HostCalls.{Rose}
 use Rattle.host_port.specs.Outside.{Outside, HostCall, counted, fetching, with_calls}
-use Rattle.xinu_commands.specs.Conversions.{host_refusal}
-use Rattle.xinu_commands.specs.Stages.{Fetches, IsFetched, KeepsFiles}
-use Rattle.xinu_commands.specs.declared.refusals.Refusal.{Refusal}
+use Rattle.run_inputs.specs.Conversions.{host_refusal}
+use Rattle.xinu_commands.specs.Stages.{Fetches, KeepsFiles}
+use Rattle.run_inputs.specs.declared.refusals.Refusal.{Refusal}
 use Rattle.xinu_commands.proofs.Answered.{fetched_unsent}
 use Rattle.xinu_commands.proofs.Called.{undecided}
-use Rattle.xinu_commands.proofs.Files.{held_fetched}
 use Rattle.xinu_commands.proofs.Sent.{host_cause}
 
-pub fetched_front : (most : ℕ) (file : Option (List ℕ)) (items : List ℕ) → length items ≤ most + 1 → MatchOption file ⊤ (λ bytes. items ≡ take (most + 1) bytes) → IsFetched most file items
-fetched_front most file items few is = record { front = held_fetched file items (most + 1) few is }
-
-keeps : (h k : Outside) (calls : List HostCall) → k ≡ counted (with_calls h calls) k.faults → h.faults ≤ k.faults → KeepsFiles h k
+-- fetches change no file that can be observed, and send nothing on Fault
+pub keeps : (h k : Outside) (calls : List HostCall) → k ≡ counted (with_calls h calls) k.faults → h.faults ≤ k.faults → KeepsFiles h k
 keeps h k calls is later = record { file = ap (λ (x : Outside). x.file) is; fault = ap (λ (x : Outside). x.fault) is; later = later }
 
 -- a file that was fetched

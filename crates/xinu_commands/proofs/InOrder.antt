@@ -5,9 +5,10 @@ use Rattle.std.proofs.lemmas.List.{take-append-le, take_all, take_min}
 use Rattle.host_port.specs.Outside.{Outside, HostCall, emptied_channel, grown}
 use Rattle.host_port.proofs.Prints.{grown-grown, grown-nil}
 use Rattle.xinu_commands.specs.Stages.{SendsOutput}
-use Rattle.xinu_commands.specs.Theorem.{IsDecided, IsPart, IsWhole}
+use Rattle.run_inputs.specs.Fetching.{IsDecided}
+use Rattle.xinu_commands.specs.Theorem.{IsPart, IsWhole}
 use Rattle.xinu_commands.specs.Work.{Output}
-use Rattle.xinu_commands.specs.declared.refusals.Refusal.{Refusal}
+use Rattle.run_inputs.specs.declared.refusals.Refusal.{Refusal}
 use Rattle.xinu_commands.proofs.Called.{keeps_both}
 use Rattle.xinu_commands.proofs.Carried.{part_within, whole_within}
 use Rattle.xinu_commands.proofs.Sent.{cause_within, outputs_called}

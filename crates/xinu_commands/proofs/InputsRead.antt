@@ -1,228 +1,212 @@
--- The inputs of a command, fetched and judged one after another.
-use Rattle.std.proofs.Common.{◌≡◌, ◌∙◌, ℕ, List, [], ◌∷◌, ◌++◌, map, Option, Some, None, refl, sym, ap, subst}
+-- The inputs of a command were read, and then what is left is carried out.
+use Rattle.std.proofs.Common.{◌≡◌, ◌≢◌, ◌∙◌, ◌+◌, ◌<◌, ℕ, arith, false, List, [], ◌∷◌, ◌++◌, length, map, take, Option, Some, None, refl, sym, ap, subst, append_assoc, append-nil}
+use Rattle.std.proofs.Math.Seq.{take-append-add}
+use Rattle.std.proofs.lemmas.List.{length-append, length-map, map-append}
 use Rattle.std.specs.Prelude.{Result, Ok, Err}
 use Rattle.command_line.specs.Reading.{Text}
 use Rattle.given_disks.specs.Disks.{disks_of}
-use Rattle.host_port.specs.Outside.{Outside, HostCall}
+use Rattle.host_port.proofs.Prints.{grown-grown}
+use Rattle.host_port.specs.Outside.{Outside, HostCall, counted, fetching, grown, with_calls}
+use Rattle.run_inputs.proofs.GoodImages.{good_images}
+use Rattle.run_inputs.specs.Fetching.{FetchesFiles, IsDecided, disks_up_to, fetches_due}
+use Rattle.run_inputs.specs.InputDisks.{empty_disk0, empty_disk1}
+use Rattle.run_inputs.specs.InputFaults.{have_fault, images_loaded}
+use Rattle.run_inputs.specs.InputFiles.{InputFiles, Unseen, disk_bytes, file_bytes, held, image_bytes}
+use Rattle.run_inputs.specs.Judging.{Judged, Refused, Accepted}
+use Rattle.run_inputs.specs.Reading.{IsAnswer, ReadsInputs}
+use Rattle.run_inputs.specs.declared.inputs.Inputs.{Inputs}
+use Rattle.run_inputs.specs.declared.refusals.Refusal.{Refusal}
+use Rattle.run_inputs.specs.declared.refusals.Refusal.TheVariants as refusal
 use Rattle.xinu_base.specs.declared.events.Event.{Event}
 use Rattle.xinu_model.specs.Boot.{Disks, Loaded}
-use Rattle.xinu_commands.specs.Calls.{due_by, if_named, input_fetches, unless_refused}
-use Rattle.xinu_commands.specs.DiskVerdict.{with_disk}
-use Rattle.xinu_commands.specs.InputFiles.{InputFiles}
-use Rattle.xinu_commands.specs.InputVerdict.{Next, disk0_verdict, disk1_verdict, empty_disk0, empty_disk1, images_verdict, with_raw}
-use Rattle.xinu_commands.specs.Reading.{GoesOn, IsLater, Leads, ReadsDisk, ReadsImages, ReadsInputs, disk1_left, images_left, left_verdict}
-use Rattle.xinu_commands.specs.Stages.{Fetches, HoldsFault, HoldsSchedule, IsScheduleCause, KeepsFiles, fetch_due}
-use Rattle.xinu_commands.specs.Theorem.{HasCalled, IsDecided, IsUnsent}
-use Rattle.xinu_commands.specs.Verdict.{Input, ScheduleInput, Disk0Input, Disk1Input, ImageInput, TraceInput, DiskInput, SourceInput, disk_bytes, file_bytes, held_verdict, image_bytes}
-use Rattle.xinu_commands.specs.Work.{Refuses, Verdict}
-use Rattle.xinu_commands.specs.declared.inputs.Inputs.{Inputs}
-use Rattle.xinu_commands.specs.declared.refusals.Refusal.{Refusal}
-use Rattle.xinu_commands.specs.declared.refusals.Refusal.TheVariants as refusal
-use Rattle.xinu_commands.proofs.Called.{called_first}
-use Rattle.xinu_commands.proofs.Carried.{carries_nothing}
-use Rattle.xinu_commands.proofs.Fetches.{disk0_past, disk1_past, disk1_then, schedule_first, schedule_then}
-use Rattle.xinu_commands.proofs.Files.{disk1_keeps, images_keep, inputs_keep, later_keeps, schedule_read, schedule_refused}
-use Rattle.xinu_commands.proofs.Going.{goes_as, goes_both, goes_leads}
-use Rattle.xinu_commands.proofs.Staged.{fetched_stage, stage_as, stage_due}
+use Rattle.xinu_commands.specs.Calls.{Due, due_by, input_fetches, unless_refused}
+use Rattle.xinu_commands.specs.InputVerdict.{IsLater, Next, after_judged, left_verdict}
+use Rattle.xinu_commands.specs.Stages.{KeepsFiles, Stage}
+use Rattle.xinu_commands.specs.Theorem.{Deserved, HasCalled, IsUnsent}
+use Rattle.xinu_commands.specs.Verdict.{Input, ScheduleInput, Disk0Input, Disk1Input, ImageInput, TraceInput, DiskInput, SourceInput, held_verdict}
+use Rattle.xinu_commands.specs.Work.{Does, Left, Refuses, Verdict, if_some}
+use Rattle.xinu_commands.proofs.Answered.{fetches_unsent}
+use Rattle.xinu_commands.proofs.Called.{keeps_both}
+use Rattle.xinu_commands.proofs.Carried.{carries_nothing, carries_within, unsent_both, unsent_refl}
+use Rattle.xinu_commands.proofs.Fetched.{keeps}
+use Rattle.xinu_commands.proofs.Files.{inputs_keep}
+use Rattle.xinu_commands.proofs.Staged.{stage_as}
 
 -- these bytes for the files of inputs
-abbrev pub unseen_by : List ℕ → List ℕ → List ℕ → (ℕ → List ℕ) → Input → List ℕ
-unseen_by schedule disk0 disk1 images ScheduleInput = schedule
-unseen_by schedule disk0 disk1 images Disk0Input = disk0
-unseen_by schedule disk0 disk1 images Disk1Input = disk1
-unseen_by schedule disk0 disk1 images (ImageInput i) = images i
-unseen_by schedule disk0 disk1 images TraceInput = []
-unseen_by schedule disk0 disk1 images DiskInput = []
-unseen_by schedule disk0 disk1 images SourceInput = []
+abbrev pub unseen_by : Unseen → Input → List ℕ
+unseen_by u ScheduleInput = u.schedule
+unseen_by u Disk0Input = u.disk0
+unseen_by u Disk1Input = u.disk1
+unseen_by u (ImageInput i) = u.images i
+unseen_by u TraceInput = []
+unseen_by u DiskInput = []
+unseen_by u SourceInput = []
 
 -- What comes after the inputs is no refusal of one.
 abbrev IsAfterInputs : Next → Type 0
 IsAfterInputs next = (events : List Event) (disks : Disks) (images : List Loaded) → IsLater (next events disks images)
 
--- what a file holds, where it can be observed
-abbrev Contents : Type 0
-Contents = Text → Option (List ℕ)
+-- ---- what is deserved by inputs that were read
 
--- what is left after the schedule, on files with these contents
-abbrev after_schedule : Next → InputFiles → List Event → Contents → List ℕ → List ℕ → (ℕ → List ℕ) → Verdict
-after_schedule next f events file u0 u1 images =
-    disk0_verdict next events (disk_bytes f.disk0 empty_disk0 file u0) (disk_bytes f.disk1 empty_disk1 file u1) (image_bytes 1 f.images file images)
+-- the verdict on inputs that were read is that on the images that their files load
+pub left_loaded : (next : Next) (x : Inputs) (images : List Loaded) → images_loaded (map (λ v. v.items) x.images.items) ≡ Some images
+    → left_verdict next x ≡ next x.schedule (disks_of x.disk0 x.disk1) images
+left_loaded next x images loaded = ap (λ o. if_some refusal.NoMemory o (next x.schedule (disks_of x.disk0 x.disk1))) loaded
 
--- after the raw disk
-abbrev after_raw : Next → InputFiles → List Event → List ℕ → Contents → List ℕ → (ℕ → List ℕ) → Verdict
-after_raw next f events disk0 file u1 images = disk1_verdict next events disk0 (disk_bytes f.disk1 empty_disk1 file u1) (image_bytes 1 f.images file images)
+-- files without a fault load
+pub left_read : (next : Next) (x : Inputs) → have_fault (map (λ v. v.items) x.images.items) ≡ false
+    → (images : List Loaded) × (left_verdict next x ≡ next x.schedule (disks_of x.disk0 x.disk1) images)
+left_read next x good =
+    let images = good_images (map (λ v. v.items) x.images.items) good in (images.0, left_loaded next x images.0 images.1)
 
--- after the disk with files
-abbrev after_clean : Next → InputFiles → List Event → List ℕ → List ℕ → Contents → (ℕ → List ℕ) → Verdict
-after_clean next f events disk0 disk1 file images = images_verdict 1 (image_bytes 1 f.images file images) (next events (disks_of disk0 disk1))
+-- What is carried out with the images that the files load carries out what is left of the inputs.
+pub images_carry : (next : Next) (x : Inputs) (images : List Loaded) (fetches : Verdict → List Text) (outputs : List HostCall) (ended : Option Refusal) (left : Option Left) (h k : Outside)
+    → images_loaded (map (λ v. v.items) x.images.items) ≡ Some images → Stage (next x.schedule (disks_of x.disk0 x.disk1) images) fetches outputs ended left h k
+    → Stage (left_verdict next x) fetches outputs ended left h k
+images_carry next x images fetches outputs ended left h k loaded stage =
+    stage_as (left_verdict next x) (next x.schedule (disks_of x.disk0 x.disk1) images) fetches outputs ended left h k (left_loaded next x images loaded) stage
 
--- the files that are left after the schedule
-abbrev disk0_left : InputFiles → List Text → Verdict → List Text
-disk0_left f more v = if_named f.disk0 ++ disk1_left f more v
+-- ---- the calls
 
-module _ (next : Next) (f : InputFiles) (more : List Text) (later : IsAfterInputs next) (events : List Event) where
-  -- the schedule was read
-  schedule_goes : (u0 u1 : List ℕ) (images : ℕ → List ℕ) (h j : Outside) (held : HoldsSchedule (h.file f.schedule) events) → Fetches f.schedule None h j
-      → GoesOn (held_verdict next f h.file (unseen_by held.unseen u0 u1 images)) (input_fetches f more) (after_schedule next f events j.file u0 u1 images) (disk0_left f more) h j
-  schedule_goes u0 u1 images h j held fetches =
-      let v = held_verdict next f h.file (unseen_by held.unseen u0 u1 images) in
-      let w = after_schedule next f events j.file u0 u1 images in
-      let read : v ≡ after_schedule next f events h.file u0 u1 images =
-      schedule_read next (file_bytes (h.file f.schedule) held.unseen) events (disk_bytes f.disk0 empty_disk0 h.file u0) (disk_bytes f.disk1 empty_disk1 h.file u1) (image_bytes 1 f.images h.file images) held.reads in
-      let same : v ≡ w = read ∙ ap (λ (file : Contents). after_schedule next f events file u0 u1 images) (sym fetches.keeps.file) in
-      let past = disk0_past next later events (disk_bytes f.disk0 empty_disk0 j.file u0) (disk_bytes f.disk1 empty_disk1 j.file u1) (image_bytes 1 f.images j.file images) in (
-        same,
-        λ outputs ended left last s.
-            stage_as v w (input_fetches f more) outputs ended left h last same
-            (stage_due w (λ x. f.schedule ∷ disk0_left f more x) (input_fetches f more) outputs ended left h last (sym (schedule_then f more w past))
-            (fetched_stage w f.schedule (disk0_left f more) outputs ended left h j last fetches s)),
-      )
+-- the calls of the first files
+taken : (made : List Text) (more : List HostCall) → take (length made) (map fetching made ++ more) ≡ map fetching made
+taken [] more = refl
+taken (x ∷ made) more = ap (λ calls. fetching x ∷ calls) (taken made more)
 
-  -- the raw disk was read, or refused
-  raw_leads : {T : Type 0} (disk : T → List ℕ) (u1 : List ℕ) (images : ℕ → List ℕ) (result : Result T Refusal) (h j : Outside) (reads : ReadsDisk 0 empty_disk0 with_raw disk f.disk0 result h j)
-      → Leads result (after_schedule next f events h.file reads.unseen u1 images) (disk0_left f more) (λ x. after_raw next f events (disk x) h.file u1 images) (disk1_left f more) h j
-  raw_leads disk u1 images result h j reads =
-      reads.leads (λ d. after_raw next f events d h.file u1 images) (disk1_left f more)
-      (λ d. disk1_keeps next later events d (disk_bytes f.disk1 empty_disk1 h.file u1) (image_bytes 1 f.images h.file images)) (λ b r. refl)
-
-  -- the disk with files was read, or refused
-  clean_leads : {T : Type 0} (disk : T → List ℕ) (disk0 : List ℕ) (images : ℕ → List ℕ) (result : Result T Refusal) (h j : Outside) (reads : ReadsDisk 1 empty_disk1 with_disk disk f.disk1 result h j)
-      → Leads result (after_raw next f events disk0 h.file reads.unseen images) (disk1_left f more) (λ x. after_clean next f events disk0 (disk x) h.file images) (images_left 0 f.images more) h j
-  clean_leads disk disk0 images result h j reads =
-      let v = after_raw next f events disk0 h.file reads.unseen images in
-      let left_over : Verdict → List Text = λ x. if_named f.disk1 ++ images_left 0 f.images more x in
-      let past = disk1_past next later events disk0 (disk_bytes f.disk1 empty_disk1 h.file reads.unseen) (image_bytes 1 f.images h.file images) in
-      let on : List ℕ → List Loaded → Verdict = λ d. next events (disks_of disk0 d) in
-      goes_leads v (disk1_left f more) v left_over (λ x. after_clean next f events disk0 (disk x) h.file images) (images_left 0 f.images more) result h h j
-      (refl, λ outputs ended left last s. stage_due v left_over (disk1_left f more) outputs ended left h last (disk1_then f more v past) s)
-      (reads.leads (λ d. after_clean next f events disk0 d h.file images) (images_left 0 f.images more)
-      (λ d. images_keep 1 (image_bytes 1 f.images h.file images) (on d) (λ x. later_keeps (on d x) (later events (disks_of disk0 d) x))) (λ b r. refl))
-
--- ---- the schedule isn't read
-
-module _ (f : InputFiles) (h k : Outside) (unsent : IsUnsent h k) (keeps : KeepsFiles h k) where
-  -- what the inputs deserve, with these bytes for the schedule if it can't be observed and none for the other files
-  abbrev verdict_by : Next → List ℕ → Verdict
-  verdict_by next schedule = held_verdict next f h.file (unseen_by schedule [] [] (λ i. []))
-
-  -- the calls of a command of which the schedule was asked for
-  schedule_called : (v : Verdict) (more : List Text) (outputs : List HostCall) (cause : Refusal) → (IsDecided (Some cause) → ⊥) → HasCalled (fetch_due f.schedule) (Some cause) h k
-      → HasCalled (due_by (input_fetches f more) outputs v) (Some cause) h k
-  schedule_called v more outputs cause never calls =
-      let first = schedule_first f more v in
-      let named = unless_refused v outputs in
-      let P : List Text → Type 0 = λ names. HasCalled (record { fetches = names; outputs = named }) (Some cause) h k in
-      subst P (sym first.1) (called_first f.schedule first.0 named cause h k unsent never calls)
-
-  -- why the schedule wasn't read
-  pub schedule_refuses : (cause : Refusal) → IsScheduleCause cause (h.file f.schedule) h k → HasCalled (fetch_due f.schedule) (Some cause) h k → ReadsInputs f (Err cause) h k
-  schedule_refuses refusal.HostFault is calls = record {
-    unseen = unseen_by [] [] [] (λ i. []);
-    files = keeps.file;
-    leads = λ next more later outputs.
-        let v = verdict_by next [] in record {
-          carries = carries_nothing v refusal.HostFault h k (inputs_keep next later (file_bytes (h.file f.schedule) []) _ _ _, is) unsent;
-          calls = schedule_called v more outputs refusal.HostFault (λ decided. decided) calls;
-          keeps = keeps;
-        };
-  }
-  schedule_refuses (refusal.Schedule l) is calls =
-      let held : HoldsFault (h.file f.schedule) l = is in record {
-        unseen = unseen_by held.unseen [] [] (λ i. []);
-        files = keeps.file;
-        leads = λ next more later outputs.
-            let refuses : verdict_by next held.unseen ≡ Refuses (refusal.Schedule l) = schedule_refused next (file_bytes (h.file f.schedule) held.unseen) l (disk_bytes f.disk0 empty_disk0 h.file []) (disk_bytes f.disk1 empty_disk1 h.file [])
-            (image_bytes 1 f.images h.file (λ i. [])) held.fault in
-            let P : Verdict → Type 0 = λ v. HasCalled (due_by (input_fetches f more) outputs v) (Some (refusal.Schedule l)) h k in record {
-              carries = carries_nothing (verdict_by next held.unseen) (refusal.Schedule l) h k refuses unsent;
-              calls = subst P (sym refuses) calls;
-              keeps = keeps;
-            };
-      }
-  schedule_refuses refusal.NoMemory is calls = record {
-    unseen = unseen_by [] [] [] (λ i. []);
-    files = keeps.file;
-    leads = λ next more later outputs.
-        let v = verdict_by next [] in record {
-          carries = carries_nothing v refusal.NoMemory h k tt unsent;
-          calls = schedule_called v more outputs refusal.NoMemory (λ decided. decided) calls;
-          keeps = keeps;
-        };
-  }
-  schedule_refuses other is calls = absurd is
-
--- ---- the schedule was read
-
-module _ (f : InputFiles) (events : List Event) (h i : Outside) (held : HoldsSchedule (h.file f.schedule) events) (fetches : Fetches f.schedule None h i) where
-  -- the raw disk wasn't
-  pub raw_refuses : {T : Type 0} (disk : T → List ℕ) (cause : Refusal) (j : Outside) → ReadsDisk 0 empty_disk0 with_raw disk f.disk0 (Err cause) i j → ReadsInputs f (Err cause) h j
-  raw_refuses disk cause j raw = record {
-    unseen = unseen_by held.unseen raw.unseen [] (λ n. []);
-    files = raw.files ∙ fetches.keeps.file;
-    leads = λ next more later outputs.
-        (schedule_goes next f more later events raw.unseen [] (λ n. []) h i held fetches).1 outputs (Some cause) None j
-        (raw_leads next f more later events disk [] (λ n. []) (Err cause) i j raw outputs);
-  }
-
-  module _ {T : Type 0} (disk : T → List ℕ) (x : T) (j : Outside) (raw : ReadsDisk 0 empty_disk0 with_raw disk f.disk0 (Ok x) i j) where
-    -- the raw disk was read
-    raw_goes : (next : Next) (more : List Text) → IsAfterInputs next → (u1 : List ℕ) (images : ℕ → List ℕ)
-        → GoesOn (held_verdict next f h.file (unseen_by held.unseen raw.unseen u1 images)) (input_fetches f more) (after_raw next f events (disk x) j.file u1 images) (disk1_left f more) h j
-    raw_goes next more later u1 images =
-        let v = held_verdict next f h.file (unseen_by held.unseen raw.unseen u1 images) in
-        let w = after_raw next f events (disk x) i.file u1 images in
-        goes_as v w (after_raw next f events (disk x) j.file u1 images) (input_fetches f more) (disk1_left f more) h j
-        (ap (λ (file : Contents). after_raw next f events (disk x) file u1 images) (sym raw.files))
-        (goes_both v (after_schedule next f events i.file raw.unseen u1 images) w (input_fetches f more) (disk0_left f more) (disk1_left f more) h i j
-        (schedule_goes next f more later events raw.unseen u1 images h i held fetches) (raw_leads next f more later events disk u1 images (Ok x) i j raw))
-
-    -- the disk with files wasn't
-    pub clean_refuses : {S : Type 0} (disk1 : S → List ℕ) (cause : Refusal) (k : Outside) → ReadsDisk 1 empty_disk1 with_disk disk1 f.disk1 (Err cause) j k → ReadsInputs f (Err cause) h k
-    clean_refuses disk1 cause k clean = record {
-      unseen = unseen_by held.unseen raw.unseen clean.unseen (λ n. []);
-      files = clean.files ∙ raw.files ∙ fetches.keeps.file;
-      leads = λ next more later outputs.
-          (raw_goes next more later clean.unseen (λ n. [])).1 outputs (Some cause) None k
-          (clean_leads next f more later events disk1 (disk x) (λ n. []) (Err cause) j k clean outputs);
+-- of the files that are due the first were fetched, and then it was refused
+called_part : (names made rest : List Text) (outputs : List HostCall) (r : Refusal) (h k : Outside) → names ≡ made ++ rest → k.calls ≡ grown h.calls (map fetching made) → IsUnsent h k
+    → (IsDecided (Some r) → (rest ≡ []) × (outputs ≡ [])) → HasCalled (record { fetches = names; outputs = outputs }) (Some r) h k
+called_part names made rest outputs r h k parts made_calls unsent all =
+    let split : map fetching names ++ outputs ≡ map fetching made ++ (map fetching rest ++ outputs) =
+    ap (λ (xs : List Text). map fetching xs ++ outputs) parts ∙ ap (λ (xs : List HostCall). xs ++ outputs) (map-append fetching made rest)
+    ∙ append_assoc (map fetching made) (map fetching rest) outputs in record {
+      count = length made;
+      first = made_calls ∙ ap (grown h.calls) (sym (ap (take (length made)) split ∙ taken made (map fetching rest ++ outputs)));
+      all = λ decided.
+          let none = all decided in
+          made_calls ∙ ap (grown h.calls) (sym (split ∙ ap (λ (xs : List Text). map fetching made ++ (map fetching xs ++ outputs)) none.0
+          ∙ ap (λ (xs : List HostCall). map fetching made ++ xs) none.1 ∙ append-nil (map fetching made)));
+      unsent = λ few. unsent;
     }
 
-    module _ {S : Type 0} (disk1 : S → List ℕ) (y : S) (k : Outside) (clean : ReadsDisk 1 empty_disk1 with_disk disk1 f.disk1 (Ok y) j k) where
-      -- both disks were read
-      clean_goes : (next : Next) (more : List Text) → IsAfterInputs next → (images : ℕ → List ℕ)
-          → GoesOn (held_verdict next f h.file (unseen_by held.unseen raw.unseen clean.unseen images)) (input_fetches f more) (after_clean next f events (disk x) (disk1 y) k.file images) (images_left 0 f.images more) h k
-      clean_goes next more later images =
-          let v = held_verdict next f h.file (unseen_by held.unseen raw.unseen clean.unseen images) in
-          let w = after_clean next f events (disk x) (disk1 y) j.file images in
-          goes_as v w (after_clean next f events (disk x) (disk1 y) k.file images) (input_fetches f more) (images_left 0 f.images more) h k
-          (ap (λ (file : Contents). after_clean next f events (disk x) (disk1 y) file images) (sym clean.files))
-          (goes_both v (after_raw next f events (disk x) j.file clean.unseen images) w (input_fetches f more) (disk1_left f more) (images_left 0 f.images more) h j k
-          (raw_goes next more later clean.unseen images) (clean_leads next f more later events disk1 (disk x) images (Ok y) j k clean))
+-- some files were fetched, and then the next stage made its calls
+called_then : (names fetches : List Text) (outputs : List HostCall) (ended : Option Refusal) (h j k : Outside) → IsUnsent h j → j.calls ≡ grown h.calls (map fetching names)
+    → HasCalled (record { fetches = fetches; outputs = outputs }) ended j k → HasCalled (record { fetches = names ++ fetches; outputs = outputs }) ended h k
+called_then names fetches outputs ended h j k unsent made second =
+    let one = map fetching names in
+    let rest = map fetching fetches ++ outputs in
+    let split : map fetching (names ++ fetches) ++ outputs ≡ one ++ rest =
+    ap (λ (xs : List HostCall). xs ++ outputs) (map-append fetching names fetches) ∙ append_assoc one (map fetching fetches) outputs in
+    let size : length one ≡ length names = length-map names fetching in
+    let sizes : length (names ++ fetches) ≡ length names + length fetches = length-append names fetches in record {
+      count = length one + second.count;
+      first =
+          second.first ∙ ap (λ (o : Option (List HostCall)). grown o (take second.count rest)) made ∙ grown-grown h.calls one (take second.count rest)
+          ∙ ap (grown h.calls) (sym (ap (take (length one + second.count)) split ∙ take-append-add one rest second.count));
+      all = λ decided.
+          second.all decided ∙ ap (λ (o : Option (List HostCall)). grown o rest) made ∙ grown-grown h.calls one rest ∙ ap (grown h.calls) (sym split);
+      unsent = λ few. unsent_both h j k unsent (second.unsent (omega (arith, few, size, sizes)));
+    }
 
-      -- the images weren't
-      pub images_refuse : {R : Type 0} (files : R → List (List ℕ)) (cause : Refusal) (l : Outside) → ReadsImages files [] f.images (Err cause) k l → ReadsInputs f (Err cause) h l
-      images_refuse files cause l read = record {
-        unseen = unseen_by held.unseen raw.unseen clean.unseen read.unseen;
-        files = read.files ∙ clean.files ∙ raw.files ∙ fetches.keeps.file;
-        leads = λ next more later outputs.
-            (clean_goes next more later read.unseen).1 outputs (Some cause) None l (read.leads (next events (disks_of (disk x) (disk1 y))) more (later events (disks_of (disk x) (disk1 y))) outputs);
+module _ (f : InputFiles) (next : Next) (after : List Text) (later : IsAfterInputs next) where
+  -- ---- the files that are due
+
+  -- after the inputs the others are fetched
+  due_later : (v : Verdict) → IsLater v → input_fetches f after v ≡ (f.schedule ∷ disks_up_to 1 f ++ f.images) ++ after
+  due_later (Refuses refusal.Usage) is = absurd is
+  due_later (Refuses (refusal.Schedule l)) is = absurd is
+  due_later (Refuses (refusal.Disk d b r)) is = absurd is
+  due_later (Refuses (refusal.Image i x)) is = absurd is
+  due_later (Refuses other) is = refl
+  due_later (Does work) is = refl
+
+  -- the files of the inputs come first
+  due_more : (j : Judged) → (more : List Text) × (input_fetches f after (after_judged next j) ≡ fetches_due f j ++ more)
+  due_more (Refused (refusal.Schedule l)) = ([], refl)
+  due_more (Refused (refusal.Disk d b r)) = ([], sym (append-nil (f.schedule ∷ disks_up_to d f)))
+  due_more (Refused (refusal.Image i x)) = ([], sym (append-nil (f.schedule ∷ disks_up_to 1 f ++ take i f.images)))
+  due_more (Refused other) = (after, refl)
+  due_more (Accepted events disks images) = (after, due_later (next events disks images) (later events disks images))
+
+  held_keeps : (file : Text → Option (List ℕ)) (u : Unseen) → after_judged next (held f file u) ≢ Refuses refusal.Usage
+  held_keeps file u =
+      inputs_keep next later (file_bytes (file f.schedule) u.schedule) (disk_bytes f.disk0 empty_disk0 file u.disk0) (disk_bytes f.disk1 empty_disk1 file u.disk1) (image_bytes 1 f.images file u.images)
+
+  -- ---- the inputs weren't read
+
+  refused_deserved : (j : Judged) (cause : Refusal) (h k : Outside) → after_judged next j ≢ Refuses refusal.Usage → IsAnswer j (Err cause) → FetchesFiles (fetches_due f j) (Some cause) h k
+      → Deserved (after_judged next j) (Some cause) h k
+  refused_deserved j (refusal.Schedule l) h k keeps answers fetches = ap (after_judged next) answers
+  refused_deserved j (refusal.Disk d b r) h k keeps answers fetches = ap (after_judged next) answers
+  refused_deserved j (refusal.Image i x) h k keeps answers fetches = ap (after_judged next) answers
+  refused_deserved j refusal.HostFault h k keeps answers fetches = (keeps, fetches.failed refl)
+  refused_deserved j refusal.NoMemory h k keeps answers fetches = tt
+  refused_deserved j other h k keeps answers fetches = absurd answers
+
+  -- it was decided by the inputs
+  decided_called : (j : Judged) (cause : Refusal) (outputs : List HostCall) (h k : Outside) → IsDecided (Some cause) → j ≡ Refused cause
+      → input_fetches f after (Refuses cause) ≡ fetches_due f (Refused cause) → FetchesFiles (fetches_due f j) (Some cause) h k → IsUnsent h k
+      → HasCalled (due_by (input_fetches f after) outputs (after_judged next j)) (Some cause) h k
+  decided_called j cause outputs h k decided is same fetches unsent =
+      let P : Judged → Type 0 = λ x. HasCalled (due_by (input_fetches f after) outputs (after_judged next x)) (Some cause) h k in
+      let parts : input_fetches f after (Refuses cause) ≡ fetches.made ++ fetches.rest = same ∙ ap (fetches_due f) (sym is) ∙ fetches.parts in
+      subst P (sym is) (called_part (input_fetches f after (Refuses cause)) fetches.made fetches.rest [] cause h k parts (ap (λ (x : Outside). x.calls) fetches.only) unsent
+      (λ d. (fetches.all d, refl)))
+
+  -- the host failed or memory ran out
+  host_called : (j : Judged) (cause : Refusal) (outputs : List HostCall) (h k : Outside) → (IsDecided (Some cause) → ⊥) → FetchesFiles (fetches_due f j) (Some cause) h k → IsUnsent h k
+      → HasCalled (due_by (input_fetches f after) outputs (after_judged next j)) (Some cause) h k
+  host_called j cause outputs h k never fetches unsent =
+      let v = after_judged next j in
+      let more = due_more j in
+      called_part (input_fetches f after v) fetches.made (fetches.rest ++ more.0) (unless_refused v outputs) cause h k
+      (more.1 ∙ ap (λ (xs : List Text). xs ++ more.0) fetches.parts ∙ append_assoc fetches.made fetches.rest more.0) (ap (λ (x : Outside). x.calls) fetches.only) unsent
+      (λ decided. absurd (never decided))
+
+  refused_called : (j : Judged) (cause : Refusal) (outputs : List HostCall) (h k : Outside) → IsAnswer j (Err cause) → FetchesFiles (fetches_due f j) (Some cause) h k → IsUnsent h k
+      → HasCalled (due_by (input_fetches f after) outputs (after_judged next j)) (Some cause) h k
+  refused_called j (refusal.Schedule l) outputs h k answers fetches unsent = decided_called j (refusal.Schedule l) outputs h k tt answers refl fetches unsent
+  refused_called j (refusal.Disk d b r) outputs h k answers fetches unsent = decided_called j (refusal.Disk d b r) outputs h k tt answers refl fetches unsent
+  refused_called j (refusal.Image i x) outputs h k answers fetches unsent = decided_called j (refusal.Image i x) outputs h k tt answers refl fetches unsent
+  refused_called j refusal.HostFault outputs h k answers fetches unsent = host_called j refusal.HostFault outputs h k (λ decided. decided) fetches unsent
+  refused_called j refusal.NoMemory outputs h k answers fetches unsent = host_called j refusal.NoMemory outputs h k (λ decided. decided) fetches unsent
+  refused_called j other outputs h k answers fetches unsent = absurd answers
+
+  -- Inputs that weren't read end the command.
+  pub inputs_refuse : (cause : Refusal) (outputs : List HostCall) (h k : Outside) (reads : ReadsInputs f (Err cause) h k)
+      → Stage (held_verdict next f h.file (unseen_by reads.unseen)) (input_fetches f after) outputs (Some cause) None h k
+  inputs_refuse cause outputs h k reads =
+      let j = held f h.file reads.unseen in
+      let fetches = reads.fetches in
+      let unsent = fetches_unsent h k fetches.made k.faults fetches.only in record {
+        carries = carries_nothing (after_judged next j) cause h k (refused_deserved j cause h k (held_keeps h.file reads.unseen) reads.answers fetches) unsent;
+        calls = refused_called j cause outputs h k reads.answers fetches unsent;
+        keeps = keeps h k (map fetching fetches.made) fetches.only fetches.later;
       }
 
-      -- all was read
-      pub inputs_read : {R : Type 0} (files : R → List (List ℕ)) (z : R) (inputs : Inputs) (l : Outside) → ReadsImages files [] f.images (Ok z) k l → inputs.schedule ≡ events
-          → inputs.disk0 ≡ disk x → inputs.disk1 ≡ disk1 y → map (λ v. v.items) inputs.images.items ≡ files z → ReadsInputs f (Ok inputs) h l
-      inputs_read files z inputs l read is_events is_disk0 is_disk1 is_images = record {
-        unseen = unseen_by held.unseen raw.unseen clean.unseen read.unseen;
-        files = read.files ∙ clean.files ∙ raw.files ∙ fetches.keeps.file;
-        leads = λ next more later.
-            let v = held_verdict next f h.file (unseen_by held.unseen raw.unseen clean.unseen read.unseen) in
-            let w = after_clean next f events (disk x) (disk1 y) k.file read.unseen in
-            let rest = images_verdict 1 (files z) (next events (disks_of (disk x) (disk1 y))) in
-            let same : rest ≡ left_verdict next inputs =
-            ap (λ bs. images_verdict 1 bs (next events (disks_of (disk x) (disk1 y)))) (sym is_images)
-            ∙ ap (λ es. images_verdict 1 (map (λ v. v.items) inputs.images.items) (next es (disks_of (disk x) (disk1 y)))) (sym is_events)
-            ∙ ap (λ d. images_verdict 1 (map (λ v. v.items) inputs.images.items) (next inputs.schedule (disks_of d (disk1 y)))) (sym is_disk0)
-            ∙ ap (λ d. images_verdict 1 (map (λ v. v.items) inputs.images.items) (next inputs.schedule (disks_of inputs.disk0 d))) (sym is_disk1) in
-            goes_as v rest (left_verdict next inputs) (input_fetches f more) (λ n. more) h l same
-            (goes_both v w rest (input_fetches f more) (images_left 0 f.images more) (λ n. more) h k l (clean_goes next more later read.unseen)
-            (read.leads (next events (disks_of (disk x) (disk1 y))) more (later events (disks_of (disk x) (disk1 y)))));
-      }
+  -- ---- the inputs were read
+
+  module _ (x : Inputs) (h j : Outside) (reads : ReadsInputs f (Ok x) h j) where
+    -- what is left is by what was read
+    pub inputs_as : held_verdict next f h.file (unseen_by reads.unseen) ≡ left_verdict next x
+    inputs_as = ap (after_judged next) reads.answers.accepted ∙ sym (left_loaded next x reads.answers.images reads.answers.loads)
+
+    -- Whatever carries out the rest completes the whole.
+    pub inputs_then : (outputs : List HostCall) (ended : Option Refusal) (left : Option Left) (k : Outside) → Stage (left_verdict next x) (λ v. after) outputs ended left j k
+        → Stage (held_verdict next f h.file (unseen_by reads.unseen)) (input_fetches f after) outputs ended left h k
+    inputs_then outputs ended left k s =
+        let fetches = reads.fetches in
+        let w = left_verdict next x in
+        let images = reads.answers.images in
+        let disks = disks_of x.disk0 x.disk1 in
+        let is_later : IsLater w = subst IsLater (sym (left_loaded next x images reads.answers.loads)) (later x.schedule disks images) in
+        let unsent = fetches_unsent h j fetches.made j.faults fetches.only in
+        let all = f.schedule ∷ disks_up_to 1 f ++ f.images in
+        let whole : all ≡ fetches.made = sym (ap (fetches_due f) reads.answers.accepted) ∙ fetches.parts ∙ ap (λ (rest : List Text). fetches.made ++ rest) (fetches.all tt) ∙ append-nil fetches.made in
+        let made : j.calls ≡ grown h.calls (map fetching all) = ap (λ (y : Outside). y.calls) fetches.only ∙ ap (λ (names : List Text). grown h.calls (map fetching names)) (sym whole) in
+        let P : List Text → Type 0 = λ names. HasCalled (record { fetches = names; outputs = unless_refused w outputs }) ended h k in
+        stage_as (held_verdict next f h.file (unseen_by reads.unseen)) w (input_fetches f after) outputs ended left h k inputs_as (record {
+          carries = carries_within w ended left h j k k unsent fetches.later (unsent_refl k) (omega arith) s.carries;
+          calls = subst P (sym (due_later w is_later)) (called_then all after (unless_refused w outputs) ended h j k unsent made s.calls);
+          keeps = keeps_both h j k (keeps h j (map fetching fetches.made) fetches.only fetches.later) s.keeps;
+        })

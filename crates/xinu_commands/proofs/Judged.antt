@@ -11,29 +11,29 @@ use Rattle.reference_check.specs.Starting.{has_started}
 use Rattle.transcript_laws.specs.Transcripts.{checks}
 use Rattle.xinu_model.specs.Boot.{Loaded, Start, Boots, Overlaps, NoRoom, boot_on}
 use Rattle.xinu_commands.specs.Conversions.{start_refusal}
-use Rattle.xinu_commands.specs.InputFaults.{have_fault, images_loaded}
+use Rattle.run_inputs.specs.InputFaults.{have_fault, images_loaded}
 use Rattle.xinu_commands.specs.Judging.{ChecksInputs, JudgesTrace}
-use Rattle.xinu_commands.specs.Reading.{left_verdict}
-use Rattle.xinu_commands.specs.Stages.{Fetches, IsFetched, SendsOutput, Stage, no_fetches}
+use Rattle.xinu_commands.specs.InputVerdict.{left_verdict}
+use Rattle.run_inputs.specs.Fetching.{IsFetched}
+use Rattle.xinu_commands.specs.Stages.{Fetches, SendsOutput, Stage, no_fetches}
 use Rattle.xinu_commands.specs.TraceVerdict.{judged_verdict, longest_trace, trace_verdict}
-use Rattle.xinu_commands.specs.Verdict.{file_bytes}
+use Rattle.run_inputs.specs.InputFiles.{file_bytes}
 use Rattle.xinu_commands.specs.Work.{Does, Judges, Refuses, judgement, output_of}
-use Rattle.xinu_commands.specs.declared.inputs.Inputs.{Inputs}
-use Rattle.xinu_commands.specs.declared.refusals.Refusal.{Refusal}
-use Rattle.xinu_commands.specs.declared.refusals.Refusal.TheVariants as refusal
+use Rattle.run_inputs.specs.declared.inputs.Inputs.{Inputs}
+use Rattle.run_inputs.specs.declared.refusals.Refusal.{Refusal}
+use Rattle.run_inputs.specs.declared.refusals.Refusal.TheVariants as refusal
 use Rattle.xinu_commands.proofs.Files.{later_keeps, trace_later}
-use Rattle.xinu_commands.proofs.ImageFiles.{images_deserve, images_read}
-use Rattle.xinu_commands.proofs.InputFaults.{cases_fetched}
+use Rattle.xinu_commands.proofs.InputsRead.{left_loaded, left_read}
+use Rattle.run_inputs.proofs.InputFaults.{cases_fetched}
 use Rattle.xinu_commands.proofs.Staged.{fetched_stage, memory_stage, refused_last, stage_as, unfetched_stage, work_stage}
 use Rattle.xinu_commands.proofs.TraceStatuses.{trace_long, trace_short}
 
 -- ---- the verdict
 
 -- what is left is the verdict on the trace by the images that the files load
-left_as : (trace : List ℕ) (x : Inputs) (images : List Loaded) → have_fault (map (λ v. v.items) x.images.items) ≡ false → images_loaded (map (λ v. v.items) x.images.items) ≡ Some images
+left_as : (trace : List ℕ) (x : Inputs) (images : List Loaded) → images_loaded (map (λ v. v.items) x.images.items) ≡ Some images
     → left_verdict (trace_verdict trace) x ≡ trace_verdict trace x.schedule (disks_of x.disk0 x.disk1) images
-left_as trace x images good loaded =
-    images_deserve (map (λ v. v.items) x.images.items) (trace_verdict trace x.schedule (disks_of x.disk0 x.disk1)) images good loaded
+left_as trace x images loaded = left_loaded (trace_verdict trace) x images loaded
 
 -- by how the machine starts
 judged_at : (s : Start) (b : Bool) → has_started s ≡ true → judged_verdict s b ≡ Does (Judges b)
@@ -41,8 +41,7 @@ judged_at (Boots x) b started = refl
 judged_at (Overlaps i) b started = absurd (cc)
 judged_at (NoRoom i) b started = absurd (cc)
 
-module _ (trace : List ℕ) (x : Inputs) (images : List Loaded) (good : have_fault (map (λ v. v.items) x.images.items) ≡ false)
-    (loaded : images_loaded (map (λ v. v.items) x.images.items) ≡ Some images) (short : length trace ≤ longest_trace) where
+module _ (trace : List ℕ) (x : Inputs) (images : List Loaded) (loaded : images_loaded (map (λ v. v.items) x.images.items) ≡ Some images) (short : length trace ≤ longest_trace) where
   -- how the machine starts
   abbrev own_start : Start
   own_start = boot_on (disks_of x.disk0 x.disk1) images
@@ -50,15 +49,15 @@ module _ (trace : List ℕ) (x : Inputs) (images : List Loaded) (good : have_fau
   -- the trace was judged
   pub judges : (b : Bool) → has_started own_start ≡ true → b ≡ checks (disks_of x.disk0 x.disk1) images x.schedule trace → JudgesTrace trace x (Ok b)
   judges b started is =
-      left_as trace x images good loaded ∙ trace_short trace x.schedule (disks_of x.disk0 x.disk1) images short
+      left_as trace x images loaded ∙ trace_short trace x.schedule (disks_of x.disk0 x.disk1) images short
       ∙ ap (judged_verdict own_start) (sym is) ∙ judged_at own_start b started
 
   refuses_of : (f : NoStart) → RefusesAs own_start f → JudgesTrace trace x (Err (start_refusal f))
   refuses_of (start.Overlaps i) is =
-      left_as trace x images good loaded ∙ trace_short trace x.schedule (disks_of x.disk0 x.disk1) images short
+      left_as trace x images loaded ∙ trace_short trace x.schedule (disks_of x.disk0 x.disk1) images short
       ∙ ap (λ s. judged_verdict s (checks (disks_of x.disk0 x.disk1) images x.schedule trace)) is
   refuses_of (start.NoRoom i) is =
-      left_as trace x images good loaded ∙ trace_short trace x.schedule (disks_of x.disk0 x.disk1) images short
+      left_as trace x images loaded ∙ trace_short trace x.schedule (disks_of x.disk0 x.disk1) images short
       ∙ ap (λ s. judged_verdict s (checks (disks_of x.disk0 x.disk1) images x.schedule trace)) is
   refuses_of start.NoMemory is = tt
 
@@ -71,9 +70,9 @@ module _ (trace : List ℕ) (x : Inputs) (images : List Loaded) (good : have_fau
 -- with images that have no fault, what is left never is that there is no command
 left_keeps : (trace : List ℕ) (x : Inputs) → have_fault (map (λ v. v.items) x.images.items) ≡ false → left_verdict (trace_verdict trace) x ≡ Refuses refusal.Usage → ⊥
 left_keeps trace x good is =
-    let next = trace_verdict trace x.schedule (disks_of x.disk0 x.disk1) in
-    let read = images_read 1 (map (λ v. v.items) x.images.items) next good in
-    later_keeps (next read.0) (trace_later trace x.schedule (disks_of x.disk0 x.disk1) read.0) (sym read.1.1 ∙ is)
+    let disks = disks_of x.disk0 x.disk1 in
+    let read = left_read (trace_verdict trace) x good in
+    later_keeps (trace_verdict trace x.schedule disks read.0) (trace_later trace x.schedule disks read.0) (sym read.1 ∙ is)
 
 -- what was fetched of a trace is judged as the whole
 left_fetched : (x : Inputs) (bytes items : List ℕ) → have_fault (map (λ v. v.items) x.images.items) ≡ false → items ≡ take 67108865 bytes
@@ -81,7 +80,7 @@ left_fetched : (x : Inputs) (bytes items : List ℕ) → have_fault (map (λ v. 
 left_fetched x bytes items good fetched =
     let disks = disks_of x.disk0 x.disk1 in
     let read : (trace : List ℕ) → (images : List Loaded) × (left_verdict (trace_verdict trace) x ≡ trace_verdict trace x.schedule disks images) =
-    λ trace. (let r = images_read 1 (map (λ v. v.items) x.images.items) (trace_verdict trace x.schedule disks) good in (r.0, r.1.1)) in
+    λ trace. left_read (trace_verdict trace) x good in
     elim (cases_fetched bytes items 67108864 fetched) [
       | inl same ↦ ap (λ (b : List ℕ). left_verdict (trace_verdict b) x) same
       | inr long ↦ (let one = read bytes in let other = read items in
@@ -110,9 +109,8 @@ module _ (name : Text) (x : Inputs) (good : have_fault (map (λ v. v.items) x.im
   -- it is too long
   pub trace_refused : (items : List ℕ) (h k : Outside) → IsFetched 67108864 (h.file name) items → Fetches name None h k → 67108864 < length items → ChecksInputs name x (Err refusal.TraceTooLong) h k
   trace_refused items h k fetched f long =
-      let next = trace_verdict items x.schedule (disks_of x.disk0 x.disk1) in
-      let read = images_read 1 (map (λ v. v.items) x.images.items) next good in
-      let refused : left_verdict (trace_verdict items) x ≡ Refuses refusal.TraceTooLong = read.1.1 ∙ trace_long items x.schedule (disks_of x.disk0 x.disk1) read.0 long in record {
+      let read = left_read (trace_verdict items) x good in
+      let refused : left_verdict (trace_verdict items) x ≡ Refuses refusal.TraceTooLong = read.1 ∙ trace_long items x.schedule (disks_of x.disk0 x.disk1) read.0 long in record {
         unseen = items;
         stage = fetched_then items (Err refusal.TraceTooLong) (Some refusal.TraceTooLong) h k k fetched f (refused_last (left_verdict (trace_verdict items) x) [] refusal.TraceTooLong k refused);
         judged = tt;

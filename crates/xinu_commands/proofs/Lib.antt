@@ -11,12 +11,7 @@ pub mod Fetched
 pub mod Fetches
 pub mod FileLines
 pub mod Files
-pub mod Going
-pub mod GoodImages
-pub mod ImageFiles
 pub mod InOrder
-pub mod InputDisks
-pub mod InputFaults
 pub mod InputsRead
 pub mod Judged
 pub mod PlainSteps

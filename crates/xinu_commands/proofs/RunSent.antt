@@ -19,13 +19,13 @@ use Rattle.xinu_model.specs.Boot.{Loaded, Overlaps, NoRoom}
 use Rattle.xinu_model.specs.Machine.{Xinu}
 use Rattle.xinu_model.specs.Text.{shown}
 use Rattle.xinu_commands.specs.Calls.{if_written, run_outputs}
-use Rattle.xinu_commands.specs.Conversions.{boot_refusal, host_refusal}
+use Rattle.run_inputs.specs.Conversions.{boot_refusal, host_refusal}
 use Rattle.xinu_commands.specs.RunVerdict.{Setup, boot_verdict}
 use Rattle.xinu_commands.specs.Stages.{SendsDisks, SendsOutput, Stage, disks_output, no_fetches, output_on}
 use Rattle.xinu_commands.specs.Transcripts.{SendsTranscript}
 use Rattle.xinu_commands.specs.Work.{Does, Left, Output, RunOutput, Runs, Verdict, Wanted, output_of}
-use Rattle.xinu_commands.specs.declared.refusals.Refusal.{Refusal}
-use Rattle.xinu_commands.specs.declared.refusals.Refusal.TheVariants as refusal
+use Rattle.run_inputs.specs.declared.refusals.Refusal.{Refusal}
+use Rattle.run_inputs.specs.declared.refusals.Refusal.TheVariants as refusal
 use Rattle.xinu_commands.proofs.Called.{keeps_refl}
 use Rattle.xinu_commands.proofs.Carried.{new_printer, nothing_sent, unsent_refl}
 use Rattle.xinu_commands.proofs.Files.{boot_verdict_at}

@@ -10,12 +10,13 @@ use Rattle.host_port.specs.HostCalls.{Rose}
 use Rattle.host_port.specs.Outside.{Outside, HostCall, appended, counted, emptied_channel, grown, made_empty, with_calls}
 use Rattle.host_port.specs.Printing.{Printing, Prints}
 use Rattle.host_port.proofs.Prints.{grown-nil}
-use Rattle.xinu_commands.specs.Conversions.{host_refusal}
+use Rattle.run_inputs.specs.Conversions.{host_refusal}
 use Rattle.xinu_commands.specs.Stages.{IsHostCause, SendsOutput, output_on, outputs_due}
-use Rattle.xinu_commands.specs.Theorem.{HasCalled, IsDecided, IsPartSent, IsSent, namings}
+use Rattle.run_inputs.specs.Fetching.{IsDecided}
+use Rattle.xinu_commands.specs.Theorem.{HasCalled, IsPartSent, IsSent, namings}
 use Rattle.xinu_commands.specs.Work.{Output, output_of}
-use Rattle.xinu_commands.specs.declared.refusals.Refusal.{Refusal}
-use Rattle.xinu_commands.specs.declared.refusals.Refusal.TheVariants as refusal
+use Rattle.run_inputs.specs.declared.refusals.Refusal.{Refusal}
+use Rattle.run_inputs.specs.declared.refusals.Refusal.TheVariants as refusal
 use Rattle.xinu_commands.proofs.Called.{undecided}
 use Rattle.xinu_commands.proofs.Carried.{fresh}
 

@@ -9,21 +9,20 @@ use Rattle.host_port.specs.HostCalls.{Rose}
 use Rattle.host_port.specs.Outside.{Outside, appended, counted}
 use Rattle.kernel_boot.specs.declared.initialize.BootFault.{BootFault}
 use Rattle.kernel_boot.specs.declared.initialize.BootFault.TheVariants as boot_fault
+use Rattle.lfs_check.specs.declared.faults.DiskFault.{DiskFault}
 use Rattle.lfs_layout.specs.Images.{opened}
 use Rattle.soak.specs.Soaks.{IsRefused, SoaksOn}
 use Rattle.xinu_model.specs.Boot.{Boots, NoRoom, Overlaps}
-use Rattle.xinu_commands.specs.Conversions.{boot_refusal, host_refusal}
-use Rattle.xinu_commands.specs.DiskVerdict.{disk_fault}
-use Rattle.xinu_commands.specs.InputVerdict.{empty_disk0, empty_disk1, raw_fault}
+use Rattle.run_inputs.specs.Conversions.{boot_refusal, host_refusal}
+use Rattle.run_inputs.specs.InputDisks.{IsDiskCause, disk_fault, empty_disk0, empty_disk1, raw_fault}
 use Rattle.xinu_commands.specs.SoakVerdict.{soak_verdict}
-use Rattle.xinu_commands.specs.Stages.{IsDiskCause, Performs, SendsOutput, Stage, no_fetches}
-use Rattle.xinu_commands.specs.Work.{Left, Soaking, output_of}
-use Rattle.xinu_commands.specs.declared.refusals.Refusal.{Refusal}
-use Rattle.xinu_commands.specs.declared.refusals.Refusal.TheVariants as refusal
-use Rattle.xinu_commands.proofs.InputDisks.{refused_disk}
+use Rattle.xinu_commands.specs.Stages.{Performs, SendsOutput, Stage, no_fetches}
+use Rattle.xinu_commands.specs.Work.{Left, Refuses, Soaking, Verdict, output_of}
+use Rattle.run_inputs.specs.declared.refusals.Refusal.{Refusal}
+use Rattle.run_inputs.specs.declared.refusals.Refusal.TheVariants as refusal
 use Rattle.xinu_commands.proofs.Sent.{text_sent_by}
 use Rattle.xinu_commands.proofs.SoakVerdicts.{clean_refuses, raw_refuses, starts_as}
-use Rattle.xinu_commands.proofs.Staged.{refused_last, work_stage}
+use Rattle.xinu_commands.proofs.Staged.{memory_stage, refused_last, refused_stage, work_stage}
 
 -- ---- text that was emitted at once
 
@@ -49,17 +48,27 @@ soak_performs seed ended left h k s = record {
   keeps = s.keeps;
 }
 
+-- a disk that isn't accepted
+refused_disk : (v : Verdict) (d : ℕ) (fault : Option DiskFault) (cause : Refusal) (h : Outside) → IsDiskCause d fault cause
+    → ((x : DiskFault) → fault ≡ Some x → v ≡ Refuses (refusal.Disk d x.block x.rule)) → Stage v no_fetches [] (Some cause) None h h
+refused_disk v d fault (refusal.Disk e b r) h cause refuses =
+    let is = refuses (record { block = b; rule = r }) cause.1 in
+    let P : ℕ → Type 0 = λ n. Stage v no_fetches [] (Some (refusal.Disk n b r)) None h h in
+    subst P (sym cause.0) (refused_stage v no_fetches [] (refusal.Disk d b r) h is (λ decided. refl))
+refused_disk v d fault refusal.NoMemory h cause refuses = memory_stage v no_fetches [] h
+refused_disk v d fault other h cause refuses = absurd cause
+
 -- the raw disk isn't accepted
 pub raw_ends : (seed : ℕ) (cause : Refusal) (h : Outside) → IsDiskCause 0 (raw_fault empty_disk0) cause → Performs (Some (Soak seed)) (Some cause) None h h
 raw_ends seed cause h is =
-    soak_performs seed (Some cause) None h h (refused_disk (soak_verdict seed) 0 (raw_fault empty_disk0) no_fetches [] cause h is (λ x fault. raw_refuses seed x fault) (λ b rule. refl))
+    soak_performs seed (Some cause) None h h (refused_disk (soak_verdict seed) 0 (raw_fault empty_disk0) cause h is (λ x fault. raw_refuses seed x fault))
 
 -- the disk with files isn't
 pub clean_ends : (seed : ℕ) (cause : Refusal) (h : Outside) → raw_fault empty_disk0 ≡ None → IsDiskCause 1 (disk_fault empty_disk1) cause
     → Performs (Some (Soak seed)) (Some cause) None h h
 clean_ends seed cause h none is =
     soak_performs seed (Some cause) None h h
-    (refused_disk (soak_verdict seed) 1 (disk_fault empty_disk1) no_fetches [] cause h is (λ x fault. clean_refuses seed x none fault) (λ b rule. refl))
+    (refused_disk (soak_verdict seed) 1 (disk_fault empty_disk1) cause h is (λ x fault. clean_refuses seed x none fault))
 
 module _ (seed : ℕ) (disk0 disk1 : List ℕ) (raw : raw_fault empty_disk0 ≡ None) (clean : disk_fault empty_disk1 ≡ None) (is_raw : disk0 ≡ empty_disk0) (is_clean : disk1 ≡ opened empty_disk1) where
   -- the machine doesn't start

@@ -6,11 +6,11 @@ use Rattle.lfs_check.specs.declared.faults.DiskFault.{DiskFault}
 use Rattle.lfs_layout.specs.Images.{opened}
 use Rattle.workload.specs.Programs.{programs}
 use Rattle.xinu_model.specs.Boot.{Start, Boots, Overlaps, NoRoom, boot_on}
-use Rattle.xinu_commands.specs.DiskVerdict.{disk_fault, rule_broken, with_disk}
-use Rattle.xinu_commands.specs.InputVerdict.{empty_disk0, empty_disk1, raw_broken, raw_fault}
+use Rattle.run_inputs.specs.InputDisks.{disk_fault, empty_disk0, empty_disk1, raw_broken, raw_fault, rule_broken}
+use Rattle.xinu_commands.specs.DiskVerdict.{with_disk}
 use Rattle.xinu_commands.specs.SoakVerdict.{soak_on, soak_verdict, soaking_verdict}
 use Rattle.xinu_commands.specs.Work.{Refuses, Verdict}
-use Rattle.xinu_commands.specs.declared.refusals.Refusal.TheVariants as refusal
+use Rattle.run_inputs.specs.declared.refusals.Refusal.TheVariants as refusal
 use Rattle.xinu_commands.proofs.Files.{raw_keeps, unless_fault_keeps, unless_fault_read, unless_fault_refused}
 use Rattle.xinu_commands.proofs.Staged.{disk_keeps}
 

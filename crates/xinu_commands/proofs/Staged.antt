@@ -6,19 +6,24 @@ use Rattle.command_line.specs.DiskArgs.{DiskAction, Mkfs, Ls, Get, Put, Check, R
 use Rattle.command_line.specs.Reading.{Text}
 use Rattle.host_port.specs.Outside.{Outside, HostCall, naming}
 use Rattle.host_port.specs.declared.host.Channel.TheVariants.{Disk1}
+use Rattle.machine.specs.Printed.{Booted}
 use Rattle.lfs_check.specs.Faults.{Refuses as RefusesBy, report}
 use Rattle.lfs_check.specs.declared.faults.CheckFault.{CheckFault}
 use Rattle.lfs_check.specs.declared.faults.CheckFault.TheVariants as check
 use Rattle.lfs_check.specs.declared.faults.DiskFault.{DiskFault}
-use Rattle.xinu_commands.specs.Calls.{action_fetches, action_outputs, due_by, if_named, source_fetches, unless_refused}
-use Rattle.xinu_commands.specs.Conversions.{check_refusal}
-use Rattle.xinu_commands.specs.DiskVerdict.{check_verdict, disk_fault, disk_with, file_lines, file_on, get_verdict, ls_verdict, mkfs_verdict, put_verdict, repair_line, repair_verdict, report_line, rule_broken, set_verdict, size_fault, with_disk}
-use Rattle.xinu_commands.specs.Stages.{Fetches, IsFetched, IsHostCause, MayFetch, Performs, SendsOutput, SetsFile, Stage, no_fetches, refusal_of}
-use Rattle.xinu_commands.specs.Theorem.{Deserved, HasCalled, IsDecided}
-use Rattle.xinu_commands.specs.Verdict.{Input, ScheduleInput, Disk0Input, Disk1Input, ImageInput, TraceInput, DiskInput, SourceInput, action_verdict, file_bytes}
+use Rattle.run_inputs.specs.InputFiles.{file_bytes}
+use Rattle.xinu_commands.specs.Calls.{action_fetches, action_outputs, due_by, source_fetches, unless_refused}
+use Rattle.run_inputs.specs.Conversions.{check_refusal}
+use Rattle.run_inputs.specs.InputDisks.{disk_fault, rule_broken}
+use Rattle.xinu_commands.specs.DiskVerdict.{check_verdict, disk_with, file_lines, file_on, get_verdict, ls_verdict, mkfs_verdict, put_verdict, repair_line, repair_verdict, report_line, set_verdict, size_fault, with_disk}
+use Rattle.run_inputs.proofs.ImageFiles.{of_error}
+use Rattle.run_inputs.specs.Fetching.{IsDecided, IsFetched, refusal_of}
+use Rattle.xinu_commands.specs.Stages.{Fetches, IsHostCause, Performs, SendsOutput, SetsFile, Stage, left_of, no_fetches}
+use Rattle.xinu_commands.specs.Theorem.{Deserved, HasCalled}
+use Rattle.xinu_commands.specs.Verdict.{Input, ScheduleInput, Disk0Input, Disk1Input, ImageInput, TraceInput, DiskInput, SourceInput, action_verdict}
 use Rattle.xinu_commands.specs.Work.{Begins, Does, Left, Output, Outputs, Refuses, Verdict, Work, Writes, if_some, output_of}
-use Rattle.xinu_commands.specs.declared.refusals.Refusal.{Refusal}
-use Rattle.xinu_commands.specs.declared.refusals.Refusal.TheVariants as refusal
+use Rattle.run_inputs.specs.declared.refusals.Refusal.{Refusal}
+use Rattle.run_inputs.specs.declared.refusals.Refusal.TheVariants as refusal
 use Rattle.xinu_commands.proofs.Called.{called_first, fetched_then, keeps_both, keeps_refl, nothing_called, undecided}
 use Rattle.xinu_commands.proofs.Fetches.{nothing_due, put_fetches}
 use Rattle.xinu_commands.proofs.Carried.{carries_as, carries_nothing, carries_within, unsent_refl}
@@ -32,6 +37,11 @@ pub of_refused : {T : Type 0} (r : Result T Refusal) (cause : Refusal) (P : Opti
 of_refused (Ok m) cause P err is holds = absurd (cc)
 of_refused (Err x) cause P err is holds =
     let Q : Refusal → Type 0 = λ y. P (Some y) in subst Q (sym is) holds
+
+-- the same of a machine that is left
+pub of_err : (r : Result Booted Refusal) (cause : Refusal) (P : Option Refusal → Option Left → Type 0) → IsErr r
+    → IsErrAnd r (λ x. x ≡ cause) → P (Some cause) None → P (refusal_of r) (left_of r)
+of_err r cause P err is holds = of_error r cause (λ x. P (refusal_of x) (left_of x)) err is holds
 
 -- ---- an output
 
@@ -121,19 +131,6 @@ fetched_stage v name fetches outputs ended left h j k f s = record {
   calls = fetched_then name (fetches v) (unless_refused v outputs) ended h j k f.unsent (f.calls.all tt) s.calls;
   keeps = keeps_both h j k f.keeps s.keeps;
 }
-
--- if a file is named it was fetched, and then what is left was carried out
-pub may_fetched_stage : (v : Verdict) (name : Option Text) (fetches : Verdict → List Text) (outputs : List HostCall) (ended : Option Refusal) (left : Option Left) (h j k : Outside)
-    → MayFetch name None h j → Stage v fetches outputs ended left j k → Stage v (λ x. if_named name ++ fetches x) outputs ended left h k
-may_fetched_stage v None fetches outputs ended left h j k f s =
-    let P : Outside → Type 0 = λ x. Stage v fetches outputs ended left x k in subst P f.1 s
-may_fetched_stage v (Some name) fetches outputs ended left h j k f s = fetched_stage v name fetches outputs ended left h j k f s
-
--- the host refused to fetch it
-pub may_unfetched_stage : (v : Verdict) (name : Option Text) (fetches : Verdict → List Text) (outputs : List HostCall) (r : Refusal) (h k : Outside) → v ≢ Refuses refusal.Usage
-    → MayFetch name (Some r) h k → Stage v (λ x. if_named name ++ fetches x) outputs (Some r) None h k
-may_unfetched_stage v None fetches outputs r h k usage f = (let none = f.0 in absurd (cc))
-may_unfetched_stage v (Some name) fetches outputs r h k usage f = unfetched_stage v name fetches outputs r h k usage f
 
 -- the same verdict in another form
 pub stage_as : (v w : Verdict) (fetches : Verdict → List Text) (outputs : List HostCall) (ended : Option Refusal) (left : Option Left) (h k : Outside) → v ≡ w

@@ -17,24 +17,26 @@ use Rattle.xinu_base.specs.declared.events.Event.{Event}
 use Rattle.xinu_model.specs.Boot.{Disks, Loaded, Start, Boots, Overlaps, NoRoom, boot_on}
 use Rattle.xinu_model.specs.Machine.{Xinu}
 use Rattle.xinu_commands.specs.Calls.{calls_due, calls_in}
-use Rattle.xinu_commands.specs.DiskVerdict.{disk_fault, rule_broken}
-use Rattle.xinu_commands.specs.InputFaults.{fault_line, have_fault, images_loaded, longest_schedule, schedule_fault}
+use Rattle.run_inputs.specs.InputDisks.{disk_fault, empty_disk0, empty_disk1, raw_broken, raw_fault, rule_broken}
+use Rattle.run_inputs.specs.InputFaults.{fault_line, have_fault, images_loaded, longest_schedule, schedule_fault}
 use Rattle.xinu_commands.specs.Statuses.{AreAccepted, SaysOfFiles, disks_fault, start_with, status_due, statuses}
-use Rattle.xinu_commands.specs.Theorem.{Answers, Carries, IsDecided, Tells}
-use Rattle.xinu_commands.specs.Refusals.{status_of}
-use Rattle.xinu_commands.specs.InputVerdict.{Next, disk0_verdict, disk1_verdict, empty_disk0, empty_disk1, images_verdict, inputs_verdict, raw_broken, raw_fault}
+use Rattle.run_inputs.specs.Fetching.{IsDecided}
+use Rattle.xinu_commands.specs.Theorem.{Answers, Carries, Tells}
+use Rattle.run_inputs.specs.Refusals.{status_of}
+use Rattle.run_inputs.specs.Judging.{Judged, Accepted, disk0_judged, disk1_judged, images_judged}
+use Rattle.xinu_commands.specs.InputVerdict.{Next, after_judged, inputs_verdict}
 use Rattle.xinu_commands.specs.RunVerdict.{run_verdict, start_verdict}
 use Rattle.xinu_commands.specs.TraceVerdict.{trace_verdict}
-use Rattle.xinu_commands.specs.Verdict.{Input, ScheduleInput, Disk0Input, Disk1Input, ImageInput, TraceInput, SourceInput, disk_bytes, file_bytes, image_bytes, verdict, wanted_of}
+use Rattle.run_inputs.specs.InputFiles.{disk_bytes, file_bytes, image_bytes}
+use Rattle.xinu_commands.specs.Verdict.{Input, ScheduleInput, Disk0Input, Disk1Input, ImageInput, TraceInput, SourceInput, verdict, wanted_of}
 use Rattle.xinu_commands.specs.Work.{Does, Judges, Left, Output, Outputs, Refuses, Runs, Soaking, Verdict, Wanted, Work}
-use Rattle.xinu_commands.specs.declared.refusals.Refusal.{Refusal}
-use Rattle.xinu_commands.specs.declared.refusals.Refusal.TheVariants as refusal
+use Rattle.run_inputs.specs.declared.refusals.Refusal.{Refusal}
+use Rattle.run_inputs.specs.declared.refusals.Refusal.TheVariants as refusal
 use Rattle.xinu_commands.proofs.Done.{done_status}
 use Rattle.xinu_commands.proofs.Assembled.{asm_keeps}
-use Rattle.xinu_commands.proofs.Files.{boot_verdict_at, inputs_keep, run_later, schedule_read, schedule_refused, trace_later}
-use Rattle.xinu_commands.proofs.ImageFiles.{images_read, images_refused}
+use Rattle.run_inputs.proofs.JudgedFiles.{clean_read, clean_refused, images_read, images_refused, raw_read, raw_refused, schedule_read, schedule_refused}
+use Rattle.xinu_commands.proofs.Files.{boot_verdict_at, inputs_keep, run_later, trace_later}
 use Rattle.xinu_commands.proofs.Printed.{some_is_none}
-use Rattle.xinu_commands.proofs.InputDisks.{clean_read, clean_refused, raw_read, raw_refused}
 use Rattle.xinu_commands.proofs.SoakVerdicts.{soak_keeps}
 use Rattle.xinu_commands.proofs.Staged.{action_keeps}
 
@@ -219,43 +221,47 @@ module _ (exit : ℕ) (s disk0 disk1 : List ℕ) (files : List (List ℕ)) (next
     (image_says : AreAccepted s disk0 disk1 → have_fault files ≡ true → exit ≡ 4 → Says)
     (rest_says : (events : List Event) (images : List Loaded) → AreAccepted s disk0 disk1 → have_fault files ≡ false → events_in s ≡ Some events → images_loaded files ≡ Some images
     → exit ≡ status_due (next events (disks_of disk0 (opened disk1)) images) → Says) where
+  -- the status by what the inputs are judged to be
+  abbrev own_status : Judged → ℕ
+  own_status j = status_due (after_judged next j)
+
   module _ (events : List Event) (reads : events_in s ≡ Some events) where
     -- by whether an image file has a fault
     by_images : (bad : Bool) → AreAccepted s disk0 disk1 → have_fault files ≡ bad
-        → exit ≡ status_due (images_verdict 1 files (next events (disks_of disk0 (opened disk1)))) → Says
-    by_images true good bad is = image_says good bad (is ∙ ap status_due (images_refused 1 files (next events (disks_of disk0 (opened disk1))) bad).2)
+        → exit ≡ status_due (after_judged next (images_judged 1 files (Accepted events (disks_of disk0 (opened disk1))))) → Says
+    by_images true good bad is = image_says good bad (is ∙ ap own_status (images_refused 1 files (Accepted events (disks_of disk0 (opened disk1))) bad).2)
     by_images false good fine is =
-        let read = images_read 1 files (next events (disks_of disk0 (opened disk1))) fine in
-        rest_says events read.0 good fine reads read.1.0 (is ∙ ap status_due read.1.1)
+        let read = images_read 1 files (Accepted events (disks_of disk0 (opened disk1))) fine in
+        rest_says events read.0 good fine reads read.1.0 (is ∙ ap own_status read.1.1)
 
     -- by the fault of the disk with files
     by_disk1 : (f : Option DiskFault) → schedule_fault s ≡ None → raw_fault disk0 ≡ None → disk_fault disk1 ≡ f
-        → exit ≡ status_due (disk1_verdict next events disk0 disk1 files) → Says
+        → exit ≡ status_due (after_judged next (disk1_judged events disk0 disk1 files)) → Says
     unfolding disks_fault
     by_disk1 (Some x) good raw bad is =
         disk_says (rule_broken x) good (ap₂ (λ a b. option_or (option_map raw_broken a) (option_map rule_broken b)) raw bad)
-        (is ∙ ap status_due (clean_refused next events files disk0 disk1 x bad))
+        (is ∙ ap own_status (clean_refused events files disk0 disk1 x bad))
     by_disk1 None good raw fine is =
         by_images (have_fault files) (record { schedule = good; disks = ap₂ (λ a b. option_or (option_map raw_broken a) (option_map rule_broken b)) raw fine }) refl
-        (is ∙ ap status_due (clean_read next events files disk0 disk1 fine))
+        (is ∙ ap own_status (clean_read events files disk0 disk1 fine))
 
     -- by the fault of the raw disk
-    by_disk0 : (f : Option DiskFault) → schedule_fault s ≡ None → raw_fault disk0 ≡ f → exit ≡ status_due (disk0_verdict next events disk0 disk1 files)
+    by_disk0 : (f : Option DiskFault) → schedule_fault s ≡ None → raw_fault disk0 ≡ f → exit ≡ status_due (after_judged next (disk0_judged events disk0 disk1 files))
         → Says
     unfolding disks_fault
     by_disk0 (Some x) good bad is =
         disk_says (raw_broken x) good (ap (λ a. option_or (option_map raw_broken a) (option_map rule_broken (disk_fault disk1))) bad)
-        (is ∙ ap status_due (raw_refused next events files disk0 disk1 x bad))
+        (is ∙ ap own_status (raw_refused events files disk0 disk1 x bad))
     by_disk0 None good fine is =
-        by_disk1 (disk_fault disk1) good fine refl (is ∙ ap status_due (raw_read next events files disk0 disk1 fine))
+        by_disk1 (disk_fault disk1) good fine refl (is ∙ ap own_status (raw_read events files disk0 disk1 fine))
 
   -- by the fault of the schedule
   by_schedule : (f : Option ℕ) → schedule_fault s ≡ f → exit ≡ status_due (inputs_verdict next s disk0 disk1 files) → Says
-  by_schedule (Some l) bad is = schedule_says l bad (is ∙ ap status_due (schedule_refused next s l disk0 disk1 files bad))
+  by_schedule (Some l) bad is = schedule_says l bad (is ∙ ap own_status (schedule_refused s l disk0 disk1 files bad))
   by_schedule None good is =
       let read = good_reads s good in
       by_disk0 read.0 read.1 (raw_fault disk0) good refl
-      (is ∙ ap status_due (schedule_read next s read.0 disk0 disk1 files (record { good = good; reads = read.1 })))
+      (is ∙ ap own_status (schedule_read s read.0 disk0 disk1 files (record { good = good; reads = read.1 })))
 
   pub says_by_inputs : exit ≡ status_due (inputs_verdict next s disk0 disk1 files) → Says
   says_by_inputs is = by_schedule (schedule_fault s) refl is

@@ -21,17 +21,18 @@ use Rattle.xinu_base.specs.declared.events.Event.{Event}
 use Rattle.xinu_model.specs.Boot.{Disks, Loaded, Start, Boots, Overlaps, NoRoom, boot_on}
 use Rattle.part_laws.specs.GivenDisks.{AreSoundDisks}
 use Rattle.xinu_model.specs.Machine.{Xinu}
-use Rattle.xinu_commands.specs.InputFaults.{have_fault, images_loaded, schedule_fault}
-use Rattle.xinu_commands.specs.DiskVerdict.{disk_fault, rule_broken}
-use Rattle.xinu_commands.specs.InputVerdict.{empty_disk0, empty_disk1, inputs_verdict, raw_broken, raw_fault}
+use Rattle.run_inputs.specs.InputFaults.{have_fault, images_loaded, schedule_fault}
+use Rattle.run_inputs.specs.InputDisks.{disk_fault, empty_disk0, empty_disk1, raw_broken, raw_fault, rule_broken}
+use Rattle.xinu_commands.specs.InputVerdict.{inputs_verdict}
 use Rattle.xinu_commands.specs.Statuses.{AreAccepted, AreFetched, IsTraceOf, SaysOfTrace, disks_fault, start_with, status_due}
 use Rattle.xinu_commands.specs.Theorem.{Answers}
 use Rattle.xinu_commands.specs.TraceVerdict.{judged_verdict, longest_trace, trace_verdict}
-use Rattle.xinu_commands.specs.Verdict.{ScheduleInput, Disk0Input, Disk1Input, ImageInput, TraceInput, disk_bytes, file_bytes, image_bytes}
+use Rattle.run_inputs.specs.InputFiles.{disk_bytes, file_bytes, image_bytes}
+use Rattle.xinu_commands.specs.Verdict.{ScheduleInput, Disk0Input, Disk1Input, ImageInput, TraceInput}
 use Rattle.xinu_commands.specs.Work.{Left, Refuses}
-use Rattle.xinu_commands.specs.declared.refusals.Refusal.{Refusal}
-use Rattle.xinu_commands.specs.declared.refusals.Refusal.TheVariants as refusal
-use Rattle.xinu_commands.proofs.DiskFetched.{too_long}
+use Rattle.run_inputs.specs.declared.refusals.Refusal.{Refusal}
+use Rattle.run_inputs.specs.declared.refusals.Refusal.TheVariants as refusal
+use Rattle.run_inputs.proofs.LongDisks.{too_long}
 use Rattle.xinu_commands.proofs.Possible.{check_count}
 use Rattle.xinu_commands.proofs.Printed.{some_is_none}
 use Rattle.xinu_commands.proofs.Statuses.{due, no_more, says_by_inputs, some_of}

@@ -18,8 +18,7 @@ use Rattle.xinu_model.specs.Boot.{Boots, first_disks}
 use Rattle.xinu_model.specs.Devices.State.{empty_blocks}
 use Rattle.xinu_model.specs.Machine.{Xinu}
 use Rattle.xinu_model.specs.RawDisk.Constants.{RD_BLKSIZ}
-use Rattle.xinu_commands.specs.DiskVerdict.{disk_fault}
-use Rattle.xinu_commands.specs.InputVerdict.{empty_disk0, empty_disk1, raw_fault}
+use Rattle.run_inputs.specs.InputDisks.{disk_fault, empty_disk0, empty_disk1, raw_fault}
 use Rattle.xinu_commands.specs.SoakVerdict.{soak_verdict}
 use Rattle.xinu_commands.specs.Statuses.{status_due}
 use Rattle.xinu_commands.specs.Theorem.{Answers}

@@ -7,8 +7,8 @@ use Rattle.rv_asm.specs.Assembly.{Assembly, Makes, Fails, assembly}
 use Rattle.rv_asm.specs.declared.faults.AsmFault.{AsmFault}
 use Rattle.rv_asm.specs.declared.faults.AsmFault.TheVariants as asm
 use Rattle.xinu_commands.specs.Work.{Verdict, Refuses, Does, Outputs}
-use Rattle.xinu_commands.specs.declared.refusals.Refusal.{Refusal}
-use Rattle.xinu_commands.specs.declared.refusals.Refusal.TheVariants as refusal
+use Rattle.run_inputs.specs.declared.refusals.Refusal.{Refusal}
+use Rattle.run_inputs.specs.declared.refusals.Refusal.TheVariants as refusal
 
 -- the most bytes of a source: 1 MiB
 abbrev pub longest_source : ℕ

@@ -1,5 +1,5 @@
 -- The calls of the host that are due: the files that a command fetches, and then those that it writes.
-use Rattle.std.specs.Prelude.{ℕ, zero, suc, List, [], ◌∷◌, ◌++◌, map, take, Option, Some, None}
+use Rattle.std.specs.Prelude.{List, [], ◌∷◌, ◌++◌, map, take, Option, Some, None}
 use Rattle.command_line.specs.Commands.{Command, Run, Asm, Soak, Check, Disk}
 use Rattle.command_line.specs.DiskArgs.{DiskAction, Mkfs, Ls, Get, Put, Repair}
 use Rattle.command_line.specs.DiskArgs as disk
@@ -8,9 +8,11 @@ use Rattle.command_line.specs.RunArgs.{DiskFiles}
 use Rattle.host_port.specs.Outside.{HostCall, fetching, naming}
 use Rattle.host_port.specs.declared.host.Channel.{Channel}
 use Rattle.host_port.specs.declared.host.Channel.TheVariants.{Disk0, Disk1, Image}
-use Rattle.xinu_commands.specs.InputFiles.{InputFiles, run_inputs, check_inputs}
+use Rattle.run_inputs.specs.Fetching.{disks_up_to}
+use Rattle.run_inputs.specs.InputFiles.{InputFiles}
+use Rattle.xinu_commands.specs.InputFiles.{run_inputs, check_inputs}
 use Rattle.xinu_commands.specs.Work.{Verdict, Refuses, Does}
-use Rattle.xinu_commands.specs.declared.refusals.Refusal.TheVariants as refusal
+use Rattle.run_inputs.specs.declared.refusals.Refusal.TheVariants as refusal
 
 -- files to be fetched, and then calls that name files for their channels, each in order
 pub record Due : Type 0 where
@@ -22,16 +24,6 @@ abbrev pub calls_in : Due → List HostCall
 calls_in due = map fetching due.fetches ++ due.outputs
 
 -- ---- the files that are fetched
-
--- a file, if one is named
-abbrev pub if_named : Option Text → List Text
-if_named None = []
-if_named (Some name) = name ∷ []
-
--- the files of the raw disk and of the disk with files, up to disk d
-abbrev pub disks_up_to : ℕ → InputFiles → List Text
-disks_up_to zero f = if_named f.disk0
-disks_up_to (suc n) f = if_named f.disk0 ++ if_named f.disk1
 
 -- The inputs are fetched in order, the schedule, then the disks, and then the images, which are counted from 1: up to the file that is refused, or
 -- else all of them and the files after them.

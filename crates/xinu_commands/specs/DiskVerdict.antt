@@ -5,7 +5,7 @@ use Rattle.std.specs.Fmt.{decimal}
 use Rattle.command_line.specs.Reading.{Text}
 use Rattle.xinu_base.specs.Hexadecimal.{hex_of}
 use Rattle.lfs_check.specs.Fields.{geometry_of, fields_of, directory_entries}
-use Rattle.lfs_check.specs.Faults.{fault, named, report}
+use Rattle.lfs_check.specs.Faults.{named, report}
 use Rattle.lfs_check.specs.Kept.{kept_entries}
 use Rattle.lfs_check.specs.Rules.{entry_is_used, rule_0}
 use Rattle.lfs_check.specs.declared.faults.DiskFault.{DiskFault}
@@ -14,22 +14,14 @@ use Rattle.lfs_layout.specs.Files.{files_of, found, have_room, listing, padded_n
 use Rattle.lfs_layout.specs.Images.{opened, repaired}
 use Rattle.lfs_layout.specs.Made.{geometry_2, image_with}
 use Rattle.xinu_commands.specs.Work.{Verdict, Does, Outputs, if_some, unless_fault}
-use Rattle.xinu_commands.specs.declared.refusals.Refusal.{Refusal}
-use Rattle.xinu_commands.specs.declared.refusals.Refusal.TheVariants as refusal
+use Rattle.run_inputs.specs.InputDisks.{disk_fault, rule_broken}
+use Rattle.run_inputs.specs.declared.refusals.Refusal.TheVariants as refusal
 
 -- ---- the stages
 
--- the lowest rule that a disk breaks, with its lowest block; and the same of rule 0 alone, that it has whole blocks and not too few or too
--- many
-unfoldable pub disk_fault : List ℕ → Option DiskFault
-disk_fault disk = fault disk
-
+-- rule 0 if a disk breaks it: it has whole blocks, and not too few or too many
 unfoldable pub size_fault : List ℕ → Option DiskFault
 size_fault disk = named 0 (rule_0 (geometry_of disk) disk)
-
--- the refusal of a disk at the rule that it breaks
-abbrev pub rule_broken : DiskFault → Refusal
-rule_broken f = refusal.Disk 1 f.block f.rule
 
 -- A disk that breaks a rule is refused. Any other goes on as it is worked on, in version 2.
 abbrev pub with_disk : List ℕ → (List ℕ → Verdict) → Verdict

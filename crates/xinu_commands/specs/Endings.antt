@@ -2,10 +2,11 @@
 use Rattle.std.specs.Prelude.{◌≡◌, Option, None, IfOk, Result, Ok, Err, option_map}
 use Rattle.command_line.specs.Commands.{Command}
 use Rattle.host_port.specs.Outside.{Outside}
-use Rattle.xinu_commands.specs.Stages.{Performs, left_by, refusal_of}
+use Rattle.run_inputs.specs.Fetching.{refusal_of}
+use Rattle.xinu_commands.specs.Stages.{Performs, left_by}
 use Rattle.xinu_commands.specs.Work.{Left}
 use Rattle.xinu_commands.specs.declared.commands.Done.{Done}
-use Rattle.xinu_commands.specs.declared.refusals.Refusal.{Refusal}
+use Rattle.run_inputs.specs.declared.refusals.Refusal.{Refusal}
 
 -- what is left of a machine, if a command left one
 abbrev pub last_of : Result Done Refusal → Option Left

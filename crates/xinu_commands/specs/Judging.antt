@@ -4,14 +4,15 @@ use Rattle.command_line.specs.CheckArgs.{CheckFiles}
 use Rattle.command_line.specs.Commands.{Check}
 use Rattle.command_line.specs.Reading.{Text}
 use Rattle.host_port.specs.Outside.{Outside}
-use Rattle.xinu_commands.specs.Reading.{left_verdict}
-use Rattle.xinu_commands.specs.Stages.{Performs, Stage, refusal_of}
+use Rattle.xinu_commands.specs.InputVerdict.{left_verdict}
+use Rattle.run_inputs.specs.Fetching.{refusal_of}
+use Rattle.xinu_commands.specs.Stages.{Performs, Stage}
 use Rattle.xinu_commands.specs.TraceVerdict.{trace_verdict}
-use Rattle.xinu_commands.specs.Verdict.{file_bytes}
+use Rattle.run_inputs.specs.InputFiles.{file_bytes}
 use Rattle.xinu_commands.specs.Work.{Does, Judges, Refuses, judgement}
-use Rattle.xinu_commands.specs.declared.inputs.Inputs.{Inputs}
-use Rattle.xinu_commands.specs.declared.refusals.Refusal.{Refusal}
-use Rattle.xinu_commands.specs.declared.refusals.Refusal.TheVariants as refusal
+use Rattle.run_inputs.specs.declared.inputs.Inputs.{Inputs}
+use Rattle.run_inputs.specs.declared.refusals.Refusal.{Refusal}
+use Rattle.run_inputs.specs.declared.refusals.Refusal.TheVariants as refusal
 
 -- The answer is what the trace deserves, or the machine doesn't start; memory may run out at any time.
 abbrev pub JudgesTrace : List ℕ → Inputs → Result Bool Refusal → Type 0

@@ -3,14 +3,10 @@ pub mod Calls
 pub mod Conversions
 pub mod DiskVerdict
 pub mod Endings
-pub mod InputFaults
 pub mod InputFiles
-pub mod InputNames
 pub mod InputVerdict
 pub mod Judging
 pub mod PlainSteps
-pub mod Reading
-pub mod Refusals
 pub mod RunVerdict
 pub mod Setups
 pub mod SoakVerdict

@@ -4,7 +4,7 @@ use Rattle.xinu_base.specs.declared.events.Event.{Event}
 use Rattle.xinu_model.specs.Boot.{Disks, Loaded, Start, Boots, Overlaps, NoRoom, boot_on}
 use Rattle.xinu_commands.specs.InputVerdict.{Next}
 use Rattle.xinu_commands.specs.Work.{Verdict, Refuses, Does, Runs, Wanted}
-use Rattle.xinu_commands.specs.declared.refusals.Refusal.TheVariants as refusal
+use Rattle.run_inputs.specs.declared.refusals.Refusal.TheVariants as refusal
 
 -- what a run goes on besides its events and its images: its disks, and what is asked of it
 pub record Setup : Type 0 where

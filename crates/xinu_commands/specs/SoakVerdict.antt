@@ -1,12 +1,16 @@
 -- What `soak` deserves: the programs that its number gives are booted on the disks of a run that names none.
-use Rattle.std.specs.Prelude.{ℕ, List}
+use Rattle.std.specs.Prelude.{ℕ, List, Some, option_map}
 use Rattle.given_disks.specs.Disks.{disks_of}
 use Rattle.workload.specs.Programs.{programs}
 use Rattle.xinu_model.specs.Boot.{Start, Boots, Overlaps, NoRoom, boot_on}
 use Rattle.xinu_commands.specs.DiskVerdict.{with_disk}
-use Rattle.xinu_commands.specs.InputVerdict.{empty_disk0, empty_disk1, with_raw}
-use Rattle.xinu_commands.specs.Work.{Verdict, Refuses, Does, Soaking}
-use Rattle.xinu_commands.specs.declared.refusals.Refusal.TheVariants as refusal
+use Rattle.run_inputs.specs.InputDisks.{empty_disk0, empty_disk1, raw_broken, raw_fault}
+use Rattle.xinu_commands.specs.Work.{Verdict, Refuses, Does, Soaking, unless_fault}
+use Rattle.run_inputs.specs.declared.refusals.Refusal.TheVariants as refusal
+
+-- A raw disk that isn't 8 to 65,536 whole blocks is refused. Any other goes on as it is.
+abbrev pub with_raw : List ℕ → (List ℕ → Verdict) → Verdict
+with_raw disk next = unless_fault (option_map raw_broken (raw_fault disk)) (Some disk) next
 
 -- the machine starts, or it doesn't
 abbrev pub soaking_verdict : ℕ → Start → Verdict

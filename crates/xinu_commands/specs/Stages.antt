@@ -1,5 +1,5 @@
 -- What the stages of a command promise one another: its arguments, its files, its output.
-use Rattle.std.specs.Prelude.{◌≡◌, ◌≤◌, ◌+◌, ℕ, List, [], ◌∷◌, take, true, Option, Some, None, Result, Ok, Err, is_some, if◌then◌else◌}
+use Rattle.std.specs.Prelude.{◌≡◌, ◌≤◌, ℕ, List, [], ◌∷◌, true, Option, Some, None, Result, Ok, Err, is_some, if◌then◌else◌}
 use Rattle.std.specs.List.{slice_get}
 use Rattle.std.specs.Option.{option_map_or}
 use Rattle.machine.specs.Disks.{raw_bytes}
@@ -13,45 +13,21 @@ use Rattle.host_port.specs.HostCalls.{Rose}
 use Rattle.host_port.specs.Outside.{Outside, HostCall, naming}
 use Rattle.host_port.specs.declared.host.Channel.{Channel}
 use Rattle.host_port.specs.declared.host.Channel.TheVariants.{Out, Fault, Disk0, Disk1, Image}
-use Rattle.lfs_check.specs.declared.faults.DiskFault.{DiskFault}
 use Rattle.lfs_layout.specs.Files.{files_of, is_text, listing}
-use Rattle.xinu_base.specs.declared.events.Event.{Event}
 use Rattle.xinu_commands.specs.Calls.{Due, calls_due, due_by, run_outputs, source_fetches}
 use Rattle.xinu_commands.specs.DiskVerdict.{file_line, put_verdict}
-use Rattle.xinu_commands.specs.InputFaults.{ReadsAs, schedule_fault}
 use Rattle.xinu_commands.specs.Theorem.{Carries, HasCalled, IsPartSent, IsSent, IsUnsent, Obeys}
-use Rattle.xinu_commands.specs.Verdict.{file_bytes, verdict}
+use Rattle.run_inputs.specs.InputFiles.{file_bytes}
+use Rattle.xinu_commands.specs.Verdict.{verdict}
 use Rattle.xinu_commands.specs.Work.{Left, Output, Verdict, output_of}
-use Rattle.xinu_commands.specs.declared.refusals.Refusal.{Refusal}
-use Rattle.xinu_commands.specs.declared.refusals.Refusal.TheVariants as refusal
-
--- A file reads as these events, if it can't be observed for some bytes.
-pub record HoldsSchedule (file : Option (List ℕ)) (events : List Event) : Type 0 where
-  pub unseen : List ℕ
-  pub reads : ReadsAs (file_bytes file unseen) events
-
--- A file has a fault at this line, if it can't be observed for some bytes.
-pub record HoldsFault (file : Option (List ℕ)) (line : ℕ) : Type 0 where
-  pub unseen : List ℕ
-  pub fault : schedule_fault (file_bytes file unseen) ≡ Some line
-
--- Why a schedule file isn't read: it has a fault at a line, the host failed, or memory ran out.
-abbrev pub IsScheduleCause : Refusal → Option (List ℕ) → Outside → Outside → Type 0
-IsScheduleCause (refusal.Schedule l) file old new = HoldsFault file l
-IsScheduleCause refusal.HostFault file old new = Rose old.faults new.faults
-IsScheduleCause refusal.NoMemory file old new = Unit {0}
-IsScheduleCause _ file old new = ⊥
+use Rattle.run_inputs.specs.declared.refusals.Refusal.{Refusal}
+use Rattle.run_inputs.specs.declared.refusals.Refusal.TheVariants as refusal
 
 -- The files and what was sent on Fault stayed as they were, and the count of faults didn't fall.
 pub record KeepsFiles (old new : Outside) : Type 0 where
   pub file : new.file ≡ old.file
   pub fault : new.fault ≡ old.fault
   pub later : old.faults ≤ new.faults
-
--- the refusal with which something ended
-abbrev pub refusal_of : {T : Type 0} → Result T Refusal → Option Refusal
-refusal_of (Ok x) = None
-refusal_of (Err cause) = Some cause
 
 -- what a machine has of a run when it is left
 abbrev pub left_by : Booted → Left
@@ -81,10 +57,6 @@ IsHostCause None old new = Unit {0}
 IsHostCause (Some refusal.HostFault) old new = Rose old.faults new.faults
 IsHostCause (Some refusal.NoMemory) old new = Unit {0}
 IsHostCause (Some _) old new = ⊥
-
--- These bytes were fetched of a file: its first ones, up to one more than this many.
-pub record IsFetched (most : ℕ) (file : Option (List ℕ)) (bytes : List ℕ) : Type 0 where
-  pub front : bytes ≡ take (most + 1) (file_bytes file bytes)
 
 -- one file to be fetched
 abbrev pub fetch_due : Text → Due
@@ -140,25 +112,6 @@ pub record Stage (v : Verdict) (fetches : Verdict → List Text) (outputs : List
 -- no file is left to be fetched
 abbrev pub no_fetches : Verdict → List Text
 no_fetches v = []
-
--- ---- the disks of a run
-
--- Why a disk isn't accepted: it breaks a rule, or memory ran out.
-abbrev pub IsDiskCause : ℕ → Option DiskFault → Refusal → Type 0
-IsDiskCause disk fault (refusal.Disk d b r) = (d ≡ disk) × (fault ≡ Some (record { block = b; rule = r }))
-IsDiskCause disk fault refusal.NoMemory = Unit {0}
-IsDiskCause disk fault _ = ⊥
-
--- A file was fetched if one is named, or the host refused it. Nothing was sent.
-abbrev pub MayFetch : Option Text → Option Refusal → Outside → Outside → Type 0
-MayFetch None ended old new = (ended ≡ None) × (new ≡ old)
-MayFetch (Some name) ended old new = Fetches name ended old new
-
--- These bytes were fetched of a file, if one is named.
-abbrev pub MayBeFetched : ℕ → Option Text → (Text → Option (List ℕ)) → Option (List ℕ) → Type 0
-MayBeFetched most None file bytes = bytes ≡ None
-MayBeFetched most (Some name) file None = ⊥
-MayBeFetched most (Some name) file (Some bytes) = IsFetched most (file name) bytes
 
 -- A file was fetched and then set on a disk, for some bytes of it if it can't be observed.
 pub record SetsFile (disk name source out : List ℕ) (ended : Option Refusal) (old new : Outside) : Type 0 where

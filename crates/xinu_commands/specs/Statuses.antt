@@ -14,14 +14,14 @@ use Rattle.xinu_base.specs.declared.events.Event.{Event}
 use Rattle.xinu_model.specs.Boot.{Disks, Loaded, Start, Boots, Overlaps, NoRoom, boot_on}
 use Rattle.xinu_model.specs.Machine.{Xinu}
 use Rattle.xinu_commands.specs.AsmVerdict.{longest_source}
-use Rattle.xinu_commands.specs.DiskVerdict.{disk_fault, disk_with, file_on, rule_broken, size_fault}
-use Rattle.xinu_commands.specs.InputFaults.{have_fault, images_loaded, schedule_fault}
-use Rattle.xinu_commands.specs.Refusals.{status_of}
-use Rattle.xinu_commands.specs.InputVerdict.{raw_broken, raw_fault}
+use Rattle.run_inputs.specs.InputDisks.{disk_fault, raw_broken, raw_fault, rule_broken}
+use Rattle.xinu_commands.specs.DiskVerdict.{disk_with, file_on, size_fault}
+use Rattle.run_inputs.specs.InputFaults.{have_fault, images_loaded, schedule_fault}
+use Rattle.run_inputs.specs.Refusals.{status_of}
 use Rattle.xinu_commands.specs.TraceVerdict.{longest_trace}
 use Rattle.xinu_commands.specs.Verdict.{Input, DiskInput, SourceInput}
 use Rattle.xinu_commands.specs.Work.{Verdict, Refuses, Does, Judges}
-use Rattle.xinu_commands.specs.declared.refusals.Refusal.{Refusal}
+use Rattle.run_inputs.specs.declared.refusals.Refusal.{Refusal}
 
 -- the exit statuses
 abbrev pub statuses : List ℕ

@@ -5,11 +5,12 @@ use Rattle.command_line.specs.Commands.{Command}
 use Rattle.host_port.specs.HostCalls.{Rose}
 use Rattle.host_port.specs.Outside.{Outside, HostCall, emptied_channel, grown}
 use Rattle.xinu_commands.specs.Calls.{Due, calls_due, calls_in}
-use Rattle.xinu_commands.specs.Refusals.{TellsRefusal}
+use Rattle.run_inputs.specs.Fetching.{IsDecided}
+use Rattle.run_inputs.specs.Refusals.{TellsRefusal}
 use Rattle.xinu_commands.specs.Verdict.{Input, verdict}
 use Rattle.xinu_commands.specs.Work.{Begins, Does, Left, Output, Refuses, Verdict, Work, Writes}
-use Rattle.xinu_commands.specs.declared.refusals.Refusal.{Refusal}
-use Rattle.xinu_commands.specs.declared.refusals.Refusal.TheVariants as refusal
+use Rattle.run_inputs.specs.declared.refusals.Refusal.{Refusal}
+use Rattle.run_inputs.specs.declared.refusals.Refusal.TheVariants as refusal
 
 -- Why a command ended as it did. It was done only if its verdict is work. A host fault came only if the count of faults rose, and only
 -- in a command; memory may run out at any time; any other refusal came only if it is the verdict.
@@ -91,12 +92,6 @@ pub record Obeys (command : Option Command) (ended : Option Refusal) (left : Opt
 abbrev pub Tells : Option Refusal → Output → ℕ → Outside → Outside → Type 0
 Tells None output exit mid new = (exit ≡ output.status) × (new ≡ mid)
 Tells (Some cause) output exit mid new = TellsRefusal cause exit mid new
-
--- A command was done or refused by its verdict: neither did the host fail nor memory run out.
-abbrev pub IsDecided : Option Refusal → Type 0
-IsDecided (Some refusal.HostFault) = ⊥
-IsDecided (Some refusal.NoMemory) = ⊥
-IsDecided _ = Unit {0}
 
 -- The calls that are due were made in order: all of them, or if the host failed or memory ran out the first ones. No channel but perhaps
 -- Fault changed if it ended before the last file was fetched.

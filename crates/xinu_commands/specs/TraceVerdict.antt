@@ -5,7 +5,7 @@ use Rattle.transcript_laws.specs.Transcripts.{checks}
 use Rattle.xinu_model.specs.Boot.{Start, Boots, Overlaps, NoRoom, boot_on}
 use Rattle.xinu_commands.specs.InputVerdict.{Next}
 use Rattle.xinu_commands.specs.Work.{Verdict, Refuses, Does, Judges}
-use Rattle.xinu_commands.specs.declared.refusals.Refusal.TheVariants as refusal
+use Rattle.run_inputs.specs.declared.refusals.Refusal.TheVariants as refusal
 
 -- the most bytes of a trace: 64 MiB
 abbrev pub longest_trace : ℕ

@@ -11,7 +11,7 @@ use Rattle.xinu_model.specs.Runs.{RunsTo}
 use Rattle.xinu_model.specs.Text.{shown}
 use Rattle.xinu_commands.specs.Stages.{SendsOutput}
 use Rattle.xinu_commands.specs.Work.{output_of}
-use Rattle.xinu_commands.specs.declared.refusals.Refusal.{Refusal}
+use Rattle.run_inputs.specs.declared.refusals.Refusal.{Refusal}
 
 -- The lines of a run through the events were printed, as far as the host took them; if it took them all, the machine is in the run's
 -- last state, and this is how the run ended.

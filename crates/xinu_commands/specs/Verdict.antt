@@ -1,7 +1,7 @@
 -- What a command deserves by the bytes of its files. The inputs of a run and of a check are in InputVerdict.antt, what comes after them in
 -- RunVerdict.antt and TraceVerdict.antt; `asm` is in AsmVerdict.antt, `soak` in SoakVerdict.antt, an action on a disk in DiskVerdict.antt, and what
 -- work puts out in Work.antt.
-use Rattle.std.specs.Prelude.{◌+◌, ℕ, List, [], ◌∷◌, Option, Some, None, is_some}
+use Rattle.std.specs.Prelude.{ℕ, List, Option, Some, None, is_some}
 use Rattle.command_line.specs.Commands.{Command, Run, Asm, Soak, Check, Disk}
 use Rattle.command_line.specs.DiskArgs.{DiskAction, Mkfs, Ls, Get, Put, Repair}
 use Rattle.command_line.specs.DiskArgs as disk
@@ -9,13 +9,15 @@ use Rattle.command_line.specs.Reading.{Text}
 use Rattle.command_line.specs.RunArgs.{RunFiles}
 use Rattle.xinu_commands.specs.AsmVerdict.{asm_verdict}
 use Rattle.xinu_commands.specs.DiskVerdict.{check_verdict, get_verdict, ls_verdict, mkfs_verdict, put_verdict, repair_verdict}
-use Rattle.xinu_commands.specs.InputFiles.{InputFiles, run_inputs, check_inputs}
-use Rattle.xinu_commands.specs.InputVerdict.{Next, empty_disk0, empty_disk1, inputs_verdict}
+use Rattle.run_inputs.specs.InputFiles.{InputFiles, disk_bytes, file_bytes, image_bytes}
+use Rattle.xinu_commands.specs.InputFiles.{run_inputs, check_inputs}
+use Rattle.run_inputs.specs.InputDisks.{empty_disk0, empty_disk1}
+use Rattle.xinu_commands.specs.InputVerdict.{Next, inputs_verdict}
 use Rattle.xinu_commands.specs.RunVerdict.{run_verdict}
 use Rattle.xinu_commands.specs.SoakVerdict.{soak_verdict}
 use Rattle.xinu_commands.specs.TraceVerdict.{trace_verdict}
 use Rattle.xinu_commands.specs.Work.{Verdict, Wanted, Refuses}
-use Rattle.xinu_commands.specs.declared.refusals.Refusal.TheVariants as refusal
+use Rattle.run_inputs.specs.declared.refusals.Refusal.TheVariants as refusal
 
 -- A file that a command reads, by its place in the command: of a run the schedule, the disks and the images, which are counted from 1, and of a
 -- check its trace too.
@@ -27,22 +29,6 @@ pub data Input : Type 0 where
   TraceInput : Input
   DiskInput : Input
   SourceInput : Input
-
--- what a file holds: the bytes that can be observed, or else the unseen ones
-abbrev pub file_bytes : Option (List ℕ) → List ℕ → List ℕ
-file_bytes None unseen = unseen
-file_bytes (Some bytes) unseen = bytes
-
--- what the image files hold, from image i on
-abbrev pub image_bytes : ℕ → List Text → (Text → Option (List ℕ)) → (ℕ → List ℕ) → List (List ℕ)
-image_bytes i [] file unseen = []
-image_bytes i (name ∷ names) file unseen =
-    file_bytes (file name) (unseen i) ∷ image_bytes (i + 1) names file unseen
-
--- what a disk of a run holds: what its file holds if one is named, or else these first bytes
-abbrev pub disk_bytes : Option Text → List ℕ → (Text → Option (List ℕ)) → List ℕ → List ℕ
-disk_bytes None first file unseen = first
-disk_bytes (Some name) first file unseen = file_bytes (file name) unseen
 
 -- what inputs deserve if their files hold these bytes
 abbrev pub held_verdict : Next → InputFiles → (Text → Option (List ℕ)) → (Input → List ℕ) → Verdict

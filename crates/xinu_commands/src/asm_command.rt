@@ -6,17 +6,19 @@ ghost use Rattle.command_line.specs.Names.{asm_names};
 ghost use Rattle.host_port.specs.Outside.{naming};
 ghost use Rattle.host_port.specs.declared.host.Channel.TheVariants as channel;
 ghost use Rattle.image_loader.specs.ImageFiles.{image_in};
+ghost use Rattle.xinu_commands.specs.AsmVerdict as verdict;
 ghost use Rattle.xinu_commands.specs.AsmVerdict.{as_elf, asm_verdict, written_file};
-ghost use Rattle.xinu_commands.specs.Stages.{Performs, SendsOutput, Stage, no_fetches, output_on, refusal_of};
+ghost use Rattle.run_inputs.specs.Fetching.{refusal_of};
+ghost use Rattle.xinu_commands.specs.Stages.{Performs, SendsOutput, Stage, no_fetches, output_on};
 
 use crate::fetching::fetch_file;
-use crate::refusals::Refusal;
 use crate::sending::send_file;
 use command_line::AsmFiles;
 use elf_loader::write_elf;
 use host_port::{Channel, Host};
 use image_loader::read_image;
-use rv_asm::assemble;
+use run_inputs::Refusal;
+use rv_asm::{AsmFault, assemble};
 use std::alloc::Global;
 use xinu_base::NoMemory;
 
@@ -53,7 +55,20 @@ fn assemble_text<H: Host>(
     }
     match assemble(alloc, source) {
         Ok(file) => write_file(alloc, file.as_slice(), elf, out, host),
-        Err(fault) => Err(Refusal::from(fault)),
+        Err(fault) => Err(asm_refusal(fault)),
+    }
+}
+
+// The refusal of a text with a fault.
+fn asm_refusal(fault: AsmFault) -> Refusal
+    ensures refusal { result ≡ verdict.asm_refusal fault }
+{
+    match fault {
+        AsmFault::BadLine(line) => Refusal::Asm { line, fault: 1 },
+        AsmFault::UnknownName(line) => Refusal::Asm { line, fault: 2 },
+        AsmFault::OutOfRange(line) => Refusal::Asm { line, fault: 3 },
+        AsmFault::DoubleLabel(line) => Refusal::Asm { line, fault: 4 },
+        AsmFault::NoMemory => Refusal::NoMemory,
     }
 }
 

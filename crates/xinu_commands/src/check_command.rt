@@ -2,18 +2,19 @@
 
 ghost use Rattle.std.specs.Prelude.{◌≡◌, ◌≤◌, [], false, length, map};
 ghost use Rattle.command_line.specs.Names.{check_names};
-ghost use Rattle.xinu_commands.specs.InputFaults.{have_fault};
+ghost use Rattle.run_inputs.specs.InputFaults.{have_fault};
+ghost use Rattle.xinu_commands.specs.Conversions as conversions;
 ghost use Rattle.xinu_commands.specs.Judging.{Checks, ChecksInputs, JudgesTrace};
-ghost use Rattle.xinu_commands.specs.Stages.{SendsOutput, refusal_of};
+ghost use Rattle.run_inputs.specs.Fetching.{refusal_of};
+ghost use Rattle.xinu_commands.specs.Stages.{SendsOutput};
 ghost use Rattle.xinu_commands.specs.Work.{judgement};
 
 use crate::fetching::fetch_file;
-use crate::inputs::{InputFiles, Inputs, fetch_inputs, images_of};
-use crate::refusals::Refusal;
 use crate::sending::print_line;
 use command_line::CheckFiles;
 use host_port::{Host, Line};
-use reference_check::check_trace;
+use reference_check::{NoStart, check_trace};
+use run_inputs::{InputFiles, Inputs, Refusal, fetch_inputs, images_of};
 use std::alloc::Global;
 
 /// The most bytes of a trace: 64 MiB.
@@ -90,7 +91,18 @@ fn judge_trace(alloc: Global, inputs: Inputs, trace: &[u8]) -> Result<bool, Refu
         trace,
     ) {
         Ok(is_transcript) => Ok(is_transcript),
-        Err(fault) => Err(Refusal::from(fault)),
+        Err(fault) => Err(start_refusal(fault)),
+    }
+}
+
+// The refusal that the reference machine gives if it doesn't start.
+fn start_refusal(fault: NoStart) -> Refusal
+    ensures refusal { result ≡ conversions.start_refusal fault }
+{
+    match fault {
+        NoStart::Overlaps(image) => Refusal::Overlap(image),
+        NoStart::NoRoom(image) => Refusal::NoRoom(image),
+        NoStart::NoMemory => Refusal::NoMemory,
     }
 }
 

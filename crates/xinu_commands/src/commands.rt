@@ -8,12 +8,12 @@ ghost use Rattle.xinu_commands.specs.Endings.{CarriesOut};
 use crate::asm_command::assemble_file;
 use crate::check_command::check;
 use crate::disk::act;
-use crate::refusals::Refusal;
 use crate::run_command::run;
 use crate::soak_command::soak_machine;
 use command_line::Command;
 use host_port::Host;
 use machine::Machine;
+use run_inputs::Refusal;
 use std::alloc::Global;
 
 /// What is left of a command that was done.

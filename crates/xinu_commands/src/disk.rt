@@ -7,17 +7,18 @@ ghost use Rattle.command_line.specs.Names.{action_names};
 ghost use Rattle.host_port.specs.Outside.{fetching, naming};
 ghost use Rattle.host_port.specs.declared.host.Channel.TheVariants as channel;
 ghost use Rattle.lfs_layout.specs.Files.{is_text};
-ghost use Rattle.xinu_commands.specs.Conversions.{check_refusal};
+ghost use Rattle.run_inputs.specs.Conversions.{check_refusal};
 ghost use Rattle.xinu_commands.specs.DiskVerdict as verdict;
-ghost use Rattle.xinu_commands.specs.Stages.{Fetches, IsFetched, IsPossible, Performs, SetsFile, Stage, no_fetches, refusal_of};
+ghost use Rattle.run_inputs.specs.Fetching.{IsFetched, refusal_of};
+ghost use Rattle.xinu_commands.specs.Stages.{Fetches, IsPossible, Performs, SetsFile, Stage, no_fetches};
 
 use crate::disk_lines::{repair_line, report_line};
 use crate::fetching::fetch_file;
-use crate::refusals::Refusal;
 use crate::sending::{print_files, print_line, send_file};
 use command_line::DiskAction;
 use host_port::{Channel, Host};
 use lfs_layout::{CleanImage, check, repair};
+use run_inputs::Refusal;
 use std::alloc::Global;
 
 /// The most bytes of a disk: 65,542 blocks.

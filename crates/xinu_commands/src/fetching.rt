@@ -1,10 +1,11 @@
 //! The files that commands fetch.
 
 ghost use Rattle.std.specs.Prelude.{◌<◌, ◌^◌, IfOk};
-ghost use Rattle.xinu_commands.specs.Stages.{Fetches, IsFetched, refusal_of};
+ghost use Rattle.run_inputs.specs.Fetching.{IsFetched, refusal_of};
+ghost use Rattle.xinu_commands.specs.Stages.{Fetches};
 
-use crate::refusals::Refusal;
 use host_port::Host;
+use run_inputs::Refusal;
 use std::alloc::Global;
 
 /// The bytes of a file, at most one more than `most`.

@@ -22,10 +22,10 @@ ghost use Rattle.xinu_commands.specs.AsmVerdict.{written_file};
 ghost use Rattle.xinu_commands.specs.Calls.{calls_due, calls_in};
 ghost use Rattle.xinu_commands.specs.Statuses.{SaysOfDisk, SaysOfFiles, SaysOfSource, SaysOfTrace, status_due, statuses};
 ghost use Rattle.xinu_commands.specs.Theorem.{Answers};
-ghost use Rattle.xinu_commands.specs.DiskVerdict.{disk_fault};
-ghost use Rattle.xinu_commands.specs.InputVerdict.{empty_disk0, empty_disk1, raw_fault};
+ghost use Rattle.run_inputs.specs.InputDisks.{disk_fault, empty_disk0, empty_disk1, raw_fault};
 ghost use Rattle.xinu_commands.specs.SoakVerdict.{soak_verdict};
-ghost use Rattle.xinu_commands.specs.Verdict.{ScheduleInput, Disk0Input, Disk1Input, ImageInput, TraceInput, SourceInput, disk_bytes, file_bytes, image_bytes, verdict};
+ghost use Rattle.run_inputs.specs.InputFiles.{disk_bytes, file_bytes, image_bytes};
+ghost use Rattle.xinu_commands.specs.Verdict.{ScheduleInput, Disk0Input, Disk1Input, ImageInput, TraceInput, SourceInput, verdict};
 ghost use Rattle.xinu_commands.specs.Work.{Does, Left, Soaking};
 
 /// The exit status is 0, 2, 3, 4, 5, 6, 7, 8, 9, 10, 11, 12 or 13.

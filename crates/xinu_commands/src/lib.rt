@@ -4,7 +4,8 @@
 //! The commands are `run --schedule FILE IMAGE ..`, which with `--plain` prints the bytes of the console alone, and takes its disks from
 //! `--disk0` and `--disk1` and writes them to `--out0` and `--out1`; `check --schedule FILE --trace FILE IMAGE ..`, which says of a text
 //! whether it is the transcript of a run; `asm SOURCE --out FILE`, which writes an ELF file with `--elf`; `disk` with six actions: `mkfs`,
-//! `ls`, `get`, `put`, `check` and `repair`; and `soak N`, which prints a summary. Each goes over any host.
+//! `ls`, `get`, `put`, `check` and `repair`; and `soak N`, which prints a summary. Each goes over any host. The inputs of `run` and `check` are
+//! fetched and judged by `run_inputs`, which also has the refusals.
 //!
 //! | Call | Promise |
 //! |---|---|
@@ -18,10 +19,7 @@ mod commands;
 mod disk;
 mod disk_lines;
 mod fetching;
-mod input_disks;
-mod inputs;
 pub mod laws;
-mod refusals;
 mod run_command;
 mod runs;
 mod sending;

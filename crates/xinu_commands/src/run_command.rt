@@ -4,18 +4,18 @@ ghost use Rattle.std.specs.Prelude.{◌≡◌, ◌≤◌, false, Some, length, m
 ghost use Rattle.command_line.specs.Commands.{Run};
 ghost use Rattle.command_line.specs.Names.{disk_names, run_names};
 ghost use Rattle.xinu_commands.specs.Calls.{run_outputs};
-ghost use Rattle.xinu_commands.specs.InputFaults.{have_fault};
-ghost use Rattle.xinu_commands.specs.Reading.{left_verdict};
+ghost use Rattle.run_inputs.specs.InputFaults.{have_fault};
+ghost use Rattle.xinu_commands.specs.InputVerdict.{left_verdict};
 ghost use Rattle.xinu_commands.specs.RunVerdict.{run_verdict};
-ghost use Rattle.xinu_commands.specs.Stages.{Performs, Stage, left_of, no_fetches, refusal_of};
+ghost use Rattle.run_inputs.specs.Fetching.{refusal_of};
+ghost use Rattle.xinu_commands.specs.Stages.{Performs, Stage, left_of, no_fetches};
 ghost use Rattle.xinu_commands.specs.Verdict.{wanted_of};
 
-use crate::inputs::{InputFiles, Inputs, fetch_inputs, images_of};
-use crate::refusals::Refusal;
 use crate::runs::{Setup, run_images};
 use command_line::RunFiles;
 use host_port::Host;
 use machine::Machine;
+use run_inputs::{InputFiles, Inputs, Refusal, fetch_inputs, images_of};
 use std::alloc::Global;
 
 /// Runs the images in files through the events of a schedule, and answers the machine as the run left it. There are one to eight images.

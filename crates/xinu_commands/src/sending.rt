@@ -6,17 +6,18 @@ ghost use Rattle.host_port.specs.Outside.{naming};
 ghost use Rattle.host_port.specs.Printing.{Prints};
 ghost use Rattle.lfs_layout.specs.Images.{IsCleanImage};
 ghost use Rattle.xinu_commands.specs.Calls.{if_written};
-ghost use Rattle.xinu_commands.specs.Conversions.{host_refusal};
+ghost use Rattle.run_inputs.specs.Conversions.{host_refusal};
 ghost use Rattle.xinu_commands.specs.DiskVerdict.{file_lines};
-ghost use Rattle.xinu_commands.specs.Stages.{SendsDisks, SendsOutput, disks_output, left_by, line_at, output_on, refusal_of};
+ghost use Rattle.run_inputs.specs.Fetching.{refusal_of};
+ghost use Rattle.xinu_commands.specs.Stages.{SendsDisks, SendsOutput, disks_output, left_by, line_at, output_on};
 ghost use Rattle.xinu_commands.specs.Work.{output_of};
 
 use crate::disk_lines::file_line;
-use crate::refusals::Refusal;
 use command_line::DiskFiles;
 use host_port::{Channel, Host, Line, Printer};
 use lfs_layout::CleanImage;
 use machine::Machine;
+use run_inputs::Refusal;
 
 /// The most files of a disk.
 const MOST_FILES: usize = 78;

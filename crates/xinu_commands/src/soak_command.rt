@@ -2,13 +2,13 @@
 
 ghost use Rattle.std.specs.Prelude.{Some};
 ghost use Rattle.command_line.specs.Commands.{Soak};
-ghost use Rattle.xinu_commands.specs.Stages.{Performs, left_of, refusal_of};
+ghost use Rattle.run_inputs.specs.Fetching.{refusal_of};
+ghost use Rattle.xinu_commands.specs.Stages.{Performs, left_of};
 
-use crate::input_disks::{clean_disk, raw_disk};
-use crate::refusals::Refusal;
 use crate::sending::print_text;
 use host_port::Host;
 use machine::Machine;
+use run_inputs::{Refusal, clean_disk, raw_disk};
 use soak::{Soaked, soak};
 use std::alloc::Global;
 

@@ -7,9 +7,9 @@ ghost use Rattle.xinu_commands.specs.Stages.{left_by};
 ghost use Rattle.xinu_commands.specs.Theorem.{Answers};
 
 use crate::commands::{Done, carry_out};
-use crate::refusals::refuse;
 use host_port::Host;
 use machine::Machine;
+use run_inputs::refuse;
 use std::alloc::Global;
 
 /// Does what the arguments after the program's name say, and answers the exit status.

@@ -5,7 +5,8 @@ use Rattle.host_port.specs.Outside.{naming}
 use Rattle.host_port.specs.declared.host.Channel.TheVariants.{Image}
 use Rattle.std.specs.Prelude.{Some}
 use Rattle.xinu_commands.specs.AsmVerdict.{asm_verdict}
-use Rattle.xinu_commands.specs.Stages.{Performs, Stage, no_fetches, refusal_of}
+use Rattle.run_inputs.specs.Fetching.{refusal_of}
+use Rattle.xinu_commands.specs.Stages.{Performs, Stage, no_fetches}
 use Rattle.xinu_commands.proofs.Assembled.{source_fetched, source_unfetched}
 use Rattle.xinu_commands.proofs.Staged.{of_refused}
 use Rattle.xinu_commands.proofs.asm_command.assemble_file.Goals as goal

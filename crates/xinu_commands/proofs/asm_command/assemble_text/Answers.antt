@@ -2,7 +2,8 @@ use Rattle.std.proofs.Common.{List, ℕ, [], ◌∷◌, arith, subst}
 use Rattle.host_port.specs.Outside.{naming}
 use Rattle.host_port.specs.declared.host.Channel.TheVariants.{Image}
 use Rattle.xinu_commands.specs.AsmVerdict.{written_file}
-use Rattle.xinu_commands.specs.Stages.{SendsOutput, output_on, refusal_of}
+use Rattle.run_inputs.specs.Fetching.{refusal_of}
+use Rattle.xinu_commands.specs.Stages.{SendsOutput, output_on}
 use Rattle.xinu_commands.proofs.Assembled.{faulty_stage, long_stage, made_stage}
 use Rattle.xinu_commands.proofs.asm_command.assemble_text.Goals as goal
 
@@ -14,8 +15,8 @@ returns-then-source-gt-LONGEST_SOURCE g c = record {
 pub returns-in-Err : goal.returns-in-Err
 returns-in-Err g c = record {
   stage =
-      faulty_stage c.args.elf c.args.source.now (naming Image c.args.out.now ∷ []) c.in-Err.fault c.from.result
-      (g.H.Host.view c.args.host.now) c.from.ensures (omega arith) c.in-Err.ensures.assembled;
+      faulty_stage c.args.elf c.args.source.now (naming Image c.args.out.now ∷ []) c.in-Err.fault c.asm_refusal.result
+      (g.H.Host.view c.args.host.now) c.asm_refusal.ensures.refusal (omega arith) c.in-Err.ensures.assembled;
 }
 
 pub returns-in-Ok : goal.returns-in-Ok

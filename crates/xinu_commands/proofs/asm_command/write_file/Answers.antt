@@ -3,7 +3,7 @@ use Rattle.host_port.specs.Outside.{naming}
 use Rattle.host_port.specs.declared.host.Channel.TheVariants.{Image}
 use Rattle.xinu_commands.specs.AsmVerdict.{written_file}
 use Rattle.xinu_commands.specs.Stages.{SendsOutput, output_on}
-use Rattle.xinu_commands.specs.declared.refusals.Refusal.TheVariants as refusal
+use Rattle.run_inputs.specs.declared.refusals.Refusal.TheVariants as refusal
 use Rattle.xinu_commands.proofs.Assembled.{unwritten}
 use Rattle.xinu_commands.proofs.Staged.{of_refused}
 use Rattle.xinu_commands.proofs.asm_command.write_file.Goals as goal

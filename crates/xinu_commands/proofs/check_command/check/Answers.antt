@@ -3,8 +3,8 @@ use Rattle.std.specs.Prelude.{Err, Ok}
 use Rattle.command_line.specs.Names.{check_names}
 use Rattle.xinu_commands.specs.InputFiles.{check_inputs}
 use Rattle.xinu_commands.specs.Judging.{Checks}
-use Rattle.xinu_commands.specs.Reading.{ReadsInputs}
-use Rattle.xinu_commands.proofs.ImageFiles.{of_error}
+use Rattle.run_inputs.specs.Reading.{ReadsInputs}
+use Rattle.run_inputs.proofs.ImageFiles.{of_error}
 use Rattle.xinu_commands.proofs.WholeRuns.{check_performs, check_refused}
 use Rattle.xinu_commands.proofs.check_command.check.Goals as goal
 

@@ -1,7 +1,7 @@
 use Rattle.std.proofs.Common.{ℕ, List, arith, subst}
 use Rattle.std.specs.Prelude.{Err, Ok}
 use Rattle.xinu_commands.specs.Judging.{ChecksInputs, JudgesTrace}
-use Rattle.xinu_commands.proofs.ImageFiles.{of_error}
+use Rattle.run_inputs.proofs.ImageFiles.{of_error}
 use Rattle.xinu_commands.proofs.Judged.{trace_judged, trace_refused, trace_unfetched, trace_unjudged, trace_unsent}
 use Rattle.xinu_commands.proofs.check_command.check_inputs.Goals as goal
 

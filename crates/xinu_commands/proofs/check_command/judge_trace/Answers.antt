@@ -1,7 +1,7 @@
 use Rattle.std.proofs.Common.{◌∙◌, ℕ, Some, Vec, Global, List, ap, map, sym}
 use Rattle.image_loader.specs.Images.{loaded_of}
 use Rattle.image_loader.specs.declared.images.Image.{Image}
-use Rattle.xinu_commands.specs.InputFaults.{images_loaded}
+use Rattle.run_inputs.specs.InputFaults.{images_loaded}
 use Rattle.xinu_commands.proofs.Judged.{judges, refuses}
 use Rattle.xinu_commands.proofs.check_command.judge_trace.Goals as goal
 
@@ -11,7 +11,7 @@ returns-in-Ok-check_trace c =
     let files = ap (λ (vs : List (Vec ℕ Global)). images_loaded (map (λ v. v.items) vs)) (sym c.as_slice.ensures.value) in
     let loaded = files ∙ c.in-Ok.ensures.loaded ∙ ap (λ (images : List Image). Some (map loaded_of images)) (sym c.as_slice-2.ensures.value) in
     record {
-      judges = judges c.args.trace.now x (map loaded_of c.as_slice-2.result.now) c.requires.good loaded c.requires.short c.in-Ok-check_trace.is_transcript c.in-Ok-check_trace.ensures.starts c.in-Ok-check_trace.ensures.checks;
+      judges = judges c.args.trace.now x (map loaded_of c.as_slice-2.result.now) loaded c.requires.short c.in-Ok-check_trace.is_transcript c.in-Ok-check_trace.ensures.starts c.in-Ok-check_trace.ensures.checks;
     }
 
 pub returns : goal.returns
@@ -20,5 +20,5 @@ returns c =
     let files = ap (λ (vs : List (Vec ℕ Global)). images_loaded (map (λ v. v.items) vs)) (sym c.as_slice.ensures.value) in
     let loaded = files ∙ c.in-Ok.ensures.loaded ∙ ap (λ (images : List Image). Some (map loaded_of images)) (sym c.as_slice-2.ensures.value) in
     record {
-      judges = refuses c.args.trace.now x (map loaded_of c.as_slice-2.result.now) c.requires.good loaded c.requires.short c.in-Err.fault c.from.result c.from.ensures c.in-Err.ensures.refuses;
+      judges = refuses c.args.trace.now x (map loaded_of c.as_slice-2.result.now) loaded c.requires.short c.in-Err.fault c.start_refusal.result c.start_refusal.ensures.refusal c.in-Err.ensures.refuses;
     }

@@ -1,4 +1,4 @@
-use Rattle.xinu_commands.specs.Stages.{refusal_of}
+use Rattle.run_inputs.specs.Fetching.{refusal_of}
 use Rattle.xinu_commands.proofs.Judged.{judgement_sent}
 use Rattle.xinu_commands.proofs.check_command.print_judgement.Goals as goal
 

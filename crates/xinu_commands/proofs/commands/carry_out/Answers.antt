@@ -7,7 +7,8 @@ use Rattle.command_line.specs.Commands.{Run, Asm, Soak, Check, Disk}
 use Rattle.command_line.specs.Names.{action_names, asm_names, command_names, run_names, check_names}
 use Rattle.xinu_commands.proofs.Answered.{args_refuse}
 use Rattle.xinu_commands.proofs.Done.{action_status, asm_status, carries_done, carries_left, judgement_status}
-use Rattle.xinu_commands.proofs.Possible.{check_count, image_count, possible}
+use Rattle.run_inputs.proofs.RunCounts.{image_count}
+use Rattle.xinu_commands.proofs.Possible.{check_count, possible}
 use Rattle.xinu_commands.proofs.commands.carry_out.Goals as goal
 
 pub returns-in-Err : goal.returns-in-Err

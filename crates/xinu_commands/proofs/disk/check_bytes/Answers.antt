@@ -1,8 +1,9 @@
 use Rattle.std.proofs.Common.{◌∙◌, [], ℕ, List, None, refl, ap, subst}
 use Rattle.lfs_check.specs.Faults.{fault, report}
-use Rattle.xinu_commands.specs.Conversions.{check_refusal}
+use Rattle.run_inputs.specs.Conversions.{check_refusal}
 use Rattle.xinu_commands.specs.DiskVerdict.{check_verdict, report_line}
-use Rattle.xinu_commands.specs.Stages.{SendsOutput, Stage, no_fetches, refusal_of}
+use Rattle.run_inputs.specs.Fetching.{refusal_of}
+use Rattle.xinu_commands.specs.Stages.{SendsOutput, Stage, no_fetches}
 use Rattle.xinu_commands.specs.Work.{output_of}
 use Rattle.xinu_commands.proofs.DiskVerdicts.{check_broken, check_does, faultless, faulty}
 use Rattle.xinu_commands.proofs.Staged.{broken_stage, of_refused, sent_stage}

@@ -3,7 +3,8 @@ use Rattle.xinu_commands.specs.DiskVerdict.{check_verdict}
 use Rattle.xinu_commands.proofs.DiskFetched.{check_fetched}
 use Rattle.command_line.specs.Commands.{Disk}
 use Rattle.command_line.specs.DiskArgs.{Check}
-use Rattle.xinu_commands.specs.Stages.{Performs, Stage, no_fetches, refusal_of}
+use Rattle.run_inputs.specs.Fetching.{refusal_of}
+use Rattle.xinu_commands.specs.Stages.{Performs, Stage, no_fetches}
 use Rattle.xinu_commands.proofs.Staged.{fetched_performs, of_refused, unfetched_performs}
 use Rattle.xinu_commands.proofs.disk.check_file.Goals as goal
 

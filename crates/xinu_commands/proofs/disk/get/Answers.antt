@@ -3,7 +3,8 @@ use Rattle.xinu_commands.specs.DiskVerdict.{get_verdict}
 use Rattle.xinu_commands.proofs.DiskFetched.{get_fetched}
 use Rattle.command_line.specs.Commands.{Disk}
 use Rattle.command_line.specs.DiskArgs.{Get}
-use Rattle.xinu_commands.specs.Stages.{Performs, no_fetches, refusal_of}
+use Rattle.run_inputs.specs.Fetching.{refusal_of}
+use Rattle.xinu_commands.specs.Stages.{Performs, no_fetches}
 use Rattle.xinu_commands.proofs.Staged.{fetched_performs, of_refused, unfetched_performs}
 use Rattle.xinu_commands.proofs.disk.get.Goals as goal
 

@@ -3,11 +3,12 @@ use Rattle.host_port.specs.Outside.{naming}
 use Rattle.host_port.specs.declared.host.Channel.TheVariants.{Image}
 use Rattle.lfs_check.specs.Faults.{fault}
 use Rattle.lfs_layout.specs.Images.{opened}
-use Rattle.xinu_commands.specs.Conversions.{check_refusal}
+use Rattle.run_inputs.specs.Conversions.{check_refusal}
 use Rattle.xinu_commands.specs.DiskVerdict.{file_on, get_verdict}
-use Rattle.xinu_commands.specs.Stages.{SendsOutput, Stage, no_fetches, refusal_of}
+use Rattle.run_inputs.specs.Fetching.{refusal_of}
+use Rattle.xinu_commands.specs.Stages.{SendsOutput, Stage, no_fetches}
 use Rattle.xinu_commands.specs.Work.{output_of}
-use Rattle.xinu_commands.specs.declared.refusals.Refusal.TheVariants as refusal
+use Rattle.run_inputs.specs.declared.refusals.Refusal.TheVariants as refusal
 use Rattle.xinu_commands.proofs.DiskVerdicts.{faultless, faulty, file_found, file_missing, get_broken, get_does, get_missing}
 use Rattle.xinu_commands.proofs.Staged.{broken_stage, memory_stage, of_refused, refused_last, sent_stage}
 use Rattle.xinu_commands.proofs.disk.get_file.Goals as goal

@@ -2,9 +2,10 @@ use Rattle.std.proofs.Common.{[], ℕ, List, None, refl, sym, subst}
 use Rattle.lfs_check.specs.Faults.{fault}
 use Rattle.lfs_layout.specs.Images.{IsCleanImage, opened}
 use Rattle.lfs_layout.proofs.MadeClean.{opened_clean}
-use Rattle.xinu_commands.specs.Conversions.{check_refusal}
+use Rattle.run_inputs.specs.Conversions.{check_refusal}
 use Rattle.xinu_commands.specs.DiskVerdict.{file_lines, ls_verdict}
-use Rattle.xinu_commands.specs.Stages.{SendsOutput, Stage, no_fetches, refusal_of}
+use Rattle.run_inputs.specs.Fetching.{refusal_of}
+use Rattle.xinu_commands.specs.Stages.{SendsOutput, Stage, no_fetches}
 use Rattle.xinu_commands.specs.Work.{output_of}
 use Rattle.xinu_commands.proofs.DiskVerdicts.{faultless, faulty, ls_broken, ls_does}
 use Rattle.xinu_commands.proofs.Staged.{broken_stage, of_refused, sent_stage}

@@ -5,9 +5,10 @@ use Rattle.host_port.specs.Outside.{naming}
 use Rattle.host_port.specs.declared.host.Channel.TheVariants.{Disk1}
 use Rattle.lfs_layout.specs.Made.{image_with}
 use Rattle.xinu_commands.specs.DiskVerdict.{mkfs_verdict}
-use Rattle.xinu_commands.specs.Stages.{Performs, SendsOutput, no_fetches, refusal_of}
+use Rattle.run_inputs.specs.Fetching.{refusal_of}
+use Rattle.xinu_commands.specs.Stages.{Performs, SendsOutput, no_fetches}
 use Rattle.xinu_commands.specs.Work.{output_of}
-use Rattle.xinu_commands.specs.declared.refusals.Refusal.TheVariants as refusal
+use Rattle.run_inputs.specs.declared.refusals.Refusal.TheVariants as refusal
 use Rattle.xinu_commands.proofs.DiskVerdicts.{mkfs_does}
 use Rattle.xinu_commands.proofs.Staged.{memory_stage, of_refused, performs_by, sent_stage}
 use Rattle.xinu_commands.proofs.disk.make.Goals as goal

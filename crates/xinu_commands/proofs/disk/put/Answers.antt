@@ -2,7 +2,8 @@ use Rattle.std.proofs.Common.{Some, None, refl}
 use Rattle.command_line.specs.Commands.{Disk}
 use Rattle.command_line.specs.DiskArgs.{Put}
 use Rattle.xinu_commands.specs.Calls.{source_fetches}
-use Rattle.xinu_commands.specs.Stages.{Performs, refusal_of}
+use Rattle.run_inputs.specs.Fetching.{refusal_of}
+use Rattle.xinu_commands.specs.Stages.{Performs}
 use Rattle.xinu_commands.proofs.Staged.{of_refused, put_performs, unfetched_performs}
 use Rattle.xinu_commands.proofs.disk.put.Goals as goal
 

@@ -4,10 +4,11 @@ use Rattle.host_port.specs.declared.host.Channel.TheVariants.{Disk1}
 use Rattle.lfs_check.specs.Faults.{fault}
 use Rattle.lfs_layout.specs.Images.{opened}
 use Rattle.xinu_commands.specs.Calls.{source_fetches}
-use Rattle.xinu_commands.specs.Conversions.{check_refusal}
+use Rattle.run_inputs.specs.Conversions.{check_refusal}
 use Rattle.xinu_commands.specs.DiskVerdict.{put_verdict, set_verdict}
-use Rattle.xinu_commands.specs.Stages.{SetsFile, Stage, no_fetches, refusal_of}
-use Rattle.xinu_commands.specs.Verdict.{file_bytes}
+use Rattle.run_inputs.specs.Fetching.{refusal_of}
+use Rattle.xinu_commands.specs.Stages.{SetsFile, Stage, no_fetches}
+use Rattle.run_inputs.specs.InputFiles.{file_bytes}
 use Rattle.xinu_commands.proofs.DiskVerdicts.{faultless, faulty, put_broken}
 use Rattle.xinu_commands.proofs.Staged.{broken_stage, of_refused, source_set, source_unfetched}
 use Rattle.xinu_commands.proofs.disk.put_file.Goals as goal

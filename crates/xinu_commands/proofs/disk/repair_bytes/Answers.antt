@@ -5,9 +5,10 @@ use Rattle.lfs_check.specs.Faults.{named}
 use Rattle.lfs_check.specs.Fields.{geometry_of}
 use Rattle.lfs_check.specs.Rules.{rule_0}
 use Rattle.lfs_layout.specs.Images.{repaired}
-use Rattle.xinu_commands.specs.Conversions.{check_refusal}
+use Rattle.run_inputs.specs.Conversions.{check_refusal}
 use Rattle.xinu_commands.specs.DiskVerdict.{repair_line, repair_verdict}
-use Rattle.xinu_commands.specs.Stages.{SendsOutput, Stage, no_fetches, refusal_of}
+use Rattle.run_inputs.specs.Fetching.{refusal_of}
+use Rattle.xinu_commands.specs.Stages.{SendsOutput, Stage, no_fetches}
 use Rattle.xinu_commands.specs.Work.{output_of}
 use Rattle.xinu_commands.proofs.DiskVerdicts.{repair_broken, repair_counts, repair_does, sized, unsized}
 use Rattle.xinu_commands.proofs.InOrder.{AreApart, both_sent, first_sent}

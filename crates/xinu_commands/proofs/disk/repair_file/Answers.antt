@@ -5,7 +5,8 @@ use Rattle.command_line.specs.Commands.{Disk}
 use Rattle.command_line.specs.DiskArgs.{Repair}
 use Rattle.host_port.specs.Outside.{naming}
 use Rattle.host_port.specs.declared.host.Channel.TheVariants.{Disk1}
-use Rattle.xinu_commands.specs.Stages.{Performs, Stage, no_fetches, refusal_of}
+use Rattle.run_inputs.specs.Fetching.{refusal_of}
+use Rattle.xinu_commands.specs.Stages.{Performs, Stage, no_fetches}
 use Rattle.xinu_commands.proofs.Staged.{fetched_performs, of_refused, unfetched_performs}
 use Rattle.xinu_commands.proofs.disk.repair_file.Goals as goal
 

@@ -2,9 +2,10 @@ use Rattle.std.proofs.Common.{◌≡◌, [], ◌∷◌, ℕ, List, Some, None, s
 use Rattle.host_port.specs.Outside.{naming}
 use Rattle.host_port.specs.declared.host.Channel.TheVariants.{Disk1}
 use Rattle.xinu_commands.specs.DiskVerdict.{set_verdict}
-use Rattle.xinu_commands.specs.Stages.{SendsOutput, Stage, no_fetches, refusal_of}
+use Rattle.run_inputs.specs.Fetching.{refusal_of}
+use Rattle.xinu_commands.specs.Stages.{SendsOutput, Stage, no_fetches}
 use Rattle.xinu_commands.specs.Work.{Refuses, Does, Outputs, output_of}
-use Rattle.xinu_commands.specs.declared.refusals.Refusal.TheVariants as refusal
+use Rattle.run_inputs.specs.declared.refusals.Refusal.TheVariants as refusal
 use Rattle.xinu_commands.proofs.DiskVerdicts.{set_made, set_unmade}
 use Rattle.xinu_commands.proofs.Staged.{memory_stage, of_refused, refused_last, sent_stage}
 use Rattle.xinu_commands.proofs.disk.set_file.Goals as goal

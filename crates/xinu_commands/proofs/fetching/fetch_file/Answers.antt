@@ -1,6 +1,7 @@
 use Rattle.std.proofs.Common.{ap, arith}
 use Rattle.std.specs.Prelude.{Err}
-use Rattle.xinu_commands.proofs.Fetched.{fetched, fetched_front, unfetched}
+use Rattle.run_inputs.proofs.FetchedFiles.{fetched_front}
+use Rattle.xinu_commands.proofs.Fetched.{fetched, unfetched}
 use Rattle.xinu_commands.proofs.fetching.fetch_file.Goals as goal
 
 pub returns-in-Ok : goal.returns-in-Ok

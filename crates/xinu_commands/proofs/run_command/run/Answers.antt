@@ -3,9 +3,10 @@ use Rattle.std.specs.Prelude.{Err, Ok}
 use Rattle.command_line.specs.Commands.{Run}
 use Rattle.command_line.specs.Names.{run_names}
 use Rattle.xinu_commands.specs.InputFiles.{run_inputs}
-use Rattle.xinu_commands.specs.Stages.{Performs, left_of, refusal_of}
-use Rattle.xinu_commands.specs.Reading.{ReadsInputs}
-use Rattle.xinu_commands.proofs.ImageFiles.{of_err}
+use Rattle.run_inputs.specs.Fetching.{refusal_of}
+use Rattle.xinu_commands.specs.Stages.{Performs, left_of}
+use Rattle.run_inputs.specs.Reading.{ReadsInputs}
+use Rattle.xinu_commands.proofs.Staged.{of_err}
 use Rattle.xinu_commands.proofs.WholeRuns.{run_performs, run_refused}
 use Rattle.xinu_commands.proofs.run_command.run.Goals as goal
 

@@ -1,15 +1,14 @@
 use Rattle.std.proofs.Common.{◌∙◌, ℕ, ap, map, sym, Some, List, Vec, Global}
 use Rattle.command_line.specs.Names.{disk_names, run_names}
-use Rattle.given_disks.specs.Disks.{disks_of}
 use Rattle.image_loader.specs.Images.{loaded_of}
 use Rattle.image_loader.specs.declared.images.Image.{Image}
 use Rattle.xinu_commands.specs.Calls.{run_outputs}
-use Rattle.xinu_commands.specs.InputFaults.{images_loaded}
-use Rattle.xinu_commands.specs.Reading.{left_verdict}
+use Rattle.run_inputs.specs.InputFaults.{images_loaded}
+use Rattle.xinu_commands.specs.InputVerdict.{left_verdict}
 use Rattle.xinu_commands.specs.RunVerdict.{run_verdict}
 use Rattle.xinu_commands.specs.Stages.{no_fetches}
 use Rattle.xinu_commands.specs.Verdict.{wanted_of}
-use Rattle.xinu_commands.proofs.ImageFiles.{images_carry}
+use Rattle.xinu_commands.proofs.InputsRead.{images_carry}
 use Rattle.xinu_commands.proofs.Staged.{memory_stage}
 use Rattle.xinu_commands.proofs.run_command.run_inputs.Goals as goal
 
@@ -19,7 +18,7 @@ returns-in-Ok g c =
     let names = run_names c.args.files.now in
     let files = ap (λ (vs : List (Vec ℕ Global)). images_loaded (map (λ v. v.items) vs)) (sym c.as_slice.ensures.value) in
     record {
-      stage = images_carry (map (λ v. v.items) x.images.items) (run_verdict (wanted_of names) x.schedule (disks_of x.disk0 x.disk1)) (map loaded_of c.as_slice-in-Ok.result.now) no_fetches (run_outputs names.disks) _ _ _ _ c.requires.good
+      stage = images_carry (run_verdict (wanted_of names)) x (map loaded_of c.as_slice-in-Ok.result.now) no_fetches (run_outputs names.disks) _ _ _ _
           (files ∙ c.in-Ok.ensures.loaded ∙ ap (λ (images : List Image). Some (map loaded_of images)) (sym c.as_slice-in-Ok.ensures.value)) c.run_images.ensures.stage;
     }
 

@@ -1,6 +1,6 @@
 use Rattle.std.proofs.Common.{◌∙◌, Some, ap, sym}
 use Rattle.std.specs.Prelude.{option_map}
-use Rattle.xinu_commands.specs.Conversions.{host_refusal}
+use Rattle.run_inputs.specs.Conversions.{host_refusal}
 use Rattle.xinu_commands.proofs.Printed.{all_printed}
 use Rattle.xinu_commands.proofs.RunSent.{transcript_sent}
 use Rattle.xinu_commands.proofs.runs.print_run.Goals as goal

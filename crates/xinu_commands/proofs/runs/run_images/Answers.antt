@@ -7,7 +7,7 @@ use Rattle.xinu_commands.specs.RunVerdict.{boot_verdict}
 use Rattle.xinu_commands.specs.Setups.{setup_of}
 use Rattle.xinu_commands.specs.Stages.{Stage, left_by, no_fetches}
 use Rattle.xinu_commands.proofs.Files.{boot_verdict_at}
-use Rattle.xinu_commands.proofs.ImageFiles.{of_err}
+use Rattle.xinu_commands.proofs.Staged.{of_err}
 use Rattle.xinu_commands.proofs.RunSent.{boot_refused, disks_ended, transcript_ended}
 use Rattle.xinu_commands.proofs.runs.run_images.Goals as goal
 

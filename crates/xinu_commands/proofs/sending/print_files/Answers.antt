@@ -1,7 +1,7 @@
 use Rattle.std.proofs.Common.{◌≡◌, ℕ, arith, refl, subst}
 use Rattle.host_port.specs.Printing.{Prints}
 use Rattle.xinu_commands.specs.DiskVerdict.{file_lines}
-use Rattle.xinu_commands.specs.Stages.{refusal_of}
+use Rattle.run_inputs.specs.Fetching.{refusal_of}
 use Rattle.xinu_commands.proofs.Carried.{fresh}
 use Rattle.xinu_commands.proofs.FileLines.{first_lines, last_lines, lines_to, more_lines}
 use Rattle.xinu_commands.proofs.Sent.{text_sent}

@@ -1,5 +1,6 @@
 use Rattle.command_line.specs.Names.{disk_names}
-use Rattle.xinu_commands.specs.Stages.{SendsDisks, left_by, refusal_of}
+use Rattle.run_inputs.specs.Fetching.{refusal_of}
+use Rattle.xinu_commands.specs.Stages.{SendsDisks, left_by}
 use Rattle.xinu_commands.proofs.RunSent.{both_disks_sent, raw_disk_sent}
 use Rattle.xinu_commands.proofs.Staged.{of_refused}
 use Rattle.xinu_commands.proofs.sending.send_disks.Goals as goal

@@ -3,7 +3,7 @@ use Rattle.std.specs.String.{string_bytes}
 use Rattle.command_line.specs.Commands.{Soak}
 use Rattle.xinu_commands.specs.Stages.{Performs, SendsOutput, left_by}
 use Rattle.xinu_commands.specs.Work.{output_of}
-use Rattle.xinu_commands.proofs.ImageFiles.{of_err}
+use Rattle.xinu_commands.proofs.Staged.{of_err}
 use Rattle.xinu_commands.proofs.SoakSent.{clean_ends, raw_ends, start_ends, test_ends}
 use Rattle.xinu_commands.proofs.soak_command.soak_machine.Goals as goal
 

@@ -1,0 +1,63 @@
+//! What a step changed: a register, and a word of RAM.
+
+use crate::sights::Sight;
+use machine::{KernelState, Machine};
+use rv_hart::Hart;
+use xinu_base::State;
+
+/// The first register that a step changed, with what it holds then; and if it was a store the address of its word, with that word then.
+#[derive(Clone, Copy)]
+pub(crate) struct Changes {
+    pub(crate) register: Option<(u32, u32)>,
+    pub(crate) stored: Option<(u32, u32)>,
+}
+
+/// What the step of a process changed, by what was seen ahead of it.
+pub(crate) fn changes_of(machine: &Machine, seen: &Sight) -> Changes {
+    changes_in(machine.state(), seen)
+}
+
+// What a step changed that led to a state. A step that ended its process changed none of its registers, and stored nothing.
+fn changes_in(k: &KernelState, seen: &Sight) -> Changes {
+    if matches!(k.tables.state_of(seen.process), State::Free) {
+        return Changes {
+            register: None,
+            stored: None,
+        };
+    }
+    let after = k.harts[seen.process.index()];
+    let stored = match seen.word {
+        Some(word) if word % 128 == 0x23 => {
+            let address = stored_at(word, &seen.hart);
+            k.ram.read32(address).map(|now| (address, now))
+        }
+        _ => None,
+    };
+    Changes {
+        register: changed(&seen.hart, &after),
+        stored,
+    }
+}
+
+// The first register that differs.
+fn changed(before: &Hart, after: &Hart) -> Option<(u32, u32)> {
+    for number in 1..32u32 {
+        let is = after.regs[number as usize];
+        if before.regs[number as usize] != is {
+            return Some((number, is));
+        }
+    }
+    None
+}
+
+// The address of the word in which a store stores.
+fn stored_at(word: u32, hart: &Hart) -> u32 {
+    let base = hart.regs[(word / 32_768 % 32) as usize];
+    let offset = word / 33_554_432 * 32 + word / 128 % 32;
+    let address = if offset >= 2048 {
+        base.wrapping_add(offset).wrapping_sub(4096)
+    } else {
+        base.wrapping_add(offset)
+    };
+    address - address % 4
+}

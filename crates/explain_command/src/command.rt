@@ -1,0 +1,79 @@
+//! The command: its arguments and files are read as `run` reads them, and the run is told.
+
+ghost use Rattle.std.specs.Prelude.{◌≡◌, ◌≤◌, false, length, map, IfOk};
+ghost use Rattle.run_inputs.specs.InputFaults.{have_fault};
+
+use crate::faults::meaning;
+use crate::running::tell;
+use crate::words::{Listed, words_of};
+use host_port::{Channel, Host};
+use machine::Machine;
+use run_inputs::{Inputs, Refusal, fetch_run, images_of, refuse};
+use schedule_file::Schedule;
+use std::alloc::Global;
+
+/// Tells the run that the arguments after the program's name ask for: sends the text on Out, and answers the exit status.
+///
+/// The status is 0 if it was sent. Else it is the status with which `run` refuses these arguments and files, and its text is sent on
+/// Fault, with a line after it that says it in words: 2 also for arguments that concern the output of a run, or events that can't be listed;
+/// 3 if the host failed; 7 if memory ran out.
+pub fn explain<H: Host>(alloc: Global, args: &[String], host: &mut H) -> u8 {
+    match carry_out(alloc, args, host) {
+        Ok(()) => 0,
+        Err(refusal) => {
+            let status = refuse(refusal, host);
+            if let Ok(words) = meaning(alloc, refusal) {
+                let _ = host.emit(Channel::Fault, words.as_bytes());
+            }
+            status
+        }
+    }
+}
+
+// Carries the command out.
+fn carry_out<H: Host>(alloc: Global, args: &[String], host: &mut H) -> Result<(), Refusal> {
+    let words = match words_of(alloc, args) {
+        Ok(Some(words)) => words,
+        Ok(None) => return Err(Refusal::Usage),
+        Err(_) => return Err(Refusal::NoMemory),
+    };
+    let inputs = fetch_run(alloc, words.run.as_slice(), host)?;
+    let text = told(alloc, inputs, words.listed)?;
+    Ok(host.emit(Channel::Out, text.as_bytes())?)
+}
+
+// The text that tells the run of these inputs.
+fn told(alloc: Global, inputs: Inputs, listed: Listed) -> Result<String, Refusal>
+    requires some { 1 ≤ length inputs.images.items }
+    requires few { length inputs.images.items ≤ 8 }
+    requires good { have_fault (map (λ v. v.items) inputs.images.items) ≡ false }
+    requires events { length inputs.schedule ≤ 1000000000 }
+{
+    let Inputs {
+        schedule,
+        disk0,
+        disk1,
+        images: files,
+    } = inputs;
+    let Ok(images) = images_of(alloc, files.as_slice()) else {
+        return Err(Refusal::NoMemory);
+    };
+    let mut machine = Machine::boot(alloc, images.as_slice(), disk0, disk1)?;
+    told_by(alloc, &mut machine, schedule, listed, files.as_slice())
+}
+
+// The text that tells the run of a machine that was just booted.
+fn told_by(
+    alloc: Global,
+    machine: &mut Machine,
+    schedule: Schedule,
+    listed: Listed,
+    files: &[Vec<u8>],
+) -> Result<String, Refusal>
+    requires over { machine.old.over ≡ false }
+    requires fresh { machine.old.events ≡ 0 }
+    requires events { length schedule ≤ 1000000000 }
+{
+    let mut schedule = schedule;
+    Ok(tell(alloc, machine, &mut schedule, listed, files)?)
+}

@@ -1,0 +1,26 @@
+//! The command of the program `explain`: a run is told in plain English.
+//!
+//! The arguments are those of `run` without what concerns its output, and `--steps A..B`, the events that are listed. What `run` refuses is refused with the same status and text, and
+//! another line says it in words. Else the run is taken through its events, and the text says how it ended, which traps there were and where,
+//! which processes are left and what they wait for, and what the console showed.
+//!
+//! | Call | What it does |
+//! |---|---|
+//! | [`explain`] | tells the run that the arguments ask for, or refuses as `run` does, and answers the exit status |
+//!
+//! What is told of a trap is that of the machine's state just ahead of the step that is trapped: `look` in `sights.rt`, and `register_line` in
+//! `specs/Sights.antt`.
+#![tactic(auto)]
+
+mod changes;
+mod command;
+mod faults;
+mod listing;
+mod places;
+mod running;
+mod sights;
+mod telling;
+mod traps;
+mod words;
+
+pub use command::explain;

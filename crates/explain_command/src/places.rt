@@ -1,0 +1,46 @@
+//! Places in functions.
+
+use elf_symbols::{Place, function_at};
+use std::alloc::{AllocError, Global};
+use std::str;
+
+/// Adds the function in which an address is, after some words, if it is in one of a file's functions.
+///
+/// # Errors
+/// Out of memory.
+pub(crate) fn add_function(
+    alloc: Global,
+    text: &mut String,
+    words: &str,
+    files: &[Vec<u8>],
+    address: u32,
+) -> Result<(), AllocError> {
+    if let Some(place) = nearest(files, address) {
+        let name = shown(place.name);
+        let line = format!(in alloc; "{words}{name}+{}", place.offset)?;
+        text.push_str(line.as_str())?;
+    }
+    Ok(())
+}
+
+// The function that begins nearest before an address, of all files.
+fn nearest(files: &[Vec<u8>], address: u32) -> Option<Place<'_>> {
+    let mut best: Option<Place<'_>> = None;
+    for file in files {
+        if let Some(place) = function_at(file.as_slice(), address) {
+            let is_nearer = match &best {
+                Some(other) => place.offset < other.offset,
+                None => true,
+            };
+            if is_nearer {
+                best = Some(place);
+            }
+        }
+    }
+    best
+}
+
+/// Bytes as a text.
+pub(crate) fn shown(bytes: &[u8]) -> &str {
+    str::from_utf8(bytes).unwrap_or("")
+}

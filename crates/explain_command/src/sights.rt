@@ -1,0 +1,87 @@
+//! What is seen of the current process ahead of a step: its registers, and the word that it is about to execute.
+
+ghost use Rattle.std.specs.Prelude.{◌≡◌, ◌+◌, ◌++◌, ◌<◌, ◌≤◌, Some, None, if◌then◌else◌, length};
+ghost use Rattle.explain_command.specs.Sights as specs;
+ghost use Rattle.xinu_model.specs.Machine.{current_hart};
+ghost use Rattle.xinu_model.specs.Memory.{may_access, number_at};
+ghost use Rattle.xinu_model.specs.Sound.State.{IsSound};
+
+use machine::{KernelState, Machine};
+use rv_disasm::{AsmLine, register_name};
+use rv_hart::Hart;
+use xinu_base::Pid;
+
+/// The current process, its registers, and the word at its pc, if RAM has one there.
+#[derive(Clone, Copy)]
+pub(crate) struct Sight {
+    pub(crate) process: Pid,
+    pub(crate) hart: Hart,
+    pub(crate) word: Option<u32>,
+    /// The lowest address of its stack, and the first one after it.
+    pub(crate) stack: (u32, u32),
+}
+
+/// What is seen of the current process.
+pub(crate) fn look(machine: &Machine) -> Sight
+    ensures process { result.process ≡ machine.now.state.tables.current }
+    ensures hart { result.hart ≡ current_hart machine.now.state }
+    ensures word { result.word ≡ (if may_access (current_hart machine.now.state).pc 4 then Some (number_at machine.now.state.memory (current_hart machine.now.state).pc 4) else None) }
+{
+    seen(machine.state())
+}
+
+// What is seen in a state.
+fn seen(k: &KernelState) -> Sight
+    requires sound { IsSound k.now.call.state }
+    ensures process { result.process ≡ k.now.call.state.tables.current }
+    ensures hart { result.hart ≡ current_hart k.now.call.state }
+    ensures word { result.word ≡ (if may_access (current_hart k.now.call.state).pc 4 then Some (number_at k.now.call.state.memory (current_hart k.now.call.state).pc 4) else None) }
+{
+    let process = k.tables.current();
+    let hart = k.harts[process.index()];
+    let word = k.ram.read32(hart.pc);
+    let (top, size) = k.tables.stack_of(process);
+    let end = top.saturating_add(4);
+    Sight {
+        process,
+        hart,
+        word,
+        stack: (end.saturating_sub(size), end),
+    }
+}
+
+/// A line with four registers, from this one on.
+pub(crate) fn register_line(hart: &Hart, first: usize) -> AsmLine
+    requires four { first + 4 ≤ 32 }
+    ensures line { result ≡ specs.register_line hart.now first }
+{
+    let mut line = AsmLine::new();
+    add_register(&mut line, hart, first);
+    add_register(&mut line, hart, first + 1);
+    add_register(&mut line, hart, first + 2);
+    add_register(&mut line, hart, first + 3);
+    line
+}
+
+// Adds the name of a register, and the word that it holds.
+fn add_register(line: &mut AsmLine, hart: &Hart, number: usize)
+    requires number { number < 32 }
+    requires fits { length line.old ≤ 60 }
+    ensures register { line.new ≡ line.old ++ specs.register_text hart.now number }
+    ensures size { length line.new ≤ length line.old + 14 }
+{
+    line.append(b" ");
+    line.append(register_name(number as u32).as_bytes());
+    line.append(b" ");
+    line.hex_word(hart.regs[number]);
+}
+
+/// A line with the address of an instruction.
+pub(crate) fn place_line(pc: u32) -> AsmLine
+    ensures line { result ≡ specs.place_line pc }
+{
+    let mut line = AsmLine::new();
+    line.append(b"pc 0x");
+    line.hex_word(pc);
+    line
+}

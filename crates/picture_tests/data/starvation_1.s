@@ -1,0 +1,2 @@
+.priority 30
+end: j end

@@ -1,0 +1,3 @@
+.place 4096
+.priority 20
+    sys exit

@@ -1,0 +1,12 @@
+pub mod DueFiles
+pub mod FetchedFiles
+pub mod GoodImages
+pub mod ImageFiles
+pub mod InputFaults
+pub mod InputsRead
+pub mod JudgedFiles
+pub mod LongDisks
+pub mod ReadDisks
+pub mod ReadSchedules
+pub mod RunCounts
+pub mod RunWords

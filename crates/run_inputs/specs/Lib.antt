@@ -1,0 +1,10 @@
+pub mod Conversions
+pub mod Fetching
+pub mod InputDisks
+pub mod InputFaults
+pub mod InputFiles
+pub mod InputNames
+pub mod Judging
+pub mod Reading
+pub mod Refusals
+pub mod Words

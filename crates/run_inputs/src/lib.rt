@@ -1,0 +1,24 @@
+//! The inputs of a run: a schedule, two disks and images. They are fetched over any host and judged, and refused for the first fault.
+//!
+//! [`fetch_inputs`] fetches the files in order, and judges each before the next is fetched. What the inputs are judged to be is a definition
+//! over their bytes (`judged` in `specs/Judging.antt`): accepted, as events, disks and images, or refused for a cause.
+//!
+//! | Call | Promise |
+//! |---|---|
+//! | [`fetch_inputs`] | `reads`: the answer is what the bytes of the files are judged to be, and exactly the files up to the one that is refused were fetched; `HostFault` comes only if the host's count of faults rose, and `NoMemory` is free |
+//! | [`fetch_run`] | `reads`: the same of the files that the words of a run name; they are refused, and nothing is fetched, if they name no run or ask something of its output |
+//! | [`images_of`] | `loaded`: the images that the files load |
+//! | [`raw_disk`], [`clean_disk`] | `ok`, `refused`: a disk of these bytes, or the one of a run that names none |
+//! | [`refuse`] | the status and the text of a refusal |
+#![tactic(auto)]
+
+mod fetching;
+mod input_disks;
+mod inputs;
+mod refusals;
+mod words;
+
+pub use input_disks::{clean_disk, raw_disk};
+pub use inputs::{InputFiles, Inputs, fetch_inputs, images_of};
+pub use refusals::{Refusal, refuse};
+pub use words::fetch_run;

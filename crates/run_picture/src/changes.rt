@@ -1,0 +1,127 @@
+//! What each process does: the bands of its row, and what made it ready.
+
+use crate::bands::Band;
+use crate::labels::{Lane, Link, Mark};
+use crate::recording::Recording;
+use crate::rows::Row;
+use printed_runs::{ABSENT, Doing, Shown, made_as};
+use std::alloc::AllocError;
+use xinu_base::State;
+
+impl Recording {
+    /// Notes what each process does now, and that the event is of this lane, unless this is the start.
+    ///
+    /// # Errors
+    /// Out of memory.
+    pub(crate) fn change(
+        &mut self,
+        shown: &Shown,
+        tables: &str,
+        source: Option<Lane>,
+    ) -> Result<(), AllocError> {
+        for (p, now) in shown.doings.iter().enumerate() {
+            self.change_one(p, *now, tables, source)?;
+        }
+        self.tables = String::from_str(self.alloc, tables)?;
+        Ok(())
+    }
+
+    // Notes what the process of a number does now.
+    fn change_one(
+        &mut self,
+        p: usize,
+        now: Doing,
+        tables: &str,
+        source: Option<Lane>,
+    ) -> Result<(), AllocError> {
+        let was = self.shown.get(p).copied().unwrap_or(ABSENT);
+        if was == now {
+            return Ok(());
+        }
+        if was.lives() {
+            self.end_band(p);
+        } else {
+            self.add_row(p, tables)?;
+        }
+        if now.lives() {
+            self.add_band(p, now)?;
+        } else {
+            self.end_row(p)?;
+        }
+        if let Some(lane) = source {
+            self.add_link(p, was, now, lane)?;
+        }
+        if let Some(place) = self.shown.get_mut(p) {
+            *place = now;
+        }
+        Ok(())
+    }
+
+    // The row of the process of a number.
+    fn row(&self, p: usize) -> usize {
+        self.row_of.get(p).copied().unwrap_or(0)
+    }
+
+    // Adds a row for the new process of a number.
+    fn add_row(&mut self, p: usize, tables: &str) -> Result<(), AllocError> {
+        let made = made_as(self.alloc, tables, u32::try_from(p).unwrap_or(0))?;
+        if let Some(place) = self.row_of.get_mut(p) {
+            *place = self.rows.len();
+        }
+        let first = self.column();
+        self.rows.push(Row {
+            number: p,
+            name: made.name,
+            priority: made.priority,
+            first,
+            last: usize::MAX,
+        })?;
+        Ok(())
+    }
+
+    // Ends the row of a process that died.
+    fn end_row(&mut self, p: usize) -> Result<(), AllocError> {
+        let column = self.column();
+        let row = self.row(p);
+        if let Some(place) = self.rows.get_mut(row) {
+            place.last = column;
+        }
+        self.add_label(Lane::Process(row), Mark::Death, String::new(self.alloc))
+    }
+
+    // Begins a band.
+    fn add_band(&mut self, p: usize, doing: Doing) -> Result<(), AllocError> {
+        if let Some(place) = self.band_of.get_mut(p) {
+            *place = self.bands.len();
+        }
+        let band = Band {
+            row: self.row(p),
+            from: self.column(),
+            to: usize::MAX,
+            doing,
+            is_idle: p == 0 && matches!(doing.state, State::Current),
+            taker: self.reader.taker(doing),
+        };
+        self.bands.push(band)?;
+        Ok(())
+    }
+
+    // Ends the last band of a process.
+    fn end_band(&mut self, p: usize) {
+        let column = self.column();
+        let band = self.band_of.get(p).copied().unwrap_or(0);
+        if let Some(place) = self.bands.get_mut(band) {
+            place.to = column;
+        }
+    }
+
+    // Links the event to a process that it made ready.
+    fn add_link(&mut self, p: usize, was: Doing, now: Doing, from: Lane) -> Result<(), AllocError> {
+        let row = self.row(p);
+        if was.lives() && !was.is_ready() && now.is_ready() && from != Lane::Process(row) {
+            let column = self.column();
+            self.links.push(Link { column, from, row })?;
+        }
+        Ok(())
+    }
+}

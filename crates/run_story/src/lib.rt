@@ -1,0 +1,24 @@
+//! A run told in plain English: how it ended, who is left and waits for what, and what the console showed.
+//!
+//! A [`Story`] is told each event with the lines that the machine printed for it and the tables after it. [`Story::told`] writes the text.
+//!
+//! | Call | What it does |
+//! |---|---|
+//! | [`Story::begin`] | the run starts with these tables |
+//! | [`Story::event`] | an event that printed something, or may have changed what a process does |
+//! | [`Story::quiet`] | events that did neither |
+//! | [`Story::detail`] | more is known of the last trap |
+//! | [`Story::told`] | the text, once the run has ended |
+//!
+//! No call has a contract: each is safe and returns, and refuses only if memory runs out. What is told is tested.
+#![tactic(auto)]
+
+mod circles;
+mod console;
+mod endings;
+mod left;
+mod lives;
+mod story;
+mod traps;
+
+pub use story::Story;

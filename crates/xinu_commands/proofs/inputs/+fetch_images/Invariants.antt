@@ -1,6 +1,0 @@
--- The names that are left.
-use Rattle.std.proofs.Common.{length}
-use Rattle.xinu_commands.proofs.inputs.+fetch_images.Given as goal
-
-abbrev pub decreases-fetch_images : goal.decreases-fetch_images
-decreases-fetch_images g l = length l.names.now
