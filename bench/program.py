@@ -79,12 +79,28 @@ def crates_below(name):
     return found
 
 
-def is_missing(name):
-    """Whether a program isn't there, or one of its sources is newer."""
-    if not os.path.exists(place(name)):
+def is_older(path, name):
+    """Whether a file isn't there, or is older than one of the sources of a crate."""
+    if not os.path.exists(path):
         return True
     sources = [path for at in crates_below(name) for path in glob.glob(os.path.join(crate(at), "src", "**", "*.rt"), recursive=True)]
-    return max(map(os.path.getmtime, sources)) > os.path.getmtime(place(name))
+    return max(map(os.path.getmtime, sources)) > os.path.getmtime(path)
+
+
+def is_missing(name):
+    """Whether a program isn't there, or one of its sources is newer."""
+    return is_older(place(name), name)
+
+
+@functools.lru_cache(maxsize=None)
+def archive(name):
+    """The path of a static library, which is proved and built if it is missing."""
+    path = os.path.join(crate(name), "out", f"lib{name}.a")
+    if is_older(path, name):
+        print(f"{name}: rt lib", file=sys.stderr, flush=True)
+        if subprocess.run(["rt", "lib"], cwd=crate(name), stdout=subprocess.DEVNULL, stderr=subprocess.DEVNULL, check=False).returncode:
+            sys.exit(f"{name} wasn't built")
+    return path
 
 
 @functools.lru_cache(maxsize=None)
