@@ -5,9 +5,8 @@ ghost use Rattle.lfs_check.specs.Disks.{block_put};
 ghost use Rattle.local_files.specs.Standing.{Stands, GoesTo, wanted, call_bytes};
 ghost use Rattle.file_trials.specs.Honest.{IsWithin};
 
-use crate::names::is_call;
 use lfs_check::block_at;
-use local_files::{BlockWork, FileCall, FileDev, Files, Phase};
+use local_files::{BlockWork, FileCall, FileDev, Files, Phase, is_call};
 
 /// A file engine and the bytes of its disk.
 #[derive(Drop)]

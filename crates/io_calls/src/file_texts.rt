@@ -3,14 +3,11 @@
 ghost use Rattle.std.specs.List.{list_all};
 ghost use Rattle.std.specs.Prelude.{◌≡◌, ◌&&◌, IfSome, length, option_map, true};
 ghost use Rattle.file_server.specs.Requests.{call_with};
-ghost use Rattle.lfs_check.specs.Rules.{is_name};
-ghost use Rattle.lfs_layout.specs.Files.{bare_name, is_text};
 ghost use Rattle.local_files.specs.Hands.{IsCall};
 ghost use Rattle.xinu_model.specs.Files.Issue as model;
 ghost use Rattle.xinu_model.specs.Files.Modes as modes;
 
-use lfs_layout::is_file_name;
-use local_files::FileCall;
+use local_files::{FileCall, file_name};
 use xinu_base::OpenMode;
 
 // The letters of a mode: read, write, only an old file, only a new one.
@@ -30,11 +27,9 @@ pub(crate) fn open_call(name: &[u8], mode: &[u8]) -> Option<FileCall>
     ensures call { option_map (λ call. call_with call 0) result ≡ model.open_call name.now mode.now }
     ensures can { IfSome result (λ call. IsCall call) }
 {
-    if !is_file_name(name) {
-        return None;
-    }
+    let name = file_name(name)?;
     let mode = mode_of(mode)?;
-    Some(FileCall::Open(padded(name), mode))
+    Some(FileCall::Open(name, mode))
 }
 
 /// The call that `control` of the file system makes. `None` if and only if there is no such function, or the text isn't a file's name.
@@ -42,22 +37,11 @@ pub(crate) fn system_control_call(f: u32, name: &[u8]) -> Option<FileCall>
     ensures call { option_map (λ call. call_with call 0) result ≡ model.system_control_call f name.now }
     ensures can { IfSome result (λ call. IsCall call) }
 {
-    if f != LF_CTL_DEL || !is_file_name(name) {
+    if f != LF_CTL_DEL {
         return None;
     }
-    Some(FileCall::Delete(padded(name)))
-}
-
-// A name with zeros up to 28 bytes.
-fn padded(name: &[u8]) -> [u8; 28]
-    requires name { is_text name.now ≡ true }
-    ensures bare { bare_name result ≡ name.now }
-    ensures name { is_name 27 result ≡ true }
-    ensures len { length result ≡ 28 }
-{
-    let mut padded = [0; 28];
-    padded[..name.len()].copy_from_slice(name);
-    padded
+    let name = file_name(name)?;
+    Some(FileCall::Delete(name))
 }
 
 // The mode that a text says. `None` if and only if a byte is none of the four letters or comes twice, or it has both `o` and `n`.

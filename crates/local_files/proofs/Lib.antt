@@ -26,3 +26,4 @@ pub mod Bounds
 pub mod AtRest
 pub mod OneBlock
 pub mod Refused
+pub mod NamedFiles

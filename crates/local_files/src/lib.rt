@@ -11,6 +11,8 @@
 //! | `completed` | `wants`: a block is | `goes`: the call goes on, and the files stand as before it, or it is done as the abstract machine's call is, with its reply, its bytes and its files; `less`: fewer completions are left |
 //! | `answer`, `gathered` | | the reply of a call that is done, after which none is in hand; the bytes that it read |
 //! | `position`, `open_count` | | what is open |
+//! | [`file_name`] | | a text as a call names a file: `bare`, `name`; `none`: no file has such a name |
+//! | [`is_call`] | | whether a call can be made, as `begin` requires it: `can`, `only` |
 //! | `holds_files_at_rest` | | a law: at each moment the disk holds the files that are neither open nor named by the call in hand |
 //! | `wants_a_block_of_the_disk`, `changes_one_block` | | laws: the block that is wanted lies on the disk, and a completion changes at most one |
 //! | `leaves_the_disk_if_refused` | | a law: a call that will be refused leaves the disk as it was when the call began, before each completion and after it |
@@ -60,6 +62,7 @@ mod engine;
 mod growing;
 mod laws;
 mod looking;
+mod names;
 mod opening;
 mod reading;
 mod search;
@@ -69,6 +72,7 @@ mod writing;
 pub use buffer::Buffer;
 use lfs_check::Header;
 use lfs_format::{Entry, Index};
+pub use names::{file_name, is_call};
 use xinu_base::{Below, OpenMode};
 
 /// The number of a file device, from 0 to 5.
