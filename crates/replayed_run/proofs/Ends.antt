@@ -1,0 +1,41 @@
+-- Which event comes next, and whether one does.
+use Rattle.std.proofs.Common.{◌≡◌, ◌≢◌, ◌∙◌, ◌≤◌, ◌==◌, ◌||◌, ℕ, zero, suc, Bool, true, false, List, [], ◌∷◌, length, drop, Option, Some, None, refl, sym, ap, arith, ne_eqb}
+use Rattle.std.proofs.lemmas.Option.{slice_get_within}
+use Rattle.std.specs.Prelude.{MatchOption, slice_get}
+
+-- a number is itself
+eqb-same : (m n : ℕ) → m ≤ n → n ≤ m → (m == n) ≡ true
+eqb-same m n low high = grind arith
+
+-- a disjunction
+either-right : (a b : Bool) → b ≡ true → (a || b) ≡ true
+either-right true b is = refl
+either-right false b is = is
+
+-- the first element after some
+get-dropped : {X : Type 0} (n : ℕ) (xs : List X) → slice_get (drop n xs) 0 ≡ slice_get xs n
+get-dropped zero [] = refl
+get-dropped zero (x ∷ xs) = refl
+get-dropped (suc n) [] = refl
+get-dropped (suc n) (x ∷ xs) = get-dropped n xs
+
+-- no element is there
+past-end : {X : Type 0} (xs : List X) (n : ℕ) → slice_get xs n ≡ None → length xs ≤ n
+past-end [] n none = omega arith
+past-end (x ∷ xs) zero none = absurd (cc)
+past-end (x ∷ xs) (suc n) none = let more = past-end xs n none in omega (arith, more)
+
+-- the element after those that were taken, if there is one
+pub next-of : {X : Type 0} (over : Bool) (xs left : List X) (n : ℕ) (result : Option X) → n ≤ length xs → left ≡ drop n xs
+    → result ≡ slice_get left 0 → MatchOption result ((over || (n == length xs)) ≡ true) (λ x. slice_get xs n ≡ Some x)
+next-of {X = X} over xs left n None within is next =
+    let none : slice_get xs n ≡ None = sym (next ∙ ap (λ (l : List X). slice_get l 0) is ∙ get-dropped n xs) in
+    either-right over (n == length xs) (eqb-same n (length xs) within (past-end xs n none))
+next-of {X = X} over xs left n (Some x) within is next = sym (next ∙ ap (λ (l : List X). slice_get l 0) is ∙ get-dropped n xs)
+
+-- an element comes next
+pub comes-next : {X : Type 0} (over : Bool) (xs : List X) (n : ℕ) (x : X) → over ≡ false → slice_get xs n ≡ Some x → (over || (n == length xs)) ≡ false
+comes-next over xs n x goes is =
+    let within = slice_get_within xs n x is in
+    let few : n ≢ length xs = λ same. absurd (omega (arith, within, same)) in
+    ap (λ (b : Bool). b || (n == length xs)) goes ∙ ne_eqb n (length xs) few

@@ -1,0 +1,4 @@
+pub mod Progress
+pub mod Replayed
+pub mod Replays
+pub mod Starts

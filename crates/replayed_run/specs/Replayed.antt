@@ -1,0 +1,40 @@
+-- What a run that can be had again shows of itself, and that there is such a run.
+use Rattle.std.specs.Prelude.{◌≡◌, ℕ, Bool, false, List, take, length, ◌==◌, ◌||◌}
+use Rattle.replayed_run.specs.Starts.{StartsIn}
+use Rattle.xinu_base.specs.declared.events.Event.{Event}
+use Rattle.xinu_base.specs.declared.events.End.{End}
+use Rattle.xinu_base.specs.declared.events.End.TheVariants.{Schedule}
+use Rattle.xinu_base.specs.declared.lines.TranscriptLine.{TranscriptLine}
+use Rattle.xinu_model.specs.Boot.{Disks}
+use Rattle.xinu_model.specs.Machine.{Xinu}
+use Rattle.xinu_model.specs.Runs.{RunsTo}
+use Rattle.xinu_model.specs.Sound.State.{IsSound}
+
+-- the inputs of a run, how many of its events were taken, the state after them, and whether one of them ended the run
+pub record Replayed : Type 0 where
+  pub disks : Disks
+  pub files : List (List ℕ)
+  pub events : List Event
+  pub taken : ℕ
+  pub state : Xinu
+  pub over : Bool
+
+-- From a sound state in which the images boot on the disks, a run of the first events, as many as were taken, leads to the state.
+pub record IsReplayed (r : Replayed) : Type 0 where
+  pub start : Xinu
+  pub starts : StartsIn r.disks r.files start
+  pub sound : IsSound start
+  pub lines : List TranscriptLine
+  pub end : End
+  pub runs : RunsTo start (take r.taken r.events) lines r.state end
+  pub goes_on : r.over ≡ false → end ≡ Schedule
+
+-- These are the inputs of a run.
+pub record HasInputs (disks : Disks) (files : List (List ℕ)) (events : List Event) (r : Replayed) : Type 0 where
+  pub same_disks : r.disks ≡ disks
+  pub same_files : r.files ≡ files
+  pub same_events : r.events ≡ events
+
+-- no event comes next: one ended the run, or all were taken
+abbrev pub is_at_end : Replayed → Bool
+is_at_end r = r.over || (r.taken == length r.events)

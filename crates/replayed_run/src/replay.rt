@@ -1,0 +1,257 @@
+//! A run that can be had again.
+
+ghost use Rattle.std.specs.Prelude.{◌≡◌, ◌+◌, ◌≤◌, ◌<◌, ◌==◌, ◌||◌, IfOk, IfErr, IfSome, MatchOption, None, OnErr, OnOk, Some, false, true, is_some, length, map, not, slice_get};
+ghost use Rattle.given_disks.specs.Disks.{disks_of};
+ghost use Rattle.machine.specs.RunEnds.{end_of_go};
+ghost use Rattle.replayed_run.specs.Progress.{EndsWith, TakesEvent, TakesSteps};
+ghost use Rattle.replayed_run.specs.Replayed as replayed;
+ghost use Rattle.replayed_run.specs.Replayed.{HasInputs, IsReplayed};
+ghost use Rattle.replayed_run.specs.Starts.{IsBooted, IsRefused};
+ghost use Rattle.run_inputs.specs.InputFaults.{have_fault};
+ghost use Rattle.xinu_model.specs.Sound.State.{IsSound};
+
+use crate::booting::boot;
+use machine::{BootFault, Go, KernelState, Machine};
+use printed_events::{Printed, Taken, take_event};
+use run_inputs::Inputs;
+use schedule_file::Schedule;
+use std::alloc::Global;
+use std::marker::Model;
+use xinu_base::{Event, NoMemory};
+
+/// A run after some of its events. A clause sees its inputs, how many events were taken, the state, and whether one of them ended the run.
+#[derive(Drop)]
+pub struct Replay {
+    alloc: Global,
+    inputs: Inputs,
+    machine: Machine,
+    // The events that are left.
+    left: Schedule,
+    // How many were taken.
+    taken: u32,
+    // Whether one of them ended the run.
+    has_ended: bool,
+}
+
+impl Model for Replay {
+    ghost use Rattle.replayed_run.specs.Replayed.{Replayed};
+
+    ghost Value = { Replayed };
+
+    ghost use Rattle.replayed_run.specs.Replays.{replayed_of, IsReplay};
+
+    ghost view = { replayed_of };
+
+    ghost invariant = { IsReplay };
+}
+
+impl Replay {
+    /// The run before its first event. There are one to eight images, each of which loads, and at most 10^9 events.
+    ///
+    /// # Errors
+    /// `Overlap` and `NoRoom` as [`Machine::boot`] says; `NoMemory`.
+    pub fn new(alloc: Global, inputs: Inputs) -> Result<Replay, BootFault>
+        requires some { 1 ≤ length inputs.images.items }
+        requires few { length inputs.images.items ≤ 8 }
+        requires good { have_fault (map (λ v. v.items) inputs.images.items) ≡ false }
+        requires events { length inputs.schedule ≤ 1000000000 }
+        ensures inputs { IfOk result (λ r. HasInputs (disks_of inputs.disk0 inputs.disk1) (map (λ v. v.items) inputs.images.items) inputs.schedule r) }
+        ensures none { IfOk result (λ r. r.taken ≡ 0) }
+        ensures goes_on { IfOk result (λ r. r.over ≡ false) }
+        ensures refused { IfErr result (λ f. IsRefused (disks_of inputs.disk0 inputs.disk1) (map (λ v. v.items) inputs.images.items) f) }
+    {
+        let machine = boot(alloc, &inputs)?;
+        let Ok(left) = inputs.schedule.copy(alloc) else {
+            return Err(BootFault::NoMemory);
+        };
+        Ok(Replay {
+            alloc,
+            inputs,
+            machine,
+            left,
+            taken: 0,
+            has_ended: false,
+        })
+    }
+
+    /// A law: the images boot on the disks, and from there a run of as many events as were taken leads to the state.
+    pub fn runs(&self)
+        ensures runs { IsReplayed self.now }
+    {
+        let _taken = self.taken;
+    }
+
+    /// How many events were taken.
+    pub fn taken(&self) -> u32
+        ensures taken { result ≡ self.now.taken }
+        ensures within { result ≤ length self.now.events }
+    {
+        self.taken
+    }
+
+    /// The event that comes next; `None` if and only if one ended the run, or all were taken.
+    pub fn next(&self) -> Option<Event>
+        ensures next { MatchOption result (replayed.is_at_end self.now ≡ true) (λ event. slice_get self.now.events self.now.taken ≡ Some event) }
+        ensures goes_on { IfSome result (λ _. self.now.over ≡ false) }
+    {
+        if self.has_ended {
+            return None;
+        }
+        self.left.peek()
+    }
+
+    /// Whether no event comes next: one ended the run, or all were taken.
+    pub fn is_at_end(&self) -> bool
+        ensures end { result ≡ replayed.is_at_end self.now }
+    {
+        self.next().is_none()
+    }
+
+    /// The state, to be read part by part.
+    pub fn state(&self) -> &KernelState
+        ensures state { result.now.call.state ≡ self.now.state }
+        ensures sound { IsSound self.now.state }
+    {
+        self.machine.state()
+    }
+
+    /// Takes the next event; nothing changes if none is left.
+    ///
+    /// # Errors
+    /// `NoMemory`, for the lines. The event happened.
+    pub fn take(&mut self) -> Result<Option<Taken>, NoMemory>
+        ensures takes { IfOk result (λ t. MatchOption t (self.new ≡ self.old) (λ t. TakesEvent self.old self.new (Some t.printed))) }
+        ensures ends { IfOk result (λ t. IfSome t (λ t. EndsWith self.old self.new (end_of_go t.go))) }
+        ensures left { IfOk result (λ t. is_some t ≡ not (replayed.is_at_end self.old)) }
+        ensures happened { OnErr result (TakesEvent self.old self.new None) }
+    {
+        let Some(event) = self.next() else {
+            return Ok(None);
+        };
+        let (go, printed) = self.happen(event);
+        match printed {
+            Some(printed) => Ok(Some(Taken { printed, go })),
+            None => Err(NoMemory),
+        }
+    }
+
+    /// Takes the steps that come next and print nothing, at most so many, and answers how many.
+    pub fn take_steps(&mut self, most: u32) -> u32
+        ensures steps { TakesSteps result self.old self.new }
+        ensures most { result ≤ most }
+    {
+        if self.has_ended {
+            return 0;
+        }
+        let count = self.machine.steps(most.min(self.left.steps_ahead()));
+        self.left.skip(count);
+        self.taken += count;
+        count
+    }
+
+    /// Goes to where so many events were taken, forward or back; to the run's end, if it has fewer.
+    ///
+    /// # Errors
+    /// `NoMemory`, and the run is where it was, at its beginning, or on the way.
+    pub fn seek(&mut self, count: u32) -> Result<(), NoMemory>
+        ensures reached { OnOk result ((self.new.taken == count || replayed.is_at_end self.new) ≡ true) }
+        ensures within { OnOk result (self.new.taken ≤ count) }
+        ensures inputs { HasInputs self.old.disks self.old.files self.old.events self.new }
+    {
+        if count < self.taken() {
+            self.rewind()?;
+        }
+        self.advance_to(count)
+    }
+
+    // Goes forward to where so many events were taken, or to the run's end.
+    fn advance_to(&mut self, count: u32) -> Result<(), NoMemory>
+        requires ahead { self.old.taken ≤ count }
+        ensures reached { OnOk result ((self.new.taken == count || replayed.is_at_end self.new) ≡ true) }
+        ensures within { OnOk result (self.new.taken ≤ count) }
+        ensures inputs { HasInputs self.old.disks self.old.files self.old.events self.new }
+    {
+        while self.taken() < count {
+            if self.is_at_end() {
+                return Ok(());
+            }
+            self.advance(count - self.taken())?;
+        }
+        Ok(())
+    }
+
+    // Goes on by at least one event, and at most so many.
+    fn advance(&mut self, most: u32) -> Result<(), NoMemory>
+        requires some { 1 ≤ most }
+        requires goes_on { replayed.is_at_end self.old ≡ false }
+        ensures further { OnOk result (self.old.taken < self.new.taken) }
+        ensures within { OnOk result (self.new.taken ≤ self.old.taken + most) }
+        ensures inputs { HasInputs self.old.disks self.old.files self.old.events self.new }
+    {
+        if self.take_steps(most) < most {
+            self.take()?;
+        }
+        Ok(())
+    }
+
+    // The event that comes next happens. What it means for the run, and what it printed unless memory ran out for that.
+    fn happen(&mut self, event: Event) -> (Go, Option<Printed>)
+        requires next { slice_get self.old.events self.old.taken ≡ Some event }
+        requires goes_on { self.old.over ≡ false }
+        ensures takes { TakesEvent self.old self.new result.1 }
+        ensures ends { EndsWith self.old self.new (end_of_go result.0) }
+    {
+        let (go, printed) = take_event(self.alloc, &mut self.machine, event);
+        self.left.skip(1);
+        self.taken += 1;
+        self.has_ended = is_end(go);
+        (go, printed)
+    }
+
+    // Goes to where no event was taken.
+    fn rewind(&mut self) -> Result<(), NoMemory>
+        ensures none { OnOk result (self.new.taken ≡ 0) }
+        ensures inputs { HasInputs self.old.disks self.old.files self.old.events self.new }
+    {
+        let machine = self.booted()?;
+        let Ok(left) = self.inputs.schedule.copy(self.alloc) else {
+            return Err(NoMemory);
+        };
+        self.restart(machine, left);
+        Ok(())
+    }
+
+    // The machine before the first event, booted anew.
+    fn booted(&self) -> Result<Machine, NoMemory>
+        ensures booted { IfOk result (λ m. IsBooted self.now.disks self.now.files m) }
+    {
+        match boot(self.alloc, &self.inputs) {
+            Ok(machine) => Ok(machine),
+            Err(BootFault::NoMemory) => Err(NoMemory),
+            Err(BootFault::Overlap(_)) => unreachable!(),
+            Err(BootFault::NoRoom(_)) => unreachable!(),
+        }
+    }
+
+    // The run before its first event, with a machine that was booted anew.
+    fn restart(&mut self, machine: Machine, left: Schedule)
+        requires booted { IsBooted self.old.disks self.old.files machine }
+        requires all { left ≡ self.old.events }
+        ensures starts { self.new ≡ record self.old { taken = 0; state = machine.state; over = false } }
+    {
+        self.machine = machine;
+        self.left = left;
+        self.taken = 0;
+        self.has_ended = false;
+    }
+}
+
+// Whether a run ended.
+fn is_end(go: Go) -> bool
+    ensures end { result ≡ is_some (end_of_go go) }
+{
+    match go {
+        Go::Goes => false,
+        Go::Done | Go::Panic => true,
+    }
+}
