@@ -1,0 +1,6 @@
+pub mod Answers
+pub mod Descriptions
+pub mod Registers
+pub mod Stops
+pub mod Threads
+pub mod Waiting
