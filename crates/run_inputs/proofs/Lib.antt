@@ -1,3 +1,4 @@
+pub mod Digits
 pub mod DueFiles
 pub mod FetchedFiles
 pub mod GoodImages

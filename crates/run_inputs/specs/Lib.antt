@@ -5,6 +5,8 @@ pub mod InputFaults
 pub mod InputFiles
 pub mod InputNames
 pub mod Judging
+pub mod Numbers
 pub mod Reading
 pub mod Refusals
+pub mod Starts
 pub mod Words

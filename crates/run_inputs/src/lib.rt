@@ -7,18 +7,24 @@
 //! |---|---|
 //! | [`fetch_inputs`] | `reads`: the answer is what the bytes of the files are judged to be, and exactly the files up to the one that is refused were fetched; `HostFault` comes only if the host's count of faults rose, and `NoMemory` is free |
 //! | [`fetch_run`] | `reads`: the same of the files that the words of a run name; they are refused, and nothing is fetched, if they name no run or ask something of its output |
+//! | [`Inputs::boot`] | `starts`: the machine stands for the state in which the images boot on the disks, or `Overlap` or `NoRoom` exactly as `boot_on` says; `apart`, `sound`, `image`: as [`machine::Machine::boot`] says; `fresh`, `goes_on`: it took no event |
 //! | [`images_of`] | `loaded`: the images that the files load |
 //! | [`raw_disk`], [`clean_disk`] | `ok`, `refused`: a disk of these bytes, or the one of a run that names none |
+//! | [`number`] | `number`: the number that 1 to 10 decimal digits give, if it is from 1 to a bound |
 //! | [`refuse`] | the status and the text of a refusal |
 #![tactic(auto)]
 
+mod booting;
+mod copies;
 mod fetching;
 mod input_disks;
 mod inputs;
+mod numbers;
 mod refusals;
 mod words;
 
 pub use input_disks::{clean_disk, raw_disk};
 pub use inputs::{InputFiles, Inputs, fetch_inputs, images_of};
+pub use numbers::{MOST_EVENTS, number};
 pub use refusals::{Refusal, refuse};
 pub use words::fetch_run;
