@@ -6,10 +6,9 @@ ghost use Rattle.run_inputs.specs.InputFaults.{have_fault};
 use crate::parts::Drawing;
 use crate::words::Part;
 use host_port::HostFault;
-use lfs_layout::{CleanImage, RawImage};
 use machine::{Go, Machine};
 use printed_events::{start, tables, take};
-use run_inputs::{Inputs, Refusal, images_of};
+use run_inputs::{Inputs, Refusal};
 use run_picture::Ending;
 use schedule_file::Schedule;
 use std::alloc::Global;
@@ -29,38 +28,10 @@ pub(crate) fn picture_of(
     requires good { have_fault (map (λ v. v.items) inputs.images.items) ≡ false }
     requires events { length inputs.schedule ≤ 1000000000 }
 {
-    let Inputs {
-        schedule,
-        disk0,
-        disk1,
-        images,
-    } = inputs;
-    let mut machine = machine_of(alloc, images.as_slice(), disk0, disk1)?;
-    let mut schedule = schedule;
+    let mut machine = inputs.boot(alloc)?;
+    let mut schedule = inputs.schedule;
     match draw(alloc, &mut machine, &mut schedule, part, title) {
         Ok(picture) => Ok(picture),
-        Err(fault) => Err(Refusal::from(fault)),
-    }
-}
-
-// The machine that is booted on these disks with the images in files.
-fn machine_of(
-    alloc: Global,
-    files: &[Vec<u8>],
-    disk0: RawImage,
-    disk1: CleanImage,
-) -> Result<Machine, Refusal>
-    requires some { 1 ≤ length files.now }
-    requires few { length files.now ≤ 8 }
-    requires good { have_fault (map (λ v. v.items) files.now) ≡ false }
-    ensures running { IfOk result (λ m. m.over ≡ false) }
-    ensures fresh { IfOk result (λ m. m.events ≡ 0) }
-{
-    let Ok(images) = images_of(alloc, files) else {
-        return Err(Refusal::NoMemory);
-    };
-    match Machine::boot(alloc, images.as_slice(), disk0, disk1) {
-        Ok(machine) => Ok(machine),
         Err(fault) => Err(Refusal::from(fault)),
     }
 }

@@ -1,11 +1,10 @@
 //! The arguments of the command: those of the run, which part of it is drawn, and the picture's title.
 
+use run_inputs::{MOST_EVENTS, number};
 use std::alloc::{AllocError, Global};
 
 /// The most events that are drawn.
 const MOST_DRAWN: u64 = 2000;
-/// The most events of a run.
-const MOST_EVENTS: u64 = 1_000_000_000;
 /// The most bytes of a title.
 const LONGEST_TITLE: usize = 90;
 
@@ -136,15 +135,4 @@ fn option_with_value(arg: &str) -> Option<(Choice, &str)> {
     let (name, value) = arg.split_once("=")?;
     let choice = option_in(name)?;
     Some((choice, value))
-}
-
-// The number that one to ten decimal digits are, if it is from 1 to `most`.
-fn number(digits: &str, most: u64) -> Option<u64> {
-    if digits.len() > 10 || !digits.bytes().all(|b| b.is_ascii_digit()) {
-        return None;
-    }
-    match digits.parse::<u64>() {
-        Ok(value) if 1 <= value && value <= most => Some(value),
-        _ => None,
-    }
 }
