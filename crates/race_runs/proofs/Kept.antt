@@ -1,5 +1,5 @@
 -- The lines with a word, one line after another.
-use Rattle.std.proofs.Common.{◌≡◌, ◌∙◌, ℕ, Bool, true, false, cond, List, [], ◌∷◌, ◌++◌, refl, ap}
+use Rattle.std.proofs.Common.{◌≡◌, ◌∙◌, ℕ, true, false, List, [], ◌∷◌, ◌++◌, refl, ap}
 use Rattle.std.specs.List.{filter, flat_map}
 use Rattle.text_lines.specs.Lines.{lines_of, tokens_of}
 use Rattle.race_runs.specs.Outcomes.{begin_with, fed, kept}

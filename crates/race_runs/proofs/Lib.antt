@@ -1,3 +1,4 @@
+pub mod Equal
 pub mod Kept
 pub mod Texts
 pub mod Underway

@@ -1,9 +1,10 @@
 -- What one sees of a run.
-use Rattle.std.specs.Prelude.{◌≡◌, ℕ, Bool, false, List, [], ◌∷◌, ◌++◌, codes, bytes_eq}
+use Rattle.std.specs.Prelude.{◌≡◌, ℕ, Bool, true, false, ◌&&◌, List, [], ◌∷◌, ◌++◌, codes, bytes_eq}
 use Rattle.std.specs.List.{filter, flat_map}
 use Rattle.text_lines.specs.Lines.{lines_of, tokens_of}
 use Rattle.xinu_base.specs.declared.events.Event.{Event}
 use Rattle.xinu_base.specs.declared.events.End.{End}
+use Rattle.xinu_base.specs.declared.events.End.TheVariants.{Schedule, Done, Panic}
 use Rattle.xinu_base.specs.declared.lines.TranscriptLine.{TranscriptLine}
 use Rattle.xinu_model.specs.Machine.{Xinu}
 use Rattle.xinu_model.specs.Runs.{RunsTo}
@@ -29,6 +30,18 @@ pub record Outcome : Type 0 where
   pub traps : List ℕ
   pub left : List ℕ
   pub end : End
+
+-- whether two runs ended alike
+abbrev pub ended_alike : End → End → Bool
+ended_alike Schedule Schedule = true
+ended_alike Done Done = true
+ended_alike Panic Panic = true
+ended_alike one other = false
+
+-- whether two outcomes are equal
+unfoldable pub are_equal : Outcome → Outcome → Bool
+are_equal one other =
+    bytes_eq one.console other.console && (bytes_eq one.traps other.traps && (bytes_eq one.left other.left && ended_alike one.end other.end))
 
 -- the outcome of a run that printed this text, left these tables and ended so
 abbrev pub outcome_in : List ℕ → List ℕ → End → Outcome

@@ -1,6 +1,6 @@
 //! The outcome of a run, which is taken from what the run printed.
 
-ghost use Rattle.std.specs.Prelude.{◌≡◌, ◌++◌, IfOk, OnOk};
+ghost use Rattle.std.specs.Prelude.{◌≡◌, ◌↔◌, ◌++◌, true, bytes_eq, IfOk, OnOk};
 ghost use Rattle.race_runs.specs.Outcomes as spec;
 ghost use Rattle.text_lines.specs.Lines.{tokens_of};
 
@@ -71,6 +71,42 @@ impl Outcome {
         ensures end { result ≡ self.now.end }
     {
         self.end
+    }
+
+    /// Whether this outcome and another one are equal.
+    pub fn equals(&self, other: &Outcome) -> bool
+        ensures test { result ≡ spec.are_equal self.now other.now }
+        ensures equal { (result ≡ true) ↔ (self.now ≡ other.now) }
+    {
+        are_equal(self, other)
+    }
+}
+
+// Whether two outcomes are equal.
+#[tactic(auto, unfolding(crate::specs::Outcomes::are_equal))]
+fn are_equal(one: &Outcome, other: &Outcome) -> bool
+    ensures test { result ≡ spec.are_equal one.now other.now }
+{
+    are_same(one.console(), other.console())
+        && (are_same(one.traps(), other.traps())
+            && (are_same(one.left(), other.left()) && ended_alike(one.end(), other.end())))
+}
+
+// Whether bytes are equal.
+fn are_same(one: &[u8], other: &[u8]) -> bool
+    ensures same { result ≡ bytes_eq one.now other.now }
+{
+    one == other
+}
+
+// Whether two runs ended alike.
+fn ended_alike(one: End, other: End) -> bool
+    ensures alike { result ≡ spec.ended_alike one other }
+{
+    match one {
+        End::Schedule => matches!(other, End::Schedule),
+        End::Done => matches!(other, End::Done),
+        End::Panic => matches!(other, End::Panic),
     }
 }
 

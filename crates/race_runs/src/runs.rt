@@ -9,6 +9,7 @@ ghost use Rattle.race_runs.specs.Outcomes.{ComesTo};
 ghost use Rattle.race_runs.specs.Runs.{ComesToOn, HasText, IsRefused, RunPrinted};
 ghost use Rattle.xinu_model.specs.Text.{tables_of, text};
 
+use crate::copies::{copy_clean, copy_raw};
 use crate::outcomes::Outcome;
 use host_port::{Channel, Host, Printer, QuietMemoryHost};
 use image_loader::Image;
@@ -38,6 +39,31 @@ pub fn run(
         Ok(outcome) => Ok(outcome),
         Err(_) => Err(BootFault::NoMemory),
     }
+}
+
+/// Boots images on copies of these disks and runs them through these events, at most 1000000000. There are one to eight images.
+///
+/// # Errors
+/// As of [`run`]. The disks stay.
+pub fn run_on(
+    alloc: Global,
+    images: &[Image<'_>],
+    disk0: &RawImage,
+    disk1: &CleanImage,
+    events: &[Event],
+) -> Result<Outcome, BootFault>
+    requires some { 1 ≤ length images.now }
+    requires few { length images.now ≤ 8 }
+    requires events { length events.now ≤ 1000000000 }
+    ensures comes { MatchResult result (λ o. ComesToOn (disks_of disk0.now disk1.now) (map loaded_of images.now) events.now o) (λ fault. IsRefused (disks_of disk0.now disk1.now) (map loaded_of images.now) fault) }
+{
+    let Ok(disk0) = copy_raw(alloc, disk0) else {
+        return Err(BootFault::NoMemory);
+    };
+    let Ok(disk1) = copy_clean(alloc, disk1) else {
+        return Err(BootFault::NoMemory);
+    };
+    run(alloc, images, disk0, disk1, events)
 }
 
 // Runs a machine through these events.
