@@ -1,0 +1,122 @@
+-- Placements that are gone through one by one.
+use Rattle.std.proofs.Common.{◌≡◌, ◌∙◌, ℕ, ◌<◌, List, [], ◌∷◌, ◌++◌, length, map, refl, sym, ap, subst, arith, append_assoc, append-nil, length-append}
+use Rattle.std.specs.List.{All, sum}
+use Rattle.std.proofs.lemmas.List.{length-map, map-append}
+use Rattle.std.proofs.lemmas.List.Elements.{All-cons, All-head, All-nil, All-push, All-tail}
+use Rattle.race_runs.specs.Outcomes.{Outcome}
+use Rattle.race_tables.specs.Rows.{Row, Run, rows}
+use Rattle.race_tables.specs.Explored.{Explores, ExploresSome}
+use Rattle.race_tables.proofs.Tables.{adds_up, all_rows}
+use Rattle.preemptions.proofs.Members.{all_placements}
+use Rattle.preemptions.specs.Placements.{IsPlacement, placements}
+use Rattle.preemptions.specs.Preempted.{preempted_at}
+use Rattle.race_runs.specs.Runs.{ComesToOn}
+use Rattle.xinu_base.specs.declared.events.Event.{Event}
+use Rattle.xinu_model.specs.Boot.{Disks, Loaded}
+
+-- some placements were gone through, and these are left
+pub record UnderWay (disks : Disks) (images : List Loaded) (base : List Event) (most within : ℕ) (all left : List (List ℕ)) (table : List Row) : Type 0 where
+  pub tried : List (List ℕ)
+  pub split : tried ++ left ≡ all
+  pub explores : Explores disks images base tried table
+  pub good : All (IsPlacement most within) left
+
+rows-none : [] ≡ rows []
+unfolding rows
+rows-none = refl
+
+All-append_left : (P : List ℕ → Type 0) (xs ys : List (List ℕ)) → All P (xs ++ ys) → All P xs
+All-append_left P [] ys all = All-nil P
+All-append_left P (x ∷ xs) ys all = All-cons P x xs (All-head P x (xs ++ ys) all) (All-append_left P xs ys (All-tail P x (xs ++ ys) all))
+
+all_mapped : (P : List ℕ → Type 0) (runs : List Run) → All P (map (λ run. run.places) runs) → All (λ run. P run.places) runs
+all_mapped P [] all = All-nil (λ run. P run.places)
+all_mapped P (x ∷ xs) all =
+    All-cons (λ run. P run.places) x xs (All-head P x.places (map (λ run. run.places) xs) all) (all_mapped P xs (All-tail P x.places (map (λ run. run.places) xs) all))
+
+-- at the start none was
+pub under_way-start : (disks : Disks) (images : List Loaded) (base : List Event) (most within : ℕ) (all : List (List ℕ)) (table : List Row) → table ≡ [] → All (IsPlacement most within) all
+    → UnderWay disks images base most within all all table
+under_way-start disks images base most within all table none good = record {
+  tried = [];
+  split = refl;
+  explores = record { runs = []; are = refl; real = All-nil (λ run. ComesToOn disks images (preempted_at run.places base) run.outcome); is = none ∙ rows-none };
+  good = good;
+}
+
+-- one more
+pub explores-more : (disks : Disks) (images : List Loaded) (base : List Event) (tried : List (List ℕ)) (table : List Row) (places : List ℕ) (outcome : Outcome) (next : List Row)
+    → Explores disks images base tried table → ComesToOn disks images (preempted_at places base) outcome
+    → ((runs : List Run) → table ≡ rows runs → next ≡ rows (runs ++ record { places = places; outcome = outcome } ∷ []))
+    → Explores disks images base (tried ++ places ∷ []) next
+explores-more disks images base tried table places outcome next so_far comes added =
+    let run : Run = record { places = places; outcome = outcome } in
+    record {
+      runs = so_far.runs ++ run ∷ [];
+      are = map-append (λ (r : Run). r.places) so_far.runs (run ∷ []) ∙ ap (λ (ps : List (List ℕ)). ps ++ places ∷ []) so_far.are;
+      real = All-push (λ r. ComesToOn disks images (preempted_at r.places base) r.outcome) so_far.runs run so_far.real comes;
+      is = added so_far.runs so_far.is;
+    }
+
+pub under_way-more : (disks : Disks) (images : List Loaded) (base : List Event) (most within : ℕ) (all left rest : List (List ℕ)) (table : List Row) (places : List ℕ) (outcome : Outcome) (next : List Row)
+    → UnderWay disks images base most within all left table → left ≡ places ∷ rest → ComesToOn disks images (preempted_at places base) outcome
+    → ((runs : List Run) → table ≡ rows runs → next ≡ rows (runs ++ record { places = places; outcome = outcome } ∷ []))
+    → UnderWay disks images base most within all rest next
+under_way-more disks images base most within all left rest table places outcome next so_far is comes added = record {
+  tried = so_far.tried ++ places ∷ [];
+  split = append_assoc so_far.tried (places ∷ []) rest ∙ ap (λ (ps : List (List ℕ)). so_far.tried ++ ps) (sym is) ∙ so_far.split;
+  explores = explores-more disks images base so_far.tried table places outcome next so_far.explores comes added;
+  good = All-tail (IsPlacement most within) places rest (subst (λ (ps : List (List ℕ)). All (IsPlacement most within) ps) is so_far.good);
+}
+
+-- the first of those that are left is a placement
+pub first_is_good : (disks : Disks) (images : List Loaded) (base : List Event) (most within : ℕ) (all left rest : List (List ℕ)) (table : List Row) (places : List ℕ)
+    → UnderWay disks images base most within all left table → left ≡ places ∷ rest → IsPlacement most within places
+first_is_good disks images base most within all left rest table places so_far is =
+    All-head (IsPlacement most within) places rest (subst (λ (ps : List (List ℕ)). All (IsPlacement most within) ps) is so_far.good)
+
+-- the counts stay below the number of placements
+pub counts_fit : (disks : Disks) (images : List Loaded) (base : List Event) (most within : ℕ) (all left rest : List (List ℕ)) (table : List Row) (places : List ℕ)
+    → UnderWay disks images base most within all left table → left ≡ places ∷ rest → sum (map (λ row. row.count) table) < length all
+counts_fit disks images base most within all left rest table places so_far is =
+    let total : sum (map (λ row. row.count) table) ≡ length so_far.explores.runs =
+    ap (λ (t : List Row). sum (map (λ row. row.count) t)) so_far.explores.is ∙ adds_up so_far.explores.runs in
+    let size : length so_far.explores.runs ≡ length so_far.tried =
+    sym (length-map so_far.explores.runs (λ (r : Run). r.places)) ∙ ap (λ (ps : List (List ℕ)). length ps) so_far.explores.are in
+    omega (
+      arith,
+      total,
+      size,
+      length-append so_far.tried left,
+      ap (λ (ps : List (List ℕ)). length ps) so_far.split,
+      ap (λ (ps : List (List ℕ)). length ps) is,
+    )
+
+-- none is left
+pub under_way-end : (disks : Disks) (images : List Loaded) (base : List Event) (most within : ℕ) (all left : List (List ℕ)) (table : List Row) → UnderWay disks images base most within all left table → left ≡ []
+    → Explores disks images base all table
+under_way-end disks images base most within all left table so_far none =
+    subst (λ (ps : List (List ℕ)). Explores disks images base ps table)
+    (sym (append-nil so_far.tried) ∙ ap (λ (ps : List (List ℕ)). so_far.tried ++ ps) (sym none) ∙ so_far.split)
+    so_far.explores
+
+-- some were gone through
+pub some-under_way : (disks : Disks) (images : List Loaded) (base : List Event) (most within : ℕ) (all left : List (List ℕ)) (table : List Row) → UnderWay disks images base most within all left table
+    → ExploresSome disks images base all table
+some-under_way disks images base most within all left table so_far =
+    record { tried = so_far.tried; left = left; split = so_far.split; explores = so_far.explores }
+
+-- the placements of the rows are placements
+pub first_are_placements : (disks : Disks) (images : List Loaded) (base : List Event) (most within : ℕ) (tried left all : List (List ℕ)) (table : List Row)
+    → Explores disks images base tried table → tried ++ left ≡ all → All (IsPlacement most within) all → All (λ row. IsPlacement most within row.first) table
+first_are_placements disks images base most within tried left all table explores split good =
+    let here : All (IsPlacement most within) tried =
+    All-append_left (IsPlacement most within) tried left (subst (λ (ps : List (List ℕ)). All (IsPlacement most within) ps) (sym split) good) in
+    let runs : All (λ run. IsPlacement most within run.places) explores.runs =
+    all_mapped (IsPlacement most within) explores.runs (subst (λ (ps : List (List ℕ)). All (IsPlacement most within) ps) (sym explores.are) here) in
+    subst (λ (t : List Row). All (λ row. IsPlacement most within row.first) t) (sym explores.is) (all_rows (IsPlacement most within) explores.runs runs)
+
+pub under_way-first : (disks : Disks) (images : List Loaded) (base : List Event) (most within : ℕ) (left : List (List ℕ)) (table : List Row)
+    → UnderWay disks images base most within (placements most within) left table → All (λ row. IsPlacement most within row.first) table
+under_way-first disks images base most within left table so_far =
+    first_are_placements disks images base most within so_far.tried left (placements most within) table so_far.explores so_far.split (all_placements most within)

@@ -1,0 +1,5 @@
+pub mod Added
+pub mod Fewness
+pub mod Places
+pub mod Tables
+pub mod Exploring

@@ -1,0 +1,83 @@
+//! The search: all placements are gone through, each by a run.
+
+ghost use Rattle.std.specs.Prelude.{◌≡◌, ◌≤◌, [], length, map, IfErr, MatchResult};
+ghost use Rattle.std.specs.List.{All};
+ghost use Rattle.given_disks.specs.Disks.{disks_of};
+ghost use Rattle.image_loader.specs.Images.{loaded_of};
+ghost use Rattle.preemptions.specs.Placements.{IsAscending, IsPlacement, placements};
+ghost use Rattle.preemptions.specs.Preempted.{preempted_at};
+ghost use Rattle.race_runs.specs.Runs.{ComesToOn, IsRefused};
+ghost use Rattle.race_tables.specs.Explored.{Explores, ExploresSome};
+
+use crate::rows::{Row, count_run};
+use image_loader::Image;
+use lfs_layout::{CleanImage, RawImage};
+use preemptions::{Placements, preempt};
+use race_runs::{BootFault, Outcome, run_on};
+use std::alloc::Global;
+use xinu_base::Event;
+
+/// Runs the images on these disks through the base's events with each placement of at most `most` quantum ends within its first steps, in
+/// their order, and puts the outcomes into a table that is empty before.
+///
+/// # Errors
+/// `Overlap` and `NoRoom` if and only if the images don't boot; `NoMemory`. The table is that of the placements so far.
+pub fn explore(
+    alloc: Global,
+    images: &[Image<'_>],
+    disk0: &RawImage,
+    disk1: &CleanImage,
+    base: &[Event],
+    most: u32,
+    within: u32,
+    table: &mut Vec<Row>,
+) -> Result<(), BootFault>
+    requires some { 1 ≤ length images.now }
+    requires few { length images.now ≤ 8 }
+    requires base { length base.now ≤ 999999994 }
+    requires most { most ≤ 3 }
+    requires within { within ≤ 1000000 }
+    requires empty { table.old.items ≡ [] }
+    ensures explores { MatchResult result (λ _. Explores (disks_of disk0.now disk1.now) (map loaded_of images.now) base.now (placements most within) table.new.items) (λ _. ExploresSome (disks_of disk0.now disk1.now) (map loaded_of images.now) base.now (placements most within) table.new.items) }
+    ensures first { All (λ row. IsPlacement most within row.first) table.new.items }
+    ensures cause { IfErr result (IsRefused (disks_of disk0.now disk1.now) (map loaded_of images.now)) }
+{
+    let mut left = Placements::new(alloc, most, within);
+    while let Some(places) = left.first() {
+        let outcome = match run_placement(alloc, images, disk0, disk1, base, places) {
+            Ok(outcome) => outcome,
+            Err(fault) => return Err(fault),
+        };
+        match count_run(alloc, table, outcome, places) {
+            Ok(()) => {}
+            Err(_) => return Err(BootFault::NoMemory),
+        }
+        match left.advance() {
+            Ok(()) => {}
+            Err(_) => return Err(BootFault::NoMemory),
+        }
+    }
+    Ok(())
+}
+
+// Runs the images on these disks through the base's events with one placement.
+fn run_placement(
+    alloc: Global,
+    images: &[Image<'_>],
+    disk0: &RawImage,
+    disk1: &CleanImage,
+    base: &[Event],
+    places: &[u32],
+) -> Result<Outcome, BootFault>
+    requires some { 1 ≤ length images.now }
+    requires few { length images.now ≤ 8 }
+    requires base { length base.now ≤ 999999994 }
+    requires places { length places.now ≤ 3 }
+    requires ascending { IsAscending places.now }
+    ensures comes { MatchResult result (λ o. ComesToOn (disks_of disk0.now disk1.now) (map loaded_of images.now) (preempted_at places.now base.now) o) (λ fault. IsRefused (disks_of disk0.now disk1.now) (map loaded_of images.now) fault) }
+{
+    let Ok(events) = preempt(alloc, base, places) else {
+        return Err(BootFault::NoMemory);
+    };
+    run_on(alloc, images, disk0, disk1, events.as_slice())
+}
