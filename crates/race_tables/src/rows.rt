@@ -1,8 +1,7 @@
 //! The rows of the table, and a run that is counted in them.
 
-ghost use Rattle.std.specs.Prelude.{◌≡◌, ◌<◌, ◌≤◌, ◌++◌, ◌∷◌, [], List, true, false, length, get_or, map, slice_index, IfOk, OnOk, OnErr, MatchOption};
+ghost use Rattle.std.specs.Prelude.{◌≡◌, ◌<◌, ◌≤◌, ◌++◌, ◌∷◌, [], List, length, map, OnOk, OnErr};
 ghost use Rattle.std.specs.List.{sum};
-ghost use Rattle.race_runs.specs.Outcomes.{are_equal};
 ghost use Rattle.race_tables.specs.Rows as spec;
 
 use race_runs::Outcome;
