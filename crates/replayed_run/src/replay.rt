@@ -111,6 +111,7 @@ impl Replay {
     pub fn state(&self) -> &KernelState
         ensures state { result.now.call.state ≡ self.now.state }
         ensures sound { IsSound self.now.state }
+        ensures few { self.now.state.tables.ticks ≤ 1000000000 }
     {
         self.machine.state()
     }
