@@ -9,7 +9,7 @@ use Rattle.xinu_model.specs.Machine.{Xinu}
 use Rattle.xinu_model.specs.Runs.{RunsTo}
 use Rattle.xinu_model.specs.Sound.State.{IsSound}
 use Rattle.replayed_run.specs.Replayed.{HasInputs, IsReplayed, Replayed}
-use Rattle.replayed_run.specs.Starts.{StartsIn}
+use Rattle.run_inputs.specs.Starts.{StartsIn}
 use Rattle.run_inputs.specs.InputFaults.{images_loaded}
 
 -- the images start in one state

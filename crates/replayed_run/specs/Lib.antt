@@ -1,4 +1,3 @@
 pub mod Progress
 pub mod Replayed
 pub mod Replays
-pub mod Starts

@@ -1,6 +1,6 @@
 -- What a run that can be had again shows of itself, and that there is such a run.
 use Rattle.std.specs.Prelude.{◌≡◌, ℕ, Bool, false, List, take, length, ◌==◌, ◌||◌}
-use Rattle.replayed_run.specs.Starts.{StartsIn}
+use Rattle.run_inputs.specs.Starts.{StartsIn}
 use Rattle.xinu_base.specs.declared.events.Event.{Event}
 use Rattle.xinu_base.specs.declared.events.End.{End}
 use Rattle.xinu_base.specs.declared.events.End.TheVariants.{Schedule}

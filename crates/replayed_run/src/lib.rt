@@ -16,12 +16,10 @@
 //! | [`Replay::state`] | | `state`, `sound`: the state, part by part |
 //! | [`laws::runs_are_one`] | | two runs with the same inputs, of which as many events were taken and the same lines printed, are in the same state |
 //!
-//! The inputs are those of `run_inputs`, and an event is taken by `printed_events`. The crate depends on `machine` for what an event does, and
-//! on `schedule_file` and `lfs_layout` for copies of the inputs.
+//! The inputs are those of `run_inputs`, which boots them on copies, and an event is taken by `printed_events`. The crate depends on
+//! `machine` for what an event does, and on `schedule_file` for a copy of the schedule.
 #![tactic(auto)]
 
-mod booting;
-mod copies;
 pub mod laws;
 mod replay;
 

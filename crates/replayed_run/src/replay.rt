@@ -6,11 +6,10 @@ ghost use Rattle.machine.specs.RunEnds.{end_of_go};
 ghost use Rattle.replayed_run.specs.Progress.{EndsWith, TakesEvent, TakesSteps};
 ghost use Rattle.replayed_run.specs.Replayed as replayed;
 ghost use Rattle.replayed_run.specs.Replayed.{HasInputs, IsReplayed};
-ghost use Rattle.replayed_run.specs.Starts.{IsBooted, IsRefused};
+ghost use Rattle.run_inputs.specs.Starts.{IsBooted, IsRefused};
 ghost use Rattle.run_inputs.specs.InputFaults.{have_fault};
 ghost use Rattle.xinu_model.specs.Sound.State.{IsSound};
 
-use crate::booting::boot;
 use machine::{BootFault, Go, KernelState, Machine};
 use printed_events::{Printed, Taken, take_event};
 use run_inputs::Inputs;
@@ -60,7 +59,7 @@ impl Replay {
         ensures goes_on { IfOk result (λ r. r.over ≡ false) }
         ensures refused { IfErr result (λ f. IsRefused (disks_of inputs.disk0 inputs.disk1) (map (λ v. v.items) inputs.images.items) f) }
     {
-        let machine = boot(alloc, &inputs)?;
+        let machine = inputs.boot(alloc)?;
         let Ok(left) = inputs.schedule.copy(alloc) else {
             return Err(BootFault::NoMemory);
         };
@@ -226,7 +225,7 @@ impl Replay {
     fn booted(&self) -> Result<Machine, NoMemory>
         ensures booted { IfOk result (λ m. IsBooted self.now.disks self.now.files m) }
     {
-        match boot(self.alloc, &self.inputs) {
+        match self.inputs.boot(self.alloc) {
             Ok(machine) => Ok(machine),
             Err(BootFault::NoMemory) => Err(NoMemory),
             Err(BootFault::Overlap(_)) => unreachable!(),

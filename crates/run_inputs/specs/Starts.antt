@@ -6,6 +6,7 @@ use Rattle.machine.specs.Printed.{Booted}
 use Rattle.run_inputs.specs.InputFaults.{images_loaded}
 use Rattle.xinu_model.specs.Boot.{Boots, Disks, Loaded, NoRoom, Overlaps, boot_on}
 use Rattle.xinu_model.specs.Machine.{Xinu}
+use Rattle.xinu_model.specs.Sound.State.{IsSound}
 
 -- The images in these files boot on these disks in this state.
 pub record StartsIn (disks : Disks) (files : List (List ℕ)) (start : Xinu) : Type 0 where
@@ -13,9 +14,10 @@ pub record StartsIn (disks : Disks) (files : List (List ℕ)) (start : Xinu) : T
   pub loaded : images_loaded files ≡ Some images
   pub boots : boot_on disks images ≡ Boots start
 
--- A machine is in the state in which the images in these files boot on these disks, and took no event.
+-- A machine is in the state in which the images in these files boot on these disks, which is sound, and took no event.
 pub record IsBooted (disks : Disks) (files : List (List ℕ)) (m : Booted) : Type 0 where
   pub starts : StartsIn disks files m.state
+  pub sound : IsSound m.state
   pub none : m.events ≡ 0
   pub goes_on : m.over ≡ false
 
