@@ -19,7 +19,7 @@ use reference_state::{Happened, Machine};
 use xinu_base::{Event, NoMemory, TranscriptLine};
 
 /// Takes an event. Where it leaves open which calls on files take effect, the text that begins with what it prints tells that.
-pub(crate) fn take(m: &mut Machine, e: Event, text: &[u8]) -> Result<Happened, NoMemory>
+pub fn take(m: &mut Machine, e: Event, text: &[u8]) -> Result<Happened, NoMemory>
     requires start { IsStart m.old }
     requires within { IsWithin 1000000000 m.old.state }
     ensures happens { IfOk result (λ h. happened h m.new.state ≡ model.effect_of m.old.state e (told m.old.state e text.now)) }
@@ -54,7 +54,7 @@ fn dump(m: &Machine) -> Result<Happened, NoMemory>
 }
 
 /// The lines of the tables.
-pub(crate) fn lines_of(m: &Machine) -> Result<Vec<TranscriptLine>, NoMemory>
+pub fn lines_of(m: &Machine) -> Result<Vec<TranscriptLine>, NoMemory>
     requires within { IsWithin 1000000001 m.now.state }
     ensures tables { IfOk result (λ l. l.items ≡ tables.tables_of m.now.state) }
 {

@@ -22,6 +22,8 @@
 //! | `file_calls`, `file_notes` | calls on files inside an event: how they are made, and how they take effect |
 //! | `machines` | the calls on files that are under way, and whether no process but the null process is left |
 //!
+//! [`take`], [`lines_of`], [`is_over`] and [`after_line`] are for other readers of a text along a run (`trace_places`).
+//!
 //! Each function on the machine is a definition of `specs/Events.antt` in `xinu_model`, over its state as plain data (`reference_state`). An
 //! event has these conditions: nothing is under way in the machine (`start` or `idle`: `IsStart`), its state is sound, as the laws on the
 //! abstract machine keep it, and its counts are within what so many events can come to (`within`: `IsWithin`). A text is a slice of bytes and
@@ -41,4 +43,7 @@ mod reading;
 mod steps;
 
 pub use checks::check_trace;
+pub use events::{lines_of, take};
+pub use machines::is_over;
+pub use reading::after_line;
 pub use reference_boot::boot::NoStart;

@@ -27,7 +27,7 @@ pub(crate) fn least_of(m: &Machine) -> usize
 }
 
 /// Whether no process but the null process is left.
-pub(crate) fn is_over(m: &Machine) -> bool
+pub fn is_over(m: &Machine) -> bool
     ensures over { result ≡ runs.is_over m.now.state }
 {
     let t = &m.tables;

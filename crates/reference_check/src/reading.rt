@@ -23,7 +23,7 @@ pub(crate) fn after_lines<'a>(lines: &[TranscriptLine], text: &'a [u8]) -> Optio
 }
 
 /// What is left of a text after this line.
-pub(crate) fn after_line<'a>(line: &TranscriptLine, text: &'a [u8]) -> Option<&'a [u8]>
+pub fn after_line<'a>(line: &TranscriptLine, text: &'a [u8]) -> Option<&'a [u8]>
     ensures left { MatchOption result (places.after_bytes (model.line_text line.now) (Some text.now) ≡ None)
         (λ rest. places.after_bytes (model.line_text line.now) (Some text.now) ≡ Some rest.now) }
 {

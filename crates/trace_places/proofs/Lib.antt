@@ -1,7 +1,9 @@
 pub mod Chosen
 pub mod Completions
 pub mod Exact
+pub mod Found
 pub mod Fronts
+pub mod LinesRead
 pub mod Steps
 pub mod Stops
 pub mod Whole

@@ -1,11 +1,22 @@
 //! Where a text that isn't a transcript goes wrong: the first line that no run prints there.
 //!
-//! Nothing of it runs. A text is read along a run, as `transcript_laws` reads it: what events leave open, how many calls on files take effect,
-//! the text itself tells. It goes wrong at the first line of the run that isn't its next one (`mistake_of` of `specs/Places.antt`).
+//! A text is read along a run of the reference machine, event by event, as `reference_check` reads it: what events leave open, how many calls
+//! on files take effect, the text itself tells. The run ends its reading at the first of its lines that isn't the next one of the text.
 //!
-//! | Law | Says |
+//! | Call | Promise |
 //! |---|---|
-//! | [`laws::mistakes_are_exact`] | a text that goes wrong nowhere is the transcript of a run; of any other (`IsMistake`), the lines before the place begin the transcript of a run, which goes on with the line that is due, or has ended; no run's transcript begins with more lines of the text; and the text isn't a transcript |
+//! | [`find_mistake`] | `finds`: the text is the transcript of a run, or goes wrong there (`IsMistake` of `specs/Places.antt`): the lines before that begin the transcript of a run, which goes on with the line that is due, or has ended; no run's transcript begins with more lines of the text; and the text isn't a transcript. `refuses`: as `boot_on` of the abstract machine says |
+//! | [`laws::mistakes_are_exact`] | the same of the place that the definition `mistake_of` gives of each text |
+//!
+//! [`Mistake::moment`] says in which event the run prints the line that is due. It is there to be shown: no clause speaks of it.
 #![tactic(auto)]
 
+mod finding;
 pub mod laws;
+mod mistakes;
+mod reading;
+mod walk;
+
+pub use finding::find_mistake;
+pub use mistakes::{Mistake, Moment};
+pub use reference_check::NoStart;
