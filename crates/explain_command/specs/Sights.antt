@@ -1,5 +1,5 @@
 -- What is told of a process ahead of an instruction: where it is, and its registers.
-use Rattle.std.specs.Prelude.{ℕ, List, [], ◌++◌, ◌+◌, slice_index, codes}
+use Rattle.std.specs.Prelude.{ℕ, List, ◌++◌, ◌+◌, slice_index, codes}
 use Rattle.rv_disasm.specs.OperandTexts.{hex_word, register_name}
 use Rattle.xinu_base.specs.declared.registers.Hart.{Hart}
 

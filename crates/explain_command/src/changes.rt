@@ -3,6 +3,7 @@
 use crate::sights::Sight;
 use machine::{KernelState, Machine};
 use rv_hart::Hart;
+use rv_isa::{immediate_s, rs1};
 use xinu_base::State;
 
 /// The first register that a step changed, with what it holds then; and if it was a store the address of its word, with that word then.
@@ -52,12 +53,7 @@ fn changed(before: &Hart, after: &Hart) -> Option<(u32, u32)> {
 
 // The address of the word in which a store stores.
 fn stored_at(word: u32, hart: &Hart) -> u32 {
-    let base = hart.regs[(word / 32_768 % 32) as usize];
-    let offset = word / 33_554_432 * 32 + word / 128 % 32;
-    let address = if offset >= 2048 {
-        base.wrapping_add(offset).wrapping_sub(4096)
-    } else {
-        base.wrapping_add(offset)
-    };
+    let base = hart.regs[rs1(word) as usize];
+    let address = base.wrapping_add(immediate_s(word));
     address - address % 4
 }

@@ -5,21 +5,22 @@ ghost use Rattle.run_inputs.specs.InputFaults.{have_fault};
 
 use crate::faults::meaning;
 use crate::running::tell;
+use crate::traces::tell_mistake;
 use crate::words::{Listed, words_of};
 use host_port::{Channel, Host};
 use machine::Machine;
-use run_inputs::{Inputs, Refusal, fetch_run, images_of, refuse};
+use run_inputs::{Inputs, Refusal, fetch_run, refuse};
 use schedule_file::Schedule;
 use std::alloc::Global;
 
 /// Tells the run that the arguments after the program's name ask for: sends the text on Out, and answers the exit status.
 ///
-/// The status is 0 if it was sent. Else it is the status with which `run` refuses these arguments and files, and its text is sent on
-/// Fault, with a line after it that says it in words: 2 also for arguments that concern the output of a run, or events that can't be listed;
-/// 3 if the host failed; 7 if memory ran out.
+/// The status is 0 if it was sent, and 10 if a text is compared that isn't a transcript. Else it is the status with which `run` refuses
+/// these arguments and files, and its text is sent on Fault, with a line after it that says it in words: 2 also for arguments that concern
+/// the output of a run, or events that can't be listed; 3 if the host failed; 7 if memory ran out.
 pub fn explain<H: Host>(alloc: Global, args: &[String], host: &mut H) -> u8 {
     match carry_out(alloc, args, host) {
-        Ok(()) => 0,
+        Ok(status) => status,
         Err(refusal) => {
             let status = refuse(refusal, host);
             if let Ok(words) = meaning(alloc, refusal) {
@@ -31,15 +32,19 @@ pub fn explain<H: Host>(alloc: Global, args: &[String], host: &mut H) -> u8 {
 }
 
 // Carries the command out.
-fn carry_out<H: Host>(alloc: Global, args: &[String], host: &mut H) -> Result<(), Refusal> {
+fn carry_out<H: Host>(alloc: Global, args: &[String], host: &mut H) -> Result<u8, Refusal> {
     let words = match words_of(alloc, args) {
         Ok(Some(words)) => words,
         Ok(None) => return Err(Refusal::Usage),
         Err(_) => return Err(Refusal::NoMemory),
     };
     let inputs = fetch_run(alloc, words.run.as_slice(), host)?;
+    if let Some(name) = &words.trace {
+        return tell_mistake(alloc, inputs, name.as_str(), host);
+    }
     let text = told(alloc, inputs, words.listed)?;
-    Ok(host.emit(Channel::Out, text.as_bytes())?)
+    host.emit(Channel::Out, text.as_bytes())?;
+    Ok(0)
 }
 
 // The text that tells the run of these inputs.
@@ -49,17 +54,13 @@ fn told(alloc: Global, inputs: Inputs, listed: Listed) -> Result<String, Refusal
     requires good { have_fault (map (λ v. v.items) inputs.images.items) ≡ false }
     requires events { length inputs.schedule ≤ 1000000000 }
 {
+    let mut machine = inputs.boot(alloc)?;
     let Inputs {
         schedule,
-        disk0,
-        disk1,
-        images: files,
+        images,
+        ..
     } = inputs;
-    let Ok(images) = images_of(alloc, files.as_slice()) else {
-        return Err(Refusal::NoMemory);
-    };
-    let mut machine = Machine::boot(alloc, images.as_slice(), disk0, disk1)?;
-    told_by(alloc, &mut machine, schedule, listed, files.as_slice())
+    told_by(alloc, &mut machine, schedule, listed, images.as_slice())
 }
 
 // The text that tells the run of a machine that was just booted.

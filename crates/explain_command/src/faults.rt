@@ -8,7 +8,7 @@ pub(crate) fn meaning(alloc: Global, refusal: Refusal) -> Result<String, AllocEr
     match refusal {
         Refusal::Usage => String::from_str(
             alloc,
-            "the words are [--steps A..B] --schedule FILE [--disk0 FILE] [--disk1 FILE] IMAGE ..\n",
+            "the words are [--steps A..B | --trace FILE] --schedule FILE [--disk0 FILE] [--disk1 FILE] IMAGE ..\n",
         ),
         Refusal::Image { image, fault } => {
             let why = image_fault(fault);

@@ -1,7 +1,8 @@
 //! The command of the program `explain`: a run is told in plain English.
 //!
-//! The arguments are those of `run` without what concerns its output, and `--steps A..B`, the events that are listed. What `run` refuses is refused with the same status and text, and
-//! another line says it in words. Else the run is taken through its events, and the text says how it ended, which traps there were and where,
+//! The arguments are those of `run` without what concerns its output, and `--steps A..B`, the events that are listed, or `--trace FILE`, a
+//! text that is compared in place of the story. What `run` refuses is refused with the same status and text, and another line says it in
+//! words. Else the run is taken through its events, and the text says how it ended, which traps there were and where,
 //! which processes are left and what they wait for, and what the console showed.
 //!
 //! | Call | What it does |
@@ -12,6 +13,7 @@
 //! `specs/Sights.antt`.
 #![tactic(auto)]
 
+mod callers;
 mod changes;
 mod command;
 mod faults;
@@ -20,6 +22,7 @@ mod places;
 mod running;
 mod sights;
 mod telling;
+mod traces;
 mod traps;
 mod words;
 

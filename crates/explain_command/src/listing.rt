@@ -33,8 +33,8 @@ pub(crate) fn list_event(
     Ok(line)
 }
 
-// The name of an event that isn't a step, as a schedule has it.
-fn name_of(event: Event) -> &'static str {
+/// The name of an event, as a schedule has it.
+pub(crate) fn name_of(event: Event) -> &'static str {
     match event {
         Event::Step => "step",
         Event::Tick => "tick",

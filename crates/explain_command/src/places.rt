@@ -3,8 +3,10 @@
 use elf_symbols::{Place, function_at};
 use std::alloc::{AllocError, Global};
 use std::str;
+use xinu_base::RAM_SIZE;
 
-/// Adds the function in which an address is, after some words, if it is in one of a file's functions.
+/// Adds the function in which an address is, after some words, if it is in one of a file's functions. None is after the end of
+/// RAM.
 ///
 /// # Errors
 /// Out of memory.
@@ -15,6 +17,9 @@ pub(crate) fn add_function(
     files: &[Vec<u8>],
     address: u32,
 ) -> Result<(), AllocError> {
+    if address >= RAM_SIZE {
+        return Ok(());
+    }
     if let Some(place) = nearest(files, address) {
         let name = shown(place.name);
         let line = format!(in alloc; "{words}{name}+{}", place.offset)?;

@@ -87,7 +87,7 @@ fn take_event(
         telling.story.quiet(1);
     }
     if lines.starts_with("trap ") {
-        telling.trap(&seen)?;
+        telling.trap(machine, &seen)?;
     }
     Ok(taken.go)
 }

@@ -1,10 +1,12 @@
 //! What is told of a run so far: the story, and the list of events.
 
+use crate::callers::add_callers;
 use crate::changes::Changes;
 use crate::listing::list_event;
 use crate::sights::Sight;
 use crate::traps::trap_text;
 use crate::words::Listed;
+use machine::Machine;
 use run_story::Story;
 use std::alloc::{AllocError, Global};
 use xinu_base::{End, Event};
@@ -70,8 +72,9 @@ impl<'a> Telling<'a> {
     ///
     /// # Errors
     /// Out of memory.
-    pub(crate) fn trap(&mut self, seen: &Sight) -> Result<(), AllocError> {
-        let text = trap_text(self.alloc, seen, self.files)?;
+    pub(crate) fn trap(&mut self, machine: &Machine, seen: &Sight) -> Result<(), AllocError> {
+        let mut text = trap_text(self.alloc, seen, self.files)?;
+        add_callers(self.alloc, &mut text, machine, seen, self.files)?;
         self.story.detail(text.as_str())
     }
 
