@@ -4,8 +4,8 @@
 //! After them it prints what the command refuses.
 //!
 //! Each argument names a run: `NAME.txt` is its schedule, and `NAME_1.s`, `NAME_2.s` .. are the texts of its images. If there is a file
-//! `NAME.svg`, the picture has to be that, byte by byte. The runs after the word `told` are told;
-//! one that is named `A..B:NAME` with those events listed first.
+//! `NAME.svg`, the picture has to be that, byte by byte. The runs after the word `told` are told; one that is named `A..B:NAME` with those
+//! events listed first, and of one that is named `FILE:NAME` it is told where the text of that file goes wrong.
 #![tactic(auto)]
 
 mod refusals;

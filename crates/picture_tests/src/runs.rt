@@ -24,22 +24,29 @@ pub(crate) fn picture_of<R: Files + AllocGlobal>(
     text_of(alloc, &host)
 }
 
-/// The text that tells the run of a name, or the text of the refusal. Before the name there may be a colon, and before that the events
-/// that are listed.
+/// The text that tells the run of a name, or the text of the refusal. Before the name there may be a colon, and before that a file whose
+/// text is compared with the run, or else the events that are listed.
 pub(crate) fn story_of<R: Files + AllocGlobal>(
     rt: &R,
     alloc: Global,
     name: &str,
 ) -> io::Result<String> {
     let mut host = MemoryHost::new(alloc);
-    let (steps, name) = match name.split_once(":") {
-        Some((steps, name)) => (Some(steps), name),
+    let (value, name) = match name.split_once(":") {
+        Some((value, name)) => (Some(value), name),
         None => (None, name),
     };
     let mut args = words_of(rt, alloc, name, &mut host)?;
-    if let Some(steps) = steps {
-        args.push(String::from_str(alloc, "--steps")?)?;
-        args.push(String::from_str(alloc, steps)?)?;
+    if let Some(value) = value {
+        let option = match fs::read(rt, value) {
+            Ok(text) => {
+                add_file(&mut host, value, text.as_slice())?;
+                "--trace"
+            }
+            Err(_) => "--steps",
+        };
+        args.push(String::from_str(alloc, option)?)?;
+        args.push(String::from_str(alloc, value)?)?;
     }
     let _ = explain(alloc, args.as_slice(), &mut host);
     text_of(alloc, &host)
