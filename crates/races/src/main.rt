@@ -3,8 +3,8 @@
 //! The work is done by [`races`] of `races_command`, over the host of the program.
 #![tactic(auto)]
 
-use races_command::races;
 use host_port::RealHost;
+use races_command::races;
 use std::alloc::Global;
 use std::env;
 use std::io::{self, ErrorKind};
