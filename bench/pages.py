@@ -6,9 +6,9 @@ usage: bench/pages.py
 A page is a file of Markdown, but for those that the program `sessions` plays. A link leads to a file of the repository, or to a heading of
 a page. A path in code font is a file or a folder, seen from the top, from the page, or from the folder of a crate. A name in code font, a
 word with `_` or `::` in it or with a capital after a small letter, is a word of the sources, of a definition or of a script. A number of crates
-or of wrong bodies is the number of folders of crates/ or of files of must-fail/. It prints a line for each thing that isn't found, and how
-many words the pages have; it ends with status 1 if something isn't found. The commands of the pages are played by sdk/check and by the
-sessions. No part of the gate."""
+or of wrong bodies is the number of folders of crates/ or of files of must-fail/, and the lines of definitions that THEOREM gives are those that
+its statement rests on. It prints a line for each thing that isn't found, and how many words README and docs/ have; it ends with status 1 if
+something isn't found. The commands of the pages are played by sdk/check and by the sessions. No part of the gate."""
 import glob
 import os
 import re
@@ -100,8 +100,26 @@ def findings(page, words):
                     break
 
 
+def definitions():
+    """The definitions that the theorem's statement names, directly or through others: by crate the lines, without imports and blank ones, and
+    the number of files. What a source declares isn't counted."""
+    lines, left, seen = {}, [("xinu_commands", "Theorem")], set()
+    while left:
+        crate, module = left.pop()
+        path = f"crates/{crate}/specs/{module.replace('.', '/')}.antt"
+        if path in seen or not os.path.isfile(path):
+            continue
+        seen.add(path)
+        with open(path, encoding="utf-8") as file:
+            text = file.read()
+        counted = [line for line in text.splitlines() if line.strip() and not line.startswith("use ")]
+        lines[crate] = lines.get(crate, 0) + len(counted)
+        left += [(found[0], found[1].rstrip(".")) for found in re.findall(r"Rattle\.(\w+)\.specs\.([\w.]+)", text)]
+    return lines, len(seen)
+
+
 def counts():
-    """The counts that README gives, and what they are."""
+    """The counts that README and THEOREM give, and what they are."""
     with open("README.md", encoding="utf-8") as file:
         text = file.read()
     crates = len([path for path in glob.glob("crates/*") if os.path.isdir(path)])
@@ -109,6 +127,13 @@ def counts():
     said = re.search(r"(\d+)\s+crates\s+and\s+(\d+)\s+wrong\s+bodies", text)
     if said and (int(said[1]), int(said[2])) != (crates, edits):
         yield f"README.md: {said[0]}, but there are {crates} and {edits}"
+    lines, files = definitions()
+    with open("docs/THEOREM.md", encoding="utf-8") as file:
+        text = " ".join(file.read().split())
+    due = f"{sum(lines.values())} lines in {files} files, without imports and blank lines: "
+    due += ", ".join(f"{crate} {number}" for crate, number in sorted(lines.items(), key=lambda it: -it[1])) + "."
+    if due not in text:
+        yield f"docs/THEOREM.md: the definitions are {due}"
 
 
 def main():
@@ -117,14 +142,16 @@ def main():
     wrong, total = 0, 0
     for page in pages():
         with open(page, encoding="utf-8") as file:
-            total += len(file.read().split())
+            text = file.read()
+        if page == "README.md" or page.startswith("docs/"):
+            total += len([word for word in text.split() if re.search("[A-Za-z0-9]", word)])
         for number, kind, what in findings(page, words):
             print(f"{page}:{number}: {kind} {what}")
             wrong += 1
     for line in counts():
         print(line)
         wrong += 1
-    print(f"{total} words on {len(pages())} pages; {wrong} not found")
+    print(f"{total} words in README and docs; {len(pages())} pages; {wrong} not found")
     sys.exit(1 if wrong else 0)
 
 
