@@ -2,7 +2,8 @@
 
 use crate::places::add_function;
 use crate::sights::Sight;
-use machine::{KernelState, Machine};
+use machine::KernelState;
+use replayed_run::Replay;
 use rv_isa::rd;
 use std::alloc::{AllocError, Global};
 
@@ -19,11 +20,10 @@ const MOST_WORDS: u32 = 16_384;
 pub(crate) fn add_callers(
     alloc: Global,
     text: &mut String,
-    machine: &Machine,
+    replay: &Replay,
     seen: &Sight,
-    files: &[Vec<u8>],
 ) -> Result<(), AllocError> {
-    add_callers_in(alloc, text, machine.state(), seen, files)
+    add_callers_in(alloc, text, replay.state(), seen, replay.files())
 }
 
 // The same of a state.

@@ -1,7 +1,12 @@
 //! What a step changed: a register, and a word of RAM.
 
+ghost use Rattle.std.specs.Prelude.{◌≡◌, IfSome, slice_index};
+ghost use Rattle.explain_command.specs.Sights.{AreChanged};
+ghost use Rattle.xinu_model.specs.Sound.State.{IsSound};
+
 use crate::sights::Sight;
-use machine::{KernelState, Machine};
+use machine::KernelState;
+use replayed_run::Replay;
 use rv_hart::Hart;
 use rv_isa::{immediate_s, rs1};
 use xinu_base::State;
@@ -14,12 +19,17 @@ pub(crate) struct Changes {
 }
 
 /// What the step of a process changed, by what was seen ahead of it.
-pub(crate) fn changes_of(machine: &Machine, seen: &Sight) -> Changes {
-    changes_in(machine.state(), seen)
+pub(crate) fn changes_of(replay: &Replay, seen: &Sight) -> Changes
+    ensures changed { AreChanged replay.now.state seen.now.process result }
+{
+    changes_in(replay.state(), seen)
 }
 
 // What a step changed that led to a state. A step that ended its process changed none of its registers, and stored nothing.
-fn changes_in(k: &KernelState, seen: &Sight) -> Changes {
+fn changes_in(k: &KernelState, seen: &Sight) -> Changes
+    requires sound { IsSound k.now.call.state }
+    ensures changed { AreChanged k.now.call.state seen.now.process result }
+{
     if matches!(k.tables.state_of(seen.process), State::Free) {
         return Changes {
             register: None,
@@ -41,7 +51,9 @@ fn changes_in(k: &KernelState, seen: &Sight) -> Changes {
 }
 
 // The first register that differs.
-fn changed(before: &Hart, after: &Hart) -> Option<(u32, u32)> {
+fn changed(before: &Hart, after: &Hart) -> Option<(u32, u32)>
+    ensures holds { IfSome result (λ r. r.1 ≡ slice_index after.now.regs r.0) }
+{
     for number in 1..32u32 {
         let is = after.regs[number as usize];
         if before.regs[number as usize] != is {

@@ -8,9 +8,8 @@ use crate::running::tell;
 use crate::traces::tell_mistake;
 use crate::words::{Listed, words_of};
 use host_port::{Channel, Host};
-use machine::Machine;
+use replayed_run::Replay;
 use run_inputs::{Inputs, Refusal, fetch_run, refuse};
-use schedule_file::Schedule;
 use std::alloc::Global;
 
 /// Tells the run that the arguments after the program's name ask for: sends the text on Out, and answers the exit status.
@@ -54,27 +53,6 @@ fn told(alloc: Global, inputs: Inputs, listed: Listed) -> Result<String, Refusal
     requires good { have_fault (map (λ v. v.items) inputs.images.items) ≡ false }
     requires events { length inputs.schedule ≤ 1000000000 }
 {
-    let mut machine = inputs.boot(alloc)?;
-    let Inputs {
-        schedule,
-        images,
-        ..
-    } = inputs;
-    told_by(alloc, &mut machine, schedule, listed, images.as_slice())
-}
-
-// The text that tells the run of a machine that was just booted.
-fn told_by(
-    alloc: Global,
-    machine: &mut Machine,
-    schedule: Schedule,
-    listed: Listed,
-    files: &[Vec<u8>],
-) -> Result<String, Refusal>
-    requires over { machine.old.over ≡ false }
-    requires fresh { machine.old.events ≡ 0 }
-    requires events { length schedule ≤ 1000000000 }
-{
-    let mut schedule = schedule;
-    Ok(tell(alloc, machine, &mut schedule, listed, files)?)
+    let mut replay = Replay::new(alloc, inputs)?;
+    Ok(tell(alloc, &mut replay, listed)?)
 }

@@ -9,8 +9,9 @@
 //! |---|---|
 //! | [`explain`] | tells the run that the arguments ask for, or refuses as `run` does, and answers the exit status |
 //!
-//! What is told of a trap is that of the machine's state just ahead of the step that is trapped: `look` in `sights.rt`, and `register_line` in
-//! `specs/Sights.antt`.
+//! The run is a `Replay`, so what is told of it is that of the state after the events that were taken: `seen` of `look` in `sights.rt` says it
+//! of the registers and the place ahead of a step, `line` of `register_line` and `place_line` of their text, and `tables` in `running.rt` of the
+//! tables.
 #![tactic(auto)]
 
 mod callers;

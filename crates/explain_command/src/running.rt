@@ -1,54 +1,39 @@
 //! The run that is told: its events are taken, and what comes of each is told.
 
-ghost use Rattle.std.specs.Prelude.{◌≡◌, ◌≤◌, ◌<◌, ◌+◌, false, is_some, length, IfOk};
-ghost use Rattle.machine.specs.RunEnds.{end_of_go};
+ghost use Rattle.std.specs.Prelude.{◌≡◌, ◌<◌, false, IfOk};
+ghost use Rattle.replayed_run.specs.Replayed.{HasInputs, is_at_end};
+ghost use Rattle.xinu_model.specs.Text.{tables_of, text};
 
-use crate::changes::changes_of;
 use crate::sights::look;
 use crate::telling::Telling;
 use crate::words::Listed;
 use host_port::HostFault;
-use machine::{Go, Machine};
-use printed_events::{tables, take};
+use machine::Go;
+use replayed_run::{Printed, Replay, Taken};
 use run_story::Story;
-use schedule_file::Schedule;
 use std::alloc::Global;
 use xinu_base::{End, Event};
 
-/// The text that tells the run of a machine through the events of a schedule, after a list of some of them. The images were read from
-/// these files.
+/// The text that tells a run from its first event on, after a list of some of them.
 ///
 /// # Errors
 /// Out of memory.
 pub(crate) fn tell(
     alloc: Global,
-    machine: &mut Machine,
-    schedule: &mut Schedule,
+    replay: &mut Replay,
     listed: Listed,
-    files: &[Vec<u8>],
-) -> Result<String, HostFault>
-    requires over { machine.old.over ≡ false }
-    requires few { machine.old.events + length schedule.old ≤ 1000000000 }
-{
-    let mut telling = Telling::new(alloc, listed, files);
-    telling.story.begin(tables(alloc, machine)?.lines())?;
-    let end = take_events(alloc, machine, schedule, &mut telling)?;
+) -> Result<String, HostFault> {
+    let mut telling = Telling::new(alloc, listed);
+    telling.story.begin(tables(replay)?.lines())?;
+    let end = take_events(replay, &mut telling)?;
     Ok(telling.text(end)?)
 }
 
 // Takes the events until the run ends.
 #[inline(never)]
-fn take_events(
-    alloc: Global,
-    machine: &mut Machine,
-    schedule: &mut Schedule,
-    telling: &mut Telling<'_>,
-) -> Result<End, HostFault>
-    requires over { machine.old.over ≡ false }
-    requires few { machine.old.events + length schedule.old ≤ 1000000000 }
-{
-    while let Some(event) = schedule.next_event() {
-        match take_event(alloc, machine, event, telling)? {
+fn take_events(replay: &mut Replay, telling: &mut Telling) -> Result<End, HostFault> {
+    while let Some(event) = replay.next() {
+        match take_event(replay, event, telling)? {
             Go::Goes => {}
             Go::Done => return Ok(End::Done),
             Go::Panic => return Ok(End::Panic),
@@ -57,37 +42,53 @@ fn take_events(
     Ok(End::Schedule)
 }
 
-// Takes an event, and tells what came of it: nothing of a step that prints nothing, unless it is listed.
-fn take_event(
-    alloc: Global,
-    machine: &mut Machine,
-    event: Event,
-    telling: &mut Telling<'_>,
-) -> Result<Go, HostFault>
-    requires goes_on { machine.old.over ≡ false }
-    requires few { machine.old.events < 1000000000 }
-    ensures counted { machine.new.events ≡ machine.old.events + 1 }
-    ensures over { IfOk result (λ go. machine.new.over ≡ is_some (end_of_go go)) }
+// Takes the event that comes next, and tells what came of it: nothing of a step that prints nothing, unless it is listed.
+fn take_event(replay: &mut Replay, event: Event, telling: &mut Telling) -> Result<Go, HostFault>
+    requires goes_on { is_at_end replay.old ≡ false }
+    ensures further { IfOk result (λ _. replay.old.taken < replay.new.taken) }
+    ensures inputs { HasInputs replay.old.disks replay.old.files replay.old.events replay.new }
 {
-    let is_listed = telling.lists();
-    if !is_listed && matches!(event, Event::Step) && machine.steps(1) == 1 {
+    let is_listed = telling.lists(replay.taken());
+    if !is_listed && replay.take_steps(1) == 1 {
         telling.story.quiet(1);
         return Ok(Go::Goes);
     }
-    let seen = look(machine);
-    let taken = take(alloc, machine, event)?;
+    let seen = look(replay);
+    let taken = take(replay)?;
     let lines = taken.lines();
     if is_listed {
-        telling.list(event, &seen, &changes_of(machine, &seen), lines)?;
+        telling.list(replay, event, &seen, lines)?;
     }
     if Story::needs_tables(event, lines) {
-        let tables = tables(alloc, machine)?;
-        telling.story.event(event, lines, tables.lines())?;
+        telling.story.event(event, lines, tables(replay)?.lines())?;
     } else {
         telling.story.quiet(1);
     }
     if lines.starts_with("trap ") {
-        telling.trap(machine, &seen)?;
+        telling.trap(replay, &seen)?;
     }
     Ok(taken.go)
+}
+
+// The next event is taken.
+fn take(replay: &mut Replay) -> Result<Taken, HostFault>
+    requires goes_on { is_at_end replay.old ≡ false }
+    ensures further { IfOk result (λ _. replay.old.taken < replay.new.taken) }
+    ensures inputs { HasInputs replay.old.disks replay.old.files replay.old.events replay.new }
+{
+    match replay.take() {
+        Ok(Some(taken)) => Ok(taken),
+        Ok(None) => unreachable!(),
+        Err(_) => Err(HostFault::NoMemory),
+    }
+}
+
+// The tables after the events that were taken.
+fn tables(replay: &Replay) -> Result<Printed, HostFault>
+    ensures tables { IfOk result (λ printed. printed ≡ text (tables_of replay.now.state)) }
+{
+    match replay.tables() {
+        Ok(printed) => Ok(printed),
+        Err(_) => Err(HostFault::NoMemory),
+    }
 }

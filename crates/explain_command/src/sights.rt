@@ -1,12 +1,12 @@
-//! What is seen of the current process ahead of a step: its registers, and the word that it is about to execute.
+//! What is seen of a run ahead of a step: the registers of the current process, and the word that it is about to execute.
 
-ghost use Rattle.std.specs.Prelude.{◌≡◌, ◌+◌, ◌++◌, ◌<◌, ◌≤◌, Some, None, if◌then◌else◌, length};
+ghost use Rattle.std.specs.Prelude.{◌≡◌, ◌+◌, ◌++◌, ◌<◌, ◌≤◌, length};
 ghost use Rattle.explain_command.specs.Sights as specs;
-ghost use Rattle.xinu_model.specs.Machine.{current_hart};
-ghost use Rattle.xinu_model.specs.Memory.{may_access, number_at};
+ghost use Rattle.explain_command.specs.Sights.{IsSeen, IsSeenIn};
 ghost use Rattle.xinu_model.specs.Sound.State.{IsSound};
 
-use machine::{KernelState, Machine};
+use machine::KernelState;
+use replayed_run::Replay;
 use rv_disasm::{AsmLine, register_name};
 use rv_hart::Hart;
 use xinu_base::Pid;
@@ -14,6 +14,8 @@ use xinu_base::Pid;
 /// The current process, its registers, and the word at its pc, if RAM has one there.
 #[derive(Clone, Copy)]
 pub(crate) struct Sight {
+    /// How many events were taken before.
+    pub(crate) taken: u32,
     pub(crate) process: Pid,
     pub(crate) hart: Hart,
     pub(crate) word: Option<u32>,
@@ -21,21 +23,19 @@ pub(crate) struct Sight {
     pub(crate) stack: (u32, u32),
 }
 
-/// What is seen of the current process.
-pub(crate) fn look(machine: &Machine) -> Sight
-    ensures process { result.process ≡ machine.now.state.tables.current }
-    ensures hart { result.hart ≡ current_hart machine.now.state }
-    ensures word { result.word ≡ (if may_access (current_hart machine.now.state).pc 4 then Some (number_at machine.now.state.memory (current_hart machine.now.state).pc 4) else None) }
+/// What is seen of a run after the events that were taken.
+pub(crate) fn look(replay: &Replay) -> Sight
+    ensures seen { IsSeenIn replay.now result }
 {
-    seen(machine.state())
+    replay.runs();
+    seen(replay.state(), replay.taken())
 }
 
-// What is seen in a state.
-fn seen(k: &KernelState) -> Sight
+// What is seen in a state after so many events.
+fn seen(k: &KernelState, taken: u32) -> Sight
     requires sound { IsSound k.now.call.state }
-    ensures process { result.process ≡ k.now.call.state.tables.current }
-    ensures hart { result.hart ≡ current_hart k.now.call.state }
-    ensures word { result.word ≡ (if may_access (current_hart k.now.call.state).pc 4 then Some (number_at k.now.call.state.memory (current_hart k.now.call.state).pc 4) else None) }
+    ensures state { IsSeen k.now.call.state result }
+    ensures taken { result.taken ≡ taken }
 {
     let process = k.tables.current();
     let hart = k.harts[process.index()];
@@ -43,6 +43,7 @@ fn seen(k: &KernelState) -> Sight
     let (top, size) = k.tables.stack_of(process);
     let end = top.saturating_add(4);
     Sight {
+        taken,
         process,
         hart,
         word,

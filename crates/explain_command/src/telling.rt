@@ -1,64 +1,61 @@
 //! What is told of a run so far: the story, and the list of events.
 
+ghost use Rattle.std.specs.Prelude.{◌≡◌, ◌+◌};
+
 use crate::callers::add_callers;
-use crate::changes::Changes;
+use crate::changes::changes_of;
 use crate::listing::list_event;
 use crate::sights::Sight;
 use crate::traps::trap_text;
 use crate::words::Listed;
-use machine::Machine;
+use replayed_run::Replay;
 use run_story::Story;
 use std::alloc::{AllocError, Global};
 use xinu_base::{End, Event};
 
 /// What is told so far.
 #[derive(Drop)]
-pub(crate) struct Telling<'a> {
+pub(crate) struct Telling {
     alloc: Global,
     pub(crate) story: Story,
     listing: String,
     listed: Listed,
-    files: &'a [Vec<u8>],
 }
 
-impl<'a> Telling<'a> {
+impl Telling {
     /// Of no event.
-    pub(crate) fn new(alloc: Global, listed: Listed, files: &'a [Vec<u8>]) -> Telling<'a> {
+    pub(crate) fn new(alloc: Global, listed: Listed) -> Telling {
         Telling {
             alloc,
             story: Story::new(alloc),
             listing: String::new(alloc),
             listed,
-            files,
         }
     }
 
-    /// Whether the next event is listed.
-    pub(crate) fn lists(&self) -> bool {
-        self.listed.has(self.next())
+    /// Whether the event that comes after so many is listed.
+    pub(crate) fn lists(&self, taken: u32) -> bool {
+        self.listed.has(number_after(taken))
     }
 
-    // The number of the next event.
-    fn next(&self) -> u64 {
-        self.story.events().saturating_add(1)
-    }
-
-    /// Lists the next event, which printed these lines, by what was seen ahead of it and what it changed.
+    /// Lists an event that was just taken and printed these lines, by what was seen ahead of it.
     ///
     /// # Errors
     /// Out of memory.
     pub(crate) fn list(
         &mut self,
+        replay: &Replay,
         event: Event,
         seen: &Sight,
-        changes: &Changes,
         lines: &str,
     ) -> Result<(), AllocError> {
-        let number = self.next();
+        let number = number_after(seen.taken);
         let head = format!(in self.alloc; "event {number}: ")?;
         self.listing.push_str(head.as_str())?;
         let who = self.story.who(seen.process.index())?;
-        let line = list_event(self.alloc, event, who.as_str(), seen, changes, self.files)?;
+        let changes = changes_of(replay, seen);
+        let files = replay.files();
+        let line = list_event(self.alloc, event, who.as_str(), seen, &changes, files)?;
         self.listing.push_str(line.as_str())?;
         for line in lines.lines() {
             self.listing.push_str("    ")?;
@@ -72,9 +69,9 @@ impl<'a> Telling<'a> {
     ///
     /// # Errors
     /// Out of memory.
-    pub(crate) fn trap(&mut self, machine: &Machine, seen: &Sight) -> Result<(), AllocError> {
-        let mut text = trap_text(self.alloc, seen, self.files)?;
-        add_callers(self.alloc, &mut text, machine, seen, self.files)?;
+    pub(crate) fn trap(&mut self, replay: &Replay, seen: &Sight) -> Result<(), AllocError> {
+        let mut text = trap_text(self.alloc, seen, replay.files())?;
+        add_callers(self.alloc, &mut text, replay, seen)?;
         self.story.detail(text.as_str())
     }
 
@@ -87,4 +84,11 @@ impl<'a> Telling<'a> {
         text.push_str(self.story.told(end)?.as_str())?;
         Ok(text)
     }
+}
+
+// The number of the event that comes after so many, counted from 1.
+fn number_after(taken: u32) -> u64
+    ensures number { result ≡ taken + 1 }
+{
+    taken as u64 + 1
 }

@@ -10,9 +10,11 @@
 //! | [`Replay::runs`] | | a law: the images boot on the disks, and a run of the first events of the schedule, as many as were taken, leads to the state |
 //! | [`Replay::taken`] | | `taken`, `within`: how many events were taken |
 //! | [`Replay::next`] | | `next`: the event that comes next; `None` if and only if the run has ended, as [`Replay::is_at_end`] says |
-//! | [`Replay::take`] | | `takes`, `left`: the next event happens, and the bytes of its lines are answered, or nothing changes if none is left; `ends`: whether it ends the run; `happened`: it happened too if memory ran out |
-//! | [`Replay::take_steps`] | | `steps`, `most`: at most so many steps that print nothing are taken at once |
+//! | [`Replay::take`] | | `takes`, `left`: the next event happens, and the bytes of its lines are answered, or nothing changes if none is left; `ends`: whether it ends the run; `happened`: it happened too if memory ran out; `inputs`: of the same inputs |
+//! | [`Replay::take_steps`] | | `steps`, `most`: at most so many steps that print nothing are taken at once; `inputs`: of the same inputs |
 //! | [`Replay::seek`] | | `reached`, `within`: so many events were taken, or the run has ended with fewer; `inputs`: of the same inputs |
+//! | [`Replay::files`] | | `files`: the files of its images |
+//! | [`Replay::tables`] | | `printed`: the lines of the tables of the state |
 //! | [`Replay::state`] | | `state`, `sound`: the state, part by part |
 //! | [`laws::runs_are_one`] | | two runs with the same inputs, of which as many events were taken and the same lines printed, are in the same state |
 //!

@@ -9,9 +9,10 @@ ghost use Rattle.replayed_run.specs.Replayed.{HasInputs, IsReplayed};
 ghost use Rattle.run_inputs.specs.Starts.{IsBooted, IsRefused};
 ghost use Rattle.run_inputs.specs.InputFaults.{have_fault};
 ghost use Rattle.xinu_model.specs.Sound.State.{IsSound};
+ghost use Rattle.xinu_model.specs.Text.{tables_of, text};
 
 use machine::{BootFault, Go, KernelState, Machine};
-use printed_events::{Printed, Taken, take_event};
+use printed_events::{Printed, Taken, tables, take_event};
 use run_inputs::Inputs;
 use schedule_file::Schedule;
 use std::alloc::Global;
@@ -115,6 +116,26 @@ impl Replay {
         self.machine.state()
     }
 
+    /// The files of its images.
+    pub fn files(&self) -> &[Vec<u8>]
+        ensures files { map (λ v. v.items) result.now ≡ self.now.files }
+    {
+        self.inputs.images.as_slice()
+    }
+
+    /// The lines of its tables.
+    ///
+    /// # Errors
+    /// `NoMemory`.
+    pub fn tables(&self) -> Result<Printed, NoMemory>
+        ensures printed { IfOk result (λ printed. printed ≡ text (tables_of self.now.state)) }
+    {
+        match tables(self.alloc, &self.machine) {
+            Ok(printed) => Ok(printed),
+            Err(_) => Err(NoMemory),
+        }
+    }
+
     /// Takes the next event; nothing changes if none is left.
     ///
     /// # Errors
@@ -124,6 +145,7 @@ impl Replay {
         ensures ends { IfOk result (λ t. IfSome t (λ t. EndsWith self.old self.new (end_of_go t.go))) }
         ensures left { IfOk result (λ t. is_some t ≡ not (replayed.is_at_end self.old)) }
         ensures happened { OnErr result (TakesEvent self.old self.new None) }
+        ensures inputs { HasInputs self.old.disks self.old.files self.old.events self.new }
     {
         let Some(event) = self.next() else {
             return Ok(None);
@@ -139,6 +161,7 @@ impl Replay {
     pub fn take_steps(&mut self, most: u32) -> u32
         ensures steps { TakesSteps result self.old self.new }
         ensures most { result ≤ most }
+        ensures inputs { HasInputs self.old.disks self.old.files self.old.events self.new }
     {
         if self.has_ended {
             return 0;
