@@ -16,6 +16,7 @@
 SDK := $(dir $(lastword $(MAKEFILE_LIST)))
 CROSS ?= riscv64-unknown-elf-
 PLACE ?= 0
+JUDGE ?= $(SDK)lab schedule.txt lines.txt $(PROGRAMS:=.elf)
 
 # No variable is addressed by gp, which is 0 in a new process: so -msmall-data-limit=0.
 XFLAGS = -march=rv32i -mabi=ilp32 -msmall-data-limit=0 -O2 -Wall -Wextra -std=gnu11 \
@@ -37,7 +38,7 @@ all: $(PROGRAMS:=.elf)
 
 # A lab has a schedule and a table: what the console showed, how the run ended, and what is wrong.
 check: all
-	@$(SDK)lab schedule.txt lines.txt $(PROGRAMS:=.elf)
+	@$(JUDGE)
 
 clean:
 	rm -f $(PROGRAMS:=.elf) *.xim *.o
