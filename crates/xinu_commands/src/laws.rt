@@ -16,8 +16,13 @@ ghost use Rattle.host_port.specs.Outside.{Outside, grown};
 ghost use Rattle.image_loader.specs.ImageFiles.{image_in};
 ghost use Rattle.lfs_layout.specs.Images.{opened};
 ghost use Rattle.rv_asm.specs.Assembly.{Makes, assembly};
+ghost use Rattle.soak.specs.Soaks.{Soaks};
+ghost use Rattle.transcript_laws.specs.Transcripts.{transcript};
+ghost use Rattle.workload.specs.Summaries.{counts_of, summary};
+ghost use Rattle.xinu_base.specs.declared.events.End.TheVariants.{Schedule};
 ghost use Rattle.xinu_model.specs.Boot.{Loaded, first_disks};
 ghost use Rattle.xinu_model.specs.Machine.{Xinu};
+ghost use Rattle.xinu_model.specs.Text.{text};
 ghost use Rattle.xinu_commands.specs.AsmVerdict.{written_file};
 ghost use Rattle.xinu_commands.specs.Calls.{calls_due, calls_in};
 ghost use Rattle.xinu_commands.specs.Statuses.{SaysOfDisk, SaysOfFiles, SaysOfSource, SaysOfTrace, status_due, statuses};
@@ -94,9 +99,11 @@ pub fn unnamed_disks_are_the_first()
     ensures { disks_of empty_disk0 (opened empty_disk1) ≡ first_disks }
 {}
 
-/// A soak test is carried out whatever its number is: its disks are accepted and its programs boot. So its exit status is 0, unless the host
-/// failed or memory ran out.
+/// A soak test is carried out whatever its number is: its disks are accepted and its programs boot. It takes 200,000 events and ends with its
+/// schedule, as its line says. So its exit status is 0, unless the host failed or memory ran out.
 pub fn soak_tests_are_carried_out()
     ensures does { (seed : ℕ) → (start : Xinu) × (soak_verdict seed ≡ Does (Soaking seed start)) }
+    ensures ends { (seed : ℕ) (start : Xinu) (summary_line : List ℕ) (last : Xinu) → soak_verdict seed ≡ Does (Soaking seed start) →
+        (k : Soaks seed start summary_line last) → summary_line ≡ summary seed 200000 (counts_of (text (transcript start k.lines last Schedule))) Schedule }
     ensures status { (exit seed : ℕ) (old new : Outside) (left : Option Left) → Answers exit (Some (Soak seed)) old new left → exit ≢ 7 → exit ≢ 3 → exit ≡ 0 }
 {}
