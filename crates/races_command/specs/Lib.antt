@@ -1,2 +1,8 @@
 pub mod Judged
+pub mod Printed
+pub mod Reading
+pub mod Searching
+pub mod Shown
 pub mod Stuck
+pub mod Theorem
+pub mod Words

@@ -1,23 +1,36 @@
 //! The command: its arguments and files are read as `run` reads them, and the placements are gone through.
 
-ghost use Rattle.std.specs.Prelude.{◌≡◌, ◌≤◌, false, length, map};
-ghost use Rattle.run_inputs.specs.InputFaults.{have_fault};
+ghost use Rattle.std.specs.Prelude.{◌≡◌, ◌≤◌, false, Some, List, length, map, option_map};
+ghost use Rattle.std.specs.String.{string_bytes};
+ghost use Rattle.image_loader.specs.Images.{loaded_of};
+ghost use Rattle.given_disks.specs.Disks.{disks_of};
+ghost use Rattle.run_inputs.specs.InputFaults.{have_fault, images_loaded};
+ghost use Rattle.xinu_model.specs.Boot.{Loaded};
+ghost use Rattle.races_command.specs.Reading.{asked_of};
+ghost use Rattle.races_command.specs.Searching as search;
+ghost use Rattle.races_command.specs.Theorem as spec;
+ghost use Rattle.races_command.specs.Words.{asked};
 
-use crate::bases::{events_of, judge};
+use crate::bases::{Limits, events_of, judge};
 use crate::faults::{Fault, NO_MEMORY, tell};
-use crate::reports::{report, write_found};
+use crate::reports::{send_table, write_found};
 use crate::words::{Words, words_of};
 use host_port::Host;
-use race_tables::explore;
+use image_loader::Image;
+use lfs_layout::{CleanImage, RawImage};
+use race_tables::{BootFault, explore};
 use run_inputs::{Inputs, Refusal, fetch_run, images_of};
 use std::alloc::Global;
+use xinu_base::Event;
 
 /// Goes through the placements that the arguments after the program's name ask for: sends the table on Out, writes the schedule of the second
 /// row if a file is named for it, and answers the exit status.
 ///
 /// The status is 0 if it was sent. Else it is the status with which `run` refuses these arguments and files, and its text is sent on Fault:
 /// 2 also for numbers that don't fit, with a line that says why; 3 if the host failed; 7 if memory ran out, after the table so far.
-pub fn races<H: Host>(alloc: Global, args: &[String], host: &mut H) -> u8 {
+pub fn races<H: Host>(alloc: Global, args: &[String], host: &mut H) -> u8
+    ensures answers { spec.Answers result (map string_bytes args.now) (H.view host.old) (H.view host.new) }
+{
     match carry_out(alloc, args, host) {
         Ok(()) => 0,
         Err(fault) => tell(fault, host),
@@ -25,14 +38,24 @@ pub fn races<H: Host>(alloc: Global, args: &[String], host: &mut H) -> u8 {
 }
 
 // Carries the command out.
-fn carry_out<H: Host>(alloc: Global, args: &[String], host: &mut H) -> Result<(), Fault> {
-    let words = match words_of(alloc, args) {
-        Ok(Some(words)) => words,
-        Ok(None) => return Err(Fault::Refused(Refusal::Usage)),
-        Err(_) => return Err(NO_MEMORY),
-    };
-    let inputs = fetch_run(alloc, words.run.as_slice(), host)?;
-    go_through(alloc, inputs, &words, host)
+fn carry_out<H: Host>(alloc: Global, args: &[String], host: &mut H) -> Result<(), Fault>
+    ensures carries { spec.Carries (asked (map string_bytes args.now)) (search.ended_by result) (H.view host.old) (H.view host.new) }
+{
+    match words_of(alloc, args) {
+        Ok(Some(words)) => obey(alloc, &words, host),
+        Ok(None) => Err(Fault::Refused(Refusal::Usage)),
+        Err(_) => Err(NO_MEMORY),
+    }
+}
+
+// Does what is asked.
+fn obey<H: Host>(alloc: Global, words: &Words, host: &mut H) -> Result<(), Fault>
+    ensures obeys { spec.Obeys (asked_of words.now) (search.ended_by result) (H.view host.old) (H.view host.new) }
+{
+    match fetch_run(alloc, words.run.as_slice(), host) {
+        Ok(inputs) => go_through(alloc, inputs, words, host),
+        Err(cause) => Err(Fault::Refused(cause)),
+    }
 }
 
 // Goes through the placements of these inputs.
@@ -45,6 +68,7 @@ fn go_through<H: Host>(
     requires some { 1 ≤ length inputs.images.items }
     requires few { length inputs.images.items ≤ 8 }
     requires good { have_fault (map (λ v. v.items) inputs.images.items) ≡ false }
+    ensures goes { (images : List Loaded) → images_loaded (map (λ v. v.items) inputs.images.items) ≡ Some images → spec.Goes (asked_of words.now) inputs.schedule (spec.search_of (asked_of words.now) inputs images) (search.ended_by result) (H.view host.old) (H.view host.new) }
 {
     let Inputs {
         schedule,
@@ -56,29 +80,59 @@ fn go_through<H: Host>(
         return Err(NO_MEMORY);
     };
     let mut schedule = schedule;
-    let base = events_of(alloc, &mut schedule)?;
-    let limits = judge(words.most, words.within, base.as_slice())?;
-    let mut table = Vec::new(alloc);
-    let ended = explore(
+    let base = match events_of(alloc, &mut schedule) {
+        Ok(base) => base,
+        Err(fault) => return Err(fault),
+    };
+    let limits = match judge(words.most, words.within, base.as_slice()) {
+        Ok(limits) => limits,
+        Err(fault) => return Err(fault),
+    };
+    let found = words.found.as_ref().map(|name| name.as_str());
+    search(
         alloc,
         images.as_slice(),
         &disk0,
         &disk1,
         base.as_slice(),
-        limits.most,
-        limits.within,
-        &mut table,
-    );
-    report(alloc, table.as_slice(), limits, ended, host)?;
-    match &words.found {
-        Some(name) => write_found(
-            alloc,
-            table.as_slice(),
-            limits,
-            base.as_slice(),
-            name.as_str(),
-            host,
-        ),
-        None => Ok(()),
+        limits,
+        found,
+        host,
+    )
+}
+
+// Goes through the placements of images that load, and sends what is found.
+fn search<H: Host>(
+    alloc: Global,
+    images: &[Image<'_>],
+    disk0: &RawImage,
+    disk1: &CleanImage,
+    base: &[Event],
+    limits: Limits,
+    found: Option<&str>,
+    host: &mut H,
+) -> Result<(), Fault>
+    requires some { 1 ≤ length images.now }
+    requires few { length images.now ≤ 8 }
+    requires base { length base.now ≤ 1000000 }
+    requires most { limits.most ≤ 3 }
+    requires within { limits.within ≤ 1000000 }
+    ensures searches { search.Searches (record { disks = disks_of disk0.now disk1.now; images = map loaded_of images.now; base = base.now; most = limits.most; within = limits.within; found = option_map (λ s. s.now) found.entry }) (search.ended_by result) (H.view host.old) (H.view host.new) }
+{
+    let mut table = Vec::new(alloc);
+    let Limits { most, within } = limits;
+    match explore(alloc, images, disk0, disk1, base, most, within, &mut table) {
+        Ok(()) => {
+            match send_table(alloc, table.as_slice(), most, within, true, host) {
+                Ok(()) => {}
+                Err(fault) => return Err(fault),
+            }
+            write_found(alloc, table.as_slice(), most, within, base, found, host)
+        }
+        Err(BootFault::NoMemory) => {
+            let _ = send_table(alloc, table.as_slice(), most, within, false, host);
+            Err(NO_MEMORY)
+        }
+        Err(fault) => Err(Fault::Refused(Refusal::from(fault))),
     }
 }

@@ -1,5 +1,10 @@
 //! Why the command wasn't carried out, and how it is told.
 
+ghost use Rattle.std.specs.Prelude.{◌≡◌, length};
+ghost use Rattle.run_inputs.specs.Conversions.{host_refusal};
+ghost use Rattle.races_command.specs.Theorem as spec;
+ghost use Rattle.races_command.specs.declared.faults.Fault.TheVariants as variant;
+
 use host_port::{Channel, Host, HostFault};
 use run_inputs::{Refusal, refuse};
 use xinu_base::NoMemory;
@@ -29,20 +34,40 @@ impl From<Refusal> for Fault {
 }
 
 /// Sends the text of a refusal on Fault, with a line after it if the command refuses what `run` doesn't, and answers the exit status.
-pub(crate) fn tell<H: Host>(fault: Fault, host: &mut H) -> u8 {
-    let (refusal, line) = match fault {
-        Fault::Refused(refusal) => (refusal, ""),
-        Fault::TooMany => (Refusal::Usage, "there are at most 3 preemptions\n"),
-        Fault::TooLong => (Refusal::Usage, "the schedule has over 1000000 events\n"),
-        Fault::TooFar => (Refusal::Usage, "the schedule has fewer steps than that\n"),
-    };
-    let status = refuse(refusal, host);
-    let _ = host.emit(Channel::Fault, line.as_bytes());
+pub(crate) fn tell<H: Host>(fault: Fault, host: &mut H) -> u8
+    ensures { spec.TellsFault fault result (H.view host.old) (H.view host.new) }
+{
+    let status = refuse(refusal_of(fault), host);
+    let _ = host.emit(Channel::Fault, line_of(fault).as_bytes());
     status
 }
 
+// The refusal as which a fault is told.
+fn refusal_of(fault: Fault) -> Refusal
+    ensures { result ≡ spec.refusal_of fault }
+{
+    match fault {
+        Fault::Refused(refusal) => refusal,
+        Fault::TooMany | Fault::TooLong | Fault::TooFar => Refusal::Usage,
+    }
+}
+
+// The line after the text of the refusal.
+fn line_of(fault: Fault) -> &'static str
+    ensures { result.now ≡ spec.line_of fault }
+{
+    match fault {
+        Fault::Refused(_) => "",
+        Fault::TooMany => "there are at most 3 preemptions\n",
+        Fault::TooLong => "the schedule has over 1000000 events\n",
+        Fault::TooFar => "the schedule has fewer steps than that\n",
+    }
+}
+
 /// The fault of a host that failed.
-pub(crate) fn host_failed(fault: HostFault) -> Fault {
+pub(crate) fn host_failed(fault: HostFault) -> Fault
+    ensures { result ≡ variant.Refused (host_refusal fault) }
+{
     Fault::Refused(Refusal::from(fault))
 }
 

@@ -5,11 +5,14 @@
 //!
 //! | Call | Promise |
 //! |---|---|
-//! | [`races`] | goes through the placements by `explore` of `race_tables`, whose contract says what the table is; sends it, and answers the exit status |
+//! | [`races`] | `answers`: the table of runs of all placements is sent, over the inputs that the files gave, and the schedule of the second row is written; each other status has its cause, and its text is sent (`Answers` in `specs/Theorem.antt`) |
 //! | [`events_of`] | `events`: the events of a schedule; `cause`: refused if and only if there are more than 1000000, or out of memory |
 //! | [`judge`] | `judged`: the numbers are accepted as they are asked for, or refused for the cause that the fault says |
-//! | [`schedule_of`] | `reads`: the file that is written for a row reads as the base's events with its first placement |
+//! | [`schedule_of`] | `text`, `reads`: the file that is written for a row, which reads as the base's events with its first placement |
 //! | [`is_stuck`] | `stuck`: whether no process can go on by itself or by a device after the run |
+//!
+//! What the arguments ask is a definition (`asked` in `specs/Words.antt`), and so is the table as it is printed (`table_text` in
+//! `specs/Printed.antt`). `NoMemory` is free.
 #![tactic(auto)]
 
 mod bases;
@@ -19,6 +22,7 @@ mod faults;
 mod reports;
 mod showing;
 mod stuck;
+mod texts;
 mod words;
 
 pub use bases::{Limits, events_of, judge};

@@ -1,76 +1,71 @@
 //! What the command sends: the table, and the schedule of its second row.
 
-ghost use Rattle.std.specs.Prelude.{◌≡◌, ◌≢◌, ◌≤◌, Some, length, IfOk};
-ghost use Rattle.std.specs.List.{All};
+ghost use Rattle.std.specs.Prelude.{◌≡◌, ◌≢◌, ◌≤◌, ◌<◌, Some, None, length, map, option_map, IfOk, MatchResult};
+ghost use Rattle.std.specs.List.{All, sum};
+ghost use Rattle.host_port.specs.Outside.{appended, counted};
+ghost use Rattle.host_port.specs.declared.host.Channel.TheVariants as channel;
 ghost use Rattle.preemptions.specs.Placements.{IsAscending, IsPlacement};
 ghost use Rattle.preemptions.specs.Preempted.{preempted_at};
 ghost use Rattle.schedule_file.specs.ScheduleFiles.{events_in};
+ghost use Rattle.schedule_text.specs.Written as written;
+ghost use Rattle.races_command.specs.Printed as printed;
+ghost use Rattle.races_command.specs.Searching as spec;
 
-use crate::bases::Limits;
 use crate::faults::{Fault, NO_MEMORY, host_failed};
-use crate::showing::text_of;
+use crate::showing::table_text;
 use host_port::{Channel, Host};
 use preemptions::preempt;
-use race_tables::{BootFault, Row};
-use run_inputs::Refusal;
+use race_tables::Row;
 use schedule_text::schedule_text;
 use std::alloc::Global;
 use xinu_base::{Event, NoMemory};
 
-/// Sends the table of a search that ended so; of one for which memory ran out, the table so far.
+/// Sends a table: of all placements, or of the first of them.
 ///
 /// # Errors
-/// That of the search; out of memory; the host failed.
-pub(crate) fn report<H: Host>(
+/// Out of memory; the host failed.
+pub(crate) fn send_table<H: Host>(
     alloc: Global,
     table: &[Row],
-    limits: Limits,
-    ended: Result<(), BootFault>,
-    host: &mut H,
-) -> Result<(), Fault> {
-    match ended {
-        Ok(()) => send_table(alloc, table, limits, true, host),
-        Err(BootFault::NoMemory) => {
-            let _ = send_table(alloc, table, limits, false, host);
-            Err(NO_MEMORY)
-        }
-        Err(fault) => Err(Fault::Refused(Refusal::from(fault))),
-    }
-}
-
-// Sends the table.
-fn send_table<H: Host>(
-    alloc: Global,
-    table: &[Row],
-    limits: Limits,
+    most: u32,
+    within: u32,
     are_all: bool,
     host: &mut H,
-) -> Result<(), Fault> {
-    let Ok(text) = text_of(alloc, table, limits, are_all) else {
+) -> Result<(), Fault>
+    requires fits { sum (map (λ row. row.count) table.now) < 18446744073709551616 }
+    ensures sends { MatchResult result (λ _. H.view host.new ≡ counted (appended (H.view host.old) channel.Out (printed.table_text are_all most within table.now)) (H.view host.new).faults) (λ fault. spec.StopsIn (printed.table_text are_all most within table.now) fault (H.view host.old) (H.view host.new)) }
+    ensures later { (H.view host.old).faults ≤ (H.view host.new).faults }
+{
+    let Ok(text) = table_text(alloc, table, most, within, are_all) else {
         return Err(NO_MEMORY);
     };
-    match host.emit(Channel::Out, text.as_bytes()) {
+    match host.emit(Channel::Out, text.as_slice()) {
         Ok(()) => Ok(()),
         Err(fault) => Err(host_failed(fault)),
     }
 }
 
-/// Writes the schedule of the second row's first placement into a file, if there is a second row.
+/// Writes the schedule of the second row's first placement into a file, if one is named and there is a second row.
 ///
 /// # Errors
 /// Out of memory; the host failed.
 pub(crate) fn write_found<H: Host>(
     alloc: Global,
     table: &[Row],
-    limits: Limits,
+    most: u32,
+    within: u32,
     base: &[Event],
-    name: &str,
+    found: Option<&str>,
     host: &mut H,
 ) -> Result<(), Fault>
     requires base { length base.now ≤ 1000000 }
-    requires most { limits.most ≤ 3 }
-    requires placements { All (λ row. IsPlacement limits.most limits.within row.first) table.now }
+    requires most { most ≤ 3 }
+    requires placements { All (λ row. IsPlacement most within row.first) table.now }
+    ensures writes { MatchResult result (λ _. H.view host.new ≡ counted (spec.with_file (H.view host.old) (spec.found_file (option_map (λ s. s.now) found.entry) base.now table.now)) (H.view host.new).faults) (λ fault. spec.StopsAtFile fault (H.view host.old) (H.view host.new)) }
 {
+    let Some(name) = found else {
+        return Ok(());
+    };
     let [_, row, ..] = table else {
         return Ok(());
     };
@@ -95,6 +90,7 @@ pub fn schedule_of(alloc: Global, places: &[u32], base: &[Event]) -> Result<Vec<
     requires base { length base.now ≤ 1000000 }
     requires places { length places.now ≤ 3 }
     requires ascending { IsAscending places.now }
+    ensures text { IfOk result (λ text. text.items ≡ written.schedule_text (preempted_at places.now base.now)) }
     ensures reads { IfOk result (λ text. events_in text.items ≡ Some (preempted_at places.now base.now)) }
 {
     let Ok(events) = preempt(alloc, base, places) else {

@@ -1,81 +1,149 @@
 //! The table as text.
 
-use crate::bases::Limits;
-use crate::console::shown_console;
+ghost use Rattle.std.specs.Prelude.{◌≡◌, ◌<◌, ◌≤◌, ◌+◌, ◌++◌, length, map, IfOk, OnOk};
+ghost use Rattle.std.specs.List.{sum};
+ghost use Rattle.races_command.specs.Printed as spec;
+
+use crate::console::push_console;
 use crate::stuck::is_stuck;
+use crate::texts::{push_listed, push_number, push_number_of, push_places};
 use race_tables::{Outcome, Row};
 use std::alloc::{AllocError, Global};
-use std::str;
 
-/// The rows of the table, and a line that says what was run. Whether all placements were gone through is given.
+/// The table of the placements with at most `most` quantum ends within `within` steps, or of the first of them.
 ///
 /// # Errors
 /// Out of memory.
-pub(crate) fn text_of(
+#[tactic(auto, unfolding(crate::specs::Printed::table_text))]
+pub(crate) fn table_text(
     alloc: Global,
     table: &[Row],
-    limits: Limits,
+    most: u32,
+    within: u32,
     are_all: bool,
-) -> Result<String, AllocError> {
-    let mut text = String::new(alloc);
-    let mut number = 0u64;
-    let mut runs = 0u64;
-    for row in table {
-        number = number.saturating_add(1);
-        runs = runs.saturating_add(row.count());
-        add_row(alloc, &mut text, number, row)?;
-    }
-    let first = if are_all {
-        "a run of each of"
-    } else {
-        "out of memory after runs of"
-    };
-    let last = format!(in alloc;
-        "{first} {runs} schedules, with at most {} preemptions in the first {} steps: {number} outcomes\n",
-        limits.most, limits.within
-    )?;
-    text.push_str(last.as_str())?;
+) -> Result<Vec<u8>, AllocError>
+    requires fits { sum (map (λ row. row.count) table.now) < 18446744073709551616 }
+    ensures text { IfOk result (λ text. text.items ≡ spec.table_text are_all most within table.now) }
+{
+    let mut text = Vec::new(alloc);
+    push_rows(&mut text, table)?;
+    let runs = runs_in(table);
+    push_last(&mut text, runs, most, within, table.len() as u64, are_all)?;
     Ok(text)
 }
 
-// Adds a row: how many schedules came to the outcome, the places of the first, and the outcome.
-fn add_row(alloc: Global, text: &mut String, number: u64, row: &Row) -> Result<(), AllocError> {
-    let count = row.count();
-    let head = format!(in alloc;
-        "outcome {number}: {count} schedules, first with preemptions after"
-    )?;
-    text.push_str(head.as_str())?;
-    if row.first().is_empty() {
-        text.push_str(" none")?;
-    }
-    for place in row.first() {
-        let place = format!(in alloc; " {place}")?;
-        text.push_str(place.as_str())?;
-    }
-    text.push_str("\n")?;
-    add_outcome(alloc, text, row.outcome())
-}
-
-// Adds an outcome: what the console sent, how the run ended, the traps, and the processes that are left with what they wait for.
-fn add_outcome(alloc: Global, text: &mut String, outcome: &Outcome) -> Result<(), AllocError> {
-    text.push_str("  \"")?;
-    text.push_str(shown_console(alloc, outcome.console())?.as_str())?;
-    text.push_str("\" end ")?;
-    text.push_str(outcome.end().name())?;
-    if is_stuck(outcome) {
-        text.push_str(", stuck")?;
-    }
-    text.push_str("\n")?;
-    add_lines(text, outcome.traps())?;
-    add_lines(text, outcome.left())
-}
-
-// Adds lines, each behind two blanks.
-fn add_lines(text: &mut String, lines: &[u8]) -> Result<(), AllocError> {
-    for line in str::from_utf8(lines).unwrap_or("").lines() {
-        text.push_str("  ")?;
-        text.push_str(line)?;
-        text.push_str("\n")?;
+// Appends the rows, numbered from 1 on.
+fn push_rows(text: &mut Vec<u8>, table: &[Row]) -> Result<(), AllocError>
+    ensures rows { OnOk result (text.new.items ≡ text.old.items ++ spec.rows_text 1 table.now) }
+{
+    for i in 0..table.len() {
+        let row = &table[i];
+        push_row(text, i as u64 + 1, row)?;
     }
     Ok(())
+}
+
+// Appends a row with its number.
+fn push_row(text: &mut Vec<u8>, number: u64, row: &Row) -> Result<(), AllocError>
+    ensures row { OnOk result (text.new.items ≡ text.old.items ++ spec.row_text number row.now) }
+{
+    push_head(text, number, row.count(), row.first())?;
+    push_outcome(text, row.outcome())?;
+    Ok(())
+}
+
+// Appends the first line of a row: how many schedules had the outcome, and the places of the first of them.
+#[tactic(auto, unfolding(crate::specs::Printed::head_text))]
+fn push_head(text: &mut Vec<u8>, number: u64, count: u64, places: &[u32]) -> Result<(), AllocError>
+    ensures head { OnOk result (text.new.items ≡ text.old.items ++ spec.head_text number count places.now) }
+{
+    text.extend_from_slice(b"outcome ")?;
+    push_number(text, number)?;
+    text.extend_from_slice(b": ")?;
+    push_number_of(text, count, "schedule")?;
+    text.extend_from_slice(b", first with preemptions after")?;
+    push_places(text, places)?;
+    text.extend_from_slice(b"\n")?;
+    Ok(())
+}
+
+// Appends an outcome: what the console sent, how the run ended, the traps, and the processes that are left with what they wait for.
+#[tactic(auto, unfolding(crate::specs::Printed::outcome_text))]
+fn push_outcome(text: &mut Vec<u8>, outcome: &Outcome) -> Result<(), AllocError>
+    ensures outcome { OnOk result (text.new.items ≡ text.old.items ++ spec.outcome_text outcome.now) }
+{
+    text.extend_from_slice(b"  \"")?;
+    push_console(text, outcome.console())?;
+    text.extend_from_slice(b"\" end ")?;
+    text.extend_from_slice(outcome.end().name().as_bytes())?;
+    push_stuck(text, is_stuck(outcome))?;
+    text.extend_from_slice(b"\n")?;
+    push_listed(text, outcome.traps())?;
+    push_listed(text, outcome.left())?;
+    Ok(())
+}
+
+// Appends what is added to the end of a run that can't go on.
+fn push_stuck(text: &mut Vec<u8>, stuck: bool) -> Result<(), AllocError>
+    ensures stuck { OnOk result (text.new.items ≡ text.old.items ++ spec.stuck_text stuck) }
+{
+    if stuck {
+        return text.extend_from_slice(b", stuck");
+    }
+    Ok(())
+}
+
+// Appends the last line: how many schedules were run, which, and how many outcomes there are.
+#[tactic(auto, unfolding(crate::specs::Printed::last_line))]
+fn push_last(
+    text: &mut Vec<u8>,
+    runs: u64,
+    most: u32,
+    within: u32,
+    outcomes: u64,
+    are_all: bool,
+) -> Result<(), AllocError>
+    ensures last { OnOk result (text.new.items ≡ text.old.items ++ spec.last_line are_all runs most within outcomes) }
+{
+    push_began(text, are_all)?;
+    push_number_of(text, runs, "schedule")?;
+    push_bounds(text, most, within)?;
+    text.extend_from_slice(b": ")?;
+    push_number_of(text, outcomes, "outcome")?;
+    text.extend_from_slice(b"\n")?;
+    Ok(())
+}
+
+// Appends which placements are gone through.
+fn push_bounds(text: &mut Vec<u8>, most: u32, within: u32) -> Result<(), AllocError>
+    ensures bounds { OnOk result (text.new.items ≡ text.old.items ++ spec.bounds_text most within) }
+{
+    text.extend_from_slice(b", with at most ")?;
+    push_number_of(text, most as u64, "preemption")?;
+    text.extend_from_slice(b" in the first ")?;
+    push_number_of(text, within as u64, "step")?;
+    Ok(())
+}
+
+// Appends how the last line begins.
+fn push_began(text: &mut Vec<u8>, are_all: bool) -> Result<(), AllocError>
+    ensures began { OnOk result (text.new.items ≡ text.old.items ++ spec.began are_all) }
+{
+    if are_all {
+        return text.extend_from_slice(b"a run of each of ");
+    }
+    text.extend_from_slice(b"out of memory after runs of ")
+}
+
+// How many runs a table counts.
+fn runs_in(table: &[Row]) -> u64
+    requires fits { sum (map (λ row. row.count) table.now) < 18446744073709551616 }
+    ensures runs { result ≡ sum (map (λ row. row.count) table.now) }
+{
+    let mut runs = 0;
+    for i in 0..table.len() {
+        let row = &table[i];
+        runs += row.count();
+    }
+    runs
 }

@@ -68,8 +68,8 @@ fn is_device_semaphore(number: &[u8]) -> bool
     is_word(number, "0") || (is_word(number, "1") || (is_word(number, "2") || is_word(number, "3")))
 }
 
-// Whether a token is this word.
-fn is_word(token: &[u8], word: &str) -> bool
+/// Whether a token is this word.
+pub(crate) fn is_word(token: &[u8], word: &str) -> bool
     ensures word { result ≡ bytes_eq token.now word.now }
 {
     token == word.as_bytes()

@@ -1,0 +1,5 @@
+pub mod Ending
+pub mod EqualsSigns
+pub mod PrintedParts
+pub mod PrintedRows
+pub mod Sending

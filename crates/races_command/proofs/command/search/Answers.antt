@@ -1,0 +1,29 @@
+use Rattle.std.proofs.Common.{◌<◌, List, map, subst, sym}
+use Rattle.std.specs.List.{sum}
+use Rattle.race_tables.specs.Rows.{Row}
+use Rattle.races_command.proofs.Ending.{all_fit, file_ends, some_ends, some_fit}
+use Rattle.races_command.proofs.command.search.Goals as goal
+
+pub send_table-requires : goal.send_table-requires
+send_table-requires g c = record {
+  fits = subst (λ (t : List Row). sum (map (λ row. row.count) t) < 18446744073709551616) (sym c.as_slice.ensures.value)
+      (all_fit _ _ _ c.args.limits.most c.args.limits.within _ c.requires.most c.requires.within c.in-Ok.ensures.explores);
+}
+
+pub returns-in-Ok : goal.returns-in-Ok
+returns-in-Ok g c = record {
+  searches = file_ends _ _ _ _ c.write_found.result _ _ _ c.in-Ok.ensures.explores c.as_slice.ensures.value c.as_slice-in-Ok.ensures.value
+      c.in-Ok-send_table.ensures.sends c.send_table.ensures.later c.write_found.ensures.writes;
+}
+
+pub send_table-requires-in-Err-NoMemory : goal.send_table-requires-in-Err-NoMemory
+send_table-requires-in-Err-NoMemory g c = record {
+  fits = subst (λ (t : List Row). sum (map (λ row. row.count) t) < 18446744073709551616) (sym c.as_slice-in-Err-NoMemory.ensures.value)
+      (some_fit _ _ _ c.args.limits.most c.args.limits.within _ c.requires.most c.requires.within c.in-Err-NoMemory.ensures.explores);
+}
+
+pub returns-in-Err-NoMemory : goal.returns-in-Err-NoMemory
+returns-in-Err-NoMemory g c = record {
+  searches = some_ends _ _ _ c.send_table-in-Err-NoMemory.result _ _ c.in-Err-NoMemory.ensures.explores c.as_slice-in-Err-NoMemory.ensures.value
+      c.send_table-in-Err-NoMemory.ensures.sends c.send_table-in-Err-NoMemory.ensures.later;
+}

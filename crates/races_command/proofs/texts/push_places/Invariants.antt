@@ -1,0 +1,8 @@
+-- The places so far.
+use Rattle.std.proofs.Common.{◌≡◌, ◌++◌, take}
+use Rattle.std.specs.List.{flat_map}
+use Rattle.races_command.specs.Shown.{place_text}
+use Rattle.races_command.proofs.texts.push_places.Given as goal
+
+abbrev pub invariant-loop-place : goal.invariant-loop-place
+invariant-loop-place l = l.text.items ≡ l.fn.text.items ++ flat_map place_text (take l.place-index l.places)

@@ -1,0 +1,50 @@
+-- The table as it is printed.
+use Rattle.std.specs.Prelude.{◌+◌, ℕ, Bool, if◌then◌else◌, List, [], ◌∷◌, ◌++◌, length, map, codes}
+use Rattle.std.specs.List.{sum}
+use Rattle.std.specs.Fmt.{decimal}
+use Rattle.race_runs.specs.Outcomes.{Outcome}
+use Rattle.race_tables.specs.Rows.{Row}
+use Rattle.races_command.specs.Shown.{listed, number_of, places_text, shown_console}
+use Rattle.races_command.specs.Stuck.{is_stuck}
+use Rattle.xinu_base.specs.Names.{end_name}
+
+-- what is added to the end of a run that can't go on
+abbrev pub stuck_text : Bool → List ℕ
+stuck_text stuck = if stuck then codes ", stuck" else []
+
+-- an outcome: what the console sent, how the run ended, the traps, and the processes that are left with what they wait for
+unfoldable pub outcome_text : Outcome → List ℕ
+outcome_text o =
+    codes "  \"" ++ shown_console o.console ++ codes "\" end " ++ end_name o.end ++ stuck_text (is_stuck o) ++ codes "\n" ++ listed o.traps ++ listed o.left
+
+-- the first line of a row with its number: how many schedules had the outcome, and the places of the first of them
+unfoldable pub head_text : ℕ → ℕ → List ℕ → List ℕ
+head_text number count places =
+    codes "outcome " ++ decimal number ++ codes ": " ++ number_of count (codes "schedule") ++ codes ", first with preemptions after" ++ places_text places ++ codes "\n"
+
+-- a row with its number
+abbrev pub row_text : ℕ → Row → List ℕ
+row_text number row = head_text number row.count row.first ++ outcome_text row.outcome
+
+-- rows, numbered from this number on
+unfoldable pub rows_text : ℕ → List Row → List ℕ
+rows_text number [] = []
+rows_text number (row ∷ table) = row_text number row ++ rows_text (number + 1) table
+
+-- whether all placements were gone through
+abbrev pub began : Bool → List ℕ
+began are_all = if are_all then codes "a run of each of " else codes "out of memory after runs of "
+
+-- which placements are gone through
+unfoldable pub bounds_text : ℕ → ℕ → List ℕ
+bounds_text most within = codes ", with at most " ++ number_of most (codes "preemption") ++ codes " in the first " ++ number_of within (codes "step")
+
+-- the last line: how many schedules were run, which, and how many outcomes there are
+unfoldable pub last_line : Bool → ℕ → ℕ → ℕ → ℕ → List ℕ
+last_line are_all runs most within outcomes =
+    began are_all ++ number_of runs (codes "schedule") ++ bounds_text most within ++ codes ": " ++ number_of outcomes (codes "outcome") ++ codes "\n"
+
+-- the table of the placements with at most so many quantum ends within so many steps, or of the first of them
+unfoldable pub table_text : Bool → ℕ → ℕ → List Row → List ℕ
+table_text are_all most within table =
+    rows_text 1 table ++ last_line are_all (sum (map (λ row. row.count) table)) most within (length table)

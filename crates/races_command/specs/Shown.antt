@@ -1,0 +1,53 @@
+-- The parts of a printed table: numbers, the bytes that the console sent, lines.
+use Rattle.std.specs.Prelude.{◌==◌, ◌&&◌, ℕ, Bool, false, not, nat_le, if◌then◌else◌, List, [], ◌∷◌, ◌++◌, codes, bytes_eq}
+use Rattle.std.specs.List.{filter, flat_map}
+use Rattle.std.specs.Fmt.{decimal}
+use Rattle.std.specs.Option.{option_map_or}
+use Rattle.schedule_file.specs.Numbers.{byte_in}
+use Rattle.text_lines.specs.Lines.{lines_of, tokens_of}
+use Rattle.xinu_base.specs.Hexadecimal.{hex_byte}
+
+-- so many of a thing
+unfoldable pub number_of : ℕ → List ℕ → List ℕ
+number_of n thing = decimal n ++ codes " " ++ thing ++ (if n == 1 then [] else codes "s")
+
+-- a place of a placement
+abbrev pub place_text : ℕ → List ℕ
+place_text place = codes " " ++ decimal place
+
+-- the places of a placement
+unfoldable pub places_text : List ℕ → List ℕ
+places_text [] = codes " none"
+places_text (place ∷ places) = flat_map place_text (place ∷ places)
+
+-- a byte as it is shown: a printable one as it is, and others behind a backslash
+unfoldable pub shown_byte : ℕ → List ℕ
+shown_byte b =
+    if b == 10 then codes "\\n"
+    else if b == 13 then codes "\\r"
+    else if b == 34 then codes "\\\""
+    else if b == 92 then codes "\\\\"
+    else if nat_le 32 b && nat_le b 126 then b ∷ []
+    else codes "\\x" ++ hex_byte b
+
+-- the byte of a line of the transcript that says what the console sent, as `con 61`
+abbrev pub shown_line : List (List ℕ) → List ℕ
+shown_line (word ∷ digits ∷ rest) = option_map_or shown_byte (byte_in digits) []
+shown_line tokens = []
+
+-- the bytes of such lines
+unfoldable pub shown_console : List ℕ → List ℕ
+shown_console lines = flat_map (λ line. shown_line (tokens_of line)) (lines_of lines)
+
+-- whether a line of the tables is that of the null process
+abbrev pub is_null_line : List (List ℕ) → Bool
+is_null_line (word ∷ number ∷ rest) = bytes_eq word (codes "proc") && bytes_eq number (codes "0")
+is_null_line tokens = false
+
+-- a line behind two blanks
+abbrev pub indented : List ℕ → List ℕ
+indented line = codes "  " ++ line ++ codes "\n"
+
+-- the lines of a text but that of the null process, which is always left
+unfoldable pub listed : List ℕ → List ℕ
+listed text = flat_map indented (filter (λ line. not (is_null_line (tokens_of line))) (lines_of text))
