@@ -1,0 +1,90 @@
+//! The command: its arguments and files are read as `run` reads them, and packets are served.
+
+ghost use Rattle.std.specs.Prelude.{◌≡◌, ◌≤◌, false, length, map};
+ghost use Rattle.run_inputs.specs.InputFaults.{have_fault};
+
+use crate::serving::serve;
+use crate::session::Session;
+use host_port::{Host, HostFault};
+use replayed_run::Replay;
+use run_inputs::{Inputs, Refusal, fetch_run, refuse};
+use std::alloc::{AllocError, Global};
+use std::io::{Read, Write};
+
+/// Serves packets for the run that the arguments after the program's name ask for, and answers the exit status.
+///
+/// The status is 0 once the debugger has gone away, ended the session, or closed the input. Else it is the status with which `run` refuses
+/// these arguments and files, and its text is sent on Fault: 2 also for arguments that concern the output of a run; 3 if the input or the
+/// output failed; 7 if memory ran out.
+pub fn debug<H: Host, R: Read, W: Write>(
+    alloc: Global,
+    args: &[String],
+    host: &mut H,
+    input: &mut R,
+    output: &mut W,
+) -> u8 {
+    match carry_out(alloc, args, host, input, output) {
+        Ok(()) => 0,
+        Err(refusal) => refuse(refusal, host),
+    }
+}
+
+// Carries the command out.
+fn carry_out<H: Host, R: Read, W: Write>(
+    alloc: Global,
+    args: &[String],
+    host: &mut H,
+    input: &mut R,
+    output: &mut W,
+) -> Result<(), Refusal> {
+    let words = match words_of(alloc, args) {
+        Ok(words) => words,
+        Err(_) => return Err(Refusal::NoMemory),
+    };
+    let replay = replay_of(alloc, words.as_slice(), host)?;
+    served(alloc, replay, input, output)
+}
+
+// The run that the words of the command `run` ask for, before its first event.
+fn replay_of<H: Host>(alloc: Global, words: &[String], host: &mut H) -> Result<Replay, Refusal> {
+    let inputs = fetch_run(alloc, words, host)?;
+    begun(alloc, inputs)
+}
+
+// The run of these inputs, before its first event.
+fn begun(alloc: Global, inputs: Inputs) -> Result<Replay, Refusal>
+    requires some { 1 ≤ length inputs.images.items }
+    requires few { length inputs.images.items ≤ 8 }
+    requires good { have_fault (map (λ v. v.items) inputs.images.items) ≡ false }
+    requires events { length inputs.schedule ≤ 1000000000 }
+{
+    match Replay::new(alloc, inputs) {
+        Ok(replay) => Ok(replay),
+        Err(fault) => Err(Refusal::from(fault)),
+    }
+}
+
+// The arguments of the command `run`, with its name before them.
+fn words_of(alloc: Global, args: &[String]) -> Result<Vec<String>, AllocError> {
+    let mut words = Vec::new(alloc);
+    words.push(String::from_str(alloc, "run")?)?;
+    for arg in args {
+        words.push(String::from_str(alloc, arg.as_str())?)?;
+    }
+    Ok(words)
+}
+
+// Serves packets for a run.
+fn served<R: Read, W: Write>(
+    alloc: Global,
+    replay: Replay,
+    input: &mut R,
+    output: &mut W,
+) -> Result<(), Refusal> {
+    let mut session = Session::new(alloc, replay);
+    match serve(alloc, &mut session, input, output) {
+        Ok(()) => Ok(()),
+        Err(HostFault::Failed) => Err(Refusal::HostFault),
+        Err(HostFault::NoMemory) => Err(Refusal::NoMemory),
+    }
+}

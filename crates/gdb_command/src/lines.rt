@@ -1,0 +1,45 @@
+//! The lines that an event printed: whether its instruction was trapped, and what the console sent.
+
+use std::alloc::AllocError;
+use xinu_base::Cause;
+
+/// The cause of the trap that these lines tell of, if they do.
+pub(crate) fn trap_in(lines: &[u8]) -> Option<Cause> {
+    let rest = lines.strip_prefix(b"trap ".as_slice())?;
+    let words = after_blank(rest);
+    cause_of(words)
+}
+
+// What comes after the first blank.
+fn after_blank(bytes: &[u8]) -> &[u8] {
+    match bytes.iter().position(|b| *b == b' ') {
+        Some(place) => &bytes[place + 1..],
+        None => &[],
+    }
+}
+
+// The cause with whose word a line ends.
+fn cause_of(word: &[u8]) -> Option<Cause> {
+    match word {
+        [b'f', ..] => Some(Cause::Fetch),
+        [b'i', ..] => Some(Cause::Illegal),
+        [b'b', ..] => Some(Cause::Break),
+        [b't', ..] => Some(Cause::Target),
+        [b'l', ..] => Some(Cause::Load),
+        [b's', ..] => Some(Cause::Store),
+        _ => None,
+    }
+}
+
+/// Appends the two digits of each byte that these lines say that the console sent.
+///
+/// # Errors
+/// Out of memory.
+pub(crate) fn push_console(digits: &mut Vec<u8>, lines: &[u8]) -> Result<(), AllocError> {
+    for line in lines.split(|b| *b == b'\n') {
+        if let Some(sent) = line.strip_prefix(b"con ".as_slice()) {
+            digits.extend_from_slice(sent)?;
+        }
+    }
+    Ok(())
+}

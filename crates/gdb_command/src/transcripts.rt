@@ -1,0 +1,28 @@
+//! The lines that a run printed so far.
+
+ghost use Rattle.gdb_command.specs.SameRun.{IsSameRun};
+
+use crate::watched::WatchedRun;
+use host_port::HostFault;
+use std::alloc::Global;
+
+/// The lines of the events that were taken, from the first one on: the run goes back to its beginning, and takes them once more.
+///
+/// # Errors
+/// Out of memory.
+pub(crate) fn lines_so_far(alloc: Global, run: &mut WatchedRun) -> Result<Vec<u8>, HostFault>
+    ensures inputs { IsSameRun run.old.replay run.new.replay }
+{
+    let count = run.replay.taken();
+    run.seek(0)?;
+    let mut lines = Vec::new(alloc);
+    for _ in 0..u32::MAX {
+        if run.replay.taken() >= count || run.replay.is_at_end() {
+            break;
+        }
+        if !run.take_step() {
+            run.take_lines(&mut lines)?;
+        }
+    }
+    Ok(lines)
+}
