@@ -52,8 +52,9 @@ def arguments(name):
 
 
 def stored_run(name, words):
-    """What these words and the stored arguments of a program print, and whether that is as it is stored."""
-    ran = subprocess.run([*words, *arguments(name)], cwd=crate(name), stdout=subprocess.PIPE, check=False)
+    """What these words and the stored arguments of a program print from its stored input, and whether that is as it is stored."""
+    typed = stored(name, "stdin").encode()
+    ran = subprocess.run([*words, *arguments(name)], cwd=crate(name), input=typed, stdout=subprocess.PIPE, check=False)
     printed = ran.stdout.decode("utf-8", "replace")
     return printed, ran.returncode == 0 and printed == stored(name, "stdout")
 
