@@ -1,0 +1,12 @@
+QStartNoAckMode
+m800,3
+c
+m800,3
+bc
+m800,3
+Z2,800,1
+c
+m800,3
+bc
+m800,3
+D

@@ -1,0 +1,10 @@
+QStartNoAckMode
+Z0,48,4
+c
+pa
+bs
+p20
+qRcmd,6576656e74
+qRcmd,7472616e736372697074
+bc
+D

@@ -1,0 +1,3 @@
+.place 0
+.priority 20
+end:    j    end
