@@ -3,3 +3,4 @@ pub mod Fewness
 pub mod Places
 pub mod Tables
 pub mod Exploring
+pub mod EveryRun

@@ -170,7 +170,7 @@ all_have (x ∷ xs) =
     (All-weaker (HasRow (rows xs)) (HasRow (row_of x xs ∷ others x.outcome (rows xs)))
     (λ run has. has_later x run xs (are_equal x.outcome has.row.outcome) has refl) xs (all_have xs))
 
-only : (row other : Row) → Contains (row ∷ []) other → row ≡ other
+pub only : (row other : Row) → Contains (row ∷ []) other → row ≡ other
 only row other (zero, within, is) = is
 only row other (suc k, within, is) = absurd (omega (arith, within))
 
