@@ -1,4 +1,4 @@
-/* The proved heap, called from C: crates/heap_c, built by `sdk/build heap_c`. */
+/* The proved heap, called from C: crates/heap_c, built by `rt lib`. */
 #include <stddef.h>
 #include <stdint.h>
 
