@@ -1,11 +1,13 @@
 /* xinu.h - the kernel's calls, constants and devices, for programs in C */
 
-/* The calls are those of docs/CALLS.md, by the names and types of the book.  What differs	*/
-/*   from the book's Xinu: OK is 0, create takes exactly two arguments for the new process,	*/
-/*   and the console's control functions have other numbers.					*/
+/* The calls are those of docs/CALLS.md, by the names and, mostly, the types of the book.	*/
+/*   OK is 0 here; create takes exactly two arguments for the new process, control one;		*/
+/*   ptdelete and ptreset take a number in place of a function; clktime is a call; and the	*/
+/*   console's control functions have other numbers.						*/
 /*												*/
-/* A call that is refused answers SYSERR and changes nothing.  A comment says when that is,	*/
-/*   and whether the call may wait: a caller that waits lets other processes run.		*/
+/* A refused call answers SYSERR; one that is refused immediately changes nothing else.  A	*/
+/*   comment says when a call is refused, and whether it may wait: a caller that waits lets	*/
+/*   other processes run.									*/
 
 #ifndef XINU_H
 #define XINU_H
