@@ -2,7 +2,7 @@
 //!
 //! A heap can't be handed to C, since its values own memory; a list of calls and the list of their answers can. So a program in C that
 //! has a heap of its own notes its calls, and asks what the proved heap answers to them: the first answer that differs is the first
-//! mistake. `examples/layers` has such a program.
+//! mistake. `examples/heap_in_c` has such a program.
 //!
 //! | Call | Promise |
 //! |---|---|
