@@ -1,4 +1,5 @@
 pub mod Apart
+pub mod DiskBytes
 pub mod Disks
 pub mod FileEffects
 pub mod Machines

@@ -4,7 +4,8 @@ ghost use Rattle.std.specs.Prelude.{ℕ, ◌≡◌, ◌+◌, ◌∷◌, [], ◌<
 ghost use Rattle.given_disks.specs.HeldFiles.{HoldsFiles};
 ghost use Rattle.host_port.specs.Printing.{Prints};
 ghost use Rattle.machine.specs.Apart.{KeepsApart};
-ghost use Rattle.machine.specs.Disks.{bytes_of, ChangesDisk, disk_bytes};
+ghost use Rattle.machine.specs.DiskBytes.{bytes_of, disk_bytes};
+ghost use Rattle.machine.specs.Disks.{ChangesDisk};
 ghost use Rattle.machine.specs.RunEnds.{end_of_go};
 ghost use Rattle.machine.specs.Printed.{EventPrints};
 ghost use Rattle.process_core.specs.Tables.{numbers, sleepers_of};

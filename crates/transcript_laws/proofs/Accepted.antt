@@ -5,48 +5,24 @@ use Rattle.std.proofs.lemmas.Bool.{and_parts}
 use Rattle.xinu_base.specs.declared.events.End.{End}
 use Rattle.xinu_base.specs.declared.events.End.TheVariants.{Schedule}
 use Rattle.xinu_base.specs.declared.events.Event.{Event}
-use Rattle.xinu_base.specs.declared.lines.FileMoment.TheVariants.{Next}
 use Rattle.xinu_base.specs.declared.lines.TranscriptLine.{TranscriptLine}
-use Rattle.xinu_base.specs.declared.lines.TranscriptLine.TheVariants as line
 use Rattle.xinu_model.specs.Agree.{begins_next}
 use Rattle.xinu_model.specs.Events.{effect_of, panics_in}
 use Rattle.xinu_model.specs.Machine.{Xinu, EventResult}
 use Rattle.xinu_model.specs.Runs.{RunsTo, Follows, end_with, is_over}
 use Rattle.xinu_model.specs.Sound.State.{IsSound}
 use Rattle.xinu_model.specs.Text.{text}
-use Rattle.xinu_model.proofs.Outcomes.{agree}
 use Rattle.xinu_laws.proofs.FileSyscalls.Chosen.{choice_happens, effect_panics}
 use Rattle.xinu_laws.proofs.Preserve.Events.{sound_happens}
+use Rattle.xinu_laws.proofs.RunOutcomes as outcomes
 use Rattle.part_laws.proofs.FileSystems.Orders.{own_bytes, same_bytes}
 use Rattle.transcript_laws.proofs.Texts.{begun, rest_of, starts, text_append}
 use Rattle.transcript_laws.specs.Reading.{starts_with, last_lines, Prints, accepts_after, accepts, Tells}
 
 -- what a run prints doesn't begin with a call that took effect as the next one
-pub first_kept : (first rest : List TranscriptLine) → begins_next first ≡ false → begins_next rest ≡ false
-    → begins_next (first ++ rest) ≡ false
-first_kept [] rest e r = r
-first_kept (line.File p Next ∷ first) rest e r = e
-first_kept _ rest e r = refl
-
--- so if neither an event nor the rest of the run begins so, the two together don't
-after_begins : (first lines : List TranscriptLine) (mid last : Xinu) (end : End) (o : Option End) (Rest : List TranscriptLine → Type 0)
-    → begins_next first ≡ false → ((rest : List TranscriptLine) → Rest rest → begins_next (rest ++ last_lines last end) ≡ false)
-    → Follows o Rest first lines mid last end → begins_next (lines ++ last_lines last end) ≡ false
-after_begins first lines mid last end (Some with_event) Rest one go (same, state, by) =
-    subst (λ (l : List TranscriptLine). begins_next (l ++ last_lines last end) ≡ false) (sym same)
-    (first_kept first (last_lines last end) one refl)
-after_begins first lines mid last end None Rest one go (rest, runs, same) =
-    subst (λ (l : List TranscriptLine). begins_next (l ++ last_lines last end) ≡ false) (sym same)
-    (subst (λ (l : List TranscriptLine). begins_next l ≡ false) (sym (append_assoc first rest (last_lines last end)))
-    (first_kept first (rest ++ last_lines last end) one (go rest runs)))
-
 pub run_begins : (events : List Event) (s : Xinu) (lines : List TranscriptLine) (last : Xinu) (end : End) → RunsTo s events lines last end
     → begins_next (lines ++ last_lines last end) ≡ false
-run_begins [] s lines last end (none, same, by_end) = subst (λ (l : List TranscriptLine). begins_next (l ++ last_lines last end) ≡ false)
-    (sym none) refl
-run_begins (e ∷ events) s lines last end (mid, first, h, follows) =
-    after_begins first lines mid last end (end_with (panics_in s e) (is_over mid)) (λ rest. RunsTo mid events rest last end)
-    ((agree s e).first first mid h) (λ rest runs. run_begins events mid rest last end runs) follows
+run_begins events s lines last end runs = outcomes.run_begins events s lines (last_lines last end) last end refl runs
 
 -- an event that printed the first lines and left mid, and what is printed after it
 record After (events : List Event) (first : List TranscriptLine) (mid : Xinu) (rest : List ℕ) (o : Option End) : Type 0 where

@@ -11,13 +11,13 @@ use Rattle.xinu_model.specs.Machine.{Xinu, EventResult}
 use Rattle.xinu_model.specs.Runs.{RunsTo, Follows, end_with, is_over}
 use Rattle.xinu_model.specs.Sound.State.{IsSound}
 use Rattle.xinu_model.specs.Text.{text}
+use Rattle.xinu_laws.proofs.RunOutcomes.{parted, run_begins}
 use Rattle.xinu_laws.proofs.Preserve.Disks.{sound_boot_on}
 use Rattle.xinu_laws.proofs.Preserve.Events.{sound_happens}
 use Rattle.part_laws.specs.GivenDisks.{AreSoundDisks}
 use Rattle.transcript_laws.specs.Choices.{told}
 use Rattle.transcript_laws.specs.Reading.{last_lines}
 use Rattle.transcript_laws.specs.Transcripts.{IsText, first_text}
-use Rattle.transcript_laws.proofs.Accepted.{run_begins}
 use Rattle.transcript_laws.proofs.Checked.{printed}
 use Rattle.transcript_laws.proofs.Texts.{same_rest, text_append}
 use Rattle.transcript_laws.proofs.Told.{tells}
@@ -25,22 +25,6 @@ use Rattle.transcript_laws.proofs.Told.{tells}
 -- Two runs are the same.
 abbrev pub SameRun : List TranscriptLine → Xinu → End → List TranscriptLine → Xinu → End → Type 0
 SameRun lines last end others other ending = (lines ≡ others) × (last ≡ other) × (end ≡ ending)
-
--- the lines of a run after those of its first event
-record Parted (events : List Event) (first lines : List TranscriptLine) (mid last : Xinu) (end : End) (o : Option End) : Type 0 where
-  more : List TranscriptLine
-  is : lines ++ last_lines last end ≡ first ++ more
-  begins : begins_next more ≡ false
-
-parted : (events : List Event) (first lines : List TranscriptLine) (mid last : Xinu) (end : End) (o : Option End)
-    → Follows o (λ l. RunsTo mid events l last end) first lines mid last end → Parted events first lines mid last end o
-parted events first lines mid last end (Some with_event) (same, state, by) =
-    record { more = last_lines last end; is = ap (λ l. l ++ last_lines last end) same; begins = refl }
-parted events first lines mid last end None (rest, runs, same) = record {
-  more = rest ++ last_lines last end;
-  is = ap (λ l. l ++ last_lines last end) same ∙ append_assoc first rest (last_lines last end);
-  begins = run_begins events mid rest last end runs;
-}
 
 -- the effect that the text of an event tells is what happened in it
 effect_told : (s : Xinu) (e : Event) (first : List TranscriptLine) (mid : Xinu) (more : List TranscriptLine) → IsSound s
@@ -52,48 +36,51 @@ effect_told s e first mid more k h none =
     (ap (λ (x : EventResult). x.lines) h.effect) (tells.right s e h.choice more k h.allowed none)
     ∙ h.effect
 
--- the text of a run after the lines of its first event
-text_after : (first rest lines : List TranscriptLine) (last : Xinu) (end : End) → lines ≡ first ++ rest
-    → text (lines ++ last_lines last end) ≡ text first ++ text (rest ++ last_lines last end)
-text_after first rest lines last end same =
-    ap (λ (l : List TranscriptLine). text (l ++ last_lines last end)) same
-    ∙ ap text (append_assoc first rest (last_lines last end))
-    ∙ text_append first (rest ++ last_lines last end)
+-- a text after the lines of the first event of a run
+text_after : (first rest lines more : List TranscriptLine) → lines ≡ first ++ rest → text (lines ++ more) ≡ text first ++ text (rest ++ more)
+text_after first rest lines more same =
+    ap (λ (l : List TranscriptLine). text (l ++ more)) same
+    ∙ ap text (append_assoc first rest more)
+    ∙ text_append first (rest ++ more)
 
 -- two runs that go on alike after the same event are the same
-same_after : (o : Option End) (events : List Event) (first lines others : List TranscriptLine) (mid last other : Xinu) (end ending : End)
-    → ((rest more : List TranscriptLine) → RunsTo mid events rest last end → RunsTo mid events more other ending
-    → text (rest ++ last_lines last end) ≡ text (more ++ last_lines other ending) → SameRun rest last end more other ending)
+same_after : (o : Option End) (events : List Event) (first lines others more rest : List TranscriptLine) (mid last other : Xinu) (end ending : End)
+    → ((l k : List TranscriptLine) → RunsTo mid events l last end → RunsTo mid events k other ending
+    → text (l ++ more) ≡ text (k ++ rest) → SameRun l last end k other ending)
     → Follows o (λ l. RunsTo mid events l last end) first lines mid last end
     → Follows o (λ l. RunsTo mid events l other ending) first others mid other ending
-    → text (lines ++ last_lines last end) ≡ text (others ++ last_lines other ending) → SameRun lines last end others other ending
-same_after (Some with_event) events first lines others mid last other end ending go (same, state, by) (alike, its_state, its_by) e =
+    → text (lines ++ more) ≡ text (others ++ rest) → SameRun lines last end others other ending
+same_after (Some with_event) events first lines others more rest mid last other end ending go (same, state, by) (alike, its_state, its_by) e =
     (same ∙ sym alike, state ∙ sym its_state, by ∙ sym its_by)
-same_after None events first lines others mid last other end ending go (rest, runs, same) (more, its_runs, alike) e =
-    let t = same_rest (text first) (text (rest ++ last_lines last end)) (text (more ++ last_lines other ending))
-    (sym (text_after first rest lines last end same) ∙ e ∙ text_after first more others other ending alike) in
-    let i = go rest more runs its_runs t in
-    (same ∙ ap (λ l. first ++ l) i.0 ∙ sym alike, i.1, i.2)
+same_after None events first lines others more rest mid last other end ending go (l, runs, same) (k, its_runs, alike) e =
+    let t = same_rest (text first) (text (l ++ more)) (text (k ++ rest))
+    (sym (text_after first l lines more same) ∙ e ∙ text_after first k others rest alike) in
+    let i = go l k runs its_runs t in
+    (same ∙ ap (λ x. first ++ x) i.0 ∙ sym alike, i.1, i.2)
 
--- Two runs from one sound state through the same events are the same if they print one text.
-pub one_run : (events : List Event) (s : Xinu) (lines others : List TranscriptLine) (last other : Xinu) (end ending : End) → IsSound s
+-- Two runs from one sound state through the same events are the same if their lines begin one text, and what follows them in it doesn't begin
+-- with a call on files that took effect as the next one.
+pub one_run : (events : List Event) (s : Xinu) (lines others : List TranscriptLine) (last other : Xinu) (end ending : End)
+    (more rest : List TranscriptLine) → IsSound s → begins_next more ≡ false → begins_next rest ≡ false
     → RunsTo s events lines last end → RunsTo s events others other ending
-    → text (lines ++ last_lines last end) ≡ text (others ++ last_lines other ending) → SameRun lines last end others other ending
-one_run [] s lines others last other end ending k (none, same, by) (no_others, same_other, by_other) e =
+    → text (lines ++ more) ≡ text (others ++ rest) → SameRun lines last end others other ending
+one_run [] s lines others last other end ending more rest k m n (none, same, by) (no_others, same_other, by_other) e =
     (none ∙ sym no_others, same ∙ sym same_other, by ∙ sym by_other)
-one_run (e ∷ events) s lines others last other end ending k (mid, first, h, follows) (next, second, g, others_follow) e_same =
-    let a = parted events first lines mid last end (end_with (panics_in s e) (is_over mid)) follows in
-    let b = parted events second others next other ending (end_with (panics_in s e) (is_over next)) others_follow in
-    let whole : text (first ++ a.more) ≡ text (second ++ b.more) = ap text (sym a.is) ∙ e_same ∙ ap text b.is in
-    let x = effect_told s e first mid a.more k h a.begins in
-    let y = effect_told s e second next b.more k g b.begins in
+one_run (e ∷ events) s lines others last other end ending more rest k m n (mid, first, h, follows) (next, second, g, others_follow) e_same =
+    let a = parted (end_with (panics_in s e) (is_over mid)) (λ l. RunsTo mid events l last end) first lines more mid last end m
+    (λ l run. run_begins events mid l more last end m run) follows in
+    let b = parted (end_with (panics_in s e) (is_over next)) (λ l. RunsTo next events l other ending) second others rest next other ending n
+    (λ l run. run_begins events next l rest other ending n run) others_follow in
+    let whole : text (first ++ a.tail) ≡ text (second ++ b.tail) = ap text (sym a.whole) ∙ e_same ∙ ap text b.whole in
+    let x = effect_told s e first mid a.tail k h a.calm in
+    let y = effect_told s e second next b.tail k g b.calm in
     let same : (record { lines = first; state = mid; panics = panics_in s e })
     ≡ (record { lines = second; state = next; panics = panics_in s e }) =
     sym x ∙ ap (λ t. effect_of s e (told s e t)) whole ∙ y in
     let goes : EventResult → Type 0 = λ r. Follows (end_with r.panics (is_over r.state))
     (λ l. RunsTo r.state events l other ending) r.lines others r.state other ending in
-    same_after (end_with (panics_in s e) (is_over mid)) events first lines others mid last other end ending
-    (λ rest more runs its_runs t. one_run events mid rest more last other end ending (sound_happens s e first mid k h) runs its_runs t)
+    same_after (end_with (panics_in s e) (is_over mid)) events first lines others more rest mid last other end ending
+    (λ l j runs its_runs t. one_run events mid l j last other end ending more rest (sound_happens s e first mid k h) m n runs its_runs t)
     follows (subst goes (sym same) others_follow) e_same
 
 -- A text is the transcript of one run.
@@ -107,6 +94,7 @@ transcripts_agree disks images events bytes few k t u =
     let same : q.start ≡ r.start = cc in
     let ours = printed disks images events bytes t in
     let theirs = subst (λ (s : Xinu). bytes ≡ first_text s ++ text (q.lines ++ last_lines u.last q.end)) same (printed disks images events bytes u) in
-    one_run events r.start r.lines q.lines t.last u.last r.end q.end (sound_boot_on disks images r.start few k r.boots) r.runs
+    one_run events r.start r.lines q.lines t.last u.last r.end q.end (last_lines t.last r.end) (last_lines u.last q.end)
+    (sound_boot_on disks images r.start few k r.boots) refl refl r.runs
     (subst (λ (s : Xinu). RunsTo s events q.lines u.last q.end) same q.runs)
     (same_rest (first_text r.start) (text (r.lines ++ last_lines t.last r.end)) (text (q.lines ++ last_lines u.last q.end)) (sym ours ∙ theirs))

@@ -11,7 +11,7 @@ use Rattle.host_port.specs.Outside.{Outside, HostCall}
 use Rattle.host_port.specs.Printing.{Printing, Prints}
 use Rattle.kernel_boot.specs.declared.initialize.BootFault.{BootFault}
 use Rattle.kernel_boot.specs.declared.initialize.BootFault.TheVariants as boot_fault
-use Rattle.machine.specs.Disks.{raw_bytes}
+use Rattle.machine.specs.DiskBytes.{raw_bytes}
 use Rattle.machine.specs.Starts.{Starts}
 use Rattle.transcript_laws.specs.Transcripts.{transcript}
 use Rattle.xinu_base.specs.declared.events.Event.{Event}

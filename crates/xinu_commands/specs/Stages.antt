@@ -2,7 +2,7 @@
 use Rattle.std.specs.Prelude.{◌≡◌, ◌≤◌, ℕ, List, [], ◌∷◌, true, Option, Some, None, Result, Ok, Err, is_some, if◌then◌else◌}
 use Rattle.std.specs.List.{slice_get}
 use Rattle.std.specs.Option.{option_map_or}
-use Rattle.machine.specs.Disks.{raw_bytes}
+use Rattle.machine.specs.DiskBytes.{raw_bytes}
 use Rattle.machine.specs.Printed.{Booted}
 use Rattle.command_line.specs.Commands.{Command}
 use Rattle.command_line.specs.DiskArgs.{DiskAction, Mkfs, Put}

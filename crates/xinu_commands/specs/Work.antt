@@ -1,7 +1,7 @@
 -- What a command deserves, a refusal by its cause or work, and what the work puts out.
 use Rattle.std.specs.Prelude.{◌≡◌, ℕ, Bool, true, false, codes, List, Option, Some, None, if◌then◌else◌}
 use Rattle.given_disks.specs.HeldFiles.{HoldsFiles}
-use Rattle.machine.specs.Disks.{raw_bytes}
+use Rattle.machine.specs.DiskBytes.{raw_bytes}
 use Rattle.soak.specs.Soaks.{Soaks}
 use Rattle.transcript_laws.specs.Transcripts.{transcript}
 use Rattle.xinu_base.specs.declared.events.Event.{Event}

@@ -65,13 +65,13 @@ begins_append (line.File p Next ∷ lines) rest e f = cc
 begins_append (l ∷ lines) rest e f = e
 
 -- the rest of a run's text after the lines of its first event
-record Parted (first lines more : List TranscriptLine) : Type 0 where
-  tail : List TranscriptLine
-  calm : begins_next tail ≡ false
-  whole : lines ++ more ≡ first ++ tail
+pub record Parted (first lines more : List TranscriptLine) : Type 0 where
+  pub tail : List TranscriptLine
+  pub calm : begins_next tail ≡ false
+  pub whole : lines ++ more ≡ first ++ tail
 
 -- it is what follows the run, or the rest of the run and what follows it
-parted : (how : Option End) (Rest : List TranscriptLine → Type 0) (first lines more : List TranscriptLine) (mid new : Xinu) (end : End)
+pub parted : (how : Option End) (Rest : List TranscriptLine → Type 0) (first lines more : List TranscriptLine) (mid new : Xinu) (end : End)
     → begins_next more ≡ false → ((rest : List TranscriptLine) → Rest rest → begins_next (rest ++ more) ≡ false)
     → Follows how Rest first lines mid new end → Parted first lines more
 parted (Some how) Rest first lines more mid new end m calm f = record { tail = more; calm = m; whole = ap (λ l. l ++ more) f.0 }
@@ -79,7 +79,7 @@ parted None Rest first lines more mid new end m calm f =
     record { tail = f.0 ++ more; calm = calm f.0 f.1; whole = ap (λ l. l ++ more) f.2 ∙ append_assoc first f.0 more }
 
 -- The text of a run doesn't begin so.
-run_begins : (events : List Event) (old : Xinu) (lines more : List TranscriptLine) (new : Xinu) (end : End) → begins_next more ≡ false
+pub run_begins : (events : List Event) (old : Xinu) (lines more : List TranscriptLine) (new : Xinu) (end : End) → begins_next more ≡ false
     → RunsTo old events lines new end → begins_next (lines ++ more) ≡ false
 run_begins [] old lines more new end m r = ap (λ l. begins_next (l ++ more)) r.0 ∙ m
 run_begins (e ∷ events) old lines more new end m r =

@@ -1,6 +1,6 @@
 use Rattle.std.proofs.Common.{◌≡◌, ◌≢◌, ◌∙◌, ℕ, suc, zero, List, ap, refl, sym}
 use Rattle.kernel_state.specs.Values.{KernelValue}
-use Rattle.machine.specs.Disks.{disk_bytes, raw_bytes}
+use Rattle.machine.specs.DiskBytes.{disk_bytes, raw_bytes}
 use Rattle.xinu_model.specs.Machine.{Xinu}
 use Rattle.machine.proofs.machine.disk_of.Goals as goal
 
