@@ -128,11 +128,28 @@ fn run(alloc: Global, seed: u32, machine: Machine, schedule: Schedule) -> Result
     ensures soaks { IfOk result (λ s. Soaks seed machine.state (string_bytes s.summary) s.machine.state) }
 {
     let mut machine = machine;
+    let summary = counted(alloc, seed, &mut machine, schedule)?;
+    Ok(Soaked { summary, machine })
+}
+
+// The line that says what was counted of the events of a number, which a machine takes.
+fn counted(
+    alloc: Global,
+    seed: u32,
+    machine: &mut Machine,
+    schedule: Schedule,
+) -> Result<String, NoMemory>
+    requires over { machine.old.over ≡ false }
+    requires new { machine.old.events ≡ 0 }
+    requires events { schedule ≡ schedules.events seed }
+    requires count { length schedule ≡ 200000 }
+    ensures soaks { IfOk result (λ s. Soaks seed machine.old.state (string_bytes s) machine.new.state) }
+{
     let mut tally = Tally::new();
-    count_start(alloc, &machine, &mut tally)?;
-    let (taken, end) = take_events(alloc, &mut machine, schedule, &mut tally)?;
-    count_tables(alloc, &machine, &mut tally)?;
+    count_start(alloc, machine, &mut tally)?;
+    let (taken, end) = take_events(alloc, machine, schedule, &mut tally)?;
+    count_tables(alloc, machine, &mut tally)?;
     count_end(end, &mut tally);
     let summary = tally.summary(alloc, seed, taken, end)?;
-    Ok(Soaked { summary, machine })
+    Ok(summary)
 }

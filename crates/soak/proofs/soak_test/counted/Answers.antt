@@ -3,13 +3,13 @@ use Rattle.std.specs.String.{string_bytes}
 use Rattle.soak.proofs.Whole.{all_counted}
 use Rattle.soak.specs.Counting.{CountsEvents}
 use Rattle.xinu_base.specs.declared.events.Event.{Event}
-use Rattle.soak.proofs.soak_test.run.Goals as goal
+use Rattle.soak.proofs.soak_test.counted.Goals as goal
 
 pub returns : goal.returns
 returns c =
     let taken = c.in_ok-taken.taken in
     let end = c.in_ok-taken.end in
-    let start = c.args.machine.state in
+    let start = c.args.machine.now.state in
     let last = c.take_events.new.machine.state in
     let first = c.count_start.new.tally.counts in
     let most = c.take_events.new.tally.counts in
