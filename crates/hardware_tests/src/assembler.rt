@@ -1,11 +1,9 @@
-//! Texts with the files that they are assembled to, and texts with their faults.
+//! Texts with the words that they are assembled to, and texts with their faults.
 
 use crate::rows::same;
-use image_loader::read_image;
-use rv_asm::{AsmFault, assemble, assembled_loads, worked_examples};
+use rv_asm::{AsmFault, assemble};
 use std::alloc::Global;
 use std::process::Abort;
-use std::test::Fail;
 
 // The file of a text. The only call of `assemble` here, so that its contract is met once.
 fn file_of(rt: &impl Abort, alloc: Global, text: &[u8]) -> Result<Vec<u8>, AsmFault> {
@@ -13,50 +11,23 @@ fn file_of(rt: &impl Abort, alloc: Global, text: &[u8]) -> Result<Vec<u8>, AsmFa
     assemble(alloc, text)
 }
 
-// The words of a file after so many. The header has seven.
-fn words_after(alloc: Global, file: &[u8], count: usize) -> Option<Vec<u32>> {
-    let mut words = Vec::new(alloc);
-    for bytes in file.chunks_exact(4).skip(count) {
-        words.push(u32::from_le_bytes(bytes.try_into().ok()?)).ok()?;
+// Whether words of a file, after so many, are these.
+fn has_words(file: &[u8], count: usize, wanted: &[u32]) -> bool {
+    let mut words = file.chunks_exact(4).skip(count);
+    for word in wanted {
+        if words.next() != Some(word.to_le_bytes().as_slice()) {
+            return false;
+        }
     }
-    Some(words)
+    true
 }
 
-// The words of a text's file after so many.
-fn words(rt: &impl Abort, alloc: Global, text: &[u8], count: usize) -> Option<Vec<u32>> {
-    words_after(alloc, file_of(rt, alloc, text).ok()?.as_slice(), count)
-}
-
-// Whether the file of a text has these words after so many.
-fn has_words(rt: &impl Abort, alloc: Global, text: &[u8], count: usize, wanted: &[u32]) -> bool {
-    match words(rt, alloc, text, count) {
-        Some(words) => words.as_slice() == wanted,
-        None => false,
+// How many bytes the file of a text has, if words of it, after so many, are these.
+fn length(rt: &impl Abort, alloc: Global, text: &str, count: usize, wanted: &[u32]) -> usize {
+    match file_of(rt, alloc, text.as_bytes()) {
+        Ok(file) if has_words(file.as_slice(), count, wanted) => file.len(),
+        _ => 0,
     }
-}
-
-// The first of the words of a text's file after so many.
-fn first_word(rt: &impl Abort, alloc: Global, text: &[u8], count: usize) -> Option<u32> {
-    words(rt, alloc, text, count)?.first().copied()
-}
-
-// The fault of a text.
-fn fault(rt: &impl Abort, alloc: Global, text: &[u8]) -> Option<AsmFault> {
-    file_of(rt, alloc, text).err()
-}
-
-// Whether a file is an image.
-fn is_image(file: &[u8]) -> bool {
-    read_image(file).is_ok()
-}
-
-#[test]
-fn a_file_is_read(rt: HostRuntime) -> Result<(), Fail> {
-    worked_examples();
-    assembled_loads();
-    let text = b"li a7, 1\necall\nsys exit\n".as_slice();
-    assert!(rt; is_image(file_of(&rt, rt.alloc(), text)?.as_slice()));
-    Ok(())
 }
 
 // Words that another assembler writes for the same lines, and numbers from the RISC-V manual's layout of the forms.
@@ -86,98 +57,96 @@ const FORMS: [(&str, u32); 23] = [
     ("sltiu s11 , zero , 0x7ff", 0x7ff0_3d93),
 ];
 
-#[test]
-fn each_form_has_its_words(rt: HostRuntime) {
-    for (line, word) in &FORMS {
-        let text = line.as_bytes();
-        same(
-            &rt,
-            *line,
-            has_words(&rt, rt.alloc(), text, 7, &[*word]),
-            true,
-        );
-    }
-}
-
-#[test]
-fn labels_and_directives(rt: HostRuntime) {
-    assert!(rt;
-        has_words(
-            &rt,
-            rt.alloc(),
-            b"li a7, 1\necall\nsys exit\n",
+/// Texts; words of their files, after so many; and how many bytes the files have. The header has seven words.
+const TEXTS: [(&str, usize, &[u32], usize); 7] = [
+    (
+        "li a7, 1\necall\nsys exit\n",
+        0,
+        &[
+            0x474d_4958,
+            1,
             0,
-            &[
-                0x474d_4958,
-                1,
-                0,
-                20,
-                0,
-                20,
-                4096,
-                0x0000_08b7,
-                0x0018_8893,
-                0x0000_0073,
-                0x0090_0893,
-                0x0000_0073,
-            ],
-        )
-    );
-    assert!(rt;
-        has_words(
-            &rt,
-            rt.alloc(),
-            b".place 0x100\r\n.priority 25\n.stack 400\n.entry start # where it begins\n\n\
+            20,
+            0,
+            20,
+            4096,
+            0x0000_08b7,
+            0x0018_8893,
+            0x0000_0073,
+            0x0090_0893,
+            0x0000_0073,
+        ],
+        48,
+    ),
+    // labels and directives
+    (
+        ".place 0x100\r\n.priority 25\n.stack 400\n.entry start # where it begins\n\n\
           data: .byte -1\n.byte 255\n.ascii \"#\\\"\\\\\\n\\0\"\n.align\n\
           start: first: la sp, data\n bne a0, zero, first\n j start\n .zero 3\n end:\n",
-            0,
-            &[
-                0x474d_4958,
-                1,
-                256,
-                27,
-                264,
-                25,
-                400,
-                0x2223_ffff,
-                0x0000_0a5c,
-                0x0000_0137,
-                0x1001_0113,
-                0xfe05_1ce3,
-                0xff5f_f06f,
-            ],
-        )
-    );
-    assert!(rt;
-        has_words(
-            &rt,
-            rt.alloc(),
-            b"li a0, 0x800\nli a1, -1\nli a2, 4294967295",
-            7,
-            &[
-                0x0000_1537,
-                0x8005_0513,
-                0x0000_05b7,
-                0xfff5_8593,
-                0x0000_0637,
-                0xfff6_0613,
-            ],
-        )
-    );
-}
+        0,
+        &[
+            0x474d_4958,
+            1,
+            256,
+            27,
+            264,
+            25,
+            400,
+            0x2223_ffff,
+            0x0000_0a5c,
+            0x0000_0137,
+            0x1001_0113,
+            0xfe05_1ce3,
+            0xff5f_f06f,
+        ],
+        55,
+    ),
+    (
+        "li a0, 0x800\nli a1, -1\nli a2, 4294967295",
+        7,
+        &[
+            0x0000_1537,
+            0x8005_0513,
+            0x0000_05b7,
+            0xfff5_8593,
+            0x0000_0637,
+            0xfff6_0613,
+        ],
+        52,
+    ),
+    // calls by name
+    (
+        "# Asks\n.priority 25\nstart:  sys getpid          # a0\n mv   s0, a0\n li   a0, 1\n \
+          sys  sleepms\n beq  s0, zero, start\n sys  exit\n",
+        7,
+        &[0x0010_0893, 0x0000_0073, 0x0005_0413],
+        68,
+    ),
+    // the ends of the ranges of branches and jumps
+    (
+        "beq a0, a0, far\n.zero 4088\n.zero 2\nfar: .byte 0\n",
+        7,
+        &[0x7ea5_0fe3],
+        4123,
+    ),
+    (
+        "j far\n.zero 1048568\n.zero 2\nfar: .byte 0",
+        7,
+        &[0x7fff_f06f],
+        1_048_603,
+    ),
+    ("a: .zero 4096\nbne a0, a1, a", 1031, &[0x80b5_1063], 4128),
+];
 
-// How many words of content a text has.
-fn content(rt: &impl Abort, alloc: Global, text: &[u8]) -> Option<usize> {
-    Some(words(rt, alloc, text, 7)?.len())
-}
-
-// A label, calls by name, and a directive before the code.
 #[test]
-fn calls_have_names(rt: HostRuntime) {
-    let text =
-        b"# Asks\n.priority 25\nstart:  sys getpid          # a0\n mv   s0, a0\n li   a0, 1\n \
-          sys  sleepms\n beq  s0, zero, start\n sys  exit\n";
-    assert_eq!(rt; content(&rt, rt.alloc(), text), Some(10));
+fn texts_have_their_words(rt: HostRuntime) {
+    for (line, word) in &FORMS {
+        same(&rt, *line, length(&rt, rt.alloc(), line, 7, &[*word]), 32);
+    }
+    for (text, count, words, bytes) in &TEXTS {
+        let found = length(&rt, rt.alloc(), text, *count, words);
+        same(&rt, *text, found, *bytes);
+    }
 }
 
 // Texts with their first faults.
@@ -261,58 +230,25 @@ const FAULTS: [(&str, AsmFault); 66] = [
 
 #[test]
 fn first_faults_are_named(rt: HostRuntime) {
-    for (text, want) in &FAULTS {
-        same(
-            &rt,
-            *text,
-            fault(&rt, rt.alloc(), text.as_bytes()),
-            Some(*want),
-        );
-    }
-}
-
-// The ends of the ranges of branches and jumps: a word of a text's file, if it has so many.
-#[test]
-fn offsets_end(rt: HostRuntime) {
-    let back = b"a: .zero 4096\nbne a0, a1, a".as_slice();
-    for (text, count, word) in [
-        (
-            b"beq a0, a0, far\n.zero 4088\n.zero 2\nfar: .byte 0\n".as_slice(),
-            7,
-            Some(0x7ea5_0fe3),
-        ),
-        (
-            b"j far\n.zero 1048568\n.zero 2\nfar: .byte 0",
-            7,
-            Some(0x7fff_f06f),
-        ),
-        (back, 7 + 1024, Some(0x80b5_1063)),
-        (back, 7 + 1025, None),
-    ] {
-        same(&rt, text, first_word(&rt, rt.alloc(), text, count), word);
+    for (text, fault) in &FAULTS {
+        let found = file_of(&rt, rt.alloc(), text.as_bytes()).err();
+        same(&rt, *text, found, Some(*fault));
     }
 }
 
 // 70,000 lines, each with a label of its own.
-fn long_text(alloc: Global) -> Result<Vec<u8>, Fail> {
-    let mut text = Vec::new(alloc);
-    for number in 0..70_000u32 {
-        text.extend_from_slice(b"a")?;
-        let mut rest = number;
-        for _ in 0..5 {
-            text.push(b'0' + (rest % 10) as u8)?;
-            rest /= 10;
-        }
-        text.extend_from_slice(b": nop\n")?;
+fn long_text(rt: &impl Abort, alloc: Global) -> String {
+    let mut text = String::new(alloc);
+    for number in 10_000..80_000u32 {
+        let line = format!(in alloc; "a{number}: nop\n").expect(rt, "memory");
+        text.push_str(line.as_str()).expect(rt, "memory");
     }
-    Ok(text)
+    text
 }
 
 // A text of a MiB, with a label on each line, which an assembler that looks through all labels for each would not get through.
 #[test]
-fn long_texts_are_assembled(rt: HostRuntime) -> Result<(), Fail> {
-    let text = long_text(rt.alloc())?;
-    let file = file_of(&rt, rt.alloc(), text.as_slice())?;
-    assert_eq!(rt; file.len(), 28 + 280_000);
-    Ok(())
+fn long_texts_are_assembled(rt: HostRuntime) {
+    let text = long_text(&rt, rt.alloc());
+    assert!(rt; length(&rt, rt.alloc(), text.as_str(), 0, &[]) == 28 + 280_000);
 }

@@ -1,10 +1,6 @@
 //! Words as lines of assembler.
 
-use rv_disasm::{
-    disassembled, instructions_are_written, labels_are_distinct, lines_are_read_back,
-    lines_take_labels,
-};
-use std::test::Fail;
+use rv_disasm::disassembled;
 
 /// A word of each instruction, from 0x2000 on, with its line: words and lines as clang 14 and `llvm-objdump -M no-aliases` have them, but
 /// for the labels of addresses, and for the sets that `fence` names.
@@ -51,34 +47,27 @@ const LINES: [(u32, &str); 40] = [
     (0x0010_0073, "ebreak"),
 ];
 
-/// Words that the assembler doesn't write as instructions: one of no row, one with another funct7, and a fence of fewer accesses.
-const DATA: [(u32, &str); 3] = [
-    (0, ".word 0x00000000"),
-    (0x0209_4033, ".word 0x02094033"),
-    (0x0330_000f, ".word 0x0330000f"),
+/// Words at addresses: of no row, with another funct7, a fence of fewer accesses, and a jump over the end of the addresses.
+const OTHERS: [(u32, u32, &str); 4] = [
+    (0, 0, ".word 0x00000000"),
+    (0x0209_4033, 0, ".word 0x02094033"),
+    (0x0330_000f, 0, ".word 0x0330000f"),
+    (0xff1f_f0ef, 0, "jal ra, at_fffffff0"),
 ];
 
-#[test]
-fn a_word_of_each_instruction_is_a_line(rt: HostRuntime) {
-    let mut address = 0x2000u32;
-    for (word, line) in LINES.iter() {
-        assert!(rt;
-            disassembled(*word, address).bytes() == line.as_bytes(),
-            "{line}"
-        );
-        address = address.wrapping_add(4);
-    }
+// Whether a word at an address is this line.
+fn is_line(word: u32, address: u32, line: &str) -> bool {
+    disassembled(word, address).bytes() == line.as_bytes()
 }
 
 #[test]
-fn other_words_are_data(rt: HostRuntime) {
-    for (word, line) in DATA.iter() {
-        assert!(rt; disassembled(*word, 0).bytes() == line.as_bytes(), "{line}");
+fn words_are_lines(rt: HostRuntime) {
+    let mut address = 0x2000u32;
+    for (word, line) in &LINES {
+        assert!(rt; is_line(*word, address, line), "{line}");
+        address = address.wrapping_add(4);
     }
-    // around the ends of the addresses
-    assert!(rt; disassembled(0xff1f_f0ef, 0).bytes() == b"jal ra, at_fffffff0".as_slice());
-    instructions_are_written();
-    labels_are_distinct();
-    lines_are_read_back();
-    lines_take_labels();
+    for (word, address, line) in &OTHERS {
+        assert!(rt; is_line(*word, *address, line), "{line}");
+    }
 }

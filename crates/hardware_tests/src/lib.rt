@@ -1,5 +1,4 @@
-//! Tests of what the kernel runs on, over the public calls of the crates: instructions and memory, the assembler and the
-//! disassembler, the table of devices, the console, the host.
+//! Tests of what the kernel runs on, with values from outside: instructions, the assembler and the disassembler, and the real host.
 #![tactic(auto)]
 
 #[cfg(test)]
@@ -7,16 +6,10 @@ mod assembler;
 #[cfg(test)]
 mod disassembly;
 #[cfg(test)]
+mod file_runtime;
+#[cfg(test)]
 mod hart;
 #[cfg(test)]
 mod host;
 #[cfg(test)]
-mod isa;
-#[cfg(test)]
-mod numbers;
-#[cfg(test)]
 mod rows;
-#[cfg(test)]
-mod switch;
-#[cfg(test)]
-mod tty;
