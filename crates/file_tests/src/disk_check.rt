@@ -6,7 +6,7 @@ mod version_1;
 mod version_2;
 
 use byteorder::{ByteOrder, LittleEndian};
-use lfs_check::{CheckFault, Report, check};
+use lfs_check::{CheckFault, check};
 use std::alloc::Global;
 use std::process::Abort;
 
@@ -43,8 +43,13 @@ fn put(image: &mut Vec<u8>, at: usize, word: u32) {
     }
 }
 
-// An image of a number of blocks with these words, and zeros otherwise.
-fn image_of(rt: &impl Abort, alloc: Global, blocks: u16, words: &[(usize, u32)]) -> Vec<u8> {
+/// An image of a number of blocks with these words, and zeros otherwise.
+pub(crate) fn image_of(
+    rt: &impl Abort,
+    alloc: Global,
+    blocks: u16,
+    words: &[(usize, u32)],
+) -> Vec<u8> {
     let mut image = vec![in alloc; 0u8; 512 * blocks as usize].expect(rt, "memory");
     for (at, word) in words {
         put(&mut image, *at, *word);
@@ -52,110 +57,94 @@ fn image_of(rt: &impl Abort, alloc: Global, blocks: u16, words: &[(usize, u32)])
     image
 }
 
-// Whether the rule and the block are those that the check names.
-fn names(rt: &impl Abort, alloc: Global, image: &[u8], rule: u8, block: u32) -> bool {
+/// An image of 70 blocks of version 2 with files of 8193, 600 and 0 bytes, and then two writes of words.
+pub(crate) fn with_writes(rt: &impl Abort, alloc: Global, writes: &Writes) -> Vec<u8> {
+    written(rt, alloc, &version_2::WORDS, writes)
+}
+
+// An image of 70 blocks with these words, and then two writes.
+fn written(rt: &impl Abort, alloc: Global, words: &[(usize, u32)], writes: &Writes) -> Vec<u8> {
+    let mut image = image_of(rt, alloc, 70, words);
+    put(&mut image, writes.0.0, writes.0.1);
+    put(&mut image, writes.1.0, writes.1.1);
+    image
+}
+
+// The rule and the block that the check names.
+fn named(rt: &impl Abort, alloc: Global, image: &[u8]) -> Option<(u8, u32)> {
     match check(alloc, image) {
-        Err(CheckFault::Broken(fault)) => fault.rule == rule && fault.block == block,
+        Err(CheckFault::Broken(fault)) => Some((fault.rule, fault.block)),
         Err(CheckFault::NoMemory) => rt.abort(),
-        Ok(_) => false,
+        Ok(_) => None,
     }
 }
 
-// Whether the image is clean, with this many files, free data blocks and free index blocks.
-fn reports(rt: &impl Abort, alloc: Global, image: &[u8], counts: (u32, u32, u32)) -> bool {
-    match check(alloc, image) {
-        Ok(
-            Report {
-                files,
-                free_data,
-                free_index,
-            },
-        ) => files == counts.0 && free_data == counts.1 && free_index == counts.2,
-        Err(CheckFault::NoMemory) => rt.abort(),
-        Err(CheckFault::Broken(_)) => false,
-    }
+/// The files, the free data blocks and the free index blocks of an image, if it is clean.
+pub(crate) fn counts(alloc: Global, image: &[u8]) -> Option<(u32, u32, u32)> {
+    let report = check(alloc, image).ok()?;
+    Some((report.files, report.free_data, report.free_index))
 }
 
-// Whether an image of 70 blocks with these words is clean after each of the writes, with these counts.
+// An image with these words is clean after each of the writes, with these counts.
 fn are_harmless(
     rt: &impl Abort,
     alloc: Global,
     words: &[(usize, u32)],
     writes: &[Writes],
-    counts: (u32, u32, u32),
-) -> bool {
-    for (first, second) in writes {
-        let mut image = image_of(rt, alloc, 70, words);
-        put(&mut image, first.0, first.1);
-        put(&mut image, second.0, second.1);
-        if !reports(rt, alloc, &image, counts) {
-            return false;
-        }
+    wanted: (u32, u32, u32),
+) {
+    for two in writes {
+        let image = written(rt, alloc, words, two);
+        assert!(rt; counts(alloc, image.as_slice()) == Some(wanted), "{two:?}");
     }
-    true
 }
 
-// Fails at the first of the damages that is named otherwise, in an image of 70 blocks with these words.
+// Each of the damages of an image with these words is named.
 fn are_named(rt: &impl Abort, alloc: Global, words: &[(usize, u32)], damages: &[Damage]) {
     for (first, second, rule, block) in damages {
-        let mut image = image_of(rt, alloc, 70, words);
-        put(&mut image, first.0, first.1);
-        put(&mut image, second.0, second.1);
-        assert!(rt;
-            names(rt, alloc, &image, *rule, *block),
-            "{first:?} {second:?}"
-        );
+        let image = written(rt, alloc, words, &(*first, *second));
+        let found = named(rt, alloc, image.as_slice());
+        assert!(rt; found == Some((*rule, *block)), "{first:?} {second:?}");
     }
 }
 
 #[test]
-fn harmless_writes(rt: HostRuntime) {
-    assert!(rt;
-        are_harmless(
-            &rt,
-            rt.alloc(),
-            &version_1::WORDS,
-            &version_1::HARMLESS,
-            version_1::REPORT
-        )
+fn images_of_version_1(rt: HostRuntime) {
+    let words = &version_1::WORDS;
+    are_harmless(
+        &rt,
+        rt.alloc(),
+        words,
+        &version_1::HARMLESS,
+        version_1::REPORT,
     );
-    assert!(rt;
-        are_harmless(
-            &rt,
-            rt.alloc(),
-            &version_2::WORDS,
-            &version_2::HARMLESS,
-            version_2::REPORT
-        )
-    );
+    are_named(&rt, rt.alloc(), words, &version_1::DAMAGES);
 }
 
 #[test]
-fn damaged_images(rt: HostRuntime) {
-    are_named(&rt, rt.alloc(), &version_1::WORDS, &version_1::DAMAGES);
-    are_named(&rt, rt.alloc(), &version_2::WORDS, &version_2::DAMAGES);
+fn images_of_version_2(rt: HostRuntime) {
+    let words = &version_2::WORDS;
+    are_harmless(
+        &rt,
+        rt.alloc(),
+        words,
+        &version_2::HARMLESS,
+        version_2::REPORT,
+    );
+    are_named(&rt, rt.alloc(), words, &version_2::DAMAGES);
 }
 
-// Whether the check of this many zeros, with a version, names this rule and this block.
-fn size_names(
-    rt: &impl Abort,
-    alloc: Global,
-    size: usize,
-    version: u32,
-    rule: u8,
-    block: u32,
-) -> bool {
+// What the check of this many zeros, with a version, names.
+fn of_zeros(rt: &impl Abort, alloc: Global, size: usize, version: u32) -> Option<(u8, u32)> {
     let mut image = vec![in alloc; 0u8; size].expect(rt, "memory");
     put(&mut image, 492, version);
-    names(rt, alloc, &image, rule, block)
+    named(rt, alloc, image.as_slice())
 }
 
 #[test]
 fn the_number_of_blocks_is_judged_by_the_version(rt: HostRuntime) {
-    for (size, version, rule, block) in SIZES.iter() {
-        assert!(rt;
-            size_names(&rt, rt.alloc(), *size, *version, *rule, *block),
-            "{size}"
-        );
+    for (size, version, rule, block) in &SIZES {
+        let found = of_zeros(&rt, rt.alloc(), *size, *version);
+        assert!(rt; found == Some((*rule, *block)), "{size}");
     }
 }

@@ -4,10 +4,9 @@ ghost use Rattle.std.specs.Prelude.{◌≤◌};
 
 use byteorder::{ByteOrder, LittleEndian};
 use elf_loader::{ElfFault, LoadFault, load, read_elf, write_elf};
-use image_loader::{ImageFault, read_image};
+use image_loader::read_image;
 use std::alloc::Global;
 use std::process::Abort;
-use std::test::Fail;
 
 /// A program of four instructions, as an assembler and a linker make it: the file's header, the header of one loaded segment of
 /// 16 bytes at 65620, and these bytes at 84.
@@ -122,39 +121,15 @@ fn a_program_is_its_loaded_segments(rt: HostRuntime) {
     // eight addresses more than bytes
     let file = with_word(72, 24);
     assert!(rt; has_part(&file, &PROGRAM[84..], 65_620, 24));
-    assert_eq!(rt; settings(&file), Some((65_620, 20, 4096)));
+    assert!(rt; settings(&file) == Some((65_620, 20, 4096)));
 }
 
 #[test]
 fn the_first_test_that_fails_is_the_fault(rt: HostRuntime) {
-    for (at, word, fault) in FAULTS.iter() {
-        assert_eq!(rt;
-            load(&with_word(*at, *word)).err(),
-            Some(LoadFault::Elf(*fault)),
-            "{word} at {at}"
-        );
+    for (at, word, fault) in &FAULTS {
+        let found = load(&with_word(*at, *word)).err();
+        assert!(rt; found == Some(LoadFault::Elf(*fault)), "{word} at {at}");
     }
-}
-
-// The fault of the first bytes of the program.
-fn fault_of_first(n: usize) -> Option<ElfFault> {
-    read_elf(PROGRAM.get(..n)?).err()
-}
-
-// Asserts the fault of the first bytes of the program, for these numbers of them.
-fn are_faulty(rt: &impl Abort, from: usize, to: usize, fault: ElfFault) {
-    for n in from..to {
-        assert!(rt; fault_of_first(n) == Some(fault), "{n} bytes");
-    }
-}
-
-#[test]
-fn a_program_that_is_cut_has_a_fault(rt: HostRuntime) {
-    are_faulty(&rt, 0, 52, ElfFault::Short);
-    are_faulty(&rt, 52, 84, ElfFault::Headers);
-    are_faulty(&rt, 84, 100, ElfFault::Segment);
-    assert!(rt; load(&PROGRAM[..3]).err() == Some(LoadFault::Image(ImageFault::Short)));
-    assert!(rt; load(&PROGRAM[..4]).err() == Some(LoadFault::Elf(ElfFault::Short)));
 }
 
 // Writes the header of a segment of four bytes, which are the last of a file of 344.
@@ -197,63 +172,48 @@ const SEGMENTS: [(&[u32; 9], Option<ElfFault>); 4] = [
 
 #[test]
 fn at_most_eight_segments_that_do_not_meet_are_loaded(rt: HostRuntime) {
-    for (places, fault) in SEGMENTS.iter() {
-        assert_eq!(rt; read_elf(&with_segments(**places)).err(), *fault);
+    for (places, fault) in &SEGMENTS {
+        assert!(rt;
+            read_elf(&with_segments(**places)).err() == *fault,
+            "{places:?}"
+        );
     }
 }
 
 // The ELF file that is written for the image.
-fn written(alloc: Global) -> Result<Vec<u8>, Fail> {
-    let image = read_image(&IMAGE).ok().ok_or("an image")?;
-    let file = write_elf(alloc, &image).ok().ok_or("memory")?;
-    Ok(file)
+fn written(rt: &impl Abort, alloc: Global) -> Vec<u8> {
+    let Ok(image) = read_image(&IMAGE) else {
+        rt.abort()
+    };
+    match write_elf(alloc, &image) {
+        Ok(file) => file,
+        Err(_) => rt.abort(),
+    }
 }
 
 #[test]
-fn a_written_file_is_read_back(rt: HostRuntime) -> Result<(), Fail> {
-    let file = written(rt.alloc())?;
-    assert_eq!(rt; file.len(), 160);
-    assert!(rt; has_part(&file, &IMAGE[28..], 0, 16));
-    assert_eq!(rt; settings(&file), Some((0, 21, 8192)));
-    Ok(())
+fn a_written_file_is_read_back(rt: HostRuntime) {
+    let file = written(&rt, rt.alloc());
+    assert!(rt; file.len() == 160 && has_part(&file, &IMAGE[28..], 0, 16));
+    assert!(rt; settings(&file) == Some((0, 21, 8192)));
 }
 
 // The priority and the stack of the written file with another word, or its fault.
-fn noted(alloc: Global, at: usize, word: u32) -> Result<Result<(i16, u32), ElfFault>, Fail> {
-    let mut file = written(alloc)?;
+fn noted(rt: &impl Abort, alloc: Global, at: usize, word: u32) -> Result<(i16, u32), ElfFault> {
+    let mut file = written(rt, alloc);
     put(&mut file, at, word);
-    Ok(match read_elf(&file) {
+    match read_elf(&file) {
         Ok(image) => Ok((image.priority, image.stack)),
         Err(fault) => Err(fault),
-    })
+    }
 }
 
 #[test]
-fn a_note_that_counts_is_the_first_of_its_name(rt: HostRuntime) -> Result<(), Fail> {
-    for (at, word, wanted) in NOTES.iter() {
-        assert_eq!(rt; noted(rt.alloc(), *at, *word)?, *wanted, "{word} at {at}");
+fn a_note_that_counts_is_the_first_of_its_name(rt: HostRuntime) {
+    for (at, word, wanted) in &NOTES {
+        assert!(rt;
+            noted(&rt, rt.alloc(), *at, *word) == *wanted,
+            "{word} at {at}"
+        );
     }
-    Ok(())
-}
-
-/// The faults of ELF files, each with its number.
-const NUMBERS: [(ElfFault, u8); 10] = [
-    (ElfFault::Short, 11),
-    (ElfFault::Class, 12),
-    (ElfFault::Kind, 13),
-    (ElfFault::Headers, 14),
-    (ElfFault::Dynamic, 15),
-    (ElfFault::Segment, 16),
-    (ElfFault::TooMany, 17),
-    (ElfFault::Meet, 18),
-    (ElfFault::Entry, 19),
-    (ElfFault::Note, 20),
-];
-
-#[test]
-fn faults_have_numbers(rt: HostRuntime) {
-    for (fault, number) in NUMBERS.iter() {
-        assert!(rt; LoadFault::Elf(*fault).number() == *number, "{number}");
-    }
-    assert!(rt; LoadFault::Image(ImageFault::Priority).number() == 7);
 }

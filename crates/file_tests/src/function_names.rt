@@ -56,7 +56,7 @@ fn is_at(file: &[u8], address: u32, place: Option<(&str, u32)>) -> bool {
 
 #[test]
 fn an_address_is_in_the_function_that_begins_last_before_it(rt: HostRuntime) {
-    for (address, place) in PLACES.iter() {
+    for (address, place) in &PLACES {
         assert!(rt; is_at(&PROGRAM, *address, *place), "{address}");
     }
 }
@@ -89,7 +89,7 @@ const SPOILT: [(usize, u32); 9] = [
 
 #[test]
 fn a_file_whose_tables_are_spoilt_has_no_functions(rt: HostRuntime) {
-    for (at, word) in SPOILT.iter() {
+    for (at, word) in &SPOILT {
         assert!(rt;
             function_at(&with_word(*at, *word), 4096).is_none(),
             "{word} at {at}"

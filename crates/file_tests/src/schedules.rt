@@ -1,9 +1,9 @@
 //! Texts with their events, and texts with their faults.
 
-use schedule_file::{Event, Schedule, ScheduleFault};
+use schedule_file::ScheduleFault::{self, BadLine, TooMany};
+use schedule_file::{Event, Schedule};
 use std::alloc::Global;
 use std::process::Abort;
-use std::test::Fail;
 
 /// Texts with their events, as repeats of equal ones.
 const TEXTS: [(&[u8], &[(Event, u32)]); 10] = [
@@ -39,149 +39,91 @@ const TEXTS: [(&[u8], &[(Event, u32)]); 10] = [
     ),
 ];
 
-/// Texts with their faults.
-const FAULTS: [(&[u8], ScheduleFault); 22] = [
-    (b"step 0", ScheduleFault::BadLine(1)),
-    (b"step 00000000001", ScheduleFault::BadLine(1)),
-    (b"step 1000000001", ScheduleFault::BadLine(1)),
-    (b"step +1", ScheduleFault::BadLine(1)),
-    (b"step", ScheduleFault::BadLine(1)),
-    (b"step 1 2", ScheduleFault::BadLine(1)),
-    (b"step 1\r", ScheduleFault::BadLine(1)),
-    (b"step1", ScheduleFault::BadLine(1)),
-    (b"Step 1", ScheduleFault::BadLine(1)),
-    (b"roun", ScheduleFault::BadLine(1)),
-    (b"dump 1", ScheduleFault::BadLine(1)),
-    (b"type ", ScheduleFault::BadLine(1)),
-    (b"type 6 ", ScheduleFault::BadLine(1)),
-    (b"type 61 6g", ScheduleFault::BadLine(1)),
-    (b"type 616", ScheduleFault::BadLine(1)),
-    (b"\n# one\nstep\nroun\n", ScheduleFault::BadLine(3)),
-    (b"step 1000000000\ntick 1", ScheduleFault::TooMany(2)),
-    (b"round 925070", ScheduleFault::TooMany(1)),
-    (b"round 1000000000", ScheduleFault::TooMany(1)),
-    (b"step 1000000000\n\ndump\nroun", ScheduleFault::TooMany(3)),
-    (b"step 1000000000\nroun\ndump", ScheduleFault::BadLine(2)),
-    (b"round 925069\nstep 412", ScheduleFault::TooMany(2)),
+/// Texts with their faults. Three have as many events as there may be.
+const FAULTS: [(&[u8], Option<ScheduleFault>); 25] = [
+    (b"step 0", Some(BadLine(1))),
+    (b"step 00000000001", Some(BadLine(1))),
+    (b"step 1000000001", Some(BadLine(1))),
+    (b"step +1", Some(BadLine(1))),
+    (b"step", Some(BadLine(1))),
+    (b"step 1 2", Some(BadLine(1))),
+    (b"step 1\r", Some(BadLine(1))),
+    (b"step1", Some(BadLine(1))),
+    (b"Step 1", Some(BadLine(1))),
+    (b"roun", Some(BadLine(1))),
+    (b"dump 1", Some(BadLine(1))),
+    (b"type ", Some(BadLine(1))),
+    (b"type 6 ", Some(BadLine(1))),
+    (b"type 61 6g", Some(BadLine(1))),
+    (b"type 616", Some(BadLine(1))),
+    (b"\n# one\nstep\nroun\n", Some(BadLine(3))),
+    (b"step 1000000000\ntick 1", Some(TooMany(2))),
+    (b"round 925070", Some(TooMany(1))),
+    (b"round 1000000000", Some(TooMany(1))),
+    (b"step 1000000000\n\ndump\nroun", Some(TooMany(3))),
+    (b"step 1000000000\nroun\ndump", Some(BadLine(2))),
+    (b"round 925069\nstep 412", Some(TooMany(2))),
+    (b"step 1000000000", None),
+    (b"dump\nstep 999999999\n", None),
+    (b"round 925069\nstep 411", None),
 ];
 
-/// Texts with 1000000000 events, and the first of them.
-const GREATEST: [(&[u8], Event); 3] = [
-    (b"step 1000000000", Event::Step),
-    (b"dump\nstep 999999999\n", Event::Dump),
-    (b"round 925069\nstep 411", Event::Step),
-];
+// The schedule of a text.
+fn read(rt: &impl Abort, alloc: Global, text: &[u8]) -> Result<Schedule, ScheduleFault> {
+    assert!(rt; text.len() < 10_000_000);
+    Schedule::read(alloc, text)
+}
 
-// The events of a text that reads, as repeats of equal ones.
-fn events(rt: &impl Abort, alloc: Global, text: &[u8]) -> Result<Vec<(Event, u32)>, Fail> {
-    assert!(rt; text.len() < 1000);
-    let mut schedule = Schedule::read(alloc, text)?;
-    let mut repeats: Vec<(Event, u32)> = Vec::new(alloc);
-    for _ in 0..5000u32 {
-        let Some(event) = schedule.next_event() else {
-            return Ok(repeats);
-        };
-        match repeats.last_mut() {
-            Some(last) if last.0 == event => last.1 = last.1.saturating_add(1),
-            _ => repeats.push((event, 1))?,
+// Whether a schedule has these events, as repeats of equal ones, and no more.
+fn has_events(schedule: &mut Schedule, wanted: &[(Event, u32)]) -> bool {
+    for (event, times) in wanted {
+        for _ in 0..*times {
+            if schedule.next_event() != Some(*event) {
+                return false;
+            }
         }
     }
-    Err("no end".into())
+    schedule.next_event().is_none()
 }
 
-// The fault of a text that doesn't read.
-fn fault(rt: &impl Abort, alloc: Global, text: &[u8]) -> Option<ScheduleFault> {
-    assert!(rt; text.len() < 1000);
-    Schedule::read(alloc, text).err()
-}
-
-// A line `type` with n tokens.
-fn typed(alloc: Global, tokens: u32) -> Result<Vec<u8>, Fail> {
-    let mut line = b"type".as_slice().to_vec(alloc)?;
-    for _ in 0..tokens {
-        line.extend_from_slice(b" 61")?;
+// Whether a text has these events, and no more.
+fn asks_for(rt: &impl Abort, alloc: Global, text: &[u8], wanted: &[(Event, u32)]) -> bool {
+    match read(rt, alloc, text) {
+        Ok(mut schedule) => has_events(&mut schedule, wanted),
+        Err(_) => false,
     }
-    Ok(line)
 }
 
-// Whether a text reads as these events.
-fn asks_for(
-    rt: &impl Abort,
-    alloc: Global,
-    text: &[u8],
-    wanted: &[(Event, u32)],
-) -> Result<bool, Fail> {
-    Ok(events(rt, alloc, text)?.as_slice() == wanted)
+// A text that repeats another one after its beginning.
+fn repeated(rt: &impl Abort, alloc: Global, first: &str, more: &str, times: u32) -> String {
+    let mut text = String::from_str(alloc, first).expect(rt, "memory");
+    for _ in 0..times {
+        text.push_str(more).expect(rt, "memory");
+    }
+    text
 }
 
 #[test]
-fn lines_ask_for_events(rt: HostRuntime) -> Result<(), Fail> {
-    for (text, wanted) in TEXTS.iter() {
-        assert!(rt; asks_for(&rt, rt.alloc(), text, wanted)?, "{text:?}");
+fn lines_ask_for_events(rt: HostRuntime) {
+    for (text, wanted) in &TEXTS {
+        assert!(rt; asks_for(&rt, rt.alloc(), text, wanted), "{text:?}");
     }
-    let line = typed(rt.alloc(), 64)?;
-    assert!(rt; asks_for(&rt, rt.alloc(), &line, &[(Event::Key(97), 64)])?);
-    Ok(())
+    let line = repeated(&rt, rt.alloc(), "type", " 61", 64);
+    assert!(rt; asks_for(&rt, rt.alloc(), line.as_bytes(), &[(Event::Key(97), 64)]));
 }
 
 #[test]
-fn first_faults_are_named(rt: HostRuntime) -> Result<(), Fail> {
-    for (text, wanted) in FAULTS.iter() {
-        assert_eq!(rt; fault(&rt, rt.alloc(), text), Some(*wanted));
+fn first_faults_are_named(rt: HostRuntime) {
+    for (text, wanted) in &FAULTS {
+        assert!(rt; read(&rt, rt.alloc(), text).err() == *wanted, "{text:?}");
     }
-    let line = typed(rt.alloc(), 65)?;
-    assert_eq!(rt;
-        fault(&rt, rt.alloc(), &line),
-        Some(ScheduleFault::BadLine(1))
-    );
-    Ok(())
-}
-
-// The first event of a text that reads.
-fn first_event(rt: &impl Abort, alloc: Global, text: &[u8]) -> Result<Option<Event>, Fail> {
-    assert!(rt; text.len() < 1000);
-    let mut schedule = Schedule::read(alloc, text)?;
-    Ok(schedule.next_event())
-}
-
-#[test]
-fn greatest_schedules_read(rt: HostRuntime) -> Result<(), Fail> {
-    for (text, first) in GREATEST.iter() {
-        assert_eq!(rt; first_event(&rt, rt.alloc(), text)?, Some(*first));
-    }
-    Ok(())
-}
-
-#[test]
-fn a_round_ends_with_a_tick(rt: HostRuntime) -> Result<(), Fail> {
-    let mut schedule = Schedule::read(rt.alloc(), b"round 925069".as_slice())?;
-    for place in 0..1_000_000u32 {
-        assert!(rt;
-            (schedule.next_event() == Some(Event::Tick)) == (place % 1081 == 1080),
-            "{place}"
-        );
-    }
-    Ok(())
-}
-
-// This many short lines.
-fn short_lines(alloc: Global, lines: u32) -> Result<Vec<u8>, Fail> {
-    let mut text = Vec::new(alloc);
-    for _ in 0..lines {
-        text.extend_from_slice(b"tx 1\n")?;
-    }
-    Ok(text)
+    let line = repeated(&rt, rt.alloc(), "type", " 61", 65);
+    assert!(rt; read(&rt, rt.alloc(), line.as_bytes()).err() == Some(BadLine(1)));
 }
 
 // Four MiB of short lines, which a reader that goes over the rest of the text for each line would not get through.
 #[test]
-fn long_texts_read(rt: HostRuntime) -> Result<(), Fail> {
-    let text = short_lines(rt.alloc(), 838_860)?;
-    assert!(rt; text.len() == 4_194_300);
-    let mut schedule = Schedule::read(rt.alloc(), text.as_slice())?;
-    for _ in 0..838_860u32 {
-        assert!(rt; schedule.next_event() == Some(Event::Tx));
-    }
-    assert!(rt; schedule.next_event().is_none());
-    Ok(())
+fn long_texts_read(rt: HostRuntime) {
+    let text = repeated(&rt, rt.alloc(), "", "tx 1\n", 838_860);
+    assert!(rt; asks_for(&rt, rt.alloc(), text.as_bytes(), &[(Event::Tx, 838_860)]));
 }
