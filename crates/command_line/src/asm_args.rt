@@ -14,7 +14,7 @@ use clap::ArgMatches;
 use std::alloc::Global;
 
 /// What to assemble.
-#[derive(Clone, Copy, Debug)]
+#[derive(Clone, Copy)]
 pub struct AsmFiles<'a> {
     /// The name of the source's file.
     pub source: &'a str,

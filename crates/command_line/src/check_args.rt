@@ -15,7 +15,7 @@ use clap::ArgMatches;
 use std::alloc::Global;
 
 /// The file of a transcript, and the files of the run that it is to be the transcript of.
-#[derive(Debug, Drop)]
+#[derive(Drop)]
 pub struct CheckFiles<'a> {
     /// The name of the schedule's file.
     pub schedule: &'a str,

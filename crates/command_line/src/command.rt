@@ -21,7 +21,7 @@ use clap::ArgMatches;
 use std::alloc::Global;
 
 /// What the program is to do.
-#[derive(Debug, Drop)]
+#[derive(Drop)]
 pub enum Command<'a> {
     /// Run images under a schedule.
     Run(RunFiles<'a>),

@@ -17,7 +17,7 @@ use std::alloc::Global;
 
 /// What to do with a disk. `image`, `source` and `out` are names of files of the host; `name` is that of a file on the disk, 1 to 27
 /// non-zero bytes.
-#[derive(Clone, Copy, Debug)]
+#[derive(Clone, Copy)]
 pub enum DiskAction<'a> {
     /// Make a disk without files, of 14 to 65,542 blocks.
     Mkfs {

@@ -17,7 +17,7 @@ use std::alloc::Global;
 const MOST_IMAGES: usize = 8;
 
 /// The names of the files of a run's disks, each if it was given.
-#[derive(Clone, Copy, Debug)]
+#[derive(Clone, Copy)]
 pub struct DiskFiles<'a> {
     /// What the raw disk starts as.
     pub disk0: Option<&'a str>,
@@ -30,7 +30,7 @@ pub struct DiskFiles<'a> {
 }
 
 /// The files of a run, and what is printed of it.
-#[derive(Debug, Drop)]
+#[derive(Drop)]
 pub struct RunFiles<'a> {
     /// The name of the schedule's file.
     pub schedule: &'a str,
