@@ -1,130 +1,333 @@
-//! A file that a run writes while a thousand completions of its disk fail, and one that it reads off a disk of version 1.
+//! Files that no session has, which aren't texts or have as many bytes as there may be: the status, and all that is sent.
 
-use super::programs::{assembled, repeated, status_of};
-use host_port::{Channel, QuietMemoryHost};
+use super::commands::{host_with, status_of};
+use super::contents::Content::{self, Bytes, Many, Words};
+use super::contents::{EXITED, VERSION_2, bytes_of};
+use host_port::Channel::{self, Disk0, Disk1, Fault, Image, Out};
+use host_port::MemoryHost;
 use std::alloc::Global;
-use std::test::Fail;
+use std::process::Abort;
 
-/// A process that makes a file of 8193 bytes.
-const WRITER: &[u8] = b".entry start
-name: .ascii \"big\\0\"
-mode: .ascii \"rw\\0\\0\"
-start: li a0, 3
-la a1, name
-la a2, mode
-sys open
-li a1, 8192
-li a2, 8193
-sys write
-li a0, 4
-sys close
-sys exit
-";
-/// A process that reads the last two bytes of the file.
-const READER: &[u8] = b".entry start
-name: .ascii \"big\\0\"
-mode: .ascii \"rw\\0\\0\"
-start: li a0, 3
-la a1, name
-la a2, mode
-sys open
-li a1, 8191
-sys seek
-li a0, 4
-li a1, 4096
-li a2, 2
-sys read
-end: j end
-";
-/// The arguments that run the writer, and write the disk.
-const RUN_WRITER: [&str; 6] = ["run", "--schedule", "s", "--out1", "d", "i"];
-/// Those that run the reader on a disk.
-const RUN_READER: [&str; 6] = ["run", "--schedule", "s", "--disk1", "d", "i"];
+/// The calls `getpid` and `exit` as an ELF file, as an assembler and a linker make it: its header, the header of one loaded segment of 16
+/// bytes at 65620, and these bytes at 84.
+const PROGRAM: [u8; 100] = [
+    0x7f, b'E', b'L', b'F', 1, 1, 1, 0, 0, 0, 0, 0, 0, 0, 0, 0, // what kind of ELF file
+    2, 0, 243, 0, 1, 0, 0, 0, 0x54, 0, 1, 0, 52, 0, 0, 0, // a program; the entry; the headers
+    0, 0, 0, 0, 0, 0, 0, 0, 52, 0, 32, 0, 1, 0, 0, 0, 0, 0, 0, 0, // one header of 32 bytes
+    1, 0, 0, 0, 84, 0, 0, 0, 0x54, 0, 1, 0, 0x54, 0, 1, 0, // loaded, from byte 84 to 65620
+    16, 0, 0, 0, 16, 0, 0, 0, 5, 0, 0, 0, 4, 0, 0, 0, // 16 bytes and 16 addresses
+    0x93, 0x08, 0x10, 0x00, 0x73, 0x00, 0x00, 0x00, // the content
+    0x93, 0x08, 0x90, 0x00, 0x73, 0x00, 0x00, 0x00,
+];
 
-// The host after a run of a process through these events, on this disk.
-fn after(
-    alloc: Global,
-    args: &[&str],
-    process: &[u8],
-    schedule: &[u8],
-    disk: &[u8],
-) -> Result<QuietMemoryHost, Fail> {
-    let image = assembled(alloc, process)?;
-    let mut host = QuietMemoryHost::new(alloc);
-    host.add_file("i", image.as_slice())?;
-    host.add_file("s", schedule)?;
-    host.add_file("d", disk)?;
-    if status_of(alloc, args, &mut host)? != 0 {
-        return Err("another run")?;
-    }
-    Ok(host)
-}
+/// Its transcript.
+const PROGRAM_RUN: &[u8] =
+    b"run 1\ncall 1 getpid\nret 1 1\ncall 1 exit\nrun 0\nnow 0 2\nproc 0 current 0 0 1 70726e756c6c\nfree 65640 982936\nconsole cooked 0 0 0 0 run\ndisk0 0\ndisk1 clean\nend done\n";
 
-// Whether a text has these bytes.
-fn has(text: &[u8], bytes: &[u8]) -> bool {
-    (0..text.len()).any(|at| text.get(at..at.saturating_add(bytes.len())) == Some(bytes))
-}
+/// The transcript of `getpid` and `exit` under the empty schedule.
+const NOT_STARTED: &[u8] =
+    b"run 1\nnow 0 2\nproc 0 ready 0 0 - 70726e756c6c\nproc 1 current 20 0 - 696d61676531\nready 0 0\nfree 16 1044464\nconsole cooked 0 0 0 0 run\ndisk0 0\ndisk1 clean\nend schedule\n";
 
-// The write has 75 completions, of which five rounds have 24.
-#[test]
-fn failed_completions_change_nothing(rt: HostRuntime) -> Result<(), Fail> {
-    let mut schedule = String::from_str(rt.alloc(), "round 5\n")?;
-    for _ in 0..1000 {
-        schedule.push_str("fail1\n")?;
-    }
-    schedule.push_str("round 195\n")?;
-    let failing = after(rt.alloc(), &RUN_WRITER, WRITER, schedule.as_bytes(), b"")?;
-    let good = after(rt.alloc(), &RUN_WRITER, WRITER, b"round 200\n", b"")?;
-    assert!(rt; failing.sent(Channel::Out) == good.sent(Channel::Out));
-    assert!(rt; has(good.sent(Channel::Out), b"ret 1 8193\n"));
-    assert_eq!(rt; good.sent(Channel::Disk1).len(), 131_072);
-    assert!(rt; failing.sent(Channel::Disk1) == good.sent(Channel::Disk1));
-    Ok(())
-}
+/// The image file of the text of two calls: the place 0, the length 20, the entry 0, the priority 20 and the stack 4096; then five words.
+const TWO_CALLS_IMAGE: [u8; 48] = [
+    b'X', b'I', b'M', b'G', 1, 0, 0, 0, 0, 0, 0, 0, 20, 0, 0, 0, 0, 0, 0, 0, 20, 0, 0, 0, 0, 16, 0,
+    0, 0xb7, 0x08, 0, 0, 0x93, 0x88, 0x18, 0, 0x73, 0, 0, 0, 0x93, 0x08, 0x90, 0, 0x73, 0, 0, 0,
+];
 
-// Puts a word at a place of a disk.
-fn put(disk: &mut Vec<u8>, at: usize, word: u32) {
-    for (k, b) in word.to_le_bytes().iter().enumerate() {
-        if let Some(place) = disk.get_mut(at.saturating_add(k)) {
-            *place = *b;
+/// A command, the file `x`, the status, and what is sent on each channel on which something is.
+type Row = (&'static str, Content, u8, &'static [(Channel, Content)]);
+
+const NOTHING: Content = Bytes(b"");
+
+/// What is sent if the arguments are no command.
+const USAGE: &[(Channel, Content)] = &[(Fault, Bytes(b"xinu: usage\n"))];
+
+const SCHEDULES_AND_IMAGES: [Row; 9] = [
+    (
+        "run --schedule s x",
+        Bytes(&PROGRAM),
+        0,
+        &[(Out, Bytes(PROGRAM_RUN))],
+    ),
+    (
+        "run --schedule x i",
+        Bytes(b"  # note\n \t \nstep 1\r\n\tstep  0000000003"),
+        0,
+        &[(Out, Bytes(EXITED))],
+    ),
+    (
+        "run --schedule x i",
+        Bytes(b"step 4\r"),
+        5,
+        &[(Fault, Bytes(b"xinu: schedule line 1\n"))],
+    ),
+    (
+        "run --schedule x none",
+        Bytes(b"dump\r\nstep\xff"),
+        5,
+        &[(Fault, Bytes(b"xinu: schedule line 2\n"))],
+    ),
+    (
+        "run --schedule x i",
+        Many(b' ', 4_194_304),
+        0,
+        &[(Out, Bytes(NOT_STARTED))],
+    ),
+    (
+        "run --schedule x none",
+        Many(b' ', 4_194_305),
+        5,
+        &[(Fault, Bytes(b"xinu: schedule line 0\n"))],
+    ),
+    (
+        "run --schedule s x",
+        Many(0, 1_048_576),
+        4,
+        &[(Fault, Bytes(b"xinu: image 1 fault 2\n"))],
+    ),
+    (
+        "run --schedule s i x",
+        Many(0, 1_048_577),
+        4,
+        &[(Fault, Bytes(b"xinu: image 2 fault 0\n"))],
+    ),
+    (
+        "run --schedule s x",
+        Bytes(b"\x7fELF"),
+        4,
+        &[(Fault, Bytes(b"xinu: image 1 fault 11\n"))],
+    ),
+];
+
+/// A trace has at most 64 MiB. Its length is looked at before the images.
+const TRACES_AND_SOURCES: [Row; 6] = [
+    (
+        "check --schedule s --trace x i",
+        Many(b'r', 67_108_864),
+        10,
+        &[(Out, Bytes(b"no\n"))],
+    ),
+    (
+        "check --schedule s --trace x i i",
+        Many(b'r', 67_108_864),
+        8,
+        &[(Fault, Bytes(b"xinu: image 2 overlaps\n"))],
+    ),
+    (
+        "check --schedule s --trace x i i",
+        Many(b'r', 67_108_865),
+        11,
+        &[(Fault, Bytes(b"xinu: trace too long\n"))],
+    ),
+    (
+        "asm t --out f",
+        NOTHING,
+        0,
+        &[(Image, Bytes(&TWO_CALLS_IMAGE))],
+    ),
+    (
+        "asm x --out f",
+        Many(b' ', 1_048_576),
+        9,
+        &[(Fault, Bytes(b"xinu: asm line 0 fault 1\n"))],
+    ),
+    (
+        "asm x --out f",
+        Many(b' ', 1_048_577),
+        9,
+        &[(Fault, Bytes(b"xinu: asm line 0 fault 3\n"))],
+    ),
+];
+
+const DISKS: [Row; 19] = [
+    (
+        "run --schedule s --disk0 r --disk1 d --out0 f --out1 g i",
+        NOTHING,
+        0,
+        &[
+            (Out, Bytes(EXITED)),
+            (Disk0, Many(7, 4096)),
+            (Disk1, Words(7168, &VERSION_2)),
+        ],
+    ),
+    (
+        "run --plain --schedule s --disk0 x --out0 f i",
+        Many(7, 33_554_432),
+        0,
+        &[(Disk0, Many(7, 33_554_432))],
+    ),
+    (
+        "run --plain --schedule s --out0 f i",
+        NOTHING,
+        0,
+        &[(Disk0, Many(0, 32_768))],
+    ),
+    (
+        "run --schedule s --disk0 x --out0 f i",
+        Many(0, 4095),
+        6,
+        &[(Fault, Bytes(b"xinu: disk 0 block 0 rule 0\n"))],
+    ),
+    (
+        "run --schedule s --disk0 x --out0 f i",
+        Many(0, 33_554_433),
+        6,
+        &[(Fault, Bytes(b"xinu: disk 0 block 0 rule 0\n"))],
+    ),
+    (
+        "run --schedule s --disk1 x --out0 f i",
+        Many(0, 4097),
+        6,
+        &[(Fault, Bytes(b"xinu: disk 1 block 0 rule 0\n"))],
+    ),
+    (
+        "run --schedule s --disk1 b --out0 f i",
+        NOTHING,
+        6,
+        &[(Fault, Bytes(b"xinu: disk 1 block 2 rule 6\n"))],
+    ),
+    (
+        "disk check d",
+        NOTHING,
+        0,
+        &[(Out, Bytes(b"clean 1 5 6\n"))],
+    ),
+    ("disk ls d", NOTHING, 0, &[(Out, Bytes(b"file 1 6c6f67\n"))]),
+    (
+        "disk get d log --out f",
+        NOTHING,
+        0,
+        &[(Image, Bytes(b"k"))],
+    ),
+    (
+        "disk repair d --out f",
+        NOTHING,
+        0,
+        &[
+            (Out, Bytes(b"kept 1 dropped 0\n")),
+            (Disk1, Words(7168, &VERSION_2)),
+        ],
+    ),
+    (
+        "disk put d log x --out f",
+        Bytes(b"k"),
+        0,
+        &[(Disk1, Words(7168, &VERSION_2))],
+    ),
+    (
+        "disk put d log x --out f",
+        Many(1, 3585),
+        13,
+        &[(Fault, Bytes(b"xinu: does not fit\n"))],
+    ),
+    (
+        "disk put d log x --out f",
+        Many(1, 33_557_505),
+        13,
+        &[(Fault, Bytes(b"xinu: does not fit\n"))],
+    ),
+    (
+        "disk check x",
+        Many(0, 33_557_505),
+        6,
+        &[(Fault, Bytes(b"xinu: disk 1 block 0 rule 0\n"))],
+    ),
+    (
+        "disk check b",
+        NOTHING,
+        6,
+        &[(Fault, Bytes(b"xinu: disk 1 block 2 rule 6\n"))],
+    ),
+    (
+        "disk ls b",
+        NOTHING,
+        6,
+        &[(Fault, Bytes(b"xinu: disk 1 block 2 rule 6\n"))],
+    ),
+    (
+        "disk get b log --out f",
+        NOTHING,
+        6,
+        &[(Fault, Bytes(b"xinu: disk 1 block 2 rule 6\n"))],
+    ),
+    (
+        "disk put b log x --out f",
+        NOTHING,
+        6,
+        &[(Fault, Bytes(b"xinu: disk 1 block 2 rule 6\n"))],
+    ),
+];
+
+/// Commands with an argument of no bytes, which is none.
+const EMPTY_ARGUMENTS: [&str; 14] = [
+    "'' run --schedule s i",
+    "run --schedule '' i",
+    "run --schedule s ''",
+    "run --schedule s i ''",
+    "run --schedule s -- ''",
+    "run --schedule s --out0 '' i",
+    "asm '' --out f",
+    "asm t --out ''",
+    "disk mkfs '' --out f",
+    "disk ls ''",
+    "disk get '' log --out f",
+    "disk get d '' --out f",
+    "disk repair d --out ''",
+    "check --schedule s --trace '' i",
+];
+
+// What is to be on a channel.
+fn wanted_on(channel: Channel, sent: &[(Channel, Content)]) -> Content {
+    for (named, content) in sent {
+        if *named == channel {
+            return *content;
         }
     }
+    NOTHING
 }
 
-// A disk of version 1 of 64 blocks with one file of 8193 bytes, called `big`. Its data blocks are those from 2 to 18, and its index blocks
-// 0 and 1.
-fn version_1(alloc: Global) -> Result<Vec<u8>, Fail> {
-    let mut disk = repeated(alloc, 0, 64 * 512)?;
-    let directory = [19, 2, 1, 8193, 0, u32::from_le_bytes(*b"big\0")];
-    for (k, word) in directory.iter().enumerate() {
-        put(&mut disk, 4 * k, *word);
+// Whether a host was sent this, and nothing else.
+fn was_sent(
+    rt: &impl Abort,
+    alloc: Global,
+    host: &MemoryHost,
+    sent: &[(Channel, Content)],
+) -> bool {
+    for channel in &[Out, Fault, Disk0, Disk1, Image] {
+        let wanted = bytes_of(rt, alloc, &wanted_on(*channel, sent));
+        if host.sent(*channel) != wanted.as_slice() {
+            return false;
+        }
     }
-    put(&mut disk, 512, 1);
-    put(&mut disk, 512 + 72, u32::MAX);
-    put(&mut disk, 512 + 76, 8192);
-    for k in 0..16u32 {
-        let place = 4 * k as usize;
-        put(&mut disk, 520 + place, 2 + k);
-        put(&mut disk, 592 + place, if k == 0 { 18 } else { u32::MAX });
+    true
+}
+
+// Whether a command goes as its row says.
+fn goes(rt: &impl Abort, alloc: Global, row: &Row) -> bool {
+    let (command, x, status, sent) = row;
+    let mut host = host_with(rt, alloc, x);
+    let found = status_of(rt, alloc, command, &mut host);
+    found == *status && was_sent(rt, alloc, &host, sent)
+}
+
+// Each command goes as its row says.
+fn check(rt: &impl Abort, alloc: Global, rows: &[Row]) {
+    for row in rows {
+        assert!(rt; goes(rt, alloc, row), "{}", row.0);
     }
-    for i in 2..7u32 {
-        let next = if i == 6 { u32::MAX } else { i + 1 };
-        put(&mut disk, 512 + 72 * i as usize, next);
-    }
-    for b in 19..64u32 {
-        let next = if b == 63 { u32::MAX } else { b + 1 };
-        put(&mut disk, 512 * b as usize, next);
-    }
-    Ok(disk)
 }
 
 #[test]
-fn a_file_on_a_disk_of_version_1_is_read(rt: HostRuntime) -> Result<(), Fail> {
-    let disk = version_1(rt.alloc())?;
-    let events = b"round 200\n";
-    let read = after(rt.alloc(), &RUN_READER, READER, events, disk.as_slice())?;
-    for reply in ["ret 1 4\n", "ret 1 0\n", "ret 1 2\n"] {
-        assert!(rt; has(read.sent(Channel::Out), reply.as_bytes()), "{reply}");
+fn files_are_read_as_bytes(rt: HostRuntime) {
+    check(&rt, rt.alloc(), &SCHEDULES_AND_IMAGES);
+    check(&rt, rt.alloc(), &TRACES_AND_SOURCES);
+    check(&rt, rt.alloc(), &DISKS);
+}
+
+#[test]
+fn an_empty_argument_is_none(rt: HostRuntime) {
+    for command in &EMPTY_ARGUMENTS {
+        let row = (*command, NOTHING, 2, USAGE);
+        assert!(rt; goes(&rt, rt.alloc(), &row), "{command}");
     }
-    Ok(())
 }

@@ -2,36 +2,12 @@
 #![tactic(auto)]
 
 #[cfg(test)]
-mod after_faults;
+mod commands;
 #[cfg(test)]
-mod assembler;
+mod contents;
 #[cfg(test)]
-mod bad_input;
-#[cfg(test)]
-mod checking;
-#[cfg(test)]
-mod disks;
-#[cfg(test)]
-mod elf_files;
-#[cfg(test)]
-mod file_runtime;
+mod failing_calls;
 #[cfg(test)]
 mod files;
 #[cfg(test)]
-mod host_faults;
-#[cfg(test)]
 mod out_of_memory;
-#[cfg(test)]
-mod places;
-#[cfg(test)]
-mod programs;
-#[cfg(test)]
-mod raw_writers;
-#[cfg(test)]
-mod real_files;
-#[cfg(test)]
-mod run_disks;
-#[cfg(test)]
-mod schedules;
-#[cfg(test)]
-mod soak_tests;

@@ -5,13 +5,11 @@ ghost use Rattle.host_port.specs.Outside.{fetching, naming};
 ghost use Rattle.host_port.specs.HostCalls.{HasCause, Emits, MakesCall, NamesFile};
 ghost use Rattle.host_port.specs.QuietHost.{quiet_view};
 
-use super::programs::{GETPID_AND_EXIT, RUN, quiet_host, status_of};
+use super::commands::status_of;
+use super::contents::GETPID_AND_EXIT;
 use host_port::{Channel, Host, HostFault, QuietMemoryHost};
 use std::alloc::Global;
-use std::test::Fail;
-
-/// The arguments that assemble the file `s`.
-const ASM: [&str; 4] = ["asm", "s", "--out", "f"];
+use std::process::Abort;
 
 /// A host in memory of which one call is answered by `NoMemory`. Its calls are counted from 1.
 #[derive(Drop)]
@@ -56,59 +54,57 @@ impl Host for FullHost {
     }
 }
 
-// Whether a command over this file answers 7 if a call has no memory, and sends these texts on Out and on Fault.
-fn is_out_of_memory(
-    alloc: Global,
-    args: &[&str],
-    file: &str,
-    full_at: u64,
-    out: &str,
-    text: &str,
-) -> Result<bool, Fail> {
-    let mut host = FullHost {
-        quiet: quiet_host(alloc, file.as_bytes(), &GETPID_AND_EXIT)?,
+/// A command; the text of its file; the call that has no memory; what is sent on Out and on Fault.
+const ROWS: [(&str, &[u8], u64, &[u8], &[u8]); 9] = [
+    // The schedule is fetched, the image is fetched, the first line and the third are sent.
+    (RUN, b"step 4", 1, b"", TOLD),
+    (RUN, b"step 4", 2, b"", TOLD),
+    (RUN, b"step 4", 3, b"", TOLD),
+    (RUN, b"step 4", 5, b"run 1\ncall 1 getpid\n", TOLD),
+    // The text of a refusal is sent, which would have status 5.
+    (RUN, b"step 0", 2, b"", b""),
+    // The source is fetched, the file is named, and its bytes are sent.
+    (ASM, b"nop", 1, b"", TOLD),
+    (ASM, b"nop", 2, b"", TOLD),
+    (ASM, b"nop", 3, b"", TOLD),
+    // The text of a refusal is sent, which would have status 9.
+    (ASM, b"nop nop", 2, b"", b""),
+];
+
+/// The command that runs two calls.
+const RUN: &str = "run --schedule s i";
+/// The one that assembles the text.
+const ASM: &str = "asm s --out f";
+/// What is told.
+const TOLD: &[u8] = b"xinu: no memory\n";
+
+// A host with a text and an image, one of whose calls has no memory.
+fn host_with(rt: &impl Abort, alloc: Global, text: &[u8], full_at: u64) -> FullHost {
+    let mut quiet = QuietMemoryHost::new(alloc);
+    quiet.add_file("s", text).expect(rt, "memory");
+    quiet.add_file("i", &GETPID_AND_EXIT).expect(rt, "memory");
+    FullHost {
+        quiet,
         full_at,
         calls: 0,
-    };
-    let status = status_of(alloc, args, &mut host)?;
-    let is_sent = host.quiet.sent(Channel::Out) == out.as_bytes();
-    let is_told = host.quiet.sent(Channel::Fault) == text.as_bytes();
-    Ok(status == 7 && is_sent && is_told && host.quiet.sent(Channel::Image).is_empty())
+    }
+}
+
+// Whether a host was sent these texts on Out and on Fault, and no image.
+fn was_sent(host: &QuietMemoryHost, out: &[u8], told: &[u8]) -> bool {
+    host.sent(Channel::Out) == out
+        && host.sent(Channel::Fault) == told
+        && host.sent(Channel::Image).is_empty()
 }
 
 #[test]
-fn a_run_without_memory_gives_status_7(rt: HostRuntime) -> Result<(), Fail> {
-    for (schedule, full_at, out, text) in [
-        // The schedule is fetched, the image is fetched, the first line and the third are sent.
-        ("step 4", 1, "", "xinu: no memory\n"),
-        ("step 4", 2, "", "xinu: no memory\n"),
-        ("step 4", 3, "", "xinu: no memory\n"),
-        ("step 4", 5, "run 1\ncall 1 getpid\n", "xinu: no memory\n"),
-        // The text of a refusal is sent, which would have status 5.
-        ("step 0", 2, "", ""),
-    ] {
+fn a_command_without_memory_gives_status_7(rt: HostRuntime) {
+    for (command, text, full_at, out, told) in &ROWS {
+        let mut host = host_with(&rt, rt.alloc(), text, *full_at);
+        let status = status_of(&rt, rt.alloc(), command, &mut host);
         assert!(rt;
-            is_out_of_memory(rt.alloc(), &RUN, schedule, full_at, out, text)?,
-            "{full_at}"
+            status == 7 && was_sent(&host.quiet, out, told),
+            "{command} {full_at}"
         );
     }
-    Ok(())
-}
-
-#[test]
-fn an_assembler_without_memory_gives_status_7(rt: HostRuntime) -> Result<(), Fail> {
-    for (source, full_at, text) in [
-        // The source is fetched, the file is named, and its bytes are sent.
-        ("nop", 1, "xinu: no memory\n"),
-        ("nop", 2, "xinu: no memory\n"),
-        ("nop", 3, "xinu: no memory\n"),
-        // The text of a refusal is sent, which would have status 9.
-        ("nop nop", 2, ""),
-    ] {
-        assert!(rt;
-            is_out_of_memory(rt.alloc(), &ASM, source, full_at, "", text)?,
-            "{full_at}"
-        );
-    }
-    Ok(())
 }
