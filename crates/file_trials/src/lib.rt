@@ -2,8 +2,7 @@
 //!
 //! A [`FileDisk`] is an engine with the bytes of its disk, on which each completion is an honest one. [`PlainFiles`] is a list of names and
 //! bytes with the ten calls by the book's rules. A [`Trial`] makes each call on both and compares the replies, the bytes that are read,
-//! what is open, and the files, which it reads off the disk by `lfs_layout`. A [`Script`] draws calls. `file_bench` plays scripts,
-//! and `file_tests` has calls with the replies that they must have.
+//! what is open, and the files, which it reads off the disk by `lfs_layout`. A [`Script`] draws calls. `file_bench` plays scripts.
 //!
 //! | What | Promise |
 //! |---|---|
