@@ -7,13 +7,21 @@
 //! | Command | Its lines |
 //! |---|---|
 //! | `$ file NAME` | the text of a file |
+//! | `$ stored NAME` | none: the file lies beside the text |
 //! | `$ calls PRIORITY` | the calls of a process, which loops afterwards, a line each |
 //! | `$ program PRIORITY` | the text of assembler of a process |
 //! | `$ xinu ARGUMENTS` | what the top call prints with these arguments: what it sends on Out and on Fault, and its status if it isn't 0 |
+//! | `$ explain ARGUMENTS`, `$ races ARGUMENTS`, `$ timeline ARGUMENTS` | likewise of these programs |
+//! | `$ picture ARGUMENTS` | the events of the picture that `timeline` draws in place of the picture, and whether it is a file of the session |
+//! | `$ gdb ARGUMENTS` | what a debugger sends to `xinu_gdb`, and below each line what is answered |
 //!
 //! The first process of a session is the image file `1`, the next is `2`, and so on. Image k begins at 4096 * (k - 1) and has 4096 bytes of
 //! content, with zeros after those of its text. What a command writes into the files of `--out`, `--out0` and `--out1` is there for the
 //! next one. A session ends at the next heading, and its files are forgotten.
+//!
+//! A line of `$ picture` is an event, with each text that the picture has there and the row in which it is. A line of `$ gdb` that begins
+//! with `> ` is what a packet says; after `!` it is sent as it stands, and one unit answers it; after `~` likewise, and nothing answers it.
+//! What is shown on the debugger's console is printed as text after `shows`, with `|` for the end of a line.
 //!
 //! A byte that isn't a printable character is shown as `\x` and two digits. Output whose last line doesn't end has a `\` there.
 //!
@@ -23,7 +31,10 @@
 
 mod images;
 mod output;
+mod packets;
+mod pictures;
 mod player;
+mod programs;
 mod session;
 mod trouble;
 
@@ -34,7 +45,7 @@ fn main(rt: HostRuntime) -> io::Result<()> {
     let mut player = Player::new(rt.alloc());
     for name in env::args(&rt)?.skip(1) {
         let text = fs::read_to_string(&rt, name.as_str())?;
-        player.play(name.as_str(), text.as_str())?;
+        player.play(&rt, name.as_str(), text.as_str())?;
     }
     player.report(&rt)
 }

@@ -3,43 +3,20 @@
 use crate::images::{calling, image};
 use crate::session::Session;
 use crate::trouble::{Place, first_difference};
-use std::alloc::{AllocError, Global};
-use std::io;
+use std::alloc::Global;
+use std::rt::Files;
+use std::{fs, io};
 
-/// A command of a session, with the lines below it.
-#[derive(Drop)]
-struct Command {
-    /// The number of its line.
-    line: u64,
-    /// What follows the `$`; nothing before the first command of a session.
-    words: String,
-    lines: String,
-}
-
-impl Command {
-    // The command on a line, with no lines below it.
-    fn new(alloc: Global, line: u64, words: &str) -> Result<Command, AllocError> {
-        Ok(Command {
-            line,
-            words: String::from_str(alloc, words)?,
-            lines: String::new(alloc),
-        })
-    }
-
-    // Adds a line.
-    fn add_line(&mut self, line: &str) -> Result<(), AllocError> {
-        self.lines.push_str(line)?;
-        self.lines.push_str("\n")
-    }
-}
+/// With what the line of a command begins.
+const COMMAND: &str = "    $ ";
 
 /// The sessions that were played so far.
 #[derive(Drop)]
 pub(crate) struct Player {
     alloc: Global,
     session: Session,
-    /// How many times the top call was made.
-    calls: u64,
+    /// How many programs were run.
+    runs: u64,
     /// How many of them printed what is written.
     as_written: u64,
     /// How many of them printed the transcript of a whole run.
@@ -56,7 +33,7 @@ impl Player {
         Player {
             alloc,
             session: Session::new(alloc),
-            calls: 0,
+            runs: 0,
             as_written: 0,
             transcripts: 0,
             accepted: 0,
@@ -67,32 +44,42 @@ impl Player {
     /// Plays the sessions of the text of this name.
     ///
     /// # Errors
-    /// Out of memory.
-    pub(crate) fn play(&mut self, name: &str, text: &str) -> io::Result<()> {
-        let mut place = Place { name, heading: "" };
-        let mut command = Command::new(self.alloc, 0, "")?;
+    /// Out of memory, or a file that a session needs can't be read.
+    pub(crate) fn play<'a, R: Files + AllocGlobal>(
+        &mut self,
+        rt: &R,
+        name: &'a str,
+        text: &'a str,
+    ) -> io::Result<()> {
+        let mut place = Place {
+            name,
+            heading: "",
+            line: 0,
+            command: "",
+        };
+        let mut lines = String::new(self.alloc);
         let mut number: u64 = 0;
         for line in text.lines() {
             number = number.saturating_add(1);
-            match line.strip_prefix("    ") {
-                Some(line) => match line.strip_prefix("$ ") {
-                    Some(words) => {
-                        self.carry_out(place, &command)?;
-                        command = Command::new(self.alloc, number, words)?;
-                    }
-                    None => command.add_line(line)?,
-                },
-                None => {
-                    self.carry_out(place, &command)?;
-                    command = Command::new(self.alloc, number, "")?;
-                    if let Some(heading) = heading_of(line) {
-                        place = Place { name, heading };
-                        self.session.clear();
-                    }
+            if let Some(below) = line_below(line) {
+                lines.push_str(below)?;
+                lines.push_str("\n")?;
+            } else {
+                self.carry_out(rt, place, lines.as_str())?;
+                lines.clear();
+                let heading = heading_of(line);
+                if heading.is_some() {
+                    self.session.clear();
                 }
+                place = Place {
+                    name,
+                    heading: heading.unwrap_or(place.heading),
+                    line: number,
+                    command: line.strip_prefix(COMMAND).unwrap_or(""),
+                };
             }
         }
-        self.carry_out(place, &command)
+        self.carry_out(rt, place, lines.as_str())
     }
 
     /// Prints how many commands printed what is written, how many transcripts are accepted, and where it was otherwise.
@@ -102,7 +89,7 @@ impl Player {
     pub(crate) fn report<R: Print>(&self, rt: &R) -> io::Result<()> {
         rt.print(self.as_written)?;
         rt.print(" of ")?;
-        rt.print(self.calls)?;
+        rt.print(self.runs)?;
         rt.println(" commands printed what is written")?;
         rt.print(self.accepted)?;
         rt.print(" of ")?;
@@ -111,96 +98,105 @@ impl Player {
         rt.print(self.troubles.as_str())
     }
 
-    // Carries out a command, if there is one.
-    fn carry_out(&mut self, place: Place<'_>, command: &Command) -> io::Result<()> {
-        let words = command.words.as_str();
-        let lines = command.lines.as_str();
-        let (word, rest) = match words.split_once(" ") {
-            Some(parts) => parts,
-            None => (words, ""),
-        };
-        if words.is_empty() {
-            Ok(())
-        } else if word == "file" {
-            self.session.add_file(rest, lines.as_bytes())
-        } else if word == "calls" {
-            let text = calling(self.alloc, lines)?;
-            self.add_image(place, command.line, rest, text.as_str())
-        } else if word == "program" {
-            self.add_image(place, command.line, rest, lines)
-        } else if word == "xinu" {
-            self.xinu(place, command.line, rest, lines)
-        } else {
-            self.tell(place, command.line, "unknown command")
+    // Carries out the command at a place, if there is one, with the lines below it.
+    fn carry_out<R: Files + AllocGlobal>(
+        &mut self,
+        rt: &R,
+        place: Place<'_>,
+        lines: &str,
+    ) -> io::Result<()> {
+        let (word, rest) = place.command.split_once(" ").unwrap_or((place.command, ""));
+        match word {
+            "" => Ok(()),
+            "file" => self.session.add_file(rest, lines.as_bytes()),
+            "stored" => self.add_stored(rt, place, rest),
+            "calls" => {
+                let text = calling(self.alloc, lines)?;
+                self.add_image(place, rest, text.as_str())
+            }
+            "program" => self.add_image(place, rest, lines),
+            _ => self.run(place, word, rest, lines),
         }
+    }
+
+    // Adds a file that lies beside the text.
+    fn add_stored<R: Files + AllocGlobal>(
+        &mut self,
+        rt: &R,
+        place: Place<'_>,
+        name: &str,
+    ) -> io::Result<()> {
+        let path = place.beside(self.alloc, name)?;
+        let bytes = fs::read(rt, path.as_str())?;
+        self.session.add_file(name, bytes.as_slice())
     }
 
     // Adds the next image, of a text of assembler, or tells that it has a fault.
-    fn add_image(
-        &mut self,
-        place: Place<'_>,
-        line: u64,
-        priority: &str,
-        text: &str,
-    ) -> io::Result<()> {
+    fn add_image(&mut self, place: Place<'_>, priority: &str, text: &str) -> io::Result<()> {
         let at = self.session.next_place();
         match image(self.alloc, at, priority, text)? {
             Some(bytes) => self.session.add_image(bytes.as_slice()),
-            None => self.tell(place, line, "the process can't be assembled"),
+            None => self.tell(place, "the process can't be assembled"),
         }
     }
 
-    // Makes the top call with these arguments, and compares what it prints with the lines, which begin after this line.
-    fn xinu(
+    // Runs a program with these arguments, and compares what it prints with the lines below the command.
+    fn run(
         &mut self,
         place: Place<'_>,
-        line: u64,
+        program: &str,
         arguments: &str,
         lines: &str,
     ) -> io::Result<()> {
-        let outcome = self.session.xinu(arguments)?;
-        self.calls = self.calls.saturating_add(1);
-        self.note_judgement(place, line, outcome.is_accepted)?;
-        match first_difference(lines, outcome.printed.as_str()) {
+        let Some(outcome) = self.session.run(program, arguments, lines)? else {
+            return self.tell(place, "unknown command");
+        };
+        if let Some(is_accepted) = outcome.is_accepted {
+            self.judge(place, is_accepted)?;
+        }
+        self.compare(place, lines, outcome.printed.as_str())
+    }
+
+    // Notes whether the transcript of a command is accepted.
+    fn judge(&mut self, place: Place<'_>, is_accepted: bool) -> io::Result<()> {
+        self.transcripts = self.transcripts.saturating_add(1);
+        if is_accepted {
+            self.accepted = self.accepted.saturating_add(1);
+            Ok(())
+        } else {
+            self.tell(place, "its transcript isn't accepted")
+        }
+    }
+
+    // Notes whether a command printed what is written.
+    fn compare(&mut self, place: Place<'_>, wanted: &str, printed: &str) -> io::Result<()> {
+        self.runs = self.runs.saturating_add(1);
+        match first_difference(wanted, printed) {
             None => {
                 self.as_written = self.as_written.saturating_add(1);
                 Ok(())
             }
             Some(difference) => {
                 let text = difference.text(self.alloc)?;
-                let at = line.saturating_add(difference.line);
-                self.tell(place, at, text.as_str())
+                self.tell(place.below(difference.line), text.as_str())
             }
         }
     }
 
-    // Notes whether the transcript of the command on a line is accepted, if it printed one.
-    fn note_judgement(
-        &mut self,
-        place: Place<'_>,
-        line: u64,
-        is_accepted: Option<bool>,
-    ) -> io::Result<()> {
-        match is_accepted {
-            None => Ok(()),
-            Some(true) => {
-                self.transcripts = self.transcripts.saturating_add(1);
-                self.accepted = self.accepted.saturating_add(1);
-                Ok(())
-            }
-            Some(false) => {
-                self.transcripts = self.transcripts.saturating_add(1);
-                self.tell(place, line, "its transcript isn't accepted")
-            }
-        }
-    }
-
-    // Notes a trouble at a line.
-    fn tell(&mut self, place: Place<'_>, line: u64, what: &str) -> io::Result<()> {
-        let text = place.told(self.alloc, line, what)?;
+    // Notes a trouble at a place.
+    fn tell(&mut self, place: Place<'_>, what: &str) -> io::Result<()> {
+        let text = place.told(self.alloc, what)?;
         self.troubles.push_str(text.as_str())?;
         Ok(())
     }
+}
+
+// What a line says below a command, if it is one.
+fn line_below(line: &str) -> Option<&str> {
+    if line.starts_with(COMMAND) {
+        return None;
+    }
+    line.strip_prefix("    ")
 }
 
 // What a line of a text is the heading of, if it is one.

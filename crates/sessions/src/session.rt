@@ -1,16 +1,23 @@
-//! A session: the files that its commands make, and the top call over them.
+//! A session: the files that its commands make, and the programs that are run over them.
 
-use crate::output::shown;
+use crate::programs::{printed, run};
 use host_port::{Channel, MemoryHost};
 use std::alloc::Global;
 use std::io::{self, ErrorKind};
-use xinu_commands::xinu;
 
 /// How many addresses the image of a process has.
 const IMAGE_SIZE: u32 = 4096;
 
 /// The name of the file with the transcript that is judged.
 const TRANSCRIPT: &str = "transcript";
+
+/// The options that name a file that is written, each with the channel of its bytes.
+const WRITTEN: [(&str, Channel); 4] = [
+    ("--out", Channel::Image),
+    ("--out", Channel::Disk1),
+    ("--out0", Channel::Disk0),
+    ("--out1", Channel::Disk1),
+];
 
 /// What came of a command.
 #[derive(Drop)]
@@ -80,31 +87,36 @@ impl Session {
         self.add_file(name.as_str(), bytes)
     }
 
-    /// Makes the top call with these arguments. If it prints the transcript of a whole run, `check` judges that on the same files. The files
-    /// that the call writes are of the session afterwards.
+    /// Runs the program of a command with these arguments; none if there is no such program. If it prints the transcript of a whole run,
+    /// `check` judges that on the same files. The files that it writes are of the session afterwards.
     ///
     /// # Errors
     /// Out of memory.
-    pub(crate) fn xinu(&mut self, arguments: &str) -> io::Result<Outcome> {
-        let mut args = Vec::new(self.alloc);
-        for word in arguments.split_whitespace() {
-            args.push(String::from_str(self.alloc, word)?)?;
-        }
+    pub(crate) fn run(
+        &mut self,
+        command: &str,
+        arguments: &str,
+        lines: &str,
+    ) -> io::Result<Option<Outcome>> {
+        let args = words_of(self.alloc, arguments)?;
         let mut host = self.host()?;
-        let status = status_of(self.alloc, args.as_slice(), &mut host);
+        let Some(status) = run(self.alloc, command, args.as_slice(), lines, &mut host)? else {
+            return Ok(None);
+        };
+        let mut printed = printed(self.alloc, command, lines, &host, status)?;
+        if command == "picture" && self.has_file(host.sent(Channel::Out)) {
+            printed.push_str("the picture is as it is stored\n")?;
+        }
         let is_accepted = if status == 0 {
             self.judged(arguments, host.sent(Channel::Out))?
         } else {
             None
         };
-        self.keep_written(arguments, "--out", Channel::Image, &host)?;
-        self.keep_written(arguments, "--out", Channel::Disk1, &host)?;
-        self.keep_written(arguments, "--out0", Channel::Disk0, &host)?;
-        self.keep_written(arguments, "--out1", Channel::Disk1, &host)?;
-        Ok(Outcome {
-            printed: shown(self.alloc, &host, status)?,
+        self.keep_written(arguments, &host)?;
+        Ok(Some(Outcome {
+            printed,
             is_accepted,
-        })
+        }))
     }
 
     // Whether `check` accepts what a run with these arguments printed; none if they aren't those of a run that prints its transcript.
@@ -116,8 +128,8 @@ impl Session {
         if host.add_file(TRANSCRIPT, transcript).is_err() {
             return Err(ErrorKind::OutOfMemory)?;
         }
-        let status = status_of(self.alloc, args.as_slice(), &mut host);
-        Ok(Some(status == 0 && host.sent(Channel::Out) == b"yes\n".as_slice()))
+        let status = run(self.alloc, "xinu", args.as_slice(), "", &mut host)?;
+        Ok(Some(status == Some(0) && host.sent(Channel::Out) == b"yes\n".as_slice()))
     }
 
     // A host with the files of the session.
@@ -134,20 +146,32 @@ impl Session {
         Ok(host)
     }
 
-    // Keeps what a command wrote on a channel, if an option names a file for it.
-    fn keep_written(
-        &mut self,
-        arguments: &str,
-        option: &str,
-        channel: Channel,
-        host: &MemoryHost,
-    ) -> io::Result<()> {
-        let bytes = host.sent(channel);
-        match value_of(arguments, option) {
-            Some(name) if !bytes.is_empty() => self.add_file(name, bytes),
-            _ => Ok(()),
-        }
+    // Whether a file of the session has exactly these bytes.
+    fn has_file(&self, bytes: &[u8]) -> bool {
+        self.files.iter().any(|file| file.bytes.as_slice() == bytes)
     }
+
+    // Keeps what a command wrote into the files that options name.
+    fn keep_written(&mut self, arguments: &str, host: &MemoryHost) -> io::Result<()> {
+        for (option, channel) in WRITTEN {
+            let bytes = host.sent(channel);
+            if let Some(name) = value_of(arguments, option)
+                && !bytes.is_empty()
+            {
+                self.add_file(name, bytes)?;
+            }
+        }
+        Ok(())
+    }
+}
+
+// The words of a text.
+fn words_of(alloc: Global, text: &str) -> io::Result<Vec<String>> {
+    let mut words = Vec::new(alloc);
+    for word in text.split_whitespace() {
+        words.push(String::from_str(alloc, word)?)?;
+    }
+    Ok(words)
 }
 
 // The arguments with which `check` judges what a run with these arguments prints: the same but for the files that are written; none if it
@@ -189,10 +213,4 @@ fn value_of<'a>(arguments: &'a str, option: &str) -> Option<&'a str> {
         is_next = word == option;
     }
     None
-}
-
-// The status of the top call with these arguments. The machine that it leaves is let go.
-fn status_of(alloc: Global, args: &[String], host: &mut MemoryHost) -> u8 {
-    let mut last = None;
-    xinu(alloc, args, host, &mut last)
 }

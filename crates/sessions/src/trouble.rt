@@ -2,17 +2,39 @@
 
 use std::alloc::{AllocError, Global};
 
-/// The session of a text that is played: the text's name, and the heading of the session.
+/// A command and where it stands: the name of its text, the heading of its session, and the number of its line.
 #[derive(Clone, Copy)]
 pub(crate) struct Place<'a> {
     pub(crate) name: &'a str,
     pub(crate) heading: &'a str,
+    pub(crate) line: u64,
+    /// What it says after its `$`; nothing before the first one of a session.
+    pub(crate) command: &'a str,
 }
 
-impl Place<'_> {
-    /// What is told of a line.
-    pub(crate) fn told(&self, alloc: Global, line: u64, what: &str) -> Result<String, AllocError> {
-        format!(in alloc; "{}:{line} ({})\n  {what}\n", self.name, self.heading)
+impl<'a> Place<'a> {
+    /// The place so many lines below.
+    pub(crate) fn below(self, lines: u64) -> Place<'a> {
+        Place {
+            line: self.line.saturating_add(lines),
+            ..self
+        }
+    }
+
+    /// The path of the file of this name in the folder of the text.
+    pub(crate) fn beside(&self, alloc: Global, name: &str) -> Result<String, AllocError> {
+        match self.name.rsplit_once("/") {
+            Some((folder, _)) => format!(in alloc; "{folder}/{name}"),
+            None => String::from_str(alloc, name),
+        }
+    }
+
+    /// What is told of the place.
+    pub(crate) fn told(&self, alloc: Global, what: &str) -> Result<String, AllocError> {
+        format!(in alloc;
+            "{}:{} ({})\n  {what}\n",
+            self.name, self.line, self.heading
+        )
     }
 }
 

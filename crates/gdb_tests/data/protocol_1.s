@@ -1,3 +1,0 @@
-.place 0
-.priority 20
-end:    j    end

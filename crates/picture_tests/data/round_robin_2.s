@@ -1,3 +1,0 @@
-.place 4096
-.priority 20
-end: j end

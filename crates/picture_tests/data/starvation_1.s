@@ -1,2 +1,0 @@
-.priority 30
-end: j end

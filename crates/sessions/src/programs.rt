@@ -1,0 +1,82 @@
+//! The programs that a session runs.
+
+use crate::output::shown;
+use crate::packets::{dialogue, sent_by};
+use crate::pictures::events_of;
+use explain_command::explain;
+use gdb_command::debug;
+use host_port::{Channel, Host, MemoryHost};
+use races_command::races;
+use std::alloc::{AllocError, Global};
+use std::str;
+use timeline_command::timeline;
+use xinu_commands::xinu;
+
+/// Runs the program of a command over a host, with these arguments, and answers its status; none if there is no such program. What `gdb`
+/// answers to the packets of the lines is sent on Out.
+///
+/// # Errors
+/// Out of memory.
+pub(crate) fn run(
+    alloc: Global,
+    command: &str,
+    args: &[String],
+    lines: &str,
+    host: &mut MemoryHost,
+) -> Result<Option<u8>, AllocError> {
+    let status = match command {
+        "xinu" => run_xinu(alloc, args, host),
+        "explain" => explain(alloc, args, host),
+        "races" => races(alloc, args, host),
+        "timeline" | "picture" => timeline(alloc, args, host),
+        "gdb" => run_gdb(alloc, args, lines, host)?,
+        _ => return Ok(None),
+    };
+    Ok(Some(status))
+}
+
+// The status of the top call. The machine that it leaves is let go.
+fn run_xinu(alloc: Global, args: &[String], host: &mut MemoryHost) -> u8 {
+    let mut last = None;
+    xinu(alloc, args, host, &mut last)
+}
+
+// Lets a debugger send what the lines send.
+fn run_gdb(
+    alloc: Global,
+    args: &[String],
+    lines: &str,
+    host: &mut MemoryHost,
+) -> Result<u8, AllocError> {
+    let bytes = sent_by(alloc, lines)?;
+    let mut input = bytes.as_slice();
+    let mut answers = Vec::new(alloc);
+    let status = debug(alloc, args, host, &mut input, &mut answers);
+    let _ = host.emit(Channel::Out, answers.as_slice());
+    Ok(status)
+}
+
+/// What a command printed: of a picture its events, of `gdb` the lines with what is answered, and else what was sent on Out; what was sent
+/// on Fault; and the status if it isn't 0.
+///
+/// # Errors
+/// Out of memory.
+pub(crate) fn printed(
+    alloc: Global,
+    command: &str,
+    lines: &str,
+    host: &MemoryHost,
+    status: u8,
+) -> Result<String, AllocError> {
+    let out = host.sent(Channel::Out);
+    let mut text = match command {
+        "picture" => events_of(alloc, str::from_utf8(out).unwrap_or(""))?,
+        "gdb" => dialogue(alloc, lines, out)?,
+        _ => shown(alloc, out)?,
+    };
+    text.push_str(shown(alloc, host.sent(Channel::Fault))?.as_str())?;
+    if status != 0 {
+        text.push_str(format!(in alloc; "status {status}\n")?.as_str())?;
+    }
+    Ok(text)
+}
