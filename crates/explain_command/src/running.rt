@@ -79,7 +79,7 @@ fn take(replay: &mut Replay) -> Result<Taken, HostFault>
     match replay.take() {
         Ok(Some(taken)) => Ok(taken),
         Ok(None) => unreachable!(),
-        Err(_) => Err(HostFault::NoMemory),
+        Err(fault) => Err(HostFault::from(fault)),
     }
 }
 

@@ -1,1 +1,5 @@
-pub mod SameRun
+pub mod Console
+pub mod Debugging
+pub mod Monitor
+pub mod Reads
+pub mod Serving

@@ -1,14 +1,16 @@
 //! The command: its arguments and files are read as `run` reads them, and packets are served.
 
-ghost use Rattle.std.specs.Prelude.{◌≡◌, ◌≤◌, false, length, map};
+ghost use Rattle.std.specs.Prelude.{◌≡◌, ◌≢◌, ◌≤◌, ◌∷◌, IfOk, OnOk, codes, false, length, map, string_bytes};
+ghost use Rattle.gdb_command.specs.Debugging.{BeginsRun, HasDebugged, HasServedRun, IsAsked};
 ghost use Rattle.run_inputs.specs.InputFaults.{have_fault};
 
 use crate::serving::serve;
 use crate::session::Session;
+use crate::words::words_of;
 use host_port::{Host, HostFault};
 use replayed_run::Replay;
 use run_inputs::{Inputs, Refusal, fetch_run, refuse};
-use std::alloc::{AllocError, Global};
+use std::alloc::Global;
 use std::io::{Read, Write};
 
 /// Serves packets for the run that the arguments after the program's name ask for, and answers the exit status.
@@ -22,10 +24,12 @@ pub fn debug<H: Host, R: Read, W: Write>(
     host: &mut H,
     input: &mut R,
     output: &mut W,
-) -> u8 {
+) -> u8
+    ensures debugs { result ≡ 0 → HasDebugged (codes "run" ∷ map string_bytes args.now) (H.view host.old) (H.view host.new) (R.remaining input.old) (R.remaining input.new) (W.contents output.old) (W.contents output.new) }
+{
     match carry_out(alloc, args, host, input, output) {
         Ok(()) => 0,
-        Err(refusal) => refuse(refusal, host),
+        Err(refusal) => told(refusal, host),
     }
 }
 
@@ -36,7 +40,9 @@ fn carry_out<H: Host, R: Read, W: Write>(
     host: &mut H,
     input: &mut R,
     output: &mut W,
-) -> Result<(), Refusal> {
+) -> Result<(), Refusal>
+    ensures debugs { OnOk result (HasDebugged (codes "run" ∷ map string_bytes args.now) (H.view host.old) (H.view host.new) (R.remaining input.old) (R.remaining input.new) (W.contents output.old) (W.contents output.new)) }
+{
     let words = match words_of(alloc, args) {
         Ok(words) => words,
         Err(_) => return Err(Refusal::NoMemory),
@@ -46,7 +52,9 @@ fn carry_out<H: Host, R: Read, W: Write>(
 }
 
 // The run that the words of the command `run` ask for, before its first event.
-fn replay_of<H: Host>(alloc: Global, words: &[String], host: &mut H) -> Result<Replay, Refusal> {
+fn replay_of<H: Host>(alloc: Global, words: &[String], host: &mut H) -> Result<Replay, Refusal>
+    ensures asked { IfOk result (λ r. IsAsked (map string_bytes words.now) (H.view host.old) (H.view host.new) r) }
+{
     let inputs = fetch_run(alloc, words, host)?;
     begun(alloc, inputs)
 }
@@ -57,21 +65,12 @@ fn begun(alloc: Global, inputs: Inputs) -> Result<Replay, Refusal>
     requires few { length inputs.images.items ≤ 8 }
     requires good { have_fault (map (λ v. v.items) inputs.images.items) ≡ false }
     requires events { length inputs.schedule ≤ 1000000000 }
+    ensures begins { IfOk result (λ r. BeginsRun inputs r) }
 {
     match Replay::new(alloc, inputs) {
         Ok(replay) => Ok(replay),
         Err(fault) => Err(Refusal::from(fault)),
     }
-}
-
-// The arguments of the command `run`, with its name before them.
-fn words_of(alloc: Global, args: &[String]) -> Result<Vec<String>, AllocError> {
-    let mut words = Vec::new(alloc);
-    words.push(String::from_str(alloc, "run")?)?;
-    for arg in args {
-        words.push(String::from_str(alloc, arg.as_str())?)?;
-    }
-    Ok(words)
 }
 
 // Serves packets for a run.
@@ -80,11 +79,20 @@ fn served<R: Read, W: Write>(
     replay: Replay,
     input: &mut R,
     output: &mut W,
-) -> Result<(), Refusal> {
+) -> Result<(), Refusal>
+    ensures serves { OnOk result (HasServedRun replay (R.remaining input.old) (R.remaining input.new) (W.contents output.old) (W.contents output.new)) }
+{
     let mut session = Session::new(alloc, replay);
     match serve(alloc, &mut session, input, output) {
         Ok(()) => Ok(()),
         Err(HostFault::Failed) => Err(Refusal::HostFault),
         Err(HostFault::NoMemory) => Err(Refusal::NoMemory),
     }
+}
+
+// Sends the text of a refusal, and answers its status.
+fn told<H: Host>(refusal: Refusal, host: &mut H) -> u8
+    ensures refused { result ≢ 0 }
+{
+    refuse(refusal, host)
 }

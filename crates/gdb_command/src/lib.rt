@@ -2,28 +2,23 @@
 //! the run goes on, and back.
 //!
 //! The arguments are those of `run` without what concerns its output. The run is a `Replay`, so its state after any number of its events can
-//! be had again, and nothing that the debugger asks for changes it. What is answered to a packet that looks is `answer` of `gdb_answers` in
-//! the state of the replay.
+//! be had again, and nothing that the debugger asks for changes it: it stays the same run (`IsSameRun`). What is answered to a packet that
+//! looks is `answer` of `gdb_answers` in the state of the replay, to which a run of so many events leads (`IsObeyed`).
 //!
-//! | Call | What it does |
+//! | Call | Promise |
 //! |---|---|
-//! | [`debug`] | serves packets until the debugger goes away or the input ends, or refuses as `run` does, and answers the exit status |
-#![tactic(auto)]
+//! | [`debug`] | `debugs`: at status 0, what was written answers what was read, piece by piece, by a run of the inputs that `run` would fetch |
+//!
+//! Which packets end the session, where the run stops, and what is told of a stop are shown by sessions (`gdb_tests`); no clause says it.
+#![tactic(auto, using(replayed_run::proofs::SameRuns::again, replayed_run::proofs::SameRuns::still))]
 
-mod backward;
 mod command;
-mod forward;
-mod goals;
-mod lines;
 mod looking;
 mod monitor;
 mod output;
-mod points;
 mod serving;
 mod session;
-mod stopped;
-mod transcripts;
 mod units;
-mod watched;
+mod words;
 
 pub use command::debug;

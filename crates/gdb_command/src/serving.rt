@@ -1,5 +1,9 @@
 //! The streams of a session: packets are read, and what is answered is written.
 
+ghost use Rattle.std.specs.Prelude.{◌++◌, ◌≡◌, ◌≤◌, OnOk, IfOk, [], length};
+ghost use Rattle.gdb_command.specs.Reads.{HasReadOnce, HasServedStreams, ReadsMore};
+ghost use Rattle.std.specs.Io.KnownBytes.{Appends, Consumes};
+
 use crate::session::Session;
 use host_port::HostFault;
 use std::alloc::Global;
@@ -14,10 +18,12 @@ pub(crate) fn serve<R: Read, W: Write>(
     session: &mut Session,
     input: &mut R,
     output: &mut W,
-) -> Result<(), HostFault> {
+) -> Result<(), HostFault>
+    ensures serves { OnOk result (HasServedStreams session.old session.new (R.remaining input.old) (R.remaining input.new) (W.contents output.old) (W.contents output.new)) }
+{
     let mut pending = Vec::new(alloc);
     for _ in 0..u64::MAX {
-        match serve_once(alloc, session, pending, input, output)? {
+        match serve_once(session, pending, input, output)? {
             Some(rest) => pending = rest,
             None => break,
         }
@@ -27,24 +33,26 @@ pub(crate) fn serve<R: Read, W: Write>(
 
 // Reads once, and serves what is whole then. Answers what comes after that; nothing if the session or the input ends.
 fn serve_once<R: Read, W: Write>(
-    alloc: Global,
     session: &mut Session,
     pending: Vec<u8>,
     input: &mut R,
     output: &mut W,
-) -> Result<Option<Vec<u8>>, HostFault> {
+) -> Result<Option<Vec<u8>>, HostFault>
+    ensures once { IfOk result (λ rest. HasReadOnce session.old session.new (R.remaining input.old) (R.remaining input.new) (W.contents output.old) (W.contents output.new) pending.items rest) }
+{
     let mut bytes = pending;
     if !read_more(&mut bytes, input)? {
         return Ok(None);
     }
-    let mut answers = Vec::new(alloc);
-    let rest = session.units(bytes.as_slice(), &mut answers)?;
-    write(output, answers.as_slice())?;
-    Ok(rest)
+    let served = session.units(bytes.as_slice())?;
+    write(output, served.sent.as_slice())?;
+    Ok(served.rest)
 }
 
 // Appends what is read at once. Whether the input goes on.
-fn read_more<R: Read>(bytes: &mut Vec<u8>, input: &mut R) -> Result<bool, HostFault> {
+fn read_more<R: Read>(bytes: &mut Vec<u8>, input: &mut R) -> Result<bool, HostFault>
+    ensures reads { IfOk result (λ goes. ReadsMore bytes.old.items bytes.new.items (R.remaining input.old) (R.remaining input.new)) }
+{
     let mut buffer = [0u8; 4096];
     match input.read(&mut buffer) {
         Ok(count) => {
@@ -56,7 +64,9 @@ fn read_more<R: Read>(bytes: &mut Vec<u8>, input: &mut R) -> Result<bool, HostFa
 }
 
 // Writes bytes.
-fn write<W: Write>(output: &mut W, bytes: &[u8]) -> Result<(), HostFault> {
+fn write<W: Write>(output: &mut W, bytes: &[u8]) -> Result<(), HostFault>
+    ensures writes { OnOk result (Appends (W.contents output.old) (W.contents output.new) bytes.now) }
+{
     match output.write_all(bytes) {
         Ok(()) => Ok(()),
         Err(_) => Err(HostFault::Failed),

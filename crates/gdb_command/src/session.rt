@@ -1,23 +1,19 @@
 //! The session: each packet is answered from the state of the run, and some move it.
 
-ghost use Rattle.std.specs.Prelude.{◌≡◌, ◌++◌, OnOk, IfSome};
-ghost use Rattle.gdb_answers.specs.Answers as answers;
-ghost use Rattle.gdb_command.specs.SameRun.{IsSameRun};
-ghost use Rattle.gdb_packets.specs.Commands as commands;
+ghost use Rattle.std.specs.Prelude.{◌≡◌, ◌++◌, OnOk, [], true};
+ghost use Rattle.gdb_answers.specs.Threads.{shown_process};
+ghost use Rattle.gdb_command.specs.Serving.{IsMonitored, IsObeyed};
+ghost use Rattle.replayed_run.specs.Replayed.{IsSameRun};
 ghost use Rattle.gdb_packets.specs.Frames as frames;
 
-use crate::backward::go_back;
-use crate::forward::go_on;
-use crate::goals::{Goal, one_of};
-use crate::looking::{answered, shown, thread_process};
+use crate::looking::answered;
 use crate::output::push_console_digits;
-use crate::stopped::Stopped;
-use crate::watched::WatchedRun;
 use gdb_answers::{Stop, stop_text, thread_text};
 use gdb_packets::{Command, Point, PointKind, Threads, command_of, frame};
 use host_port::HostFault;
 use replayed_run::Replay;
 use std::alloc::Global;
+use watched_run::{Goal, Stopped, WatchedRun, go_back, go_on, one_of, shown, thread_process};
 use xinu_base::Pid;
 
 /// A session.
@@ -48,6 +44,8 @@ impl Session {
     /// A session at the beginning of a run.
     pub(crate) fn new(alloc: Global, replay: Replay) -> Session
         ensures run { result.run.replay ≡ replay }
+        ensures acknowledges { result.has_acks ≡ true }
+        ensures looks { result.look ≡ shown_process replay.state.tables }
     {
         let process = shown(&replay);
         Session {
@@ -62,15 +60,15 @@ impl Session {
         }
     }
 
-    /// Does what a packet asks for, and appends what is answered.
+    /// Does what a packet asks for, and appends what is answered to nothing.
     ///
     /// # Errors
-    /// Out of memory.
+    /// Out of memory; `Failed` if an event printed something else when it was taken before.
     pub(crate) fn obey(&mut self, payload: &[u8], out: &mut Vec<u8>) -> Result<Serves, HostFault>
-        ensures inputs { IsSameRun self.old.run.replay self.new.run.replay }
-        ensures answered { OnOk result (IfSome (answers.answer self.old.run.replay.state self.old.look (commands.command_of payload.now)) (λ text. out.new.items ≡ out.old.items ++ frames.frame text)) }
-        ensures stays { OnOk result (IfSome (answers.answer self.old.run.replay.state self.old.look (commands.command_of payload.now)) (λ _. self.new.run ≡ self.old.run)) }
+        requires fresh { out.old.items ≡ [] }
+        ensures obeyed { OnOk result (IsObeyed self.old self.new payload.now out.new.items) }
     {
+        self.run.replay.runs();
         let command = command_of(payload);
         match answered(self.alloc, &self.run.replay, self.look, command)? {
             Some(text) => self.show(command, text.as_slice(), out),
@@ -85,8 +83,9 @@ impl Session {
         text: &[u8],
         out: &mut Vec<u8>,
     ) -> Result<Serves, HostFault>
-        ensures answered { OnOk result (out.new.items ≡ out.old.items ++ frames.frame text.now) }
+        ensures sends { OnOk result (out.new.items ≡ out.old.items ++ frames.frame text.now) }
         ensures stays { self.new.run ≡ self.old.run }
+        ensures looks { self.new.look ≡ self.old.look }
     {
         self.reply(text, out)?;
         if let Command::NoAcks = command {
@@ -102,7 +101,8 @@ impl Session {
         payload: &[u8],
         out: &mut Vec<u8>,
     ) -> Result<Serves, HostFault>
-        ensures inputs { IsSameRun self.old.run.replay self.new.run.replay }
+        ensures same { OnOk result (IsSameRun self.old.run.replay self.new.run.replay) }
+        ensures monitors { OnOk result (command ≡ Command.Monitor → IsMonitored self.old self.new payload.now out.old.items out.new.items) }
     {
         match command {
             Command::Kill => Ok(Serves::Ends),
@@ -123,7 +123,7 @@ impl Session {
 
     // Moves the run, or what the session looks at.
     fn act(&mut self, command: Command, out: &mut Vec<u8>) -> Result<(), HostFault>
-        ensures inputs { IsSameRun self.old.run.replay self.new.run.replay }
+        ensures same { OnOk result (IsSameRun self.old.run.replay self.new.run.replay) }
     {
         match command {
             Command::Why => self.tell(out),
@@ -144,7 +144,7 @@ impl Session {
 
     // Moves the run.
     fn move_run(&mut self, command: Command, out: &mut Vec<u8>) -> Result<(), HostFault>
-        ensures inputs { IsSameRun self.old.run.replay self.new.run.replay }
+        ensures same { OnOk result (IsSameRun self.old.run.replay self.new.run.replay) }
     {
         match command {
             Command::Step(threads) => {
@@ -204,7 +204,7 @@ impl Session {
 
     // Goes on, and tells why it stopped.
     fn forward(&mut self, goal: &Goal, out: &mut Vec<u8>) -> Result<(), HostFault>
-        ensures inputs { IsSameRun self.old.run.replay self.new.run.replay }
+        ensures same { OnOk result (IsSameRun self.old.run.replay self.new.run.replay) }
     {
         let mut console = Vec::new(self.alloc);
         let stopped = go_on(&mut self.run, goal, &mut console)?;
@@ -214,7 +214,7 @@ impl Session {
 
     // Goes back, and tells why it stopped.
     fn back(&mut self, goal: &Goal, out: &mut Vec<u8>) -> Result<(), HostFault>
-        ensures inputs { IsSameRun self.old.run.replay self.new.run.replay }
+        ensures same { OnOk result (IsSameRun self.old.run.replay self.new.run.replay) }
     {
         let stopped = go_back(&mut self.run, goal)?;
         self.stand(stopped, out)
@@ -268,6 +268,7 @@ impl Session {
     pub(crate) fn reply(&mut self, text: &[u8], out: &mut Vec<u8>) -> Result<(), HostFault>
         ensures appended { OnOk result (out.new.items ≡ out.old.items ++ frames.frame text.now) }
         ensures stays { self.new.run ≡ self.old.run }
+        ensures looks { self.new.look ≡ self.old.look }
     {
         let packet = frame(self.alloc, text)?;
         out.extend_from_slice(packet.as_slice())?;

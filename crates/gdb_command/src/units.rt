@@ -1,23 +1,31 @@
 //! The units of the input: packets, which are obeyed, and the answers to packets.
 
-ghost use Rattle.gdb_command.specs.SameRun.{IsSameRun};
+ghost use Rattle.std.specs.Prelude.{◌≡◌, ◌++◌, [], OnOk, IfOk, IfSome};
+ghost use Rattle.gdb_command.specs.Serving.{IsServed, IsTaken, SendsMore, ServesSome, acknowledgement};
+ghost use Rattle.gdb_packets.specs.SeenUnits.{seen};
+ghost use Rattle.gdb_packets.specs.Units as units;
 
 use crate::session::{Serves, Session};
 use gdb_packets::{InputUnit, first_unit, unescaped};
 use host_port::HostFault;
+use std::alloc::AllocError;
+
+/// What was sent for some of an input, and what is left of it; nothing if the session ends.
+#[derive(Drop)]
+pub(crate) struct Served {
+    pub(crate) sent: Vec<u8>,
+    pub(crate) rest: Option<Vec<u8>>,
+}
 
 impl Session {
-    /// Serves the units that are whole, and answers what comes after them; nothing if the session ends. What is sent is appended to `out`.
+    /// Serves the units that are whole.
     ///
     /// # Errors
-    /// Out of memory.
-    pub(crate) fn units(
-        &mut self,
-        input: &[u8],
-        out: &mut Vec<u8>,
-    ) -> Result<Option<Vec<u8>>, HostFault>
-        ensures inputs { IsSameRun self.old.run.replay self.new.run.replay }
+    /// Out of memory; `Failed` if an event printed something else when it was taken before.
+    pub(crate) fn units(&mut self, input: &[u8]) -> Result<Served, HostFault>
+        ensures serves { IfOk result (λ served. ServesSome self.old input.now self.new served.sent.items served.rest) }
     {
+        let mut sent = Vec::new(self.alloc);
         let mut rest = input;
         for _ in 0..u64::MAX {
             let (unit, next) = first_unit(rest);
@@ -25,16 +33,31 @@ impl Session {
                 break;
             }
             rest = next;
-            if let Serves::Ends = self.unit(unit, out)? {
-                return Ok(None);
+            if let Serves::Ends = self.append(unit, &mut sent)? {
+                return Ok(Served { sent, rest: None });
             }
         }
-        Ok(Some(Vec::from_slice(self.alloc, rest)?))
+        let rest = Vec::from_slice(self.alloc, rest)?;
+        Ok(Served {
+            sent,
+            rest: Some(rest),
+        })
     }
 
-    // Serves a unit.
+    // Serves a unit, and appends what is sent for it to what was sent before.
+    fn append(&mut self, unit: InputUnit<'_>, sent: &mut Vec<u8>) -> Result<Serves, HostFault>
+        ensures sends { OnOk result (SendsMore self.old self.new (seen unit.entry) sent.old.items sent.new.items) }
+    {
+        let mut more = Vec::new(self.alloc);
+        let serves = self.unit(unit, &mut more)?;
+        sent.extend_from_slice(more.as_slice())?;
+        Ok(serves)
+    }
+
+    // Serves a unit: appends what is sent for it.
     fn unit(&mut self, unit: InputUnit<'_>, out: &mut Vec<u8>) -> Result<Serves, HostFault>
-        ensures inputs { IsSameRun self.old.run.replay self.new.run.replay }
+        requires fresh { out.old.items ≡ [] }
+        ensures served { OnOk result (IsServed self.old self.new (seen unit.entry) out.new.items) }
     {
         match unit {
             InputUnit::Packet(bytes) => self.packet(bytes, out),
@@ -53,12 +76,24 @@ impl Session {
 
     // Serves a packet with these bytes.
     fn packet(&mut self, bytes: &[u8], out: &mut Vec<u8>) -> Result<Serves, HostFault>
-        ensures inputs { IsSameRun self.old.run.replay self.new.run.replay }
+        requires fresh { out.old.items ≡ [] }
+        ensures taken { OnOk result (IsTaken self.old self.new (units.unescaped bytes.now) out.new.items) }
+    {
+        self.acknowledge(out)?;
+        let payload = unescaped(self.alloc, bytes)?;
+        let mut reply = Vec::new(self.alloc);
+        let serves = self.obey(payload.as_slice(), &mut reply)?;
+        out.extend_from_slice(reply.as_slice())?;
+        Ok(serves)
+    }
+
+    // Acknowledges a packet, as long as packets are.
+    fn acknowledge(&self, out: &mut Vec<u8>) -> Result<(), AllocError>
+        ensures acknowledged { OnOk result (out.new.items ≡ out.old.items ++ acknowledgement self.now.has_acks) }
     {
         if self.has_acks {
             out.push(b'+')?;
         }
-        let payload = unescaped(self.alloc, bytes)?;
-        self.obey(payload.as_slice(), out)
+        Ok(())
     }
 }

@@ -1,4 +1,9 @@
 pub mod Continued
 pub mod Ends
 pub mod Joined
+pub mod Kept
 pub mod OneRun
+pub mod Others
+pub mod SameRuns
+pub mod Tells
+pub mod Told

@@ -1,14 +1,17 @@
--- A run is one if its lines are.
-use Rattle.std.proofs.Common.{◌≡◌, ◌∙◌, ℕ, List, [], ◌++◌, take, Some, refl, sym, ap, subst}
+-- A run is one if it printed the same.
+use Rattle.std.proofs.Common.{◌≡◌, ◌∙◌, ℕ, true, List, [], take, Some, append-nil, refl, sym, ap, subst}
 use Rattle.xinu_base.specs.declared.events.Event.{Event}
 use Rattle.xinu_base.specs.declared.events.End.{End}
 use Rattle.xinu_base.specs.declared.lines.TranscriptLine.{TranscriptLine}
-use Rattle.xinu_laws.proofs.RunOutcomes.{texts_have_one_run}
+use Rattle.transcript_laws.proofs.OneRun.{one_run as runs_agree}
 use Rattle.xinu_model.specs.Boot.{Boots, Disks, boot_on}
 use Rattle.xinu_model.specs.Machine.{Xinu}
 use Rattle.xinu_model.specs.Runs.{RunsTo}
 use Rattle.xinu_model.specs.Sound.State.{IsSound}
-use Rattle.replayed_run.specs.Replayed.{HasInputs, IsReplayed, Replayed}
+use Rattle.xinu_model.specs.Text.{text}
+use Rattle.replayed_run.proofs.Told.{first-kept}
+use Rattle.replayed_run.specs.Replayed.{IsReplayed, IsSameRun, Replayed}
+use Rattle.replayed_run.specs.Told.{text_of_first}
 use Rattle.run_inputs.specs.Starts.{StartsIn}
 use Rattle.run_inputs.specs.InputFaults.{images_loaded}
 
@@ -22,20 +25,23 @@ one-start disks other files others start begin same_disks same_files a b =
     sym b.boots ∙ ap (λ (d : Disks). boot_on d b.images) same_disks ∙ ap (boot_on disks) images ∙ a.boots in
     cc
 
--- a run of the same events with the same lines, from the same start
+-- a run of the same events that printed the same, from the same start
 one-end : (events others : List Event) (start begin last new : Xinu) (lines more : List TranscriptLine) (end ending : End) → others ≡ events → begin ≡ start
-    → more ≡ lines → IsSound start → RunsTo start events lines last end → RunsTo begin others more new ending → new ≡ last
-one-end events others start begin last new lines more end ending same_events same_start same_lines sound run again =
+    → text more ≡ text lines → IsSound start → RunsTo start events lines last end → RunsTo begin others more new ending → new ≡ last
+one-end events others start begin last new lines more end ending same_events same_start same_text sound run again =
     let P : List Event → Type 0 = λ es. RunsTo begin es more new ending in
     let Q : Xinu → Type 0 = λ s. RunsTo s events more new ending in
     let second = subst Q same_start (subst P same_events again) in
-    (texts_have_one_run events start more lines new last ending end [] [] sound refl refl second run (ap (λ (ls : List TranscriptLine). ls ++ []) same_lines)).1
+    (runs_agree events start more lines new last ending end [] [] sound refl refl second run
+    (ap text (append-nil more) ∙ same_text ∙ ap text (sym (append-nil lines)))).1
 
--- two runs with the same inputs, as many events and the same lines
-pub one-run : (r s : Replayed) (a : IsReplayed r) (b : IsReplayed s) → HasInputs r.disks r.files r.events s → s.taken ≡ r.taken → b.lines ≡ a.lines
-    → s.state ≡ r.state
-one-run r s a b inputs taken lines =
+-- two places of one run after as many events
+pub one-run : (r s : Replayed) (a : IsReplayed r) (b : IsReplayed s) → IsSameRun r s → r.known ≡ true → s.taken ≡ r.taken → s.state ≡ r.state
+one-run r s a b same known taken =
     let events : take s.taken s.events ≡ take r.taken r.events =
-    ap (λ (n : ℕ). take n s.events) taken ∙ ap (take r.taken) inputs.same_events in
+    ap (λ (n : ℕ). take n s.events) taken ∙ ap (take r.taken) same.inputs.same_events in
+    let texts : text b.lines ≡ text a.lines =
+    b.printed (same.known known) ∙ ap (text_of_first s.told) taken
+    ∙ first-kept r.told s.told r.taken same.grows (a.within known) ∙ sym (a.printed known) in
     one-end (take r.taken r.events) (take s.taken s.events) a.start b.start r.state s.state a.lines b.lines a.end b.end events
-    (one-start r.disks s.disks r.files s.files a.start b.start inputs.same_disks inputs.same_files a.starts b.starts) lines a.sound a.runs b.runs
+    (one-start r.disks s.disks r.files s.files a.start b.start same.inputs.same_disks same.inputs.same_files a.starts b.starts) texts a.sound a.runs b.runs

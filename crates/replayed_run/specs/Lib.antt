@@ -1,3 +1,5 @@
 pub mod Progress
 pub mod Replayed
 pub mod Replays
+pub mod Texts
+pub mod Told

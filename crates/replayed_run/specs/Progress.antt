@@ -1,7 +1,8 @@
 -- What the next event of a run did, and what steps that print nothing did.
-use Rattle.std.specs.Prelude.{◌≡◌, ◌+◌, ℕ, List, Option, Some, is_some, slice_get}
+use Rattle.std.specs.Prelude.{◌≡◌, ◌≢◌, ◌+◌, ◌<◌, ℕ, true, List, length, Option, Some, is_some, slice_get}
 use Rattle.printed_events.specs.Lines.{IsPrinted}
 use Rattle.replayed_run.specs.Replayed.{Replayed}
+use Rattle.replayed_run.specs.Told.{text_at}
 use Rattle.xinu_base.specs.declared.events.End.{End}
 use Rattle.xinu_base.specs.declared.events.Event.{Event}
 use Rattle.xinu_model.specs.Events.{panics_in}
@@ -17,7 +18,19 @@ pub record TakesEvent (old new : Replayed) (printed : Option (List ℕ)) : Type 
     taken = old.taken + 1;
     state = new.state;
     over = is_some (end_with (panics_in old.state event) (is_over new.state));
+    told = new.told;
+    known = new.known;
   }
+
+-- The event that came next printed something else than when it was taken before.
+pub record PrintsOther (old new : Replayed) : Type 0 where
+  pub event : Event
+  pub next : slice_get old.events old.taken ≡ Some event
+  pub printed : List ℕ
+  pub happens : IsPrinted old.state event new.state (Some printed)
+  pub known : old.known ≡ true
+  pub before : old.taken < length old.told
+  pub other : text_at old.told old.taken ≢ printed
 
 -- So the run ended with the event that came next, if it did.
 pub record EndsWith (old new : Replayed) (end : Option End) : Type 0 where
@@ -28,4 +41,4 @@ pub record EndsWith (old new : Replayed) (end : Option End) : Type 0 where
 -- The run took so many steps that print nothing.
 pub record TakesSteps (count : ℕ) (old new : Replayed) : Type 0 where
   pub plain : ArePlain count old.state
-  pub changes : new ≡ record old { taken = old.taken + count; state = stepped_times count old.state }
+  pub changes : new ≡ record old { taken = old.taken + count; state = stepped_times count old.state; told = new.told }

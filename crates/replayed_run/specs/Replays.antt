@@ -2,10 +2,11 @@
 use Rattle.std.specs.Prelude.{◌≡◌, ◌≤◌, drop, false, length, map}
 use Rattle.given_disks.specs.Disks.{disks_of}
 use Rattle.replayed_run.specs.Replayed.{IsReplayed, Replayed}
+use Rattle.replayed_run.specs.Texts.{HasNoMore, kept}
 use Rattle.replayed_run.specs.declared.replay.Replay.TheInside.{Inside}
 use Rattle.run_inputs.specs.InputFaults.{have_fault}
 
--- its inputs, how many events were taken, and the state of its machine
+-- its inputs, how many events were taken, the state of its machine, and what is known of what its events printed
 abbrev pub replayed_of : Inside → Replayed
 replayed_of r = record {
   disks = disks_of r.inputs.disk0 r.inputs.disk1;
@@ -14,6 +15,8 @@ replayed_of r = record {
   taken = r.taken;
   state = r.machine.state;
   over = r.machine.over;
+  told = kept r.texts r.texts.far;
+  known = r.is_known;
 }
 
 -- The events that are left are those that weren't taken, and the state is that of a run of those that were.
@@ -26,4 +29,5 @@ pub record IsReplay (r : Inside) : Type 0 where
   pub left : r.left ≡ drop r.taken r.inputs.schedule
   pub counted : r.machine.events ≡ r.taken
   pub over : r.machine.over ≡ r.has_ended
+  pub no_more : HasNoMore r.texts
   pub replayed : IsReplayed (replayed_of r)

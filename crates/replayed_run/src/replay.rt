@@ -1,16 +1,18 @@
 //! A run that can be had again.
 
-ghost use Rattle.std.specs.Prelude.{◌≡◌, ◌+◌, ◌≤◌, ◌<◌, ◌==◌, ◌||◌, IfOk, IfErr, IfSome, MatchOption, None, OnErr, OnOk, Some, false, true, is_some, length, map, not, slice_get};
+ghost use Rattle.std.specs.Prelude.{ℕ, IsErrOf, ◌&&◌, is_ok, ◌≡◌, ◌+◌, ◌≤◌, ◌<◌, ◌==◌, ◌||◌, IfOk, IfErr, IfSome, MatchOption, MatchResult, None, OnErr, OnOk, Some, false, true, is_some, length, map, not, slice_get};
 ghost use Rattle.given_disks.specs.Disks.{disks_of};
 ghost use Rattle.machine.specs.RunEnds.{end_of_go};
-ghost use Rattle.replayed_run.specs.Progress.{EndsWith, TakesEvent, TakesSteps};
+ghost use Rattle.replayed_run.specs.Progress.{EndsWith, PrintsOther, TakesEvent, TakesSteps};
 ghost use Rattle.replayed_run.specs.Replayed as replayed;
-ghost use Rattle.replayed_run.specs.Replayed.{HasInputs, IsReplayed};
+ghost use Rattle.replayed_run.specs.Replayed.{HasInputs, IsReplayed, IsSameRun};
+ghost use Rattle.replayed_run.specs.Texts.{HasNoMore, Keeps, WasOther, kept_at};
 ghost use Rattle.run_inputs.specs.Starts.{IsBooted, IsRefused};
 ghost use Rattle.run_inputs.specs.InputFaults.{have_fault};
 ghost use Rattle.xinu_model.specs.Sound.State.{IsSound};
 ghost use Rattle.xinu_model.specs.Text.{tables_of, text};
 
+use crate::texts::{ReplayFault, Texts};
 use machine::{BootFault, Go, KernelState, Machine};
 use printed_events::{Printed, Taken, tables, take_event};
 use run_inputs::Inputs;
@@ -19,7 +21,8 @@ use std::alloc::Global;
 use std::marker::Model;
 use xinu_base::{Event, NoMemory};
 
-/// A run after some of its events. A clause sees its inputs, how many events were taken, the state, and whether one of them ended the run.
+/// A run after some of its events. A clause sees its inputs, how many events were taken, the state, whether one of them ended the run, and
+/// what is known of what its events print.
 #[derive(Drop)]
 pub struct Replay {
     alloc: Global,
@@ -31,6 +34,10 @@ pub struct Replay {
     taken: u32,
     // Whether one of them ended the run.
     has_ended: bool,
+    // What its events printed, as far as it ever went.
+    texts: Texts,
+    // Whether that is known of all that were taken.
+    is_known: bool,
 }
 
 impl Model for Replay {
@@ -58,6 +65,7 @@ impl Replay {
         ensures inputs { IfOk result (λ r. HasInputs (disks_of inputs.disk0 inputs.disk1) (map (λ v. v.items) inputs.images.items) inputs.schedule r) }
         ensures none { IfOk result (λ r. r.taken ≡ 0) }
         ensures goes_on { IfOk result (λ r. r.over ≡ false) }
+        ensures known { IfOk result (λ r. r.known ≡ true) }
         ensures refused { IfErr result (λ f. IsRefused (disks_of inputs.disk0 inputs.disk1) (map (λ v. v.items) inputs.images.items) f) }
     {
         let machine = inputs.boot(alloc)?;
@@ -71,6 +79,8 @@ impl Replay {
             left,
             taken: 0,
             has_ended: false,
+            texts: Texts::new(alloc),
+            is_known: true,
         })
     }
 
@@ -139,21 +149,23 @@ impl Replay {
     /// Takes the next event; nothing changes if none is left.
     ///
     /// # Errors
-    /// `NoMemory`, for the lines. The event happened.
-    pub fn take(&mut self) -> Result<Option<Taken>, NoMemory>
+    /// `NoMemory`, for the lines; `Differs` if it printed something else when it was taken before. The event happened.
+    pub fn take(&mut self) -> Result<Option<Taken>, ReplayFault>
         ensures takes { IfOk result (λ t. MatchOption t (self.new ≡ self.old) (λ t. TakesEvent self.old self.new (Some t.printed))) }
         ensures ends { IfOk result (λ t. IfSome t (λ t. EndsWith self.old self.new (end_of_go t.go))) }
         ensures left { IfOk result (λ t. is_some t ≡ not (replayed.is_at_end self.old)) }
         ensures happened { OnErr result (TakesEvent self.old self.new None) }
+        ensures differs { IsErrOf result ReplayFault.Differs → PrintsOther self.old self.new }
         ensures inputs { HasInputs self.old.disks self.old.files self.old.events self.new }
+        ensures same { OnOk result (IsSameRun self.old self.new) }
     {
         let Some(event) = self.next() else {
             return Ok(None);
         };
         let (go, printed) = self.happen(event);
         match printed {
-            Some(printed) => Ok(Some(Taken { printed, go })),
-            None => Err(NoMemory),
+            Ok(printed) => Ok(Some(Taken { printed, go })),
+            Err(fault) => Err(fault),
         }
     }
 
@@ -162,12 +174,17 @@ impl Replay {
         ensures steps { TakesSteps result self.old self.new }
         ensures most { result ≤ most }
         ensures inputs { HasInputs self.old.disks self.old.files self.old.events self.new }
+        ensures same { IsSameRun self.old self.new }
     {
         if self.has_ended {
             return 0;
         }
-        let count = self.machine.steps(most.min(self.left.steps_ahead()));
+        let ahead = most.min(self.left.steps_ahead());
+        let count = self
+            .machine
+            .steps(self.texts.silent_from(self.taken, ahead));
         self.left.skip(count);
+        pass(&mut self.texts, self.is_known, self.taken, count);
         self.taken += count;
         count
     }
@@ -175,11 +192,13 @@ impl Replay {
     /// Goes to where so many events were taken, forward or back; to the run's end, if it has fewer.
     ///
     /// # Errors
-    /// `NoMemory`, and the run is where it was, at its beginning, or on the way.
-    pub fn seek(&mut self, count: u32) -> Result<(), NoMemory>
+    /// `NoMemory`; `Differs` if an event printed something else when it was taken before. The run is where it was, at its beginning, or on
+    /// the way.
+    pub fn seek(&mut self, count: u32) -> Result<(), ReplayFault>
         ensures reached { OnOk result ((self.new.taken == count || replayed.is_at_end self.new) ≡ true) }
         ensures within { OnOk result (self.new.taken ≤ count) }
         ensures inputs { HasInputs self.old.disks self.old.files self.old.events self.new }
+        ensures same { OnOk result (IsSameRun self.old self.new) }
     {
         if count < self.taken() {
             self.rewind()?;
@@ -188,11 +207,13 @@ impl Replay {
     }
 
     // Goes forward to where so many events were taken, or to the run's end.
-    fn advance_to(&mut self, count: u32) -> Result<(), NoMemory>
+    #[tactic(auto, using(crate::proofs::SameRuns::again, crate::proofs::SameRuns::still))]
+    fn advance_to(&mut self, count: u32) -> Result<(), ReplayFault>
         requires ahead { self.old.taken ≤ count }
         ensures reached { OnOk result ((self.new.taken == count || replayed.is_at_end self.new) ≡ true) }
         ensures within { OnOk result (self.new.taken ≤ count) }
         ensures inputs { HasInputs self.old.disks self.old.files self.old.events self.new }
+        ensures same { OnOk result (IsSameRun self.old self.new) }
     {
         while self.taken() < count {
             if self.is_at_end() {
@@ -204,12 +225,13 @@ impl Replay {
     }
 
     // Goes on by at least one event, and at most so many.
-    fn advance(&mut self, most: u32) -> Result<(), NoMemory>
+    fn advance(&mut self, most: u32) -> Result<(), ReplayFault>
         requires some { 1 ≤ most }
         requires goes_on { replayed.is_at_end self.old ≡ false }
         ensures further { OnOk result (self.old.taken < self.new.taken) }
         ensures within { OnOk result (self.new.taken ≤ self.old.taken + most) }
         ensures inputs { HasInputs self.old.disks self.old.files self.old.events self.new }
+        ensures same { OnOk result (IsSameRun self.old self.new) }
     {
         if self.take_steps(most) < most {
             self.take()?;
@@ -217,40 +239,51 @@ impl Replay {
         Ok(())
     }
 
-    // The event that comes next happens. What it means for the run, and what it printed unless memory ran out for that.
-    fn happen(&mut self, event: Event) -> (Go, Option<Printed>)
+    // The event that comes next happens. What it means for the run, and what it printed.
+    fn happen(&mut self, event: Event) -> (Go, Result<Printed, ReplayFault>)
         requires next { slice_get self.old.events self.old.taken ≡ Some event }
         requires goes_on { self.old.over ≡ false }
-        ensures takes { TakesEvent self.old self.new result.1 }
+        ensures takes { MatchResult result.1 (λ printed. TakesEvent self.old self.new (Some printed)) (λ _. TakesEvent self.old self.new None) }
         ensures ends { EndsWith self.old self.new (end_of_go result.0) }
+        ensures same { IfOk result.1 (λ _. IsSameRun self.old self.new) }
+        ensures differs { IsErrOf result.1 ReplayFault.Differs → PrintsOther self.old self.new }
     {
         let (go, printed) = take_event(self.alloc, &mut self.machine, event);
+        let told = tell(
+            self.alloc,
+            &mut self.texts,
+            self.is_known,
+            self.taken,
+            printed,
+        );
         self.left.skip(1);
         self.taken += 1;
         self.has_ended = is_end(go);
-        (go, printed)
+        self.is_known = are_known(self.is_known, &told);
+        (go, told)
     }
 
     // Goes to where no event was taken.
-    fn rewind(&mut self) -> Result<(), NoMemory>
+    fn rewind(&mut self) -> Result<(), ReplayFault>
         ensures none { OnOk result (self.new.taken ≡ 0) }
         ensures inputs { HasInputs self.old.disks self.old.files self.old.events self.new }
+        ensures same { OnOk result (IsSameRun self.old self.new) }
     {
         let machine = self.booted()?;
         let Ok(left) = self.inputs.schedule.copy(self.alloc) else {
-            return Err(NoMemory);
+            return Err(ReplayFault::NoMemory);
         };
         self.restart(machine, left);
         Ok(())
     }
 
     // The machine before the first event, booted anew.
-    fn booted(&self) -> Result<Machine, NoMemory>
+    fn booted(&self) -> Result<Machine, ReplayFault>
         ensures booted { IfOk result (λ m. IsBooted self.now.disks self.now.files m) }
     {
         match self.inputs.boot(self.alloc) {
             Ok(machine) => Ok(machine),
-            Err(BootFault::NoMemory) => Err(NoMemory),
+            Err(BootFault::NoMemory) => Err(ReplayFault::NoMemory),
             Err(BootFault::Overlap(_)) => unreachable!(),
             Err(BootFault::NoRoom(_)) => unreachable!(),
         }
@@ -260,13 +293,63 @@ impl Replay {
     fn restart(&mut self, machine: Machine, left: Schedule)
         requires booted { IsBooted self.old.disks self.old.files machine }
         requires all { left ≡ self.old.events }
-        ensures starts { self.new ≡ record self.old { taken = 0; state = machine.state; over = false } }
+        ensures starts { self.new ≡ record self.old { taken = 0; state = machine.state; over = false; known = true } }
     {
         self.machine = machine;
         self.left = left;
         self.taken = 0;
         self.has_ended = false;
+        self.is_known = true;
     }
+}
+
+// What the event after so many others printed, once it is among the texts, if those of the events before it are.
+fn tell(
+    alloc: Global,
+    texts: &mut Texts,
+    is_known: bool,
+    number: u32,
+    printed: Option<Printed>,
+) -> Result<Printed, ReplayFault>
+    requires reached { is_known ≡ true → number ≤ texts.old.far }
+    requires fits { number < 1000000000 }
+    requires no_more { HasNoMore texts.old }
+    ensures keeps { Keeps texts.old texts.new }
+    ensures no_more { HasNoMore texts.new }
+    ensures printed { IfOk result (λ p. printed ≡ Some p) }
+    ensures told { IfOk result (λ p. is_known ≡ true → kept_at texts.new number ≡ p) }
+    ensures far { IfOk result (λ p. is_known ≡ true → number < texts.new.far) }
+    ensures differs { IsErrOf result ReplayFault.Differs → WasOther is_known texts.old number printed }
+{
+    let Some(printed) = printed else {
+        return Err(ReplayFault::NoMemory);
+    };
+    if is_known {
+        texts.tell(alloc, number, printed.bytes())?;
+    }
+    Ok(printed)
+}
+
+// Events after so many others printed nothing, which is kept if what those before them printed is known.
+fn pass(texts: &mut Texts, is_known: bool, number: u32, count: u32)
+    requires reached { is_known ≡ true → number ≤ texts.old.far }
+    requires fits { number + count ≤ 1000000000 }
+    requires no_more { HasNoMore texts.old }
+    ensures keeps { Keeps texts.old texts.new }
+    ensures no_more { HasNoMore texts.new }
+    ensures same { (n : ℕ) → kept_at texts.new n ≡ kept_at texts.old n }
+    ensures far { is_known ≡ true → number + count ≤ texts.new.far }
+{
+    if is_known {
+        texts.pass(number, count);
+    }
+}
+
+// Whether what the events printed is known after one event more.
+fn are_known(is_known: bool, told: &Result<Printed, ReplayFault>) -> bool
+    ensures known { result ≡ (is_known && is_ok told.now) }
+{
+    is_known && told.is_ok()
 }
 
 // Whether a run ended.

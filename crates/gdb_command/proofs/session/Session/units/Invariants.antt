@@ -1,6 +1,6 @@
--- The inputs at the start.
-use Rattle.gdb_command.specs.SameRun.{IsSameRun}
+-- So much was served.
+use Rattle.gdb_command.specs.Serving.{HasServed}
 use Rattle.gdb_command.proofs.session.Session.units.Given as goal
 
 abbrev pub invariant-loop : goal.invariant-loop
-invariant-loop l = IsSameRun l.fn.self.run.replay l.self.run.replay
+invariant-loop l = record { served : HasServed l.fn.self l.fn.input l.self l.sent.items l.rest }

@@ -1,0 +1,20 @@
+-- The same inputs, whether a step was looked for or not.
+use Rattle.std.proofs.Common.{refl, sym, subst}
+use Rattle.explain_command.proofs.SameInputs.{inputs_again}
+use Rattle.replayed_run.specs.Replayed.{HasInputs, Replayed}
+use Rattle.explain_command.proofs.running.take_event.Goals.{else-not-is_listed-via-then-not-is_listed+else-take_steps-eq1, else-not-is_listed-via-else-not-is_listed}
+use Rattle.explain_command.proofs.running.take_event.Goals as goal
+
+pub returns-clause-inputs : goal.returns-clause-inputs
+returns-clause-inputs c =
+    let a = c.args.replay.now in
+    let b = c.else-not-is_listed.replay in
+    let first : HasInputs a.disks a.files a.events b =
+    elim c.else-not-is_listed.branch [
+      | else-not-is_listed-via-then-not-is_listed+else-take_steps-eq1 w ↦
+          subst (λ (r : Replayed). HasInputs a.disks a.files a.events r) (sym w.replay-is) w.take_steps.ensures.inputs
+      | else-not-is_listed-via-else-not-is_listed w ↦
+          subst (λ (r : Replayed). HasInputs a.disks a.files a.events r) (sym w.replay-is)
+          (record { same_disks = refl; same_files = refl; same_events = refl })
+    ] in
+    inputs_again a b c.take.new.replay first c.take.ensures.inputs

@@ -1,0 +1,35 @@
+//! A run that goes on until something stops it, and back: what a debugger asks of a run.
+//!
+//! The run is a `Replay`, so it is the same run wherever it stands (`IsSameRun` of `replayed_run`), and what it is watched for are addresses
+//! of instructions, ahead of which it stops, and bytes of RAM, after a change of which it stops.
+//!
+//! | Call | Promise |
+//! |---|---|
+//! | [`WatchedRun::new`] | `run`: a run that is watched for nothing |
+//! | [`WatchedRun::set`], [`WatchedRun::clear`] | `stays`: the run is to stop ahead of the instruction at an address, or no longer |
+//! | [`WatchedRun::watch`], [`WatchedRun::forget`] | `stays`: the run is to stop after a change of some bytes, or no longer |
+//! | [`go_on`], [`go_back`] | `same`: the run goes to where it stops, and is the same run |
+//! | [`WatchedRun::seek`] | `same`: it goes to where so many events were taken |
+//! | [`lines_so_far`] | `same`: the lines of the events that were taken |
+//! | [`shown`], [`thread_process`] | `shown`, `process`: the process that is looked at first, and that of a thread's number |
+//!
+//! Where a run stops is shown by sessions (`gdb_tests`); no clause says it.
+#![tactic(auto, using(replayed_run::proofs::SameRuns::again, replayed_run::proofs::SameRuns::still))]
+
+mod backward;
+mod forward;
+mod goals;
+mod lines;
+mod looking;
+mod points;
+mod stopped;
+mod transcripts;
+mod watched;
+
+pub use backward::go_back;
+pub use forward::go_on;
+pub use goals::{Goal, one_of};
+pub use looking::{shown, thread_process};
+pub use stopped::Stopped;
+pub use transcripts::lines_so_far;
+pub use watched::WatchedRun;
