@@ -3,7 +3,7 @@
 use std::alloc::AllocError;
 
 /// Why arguments were answered with no command.
-#[derive(Clone, Copy, Debug, PartialEq, Eq)]
+#[derive(Clone, Copy, PartialEq, Eq)]
 pub enum ArgsFault {
     /// The arguments give no command.
     NoCommand,

@@ -6,7 +6,7 @@ ghost use Rattle.xinu_model.specs.Devices.Table as table;
 use xinu_base::{Dev, Kind, Op};
 
 /// The answer to a word that names no device.
-#[derive(Clone, Copy, Debug, PartialEq, Eq)]
+#[derive(Clone, Copy, PartialEq, Eq)]
 pub struct NoSuch;
 
 /// The device that a word names.

@@ -6,7 +6,7 @@ ghost use Rattle.elf_loader.specs.ElfFaults.{elf_fault_number, load_fault_number
 use image_loader::ImageFault;
 
 /// The first test that an ELF file fails, in the order in which the tests are made.
-#[derive(Clone, Copy, Debug, PartialEq, Eq)]
+#[derive(Clone, Copy, PartialEq, Eq)]
 pub enum ElfFault {
     /// There are fewer bytes than a header has, which is 52.
     Short,
@@ -51,7 +51,7 @@ impl ElfFault {
 }
 
 /// The fault of an image file of either kind.
-#[derive(Clone, Copy, Debug, PartialEq, Eq)]
+#[derive(Clone, Copy, PartialEq, Eq)]
 pub enum LoadFault {
     /// The fault of a file that doesn't begin as an ELF file.
     Image(ImageFault),

@@ -4,11 +4,11 @@ use std::fmt::Debug;
 use std::process::Abort;
 
 // What is found is what is wanted in a row.
-pub fn same<T: Copy + PartialEq + Debug>(
+pub fn same<T: Copy + PartialEq>(
     rt: &impl Abort,
     row: impl Copy + Debug,
     found: T,
     wanted: T,
 ) {
-    assert_eq!(rt; found, wanted, "{row:?}");
+    assert!(rt; found == wanted, "{row:?}");
 }

@@ -10,7 +10,7 @@ ghost use Rattle.host_port.specs.HostCalls.{HasCause, Emits, MakesCall, NamesFil
 use std::alloc::{AllocError, AllocFailed, Global};
 
 /// A destination of bytes.
-#[derive(Clone, Copy, Debug, PartialEq, Eq)]
+#[derive(Clone, Copy, PartialEq, Eq)]
 pub enum Channel {
     /// The transcript, or the plain output.
     Out,
@@ -25,7 +25,7 @@ pub enum Channel {
 }
 
 /// Why a call of a host was refused.
-#[derive(Clone, Copy, Debug, PartialEq, Eq)]
+#[derive(Clone, Copy, PartialEq, Eq)]
 pub enum HostFault {
     /// The world outside refused it. The host's count of faults rose in the call.
     Failed,

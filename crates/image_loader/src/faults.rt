@@ -4,7 +4,7 @@ ghost use Rattle.std.specs.Prelude.{◌≡◌};
 ghost use Rattle.image_loader.specs.Faults.{fault_number};
 
 /// The first field of an image file that doesn't hold, in the order in which the fields are judged.
-#[derive(Clone, Copy, Debug, PartialEq, Eq)]
+#[derive(Clone, Copy, PartialEq, Eq)]
 pub enum ImageFault {
     /// There are fewer bytes than a header has, which is 28.
     Short,

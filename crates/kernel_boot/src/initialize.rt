@@ -31,7 +31,7 @@ use tty_driver::Tty;
 use xinu_base::{NoMemory, Pid, State};
 
 /// Why a kernel wasn't booted.
-#[derive(Clone, Copy, Debug, PartialEq, Eq)]
+#[derive(Clone, Copy, PartialEq, Eq)]
 pub enum BootFault {
     /// The image with this number, counted from 1, overlaps an earlier one.
     Overlap(u8),

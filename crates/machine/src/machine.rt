@@ -32,7 +32,7 @@ use std::marker::Model;
 use xinu_base::{Event, Pid, TranscriptLine};
 
 /// What an event means for the run.
-#[derive(Clone, Copy, Debug, PartialEq, Eq)]
+#[derive(Clone, Copy, PartialEq, Eq)]
 pub enum Go {
     /// The run goes on.
     Goes,

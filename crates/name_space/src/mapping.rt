@@ -13,5 +13,5 @@ pub struct MappedName {
 }
 
 /// The answer to a name that is mapped to nothing.
-#[derive(Clone, Copy, Debug, PartialEq, Eq)]
+#[derive(Clone, Copy, PartialEq, Eq)]
 pub struct NoMap;

@@ -14,7 +14,7 @@ use arrayvec::ArrayVec;
 use xinu_base::{Port, PortTicket, Sem};
 
 /// What comes of a message that is sent.
-#[derive(Clone, Copy, Debug, PartialEq, Eq)]
+#[derive(Clone, Copy, PartialEq, Eq)]
 pub enum Sent {
     /// It is the last of the port; the semaphore is that of the receivers.
     Put(Sem),
@@ -25,7 +25,7 @@ pub enum Sent {
 }
 
 /// A message that is received.
-#[derive(Clone, Copy, Debug, PartialEq, Eq)]
+#[derive(Clone, Copy, PartialEq, Eq)]
 pub struct Received {
     /// The message.
     pub message: u32,

@@ -14,7 +14,7 @@ use std::marker::Model;
 use xinu_base::{NoMemory, Port, Sem};
 
 /// What a port in use has beside its messages.
-#[derive(Clone, Copy, Debug, PartialEq, Eq)]
+#[derive(Clone, Copy, PartialEq, Eq)]
 pub struct PortHead {
     /// How many messages it can hold; not negative.
     pub first_count: i32,
@@ -25,7 +25,7 @@ pub struct PortHead {
 }
 
 /// What is kept of a port beside its messages.
-#[derive(Clone, Copy, Debug, PartialEq, Eq)]
+#[derive(Clone, Copy, PartialEq, Eq)]
 pub struct PortEntry {
     /// The sequence number, which rises each time the port is made, reset or deleted.
     pub seq: u32,

@@ -4,7 +4,7 @@ use std::alloc::{AllocError, Global};
 use xinu_base::State;
 
 /// What a process waits for.
-#[derive(Clone, Copy, Debug, PartialEq, Eq)]
+#[derive(Clone, Copy, PartialEq, Eq)]
 pub enum Awaited {
     /// Nothing that has a name of its own.
     Nothing,
@@ -27,7 +27,7 @@ pub enum Awaited {
 }
 
 /// What a process is doing: its state, and what it waits for, with its number.
-#[derive(Clone, Copy, Debug, PartialEq, Eq)]
+#[derive(Clone, Copy, PartialEq, Eq)]
 pub struct Doing {
     pub state: State,
     pub awaited: Awaited,

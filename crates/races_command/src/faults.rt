@@ -10,7 +10,7 @@ use run_inputs::{Refusal, refuse};
 use xinu_base::NoMemory;
 
 /// Why the command wasn't carried out.
-#[derive(Clone, Copy, Debug, PartialEq, Eq)]
+#[derive(Clone, Copy, PartialEq, Eq)]
 pub enum Fault {
     /// As `run` refuses the arguments and files.
     Refused(Refusal),

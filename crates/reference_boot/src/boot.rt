@@ -20,7 +20,7 @@ use std::alloc::Global;
 use xinu_base::{MINSTK, NoMemory, Pid};
 
 /// Why the machine doesn't start.
-#[derive(Clone, Copy, Debug, PartialEq, Eq)]
+#[derive(Clone, Copy, PartialEq, Eq)]
 pub enum NoStart {
     /// The image of this number, counted from 1, overlaps an earlier one.
     Overlaps(u8),

@@ -13,7 +13,7 @@ use schedule_file::ScheduleFault;
 use xinu_base::NoMemory;
 
 /// Why a command wasn't carried out.
-#[derive(Clone, Copy, Debug, PartialEq, Eq)]
+#[derive(Clone, Copy, PartialEq, Eq)]
 pub enum Refusal {
     /// The arguments give no command.
     Usage,

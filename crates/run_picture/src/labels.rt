@@ -1,7 +1,7 @@
 //! What the picture shows of an event in a lane: a mark, and a text beside it.
 
 /// Where a mark is: beside a process, of the row that the number names, or in a row of a device.
-#[derive(Clone, Copy, Debug, PartialEq, Eq)]
+#[derive(Clone, Copy, PartialEq, Eq)]
 pub(crate) enum Lane {
     /// A process.
     Process(usize),
@@ -18,7 +18,7 @@ pub(crate) enum Lane {
 }
 
 /// What a mark stands for.
-#[derive(Clone, Copy, Debug, PartialEq, Eq)]
+#[derive(Clone, Copy, PartialEq, Eq)]
 pub(crate) enum Mark {
     /// A process made a call, perhaps with its reply.
     Call,

@@ -13,7 +13,7 @@ use xinu_base::{Event, State};
 const LONG: usize = 40;
 
 /// How the picture ends.
-#[derive(Clone, Copy, Debug, PartialEq, Eq)]
+#[derive(Clone, Copy, PartialEq, Eq)]
 pub enum Ending {
     /// The run goes on after the last event that is drawn.
     GoesOn,

@@ -14,7 +14,7 @@ use xinu_base::{NoMemory, RAM_SIZE};
 const SIZE: usize = RAM_SIZE as usize;
 
 /// The answer of a transfer whose range isn't in RAM.
-#[derive(Clone, Copy, Debug, PartialEq, Eq)]
+#[derive(Clone, Copy, PartialEq, Eq)]
 pub struct OutOfRam;
 
 /// The machine's memory.

@@ -8,7 +8,7 @@ ghost use Rattle.rv_isa.specs.Table as spec;
 ghost use Rattle.rv_isa.specs.Table.{NoWordHasBoth, seen, defined, form_of};
 
 /// How the fields of an instruction lie in its word.
-#[derive(Clone, Copy, Debug, PartialEq, Eq)]
+#[derive(Clone, Copy, PartialEq, Eq)]
 pub enum Form {
     /// A destination and the upper 20 bits.
     U,
@@ -31,7 +31,7 @@ pub enum Form {
 }
 
 /// An instruction of the table. Its words are those whose bits under `mask` are `bits`.
-#[derive(Clone, Copy, Debug)]
+#[derive(Clone, Copy)]
 pub struct Row {
     /// The mnemonic, in lower case.
     pub name: &'static str,

@@ -1,7 +1,7 @@
 //! Why a text is no schedule.
 
 /// Why a text wasn't read as a schedule. Lines are counted from 1.
-#[derive(Clone, Copy, Debug, PartialEq, Eq)]
+#[derive(Clone, Copy, PartialEq, Eq)]
 pub enum ScheduleFault {
     /// This line is the first that is of none of the forms.
     BadLine(u32),

@@ -19,7 +19,7 @@ use std::marker::Model;
 use xinu_base::{NoMemory, Owner, Sem};
 
 /// What is kept of a semaphore.
-#[derive(Clone, Copy, Debug, PartialEq, Eq)]
+#[derive(Clone, Copy, PartialEq, Eq)]
 pub struct SemaphoreEntry {
     /// Whose it is, if it is in use.
     pub owner: Option<Owner>,

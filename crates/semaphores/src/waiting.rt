@@ -19,7 +19,7 @@ use queue_table::Lists;
 use xinu_base::{Pid, Sem, State};
 
 /// What came of a signal.
-#[derive(Clone, Copy, Debug, PartialEq, Eq)]
+#[derive(Clone, Copy, PartialEq, Eq)]
 pub enum Signalled {
     /// The count is the greatest, and nothing changes.
     Full,

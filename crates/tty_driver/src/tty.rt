@@ -13,7 +13,7 @@ use std::marker::Model;
 use xinu_base::{Item, NoMemory, TtyMode};
 
 /// How much the console holds.
-#[derive(Clone, Copy, Debug, PartialEq, Eq)]
+#[derive(Clone, Copy, PartialEq, Eq)]
 pub struct TtySizes {
     /// How many items can be taken.
     pub committed: usize,

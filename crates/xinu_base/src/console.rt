@@ -4,7 +4,7 @@ ghost use Rattle.std.specs.Prelude.{◌≡◌, ◌≤◌, length};
 ghost use Rattle.xinu_base.specs.Names.{mode_name};
 
 /// How the console treats the characters that it receives.
-#[derive(Clone, Copy, Debug, PartialEq, Eq)]
+#[derive(Clone, Copy, PartialEq, Eq)]
 pub enum TtyMode {
     /// Each character can be taken at once; none has a meaning, and none is echoed.
     Raw,
@@ -29,7 +29,7 @@ impl TtyMode {
 }
 
 /// What a reader of the console takes.
-#[derive(Clone, Copy, Debug, PartialEq, Eq)]
+#[derive(Clone, Copy, PartialEq, Eq)]
 pub enum Item {
     /// A byte.
     Char(u8),

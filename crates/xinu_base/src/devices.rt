@@ -1,7 +1,7 @@
 //! The devices by what they are, and the calls that a device may offer (book, chapter 14, `conf.h`).
 
 /// What a device is.
-#[derive(Clone, Copy, Debug, PartialEq, Eq)]
+#[derive(Clone, Copy, PartialEq, Eq)]
 pub enum Kind {
     /// The console.
     Console,
@@ -16,7 +16,7 @@ pub enum Kind {
 }
 
 /// A call that a device may offer.
-#[derive(Clone, Copy, Debug, PartialEq, Eq)]
+#[derive(Clone, Copy, PartialEq, Eq)]
 pub enum Op {
     /// `open`.
     Open,

@@ -1,7 +1,7 @@
 //! The plain data of files (book, chapter 19, `lfilesys.h`).
 
 /// The letters with which a file is opened. A mode with neither `r` nor `w` allows both reading and writing.
-#[derive(Clone, Copy, Debug, PartialEq, Eq)]
+#[derive(Clone, Copy, PartialEq, Eq)]
 pub struct OpenMode {
     /// `r`: the file is read.
     pub read: bool,

@@ -37,5 +37,5 @@ pub use semaphores::Owner;
 pub use syscalls::{Call, Next, call_args, call_name, is_call};
 
 /// The answer of a call that found no memory.
-#[derive(Clone, Copy, Debug, PartialEq, Eq)]
+#[derive(Clone, Copy, PartialEq, Eq)]
 pub struct NoMemory;

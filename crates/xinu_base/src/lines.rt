@@ -11,7 +11,7 @@ use crate::registers::Cause;
 use crate::syscalls::Call;
 
 /// What becomes of a file call at a completion of its disk, or when it is made.
-#[derive(Clone, Copy, Debug, PartialEq, Eq)]
+#[derive(Clone, Copy, PartialEq, Eq)]
 pub enum FileMoment {
     /// It is still the first, and not done.
     Turn,

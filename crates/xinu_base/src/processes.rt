@@ -6,7 +6,7 @@ ghost use Rattle.xinu_base.specs.Names.{state_name};
 use crate::numbers::{Pid, PoolId, Port, Sem};
 
 /// What a process is doing.
-#[derive(Clone, Copy, Debug, PartialEq, Eq)]
+#[derive(Clone, Copy, PartialEq, Eq)]
 pub enum State {
     /// The number has no process.
     Free,
@@ -46,7 +46,7 @@ impl State {
 }
 
 /// A range of RAM that a console call works through, in bytes.
-#[derive(Clone, Copy, Debug, PartialEq, Eq)]
+#[derive(Clone, Copy, PartialEq, Eq)]
 pub struct Span {
     /// The address of the first byte.
     pub at: u32,
@@ -57,7 +57,7 @@ pub struct Span {
 }
 
 /// A port as a call found it when it began: the port may be renewed while the call waits.
-#[derive(Clone, Copy, Debug, PartialEq, Eq)]
+#[derive(Clone, Copy, PartialEq, Eq)]
 pub struct PortTicket {
     /// The port.
     pub port: Port,
@@ -68,7 +68,7 @@ pub struct PortTicket {
 }
 
 /// What is left of a call that waited: the process's next step does it, once the process is current again.
-#[derive(Clone, Copy, Debug, PartialEq, Eq)]
+#[derive(Clone, Copy, PartialEq, Eq)]
 pub enum Rest {
     /// Nothing: the next step is an instruction.
     Nothing,
@@ -97,7 +97,7 @@ pub enum Rest {
 }
 
 /// An entry of the process table.
-#[derive(Clone, Copy, Debug, PartialEq, Eq)]
+#[derive(Clone, Copy, PartialEq, Eq)]
 pub struct Process {
     /// What it is doing.
     pub state: State,

@@ -4,7 +4,7 @@ ghost use Rattle.std.specs.Prelude.{◌≡◌, ◌≤◌, length};
 ghost use Rattle.xinu_base.specs.Names.{cause_name};
 
 /// The registers of a process on the one processor core.
-#[derive(Clone, Copy, Debug, PartialEq, Eq)]
+#[derive(Clone, Copy, PartialEq, Eq)]
 pub struct Hart {
     /// The registers x0 to x31. x0 is 0 in each process of a sound state (`AreHarts` in `xinu_model`), and no instruction writes it.
     pub regs: [u32; 32],
@@ -21,7 +21,7 @@ impl Hart {
 }
 
 /// Why a process was trapped.
-#[derive(Clone, Copy, Debug, PartialEq, Eq)]
+#[derive(Clone, Copy, PartialEq, Eq)]
 pub enum Cause {
     /// The pc is no multiple of 4, or RAM has no word there.
     Fetch,
@@ -55,7 +55,7 @@ impl Cause {
 }
 
 /// What came of one instruction.
-#[derive(Clone, Copy, Debug, PartialEq, Eq)]
+#[derive(Clone, Copy, PartialEq, Eq)]
 pub enum Outcome {
     /// It was carried out.
     Went,

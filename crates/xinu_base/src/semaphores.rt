@@ -3,7 +3,7 @@
 use crate::numbers::{PoolId, Port};
 
 /// Whose a semaphore is, if it is in use.
-#[derive(Clone, Copy, Debug, PartialEq, Eq)]
+#[derive(Clone, Copy, PartialEq, Eq)]
 pub enum Owner {
     /// A process's: it was made by `semcreate`.
     Image,

@@ -4,7 +4,7 @@ ghost use Rattle.std.specs.Prelude.{◌≡◌, ◌≤◌, length};
 ghost use Rattle.xinu_base.specs.Syscalls as syscalls;
 
 /// A call: its number is in register a7, its arguments are in a0 to a5.
-#[derive(Clone, Copy, Debug, PartialEq, Eq)]
+#[derive(Clone, Copy, PartialEq, Eq)]
 pub struct Call {
     /// The number of the call.
     pub number: u32,
@@ -13,7 +13,7 @@ pub struct Call {
 }
 
 /// How a call went.
-#[derive(Clone, Copy, Debug, PartialEq, Eq)]
+#[derive(Clone, Copy, PartialEq, Eq)]
 pub enum Next {
     /// It was answered.
     Returns(i32),
