@@ -5,9 +5,22 @@
 //! | `script BLOCKS CALLS SEED NAMES LONGEST COMPLETIONS EVERY` | so many drawn calls, beside the plain list of files; the files are read back as often as the two last numbers say. The numbers of more scripts may follow |
 //! | `counts` and the same | the same, and how many calls were refused and how many completions there were |
 //! | `time BLOCKS SIZE` | calls on the only file of a disk: of each kind its name, how often it was made, its completions and its nanoseconds |
+//!
+//! A [`FileDisk`](file_disk::FileDisk) is an engine with the bytes of its disk, on which each completion is an honest one (`goes`: the call in
+//! hand goes on, and the files stand as before it, or it is done as the abstract machine's call is).
+//! [`PlainFiles`](plain_files::PlainFiles) is a list of names and bytes with the ten calls by the book's rules. A [`Trial`](play::Trial)
+//! makes each call on both and compares the replies, the bytes that are read, what is open, and the files, which it reads off the disk by
+//! `lfs_layout`. A [`Script`](script::Script) draws calls.
 #![tactic(auto)]
 
+mod file_disk;
+mod names;
+mod plain_files;
+mod play;
 mod played;
+mod reading_back;
+mod room;
+mod script;
 mod timing;
 mod timings;
 

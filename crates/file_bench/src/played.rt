@@ -1,6 +1,7 @@
 //! Scripts of calls, and how they went.
 
-use file_trials::{Readings, Script, Sizes, Trial, Trouble};
+use crate::play::{Readings, Trial, Trouble};
+use crate::script::{Script, Sizes};
 use std::alloc::{AllocError, Global};
 
 /// Plays the scripts that the numbers say, seven each, and adds to a text how each went.

@@ -1,6 +1,7 @@
 //! Calls on one file, which are counted.
 
-use file_trials::{FileDisk, padded};
+use crate::file_disk::FileDisk;
+use crate::names::padded;
 use lfs_layout::CleanImage;
 use local_files::{FileCall, FileDev, Files};
 use std::alloc::{AllocError, Global};

@@ -12,21 +12,21 @@ use xinu_base::OpenMode;
 
 /// How many names of files a script has, and the most bytes that it reads or writes at once.
 #[derive(Clone, Copy)]
-pub struct Sizes {
-    pub names: u32,
-    pub longest: u32,
+pub(crate) struct Sizes {
+    pub(crate) names: u32,
+    pub(crate) longest: u32,
 }
 
 /// A script of calls.
 #[derive(Clone, Copy)]
-pub struct Script {
+pub(crate) struct Script {
     x: u32,
     sizes: Sizes,
 }
 
 impl Script {
     /// The script of a seed.
-    pub fn new(seed: u32, sizes: Sizes) -> Script {
+    pub(crate) fn new(seed: u32, sizes: Sizes) -> Script {
         Script { x: seed, sizes }
     }
 
@@ -108,7 +108,7 @@ impl Script {
     }
 
     /// The next call. A seek goes by the sizes of the files.
-    pub fn next_call(&mut self, plain: &PlainFiles) -> FileCall {
+    pub(crate) fn next_call(&mut self, plain: &PlainFiles) -> FileCall {
         let kind = self.draw(20);
         if kind <= 4 {
             self.next_by_name(kind)
@@ -147,7 +147,7 @@ impl Script {
     /// # Errors
     ///
     /// Out of memory.
-    pub fn bytes(&mut self, alloc: Global, call: &FileCall) -> Result<Vec<u8>, AllocError>
+    pub(crate) fn bytes(&mut self, alloc: Global, call: &FileCall) -> Result<Vec<u8>, AllocError>
         ensures most { IfOk result (λ v. length v.items ≤ 1048576) }
     {
         let n = if matches!(*call, FileCall::Write(_)) {

@@ -12,9 +12,9 @@ use xinu_base::OpenMode;
 
 /// A file: its name, with zeros up to 28 bytes, and its bytes.
 #[derive(Drop)]
-pub struct PlainFile {
-    pub name: [u8; 28],
-    pub bytes: Vec<u8>,
+pub(crate) struct PlainFile {
+    pub(crate) name: [u8; 28],
+    pub(crate) bytes: Vec<u8>,
 }
 
 /// A file that a device has open: its name, the position in bytes, and whether it is read and written.
@@ -28,7 +28,7 @@ struct PlainDevice {
 
 /// The files of a disk, what each device has open, and the bytes that the last call read.
 #[derive(Drop)]
-pub struct PlainFiles {
+pub(crate) struct PlainFiles {
     blocks: u32,
     files: Vec<PlainFile>,
     devices: [Option<PlainDevice>; 6],
@@ -41,7 +41,7 @@ const EOF: i32 = -2;
 
 impl PlainFiles {
     /// No files, on a disk of this many blocks.
-    pub fn new(alloc: Global, blocks: u32) -> PlainFiles {
+    pub(crate) fn new(alloc: Global, blocks: u32) -> PlainFiles {
         PlainFiles {
             blocks,
             files: Vec::new(alloc),
@@ -51,12 +51,12 @@ impl PlainFiles {
     }
 
     /// The files, in the order in which they were made.
-    pub fn files(&self) -> &[PlainFile] {
+    pub(crate) fn files(&self) -> &[PlainFile] {
         &self.files
     }
 
     /// The bytes that the last call read.
-    pub fn given(&self) -> &[u8] {
+    pub(crate) fn given(&self) -> &[u8] {
         &self.given
     }
 
@@ -65,7 +65,7 @@ impl PlainFiles {
     /// # Errors
     ///
     /// Out of memory.
-    pub fn call(
+    pub(crate) fn call(
         &mut self,
         alloc: Global,
         call: &FileCall,
@@ -310,7 +310,7 @@ impl PlainFiles {
     }
 
     /// How many devices have a file open.
-    pub fn open_count(&self) -> u32 {
+    pub(crate) fn open_count(&self) -> u32 {
         let mut n: u32 = 0;
         for d in 0..6 {
             if self.devices[d].is_some() {
@@ -321,7 +321,7 @@ impl PlainFiles {
     }
 
     /// The name of the file that a call names or has open, or zeros.
-    pub fn name_in(&self, call: &FileCall) -> [u8; 28] {
+    pub(crate) fn name_in(&self, call: &FileCall) -> [u8; 28] {
         match *call {
             FileCall::Open(name, _) => name,
             FileCall::Delete(name) => name,
@@ -345,13 +345,13 @@ impl PlainFiles {
     }
 
     /// How many completions a call may take: 32, and 8 for each data block and index block of its file and for each block of its bytes.
-    pub fn most_turns(&self, call: &FileCall, bytes: usize) -> usize {
+    pub(crate) fn most_turns(&self, call: &FileCall, bytes: usize) -> usize {
         let name = self.name_in(call);
         most_turns(self.bytes_of(&name).len(), byte_count(call, bytes))
     }
 
     /// The position of a device, if it has a file open.
-    pub fn position(&self, d: FileDev) -> Option<usize> {
+    pub(crate) fn position(&self, d: FileDev) -> Option<usize> {
         match self.devices[d.index()] {
             None => None,
             Some(f) => Some(f.position),
@@ -359,7 +359,7 @@ impl PlainFiles {
     }
 
     /// The size of the file that a device has open, in bytes, or 0.
-    pub fn size_at(&self, d: FileDev) -> usize {
+    pub(crate) fn size_at(&self, d: FileDev) -> usize {
         match self.devices[d.index()] {
             None => 0,
             Some(f) => self.bytes_of(&f.name).len(),

@@ -3,38 +3,33 @@
 ghost use Rattle.std.specs.Prelude.{◌≡◌, ◌≤◌, ◌+◌, ◌*◌, ℕ, List, true, length, Some};
 ghost use Rattle.lfs_check.specs.Disks.{block_put};
 ghost use Rattle.local_files.specs.Standing.{Stands, GoesTo, wanted, call_bytes};
-ghost use Rattle.file_trials.specs.Honest.{IsWithin};
+ghost use Rattle.file_bench.specs.Honest.{IsWithin};
 
 use lfs_check::block_at;
 use local_files::{BlockWork, FileCall, FileDev, Files, Phase, is_call};
 
 /// A file engine and the bytes of its disk.
 #[derive(Drop)]
-pub struct FileDisk {
+pub(crate) struct FileDisk {
     /// The engine.
-    pub files: Files,
+    pub(crate) files: Files,
     /// The bytes of the disk.
-    pub disk: Vec<u8>,
+    pub(crate) disk: Vec<u8>,
 }
 
 impl FileDisk {
     /// An engine with a disk.
-    pub fn new(files: Files, disk: Vec<u8>) -> FileDisk {
+    pub(crate) fn new(files: Files, disk: Vec<u8>) -> FileDisk {
         FileDisk { files, disk }
     }
 
     /// The bytes of the disk.
-    pub fn disk(&self) -> &[u8] {
+    pub(crate) fn disk(&self) -> &[u8] {
         &self.disk
     }
 
-    /// Puts another disk in the place of this one.
-    pub fn replace(&mut self, disk: Vec<u8>) {
-        self.disk = disk;
-    }
-
     /// Begins a call, if none is in hand, and it can be one; answers whether it did. `bytes` are those that a write puts.
-    pub fn begin(&mut self, call: &FileCall, bytes: &[u8]) -> bool {
+    pub(crate) fn begin(&mut self, call: &FileCall, bytes: &[u8]) -> bool {
         if bytes.len() > 1_048_576 || !is_call(call) || !matches!(self.files.phase, Phase::Idle) {
             return false;
         }
@@ -43,7 +38,7 @@ impl FileDisk {
     }
 
     /// Carries out the work that the engine wants. Answers whether it wants some, and on a block of the disk.
-    pub fn complete(&mut self) -> bool
+    pub(crate) fn complete(&mut self) -> bool
         ensures goes { result ≡ true → (base : List ℕ) → Stands self.old.files base self.old.disk.items
             → GoesTo self.new.files.phase self.old.files.call (call_bytes self.old.files) self.old.files self.new.files base
             self.new.disk.items }
@@ -61,22 +56,22 @@ impl FileDisk {
     }
 
     /// The reply of the call in hand, once it stands.
-    pub fn answer(&mut self) -> Option<i32> {
+    pub(crate) fn answer(&mut self) -> Option<i32> {
         self.files.answer()
     }
 
     /// The bytes that a read that is done has given.
-    pub fn gathered(&self) -> &[u8] {
+    pub(crate) fn gathered(&self) -> &[u8] {
         self.files.gathered()
     }
 
     /// The position of a device, if it has a file open.
-    pub fn position(&self, d: FileDev) -> Option<u32> {
+    pub(crate) fn position(&self, d: FileDev) -> Option<u32> {
         self.files.position(d)
     }
 
     /// How many devices have a file open.
-    pub fn open_count(&self) -> u32 {
+    pub(crate) fn open_count(&self) -> u32 {
         self.files.open_count()
     }
 }

@@ -10,7 +10,7 @@ use std::alloc::{AllocError, Global};
 
 /// In what the engine and the plain list differ.
 #[derive(Clone, Copy)]
-pub enum Trouble {
+pub(crate) enum Trouble {
     /// Out of memory.
     NoMemory,
     /// The call can't be begun, or it wants no block of the disk, or it takes more completions than it may.
@@ -33,21 +33,21 @@ impl From<AllocError> for Trouble {
 
 /// How often the files are read back off the disk: at one of so many completions, and at the end of one of so many calls; never if 0.
 #[derive(Clone, Copy)]
-pub struct Readings {
-    pub completions: u32,
-    pub calls: u32,
+pub(crate) struct Readings {
+    pub(crate) completions: u32,
+    pub(crate) calls: u32,
 }
 
 /// The engine with its disk, the plain list, and how many calls there were, how many of them with a negative reply, and how many
 /// completions.
 #[derive(Drop)]
-pub struct Trial {
-    pub served: FileDisk,
-    pub plain: PlainFiles,
-    pub readings: Readings,
-    pub calls: u32,
-    pub refused: u32,
-    pub completions: u32,
+pub(crate) struct Trial {
+    pub(crate) served: FileDisk,
+    pub(crate) plain: PlainFiles,
+    pub(crate) readings: Readings,
+    pub(crate) calls: u32,
+    pub(crate) refused: u32,
+    pub(crate) completions: u32,
 }
 
 impl Trial {
@@ -56,7 +56,7 @@ impl Trial {
     /// # Errors
     ///
     /// `Stuck` if there is no disk of so many blocks; `NoMemory` out of memory.
-    pub fn on_empty_disk(alloc: Global, blocks: u32, readings: Readings) -> Result<Trial, Trouble> {
+    pub(crate) fn on_empty_disk(alloc: Global, blocks: u32, readings: Readings) -> Result<Trial, Trouble> {
         if blocks < 14 || blocks > 65_542 {
             return Err(Trouble::Stuck);
         }
@@ -74,7 +74,7 @@ impl Trial {
     }
 
     /// Plays so many calls of a script.
-    pub fn play(&mut self, alloc: Global, script: &mut Script, calls: u32) -> Result<(), Trouble> {
+    pub(crate) fn play(&mut self, alloc: Global, script: &mut Script, calls: u32) -> Result<(), Trouble> {
         for _ in 0..calls {
             let call = script.next_call(&self.plain);
             let bytes = script.bytes(alloc, &call)?;
@@ -87,7 +87,7 @@ impl Trial {
     ///
     /// While the call is in hand, all files but its own are read off the disk as they were; once it is done the disk is clean and has the
     /// files of the list.
-    pub fn call(&mut self, alloc: Global, call: &FileCall, bytes: &[u8]) -> Result<i32, Trouble> {
+    pub(crate) fn call(&mut self, alloc: Global, call: &FileCall, bytes: &[u8]) -> Result<i32, Trouble> {
         let most = self.plain.most_turns(call, bytes.len());
         let name = self.plain.name_in(call);
         if !self.served.begin(call, bytes) {
@@ -148,7 +148,7 @@ impl Trial {
     }
 
     /// Reads all files off the disk and compares them with the list.
-    pub fn compare_files(&self, alloc: Global) -> Result<(), Trouble> {
+    pub(crate) fn compare_files(&self, alloc: Global) -> Result<(), Trouble> {
         if has_files(alloc, self.served.disk(), self.plain.files())? {
             Ok(())
         } else {
