@@ -3,8 +3,7 @@
 
 usage: bench/pictures.py
 
-The session of a picture has a schedule of its name. It takes the programs `xinu_run` and `timeline` that bench/program.py finds. No part of
-the gate."""
+The session of a picture has a schedule of its name. It takes the program that bench/program.py finds. No part of the gate."""
 import os
 import re
 import shutil
@@ -17,7 +16,6 @@ ROOT = os.path.join(os.path.dirname(os.path.abspath(__file__)), "..")
 DATA = os.path.join(ROOT, "crates", "sessions", "data")
 TEXTS = ["pictures.md", "stories.md"]
 PICTURES = os.path.join(ROOT, "docs", "pictures")
-STORED_RUN = os.path.join(ROOT, "crates", "timeline")
 # the pictures, each with its arguments for the part that is drawn
 PARTS = {
     "round_robin": [],
@@ -68,7 +66,7 @@ def draw(session, folder):
             images.append(image)
     if name:
         with open(os.path.join(PICTURES, name + ".svg"), "wb") as picture:
-            subprocess.run([built("timeline"), "--schedule", schedule, *PARTS[name], *images], check=True, stdout=picture)
+            subprocess.run([built("xinu_run"), "timeline", "--schedule", schedule, *PARTS[name], *images], check=True, stdout=picture)
 
 
 with tempfile.TemporaryDirectory() as folder:
@@ -76,4 +74,3 @@ with tempfile.TemporaryDirectory() as folder:
         draw(session, folder)
 for name in COMPARED:
     shutil.copy(os.path.join(PICTURES, name + ".svg"), DATA)
-shutil.copy(os.path.join(PICTURES, "round_robin.svg"), os.path.join(STORED_RUN, "stdout"))

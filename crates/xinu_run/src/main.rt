@@ -1,14 +1,26 @@
-//! The program: it does what its arguments say and exits with the status of that.
+//! The program: its first argument says what it does, and it exits with the status of that.
 //!
-//! The work is done by the top call, [`xinu`] of `xinu_commands`, over the host of the program.
+//! | First argument | The work is done by |
+//! |---|---|
+//! | `explain` | [`explain`] of `explain_command`: a run is told in plain English |
+//! | `timeline` | [`timeline`] of `timeline_command`: a run is drawn |
+//! | `races` | [`races`] of `races_command`: a program is run with preemptions at every place |
+//! | `gdb` | [`debug`] of `gdb_command`: a debugger's packets come on standard input, and are answered on standard output |
+//! | another, or none | the top call, [`xinu`] of `xinu_commands`, which gets all arguments |
+//!
+//! Each goes over the host of the program, and the first four get the arguments after their name.
 #![tactic(auto)]
 
-use host_port::RealHost;
+use explain_command::explain;
+use gdb_command::debug;
+use host_port::{Host, RealHost};
+use races_command::races;
 use std::alloc::Global;
 use std::env;
-use std::io::{self, ErrorKind};
+use std::io::{self, ErrorKind, Read, Write};
 use std::process::ExitCode;
 use std::rt::Env;
+use timeline_command::timeline;
 use xinu_commands::xinu;
 
 fn main(rt: HostRuntime) -> ExitCode {
@@ -22,8 +34,10 @@ fn main(rt: HostRuntime) -> ExitCode {
             return ExitCode::from(7);
         }
     };
-    let mut last = None;
-    let status = xinu(alloc, args.as_slice(), &mut RealHost::new(rt), &mut last);
+    let mut input = rt.stdin();
+    let mut output = rt.stdout();
+    let mut host = RealHost::new(rt);
+    let status = carry_out(alloc, args.as_slice(), &mut host, &mut input, &mut output);
     ExitCode::from(status)
 }
 
@@ -34,4 +48,25 @@ fn args_of<R: Env + AllocGlobal>(alloc: Global, rt: &R) -> io::Result<Vec<String
         args.push(arg)?;
     }
     Ok(args)
+}
+
+// Carries out the command that the first argument names.
+fn carry_out<H: Host, R: Read, W: Write>(
+    alloc: Global,
+    args: &[String],
+    host: &mut H,
+    input: &mut R,
+    output: &mut W,
+) -> u8 {
+    let (name, rest) = match args {
+        [first, rest @ ..] => (first.as_str(), rest),
+        [] => ("", args),
+    };
+    match name {
+        "explain" => explain(alloc, rest, host),
+        "timeline" => timeline(alloc, rest, host),
+        "races" => races(alloc, rest, host),
+        "gdb" => debug(alloc, rest, host, input, output),
+        _ => xinu(alloc, args, host, &mut None),
+    }
 }
