@@ -69,6 +69,11 @@ ROWS = [
     (["check", "--schedule", "four", "--disk0", "short", "--trace", "four", "image"], 6, "xinu: disk 0 block 0 rule 0\n"),
     (["check", "--schedule", "four", "--trace", "four", "whole"], 8, "xinu: no room for image 1\n"),
     (["check", "--schedule", "four", "--trace", "four", "image"], 10, "", b"no\n"),
+    (["timeline", "--schedule", "none", "image"], 5, "xinu: schedule line 2\n"),
+    (["races", "--preemptions", "1", "--within", "1", "--schedule", "none", "image"], 5, "xinu: schedule line 2\n"),
+    (["gdb", "--schedule", "none", "image"], 5, "xinu: schedule line 2\n"),
+    (["explain", "--schedule", "four", "short"], 4, "xinu: image 1 fault 1\nimage 1: the file is shorter than a header\n"),
+    (["explained", "--schedule", "four", "short"], 2, "xinu: usage\n"),
 ]
 
 
