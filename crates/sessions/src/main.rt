@@ -11,9 +11,9 @@
 //! | `$ calls PRIORITY` | the calls of a process, which loops afterwards, a line each |
 //! | `$ program PRIORITY` | the text of assembler of a process |
 //! | `$ xinu ARGUMENTS` | what the top call prints with these arguments: what it sends on Out and on Fault, and its status if it isn't 0 |
-//! | `$ explain ARGUMENTS`, `$ races ARGUMENTS`, `$ timeline ARGUMENTS` | likewise of these programs |
+//! | `$ explain ARGUMENTS`, `$ races ARGUMENTS`, `$ timeline ARGUMENTS` | likewise of these commands of `xinu_run` |
 //! | `$ picture ARGUMENTS` | the events of the picture that `timeline` draws in place of the picture, and whether it is a file of the session |
-//! | `$ gdb ARGUMENTS` | what a debugger sends to `xinu_gdb`, and below each line what is answered |
+//! | `$ gdb ARGUMENTS` | what a debugger sends to `xinu_run gdb`, and below each line what is answered |
 //!
 //! The first process of a session is the image file `1`, the next is `2`, and so on. Image k begins at 4096 * (k - 1) and has 4096 bytes of
 //! content, with zeros after those of its text. What a command writes into the files of `--out`, `--out0` and `--out1` is there for the

@@ -1,4 +1,4 @@
-//! The programs that a session runs.
+//! The commands that a session runs.
 
 use crate::output::shown;
 use crate::packets::{dialogue, sent_by};
@@ -12,8 +12,8 @@ use std::str;
 use timeline_command::timeline;
 use xinu_commands::xinu;
 
-/// Runs the program of a command over a host, with these arguments, and answers its status; none if there is no such program. What `gdb`
-/// answers to the packets of the lines is sent on Out.
+/// Runs a command over a host, with these arguments, and answers its status; none if there is no such command. What `gdb` answers to the
+/// packets of the lines is sent on Out.
 ///
 /// # Errors
 /// Out of memory.
