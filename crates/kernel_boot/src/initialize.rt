@@ -2,12 +2,15 @@
 //!
 //! It depends on the kernel's state and the places of images in RAM.
 
-ghost use Rattle.std.specs.Prelude.{◌≡◌, ◌≤◌, ◌<◌, ◌+◌, ℕ, length, map, IfOk, IfSome, IfNone, if◌then◌else◌};
+ghost use Rattle.std.specs.Prelude.{◌≡◌, ◌≤◌, ◌<◌, ◌+◌, ◌-◌, ◌/◌, ◌%◌, ℕ, [], true, length, map, replicate, IfOk, IfSome, IfNone, if◌then◌else◌};
 ghost use Rattle.given_disks.specs.Disks.{disks_of};
 ghost use Rattle.image_loader.specs.Images.{loaded_of};
 ghost use Rattle.kernel_boot.specs.Boots.{BootsAs};
 ghost use Rattle.kernel_state.specs.Results.{IsStart};
+ghost use Rattle.ports.specs.Table.{first_table};
 ghost use Rattle.xinu_model.specs.Boot as boot;
+ghost use Rattle.xinu_model.specs.Boot.{null_tables};
+ghost use Rattle.xinu_model.specs.Console.State.{first_console};
 ghost use Rattle.xinu_model.specs.Heap.Cells as cells;
 ghost use Rattle.xinu_model.specs.Machine.{start};
 ghost use Rattle.xinu_model.specs.Process.Creation.{stack_size};
@@ -84,13 +87,15 @@ fn loaded(
 {
     let mut ram = Ram::new(alloc)?;
     load_all(&mut ram, images);
-    let low = 8 * end_of_all(images).div_ceil(8);
-    let heap = Heap::new(alloc, low, RAM_SIZE)?;
-    let pools = Pools::new(alloc)?;
-    let ports = Ports::new(alloc)?;
-    let tty = Tty::new(alloc)?;
-    let tables = KernelTables::new(alloc)?;
     let files = FileServer::new(alloc, disk1)?;
+    let low = 8 * end_of_all(images).div_ceil(8);
+    let Parts {
+        tables,
+        heap,
+        pools,
+        ports,
+        tty,
+    } = first_parts(alloc, low)?;
     Ok(KernelState {
         tables,
         harts: [Hart::ZERO; 64],
@@ -104,6 +109,40 @@ fn loaded(
         files,
         replies: Replies::new(),
         owes_resched: false,
+    })
+}
+
+// Parts of the state.
+#[derive(Drop)]
+struct Parts {
+    tables: KernelTables,
+    heap: Heap,
+    pools: Pools,
+    ports: Ports,
+    tty: Tty,
+}
+
+// The parts as they are before any process is made, with the heap from this address on.
+fn first_parts(alloc: Global, low: u32) -> Result<Parts, NoMemory>
+    requires aligned { low % 8 ≡ 0 }
+    requires in_ram { low ≤ 1048576 }
+    ensures tables { IfOk result (λ p. p.tables ≡ null_tables) }
+    ensures heap { IfOk result (λ p. p.heap ≡ record { low = low; cells = replicate ((1048576 - low) / 8) true }) }
+    ensures pools { IfOk result (λ p. p.pools ≡ []) }
+    ensures ports { IfOk result (λ p. p.ports ≡ first_table) }
+    ensures tty { IfOk result (λ p. p.tty ≡ first_console) }
+{
+    let tables = KernelTables::new(alloc)?;
+    let heap = Heap::new(alloc, low, RAM_SIZE)?;
+    let pools = Pools::new(alloc)?;
+    let ports = Ports::new(alloc)?;
+    let tty = Tty::new(alloc)?;
+    Ok(Parts {
+        tables,
+        heap,
+        pools,
+        ports,
+        tty,
     })
 }
 

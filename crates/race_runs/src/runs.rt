@@ -34,8 +34,8 @@ pub fn run(
     requires events { length events.now ≤ 1000000000 }
     ensures comes { MatchResult result (λ o. ComesToOn (disks_of disk0 disk1) (map loaded_of images.now) events.now o) (λ fault. IsRefused (disks_of disk0 disk1) (map loaded_of images.now) fault) }
 {
-    let machine = Machine::boot(alloc, images, disk0, disk1)?;
-    match run_machine(alloc, machine, events) {
+    let mut machine = Machine::boot(alloc, images, disk0, disk1)?;
+    match run_machine(alloc, &mut machine, events) {
         Ok(outcome) => Ok(outcome),
         Err(_) => Err(BootFault::NoMemory),
     }
@@ -67,14 +67,17 @@ pub fn run_on(
 }
 
 // Runs a machine through these events.
-fn run_machine(alloc: Global, machine: Machine, events: &[Event]) -> Result<Outcome, NoMemory>
-    requires over { machine.over ≡ false }
-    requires few { machine.events + length events.now ≤ 1000000000 }
-    ensures comes { IfOk result (λ o. ComesTo machine.state events.now o) }
+fn run_machine(
+    alloc: Global,
+    machine: &mut Machine,
+    events: &[Event],
+) -> Result<Outcome, NoMemory>
+    requires over { machine.old.over ≡ false }
+    requires few { machine.old.events + length events.now ≤ 1000000000 }
+    ensures comes { IfOk result (λ o. ComesTo machine.old.state events.now o) }
 {
-    let mut machine = machine;
-    let (printed, end) = print_events(alloc, &mut machine, events)?;
-    let tables = print_tables(alloc, &machine)?;
+    let (printed, end) = print_events(alloc, machine, events)?;
+    let tables = print_tables(alloc, machine)?;
     Outcome::new(alloc, printed.as_slice(), tables.as_slice(), end)
 }
 

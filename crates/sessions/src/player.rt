@@ -1,5 +1,6 @@
 //! The sessions of texts, played one after another.
 
+use crate::bytes::bytes_of;
 use crate::images::{calling, image};
 use crate::session::Session;
 use crate::trouble::{Place, first_difference};
@@ -109,6 +110,7 @@ impl Player {
         match word {
             "" => Ok(()),
             "file" => self.session.add_file(rest, lines.as_bytes()),
+            "bytes" => self.add_bytes(place, rest, lines),
             "stored" => self.add_stored(rt, place, rest),
             "calls" => {
                 let text = calling(self.alloc, lines)?;
@@ -116,6 +118,14 @@ impl Player {
             }
             "program" => self.add_image(place, rest, lines),
             _ => self.run(place, word, rest, lines),
+        }
+    }
+
+    // Adds a file of the bytes that lines say, or tells that they say none.
+    fn add_bytes(&mut self, place: Place<'_>, name: &str, lines: &str) -> io::Result<()> {
+        match bytes_of(self.alloc, lines)? {
+            Some(bytes) => self.session.add_file(name, bytes.as_slice()),
+            None => self.tell(place, "these aren't bytes"),
         }
     }
 

@@ -35,10 +35,19 @@ pub(crate) fn run(
     Ok(Some(status))
 }
 
-// The status of the top call. The machine that it leaves is let go.
-fn run_xinu(alloc: Global, args: &[String], host: &mut MemoryHost) -> u8 {
+/// The status of the top call; or 255, which none has, if it doesn't leave a machine exactly if it did a run or a soak test.
+pub(crate) fn run_xinu(alloc: Global, args: &[String], host: &mut impl Host) -> u8 {
     let mut last = None;
-    xinu(alloc, args, host, &mut last)
+    let status = xinu(alloc, args, host, &mut last);
+    let runs = match args {
+        [word, ..] => word.as_str() == "run" || word.as_str() == "soak",
+        [] => false,
+    };
+    if last.is_some() == (status == 0 && runs) {
+        status
+    } else {
+        255
+    }
 }
 
 // Lets a debugger send what the lines send.
@@ -65,16 +74,16 @@ pub(crate) fn printed(
     alloc: Global,
     command: &str,
     lines: &str,
-    host: &MemoryHost,
+    out: &[u8],
+    fault: &[u8],
     status: u8,
 ) -> Result<String, AllocError> {
-    let out = host.sent(Channel::Out);
     let mut text = match command {
         "picture" => events_of(alloc, str::from_utf8(out).unwrap_or(""))?,
         "gdb" => dialogue(alloc, lines, out)?,
         _ => shown(alloc, out)?,
     };
-    text.push_str(shown(alloc, host.sent(Channel::Fault))?.as_str())?;
+    text.push_str(shown(alloc, fault)?.as_str())?;
     if status != 0 {
         text.push_str(format!(in alloc; "status {status}\n")?.as_str())?;
     }

@@ -1,7 +1,9 @@
 //! A session: the files that its commands make, and the programs that are run over them.
 
-use crate::programs::{printed, run};
-use host_port::{Channel, MemoryHost};
+use crate::failing::run_failing;
+use crate::full_host::FullHost;
+use crate::programs::{printed, run, run_xinu};
+use host_port::{Channel, MemoryHost, QuietMemoryHost};
 use std::alloc::Global;
 use std::io::{self, ErrorKind};
 
@@ -99,20 +101,54 @@ impl Session {
         lines: &str,
     ) -> io::Result<Option<Outcome>> {
         let args = words_of(self.alloc, arguments)?;
+        let args = args.as_slice();
+        let printed = match command {
+            "same" => self.compared(args)?,
+            "failing" => run_failing(self.alloc, self, args)?,
+            "full" => self.run_full(args)?,
+            _ => return self.run_program(command, args, arguments, lines),
+        };
+        Ok(Some(Outcome {
+            printed,
+            is_accepted: None,
+        }))
+    }
+
+    // Runs the program of a command.
+    fn run_program(
+        &mut self,
+        command: &str,
+        args: &[String],
+        arguments: &str,
+        lines: &str,
+    ) -> io::Result<Option<Outcome>> {
         let mut host = self.host()?;
-        let Some(status) = run(self.alloc, command, args.as_slice(), lines, &mut host)? else {
+        self.run_over(&mut host, command, args, arguments, lines)
+    }
+
+    // Runs the program of a command over a host with the files of the session.
+    fn run_over(
+        &mut self,
+        host: &mut MemoryHost,
+        command: &str,
+        args: &[String],
+        arguments: &str,
+        lines: &str,
+    ) -> io::Result<Option<Outcome>> {
+        let Some(status) = run(self.alloc, command, args, lines, host)? else {
             return Ok(None);
         };
-        let mut printed = printed(self.alloc, command, lines, &host, status)?;
-        if command == "picture" && self.has_file(host.sent(Channel::Out)) {
+        let (out, fault) = (host.sent(Channel::Out), host.sent(Channel::Fault));
+        let mut printed = printed(self.alloc, command, lines, out, fault, status)?;
+        if command == "picture" && self.has_file(out) {
             printed.push_str("the picture is as it is stored\n")?;
         }
         let is_accepted = if status == 0 {
-            self.judged(arguments, host.sent(Channel::Out))?
+            self.judged(arguments, out)?
         } else {
             None
         };
-        self.keep_written(arguments, &host)?;
+        self.keep_written(arguments, host)?;
         Ok(Some(Outcome {
             printed,
             is_accepted,
@@ -128,22 +164,83 @@ impl Session {
         if host.add_file(TRANSCRIPT, transcript).is_err() {
             return Err(ErrorKind::OutOfMemory)?;
         }
-        let status = run(self.alloc, "xinu", args.as_slice(), "", &mut host)?;
-        Ok(Some(status == Some(0) && host.sent(Channel::Out) == b"yes\n".as_slice()))
+        let status = run_xinu(self.alloc, args.as_slice(), &mut host);
+        Ok(Some(status == 0 && host.sent(Channel::Out) == b"yes\n".as_slice()))
     }
 
-    // A host with the files of the session.
-    fn host(&self) -> io::Result<MemoryHost> {
-        let mut host = MemoryHost::new(self.alloc);
+    // Runs the top call over a host that has no memory at the call whose number comes first.
+    fn run_full(&self, words: &[String]) -> io::Result<String> {
+        let [call, args @ ..] = words else {
+            return Ok(String::new(self.alloc));
+        };
+        let mut host = FullHost {
+            quiet: QuietMemoryHost::new(self.alloc),
+            full_at: call.as_str().parse::<u64>().unwrap_or(0),
+            calls: 0,
+        };
+        self.run_full_over(args, &mut host)
+    }
+
+    // Runs the top call over a host to which the files of the session are added.
+    fn run_full_over(&self, args: &[String], host: &mut FullHost) -> io::Result<String> {
         for file in self.files.iter() {
-            if host
-                .add_file(file.name.as_str(), file.bytes.as_slice())
-                .is_err()
-            {
+            let (name, bytes) = (file.name.as_str(), file.bytes.as_slice());
+            if host.quiet.add_file(name, bytes).is_err() {
                 return Err(ErrorKind::OutOfMemory)?;
             }
         }
+        let status = run_xinu(self.alloc, args, host);
+        let (out, fault) = (host.quiet.sent(Channel::Out), host.quiet.sent(Channel::Fault));
+        Ok(printed(self.alloc, "full", "", out, fault, status)?)
+    }
+
+    // Says whether two files have the same bytes.
+    fn compared(&self, names: &[String]) -> io::Result<String> {
+        let text = match names {
+            [one, other] if self.are_same(one.as_str(), other.as_str()) => "the same\n",
+            _ => "not the same\n",
+        };
+        Ok(String::from_str(self.alloc, text)?)
+    }
+
+    // Whether there are files of these names, with the same bytes.
+    fn are_same(&self, one: &str, other: &str) -> bool {
+        match self.bytes_of(one) {
+            Some(bytes) => self.bytes_of(other) == Some(bytes),
+            None => false,
+        }
+    }
+
+    // The bytes of the file of a name, if there is one.
+    fn bytes_of(&self, name: &str) -> Option<&[u8]> {
+        let mut bytes = None;
+        for file in self.files.iter() {
+            if file.name.as_str() == name {
+                bytes = Some(file.bytes.as_slice());
+            }
+        }
+        bytes
+    }
+
+    /// A host with the files of the session.
+    ///
+    /// # Errors
+    /// Out of memory.
+    pub(crate) fn host(&self) -> io::Result<MemoryHost> {
+        let mut host = MemoryHost::new(self.alloc);
+        self.fill(&mut host)?;
         Ok(host)
+    }
+
+    // Adds the files of the session to a host.
+    fn fill(&self, host: &mut MemoryHost) -> io::Result<()> {
+        for file in self.files.iter() {
+            let (name, bytes) = (file.name.as_str(), file.bytes.as_slice());
+            if host.add_file(name, bytes).is_err() {
+                return Err(ErrorKind::OutOfMemory)?;
+            }
+        }
+        Ok(())
     }
 
     // Whether a file of the session has exactly these bytes.
@@ -165,10 +262,11 @@ impl Session {
     }
 }
 
-// The words of a text.
+// The words of a text, of which `''` has no bytes.
 fn words_of(alloc: Global, text: &str) -> io::Result<Vec<String>> {
     let mut words = Vec::new(alloc);
     for word in text.split_whitespace() {
+        let word = if word == "''" { "" } else { word };
         words.push(String::from_str(alloc, word)?)?;
     }
     Ok(words)
