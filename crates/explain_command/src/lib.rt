@@ -1,4 +1,4 @@
-//! The command of the program `explain`: a run is told in plain English.
+//! The command `explain`: a run is told in plain English.
 //!
 //! The arguments are those of `run` without what concerns its output, and `--steps A..B`, the events that are listed, or `--trace FILE`, a
 //! text that is compared in place of the story. What `run` refuses is refused with the same status and text, and another line says it in

@@ -1,5 +1,5 @@
-//! A run under a debugger: the command of the program `xinu_gdb`. Packets are answered from the state of the run after so many events, and
-//! the run goes on, and back.
+//! The command `gdb`, a run under a debugger: packets are answered from the state of the run after so many events, and the run goes on, and
+//! back. In gdb it is `target remote | xinu_run gdb --schedule FILE IMAGE ..`.
 //!
 //! The arguments are those of `run` without what concerns its output. The run is a `Replay`, so its state after any number of its events can
 //! be had again, and nothing that the debugger asks for changes it: it stays the same run (`IsSameRun`). What is answered to a packet that

@@ -1,4 +1,4 @@
-//! The command of the program `races`: which outcomes a program has on all placements of quantum ends in a schedule.
+//! The command `races`: which outcomes a program has on all placements of quantum ends in a schedule.
 //!
 //! The arguments are those of `run` without what concerns its output, with `--preemptions P` before them, at most how many quantum ends are
 //! put in, `--within N`, the steps of the schedule within which they are, and `--found FILE`, the file for a schedule with the second outcome.

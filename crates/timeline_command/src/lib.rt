@@ -1,4 +1,4 @@
-//! The command of the program `timeline`: the picture of a run is drawn.
+//! The command `timeline`: the picture of a run is drawn.
 //!
 //! The arguments are those of `run` without what concerns its output, and three of the picture: `--from N`, `--events M` and `--title TEXT`.
 //! The files are fetched and judged by the same call (`run_inputs`). So what `run` refuses is refused with the same status and text. Else

@@ -1,7 +1,7 @@
-//! The commands of the program: it runs images under a schedule and prints the transcript, judges transcripts, assembles texts, makes, checks
+//! Five commands of the program: it runs images under a schedule and prints the transcript, judges transcripts, assembles texts, makes, checks
 //! and changes disks with files, and runs the workload of a number.
 //!
-//! The commands are `run --schedule FILE IMAGE ..`, which with `--plain` prints the bytes of the console alone, and takes its disks from
+//! They are `run --schedule FILE IMAGE ..`, which with `--plain` prints the bytes of the console alone, and takes its disks from
 //! `--disk0` and `--disk1` and writes them to `--out0` and `--out1`; `check --schedule FILE --trace FILE IMAGE ..`, which says of a text
 //! whether it is the transcript of a run; `asm SOURCE --out FILE`, which writes an ELF file with `--elf`; `disk` with six actions: `mkfs`,
 //! `ls`, `get`, `put`, `check` and `repair`; and `soak N`, which prints a summary. Each goes over any host. The inputs of `run` and `check` are
