@@ -64,9 +64,8 @@ pub(crate) fn threads_in(bytes: &[u8]) -> Option<Threads>
 pub(crate) fn alone(command: Command, rest: &[u8]) -> Command
     ensures command { result ≡ spec.alone command rest.now }
 {
-    if rest.is_empty() {
-        command
-    } else {
-        Command::Unknown
+    match rest {
+        [] => command,
+        [_, ..] => Command::Unknown,
     }
 }

@@ -68,10 +68,10 @@ impl Replay {
         ensures known { IfOk result (λ r. r.known ≡ true) }
         ensures refused { IfErr result (λ f. IsRefused (disks_of inputs.disk0 inputs.disk1) (map (λ v. v.items) inputs.images.items) f) }
     {
-        let machine = inputs.boot(alloc)?;
         let Ok(left) = inputs.schedule.copy(alloc) else {
             return Err(BootFault::NoMemory);
         };
+        let machine = inputs.boot(alloc)?;
         Ok(Replay {
             alloc,
             inputs,
@@ -269,10 +269,10 @@ impl Replay {
         ensures inputs { HasInputs self.old.disks self.old.files self.old.events self.new }
         ensures same { OnOk result (IsSameRun self.old self.new) }
     {
-        let machine = self.booted()?;
         let Ok(left) = self.inputs.schedule.copy(self.alloc) else {
             return Err(ReplayFault::NoMemory);
         };
+        let machine = self.booted()?;
         self.restart(machine, left);
         Ok(())
     }
