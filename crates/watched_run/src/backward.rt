@@ -18,6 +18,7 @@ const NEAREST: u32 = 4096;
 ///
 /// # Errors
 /// Out of memory; `Failed` if an event printed something else when it was taken before.
+#[tactic(auto, using(replayed_run::proofs::SameRuns::again, replayed_run::proofs::SameRuns::still))]
 pub fn go_back(run: &mut WatchedRun, goal: &Goal) -> Result<Stopped, HostFault>
     ensures same { OnOk result (IsSameRun run.old.replay run.new.replay) }
 {
@@ -44,6 +45,7 @@ pub fn go_back(run: &mut WatchedRun, goal: &Goal) -> Result<Stopped, HostFault>
 }
 
 // Goes to the last state in a stretch of events at which the run, on its way back, would have stopped. Answers the stop, if there is one.
+#[tactic(auto, using(replayed_run::proofs::SameRuns::again, replayed_run::proofs::SameRuns::still))]
 fn last_stop(
     run: &mut WatchedRun,
     goal: &Goal,
@@ -63,6 +65,7 @@ fn last_stop(
 }
 
 // Takes events up to a number of them. Answers the last stop of a run on its way back, and how many events come before it, if there is one.
+#[tactic(auto, using(replayed_run::proofs::SameRuns::again, replayed_run::proofs::SameRuns::still))]
 fn find_last(
     run: &mut WatchedRun,
     goal: &Goal,
@@ -101,6 +104,7 @@ fn retreat(run: &mut WatchedRun, goal: &Goal) -> Result<Option<Stopped>, HostFau
 }
 
 // Takes an event. Answers a stop of this process ahead of it, if it is hit or bytes that are watched change.
+#[tactic(auto, using(replayed_run::proofs::SameRuns::again, replayed_run::proofs::SameRuns::still))]
 fn pass(run: &mut WatchedRun, p: Pid, is_hit: bool) -> Result<Option<Stopped>, HostFault>
     ensures same { OnOk result (IsSameRun run.old.replay run.new.replay) }
 {

@@ -15,6 +15,7 @@ use xinu_base::{Cause, Pid};
 ///
 /// # Errors
 /// Out of memory; `Failed` if an event printed something else when it was taken before.
+#[tactic(auto, using(replayed_run::proofs::SameRuns::again, replayed_run::proofs::SameRuns::still))]
 pub fn go_on(run: &mut WatchedRun, goal: &Goal, console: &mut Vec<u8>) -> Result<Stopped, HostFault>
     ensures same { OnOk result (IsSameRun run.old.replay run.new.replay) }
 {
@@ -34,6 +35,7 @@ pub fn go_on(run: &mut WatchedRun, goal: &Goal, console: &mut Vec<u8>) -> Result
 }
 
 // Takes an event, or more if nothing can stop the run meanwhile, unless a point stops the run ahead of it. Answers the stop, if there is one.
+#[tactic(auto, using(replayed_run::proofs::SameRuns::again, replayed_run::proofs::SameRuns::still))]
 fn advance(
     run: &mut WatchedRun,
     goal: &Goal,
@@ -51,6 +53,7 @@ fn advance(
 }
 
 // Takes the instruction of a process, unless a point stops the run ahead of it.
+#[tactic(auto, using(replayed_run::proofs::SameRuns::again, replayed_run::proofs::SameRuns::still))]
 fn advance_process(
     run: &mut WatchedRun,
     p: Pid,
@@ -69,6 +72,7 @@ fn advance_process(
 }
 
 // The stop after an instruction of a process, if there is one.
+#[tactic(auto, using(replayed_run::proofs::SameRuns::again, replayed_run::proofs::SameRuns::still))]
 fn after_instruction(run: &mut WatchedRun, p: Pid, goal: &Goal) -> Option<Stopped>
     ensures same { IsSameRun run.old.replay run.new.replay }
 {
@@ -83,6 +87,7 @@ fn after_instruction(run: &mut WatchedRun, p: Pid, goal: &Goal) -> Option<Stoppe
 }
 
 // Takes an event that is no instruction of a process.
+#[tactic(auto, using(replayed_run::proofs::SameRuns::again, replayed_run::proofs::SameRuns::still))]
 fn advance_others(
     run: &mut WatchedRun,
     goal: &Goal,
@@ -101,6 +106,7 @@ fn advance_others(
 
 // Takes the instruction of a process. If it is trapped, and that may be told and wasn't, the run stands ahead of it, and the cause is
 // answered.
+#[tactic(auto, using(replayed_run::proofs::SameRuns::again, replayed_run::proofs::SameRuns::still))]
 fn step(
     run: &mut WatchedRun,
     p: Pid,

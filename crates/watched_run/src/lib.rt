@@ -14,7 +14,7 @@
 //! | [`shown`], [`thread_process`] | `shown`, `process`: the process that is looked at first, and that of a thread's number |
 //!
 //! Where a run stops is shown by sessions (`gdb_tests`); no clause says it.
-#![tactic(auto, using(replayed_run::proofs::SameRuns::again, replayed_run::proofs::SameRuns::still))]
+#![tactic(auto)]
 
 mod backward;
 mod forward;

@@ -11,6 +11,7 @@ use std::alloc::Global;
 ///
 /// # Errors
 /// Out of memory; `Failed` if an event printed something else when it was taken before.
+#[tactic(auto, using(replayed_run::proofs::SameRuns::again, replayed_run::proofs::SameRuns::still))]
 pub fn lines_so_far(alloc: Global, run: &mut WatchedRun) -> Result<Vec<u8>, HostFault>
     ensures same { OnOk result (IsSameRun run.old.replay run.new.replay) }
 {

@@ -96,6 +96,7 @@ impl WatchedRun {
     ///
     /// # Errors
     /// Out of memory; `Failed` if an event printed something else when it was taken before.
+    #[tactic(auto, using(replayed_run::proofs::SameRuns::again, replayed_run::proofs::SameRuns::still))]
     pub(crate) fn stand_before(&mut self, number: u32) -> Result<(), HostFault>
         ensures same { OnOk result (IsSameRun self.old.replay self.new.replay) }
     {
