@@ -12,18 +12,30 @@ pub(crate) fn sent_by(alloc: Global, lines: &str) -> Result<Vec<u8>, AllocError>
     let mut bytes = Vec::new(alloc);
     for line in lines.lines() {
         if let Some(words) = line.strip_prefix(SENDS) {
-            send(alloc, &mut bytes, words.as_bytes())?;
+            send(alloc, &mut bytes, words)?;
         }
     }
     Ok(bytes)
 }
 
-// Appends what a line sends: what stands after a mark, or else the packet that says it.
-fn send(alloc: Global, bytes: &mut Vec<u8>, words: &[u8]) -> Result<(), AllocError> {
-    match words {
-        [b'!' | b'~', raw @ ..] => bytes.extend_from_slice(raw),
-        _ => bytes.extend_from_slice(frame(alloc, words)?.as_slice()),
+// Appends what a line sends: a packet without an end, what stands after a mark, or else the packet that says it.
+fn send(alloc: Global, bytes: &mut Vec<u8>, words: &str) -> Result<(), AllocError> {
+    if let Some(count) = words.strip_prefix("*") {
+        return send_endless(bytes, count.parse::<u32>().unwrap_or(0));
     }
+    match words.as_bytes() {
+        [b'!' | b'~', raw @ ..] => bytes.extend_from_slice(raw),
+        payload => bytes.extend_from_slice(frame(alloc, payload)?.as_slice()),
+    }
+}
+
+// Appends a packet without an end, of so many bytes.
+fn send_endless(bytes: &mut Vec<u8>, count: u32) -> Result<(), AllocError> {
+    bytes.push(b'$')?;
+    for _ in 0..count {
+        bytes.push(b'0')?;
+    }
+    Ok(())
 }
 
 /// The lines that send something, each with what is answered.
@@ -35,7 +47,7 @@ pub(crate) fn dialogue(alloc: Global, lines: &str, answers: &[u8]) -> Result<Str
             text.push_str(line)?;
             text.push_str("\n")?;
             if !words.starts_with("~") {
-                rest = add_answers(alloc, &mut text, rest, words.starts_with("!"))?;
+                rest = add_answers(alloc, &mut text, rest, is_raw(words))?;
             }
         }
     }
@@ -43,6 +55,11 @@ pub(crate) fn dialogue(alloc: Global, lines: &str, answers: &[u8]) -> Result<Str
         text.push_str("and more\n")?;
     }
     Ok(text)
+}
+
+// Whether one unit answers what a line sends.
+fn is_raw(words: &str) -> bool {
+    words.starts_with("!") || words.starts_with("*")
 }
 
 // Adds what is answered to a line: one unit; or packets for the console, and the one after them. Answers what comes after that.
