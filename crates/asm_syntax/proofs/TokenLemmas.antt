@@ -1,7 +1,7 @@
 -- The tokens of a line, from its first one.
 use Rattle.std.proofs.Common.{◌≡◌, ℕ, zero, suc, ◌+◌, ◌<◌, ◌≤◌, Bool, true, false, not, cond, ◌||◌, List, [], ◌∷◌, ◌++◌, length, take, drop}
 use Rattle.std.proofs.Common.{get_or, Some, None, refl, sym, ap, ◌∙◌, arith, append-nil, inl, inr, ◌⊎◌}
-use Rattle.std.specs.Prelude.{◌==◌, if◌then◌else◌}
+use Rattle.std.specs.Prelude.{◌==◌, if◌then◌else◌, slice_get}
 use Rattle.std.specs.List.{position, position_or_len}
 use Rattle.std.proofs.Math.Seq.{drop-cons}
 use Rattle.std.proofs.lemmas.List.{take_more, drop_all, take_all}
@@ -195,3 +195,8 @@ pub text_broken : (line : List ℕ) (i : ℕ) (escaped : Bool) (ts : List Token)
 text_broken line i escaped ts all is =
     is ∙ ap (λ (l : List ℕ). prefixed (take i line) (tokens_from (where_is escaped) l)) (drop_all i line all)
     ∙ broken_end escaped (take i line)
+
+-- a line by its first byte
+pub first_byte : (line : List ℕ) (b n : ℕ) → Some b ≡ slice_get line 0 → b ≡ n → tokens_of line ≡ tokens_of (n ∷ drop 1 line)
+first_byte [] b n is same = absurd (cc)
+first_byte (x ∷ line) b n is same = ap (λ (y : ℕ). tokens_of (y ∷ line)) (let e : x ≡ n = cc in e)
