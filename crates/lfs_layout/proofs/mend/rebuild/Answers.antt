@@ -77,6 +77,31 @@ overflow_sub-result c =
     let k = kept_most (geometry_of image) (fields_of (geometry_of image) image).indexes (directory_entries (geometry_of image) image) in
     omega (arith, l, n, v, u, k)
 
+pub returns-clause-image : goal.returns-clause-image
+returns-clause-image c =
+    let image = c.args.bytes.now in let g = c.args.geometry in
+    let kept_is : c.in_ok-entries.entries.items ≡ kept_entries (geometry_of image) (fields_of (geometry_of image) image).indexes (directory_entries (geometry_of image) image) =
+    c.in_ok-entries.ensures ∙ ap (λ ix. kept_entries g ix c.deref-2.result.now) (c.as_slice.ensures.value ∙ c.in_ok-indexes.ensures.items)
+    ∙ ap (λ es. kept_entries g (fields_of g image).indexes es) (c.deref-2.ensures.value ∙ c.in_ok-directory.ensures.entries)
+    ∙ ap (λ h. kept_entries h (fields_of h image).indexes (directory_entries h image)) c.requires.geometry in
+    let files_is : all_files c.deref-4.result.now ≡ kept_files image =
+    ap all_files c.deref-4.ensures.value ∙ c.in_ok-files.ensures ∙ ap (λ ix. files_in g ix image c.deref-3.result.now) (c.as_slice.ensures.value ∙ c.in_ok-indexes.ensures.items)
+    ∙ ap (λ es. files_in g (fields_of g image).indexes image es) (c.deref-3.ensures.value ∙ kept_is)
+    ∙ ap (λ h. files_in h (fields_of h image).indexes image (kept_entries (geometry_of image) (fields_of (geometry_of image) image).indexes (directory_entries (geometry_of image) image))) c.requires.geometry in
+    let many : c.repaired_blocks.result ≡ repaired_blocks image = c.repaired_blocks.ensures ∙ ap (λ (h : Geometry). h.blocks + cond (nat_eq h.dirs 6) 0 6) c.requires.geometry ∙ blocks_are image in
+    let made : c.in_ok-image.image.items ≡ image_with (repaired_blocks image) (kept_files image) =
+    c.in_ok-image.ensures ∙ ap (λ n. image_with n (all_files c.deref-4.result.now)) many ∙ ap (image_with (repaired_blocks image)) files_is in
+    c.made.ensures ∙ made
+
+pub returns-clause-kept : goal.returns-clause-kept
+returns-clause-kept c =
+    let image = c.args.bytes.now in let g = c.args.geometry in
+    let kept_is : c.in_ok-entries.entries.items ≡ kept_entries (geometry_of image) (fields_of (geometry_of image) image).indexes (directory_entries (geometry_of image) image) =
+    c.in_ok-entries.ensures ∙ ap (λ ix. kept_entries g ix c.deref-2.result.now) (c.as_slice.ensures.value ∙ c.in_ok-indexes.ensures.items)
+    ∙ ap (λ es. kept_entries g (fields_of g image).indexes es) (c.deref-2.ensures.value ∙ c.in_ok-directory.ensures.entries)
+    ∙ ap (λ h. kept_entries h (fields_of h image).indexes (directory_entries h image)) c.requires.geometry in
+    let l = ap length kept_is in let n = c.len-kept.ensures in omega (arith, l, n)
+
 pub returns-clause-dropped : goal.returns-clause-dropped
 returns-clause-dropped c =
     let image = c.args.bytes.now in let g = c.args.geometry in
