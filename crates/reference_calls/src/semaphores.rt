@@ -1,10 +1,10 @@
 //! Semaphores: tokens, and the processes that wait for one (book, chapter 7).
 
-ghost use Rattle.std.specs.Prelude.{◌≡◌, ◌≤◌, IfOk, length};
+ghost use Rattle.std.specs.Prelude.{◌≡◌, ◌≤◌, ◌+ℤ◌, IfOk, int_lt, length, pos};
 ghost use Rattle.reference_state.specs.Answers.{came_to, IsStart};
 ghost use Rattle.xinu_model.specs.Machine.{with_tables};
 ghost use Rattle.xinu_model.specs.Semaphores.Calls as model;
-ghost use Rattle.xinu_model.specs.Semaphores.Counts.{make_semaphore, with_semaphore};
+ghost use Rattle.xinu_model.specs.Semaphores.Counts.{count_of, make_semaphore, most_tokens, with_semaphore};
 ghost use Rattle.xinu_model.specs.Tables.{no_semaphore, semaphore_at};
 
 use reference_state::{Answer, Machine};
@@ -103,11 +103,18 @@ pub fn signaln(m: &mut Machine, sem: u32, n: i32) -> Result<Answer, NoMemory>
     if n < 0 || !m.is_good(sem) {
         return Ok(Answer::Returns(SYSERR));
     }
-    if m.count_of(sem) > MOST_TOKENS - i64::from(n) {
+    if passes_most(m, sem, n as u32) {
         return Ok(Answer::Returns(SYSERR));
     }
     m.signalled_times(sem, n as u32)?;
     Ok(Answer::Returns(0))
+}
+
+// Whether the count would pass the greatest by n signals.
+fn passes_most(m: &Machine, sem: u32, n: u32) -> bool
+    ensures passes { result ≡ int_lt most_tokens (count_of (semaphore_at m.now.state.tables sem) +ℤ pos n) }
+{
+    m.count_of(sem) + i64::from(n) > MOST_TOKENS
 }
 
 // A process's semaphore is made, with n tokens.

@@ -1,4 +1,4 @@
-use Rattle.std.proofs.Common.{◌≢◌, ◌<◌, ◌-◌, ◌∙◌, ap, sym, length, arith, true, false}
+use Rattle.std.proofs.Common.{◌≢◌, ◌<◌, ◌∙◌, ap, sym, length, arith, false}
 use Rattle.std.specs.Prelude.{slice_index_or}
 use Rattle.xinu_model.specs.Heap.Cells as model
 use Rattle.reference_calls.proofs.HeapCells.{begins_next, begins_other}
