@@ -12,6 +12,6 @@ more_read : (read : List ℕ) (b : ℕ) (o : Option (List ℕ)) → after_bytes 
 more_read read b None = refl
 more_read read b (Some text) = ap Some (sym (append_assoc read (b ∷ []) text))
 
-text_more : (read : List ℕ) (b : ℕ) (rest : List ℕ) → (b == 0) ≡ false → after_bytes read (text_in (b ∷ rest)) ≡ after_bytes (read ++ b ∷ []) (text_in rest)
+pub text_more : (read : List ℕ) (b : ℕ) (rest : List ℕ) → (b == 0) ≡ false → after_bytes read (text_in (b ∷ rest)) ≡ after_bytes (read ++ b ∷ []) (text_in rest)
 text_more read zero rest h = absurd (cc)
 text_more read (suc b) rest h = more_read read (suc b) (text_in rest)
