@@ -3,12 +3,13 @@
 ghost use Rattle.std.specs.Prelude.{◌≡◌, ◌≤◌, ◌<◌, IfOk, IfErr, None, [], length, map, replicate};
 ghost use Rattle.image_loader.specs.Images.{loaded_of};
 ghost use Rattle.reference_boot.specs.Starts.{RefusesAs};
+ghost use Rattle.reference_boot.specs.declared.boot.NoStart.TheVariants as no;
 ghost use Rattle.reference_state.specs.Answers.{IsStart};
 ghost use Rattle.xinu_model.specs.Boot as model;
 ghost use Rattle.xinu_model.specs.Heap.Cells.{take_stack};
 ghost use Rattle.xinu_model.specs.Process.Creation as creation;
 ghost use Rattle.xinu_model.specs.Process.Scheduling.{resched};
-ghost use Rattle.xinu_model.specs.Machine.{with_tables};
+ghost use Rattle.xinu_model.specs.Machine.{start, with_tables};
 
 use crate::machine::{loaded_machine, on_disks};
 use image_loader::{Image, first_overlap};
@@ -20,7 +21,7 @@ use std::alloc::Global;
 use xinu_base::{MINSTK, NoMemory, Pid};
 
 /// Why the machine doesn't start.
-#[derive(Clone, Copy, PartialEq, Eq)]
+#[derive(Clone, Copy)]
 pub enum NoStart {
     /// The image of this number, counted from 1, overlaps an earlier one.
     Overlaps(u8),
@@ -61,14 +62,37 @@ fn boot(alloc: Global, images: &[Image<'_>]) -> Result<Machine, NoStart>
     if let Some(i) = first_overlap(images) {
         return Err(NoStart::Overlaps(i));
     }
-    let Ok(mut m) = loaded_machine(alloc, images) else {
-        return Err(NoStart::NoMemory);
-    };
-    all_made(&mut m, images)?;
-    let Ok(()) = all_started(&mut m, images) else {
-        return Err(NoStart::NoMemory);
-    };
+    let mut m = loaded(alloc, images)?;
+    started(&mut m, images)?;
     Ok(m)
+}
+
+// The machine with the images in RAM.
+fn loaded(alloc: Global, images: &[Image<'_>]) -> Result<Machine, NoStart>
+    ensures loaded { IfOk result (λ m. m ≡ start (model.loaded_machine (map loaded_of images.now))) }
+    ensures refuses { IfErr result (λ e. e ≡ no.NoMemory) }
+{
+    match loaded_machine(alloc, images) {
+        Ok(m) => Ok(m),
+        Err(NoMemory) => Err(NoStart::NoMemory),
+    }
+}
+
+// The first processes of the images are made in order, and become ready with one resched.
+fn started(m: &mut Machine, images: &[Image<'_>]) -> Result<(), NoStart>
+    requires start { IsStart m.old }
+    requires few { length images.now ≤ 8 }
+    ensures started { IfOk result (λ _. model.and_then (model.all_made 1 (map loaded_of images.now) m.old.state)
+        (λ s. model.Boots (model.all_started (map loaded_of images.now) s)) ≡ model.Boots m.new.state) }
+    ensures start { IfOk result (λ _. IsStart m.new) }
+    ensures refuses { IfErr result (λ e. RefusesAs (model.and_then (model.all_made 1 (map loaded_of images.now) m.old.state)
+        (λ s. model.Boots (model.all_started (map loaded_of images.now) s))) e) }
+{
+    all_made(m, images)?;
+    match all_started(m, images) {
+        Ok(()) => Ok(()),
+        Err(NoMemory) => Err(NoStart::NoMemory),
+    }
 }
 
 // The first processes of the images are made in order.
