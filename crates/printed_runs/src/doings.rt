@@ -1,6 +1,6 @@
 //! What a process is doing, as the tables show it, and the words for it.
 
-use std::alloc::{AllocError, Global};
+use crate::text::Text;
 use xinu_base::State;
 
 /// What a process waits for.
@@ -61,40 +61,34 @@ impl Doing {
         matches!(self.state, State::Current | State::Ready)
     }
 
-    /// The word for it, as `semaphore 5` or `tick 12`.
-    ///
-    /// # Errors
-    /// Out of memory.
-    pub fn word(&self, alloc: Global) -> Result<String, AllocError> {
+    /// Adds the word for it to a text, as `semaphore 5` or `tick 12`.
+    pub fn add_word(&self, text: &mut Text) {
+        let number = self.number as u64;
         match self.state {
-            State::Free => String::from_str(alloc, ""),
-            State::Current => String::from_str(alloc, "current"),
-            State::Ready => String::from_str(alloc, "ready"),
-            State::Receiving => String::from_str(alloc, "message"),
-            State::Sleeping => numbered(alloc, "tick ", self.number),
-            State::Timed => numbered(alloc, "timed to ", self.number),
-            State::Suspended => String::from_str(alloc, "suspended"),
-            State::Waiting => self.awaited_word(alloc),
+            State::Free => {}
+            State::Current => text.put("current"),
+            State::Ready => text.put("ready"),
+            State::Receiving => text.put("message"),
+            State::Sleeping => text.numbered("tick ", number),
+            State::Timed => text.numbered("timed to ", number),
+            State::Suspended => text.put("suspended"),
+            State::Waiting => self.add_awaited(text),
         }
     }
 
-    // The word for what is waited for.
-    fn awaited_word(&self, alloc: Global) -> Result<String, AllocError> {
+    // Adds the word for what is waited for.
+    fn add_awaited(&self, text: &mut Text) {
+        let number = self.number as u64;
         match self.awaited {
-            Awaited::Input => String::from_str(alloc, "console input"),
-            Awaited::Room => String::from_str(alloc, "room"),
-            Awaited::Disk => String::from_str(alloc, "disk"),
-            Awaited::Files => String::from_str(alloc, "files"),
-            Awaited::Pool => numbered(alloc, "pool ", self.number),
-            Awaited::Port => numbered(alloc, "port ", self.number),
+            Awaited::Input => text.put("console input"),
+            Awaited::Room => text.put("room"),
+            Awaited::Disk => text.put("disk"),
+            Awaited::Files => text.put("files"),
+            Awaited::Pool => text.numbered("pool ", number),
+            Awaited::Port => text.numbered("port ", number),
             Awaited::Nothing | Awaited::Semaphore | Awaited::Tick => {
-                numbered(alloc, "semaphore ", self.number)
+                text.numbered("semaphore ", number)
             }
         }
     }
-}
-
-// A word and a number.
-fn numbered(alloc: Global, word: &str, number: u32) -> Result<String, AllocError> {
-    format!(in alloc; "{word}{number}")
 }

@@ -1,7 +1,8 @@
 //! The tables of the machine, as it prints them, read for what each process is doing.
 
 use crate::doings::{ABSENT, Awaited, Doing};
-use std::alloc::{AllocError, Global};
+use crate::text::Text;
+use std::alloc::Global;
 use xinu_base::State;
 
 /// How many process numbers there are.
@@ -20,9 +21,9 @@ pub struct Shown {
 #[derive(Drop)]
 pub struct Made {
     /// Its priority.
-    pub priority: i64,
+    pub priority: u32,
     /// Its name.
-    pub name: String,
+    pub name: Text,
 }
 
 /// What the tables show, if the processes asked for these things last.
@@ -113,44 +114,38 @@ pub fn number_of(word: Option<&str>) -> u32 {
 }
 
 /// The priority and the name of a process in the tables; 0 and nothing if it isn't in them.
-///
-/// # Errors
-/// Out of memory.
-pub fn made_as(alloc: Global, tables: &str, process: u32) -> Result<Made, AllocError> {
+pub fn made_as(alloc: Global, tables: &str, process: u32) -> Made {
     for line in tables.lines() {
         let mut words = line.split_whitespace();
         if words.next().unwrap_or("") == "proc" && number_of(words.next()) == process {
-            let priority = words.nth(1).unwrap_or("");
-            let name = words.nth(2).unwrap_or("");
-            return Ok(Made {
-                priority: priority.parse::<i64>().unwrap_or(0),
-                name: text_of(alloc, name)?,
-            });
+            let priority = number_of(words.nth(1));
+            let name = text_of(alloc, words.nth(2).unwrap_or(""));
+            return Made { priority, name };
         }
     }
-    Ok(Made {
+    Made {
         priority: 0,
-        name: String::new(alloc),
-    })
+        name: Text::new(alloc),
+    }
 }
 
 // The text of bytes in hexadecimal digits; a byte that isn't a printable character is shown as a dot.
-fn text_of(alloc: Global, digits: &str) -> Result<String, AllocError> {
-    let mut text = String::new(alloc);
+fn text_of(alloc: Global, digits: &str) -> Text {
+    let mut text = Text::new(alloc);
     let mut high = None;
     for digit in digits.chars() {
         let Some(value) = digit.to_digit(16) else {
-            return Ok(text);
+            return text;
         };
         match high {
             None => high = Some(value),
             Some(front) => {
-                text.push(shown_character(front, value))?;
+                text.character(shown_character(front, value));
                 high = None;
             }
         }
     }
-    Ok(text)
+    text
 }
 
 // The character of two hexadecimal digits, or a dot.

@@ -1,12 +1,9 @@
 //! The bands of the picture: a process does one thing from one column to another.
 
-use crate::states::state_letter;
-use printed_runs::{Awaited, Doing};
-use std::alloc::{AllocError, Global};
+use crate::layout::Strip;
+use printed_runs::{Awaited, Doing, Text};
+use std::alloc::Global;
 use xinu_base::State;
-
-/// The letter of the null process while it runs, which is also the class of its band.
-pub(crate) const IDLE: &str = "I";
 
 /// What the process of a row does from the column `from` on and before `to`, which is the greatest number while it goes on.
 #[derive(Clone, Copy)]
@@ -22,17 +19,23 @@ pub(crate) struct Band {
 }
 
 impl Band {
-    /// Whether some of it is drawn from the column `from` on and before `to`.
-    pub(crate) fn is_in(&self, from: usize, to: usize) -> bool {
-        self.from < to && self.to > from
+    /// Whether it began before a strip and goes on in it.
+    pub(crate) fn is_kept_in(&self, strip: Strip) -> bool {
+        self.from < strip.from && self.to > strip.from
     }
 
     /// Its letter, which is its class, too.
     pub(crate) fn letter(&self) -> &'static str {
-        if self.is_idle {
-            IDLE
-        } else {
-            state_letter(self.doing.state)
+        match self.doing.state {
+            State::Current if self.is_idle => "I",
+            State::Free => "F",
+            State::Current => "C",
+            State::Ready => "R",
+            State::Receiving => "M",
+            State::Sleeping => "S",
+            State::Timed => "T",
+            State::Suspended => "U",
+            State::Waiting => "W",
         }
     }
 
@@ -42,22 +45,23 @@ impl Band {
     }
 
     /// Its word.
-    pub(crate) fn word(&self, alloc: Global) -> Result<String, AllocError> {
+    pub(crate) fn word(&self, alloc: Global) -> Text {
+        let mut word = Text::new(alloc);
         if self.is_idle {
-            String::from_str(alloc, "idle")
+            word.put("idle");
         } else {
-            self.doing.word(alloc)
+            self.doing.add_word(&mut word);
         }
+        word
     }
 
     /// Its word with who took the semaphore last, or nothing if that isn't known.
-    pub(crate) fn long_word(&self, alloc: Global) -> Result<String, AllocError> {
-        match (self.doing.awaited, self.taker) {
-            (Awaited::Semaphore, Some(taker)) => {
-                let word = self.doing.word(alloc)?;
-                format!(in alloc; "{}, last taken by {taker}", word.as_str())
-            }
-            _ => Ok(String::new(alloc)),
+    pub(crate) fn long_word(&self, alloc: Global) -> Text {
+        let mut word = Text::new(alloc);
+        if let (Awaited::Semaphore, Some(taker)) = (self.doing.awaited, self.taker) {
+            self.doing.add_word(&mut word);
+            word.numbered(", last taken by ", taker as u64);
         }
+        word
     }
 }

@@ -4,57 +4,42 @@ use crate::bands::Band;
 use crate::labels::{Lane, Link, Mark};
 use crate::recording::Recording;
 use crate::rows::Row;
-use printed_runs::{ABSENT, Doing, Shown, made_as};
-use std::alloc::AllocError;
+use printed_runs::{ABSENT, Doing, Shown, Text, made_as};
 use xinu_base::State;
 
 impl Recording {
     /// Notes what each process does now, and that the event is of this lane, unless this is the start.
-    ///
-    /// # Errors
-    /// Out of memory.
-    pub(crate) fn change(
-        &mut self,
-        shown: &Shown,
-        tables: &str,
-        source: Option<Lane>,
-    ) -> Result<(), AllocError> {
+    pub(crate) fn change(&mut self, shown: &Shown, tables: &str, source: Option<Lane>) {
         for (p, now) in shown.doings.iter().enumerate() {
-            self.change_one(p, *now, tables, source)?;
+            self.change_one(p, *now, tables, source);
         }
-        self.tables = String::from_str(self.alloc, tables)?;
-        Ok(())
+        let kept = Text::of(self.alloc, tables);
+        self.note(kept.is_whole());
+        self.tables = kept;
     }
 
     // Notes what the process of a number does now.
-    fn change_one(
-        &mut self,
-        p: usize,
-        now: Doing,
-        tables: &str,
-        source: Option<Lane>,
-    ) -> Result<(), AllocError> {
+    fn change_one(&mut self, p: usize, now: Doing, tables: &str, source: Option<Lane>) {
         let was = self.shown.get(p).copied().unwrap_or(ABSENT);
         if was == now {
-            return Ok(());
+            return;
         }
         if was.lives() {
             self.end_band(p);
         } else {
-            self.add_row(p, tables)?;
+            self.add_row(p, tables);
         }
         if now.lives() {
-            self.add_band(p, now)?;
+            self.add_band(p, now);
         } else {
-            self.end_row(p)?;
+            self.end_row(p);
         }
-        if let Some(lane) = source {
-            self.add_link(p, was, now, lane)?;
+        if was.lives() && !was.is_ready() && now.is_ready() {
+            self.add_link(self.row(p), source);
         }
         if let Some(place) = self.shown.get_mut(p) {
             *place = now;
         }
-        Ok(())
     }
 
     // The row of the process of a number.
@@ -63,34 +48,32 @@ impl Recording {
     }
 
     // Adds a row for the new process of a number.
-    fn add_row(&mut self, p: usize, tables: &str) -> Result<(), AllocError> {
-        let made = made_as(self.alloc, tables, u32::try_from(p).unwrap_or(0))?;
+    fn add_row(&mut self, p: usize, tables: &str) {
         if let Some(place) = self.row_of.get_mut(p) {
             *place = self.rows.len();
         }
-        let first = self.column();
-        self.rows.push(Row {
+        let row = Row {
             number: p,
-            name: made.name,
-            priority: made.priority,
-            first,
+            made: made_as(self.alloc, tables, u32::try_from(p).unwrap_or(0)),
+            first: self.column(),
             last: usize::MAX,
-        })?;
-        Ok(())
+        };
+        self.note(row.made.name.is_whole());
+        self.is_whole = self.is_whole && self.rows.push(row).is_ok();
     }
 
     // Ends the row of a process that died.
-    fn end_row(&mut self, p: usize) -> Result<(), AllocError> {
+    fn end_row(&mut self, p: usize) {
         let column = self.column();
         let row = self.row(p);
         if let Some(place) = self.rows.get_mut(row) {
             place.last = column;
         }
-        self.add_label(Lane::Process(row), Mark::Death, String::new(self.alloc))
+        self.add_label(Lane::Process(row), Mark::Death, Text::new(self.alloc));
     }
 
     // Begins a band.
-    fn add_band(&mut self, p: usize, doing: Doing) -> Result<(), AllocError> {
+    fn add_band(&mut self, p: usize, doing: Doing) {
         if let Some(place) = self.band_of.get_mut(p) {
             *place = self.bands.len();
         }
@@ -102,8 +85,7 @@ impl Recording {
             is_idle: p == 0 && matches!(doing.state, State::Current),
             taker: self.reader.taker(doing),
         };
-        self.bands.push(band)?;
-        Ok(())
+        self.is_whole = self.is_whole && self.bands.push(band).is_ok();
     }
 
     // Ends the last band of a process.
@@ -115,13 +97,14 @@ impl Recording {
         }
     }
 
-    // Links the event to a process that it made ready.
-    fn add_link(&mut self, p: usize, was: Doing, now: Doing, from: Lane) -> Result<(), AllocError> {
-        let row = self.row(p);
-        if was.lives() && !was.is_ready() && now.is_ready() && from != Lane::Process(row) {
-            let column = self.column();
-            self.links.push(Link { column, from, row })?;
+    // Links the event to the row of a process that it made ready, unless it is of the same lane.
+    fn add_link(&mut self, row: usize, source: Option<Lane>) {
+        if let Some(from) = source {
+            if from != Lane::Process(row) {
+                let column = self.column();
+                let link = Link { column, from, row };
+                self.is_whole = self.is_whole && self.links.push(link).is_ok();
+            }
         }
-        Ok(())
     }
 }

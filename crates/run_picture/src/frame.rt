@@ -1,9 +1,10 @@
-//! The rows of a strip: which there are, and how far below its top each is.
+//! A strip with what the picture shows: which rows there are in it, and how far below its top each is.
 
-use crate::labels::{Label, Lane};
-use crate::layout::Strip;
+use crate::bands::Band;
+use crate::columns::Column;
+use crate::labels::{DEVICES, Label, Lane, Link};
+use crate::layout::{Place, Strip};
 use crate::rows::Row;
-use std::alloc::{AllocError, Global};
 
 /// How far below the top of a strip its rows begin.
 pub(crate) const HEADS: u32 = 18;
@@ -18,86 +19,97 @@ pub(crate) const DEVICE: u32 = 17;
 /// How far the rows of devices are below those of processes.
 pub(crate) const BETWEEN: u32 = 6;
 
-/// The lanes of the devices, from the top down.
-const DEVICES: [Lane; 5] = [
-    Lane::Typed,
-    Lane::Sent,
-    Lane::Disk0,
-    Lane::Disk1,
-    Lane::Clock,
-];
-
-/// The rows of a strip: the processes that live in it, and below them the lanes of devices in which something happens in it.
-#[derive(Drop)]
-pub(crate) struct Frame {
-    pub(crate) rows: Vec<usize>,
-    devices: Vec<Lane>,
+/// What the picture shows, and the strip of it that is drawn. The rows of a strip are those of the processes that live in it, and below them
+/// the lanes of devices in which something happens in it.
+#[derive(Clone, Copy)]
+pub(crate) struct Frame<'a> {
+    pub(crate) columns: &'a [Column],
+    pub(crate) places: &'a [Place],
+    pub(crate) rows: &'a [Row],
+    pub(crate) bands: &'a [Band],
+    pub(crate) labels: &'a [Label],
+    pub(crate) links: &'a [Link],
+    pub(crate) strip: Strip,
+    /// Which lanes of devices there are, and how far below the top the first one begins.
+    pub(crate) used: [bool; DEVICES],
+    pub(crate) below: u32,
 }
 
-impl Frame {
-    /// The rows of a strip.
-    pub(crate) fn new(
-        alloc: Global,
-        rows: &[Row],
-        labels: &[Label],
-        strip: Strip,
-    ) -> Result<Frame, AllocError> {
-        let mut shown = Vec::new(alloc);
-        for (number, row) in rows.iter().enumerate() {
-            if row.is_in(strip.from, strip.to) {
-                shown.push(number)?;
-            }
-        }
-        let mut devices = Vec::new(alloc);
-        for lane in DEVICES {
-            if is_used(lane, labels, strip) {
-                devices.push(lane)?;
-            }
-        }
-        Ok(Frame {
-            rows: shown,
-            devices,
-        })
-    }
-
+impl Frame<'_> {
     /// How far below the top of the strip a lane begins, if it is one of its lanes.
     pub(crate) fn top_of(&self, lane: Lane) -> Option<u32> {
         match lane {
-            Lane::Process(row) => {
-                let place = self.rows.iter().position(|shown| *shown == row)?;
-                Some(HEADS.saturating_add(times(place, PROCESS)))
-            }
-            lane => {
-                let place = self.devices.iter().position(|shown| *shown == lane)?;
-                Some(self.below_processes(place))
-            }
+            Lane::Process(row) => self.top_of_row(row),
+            lane => self.top_of_device(lane.device()),
         }
     }
 
     /// How far below the top of the strip its rows end.
     pub(crate) fn bottom(&self) -> u32 {
-        self.below_processes(self.devices.len())
+        self.below.saturating_add(height_of(&self.used))
     }
 
-    // How far below the top of the strip a lane of a device begins.
-    fn below_processes(&self, place: usize) -> u32 {
-        times(self.rows.len(), PROCESS)
-            .saturating_add(HEADS + BETWEEN)
-            .saturating_add(times(place, DEVICE))
-    }
-}
-
-// Whether something is drawn in the lane of a device in a strip.
-fn is_used(lane: Lane, labels: &[Label], strip: Strip) -> bool {
-    for label in labels {
-        if strip.from <= label.column && label.column < strip.to && label.lane == lane {
-            return true;
+    /// The left edge of a column, or where the strip ends if it isn't one of its columns.
+    pub(crate) fn x_of(&self, column: usize) -> u32 {
+        match self.places.get(column) {
+            Some(place) if column < self.strip.to => place.x,
+            _ => self.strip.end,
         }
     }
-    false
+
+    // How far below the top of the strip the row of a process begins.
+    fn top_of_row(&self, number: usize) -> Option<u32> {
+        let row = self.rows.get(number)?;
+        if row.is_in(self.strip) {
+            Some(height_before(self.rows, number, self.strip))
+        } else {
+            None
+        }
+    }
+
+    // How far below the top of the strip the lane of a device begins.
+    fn top_of_device(&self, device: usize) -> Option<u32> {
+        match self.used.get(device) {
+            Some(true) => {
+                let before = height_of(self.used.get(..device).unwrap_or(&[]));
+                Some(self.below.saturating_add(before))
+            }
+            _ => None,
+        }
+    }
 }
 
-// So many times a height.
-fn times(count: usize, height: u32) -> u32 {
-    u32::try_from(count).unwrap_or(0).saturating_mul(height)
+/// How far below the top of a strip the row of this number begins, or would begin.
+pub(crate) fn height_before(rows: &[Row], number: usize, strip: Strip) -> u32 {
+    let mut height = HEADS;
+    for row in rows.iter().take(number) {
+        if row.is_in(strip) {
+            height = height.saturating_add(PROCESS);
+        }
+    }
+    height
+}
+
+/// The lanes of devices in which something happens in a strip.
+pub(crate) fn used_in(labels: &[Label], strip: Strip) -> [bool; DEVICES] {
+    let mut used = [false; DEVICES];
+    for label in labels {
+        if strip.has(label.column) {
+            if let Some(is_used) = used.get_mut(label.lane.device()) {
+                *is_used = true;
+            }
+        }
+    }
+    used
+}
+
+// How high the used ones of these lanes of devices are.
+fn height_of(used: &[bool]) -> u32 {
+    let mut height = 0u32;
+    for is_used in used {
+        if *is_used {
+            height = height.saturating_add(DEVICE);
+        }
+    }
+    height
 }

@@ -1,104 +1,109 @@
-//! The text of an SVG document while it is written.
+//! The elements of an SVG document, and the texts in them.
 
-use std::alloc::{AllocError, Global};
+use printed_runs::Text;
 
-/// A text of SVG.
-#[derive(Drop)]
-pub(crate) struct Ink {
-    pub(crate) alloc: Global,
-    pub(crate) text: String,
+/// The end of an element of words.
+pub(crate) const END: &str = "</text>\n";
+
+/// Writes a coordinate after some text.
+pub(crate) fn at(ink: &mut Text, before: &str, place: u32) {
+    ink.numbered(before, place as u64);
 }
 
-impl Ink {
-    /// Nothing so far.
-    pub(crate) fn new(alloc: Global) -> Ink {
-        Ink {
-            alloc,
-            text: String::new(alloc),
+/// Writes a text as the content of an element.
+pub(crate) fn content(ink: &mut Text, text: &str) {
+    for c in text.chars() {
+        match c {
+            '&' => ink.put("&amp;"),
+            '<' => ink.put("&lt;"),
+            '>' => ink.put("&gt;"),
+            _ => ink.character(c),
         }
     }
+}
 
-    /// Writes a text as it is.
-    pub(crate) fn put(&mut self, text: &str) -> Result<(), AllocError> {
-        self.text.push_str(text)
+/// Begins an element of words at a place, in a class; in none if its name is empty.
+pub(crate) fn begin_words(ink: &mut Text, class: &str, x: u32, y: u32) {
+    ink.put("<text");
+    if !class.is_empty() {
+        ink.put(" class=\"");
+        ink.put(class);
+        ink.put("\"");
     }
+    at(ink, " x=\"", x);
+    at(ink, "\" y=\"", y);
+    ink.put("\">");
+}
 
-    /// Writes a text as the content of an element.
-    pub(crate) fn content(&mut self, text: &str) -> Result<(), AllocError> {
-        for c in text.chars() {
-            match c {
-                '&' => self.text.push_str("&amp;")?,
-                '<' => self.text.push_str("&lt;")?,
-                '>' => self.text.push_str("&gt;")?,
-                _ => self.text.push(c)?,
-            }
-        }
-        Ok(())
-    }
+/// Writes a text at a place, in a class.
+pub(crate) fn words(ink: &mut Text, class: &str, x: u32, y: u32, text: &str) {
+    begin_words(ink, class, x, y);
+    content(ink, text);
+    ink.put(END);
+}
 
-    /// Writes a text at a place, in a class; in none if its name is empty.
-    pub(crate) fn words(
-        &mut self,
-        class: &str,
-        x: u32,
-        y: u32,
-        text: &str,
-    ) -> Result<(), AllocError> {
-        self.put("<text")?;
-        if !class.is_empty() {
-            self.put(format!(in self.alloc; " class=\"{class}\"")?.as_str())?;
-        }
-        self.put(format!(in self.alloc; " x=\"{x}\" y=\"{y}\">")?.as_str())?;
-        self.content(text)?;
-        self.put("</text>\n")
-    }
+/// Begins a path, in a class.
+pub(crate) fn begin_path(ink: &mut Text, class: &str) {
+    ink.put("<path class=\"");
+    ink.put(class);
+    ink.put("\" d=\"");
+}
 
-    /// Writes a rectangle, in a class.
-    pub(crate) fn bar(
-        &mut self,
-        class: &str,
-        (x, y): (u32, u32),
-        (width, height): (u32, u32),
-    ) -> Result<(), AllocError> {
-        let path = format!(in self.alloc;
-            "<path class=\"{class}\" d=\"M{x} {y}h{width}v{height}h-{width}z\"/>\n"
-        )?;
-        self.put(path.as_str())
-    }
+/// Ends a path, with this as its last piece.
+pub(crate) fn end_path(ink: &mut Text, rest: &str) {
+    ink.put(rest);
+    ink.put("\"/>\n");
+}
 
-    /// Writes a path that begins at a place, in a class.
-    pub(crate) fn path(
-        &mut self,
-        class: &str,
-        x: u32,
-        y: u32,
-        rest: &str,
-    ) -> Result<(), AllocError> {
-        self.outline(class, format!(in self.alloc; "M{x} {y}{rest}")?.as_str())
-    }
+/// Writes a path that begins at a place, in a class.
+pub(crate) fn path(ink: &mut Text, class: &str, x: u32, y: u32, rest: &str) {
+    begin_path(ink, class);
+    at(ink, "M", x);
+    at(ink, " ", y);
+    end_path(ink, rest);
+}
 
-    /// Writes a path, in a class; nothing if it is empty.
-    pub(crate) fn outline(&mut self, class: &str, path: &str) -> Result<(), AllocError> {
-        if path.is_empty() {
-            return Ok(());
-        }
-        let path = format!(in self.alloc; "<path class=\"{class}\" d=\"{path}\"/>\n")?;
-        self.put(path.as_str())
-    }
+/// Writes a path that begins at a place, goes straight up or down to a height and ends in a head of an arrow, in a class.
+pub(crate) fn arrow(ink: &mut Text, (x, y): (u32, u32), end: u32, head: &str) {
+    begin_path(ink, "l");
+    at(ink, "M", x);
+    at(ink, " ", y);
+    at(ink, "V", end);
+    end_path(ink, head);
+}
 
-    /// Writes a title: what a browser shows of the elements beside it.
-    pub(crate) fn title(&mut self, head: &str, lines: &str) -> Result<(), AllocError> {
-        self.put("<title>")?;
-        self.content(head)?;
-        for line in lines.lines().take(16) {
-            self.put("\n")?;
-            self.content(line)?;
-        }
-        if lines.lines().count() > 16 {
-            self.put("\n..")?;
-        }
-        self.put("</title>\n")
+/// Writes a rectangle, in a class.
+pub(crate) fn bar(ink: &mut Text, class: &str, (x, y): (u32, u32), (width, height): (u32, u32)) {
+    begin_path(ink, class);
+    at(ink, "M", x);
+    at(ink, " ", y);
+    at(ink, "h", width);
+    at(ink, "v", height);
+    at(ink, "h-", width);
+    end_path(ink, "z");
+}
+
+/// Writes a path, in a class; nothing if it is empty.
+pub(crate) fn outline(ink: &mut Text, class: &str, path: &Text) {
+    if !path.is_empty() {
+        begin_path(ink, class);
+        ink.add(path);
+        end_path(ink, "");
     }
+}
+
+/// Writes a title: what a browser shows of the elements beside it.
+pub(crate) fn title(ink: &mut Text, head: &str, lines: &str) {
+    ink.put("<title>");
+    content(ink, head);
+    for line in lines.lines().take(16) {
+        ink.put("\n");
+        content(ink, line);
+    }
+    if lines.lines().count() > 16 {
+        ink.put("\n..");
+    }
+    ink.put("</title>\n");
 }
 
 /// How wide a text of these many characters is, in a font whose characters are this many tenths wide.

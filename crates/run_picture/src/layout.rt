@@ -3,7 +3,8 @@
 use crate::columns::Column;
 use crate::ink::width_of;
 use crate::labels::Label;
-use std::alloc::{AllocError, Global};
+use printed_runs::Text;
+use std::alloc::Global;
 
 /// How wide the picture is.
 pub(crate) const WIDTH: u32 = 880;
@@ -22,11 +23,13 @@ pub(crate) const HEAD: u32 = 60;
 /// How far after its mark the text of a label begins.
 pub(crate) const AFTER_MARK: u32 = 10;
 
-/// Where a column is: the stretch of quiet events before it, and its left edge.
+/// Where a column is: the stretch of quiet events before it, and its left edge; and how wide the two are.
 #[derive(Clone, Copy)]
 pub(crate) struct Place {
     pub(crate) gap: u32,
     pub(crate) x: u32,
+    gap_width: u32,
+    width: u32,
 }
 
 /// The columns from `from` on and before `to`, and where the last one ends.
@@ -37,109 +40,129 @@ pub(crate) struct Strip {
     pub(crate) end: u32,
 }
 
+impl Strip {
+    /// Whether a column is one of it.
+    pub(crate) fn has(&self, column: usize) -> bool {
+        self.from <= column && column < self.to
+    }
+}
+
 /// The places of all columns, and the strips.
 #[derive(Drop)]
 pub(crate) struct Layout {
     pub(crate) places: Vec<Place>,
     pub(crate) strips: Vec<Strip>,
-}
-
-impl Layout {
-    /// The left edge of a column, or where the strip ends if it isn't one of its columns.
-    pub(crate) fn x_of(&self, column: usize, strip: Strip) -> u32 {
-        if column >= strip.to {
-            return strip.end;
-        }
-        match self.places.get(column) {
-            Some(place) => place.x,
-            None => strip.end,
-        }
-    }
+    /// Whether memory never ran out.
+    pub(crate) is_whole: bool,
 }
 
 /// Lays the columns out.
-pub(crate) fn laid_out(
-    alloc: Global,
-    columns: &[Column],
-    labels: &[Label],
-) -> Result<Layout, AllocError> {
-    let widths = widths_of(alloc, columns, labels)?;
+pub(crate) fn laid_out(alloc: Global, columns: &[Column], labels: &[Label]) -> Layout {
     let mut layout = Layout {
         places: Vec::new(alloc),
         strips: Vec::new(alloc),
+        is_whole: true,
     };
-    let mut strip = Strip {
-        from: 0,
-        to: 0,
-        end: LEFT,
-    };
-    for (column, width) in columns.iter().zip(widths.iter()) {
-        let gap = gap_width(column)?;
-        let room = gap.saturating_add(*width);
-        if strip.end.saturating_add(room) > RIGHT && strip.to > strip.from {
-            strip.end = spread(layout.places.as_mut_slice(), strip);
-            layout.strips.push(strip)?;
-            strip.from = strip.to;
-            strip.end = LEFT;
-        }
-        layout.places.push(Place {
-            gap: strip.end,
-            x: strip.end.saturating_add(gap),
-        })?;
-        strip.to = strip.to.saturating_add(1);
-        strip.end = strip.end.saturating_add(room).min(RIGHT);
+    for column in columns {
+        layout.add_place(column);
     }
-    layout.strips.push(strip)?;
-    Ok(layout)
+    for label in labels {
+        layout.widen(label);
+    }
+    layout.fill_strips();
+    layout
 }
 
-// Moves the columns of a strip apart, so that it ends at the right edge, and answers where it ends.
-fn spread(places: &mut [Place], strip: Strip) -> u32 {
+impl Layout {
+    // Adds a column, as wide as its head and a letter in a band.
+    fn add_place(&mut self, column: &Column) {
+        let head = width_of(column.head.len(), HEAD).saturating_add(9);
+        let place = Place {
+            gap: 0,
+            x: 0,
+            gap_width: gap_width(&column.gap),
+            width: head.max(18),
+        };
+        self.note(column.is_whole());
+        self.is_whole = self.is_whole && self.places.push(place).is_ok();
+    }
+
+    // Makes the column of a label as wide as it.
+    fn widen(&mut self, label: &Label) {
+        let characters = label.text.as_str().chars().count();
+        let width = width_of(characters, LABEL).saturating_add(AFTER_MARK + 10);
+        self.note(label.text.is_whole());
+        if let Some(place) = self.places.get_mut(label.column) {
+            place.width = place.width.max(width);
+        }
+    }
+
+    // Puts as many columns into each strip as it has room for.
+    fn fill_strips(&mut self) {
+        let mut strip = Strip {
+            from: 0,
+            to: 0,
+            end: LEFT,
+        };
+        for k in 0..self.places.len() {
+            let room = self.room_of(k);
+            if strip.end.saturating_add(room) > RIGHT && strip.to > strip.from {
+                spread(self.places.as_mut_slice(), strip);
+                strip.end = RIGHT;
+                self.add_strip(strip);
+                strip.from = strip.to;
+                strip.end = LEFT;
+            }
+            self.put(k, strip.end);
+            strip.to = strip.to.saturating_add(1);
+            strip.end = strip.end.saturating_add(room).min(RIGHT);
+        }
+        self.add_strip(strip);
+    }
+
+    // How wide a column is with the stretch before it.
+    fn room_of(&self, k: usize) -> u32 {
+        match self.places.get(k) {
+            Some(place) => place.gap_width.saturating_add(place.width),
+            None => 0,
+        }
+    }
+
+    // Puts a column at a place, with the stretch before it.
+    fn put(&mut self, k: usize, at: u32) {
+        if let Some(place) = self.places.get_mut(k) {
+            place.gap = at;
+            place.x = at.saturating_add(place.gap_width);
+        }
+    }
+
+    // Notes whether memory never ran out for what is laid out.
+    fn note(&mut self, is_whole: bool) {
+        self.is_whole = self.is_whole && is_whole;
+    }
+
+    // Adds a strip.
+    fn add_strip(&mut self, strip: Strip) {
+        self.is_whole = self.is_whole && self.strips.push(strip).is_ok();
+    }
+}
+
+// Moves the columns of a strip apart, so that it ends at the right edge.
+fn spread(places: &mut [Place], strip: Strip) {
     let free = RIGHT.saturating_sub(strip.end) as u64;
-    let count = strip.to.saturating_sub(strip.from).max(1) as u64;
-    for (k, place) in places.iter_mut().skip(strip.from).enumerate() {
-        let more = free.saturating_mul(k as u64) / count;
+    let count = strip.to.saturating_sub(strip.from).max(1);
+    for (k, place) in places.iter_mut().skip(strip.from).take(count).enumerate() {
+        let more = free.saturating_mul(k as u64) / count as u64;
         let more = u32::try_from(more).unwrap_or(0);
         place.gap = place.gap.saturating_add(more);
         place.x = place.x.saturating_add(more);
     }
-    RIGHT
 }
 
-// How wide each column is: as its head, its longest label, and a letter in a band.
-fn widths_of(alloc: Global, columns: &[Column], labels: &[Label]) -> Result<Vec<u32>, AllocError> {
-    let mut widths = Vec::new(alloc);
-    for column in columns {
-        let head = width_of(column.head.len(), HEAD).saturating_add(9);
-        widths.push(head.max(18))?;
+// How wide a stretch of quiet events is with this above it.
+fn gap_width(gap: &Text) -> u32 {
+    if gap.is_empty() {
+        return 0;
     }
-    for label in labels {
-        let width = width_of(label.text.chars().count(), LABEL).saturating_add(AFTER_MARK + 10);
-        if let Some(place) = widths.get_mut(label.column) {
-            *place = (*place).max(width);
-        }
-    }
-    Ok(widths)
-}
-
-/// What stands above a stretch of quiet events.
-pub(crate) fn gap_text(alloc: Global, column: &Column) -> Result<String, AllocError> {
-    let quiet = column.quiet;
-    if quiet == 0 {
-        return Ok(String::new(alloc));
-    }
-    if column.are_steps {
-        format!(in alloc; "+{quiet}")
-    } else {
-        format!(in alloc; "+{quiet}*")
-    }
-}
-
-// How wide a stretch of quiet events is.
-fn gap_width(column: &Column) -> Result<u32, AllocError> {
-    let text = gap_text(*column.head.allocator(), column)?;
-    if text.is_empty() {
-        return Ok(0);
-    }
-    Ok(width_of(text.len(), HEAD).saturating_add(6))
+    width_of(gap.len(), HEAD).saturating_add(6)
 }

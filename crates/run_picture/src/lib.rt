@@ -9,9 +9,11 @@
 //! | [`Recording::begin`] | the picture begins with these tables |
 //! | [`Recording::event`] | an event is drawn, unless it changed and printed nothing |
 //! | [`Recording::pass`] | an event before the picture is noted, whose call may still be waited for |
-//! | [`Recording::picture`] | the document |
+//! | [`Recording::end`] | the picture ends |
+//! | [`Recording::is_whole`] | whether memory never ran out so far |
+//! | [`Recording::picture`] | the document; refused if memory ran out, now or before |
 //!
-//! No call has a contract: each is safe and returns, and refuses only if memory runs out. What is drawn is tested.
+//! No call has a contract: each is safe and returns. What is drawn is tested.
 #![tactic(auto)]
 
 mod bands;
@@ -26,7 +28,6 @@ mod lines;
 mod pictures;
 mod recording;
 mod rows;
-mod states;
 mod strips;
 mod style;
 

@@ -1,8 +1,8 @@
 //! The lines of an event, read for the marks that they make.
 
 use crate::labels::{Lane, Mark};
-use printed_runs::number_of;
-use std::alloc::{AllocError, Global};
+use printed_runs::{Text, number_of};
+use std::alloc::Global;
 use xinu_base::Event;
 
 /// How long a text in the lane of a device may be before nothing more is added.
@@ -13,143 +13,161 @@ const LONGEST_LANE: usize = 60;
 pub(crate) struct Note {
     pub(crate) lane: Lane,
     pub(crate) mark: Mark,
-    pub(crate) text: String,
+    pub(crate) text: Text,
+}
+
+/// The notes of an event.
+#[derive(Drop)]
+pub(crate) struct Notes {
+    alloc: Global,
+    pub(crate) notes: Vec<Note>,
+    /// Whether memory never ran out for them.
+    pub(crate) is_whole: bool,
 }
 
 /// The notes of an event: a call with its reply is one, and so are all lines of the files' disk.
-pub(crate) fn notes_of(
-    alloc: Global,
-    event: Event,
-    lines: &str,
-    ticks: u32,
-) -> Result<Vec<Note>, AllocError> {
-    let mut notes = Vec::new(alloc);
-    if let Some(note) = note_of_event(alloc, event, ticks)? {
-        notes.push(note)?;
-    }
+pub(crate) fn notes_of(alloc: Global, event: Event, lines: &str, ticks: u32) -> Notes {
+    let mut notes = Notes {
+        alloc,
+        notes: Vec::new(alloc),
+        is_whole: true,
+    };
+    notes.add_event(event, ticks);
     if !matches!(event, Event::Dump) {
         for line in lines.lines() {
-            add_line(alloc, &mut notes, line)?;
+            notes.add_line(line);
         }
     }
-    Ok(notes)
+    notes
 }
 
-// The note of an event that isn't a step.
-fn note_of_event(alloc: Global, event: Event, ticks: u32) -> Result<Option<Note>, AllocError> {
-    let (lane, text) = match event {
-        Event::Step | Event::Tx => return Ok(None),
-        Event::Tick => (Lane::Clock, format!(in alloc; "{ticks}")?),
-        Event::Dump => (Lane::Clock, String::from_str(alloc, "tables")?),
-        Event::Key(byte) => (Lane::Typed, character(alloc, byte)?),
-        Event::Disk0 => (Lane::Disk0, String::from_str(alloc, "done")?),
-        Event::Fail0 => (Lane::Disk0, String::from_str(alloc, "failed")?),
-        Event::Disk1 => (Lane::Disk1, String::from_str(alloc, "done")?),
-        Event::Fail1 => (Lane::Disk1, String::from_str(alloc, "failed")?),
-    };
-    let mark = Mark::Device;
-    Ok(Some(Note { lane, mark, text }))
+impl Notes {
+    // Adds a note.
+    fn add(&mut self, lane: Lane, mark: Mark, text: Text) {
+        let note = Note { lane, mark, text };
+        self.is_whole = self.is_whole && self.notes.push(note).is_ok();
+    }
+
+    // Adds the note of an event that isn't a step.
+    fn add_event(&mut self, event: Event, ticks: u32) {
+        let (lane, word) = match event {
+            Event::Step | Event::Tx => return,
+            Event::Tick => (Lane::Clock, ""),
+            Event::Dump => (Lane::Clock, "tables"),
+            Event::Key(_) => (Lane::Typed, ""),
+            Event::Disk0 => (Lane::Disk0, "done"),
+            Event::Fail0 => (Lane::Disk0, "failed"),
+            Event::Disk1 => (Lane::Disk1, "done"),
+            Event::Fail1 => (Lane::Disk1, "failed"),
+        };
+        let mut text = Text::of(self.alloc, word);
+        match event {
+            Event::Tick => text.number(ticks as u64),
+            Event::Key(byte) => add_character(&mut text, byte),
+            _ => {}
+        }
+        self.add(lane, Mark::Device, text);
+    }
+
+    // Adds the note of a line.
+    fn add_line(&mut self, line: &str) {
+        let mut words = line.split_whitespace();
+        let kind = words.next().unwrap_or("");
+        let first = words.next();
+        let second = words.next().unwrap_or("");
+        let process = number_of(first);
+        match kind {
+            "call" => self.add(lane_of(process), Mark::Call, call_text(self.alloc, line)),
+            "trap" => self.add_after(lane_of(process), Mark::Trap, "trap ", second),
+            "ret" => self.add_reply(process as usize, second),
+            "con" => self.add(
+                Lane::Sent,
+                Mark::Device,
+                sent(self.alloc, first.unwrap_or("")),
+            ),
+            "file" => self.add_file(process, second),
+            _ => {}
+        }
+    }
+
+    // Adds a note of a word after another.
+    fn add_after(&mut self, lane: Lane, mark: Mark, before: &str, word: &str) {
+        let mut text = Text::of(self.alloc, before);
+        text.put(word);
+        self.add(lane, mark, text);
+    }
+
+    // Adds a reply: to the call of the same process if there is one in this event, and else by itself.
+    fn add_reply(&mut self, process: usize, value: &str) {
+        for note in self.notes.iter_mut() {
+            if note.is_call_of(process) {
+                note.text.put(" = ");
+                note.text.put(value);
+                return;
+            }
+        }
+        self.add_after(Lane::Process(process), Mark::Reply, "= ", value);
+    }
+
+    // Adds what became of a call on files, to what the disk's lane says already if it does.
+    fn add_file(&mut self, process: u32, moment: &str) {
+        let mut text = Text::new(self.alloc);
+        text.numbered(" ", process as u64);
+        text.put(" ");
+        text.put(moment);
+        for note in self.notes.iter_mut() {
+            if matches!(note.lane, Lane::Disk1) {
+                return add_to_lane(&mut note.text, &text);
+            }
+        }
+        self.add(Lane::Disk1, Mark::Device, text);
+    }
+}
+
+// The lane of a process.
+fn lane_of(process: u32) -> Lane {
+    Lane::Process(process as usize)
 }
 
 // A byte as it is shown: a printable character as it is, a blank as an open box, a control character by its name or after a `^`, others in
 // hexadecimal.
-fn character(alloc: Global, byte: u8) -> Result<String, AllocError> {
+fn add_character(text: &mut Text, byte: u8) {
     match byte {
-        b' ' => String::from_str(alloc, "\u{2423}"),
-        b'!'..=b'~' => format!(in alloc; "{}", char::from(byte)),
-        b'\n' => String::from_str(alloc, "\\n"),
-        b'\r' => String::from_str(alloc, "\\r"),
-        8 => String::from_str(alloc, "\\b"),
-        1..=26 => format!(in alloc; "^{}", char::from(byte.saturating_add(64))),
-        _ => format!(in alloc; "{byte:02x}"),
+        b' ' => text.put("\u{2423}"),
+        b'!'..=b'~' => text.character(char::from(byte)),
+        b'\n' => text.put("\\n"),
+        b'\r' => text.put("\\r"),
+        8 => text.put("\\b"),
+        1..=26 => {
+            text.put("^");
+            text.character(char::from(byte.saturating_add(64)));
+        }
+        _ => text.byte(byte),
     }
-}
-
-// Adds the note of a line.
-fn add_line(alloc: Global, notes: &mut Vec<Note>, line: &str) -> Result<(), AllocError> {
-    let mut words = line.split_whitespace();
-    let kind = words.next().unwrap_or("");
-    let first = words.next();
-    let second = words.next().unwrap_or("");
-    let process = Lane::Process(number_of(first) as usize);
-    match kind {
-        "call" => add(notes, process, Mark::Call, call_text(alloc, line)?),
-        "trap" => add(
-            notes,
-            process,
-            Mark::Trap,
-            format!(in alloc; "trap {second}")?,
-        ),
-        "ret" => add_reply(alloc, notes, number_of(first) as usize, second),
-        "con" => add(notes, Lane::Sent, Mark::Device, sent(alloc, first)?),
-        "file" => add_file(alloc, notes, number_of(first), second),
-        _ => Ok(()),
-    }
-}
-
-// Adds a note.
-fn add(notes: &mut Vec<Note>, lane: Lane, mark: Mark, text: String) -> Result<(), AllocError> {
-    notes.push(Note { lane, mark, text })?;
-    Ok(())
 }
 
 // A call: its name, and its arguments if it has at most two.
-fn call_text(alloc: Global, line: &str) -> Result<String, AllocError> {
-    let mut text = String::new(alloc);
+fn call_text(alloc: Global, line: &str) -> Text {
+    let mut text = Text::new(alloc);
     let few = line.split_whitespace().count() <= 5;
     for word in line.split_whitespace().skip(2) {
         if !text.is_empty() {
             if !few {
-                return Ok(text);
+                return text;
             }
-            text.push_str(" ")?;
+            text.put(" ");
         }
-        text.push_str(word)?;
+        text.put(word);
     }
-    Ok(text)
-}
-
-// Adds a reply: to the call of the same process if there is one in this event, and else by itself.
-fn add_reply(
-    alloc: Global,
-    notes: &mut Vec<Note>,
-    process: usize,
-    value: &str,
-) -> Result<(), AllocError> {
-    for note in notes.iter_mut() {
-        if note.is_call_of(process) {
-            note.text.push_str(" = ")?;
-            return note.text.push_str(value);
-        }
-    }
-    let text = format!(in alloc; "= {value}")?;
-    add(notes, Lane::Process(process), Mark::Reply, text)
-}
-
-// Adds what became of a call on files, to what the disk's lane says already if it does.
-fn add_file(
-    alloc: Global,
-    notes: &mut Vec<Note>,
-    process: u32,
-    moment: &str,
-) -> Result<(), AllocError> {
-    let text = format!(in alloc; " {process} {moment}")?;
-    for note in notes.iter_mut() {
-        if matches!(note.lane, Lane::Disk1) {
-            return add_to_lane(&mut note.text, text.as_str());
-        }
-    }
-    add(notes, Lane::Disk1, Mark::Device, text)
+    text
 }
 
 // Adds a text to what a lane says, if it isn't long already.
-fn add_to_lane(lane: &mut String, text: &str) -> Result<(), AllocError> {
+fn add_to_lane(lane: &mut Text, text: &Text) {
     if lane.len() < LONGEST_LANE {
-        lane.push_str(text)
-    } else if lane.ends_with("..") {
-        Ok(())
-    } else {
-        lane.push_str(" ..")
+        lane.add(text);
+    } else if !lane.as_str().ends_with("..") {
+        lane.put(" ..");
     }
 }
 
@@ -164,12 +182,13 @@ pub(crate) fn are_sent(lines: &str) -> bool {
 }
 
 // The byte of a line `con`, as it is shown.
-fn sent(alloc: Global, digits: Option<&str>) -> Result<String, AllocError> {
-    let digits = digits.unwrap_or("");
+fn sent(alloc: Global, digits: &str) -> Text {
+    let mut text = Text::new(alloc);
     match u8::from_str_radix(digits, 16) {
-        Ok(byte) => character(alloc, byte),
-        Err(_) => String::from_str(alloc, digits),
+        Ok(byte) => add_character(&mut text, byte),
+        Err(_) => text.put(digits),
     }
+    text
 }
 
 impl Note {

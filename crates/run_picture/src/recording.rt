@@ -3,17 +3,17 @@
 use crate::bands::Band;
 use crate::columns::Column;
 use crate::labels::{Label, Lane, Link, Mark};
-use crate::lines::{Note, are_sent, notes_of};
+use crate::lines::{Note, Notes, are_sent, notes_of};
 use crate::rows::Row;
-use printed_runs::{ABSENT, Doing, Reader, Shown};
-use std::alloc::{AllocError, Global};
+use printed_runs::{ABSENT, Doing, Reader, Shown, Text};
+use std::alloc::Global;
 use xinu_base::{Event, State};
 
 /// From how many characters of a text on the bytes that follow it have a column of their own.
 const LONG: usize = 40;
 
 /// How the picture ends.
-#[derive(Clone, Copy, PartialEq, Eq)]
+#[derive(Clone, Copy)]
 pub enum Ending {
     /// The run goes on after the last event that is drawn.
     GoesOn,
@@ -42,10 +42,12 @@ pub struct Recording {
     /// How many events were drawn.
     drawn: u64,
     /// The tables after the last event that was looked at.
-    pub(crate) tables: String,
+    pub(crate) tables: Text,
     /// How many events since the last column changed and printed nothing, and whether all were steps.
     quiet: u64,
     are_steps: bool,
+    /// Whether memory never ran out for it.
+    pub(crate) is_whole: bool,
 }
 
 impl Recording {
@@ -63,9 +65,10 @@ impl Recording {
             band_of: [0; 64],
             reader: Reader::new(),
             drawn: 0,
-            tables: String::new(alloc),
+            tables: Text::new(alloc),
             quiet: 0,
             are_steps: true,
+            is_whole: true,
         }
     }
 
@@ -79,22 +82,25 @@ impl Recording {
         self.drawn
     }
 
+    /// Whether memory never ran out for it so far.
+    pub fn is_whole(&self) -> bool {
+        self.is_whole
+    }
+
     /// Notes the lines of an event before the picture.
     pub fn pass(&mut self, lines: &str) {
         self.reader.note(lines);
     }
 
     /// Begins the picture after the event of this number, which printed these lines, with these tables.
-    ///
-    /// # Errors
-    /// Out of memory.
-    pub fn begin(&mut self, number: u64, lines: &str, tables: &str) -> Result<(), AllocError> {
-        let column = if number == 0 {
-            Column::new(self.alloc, "start", lines)?
+    pub fn begin(&mut self, number: u64, lines: &str, tables: &str) {
+        let mut column = Column::new(self.alloc, lines);
+        if number == 0 {
+            column.name("start");
         } else {
-            Column::of_event(self.alloc, number, lines)?
-        };
-        self.add_column(column)?;
+            column.number(number);
+        }
+        self.add_column(column);
         let shown = self.reader.read(tables);
         self.change(&shown, tables, None)
     }
@@ -112,70 +118,48 @@ impl Recording {
 
     /// Draws the event of this number, which printed these lines and left these tables. An event of a disk that changed and printed nothing
     /// isn't drawn. One that only moved a byte of the console goes into the column before it, if the events of that did the same.
-    ///
-    /// # Errors
-    /// Out of memory.
-    pub fn event(
-        &mut self,
-        number: u64,
-        event: Event,
-        lines: &str,
-        tables: &str,
-    ) -> Result<(), AllocError> {
+    pub fn event(&mut self, number: u64, event: Event, lines: &str, tables: &str) {
         let is_drawn = !lines.is_empty() || matches!(event, Event::Tick | Event::Key(_));
-        if !is_drawn && tables == self.tables.as_str() {
+        if is_drawn || tables != self.tables.as_str() {
+            self.draw(number, event, lines, tables);
+        } else {
             self.quiet(event);
-            return Ok(());
         }
+    }
+
+    // Draws an event.
+    fn draw(&mut self, number: u64, event: Event, lines: &str, tables: &str) {
         self.drawn = self.drawn.saturating_add(1);
         self.pass(lines);
         let shown = self.reader.read(tables);
         let is_burst = matches!(event, Event::Key(_) | Event::Tx)
             && are_sent(lines)
             && self.shows(&shown);
-        self.place(number, lines, is_burst)?;
+        self.place(number, lines, is_burst);
         let source = self.source_of(event);
-        let notes = notes_of(self.alloc, event, lines, shown.ticks)?;
-        for note in notes {
-            self.add_note(note)?;
-        }
-        self.change(&shown, tables, Some(source))
+        self.add_notes(notes_of(self.alloc, event, lines, shown.ticks));
+        self.change(&shown, tables, Some(source));
     }
 
     /// Ends the picture.
-    ///
-    /// # Errors
-    /// Out of memory.
-    pub fn end(&mut self, ending: Ending) -> Result<(), AllocError> {
-        let waiting = self.waiting();
-        let head = match ending {
-            Ending::GoesOn => String::from_str(self.alloc, "and so on")?,
-            Ending::Done => String::from_str(self.alloc, "done: no process is left")?,
-            Ending::Panic => String::from_str(self.alloc, "panic")?,
-            Ending::Schedule => match waiting {
-                0 => String::from_str(self.alloc, "end of the schedule")?,
-                1 => String::from_str(self.alloc, "end of the schedule: 1 process waits")?,
-                _ => { format!(in self.alloc; "end of the schedule: {waiting} processes wait")? }
-            },
-        };
-        let mut column = Column::new(self.alloc, head.as_str(), "")?;
-        column.is_alarm = match ending {
-            Ending::Panic => true,
-            Ending::Schedule => waiting > 0,
-            Ending::Done | Ending::GoesOn => false,
-        };
-        self.add_column(column)
+    pub fn end(&mut self, ending: Ending) {
+        let mut column = Column::new(self.alloc, "");
+        column.end(ending, self.waiting());
+        self.add_column(column);
     }
 
     // How many processes wait for something that no tick of the clock brings.
-    fn waiting(&self) -> usize {
-        let waits = |doing: &&Doing| {
-            matches!(
+    fn waiting(&self) -> u64 {
+        let mut waiting = 0u64;
+        for doing in &self.shown {
+            if matches!(
                 doing.state,
                 State::Receiving | State::Waiting | State::Suspended
-            )
-        };
-        self.shown.iter().filter(waits).count()
+            ) {
+                waiting = waiting.saturating_add(1);
+            }
+        }
+        waiting
     }
 
     // Whether each process does what these tables show.
@@ -189,27 +173,29 @@ impl Recording {
     }
 
     // Places the event of this number in a column: in the last one if both only move bytes of the console, and else in a new one.
-    fn place(&mut self, number: u64, lines: &str, is_burst: bool) -> Result<(), AllocError> {
-        let has_room = self.has_room();
+    fn place(&mut self, number: u64, lines: &str, is_burst: bool) {
+        let has_room = is_burst && self.has_room();
         if let Some(column) = self.columns.last_mut() {
-            if let (Some(first), true) = (column.burst, is_burst && has_room) {
+            if let (Some(first), true) = (column.burst, has_room) {
+                column.join(first, number, lines);
                 self.quiet = 0;
                 self.are_steps = true;
-                return column.join(self.alloc, first, number, lines);
+                return;
             }
         }
-        let mut column = Column::of_event(self.alloc, number, lines)?;
+        let mut column = Column::new(self.alloc, lines);
+        column.number(number);
         if is_burst {
             column.burst = Some(number);
         }
-        self.add_column(column)
+        self.add_column(column);
     }
 
     // Whether no text of the last column is long.
     fn has_room(&self) -> bool {
         let last = self.column();
         for label in self.labels.as_slice() {
-            if label.column == last && label.text.chars().count() >= LONG {
+            if label.column == last && label.text.as_str().chars().count() >= LONG {
                 return false;
             }
         }
@@ -222,14 +208,17 @@ impl Recording {
     }
 
     // Adds a column after the events that changed and printed nothing.
-    fn add_column(&mut self, column: Column) -> Result<(), AllocError> {
+    fn add_column(&mut self, column: Column) {
         let mut column = column;
-        column.quiet = self.quiet;
-        column.are_steps = self.are_steps;
-        self.columns.push(column)?;
+        column.leave(self.quiet, self.are_steps);
+        self.is_whole = self.is_whole && self.columns.push(column).is_ok();
         self.quiet = 0;
         self.are_steps = true;
-        Ok(())
+    }
+
+    // Notes whether memory never ran out for something that is shown.
+    pub(crate) fn note(&mut self, is_whole: bool) {
+        self.is_whole = self.is_whole && is_whole;
     }
 
     // The lane in which an event happens.
@@ -254,40 +243,43 @@ impl Recording {
         0
     }
 
+    // Adds the notes of an event.
+    fn add_notes(&mut self, notes: Notes) {
+        self.note(notes.is_whole);
+        for note in notes.notes {
+            self.add_note(note);
+        }
+    }
+
     // Adds a note, in the row that its process has.
-    fn add_note(&mut self, note: Note) -> Result<(), AllocError> {
+    fn add_note(&mut self, note: Note) {
         let lane = match note.lane {
             Lane::Process(p) => match self.row_of.get(p) {
                 Some(row) => Lane::Process(*row),
-                None => return Ok(()),
+                None => return,
             },
             lane => lane,
         };
-        self.add_label(lane, note.mark, note.text)
+        self.add_label(lane, note.mark, note.text);
     }
 
     // Adds a label in the column that is drawn now. A byte of the console goes after those that came before it in the column.
-    pub(crate) fn add_label(
-        &mut self,
-        lane: Lane,
-        mark: Mark,
-        text: String,
-    ) -> Result<(), AllocError> {
+    pub(crate) fn add_label(&mut self, lane: Lane, mark: Mark, text: Text) {
         let column = self.column();
         if self.is_burst() {
             for label in self.labels.iter_mut() {
                 if label.column == column && label.lane == lane {
-                    return label.text.push_str(text.as_str());
+                    return label.text.add(&text);
                 }
             }
         }
-        self.labels.push(Label {
+        let label = Label {
             column,
             lane,
             mark,
             text,
-        })?;
-        Ok(())
+        };
+        self.is_whole = self.is_whole && self.labels.push(label).is_ok();
     }
 
     // Whether the column that is drawn now only moves bytes of the console.

@@ -1,8 +1,7 @@
 //! Processes that wait for each other.
 
 use crate::lives::Lives;
-use printed_runs::{Awaited, PROCESSES};
-use std::alloc::{AllocError, Global};
+use printed_runs::{Awaited, PROCESSES, Text};
 
 /// The process that took the semaphore last for which a process waits, if it waits for one itself.
 fn next(lives: &Lives, p: usize) -> Option<usize> {
@@ -34,40 +33,35 @@ fn is_lowest(lives: &Lives, p: usize) -> bool {
 }
 
 /// Tells of each circle of waiting processes, a line each.
-pub(crate) fn circles(alloc: Global, lives: &Lives) -> Result<String, AllocError> {
-    let mut text = String::new(alloc);
+pub(crate) fn add_circles(text: &mut Text, lives: &Lives) {
     for p in 1..PROCESSES {
         if is_lowest(lives, p) {
-            add_circle(alloc, &mut text, lives, p)?;
+            add_circle(text, lives, p);
         }
     }
-    Ok(text)
 }
 
 // Tells of the circle whose lowest process this is.
-fn add_circle(alloc: Global, text: &mut String, lives: &Lives, p: usize) -> Result<(), AllocError> {
-    text.push_str("They wait in a circle: ")?;
+fn add_circle(text: &mut Text, lives: &Lives, p: usize) {
     let mut at = p;
     for k in 0..PROCESSES {
         let Some(other) = next(lives, at) else {
-            return Ok(());
+            return;
         };
-        if k > 0 {
-            text.push_str("; ")?;
-        }
-        let word = lives.life(at).doing.word(alloc)?;
-        let (who, whom) = (lives.who(at)?, lives.who(other)?);
-        let line = format!(in alloc;
-            "{} waits for {}, which {} took last",
-            who.as_str(),
-            word.as_str(),
-            whom.as_str()
-        )?;
-        text.push_str(line.as_str())?;
+        text.put(if k == 0 {
+            "They wait in a circle: "
+        } else {
+            "; "
+        });
+        lives.add_who(text, at);
+        text.put(" waits for ");
+        lives.life(at).doing.add_word(text);
+        text.put(", which ");
+        lives.add_who(text, other);
+        text.put(" took last");
         if other == p {
-            return text.push_str(".\n");
+            return text.put(".\n");
         }
         at = other;
     }
-    Ok(())
 }

@@ -1,28 +1,28 @@
 //! How a run ended.
 
-use std::alloc::{AllocError, Global};
+use printed_runs::Text;
 use xinu_base::End;
 
-/// How a run ended after so many events, at this tick. The lines are those of the last event.
-pub(crate) fn ending(
-    alloc: Global,
-    end: End,
-    events: u64,
-    tick: u32,
-    lines: &str,
-) -> Result<String, AllocError> {
+/// Tells how a run ended after so many events, at this tick. The lines are those of the last event.
+pub(crate) fn add_ending(text: &mut Text, end: End, events: u64, tick: u32, lines: &str) {
+    text.put(match end {
+        End::Schedule => "The schedule ended after ",
+        End::Done => "The run was done after ",
+        End::Panic => "The kernel panicked in event ",
+    });
+    text.number(events);
+    text.put(match end {
+        End::Schedule | End::Done => " events",
+        End::Panic => "",
+    });
+    text.numbered(", at tick ", tick as u64);
     match end {
-        End::Schedule => format!(in alloc;
-            "The schedule ended after {events} events, at tick {tick}.\n"
-        ),
-        End::Done => format!(in alloc;
-            "The run was done after {events} events, at tick {tick}: no process is left.\n"
-        ),
+        End::Schedule => text.put(".\n"),
+        End::Done => text.put(": no process is left.\n"),
         End::Panic => {
-            let call = call_in(lines);
-            format!(in alloc;
-                "The kernel panicked in event {events}, at tick {tick}: call {call} found a hundred messages in all ports.\n"
-            )
+            text.put(": call ");
+            text.put(call_in(lines));
+            text.put(" found a hundred messages in all ports.\n");
         }
     }
 }

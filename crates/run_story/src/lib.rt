@@ -1,6 +1,6 @@
 //! A run told in plain English: how it ended, who is left and waits for what, and what the console showed.
 //!
-//! A [`Story`] is told each event with the lines that the machine printed for it and the tables after it. [`Story::told`] writes the text.
+//! A [`Story`] is told each event with the lines that the machine printed for it and the tables after it. [`Story::tell`] writes the text.
 //!
 //! | Call | What it does |
 //! |---|---|
@@ -8,9 +8,10 @@
 //! | [`Story::event`] | an event that printed something, or may have changed what a process does |
 //! | [`Story::quiet`] | events that did neither |
 //! | [`Story::detail`] | more is known of the last trap |
-//! | [`Story::told`] | the text, once the run has ended |
+//! | [`Story::tell`] | tells the run, once it has ended |
+//! | [`Story::add_who`] | the number and the name of a process |
 //!
-//! No call has a contract: each is safe and returns, and refuses only if memory runs out. What is told is tested.
+//! No call has a contract: each is safe and returns. If memory runs out, the text that is told isn't whole. What is told is tested.
 #![tactic(auto)]
 
 mod circles;

@@ -1,7 +1,7 @@
 //! What each process does, and since when.
 
-use printed_runs::{ABSENT, Doing, PROCESSES, Shown, made_as};
-use std::alloc::{AllocError, Global};
+use printed_runs::{ABSENT, Doing, PROCESSES, Shown, Text, made_as};
+use std::alloc::Global;
 use xinu_base::State;
 
 /// What a process does, and since when.
@@ -32,72 +32,65 @@ const NOBODY: Life = Life {
 pub(crate) struct Lives {
     alloc: Global,
     pub(crate) lives: [Life; PROCESSES],
-    names: Vec<String>,
+    names: Vec<Text>,
+    /// Whether memory never ran out for the names.
+    pub(crate) is_whole: bool,
 }
 
 impl Lives {
     /// No process lives.
     pub(crate) fn new(alloc: Global) -> Lives {
-        Lives {
+        let mut lives = Lives {
             alloc,
             lives: [NOBODY; PROCESSES],
             names: Vec::new(alloc),
+            is_whole: true,
+        };
+        for _ in 0..PROCESSES {
+            lives.add_name();
         }
+        lives
+    }
+
+    // Adds the name of no process.
+    fn add_name(&mut self) {
+        let name = Text::new(self.alloc);
+        self.is_whole = self.is_whole && self.names.push(name).is_ok();
     }
 
     /// Notes what the processes do after the event of a number.
-    pub(crate) fn change(
-        &mut self,
-        number: u64,
-        shown: &Shown,
-        tables: &str,
-    ) -> Result<(), AllocError> {
+    pub(crate) fn change(&mut self, number: u64, shown: &Shown, tables: &str) {
         for (p, doing) in shown.doings.iter().enumerate() {
-            self.change_one(p, *doing, number, shown.ticks, tables)?;
+            if self.life(p).doing != *doing {
+                self.change_one(p, *doing, number, shown.ticks, tables);
+            }
         }
-        Ok(())
     }
 
-    // Notes what the process of a number does.
-    fn change_one(
-        &mut self,
-        p: usize,
-        doing: Doing,
-        number: u64,
-        tick: u32,
-        tables: &str,
-    ) -> Result<(), AllocError> {
+    // Notes what the process of a number does now.
+    fn change_one(&mut self, p: usize, doing: Doing, number: u64, tick: u32, tables: &str) {
         let was = self.life(p);
-        if was.doing == doing {
-            return Ok(());
-        }
         if !was.doing.lives() {
-            self.name(p, tables)?;
+            self.name(p, tables);
         }
-        let is_new = !was.doing.lives();
-        let runs = matches!(doing.state, State::Current);
+        let has_run = was.has_run && was.doing.lives();
         if let Some(place) = self.lives.get_mut(p) {
             *place = Life {
                 doing,
                 since: number,
                 tick,
                 taker: None,
-                has_run: runs || (was.has_run && !is_new),
+                has_run: has_run || matches!(doing.state, State::Current),
             };
         }
-        Ok(())
     }
 
     // Notes the name of a new process.
-    fn name(&mut self, p: usize, tables: &str) -> Result<(), AllocError> {
-        for _ in self.names.len()..PROCESSES {
-            self.names.push(String::new(self.alloc))?;
-        }
-        let made = made_as(self.alloc, tables, u32::try_from(p).unwrap_or(0))?;
+    fn name(&mut self, p: usize, tables: &str) {
+        let made = made_as(self.alloc, tables, u32::try_from(p).unwrap_or(0));
         if let Some(place) = self.names.get_mut(p) {
             *place = made.name;
         }
-        Ok(())
     }
 
     /// Notes who took the semaphore last for which a process waits, if nothing was noted since it waits.
@@ -114,11 +107,14 @@ impl Lives {
         self.lives.get(p).copied().unwrap_or(NOBODY)
     }
 
-    /// The number and the name of a process, as `2 alice`.
-    pub(crate) fn who(&self, p: usize) -> Result<String, AllocError> {
-        match self.names.get(p) {
-            Some(name) if !name.is_empty() => { format!(in self.alloc; "{p} {}", name.as_str()) }
-            _ => format!(in self.alloc; "{p}"),
+    /// Adds the number and the name of a process, as `2 alice`.
+    pub(crate) fn add_who(&self, text: &mut Text, p: usize) {
+        text.number(p as u64);
+        if let Some(name) = self.names.get(p) {
+            if !name.is_empty() {
+                text.put(" ");
+                text.add(name);
+            }
         }
     }
 }

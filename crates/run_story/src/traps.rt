@@ -1,7 +1,25 @@
 //! Traps in words.
 
-/// What a cause of a trap means.
-pub(crate) fn meaning(cause: &str) -> &'static str {
+use crate::lives::Lives;
+use printed_runs::{Text, number_of};
+
+/// Tells of the trap in an event, by what its line has after `trap`: the process and the cause.
+pub(crate) fn add_trap(text: &mut Text, event: u64, lives: &Lives, rest: &str) {
+    let mut words = rest.split_whitespace();
+    let process = number_of(words.next());
+    let cause = words.next().unwrap_or("");
+    text.numbered("Trap in event ", event);
+    text.put(": ");
+    lives.add_who(text, process as usize);
+    text.put(" was ended (");
+    text.put(cause);
+    text.put("): ");
+    text.put(meaning(cause));
+    text.put(".\n");
+}
+
+// What a cause of a trap means.
+fn meaning(cause: &str) -> &'static str {
     match cause {
         "fetch" => "its pc isn't a multiple of 4, or is outside RAM",
         "illegal" => "the word at its pc isn't an instruction",
