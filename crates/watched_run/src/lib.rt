@@ -13,7 +13,7 @@
 //! | [`lines_so_far`] | `same`: the lines of the events that were taken |
 //! | [`shown`], [`thread_process`] | `shown`, `process`: the process that is looked at first, and that of a thread's number |
 //!
-//! Where a run stops is shown by sessions (`gdb_tests`); no clause says it.
+//! Where a run stops is shown by sessions (`debugger.md`); no clause says it.
 #![tactic(auto)]
 
 mod backward;

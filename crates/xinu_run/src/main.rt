@@ -67,6 +67,12 @@ fn carry_out<H: Host, R: Read, W: Write>(
         "timeline" => timeline(alloc, rest, host),
         "races" => races(alloc, rest, host),
         "gdb" => debug(alloc, rest, host, input, output),
-        _ => xinu(alloc, args, host, &mut None),
+        _ => top(alloc, args, host),
     }
+}
+
+// The status of the top call. The machine that it leaves is let go.
+fn top<H: Host>(alloc: Global, args: &[String], host: &mut H) -> u8 {
+    let mut last = None;
+    xinu(alloc, args, host, &mut last)
 }
