@@ -1,6 +1,6 @@
 //! The command: its arguments and files are read as `run` reads them, and packets are served.
 
-ghost use Rattle.std.specs.Prelude.{◌≡◌, ◌≢◌, ◌≤◌, ◌∷◌, IfOk, OnOk, codes, false, length, map, string_bytes};
+ghost use Rattle.std.specs.Prelude.{◌≡◌, ◌≢◌, ◌≤◌, ◌∷◌, IfOk, OnOk, codes, false, is_ok, length, map, string_bytes};
 ghost use Rattle.gdb_command.specs.Debugging.{BeginsRun, HasDebugged, HasServedRun, IsAsked};
 ghost use Rattle.run_inputs.specs.InputFaults.{have_fault};
 
@@ -43,12 +43,18 @@ fn carry_out<H: Host, R: Read, W: Write>(
 ) -> Result<(), Refusal>
     ensures debugs { OnOk result (HasDebugged (codes "run" ∷ map string_bytes args.now) (H.view host.old) (H.view host.new) (R.remaining input.old) (R.remaining input.new) (W.contents output.old) (W.contents output.new)) }
 {
-    let words = match words_of(alloc, args) {
-        Ok(words) => words,
-        Err(_) => return Err(Refusal::NoMemory),
-    };
-    let replay = replay_of(alloc, words.as_slice(), host)?;
+    let replay = asked(alloc, args, host)?;
     served(alloc, replay, input, output)
+}
+
+// The run that the arguments of the command `run` ask for, before its first event.
+fn asked<H: Host>(alloc: Global, args: &[String], host: &mut H) -> Result<Replay, Refusal>
+    ensures asked { IfOk result (λ r. IsAsked (codes "run" ∷ map string_bytes args.now) (H.view host.old) (H.view host.new) r) }
+{
+    match words_of(alloc, args) {
+        Ok(words) => replay_of(alloc, words.as_slice(), host),
+        Err(_) => Err(Refusal::NoMemory),
+    }
 }
 
 // The run that the words of the command `run` ask for, before its first event.
@@ -83,7 +89,15 @@ fn served<R: Read, W: Write>(
     ensures serves { OnOk result (HasServedRun replay (R.remaining input.old) (R.remaining input.new) (W.contents output.old) (W.contents output.new)) }
 {
     let mut session = Session::new(alloc, replay);
-    match serve(alloc, &mut session, input, output) {
+    let ended = serve(alloc, &mut session, input, output);
+    or_refused(ended)
+}
+
+// How serving ended: a fault is the cause of a refusal.
+fn or_refused(ended: Result<(), HostFault>) -> Result<(), Refusal>
+    ensures goes { is_ok result ≡ is_ok ended }
+{
+    match ended {
         Ok(()) => Ok(()),
         Err(HostFault::Failed) => Err(Refusal::HostFault),
         Err(HostFault::NoMemory) => Err(Refusal::NoMemory),

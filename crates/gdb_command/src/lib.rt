@@ -10,7 +10,7 @@
 //! | [`debug`] | `debugs`: at status 0, what was written answers what was read, piece by piece, by a run of the inputs that `run` would fetch |
 //!
 //! Which packets end the session, where the run stops, and what is told of a stop are shown by sessions (`debugger.md`); no clause says it.
-#![tactic(auto, using(replayed_run::proofs::SameRuns::again, replayed_run::proofs::SameRuns::still))]
+#![tactic(auto)]
 
 mod command;
 mod looking;

@@ -23,6 +23,7 @@ impl Session {
     ///
     /// # Errors
     /// Out of memory; `Failed` if an event printed something else when it was taken before.
+    #[tactic(auto, using(replayed_run::proofs::SameRuns::again, replayed_run::proofs::SameRuns::still))]
     pub(crate) fn monitor(&mut self, payload: &[u8], out: &mut Vec<u8>) -> Result<(), HostFault>
         ensures same { OnOk result (IsSameRun self.old.run.replay self.new.run.replay) }
         ensures monitors { OnOk result (IsMonitored self.old self.new payload.now out.old.items out.new.items) }
@@ -40,6 +41,7 @@ impl Session {
     }
 
     // Appends what is asked for by these words.
+    #[tactic(auto, using(replayed_run::proofs::SameRuns::again, replayed_run::proofs::SameRuns::still))]
     fn say(&mut self, words: &[u8], out: &mut Vec<u8>) -> Result<(), HostFault>
         ensures same { OnOk result (IsSameRun self.old.run.replay self.new.run.replay) }
         ensures event { OnOk result (words.now ≡ codes "event" → IsSaid self.old self.new (event_text self.old.run.replay) out.old.items out.new.items) }
@@ -57,6 +59,7 @@ impl Session {
     }
 
     // Goes to where so many events were taken, and says where the run stands.
+    #[tactic(auto, using(replayed_run::proofs::SameRuns::again, replayed_run::proofs::SameRuns::still))]
     fn go_to(&mut self, count: u32, out: &mut Vec<u8>) -> Result<(), HostFault>
         ensures same { OnOk result (IsSameRun self.old.run.replay self.new.run.replay) }
     {
@@ -77,6 +80,7 @@ impl Session {
     }
 
     // Shows the lines of the events that were taken.
+    #[tactic(auto, using(replayed_run::proofs::SameRuns::again, replayed_run::proofs::SameRuns::still))]
     fn say_transcript(&mut self, out: &mut Vec<u8>) -> Result<(), HostFault>
         ensures same { OnOk result (IsSameRun self.old.run.replay self.new.run.replay) }
     {

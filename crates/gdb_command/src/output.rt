@@ -1,6 +1,6 @@
 //! Packets for the debugger's console.
 
-ghost use Rattle.std.specs.Prelude.{◌≡◌, ◌++◌, IfOk, OnOk};
+ghost use Rattle.std.specs.Prelude.{◌≡◌, IfOk, OnOk};
 ghost use Rattle.gdb_command.specs.Console as console;
 ghost use Rattle.gdb_command.specs.Console.{Shows, ShowsDigits};
 

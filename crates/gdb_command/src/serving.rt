@@ -1,8 +1,8 @@
 //! The streams of a session: packets are read, and what is answered is written.
 
-ghost use Rattle.std.specs.Prelude.{◌++◌, ◌≡◌, ◌≤◌, OnOk, IfOk, [], length};
+ghost use Rattle.std.specs.Prelude.{OnOk, IfOk};
 ghost use Rattle.gdb_command.specs.Reads.{HasReadOnce, HasServedStreams, ReadsMore};
-ghost use Rattle.std.specs.Io.KnownBytes.{Appends, Consumes};
+ghost use Rattle.std.specs.Io.KnownBytes.{Appends};
 
 use crate::session::Session;
 use host_port::HostFault;

@@ -95,6 +95,7 @@ impl Session {
     }
 
     // Does what a packet asks for that doesn't look.
+    #[tactic(auto, using(replayed_run::proofs::SameRuns::again, replayed_run::proofs::SameRuns::still))]
     fn serve(
         &mut self,
         command: Command,
@@ -122,6 +123,7 @@ impl Session {
     }
 
     // Moves the run, or what the session looks at.
+    #[tactic(auto, using(replayed_run::proofs::SameRuns::again, replayed_run::proofs::SameRuns::still))]
     fn act(&mut self, command: Command, out: &mut Vec<u8>) -> Result<(), HostFault>
         ensures same { OnOk result (IsSameRun self.old.run.replay self.new.run.replay) }
     {
@@ -143,6 +145,7 @@ impl Session {
     }
 
     // Moves the run.
+    #[tactic(auto, using(replayed_run::proofs::SameRuns::again, replayed_run::proofs::SameRuns::still))]
     fn move_run(&mut self, command: Command, out: &mut Vec<u8>) -> Result<(), HostFault>
         ensures same { OnOk result (IsSameRun self.old.run.replay self.new.run.replay) }
     {
@@ -203,6 +206,7 @@ impl Session {
     }
 
     // Goes on, and tells why it stopped.
+    #[tactic(auto, using(replayed_run::proofs::SameRuns::again, replayed_run::proofs::SameRuns::still))]
     fn forward(&mut self, goal: &Goal, out: &mut Vec<u8>) -> Result<(), HostFault>
         ensures same { OnOk result (IsSameRun self.old.run.replay self.new.run.replay) }
     {
@@ -213,6 +217,7 @@ impl Session {
     }
 
     // Goes back, and tells why it stopped.
+    #[tactic(auto, using(replayed_run::proofs::SameRuns::again, replayed_run::proofs::SameRuns::still))]
     fn back(&mut self, goal: &Goal, out: &mut Vec<u8>) -> Result<(), HostFault>
         ensures same { OnOk result (IsSameRun self.old.run.replay self.new.run.replay) }
     {

@@ -1,6 +1,6 @@
 //! The units of the input: packets, which are obeyed, and the answers to packets.
 
-ghost use Rattle.std.specs.Prelude.{◌≡◌, ◌++◌, [], OnOk, IfOk, IfSome};
+ghost use Rattle.std.specs.Prelude.{◌≡◌, ◌++◌, [], OnOk, IfOk};
 ghost use Rattle.gdb_command.specs.Serving.{IsServed, IsTaken, SendsMore, ServesSome, acknowledgement};
 ghost use Rattle.gdb_packets.specs.SeenUnits.{seen};
 ghost use Rattle.gdb_packets.specs.Units as units;
