@@ -3,9 +3,8 @@
 use crate::places::add_function;
 use crate::sights::Sight;
 use machine::KernelState;
-use replayed_run::Replay;
+use printed_runs::Text;
 use rv_isa::rd;
-use std::alloc::{AllocError, Global};
 
 /// The most functions that are named.
 const MOST_NAMED: u32 = 8;
@@ -14,48 +13,28 @@ const MOST_WORDS: u32 = 16_384;
 
 /// Adds a line for each word of a stack, from the stack pointer on, that may be where a call returns to: an address in a function of the
 /// files, after an instruction that calls. There are at most eight. What the stack kept from earlier calls looks the same.
-///
-/// # Errors
-/// Out of memory.
-pub(crate) fn add_callers(
-    alloc: Global,
-    text: &mut String,
-    replay: &Replay,
-    seen: &Sight,
-) -> Result<(), AllocError> {
-    add_callers_in(alloc, text, replay.state(), seen, replay.files())
-}
-
-// The same of a state.
-fn add_callers_in(
-    alloc: Global,
-    text: &mut String,
-    k: &KernelState,
-    seen: &Sight,
-    files: &[Vec<u8>],
-) -> Result<(), AllocError> {
+pub(crate) fn add_callers(text: &mut Text, k: &KernelState, seen: &Sight, files: &[Vec<u8>]) {
     let (low, end) = seen.stack;
     let mut address = seen.hart.regs[2];
     if address < low {
-        return Ok(());
+        return;
     }
     let mut named = 0u32;
     for _ in 0..MOST_WORDS {
         if address >= end || named >= MOST_NAMED {
-            return Ok(());
+            return;
         }
         let word = k.ram.read32(address).unwrap_or(0);
         if comes_after_call(k, word) {
             let before = text.len();
-            add_function(alloc, text, "on its stack: ", files, word)?;
+            add_function(text, "on its stack: ", files, word);
             if text.len() > before {
-                text.push_str("\n")?;
+                text.put("\n");
                 named = named.saturating_add(1);
             }
         }
         address = address.saturating_add(4);
     }
-    Ok(())
 }
 
 // Whether the instruction before an address is a call: `jal` or `jalr` that keeps the place after it in ra.

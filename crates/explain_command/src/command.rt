@@ -6,7 +6,7 @@ ghost use Rattle.run_inputs.specs.InputFaults.{have_fault};
 use crate::faults::meaning;
 use crate::running::tell;
 use crate::traces::tell_mistake;
-use crate::words::{Listed, words_of};
+use crate::words::{Listed, read_words};
 use host_port::{Channel, Host};
 use replayed_run::Replay;
 use run_inputs::{Inputs, Refusal, fetch_run, refuse};
@@ -22,7 +22,7 @@ pub fn explain<H: Host>(alloc: Global, args: &[String], host: &mut H) -> u8 {
         Ok(status) => status,
         Err(refusal) => {
             let status = refuse(refusal, host);
-            if let Ok(words) = meaning(alloc, refusal) {
+            if let Ok(words) = meaning(alloc, refusal).whole() {
                 let _ = host.emit(Channel::Fault, words.as_bytes());
             }
             status
@@ -32,16 +32,27 @@ pub fn explain<H: Host>(alloc: Global, args: &[String], host: &mut H) -> u8 {
 
 // Carries the command out.
 fn carry_out<H: Host>(alloc: Global, args: &[String], host: &mut H) -> Result<u8, Refusal> {
-    let words = match words_of(alloc, args) {
-        Ok(Some(words)) => words,
+    let mut run = Vec::new(alloc);
+    tell_run(alloc, args, &mut run, host)
+}
+
+// Carries the command out, with a list for the arguments of the run.
+fn tell_run<H: Host>(
+    alloc: Global,
+    args: &[String],
+    run: &mut Vec<String>,
+    host: &mut H,
+) -> Result<u8, Refusal> {
+    let options = match read_words(alloc, args, run) {
+        Ok(Some(options)) => options,
         Ok(None) => return Err(Refusal::Usage),
         Err(_) => return Err(Refusal::NoMemory),
     };
-    let inputs = fetch_run(alloc, words.run.as_slice(), host)?;
-    if let Some(name) = &words.trace {
-        return tell_mistake(alloc, inputs, name.as_str(), host);
+    let inputs = fetch_run(alloc, run.as_slice(), host)?;
+    if let Some(name) = options.trace {
+        return tell_mistake(alloc, inputs, name, host);
     }
-    let text = told(alloc, inputs, words.listed)?;
+    let text = told(alloc, inputs, options.listed())?;
     host.emit(Channel::Out, text.as_bytes())?;
     Ok(0)
 }
@@ -54,5 +65,8 @@ fn told(alloc: Global, inputs: Inputs, listed: Listed) -> Result<String, Refusal
     requires events { length inputs.schedule ≤ 1000000000 }
 {
     let mut replay = Replay::new(alloc, inputs)?;
-    Ok(tell(alloc, &mut replay, listed)?)
+    match tell(alloc, &mut replay, listed) {
+        Ok(text) => Ok(text),
+        Err(fault) => Err(Refusal::from(fault)),
+    }
 }

@@ -1,38 +1,66 @@
 //! Refusals in words.
 
+use printed_runs::Text;
 use run_inputs::Refusal;
-use std::alloc::{AllocError, Global};
+use std::alloc::Global;
 
 /// What a refusal means, as a line; nothing for one whose own text says it.
-pub(crate) fn meaning(alloc: Global, refusal: Refusal) -> Result<String, AllocError> {
+pub(crate) fn meaning(alloc: Global, refusal: Refusal) -> Text {
+    let mut text = Text::new(alloc);
     match refusal {
-        Refusal::Usage => String::from_str(
-            alloc,
+        Refusal::Usage => text.put(
             "the words are [--steps A..B | --trace FILE] --schedule FILE [--disk0 FILE] [--disk1 FILE] IMAGE ..\n",
         ),
-        Refusal::Image { image, fault } => {
-            let why = image_fault(fault);
-            format!(in alloc; "image {image}: {why}\n")
-        }
-        Refusal::Schedule(0) => String::from_str(alloc, "the schedule has over 4194304 bytes\n"),
-        Refusal::Schedule(line) => format!(in alloc;
-            "line {line} of the schedule isn't one of its forms, or asks for too many events; a comment has a line of its own\n"
+        Refusal::Image { image, fault } => add(
+            &mut text,
+            "image ",
+            image as u64,
+            ": ",
+            image_fault(fault),
         ),
-        Refusal::Disk { disk: 0, .. } => {
-            String::from_str(alloc, "disk 0 isn't 8 to 65536 blocks of 512 bytes\n")
-        }
+        Refusal::Schedule(0) => text.put("the schedule has over 4194304 bytes\n"),
+        Refusal::Schedule(line) => add(
+            &mut text,
+            "line ",
+            line as u64,
+            " of the schedule isn't one of its forms, or asks for too many events; a comment has a line of its own",
+            "",
+        ),
+        Refusal::Disk { disk: 0, .. } => text.put("disk 0 isn't 8 to 65536 blocks of 512 bytes\n"),
         Refusal::Disk { block, rule, .. } => {
-            let why = disk_rule(rule);
-            format!(in alloc; "disk 1, block {block}: {why}\n")
+            add(
+                &mut text,
+                "disk 1, block ",
+                block as u64,
+                ": ",
+                disk_rule(rule),
+            );
         }
-        Refusal::Overlap(image) => format!(in alloc;
-            "image {image} lies where an earlier one does: link it to another place\n"
+        Refusal::Overlap(image) => add(
+            &mut text,
+            "image ",
+            image as u64,
+            " lies where an earlier one does: link it to another place",
+            "",
         ),
-        Refusal::NoRoom(image) => format!(in alloc;
-            "the heap after the images has no room for the stack of image {image}\n"
+        Refusal::NoRoom(image) => add(
+            &mut text,
+            "the heap after the images has no room for the stack of image ",
+            image as u64,
+            "",
+            "",
         ),
-        _ => Ok(String::new(alloc)),
+        _ => {}
     }
+    text
+}
+
+// Adds a line with a number in it.
+fn add(text: &mut Text, before: &str, number: u64, after: &str, why: &str) {
+    text.numbered(before, number);
+    text.put(after);
+    text.put(why);
+    text.put("\n");
 }
 
 // What is wrong with an image file.

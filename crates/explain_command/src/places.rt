@@ -1,31 +1,20 @@
 //! Places in functions.
 
 use elf_symbols::{Place, function_at};
-use std::alloc::{AllocError, Global};
+use printed_runs::Text;
 use std::str;
 use xinu_base::RAM_SIZE;
 
 /// Adds the function in which an address is, after some words, if it is in one of a file's functions. None is after the end of
 /// RAM.
-///
-/// # Errors
-/// Out of memory.
-pub(crate) fn add_function(
-    alloc: Global,
-    text: &mut String,
-    words: &str,
-    files: &[Vec<u8>],
-    address: u32,
-) -> Result<(), AllocError> {
-    if address >= RAM_SIZE {
-        return Ok(());
+pub(crate) fn add_function(text: &mut Text, words: &str, files: &[Vec<u8>], address: u32) {
+    if address < RAM_SIZE {
+        if let Some(place) = nearest(files, address) {
+            text.put(words);
+            text.put(shown(place.name));
+            text.numbered("+", place.offset as u64);
+        }
     }
-    if let Some(place) = nearest(files, address) {
-        let name = shown(place.name);
-        let line = format!(in alloc; "{words}{name}+{}", place.offset)?;
-        text.push_str(line.as_str())?;
-    }
-    Ok(())
 }
 
 // The function that begins nearest before an address, of all files.

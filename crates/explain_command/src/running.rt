@@ -24,8 +24,13 @@ pub(crate) fn tell(
     listed: Listed,
 ) -> Result<String, HostFault> {
     let mut telling = Telling::new(alloc, listed);
-    telling.story.begin(tables(replay)?.lines())?;
-    let end = take_events(replay, &mut telling)?;
+    tell_run(replay, &mut telling)
+}
+
+// The same, with nothing told so far.
+fn tell_run(replay: &mut Replay, telling: &mut Telling) -> Result<String, HostFault> {
+    telling.story.begin(tables(replay)?.lines());
+    let end = take_events(replay, telling)?;
     Ok(telling.text(end)?)
 }
 
@@ -57,15 +62,15 @@ fn take_event(replay: &mut Replay, event: Event, telling: &mut Telling) -> Resul
     let taken = take(replay)?;
     let lines = taken.lines();
     if is_listed {
-        telling.list(replay, event, &seen, lines)?;
+        telling.list(replay, event, &seen, lines);
     }
     if Story::needs_tables(event, lines) {
-        telling.story.event(event, lines, tables(replay)?.lines())?;
+        telling.story.event(event, lines, tables(replay)?.lines());
     } else {
         telling.story.quiet(1);
     }
     if lines.starts_with("trap ") {
-        telling.trap(replay, &seen)?;
+        telling.trap(replay, &seen);
     }
     Ok(taken.go)
 }

@@ -4,10 +4,11 @@ ghost use Rattle.std.specs.Prelude.{◌≡◌, ◌+◌};
 
 use crate::callers::add_callers;
 use crate::changes::changes_of;
-use crate::listing::list_event;
+use crate::listing::{add_changes, name_of};
 use crate::sights::Sight;
-use crate::traps::trap_text;
+use crate::traps::{add_place, add_trap};
 use crate::words::Listed;
+use printed_runs::Text;
 use replayed_run::Replay;
 use run_story::Story;
 use std::alloc::{AllocError, Global};
@@ -18,7 +19,7 @@ use xinu_base::{End, Event};
 pub(crate) struct Telling {
     alloc: Global,
     pub(crate) story: Story,
-    listing: String,
+    listing: Text,
     listed: Listed,
 }
 
@@ -28,7 +29,7 @@ impl Telling {
         Telling {
             alloc,
             story: Story::new(alloc),
-            listing: String::new(alloc),
+            listing: Text::new(alloc),
             listed,
         }
     }
@@ -38,51 +39,45 @@ impl Telling {
         self.listed.has(number_after(taken))
     }
 
-    /// Lists an event that was just taken and printed these lines, by what was seen ahead of it.
-    ///
-    /// # Errors
-    /// Out of memory.
-    pub(crate) fn list(
-        &mut self,
-        replay: &Replay,
-        event: Event,
-        seen: &Sight,
-        lines: &str,
-    ) -> Result<(), AllocError> {
-        let number = number_after(seen.taken);
-        let head = format!(in self.alloc; "event {number}: ")?;
-        self.listing.push_str(head.as_str())?;
-        let who = self.story.who(seen.process.index())?;
-        let changes = changes_of(replay, seen);
-        let files = replay.files();
-        let line = list_event(self.alloc, event, who.as_str(), seen, &changes, files)?;
-        self.listing.push_str(line.as_str())?;
-        for line in lines.lines() {
-            self.listing.push_str("    ")?;
-            self.listing.push_str(line)?;
-            self.listing.push_str("\n")?;
+    /// Lists an event that was just taken and printed these lines, by what was seen ahead of it: of a step the process, by its number and
+    /// name, its place, its instruction and what that changed; of another event its name.
+    pub(crate) fn list(&mut self, replay: &Replay, event: Event, seen: &Sight, lines: &str) {
+        let text = &mut self.listing;
+        text.numbered("event ", number_after(seen.taken));
+        text.put(": ");
+        if matches!(event, Event::Step) {
+            self.story.add_who(text, seen.process.index());
+            text.put(", ");
+            add_place(text, seen, replay.files());
+            add_changes(text, &changes_of(replay, seen));
+        } else {
+            text.put(name_of(event));
         }
-        Ok(())
+        text.put("\n");
+        for line in lines.lines() {
+            text.put("    ");
+            text.put(line);
+            text.put("\n");
+        }
     }
 
     /// Tells where the process was that was trapped in the last event.
-    ///
-    /// # Errors
-    /// Out of memory.
-    pub(crate) fn trap(&mut self, replay: &Replay, seen: &Sight) -> Result<(), AllocError> {
-        let mut text = trap_text(self.alloc, seen, replay.files())?;
-        add_callers(self.alloc, &mut text, replay, seen)?;
-        self.story.detail(text.as_str())
+    pub(crate) fn trap(&mut self, replay: &Replay, seen: &Sight) {
+        let mut text = Text::new(self.alloc);
+        add_trap(&mut text, seen, replay.files());
+        add_callers(&mut text, replay.state(), seen, replay.files());
+        self.story.detail(&text);
     }
 
     /// The list, and the story after it, if the run ended so.
     ///
     /// # Errors
-    /// Out of memory.
+    /// Out of memory, also if it ran out before.
     pub(crate) fn text(&self, end: End) -> Result<String, AllocError> {
-        let mut text = String::from_str(self.alloc, self.listing.as_str())?;
-        text.push_str(self.story.told(end)?.as_str())?;
-        Ok(text)
+        let mut text = Text::new(self.alloc);
+        text.add(&self.listing);
+        self.story.tell(&mut text, end);
+        text.whole()
     }
 }
 

@@ -6,9 +6,10 @@ ghost use Rattle.given_disks.specs.Disks.{disks_of};
 ghost use Rattle.run_inputs.specs.InputFaults.{have_fault};
 
 use crate::listing::name_of;
-use host_port::{Channel, Host, HostFault};
+use host_port::{Channel, Host};
+use printed_runs::Text;
 use run_inputs::{Inputs, Refusal, images_of};
-use std::alloc::{AllocError, Global};
+use std::alloc::Global;
 use trace_places::{Mistake, Moment, NoStart, find_mistake};
 use transcript::render;
 use xinu_base::Event;
@@ -33,21 +34,32 @@ pub(crate) fn tell_mistake<H: Host>(
     requires events { length inputs.schedule ≤ 1000000000 }
 {
     let trace = host.fetch(alloc, name, LONGEST_TRACE)?;
+    compare(alloc, inputs, trace.as_slice(), host)
+}
+
+// The same of the trace in the file.
+fn compare<H: Host>(
+    alloc: Global,
+    inputs: Inputs,
+    trace: &[u8],
+    host: &mut H,
+) -> Result<u8, Refusal>
+    requires few { length inputs.images.items ≤ 8 }
+    requires good { have_fault (map (λ v. v.items) inputs.images.items) ≡ false }
+    requires events { length inputs.schedule ≤ 1000000000 }
+{
     if trace.len() > LONGEST_TRACE {
         return Err(Refusal::TraceTooLong);
     }
-    match mistake_in(alloc, inputs, trace.as_slice()) {
-        Err(refusal) => Err(refusal),
-        Ok(None) => {
-            host.emit(Channel::Out, b"yes\n")?;
-            Ok(0)
-        }
-        Ok(Some(mistake)) => {
-            let text = told(alloc, trace.as_slice(), &mistake)?;
-            host.emit(Channel::Out, text.as_bytes())?;
-            Ok(10)
-        }
-    }
+    let Some(mistake) = mistake_in(alloc, inputs, trace)? else {
+        host.emit(Channel::Out, b"yes\n")?;
+        return Ok(0);
+    };
+    let Ok(text) = told(alloc, trace, &mistake).whole() else {
+        return Err(Refusal::NoMemory);
+    };
+    host.emit(Channel::Out, text.as_bytes())?;
+    Ok(10)
 }
 
 // Where a text goes wrong that should be the transcript of a run of the inputs.
@@ -94,21 +106,22 @@ fn start_refusal(fault: NoStart) -> Refusal {
 }
 
 // The line that tells a mistake.
-fn told(alloc: Global, trace: &[u8], mistake: &Mistake<'_>) -> Result<String, HostFault> {
+fn told(alloc: Global, trace: &[u8], mistake: &Mistake<'_>) -> Text {
     let number = line_number(trace, mistake.left);
-    let mut text = format!(in alloc; "line {number}: the text ")?;
-    add_found(alloc, &mut text, mistake.left)?;
+    let mut text = Text::new(alloc);
+    text.numbered("line ", number);
+    text.put(": the text ");
+    add_found(&mut text, mistake.left);
     match &mistake.due {
-        None => text.push_str("; the run has ended")?,
+        None => text.put("; the run has ended"),
         Some(due) => {
-            text.push_str("; a run has ")?;
-            let line = render(due);
-            add_quoted(alloc, &mut text, line.bytes())?;
-            add_moment(alloc, &mut text, number, &mistake.moment)?;
+            text.put("; a run has ");
+            add_quoted(&mut text, render(due).bytes());
+            add_moment(&mut text, number, &mistake.moment);
         }
     }
-    text.push_str("\n")?;
-    Ok(text)
+    text.put("\n");
+    text
 }
 
 // The number of the line with which the rest of a text begins, counted from 1.
@@ -124,62 +137,53 @@ fn line_number(text: &[u8], rest: &[u8]) -> u64 {
 }
 
 // Adds what a text has: a line, one without a line feed, or nothing.
-fn add_found(alloc: Global, text: &mut String, rest: &[u8]) -> Result<(), AllocError> {
+fn add_found(text: &mut Text, rest: &[u8]) {
     if rest.is_empty() {
-        return text.push_str("ends");
+        return text.put("ends");
     }
-    text.push_str("has ")?;
-    add_quoted(alloc, text, rest)?;
+    text.put("has ");
+    add_quoted(text, rest);
     if !rest.contains(&b'\n') {
-        text.push_str(" without a line feed")?;
+        text.put(" without a line feed");
     }
-    Ok(())
 }
 
 // Adds the first line of bytes in quotes, cut after some bytes. For a byte that isn't a printable character of ASCII there is `?`.
-fn add_quoted(alloc: Global, text: &mut String, bytes: &[u8]) -> Result<(), AllocError> {
-    text.push_str("\"")?;
+fn add_quoted(text: &mut Text, bytes: &[u8]) {
+    text.put("\"");
     let mut count = 0usize;
     for byte in bytes {
         if *byte == b'\n' {
             break;
         }
         if count == MOST_SHOWN {
-            text.push_str("..")?;
+            text.put("..");
             break;
         }
         let is_shown = 32 <= *byte && *byte < 127;
-        text.push(if is_shown { *byte as char } else { '?' })?;
+        text.character(if is_shown { *byte as char } else { '?' });
         count = count.saturating_add(1);
     }
-    text.push_str("\"")
+    text.put("\"");
 }
 
 // Adds when a run prints the line that is due.
-fn add_moment(
-    alloc: Global,
-    text: &mut String,
-    line: u64,
-    moment: &Option<Moment>,
-) -> Result<(), AllocError> {
-    let Some(moment) = moment else {
-        let when = if line == 1 {
-            " (before the first event)"
-        } else {
-            " (after the last event)"
-        };
-        return text.push_str(when);
-    };
-    let number = moment.number;
-    let words = match moment.event {
-        Event::Step => {
-            let process = moment.process.index();
-            format!(in alloc; " (event {number}, a step of process {process})")?
+fn add_moment(text: &mut Text, line: u64, moment: &Option<Moment>) {
+    match moment {
+        None if line == 1 => text.put(" (before the first event)"),
+        None => text.put(" (after the last event)"),
+        Some(moment) => {
+            text.numbered(" (event ", moment.number);
+            match moment.event {
+                Event::Step => {
+                    text.numbered(", a step of process ", moment.process.index() as u64);
+                }
+                event => {
+                    text.put(", ");
+                    text.put(name_of(event));
+                }
+            }
+            text.put(")");
         }
-        event => {
-            let name = name_of(event);
-            format!(in alloc; " (event {number}, {name})")?
-        }
-    };
-    text.push_str(words.as_str())
+    }
 }

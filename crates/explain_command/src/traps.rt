@@ -2,49 +2,43 @@
 
 use crate::places::{add_function, shown};
 use crate::sights::{Sight, place_line, register_line};
+use printed_runs::Text;
 use rv_disasm::disassembled;
-use std::alloc::{AllocError, Global};
 
-/// The lines that tell where a process was that is trapped in its next step. The images were read from these files.
-pub(crate) fn trap_text(
-    alloc: Global,
-    seen: &Sight,
-    files: &[Vec<u8>],
-) -> Result<String, AllocError> {
-    let pc = seen.hart.pc;
-    let mut text = String::from_str(alloc, shown(place_line(pc).bytes()))?;
-    add_function(alloc, &mut text, ", ", files, pc)?;
-    if let Some(word) = seen.word {
-        text.push_str(": ")?;
-        text.push_str(shown(disassembled(word, pc).bytes()))?;
-    }
-    text.push_str("\n")?;
-    add_function(
-        alloc,
-        &mut text,
-        "its function returns to ",
-        files,
-        seen.hart.regs[1],
-    )?;
-    if !text.ends_with("\n") {
-        text.push_str("\n")?;
+/// Adds the lines that tell where a process was that is trapped in its next step. The images were read from these files.
+pub(crate) fn add_trap(text: &mut Text, seen: &Sight, files: &[Vec<u8>]) {
+    add_place(text, seen, files);
+    text.put("\n");
+    let words = "its function returns to ";
+    add_function(text, words, files, seen.hart.regs[1]);
+    if !text.as_str().ends_with("\n") {
+        text.put("\n");
     }
     for first in [0, 4, 8, 12, 16, 20, 24, 28] {
-        text.push_str(shown(register_line(&seen.hart, first).bytes()))?;
-        text.push_str("\n")?;
+        text.put(shown(register_line(&seen.hart, first).bytes()));
+        text.put("\n");
     }
-    add_stack(alloc, &mut text, seen)?;
-    Ok(text)
+    add_stack(text, seen);
+}
+
+/// Adds the place of a process, and the instruction there.
+pub(crate) fn add_place(text: &mut Text, seen: &Sight, files: &[Vec<u8>]) {
+    let pc = seen.hart.pc;
+    text.put(shown(place_line(pc).bytes()));
+    add_function(text, ", ", files, pc);
+    if let Some(word) = seen.word {
+        text.put(": ");
+        text.put(shown(disassembled(word, pc).bytes()));
+    }
 }
 
 // Says so if the stack pointer is outside the process's stack.
-fn add_stack(alloc: Global, text: &mut String, seen: &Sight) -> Result<(), AllocError> {
+fn add_stack(text: &mut Text, seen: &Sight) {
     let sp = seen.hart.regs[2];
     let (low, end) = seen.stack;
-    if low <= sp && sp <= end {
-        return Ok(());
+    if sp < low || end < sp {
+        let size = end.saturating_sub(low);
+        text.numbered("sp is outside the stack, which has ", size as u64);
+        text.put(" bytes\n");
     }
-    let size = end.saturating_sub(low);
-    let line = format!(in alloc; "sp is outside the stack, which has {size} bytes\n")?;
-    text.push_str(line.as_str())
 }

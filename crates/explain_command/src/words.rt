@@ -20,15 +20,6 @@ impl Listed {
     }
 }
 
-/// The arguments: those of the command `run`, with its name before them; the events that are listed; and the file of a trace, if one is
-/// named, which is compared in place of the story.
-#[derive(Drop)]
-pub(crate) struct Words {
-    pub(crate) run: Vec<String>,
-    pub(crate) listed: Listed,
-    pub(crate) trace: Option<String>,
-}
-
 /// No event is listed.
 const NONE: Listed = Listed { first: 1, last: 0 };
 
@@ -39,81 +30,96 @@ enum Choice {
     Trace,
 }
 
-/// What was read so far.
-#[derive(Drop)]
-struct Reader {
-    run: Vec<String>,
+/// The options of the command that were read so far.
+#[derive(Clone, Copy)]
+pub(crate) struct Options<'a> {
     listed: Option<Listed>,
-    trace: Option<String>,
+    /// The file of a trace, if one is named, which is compared in place of the story.
+    pub(crate) trace: Option<&'a str>,
     /// The option whose value comes next.
     due: Option<Choice>,
     /// Whether `--` was read, after which no argument is an option.
     is_past: bool,
 }
 
-/// The arguments after the program's name. There are none if `--steps` or `--trace` is given twice, if both are given, if `--steps` has no
-/// value `A..B` of two numbers from 1 to 1000000000, of which the second isn't below the first, and at most 10000 events, or if `--trace` has
-/// no name.
-pub(crate) fn words_of(alloc: Global, args: &[String]) -> Result<Option<Words>, AllocError> {
-    let mut reader = Reader {
-        run: Vec::new(alloc),
+/// Reads the arguments after the program's name: those of the command `run` are added, after its name. There are no options if `--steps` or
+/// `--trace` is given twice, if both are given, if `--steps` has no value `A..B` of two numbers from 1 to 1000000000, of which the second isn't
+/// below the first, and at most 10000 events, or if `--trace` has no name.
+///
+/// # Errors
+/// Out of memory.
+pub(crate) fn read_words<'a>(
+    alloc: Global,
+    args: &'a [String],
+    run: &mut Vec<String>,
+) -> Result<Option<Options<'a>>, AllocError> {
+    let mut options = Options {
         listed: None,
         trace: None,
         due: None,
         is_past: false,
     };
-    reader.run.push(String::from_str(alloc, "run")?)?;
+    add_word(alloc, run, "run")?;
     for arg in args {
-        if !reader.read(alloc, arg.as_str())? {
-            return Ok(None);
+        match options.read(arg.as_str()) {
+            Some(true) => {}
+            Some(false) => add_word(alloc, run, arg.as_str())?,
+            None => return Ok(None),
         }
     }
-    if reader.due.is_some() || (reader.listed.is_some() && reader.trace.is_some()) {
+    if options.due.is_some() || (options.listed.is_some() && options.trace.is_some()) {
         return Ok(None);
     }
-    let listed = reader.listed.unwrap_or(NONE);
-    Ok(Some(Words {
-        run: reader.run,
-        listed,
-        trace: reader.trace,
-    }))
+    Ok(Some(options))
 }
 
-impl Reader {
-    // Reads an argument. Whether it is a good one.
-    fn read(&mut self, alloc: Global, arg: &str) -> Result<bool, AllocError> {
-        if let Some(choice) = self.due {
-            self.due = None;
-            return self.choose(alloc, choice, arg);
-        }
-        if !self.is_past {
-            if let Some(choice) = option_in(arg) {
-                self.due = Some(choice);
-                return Ok(true);
-            }
-            if let Some((choice, value)) = option_with_value(arg) {
-                return self.choose(alloc, choice, value);
-            }
-            self.is_past = arg == "--";
-        }
-        self.run.push(String::from_str(alloc, arg)?)?;
-        Ok(true)
+// Adds an argument of the command `run`.
+fn add_word(alloc: Global, run: &mut Vec<String>, word: &str) -> Result<(), AllocError> {
+    run.push(String::from_str(alloc, word)?)?;
+    Ok(())
+}
+
+impl<'a> Options<'a> {
+    /// The events that are listed.
+    pub(crate) fn listed(&self) -> Listed {
+        self.listed.unwrap_or(NONE)
     }
 
-    // Takes the value of an option. Whether it is a good one, and the first.
-    fn choose(&mut self, alloc: Global, choice: Choice, value: &str) -> Result<bool, AllocError> {
-        match choice {
+    // Reads an argument, if it is a good one. Whether it is one of this command.
+    fn read(&mut self, arg: &'a str) -> Option<bool> {
+        if let Some(choice) = self.due {
+            self.due = None;
+            return self.choose(choice, arg);
+        }
+        if self.is_past {
+            return Some(false);
+        }
+        self.due = option_in(arg);
+        if self.due.is_some() {
+            return Some(true);
+        }
+        if let Some((choice, value)) = option_with_value(arg) {
+            return self.choose(choice, value);
+        }
+        self.is_past = arg == "--";
+        Some(false)
+    }
+
+    // Takes the value of an option, if it is a good one, and the first.
+    fn choose(&mut self, choice: Choice, value: &'a str) -> Option<bool> {
+        let is_good = match choice {
             Choice::Steps => {
                 let is_first = self.listed.is_none();
                 self.listed = listed_in(value);
-                Ok(is_first && self.listed.is_some())
+                is_first && self.listed.is_some()
             }
             Choice::Trace => {
                 let is_first = self.trace.is_none();
-                self.trace = Some(String::from_str(alloc, value)?);
-                Ok(is_first && !value.is_empty())
+                self.trace = Some(value);
+                is_first && !value.is_empty()
             }
-        }
+        };
+        if is_good { Some(true) } else { None }
     }
 }
 

@@ -25,7 +25,7 @@
 //!
 //! A line of `$ picture` is an event, with each text that the picture has there and the row in which it is. A line of `$ gdb` that begins
 //! with `> ` is what a packet says; after `!` it is sent as it stands, and one unit answers it; after `~` likewise, and nothing answers it.
-//! What is shown on the debugger's console is printed as text after `shows`, with `|` for the end of a line.
+//! `*` and a number send a packet of so many bytes that has no end, and one unit answers it. What is shown on the debugger's console is printed as text after `shows`, with `|` for the end of a line.
 //!
 //! An argument `''` has no bytes. What `$ failing` prints is told too if it isn't the beginning of what is printed if no call fails.
 //!

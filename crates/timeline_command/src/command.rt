@@ -1,7 +1,7 @@
 //! The command: its arguments and files are read as `run` reads them, and the picture is drawn.
 
 use crate::drawing::picture_of;
-use crate::words::words_of;
+use crate::words::read_words;
 use host_port::{Channel, Host};
 use run_inputs::{Refusal, fetch_run, refuse};
 use std::alloc::Global;
@@ -19,14 +19,24 @@ pub fn timeline<H: Host>(alloc: Global, args: &[String], host: &mut H) -> u8 {
 
 // Carries the command out.
 fn carry_out<H: Host>(alloc: Global, args: &[String], host: &mut H) -> Result<(), Refusal> {
-    let words = match words_of(alloc, args) {
-        Ok(Some(words)) => words,
+    let mut run = Vec::new(alloc);
+    draw_run(alloc, args, &mut run, host)
+}
+
+// Carries the command out, with a list for the arguments of the run.
+fn draw_run<H: Host>(
+    alloc: Global,
+    args: &[String],
+    run: &mut Vec<String>,
+    host: &mut H,
+) -> Result<(), Refusal> {
+    let options = match read_words(alloc, args, run) {
+        Ok(Some(options)) => options,
         Ok(None) => return Err(Refusal::Usage),
         Err(_) => return Err(Refusal::NoMemory),
     };
-    let inputs = fetch_run(alloc, words.run.as_slice(), host)?;
-    let title = words.title.as_ref().map(|title| title.as_str());
-    let picture = picture_of(alloc, inputs, words.part, title)?;
+    let inputs = fetch_run(alloc, run.as_slice(), host)?;
+    let picture = picture_of(alloc, inputs, options.part(), options.title)?;
     host.emit(Channel::Out, picture.as_bytes())?;
     Ok(())
 }

@@ -48,10 +48,24 @@ fn draw(
     requires few { machine.old.events + length schedule.old ≤ 1000000000 }
 {
     let mut drawing = Drawing::new(alloc, part);
+    draw_run(alloc, machine, schedule, &mut drawing, title)
+}
+
+// The same, with nothing drawn so far.
+fn draw_run(
+    alloc: Global,
+    machine: &mut Machine,
+    schedule: &mut Schedule,
+    drawing: &mut Drawing,
+    title: Option<&str>,
+) -> Result<String, HostFault>
+    requires over { machine.old.over ≡ false }
+    requires few { machine.old.events + length schedule.old ≤ 1000000000 }
+{
     let first = start(alloc, machine)?;
-    drawing.begin(first.lines(), tables(alloc, machine)?.lines())?;
-    let ending = take_events(alloc, machine, schedule, &mut drawing)?;
-    drawing.finish(tables(alloc, machine)?.lines(), ending)?;
+    drawing.begin(first.lines(), tables(alloc, machine)?.lines());
+    let ending = take_events(alloc, machine, schedule, drawing)?;
+    drawing.finish(tables(alloc, machine)?.lines(), ending);
     Ok(drawing.picture(title)?)
 }
 
@@ -73,7 +87,7 @@ fn take_events(
         let taken = take(alloc, machine, event)?;
         let lines = taken.lines();
         if drawing.needs_tables(event, lines) {
-            drawing.event(event, lines, tables(alloc, machine)?.lines())?;
+            drawing.event(event, lines, tables(alloc, machine)?.lines());
         } else {
             drawing.quiet(event, lines);
         }

@@ -1,6 +1,7 @@
 //! A picture of a part of a run while the events of the whole run are taken.
 
 use crate::words::Part;
+use printed_runs::Text;
 use run_picture::{Ending, Recording};
 use std::alloc::{AllocError, Global};
 use xinu_base::Event;
@@ -27,16 +28,15 @@ impl Drawing {
     }
 
     /// The run starts with these lines and tables.
-    pub(crate) fn begin(&mut self, lines: &str, tables: &str) -> Result<(), AllocError> {
+    pub(crate) fn begin(&mut self, lines: &str, tables: &str) {
         if self.part.from <= 1 {
-            self.recording.begin(0, lines, tables)?;
+            self.recording.begin(0, lines, tables);
         }
-        Ok(())
     }
 
-    /// Whether as many events are drawn as are to be.
+    /// Whether as many events are drawn as are to be, or memory ran out.
     pub(crate) fn is_full(&self) -> bool {
-        self.recording.drawn() >= self.part.most
+        self.recording.drawn() >= self.part.most || !self.recording.is_whole()
     }
 
     /// Whether an event with these lines is told with the tables after it: the last one before the part, and those in it that may be drawn.
@@ -50,18 +50,13 @@ impl Drawing {
     }
 
     /// An event was taken that is told with the tables after it.
-    pub(crate) fn event(
-        &mut self,
-        event: Event,
-        lines: &str,
-        tables: &str,
-    ) -> Result<(), AllocError> {
+    pub(crate) fn event(&mut self, event: Event, lines: &str, tables: &str) {
         self.taken = self.taken.saturating_add(1);
         if self.taken >= self.part.from {
-            self.recording.event(self.taken, event, lines, tables)
+            self.recording.event(self.taken, event, lines, tables);
         } else {
             self.recording.pass(lines);
-            self.recording.begin(self.taken, lines, tables)
+            self.recording.begin(self.taken, lines, tables);
         }
     }
 
@@ -76,18 +71,21 @@ impl Drawing {
     }
 
     /// The run ended so, with these tables, or goes on after the part.
-    pub(crate) fn finish(&mut self, tables: &str, ending: Ending) -> Result<(), AllocError> {
+    pub(crate) fn finish(&mut self, tables: &str, ending: Ending) {
         if !self.recording.has_begun() {
-            self.recording.begin(self.taken, "", tables)?;
+            self.recording.begin(self.taken, "", tables);
         }
-        self.recording.end(ending)
+        self.recording.end(ending);
     }
 
     /// The picture, with this title, or *Who ran when*.
+    ///
+    /// # Errors
+    /// Out of memory, also if it ran out before.
     pub(crate) fn picture(&self, title: Option<&str>) -> Result<String, AllocError> {
-        let from = self.part.from.min(self.taken);
-        let title = title.unwrap_or("Who ran when");
-        let heading = format!(in self.alloc; "{title}: events {from} to {}", self.taken)?;
-        self.recording.picture(heading.as_str())
+        let mut heading = Text::of(self.alloc, title.unwrap_or("Who ran when"));
+        heading.numbered(": events ", self.part.from.min(self.taken));
+        heading.numbered(" to ", self.taken);
+        self.recording.picture(&heading)
     }
 }

@@ -17,14 +17,6 @@ pub(crate) struct Part {
     pub(crate) most: u64,
 }
 
-/// The arguments: those of the command `run`, with its name before them, the part that is drawn, and the title if one is given.
-#[derive(Drop)]
-pub(crate) struct Words {
-    pub(crate) run: Vec<String>,
-    pub(crate) part: Part,
-    pub(crate) title: Option<String>,
-}
-
 /// An option of the picture.
 #[derive(Clone, Copy)]
 enum Choice {
@@ -33,91 +25,105 @@ enum Choice {
     Title,
 }
 
-/// What was read so far.
-#[derive(Drop)]
-struct Reader {
-    run: Vec<String>,
+/// The options of the picture that were read so far.
+#[derive(Clone, Copy)]
+pub(crate) struct Options<'a> {
     from: Option<u64>,
     most: Option<u64>,
-    title: Option<String>,
+    pub(crate) title: Option<&'a str>,
     /// The option whose value comes next.
     due: Option<Choice>,
     /// Whether `--` was read, after which no argument is an option.
     is_past: bool,
 }
 
-/// The arguments after the program's name. There are none if an option of the picture is given twice, or without a value in its range: a
-/// number from 1 to 1000000000 for `--from`, from 1 to 2000 for `--events`, and 1 to 90 bytes for `--title`.
-pub(crate) fn words_of(alloc: Global, args: &[String]) -> Result<Option<Words>, AllocError> {
-    let mut reader = Reader {
-        run: Vec::new(alloc),
+/// Reads the arguments after the program's name: those of the command `run` are added, after its name. There are no options if one is given
+/// twice, or without a value in its range: a number from 1 to 1000000000 for `--from`, from 1 to 2000 for `--events`, and 1 to 90 bytes for
+/// `--title`.
+///
+/// # Errors
+/// Out of memory.
+pub(crate) fn read_words<'a>(
+    alloc: Global,
+    args: &'a [String],
+    run: &mut Vec<String>,
+) -> Result<Option<Options<'a>>, AllocError> {
+    let mut options = Options {
         from: None,
         most: None,
         title: None,
         due: None,
         is_past: false,
     };
-    reader.run.push(String::from_str(alloc, "run")?)?;
+    add_word(alloc, run, "run")?;
     for arg in args {
-        if !reader.read(alloc, arg.as_str())? {
-            return Ok(None);
+        match options.read(arg.as_str()) {
+            Some(true) => {}
+            Some(false) => add_word(alloc, run, arg.as_str())?,
+            None => return Ok(None),
         }
     }
-    if reader.due.is_some() {
+    if options.due.is_some() {
         return Ok(None);
     }
-    let part = Part {
-        from: reader.from.unwrap_or(1),
-        most: reader.most.unwrap_or(MOST_DRAWN),
-    };
-    Ok(Some(Words {
-        run: reader.run,
-        part,
-        title: reader.title,
-    }))
+    Ok(Some(options))
 }
 
-impl Reader {
-    // Reads an argument. Whether it is a good one.
-    fn read(&mut self, alloc: Global, arg: &str) -> Result<bool, AllocError> {
-        if let Some(choice) = self.due {
-            self.due = None;
-            return self.choose(alloc, choice, arg);
+// Adds an argument of the command `run`.
+fn add_word(alloc: Global, run: &mut Vec<String>, word: &str) -> Result<(), AllocError> {
+    run.push(String::from_str(alloc, word)?)?;
+    Ok(())
+}
+
+impl<'a> Options<'a> {
+    /// Which part is drawn.
+    pub(crate) fn part(&self) -> Part {
+        Part {
+            from: self.from.unwrap_or(1),
+            most: self.most.unwrap_or(MOST_DRAWN),
         }
-        if !self.is_past {
-            if let Some(choice) = option_in(arg) {
-                self.due = Some(choice);
-                return Ok(true);
-            }
-            if let Some((choice, value)) = option_with_value(arg) {
-                return self.choose(alloc, choice, value);
-            }
-            self.is_past = arg == "--";
-        }
-        self.run.push(String::from_str(alloc, arg)?)?;
-        Ok(true)
     }
 
-    // Takes the value of an option. Whether it is a good one, and the first.
-    fn choose(&mut self, alloc: Global, choice: Choice, value: &str) -> Result<bool, AllocError> {
-        match choice {
-            Choice::From => {
-                let is_first = self.from.is_none();
-                self.from = number(value, MOST_EVENTS);
-                Ok(is_first && self.from.is_some())
-            }
-            Choice::Events => {
-                let is_first = self.most.is_none();
-                self.most = number(value, MOST_DRAWN);
-                Ok(is_first && self.most.is_some())
-            }
+    // Reads an argument, if it is a good one. Whether it is one of the picture.
+    fn read(&mut self, arg: &'a str) -> Option<bool> {
+        if let Some(choice) = self.due {
+            self.due = None;
+            return self.choose(choice, arg);
+        }
+        if self.is_past {
+            return Some(false);
+        }
+        self.due = option_in(arg);
+        if self.due.is_some() {
+            return Some(true);
+        }
+        if let Some((choice, value)) = option_with_value(arg) {
+            return self.choose(choice, value);
+        }
+        self.is_past = arg == "--";
+        Some(false)
+    }
+
+    // Takes the value of an option, if it is a good one, and the first.
+    fn choose(&mut self, choice: Choice, value: &'a str) -> Option<bool> {
+        let is_good = match choice {
+            Choice::From => take_first(&mut self.from, number(value, MOST_EVENTS)),
+            Choice::Events => take_first(&mut self.most, number(value, MOST_DRAWN)),
             Choice::Title => {
                 let is_first = self.title.is_none();
-                self.title = Some(String::from_str(alloc, value)?);
-                Ok(is_first && !value.is_empty() && value.len() <= LONGEST_TITLE)
+                self.title = Some(value);
+                is_first && !value.is_empty() && value.len() <= LONGEST_TITLE
             }
-        }
+        };
+        if is_good { Some(true) } else { None }
     }
+}
+
+// Takes a number, if there is one, and none was taken before.
+fn take_first(place: &mut Option<u64>, number: Option<u64>) -> bool {
+    let is_first = place.is_none();
+    *place = number;
+    is_first && number.is_some()
 }
 
 // The option of the picture that an argument names, whose value is the next argument.
