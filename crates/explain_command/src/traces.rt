@@ -51,15 +51,20 @@ fn compare<H: Host>(
     if trace.len() > LONGEST_TRACE {
         return Err(Refusal::TraceTooLong);
     }
-    let Some(mistake) = mistake_in(alloc, inputs, trace)? else {
-        host.emit(Channel::Out, b"yes\n")?;
-        return Ok(0);
-    };
-    let Ok(text) = told(alloc, trace, &mistake).whole() else {
-        return Err(Refusal::NoMemory);
-    };
-    host.emit(Channel::Out, text.as_bytes())?;
-    Ok(10)
+    match mistake_in(alloc, inputs, trace) {
+        Err(refusal) => Err(refusal),
+        Ok(None) => {
+            host.emit(Channel::Out, b"yes\n")?;
+            Ok(0)
+        }
+        Ok(Some(mistake)) => {
+            let Ok(text) = told(alloc, trace, &mistake).whole() else {
+                return Err(Refusal::NoMemory);
+            };
+            host.emit(Channel::Out, text.as_bytes())?;
+            Ok(10)
+        }
+    }
 }
 
 // Where a text goes wrong that should be the transcript of a run of the inputs.

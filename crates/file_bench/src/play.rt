@@ -56,7 +56,11 @@ impl Trial {
     /// # Errors
     ///
     /// `Stuck` if there is no disk of so many blocks; `NoMemory` out of memory.
-    pub(crate) fn on_empty_disk(alloc: Global, blocks: u32, readings: Readings) -> Result<Trial, Trouble> {
+    pub(crate) fn on_empty_disk(
+        alloc: Global,
+        blocks: u32,
+        readings: Readings,
+    ) -> Result<Trial, Trouble> {
         if blocks < 14 || blocks > 65_542 {
             return Err(Trouble::Stuck);
         }
@@ -74,7 +78,12 @@ impl Trial {
     }
 
     /// Plays so many calls of a script.
-    pub(crate) fn play(&mut self, alloc: Global, script: &mut Script, calls: u32) -> Result<(), Trouble> {
+    pub(crate) fn play(
+        &mut self,
+        alloc: Global,
+        script: &mut Script,
+        calls: u32,
+    ) -> Result<(), Trouble> {
         for _ in 0..calls {
             let call = script.next_call(&self.plain);
             let bytes = script.bytes(alloc, &call)?;
@@ -87,7 +96,12 @@ impl Trial {
     ///
     /// While the call is in hand, all files but its own are read off the disk as they were; once it is done the disk is clean and has the
     /// files of the list.
-    pub(crate) fn call(&mut self, alloc: Global, call: &FileCall, bytes: &[u8]) -> Result<i32, Trouble> {
+    pub(crate) fn call(
+        &mut self,
+        alloc: Global,
+        call: &FileCall,
+        bytes: &[u8],
+    ) -> Result<i32, Trouble> {
         let most = self.plain.most_turns(call, bytes.len());
         let name = self.plain.name_in(call);
         if !self.served.begin(call, bytes) {

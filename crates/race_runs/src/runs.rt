@@ -67,11 +67,7 @@ pub fn run_on(
 }
 
 // Runs a machine through these events.
-fn run_machine(
-    alloc: Global,
-    machine: &mut Machine,
-    events: &[Event],
-) -> Result<Outcome, NoMemory>
+fn run_machine(alloc: Global, machine: &mut Machine, events: &[Event]) -> Result<Outcome, NoMemory>
     requires over { machine.old.over ≡ false }
     requires few { machine.old.events + length events.now ≤ 1000000000 }
     ensures comes { IfOk result (λ o. ComesTo machine.old.state events.now o) }

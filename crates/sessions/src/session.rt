@@ -190,7 +190,10 @@ impl Session {
             }
         }
         let status = run_xinu(self.alloc, args, host);
-        let (out, fault) = (host.quiet.sent(Channel::Out), host.quiet.sent(Channel::Fault));
+        let (out, fault) = (
+            host.quiet.sent(Channel::Out),
+            host.quiet.sent(Channel::Fault),
+        );
         Ok(printed(self.alloc, "full", "", out, fault, status)?)
     }
 
