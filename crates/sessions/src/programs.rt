@@ -37,17 +37,23 @@ pub(crate) fn run(
 
 /// The status of the top call; or 255, which none has, if it doesn't leave a machine exactly if it did a run or a soak test.
 pub(crate) fn run_xinu(alloc: Global, args: &[String], host: &mut impl Host) -> u8 {
-    let mut last = None;
-    let status = xinu(alloc, args, host, &mut last);
     let runs = match args {
         [word, ..] => word.as_str() == "run" || word.as_str() == "soak",
         [] => false,
     };
-    if last.is_some() == (status == 0 && runs) {
+    let (status, leaves_machine) = called(alloc, args, host);
+    if leaves_machine == (status == 0 && runs) {
         status
     } else {
         255
     }
+}
+
+// What the top call answers, and whether it leaves a machine. A machine is a large value, so no other function has one.
+fn called(alloc: Global, args: &[String], host: &mut impl Host) -> (u8, bool) {
+    let mut last = None;
+    let status = xinu(alloc, args, host, &mut last);
+    (status, last.is_some())
 }
 
 // Lets a debugger send what the lines send.
