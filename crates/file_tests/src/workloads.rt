@@ -25,7 +25,9 @@ const BEFORE: usize = 36;
 
 #[test]
 fn the_number_0_gives_getpid_first(rt: HostRuntime) -> Result<(), Fail> {
-    let file = program_file(rt.alloc(), 1, &mut Draws::new(0))?;
+    let Ok(file) = program_file(rt.alloc(), 1, &mut Draws::new(0)) else {
+        return Err(Fail::from("no memory"));
+    };
     for (k, word) in FIRST.iter().enumerate() {
         let at = BEFORE + 4 * k;
         assert_eq!(rt;
@@ -41,7 +43,9 @@ fn lines_are_counted_by_their_first_words(rt: HostRuntime) -> Result<(), Fail> {
     let mut tally = Tally::new();
     tally.add(b"run 1\ncall 1 getpid\nret 1 1\n");
     tally.add(b"con 61\nconsole cooked 0 0 0 0 run\nend schedule\n");
-    let line = tally.summary(rt.alloc(), 7, 4, End::Schedule)?;
+    let Ok(line) = tally.summary(rt.alloc(), 7, 4, End::Schedule) else {
+        return Err(Fail::from("no memory"));
+    };
     let counted = "soak 7 events 4 calls 1 rets 1 switches 1 con 1 end schedule\n";
     assert_eq!(rt; line.as_str(), counted);
     Ok(())

@@ -5,6 +5,7 @@ use rv_hart::Cause::{Break, Illegal, Load, Store, Target};
 use rv_hart::Outcome::{self, Call, Trap, Went};
 use rv_hart::{Hart, Ram, step};
 use std::process::Abort;
+use std::test::Fail;
 
 /// An instruction at 0, x5 and x6; what comes of it, and x7 and the pc after it.
 type Row = (u32, u32, u32, Outcome, u32, u32);
@@ -91,10 +92,13 @@ fn check(rt: &impl Abort, ram: &mut Ram, rows: &[Row]) {
 }
 
 #[test]
-fn instructions_do_what_the_manual_says(rt: HostRuntime) {
-    let mut ram = Ram::new(rt.alloc()).expect(&rt, "memory");
+fn instructions_do_what_the_manual_says(rt: HostRuntime) -> Result<(), Fail> {
+    let Ok(mut ram) = Ram::new(rt.alloc()) else {
+        return Err(Fail::from("no memory"));
+    };
     ram.write32(0x1000, 0x8000_0180);
     check(&rt, &mut ram, &VALUES);
     check(&rt, &mut ram, &MEMORY);
     check(&rt, &mut ram, &OTHERS);
+    Ok(())
 }
