@@ -12,7 +12,6 @@ use std::marker::Model;
 use xinu_base::{NoMemory, Sem};
 
 /// A buffer pool, or a place for one, which has no buffers.
-#[derive(Drop)]
 pub(crate) struct Pool {
     // The address of its memory.
     base: u32,
@@ -24,6 +23,18 @@ pub(crate) struct Pool {
     semaphore: Sem,
     // The addresses of the free buffers, the one that was freed last at the end.
     free: Vec<u32>,
+}
+
+impl Drop for Pool {
+    fn drop(self) {
+        let Pool {
+            base: _base,
+            size: _size,
+            number: _number,
+            semaphore: _semaphore,
+            free: _free,
+        } = self;
+    }
 }
 
 impl Model for Pool {

@@ -13,12 +13,17 @@ use std::marker::Model;
 use xinu_base::{NoMemory, PoolId, Sem};
 
 /// The buffer pools.
-#[derive(Drop)]
 pub struct Pools {
     // A place for each pool, the made ones first.
     pools: Vec<Pool>,
     // How many are made.
     made: usize,
+}
+
+impl Drop for Pools {
+    fn drop(self) {
+        let Pools { pools: _pools, made: _made } = self;
+    }
 }
 
 impl Model for Pools {

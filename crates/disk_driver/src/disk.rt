@@ -18,11 +18,16 @@ use xinu_base::{Pid, SYSERR};
 const OK: i32 = 0;
 
 /// The raw disk.
-#[derive(Drop)]
 pub struct Disk {
     blocks: Blocks,
     // The requests, each for a block that there is and with bytes in RAM.
     requests: Requests,
+}
+
+impl Drop for Disk {
+    fn drop(self) {
+        let Disk { blocks: _blocks, requests: _requests } = self;
+    }
 }
 
 impl Model for Disk {

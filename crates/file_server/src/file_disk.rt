@@ -26,13 +26,18 @@ use std::marker::Model;
 use xinu_base::NoMemory;
 
 /// The engine, the bytes of the disk, and the disk as it was when the call in hand began.
-#[derive(Drop)]
 pub(crate) struct FileDisk {
     files: Files,
     disk: Vec<u8>,
     settled: Vec<u8>,
     // The blocks in which these two may differ.
     written: Written,
+}
+
+impl Drop for FileDisk {
+    fn drop(self) {
+        let FileDisk { files: _files, disk: _disk, settled: _settled, written: _written } = self;
+    }
 }
 
 impl Model for FileDisk {

@@ -22,13 +22,18 @@ use std::marker::Model;
 use xinu_base::{FileMoment, NoMemory, Pid};
 
 /// The calls on files under way, and the disk.
-#[derive(Drop)]
 pub struct FileServer {
     disk: FileDisk,
     // The calls in their order; the first has begun, and waits for a block.
     requests: Requests,
     // How many good completions the first has had.
     turns: u32,
+}
+
+impl Drop for FileServer {
+    fn drop(self) {
+        let FileServer { disk: _disk, requests: _requests, turns: _turns } = self;
+    }
 }
 
 impl Model for FileServer {

@@ -11,12 +11,17 @@ use std::marker::Model;
 use xinu_base::NoMemory;
 
 /// The heap. Its records of free blocks are outside of the machine's RAM.
-#[derive(Drop)]
 pub struct Heap {
     // The address of its first cell.
     low: u32,
     // Its cells.
     cells: FreeList,
+}
+
+impl Drop for Heap {
+    fn drop(self) {
+        let Heap { low: _low, cells: _cells } = self;
+    }
 }
 
 impl Model for Heap {

@@ -7,12 +7,22 @@ use xinu_base::NoMemory;
 
 /// Files and channels in memory. A call of [`Host`] fails if its number was given to [`MemoryHost::fail_call`], and a
 /// `fetch` fails too if no file of that name was added.
-#[derive(Drop)]
 pub struct MemoryHost {
     quiet: QuietMemoryHost,
     failing: Vec<u64>,
     calls_made: u64,
     faults: u64,
+}
+
+impl Drop for MemoryHost {
+    fn drop(self) {
+        let MemoryHost {
+            quiet: _quiet,
+            failing: _failing,
+            calls_made: _calls_made,
+            faults: _faults,
+        } = self;
+    }
 }
 
 impl MemoryHost {

@@ -8,7 +8,6 @@ use std::collections::BTreeMap;
 use xinu_base::NoMemory;
 
 /// Files and channels in memory. Every name is a file, empty until it is added, and a call fails only if memory runs out.
-#[derive(Drop)]
 pub struct QuietMemoryHost {
     alloc: Global,
     files: BTreeMap<String, Vec<u8>>,
@@ -18,6 +17,21 @@ pub struct QuietMemoryHost {
     disk1: Vec<u8>,
     image: Vec<u8>,
     calls: Vec<RecordedCall>,
+}
+
+impl Drop for QuietMemoryHost {
+    fn drop(self) {
+        let QuietMemoryHost {
+            alloc: _alloc,
+            files: _files,
+            out: _out,
+            fault: _fault,
+            disk0: _disk0,
+            disk1: _disk1,
+            image: _image,
+            calls: _calls,
+        } = self;
+    }
 }
 
 impl QuietMemoryHost {

@@ -29,7 +29,6 @@ use tty_driver::Tty;
 use xinu_base::{Call, Next, Pid, Rest};
 
 /// The state. A clause sees the abstract machine's inside an event, `call`, and the bytes of the disk with files, `image`.
-#[derive(Drop)]
 pub struct KernelState {
     /// The tables.
     pub tables: KernelTables,
@@ -55,6 +54,25 @@ pub struct KernelState {
     pub replies: Replies,
     /// Whether a resched is owed at the end of the event.
     pub owes_resched: bool,
+}
+
+impl Drop for KernelState {
+    fn drop(self) {
+        let KernelState {
+            tables: _tables,
+            harts: _harts,
+            ram: _ram,
+            heap: _heap,
+            pools: _pools,
+            ports: _ports,
+            tty: _tty,
+            disk: _disk,
+            names: _names,
+            files: _files,
+            replies: _replies,
+            owes_resched: _owes_resched,
+        } = self;
+    }
 }
 
 impl Model for KernelState {

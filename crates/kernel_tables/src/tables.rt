@@ -20,7 +20,6 @@ use std::marker::Model;
 use xinu_base::{NoMemory, Pid, Rest, State};
 
 /// The tables. A clause sees those of the abstract machine.
-#[derive(Drop)]
 pub struct KernelTables {
     /// The ready list, the waiters of each semaphore, and the sleepers.
     pub(crate) lists: Lists,
@@ -32,6 +31,18 @@ pub struct KernelTables {
     pub(crate) slots: Slots,
     /// The ticks since the start.
     pub(crate) clock: Clock,
+}
+
+impl Drop for KernelTables {
+    fn drop(self) {
+        let KernelTables {
+            lists: _lists,
+            procs: _procs,
+            sems: _sems,
+            slots: _slots,
+            clock: _clock,
+        } = self;
+    }
 }
 
 impl Model for KernelTables {

@@ -173,7 +173,6 @@ pub enum Phase {
 }
 
 /// The engine.
-#[derive(Drop)]
 pub struct Files {
     pub blocks: u32,
     pub devices: [Option<OpenFile>; 6],
@@ -199,4 +198,28 @@ pub struct Files {
     pub given: u32,
     /// The bytes that a call puts or takes.
     pub buffer: Buffer,
+}
+
+impl Drop for Files {
+    fn drop(self) {
+        let Files {
+            blocks: _blocks,
+            devices: _devices,
+            phase: _phase,
+            call: _call,
+            slot: _slot,
+            entry: _entry,
+            header: _header,
+            block: _block,
+            index: _index,
+            at: _at,
+            reached: _reached,
+            freed: _freed,
+            position: _position,
+            total: _total,
+            done: _done,
+            given: _given,
+            buffer: _buffer,
+        } = self;
+    }
 }

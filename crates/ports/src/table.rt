@@ -34,7 +34,6 @@ pub struct PortEntry {
 }
 
 /// The ports.
-#[derive(Drop)]
 pub struct Ports {
     // The entries, by number.
     pub(crate) entries: [PortEntry; 30],
@@ -42,6 +41,12 @@ pub struct Ports {
     pub(crate) nodes: MessageNodes,
     // The port at which the next search begins.
     pub(crate) next: Port,
+}
+
+impl Drop for Ports {
+    fn drop(self) {
+        let Ports { entries: _entries, nodes: _nodes, next: _next } = self;
+    }
 }
 
 impl Model for Ports {

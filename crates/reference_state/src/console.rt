@@ -4,7 +4,6 @@ use std::marker::Model;
 use xinu_base::{Item, TtyMode};
 
 /// The console: its mode, what was received, and what it will send. The first of each list is first.
-#[derive(Drop)]
 pub struct Console {
     /// How it treats characters.
     pub mode: TtyMode,
@@ -20,6 +19,20 @@ pub struct Console {
     pub output: Vec<u8>,
     /// The bytes of echo.
     pub echo: Vec<u8>,
+}
+
+impl Drop for Console {
+    fn drop(self) {
+        let Console {
+            mode: _mode,
+            echoes: _echoes,
+            is_held: _is_held,
+            committed: _committed,
+            line: _line,
+            output: _output,
+            echo: _echo,
+        } = self;
+    }
 }
 
 impl Model for Console {

@@ -43,7 +43,6 @@ impl Model for OpenFile {
 }
 
 /// The number of blocks of the disk, the files in the order of their names, and what each device has open.
-#[derive(Drop)]
 pub struct FileSystem {
     /// How many blocks the disk has.
     pub blocks: u32,
@@ -51,6 +50,12 @@ pub struct FileSystem {
     pub files: Vec<StoredFile>,
     /// What each device has open, the first file device first.
     pub devices: Vec<Option<OpenFile>>,
+}
+
+impl Drop for FileSystem {
+    fn drop(self) {
+        let FileSystem { blocks: _blocks, files: _files, devices: _devices } = self;
+    }
 }
 
 impl Model for FileSystem {
@@ -87,7 +92,6 @@ pub enum FileCall {
 }
 
 /// A call on files that was made: who made it, unless that was killed; the call; and the address of its bytes.
-#[derive(Drop)]
 pub struct FileRequest {
     /// Who made it.
     pub caller: Option<Pid>,
@@ -95,6 +99,12 @@ pub struct FileRequest {
     pub call: FileCall,
     /// The address of its bytes in RAM.
     pub at: u32,
+}
+
+impl Drop for FileRequest {
+    fn drop(self) {
+        let FileRequest { caller: _caller, call: _call, at: _at } = self;
+    }
 }
 
 impl Model for FileRequest {
@@ -107,7 +117,6 @@ impl Model for FileRequest {
 }
 
 /// The file system, and the calls under way: of the first, how many good completions of the disk it has had, and the bytes of its write.
-#[derive(Drop)]
 pub struct FileWork {
     /// The file system.
     pub system: FileSystem,
@@ -117,6 +126,12 @@ pub struct FileWork {
     pub turns: u32,
     /// The bytes of its write.
     pub bytes: Vec<u8>,
+}
+
+impl Drop for FileWork {
+    fn drop(self) {
+        let FileWork { system: _system, calls: _calls, turns: _turns, bytes: _bytes } = self;
+    }
 }
 
 impl Model for FileWork {

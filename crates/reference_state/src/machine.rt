@@ -23,7 +23,6 @@ use std::marker::Model;
 use xinu_base::{NoMemory, Pid, Process, Rest, Sem, State};
 
 /// The machine inside an event: its state, part by part, the replies to released processes so far, and whether a resched is owed.
-#[derive(Drop)]
 pub struct Machine {
     /// The tables.
     pub tables: Tables,
@@ -51,6 +50,26 @@ pub struct Machine {
     pub released: Vec<(Pid, i32)>,
     /// Whether a resched is owed.
     pub owes_resched: bool,
+}
+
+impl Drop for Machine {
+    fn drop(self) {
+        let Machine {
+            tables: _tables,
+            harts: _harts,
+            memory: _memory,
+            heap: _heap,
+            pools: _pools,
+            ports: _ports,
+            next_port: _next_port,
+            console: _console,
+            names: _names,
+            disk: _disk,
+            files: _files,
+            released: _released,
+            owes_resched: _owes_resched,
+        } = self;
+    }
 }
 
 impl Model for Machine {

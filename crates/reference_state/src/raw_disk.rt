@@ -30,12 +30,17 @@ impl Model for Request {
 }
 
 /// The raw disk: its blocks, of which there are at most 2147483647, and the requests in their order.
-#[derive(Drop)]
 pub struct RawDisk {
     /// The blocks.
     pub blocks: Vec<Bytes>,
     /// The requests.
     pub requests: Vec<Request>,
+}
+
+impl Drop for RawDisk {
+    fn drop(self) {
+        let RawDisk { blocks: _blocks, requests: _requests } = self;
+    }
 }
 
 impl Model for RawDisk {

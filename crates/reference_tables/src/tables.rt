@@ -22,7 +22,6 @@ pub enum Place {
 }
 
 /// The tables.
-#[derive(Drop)]
 pub struct Tables {
     /// The processes, by number.
     pub processes: [Process; 64],
@@ -44,6 +43,23 @@ pub struct Tables {
     pub last_process: Pid,
     /// The semaphore number that was given last.
     pub last_semaphore: Sem,
+}
+
+impl Drop for Tables {
+    fn drop(self) {
+        let Tables {
+            processes: _processes,
+            messages: _messages,
+            current: _current,
+            quantum: _quantum,
+            ready: _ready,
+            semaphores: _semaphores,
+            sleepers: _sleepers,
+            ticks: _ticks,
+            last_process: _last_process,
+            last_semaphore: _last_semaphore,
+        } = self;
+    }
 }
 
 impl Model for Tables {

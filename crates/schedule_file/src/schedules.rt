@@ -16,7 +16,6 @@ use text_lines::first_line;
 use xinu_base::Event;
 
 /// The events of a schedule that are still to come. A clause sees their list.
-#[derive(Drop)]
 pub struct Schedule {
     /// The event that comes next, if any are left of it.
     event: Event,
@@ -28,6 +27,18 @@ pub struct Schedule {
     at: usize,
     /// How many events of this repeat were taken.
     taken: u32,
+}
+
+impl Drop for Schedule {
+    fn drop(self) {
+        let Schedule {
+            event: _event,
+            left: _left,
+            repeats: _repeats,
+            at: _at,
+            taken: _taken,
+        } = self;
+    }
 }
 
 impl Model for Schedule {

@@ -11,10 +11,15 @@ use std::marker::Model;
 use xinu_base::Item;
 
 /// The items that were received and not taken. The last `typed` of them are the line.
-#[derive(Drop)]
 pub struct Input {
     ring: HeapCircularBuffer<Item>,
     typed: usize,
+}
+
+impl Drop for Input {
+    fn drop(self) {
+        let Input { ring: _ring, typed: _typed } = self;
+    }
 }
 
 impl Model for Input {

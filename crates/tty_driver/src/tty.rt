@@ -28,7 +28,6 @@ pub struct TtySizes {
 }
 
 /// The console: its mode, its input, its output and its echo.
-#[derive(Drop)]
 pub struct Tty {
     pub(crate) mode: TtyMode,
     // Whether echo is on.
@@ -38,6 +37,19 @@ pub struct Tty {
     pub(crate) input: Input,
     pub(crate) output: HeapCircularBuffer<u8>,
     pub(crate) echo: HeapCircularBuffer<u8>,
+}
+
+impl Drop for Tty {
+    fn drop(self) {
+        let Tty {
+            mode: _mode,
+            echoes: _echoes,
+            held: _held,
+            input: _input,
+            output: _output,
+            echo: _echo,
+        } = self;
+    }
 }
 
 impl Model for Tty {
