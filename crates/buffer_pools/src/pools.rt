@@ -22,7 +22,10 @@ pub struct Pools {
 
 impl Drop for Pools {
     fn drop(self) {
-        let Pools { pools: _pools, made: _made } = self;
+        let Pools {
+            pools: _pools,
+            made: _made,
+        } = self;
     }
 }
 

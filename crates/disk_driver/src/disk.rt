@@ -26,7 +26,10 @@ pub struct Disk {
 
 impl Drop for Disk {
     fn drop(self) {
-        let Disk { blocks: _blocks, requests: _requests } = self;
+        let Disk {
+            blocks: _blocks,
+            requests: _requests,
+        } = self;
     }
 }
 

@@ -36,7 +36,12 @@ pub(crate) struct FileDisk {
 
 impl Drop for FileDisk {
     fn drop(self) {
-        let FileDisk { files: _files, disk: _disk, settled: _settled, written: _written } = self;
+        let FileDisk {
+            files: _files,
+            disk: _disk,
+            settled: _settled,
+            written: _written,
+        } = self;
     }
 }
 

@@ -32,7 +32,11 @@ pub struct FileServer {
 
 impl Drop for FileServer {
     fn drop(self) {
-        let FileServer { disk: _disk, requests: _requests, turns: _turns } = self;
+        let FileServer {
+            disk: _disk,
+            requests: _requests,
+            turns: _turns,
+        } = self;
     }
 }
 

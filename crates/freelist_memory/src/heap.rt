@@ -20,7 +20,10 @@ pub struct Heap {
 
 impl Drop for Heap {
     fn drop(self) {
-        let Heap { low: _low, cells: _cells } = self;
+        let Heap {
+            low: _low,
+            cells: _cells,
+        } = self;
     }
 }
 

@@ -44,12 +44,20 @@ use xinu_base::{Call, Next, Pid, Rest, SYSERR, is_call};
 
 /// The kernel. A clause sees the state of the abstract machine inside an event and how the event's call goes, `came`, and the bytes of the
 /// disk with files, `image`.
-#[derive(Drop)]
 pub struct Kernel {
     // The state.
     pub(crate) state: KernelState,
     // How the event's call went.
     answer: Option<Next>,
+}
+
+impl Drop for Kernel {
+    fn drop(self) {
+        let Kernel {
+            state: _state,
+            answer: _answer,
+        } = self;
+    }
 }
 
 impl Model for Kernel {

@@ -44,11 +44,20 @@ pub enum Go {
 
 /// A machine that was booted. A clause sees its state, the bytes of the disk with files, how many events it took, and whether
 /// one of them ended the run.
-#[derive(Drop)]
 pub struct Machine {
     pub(crate) kernel: Kernel,
     pub(crate) events: u64,
     pub(crate) has_ended: bool,
+}
+
+impl Drop for Machine {
+    fn drop(self) {
+        let Machine {
+            kernel: _kernel,
+            events: _events,
+            has_ended: _has_ended,
+        } = self;
+    }
 }
 
 impl Model for Machine {

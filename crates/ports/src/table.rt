@@ -45,7 +45,11 @@ pub struct Ports {
 
 impl Drop for Ports {
     fn drop(self) {
-        let Ports { entries: _entries, nodes: _nodes, next: _next } = self;
+        let Ports {
+            entries: _entries,
+            nodes: _nodes,
+            next: _next,
+        } = self;
     }
 }
 

@@ -54,7 +54,11 @@ pub struct FileSystem {
 
 impl Drop for FileSystem {
     fn drop(self) {
-        let FileSystem { blocks: _blocks, files: _files, devices: _devices } = self;
+        let FileSystem {
+            blocks: _blocks,
+            files: _files,
+            devices: _devices,
+        } = self;
     }
 }
 
@@ -103,7 +107,11 @@ pub struct FileRequest {
 
 impl Drop for FileRequest {
     fn drop(self) {
-        let FileRequest { caller: _caller, call: _call, at: _at } = self;
+        let FileRequest {
+            caller: _caller,
+            call: _call,
+            at: _at,
+        } = self;
     }
 }
 
@@ -130,7 +138,12 @@ pub struct FileWork {
 
 impl Drop for FileWork {
     fn drop(self) {
-        let FileWork { system: _system, calls: _calls, turns: _turns, bytes: _bytes } = self;
+        let FileWork {
+            system: _system,
+            calls: _calls,
+            turns: _turns,
+            bytes: _bytes,
+        } = self;
     }
 }
 

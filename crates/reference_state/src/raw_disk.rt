@@ -39,7 +39,10 @@ pub struct RawDisk {
 
 impl Drop for RawDisk {
     fn drop(self) {
-        let RawDisk { blocks: _blocks, requests: _requests } = self;
+        let RawDisk {
+            blocks: _blocks,
+            requests: _requests,
+        } = self;
     }
 }
 

@@ -23,7 +23,6 @@ use xinu_base::{Event, NoMemory};
 
 /// A run after some of its events. A clause sees its inputs, how many events were taken, the state, whether one of them ended the run, and
 /// what is known of what its events print.
-#[derive(Drop)]
 pub struct Replay {
     alloc: Global,
     inputs: Inputs,
@@ -38,6 +37,21 @@ pub struct Replay {
     texts: Texts,
     // Whether that is known of all that were taken.
     is_known: bool,
+}
+
+impl Drop for Replay {
+    fn drop(self) {
+        let Replay {
+            alloc: _alloc,
+            inputs: _inputs,
+            machine: _machine,
+            left: _left,
+            taken: _taken,
+            has_ended: _has_ended,
+            texts: _texts,
+            is_known: _is_known,
+        } = self;
+    }
 }
 
 impl Model for Replay {

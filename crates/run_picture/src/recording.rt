@@ -26,7 +26,6 @@ pub enum Ending {
 }
 
 /// What the picture shows of a run.
-#[derive(Drop)]
 pub struct Recording {
     pub(crate) alloc: Global,
     pub(crate) columns: Vec<Column>,
@@ -48,6 +47,28 @@ pub struct Recording {
     are_steps: bool,
     /// Whether memory never ran out for it.
     pub(crate) is_whole: bool,
+}
+
+impl Drop for Recording {
+    fn drop(self) {
+        let Recording {
+            alloc: _alloc,
+            columns: _columns,
+            rows: _rows,
+            bands: _bands,
+            labels: _labels,
+            links: _links,
+            shown: _shown,
+            row_of: _row_of,
+            band_of: _band_of,
+            reader: _reader,
+            drawn: _drawn,
+            tables: _tables,
+            quiet: _quiet,
+            are_steps: _are_steps,
+            is_whole: _is_whole,
+        } = self;
+    }
 }
 
 impl Recording {

@@ -11,7 +11,6 @@ use std::alloc::Global;
 use xinu_base::{End, Event};
 
 /// What is known of a run so far.
-#[derive(Drop)]
 pub struct Story {
     alloc: Global,
     reader: Reader,
@@ -26,6 +25,22 @@ pub struct Story {
     traps: Text,
     /// The lines of the last event that printed something.
     lines: Text,
+}
+
+impl Drop for Story {
+    fn drop(self) {
+        let Story {
+            alloc: _alloc,
+            reader: _reader,
+            lives: _lives,
+            events: _events,
+            ticks: _ticks,
+            typed: _typed,
+            sent: _sent,
+            traps: _traps,
+            lines: _lines,
+        } = self;
+    }
 }
 
 impl Story {

@@ -18,7 +18,10 @@ pub struct Input {
 
 impl Drop for Input {
     fn drop(self) {
-        let Input { ring: _ring, typed: _typed } = self;
+        let Input {
+            ring: _ring,
+            typed: _typed,
+        } = self;
     }
 }
 

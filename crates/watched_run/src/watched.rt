@@ -12,7 +12,6 @@ use std::alloc::Global;
 use xinu_base::{Cause, Pid};
 
 /// A run, and what it is watched for.
-#[derive(Drop)]
 pub struct WatchedRun {
     pub replay: Replay,
     pub(crate) points: Points,
@@ -20,6 +19,17 @@ pub struct WatchedRun {
     told: Option<u32>,
     // Up to here the bytes of the console were shown.
     shown: u32,
+}
+
+impl Drop for WatchedRun {
+    fn drop(self) {
+        let WatchedRun {
+            replay: _replay,
+            points: _points,
+            told: _told,
+            shown: _shown,
+        } = self;
+    }
 }
 
 impl WatchedRun {
