@@ -1,3 +1,4 @@
 pub mod Dispatch
+pub mod Fetched
 pub mod Ran
 pub mod Written

@@ -13,7 +13,6 @@ use xinu_base::{Cause, Hart, INITRET, Outcome};
 /// the word is carried out: `Trap(Illegal)` if it is no instruction, `Call` for `ECALL`, after which the pc is that of the next
 /// instruction. Register x0 stays 0.
 #[inline(always)]
-#[tactic(auto, unfolding(xinu_model::specs::Isa::Exec::exec))]
 pub fn step(hart: &mut Hart, ram: &mut Ram) -> Outcome
     ensures outcome { result ≡ (exec hart.old ram.old).outcome }
     ensures hart { hart.new ≡ (exec hart.old ram.old).hart }

@@ -13,3 +13,6 @@ invariant_of-self c =
     let old : KeepsAll h = subst KeepsAll (came_is c.self.view_is) c.self.invariant.keeps in
     let e : kernel_result (record { state = c.tick.new.k; answer = None }) ≡ ticking h.call.state = c.tick.ensures.ticks ∙ ap (λ (h : CallResult). ticking h.call.state) (came_is c.self.view_is) in
     record { keeps = subst KeepsAll (sym e) (ticking_keeps h.call.state (idle_sound h c.requires.idle old)) }
+
+pub returns-clause-ticks : goal.returns-clause-ticks
+returns-clause-ticks c = c.tick.ensures.ticks ∙ ap (λ (h : CallResult). ticking h.call.state) (came_is c.self.view_is)
