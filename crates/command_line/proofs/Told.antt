@@ -1,36 +1,37 @@
--- A chain of `subcommand` tells the parser what it adds.
-use Rattle.std.proofs.Common.{◌≡◌, ◌∙◌, ◌||◌, false, refl, ap₂}
-use Rattle.std.specs.Prelude.{Result, IfOk}
-use Rattle.std.proofs.lemmas.Result.{IfOk-weaker}
-use Rattle.clap.specs.Built.{AddsSubcommand}
-use Rattle.clap.specs.Words.{app_of}
-use Rattle.clap.specs.Simple.{App, with_subcommand}
-use Rattle.clap.specs.declared.builder.command.Command.{Command}
-use Rattle.clap.specs.declared.builder.command.Command.TheViews.{out-Command}
+-- A program that is told of its commands one by one, and a command that is told of its options.
+use Rattle.std.proofs.Common.{◌≡◌, ◌∙◌, ◌<◌, ◌≤◌, ◌+◌, ℕ, List, [], ◌∷◌, ◌++◌, refl, append_assoc, add-one, ap, ap₂, drop, drop-cons, get_or, length, map, sym}
+use Rattle.std.proofs.lemmas.List.{drop_all}
+use Rattle.clap.specs.Walk.{Rule}
+use Rattle.clap.specs.Simple.{App, new_app, with_rule, with_subcommand}
+use Rattle.command_line.specs.declared.tables.CommandRow.{CommandRow}
+use Rattle.command_line.specs.Reading.{OptionRow}
+use Rattle.command_line.specs.Names.{command_row, option_row}
+use Rattle.command_line.specs.Parser.{arg_rule, command_app, option_rule, told_rules, with_commands, with_options}
 
--- the command is told this, and has no global argument
-pub record IsTold (app : App) (c : Command) : Type 0 where
-  pub told : app_of c ≡ app
-  pub local : (out-Command c).has_globals ≡ false
+-- the program with one more command
+pub next_command : (rows : List CommandRow) (i : ℕ) (none : CommandRow) (old new sub whole : App) → i < length rows → new ≡ with_subcommand old sub.top
+    → sub ≡ command_app (command_row (get_or rows i none)) → with_commands old (map command_row (drop i rows)) ≡ whole
+    → with_commands new (map command_row (drop (i + 1) rows)) ≡ whole
+next_command rows i none old new sub whole within adds is so_far =
+    let left : drop i rows ≡ get_or rows i none ∷ drop (i + 1) rows = rw add-one (drop-cons rows i none within) in
+    ap (λ a. with_commands a (map command_row (drop (i + 1) rows))) (adds ∙ ap (λ (s : App). with_subcommand old s.top) is)
+    ∙ sym (ap (λ xs. with_commands old (map command_row xs)) left)
+    ∙ so_far
 
-pub is_told : (app : App) (c : Command) → app_of c ≡ app → (out-Command c).has_globals ≡ false → IsTold app c
-is_told app c told local = record { told = told; local = local }
+-- the app with these rules after those that it has
+abbrev with_rules : App → List Rule → App
+with_rules app rules = record app { top = record app.top { rules = app.top.rules ++ rules } }
 
-pub one_more : (old sub new : Command) (app leaf : App) → AddsSubcommand old sub new → IsTold app old → IsTold leaf sub → IsTold (with_subcommand app leaf.top) new
-one_more old sub new app leaf adds t s = record {
-  told = adds.shape s.local ∙ ap₂ (λ x (y : App). with_subcommand x y.top) t.told s.told;
-  local = adds.globals ∙ ap₂ (λ x y. x || y) t.local s.local;
-}
+then_args : (app : App) (os : List OptionRow) → with_rule (with_options app os) arg_rule ≡ with_rules app (told_rules os)
+then_args app [] = refl
+then_args app (o ∷ os) =
+    then_args (with_rule app (option_rule o)) os
+    ∙ ap (λ (rs : List Rule). record app { top = record app.top { rules = rs } }) (append_assoc app.top.rules (option_rule o ∷ []) (told_rules os))
 
-pub last_one : {E : Type 0} (r : Result Command E) (old sub : Command) (app leaf : App) → IfOk r (AddsSubcommand old sub) → IsTold app old → IsTold leaf sub
-    → IfOk r (λ c. app_of c ≡ with_subcommand app leaf.top)
-last_one r old sub app leaf adds t s = IfOk-weaker r _ _ (λ new a. (one_more old sub new app leaf a t s).told) adds
-
-pub added_told : {E : Type 0} (r : Result Command E) (old sub : Command) (leaf : App) → IfOk r (AddsSubcommand old sub) → (out-Command old).has_globals ≡ false
-    → IsTold leaf sub → IfOk r (λ c. app_of c ≡ with_subcommand (app_of old) leaf.top)
-added_told r old sub leaf adds local s = last_one r old sub (app_of old) leaf adds (is_told (app_of old) old refl local) s
-
-pub added_local : {E : Type 0} (r : Result Command E) (old sub : Command) (leaf : App) → IfOk r (AddsSubcommand old sub) → (out-Command old).has_globals ≡ false
-    → IsTold leaf sub → IfOk r (λ c. (out-Command c).has_globals ≡ false)
-added_local r old sub leaf adds local s =
-    IfOk-weaker r _ _ (λ new a. (one_more old sub new (app_of old) leaf a (is_told (app_of old) old refl local) s).local) adds
+-- a command was told of all its options, and is told of its positional arguments
+pub told_command : (row : CommandRow) (i : ℕ) (app new : App) (rule : Rule) → length row.options.now ≤ i
+    → with_options app (map option_row (drop i row.options.now)) ≡ with_options (new_app row.name.now) (map option_row row.options.now)
+    → rule ≡ arg_rule → new ≡ with_rule app rule → new ≡ command_app (command_row row)
+told_command row i app new rule all so_far is adds =
+    let told = sym (ap (λ xs. with_options app (map option_row xs)) (drop_all i row.options.now all)) ∙ so_far in
+    adds ∙ ap₂ with_rule told is ∙ then_args (new_app row.name.now) (map option_row row.options.now)

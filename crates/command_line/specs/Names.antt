@@ -1,10 +1,13 @@
--- The command of the code, as the names that it holds.
+-- The values of the code as those of the definitions: the rows of the tables, and a command as the names that it holds.
 use Rattle.std.specs.Prelude.{map, option_map}
+use Rattle.command_line.specs.Reading.{CommandRow as NamedCommand, OptionRow as NamedOption}
 use Rattle.command_line.specs.RunArgs.{DiskFiles as DiskNames, RunFiles as RunNames}
 use Rattle.command_line.specs.AsmArgs.{AsmFiles as AsmNames}
 use Rattle.command_line.specs.CheckArgs.{CheckFiles as CheckNames}
 use Rattle.command_line.specs.DiskArgs.{DiskAction as ActionNames, Mkfs, Ls, Get, Put, Check as CheckDisk, Repair}
 use Rattle.command_line.specs.Commands.{Command as CommandNames, Run, Asm, Soak, Check, Disk}
+use Rattle.command_line.specs.declared.tables.OptionRow.{OptionRow}
+use Rattle.command_line.specs.declared.tables.CommandRow.{CommandRow}
 use Rattle.command_line.specs.declared.run_args.DiskFiles.{DiskFiles}
 use Rattle.command_line.specs.declared.run_args.RunFiles.{RunFiles}
 use Rattle.command_line.specs.declared.asm_args.AsmFiles.{AsmFiles}
@@ -13,6 +16,12 @@ use Rattle.command_line.specs.declared.disk_args.DiskAction.{DiskAction}
 use Rattle.command_line.specs.declared.disk_args.DiskAction.TheVariants as action
 use Rattle.command_line.specs.declared.command.Command.{Command}
 use Rattle.command_line.specs.declared.command.Command.TheVariants as command
+
+abbrev pub option_row : OptionRow → NamedOption
+option_row o = record { name = o.name.now; takes_value = o.takes_value }
+
+abbrev pub command_row : CommandRow → NamedCommand
+command_row c = record { name = c.name.now; options = map option_row c.options.now }
 
 abbrev pub disk_names : DiskFiles → DiskNames
 disk_names d = record {

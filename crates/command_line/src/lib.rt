@@ -22,6 +22,7 @@ mod parser;
 mod refusal;
 mod run_args;
 mod soak_args;
+mod tables;
 
 pub use asm_args::AsmFiles;
 pub use check_args::CheckFiles;

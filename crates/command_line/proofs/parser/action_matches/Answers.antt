@@ -12,11 +12,11 @@ pub returns-clause-action : goal.returns-clause-action
 returns-clause-action c =
     let args = map string_bytes c.args.args.now in
     let told = c.in_ok-disk_parser.ensures.told in
-    IfOk-weaker c.matches_by.result _ _
+    IfOk-weaker c.matches_of.result _ _
     (λ m p. action_matched args (strings_utf8 c.args.args.now) (subst (λ a. fault_of a args ≡ []) told p.0) (subcommand_rows_of m) (p.1 ∙ ap (λ a. subcommand_of a args) told))
-    (IfOk-both c.matches_by.result _ _ c.matches_by.ensures.faultless c.matches_by.ensures.rows)
+    (IfOk-both c.matches_of.result _ _ c.matches_of.ensures.faultless c.matches_of.ensures.rows)
 
 pub returns-clause-no_command : goal.returns-clause-no_command
 returns-clause-no_command c =
     let args = map string_bytes c.args.args.now in
-    λ is. action_unmatched args (strings_utf8 c.args.args.now) (subst (λ a. fault_of a args ≡ [] → ⊥) c.in_ok-disk_parser.ensures.told (c.matches_by.ensures.faulty is))
+    λ is. action_unmatched args (strings_utf8 c.args.args.now) (subst (λ a. fault_of a args ≡ [] → ⊥) c.in_ok-disk_parser.ensures.told (c.matches_of.ensures.faulty is))

@@ -3,7 +3,7 @@ use Rattle.std.proofs.Common.{◌∙◌, true, ap}
 use Rattle.clap.specs.Simple.{App, app_of_fields}
 use Rattle.clap.specs.declared.builder.command.Command.{Command}
 use Rattle.clap.specs.declared.builder.command.Command.TheOpen.{Command-F}
-use Rattle.command_line.proofs.parser.program.Goals as goal
+use Rattle.command_line.proofs.parser.Parser.program.Goals as goal
 
 -- what a parser is told, by what it was told of a new command
 abbrev told_of : App → App

@@ -1,5 +1,5 @@
 -- The answers of a parse, as the parser's contract gives them for a simple program.
-use Rattle.command_line.proofs.parser.matches_by.Goals as goal
+use Rattle.command_line.proofs.parser.Parser.matches_of.Goals as goal
 
 pub returns-in-Ok : goal.returns-in-Ok
 returns-in-Ok c = record {
