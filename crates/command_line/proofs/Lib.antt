@@ -8,4 +8,5 @@ pub mod Values
 pub mod Program
 pub mod Parse
 pub mod Told
+pub mod Choices
 pub mod Digits

@@ -4,7 +4,8 @@ use Rattle.std.proofs.lemmas.List.{drop_all}
 use Rattle.clap.specs.Walk.{Rule}
 use Rattle.clap.specs.Simple.{App, new_app, with_rule, with_subcommand}
 use Rattle.command_line.specs.declared.tables.CommandRow.{CommandRow}
-use Rattle.command_line.specs.Reading.{OptionRow}
+use Rattle.command_line.specs.declared.tables.OptionRow.{OptionRow}
+use Rattle.command_line.specs.Reading.{OptionRow as NamedOption}
 use Rattle.command_line.specs.Names.{command_row, option_row}
 use Rattle.command_line.specs.Parser.{arg_rule, command_app, option_rule, told_rules, with_commands, with_options}
 
@@ -18,11 +19,21 @@ next_command rows i none old new sub whole within adds is so_far =
     ∙ sym (ap (λ xs. with_commands old (map command_row xs)) left)
     ∙ so_far
 
+-- the command with one more option
+pub next_option : (options : List OptionRow) (i : ℕ) (none : OptionRow) (old new whole : App) (rule : Rule) → i < length options → new ≡ with_rule old rule
+    → rule ≡ option_rule (option_row (get_or options i none)) → with_options old (map option_row (drop i options)) ≡ whole
+    → with_options new (map option_row (drop (i + 1) options)) ≡ whole
+next_option options i none old new whole rule within adds is so_far =
+    let left : drop i options ≡ get_or options i none ∷ drop (i + 1) options = rw add-one (drop-cons options i none within) in
+    ap (λ a. with_options a (map option_row (drop (i + 1) options))) (adds ∙ ap (with_rule old) is)
+    ∙ sym (ap (λ xs. with_options old (map option_row xs)) left)
+    ∙ so_far
+
 -- the app with these rules after those that it has
 abbrev with_rules : App → List Rule → App
 with_rules app rules = record app { top = record app.top { rules = app.top.rules ++ rules } }
 
-then_args : (app : App) (os : List OptionRow) → with_rule (with_options app os) arg_rule ≡ with_rules app (told_rules os)
+then_args : (app : App) (os : List NamedOption) → with_rule (with_options app os) arg_rule ≡ with_rules app (told_rules os)
 then_args app [] = refl
 then_args app (o ∷ os) =
     then_args (with_rule app (option_rule o)) os

@@ -35,7 +35,6 @@ pub(crate) fn check_of<'a>(
     ensures files { IfOk result (λ c. check_in (rows_of (found_of matches.entry.now)) ≡ Some (check_names c)) }
     ensures no_command { IsErrOf result fault.NoCommand → check_in (rows_of (found_of matches.entry.now)) ≡ None }
 {
-    let images = args_of(alloc, matches)?;
     let Some(schedule) = option_value(matches, "schedule") else {
         return Err(ArgsFault::NoCommand);
     };
@@ -43,6 +42,7 @@ pub(crate) fn check_of<'a>(
         return Err(ArgsFault::NoCommand);
     };
     let disks = starts_of(matches);
+    let images = args_of(alloc, matches)?;
     if !trace.is_empty() && are_run_files(schedule, &disks, images.as_slice()) {
         Ok(CheckFiles {
             schedule,

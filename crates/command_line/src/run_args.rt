@@ -47,11 +47,11 @@ pub(crate) fn run_of<'a>(alloc: Global, matches: &ArgMatches<'a>) -> Result<RunF
     ensures files { IfOk result (λ r. run_in (rows_of (found_of matches.entry.now)) ≡ Some (run_names r)) }
     ensures no_command { IsErrOf result fault.NoCommand → run_in (rows_of (found_of matches.entry.now)) ≡ None }
 {
-    let images = args_of(alloc, matches)?;
     let Some(schedule) = option_value(matches, "schedule") else {
         return Err(ArgsFault::NoCommand);
     };
     let disks = disks_of(matches);
+    let images = args_of(alloc, matches)?;
     if are_run_files(schedule, &disks, images.as_slice()) {
         let plain = is_given(matches, "plain");
         Ok(RunFiles {
