@@ -1,8 +1,8 @@
--- The command that a name or the first argument chooses.
+-- The command that a name or the first argument chooses, and the action that a name chooses.
 use Rattle.std.proofs.Common.{◌≡◌, ◌∙◌, ◌≤◌, ◌-◌, true, false, if◌then◌else◌, codes, List, [], ◌∷◌, Option, ap, ap₂, arith, bytes_eq, drop, get_or, length, map, option_map, sym, take, take_all}
 use Rattle.clap.specs.Walk.{Row}
 use Rattle.command_line.specs.Reading.{Text}
-use Rattle.command_line.specs.DiskArgs.{action_of}
+use Rattle.command_line.specs.DiskArgs.{action_named, action_of}
 use Rattle.command_line.specs.Commands.{Command, Asm, Check, Disk, Run, Soak, command_of, simple_command_of}
 use Rattle.command_line.specs.Parser.{asm_in, check_in, command_in, run_in, soak_in}
 
@@ -35,3 +35,6 @@ pub opened : {X : Type 0} (text : X → Text) (xs : List X) (x : X) (first : Tex
 opened text [] x first some is e = absurd (omega arith)
 opened text (y ∷ ys) x first some is e =
     ap₂ (λ z (zs : List _). z ∷ map text zs) (ap text (sym is) ∙ sym e) (sym (take_all (length (y ∷ ys) - 1) ys (omega arith)))
+
+pub action_chosen : (name chosen : Text) (out : Option Text) (args : List Text) → name ≡ chosen → action_named chosen out args ≡ action_named name out args
+action_chosen name chosen out args is = ap (λ n. action_named n out args) (sym is)
