@@ -7,7 +7,7 @@ use Rattle.command_line.specs.declared.tables.CommandRow.{CommandRow}
 use Rattle.command_line.specs.declared.tables.OptionRow.{OptionRow}
 use Rattle.command_line.specs.Reading.{OptionRow as NamedOption}
 use Rattle.command_line.specs.Names.{command_row, option_row}
-use Rattle.command_line.specs.Parser.{arg_rule, command_app, option_rule, told_rules, with_commands, with_options}
+use Rattle.command_line.specs.Parser.{arg_rule, command_app, option_rule, told_rules, with_commands}
 
 -- the program with one more command
 pub next_command : (rows : List CommandRow) (i : ℕ) (none : CommandRow) (old new sub whole : App) → i < length rows → new ≡ with_subcommand old sub.top
@@ -18,6 +18,11 @@ next_command rows i none old new sub whole within adds is so_far =
     ap (λ a. with_commands a (map command_row (drop (i + 1) rows))) (adds ∙ ap (λ (s : App). with_subcommand old s.top) is)
     ∙ sym (ap (λ xs. with_commands old (map command_row xs)) left)
     ∙ so_far
+
+-- the command with these options after those that it has
+abbrev pub with_options : App → List NamedOption → App
+with_options app [] = app
+with_options app (o ∷ os) = with_options (with_rule app (option_rule o)) os
 
 -- the command with one more option
 pub next_option : (options : List OptionRow) (i : ℕ) (none : OptionRow) (old new whole : App) (rule : Rule) → i < length options → new ≡ with_rule old rule

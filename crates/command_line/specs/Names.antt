@@ -17,9 +17,11 @@ use Rattle.command_line.specs.declared.disk_args.DiskAction.TheVariants as actio
 use Rattle.command_line.specs.declared.command.Command.{Command}
 use Rattle.command_line.specs.declared.command.Command.TheVariants as command
 
+-- an option of a table
 abbrev pub option_row : OptionRow → NamedOption
 option_row o = record { name = o.name.now; takes_value = o.takes_value }
 
+-- a command or an action of a table
 abbrev pub command_row : CommandRow → NamedCommand
 command_row c = record { name = c.name.now; options = map option_row c.options.now }
 

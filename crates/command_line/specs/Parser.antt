@@ -3,7 +3,7 @@ use Rattle.std.specs.Prelude.{ℕ, Bool, true, false, List, [], ◌∷◌, Optio
 use Rattle.std.specs.Prelude.{if◌then◌else◌, bytes_eq, option_and_then}
 use Rattle.std.specs.Option.{option_map_or, unwrap_or}
 use Rattle.clap.specs.Walk.{Row, Rule, all_of, first_of}
-use Rattle.clap.specs.Simple.{App, new_rule, new_shape, with_rule, with_subcommand}
+use Rattle.clap.specs.Simple.{App, new_rule, new_shape, with_subcommand}
 use Rattle.clap.specs.declared.builder.action.ArgAction.TheVariants.{Set, Append, SetTrue}
 use Rattle.command_line.specs.Reading.{CommandRow, OptionRow, Text}
 use Rattle.command_line.specs.RunArgs.{RunFiles, disk_files, run_of}
@@ -34,11 +34,6 @@ command_app c = record {
   top = record (new_shape c.name) { rules = told_rules c.options };
   subs = [];
 }
-
--- the command with these options after those that it has
-abbrev pub with_options : App → List OptionRow → App
-with_options app [] = app
-with_options app (o ∷ os) = with_options (with_rule app (option_rule o)) os
 
 -- a program with no command yet: nothing but a command's name may come first
 abbrev pub program_app : Text → App

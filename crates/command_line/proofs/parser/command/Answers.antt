@@ -2,8 +2,7 @@
 use Rattle.std.proofs.Common.{ap, map}
 use Rattle.std.proofs.lemmas.Result.{IfOk-weaker}
 use Rattle.command_line.specs.Names.{option_row}
-use Rattle.command_line.specs.Parser.{with_options}
-use Rattle.command_line.proofs.Told.{next_option, told_command}
+use Rattle.command_line.proofs.Told.{next_option, told_command, with_options}
 use Rattle.command_line.proofs.parser.command.Goals as goal
 
 pub loop-option-init : goal.loop-option-init

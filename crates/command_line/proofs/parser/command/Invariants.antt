@@ -3,7 +3,7 @@ use Rattle.std.proofs.Common.{◌≡◌, drop, false, map}
 use Rattle.clap.specs.Words.{app_of, new_app}
 use Rattle.clap.specs.declared.builder.command.Command.TheViews.{out-Command}
 use Rattle.command_line.specs.Names.{option_row}
-use Rattle.command_line.specs.Parser.{with_options}
+use Rattle.command_line.proofs.Told.{with_options}
 use Rattle.command_line.proofs.parser.command.Given as goal
 
 abbrev pub invariant-loop-option : goal.invariant-loop-option
