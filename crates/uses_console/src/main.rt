@@ -14,19 +14,28 @@ use tty_driver::Tty;
 /// What is typed: 8 erases a byte, 21 the line, and 4 on an empty line is the end.
 const TYPED: [u8; 25] = *b"lime\x08\x08ne\nno\x15second line\n\x04";
 
-// Prints each line, and the end as what it is.
 fn main(rt: HostRuntime) -> io::Result<()> {
-    let Ok(mut tty) = Tty::new(rt.alloc()) else {
-        return println!(rt; "no memory");
-    };
-    for b in TYPED {
-        if let Some(line) = type_byte(&mut tty, b) {
-            match std::str::from_utf8(&line) {
-                Ok("\x04") => println!(rt; "end")?,
-                Ok(text) => print!(rt; "line: {text}")?,
-                Err(_) => println!(rt; "not a text")?,
-            }
+    match Tty::new(rt.alloc()) {
+        Ok(mut tty) => run(&rt, &mut tty),
+        Err(_) => println!(rt; "no memory"),
+    }
+}
+
+// Types all bytes, and prints each line.
+fn run<R: Print>(rt: &R, tty: &mut Tty) -> io::Result<()> {
+    for b in &TYPED {
+        if let Some(line) = type_byte(tty, *b) {
+            print_line(rt, &line)?;
         }
     }
     Ok(())
+}
+
+// Prints a line, and the end as what it is.
+fn print_line<R: Print>(rt: &R, line: &[u8]) -> io::Result<()> {
+    match std::str::from_utf8(line) {
+        Ok("\x04") => println!(rt; "end"),
+        Ok(text) => print!(rt; "line: {text}"),
+        Err(_) => println!(rt; "not a text"),
+    }
 }
