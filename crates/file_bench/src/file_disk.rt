@@ -5,11 +5,13 @@ ghost use Rattle.lfs_check.specs.Disks.{block_put};
 ghost use Rattle.local_files.specs.Standing.{Stands, GoesTo, wanted, call_bytes};
 ghost use Rattle.file_bench.specs.Honest.{IsWithin};
 
+use crate::trouble::Trouble;
 use lfs_check::block_at;
+use lfs_layout::CleanImage;
 use local_files::{BlockWork, FileCall, FileDev, Files, Phase, is_call};
+use std::alloc::Global;
 
 /// A file engine and the bytes of its disk.
-#[derive(Drop)]
 pub(crate) struct FileDisk {
     /// The engine.
     pub(crate) files: Files,
@@ -17,10 +19,32 @@ pub(crate) struct FileDisk {
     pub(crate) disk: Vec<u8>,
 }
 
+impl Drop for FileDisk {
+    fn drop(self) {
+        let FileDisk {
+            files: _files,
+            disk: _disk,
+        } = self;
+    }
+}
+
 impl FileDisk {
-    /// An engine with a disk.
-    pub(crate) fn new(files: Files, disk: Vec<u8>) -> FileDisk {
-        FileDisk { files, disk }
+    /// An engine with an empty disk of so many blocks.
+    ///
+    /// # Errors
+    ///
+    /// `Stuck` if there is no disk of so many blocks; `NoMemory` out of memory.
+    pub(crate) fn empty(alloc: Global, blocks: u32) -> Result<FileDisk, Trouble> {
+        if blocks < 14 || blocks > 65_542 {
+            return Err(Trouble::Stuck);
+        }
+        match (Files::new(alloc, blocks), CleanImage::empty(alloc, blocks)) {
+            (Ok(files), Ok(image)) => Ok(FileDisk {
+                files,
+                disk: image.into_bytes(),
+            }),
+            _ => Err(Trouble::NoMemory),
+        }
     }
 
     /// The bytes of the disk.

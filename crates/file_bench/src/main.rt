@@ -23,40 +23,64 @@ mod room;
 mod script;
 mod timing;
 mod timings;
+mod trouble;
 
 use std::alloc::Global;
 use std::time::CpuClock;
 use std::{env, io};
 
+/// What is to be done.
+#[derive(Clone, Copy)]
+enum Command {
+    Script,
+    Counts,
+    Time,
+    Unknown,
+}
+
 fn main(rt: HostRuntime) -> io::Result<()> {
     let alloc = rt.alloc();
-    let mut text = String::new(alloc);
     let mut numbers = Vec::new(alloc);
-    let mut words = env::args(&rt)?.skip(1);
+    let command = read_args(&rt, &mut numbers)?;
+    carry_out(&rt, alloc, command, &numbers)
+}
+
+// The command that the first argument names, and the numbers of the others.
+fn read_args(rt: &HostRuntime, numbers: &mut Vec<u32>) -> io::Result<Command> {
+    let mut words = env::args(rt)?;
+    let _program = words.next();
     let command = match words.next() {
-        Some(word) => word,
-        None => String::new(alloc),
+        Some(word) => command_of(word.as_str()),
+        None => Command::Unknown,
     };
     for word in words {
         numbers.push(number(word.as_str()))?;
     }
-    report(&rt, alloc, command.as_str(), &numbers, &mut text)?;
-    print!(rt; "{text}")
+    Ok(command)
 }
 
-// Does what a command says, and adds to a text how it went.
-fn report<R: CpuClock>(
+// The command of a name.
+fn command_of(name: &str) -> Command {
+    match name {
+        "script" => Command::Script,
+        "counts" => Command::Counts,
+        "time" => Command::Time,
+        _ => Command::Unknown,
+    }
+}
+
+// Does what a command says, and prints how it went.
+fn carry_out<R: CpuClock + Print>(
     rt: &R,
     alloc: Global,
-    command: &str,
+    command: Command,
     numbers: &[u32],
-    text: &mut String,
 ) -> io::Result<()> {
     match command {
-        "script" => Ok(played::play(alloc, numbers, text)?),
-        "counts" => Ok(played::count(alloc, numbers, text)?),
-        "time" => timings::time(rt, alloc, numbers, text),
-        _ => Ok(text.push_str("file_bench: script, counts or time, and numbers\n")?),
+        Command::Script => played::play(rt, alloc, numbers),
+        Command::Counts => played::count(rt, alloc, numbers),
+        Command::Time => timings::time(rt, alloc, numbers),
+        Command::Unknown => println!(rt; "file_bench: script, counts or time, and numbers"),
     }
 }
 

@@ -27,12 +27,22 @@ struct PlainDevice {
 }
 
 /// The files of a disk, what each device has open, and the bytes that the last call read.
-#[derive(Drop)]
 pub(crate) struct PlainFiles {
     blocks: u32,
     files: Vec<PlainFile>,
     devices: [Option<PlainDevice>; 6],
     given: Vec<u8>,
+}
+
+impl Drop for PlainFiles {
+    fn drop(self) {
+        let PlainFiles {
+            blocks: _blocks,
+            files: _files,
+            devices: _devices,
+            given: _given,
+        } = self;
+    }
 }
 
 const SYSERR: i32 = -1;

@@ -4,32 +4,9 @@ use crate::file_disk::FileDisk;
 use crate::plain_files::PlainFiles;
 use crate::reading_back::{has_files, has_others};
 use crate::script::Script;
-use lfs_layout::CleanImage;
-use local_files::{FileCall, FileDev, Files};
-use std::alloc::{AllocError, Global};
-
-/// In what the engine and the plain list differ.
-#[derive(Clone, Copy)]
-pub(crate) enum Trouble {
-    /// Out of memory.
-    NoMemory,
-    /// The call can't be begun, or it wants no block of the disk, or it takes more completions than it may.
-    Stuck,
-    /// The reply of the engine, and that of the list.
-    Reply(i32, i32),
-    /// The bytes that were read.
-    Bytes,
-    /// What is open, or the positions.
-    Devices,
-    /// The files, after so many completions.
-    Files(u32),
-}
-
-impl From<AllocError> for Trouble {
-    fn from(_error: AllocError) -> Trouble {
-        Trouble::NoMemory
-    }
-}
+use crate::trouble::Trouble;
+use local_files::{FileCall, FileDev};
+use std::alloc::Global;
 
 /// How often the files are read back off the disk: at one of so many completions, and at the end of one of so many calls; never if 0.
 #[derive(Clone, Copy)]
@@ -38,16 +15,31 @@ pub(crate) struct Readings {
     pub(crate) calls: u32,
 }
 
-/// The engine with its disk, the plain list, and how many calls there were, how many of them with a negative reply, and how many
-/// completions.
-#[derive(Drop)]
-pub(crate) struct Trial {
-    pub(crate) served: FileDisk,
-    pub(crate) plain: PlainFiles,
-    pub(crate) readings: Readings,
+/// How many calls there were, how many of them with a negative reply, and how many completions.
+#[derive(Clone, Copy)]
+pub(crate) struct Counts {
     pub(crate) calls: u32,
     pub(crate) refused: u32,
     pub(crate) completions: u32,
+}
+
+/// The engine with its disk, and the plain list.
+pub(crate) struct Trial {
+    served: FileDisk,
+    plain: PlainFiles,
+    readings: Readings,
+    counts: Counts,
+}
+
+impl Drop for Trial {
+    fn drop(self) {
+        let Trial {
+            served: _served,
+            plain: _plain,
+            readings: _readings,
+            counts: _counts,
+        } = self;
+    }
 }
 
 impl Trial {
@@ -61,53 +53,46 @@ impl Trial {
         blocks: u32,
         readings: Readings,
     ) -> Result<Trial, Trouble> {
-        if blocks < 14 || blocks > 65_542 {
-            return Err(Trouble::Stuck);
-        }
-        match (Files::new(alloc, blocks), CleanImage::empty(alloc, blocks)) {
-            (Ok(files), Ok(image)) => Ok(Trial {
-                served: FileDisk::new(files, image.into_bytes()),
-                plain: PlainFiles::new(alloc, blocks),
-                readings,
+        let served = FileDisk::empty(alloc, blocks)?;
+        Ok(Trial {
+            served,
+            plain: PlainFiles::new(alloc, blocks),
+            readings,
+            counts: Counts {
                 calls: 0,
                 refused: 0,
                 completions: 0,
-            }),
-            _ => Err(Trouble::NoMemory),
-        }
+            },
+        })
     }
 
-    /// Plays so many calls of a script.
+    /// Plays so many calls of a script, and reads all files back.
     pub(crate) fn play(
         &mut self,
         alloc: Global,
         script: &mut Script,
         calls: u32,
-    ) -> Result<(), Trouble> {
+    ) -> Result<Counts, Trouble> {
         for _ in 0..calls {
             let call = script.next_call(&self.plain);
             let bytes = script.bytes(alloc, &call)?;
             self.call(alloc, &call, &bytes)?;
         }
-        Ok(())
+        self.compare_files(alloc)?;
+        Ok(self.counts)
     }
 
-    /// Makes a call on both. Answers the reply, and in what they differ if they do.
-    ///
-    /// While the call is in hand, all files but its own are read off the disk as they were; once it is done the disk is clean and has the
-    /// files of the list.
-    pub(crate) fn call(
-        &mut self,
-        alloc: Global,
-        call: &FileCall,
-        bytes: &[u8],
-    ) -> Result<i32, Trouble> {
+    // Makes a call on both. Answers in what they differ if they do.
+    //
+    // While the call is in hand, all files but its own are read off the disk as they were; once it is done the disk is clean and has the
+    // files of the list.
+    fn call(&mut self, alloc: Global, call: &FileCall, bytes: &[u8]) -> Result<(), Trouble> {
         let most = self.plain.most_turns(call, bytes.len());
         let name = self.plain.name_in(call);
         if !self.served.begin(call, bytes) {
             return Err(Trouble::Stuck);
         }
-        self.calls = self.calls.wrapping_add(1);
+        self.counts.calls = self.counts.calls.wrapping_add(1);
         for _ in 0..most {
             if let Some(reply) = self.served.answer() {
                 return self.finish(alloc, call, bytes, reply);
@@ -125,11 +110,11 @@ impl Trial {
         if !self.served.complete() {
             return Err(Trouble::Stuck);
         }
-        self.completions = self.completions.wrapping_add(1);
-        if is_due(self.completions, self.readings.completions)
+        self.counts.completions = self.counts.completions.wrapping_add(1);
+        if is_due(self.counts.completions, self.readings.completions)
             && !has_others(alloc, self.served.disk(), self.plain.files(), name)?
         {
-            return Err(Trouble::Files(self.completions));
+            return Err(Trouble::Files(self.counts.completions));
         }
         Ok(())
     }
@@ -141,7 +126,7 @@ impl Trial {
         call: &FileCall,
         bytes: &[u8],
         reply: i32,
-    ) -> Result<i32, Trouble> {
+    ) -> Result<(), Trouble> {
         let wanted = self.plain.call(alloc, call, bytes)?;
         if reply != wanted {
             return Err(Trouble::Reply(reply, wanted));
@@ -153,20 +138,20 @@ impl Trial {
             return Err(Trouble::Devices);
         }
         if reply < 0 {
-            self.refused = self.refused.wrapping_add(1);
+            self.counts.refused = self.counts.refused.wrapping_add(1);
         }
-        if is_due(self.calls, self.readings.calls) {
+        if is_due(self.counts.calls, self.readings.calls) {
             self.compare_files(alloc)?;
         }
-        Ok(reply)
+        Ok(())
     }
 
-    /// Reads all files off the disk and compares them with the list.
-    pub(crate) fn compare_files(&self, alloc: Global) -> Result<(), Trouble> {
+    // Reads all files off the disk and compares them with the list.
+    fn compare_files(&self, alloc: Global) -> Result<(), Trouble> {
         if has_files(alloc, self.served.disk(), self.plain.files())? {
             Ok(())
         } else {
-            Err(Trouble::Files(self.completions))
+            Err(Trouble::Files(self.counts.completions))
         }
     }
 

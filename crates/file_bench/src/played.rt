@@ -1,54 +1,44 @@
 //! Scripts of calls, and how they went.
 
-use crate::play::{Readings, Trial, Trouble};
+use crate::play::{Counts, Readings, Trial};
 use crate::script::{Script, Sizes};
-use std::alloc::{AllocError, Global};
+use crate::trouble::Trouble;
+use std::alloc::Global;
+use std::io;
 
-/// Plays the scripts that the numbers say, seven each, and adds to a text how each went.
+/// Plays the scripts that the numbers say, seven each, and prints how each went.
 ///
 /// # Errors
 ///
-/// Out of memory.
-pub(crate) fn play(alloc: Global, numbers: &[u32], text: &mut String) -> Result<(), AllocError> {
+/// Those of standard output.
+pub(crate) fn play<R: Print>(rt: &R, alloc: Global, numbers: &[u32]) -> io::Result<()> {
     for script in numbers.chunks(7) {
-        play_script(alloc, script, text)?;
+        match played(alloc, script) {
+            Ok(counts) => println!(rt; "{} calls: as the plain list", counts.calls)?,
+            Err(trouble) => tell(rt, trouble)?,
+        }
     }
     Ok(())
 }
 
-// Plays a script, and adds to a text how it went.
-fn play_script(alloc: Global, numbers: &[u32], text: &mut String) -> Result<(), AllocError> {
-    match played(alloc, numbers) {
-        Ok(trial) => {
-            let line = format!(in alloc; "{} calls: as the plain list\n", trial.calls)?;
-            text.push_str(line.as_str())
-        }
-        Err(trouble) => tell(alloc, trouble, text),
-    }
-}
-
-/// Plays the script that the numbers say, and adds to a text how many calls there were, how many of them had a negative reply, and how
-/// many completions.
+/// Plays the script that the numbers say, and prints how many calls there were, how many of them had a negative reply, and how many
+/// completions.
 ///
 /// # Errors
 ///
-/// Out of memory.
-pub(crate) fn count(alloc: Global, numbers: &[u32], text: &mut String) -> Result<(), AllocError> {
+/// Those of standard output.
+pub(crate) fn count<R: Print>(rt: &R, alloc: Global, numbers: &[u32]) -> io::Result<()> {
     match played(alloc, numbers) {
-        Ok(trial) => {
-            let counts = (trial.calls, trial.refused, trial.completions);
-            let line = format!(in alloc;
-                "{} calls, {} refused, {} completions\n",
-                counts.0, counts.1, counts.2
-            )?;
-            text.push_str(line.as_str())
-        }
-        Err(trouble) => tell(alloc, trouble, text),
+        Ok(counts) => println!(rt;
+            "{} calls, {} refused, {} completions",
+            counts.calls, counts.refused, counts.completions
+        ),
+        Err(trouble) => tell(rt, trouble),
     }
 }
 
 // Plays a script, and reads the files back at its end.
-fn played(alloc: Global, numbers: &[u32]) -> Result<Trial, Trouble> {
+fn played(alloc: Global, numbers: &[u32]) -> Result<Counts, Trouble> {
     match *numbers {
         [blocks, calls, seed, names, longest, completions, every] => {
             let readings = Readings {
@@ -60,28 +50,20 @@ fn played(alloc: Global, numbers: &[u32]) -> Result<Trial, Trouble> {
                 alloc,
                 &mut Script::new(seed, Sizes { names, longest }),
                 calls,
-            )?;
-            trial.compare_files(alloc)?;
-            Ok(trial)
+            )
         }
         _ => Err(Trouble::Stuck),
     }
 }
 
-// In what the engine and the plain list differ.
-fn tell(alloc: Global, trouble: Trouble, text: &mut String) -> Result<(), AllocError> {
+// Prints in what the engine and the plain list differ.
+fn tell<R: Print>(rt: &R, trouble: Trouble) -> io::Result<()> {
     match trouble {
-        Trouble::NoMemory => text.push_str("out of memory\n"),
-        Trouble::Stuck => text.push_str("the call can't go on\n"),
-        Trouble::Reply(came, wanted) => {
-            let line = format!(in alloc; "the reply is {came} and not {wanted}\n")?;
-            text.push_str(line.as_str())
-        }
-        Trouble::Bytes => text.push_str("other bytes are read\n"),
-        Trouble::Devices => text.push_str("other files are open\n"),
-        Trouble::Files(n) => {
-            let line = format!(in alloc; "the files differ after {n} completions\n")?;
-            text.push_str(line.as_str())
-        }
+        Trouble::NoMemory => println!(rt; "out of memory"),
+        Trouble::Stuck => println!(rt; "the call can't go on"),
+        Trouble::Reply(came, wanted) => println!(rt; "the reply is {came} and not {wanted}"),
+        Trouble::Bytes => println!(rt; "other bytes are read"),
+        Trouble::Devices => println!(rt; "other files are open"),
+        Trouble::Files(n) => println!(rt; "the files differ after {n} completions"),
     }
 }

@@ -2,18 +2,26 @@
 
 use crate::file_disk::FileDisk;
 use crate::names::padded;
-use lfs_layout::CleanImage;
-use local_files::{FileCall, FileDev, Files};
-use std::alloc::{AllocError, Global};
+use local_files::{FileCall, FileDev};
+use std::alloc::Global;
 use xinu_base::OpenMode;
 
 /// An engine with a disk, on which one device has a file open.
-#[derive(Drop)]
 pub(crate) struct OneFile {
     disk: FileDisk,
     bytes: Vec<u8>,
     /// How many completions there were.
     pub(crate) completions: u32,
+}
+
+impl Drop for OneFile {
+    fn drop(self) {
+        let OneFile {
+            disk: _disk,
+            bytes: _bytes,
+            completions: _completions,
+        } = self;
+    }
 }
 
 /// A call on the file: at a position, or on the whole of it.
@@ -40,16 +48,12 @@ const BOTH: OpenMode = OpenMode {
 impl OneFile {
     /// An empty disk of so many blocks; `None` if there is none, or out of memory.
     pub(crate) fn new(alloc: Global, blocks: u32) -> Option<OneFile> {
-        if blocks < 14 || blocks > 65_542 {
-            return None;
-        }
         match (
-            Files::new(alloc, blocks),
-            CleanImage::empty(alloc, blocks),
+            FileDisk::empty(alloc, blocks),
             vec![in alloc; 7u8; 1_048_576],
         ) {
-            (Ok(files), Ok(image), Ok(bytes)) => Some(OneFile {
-                disk: FileDisk::new(files, image.into_bytes()),
+            (Ok(disk), Ok(bytes)) => Some(OneFile {
+                disk,
                 bytes,
                 completions: 0,
             }),

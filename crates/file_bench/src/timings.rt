@@ -1,169 +1,116 @@
 //! How many completions and how much processor time calls take.
 
 use crate::timing::{Kind, OneFile};
-use std::alloc::{AllocError, Global};
+use std::alloc::Global;
 use std::io;
 use std::time::CpuClock;
 
-/// Times calls on a file, as the numbers say, and adds a line for each kind of call to a text.
+/// Two calls that are made so many times and timed, by the name of what they show.
+#[derive(Clone, Copy)]
+struct Row {
+    name: &'static str,
+    calls: (Kind, Kind),
+    times: u32,
+}
+
+/// What is done with the file.
+#[derive(Clone, Copy)]
+enum Step {
+    /// A call that isn't timed.
+    Call(Kind),
+    /// All bytes of the file are written.
+    Fill,
+    /// Calls that are timed.
+    Time(Row),
+}
+
+/// Times calls on a file, as the numbers say, and prints a line for each kind of call.
 ///
 /// # Errors
 ///
-/// Those of the clock; or out of memory.
-pub(crate) fn time<R: CpuClock>(
-    rt: &R,
-    alloc: Global,
-    numbers: &[u32],
-    text: &mut String,
-) -> io::Result<()> {
+/// Those of the clock and of standard output.
+pub(crate) fn time<R: CpuClock + Print>(rt: &R, alloc: Global, numbers: &[u32]) -> io::Result<()> {
     match *numbers {
         [blocks, size] => match OneFile::new(alloc, blocks) {
-            Some(mut file) => {
-                let all = time_in_file(rt, alloc, &mut file, size, text)?
-                    && time_whole_file(rt, alloc, &mut file, size, text)?;
-                if !all {
-                    text.push_str("file_bench: a call is refused\n")?;
-                }
-                Ok(())
-            }
-            None => Ok(text.push_str("file_bench: no disk has so many blocks\n")?),
+            Some(mut file) => time_steps(rt, &mut file, size),
+            None => println!(rt; "file_bench: no disk has so many blocks"),
         },
-        _ => Ok(text.push_str("file_bench: two numbers are wanted\n")?),
+        _ => println!(rt; "file_bench: two numbers are wanted"),
     }
 }
 
-// The calls at the end of a file, which is made first. Answers whether none is refused.
-fn time_in_file<R: CpuClock>(
-    rt: &R,
-    alloc: Global,
-    file: &mut OneFile,
-    size: u32,
-    text: &mut String,
-) -> io::Result<bool> {
-    let last = size.saturating_sub(1);
-    let row = size.saturating_sub(8192);
-    Ok(
-        file.call(Kind::Open)
-            && file.fill(size)
-            && repeat(
-                rt,
-                alloc,
-                file,
-                "getc",
-                (Kind::Seek(last), Kind::Getc),
-                100,
-                text,
-            )?
-            && repeat(
-                rt,
-                alloc,
-                file,
-                "read 8192",
-                (Kind::Seek(row), Kind::Read(8192)),
-                100,
-                text,
-            )?
-            && repeat(
-                rt,
-                alloc,
-                file,
-                "putc in place",
-                (Kind::Seek(last), Kind::Putc),
-                100,
-                text,
-            )?
-            && repeat(
-                rt,
-                alloc,
-                file,
-                "write 8192 in place",
-                (Kind::Seek(row), Kind::Write(8192)),
-                100,
-                text,
-            )?
-            && file.call(Kind::Close),
-    )
+// Takes all steps with a file, up to a call that is refused.
+fn time_steps<R: CpuClock + Print>(rt: &R, file: &mut OneFile, size: u32) -> io::Result<()> {
+    for step in &steps(size) {
+        if !take(rt, file, size, *step)? {
+            return println!(rt; "file_bench: a call is refused");
+        }
+    }
+    Ok(())
 }
 
-// The calls that change the size of a file, or are on the whole of it. Answers whether none is refused.
-fn time_whole_file<R: CpuClock>(
-    rt: &R,
-    alloc: Global,
-    file: &mut OneFile,
-    size: u32,
-    text: &mut String,
-) -> io::Result<bool> {
-    Ok(
-        repeat(
-            rt,
-            alloc,
-            file,
-            "open",
-            (Kind::Open, Kind::Close),
-            100,
-            text,
-        )? && file.call(Kind::Open)
-            && repeat(
-                rt,
-                alloc,
-                file,
-                "write 8192 at the end",
-                (Kind::Seek(size), Kind::Write(8192)),
-                1,
-                text,
-            )?
-            && repeat(
-                rt,
-                alloc,
-                file,
-                "truncate",
-                (Kind::Seek(0), Kind::Truncate),
-                1,
-                text,
-            )?
-            && file.fill(size)
-            && repeat(
-                rt,
-                alloc,
-                file,
-                "delete",
-                (Kind::Close, Kind::Delete),
-                1,
-                text,
-            )?
-            && repeat(
-                rt,
-                alloc,
-                file,
-                "open a new file",
-                (Kind::Open, Kind::Close),
-                1,
-                text,
-            )?,
-    )
+// The calls at the end of a file of so many bytes, which is made first; then those that change its size, or are on the whole of it.
+fn steps(size: u32) -> [Step; 14] {
+    let last = Kind::Seek(size.saturating_sub(1));
+    let row = Kind::Seek(size.saturating_sub(8192));
+    [
+        Step::Call(Kind::Open),
+        Step::Fill,
+        timed("getc", last, Kind::Getc, 100),
+        timed("read 8192", row, Kind::Read(8192), 100),
+        timed("putc in place", last, Kind::Putc, 100),
+        timed("write 8192 in place", row, Kind::Write(8192), 100),
+        Step::Call(Kind::Close),
+        timed("open", Kind::Open, Kind::Close, 100),
+        Step::Call(Kind::Open),
+        timed(
+            "write 8192 at the end",
+            Kind::Seek(size),
+            Kind::Write(8192),
+            1,
+        ),
+        timed("truncate", Kind::Seek(0), Kind::Truncate, 1),
+        Step::Fill,
+        timed("delete", Kind::Close, Kind::Delete, 1),
+        timed("open a new file", Kind::Open, Kind::Close, 1),
+    ]
 }
 
-// Makes two calls so many times, and adds a line to a text. Answers whether none is refused.
-fn repeat<R: CpuClock>(
+// Two calls that are timed.
+fn timed(name: &'static str, first: Kind, second: Kind, times: u32) -> Step {
+    Step::Time(Row {
+        name,
+        calls: (first, second),
+        times,
+    })
+}
+
+// Takes a step with a file of so many bytes. Answers whether no call is refused.
+fn take<R: CpuClock + Print>(
     rt: &R,
-    alloc: Global,
     file: &mut OneFile,
-    name: &str,
-    calls: (Kind, Kind),
-    times: u32,
-    text: &mut String,
+    size: u32,
+    step: Step,
 ) -> io::Result<bool> {
+    match step {
+        Step::Call(kind) => Ok(file.call(kind)),
+        Step::Fill => Ok(file.fill(size)),
+        Step::Time(row) => repeat(rt, file, row),
+    }
+}
+
+// Makes two calls so many times, and prints a line. Answers whether none is refused.
+fn repeat<R: CpuClock + Print>(rt: &R, file: &mut OneFile, row: Row) -> io::Result<bool> {
     let before = file.completions;
     let start = rt.process_cpu_time()?;
-    for _ in 0..times {
-        if !file.call(calls.0) || !file.call(calls.1) {
+    for _ in 0..row.times {
+        if !file.call(row.calls.0) || !file.call(row.calls.1) {
             return Ok(false);
         }
     }
     let end = rt.process_cpu_time()?;
     let completions = file.completions.wrapping_sub(before);
     let nanos = end.as_nanos().saturating_sub(start.as_nanos());
-    let line = format!(in alloc; "{name}\t{times}\t{completions}\t{nanos}\n")?;
-    text.push_str(line.as_str())?;
+    println!(rt; "{}\t{}\t{completions}\t{nanos}", row.name, row.times)?;
     Ok(true)
 }
