@@ -8,10 +8,15 @@ use std::alloc::Global;
 use std::marker::Model;
 
 /// The timers 0 to 7. A contract sees the timers that run, each with the ticks that are left, the soonest first.
-#[derive(Drop)]
 pub(crate) struct Timers {
     // One queue, of eight.
     table: QueueTable<8, 1>,
+}
+
+impl Drop for Timers {
+    fn drop(self) {
+        let Timers { table: _table } = self;
+    }
 }
 
 impl Model for Timers {
