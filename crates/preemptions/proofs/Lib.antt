@@ -1,3 +1,4 @@
+pub mod Fewness
 pub mod Members
 pub mod Order
 pub mod StepLemmas

@@ -1,4 +1,4 @@
-pub mod Equal
-pub mod Kept
+pub mod EveryRun
+pub mod Exploring
 pub mod Texts
 pub mod Underway

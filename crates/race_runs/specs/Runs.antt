@@ -1,17 +1,29 @@
--- A run of images from their boot on.
+-- The outcome of a run, and a run of images from their boot on.
 use Rattle.std.specs.Prelude.{◌≡◌, ℕ, List}
 use Rattle.host_port.specs.Outside.{Outside}
 use Rattle.host_port.specs.Printing.{Printing, Prints}
 use Rattle.kernel_boot.specs.declared.initialize.BootFault.{BootFault}
 use Rattle.kernel_boot.specs.declared.initialize.BootFault.TheVariants as fault
-use Rattle.race_runs.specs.Outcomes.{ComesTo, Outcome}
+use Rattle.race_tables.specs.Outcomes.{Outcome, outcome_in}
 use Rattle.xinu_base.specs.declared.events.Event.{Event}
 use Rattle.xinu_base.specs.declared.events.End.{End}
 use Rattle.xinu_base.specs.declared.lines.TranscriptLine.{TranscriptLine}
 use Rattle.xinu_model.specs.Boot.{Boots, Disks, Loaded, NoRoom, Overlaps, boot_on}
 use Rattle.xinu_model.specs.Machine.{Xinu}
 use Rattle.xinu_model.specs.Runs.{RunsTo}
-use Rattle.xinu_model.specs.Text.{shown, text}
+use Rattle.xinu_model.specs.Text.{shown, tables_of, text}
+
+-- the outcome of a run with these lines, this last state and this end
+abbrev pub outcome_of : List TranscriptLine → Xinu → End → Outcome
+outcome_of lines last end = outcome_in (text lines) (text (tables_of last)) end
+
+-- A run from the start through these events has this outcome.
+pub record ComesTo (start : Xinu) (events : List Event) (outcome : Outcome) : Type 0 where
+  pub lines : List TranscriptLine
+  pub last : Xinu
+  pub end : End
+  pub runs : RunsTo start events lines last end
+  pub is : outcome_of lines last end ≡ outcome
 
 -- The images boot on these disks, and a run from there through these events has this outcome.
 pub record ComesToOn (disks : Disks) (images : List Loaded) (events : List Event) (outcome : Outcome) : Type 0 where

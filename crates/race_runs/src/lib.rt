@@ -1,22 +1,21 @@
-//! A run of a machine through given events, and what one sees of it: its outcome.
+//! The runs of a program with each placement of quantum ends.
 //!
-//! An [`Outcome`] is what the console sent, the traps, the processes that are left and what they wait for, and how the run ended
-//! (`specs/Outcomes.antt`). Runs that differ in nothing of that have the same outcome.
+//! A run of a machine through given events has an outcome (`specs/Runs.antt`). The search goes through all placements, each by a run on copies
+//! of the disks, and `specs/Explored.antt` says that its table is that of these runs.
 //!
 //! | Call | Promise |
 //! |---|---|
-//! | [`run`] | `comes`: the images boot, and a run from there through these events has this outcome; or `Overlap` or `NoRoom` as boot says |
-//! | [`run_on`] | `comes`: the same on copies of the disks, which stay |
-//! | [`Outcome`] | a clause sees it as `Outcome` of the definition |
-//! | [`Outcome::equals`] | `equal`: true if and only if the outcomes are equal |
+//! | [`explore`] | `explores`: there is a run for each placement, in their order, that has the outcome that is counted for it, and the table is that of these runs; after a fault, of the first of them; `cause`: the images don't boot as the fault says |
+//! | [`laws`] | if nothing is chosen in the run of a placement, every run of it has its row, so if one row is left, its outcome |
 //!
-//! `NoMemory` is free. The crate depends on `machine`, which is booted anew for each run.
+//! `NoMemory` is free. The crate depends on `machine`, which is booted anew for each run, on `preemptions` for the placements, on `race_tables`
+//! for the outcomes and their table, and on `xinu_laws` for runs in which nothing is chosen.
 #![tactic(auto)]
 
 mod copies;
-mod outcomes;
+pub mod laws;
 mod runs;
+mod search;
 
 pub use machine::BootFault;
-pub use outcomes::Outcome;
-pub use runs::{run, run_on};
+pub use search::explore;

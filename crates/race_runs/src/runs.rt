@@ -5,47 +5,23 @@ ghost use Rattle.given_disks.specs.Disks.{disks_of};
 ghost use Rattle.host_port.specs.Printing.{Prints};
 ghost use Rattle.host_port.specs.QuietHost.{quiet_empty, quiet_view};
 ghost use Rattle.image_loader.specs.Images.{loaded_of};
-ghost use Rattle.race_runs.specs.Outcomes.{ComesTo};
-ghost use Rattle.race_runs.specs.Runs.{ComesToOn, HasText, IsRefused, RunPrinted};
+ghost use Rattle.race_runs.specs.Runs.{ComesTo, ComesToOn, HasText, IsRefused, RunPrinted};
 ghost use Rattle.xinu_model.specs.Text.{tables_of, text};
 
 use crate::copies::{copy_clean, copy_raw};
-use crate::outcomes::Outcome;
 use host_port::{Channel, Host, Printer, QuietMemoryHost};
 use image_loader::Image;
 use lfs_layout::{CleanImage, RawImage};
 use machine::{BootFault, Go, Machine};
+use race_tables::Outcome;
 use std::alloc::Global;
 use xinu_base::{End, Event, NoMemory};
-
-/// Boots images on these disks and runs them through these events, at most 1000000000. There are one to eight images.
-///
-/// # Errors
-/// `Overlap` and `NoRoom` if and only if the images don't boot, as [`Machine::boot`] says; `NoMemory`. The disks are dropped.
-pub fn run(
-    alloc: Global,
-    images: &[Image<'_>],
-    disk0: RawImage,
-    disk1: CleanImage,
-    events: &[Event],
-) -> Result<Outcome, BootFault>
-    requires some { 1 ≤ length images.now }
-    requires few { length images.now ≤ 8 }
-    requires events { length events.now ≤ 1000000000 }
-    ensures comes { MatchResult result (λ o. ComesToOn (disks_of disk0 disk1) (map loaded_of images.now) events.now o) (λ fault. IsRefused (disks_of disk0 disk1) (map loaded_of images.now) fault) }
-{
-    let mut machine = Machine::boot(alloc, images, disk0, disk1)?;
-    match run_machine(alloc, &mut machine, events) {
-        Ok(outcome) => Ok(outcome),
-        Err(_) => Err(BootFault::NoMemory),
-    }
-}
 
 /// Boots images on copies of these disks and runs them through these events, at most 1000000000. There are one to eight images.
 ///
 /// # Errors
-/// As of [`run`]. The disks stay.
-pub fn run_on(
+/// `Overlap` and `NoRoom` if and only if the images don't boot, as [`Machine::boot`] says; `NoMemory`. The disks stay.
+pub(crate) fn run_on(
     alloc: Global,
     images: &[Image<'_>],
     disk0: &RawImage,
@@ -64,6 +40,26 @@ pub fn run_on(
         return Err(BootFault::NoMemory);
     };
     run(alloc, images, disk0, disk1, events)
+}
+
+// Boots images on these disks and runs them through these events.
+fn run(
+    alloc: Global,
+    images: &[Image<'_>],
+    disk0: RawImage,
+    disk1: CleanImage,
+    events: &[Event],
+) -> Result<Outcome, BootFault>
+    requires some { 1 ≤ length images.now }
+    requires few { length images.now ≤ 8 }
+    requires events { length events.now ≤ 1000000000 }
+    ensures comes { MatchResult result (λ o. ComesToOn (disks_of disk0 disk1) (map loaded_of images.now) events.now o) (λ fault. IsRefused (disks_of disk0 disk1) (map loaded_of images.now) fault) }
+{
+    let mut machine = Machine::boot(alloc, images, disk0, disk1)?;
+    match run_machine(alloc, &mut machine, events) {
+        Ok(outcome) => Ok(outcome),
+        Err(_) => Err(BootFault::NoMemory),
+    }
 }
 
 // Runs a machine through these events.

@@ -3,9 +3,9 @@ use Rattle.std.proofs.Common.{◌≡◌, ◌∙◌, ℕ, ◌+◌, Bool, true, fa
 use Rattle.std.specs.List.{count_by, filter}
 use Rattle.std.proofs.lemmas.Bool.{both_ways}
 use Rattle.std.proofs.lemmas.List.Sums.{sum_by_push}
-use Rattle.race_runs.specs.Outcomes.{Outcome, are_equal}
+use Rattle.race_tables.specs.Outcomes.{Outcome, are_equal}
 use Rattle.race_tables.specs.Rows.{Run, Row, counted, row_of, rows}
-use Rattle.race_runs.proofs.Equal.{are_equal-same, are_equal-itself, are_equal-from, are_equal-turned}
+use Rattle.race_tables.proofs.Equal.{are_equal-same, are_equal-itself, are_equal-from, are_equal-turned}
 
 -- a table that counts one run more
 abbrev pub added : Run → List Row → List Row

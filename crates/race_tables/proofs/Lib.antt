@@ -1,6 +1,5 @@
 pub mod Added
-pub mod Fewness
+pub mod Equal
+pub mod Kept
 pub mod Places
 pub mod Tables
-pub mod Exploring
-pub mod EveryRun

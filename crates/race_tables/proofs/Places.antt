@@ -3,7 +3,7 @@ use Rattle.std.proofs.Common.{◌≡◌, ◌∙◌, ℕ, zero, suc, ◌+◌, ◌
 use Rattle.std.specs.List.{sum}
 use Rattle.std.proofs.lemmas.List.Sums.{get_or-le-sum_by, sum-map}
 use Rattle.std.proofs.lemmas.List.{drop_all, take_all}
-use Rattle.race_runs.specs.Outcomes.{Outcome, are_equal}
+use Rattle.race_tables.specs.Outcomes.{Outcome, are_equal}
 use Rattle.race_tables.specs.Rows.{Run, Row, counted, counted_at, place_of, row_of}
 use Rattle.race_tables.proofs.Added.{added}
 

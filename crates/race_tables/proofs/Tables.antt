@@ -5,9 +5,9 @@ use Rattle.std.proofs.lemmas.Bool.{both_ways, not-true}
 use Rattle.std.proofs.lemmas.List.Elements.{All-cons, All-head, All-nil, All-tail, All-weaker, All-filter, Contains-append_right, filter_passes}
 use Rattle.std.proofs.lemmas.List.Kept.{AllPairs-cons, AllPairs-filter}
 use Rattle.std.proofs.lemmas.List.Sums.{sum_by-cons, sum-map}
-use Rattle.race_runs.specs.Outcomes.{Outcome, are_equal}
+use Rattle.race_tables.specs.Outcomes.{Outcome, are_equal}
 use Rattle.race_tables.specs.Rows.{HasRow, Run, Row, counted, row_of, rows}
-use Rattle.race_runs.proofs.Equal.{are_equal-same, are_equal-itself, are_equal-from, are_equal-turned}
+use Rattle.race_tables.proofs.Equal.{are_equal-same, are_equal-itself, are_equal-from, are_equal-turned}
 use Rattle.race_tables.proofs.Added.{added, others, others-row, rows-push}
 
 -- one of the later elements

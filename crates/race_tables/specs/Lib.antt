@@ -1,2 +1,2 @@
-pub mod Explored
+pub mod Outcomes
 pub mod Rows

@@ -1,7 +1,7 @@
 -- Runs of placements, and the table of their outcomes.
 use Rattle.std.specs.Prelude.{◌≡◌, ℕ, zero, suc, ◌+◌, not, List, [], ◌∷◌}
 use Rattle.std.specs.List.{Contains, count_by, filter, position_or_len}
-use Rattle.race_runs.specs.Outcomes.{Outcome, are_equal}
+use Rattle.race_tables.specs.Outcomes.{Outcome, are_equal}
 
 -- a run: the placement of its quantum ends, and its outcome
 pub record Run : Type 0 where

@@ -4,7 +4,7 @@ ghost use Rattle.std.specs.Prelude.{◌≡◌, ◌<◌, ◌≤◌, ◌++◌, ◌
 ghost use Rattle.std.specs.List.{sum};
 ghost use Rattle.race_tables.specs.Rows as spec;
 
-use race_runs::Outcome;
+use crate::outcomes::Outcome;
 use std::alloc::{AllocError, Global};
 use std::marker::Model;
 

@@ -10,10 +10,10 @@ use Rattle.kernel_boot.specs.declared.initialize.BootFault.{BootFault}
 use Rattle.kernel_boot.specs.declared.initialize.BootFault.TheVariants as boot
 use Rattle.preemptions.specs.Placements.{placements}
 use Rattle.race_runs.specs.Runs.{IsRefused}
-use Rattle.race_tables.specs.Explored.{Explores, ExploresSome}
+use Rattle.race_runs.specs.Explored.{Explores, ExploresSome}
 use Rattle.race_tables.specs.Rows.{Row, Run, rows}
-use Rattle.race_tables.proofs.Exploring.{under_way-start}
-use Rattle.race_tables.proofs.Fewness.{few_placements}
+use Rattle.race_runs.proofs.Exploring.{under_way-start}
+use Rattle.preemptions.proofs.Fewness.{few_placements}
 use Rattle.race_tables.proofs.Tables.{adds_up}
 use Rattle.preemptions.proofs.Members.{all_placements}
 use Rattle.run_inputs.specs.Conversions.{boot_refusal}

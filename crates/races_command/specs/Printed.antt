@@ -2,7 +2,7 @@
 use Rattle.std.specs.Prelude.{◌+◌, ℕ, Bool, if◌then◌else◌, List, [], ◌∷◌, ◌++◌, length, map, codes}
 use Rattle.std.specs.List.{sum}
 use Rattle.std.specs.Fmt.{decimal}
-use Rattle.race_runs.specs.Outcomes.{Outcome}
+use Rattle.race_tables.specs.Outcomes.{Outcome}
 use Rattle.race_tables.specs.Rows.{Row}
 use Rattle.races_command.specs.Shown.{listed, number_of, places_text, shown_console}
 use Rattle.races_command.specs.Stuck.{is_stuck}

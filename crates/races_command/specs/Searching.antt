@@ -6,7 +6,7 @@ use Rattle.host_port.specs.Outside.{Outside, appended, counted, grown, made_empt
 use Rattle.host_port.specs.declared.host.Channel.TheVariants.{Out, Image}
 use Rattle.preemptions.specs.Placements.{placements}
 use Rattle.preemptions.specs.Preempted.{preempted_at}
-use Rattle.race_tables.specs.Explored.{Explores, ExploresSome}
+use Rattle.race_runs.specs.Explored.{Explores, ExploresSome}
 use Rattle.race_tables.specs.Rows.{Row}
 use Rattle.run_inputs.specs.declared.refusals.Refusal.TheVariants as refusal
 use Rattle.schedule_text.specs.Written.{schedule_text}

@@ -1,7 +1,7 @@
 -- Runs that can't go on.
 use Rattle.std.specs.Prelude.{ℕ, Bool, true, false, not, cond, ◌&&◌, ◌||◌, List, ◌∷◌, codes, bytes_eq}
 use Rattle.std.specs.List.{list_all}
-use Rattle.race_runs.specs.Outcomes.{Outcome}
+use Rattle.race_tables.specs.Outcomes.{Outcome}
 use Rattle.text_lines.specs.Lines.{lines_of, tokens_of}
 use Rattle.xinu_base.specs.declared.events.End.{End}
 use Rattle.xinu_base.specs.declared.events.End.TheVariants.{Schedule}

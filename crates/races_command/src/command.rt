@@ -18,7 +18,7 @@ use crate::words::{Words, words_of};
 use host_port::Host;
 use image_loader::Image;
 use lfs_layout::{CleanImage, RawImage};
-use race_tables::{BootFault, explore};
+use race_runs::{BootFault, explore};
 use run_inputs::{Inputs, Refusal, fetch_run, images_of};
 use std::alloc::Global;
 use xinu_base::Event;

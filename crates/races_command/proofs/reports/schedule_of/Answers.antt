@@ -1,6 +1,6 @@
 use Rattle.std.proofs.Common.{◌≡◌, ◌∙◌, List, length, ap, arith}
 use Rattle.preemptions.specs.Preempted.{preempted_at}
-use Rattle.race_tables.proofs.Fewness.{longer_by_places}
+use Rattle.preemptions.proofs.Fewness.{longer_by_places}
 use Rattle.xinu_base.specs.declared.events.Event.{Event}
 use Rattle.races_command.proofs.reports.schedule_of.Goals as goal
 

@@ -2,9 +2,9 @@
 use Rattle.std.proofs.Common.{◌≡◌, ◌∙◌, ◌++◌, ℕ, List, length, sym, ap, arith, append_assoc, append-nil}
 use Rattle.std.proofs.lemmas.Bool.Decides.{nat_tests}
 use Rattle.std.proofs.lemmas.List.{nil_from_length}
-use Rattle.race_runs.specs.Outcomes.{fed, kept}
-use Rattle.race_runs.proofs.Kept.{kept-line, kept-none, kept-other}
-use Rattle.race_runs.proofs.outcomes.push_kept.Goals as goal
+use Rattle.race_tables.specs.Outcomes.{fed, kept}
+use Rattle.race_tables.proofs.Kept.{kept-line, kept-none, kept-other}
+use Rattle.race_tables.proofs.outcomes.push_kept.Goals as goal
 
 pub loop-rest-preserved : goal.loop-rest-preserved
 loop-rest-preserved c =

@@ -1,6 +1,6 @@
 use Rattle.std.proofs.Common.{◌∙◌, sym}
-use Rattle.race_runs.proofs.Equal.{are_equal-from, are_equal-same}
-use Rattle.race_runs.proofs.outcomes.Outcome.equals.Goals as goal
+use Rattle.race_tables.proofs.Equal.{are_equal-from, are_equal-same}
+use Rattle.race_tables.proofs.outcomes.Outcome.equals.Goals as goal
 
 pub returns-clause-equal : goal.returns-clause-equal
 returns-clause-equal c =

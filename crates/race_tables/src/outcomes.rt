@@ -1,7 +1,7 @@
 //! The outcome of a run, which is taken from what the run printed.
 
 ghost use Rattle.std.specs.Prelude.{◌≡◌, ◌↔◌, ◌++◌, true, bytes_eq, IfOk, OnOk};
-ghost use Rattle.race_runs.specs.Outcomes as spec;
+ghost use Rattle.race_tables.specs.Outcomes as spec;
 ghost use Rattle.text_lines.specs.Lines.{tokens_of};
 
 use std::alloc::{AllocError, Global};
@@ -19,7 +19,7 @@ pub struct Outcome {
 }
 
 impl Model for Outcome {
-    ghost use Rattle.race_runs.specs.Outcomes as seen;
+    ghost use Rattle.race_tables.specs.Outcomes as seen;
 
     ghost Value = { seen.Outcome };
 
@@ -31,12 +31,7 @@ impl Outcome {
     ///
     /// # Errors
     /// `NoMemory`.
-    pub(crate) fn new(
-        alloc: Global,
-        printed: &[u8],
-        tables: &[u8],
-        end: End,
-    ) -> Result<Outcome, NoMemory>
+    pub fn new(alloc: Global, printed: &[u8], tables: &[u8], end: End) -> Result<Outcome, NoMemory>
         ensures outcome { IfOk result (λ o. o ≡ spec.outcome_in printed.now tables.now end) }
     {
         match outcome_of(alloc, printed, tables, end) {

@@ -5,7 +5,7 @@ use Rattle.std.proofs.lemmas.Bool.{and_parts}
 use Rattle.std.proofs.lemmas.Slice.Eq.{bytes_eq-Decides}
 use Rattle.xinu_base.specs.declared.events.End.{End}
 use Rattle.xinu_base.specs.declared.events.End.TheVariants.{Schedule, Done, Panic}
-use Rattle.race_runs.specs.Outcomes.{Outcome, are_equal, ended_alike}
+use Rattle.race_tables.specs.Outcomes.{Outcome, are_equal, ended_alike}
 
 alike-same : (one other : End) → ended_alike one other ≡ true → one ≡ other
 alike-same Schedule Schedule e = refl

@@ -3,8 +3,8 @@ use Rattle.std.proofs.Common.{length, map}
 use Rattle.given_disks.specs.Disks.{disks_of}
 use Rattle.image_loader.specs.Images.{loaded_of}
 use Rattle.preemptions.specs.Placements.{placements}
-use Rattle.race_tables.proofs.Exploring.{UnderWay}
-use Rattle.race_tables.proofs.search.explore.Given as goal
+use Rattle.race_runs.proofs.Exploring.{UnderWay}
+use Rattle.race_runs.proofs.search.explore.Given as goal
 
 abbrev pub invariant-loop-places : goal.invariant-loop-places
 invariant-loop-places l =

@@ -5,9 +5,9 @@ use Rattle.std.proofs.lemmas.List.Elements.{All-contains, Contains-append_right}
 use Rattle.preemptions.proofs.Members.{is_among}
 use Rattle.preemptions.specs.Placements.{IsPlacement, placements}
 use Rattle.preemptions.specs.Preempted.{preempted_at}
-use Rattle.race_runs.specs.Outcomes.{ComesTo, Outcome, outcome_of}
-use Rattle.race_runs.specs.Runs.{ComesToOn}
-use Rattle.race_tables.specs.Explored.{Explores}
+use Rattle.race_tables.specs.Outcomes.{Outcome}
+use Rattle.race_runs.specs.Runs.{ComesTo, ComesToOn, outcome_of}
+use Rattle.race_runs.specs.Explored.{Explores}
 use Rattle.race_tables.specs.Rows.{HasRow, Row, Run, rows}
 use Rattle.race_tables.proofs.Tables.{all_have, only}
 use Rattle.xinu_base.specs.declared.events.Event.{Event}

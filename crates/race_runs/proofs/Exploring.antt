@@ -3,9 +3,9 @@ use Rattle.std.proofs.Common.{◌≡◌, ◌∙◌, ℕ, ◌<◌, List, [], ◌�
 use Rattle.std.specs.List.{All, sum}
 use Rattle.std.proofs.lemmas.List.{length-map, map-append}
 use Rattle.std.proofs.lemmas.List.Elements.{All-cons, All-head, All-nil, All-push, All-tail}
-use Rattle.race_runs.specs.Outcomes.{Outcome}
+use Rattle.race_tables.specs.Outcomes.{Outcome}
 use Rattle.race_tables.specs.Rows.{Row, Run, rows}
-use Rattle.race_tables.specs.Explored.{Explores, ExploresSome}
+use Rattle.race_runs.specs.Explored.{Explores, ExploresSome}
 use Rattle.race_tables.proofs.Tables.{adds_up, all_rows}
 use Rattle.preemptions.proofs.Members.{all_placements}
 use Rattle.preemptions.specs.Placements.{IsPlacement, placements}

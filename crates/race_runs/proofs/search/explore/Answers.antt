@@ -6,9 +6,9 @@ use Rattle.preemptions.proofs.Members.{all_placements}
 use Rattle.preemptions.specs.Placements.{IsPlacement, placements}
 use Rattle.std.specs.List.{All}
 use Rattle.race_tables.specs.Rows.{Row}
-use Rattle.race_tables.proofs.Exploring.{UnderWay, counts_fit, some-under_way, under_way-first, under_way-more, under_way-start}
-use Rattle.race_tables.proofs.Fewness.{few_placements}
-use Rattle.race_tables.proofs.search.explore.Goals as goal
+use Rattle.race_runs.proofs.Exploring.{UnderWay, counts_fit, some-under_way, under_way-first, under_way-more, under_way-start}
+use Rattle.preemptions.proofs.Fewness.{few_placements}
+use Rattle.race_runs.proofs.search.explore.Goals as goal
 
 pub loop-places-init : goal.loop-places-init
 loop-places-init c =

@@ -1,7 +1,7 @@
 use Rattle.std.proofs.Common.{◌≡◌, ◌∙◌, List, length, ap, arith}
 use Rattle.preemptions.specs.Preempted.{preempted_at}
-use Rattle.race_tables.proofs.Fewness.{longer_by_places}
-use Rattle.race_tables.proofs.search.run_placement.Goals as goal
+use Rattle.preemptions.proofs.Fewness.{longer_by_places}
+use Rattle.race_runs.proofs.search.run_placement.Goals as goal
 use Rattle.xinu_base.specs.declared.events.Event.{Event}
 
 pub run_on-requires-clause-events : goal.run_on-requires-clause-events

@@ -1,14 +1,9 @@
 -- What one sees of a run.
-use Rattle.std.specs.Prelude.{◌≡◌, ℕ, Bool, true, false, ◌&&◌, List, [], ◌∷◌, ◌++◌, codes, bytes_eq}
+use Rattle.std.specs.Prelude.{ℕ, Bool, true, false, ◌&&◌, List, [], ◌∷◌, ◌++◌, codes, bytes_eq}
 use Rattle.std.specs.List.{filter, flat_map}
 use Rattle.text_lines.specs.Lines.{lines_of, tokens_of}
-use Rattle.xinu_base.specs.declared.events.Event.{Event}
 use Rattle.xinu_base.specs.declared.events.End.{End}
 use Rattle.xinu_base.specs.declared.events.End.TheVariants.{Schedule, Done, Panic}
-use Rattle.xinu_base.specs.declared.lines.TranscriptLine.{TranscriptLine}
-use Rattle.xinu_model.specs.Machine.{Xinu}
-use Rattle.xinu_model.specs.Runs.{RunsTo}
-use Rattle.xinu_model.specs.Text.{tables_of, text}
 
 -- whether these tokens begin with a word
 abbrev pub begin_with : List ℕ → List (List ℕ) → Bool
@@ -51,15 +46,3 @@ outcome_in printed tables end = record {
   left = kept (codes "proc") tables ++ kept (codes "wait") tables;
   end = end;
 }
-
--- the outcome of a run with these lines, this last state and this end
-abbrev pub outcome_of : List TranscriptLine → Xinu → End → Outcome
-outcome_of lines last end = outcome_in (text lines) (text (tables_of last)) end
-
--- A run from the start through these events has this outcome.
-pub record ComesTo (start : Xinu) (events : List Event) (outcome : Outcome) : Type 0 where
-  pub lines : List TranscriptLine
-  pub last : Xinu
-  pub end : End
-  pub runs : RunsTo start events lines last end
-  pub is : outcome_of lines last end ≡ outcome

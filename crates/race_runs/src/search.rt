@@ -7,13 +7,14 @@ ghost use Rattle.image_loader.specs.Images.{loaded_of};
 ghost use Rattle.preemptions.specs.Placements.{IsAscending, IsPlacement, placements};
 ghost use Rattle.preemptions.specs.Preempted.{preempted_at};
 ghost use Rattle.race_runs.specs.Runs.{ComesToOn, IsRefused};
-ghost use Rattle.race_tables.specs.Explored.{Explores, ExploresSome};
+ghost use Rattle.race_runs.specs.Explored.{Explores, ExploresSome};
 
-use crate::rows::{Row, count_run};
+use crate::runs::run_on;
 use image_loader::Image;
 use lfs_layout::{CleanImage, RawImage};
+use machine::BootFault;
 use preemptions::{Placements, preempt};
-use race_runs::{BootFault, Outcome, run_on};
+use race_tables::{Outcome, Row, count_run};
 use std::alloc::Global;
 use xinu_base::Event;
 

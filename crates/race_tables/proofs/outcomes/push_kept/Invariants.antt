@@ -1,7 +1,7 @@
 -- The lines so far, and those that are left.
 use Rattle.std.proofs.Common.{◌≡◌, ◌++◌, length}
-use Rattle.race_runs.specs.Outcomes as spec
-use Rattle.race_runs.proofs.outcomes.push_kept.Given as goal
+use Rattle.race_tables.specs.Outcomes as spec
+use Rattle.race_tables.proofs.outcomes.push_kept.Given as goal
 
 abbrev pub invariant-loop-rest : goal.invariant-loop-rest
 invariant-loop-rest l = record {

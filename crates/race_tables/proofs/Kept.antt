@@ -2,7 +2,7 @@
 use Rattle.std.proofs.Common.{◌≡◌, ◌∙◌, ℕ, true, false, List, [], ◌∷◌, ◌++◌, refl, ap}
 use Rattle.std.specs.List.{filter, flat_map}
 use Rattle.text_lines.specs.Lines.{lines_of, tokens_of}
-use Rattle.race_runs.specs.Outcomes.{begin_with, fed, kept}
+use Rattle.race_tables.specs.Outcomes.{begin_with, fed, kept}
 
 pub kept-none : (word : List ℕ) → kept word [] ≡ []
 unfolding kept

@@ -1,5 +1,0 @@
-use Rattle.race_tables.proofs.EveryRun.{has_its_row}
-use Rattle.race_tables.proofs.laws.every_run_has_its_row.Goals as goal
-
-pub returns : goal.returns
-returns c = has_its_row
